@@ -1,0 +1,68 @@
+-- What crop, turn and quality give, place by place.
+use Rattle.std.specs.Prelude.{ℕ, ◌+◌, ◌-◌, ◌*◌, ◌/◌, ◌%◌, ◌≤◌, List, slice_index, if◌then◌else◌, ◌==◌, nat_lt}
+use Prim.Native.Nat.{zero, suc}
+use Rattle.iiif_pixel.specs.Picture.{Picture, picture_of, sample_at}
+use Rattle.iiif_pixel.specs.declared.geometry.Rect.{Rect}
+use Rattle.iiif_pixel.specs.declared.geometry.Turn.{Turn}
+use Rattle.iiif_pixel.specs.declared.geometry.Quality.{Quality}
+use Rattle.iiif_pixel.specs.declared.geometry.Quality.TheVariants.{Default, Color, Gray, Bitonal}
+
+-- the part of p in a rectangle
+unfoldable pub crop_at : Picture → Rect → ℕ → ℕ → ℕ → ℕ
+crop_at p r x y k = sample_at p (r.x + x) (r.y + y) k
+
+abbrev pub crop : Picture → Rect → Picture
+crop p r = picture_of r.w r.h p.channels p.top (crop_at p r)
+
+-- p mirrored on its vertical axis
+abbrev pub mirrored : Picture → Picture
+mirrored p = picture_of p.width p.height p.channels p.top (λ x y k. sample_at p (p.width - 1 - x) y k)
+
+-- p turned clockwise by one quarter
+abbrev pub quarter_turned : Picture → Picture
+quarter_turned p = picture_of p.height p.width p.channels p.top (λ x y k. sample_at p y (p.height - 1 - x) k)
+
+abbrev pub turned_by : ℕ → Picture → Picture
+turned_by zero p = p
+turned_by (suc n) p = quarter_turned (turned_by n p)
+
+-- mirrored first, where the turn says so, and then turned
+abbrev pub turn : Picture → Turn → Picture
+turn p t = turned_by t.quarters (if t.mirror then mirrored p else p)
+
+-- the sides after quarter turns
+abbrev pub turned_width : ℕ → ℕ → ℕ → ℕ
+turned_width quarters w h = if quarters % 2 == 0 then w else h
+
+abbrev pub turned_height : ℕ → ℕ → ℕ → ℕ
+turned_height quarters w h = if quarters % 2 == 0 then h else w
+
+-- the weighted mean of red, green and blue, rounded
+abbrev pub gray_of : ℕ → ℕ → ℕ → ℕ
+gray_of r g b = (299 * r + 587 * g + 114 * b + 500) / 1000
+
+-- the gray value at a place: the sample itself, or the mean of the three
+unfoldable pub gray_at : Picture → ℕ → ℕ → ℕ → ℕ
+gray_at p x y k =
+    if p.channels == 3 then gray_of (sample_at p x y 0) (sample_at p x y 1) (sample_at p x y 2) else sample_at p x y 0
+
+-- black (0) or white (255), as a gray value is in the lower or the upper half up to top
+abbrev pub black_or_white : ℕ → ℕ → ℕ
+black_or_white top v = if nat_lt v ((top + 1) / 2) then 0 else 255
+
+-- the same of place i of samples with this many channels
+abbrev pub gray_sample : List ℕ → ℕ → ℕ → ℕ
+gray_sample s c i =
+    if c == 3 then gray_of (slice_index s (3 * i)) (slice_index s (3 * i + 1)) (slice_index s (3 * i + 2)) else slice_index s i
+
+abbrev pub gray : Picture → Picture
+gray p = picture_of p.width p.height 1 p.top (gray_at p)
+
+abbrev pub bitonal : Picture → Picture
+bitonal p = picture_of p.width p.height 1 255 (λ x y k. black_or_white p.top (gray_at p x y k))
+
+abbrev pub quality : Picture → Quality → Picture
+quality p Default = p
+quality p Color = p
+quality p Gray = gray p
+quality p Bitonal = bitonal p

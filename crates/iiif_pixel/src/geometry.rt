@@ -1,0 +1,129 @@
+//! Sides, rectangles, kinds, turns and qualities.
+
+ghost use Rattle.std.specs.Prelude.{◌≡◌, ℕ, ◌<◌, ◌+◌, ◌≤◌, ◌↔◌};
+ghost use Rattle.iiif_pixel.specs.Turns.{flipped};
+ghost use Rattle.iiif_pixel.specs.Geometry.{LiesIn, HasPlace};
+ghost use Rattle.iiif_pixel.specs.TurnPlaces.{turned_dim, turned_place, MovesTo};
+
+/// The sides of a picture.
+#[derive(Clone, Copy, Debug, PartialEq, Eq)]
+pub struct Dim {
+    pub w: u32,
+    pub h: u32,
+}
+
+/// A rectangle of places: its upper left corner and its sides.
+#[derive(Clone, Copy, Debug, PartialEq, Eq)]
+pub struct Rect {
+    pub x: u32,
+    pub y: u32,
+    pub w: u32,
+    pub h: u32,
+}
+
+/// What a place of a raster has: one gray sample, or red, green and blue.
+#[derive(Clone, Copy, Debug, PartialEq, Eq)]
+pub enum Kind {
+    Gray,
+    Rgb,
+}
+
+/// A mirroring on the vertical axis, or none, and then quarter turns clockwise.
+#[derive(Clone, Copy, Debug, PartialEq, Eq)]
+pub struct Turn {
+    pub mirror: bool,
+    pub quarters: u8,
+}
+
+#[derive(Clone, Copy, Debug, PartialEq, Eq)]
+pub enum Quality {
+    Default,
+    Color,
+    Gray,
+    Bitonal,
+}
+
+impl Kind {
+    ghost use Rattle.iiif_pixel.specs.Geometry.{channels_of};
+
+    /// How many samples a place has.
+    pub fn channels(self) -> usize
+        ensures { result ≡ channels_of self }
+    {
+        match self {
+            Kind::Gray => 1,
+            Kind::Rgb => 3,
+        }
+    }
+}
+
+impl Dim {
+    ghost use Rattle.iiif_pixel.specs.Operations.{turned_width, turned_height};
+
+    /// The sides after a turn.
+    pub fn turned(self, by: Turn) -> Dim
+        ensures width { result.w ≡ turned_width by.quarters self.w self.h }
+        ensures height { result.h ≡ turned_height by.quarters self.w self.h }
+    {
+        if by.quarters % 2 == 0 {
+            self
+        } else {
+            Dim {
+                w: self.h,
+                h: self.w,
+            }
+        }
+    }
+}
+
+/// Column `x` of `w`, counted from the right where the picture is mirrored.
+fn mirrored_column(mirror: bool, w: u32, x: u32) -> u32
+    requires { x < w }
+    ensures value { result ≡ flipped mirror w x }
+    ensures within { result < w }
+{
+    if mirror { w - 1 - x } else { x }
+}
+
+/// Where the place in column `x` and row `y` of a picture with these sides stands once it is turned.
+pub fn turn_place(by: Turn, dim: Dim, x: u32, y: u32) -> (u32, u32)
+    requires quarters { by.quarters < 4 }
+    requires column { x < dim.w }
+    requires row { y < dim.h }
+    ensures place { result ≡ turned_place by dim x y }
+    ensures moves { MovesTo by dim x y result.0 result.1 }
+{
+    let u = mirrored_column(by.mirror, dim.w, x);
+    match by.quarters {
+        0 => (u, y),
+        1 => (dim.h - 1 - y, u),
+        2 => (dim.w - 1 - u, dim.h - 1 - y),
+        _ => (y, dim.w - 1 - u),
+    }
+}
+
+/// The rectangle of a picture with these sides whose places a turn sends into `rect`.
+pub fn unturn_rect(by: Turn, dim: Dim, rect: Rect) -> Rect
+    requires quarters { by.quarters < 4 }
+    requires inside { LiesIn rect (turned_dim by dim) }
+    ensures inside { LiesIn result dim }
+    ensures same_places { (x y : ℕ) → x < dim.w → y < dim.h → HasPlace result x y ↔ HasPlace rect (turned_place by dim x y).0 (turned_place by dim x y).1 }
+{
+    let (x, y, w, h) = match by.quarters {
+        0 => (rect.x, rect.y, rect.w, rect.h),
+        1 => (rect.y, dim.h - rect.x - rect.w, rect.h, rect.w),
+        2 => (
+            dim.w - rect.x - rect.w,
+            dim.h - rect.y - rect.h,
+            rect.w,
+            rect.h,
+        ),
+        _ => (dim.w - rect.y - rect.h, rect.x, rect.h, rect.w),
+    };
+    Rect {
+        x: if by.mirror { dim.w - x - w } else { x },
+        y,
+        w,
+        h,
+    }
+}
