@@ -1,20 +1,28 @@
--- Words on the types of `geometry`.
+-- Words on sides, rectangles and kinds.
 use Rattle.std.specs.Prelude.{ℕ, ◌+◌, ◌≤◌, ◌<◌}
 use Rattle.iiif_pixel.specs.declared.geometry.Dim.{Dim}
 use Rattle.iiif_pixel.specs.declared.geometry.Rect.{Rect}
 use Rattle.iiif_pixel.specs.declared.geometry.Kind.{Kind}
 use Rattle.iiif_pixel.specs.declared.geometry.Kind.TheVariants.{Gray, Rgb}
 
--- how many samples a place has
+-- How many samples a place has: TIFF 6.0, sections 4 (grayscale) and 6 (RGB).
 abbrev pub channels_of : Kind → ℕ
 channels_of Gray = 1
 channels_of Rgb = 3
 
--- the rectangle lies inside the sides
+-- The rectangle lies inside the sides: IIIF Image API 3.0, section 4.1, a region that is cut off at the image's edges.
 pub record LiesIn (r : Rect) (d : Dim) : Type 0 where
   pub columns : r.x + r.w ≤ d.w
   pub rows : r.y + r.h ≤ d.h
 
--- the rectangle has the place in column x and row y
+-- The rectangle has the place in column x and row y: IIIF Image API 3.0, section 4.1, from (x, y) on, w columns and h rows.
 abbrev pub HasPlace : Rect → ℕ → ℕ → Type 0
 HasPlace r x y = (r.x ≤ x) × (x < r.x + r.w) × (r.y ≤ y) × (y < r.y + r.h)
+
+-- the sides of a rectangle
+abbrev pub sides_of : Rect → Dim
+sides_of r = record { w = r.w; h = r.h }
+
+-- rectangle b of the part in rectangle a, as a rectangle of the whole
+abbrev pub nested : Rect → Rect → Rect
+nested a b = record { x = a.x + b.x; y = a.y + b.y; w = b.w; h = b.h }

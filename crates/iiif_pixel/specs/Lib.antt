@@ -1,7 +1,8 @@
 pub mod Geometry
 pub mod Picture
 pub mod Operations
-pub mod RasterPicture
 pub mod TurnPlaces
-pub mod Turns
 pub mod Scaling
+pub mod Laws
+pub mod RasterPicture
+pub mod Code

@@ -1,9 +1,10 @@
 -- A picture: what every crate of the workspace means by an image, whole and without bounds on its size.
-use Rattle.std.specs.Prelude.{◌≡◌, ℕ, ◌+◌, ◌*◌, ◌≤◌, List, [], ◌∷◌, ◌++◌, All, length, slice_index, slice_set, take, drop}
+use Rattle.std.specs.Prelude.{◌≡◌, ℕ, ◌+◌, ◌*◌, ◌≤◌, ◌⊎◌, List, [], ◌∷◌, ◌++◌, All, length, slice_index, slice_set, take, drop}
 use Prim.Native.Nat.{zero, suc}
 use Rattle.iiif_pixel.specs.declared.geometry.Dim.{Dim}
 
--- Samples lie row by row from the top, in a row from the left, channel by channel at a place. `top` is the greatest sample.
+-- Samples lie row by row from the top, in a row from the left, channel by channel at a place, as in TIFF 6.0, section 8
+-- (Orientation 1, PlanarConfiguration 1). `top` is the greatest sample: black is 0 and white is `top`.
 pub record Picture : Type 0 where
   pub width : ℕ
   pub height : ℕ
@@ -53,7 +54,10 @@ with_span p x y s =
     let start = (y * p.width + x) * p.channels in
     record p { samples = take start p.samples ++ s ++ drop (start + length s) p.samples }
 
--- a sample for each place and channel, none above top
+-- A picture as the server knows them: gray or RGB (TIFF 6.0, sections 4 and 6), of 8 or 16 bits a sample, with a sample for
+-- each place and channel, none above top.
 pub record IsWhole (p : Picture) : Type 0 where
+  pub channels : (p.channels ≡ 1) ⊎ (p.channels ≡ 3)
+  pub top : (p.top ≡ 255) ⊎ (p.top ≡ 65535)
   pub count : length p.samples ≡ p.width * p.height * p.channels
   pub bound : All (λ v. v ≤ p.top) p.samples

@@ -1,18 +1,17 @@
 //! Sides, rectangles, kinds, turns and qualities.
 
-ghost use Rattle.std.specs.Prelude.{◌≡◌, ℕ, ◌<◌, ◌+◌, ◌≤◌, ◌↔◌};
-ghost use Rattle.iiif_pixel.specs.Turns.{flipped};
+ghost use Rattle.std.specs.Prelude.{◌≡◌, ℕ, ◌<◌, ◌+◌, ◌≤◌, ◌↔◌, IsTrue};
 ghost use Rattle.iiif_pixel.specs.Geometry.{LiesIn, HasPlace};
-ghost use Rattle.iiif_pixel.specs.TurnPlaces.{turned_dim, turned_place, MovesTo};
+ghost use Rattle.iiif_pixel.specs.TurnPlaces.{mirrored_column, turned_dim, turned_place, MovesTo, TurnsInto};
 
-/// The sides of a picture.
+/// The sides of a picture, in places (pixels).
 #[derive(Clone, Copy, Debug, PartialEq, Eq)]
 pub struct Dim {
     pub w: u32,
     pub h: u32,
 }
 
-/// A rectangle of places: its upper left corner and its sides.
+/// A rectangle of places: its upper left corner, counted from the picture's, and its sides (IIIF Image API 3.0, 4.1 Region).
 #[derive(Clone, Copy, Debug, PartialEq, Eq)]
 pub struct Rect {
     pub x: u32,
@@ -21,20 +20,22 @@ pub struct Rect {
     pub h: u32,
 }
 
-/// What a place of a raster has: one gray sample, or red, green and blue.
+/// What a place of a raster has: one gray sample, or red, green and blue (TIFF 6.0, sections 4 and 6).
 #[derive(Clone, Copy, Debug, PartialEq, Eq)]
 pub enum Kind {
     Gray,
     Rgb,
 }
 
-/// A mirroring on the vertical axis, or none, and then quarter turns clockwise.
+/// A mirroring on the vertical axis, or none, and then quarter turns clockwise, 0 to 3 (IIIF Image API 3.0, 4.3 Rotation).
 #[derive(Clone, Copy, Debug, PartialEq, Eq)]
 pub struct Turn {
     pub mirror: bool,
     pub quarters: u8,
 }
 
+/// The qualities that can be asked for (IIIF Image API 3.0, 4.4 Quality): the picture's own, in colour (a gray picture has
+/// none to give), gray, and black and white.
 #[derive(Clone, Copy, Debug, PartialEq, Eq)]
 pub enum Quality {
     Default,
@@ -76,16 +77,26 @@ impl Dim {
     }
 }
 
+impl Rect {
+    /// Whether the rectangle lies inside these sides.
+    pub fn lies_in(self, dim: Dim) -> bool
+        ensures { IsTrue result ↔ LiesIn self dim }
+    {
+        let (x, y) = (u64::from(self.x), u64::from(self.y));
+        x + u64::from(self.w) <= u64::from(dim.w) && y + u64::from(self.h) <= u64::from(dim.h)
+    }
+}
+
 /// Column `x` of `w`, counted from the right where the picture is mirrored.
 fn mirrored_column(mirror: bool, w: u32, x: u32) -> u32
     requires { x < w }
-    ensures value { result ≡ flipped mirror w x }
+    ensures value { result ≡ mirrored_column mirror w x }
     ensures within { result < w }
 {
     if mirror { w - 1 - x } else { x }
 }
 
-/// Where the place in column `x` and row `y` of a picture with these sides stands once it is turned.
+/// The column and the row where the place in column `x` and row `y` of a picture with these sides stands once it is turned.
 pub fn turn_place(by: Turn, dim: Dim, x: u32, y: u32) -> (u32, u32)
     requires quarters { by.quarters < 4 }
     requires column { x < dim.w }
@@ -102,12 +113,14 @@ pub fn turn_place(by: Turn, dim: Dim, x: u32, y: u32) -> (u32, u32)
     }
 }
 
-/// The rectangle of a picture with these sides whose places a turn sends into `rect`.
+/// The rectangle of a picture with these sides whose places a turn sends into `rect`, a rectangle of the turned picture. So
+/// the part in `rect` of the turned picture can be made of the part in the result alone.
 pub fn unturn_rect(by: Turn, dim: Dim, rect: Rect) -> Rect
     requires quarters { by.quarters < 4 }
     requires inside { LiesIn rect (turned_dim by dim) }
     ensures inside { LiesIn result dim }
     ensures same_places { (x y : ℕ) → x < dim.w → y < dim.h → HasPlace result x y ↔ HasPlace rect (turned_place by dim x y).0 (turned_place by dim x y).1 }
+    ensures same_part { TurnsInto by dim result rect }
 {
     let (x, y, w, h) = match by.quarters {
         0 => (rect.x, rect.y, rect.w, rect.h),

@@ -10,10 +10,10 @@ use crate::fills::fill_turned;
 use crate::geometry::{Dim, Kind, Quality, Rect, Turn};
 use crate::grays::{blacken_or_whiten, gray_samples};
 pub use std::alloc::AllocError as NoMemory;
-use std::alloc::Global;
+use std::alloc::{AllocError, Global};
 use std::marker::Model;
 
-/// A picture in memory, with samples of 8 bits.
+/// A picture in memory, with samples of 8 bits, 0 for black and 255 for white. Contracts see the picture alone.
 #[derive(Drop)]
 pub struct Raster {
     dim: Dim,
@@ -35,12 +35,14 @@ impl Model for Raster {
 }
 
 impl Raster {
-    /// A picture of zeros.
+    /// A picture of zeros. Sides with more samples than addresses are answered as want of memory too.
     pub fn new(alloc: Global, dim: Dim, kind: Kind) -> Result<Raster, NoMemory>
-        requires { dim.w * dim.h * channels_of kind < 2 ^ 64 }
         ensures { IfOk result (λ r. r ≡ picture_of dim.w dim.h (channels_of kind) 255 (λ x y k. 0)) }
     {
-        let count = dim.w as usize * dim.h as usize * kind.channels();
+        let places = dim.w as usize * dim.h as usize;
+        let Some(count) = places.checked_mul(kind.channels()) else {
+            return Err(AllocError);
+        };
         Ok(Raster {
             dim,
             kind,
@@ -48,7 +50,8 @@ impl Raster {
         })
     }
 
-    /// The picture with these samples, row by row, in a row place by place, at a place channel by channel.
+    /// The picture with these samples, row by row from the top, in a row place by place from the left, at a place channel by
+    /// channel. It takes no memory.
     pub fn from_samples(dim: Dim, kind: Kind, samples: Vec<u8>) -> Raster
         requires { length samples.items ≡ dim.w * dim.h * channels_of kind }
         ensures { result ≡ raster_picture dim kind samples.items }
@@ -56,6 +59,7 @@ impl Raster {
         Raster { dim, kind, samples }
     }
 
+    /// The sides.
     pub fn dim(&self) -> Dim
         ensures width { result.w ≡ self.now.width }
         ensures height { result.h ≡ self.now.height }
@@ -63,13 +67,15 @@ impl Raster {
         self.dim
     }
 
+    /// Gray or RGB.
     pub fn kind(&self) -> Kind
         ensures { channels_of result ≡ self.now.channels }
     {
         self.kind
     }
 
-    /// All samples, row by row, in a row place by place, at a place channel by channel.
+    /// All samples, in the order of `from_samples`. The clauses besides are what a caller knows of every raster: the greatest
+    /// sample is 255, and there are as many samples as the sides and channels ask for, none above it.
     pub fn samples(&self) -> &[u8]
         ensures all { result.now ≡ self.now.samples }
         ensures top { self.now.top ≡ 255 }
@@ -91,17 +97,19 @@ impl Raster {
             + channel]
     }
 
+    /// Writes the sample in a column, a row and a channel, and leaves all others.
     pub fn set(&mut self, x: u32, y: u32, channel: usize, value: u8)
         requires column { x < self.old.width }
         requires row { y < self.old.height }
         requires channel { channel < self.old.channels }
         ensures { self.new ≡ with_sample self.old x y channel value }
     {
-        self.samples[(y as usize * self.dim.w as usize + x as usize) * self.kind.channels()
-            + channel] = value;
+        let index = (y as usize * self.dim.w as usize + x as usize) * self.kind.channels()
+            + channel;
+        self.samples[index] = value;
     }
 
-    /// The samples of `w` places of a row, from a column on.
+    /// The samples of `w` places of row `y`, from column `x` on.
     pub fn span(&self, x: u32, y: u32, w: u32) -> &[u8]
         requires columns { x + w ≤ self.now.width }
         requires row { y < self.now.height }
@@ -112,7 +120,7 @@ impl Raster {
         &self.samples[start..start + w as usize * channels]
     }
 
-    /// Writes the samples of `w` places of a row, from a column on.
+    /// Writes the samples of `w` places of row `y`, from column `x` on, and leaves all others.
     pub fn put_span(&mut self, x: u32, y: u32, w: u32, samples: &[u8])
         requires columns { x + w ≤ self.old.width }
         requires row { y < self.old.height }
@@ -124,11 +132,12 @@ impl Raster {
         self.samples[start..start + w as usize * channels].copy_from_slice(samples);
     }
 
-    /// The part in a rectangle.
+    /// The part in a rectangle (IIIF Image API 3.0, 4.1 Region). The only error is want of memory.
     pub fn crop(&self, rect: Rect) -> Result<Raster, NoMemory>
         requires { LiesIn rect (dim_of self.now) }
         ensures { IfOk result (λ r. r ≡ crop self.now rect) }
     {
+        // Read, so that the rows' numbers are known to fit.
         let _height = self.dim.h;
         let count = rect.w as usize * self.kind.channels() * rect.h as usize;
         let mut samples = Vec::with_capacity(*self.samples.allocator(), count)?;
@@ -145,7 +154,8 @@ impl Raster {
         })
     }
 
-    /// Mirrored where the turn says so, and then turned clockwise.
+    /// Mirrored where the turn says so, and then turned clockwise (IIIF Image API 3.0, 4.3 Rotation). The only error is want of
+    /// memory.
     pub fn turn(&self, by: Turn) -> Result<Raster, NoMemory>
         requires { by.quarters < 4 }
         ensures { IfOk result (λ r. r ≡ turn self.now by) }
@@ -159,7 +169,8 @@ impl Raster {
         })
     }
 
-    /// Place by place in another quality; `Default` and `Color` change nothing.
+    /// In another quality, place by place (IIIF Image API 3.0, 4.4 Quality); `Default` and `Color` change nothing. The only error
+    /// is want of memory.
     pub fn quality(&self, to: Quality) -> Result<Raster, NoMemory>
         ensures { IfOk result (λ r. r ≡ quality self.now to) }
     {
@@ -170,7 +181,7 @@ impl Raster {
         }
     }
 
-    /// An equal raster.
+    /// An equal raster. The only error is want of memory.
     pub fn copy(&self) -> Result<Raster, NoMemory>
         ensures { IfOk result (λ r. r ≡ self.now) }
     {
