@@ -1,0 +1,11 @@
+//! Readers and writers that say when their device failed, and what a text sent through one leaves there.
+#![tactic(auto)]
+
+pub use inlet::Inlet;
+pub use outlet::{Outlet, send, send_both};
+
+pub mod fakes;
+pub mod inlet;
+pub mod outlet;
+#[cfg(test)]
+mod tests;

@@ -1,0 +1,93 @@
+//! Writers.
+
+ghost use Rattle.std.specs.Prelude.{◌≡◌, ◌<◌, ◌++◌, length, IfOk, IfErr, OnOk, OnErr};
+ghost use Rattle.std.specs.Io.{WritesAtMost};
+ghost use Rattle.std.specs.Io.KnownBytes.{Appends, WriteAppends};
+ghost use Rattle.iiif_io.specs.Sending.{WasCut};
+
+use crate::inlet::TRIES;
+use std::io;
+use std::io::{ErrorKind, Stdout, Write};
+use std::net::TcpStream;
+
+/// A writer that says of a failed write that it failed.
+pub trait Outlet: Write {
+    // A write in the first state failed and left the second.
+    ghost fails: { Self → Self → Type 0 };
+
+    /// Writes some of the bytes. To take none of some is to fail.
+    fn put(&mut self, bytes: &[u8]) -> io::Result<usize>
+        ensures bound { WritesAtMost result bytes.now }
+        ensures bytes { WriteAppends (Self.contents self.old) (Self.contents self.new) result bytes.now }
+        ensures err { OnErr result (fails self.old self.new) }
+        ensures none { IfOk result (λ n. n ≡ 0 → 0 < length bytes.now → fails self.old self.new) };
+}
+
+/// Writes the whole text, or says how many of its bytes were written before the writer failed.
+pub fn send<W: Outlet>(out: &mut W, text: &[u8]) -> Result<(), u64>
+    ensures whole { OnOk result (Appends (W.contents out.old) (W.contents out.new) text.now) }
+    ensures cut { IfErr result (WasCut W.contents W.fails out.old out.new text.now) }
+{
+    let mut at = 0usize;
+    while at < text.len() {
+        let (_, rest) = text.split_at(at);
+        match out.put(rest) {
+            Ok(0) => return Err(at as u64),
+            Ok(n) => at += n,
+            Err(_) => return Err(at as u64),
+        }
+    }
+    Ok(())
+}
+
+/// Writes one text and then another. Where the writer fails it says how many bytes of both were written.
+pub fn send_both<W: Outlet>(out: &mut W, first: &[u8], second: &[u8]) -> Result<(), u64>
+    ensures whole { OnOk result (Appends (W.contents out.old) (W.contents out.new) (first.now ++ second.now)) }
+    ensures cut { IfErr result (WasCut W.contents W.fails out.old out.new (first.now ++ second.now)) }
+{
+    send(out, first)?;
+    let front = first.len() as u64;
+    match send(out, second) {
+        Ok(()) => Ok(()),
+        Err(sent) => Err(front + sent),
+    }
+}
+
+/// Memory, which fails only where a growth is refused, and then is as it was.
+impl Outlet for Vec<u8> {
+    ghost fails = { λ old new. new.items ≡ old.items };
+
+    fn put(&mut self, bytes: &[u8]) -> io::Result<usize> {
+        self.write(bytes)
+    }
+}
+
+/// Of a socket nothing is known but that a write failed. A write that a signal breaks off is tried again.
+impl Outlet for TcpStream {
+    ghost fails = { λ _ _. Unit {0} };
+
+    fn put(&mut self, bytes: &[u8]) -> io::Result<usize> {
+        for _ in 0..TRIES {
+            match self.write(bytes) {
+                Err(error) if error.kind() == ErrorKind::Interrupted => {}
+                other => return other,
+            }
+        }
+        self.write(bytes)
+    }
+}
+
+/// Of standard output nothing is known but that a write failed. A write that a signal breaks off is tried again.
+impl Outlet for Stdout {
+    ghost fails = { λ _ _. Unit {0} };
+
+    fn put(&mut self, bytes: &[u8]) -> io::Result<usize> {
+        for _ in 0..TRIES {
+            match self.write(bytes) {
+                Err(error) if error.kind() == ErrorKind::Interrupted => {}
+                other => return other,
+            }
+        }
+        self.write(bytes)
+    }
+}
