@@ -1,24 +1,44 @@
-//! The bytes of an image's source, read at any place.
+//! The bytes of an image's source, read at any place: from memory, from a file, and from a device that fails when told.
 #![tactic(auto)]
 
-ghost use Rattle.std.specs.Prelude.{◌≡◌, ◌+◌, ◌≤◌, ℕ, List, length, take, drop, OnOk, IfErr, Bool, IsTrue, false};
+ghost use Rattle.std.specs.Prelude.{◌≡◌, ◌+◌, ◌≤◌, ℕ, List, All, length, take, drop, OnOk, IfErr, Bool, IsTrue};
 ghost use Rattle.iiif_source.specs.declared.ReadFault.{ReadFault};
 
-use std::marker::Model;
+pub use file::FileSource;
+pub use fuse::FuseSource;
+pub use memory::MemSource;
 
-/// Why a read failed: where it began, and the cause (1 the read failed, 2 the file ended, 3 the fuse).
+mod file;
+mod fuse;
+mod memory;
+#[cfg(test)]
+mod tests;
+
+/// Why a read failed: the place in the source, in bytes, where the read began, and one of the causes below.
 #[derive(Clone, Copy, Debug, PartialEq, Eq)]
 pub struct ReadFault {
     pub place: u64,
     pub cause: u8,
 }
 
-/// Bytes that are read at any place. R is the runtime that a read takes.
+impl ReadFault {
+    /// The device refused the read.
+    pub const FAILED: u8 = 1;
+
+    /// The source ended before the read did: it has become shorter than it was.
+    pub const ENDED: u8 = 2;
+
+    /// A `FuseSource` was told to fail.
+    pub const FUSE: u8 = 3;
+}
+
+/// Bytes that are read at any place. R is the runtime that a read takes: a source in memory takes any, one behind a
+/// lock a runtime that may wait.
 pub trait Source<R> {
     /// The bytes of the source.
     ghost bytes: { Self → List ℕ };
 
-    /// The bytes don't change, and a read that succeeds gives them.
+    /// The bytes don't change, and a read that succeeds gives them. Each promise on what is read has this as its premise.
     ghost keeps: { Self → Type 0 };
 
     /// This device gave the fault.
@@ -26,52 +46,13 @@ pub trait Source<R> {
 
     /// How many bytes the source has.
     fn len(&self) -> u64
-        ensures { result ≡ length (bytes self.now) };
+        ensures length { result ≡ length (bytes self.now) }
+        ensures bytes { All (λ b. b ≤ 255) (bytes self.now) };
 
-    /// Reads the bytes from a place on, as many as the buffer has room for.
+    /// Reads the bytes from a place on, as many as the buffer has room for. After a fault the buffer's bytes are of no use.
     fn read_at(&self, rt: &R, at: u64, buffer: &mut [u8]) -> Result<(), ReadFault>
         requires { at + length buffer.old ≤ length (bytes self.now) }
         ensures bytes_there { keeps self.now → OnOk result (buffer.new ≡ take (length buffer.old) (drop at (bytes self.now))) }
+        ensures place { IfErr result (λ f. f.place ≡ at) }
         ensures fault { IfErr result (λ f. IsTrue (gave self.now f)) };
-}
-
-/// Bytes in memory, which a read always gives.
-#[derive(Debug, Drop)]
-pub struct MemSource {
-    bytes: Vec<u8>,
-}
-
-impl Model for MemSource {
-    ghost Value = { List ℕ };
-
-    ghost view = { λ s. s.bytes.items };
-}
-
-impl MemSource {
-    /// A source of these bytes.
-    pub fn new(bytes: Vec<u8>) -> MemSource
-        ensures { result ≡ bytes.items }
-    {
-        MemSource { bytes }
-    }
-}
-
-impl<R> Source<R> for MemSource {
-    ghost bytes = { λ s. s };
-
-    ghost keeps = { λ _. Unit {0} };
-
-    ghost gave = { λ _ _. false };
-
-    fn len(&self) -> u64 {
-        self.bytes.len() as u64
-    }
-
-    fn read_at(&self, _rt: &R, at: u64, buffer: &mut [u8]) -> Result<(), ReadFault> {
-        let bytes = self.bytes.as_slice();
-        let start = at as usize;
-        let end = start + buffer.len();
-        buffer.copy_from_slice(&bytes[start..end]);
-        Ok(())
-    }
 }

@@ -1,0 +1,70 @@
+//! A file as a source.
+
+ghost use Rattle.std.specs.Prelude.{◌||◌, ◌==◌, ℕ, IsTrue, replicate};
+ghost use Rattle.iiif_source.specs.Cause.{failed, ended};
+
+use crate::{ReadFault, Source};
+use std::fs::File;
+use std::io;
+use std::io::ErrorKind;
+use std::marker::Model;
+use std::os::unix::fs::FileExt;
+use std::sync::{Mutex, Wait};
+
+/// A file behind a lock. Its length is taken once, when the source is made. It is seen as that length: nothing can be
+/// known of what a file holds, so its bytes stand for any, and that it keeps them is never promised.
+#[derive(Drop)]
+pub struct FileSource {
+    file: Mutex<File>,
+    len: u64,
+}
+
+impl Model for FileSource {
+    ghost Value = { ℕ };
+
+    ghost view = { λ s. s.len };
+}
+
+impl FileSource {
+    /// A source of an open file, of the length that it has now.
+    pub fn new(file: File) -> io::Result<FileSource> {
+        let len = file.metadata()?.len();
+        Ok(FileSource {
+            file: Mutex::new(file),
+            len,
+        })
+    }
+}
+
+impl<R: Wait> Source<R> for FileSource {
+    ghost bytes = { λ len. replicate len 0 };
+
+    ghost keeps = { λ _. ⊥ };
+
+    ghost gave = { λ _ f. f.cause == failed || f.cause == ended };
+
+    fn len(&self) -> u64 {
+        self.len
+    }
+
+    fn read_at(&self, rt: &R, at: u64, buffer: &mut [u8]) -> Result<(), ReadFault> {
+        let file = self.file.lock(rt);
+        match file.read_exact_at(buffer, at) {
+            Ok(()) => Ok(()),
+            Err(e) => Err(ReadFault {
+                place: at,
+                cause: cause_of(e.kind()),
+            }),
+        }
+    }
+}
+
+/// The cause of a read's fault: the file ended, or the read failed.
+fn cause_of(kind: ErrorKind) -> u8
+    ensures { IsTrue (result == failed || result == ended) }
+{
+    match kind {
+        ErrorKind::UnexpectedEof => ReadFault::ENDED,
+        _ => ReadFault::FAILED,
+    }
+}
