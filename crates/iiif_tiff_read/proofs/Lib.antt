@@ -1,0 +1,9 @@
+pub mod Bytes
+pub mod Values
+pub mod Depth
+pub mod PieceLemmas
+pub mod Splice
+pub mod Windows
+pub mod Spans
+pub mod Places
+pub mod Cropped

@@ -1,0 +1,25 @@
+use Rattle.std.proofs.Common.{◌+◌, ◌%◌, ◌<◌, arith}
+use Rattle.std.proofs.lemmas.Nat.{mod_below}
+use Rattle.iiif_tiff_read.specs.declared.rects.Part.{Part}
+use Rattle.iiif_tiff_read.specs.Code.{image_scheme, IsPart}
+use Rattle.iiif_tiff_read.proofs.Places.{filled_part}
+use Rattle.iiif_tiff_read.proofs.image.Image.fill.Goals as goal
+
+pub loop-left-preserved : goal.loop-left-preserved
+loop-left-preserved g c =
+    let s = image_scheme c.args.self.now in
+    let p : Part = record { left = c.loop-left.left; top = c.loop-top.top; columns = c.min-columns.result; rows = c.min-rows.result } in
+    let x-below : (c.args.rect.x + c.loop-left.left) % s.piece_width < s.piece_width = mod_below (c.args.rect.x + c.loop-left.left) s.piece_width c.requires.sound.piece_width.0 in
+    let y-below : (c.args.rect.y + c.loop-top.top) % s.piece_height < s.piece_height = mod_below (c.args.rect.y + c.loop-top.top) s.piece_height c.requires.sound.piece_height.0 in
+    let part : IsPart s c.args.rect p = record {
+      inside = c.requires.inside;
+      columns = omega (arith, c.min-columns.ensures, c.loop-left-test.true);
+      rows = omega (arith, c.min-rows.ensures, c.loop-top-test.true);
+      columns_some = omega (arith, c.min-columns.ensures, c.loop-left-test.true, x-below);
+      rows_some = omega (arith, c.min-rows.ensures, c.loop-top-test.true, y-below);
+      piece_columns = omega (arith, c.min-columns.ensures, x-below);
+      piece_rows = omega (arith, c.min-rows.ensures, y-below);
+    } in (
+      part.columns,
+      λ keeps. filled_part (g.S.Source.bytes c.args.source.now) c.loop-left.samples c.read_part.new.samples s c.args.rect p c.requires.sound part (c.in_ok-read_part.ensures.held keeps) c.in_ok-read_part.ensures.rest (c.loop-left.invariant.1 keeps),
+    )

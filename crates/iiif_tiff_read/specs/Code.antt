@@ -1,0 +1,164 @@
+-- What the reader's own types stand for. Only private contracts and the layout's model cite these words.
+use Rattle.std.specs.Prelude.{◌≡◌, ◌≢◌, ℕ, ◌+◌, ◌-◌, ◌*◌, ◌/◌, ◌%◌, ◌<◌, ◌≤◌, ◌^◌, ◌⊎◌, Bool, IsTrue, false, List, length, map, slice_index}
+use Rattle.std.specs.Int.{div_ceil}
+use Rattle.std.specs.List.{range_with_len}
+use Rattle.iiif_pixel.specs.Geometry.{channels_of, LiesIn}
+use Rattle.iiif_pixel.specs.declared.geometry.Dim.{Dim}
+use Rattle.iiif_pixel.specs.declared.geometry.Rect.{Rect}
+use Rattle.iiif_source.specs.declared.ReadFault.{ReadFault}
+use Rattle.iiif_tiff.specs.Tiff as tiff
+use Rattle.iiif_tiff.specs.Tiff.{Order, Little, Big, Scheme, row_bytes, stored, shown}
+use Rattle.iiif_tiff_read.specs.Layouts.{dim_of}
+use Rattle.iiif_tiff_read.specs.declared.number.ByteOrder.{ByteOrder}
+use Rattle.iiif_tiff_read.specs.declared.number.ByteOrder.TheVariants as orders
+use Rattle.iiif_tiff_read.specs.declared.number.FieldType.{FieldType}
+use Rattle.iiif_tiff_read.specs.declared.number.FieldType.TheVariants as types
+use Rattle.iiif_tiff_read.specs.declared.fields.Entry.{Entry}
+use Rattle.iiif_tiff_read.specs.declared.grid.Grid.{Grid}
+use Rattle.iiif_tiff_read.specs.declared.checks.Format.{Format}
+use Rattle.iiif_tiff_read.specs.declared.image.Image.{Image}
+use Rattle.iiif_tiff_read.specs.declared.rects.Part.{Part}
+use Rattle.iiif_tiff_read.specs.declared.rows.Span.{Span}
+use Rattle.iiif_tiff_read.specs.declared.rows.Window.{Window}
+use Rattle.iiif_tiff_read.specs.declared.fault.OpenFault.{OpenFault}
+use Rattle.iiif_tiff_read.specs.declared.fault.OpenFault.TheVariants as opens
+
+abbrev pub endian : ByteOrder → Order
+endian orders.Little = Little
+endian orders.Big = Big
+
+-- the number of a type in an entry
+abbrev pub code : FieldType → ℕ
+code types.Byte = 1
+code types.Short = 3
+code types.Long = 4
+
+abbrev pub entry_view : Entry → tiff.Entry
+entry_view e = record { tag = e.tag; kind = e.kind; count = e.count; inside = e.inside }
+
+abbrev pub entry_views : List Entry → List tiff.Entry
+entry_views es = map entry_view es
+
+-- the first n values of the field with a tag
+unfoldable pub first_values : List ℕ → ℕ → ℕ → List ℕ
+first_values bytes tag n = map (λ i. tiff.value_or bytes tag i 0) (range_with_len 0 n)
+
+-- The byte order and the entries are those of the bytes.
+pub record Reads (bytes : List ℕ) (o : ByteOrder) (es : List Entry) : Type 0 where
+  pub order_is : endian o ≡ tiff.order bytes
+  pub entries_are : entry_views es ≡ tiff.entries bytes
+
+-- The grid is that of the bytes.
+pub record IsGrid (bytes : List ℕ) (g : Grid) : Type 0 where
+  pub tiled : g.tiled ≡ tiff.is_tiled bytes
+  pub width : g.width ≡ tiff.piece_width bytes
+  pub height : g.height ≡ tiff.piece_height bytes
+  pub across : g.across ≡ tiff.tiles_across bytes
+  pub count : g.count ≡ tiff.pieces bytes
+
+-- The sides, the format and the grid are those of the bytes.
+pub record IsKnown (bytes : List ℕ) (d : Dim) (f : Format) (g : Grid) : Type 0 where
+  pub width_is : d.w ≡ tiff.width bytes
+  pub height_is : d.h ≡ tiff.height bytes
+  pub channels_is : channels_of f.kind ≡ tiff.channels bytes
+  pub bits_is : f.bits ≡ tiff.bits bytes
+  pub grid_is : IsGrid bytes g
+
+-- what a layout's fields say of its image
+abbrev pub scheme_of : Dim → Format → Grid → List ℕ → Scheme
+scheme_of d f g offsets = record {
+  width = d.w;
+  height = d.h;
+  channels = channels_of f.kind;
+  bits = f.bits;
+  white_is_zero = f.white_is_zero;
+  tiled = g.tiled;
+  piece_width = g.width;
+  piece_height = g.height;
+  tiles_across = g.across;
+  offsets = offsets;
+}
+
+-- The sides are within their limits, and there is an offset for each piece.
+pub record IsSound (s : Scheme) : Type 0 where
+  pub width : (0 < s.width) × (s.width ≤ 1000000)
+  pub height : (0 < s.height) × (s.height ≤ 1000000)
+  pub area : s.width * s.height ≤ 2 ^ 32
+  pub bits : (s.bits ≤ 8) × (s.bits ≢ 8 → s.bits ≡ 1)
+  pub piece_width : (0 < s.piece_width) × (s.piece_width ≤ 2 ^ 20)
+  pub piece_height : (0 < s.piece_height) × (s.piece_height < 2 ^ 32)
+  pub strip : s.tiled ≡ false → s.piece_width ≡ s.width
+  pub across : s.tiles_across ≡ div_ceil s.width s.piece_width
+  pub count : length s.offsets ≡ s.tiles_across * div_ceil s.height s.piece_height
+
+-- A fault of reading bytes: the device's, or want of memory.
+abbrev pub IsDeviceFault : (ReadFault → Bool) → OpenFault → Type 0
+IsDeviceFault gave (opens.Source f) = IsTrue (gave f)
+IsDeviceFault gave opens.NoMemory = Unit {0}
+IsDeviceFault gave opens.NotTiff = ⊥
+IsDeviceFault gave opens.Truncated = ⊥
+IsDeviceFault gave (opens.Missing tag) = ⊥
+IsDeviceFault gave (opens.Unsupported tag) = ⊥
+IsDeviceFault gave (opens.BadField tag) = ⊥
+IsDeviceFault gave opens.TooLarge = ⊥
+
+abbrev pub image_scheme : Image → Scheme
+image_scheme i = scheme_of i.dim i.format i.grid i.offsets.items
+
+-- where the row of a place of the image begins in the file
+unfoldable pub row_place : Scheme → ℕ → ℕ → ℕ
+row_place s x y = slice_index s.offsets (y / s.piece_height * s.tiles_across + x / s.piece_width) + y % s.piece_height * row_bytes s
+
+-- the sample that is stored at a place of the image
+unfoldable pub stored_at : List ℕ → Scheme → ℕ → ℕ → ℕ → ℕ
+stored_at bytes s x y k = stored s.bits bytes (row_place s x y) (x % s.piece_width * s.channels + k)
+
+-- The span is of the bytes that n samples of a row need, from the first-th on, and of no others.
+pub record IsSpan (bits first n : ℕ) (span : Span) : Type 0 where
+  pub whole : bits ≡ 8 → (span.start ≡ first) × (span.len ≡ n) × (span.skip ≡ 0)
+  pub packed : bits ≡ 1 → (span.start ≡ first / 8) × (span.len ≡ div_ceil (first + n) 8 - first / 8) × (span.skip ≡ first % 8)
+
+-- The window stands among n samples.
+pub record FitsWindow (v : Window) (n : ℕ) : Type 0 where
+  pub columns : v.left + v.columns ≤ v.width
+  pub rows : (v.top + v.rows) * v.width ≤ n
+
+-- In the first m rows of the window, sample i of row j is f j i.
+abbrev pub HoldsRows : (ℕ → ℕ → ℕ) → Window → ℕ → List ℕ → Type 0
+HoldsRows f v m samples = (j i : ℕ) → j < m → i < v.columns → slice_index samples ((v.top + j) * v.width + (v.left + i)) ≡ f j i
+
+-- Samples that are not in the first m rows of the window are as they were.
+abbrev pub KeepsRest : Window → ℕ → List ℕ → List ℕ → Type 0
+KeepsRest v m old new = (j q : ℕ) → q < v.width → (j < v.top) ⊎ (v.top + m ≤ j) ⊎ (q < v.left) ⊎ (v.left + v.columns ≤ q)
+    → slice_index new (j * v.width + q) ≡ slice_index old (j * v.width + q)
+
+-- The rectangle lies in the image, the part in the rectangle, and in one piece of the image.
+pub record IsPart (s : Scheme) (r : Rect) (p : Part) : Type 0 where
+  pub inside : LiesIn r (dim_of s)
+  pub columns : p.left + p.columns ≤ r.w
+  pub rows : p.top + p.rows ≤ r.h
+  pub columns_some : 0 < p.columns
+  pub rows_some : 0 < p.rows
+  pub piece_columns : (r.x + p.left) % s.piece_width + p.columns ≤ s.piece_width
+  pub piece_rows : (r.y + p.top) % s.piece_height + p.rows ≤ s.piece_height
+
+-- the window of a part among the samples of its rectangle
+abbrev pub window_of : ℕ → Rect → Part → Window
+window_of c r p = record { width = r.w * c; left = p.left * c; top = p.top; columns = p.columns * c; rows = p.rows }
+
+-- The part's rows are those that are stored.
+abbrev pub HoldsPart : List ℕ → Scheme → Rect → Part → List ℕ → Type 0
+HoldsPart bytes s r p samples =
+    HoldsRows (λ j i. stored s.bits bytes (row_place s (r.x + p.left) (r.y + p.top) + j * row_bytes s) ((r.x + p.left) % s.piece_width * s.channels + i))
+    (window_of s.channels r p) p.rows samples
+
+-- Samples outside the part are as they were.
+abbrev pub KeepsOthers : Scheme → Rect → Part → List ℕ → List ℕ → Type 0
+KeepsOthers s r p old new = KeepsRest (window_of s.channels r p) p.rows old new
+
+-- The rectangle's samples are those that are stored, and those that are shown.
+abbrev pub HoldsStored : List ℕ → Scheme → Rect → List ℕ → Type 0
+HoldsStored bytes s r samples = (x y k : ℕ) → x < r.w → y < r.h → k < s.channels → slice_index samples ((y * r.w + x) * s.channels + k) ≡ stored_at bytes s (r.x + x) (r.y + y) k
+
+abbrev pub HoldsShown : List ℕ → Scheme → Rect → List ℕ → Type 0
+HoldsShown bytes s r samples = (x y k : ℕ) → x < r.w → y < r.h → k < s.channels → slice_index samples ((y * r.w + x) * s.channels + k) ≡ shown bytes s (r.x + x) (r.y + y) k

@@ -1,0 +1,192 @@
+//! The checks of a file's fields, in their order.
+
+ghost use Rattle.std.specs.Prelude.{◌≡◌, ◌≢◌, ◌+◌, ◌*◌, ◌^◌, ◌<◌, ◌≤◌, ◌==◌, ◌&&◌, if◌then◌else◌, ℕ, IfOk};
+ghost use Rattle.std.specs.List.{list_all};
+ghost use Rattle.iiif_pixel.specs.Geometry.{channels_of};
+ghost use Rattle.iiif_tiff.specs.Tiff as tiff;
+ghost use Rattle.iiif_tiff.specs.Tiff.{sides, samples, samples_per_pixel, bits_per_sample, photometric, planar_configuration, extra_samples, sample_format, tile_side, value_or, width, height, channels, bits, white_is_zero};
+ghost use Rattle.iiif_tiff_read.specs.Code.{Reads};
+ghost use Rattle.iiif_tiff_read.specs.Faults.{Answers};
+
+use crate::fault::OpenFault;
+use crate::fields::Fields;
+use crate::tag;
+use iiif_pixel::{Dim, Kind};
+use iiif_source::Source;
+use std::alloc::Global;
+
+const MAX_SIDE: u32 = 1_000_000;
+
+const MAX_AREA: u64 = 1 << 32;
+
+const MAX_TILE_SIDE: u32 = 1 << 20;
+
+/// How samples are stored.
+#[derive(Clone, Copy, Debug)]
+pub struct Format {
+    pub kind: Kind,
+    pub bits: u32,
+    pub white_is_zero: bool,
+}
+
+fn all_are(values: &[u32], value: u32) -> bool
+    ensures { result ≡ list_all (λ v. v == value) values.now }
+{
+    values.iter().all(|v| *v == value)
+}
+
+/// The bits that all samples have: eight, or one where there is one channel.
+fn depth(bits: &[u32], channels: u32) -> Option<u32>
+    ensures { result ≡ (if list_all (λ v. v == 8) bits.now then Some 8 else (if channels == 1 && list_all (λ v. v == 1) bits.now then Some 1 else None)) }
+{
+    if all_are(bits, 8) {
+        Some(8)
+    } else if channels == 1 && all_are(bits, 1) {
+        Some(1)
+    } else {
+        None
+    }
+}
+
+impl<'a, R, S: Source<R>> Fields<'a, R, S> {
+    /// The sides of the image.
+    #[tactic(auto, unfolding(iiif_tiff::specs::Tiff::sides))]
+    pub fn sides(&self) -> Result<Dim, OpenFault>
+        ensures sides { Answers (Reads (S.bytes self.now.source.now) self.now.order self.now.entries.items) (S.gave self.now.source.now)
+            (sides (S.bytes self.now.source.now))
+            (λ d. (d.w ≡ width (S.bytes self.now.source.now)) × (d.h ≡ height (S.bytes self.now.source.now))) result }
+        ensures bounds { IfOk result (λ d. (0 < d.w) × (d.w ≤ 1000000) × (0 < d.h) × (d.h ≤ 1000000) × (d.w * d.h ≤ 2 ^ 32)) }
+    {
+        let w = self.needed(tag::IMAGE_WIDTH)?;
+        if w == 0 {
+            return Err(OpenFault::BadField(tag::IMAGE_WIDTH));
+        }
+        if w > MAX_SIDE {
+            return Err(OpenFault::TooLarge);
+        }
+        let h = self.needed(tag::IMAGE_LENGTH)?;
+        if h == 0 {
+            return Err(OpenFault::BadField(tag::IMAGE_LENGTH));
+        }
+        if h > MAX_SIDE || w as u64 * h as u64 > MAX_AREA {
+            return Err(OpenFault::TooLarge);
+        }
+        Ok(Dim { w, h })
+    }
+
+    /// How many channels the image has.
+    #[tactic(auto, unfolding(iiif_tiff::specs::Tiff::samples_per_pixel))]
+    fn samples_per_pixel(&self) -> Result<Kind, OpenFault>
+        ensures { Answers (Reads (S.bytes self.now.source.now) self.now.order self.now.entries.items) (S.gave self.now.source.now) (samples_per_pixel (S.bytes self.now.source.now)) (λ k. channels_of k ≡ channels (S.bytes self.now.source.now)) result }
+    {
+        match self.optional(tag::SAMPLES_PER_PIXEL, 1)? {
+            0 => Err(OpenFault::BadField(tag::SAMPLES_PER_PIXEL)),
+            1 => Ok(Kind::Gray),
+            3 => Ok(Kind::Rgb),
+            _ => Err(OpenFault::Unsupported(tag::SAMPLES_PER_PIXEL)),
+        }
+    }
+
+    /// How many bits a sample has.
+    #[tactic(auto, unfolding(iiif_tiff::specs::Tiff::bits_per_sample))]
+    fn bits_per_sample(&self, alloc: Global, channels: u32) -> Result<u32, OpenFault>
+        ensures bits { Answers (S.keeps self.now.source.now × (Reads (S.bytes self.now.source.now) self.now.order self.now.entries.items) × (channels ≡ tiff.channels (S.bytes self.now.source.now))) (S.gave self.now.source.now) (bits_per_sample (S.bytes self.now.source.now)) (λ n. n ≡ bits (S.bytes self.now.source.now)) result }
+        ensures bounds { IfOk result (λ n. (n ≤ 8) × (n ≢ 8 → n ≡ 1)) }
+    {
+        let bits = self.each(alloc, tag::BITS_PER_SAMPLE, channels, 1)?;
+        match depth(&bits, channels) {
+            Some(bits) => Ok(bits),
+            None => Err(OpenFault::Unsupported(tag::BITS_PER_SAMPLE)),
+        }
+    }
+
+    /// Whether a sample of 0 is white.
+    #[tactic(auto, unfolding(iiif_tiff::specs::Tiff::photometric))]
+    fn photometric(&self, channels: u32) -> Result<bool, OpenFault>
+        ensures { Answers ((Reads (S.bytes self.now.source.now) self.now.order self.now.entries.items) × (channels ≡ tiff.channels (S.bytes self.now.source.now))) (S.gave self.now.source.now) (photometric (S.bytes self.now.source.now)) (λ b. b ≡ white_is_zero (S.bytes self.now.source.now)) result }
+    {
+        let photometric = self.needed(tag::PHOTOMETRIC)?;
+        match (channels, photometric) {
+            (1, 0) => Ok(true),
+            (1, 1) => Ok(false),
+            (1, _) => Err(OpenFault::Unsupported(tag::PHOTOMETRIC)),
+            (_, 2) => Ok(false),
+            _ => Err(OpenFault::Unsupported(tag::PHOTOMETRIC)),
+        }
+    }
+
+    #[tactic(auto, unfolding(iiif_tiff::specs::Tiff::planar_configuration))]
+    fn planar_configuration(&self, channels: u32) -> Result<(), OpenFault>
+        ensures { Answers ((Reads (S.bytes self.now.source.now) self.now.order self.now.entries.items) × (channels ≡ tiff.channels (S.bytes self.now.source.now))) (S.gave self.now.source.now) (planar_configuration (S.bytes self.now.source.now)) (λ _. Unit {0}) result }
+    {
+        if channels != 1 {
+            self.only(tag::PLANAR_CONFIGURATION, 1)?;
+        }
+        Ok(())
+    }
+
+    #[tactic(auto, unfolding(iiif_tiff::specs::Tiff::extra_samples))]
+    fn extra_samples(&self) -> Result<(), OpenFault>
+        ensures { Answers (Reads (S.bytes self.now.source.now) self.now.order self.now.entries.items) (S.gave self.now.source.now) (extra_samples (S.bytes self.now.source.now)) (λ _. Unit {0}) result }
+    {
+        if self.has(tag::EXTRA_SAMPLES) {
+            Err(OpenFault::Unsupported(tag::EXTRA_SAMPLES))
+        } else {
+            Ok(())
+        }
+    }
+
+    #[tactic(auto, unfolding(iiif_tiff::specs::Tiff::sample_format))]
+    fn sample_format(&self, alloc: Global, channels: u32) -> Result<(), OpenFault>
+        ensures { Answers (S.keeps self.now.source.now × (Reads (S.bytes self.now.source.now) self.now.order self.now.entries.items) × (channels ≡ tiff.channels (S.bytes self.now.source.now))) (S.gave self.now.source.now) (sample_format (S.bytes self.now.source.now)) (λ _. Unit {0}) result }
+    {
+        let formats = self.each(alloc, tag::SAMPLE_FORMAT, channels, 1)?;
+        if all_are(&formats, 1) {
+            Ok(())
+        } else {
+            Err(OpenFault::Unsupported(tag::SAMPLE_FORMAT))
+        }
+    }
+
+    /// How the samples are stored.
+    #[tactic(auto, unfolding(iiif_tiff::specs::Tiff::samples))]
+    pub fn format(&self, alloc: Global) -> Result<Format, OpenFault>
+        ensures samples { Answers (S.keeps self.now.source.now × (Reads (S.bytes self.now.source.now) self.now.order self.now.entries.items)) (S.gave self.now.source.now) (samples (S.bytes self.now.source.now))
+            (λ f. (channels_of f.kind ≡ channels (S.bytes self.now.source.now)) × (f.bits ≡ bits (S.bytes self.now.source.now)) × (f.white_is_zero ≡ white_is_zero (S.bytes self.now.source.now))) result }
+        ensures bounds { IfOk result (λ f. (f.bits ≤ 8) × (f.bits ≢ 8 → f.bits ≡ 1)) }
+    {
+        let kind = self.samples_per_pixel()?;
+        let channels = kind.channels() as u32;
+        let bits = self.bits_per_sample(alloc, channels)?;
+        self.only(tag::COMPRESSION, 1)?;
+        let white_is_zero = self.photometric(channels)?;
+        self.only(tag::FILL_ORDER, 1)?;
+        self.only(tag::ORIENTATION, 1)?;
+        self.planar_configuration(channels)?;
+        self.extra_samples()?;
+        self.sample_format(alloc, channels)?;
+        Ok(Format {
+            kind,
+            bits,
+            white_is_zero,
+        })
+    }
+
+    /// A side of the tiles.
+    #[tactic(auto, unfolding(iiif_tiff::specs::Tiff::tile_side))]
+    pub fn tile_side(&self, tag: u16) -> Result<u32, OpenFault>
+        ensures side { Answers (Reads (S.bytes self.now.source.now) self.now.order self.now.entries.items) (S.gave self.now.source.now)
+            (tile_side (S.bytes self.now.source.now) tag)
+            (λ n. n ≡ value_or (S.bytes self.now.source.now) tag 0 0) result }
+        ensures bounds { IfOk result (λ n. (0 < n) × (n ≤ 2 ^ 20)) }
+    {
+        let side = self.needed(tag)?;
+        if side == 0 {
+            return Err(OpenFault::BadField(tag));
+        }
+        if side > MAX_TILE_SIDE {
+            return Err(OpenFault::TooLarge);
+        }
+        Ok(side)
+    }
+}

@@ -1,0 +1,328 @@
+//! The fields of a file.
+
+ghost use Rattle.std.specs.Prelude.{◌≡◌, ◌+◌, ◌*◌, ◌≤◌, ℕ, List, length, option_map, find, ◌==◌, take, drop, IsTrue, IfOk, IfErr, nat_le, is_some, map};
+ghost use Rattle.std.specs.Int.{w16, w32};
+ghost use Rattle.std.specs.List.{range_with_len};
+ghost use Rattle.iiif_tiff.specs.Tiff.{header, order, number, directory_fits, entries, entry_of, one, needed, optional, value_or, entry_fits, value, values, values_or, one_or, only, opening};
+ghost use Rattle.iiif_tiff.specs.Tiff as tiff;
+ghost use Rattle.iiif_tiff_read.specs.Code.{endian, entry_view, entry_views, first_values, Reads};
+ghost use Rattle.iiif_tiff_read.specs.Faults.{Answers};
+ghost use Rattle.iiif_tiff_read.specs.Code.{IsDeviceFault};
+
+use crate::fault::OpenFault;
+use crate::number::{ByteOrder, FieldType};
+use iiif_source::{ReadFault, Source};
+use std::alloc::{AllocError, Global};
+
+/// An entry of the directory: its values stand in its last four bytes, or at the offset that stands there.
+#[derive(Clone, Copy, Debug)]
+pub struct Entry {
+    pub tag: u16,
+    pub kind: u16,
+    pub count: u32,
+    pub inside: [u8; 4],
+}
+
+impl Entry {
+    /// The entry at the front of the bytes.
+    fn decode(order: ByteOrder, bytes: &[u8]) -> Entry
+        requires { 12 ≤ length bytes.now }
+        ensures tag { result.tag ≡ number (endian order) w16 bytes.now 0 }
+        ensures kind { result.kind ≡ number (endian order) w16 bytes.now 2 }
+        ensures count { result.count ≡ number (endian order) w32 bytes.now 4 }
+        ensures inside { result.inside ≡ take 4 (drop 8 bytes.now) }
+    {
+        Entry {
+            tag: order.short([bytes[0], bytes[1]]),
+            kind: order.short([bytes[2], bytes[3]]),
+            count: order.long([bytes[4], bytes[5], bytes[6], bytes[7]]),
+            inside: [bytes[8], bytes[9], bytes[10], bytes[11]],
+        }
+    }
+}
+
+/// The number of two bytes at a place.
+fn short_at<R, S: Source<R>>(
+    rt: &R,
+    source: &S,
+    order: ByteOrder,
+    at: u64,
+) -> Result<u16, ReadFault>
+    requires { at + 2 ≤ length (S.bytes source.now) }
+    ensures value { IfOk result (λ n. S.keeps source.now → n ≡ number (endian order) w16 (S.bytes source.now) at) }
+    ensures fault { IfErr result (λ f. IsTrue (S.gave source.now f)) }
+{
+    let mut bytes = [0u8; 2];
+    source.read_at(rt, at, &mut bytes)?;
+    Ok(order.short(bytes))
+}
+
+/// The bytes at a place, by one read.
+pub fn bytes_at<R, S: Source<R>>(
+    rt: &R,
+    alloc: Global,
+    source: &S,
+    at: u64,
+    n: usize,
+) -> Result<Vec<u8>, OpenFault>
+    requires { at + n ≤ length (S.bytes source.now) }
+    ensures bytes { IfOk result (λ v. S.keeps source.now → v.items ≡ take n (drop at (S.bytes source.now))) }
+    ensures length { IfOk result (λ v. length v.items ≡ n) }
+    ensures fault { IfErr result (IsDeviceFault (S.gave source.now)) }
+{
+    let mut bytes = vec![in alloc; 0u8; n]?;
+    source.read_at(rt, at, &mut bytes)?;
+    Ok(bytes)
+}
+
+/// What the first eight bytes say.
+#[derive(Clone, Copy, Debug)]
+struct Header {
+    order: ByteOrder,
+    directory: u32,
+}
+
+/// The header of a file.
+#[tactic(auto, unfolding(iiif_tiff::specs::Tiff::header))]
+fn read_header<R, S: Source<R>>(rt: &R, source: &S) -> Result<Header, OpenFault>
+    ensures header { Answers (S.keeps source.now) (S.gave source.now) (header (S.bytes source.now))
+        (λ h. (endian h.order ≡ order (S.bytes source.now)) × (h.directory ≡ tiff.directory (S.bytes source.now))) result }
+    ensures whole { IfOk result (λ _. 8 ≤ length (S.bytes source.now)) }
+{
+    if source.len() < 8 {
+        return Err(OpenFault::NotTiff);
+    }
+    let mut bytes = [0u8; 8];
+    source.read_at(rt, 0, &mut bytes)?;
+    let order = match [bytes[0], bytes[1], bytes[2], bytes[3]] {
+        [b'I', b'I', 42, 0] => ByteOrder::Little,
+        [b'M', b'M', 0, 42] => ByteOrder::Big,
+        _ => return Err(OpenFault::NotTiff),
+    };
+    let directory = order.long([bytes[4], bytes[5], bytes[6], bytes[7]]);
+    Ok(Header { order, directory })
+}
+
+/// So many entries, one after another.
+fn decode_entries(
+    alloc: Global,
+    order: ByteOrder,
+    bytes: &[u8],
+    count: u16,
+) -> Result<Vec<Entry>, AllocError>
+    requires { length bytes.now ≡ 12 * count }
+    ensures { IfOk result (λ v. (file : List ℕ) (start : ℕ) → endian order ≡ tiff.order file → bytes.now ≡ take (12 * count) (drop start file)
+        → entry_views v.items ≡ map (λ k. tiff.entry file (start + 12 * k)) (range_with_len 0 count)) }
+{
+    let mut entries = Vec::with_capacity(alloc, count as usize)?;
+    for i in 0..count {
+        entries.push(Entry::decode(order, &bytes[12 * i as usize..]))?;
+    }
+    Ok(entries)
+}
+
+/// The entries of the first directory, by one read.
+#[tactic(auto, unfolding(iiif_tiff::specs::Tiff::directory_fits))]
+fn read_directory<R, S: Source<R>>(
+    rt: &R,
+    alloc: Global,
+    source: &S,
+    header: Header,
+) -> Result<Vec<Entry>, OpenFault>
+    ensures { Answers (S.keeps source.now × (endian header.order ≡ tiff.order (S.bytes source.now)) × (header.directory ≡ tiff.directory (S.bytes source.now))) (S.gave source.now) (directory_fits (S.bytes source.now))
+        (λ v. entry_views v.items ≡ entries (S.bytes source.now)) result }
+{
+    let len = source.len();
+    let start = header.directory as u64;
+    if len < start + 2 {
+        return Err(OpenFault::Truncated);
+    }
+    let count = short_at(rt, source, header.order, start)?;
+    let size = 12 * count as u64;
+    if len < start + 2 + size {
+        return Err(OpenFault::Truncated);
+    }
+    let bytes = bytes_at(rt, alloc, source, start + 2, size as usize)?;
+    Ok(decode_entries(alloc, header.order, &bytes, count)?)
+}
+
+fn first_with(entries: &[Entry], tag: u16) -> Option<Entry>
+    ensures { result ≡ find (λ e. e.tag == tag) entries.now }
+{
+    entries.iter().copied().find(|entry| entry.tag == tag)
+}
+
+/// A source, its byte order and the entries of its first directory.
+#[derive(Drop)]
+pub struct Fields<'a, R, S> {
+    rt: &'a R,
+    source: &'a S,
+    order: ByteOrder,
+    entries: Vec<Entry>,
+}
+
+impl<'a, R, S: Source<R>> Fields<'a, R, S> {
+    /// Reads the header and the directory.
+    #[tactic(auto, unfolding(iiif_tiff::specs::Tiff::opening))]
+    pub fn read(rt: &'a R, alloc: Global, source: &'a S) -> Result<Fields<'a, R, S>, OpenFault>
+        ensures source { IfOk result (λ f. f.source.now ≡ source.now) }
+        ensures reads { Answers (S.keeps source.now) (S.gave source.now) (opening (S.bytes source.now))
+            (λ f. Reads (S.bytes source.now) f.order f.entries.items) result }
+    {
+        let header = read_header(rt, source)?;
+        let entries = read_directory(rt, alloc, source, header)?;
+        Ok(Fields {
+            rt,
+            source,
+            order: header.order,
+            entries,
+        })
+    }
+
+    /// How many bytes the file has.
+    pub fn source_len(&self) -> u64
+        ensures { result ≡ length (S.bytes self.now.source.now) }
+    {
+        self.source.len()
+    }
+
+    /// The first entry with a tag.
+    fn find(&self, tag: u16) -> Option<Entry>
+        ensures { Reads (S.bytes self.now.source.now) self.now.order self.now.entries.items → option_map entry_view result ≡ entry_of (S.bytes self.now.source.now) tag }
+    {
+        first_with(&self.entries, tag)
+    }
+
+    /// The only value of an entry with a tag.
+    #[tactic(auto, unfolding(iiif_tiff::specs::Tiff::entry_fits, iiif_tiff::specs::Tiff::value))]
+    fn only_value(&self, tag: u16, entry: Entry) -> Result<u32, OpenFault>
+        ensures { Answers (Reads (S.bytes self.now.source.now) self.now.order self.now.entries.items) (S.gave self.now.source.now)
+            (entry_fits (S.bytes self.now.source.now) tag (one entry.count) (entry_view entry))
+            (λ v. v ≡ value (S.bytes self.now.source.now) (entry_view entry) 0) result }
+    {
+        match FieldType::of(entry.kind) {
+            Some(kind) if entry.count == 1 => Ok(kind.decode(self.order, &entry.inside)),
+            _ => Err(OpenFault::BadField(tag)),
+        }
+    }
+
+    /// The value of a field that has to be there.
+    #[tactic(auto, unfolding(iiif_tiff::specs::Tiff::needed, iiif_tiff::specs::Tiff::value_or))]
+    pub fn needed(&self, tag: u16) -> Result<u32, OpenFault>
+        ensures { Answers (Reads (S.bytes self.now.source.now) self.now.order self.now.entries.items) (S.gave self.now.source.now)
+            (needed (S.bytes self.now.source.now) tag one)
+            (λ v. v ≡ value_or (S.bytes self.now.source.now) tag 0 0) result }
+    {
+        match self.find(tag) {
+            Some(entry) => self.only_value(tag, entry),
+            None => Err(OpenFault::Missing(tag)),
+        }
+    }
+
+    /// The value of a field, or its default.
+    #[tactic(auto, unfolding(iiif_tiff::specs::Tiff::optional, iiif_tiff::specs::Tiff::value_or))]
+    pub fn optional(&self, tag: u16, default: u32) -> Result<u32, OpenFault>
+        ensures { Answers (Reads (S.bytes self.now.source.now) self.now.order self.now.entries.items) (S.gave self.now.source.now)
+            (optional (S.bytes self.now.source.now) tag one)
+            (λ v. v ≡ value_or (S.bytes self.now.source.now) tag 0 default) result }
+    {
+        match self.find(tag) {
+            Some(entry) => self.only_value(tag, entry),
+            None => Ok(default),
+        }
+    }
+
+    /// The first n values of an entry with a tag, where its count is allowed.
+    #[tactic(auto, unfolding(iiif_tiff::specs::Tiff::entry_fits))]
+    fn first_values(
+        &self,
+        alloc: Global,
+        tag: u16,
+        entry: Entry,
+        allowed: bool,
+        n: u32,
+    ) -> Result<Vec<u32>, OpenFault>
+        requires { IsTrue allowed → n ≤ entry.count }
+        ensures length { IfOk result (λ v. length v.items ≡ n) }
+        ensures values { Answers (S.keeps self.now.source.now × Reads (S.bytes self.now.source.now) self.now.order self.now.entries.items) (S.gave self.now.source.now)
+            (entry_fits (S.bytes self.now.source.now) tag allowed (entry_view entry))
+            (λ v. v.items ≡ values (S.bytes self.now.source.now) (entry_view entry) n) result }
+    {
+        let kind = match FieldType::of(entry.kind) {
+            Some(kind) if allowed => kind,
+            _ => return Err(OpenFault::BadField(tag)),
+        };
+        let size = kind.size() as u64;
+        if entry.count as u64 * size <= 4 {
+            return Ok(kind.decode_all(alloc, self.order, &entry.inside, n)?);
+        }
+        let offset = self.order.long(entry.inside) as u64;
+        if self.source.len() < offset + entry.count as u64 * size {
+            return Err(OpenFault::Truncated);
+        }
+        let bytes = bytes_at(
+            self.rt,
+            alloc,
+            self.source,
+            offset,
+            n as usize * kind.size(),
+        )?;
+        Ok(kind.decode_all(alloc, self.order, &bytes, n)?)
+    }
+
+    /// All values of a field, one or as many as there are channels, or its default.
+    #[tactic(auto, unfolding(iiif_tiff::specs::Tiff::optional, iiif_tiff::specs::Tiff::values_or))]
+    pub fn each(
+        &self,
+        alloc: Global,
+        tag: u16,
+        channels: u32,
+        default: u32,
+    ) -> Result<Vec<u32>, OpenFault>
+        ensures { Answers (S.keeps self.now.source.now × Reads (S.bytes self.now.source.now) self.now.order self.now.entries.items) (S.gave self.now.source.now)
+            (optional (S.bytes self.now.source.now) tag (one_or channels))
+            (λ v. v.items ≡ values_or (S.bytes self.now.source.now) tag default) result }
+    {
+        match self.find(tag) {
+            Some(entry) => {
+                let allowed = entry.count == 1 || entry.count == channels;
+                self.first_values(alloc, tag, entry, allowed, entry.count)
+            }
+            None => Ok(vec![in alloc; default]?),
+        }
+    }
+
+    /// The first n values of a field that has to be there with at least as many.
+    #[tactic(auto, unfolding(iiif_tiff::specs::Tiff::needed), using(crate::proofs::Values::of_field))]
+    pub fn list(&self, alloc: Global, tag: u16, n: u32) -> Result<Vec<u32>, OpenFault>
+        ensures length { IfOk result (λ v. length v.items ≡ n) }
+        ensures values { Answers (S.keeps self.now.source.now × Reads (S.bytes self.now.source.now) self.now.order self.now.entries.items) (S.gave self.now.source.now)
+            (needed (S.bytes self.now.source.now) tag (nat_le n))
+            (λ v. v.items ≡ first_values (S.bytes self.now.source.now) tag n) result }
+    {
+        match self.find(tag) {
+            Some(entry) => self.first_values(alloc, tag, entry, n <= entry.count, n),
+            None => Err(OpenFault::Missing(tag)),
+        }
+    }
+
+    /// Refuses a field of another value than this, which is its default.
+    #[tactic(auto, unfolding(iiif_tiff::specs::Tiff::only))]
+    pub fn only(&self, tag: u16, value: u32) -> Result<(), OpenFault>
+        ensures { Answers (Reads (S.bytes self.now.source.now) self.now.order self.now.entries.items) (S.gave self.now.source.now)
+            (only (S.bytes self.now.source.now) tag value) (λ _. Unit {0}) result }
+    {
+        if self.optional(tag, value)? == value {
+            Ok(())
+        } else {
+            Err(OpenFault::Unsupported(tag))
+        }
+    }
+
+    /// Whether the field is there.
+    pub fn has(&self, tag: u16) -> bool
+        ensures { Reads (S.bytes self.now.source.now) self.now.order self.now.entries.items → result ≡ is_some (entry_of (S.bytes self.now.source.now) tag) }
+    {
+        self.find(tag).is_some()
+    }
+}

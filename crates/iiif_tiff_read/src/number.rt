@@ -1,0 +1,98 @@
+//! Numbers in a file's byte order.
+
+ghost use Rattle.std.specs.Prelude.{◌≡◌, ◌≤◌, ◌*◌, length, map, IfOk, Some, None, option_map, if◌then◌else◌};
+ghost use Rattle.std.specs.Int.{w16, w32};
+ghost use Rattle.std.specs.List.{range_with_len};
+ghost use Rattle.iiif_tiff.specs.Tiff.{number, is_unsigned, size, width_of};
+ghost use Rattle.iiif_tiff_read.specs.Code.{endian, code};
+
+use std::alloc::{AllocError, Global};
+
+/// Which byte of a number stands first.
+#[derive(Clone, Copy, Debug, PartialEq, Eq)]
+pub enum ByteOrder {
+    Little,
+    Big,
+}
+
+impl ByteOrder {
+    pub fn short(self, bytes: [u8; 2]) -> u16
+        ensures { result ≡ number (endian self) w16 bytes 0 }
+    {
+        match self {
+            ByteOrder::Little => u16::from_le_bytes(bytes),
+            ByteOrder::Big => u16::from_be_bytes(bytes),
+        }
+    }
+
+    pub fn long(self, bytes: [u8; 4]) -> u32
+        ensures { result ≡ number (endian self) w32 bytes 0 }
+    {
+        match self {
+            ByteOrder::Little => u32::from_le_bytes(bytes),
+            ByteOrder::Big => u32::from_be_bytes(bytes),
+        }
+    }
+}
+
+/// The types of unsigned numbers.
+#[derive(Clone, Copy, Debug, PartialEq, Eq)]
+pub enum FieldType {
+    Byte,
+    Short,
+    Long,
+}
+
+impl FieldType {
+    pub fn of(number: u16) -> Option<FieldType>
+        ensures { option_map code result ≡ (if is_unsigned number then Some number else None) }
+    {
+        match number {
+            1 => Some(FieldType::Byte),
+            3 => Some(FieldType::Short),
+            4 => Some(FieldType::Long),
+            _ => None,
+        }
+    }
+
+    pub fn size(self) -> usize
+        ensures { result ≡ size (code self) }
+    {
+        match self {
+            FieldType::Byte => 1,
+            FieldType::Short => 2,
+            FieldType::Long => 4,
+        }
+    }
+
+    /// The number of this type at the front of the bytes.
+    pub fn decode(self, order: ByteOrder, bytes: &[u8]) -> u32
+        requires { size (code self) ≤ length bytes.now }
+        ensures { result ≡ number (endian order) (width_of (code self)) bytes.now 0 }
+    {
+        match self {
+            FieldType::Byte => bytes[0] as u32,
+            FieldType::Short => order.short([bytes[0], bytes[1]]) as u32,
+            FieldType::Long => order.long([bytes[0], bytes[1], bytes[2], bytes[3]]),
+        }
+    }
+
+    /// The first n numbers of this type that stand one after the other.
+    pub fn decode_all(
+        self,
+        alloc: Global,
+        order: ByteOrder,
+        bytes: &[u8],
+        n: u32,
+    ) -> Result<Vec<u32>, AllocError>
+        requires { n * size (code self) ≤ length bytes.now }
+        ensures numbers { IfOk result (λ v. v.items ≡ map (λ i. number (endian order) (width_of (code self)) bytes.now (i * size (code self))) (range_with_len 0 n)) }
+        ensures length { IfOk result (λ v. length v.items ≡ n) }
+    {
+        let mut numbers = Vec::with_capacity(alloc, n as usize)?;
+        for i in 0..n {
+            numbers.push(self.decode(order, &bytes[i as usize * self.size()..]))?;
+        }
+        Ok(numbers)
+    }
+}

@@ -1,0 +1,124 @@
+//! Where the pieces of an image stand.
+
+ghost use Rattle.std.specs.Prelude.{◌≡◌, ◌+◌, ◌*◌, ◌^◌, ◌<◌, ◌≤◌, ℕ, List, length, map, nat_le, IfOk, OnOk, if◌then◌else◌};
+ghost use Rattle.std.specs.List.{range_with_len};
+ghost use Rattle.iiif_tiff.specs.Tiff.{needed, piece, pieces, piece_offset, piece_byte_count, piece_bytes, offsets_tag, counts_tag, first, pieces_fit};
+ghost use Rattle.iiif_tiff.specs.Tiff as tiff;
+ghost use Rattle.iiif_tiff_read.specs.Code.{Reads, IsKnown};
+ghost use Rattle.iiif_tiff_read.specs.Layouts.{FitsIn};
+ghost use Rattle.iiif_tiff_read.specs.Code.{scheme_of};
+ghost use Rattle.iiif_tiff_read.specs.Faults.{Answers};
+
+use crate::checks::Format;
+use crate::fault::OpenFault;
+use crate::fields::Fields;
+use crate::grid::Grid;
+use crate::tag;
+use iiif_pixel::Dim;
+use iiif_source::Source;
+use std::alloc::Global;
+
+/// The tags of the pieces' offsets and byte counts.
+#[derive(Clone, Copy, Debug)]
+struct Tags {
+    offsets: u16,
+    counts: u16,
+}
+
+impl Tags {
+    fn of(tiled: bool) -> Tags
+        ensures offsets { result.offsets ≡ (if tiled then 324 else 273) }
+        ensures counts { result.counts ≡ (if tiled then 325 else 279) }
+    {
+        if tiled {
+            Tags {
+                offsets: tag::TILE_OFFSETS,
+                counts: tag::TILE_BYTE_COUNTS,
+            }
+        } else {
+            Tags {
+                offsets: tag::STRIP_OFFSETS,
+                counts: tag::STRIP_BYTE_COUNTS,
+            }
+        }
+    }
+}
+
+/// A piece as the file's lists say.
+#[derive(Clone, Copy, Debug)]
+struct Piece {
+    offset: u32,
+    count: u32,
+    needed: u64,
+}
+
+impl<'a, R, S: Source<R>> Fields<'a, R, S> {
+    /// Refuses a piece whose byte count is too small, or that reaches past the end.
+    #[tactic(auto, unfolding(iiif_tiff::specs::Tiff::piece))]
+    fn check_piece(&self, counts_tag: u16, piece: Piece) -> Result<(), OpenFault>
+        requires { piece.needed ≤ 2 ^ 54 }
+        ensures in_file { OnOk result (piece.offset + piece.needed ≤ length (S.bytes self.now.source.now)) }
+        ensures check { (i : ℕ) → Answers ((counts_tag ≡ tiff.counts_tag (S.bytes self.now.source.now)) × (piece.offset ≡ piece_offset (S.bytes self.now.source.now) i) × (piece.count ≡ piece_byte_count (S.bytes self.now.source.now) i) × (piece.needed ≡ piece_bytes (tiff.scheme (S.bytes self.now.source.now)) i))
+            (S.gave self.now.source.now) (tiff.piece (S.bytes self.now.source.now) i) (λ _. Unit {0}) result }
+    {
+        if (piece.count as u64) < piece.needed {
+            return Err(OpenFault::BadField(counts_tag));
+        }
+        if self.source_len() < piece.offset as u64 + piece.needed {
+            return Err(OpenFault::Truncated);
+        }
+        Ok(())
+    }
+
+    /// Refuses the first piece that is at fault.
+    fn check_pieces(
+        &self,
+        dim: Dim,
+        format: Format,
+        grid: &Grid,
+        counts_tag: u16,
+        offsets: &[u32],
+        counts: &[u32],
+    ) -> Result<(), OpenFault>
+        requires bounds { (grid.now.width ≤ 2 ^ 20) × (format.bits ≤ 8) }
+        requires lengths { (length offsets.now ≡ grid.now.count) × (length counts.now ≡ grid.now.count) }
+        ensures in_file { OnOk result (FitsIn (scheme_of dim format grid.now offsets.now) (length (S.bytes self.now.source.now))) }
+        ensures checks { Answers (IsKnown (S.bytes self.now.source.now) dim format grid.now × (counts_tag ≡ tiff.counts_tag (S.bytes self.now.source.now)) × (offsets.now ≡ map (piece_offset (S.bytes self.now.source.now)) (range_with_len 0 grid.now.count))
+            × (counts.now ≡ map (piece_byte_count (S.bytes self.now.source.now)) (range_with_len 0 grid.now.count)))
+            (S.gave self.now.source.now) (first (map (piece (S.bytes self.now.source.now)) (range_with_len 0 grid.now.count))) (λ _. Unit {0}) result }
+    {
+        let row_bytes = grid.row_bytes(format);
+        for i in 0..grid.count {
+            let piece = Piece {
+                offset: offsets[i as usize],
+                count: counts[i as usize],
+                needed: grid.piece_bytes(dim, row_bytes, i),
+            };
+            self.check_piece(counts_tag, piece)?;
+        }
+        Ok(())
+    }
+
+    /// The offsets of the pieces.
+    #[tactic(auto, unfolding(iiif_tiff::specs::Tiff::pieces_fit))]
+    pub fn pieces(
+        &self,
+        alloc: Global,
+        dim: Dim,
+        format: Format,
+        grid: &Grid,
+    ) -> Result<Vec<u32>, OpenFault>
+        requires { (grid.now.width ≤ 2 ^ 20) × (format.bits ≤ 8) }
+        ensures length { IfOk result (λ v. length v.items ≡ grid.now.count) }
+        ensures in_file { IfOk result (λ v. FitsIn (scheme_of dim format grid.now v.items) (length (S.bytes self.now.source.now))) }
+        ensures pieces { Answers (S.keeps self.now.source.now × Reads (S.bytes self.now.source.now) self.now.order self.now.entries.items × IsKnown (S.bytes self.now.source.now) dim format grid.now)
+            (S.gave self.now.source.now) (pieces_fit (S.bytes self.now.source.now))
+            (λ v. v.items ≡ (tiff.scheme (S.bytes self.now.source.now)).offsets) result }
+    {
+        let tags = Tags::of(grid.tiled);
+        let offsets = self.list(alloc, tags.offsets, grid.count)?;
+        let counts = self.list(alloc, tags.counts, grid.count)?;
+        self.check_pieces(dim, format, grid, tags.counts, &offsets, &counts)?;
+        Ok(offsets)
+    }
+}
