@@ -1,0 +1,159 @@
+//! The same work as the program `write_bench`, in plain Rust, to compare times in one run. Built by `rustc -O`.
+//! With no argument the check sums of three small files, with `large` the milliseconds of processor time for pictures of
+//! 4,000 by 4,000, the least of five runs, and those of a plain copy of the samples.
+
+use std::env;
+use std::hint::black_box;
+
+#[derive(Clone, Copy, PartialEq)]
+enum Kind {
+    Gray,
+    Rgb,
+    Bitonal,
+}
+
+fn pattern(count: usize) -> Vec<u8> {
+    let mut state = 12345u32;
+    (0..count)
+        .map(|_| {
+            state = state.wrapping_mul(1_664_525).wrapping_add(1_013_904_223);
+            (state >> 24) as u8
+        })
+        .collect()
+}
+
+fn check_sum(bytes: &[u8]) -> u64 {
+    let mut sum = 0u64;
+    for byte in bytes {
+        sum = sum.wrapping_mul(31).wrapping_add(u64::from(*byte));
+    }
+    sum
+}
+
+fn field(out: &mut Vec<u8>, tag: u16, kind: u16, count: u32, value: u32) {
+    out.extend_from_slice(&tag.to_le_bytes());
+    out.extend_from_slice(&kind.to_le_bytes());
+    out.extend_from_slice(&count.to_le_bytes());
+    out.extend_from_slice(&value.to_le_bytes());
+}
+
+fn row_len(kind: Kind, w: usize) -> usize {
+    match kind {
+        Kind::Gray => w,
+        Kind::Rgb => w * 3,
+        Kind::Bitonal => w.div_ceil(8),
+    }
+}
+
+fn head(kind: Kind, w: usize, h: usize, out: &mut Vec<u8>) {
+    let rgb = kind == Kind::Rgb;
+    out.extend_from_slice(b"II*\0\x08\0\0\0\x0c\0");
+    field(out, 256, 4, 1, w as u32);
+    field(out, 257, 4, 1, h as u32);
+    match kind {
+        Kind::Gray => field(out, 258, 3, 1, 8),
+        Kind::Rgb => field(out, 258, 3, 3, 174),
+        Kind::Bitonal => field(out, 258, 3, 1, 1),
+    }
+    field(out, 259, 3, 1, 1);
+    field(out, 262, 3, 1, if rgb { 2 } else { 1 });
+    field(out, 273, 4, 1, if rgb { 180 } else { 174 });
+    field(out, 277, 3, 1, if rgb { 3 } else { 1 });
+    field(out, 278, 4, 1, h as u32);
+    field(out, 279, 4, 1, (row_len(kind, w) * h) as u32);
+    field(out, 282, 5, 1, 158);
+    field(out, 283, 5, 1, 166);
+    field(out, 296, 3, 1, 1);
+    for number in [0u32, 1, 1, 1, 1] {
+        out.extend_from_slice(&number.to_le_bytes());
+    }
+    if rgb {
+        out.extend_from_slice(&[8, 0, 8, 0, 8, 0]);
+    }
+}
+
+fn write(kind: Kind, w: usize, h: usize, samples: &[u8], out: &mut Vec<u8>) {
+    head(kind, w, h, out);
+    if kind == Kind::Bitonal {
+        for row in samples.chunks_exact(w) {
+            for eight in row.chunks(8) {
+                let bits = eight.iter().fold(0, |byte, v| byte << 1 | (*v >> 7));
+                out.push(bits << (8 - eight.len()));
+            }
+        }
+    } else {
+        out.extend_from_slice(samples);
+    }
+}
+
+#[repr(C)]
+struct Timespec {
+    seconds: i64,
+    nanos: i64,
+}
+
+unsafe extern "C" {
+    fn clock_gettime(clock: i32, time: *mut Timespec) -> i32;
+}
+
+/// Microseconds that this thread has run (CLOCK_THREAD_CPUTIME_ID of Linux).
+fn thread_micros() -> u64 {
+    let mut time = Timespec {
+        seconds: 0,
+        nanos: 0,
+    };
+    unsafe { clock_gettime(3, &mut time) };
+    time.seconds as u64 * 1_000_000 + time.nanos as u64 / 1000
+}
+
+/// The least milliseconds of five runs.
+fn least_of_five(mut work: impl FnMut()) -> f64 {
+    let mut least = u64::MAX;
+    for _ in 0..5 {
+        let start = thread_micros();
+        work();
+        least = least.min(thread_micros() - start);
+    }
+    least as f64 / 1000.0
+}
+
+fn measure(name: &str, kind: Kind, w: usize, h: usize, samples: &[u8], large: bool) {
+    let head_len = if kind == Kind::Rgb { 180 } else { 174 };
+    let len = head_len + row_len(kind, w) * h;
+    let mut out = Vec::with_capacity(len);
+    let time = if large {
+        least_of_five(|| {
+            out.clear();
+            write(kind, w, h, black_box(samples), &mut out);
+            black_box(&out);
+        })
+    } else {
+        write(kind, w, h, samples, &mut out);
+        0.0
+    };
+    let sum = check_sum(&out);
+    if large {
+        let mut copy: Vec<u8> = Vec::with_capacity(samples.len());
+        let plain = least_of_five(|| {
+            copy.clear();
+            copy.extend_from_slice(black_box(samples));
+            black_box(&copy);
+        });
+        println!(
+            "{name}: {time:.1} ms, {} bytes, sum {sum}; plain copy {plain:.1} ms, sum {}",
+            out.len(),
+            check_sum(&copy)
+        );
+    } else {
+        println!("{name}: {} bytes, sum {sum}", out.len());
+    }
+}
+
+fn main() {
+    let large = env::args().any(|word| word == "large");
+    let (w, h) = if large { (4000, 4000) } else { (37, 23) };
+    let (gray, rgb) = (pattern(w * h), pattern(w * h * 3));
+    measure("gray", Kind::Gray, w, h, &gray, large);
+    measure("rgb", Kind::Rgb, w, h, &rgb, large);
+    measure("bitonal", Kind::Bitonal, w, h, &gray, large);
+}

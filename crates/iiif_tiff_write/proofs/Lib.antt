@@ -1,0 +1,9 @@
+pub mod Lengths
+pub mod HeadLemmas
+pub mod PackingLemmas
+pub mod BandLemmas
+pub mod KindLemmas
+pub mod Entries
+pub mod Checks
+pub mod Strips
+pub mod ReadingLaw

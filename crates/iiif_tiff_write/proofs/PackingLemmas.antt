@@ -1,0 +1,118 @@
+-- Rows of bits, byte by byte.
+use Rattle.std.proofs.Common.{◌≡◌, ℕ, ◌+◌, ◌*◌, ◌/◌, ◌<◌, ◌≤◌, List, [], ◌∷◌, ◌++◌, length, get_or, refl, sym, ap, subst, ◌∙◌, ◌⊎◌, arith, append_assoc, true, false, ltb, inl, inr}
+use Rattle.std.specs.Int.{div_ceil}
+use Rattle.std.proofs.lemmas.Nat.{mul-le}
+use Rattle.std.proofs.lemmas.Bool.{lt-ltb, le-ltb, cases_lt}
+use Rattle.iiif_pixel.specs.Picture.{Picture, IsWhole, joined, row_of, sample_at, samples_of, span_of}
+use Rattle.iiif_pixel.proofs.Joined.{joined_more, joined-same}
+use Rattle.iiif_pixel.proofs.Samples.{length-row_of, get_or-row_of, picture_of-samples}
+use Rattle.iiif_tiff_write.specs.declared.kind.OutKind.{OutKind}
+use Rattle.iiif_tiff_write.specs.declared.kind.OutKind.TheVariants.{Gray, Rgb, Bitonal}
+use Rattle.iiif_tiff_write.specs.OutKind.{samples_per_pixel}
+use Rattle.iiif_tiff_write.specs.File.{row, strip, bit_at}
+use Rattle.iiif_tiff_write.specs.Code.{bit_of, byte_from, packed_bytes, packed_row, rows_before}
+
+pub packed_bytes_none : (s : List ℕ) → packed_bytes s 0 ≡ []
+unfolding packed_bytes
+packed_bytes_none s = refl
+
+pub packed_bytes_more : (s : List ℕ) (j : ℕ) → packed_bytes s (j + 1) ≡ packed_bytes s j ++ byte_from s (8 * j) ∷ []
+unfolding packed_bytes
+packed_bytes_more s j = joined_more j _
+
+-- one byte more
+pub pack_more : (out before after s : List ℕ) (j byte : ℕ) → before ≡ out ++ packed_bytes s j → byte ≡ byte_from s (8 * j) → after ≡ before ++ byte ∷ [] → after ≡ out ++ packed_bytes s (j + 1)
+pack_more out before after s j byte so_far is more =
+    more ∙ rw (so_far, is, packed_bytes_more s j) (append_assoc out (packed_bytes s j) (byte_from s (8 * j) ∷ []))
+
+-- the last byte, which is not full
+pub pack_end : (out before after s : List ℕ) (j n byte : ℕ) → before ≡ out ++ packed_bytes s j → byte ≡ byte_from s (8 * n) → after ≡ before ++ byte ∷ [] → n ≡ length s / 8 → 8 * n < length s → j ≡ n → after ≡ out ++ packed_row s
+pack_end out before after s j n byte so_far is more n-is lt same =
+    let j-is : byte ≡ byte_from s (8 * j) = is ∙ ap (λ (i : ℕ). byte_from s (8 * i)) (sym same) in
+    pack_more out before after s j byte so_far j-is more ∙ ap (λ (i : ℕ). out ++ packed_bytes s i) (last_is j n same n-is lt)
+  where
+    last_is : (j n : ℕ) → j ≡ n → n ≡ length s / 8 → 8 * n < length s → j + 1 ≡ div_ceil (length s) 8
+    last_is j n same n-is lt = omega arith
+
+pub packed_bytes_all : (s : List ℕ) (n : ℕ) → n ≡ length s / 8 → length s ≤ 8 * n → packed_bytes s n ≡ packed_row s
+packed_bytes_all s n n-is le = ap (packed_bytes s) (omega arith)
+
+pub packed_bytes_last : (s : List ℕ) (n : ℕ) → n ≡ length s / 8 → 8 * n < length s → packed_bytes s n ++ byte_from s (8 * n) ∷ [] ≡ packed_row s
+packed_bytes_last s n n-is lt = sym (packed_bytes_more s n) ∙ ap (packed_bytes s) (omega arith)
+
+pub ruleset packing = (packed_bytes_none, packed_bytes_more, packed_bytes_all, packed_bytes_last)
+
+length-span : (p : Picture) (y : ℕ) → p.channels ≡ 1 → length (span_of p 0 y p.width) ≡ p.width
+length-span p y e = length-row_of p.width p.channels _ ∙ rw e (omega arith)
+
+sample_of_span : (p : Picture) (y i : ℕ) → p.channels ≡ 1 → i < p.width → get_or (span_of p 0 y p.width) i 0 ≡ sample_at p i y 0
+sample_of_span p y i e l =
+    let at : i * p.channels + 0 ≡ i = rw e (omega arith) in
+    let here = get_or-row_of p.width p.channels (λ x k. sample_at p (0 + x) y k) i 0 0 l (omega arith) in
+    ap (λ (n : ℕ). get_or (span_of p 0 y p.width) n 0) (sym at) ∙ here ∙ ap (λ (n : ℕ). sample_at p n y 0) (omega arith)
+
+bit_of_span : (p : Picture) (y i : ℕ) → p.channels ≡ 1 → p.top ≡ 255 → bit_of (span_of p 0 y p.width) i ≡ bit_at p y i
+bit_of_span p y i e top = elim (cases_lt i p.width) [
+  | inl inside ↦ let is : ltb i p.width ≡ true = lt-ltb _ _ inside in rw (length-span p y e, is, sample_of_span p y i e inside, top) refl
+  | inr outside ↦ let is : ltb i p.width ≡ false = le-ltb _ _ outside in rw (length-span p y e, is) refl
+]
+
+-- the row of a picture with one channel
+pub packed_span : (p : Picture) (y : ℕ) → p.channels ≡ 1 → p.top ≡ 255 → packed_row (span_of p 0 y p.width) ≡ row Bitonal p y
+unfolding packed_bytes byte_from row
+packed_span p y e top =
+    let s = span_of p 0 y p.width in
+    ap (λ (n : ℕ). joined (div_ceil n 8) (λ j. byte_from s (8 * j) ∷ [])) (length-span p y e)
+    ∙ joined-same (div_ceil p.width 8) _ _ (λ j l. rw (
+      bit_of_span p y (8 * j + 0) e top,
+      bit_of_span p y (8 * j + 1) e top,
+      bit_of_span p y (8 * j + 2) e top,
+      bit_of_span p y (8 * j + 3) e top,
+      bit_of_span p y (8 * j + 4) e top,
+      bit_of_span p y (8 * j + 5) e top,
+      bit_of_span p y (8 * j + 6) e top,
+      bit_of_span p y (8 * j + 7) e top,
+    ) refl)
+
+pub rows_before_none : (k : OutKind) (p : Picture) → rows_before k p 0 ≡ []
+unfolding rows_before
+rows_before_none k p = refl
+
+pub rows_before_more : (k : OutKind) (p : Picture) (y : ℕ) → rows_before k p (y + 1) ≡ rows_before k p y ++ row k p y
+unfolding rows_before
+rows_before_more k p y = joined_more y _
+
+pub rows_before_all : (k : OutKind) (p : Picture) → rows_before k p p.height ≡ strip k p
+unfolding rows_before strip
+rows_before_all k p = refl
+
+-- the span of a whole row has a sample a column
+pub length-row_span : (p : Picture) (y w : ℕ) (s : List ℕ) → p.channels ≡ 1 → w ≡ p.width → s ≡ span_of p 0 y w → length s ≡ p.width
+length-row_span p y w s e whole is = rw (is, whole) (length-span p y e)
+
+-- one row more
+pub row_more : (p : Picture) (y w : ℕ) (out before after s : List ℕ) → p.channels ≡ 1 → p.top ≡ 255 → w ≡ p.width → s ≡ span_of p 0 y w
+    → before ≡ out ++ rows_before Bitonal p y → after ≡ before ++ packed_row s → after ≡ out ++ rows_before Bitonal p (y + 1)
+row_more p y w out before after s e top whole is so_far more =
+    more ∙ rw (so_far, is, whole, packed_span p y e top, rows_before_more Bitonal p y) (append_assoc out (rows_before Bitonal p y) (row Bitonal p y))
+
+-- there is room for one row more
+pub row_fits : (r y h len before cap : ℕ) → len ≡ before + r * y → before + r * h ≤ cap → y < h → len + r ≤ cap
+row_fits r y h len before cap is room below = omega (arith, mul-le r (y + 1) r h (omega arith) (omega arith))
+
+-- rows of whole bytes are the samples
+rows_are : (p : Picture) → IsWhole p → joined p.height (λ y. row_of p.width p.channels (λ x k. sample_at p x y k)) ≡ p.samples
+unfolding samples_of
+rows_are p w = ap (λ (q : Picture). q.samples) (picture_of-samples p w)
+
+gray_rows : (p : Picture) → IsWhole p → p.channels ≡ 1 → strip Gray p ≡ p.samples
+unfolding strip row
+gray_rows p w e = subst (λ (c : ℕ). joined p.height (λ y. row_of p.width c (λ x k. sample_at p x y k)) ≡ p.samples) e (rows_are p w)
+
+rgb_rows : (p : Picture) → IsWhole p → p.channels ≡ 3 → strip Rgb p ≡ p.samples
+unfolding strip row
+rgb_rows p w e = subst (λ (c : ℕ). joined p.height (λ y. row_of p.width c (λ x k. sample_at p x y k)) ≡ p.samples) e (rows_are p w)
+
+pub whole_rows : (p : Picture) (k : OutKind) → IsWhole p → p.channels ≡ samples_per_pixel k → (k ≡ Gray) ⊎ (k ≡ Rgb) → strip k p ≡ p.samples
+whole_rows p k w e (inl gray) = rw gray (gray_rows p w (rw gray at e))
+whole_rows p k w e (inr rgb) = rw rgb (rgb_rows p w (rw rgb at e))

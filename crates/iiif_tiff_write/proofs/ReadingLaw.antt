@@ -1,0 +1,113 @@
+-- What is written is read back.
+use Rattle.std.proofs.Common.{◌≡◌, ℕ, ◌+◌, ◌*◌, ◌-◌, ◌/◌, ◌%◌, ◌<◌, ◌^◌, ◌⊎◌, List, get_or, None, refl, sym, ap, ◌∙◌, arith}
+use Rattle.std.specs.Prelude.{slice_index}
+use Rattle.std.proofs.lemmas.Nat.{div_below, div-add-mod'}
+use Rattle.std.proofs.lemmas.List.{get_or-append_right}
+use Rattle.iiif_pixel.specs.declared.geometry.Dim.{Dim}
+use Rattle.iiif_pixel.specs.Picture.{Picture, dim_of, sample_at}
+use Rattle.iiif_pixel.specs.Operations.{bitonal, black_or_white, gray_at}
+use Rattle.iiif_pixel.proofs.Samples.{get_or-row_of, index_below}
+use Rattle.iiif_pixel.proofs.Reading.{sample_at-bitonal}
+use Rattle.iiif_pixel.proofs.Whole.{whole_bitonal}
+use Rattle.iiif_tiff.specs.Tiff as tiff
+use Rattle.iiif_tiff.specs.Tiff.{Shows, shown, stored}
+use Rattle.iiif_tiff_write.specs.declared.kind.OutKind.{OutKind}
+use Rattle.iiif_tiff_write.specs.declared.kind.OutKind.TheVariants.{Gray, Rgb, Bitonal}
+use Rattle.iiif_tiff_write.specs.OutKind.{samples_per_pixel}
+use Rattle.iiif_tiff_write.specs.File.{head_of, file, file_len, row, row_len, strip, strip_offset}
+use Rattle.iiif_tiff_write.specs.Reading.{IsReadable, Holds}
+use Rattle.iiif_tiff_write.proofs.Lengths.{length-head_of, length-strip}
+use Rattle.iiif_tiff_write.proofs.Entries.{depth, channels_are}
+use Rattle.iiif_tiff_write.proofs.Checks.{scheme_of, fields, row_bytes_are, passes}
+use Rattle.iiif_tiff_write.proofs.Strips.{get_or-strip, bit_back, white_bit-read, black_or_white-same}
+
+pub accepted : (p : Picture) (k : OutKind) → IsReadable (dim_of p) → file_len k (dim_of p) < 2 ^ 32 → tiff.refusal_of (file p k) ≡ None
+accepted p k l small = passes k (dim_of p) (strip k p) l (length-strip k p) small
+
+div_small : (x w : ℕ) → x < w → x / w ≡ 0
+div_small x w lt = omega (arith, div_below x w 1 (omega arith) (omega arith))
+
+mod_small : (x w : ℕ) → x < w → x % w ≡ x
+mod_small x w lt = omega (arith, rw (div_small x w lt) at (div-add-mod' x w))
+
+-- in one strip, a sample is that of its row
+in_strip : (b : List ℕ) (k : OutKind) (d : Dim) (x y c : ℕ) → x < d.w → y < d.h → shown b (scheme_of k d) x y c ≡ stored (depth k) b (strip_offset k + y * row_len k d.w) (x * samples_per_pixel k + c)
+unfolding shown
+in_strip b k d x y c lx ly =
+    rw (div_small x d.w lx, mod_small x d.w lx, div_small y d.h ly, mod_small y d.h ly, row_bytes_are k d) refl
+
+-- byte n of row y
+byte_at : (p : Picture) (k : OutKind) (y n : ℕ) → y < p.height → n < row_len k p.width → slice_index (file p k) (strip_offset k + y * row_len k p.width + n) ≡ get_or (row k p y) n 0
+byte_at p k y n ly ln =
+    let here : strip_offset k + y * row_len k p.width + n - strip_offset k ≡ y * row_len k p.width + n = omega arith in
+    get_or-append_right (head_of k (dim_of p)) (strip k p) (strip_offset k) (strip_offset k + y * row_len k p.width + n) 0 (length-head_of k (dim_of p)) (omega arith)
+    ∙ ap (λ (i : ℕ). get_or (strip k p) i 0) here ∙ get_or-strip k p y n ly ln
+
+gray_row : (p : Picture) (y x : ℕ) → x < p.width → get_or (row Gray p y) (x * 1 + 0) 0 ≡ sample_at p x y 0
+unfolding row
+gray_row p y x lx = get_or-row_of p.width 1 (λ x k. sample_at p x y k) x 0 0 lx (omega arith)
+
+rgb_row : (p : Picture) (y x c : ℕ) → x < p.width → c < 3 → get_or (row Rgb p y) (x * 3 + c) 0 ≡ sample_at p x y c
+unfolding row
+rgb_row p y x c lx lc = get_or-row_of p.width 3 (λ x k. sample_at p x y k) x c 0 lx lc
+
+-- a bit of a written file, read
+bit_read : (p : Picture) (x y c : ℕ) → x < p.width → y < p.height → c < 1 → stored 1 (file p Bitonal) (strip_offset Bitonal + y * row_len Bitonal p.width) (x * 1 + c) ≡ black_or_white p.top (sample_at p x y 0)
+bit_read p x y c lx ly lc =
+    let zero_is : c ≡ 0 = omega arith in
+    let at : x * 1 + 0 ≡ x = omega arith in
+    let byte = byte_at p Bitonal y (x / 8) ly (omega arith) in
+    rw (zero_is, at, byte, bit_back p x y lx) (white_bit-read p.top (sample_at p x y 0))
+
+held_bit : (p : Picture) (x y : ℕ) → Holds Bitonal p → x < p.width → y < p.height → (sample_at p x y 0 ≡ 0) ⊎ (sample_at p x y 0 ≡ 255)
+unfolding sample_at
+held_bit p x y f lx ly =
+    let channel : 0 < p.channels = omega (arith, f.channels) in
+    f.samples ((y * p.width + x) * p.channels + 0) 0 (omega (arith, f.whole.count, index_below p.width p.height p.channels x y 0 lx ly channel))
+
+places : (p : Picture) (k : OutKind) (x y c : ℕ) → Holds k p → x < p.width → y < p.height → c < samples_per_pixel k → stored (depth k) (file p k) (strip_offset k + y * row_len k p.width) (x * samples_per_pixel k + c) ≡ sample_at p x y c
+places p Gray x y c f lx ly lc =
+    let zero_is : c ≡ 0 = omega arith in
+    rw zero_is (byte_at p Gray y (x * 1 + 0) ly (omega arith) ∙ gray_row p y x lx)
+places p Rgb x y c f lx ly lc = byte_at p Rgb y (x * 3 + c) ly (omega arith) ∙ rgb_row p y x c lx lc
+places p Bitonal x y c f lx ly lc =
+    let zero_is : c ≡ 0 = omega arith in
+    bit_read p x y c lx ly lc
+    ∙ ap (λ top. black_or_white top (sample_at p x y 0)) f.top
+    ∙ black_or_white-same (sample_at p x y 0) (held_bit p x y f lx ly)
+    ∙ ap (sample_at p x y) (sym zero_is)
+
+pub shows : (p : Picture) (k : OutKind) → IsReadable (dim_of p) → file_len k (dim_of p) < 2 ^ 32 → Holds k p → Shows (file p k) p
+shows p k l small f =
+    let d = dim_of p in
+    let b = fields k d (strip k p) l small in
+    record {
+      width_is = sym b.width;
+      height_is = sym b.height;
+      channels_is = f.channels ∙ sym (channels_are k d (strip k p));
+      top_is = f.top;
+      whole = f.whole;
+      places = λ x y c lx ly lc. rw b.scheme (sym (in_strip (file p k) k d x y c lx ly ∙ places p k x y c f lx ly (rw (← f.channels) lc)));
+    }
+
+one_gray : (p : Picture) (x y : ℕ) → p.channels ≡ 1 → gray_at p x y 0 ≡ sample_at p x y 0
+unfolding gray_at
+one_gray p x y e = rw e refl
+
+bit_is : (p : Picture) (x y c : ℕ) → p.channels ≡ 1 → x < p.width → y < p.height → c < 1 → sample_at (bitonal p) x y c ≡ black_or_white p.top (sample_at p x y 0)
+bit_is p x y c e lx ly lc =
+    let zero_is : c ≡ 0 = omega arith in
+    rw zero_is (sample_at-bitonal p x y lx ly ∙ ap (black_or_white p.top) (one_gray p x y e))
+
+pub shows_bitonal : (p : Picture) → IsReadable (dim_of p) → file_len Bitonal (dim_of p) < 2 ^ 32 → p.channels ≡ 1 → Shows (file p Bitonal) (bitonal p)
+shows_bitonal p l small e =
+    let d = dim_of p in
+    let b = fields Bitonal d (strip Bitonal p) l small in
+    record {
+      width_is = sym b.width;
+      height_is = sym b.height;
+      channels_is = sym (channels_are Bitonal d (strip Bitonal p));
+      top_is = refl;
+      whole = whole_bitonal p;
+      places = λ x y c lx ly lc. bit_is p x y c e lx ly lc ∙ rw b.scheme (sym (in_strip (file p Bitonal) Bitonal d x y c lx ly ∙ bit_read p x y c lx ly lc));
+    }

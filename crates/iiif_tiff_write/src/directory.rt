@@ -1,0 +1,52 @@
+//! The head of a file: header, directory and the values outside of it.
+
+ghost use Rattle.std.specs.Prelude.{◌≡◌, ◌<◌, ◌^◌, ◌++◌, length};
+ghost use Rattle.iiif_pixel.specs.Picture.{Picture};
+ghost use Rattle.iiif_tiff_write.specs.File.{file, file_len, head_of, photometric, strip, strip_offset};
+
+use crate::head_bytes::Head;
+use crate::kind::OutKind;
+use crate::tags::{
+    COMPRESSION, IMAGE_LENGTH, IMAGE_WIDTH, PHOTOMETRIC_INTERPRETATION, RESOLUTION_UNIT,
+    ROWS_PER_STRIP, SAMPLES_PER_PIXEL, STRIP_BYTE_COUNTS, STRIP_OFFSETS, X_RESOLUTION,
+    Y_RESOLUTION,
+};
+use iiif_pixel::Dim;
+
+/// BlackIsZero or RGB.
+fn photometric(kind: OutKind) -> u16
+    ensures { result ≡ photometric kind }
+{
+    match kind {
+        OutKind::Gray | OutKind::Bitonal => 1,
+        OutKind::Rgb => 2,
+    }
+}
+
+/// The bytes before the rows in the file of a picture with these sides. `fits` is the test of the condition.
+pub fn head(kind: OutKind, dim: Dim) -> Head
+    requires { file_len kind dim < 2 ^ 32 }
+    ensures value { result ≡ head_of kind dim }
+    ensures len { length result ≡ strip_offset kind }
+    ensures of_file { (p : Picture) → p.width ≡ dim.w → p.height ≡ dim.h → result ++ strip kind p ≡ file p kind }
+{
+    let strip_len = (kind.row_len(dim.w) * u64::from(dim.h)) as u32;
+    let mut head = Head::new();
+    head.put_header();
+    head.put_short(12);
+    head.put_long_field(IMAGE_WIDTH, dim.w);
+    head.put_long_field(IMAGE_LENGTH, dim.h);
+    head.put_bits_per_sample(kind);
+    head.put_short_field(COMPRESSION, 1);
+    head.put_short_field(PHOTOMETRIC_INTERPRETATION, photometric(kind));
+    head.put_long_field(STRIP_OFFSETS, kind.strip_offset());
+    head.put_short_field(SAMPLES_PER_PIXEL, u16::from(kind.samples_per_pixel()));
+    head.put_long_field(ROWS_PER_STRIP, dim.h);
+    head.put_long_field(STRIP_BYTE_COUNTS, strip_len);
+    head.put_rational_field_at(X_RESOLUTION, 158);
+    head.put_rational_field_at(Y_RESOLUTION, 166);
+    head.put_short_field(RESOLUTION_UNIT, 1);
+    head.put_long(0);
+    head.put_outside(kind);
+    head
+}

@@ -1,0 +1,164 @@
+//! The bytes before the strip, written one after another.
+
+ghost use Rattle.std.specs.Prelude.{◌≡◌, ◌+◌, ◌≤◌, [], ◌++◌, length};
+ghost use Rattle.std.specs.Int.{w16, w32, to_le_bytes};
+ghost use Rattle.iiif_tiff_write.specs.File.{entry_bytes, long_field, short_field, shorts_field_at, rational_field_at, bits_per_sample, header, outside};
+
+use crate::kind::OutKind;
+use crate::tags::{BITS_PER_SAMPLE, LONG, RATIONAL, SHORT};
+use std::marker::Model;
+
+/// The bytes of a file before its strip: header, directory, and the values that stand outside of it.
+#[derive(Drop)]
+pub struct Head {
+    bytes: [u8; 180],
+    len: usize,
+}
+
+impl Model for Head {
+    ghost use Rattle.std.specs.Prelude.{ℕ, List, take, ◌≤◌};
+
+    ghost Value = { List ℕ };
+
+    ghost view = { λ s. take s.len s.bytes };
+
+    ghost invariant = { λ s. s.len ≤ 180 };
+}
+
+impl Head {
+    /// The bytes.
+    pub fn as_slice(&self) -> &[u8]
+        ensures { result.now ≡ self.now }
+    {
+        &self.bytes[..self.len]
+    }
+
+    pub(crate) fn new() -> Head
+        ensures { result ≡ [] }
+    {
+        Head {
+            bytes: [0; 180],
+            len: 0,
+        }
+    }
+
+    fn put(&mut self, bytes: &[u8])
+        requires { length self.old + length bytes.now ≤ 180 }
+        ensures { self.new ≡ self.old ++ bytes.now }
+    {
+        let end = self.len + bytes.len();
+        self.bytes[self.len..end].copy_from_slice(bytes);
+        self.len = end;
+    }
+
+    pub(crate) fn put_short(&mut self, value: u16)
+        requires { length self.old + 2 ≤ 180 }
+        ensures bytes { self.new ≡ self.old ++ to_le_bytes w16 value }
+        ensures len { length self.new ≡ length self.old + 2 }
+    {
+        self.put(&value.to_le_bytes());
+    }
+
+    pub(crate) fn put_long(&mut self, value: u32)
+        requires { length self.old + 4 ≤ 180 }
+        ensures bytes { self.new ≡ self.old ++ to_le_bytes w32 value }
+        ensures len { length self.new ≡ length self.old + 4 }
+    {
+        self.put(&value.to_le_bytes());
+    }
+
+    /// The header: low bytes first, 42, the directory's offset.
+    pub(crate) fn put_header(&mut self)
+        requires { length self.old + 8 ≤ 180 }
+        ensures bytes { self.new ≡ self.old ++ header }
+        ensures len { length self.new ≡ length self.old + 8 }
+    {
+        self.put(b"II");
+        self.put_short(42);
+        self.put_long(8);
+    }
+
+    /// The first eight bytes of an entry.
+    fn put_entry(&mut self, tag: u16, kind: u16, count: u32)
+        requires { length self.old + 8 ≤ 180 }
+        ensures bytes { self.new ≡ self.old ++ (to_le_bytes w16 tag ++ to_le_bytes w16 kind ++ to_le_bytes w32 count) }
+        ensures len { length self.new ≡ length self.old + 8 }
+    {
+        self.put_short(tag);
+        self.put_short(kind);
+        self.put_long(count);
+    }
+
+    /// An entry of one SHORT, which stands at the left of the four bytes.
+    pub(crate) fn put_short_field(&mut self, tag: u16, value: u16)
+        requires { length self.old + 12 ≤ 180 }
+        ensures bytes { self.new ≡ self.old ++ entry_bytes (short_field tag value) }
+        ensures len { length self.new ≡ length self.old + 12 }
+    {
+        self.put_entry(tag, SHORT, 1);
+        self.put_short(value);
+        self.put_short(0);
+    }
+
+    /// An entry of one LONG.
+    pub(crate) fn put_long_field(&mut self, tag: u16, value: u32)
+        requires { length self.old + 12 ≤ 180 }
+        ensures bytes { self.new ≡ self.old ++ entry_bytes (long_field tag value) }
+        ensures len { length self.new ≡ length self.old + 12 }
+    {
+        self.put_entry(tag, LONG, 1);
+        self.put_long(value);
+    }
+
+    /// An entry of several SHORTs, which stand at an offset.
+    fn put_shorts_field_at(&mut self, tag: u16, count: u32, offset: u32)
+        requires { length self.old + 12 ≤ 180 }
+        ensures bytes { self.new ≡ self.old ++ entry_bytes (shorts_field_at tag count offset) }
+        ensures len { length self.new ≡ length self.old + 12 }
+    {
+        self.put_entry(tag, SHORT, count);
+        self.put_long(offset);
+    }
+
+    /// An entry of one RATIONAL, which stands at an offset.
+    pub(crate) fn put_rational_field_at(&mut self, tag: u16, offset: u32)
+        requires { length self.old + 12 ≤ 180 }
+        ensures bytes { self.new ≡ self.old ++ entry_bytes (rational_field_at tag offset) }
+        ensures len { length self.new ≡ length self.old + 12 }
+    {
+        self.put_entry(tag, RATIONAL, 1);
+        self.put_long(offset);
+    }
+
+    /// The entry of the bits of a sample, or of each of three.
+    pub(crate) fn put_bits_per_sample(&mut self, kind: OutKind)
+        requires { length self.old + 12 ≤ 180 }
+        ensures bytes { self.new ≡ self.old ++ entry_bytes (bits_per_sample kind) }
+        ensures len { length self.new ≡ length self.old + 12 }
+    {
+        match kind {
+            OutKind::Gray => self.put_short_field(BITS_PER_SAMPLE, 8),
+            OutKind::Rgb => self.put_shorts_field_at(BITS_PER_SAMPLE, 3, 174),
+            OutKind::Bitonal => self.put_short_field(BITS_PER_SAMPLE, 1),
+        }
+    }
+
+    /// The values outside of the directory: two rationals 1/1, and the bits of red, green and blue.
+    pub(crate) fn put_outside(&mut self, kind: OutKind)
+        requires { length self.old + 22 ≤ 180 }
+        ensures { self.new ≡ self.old ++ outside kind }
+    {
+        self.put_long(1);
+        self.put_long(1);
+        self.put_long(1);
+        self.put_long(1);
+        match kind {
+            OutKind::Gray | OutKind::Bitonal => {}
+            OutKind::Rgb => {
+                self.put_short(8);
+                self.put_short(8);
+                self.put_short(8);
+            }
+        }
+    }
+}

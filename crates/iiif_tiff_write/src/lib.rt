@@ -1,0 +1,18 @@
+//! Pictures as TIFF 6.0 files of one strip: a head, and then the rows from the top.
+#![tactic(auto)]
+
+pub use directory::head;
+pub use head_bytes::Head;
+pub use kind::OutKind;
+pub use layout::{fits, total_len};
+pub use rows::put_rows;
+
+mod directory;
+mod head_bytes;
+pub mod kind;
+pub mod laws;
+mod layout;
+mod rows;
+mod tags;
+#[cfg(test)]
+mod tests;

@@ -1,0 +1,107 @@
+//! The rows of a picture as the bytes of a strip.
+
+ghost use Rattle.std.specs.Prelude.{◌≡◌, ◌+◌, ◌*◌, ◌<◌, ◌≤◌, ◌++◌, length, vec_len, vec_capacity, OnOk, OnErr};
+ghost use Rattle.std.specs.Int.{div_ceil};
+ghost use Rattle.iiif_tiff_write.specs.OutKind.{samples_per_pixel};
+ghost use Rattle.iiif_tiff_write.specs.File.{row_len, strip, white_bit};
+ghost use Rattle.iiif_tiff_write.specs.Code.{bit_of, byte_from, packed_row};
+
+use crate::kind::OutKind;
+use iiif_pixel::{NoMemory, Raster};
+
+/// White, which is the upper half, is 1.
+fn white_bit(sample: u8) -> u8
+    ensures { result ≡ white_bit 255 sample }
+{
+    if sample < 128 { 0 } else { 1 }
+}
+
+/// The byte of eight samples, the first in the highest bit.
+fn whole_byte(samples: &[u8], i: usize) -> u8
+    requires { i + 8 ≤ length samples.now }
+    ensures { result ≡ byte_from samples.now i }
+{
+    white_bit(samples[i]) * 128
+        + white_bit(samples[i + 1]) * 64
+        + white_bit(samples[i + 2]) * 32
+        + white_bit(samples[i + 3]) * 16
+        + white_bit(samples[i + 4]) * 8
+        + white_bit(samples[i + 5]) * 4
+        + white_bit(samples[i + 6]) * 2
+        + white_bit(samples[i + 7])
+}
+
+/// Sample `i` as a bit, 0 behind the end.
+fn bit(samples: &[u8], i: usize) -> u8
+    ensures value { result ≡ bit_of samples.now i }
+    ensures bound { result ≤ 1 }
+{
+    if i < samples.len() {
+        white_bit(samples[i])
+    } else {
+        0
+    }
+}
+
+/// The byte of fewer than eight samples.
+fn last_byte(samples: &[u8], i: usize) -> u8
+    requires { i < length samples.now }
+    ensures { result ≡ byte_from samples.now i }
+{
+    bit(samples, i) * 128
+        + bit(samples, i + 1) * 64
+        + bit(samples, i + 2) * 32
+        + bit(samples, i + 3) * 16
+        + bit(samples, i + 4) * 8
+        + bit(samples, i + 5) * 4
+        + bit(samples, i + 6) * 2
+        + bit(samples, i + 7)
+}
+
+/// Appends a row of bits, which ends at a whole byte.
+#[tactic(auto, using(crate::proofs::PackingLemmas::packing))]
+fn pack_row(samples: &[u8], out: &mut Vec<u8>)
+    requires { vec_len out.old + div_ceil (length samples.now) 8 ≤ vec_capacity out.old }
+    ensures bytes { out.new.items ≡ out.old.items ++ packed_row samples.now }
+    ensures len { vec_len out.new ≡ vec_len out.old + div_ceil (length samples.now) 8 }
+    ensures capacity { vec_capacity out.new ≡ vec_capacity out.old }
+{
+    let whole = samples.len() / 8;
+    for j in 0..whole {
+        out.push_reserved(whole_byte(samples, 8 * j));
+    }
+    if 8 * whole < samples.len() {
+        out.push_reserved(last_byte(samples, 8 * whole));
+    }
+}
+
+/// Appends all rows as bits.
+fn pack_rows(raster: &Raster, out: &mut Vec<u8>)
+    requires channels { raster.now.channels ≡ 1 }
+    requires top { raster.now.top ≡ 255 }
+    requires room { vec_len out.old + row_len OutKind.Bitonal raster.now.width * raster.now.height ≤ vec_capacity out.old }
+    ensures { out.new.items ≡ out.old.items ++ strip OutKind.Bitonal raster.now }
+{
+    let dim = raster.dim();
+    for y in 0..dim.h {
+        pack_row(raster.span(0, y, dim.w), out);
+    }
+}
+
+/// Appends the rows of a raster as they stand in the strip of a file. A whole picture or a band of its rows will do.
+pub fn put_rows(raster: &Raster, kind: OutKind, out: &mut Vec<u8>) -> Result<(), NoMemory>
+    requires { raster.now.channels ≡ samples_per_pixel kind }
+    ensures rows { OnOk result (out.new.items ≡ out.old.items ++ strip kind raster.now) }
+    ensures err { OnErr result (out.new.items ≡ out.old.items) }
+{
+    let samples = raster.samples();
+    match kind {
+        OutKind::Gray | OutKind::Rgb => out.extend_from_slice(samples),
+        OutKind::Bitonal => {
+            let dim = raster.dim();
+            out.reserve(dim.w.div_ceil(8) as usize * dim.h as usize)?;
+            pack_rows(raster, out);
+            Ok(())
+        }
+    }
+}
