@@ -1,0 +1,10 @@
+pub mod CutLemmas
+pub mod EscapeLemmas
+pub mod NumberLemmas
+pub mod NumeralLemmas
+pub mod OptionLemmas
+pub mod RequestLemmas
+pub mod RegionLemmas
+pub mod RotationLemmas
+pub mod SizeLemmas
+pub mod TargetLemmas

@@ -1,0 +1,45 @@
+-- Each refusal's status (RFC 9110, section 15) and the line that its body holds.
+use Rattle.std.specs.Prelude.{ℕ, List, codes}
+use Rattle.iiif_request.specs.declared.request.Refusal.{Refusal}
+use Rattle.iiif_request.specs.declared.target.SplitFault.{SplitFault}
+use Rattle.iiif_request.specs.declared.target.SplitFault.TheVariants as fault
+use Rattle.iiif_request.specs.declared.request.Refusal.TheVariants.{Head, Method, Path, Identifier, Region, Size, Rotation, Quality, Format, Empty, Zero, Larger, Upscale, Limit}
+
+-- 400 Bad Request, 404 Not Found, 405 Method Not Allowed, 501 Not Implemented
+abbrev pub status_of : Refusal → ℕ
+status_of Head = 400
+status_of Method = 405
+status_of Path = 400
+status_of Identifier = 404
+status_of Region = 400
+status_of Size = 400
+status_of Rotation = 400
+status_of Quality = 400
+status_of Format = 400
+status_of Empty = 400
+status_of Zero = 400
+status_of Larger = 400
+status_of Upscale = 501
+status_of Limit = 400
+
+-- the number of the check and its name
+abbrev pub line_of : Refusal → List ℕ
+line_of Head = codes "Q1 head"
+line_of Method = codes "Q2 method"
+line_of Path = codes "Q3 path"
+line_of Identifier = codes "Q4 identifier"
+line_of Region = codes "Q5 region"
+line_of Size = codes "Q6 size"
+line_of Rotation = codes "Q7 rotation"
+line_of Quality = codes "Q8 quality"
+line_of Format = codes "Q9 format"
+line_of Empty = codes "Q10 empty"
+line_of Zero = codes "Q11 zero"
+line_of Larger = codes "Q12 larger"
+line_of Upscale = codes "Q13 upscale"
+line_of Limit = codes "Q14 limit"
+
+-- the number of a fault of a target
+abbrev pub number_of : SplitFault → ℕ
+number_of fault.Path = 1
+number_of fault.NoMemory = 2
