@@ -1,0 +1,109 @@
+-- What the canonical form of a resolved request comes to.
+use Rattle.std.proofs.Common.{◌≡◌, ℕ, ◌-◌, ◌*◌, ◌<◌, Bool, true, false, ◌&&◌, nat_lt, refl, sym, ap, ◌∙◌, arith, Ok}
+use Rattle.std.proofs.lemmas.Bool.{lt-ltb}
+use Rattle.std.proofs.lemmas.Bool.Decides.{nat_tests}
+use Rattle.std.specs.Prelude.{min, if◌then◌else◌, ◌==◌}
+use Rattle.std.proofs.Math.Nat.{min-eq_left}
+use Rattle.iiif_pixel.specs.Geometry.{LiesIn}
+use Rattle.iiif_pixel.specs.declared.geometry.Dim.{Dim}
+use Rattle.iiif_pixel.specs.declared.geometry.Kind.{Kind}
+use Rattle.iiif_pixel.specs.declared.geometry.Rect.{Rect}
+use Rattle.iiif_request.specs.Requests.{IsShortRegion, IsShortForm, HasShortDecimals}
+use Rattle.iiif_request.specs.declared.request.Region.TheVariants.{Full, Pixels}
+use Rattle.iiif_request.specs.declared.request.Form.TheVariants.{Max, Both}
+use Rattle.iiif_canonical.specs.Regions.{clipped, region_of}
+use Rattle.iiif_canonical.specs.Sizes.{largest, asked_of, checked, size_of}
+use Rattle.iiif_canonical.specs.Resolution.{resolved_of, quarters_of, IsResolved}
+use Rattle.iiif_canonical.specs.Canonical.{canonical_region, canonical_form, canonical_of, canonical}
+use Rattle.iiif_canonical.specs.declared.resolved.Limits.{Limits}
+use Rattle.iiif_canonical.specs.declared.resolved.Resolved.{Resolved}
+use Rattle.iiif_canonical.proofs.ResolutionLemmas.{IsPart, IsWithin}
+
+-- a rectangle of the image isn't clipped
+clipped_part : (d : Dim) (r : Rect) → IsPart d r → clipped d r.x r.y r.w r.h ≡ Ok r
+unfolding clipped
+clipped_part d r part =
+    let a : nat_lt r.x d.w ≡ true = lt-ltb _ _ (omega (arith, part.inside.columns, part.not_empty)) in
+    let b : nat_lt r.y d.h ≡ true = lt-ltb _ _ (omega (arith, part.inside.rows, part.not_empty)) in
+    let e : nat_lt 0 r.w ≡ true = lt-ltb _ _ (omega (arith, part.not_empty)) in
+    let f : nat_lt 0 r.h ≡ true = lt-ltb _ _ (omega (arith, part.not_empty)) in
+    let m : min r.w (d.w - r.x) ≡ r.w = min-eq_left (omega (arith, part.inside.columns)) in
+    let n : min r.h (d.h - r.y) ≡ r.h = min-eq_left (omega (arith, part.inside.rows)) in
+    rw (a, b, e, f, m, n) refl
+
+same_rect : (r : Rect) (x y w h : ℕ) → r.x ≡ x → r.y ≡ y → r.w ≡ w → r.h ≡ h → r ≡ record { x = x; y = y; w = w; h = h }
+same_rect r x y w h ex ey ew eh = λ i. record { x = ex i; y = ey i; w = ew i; h = eh i }
+
+-- the region that is written for a rectangle is that rectangle
+region_by : (d : Dim) (r : Rect) (t : Bool) → IsPart d r → r.x == 0 && r.y == 0 && r.w == d.w && r.h == d.h ≡ t → region_of (if t then Full else Pixels r.x r.y r.w r.h) d ≡ Ok r
+unfolding region_of
+region_by d r true part e =
+    let x : r.x ≡ 0 = grind (arith, nat_tests) in
+    let y : r.y ≡ 0 = grind (arith, nat_tests) in
+    let w : r.w ≡ d.w = grind (arith, nat_tests) in
+    let h : r.h ≡ d.h = grind (arith, nat_tests) in
+    let whole : Rect = record { x = 0; y = 0; w = d.w; h = d.h } in
+    let same : whole ≡ r = sym (same_rect r 0 0 d.w d.h x y w h) in
+    let inside : LiesIn whole d = record { columns = omega arith; rows = omega arith } in
+    clipped_part d whole (record { inside = inside; not_empty = (omega (arith, part.not_empty, w), omega (arith, part.not_empty, h)) }) ∙ ap Ok same
+region_by d r false part e = clipped_part d r part
+
+region_back : (d : Dim) (r : Rect) → IsPart d r → region_of (canonical_region r d) d ≡ Ok r
+unfolding canonical_region
+region_back d r part = region_by d r _ part refl
+
+-- sides within the region and the limits aren't refused
+checked_back : (a b : ℕ) (l : Limits) (s : Dim) → IsWithin a b l s → checked false false a b l (s.w, s.h) ≡ Ok s
+unfolding checked
+checked_back a b l s within = grind (arith, nat_tests, within.not_zero, within.not_larger, within.within_limits)
+
+same_pair : (p : ℕ × ℕ) (a b : ℕ) → p.0 ≡ a → p.1 ≡ b → p ≡ (a, b)
+same_pair p a b ea eb = λ i. (ea i, eb i)
+
+size_by : (a b : ℕ) (l : Limits) (s : Dim) (t : Bool) → IsWithin a b l s → s.w == (largest a b l).0 && s.h == (largest a b l).1 ≡ t
+    → size_of (record { up = false; form = if t then Max else Both s.w s.h }) a b l ≡ Ok s
+unfolding size_of asked_of
+size_by a b l s true within e =
+    let w : (largest a b l).0 ≡ s.w = grind (arith, nat_tests) in
+    let h : (largest a b l).1 ≡ s.h = grind (arith, nat_tests) in
+    let same : largest a b l ≡ (s.w, s.h) = same_pair (largest a b l) s.w s.h w h in
+    rw same (checked_back a b l s within)
+size_by a b l s false within e = checked_back a b l s within
+
+size_back : (a b : ℕ) (l : Limits) (s : Dim) → IsWithin a b l s → size_of (record { up = false; form = canonical_form s a b l }) a b l ≡ Ok s
+unfolding canonical_form
+size_back a b l s within = size_by a b l s _ within refl
+
+quarters_back : (q : ℕ) → q < 4 → quarters_of (record { digits = 90 * q; places = 0 }) ≡ q
+unfolding quarters_of
+quarters_back q few = omega arith
+
+-- the canonical form comes to what it was written for
+pub resolves_back : (r : Resolved) (d : Dim) (k : Kind) (l : Limits) → IsResolved d k l r → resolved_of (canonical_of r d l) d k l ≡ Ok r
+unfolding resolved_of canonical_of
+resolves_back r d k l is =
+    let part : IsPart d r.rect = record { inside = is.inside; not_empty = is.not_empty } in
+    let within : IsWithin r.rect.w r.rect.h l r.size = record { not_zero = is.not_zero; not_larger = is.not_larger; within_limits = is.within_limits } in
+    rw (region_back d r.rect part, size_back r.rect.w r.rect.h l r.size within, quarters_back r.turn.quarters is.quarters, is.quality) refl
+
+-- and is its own canonical form
+pub fixed_back : (r : Resolved) (d : Dim) (k : Kind) (l : Limits) → IsResolved d k l r → canonical (canonical_of r d l) d k l ≡ Ok (canonical_of r d l)
+unfolding canonical
+fixed_back r d k l is = rw (resolves_back r d k l is) refl
+
+region_short : (r : Rect) (t : Bool) → IsShortRegion (if t then Full else Pixels r.x r.y r.w r.h)
+region_short r true = tt
+region_short r false = tt
+
+form_short : (s : Dim) (t : Bool) → IsShortForm (if t then Max else Both s.w s.h)
+form_short s true = tt
+form_short s false = tt
+
+-- no decimal of it has places
+pub canonical_short : (r : Resolved) (d : Dim) (l : Limits) → HasShortDecimals (canonical_of r d l)
+unfolding canonical_of canonical_region canonical_form
+canonical_short r d l = record {
+  region = region_short r.rect _;
+  size = form_short r.size _;
+  degrees = omega arith;
+}

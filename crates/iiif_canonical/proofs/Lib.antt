@@ -1,0 +1,10 @@
+pub mod Powers
+pub mod ResolutionLemmas
+pub mod CanonicalLemmas
+pub mod ImageLemmas
+pub mod SameImages
+pub mod NumeralTexts
+pub mod EscapeLemmas
+pub mod SpellingLemmas
+pub mod PlainTexts
+pub mod TextLemmas

@@ -1,0 +1,9 @@
+pub mod Rounding
+pub mod Regions
+pub mod Sizes
+pub mod Resolution
+pub mod Canonical
+pub mod Images
+pub mod Escapes
+pub mod Texts
+pub mod Laws
