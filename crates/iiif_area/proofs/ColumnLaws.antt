@@ -1,0 +1,104 @@
+-- What columns of a tile come to.
+use Rattle.std.proofs.Common.{⊎_elim, List, get_or, ◌≡◌, ℕ, ◌+◌, ◌-◌, ◌*◌, ◌^◌, ◌<◌, ◌≤◌, sym, ap, ◌∙◌, refl, arith}
+use Rattle.std.proofs.lemmas.Bool.{cases_lt}
+use Rattle.iiif_pixel.specs.Picture.{Picture, sample_at, span_of}
+use Rattle.iiif_pixel.proofs.Reading.{get_or-span_of}
+use Rattle.iiif_pixel.specs.Scaling.{sum_from, weight_of, area_sum}
+use Rattle.iiif_pixel.specs.declared.geometry.Dim.{Dim}
+use Rattle.iiif_pixel.specs.declared.geometry.Rect.{Rect}
+use Rattle.iiif_area.specs.declared.columns.Span.{Span}
+use Rattle.iiif_area.specs.Code.{column_sum, span_total, tile_sample, IsSpan}
+use Rattle.iiif_area.proofs.AreaLaws.{area_from_corner, area-fits}
+use Rattle.iiif_area.proofs.SumLaws.{sum_from-zero, sum_from-same, sum_from-one, sum_from-narrow, sum_from-step, same_product, three_parts}
+use Rattle.iiif_area.proofs.WeightLaws.{weighted_before}
+
+no_terms : (u n : ℕ) (f : ℕ → ℕ) → n ≡ 0 → sum_from u n f ≡ 0
+no_terms u n f e = sum_from-zero u n f (λ k l m. absurd (omega arith))
+
+times_zero : {m : ℕ} (n : ℕ) → m ≡ 0 → m * n ≡ 0
+times_zero n e = ap (λ u. u * n) e ∙ omega arith
+
+zero_times : {m : ℕ} (n : ℕ) → m ≡ 0 → n * m ≡ 0
+zero_times n e = ap (λ u. n * u) e ∙ omega arith
+
+-- a span that has no column
+pub span_total-none : (columns : List ℕ) (n k c : ℕ) (s : Span) → s.start ≡ s.end → s.first ≡ 0 → s.last ≡ 0 → span_total columns n k c s ≡ 0
+unfolding span_total
+span_total-none columns n k c s e first last =
+    let a = times_zero (get_or columns (s.start * n + k) 0) first in
+    let b = zero_times c (no_terms (s.start + 1) (s.end - 1 - (s.start + 1)) (λ t. get_or columns (t * n + k) 0) (omega arith)) in
+    let d = times_zero (get_or columns ((s.end - 1) * n + k) 0) last in
+    omega arith
+
+-- what a result column takes of all the columns is what it takes of its span
+pub span_total-is : (a c from m i n k : ℕ) (columns : List ℕ) (s : Span) → IsSpan a c from m i s →
+    sum_from 0 m (λ t. weight_of i (from + t) a c * get_or columns (t * n + k) 0) ≡ span_total columns n k c s
+unfolding span_total
+span_total-is a c from m i n k columns s h =
+    let w : ℕ → ℕ = λ t. weight_of i (from + t) a c in
+    let f : ℕ → ℕ = λ t. get_or columns (t * n + k) 0 in
+    let g : ℕ → ℕ = λ t. w t * f t in
+    let narrow = sum_from-narrow 0 m s.start s.end g (omega arith) h.in_order (omega (arith, h.within))
+    (λ t _ l. weighted_before i (from + t) a c (f t) (h.below t l)) (λ t l q. weighted_before i (from + t) a c (f t) (h.above t l (omega arith))) in
+    ⊎_elim
+    (λ (some : s.start < s.end). ⊎_elim
+    (λ (more : s.start + 1 < s.end).
+    let parts = three_parts c s.start s.end w f more h.between in
+    let p1 = same_product (h.first some) (let e : f s.start ≡ f s.start = refl in e) in
+    let p2 = same_product (h.last more) (let e : f (s.end - 1) ≡ f (s.end - 1) = refl in e) in
+    omega arith)
+    (λ (one : s.end ≤ s.start + 1).
+    let e : s.end - s.start ≡ 1 = omega arith in
+    let d = ap (λ u. sum_from s.start u g) e ∙ sum_from-one s.start g in
+    let p1 = same_product (h.first some) (let e : f s.start ≡ f s.start = refl in e) in
+    let b = zero_times c (no_terms (s.start + 1) (s.end - 1 - (s.start + 1)) f (omega arith)) in
+    let z = times_zero (f (s.end - 1)) (h.single one) in
+    omega arith)
+    (cases_lt (s.start + 1) s.end))
+    (λ (none : s.end ≤ s.start).
+    let same : s.start ≡ s.end = omega (arith, h.in_order) in
+    let d = no_terms s.start (s.end - s.start) g (omega arith) in
+    let z = span_total-none columns n k c s same (h.none same) (h.single (omega arith)) in
+    narrow ∙ d ∙ sym z)
+    (cases_lt s.start s.end)
+
+-- a part's sum, by the sums of its columns
+pub area_from_columns : (region size : Dim) (part : Rect) (tile : Picture) (corner : ℕ × ℕ) (i j k : ℕ) (columns : List ℕ) →
+    ((t : ℕ) → t < part.w → get_or columns (t * tile.channels + k) 0 ≡ column_sum tile corner part region.h size.h j t k) →
+    sum_from 0 part.w (λ t. weight_of i (part.x + t) region.w size.w * get_or columns (t * tile.channels + k) 0) ≡ area_sum region size part (tile_sample tile corner part k) i j
+unfolding column_sum tile_sample
+area_from_columns region size part tile corner i j k columns h =
+    sum_from-same 0 part.w _ _ (λ t _ l.
+    ap (λ u. weight_of i (part.x + t) region.w size.w * u)
+    (h t (omega arith) ∙ sum_from-same 0 part.h _ _ (λ s _ _.
+    let x : corner.0 + t ≡ corner.0 + (part.x + t - part.x) = omega arith in
+    let y : corner.1 + s ≡ corner.1 + (part.y + s - part.y) = omega arith in
+    ap (λ u. weight_of j (part.y + s) region.h size.h * u) (ap (λ u. sample_at tile u (corner.1 + s) k) x ∙ ap (λ u. sample_at tile (corner.0 + (part.x + t - part.x)) u k) y))))
+    ∙ sym (area_from_corner region size part (tile_sample tile corner part k) i j)
+
+-- one row more of the sum at column t and channel k, where a row of the tile is added to the columns
+pub next_row : (p : Picture) (cx cy from j b d start s w t k weight : ℕ) (columns row : List ℕ) →
+    start ≤ s → row ≡ span_of p cx (cy + s) w → weight ≡ weight_of j (from + s) b d → t < w → k < p.channels →
+    get_or columns (t * p.channels + k) 0 ≡ sum_from start (s - start) (λ s. weight_of j (from + s) b d * sample_at p (cx + t) (cy + s) k) →
+    get_or columns (t * p.channels + k) 0 + weight * get_or row (t * p.channels + k) 0
+    ≡ sum_from start (s + 1 - start) (λ s. weight_of j (from + s) b d * sample_at p (cx + t) (cy + s) k)
+next_row p cx cy from j b d start s w t k weight columns row l e h lt lk so_far =
+    let sample = ap (λ u. get_or u (t * p.channels + k) 0) e ∙ get_or-span_of p cx (cy + s) w t k 0 lt lk in
+    sum_from-step start s (λ s. weight_of j (from + s) b d * sample_at p (cx + t) (cy + s) k) _ _ l so_far (same_product h sample)
+
+-- so what a result place takes of its span is the part's sum
+pub span_total-area : (region size : Dim) (part : Rect) (tile : Picture) (corner : ℕ × ℕ) (i j k n c : ℕ) (columns : List ℕ) (s : Span) →
+    n ≡ tile.channels → c ≡ size.w → IsSpan region.w size.w part.x part.w i s →
+    ((t : ℕ) → t < part.w → get_or columns (t * tile.channels + k) 0 ≡ column_sum tile corner part region.h size.h j t k) →
+    span_total columns n k c s ≡ area_sum region size part (tile_sample tile corner part k) i j
+span_total-area region size part tile corner i j k n c columns s en ec span h =
+    ap (λ u. span_total columns u k c s) en ∙ ap (λ u. span_total columns tile.channels k u s) ec
+    ∙ sym (span_total-is region.w size.w part.x part.w i tile.channels k columns s span)
+    ∙ area_from_columns region size part tile corner i j k columns h
+
+-- and it fits
+pub tile_area-fits : (region size : Dim) (part : Rect) (tile : Picture) (corner : ℕ × ℕ) (i j k : ℕ) → region.w * region.h ≤ 2 ^ 32 →
+    ((x y k : ℕ) → sample_at tile x y k ≤ 255) → area_sum region size part (tile_sample tile corner part k) i j < 2 ^ 64
+unfolding tile_sample
+tile_area-fits region size part tile corner i j k area h =
+    area-fits region size part (tile_sample tile corner part k) i j area (λ x y _. omega (arith, h (corner.0 + (x - part.x)) (corner.1 + (y - part.y)) k))

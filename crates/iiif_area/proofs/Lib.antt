@@ -1,0 +1,12 @@
+pub mod AreaLaws
+pub mod ColumnLaws
+pub mod CutLaws
+pub mod FinishLaws
+pub mod GridLaws
+pub mod MergeLaws
+pub mod PieceLaws
+pub mod PlaceLaws
+pub mod SumLaws
+pub mod SumsSeen
+pub mod TileLaws
+pub mod WeightLaws

@@ -1,0 +1,49 @@
+-- The pieces of a part, merged.
+use Rattle.std.proofs.Common.{◌≡◌, ℕ, ◌+◌, ◌*◌, ◌^◌, ◌<◌, ◌≤◌, List, [], ◌∷◌, map, fold, sum_by, ap, ◌∙◌, arith, ⊎_elim}
+use Rattle.std.proofs.lemmas.List.Sums.{sum_by-cons}
+use Rattle.iiif_pixel.specs.Picture.{Picture, dim_of, sample_at, IsWhole}
+use Rattle.iiif_pixel.specs.declared.geometry.Dim.{Dim}
+use Rattle.iiif_pixel.specs.declared.geometry.Rect.{Rect}
+use Rattle.iiif_pixel.proofs.Whole.{sample_at-le}
+use Rattle.iiif_area.specs.Grid.{Grid, grid_of, merged, part_sum, sums_of}
+use Rattle.iiif_area.specs.Laws.{PiecesMerge}
+use Rattle.iiif_area.proofs.AreaLaws.{area-fits}
+use Rattle.iiif_area.proofs.CutLaws.{cuts_add_up}
+use Rattle.iiif_area.proofs.GridLaws.{grid_of-same}
+use Rattle.iiif_area.proofs.MergeLaws.{merging_lem}
+
+-- what some rectangles come to at a place
+abbrev pub pieces_sum : Picture → Dim → List Rect → ℕ → ℕ → ℕ → ℕ
+pieces_sum p size rects i j k = sum_by (λ r. part_sum p size r i j k) rects
+
+top-le : (p : Picture) → IsWhole p → p.top ≤ 65535
+top-le p whole = ⊎_elim (λ (e : p.top ≡ 255). omega arith) (λ (e : p.top ≡ 65535). omega arith) whole.top
+
+-- the sums of a whole picture's part fit
+pub part_sum-fits : (p : Picture) (size : Dim) (part : Rect) (i j k : ℕ) → IsWhole p → p.width * p.height ≤ 2 ^ 32 → part_sum p size part i j k < 2 ^ 64
+unfolding part_sum
+part_sum-fits p size part i j k whole area =
+    area-fits (dim_of p) size part (λ x y. sample_at p x y k) i j area (λ x y _. omega (arith, sample_at-le p whole x y k, top-le p whole))
+
+-- merged one after another into sums that leave room for all
+merged_pieces : (p : Picture) (size : Dim) (rect : Rect) (rects : List Rect) (f : ℕ → ℕ → ℕ → ℕ) → 0 < p.width → 0 < p.height →
+    ((i j k : ℕ) → f i j k + pieces_sum p size rects i j k < 2 ^ 64) →
+    fold merged (grid_of rect p.channels f) (map (λ r. sums_of p size r) rects) ≡ grid_of rect p.channels (λ i j k. f i j k + pieces_sum p size rects i j k)
+merged_pieces p size rect [] f w h room =
+    grid_of-same rect p.channels f (λ i j k. f i j k + pieces_sum p size [] i j k) (λ i j k _ _. omega arith)
+merged_pieces p size rect (r ∷ rs) f w h room =
+    let all : (i j k : ℕ) → pieces_sum p size (r ∷ rs) i j k ≡ part_sum p size r i j k + pieces_sum p size rs i j k = λ i j k. sum_by-cons (λ q. part_sum p size q i j k) r rs in
+    let g : ℕ → ℕ → ℕ → ℕ = λ i j k. f i j k + part_sum p size r i j k in
+    let first = merging_lem p size r rect f w h (λ i j k _ _. omega (arith, all i j k, room i j k)) in
+    let others = merged_pieces p size rect rs g w h (λ i j k. omega (arith, all i j k, room i j k)) in
+    ap (λ (d : Grid). fold merged d (map (λ q. sums_of p size q) rs)) first ∙ others
+    ∙ grid_of-same rect p.channels (λ i j k. g i j k + pieces_sum p size rs i j k) (λ i j k. f i j k + pieces_sum p size (r ∷ rs) i j k) (λ i j k _ _. omega (arith, all i j k))
+
+-- so do the pieces of a part
+pub pieces_merge : PiecesMerge
+unfolding part_sum
+pieces_merge p size part rect rects whole w h area cut =
+    let same : (i j k : ℕ) → part_sum p size part i j k ≡ pieces_sum p size rects i j k = λ i j k.
+    cuts_add_up (dim_of p) size part rects (λ x y. sample_at p x y k) i j cut in
+    merged_pieces p size rect rects (λ i j k. 0) w h (λ i j k. omega (arith, same i j k, part_sum-fits p size part i j k whole area))
+    ∙ grid_of-same rect p.channels (λ i j k. 0 + pieces_sum p size rects i j k) (part_sum p size part) (λ i j k _ _. omega (arith, same i j k))

@@ -1,0 +1,59 @@
+-- What the fields of sums say of the grid that contracts see.
+use Rattle.std.proofs.Common.{◌≡◌, ℕ, ◌+◌, ◌-◌, ◌*◌, ◌^◌, ◌<◌, ◌≤◌, length, ap, sym, ◌∙◌, arith}
+use Rattle.std.proofs.lemmas.Nat.{mul-le}
+use Rattle.iiif_pixel.specs.declared.geometry.Kind.{Kind}
+use Rattle.iiif_pixel.specs.declared.geometry.Kind.TheVariants.{Gray, Rgb}
+use Rattle.iiif_pixel.specs.declared.geometry.Rect.{Rect}
+use Rattle.iiif_pixel.proofs.Crops.{part_fits}
+use Rattle.iiif_area.specs.Places.{IsInside}
+use Rattle.iiif_area.proofs.GridLaws.{run-le}
+use Rattle.iiif_pixel.specs.Geometry.{channels_of}
+use Rattle.iiif_area.specs.Grid.{Grid}
+use Rattle.iiif_area.specs.declared.sums.Sums.TheInside.{Inside}
+use Rattle.iiif_area.specs.contracts.sums.Sums.{the_view, the_invariant}
+
+pub record Seen (q : Inside) (g : Grid) : Type 0 where
+  pub rect : q.rect ≡ g.rect
+  pub channels : channels_of q.kind ≡ g.channels
+  pub sums : q.sums.items ≡ g.sums
+  pub count : length g.sums ≡ g.rect.w * g.rect.h * g.channels
+
+pub seen : (q : Inside) (g : Grid) → the_view q ≡ g → the_invariant q → Seen q g
+seen q g e i = record {
+  rect = ap (λ (v : Grid). v.rect) e;
+  channels = ap (λ (v : Grid). v.channels) e;
+  sums = ap (λ (v : Grid). v.sums) e;
+  count = rw (← e) i;
+}
+
+pub channels-positive : (kind : Kind) → 0 < channels_of kind
+channels-positive Gray = omega arith
+channels-positive Rgb = omega arith
+
+-- the sums are few enough for an index
+pub count_below : (q : Inside) → the_invariant q → q.rect.w * q.rect.h * channels_of q.kind < 2 ^ 63
+count_below q i = omega (arith, i, q.sums.ok.0, q.sums.ok.1, q.sums.small)
+
+-- row y of a rectangle within that of the sums: where it begins, and that it ends within the sums
+pub record RowFits (q : Inside) (n : ℕ) (rect : Rect) (y : ℕ) : Type 0 where
+  pub place : (rect.y - q.rect.y + y) * q.rect.w + (rect.x - q.rect.x) < 2 ^ 63
+  pub end : ((rect.y - q.rect.y + y) * q.rect.w + (rect.x - q.rect.x)) * n + rect.w * n ≤ length q.sums.items
+  pub small : length q.sums.items < 2 ^ 63
+
+pub row_fits_in : (q : Inside) (n : ℕ) (rect : Rect) (y : ℕ) → the_invariant q → n ≡ channels_of q.kind → IsInside rect q.rect → y < rect.h → RowFits q n rect y
+row_fits_in q n rect y i e inside l =
+    let small = count_below q i in
+    let end = run-le q.rect.w q.rect.h n (rect.x - q.rect.x) rect.w (rect.y - q.rect.y + y) (omega (arith, inside.left, inside.right)) (omega (arith, inside.upper, inside.lower)) in
+    let count : length q.sums.items ≡ q.rect.w * q.rect.h * n = i ∙ ap (λ u. q.rect.w * q.rect.h * u) (sym e) in
+    let positive : 0 < n = rw e (channels-positive q.kind) in
+    let at = (rect.y - q.rect.y + y) * q.rect.w + (rect.x - q.rect.x) in
+    let most = mul-le at 1 at n (omega arith) positive in
+    record { place = omega arith; end = omega arith; small = omega arith }
+
+-- and so do all its rows
+pub rows_fit_in : (q : Inside) (n : ℕ) (rect : Rect) → the_invariant q → n ≡ channels_of q.kind → IsInside rect q.rect → rect.w * n * rect.h < 2 ^ 63
+rows_fit_in q n rect i e inside =
+    let small = count_below q i in
+    let part = part_fits rect.w rect.h n q.rect.w q.rect.h (omega (arith, inside.left, inside.right)) (omega (arith, inside.upper, inside.lower)) in
+    let count : q.rect.w * q.rect.h * n ≡ q.rect.w * q.rect.h * channels_of q.kind = ap (λ u. q.rect.w * q.rect.h * u) e in
+    omega arith

@@ -1,0 +1,35 @@
+-- Words on the private functions: how the sums over a tile are added up column by column.
+use Rattle.std.specs.Prelude.{◌≡◌, ℕ, ◌+◌, ◌-◌, ◌*◌, ◌<◌, ◌≤◌, List, slice_index}
+use Rattle.iiif_pixel.specs.Picture.{Picture, sample_at}
+use Rattle.iiif_pixel.specs.Scaling.{sum_from, weight_of}
+use Rattle.iiif_pixel.specs.declared.geometry.Rect.{Rect}
+use Rattle.iiif_area.specs.declared.columns.Span.{Span}
+
+-- the sample of a region's place (x, y) in channel k, which the tile that has the part holds from its place `corner` on
+unfoldable pub tile_sample : Picture → ℕ × ℕ → Rect → ℕ → ℕ → ℕ → ℕ
+tile_sample tile corner part k x y = sample_at tile (corner.0 + (x - part.x)) (corner.1 + (y - part.y)) k
+
+-- what result row j takes of column t of the part in channel k, where b rows are scaled to d
+unfoldable pub column_sum : Picture → ℕ × ℕ → Rect → ℕ → ℕ → ℕ → ℕ → ℕ → ℕ
+column_sum tile corner part b d j t k =
+    sum_from 0 part.h (λ s. weight_of j (part.y + s) b d * sample_at tile (corner.0 + t) (corner.1 + s) k)
+
+-- Of the n source columns from `from` on, result column i takes something of s.start up to s.end, counted from there: all
+-- of each but the first and the last.
+pub record IsSpan (a c from n i : ℕ) (s : Span) : Type 0 where
+  pub in_order : s.start ≤ s.end
+  pub within : s.end ≤ n
+  pub below : (t : ℕ) → t < s.start → weight_of i (from + t) a c ≡ 0
+  pub above : (t : ℕ) → s.end ≤ t → t < n → weight_of i (from + t) a c ≡ 0
+  pub between : (t : ℕ) → s.start < t → t + 1 < s.end → weight_of i (from + t) a c ≡ c
+  pub first : s.start < s.end → s.first ≡ weight_of i (from + s.start) a c
+  pub last : s.start + 1 < s.end → s.last ≡ weight_of i (from + (s.end - 1)) a c
+  pub single : s.end ≤ s.start + 1 → s.last ≡ 0
+  pub none : s.start ≡ s.end → s.first ≡ 0
+
+-- what a result column takes of channel k of column sums with n channels: of its first column, of those between, of its last
+unfoldable pub span_total : List ℕ → ℕ → ℕ → ℕ → Span → ℕ
+span_total columns n k c s =
+    s.first * slice_index columns (s.start * n + k)
+    + c * sum_from (s.start + 1) (s.end - 1 - (s.start + 1)) (λ t. slice_index columns (t * n + k))
+    + s.last * slice_index columns ((s.end - 1) * n + k)

@@ -1,0 +1,95 @@
+-- The laws of weights and of sums over parts.
+use Rattle.std.specs.Prelude.{◌≡◌, ℕ, ◌+◌, ◌*◌, ◌/◌, ◌^◌, ◌<◌, ◌≤◌, ◌↔◌, true, List, sum, sum_by, count_by, map, fold, if◌then◌else◌}
+use Rattle.std.specs.Int.{div_ceil}
+use Rattle.std.specs.List.{range_with_len}
+use Rattle.iiif_pixel.specs.Geometry.{HasPlace}
+use Rattle.iiif_pixel.specs.Picture.{Picture, IsWhole}
+use Rattle.iiif_pixel.specs.Scaling.{sum_from, weight_of, area_sum}
+use Rattle.iiif_pixel.specs.declared.geometry.Dim.{Dim}
+use Rattle.iiif_pixel.specs.declared.geometry.Rect.{Rect}
+use Rattle.iiif_area.specs.Places.{part_of, places_of, IsInside}
+use Rattle.iiif_area.specs.Grid.{has_place, grid_of, merged, part_sum, sums_at, sums_of}
+
+-- what each result column takes of all source columns is a in all
+abbrev pub WeightsAddUp : Type 0
+WeightsAddUp = (i a c : ℕ) → i < c → sum_from 0 a (λ x. weight_of i x a c) ≡ a
+
+-- of the source columns u to v (v excluded) no result column before floor(u * c / a) takes anything
+abbrev pub NoWeightBefore : Type 0
+NoWeightBefore = (i x u a c : ℕ) → u ≤ x → i < u * c / a → weight_of i x a c ≡ 0
+
+-- and none from ceil(v * c / a) on
+abbrev pub NoWeightFrom : Type 0
+NoWeightFrom = (i x v a c : ℕ) → 0 < a → x < v → div_ceil (v * c) a ≤ i → weight_of i x a c ≡ 0
+
+-- a part's sum is that of its columns left of a cut, and of the others
+abbrev pub SplitsAtColumn : Type 0
+SplitsAtColumn = (region size : Dim) (x y m n h : ℕ) (f : ℕ → ℕ → ℕ) (i j : ℕ) →
+    area_sum region size (record { x = x; y = y; w = m + n; h = h }) f i j
+    ≡ area_sum region size (record { x = x; y = y; w = m; h = h }) f i j + area_sum region size (record { x = x + m; y = y; w = n; h = h }) f i j
+
+-- and of its rows above a cut, and of the others
+abbrev pub SplitsAtRow : Type 0
+SplitsAtRow = (region size : Dim) (x y w m n : ℕ) (f : ℕ → ℕ → ℕ) (i j : ℕ) →
+    area_sum region size (record { x = x; y = y; w = w; h = m + n }) f i j
+    ≡ area_sum region size (record { x = x; y = y; w = w; h = m }) f i j + area_sum region size (record { x = x; y = y + m; w = w; h = n }) f i j
+
+-- a part has no sum at the result places that it does not meet
+abbrev pub IsZeroElsewhere : Type 0
+IsZeroElsewhere = (region size : Dim) (part : Rect) (f : ℕ → ℕ → ℕ) (i j : ℕ) → 0 < region.w → 0 < region.h →
+    ¬ (HasPlace (places_of region size part) i j) → area_sum region size part f i j ≡ 0
+
+-- the part that a tile has of a region has those of the region's places that the tile has
+abbrev pub PartIsCommon : Type 0
+PartIsCommon = (tile region : Rect) (x y : ℕ) →
+    HasPlace (part_of tile region) x y ↔ ((x < region.w) × (y < region.h) × HasPlace tile (region.x + x) (region.y + y))
+
+-- the test of a place is true exactly where the rectangle has it
+abbrev pub PlaceIsTested : Type 0
+PlaceIsTested = (r : Rect) (x y : ℕ) → (has_place r x y ≡ true) ↔ HasPlace r x y
+
+-- the samples of its own places are all that a part's sum has
+abbrev pub IsOfPart : Type 0
+IsOfPart = (region size : Dim) (part : Rect) (f g : ℕ → ℕ → ℕ) (i j : ℕ) →
+    ((x y : ℕ) → HasPlace part x y → f x y ≡ g x y) → area_sum region size part f i j ≡ area_sum region size part g i j
+
+-- the result places of a part are among those of a greater part
+abbrev pub PlacesGrow : Type 0
+PlacesGrow = (region size : Dim) (part of : Rect) → 0 < region.w → 0 < region.h → IsInside part of →
+    IsInside (places_of region size part) (places_of region size of)
+
+-- each place of a part lies in one of some rectangles and in no second, and these have no other place
+abbrev pub IsCutInto : Rect → List Rect → Type 0
+IsCutInto part rects = (x y : ℕ) → count_by (λ r. has_place r x y) rects ≡ (if has_place part x y then 1 else 0)
+
+-- however a part is cut into rectangles, its sum is that of theirs
+abbrev pub CutsAddUp : Type 0
+CutsAddUp = (region size : Dim) (part : Rect) (rects : List Rect) (f : ℕ → ℕ → ℕ) (i j : ℕ) → IsCutInto part rects →
+    area_sum region size part f i j ≡ sum_by (λ r. area_sum region size r f i j) rects
+
+-- where no sample of a part is above m, its sum is at most the region's area by m
+abbrev pub IsBounded : Type 0
+IsBounded = (region size : Dim) (part : Rect) (f : ℕ → ℕ → ℕ) (i j m : ℕ) → ((x y : ℕ) → HasPlace part x y → f x y ≤ m) →
+    area_sum region size part f i j ≤ region.w * region.h * m
+
+-- so it fits 64 bits with samples of up to 16
+abbrev pub SumsFit : Type 0
+SumsFit = (region size : Dim) (part : Rect) (f : ℕ → ℕ → ℕ) (i j : ℕ) → region.w * region.h ≤ 2 ^ 32 →
+    ((x y : ℕ) → HasPlace part x y → f x y ≤ 65535) → area_sum region size part f i j < 2 ^ 64
+
+-- A part's sums merged into others are added to them, at every place and without loss where they fit.
+abbrev pub MergingAdds : Type 0
+MergingAdds = (p : Picture) (size : Dim) (part rect : Rect) (f : ℕ → ℕ → ℕ → ℕ) → 0 < p.width → 0 < p.height →
+    ((i j k : ℕ) → HasPlace rect i j → k < p.channels → f i j k + part_sum p size part i j k < 2 ^ 64) →
+    merged (grid_of rect p.channels f) (sums_of p size part) ≡ grid_of rect p.channels (λ i j k. f i j k + part_sum p size part i j k)
+
+-- However a part of a whole picture is cut into rectangles, their sums, merged one after another into sums of 0, are the
+-- part's, at any places.
+abbrev pub PiecesMerge : Type 0
+PiecesMerge = (p : Picture) (size : Dim) (part rect : Rect) (rects : List Rect) → IsWhole p → 0 < p.width → 0 < p.height →
+    p.width * p.height ≤ 2 ^ 32 → IsCutInto part rects →
+    fold merged (grid_of rect p.channels (λ i j k. 0)) (map (λ r. sums_of p size r) rects) ≡ sums_at rect p size part
+
+-- a sum over a range, in std's words
+abbrev pub IsSumOverRange : Type 0
+IsSumOverRange = (u n : ℕ) (f : ℕ → ℕ) → sum_from u n f ≡ sum (map f (range_with_len u n))

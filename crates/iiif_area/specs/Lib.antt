@@ -1,0 +1,4 @@
+pub mod Places
+pub mod Grid
+pub mod Laws
+pub mod Code

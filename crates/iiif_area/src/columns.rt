@@ -1,0 +1,172 @@
+//! The sums over a tile: each result row adds up the tile's columns, and each result place takes its part of them.
+
+ghost use Rattle.std.specs.Prelude.{◌≡◌, ℕ, ◌+◌, ◌*◌, ◌<◌, ◌≤◌, ◌^◌, length, slice_index, slice_index_or, EachIndex, vec_len, IfOk};
+ghost use Rattle.iiif_pixel.specs.Geometry.{LiesIn};
+ghost use Rattle.iiif_pixel.specs.Picture.{samples_of, sample_at};
+ghost use Rattle.iiif_pixel.specs.Scaling.{area_sum};
+ghost use Rattle.iiif_area.specs.Places.{places_of, IsWithinLimits};
+ghost use Rattle.iiif_area.specs.Code.{column_sum, span_total, tile_sample, IsSpan};
+
+use crate::weights::{sources, weight};
+use iiif_pixel::{Dim, NoMemory, Raster, Rect};
+use std::alloc::{AllocError, Global};
+
+/// The columns of a part that a result column takes something of, counted from the part's first, and what it takes of the
+/// first and of the last. Of a single one it takes all as the first.
+#[derive(Clone, Copy)]
+pub struct Span {
+    start: usize,
+    end: usize,
+    first: u64,
+    last: u64,
+}
+
+/// The sums over the part of a region that a tile holds from its place `corner` on, at the result places `rect`.
+pub(crate) fn tile_sums(
+    alloc: Global,
+    tile: &Raster,
+    corner: (u32, u32),
+    part: Rect,
+    region: Dim,
+    size: Dim,
+    rect: Rect,
+) -> Result<Vec<u64>, NoMemory>
+    requires limits { IsWithinLimits region size }
+    requires inside { LiesIn part region }
+    requires held { (corner.0 + part.w ≤ tile.now.width) × (corner.1 + part.h ≤ tile.now.height) }
+    requires corner { corner.1 + part.h < 2 ^ 32 }
+    requires rect { LiesIn rect size }
+    ensures { IfOk result (λ v. v.items ≡ samples_of rect.w rect.h tile.now.channels
+        (λ i j k. area_sum region size part (tile_sample tile.now corner part k) (rect.x + i) (rect.y + j))) }
+{
+    let _samples = tile.samples();
+    let channels = tile.kind().channels();
+    let mut cells = vec![in alloc; 0u64; part.w as usize * channels]?;
+    let columns = cells.as_mut_slice();
+    let spans = spans(alloc, rect.x, rect.w, region.w, size.w, part.x, part.w)?;
+    let places = rect.w as usize * rect.h as usize;
+    let Some(count) = places.checked_mul(channels) else {
+        return Err(AllocError);
+    };
+    let mut sums = Vec::with_capacity(alloc, count)?;
+    for j in 0..rect.h {
+        fill_columns(columns, tile, corner, part, region.h, size.h, rect.y + j);
+        for i in 0..rect.w {
+            for k in 0..channels {
+                let span = spans[i as usize];
+                let sum = span_sum(columns, channels, k, u64::from(size.w), span);
+                sums.push_reserved(sum);
+            }
+        }
+    }
+    Ok(sums)
+}
+
+/// The spans of `results` result columns from `first` on, where `a` columns are scaled to `c`, in the `count` source columns
+/// from `from` on.
+fn spans(
+    alloc: Global,
+    first: u32,
+    results: u32,
+    a: u32,
+    c: u32,
+    from: u32,
+    count: u32,
+) -> Result<Vec<Span>, NoMemory>
+    requires divides { 0 < c }
+    requires inside { from + count ≤ a }
+    requires results { first + results ≤ c }
+    ensures len { IfOk result (λ v. vec_len v ≡ results) }
+    ensures each { IfOk result (λ v. (t : ℕ) (d : Span) → t < results → IsSpan a c from count (first + t) (slice_index_or v.items t d)) }
+{
+    let mut spans = Vec::with_capacity(alloc, results as usize)?;
+    for i in 0..results {
+        spans.push(span_of(first + i, a, c, from, count))?;
+    }
+    Ok(spans)
+}
+
+/// The span of result column `i`.
+fn span_of(i: u32, a: u32, c: u32, from: u32, count: u32) -> Span
+    requires divides { 0 < c }
+    requires inside { from + count ≤ a }
+    ensures { IsSpan a c from count i result }
+{
+    let (start, end) = sources(i, a, c, from, count);
+    let (first, last) = match end - start {
+        0 => (0, 0),
+        1 => (weight(i, from + start, a, c), 0),
+        _ => (
+            weight(i, from + start, a, c),
+            weight(i, from + (end - 1), a, c),
+        ),
+    };
+    Span {
+        start: start as usize,
+        end: end as usize,
+        first,
+        last,
+    }
+}
+
+/// What result row `j` takes of each column of the part that a tile holds from its place `corner` on, where `b` rows are
+/// scaled to `d`.
+fn fill_columns(
+    columns: &mut [u64],
+    tile: &Raster,
+    corner: (u32, u32),
+    part: Rect,
+    b: u32,
+    d: u32,
+    j: u32,
+)
+    requires divides { 0 < d }
+    requires samples { (x y k : ℕ) → sample_at tile.now x y k ≤ 255 }
+    requires inside { part.y + part.h ≤ b }
+    requires held { (corner.0 + part.w ≤ tile.now.width) × (corner.1 + part.h ≤ tile.now.height) }
+    requires corner { corner.1 + part.h < 2 ^ 32 }
+    requires room { length columns.old ≡ part.w * tile.now.channels }
+    ensures { (t k : ℕ) → t < part.w → k < tile.now.channels →
+        slice_index columns.new (t * tile.now.channels + k) ≡ column_sum tile.now corner part b d j t k }
+{
+    columns.fill(0);
+    let (start, end) = sources(j, b, d, part.y, part.h);
+    for s in start..end {
+        let row = tile.span(corner.0, corner.1 + s, part.w);
+        add_weighted(columns, row, weight(j, part.y + s, b, d) as u32);
+    }
+}
+
+/// Adds each number of `row`, times `weight`, to that of `columns` at its index.
+fn add_weighted(columns: &mut [u64], row: &[u8], weight: u32)
+    requires same { length columns.old ≡ length row.now }
+    requires room { (t : ℕ) → t < length columns.old → slice_index columns.old t + weight * slice_index row.now t < 2 ^ 64 }
+    ensures { EachIndex columns.new (λ t. slice_index columns.new t ≡ slice_index columns.old t + weight * slice_index row.now t) }
+{
+    for (t, column) in columns.iter_mut().enumerate() {
+        *column += u64::from(weight) * u64::from(row[t]);
+    }
+}
+
+/// What a result column takes of channel `k` of column sums.
+fn span_sum(columns: &[u64], channels: usize, k: usize, c: u64, span: Span) -> u64
+    requires in_order { span.start ≤ span.end }
+    requires within { span.end * channels ≤ length columns.now }
+    requires channel { k < channels }
+    requires none { span.start ≡ span.end → span.first ≡ 0 }
+    requires single { span.end ≤ span.start + 1 → span.last ≡ 0 }
+    requires takes { 0 < c }
+    requires fits { span_total columns.now channels k c span < 2 ^ 64 }
+    ensures { result ≡ span_total columns.now channels k c span }
+{
+    if span.start == span.end {
+        return 0;
+    }
+    let mut inner = 0;
+    for t in span.start + 1..span.end - 1 {
+        inner += columns[t * channels + k];
+    }
+    let first = span.first * columns[span.start * channels + k];
+    let last = span.last * columns[(span.end - 1) * channels + k];
+    first + c * inner + last
+}

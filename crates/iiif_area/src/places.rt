@@ -1,0 +1,96 @@
+//! Parts of a region, and the result places that they meet.
+
+ghost use Rattle.std.specs.Prelude.{◌≡◌, ℕ, ◌+◌, ◌<◌, ◌≤◌, ◌↔◌, IsTrue, ◌-◌, ◌*◌, ◌/◌, min, max};
+ghost use Rattle.std.specs.Int.{div_ceil};
+ghost use Rattle.iiif_pixel.specs.Geometry.{HasPlace, LiesIn};
+ghost use Rattle.iiif_area.specs.Places.{corner_of, part_of, places_of, IsInside, IsWithinLimits, Meets};
+
+use iiif_pixel::{Dim, Rect};
+
+/// The part of a region that a tile has, in the region's own columns and rows: a place of the region is one of the part
+/// where it is one of the tile. Tile and region are given in the columns and rows of one image. Where they have no place
+/// in common, a side of the part is 0.
+pub fn part_of(tile: Rect, region: Rect) -> Rect
+    ensures part { result ≡ part_of tile region }
+    ensures same_places { (x y : ℕ) → HasPlace result x y
+        ↔ ((x < region.w) × (y < region.h) × HasPlace tile (region.x + x) (region.y + y)) }
+{
+    let left = tile.x.max(region.x);
+    let top = tile.y.max(region.y);
+    Rect {
+        x: left - region.x,
+        y: top - region.y,
+        w: common(tile.x, tile.w, region.x, region.w),
+        h: common(tile.y, tile.h, region.y, region.h),
+    }
+}
+
+/// Where that part begins in the tile: its column and its row there.
+pub fn corner_of(tile: Rect, region: Rect) -> (u32, u32)
+    ensures { result ≡ corner_of tile region }
+{
+    (tile.x.max(region.x) - tile.x, tile.y.max(region.y) - tile.y)
+}
+
+/// The result places that a part of a region meets, where the region is scaled to `size`.
+pub fn places_of(region: Dim, size: Dim, part: Rect) -> Rect
+    requires columns { 0 < region.w }
+    requires rows { 0 < region.h }
+    requires inside { LiesIn part region }
+    ensures places { result ≡ places_of region size part }
+    ensures inside { LiesIn result size }
+{
+    let (x, w) = places_along(region.w, size.w, part.x, part.w);
+    let (y, h) = places_along(region.h, size.h, part.y, part.h);
+    Rect { x, y, w, h }
+}
+
+/// Whether a tile and a region have a place in common.
+pub fn meets(tile: Rect, region: Rect) -> bool
+    ensures { IsTrue result ↔ Meets tile region }
+{
+    let part = part_of(tile, region);
+    part.w > 0 && part.h > 0
+}
+
+/// Whether each place of `rect` is one of `whole`.
+pub fn is_inside(rect: Rect, whole: Rect) -> bool
+    ensures { IsTrue result ↔ IsInside rect whole }
+{
+    let end = |from: u32, count: u32| u64::from(from) + u64::from(count);
+    whole.x <= rect.x
+        && end(rect.x, rect.w) <= end(whole.x, whole.w)
+        && whole.y <= rect.y
+        && end(rect.y, rect.h) <= end(whole.y, whole.h)
+}
+
+/// Whether neither the region nor the sides that it is scaled to are empty, and the region's sums fit 64 bits.
+pub fn is_within_limits(region: Dim, size: Dim) -> bool
+    ensures { IsTrue result ↔ IsWithinLimits region size }
+{
+    let area = u64::from(region.w) * u64::from(region.h);
+    region.w > 0 && region.h > 0 && area <= 1 << 32 && size.w > 0 && size.h > 0
+}
+
+/// How many of the `m` columns from `p` on are among the `n` columns from `q` on.
+fn common(p: u32, m: u32, q: u32, n: u32) -> u32
+    ensures { result ≡ min (p + m) (q + n) - max p q }
+{
+    let end = (u64::from(p) + u64::from(m)).min(u64::from(q) + u64::from(n));
+    end.saturating_sub(u64::from(p.max(q))) as u32
+}
+
+/// The first of the result columns that the `count` source columns from `from` on meet, where `a` columns are scaled to `c`,
+/// and how many they are.
+fn places_along(a: u32, c: u32, from: u32, count: u32) -> (u32, u32)
+    requires divides { 0 < a }
+    requires inside { from + count ≤ a }
+    ensures first { result.0 ≡ from * c / a }
+    ensures count { result.1 ≡ div_ceil ((from + count) * c) a - from * c / a }
+    ensures inside { result.0 + result.1 ≤ c }
+{
+    let (a, c) = (u64::from(a), u64::from(c));
+    let first = u64::from(from) * c / a;
+    let end = (u64::from(from + count) * c).div_ceil(a);
+    (first as u32, (end - first) as u32)
+}

@@ -1,0 +1,166 @@
+//! Sums at result places: of a tile, merged, and made into samples.
+
+ghost use Rattle.std.specs.Prelude.{◌≡◌, ℕ, ◌*◌, ◌<◌, ◌≤◌, ◌^◌, ◌+◌, ◌/◌, IfOk, length, min};
+ghost use Rattle.iiif_pixel.specs.Geometry.{channels_of, sides_of, LiesIn};
+ghost use Rattle.iiif_pixel.specs.Picture.{Picture, dim_of, IsWhole};
+ghost use Rattle.iiif_pixel.specs.Operations.{crop};
+ghost use Rattle.iiif_pixel.specs.Scaling.{scale, whole_of};
+ghost use Rattle.iiif_area.specs.Places.{part_of, IsInside, IsWithinLimits, Meets};
+ghost use Rattle.iiif_area.specs.Grid.{finished, grid_of, merged, sums_at, sums_of, IsGrid};
+
+use crate::columns::tile_sums;
+use crate::merging::add_places;
+use crate::places::{corner_of, part_of, places_of};
+use iiif_pixel::{Dim, Kind, NoMemory, Raster, Rect};
+use std::alloc::{AllocError, Global};
+use std::marker::Model;
+
+/// The greatest sample of a raster of 8 bits.
+const TOP: u64 = 255;
+
+/// A rectangle of result places, with a sum for each place and channel.
+#[derive(Drop)]
+pub struct Sums {
+    rect: Rect,
+    kind: Kind,
+    sums: Vec<u64>,
+}
+
+impl Model for Sums {
+    ghost use Rattle.std.specs.Prelude.{◌≡◌, ◌*◌, length};
+    ghost use Rattle.iiif_pixel.specs.Geometry.{channels_of};
+    ghost use Rattle.iiif_area.specs.Grid.{Grid};
+
+    ghost Value = { Grid };
+
+    ghost view = { λ s. record { rect = s.rect; channels = channels_of s.kind; sums = s.sums.items } };
+
+    ghost invariant = { λ s. length s.sums.items ≡ s.rect.w * s.rect.h * channels_of s.kind };
+}
+
+impl Sums {
+    /// A sum of 0 at each place of `rect` and each channel.
+    pub fn zero(alloc: Global, rect: Rect, kind: Kind) -> Result<Sums, NoMemory>
+        ensures { IfOk result (λ s. s ≡ grid_of rect (channels_of kind) (λ i j k. 0)) }
+    {
+        let places = rect.w as usize * rect.h as usize;
+        let Some(count) = places.checked_mul(kind.channels()) else {
+            return Err(AllocError);
+        };
+        Ok(Sums {
+            rect,
+            kind,
+            sums: vec![in alloc; 0; count]?,
+        })
+    }
+
+    /// These sums at the places of `rect`, row by row, in a row place by place, at a place channel by channel.
+    pub fn from_parts(rect: Rect, kind: Kind, sums: Vec<u64>) -> Sums
+        requires { length sums.items ≡ rect.w * rect.h * channels_of kind }
+        ensures { result ≡ record { rect = rect; channels = channels_of kind; sums = sums.items } }
+    {
+        Sums { rect, kind, sums }
+    }
+
+    /// The sums of what a tile holds of a region that is scaled to `size`, at the result places that this part meets. The
+    /// tile lies at `at` in an image, and the region at `region`.
+    pub fn of_tile(
+        alloc: Global,
+        tile: &Raster,
+        at: Rect,
+        region: Rect,
+        size: Dim,
+    ) -> Result<Sums, NoMemory>
+        requires sides { dim_of tile.now ≡ sides_of at }
+        requires meets { Meets at region }
+        requires limits { IsWithinLimits (sides_of region) size }
+        ensures { IfOk result (λ s. (p : Picture) → tile.now ≡ crop p at → s ≡ sums_of (crop p region) size (part_of at region)) }
+    {
+        let sides = Dim {
+            w: region.w,
+            h: region.h,
+        };
+        let part = part_of(at, region);
+        let rect = places_of(sides, size, part);
+        let corner = corner_of(at, region);
+        let sums = tile_sums(alloc, tile, corner, part, sides, size, rect)?;
+        Ok(Sums {
+            rect,
+            kind: tile.kind(),
+            sums,
+        })
+    }
+
+    /// The places that have sums.
+    pub fn rect(&self) -> Rect
+        ensures { result ≡ self.now.rect }
+    {
+        self.rect
+    }
+
+    pub fn kind(&self) -> Kind
+        ensures { channels_of result ≡ self.now.channels }
+    {
+        self.kind
+    }
+
+    /// All sums, row by row, in a row place by place, at a place channel by channel.
+    pub fn sums(&self) -> &[u64]
+        ensures all { result.now ≡ self.now.sums }
+        ensures grid { IsGrid self.now }
+    {
+        let sums = self.sums.as_slice();
+        sums
+    }
+
+    /// Adds the other's sums at the places that both have. A sum that would pass 2^64 - 1 stays there.
+    pub fn merge(&mut self, other: &Sums)
+        requires { other.now.channels ≡ self.old.channels }
+        ensures { self.new ≡ merged self.old other.now }
+    {
+        let channels = self.kind.channels();
+        add_places(channels, self.rect, &mut self.sums, other.rect, &other.sums);
+    }
+
+    /// The samples that sums over the whole of a region make at the places of `rect`: the averages, rounded to the nearest
+    /// and a half up, and the greatest sample for any above it. Where they are the sums of a picture, as `of_tile` and
+    /// `merge` give them, the raster is that part of the scaled picture.
+    pub fn finish(&self, alloc: Global, region: Dim, rect: Rect) -> Result<Raster, NoMemory>
+        requires columns { 0 < region.w }
+        requires rows { 0 < region.h }
+        requires area { region.w * region.h ≤ 2 ^ 32 }
+        requires inside { IsInside rect self.now.rect }
+        ensures samples { IfOk result (λ r. r ≡ finished self.now region 255 rect) }
+        ensures scaled { IfOk result (λ r. (p : Picture) (size : Dim) → IsWhole p → p.top ≡ 255 → dim_of p ≡ region → LiesIn rect size
+            → self.now ≡ sums_at self.now.rect p size (whole_of (dim_of p)) → r ≡ crop (scale p size) rect) }
+    {
+        let area = u64::from(region.w) * u64::from(region.h);
+        let channels = self.kind.channels();
+        let width = self.rect.w as usize;
+        let (left, top) = (
+            (rect.x - self.rect.x) as usize,
+            (rect.y - self.rect.y) as usize,
+        );
+        let run = rect.w as usize * channels;
+        let mut samples = Vec::with_capacity(alloc, run * rect.h as usize)?;
+        for y in 0..rect.h as usize {
+            let from = ((top + y) * width + left) * channels;
+            for sum in &self.sums[from..from + run] {
+                samples.push_reserved(rounded(*sum, area));
+            }
+        }
+        let dim = Dim {
+            w: rect.w,
+            h: rect.h,
+        };
+        Ok(Raster::from_samples(dim, self.kind, samples))
+    }
+}
+
+/// `sum / area` to the nearest whole number, a half up, and `TOP` for any above it.
+fn rounded(sum: u64, area: u64) -> u8
+    requires { (0 < area) × (area ≤ 2 ^ 32) }
+    ensures { result ≡ min 255 ((2 * sum + area) / (2 * area)) }
+{
+    (sum.saturating_add(area / 2) / area).min(TOP) as u8
+}

@@ -1,0 +1,315 @@
+//! Worked examples, and every rectangle, size and cut of small pictures beside the plain way.
+
+ghost use Rattle.std.specs.Prelude.{◌≡◌, ◌*◌, IfOk, length};
+
+use crate::places::{is_inside, is_within_limits, meets};
+use crate::plain;
+use crate::sums::Sums;
+use crate::weights::weight;
+use iiif_pixel::{Dim, Kind, NoMemory, Raster, Rect};
+use std::alloc::Global;
+use std::process::Abort;
+use std::test::Fail;
+
+fn rect(x: u32, y: u32, w: u32, h: u32) -> Rect
+    ensures { result ≡ record { x = x; y = y; w = w; h = h } }
+{
+    Rect { x, y, w, h }
+}
+
+fn sides(rect: Rect) -> Dim
+    ensures { result ≡ record { w = rect.w; h = rect.h } }
+{
+    Dim {
+        w: rect.w,
+        h: rect.h,
+    }
+}
+
+/// 4 by 4, 10 more with each column and 40 more with each row.
+fn steps(alloc: Global) -> Result<Raster, NoMemory> {
+    let samples = vec![in alloc;
+        0, 10, 20, 30, 40, 50, 60, 70, 80, 90, 100, 110, 120, 130, 140, 150,
+    ]?;
+    Ok(Raster::from_samples(Dim { w: 4, h: 4 }, Kind::Gray, samples))
+}
+
+/// A gray row of these samples.
+fn row(alloc: Global, samples: [u8; 4]) -> Result<Raster, NoMemory> {
+    let samples = Vec::from_array(alloc, samples)?;
+    Ok(Raster::from_samples(Dim { w: 4, h: 1 }, Kind::Gray, samples))
+}
+
+/// A picture of samples that look random.
+fn pattern(alloc: Global, dim: Dim, kind: Kind) -> Result<Raster, NoMemory> {
+    let mut picture = Raster::new(alloc, dim, kind)?;
+    let mut state = 12345u32;
+    for y in 0..dim.h {
+        for x in 0..dim.w {
+            for channel in 0..kind.channels() {
+                state = state.wrapping_mul(1_664_525).wrapping_add(1_013_904_223);
+                let at = picture.dim();
+                if x < at.w && y < at.h && channel < picture.kind().channels() {
+                    picture.set(x, y, channel, (state >> 24) as u8);
+                }
+            }
+        }
+    }
+    Ok(picture)
+}
+
+/// The sums of a tile of the picture, which has a place of the region.
+fn tile_sums(
+    rt: &impl Abort,
+    alloc: Global,
+    picture: &Raster,
+    at: Rect,
+    region: Rect,
+    size: Dim,
+) -> Result<Sums, NoMemory> {
+    assert!(rt; at.lies_in(picture.dim()));
+    let tile = picture.crop(at)?;
+    assert!(rt; tile.dim() == sides(at));
+    assert!(rt; meets(at, region));
+    assert!(rt; is_within_limits(sides(region), size));
+    Sums::of_tile(alloc, &tile, at, region, size)
+}
+
+/// Adds sums, of the same kind, to others.
+fn merge(rt: &impl Abort, sums: &mut Sums, more: &Sums) {
+    assert!(rt; sums.kind() == more.kind());
+    sums.merge(more);
+}
+
+fn finish(
+    rt: &impl Abort,
+    alloc: Global,
+    sums: &Sums,
+    region: Rect,
+    part: Rect,
+) -> Result<Raster, NoMemory> {
+    let sides = sides(region);
+    assert!(rt; is_within_limits(sides, sides));
+    assert!(rt; is_inside(part, sums.rect()));
+    sums.finish(alloc, sides, part)
+}
+
+/// The region of a picture scaled to `size`, of the sums of the picture's tiles with this edge.
+fn scaled(
+    rt: &impl Abort,
+    alloc: Global,
+    picture: &Raster,
+    region: Rect,
+    size: Dim,
+    edge: u32,
+) -> Result<Sums, NoMemory> {
+    let mut sums = Sums::zero(alloc, rect(0, 0, size.w, size.h), picture.kind())?;
+    let dim = picture.dim();
+    for row in 0..dim.h {
+        for column in 0..dim.w {
+            let (x, y) = (column.wrapping_mul(edge), row.wrapping_mul(edge));
+            if x < dim.w && y < dim.h {
+                let at = rect(x, y, edge.min(dim.w - x), edge.min(dim.h - y));
+                if meets(at, region) {
+                    let part = tile_sums(rt, alloc, picture, at, region, size)?;
+                    compare_sums(rt, picture, at, region, size, &part);
+                    merge(rt, &mut sums, &part);
+                }
+            }
+        }
+    }
+    Ok(sums)
+}
+
+/// Each sum is what the plain way gives.
+fn compare_sums(rt: &impl Abort, picture: &Raster, at: Rect, region: Rect, size: Dim, sums: &Sums) {
+    let places = sums.rect();
+    let mut values = sums.sums().iter();
+    for j in 0..places.h {
+        for i in 0..places.w {
+            for channel in 0..picture.kind().channels() {
+                let (x, y) = (places.x.wrapping_add(i), places.y.wrapping_add(j));
+                let plain = plain::sum_at(picture, at, region, size, x, y, channel);
+                assert_eq!(rt; values.next().copied(), Some(plain));
+            }
+        }
+    }
+    assert!(rt; values.next().is_none());
+}
+
+/// The samples in a rectangle of result places are what the plain way gives.
+fn compare_samples(
+    rt: &impl Abort,
+    picture: &Raster,
+    region: Rect,
+    size: Dim,
+    part: Rect,
+    made: &Raster,
+) {
+    let mut samples = made.samples().iter();
+    for j in 0..part.h {
+        for i in 0..part.w {
+            for channel in 0..picture.kind().channels() {
+                let (x, y) = (part.x.wrapping_add(i), part.y.wrapping_add(j));
+                let sum = plain::sum_at(picture, region, region, size, x, y, channel);
+                let plain = plain::average(region, sum);
+                assert_eq!(rt; samples.next().map(|s| u64::from(*s)), Some(plain));
+            }
+        }
+    }
+    assert!(rt; samples.next().is_none());
+}
+
+/// A region of the picture at one size, from tiles of edge 1 to 5, whole and row by row.
+fn compare_cuts(
+    rt: &impl Abort,
+    alloc: Global,
+    picture: &Raster,
+    region: Rect,
+    size: Dim,
+) -> Result<(), NoMemory> {
+    for edge in 1..6 {
+        let sums = scaled(rt, alloc, picture, region, size, edge)?;
+        let made = finish(rt, alloc, &sums, region, sums.rect())?;
+        compare_samples(rt, picture, region, size, sums.rect(), &made);
+        for j in 0..size.h {
+            let band = rect(0, j, size.w, 1);
+            let made = finish(rt, alloc, &sums, region, band)?;
+            compare_samples(rt, picture, region, size, band, &made);
+        }
+    }
+    Ok(())
+}
+
+/// All rectangles of a picture, at all sizes up to one above theirs.
+fn compare_all(rt: &impl Abort, alloc: Global, dim: Dim, kind: Kind) -> Result<(), NoMemory> {
+    let picture = pattern(alloc, dim, kind)?;
+    for y in 0..dim.h {
+        for x in 0..dim.w {
+            for h in 1..=dim.h - y {
+                for w in 1..=dim.w - x {
+                    for d in 1..=h.saturating_add(1) {
+                        for c in 1..=w.saturating_add(1) {
+                            let region = rect(x, y, w, h);
+                            compare_cuts(rt, alloc, &picture, region, Dim { w: c, h: d })?;
+                        }
+                    }
+                }
+            }
+        }
+    }
+    Ok(())
+}
+
+#[test]
+fn all_cuts_of_gray_pictures_agree(rt: HostRuntime) -> Result<(), Fail> {
+    compare_all(&rt, rt.alloc(), Dim { w: 5, h: 3 }, Kind::Gray)?;
+    compare_all(&rt, rt.alloc(), Dim { w: 2, h: 4 }, Kind::Gray)?;
+    Ok(())
+}
+
+#[test]
+fn all_cuts_of_rgb_pictures_agree(rt: HostRuntime) -> Result<(), Fail> {
+    compare_all(&rt, rt.alloc(), Dim { w: 3, h: 3 }, Kind::Rgb)?;
+    Ok(())
+}
+
+#[test]
+fn half_width_averages_columns(rt: HostRuntime) -> Result<(), Fail> {
+    let alloc = rt.alloc();
+    let picture = steps(alloc)?;
+    let region = rect(0, 0, 4, 4);
+    let sums = scaled(&rt, alloc, &picture, region, Dim { w: 2, h: 2 }, 2)?;
+    let made = finish(&rt, alloc, &sums, region, rect(0, 0, 2, 2))?;
+    assert_eq!(rt; made.samples(), [25, 45, 105, 125].as_slice());
+    Ok(())
+}
+
+#[test]
+fn three_of_four_columns_take_parts(rt: HostRuntime) -> Result<(), Fail> {
+    let alloc = rt.alloc();
+    let picture = steps(alloc)?;
+    let region = rect(0, 0, 4, 4);
+    let sums = scaled(&rt, alloc, &picture, region, Dim { w: 3, h: 3 }, 2)?;
+    let made = finish(&rt, alloc, &sums, region, rect(0, 0, 3, 3))?;
+    assert_eq!(rt;
+        made.samples(),
+        [13, 25, 38, 63, 75, 88, 113, 125, 138].as_slice()
+    );
+    let band = finish(&rt, alloc, &sums, region, rect(1, 2, 2, 1))?;
+    assert_eq!(rt; band.samples(), [125, 138].as_slice());
+    Ok(())
+}
+
+#[test]
+fn a_half_rounds_up_in_each_channel(rt: HostRuntime) -> Result<(), Fail> {
+    let alloc = rt.alloc();
+    let samples = vec![in alloc; 2, 0, 0, 0, 0, 0]?;
+    let picture = Raster::from_samples(Dim { w: 2, h: 1 }, Kind::Rgb, samples);
+    let region = rect(0, 0, 2, 1);
+    let sums = scaled(&rt, alloc, &picture, region, Dim { w: 1, h: 1 }, 1)?;
+    let made = finish(&rt, alloc, &sums, region, rect(0, 0, 1, 1))?;
+    assert_eq!(rt; made.samples(), [1, 0, 0].as_slice());
+    Ok(())
+}
+
+#[test]
+fn a_quarter_rounds_down_and_its_own_square_does_not(rt: HostRuntime) -> Result<(), Fail> {
+    let alloc = rt.alloc();
+    let picture = row(alloc, [0, 1, 0, 0])?;
+    for (region, sample) in [(rect(0, 0, 4, 1), 0), (rect(1, 0, 1, 1), 1)] {
+        let sums = scaled(&rt, alloc, &picture, region, Dim { w: 1, h: 1 }, 2)?;
+        let made = finish(&rt, alloc, &sums, region, rect(0, 0, 1, 1))?;
+        assert_eq!(rt; made.samples(), [sample].as_slice());
+    }
+    Ok(())
+}
+
+#[test]
+fn larger_sizes_are_averages_too(rt: HostRuntime) -> Result<(), Fail> {
+    let alloc = rt.alloc();
+    let picture = steps(alloc)?;
+    let region = rect(0, 0, 2, 2);
+    let sums = scaled(&rt, alloc, &picture, region, Dim { w: 3, h: 3 }, 2)?;
+    let made = finish(&rt, alloc, &sums, region, rect(0, 0, 3, 3))?;
+    assert_eq!(rt;
+        made.samples(),
+        [0, 5, 10, 20, 25, 30, 40, 45, 50].as_slice()
+    );
+    Ok(())
+}
+
+#[test]
+fn weights_are_overlaps(rt: HostRuntime) {
+    // 4 columns to 3: column 1 is shared by results 0 and 1, 1 part to 2
+    assert_eq!(rt; weight(0, 1, 4, 3), 1);
+    assert_eq!(rt; weight(1, 1, 4, 3), 2);
+    assert_eq!(rt; weight(1, 3, 4, 3), 0);
+    assert_eq!(rt;
+        weight(u32::MAX, u32::MAX, u32::MAX, u32::MAX),
+        4_294_967_295
+    );
+}
+
+#[test]
+fn sums_from_elsewhere_are_cut_off_and_others_kept(rt: HostRuntime) -> Result<(), Fail> {
+    let alloc = rt.alloc();
+    let last = u32::MAX;
+    let at_end = vec![in alloc; u64::MAX - 1]?;
+    let mut sums = Sums::from_parts(rect(last, last, 1, 1), Kind::Gray, at_end);
+    let more = vec![in alloc; 7, 1]?;
+    let more = Sums::from_parts(rect(last - 1, last, 2, 1), Kind::Gray, more);
+    merge(&rt, &mut sums, &more);
+    assert_eq!(rt; sums.sums(), [u64::MAX].as_slice());
+    merge(&rt, &mut sums, &more);
+    assert_eq!(rt; sums.sums(), [u64::MAX].as_slice());
+    assert_eq!(rt; sums.rect(), rect(last, last, 1, 1));
+    let region = rect(0, 0, 1, 1);
+    let made = finish(&rt, alloc, &sums, region, rect(last, last, 1, 1))?;
+    assert_eq!(rt; made.samples(), [255].as_slice());
+    // four places, of which the other sums have the lower right one
+    let mut sums = Sums::zero(alloc, rect(last - 2, last - 1, 2, 2), Kind::Gray)?;
+    merge(&rt, &mut sums, &more);
+    assert_eq!(rt; sums.sums(), [0, 0, 0, 7].as_slice());
+    Ok(())
+}
