@@ -1,0 +1,5 @@
+pub mod AnswerLemmas
+pub mod BufferLemmas
+pub mod InputLemmas
+pub mod ReadBackLemmas
+pub mod SearchLemmas

@@ -1,0 +1,20 @@
+-- Words of private functions.
+use Rattle.std.specs.Prelude.{ℕ, ◌≤◌, List, length, drop, Result, Ok, Err}
+use Rattle.httparse.specs.Grammar.{RequestHead, HasNoRequest, MayBecomeRequest}
+use Rattle.iiif_http_front.specs.RequestHeads.{BeginsWithCall}
+use Rattle.iiif_http_front.specs.Reading.{IsCallOf, IsBad}
+use Rattle.iiif_http_front.specs.declared.call.HeadFault.{HeadFault}
+use Rattle.iiif_http_front.specs.declared.call.HeadFault.TheVariants.{Bad, TooLong, Cut, Io, NoMemory}
+use Rattle.iiif_http_front.specs.declared.search.Found.{Found}
+use Rattle.iiif_http_front.specs.declared.search.Found.TheVariants.{Whole, Partial}
+
+-- what is found at the front of the bytes that have come
+abbrev pub Finds : List ℕ → Result Found HeadFault → Type 0
+Finds bytes (Ok (Whole call n)) =
+    (n ≤ length bytes) × ((h : RequestHead) × BeginsWithCall bytes h (drop n bytes) × IsCallOf call h)
+Finds bytes (Ok Partial) = HasNoRequest bytes × MayBecomeRequest bytes
+Finds bytes (Err Bad) = IsBad bytes
+Finds bytes (Err NoMemory) = (h : RequestHead) × (rest : List ℕ) × BeginsWithCall bytes h rest
+Finds bytes (Err TooLong) = ⊥
+Finds bytes (Err Cut) = ⊥
+Finds bytes (Err Io) = ⊥

@@ -1,0 +1,44 @@
+-- Laws of inputs and of answers, which the functions of the module `laws` have as their contracts.
+use Rattle.std.specs.Prelude.{◌≡◌, ℕ, ◌^◌, ◌<◌, ◌⊎◌, Bool, List, [], ◌∷◌, ◌++◌, All, map, codes, decimal, if◌then◌else◌, Option, Some, Result, Ok, Err}
+use Rattle.http.specs.StatusCode.{IsStatusCode}
+use Rattle.httparse.specs.Grammar.{AllPass, is_value_byte, IsToken, trim_ows, RequestHead, ResponseHead, ReadsResponse, status_code}
+use Rattle.httparse.specs.Spans.{name_and_value}
+use Rattle.iiif_http_front.specs.AnswerHeads.{head_text}
+use Rattle.iiif_http_front.specs.RequestHeads.{BeginsWithCall}
+use Rattle.iiif_http_front.specs.Reading.{IsCallOf, Answers}
+use Rattle.iiif_http_front.specs.declared.call.Call.{Call}
+use Rattle.iiif_http_front.specs.declared.call.HeadFault.{HeadFault}
+use Rattle.iiif_http_front.specs.declared.call.HeadFault.TheVariants.{Io, NoMemory}
+
+-- an input begins with one call at most
+abbrev pub BeginsWithOneCall : Type 0
+BeginsWithOneCall =
+    (input : List ℕ) (h k : RequestHead) (rest left : List ℕ)
+    → BeginsWithCall input h rest → BeginsWithCall input k left → (h ≡ k) × (rest ≡ left)
+
+-- where an input begins with a call, that call is answered, unless the device failed or memory was refused
+abbrev pub AnswersEachCall : Type 0
+AnswersEachCall =
+    (input : List ℕ) (h : RequestHead) (rest : List ℕ) (left : Option (List ℕ)) (answer : Result (Option Call) HeadFault)
+    → BeginsWithCall input h rest → Answers input left answer
+    → ((call : Call) × (answer ≡ Ok (Some call)) × IsCallOf call h × (left ≡ Some rest)) ⊎ (answer ≡ Err Io) ⊎ (answer ≡ Err NoMemory)
+
+-- a field that a reader of the head finds as it was given: its name is a token, and its value has no control byte and no
+-- white space at its ends (RFC 9110, sections 5.1 and 5.5)
+pub record IsPlainField (f : List ℕ × List ℕ) : Type 0 where
+  pub name : IsToken f.0
+  pub value : AllPass is_value_byte f.1
+  pub trimmed : trim_ows f.1 ≡ f.1
+
+-- the field by which a connection closes, where it does (RFC 9112, section 9.6)
+abbrev pub close_fields : Bool → List (List ℕ × List ℕ)
+close_fields close = if close then (codes "Connection", codes "close") ∷ [] else []
+
+-- what is written is the head of a response in the standard's grammar (RFC 9112, sections 2 to 5), of HTTP/1.1, with the
+-- status and the fields in their order and then the length, and nothing stands behind it
+abbrev pub WrittenHeadReadsBack : Type 0
+WrittenHeadReadsBack =
+    (status : ℕ) (fields : List (List ℕ × List ℕ)) (n : ℕ) (close : Bool)
+    → IsStatusCode status → All IsPlainField fields → n < 2 ^ 64
+    → (h : ResponseHead) × ReadsResponse (head_text status fields n close) h [] × (h.minor ≡ 1) × (status_code h ≡ status)
+    × (map name_and_value h.fields ≡ fields ++ (codes "Content-Length", decimal n) ∷ close_fields close)

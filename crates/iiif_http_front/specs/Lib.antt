@@ -1,0 +1,5 @@
+pub mod AnswerHeads
+pub mod Code
+pub mod Laws
+pub mod Reading
+pub mod RequestHeads

@@ -1,0 +1,69 @@
+-- Heads read one after another: what stands at the front of an input, and what is answered to it.
+use Rattle.std.specs.Prelude.{◌≡◌, ℕ, ◌<◌, ◌≤◌, true, List, [], length, take, Option, None, Some, Result, Ok, Err, ⊤}
+use Rattle.std.specs.Io.KnownBytes.{prepend_known}
+use Rattle.httparse.specs.Grammar.{RequestHead, ReadsRequest, HasNoRequest, NeverHasRequest, MayBecomeRequest}
+use Rattle.httparse.specs.Spans.{RequestExceeds, RequestOverflows}
+use Rattle.iiif_http_front.specs.RequestHeads.{byte_limit, field_limit, announces_body, closes, BeginsWithCall}
+use Rattle.iiif_http_front.specs.declared.call.Call.{Call}
+use Rattle.iiif_http_front.specs.declared.call.HeadFault.{HeadFault}
+use Rattle.iiif_http_front.specs.declared.call.HeadFault.TheVariants.{Bad, TooLong, Cut, Io, NoMemory}
+
+-- the fault's number outside
+abbrev pub number_of : HeadFault → ℕ
+number_of Bad = 1
+number_of TooLong = 2
+number_of Cut = 3
+number_of Io = 4
+number_of NoMemory = 5
+
+-- a reader of heads: the bytes that were read and belong to no call yet, the reader, and the fault that ended it
+pub record Reading (R : Type 0) : Type 0 where
+  pub unread : List ℕ
+  pub reader : R
+  pub fault : Option HeadFault
+
+-- all bytes from the next head on, where those that the reader has left are known
+abbrev pub input_of : {R : Type 0} → (R → Option (List ℕ)) → Reading R → Option (List ℕ)
+input_of remaining r = prepend_known r.unread (remaining r.reader)
+
+-- the call is what the head says (RFC 9112, sections 3 and 9)
+pub record IsCallOf (call : Call) (h : RequestHead) : Type 0 where
+  pub method : call.method ≡ h.method
+  pub target : call.target.items ≡ h.target
+  pub close : call.close ≡ closes h
+
+-- no call can come of these bytes, whatever follows: no head can, or one with more fields than are taken,
+-- or a whole head that announces a body stands at their front (RFC 9112, sections 2.2, 5 and 6)
+pub data IsBad (bytes : List ℕ) : Type 0 where
+  no_head : NeverHasRequest bytes → IsBad bytes
+  many_fields : RequestExceeds field_limit bytes → RequestOverflows field_limit bytes → IsBad bytes
+  has_body : (h : RequestHead) (rest : List ℕ) → ReadsRequest bytes h rest → announces_body h ≡ true → IsBad bytes
+
+-- as many bytes as a head may have are no whole head, and may be the front of one
+pub record IsTooLong (input : List ℕ) : Type 0 where
+  pub full : byte_limit ≤ length input
+  pub not_whole : HasNoRequest (take byte_limit input)
+  pub unfinished : MayBecomeRequest (take byte_limit input)
+
+-- the input ends inside a head
+pub record IsCut (input : List ℕ) : Type 0 where
+  pub begun : 0 < length input
+  pub short : length input < byte_limit
+  pub not_whole : HasNoRequest input
+  pub unfinished : MayBecomeRequest input
+
+-- where each fault may be answered to an input. A device that failed says nothing of it, and memory is wanted for a
+-- call alone
+abbrev pub Faults : HeadFault → List ℕ → Type 0
+Faults Bad input = IsBad (take byte_limit input)
+Faults TooLong input = IsTooLong input
+Faults Cut input = IsCut input
+Faults Io input = ⊤
+Faults NoMemory input = (h : RequestHead) × (rest : List ℕ) × BeginsWithCall input h rest
+
+-- what is answered to an input, and what is left of it: a call is taken from its front, a fault leaves all
+abbrev pub Answers : List ℕ → Option (List ℕ) → Result (Option Call) HeadFault → Type 0
+Answers input left (Ok None) = (input ≡ []) × (left ≡ Some [])
+Answers input left (Ok (Some call)) =
+    (h : RequestHead) × (rest : List ℕ) × BeginsWithCall input h rest × IsCallOf call h × (left ≡ Some rest)
+Answers input left (Err fault) = Faults fault input × (left ≡ Some input)
