@@ -1,0 +1,11 @@
+use Rattle.std.proofs.Common.{refl}
+use Rattle.std.specs.Fmt.{digits}
+use Rattle.serde_json.proofs.OnLiterals.{serde_json_on_literals}
+use Rattle.iiif_canonical.specs.Texts.{image_uri_of}
+use Rattle.iiif_canonical.specs.Escapes.{escaped}
+use Rattle.iiif_info.specs.Information.{last_level, scale_factors, tiles, information, info_text}
+use Rattle.iiif_info.proofs.laws.sample_has_its_text.Goals as goal
+
+pub returns : goal.returns
+unfolding serde_json_on_literals digits image_uri_of escaped last_level scale_factors tiles information info_text
+returns c = refl

@@ -1,0 +1,15 @@
+-- Laws of the information, which the functions of the module `laws` have as their contracts.
+use Rattle.std.specs.Prelude.{◌≡◌, ℕ, ◌*◌, ◌^◌, ◌<◌, ◌≤◌, codes}
+use Rattle.iiif_info.specs.Information.{last_level, info_text}
+
+-- tiles at the last level's scale cover the side, and at no scale before do they
+abbrev pub LastLevelIsLeast : Type 0
+LastLevelIsLeast =
+    (edge side : ℕ) → 0 < edge
+    → (side ≤ edge * 2 ^ last_level edge side) × ((k : ℕ) → k < last_level edge side → edge * 2 ^ k < side)
+
+-- the text of an image of 4 by 4 with tiles of 2 by 2
+abbrev pub SampleText : Type 0
+SampleText =
+    info_text (codes "http://localhost/iiif") (codes "a") (record { w = 4; h = 4 }) (record { max_w = 4096; max_h = 4096 }) 2
+    ≡ codes "{\"@context\":\"http://iiif.io/api/image/3/context.json\",\"extraFeatures\":[\"baseUriRedirect\",\"canonicalLinkHeader\",\"cors\",\"mirroring\",\"regionByPct\",\"regionByPx\",\"regionSquare\",\"rotationBy90s\",\"sizeByConfinedWh\",\"sizeByH\",\"sizeByPct\",\"sizeByW\",\"sizeByWh\"],\"extraFormats\":[\"tif\"],\"extraQualities\":[\"bitonal\",\"color\",\"gray\"],\"height\":4,\"id\":\"http://localhost/iiif/a\",\"maxHeight\":4096,\"maxWidth\":4096,\"preferredFormats\":[\"tif\"],\"profile\":\"level0\",\"protocol\":\"http://iiif.io/api/image\",\"tiles\":[{\"height\":2,\"scaleFactors\":[1,2],\"width\":2}],\"type\":\"ImageService3\",\"width\":4}"

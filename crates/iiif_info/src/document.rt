@@ -1,0 +1,104 @@
+//! The information about an image.
+
+ghost use Rattle.std.specs.Prelude.{◌≡◌, ◌<◌, IfOk, codes, string_bytes, max};
+ghost use Rattle.serde_json.specs.Data.{string, member, no_members};
+ghost use Rattle.serde_json.specs.View.{view, members_view};
+ghost use Rattle.iiif_info.specs.Information.{information, info_text, whole};
+
+use crate::values::{texts, tiles};
+use iiif_canonical::{Limits, image_uri};
+use iiif_pixel::{Dim, NoMemory};
+use serde_json::{Map, Value, put};
+use std::alloc::Global;
+
+const FEATURES: [&str; 13] = [
+    "baseUriRedirect",
+    "canonicalLinkHeader",
+    "cors",
+    "mirroring",
+    "regionByPct",
+    "regionByPx",
+    "regionSquare",
+    "rotationBy90s",
+    "sizeByConfinedWh",
+    "sizeByH",
+    "sizeByPct",
+    "sizeByW",
+    "sizeByWh",
+];
+
+// The members from the greatest width on. The last of them is put first, so that none is moved.
+fn last_members(
+    alloc: Global,
+    dim: Dim,
+    limits: &Limits,
+    preferred: Value,
+    tiles: Value,
+) -> Result<Map<String, Value>, NoMemory>
+    ensures { IfOk result (λ map. members_view map.entries ≡
+        member (codes "maxWidth") (whole limits.now.max_w) (
+        member (codes "preferredFormats") (view preferred) (
+        member (codes "profile") (string (codes "level0")) (
+        member (codes "protocol") (string (codes "http://iiif.io/api/image")) (
+        member (codes "tiles") (view tiles) (
+        member (codes "type") (string (codes "ImageService3")) (
+        member (codes "width") (whole dim.w) no_members))))))) }
+{
+    let mut map = Map::new(alloc);
+    put(&mut map, alloc, "width", Value::from(dim.w))?;
+    let service = Value::try_from_str(alloc, "ImageService3")?;
+    put(&mut map, alloc, "type", service)?;
+    put(&mut map, alloc, "tiles", tiles)?;
+    let protocol = Value::try_from_str(alloc, "http://iiif.io/api/image")?;
+    put(&mut map, alloc, "protocol", protocol)?;
+    let profile = Value::try_from_str(alloc, "level0")?;
+    put(&mut map, alloc, "profile", profile)?;
+    put(&mut map, alloc, "preferredFormats", preferred)?;
+    put(&mut map, alloc, "maxWidth", Value::from(limits.max_w))?;
+    Ok(map)
+}
+
+// The information as a value.
+#[tactic(auto, unfolding(crate::specs::Information::information))]
+fn information(
+    alloc: Global,
+    id: &str,
+    dim: Dim,
+    limits: &Limits,
+    edge: u32,
+) -> Result<Value, NoMemory>
+    requires { 0 < edge }
+    ensures { IfOk result (λ value. view value ≡ information id.now dim limits.now edge) }
+{
+    let preferred = texts(alloc, &["tif"])?;
+    let tiles = tiles(alloc, edge, dim.w.max(dim.h))?;
+    let mut map = last_members(alloc, dim, limits, preferred, tiles)?;
+    put(&mut map, alloc, "maxHeight", Value::from(limits.max_h))?;
+    put(&mut map, alloc, "id", Value::try_from_str(alloc, id)?)?;
+    put(&mut map, alloc, "height", Value::from(dim.h))?;
+    let qualities = texts(alloc, &["bitonal", "color", "gray"])?;
+    put(&mut map, alloc, "extraQualities", qualities)?;
+    put(&mut map, alloc, "extraFormats", texts(alloc, &["tif"])?)?;
+    put(&mut map, alloc, "extraFeatures", texts(alloc, &FEATURES)?)?;
+    let context = Value::try_from_str(alloc, "http://iiif.io/api/image/3/context.json")?;
+    put(&mut map, alloc, "@context", context)?;
+    Ok(Value::Object(map))
+}
+
+/// The text of an image's information: compact JSON with its keys in the order of their bytes. `base` is the server's
+/// URL without a `/` at its end, `id` the image's name as it is, `dim` the image's sides in pixels, `limits` the
+/// greatest sides of a result, and `edge` that of a tile.
+pub fn info(
+    alloc: Global,
+    base: &str,
+    id: &str,
+    dim: Dim,
+    limits: &Limits,
+    edge: u32,
+) -> Result<String, NoMemory>
+    requires { 0 < edge }
+    ensures { IfOk result (λ text. string_bytes text ≡ info_text base.now id.now dim limits.now edge) }
+{
+    let uri = image_uri(alloc, base, id)?;
+    information(alloc, &uri, dim, limits, edge)?.to_string(alloc)
+}
