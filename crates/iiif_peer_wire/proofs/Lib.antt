@@ -1,0 +1,5 @@
+pub mod Cut
+pub mod Only
+pub mod Parts
+pub mod Taken
+pub mod Whole

@@ -1,0 +1,21 @@
+use Rattle.std.proofs.Common.{◌∷◌, rules, subst}
+use Rattle.std.proofs.KnownBytes.{Consumes-trans}
+use Rattle.std.specs.Io.KnownBytes.{Consumes}
+use Rattle.iiif_peer_wire.specs.Code.{Unread}
+use Rattle.iiif_peer_wire.specs.Messages.{ask_magic, field}
+use Rattle.iiif_peer_wire.specs.Reading.{ask_at, ask_fields_at}
+use Rattle.iiif_peer_wire.proofs.Taken.{exit_fault, unread_behind}
+use Rattle.iiif_peer_wire.proofs.fields.ask_from.Goals as goal
+use Rattle.iiif_peer_wire.proofs.Whole.{ask_at-no_fields, ask_text-parts}
+
+pub returns-in_err-group-clause-unread : goal.returns-in_err-group-clause-unread
+returns-in_err-group-clause-unread g c = let fault = c.in_err-group.field-0.0 in
+    exit_fault c.from_residual-in_err-group.result (Unread g.R.Read.remaining g.R.Inlet.fails c.args.reader.now c.read_ask_fields.new.reader ask_at) fault c.from_residual-in_err-group.ensures.1
+    (unread_behind g.R.Read.remaining g.R.Inlet.fails c.args.reader.now c.read_ask_magic.new.reader c.read_ask_fields.new.reader ask_at ask_fields_at ask_magic fault (c.in_ok-read_ask_magic.ensures.whole (search rules))
+    (λ rest e. ask_at-no_fields rest fault e) c.in_err-group.ensures.unread)
+
+pub returns-clause-whole : goal.returns-clause-whole
+returns-clause-whole g c = let group = c.in_ok-group.group in let key = c.in_ok-group.key.items in
+    let begun : Consumes (g.R.Read.remaining c.args.reader.now) (g.R.Read.remaining c.read_ask_magic.new.reader) ask_magic = c.in_ok-read_ask_magic.ensures.whole (search rules) in
+    subst (Consumes (g.R.Read.remaining c.args.reader.now) (g.R.Read.remaining c.read_ask_fields.new.reader)) (ask_text-parts group key)
+    (Consumes-trans _ _ _ ask_magic (group ∷ field key) begun c.in_ok-group.ensures.whole)

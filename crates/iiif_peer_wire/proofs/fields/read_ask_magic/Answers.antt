@@ -1,0 +1,27 @@
+use Rattle.std.proofs.Common.{◌≡◌, false, length, take, take_all, length-take-le, rules, sym, ◌∙◌, subst, arith}
+use Rattle.std.specs.Io.KnownBytes.{Consumes}
+use Rattle.iiif_peer_wire.specs.Messages.{ask_magic}
+use Rattle.iiif_peer_wire.specs.Reading.{ask_at}
+use Rattle.iiif_peer_wire.proofs.Taken.{unread_magic, unread_short}
+use Rattle.iiif_peer_wire.proofs.fields.read_ask_magic.Goals as goal
+use Rattle.std.specs.Str.{bytes_eq}
+use Rattle.std.proofs.lemmas.Bool.{not-true}
+use Rattle.iiif_peer_wire.proofs.Whole.{ask_at-cut, ask_at-other}
+
+pub returns-then-came-lt4-clause-unread : goal.returns-then-came-lt4-clause-unread
+returns-then-came-lt4-clause-unread g c =
+    let came = c.in_ok-came.came in
+    let read = take came c.fill.new.buffer in
+    let size : length read ≡ came = length-take-le came c.fill.new.buffer c.in_ok-came.ensures.within in
+    unread_short g.R.Read.remaining g.R.Inlet.fails c.args.reader.now c.fill.new.reader ask_at read c.in_ok-came.ensures.bytes (c.in_ok-came.ensures.end (search rules))
+    (ask_at-cut read (omega (arith, size)) (omega (arith, size)))
+
+pub returns-then-ne-clause-unread : goal.returns-then-ne-clause-unread
+returns-then-ne-clause-unread g c =
+    let bytes = c.fill.new.buffer in
+    let full : length bytes ≡ 4 = search rules in
+    let all : take c.in_ok-came.came bytes ≡ bytes = take_all c.in_ok-came.came bytes (omega (arith, full)) in
+    let took : Consumes (g.R.Read.remaining c.args.reader.now) (g.R.Read.remaining c.fill.new.reader) bytes =
+    subst (Consumes (g.R.Read.remaining c.args.reader.now) (g.R.Read.remaining c.fill.new.reader)) all c.in_ok-came.ensures.bytes in
+    let apart : bytes_eq bytes ask_magic ≡ false = not-true (bytes_eq bytes ask_magic) (sym c.ne.ensures ∙ c.if-ne.true) in
+    unread_magic g.R.Read.remaining g.R.Inlet.fails c.args.reader.now c.fill.new.reader ask_at bytes took (λ rest. ask_at-other bytes rest full apart)

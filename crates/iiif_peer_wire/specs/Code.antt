@@ -1,0 +1,23 @@
+-- Why a part of a message was not read, by the bytes that were taken: words of the code alone.
+use Rattle.std.specs.Prelude.{◌≡◌, ℕ, List, [], ◌++◌, Option, Result, Err, ⊤}
+use Rattle.std.specs.Io.KnownBytes.{Consumes, IsAtEnd}
+use Rattle.iiif_peer_wire.specs.declared.fault.WireFault.{WireFault}
+use Rattle.iiif_peer_wire.specs.declared.fault.WireFault.TheVariants.{Magic, Short, Long, Key, Digest, Status, Io, NoMemory}
+
+-- the bytes that were taken are refused whatever follows, and as Short where nothing follows
+pub record Refuses {A : Type 0} (old new : Option (List ℕ)) (reading : List ℕ → Result A WireFault) (fault : WireFault) : Type 0 where
+  pub read : List ℕ
+  pub took : Consumes old new read
+  pub ended : fault ≡ Short → IsAtEnd new
+  pub refused : (rest : List ℕ) → (fault ≡ Short → rest ≡ []) → reading (read ++ rest) ≡ Err fault
+
+-- the reader failed, memory was refused, or the bytes are refused
+abbrev pub Unread : {R A : Type 0} → (R → Option (List ℕ)) → (R → R → Type 0) → R → R → (List ℕ → Result A WireFault) → WireFault → Type 0
+Unread left fails old new reading Magic = Refuses (left old) (left new) reading Magic
+Unread left fails old new reading Short = Refuses (left old) (left new) reading Short
+Unread left fails old new reading Long = Refuses (left old) (left new) reading Long
+Unread left fails old new reading Key = Refuses (left old) (left new) reading Key
+Unread left fails old new reading Digest = Refuses (left old) (left new) reading Digest
+Unread left fails old new reading Status = Refuses (left old) (left new) reading Status
+Unread {R} left fails old new reading Io = (before : R) × fails before new
+Unread left fails old new reading NoMemory = ⊤

@@ -1,0 +1,46 @@
+-- The messages between nodes, as whole texts. Numbers are big endian.
+use Rattle.std.specs.Prelude.{◌≡◌, ℕ, ◌<◌, ◌≤◌, ◌⊎◌, List, [], ◌∷◌, ◌++◌, length, codes}
+use Rattle.std.specs.Int.{w32, to_be_bytes}
+use Rattle.sha2.specs.Sha256.{sha256}
+
+-- what an ask and a reply begin with
+abbrev pub ask_magic : List ℕ
+ask_magic = codes "IGA1"
+
+abbrev pub reply_magic : List ℕ
+reply_magic = codes "IGR1"
+
+-- how many bytes a key and a value have at most
+abbrev pub key_limit : ℕ
+key_limit = 4096
+
+abbrev pub value_limit : ℕ
+value_limit = 67108864
+
+-- four bytes of length, and that many bytes
+abbrev pub field : List ℕ → List ℕ
+field bytes = to_be_bytes w32 (length bytes) ++ bytes
+
+-- the groups that can be asked: 1 for tiles, 2 for sums
+abbrev pub IsGroup : ℕ → Type 0
+IsGroup group = (group ≡ 1) ⊎ (group ≡ 2)
+
+-- what an ask can be
+pub record IsAsk (group : ℕ) (key : List ℕ) : Type 0 where
+  pub group_known : IsGroup group
+  pub key_within : length key ≤ key_limit
+
+-- an ask: its magic, the group, the key
+unfoldable pub ask_text : ℕ → List ℕ → List ℕ
+ask_text group key = ask_magic ++ group ∷ field key
+
+-- what a reply for a key can be: status 0 with the value, or the number of a fault, 1 to 4, with none
+pub record IsReply (key : List ℕ) (status : ℕ) (value : List ℕ) : Type 0 where
+  pub key_within : length key ≤ key_limit
+  pub status_known : status ≤ 4
+  pub value_within : length value ≤ value_limit
+  pub no_value : 0 < status → value ≡ []
+
+-- a reply: its magic, the key, the status, the value, and SHA-256 of the key and then the value (RFC 6234)
+unfoldable pub reply_text : List ℕ → ℕ → List ℕ → List ℕ
+reply_text key status value = reply_magic ++ (field key ++ status ∷ (field value ++ sha256 (key ++ value)))

@@ -1,0 +1,61 @@
+//! Asks.
+
+ghost use Rattle.std.specs.Prelude.{◌≡◌, ℕ, ◌++◌, List, [], Some, MatchResult, IfErr, IfNone, IfOk, IfSome, IsErrOf, IsNone, IsSomeAnd, OnOk};
+ghost use Rattle.std.specs.Io.KnownBytes.{Appends, Consumes, IsAtEnd};
+ghost use Rattle.iiif_peer_wire.specs.Faults.{IsCut, IsRefusal};
+ghost use Rattle.iiif_peer_wire.specs.Messages.{ask_text, IsAsk};
+ghost use Rattle.iiif_peer_wire.specs.Reading.{ask_at, IsInput};
+
+use crate::fault::WireFault;
+use crate::fields::ask_from;
+use iiif_io::{Inlet, Outlet, send_both};
+use std::alloc::Global;
+
+/// An ask: for the value of a key in a group.
+#[derive(Drop)]
+pub struct Ask {
+    /// 1 for tiles, 2 for sums.
+    pub group: u8,
+    /// The key's bytes, at most 4,096.
+    pub key: Vec<u8>,
+}
+
+/// Writes an ask. The only fault is `Io`.
+pub fn write_ask<W: Outlet>(writer: &mut W, group: u8, key: &[u8]) -> Result<(), WireFault>
+    requires { IsAsk group key.now }
+    ensures whole { OnOk result (Appends (W.contents writer.old) (W.contents writer.new) (ask_text group key.now)) }
+    ensures cut { IfErr result (IsCut W.contents W.fails writer.old writer.new (ask_text group key.now)) }
+{
+    let size = (key.len() as u32).to_be_bytes();
+    let head = [
+        b'I', b'G', b'A', b'1', group, size[0], size[1], size[2], size[3],
+    ];
+    match send_both(writer, &head, key) {
+        Ok(()) => Ok(()),
+        Err(_) => Err(WireFault::Io),
+    }
+}
+
+/// Reads an ask and leaves the rest unread, or answers none where the input is at its end. Memory is taken for the key
+/// as it comes.
+pub fn read_ask<R: Inlet>(alloc: Global, reader: &mut R) -> Result<Option<Ask>, WireFault>
+    // What is read was spelled, and no more of the input was taken.
+    ensures known { IfOk result (λ answer. IfSome answer (λ ask. IsAsk ask.group ask.key.items)) }
+    ensures text { IfOk result (λ answer. IfSome answer (λ ask.
+        Consumes (R.remaining reader.old) (R.remaining reader.new) (ask_text ask.group ask.key.items))) }
+    ensures end { IfOk result (λ answer. IfNone answer (Consumes (R.remaining reader.old) (R.remaining reader.new) []
+        × IsAtEnd (R.remaining reader.new))) }
+
+    // What is spelled is read, and a clean end is none, unless a read failed or memory was refused.
+    ensures only { (group : ℕ) (key rest : List ℕ) → IsAsk group key → R.remaining reader.old ≡ Some (ask_text group key ++ rest)
+        → MatchResult result (λ answer. IsSomeAnd answer (λ ask. (ask.group ≡ group) × (ask.key.items ≡ key)) × (R.remaining reader.new ≡ Some rest))
+        (λ fault. ¬ IsRefusal fault) }
+    ensures only_end { R.remaining reader.old ≡ Some [] → MatchResult result (λ answer. IsNone answer) (λ fault. ¬ IsRefusal fault) }
+
+    // A refusal is the first from the left, and `Io` says that a read failed.
+    ensures refused { IfErr result (λ fault. IsRefusal fault
+        → (input : List ℕ) × IsInput (R.remaining reader.old) input × (ask_at input ≡ Err fault)) }
+    ensures io { IsErrOf result WireFault.Io → (before : R) × R.fails before reader.new }
+{
+    ask_from(alloc, reader)
+}

@@ -1,0 +1,13 @@
+//! The messages between nodes: asks for tiles and sums, and replies.
+#![tactic(auto)]
+
+pub use ask::{Ask, read_ask, write_ask};
+pub use fault::WireFault;
+pub use reply::{read_reply, write_reply};
+
+pub mod ask;
+pub mod fault;
+mod fields;
+pub mod reply;
+#[cfg(test)]
+mod tests;

@@ -1,0 +1,4 @@
+pub mod Names
+pub mod Next
+pub mod Owners
+pub mod Table

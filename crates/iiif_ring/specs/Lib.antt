@@ -1,0 +1,4 @@
+pub mod Code
+pub mod Faults
+pub mod Names
+pub mod Owner
