@@ -1,0 +1,147 @@
+//! The command line.
+
+use clap::{Arg, ArgAction, ArgMatches, Command};
+use iiif_server::{is_base_url, is_name, numeral};
+use std::alloc::Global;
+use std::convert::AsStr;
+use thiserror::Error;
+
+/// The edge of a tile where none is given, in pixels.
+const EDGE: u64 = 256;
+/// The greatest side of a result where none is given, in pixels.
+const MAX: u64 = 4096;
+
+/// The first thing that is wrong with the words, in this order.
+#[derive(Clone, Copy, Debug, PartialEq, Eq, Error)]
+pub enum LineFault {
+    #[error("base")]
+    Base,
+    #[error("edge")]
+    Edge,
+    #[error("max")]
+    Max,
+    #[error("image")]
+    Image,
+    #[error("mode")]
+    Mode,
+    #[error("memory")]
+    NoMemory,
+}
+
+/// What the words ask for.
+#[derive(Debug, Drop)]
+pub struct Options<'a> {
+    pub base: &'a str,
+    pub edge: u32,
+    pub max: u32,
+    /// Each image's name and file.
+    pub images: Vec<(&'a str, &'a str)>,
+    pub target: &'a str,
+    pub hex: bool,
+}
+
+/// An option that takes one text.
+fn option<'a>(alloc: Global, name: &'a str, value: &'a str, help: &'a str) -> Arg<'a> {
+    Arg::new(alloc, name)
+        .long(name)
+        .action(ArgAction::Set)
+        .value_name(value)
+        .help(help)
+}
+
+/// The command with its options.
+fn command<'a>(alloc: Global) -> Result<Command<'a>, clap::Error> {
+    let hex = Arg::new(alloc, "hex")
+        .long("hex")
+        .action(ArgAction::SetTrue)
+        .help("write the answer's bytes as hexadecimal digits");
+    let images = Arg::new(alloc, "images")
+        .num_args(0..)
+        .value_name("NAME=FILE")
+        .help("an image's name and its TIFF file, or :sample");
+    let command = Command::new(alloc, "iiif_serve")
+        .version("0.1.0")
+        .about("Answers requests of the IIIF Image API 3.0 from uncompressed TIFF files")
+        .no_binary_name(true)
+        .arg(option(alloc, "base", "URL", "the URL that begins each image's"))?
+        .arg(option(alloc, "edge", "PIXELS", "the edge of a tile, 256 if left out"))?
+        .arg(option(alloc, "max", "PIXELS", "the greatest side of a result, 4096 if left out"))?
+        .arg(option(alloc, "one", "TARGET", "answer this target and end"))?
+        .arg(hex)?
+        .arg(images)?;
+    Ok(command)
+}
+
+/// What the words say, as the parser has it.
+pub fn matches<'a, S: AsStr>(alloc: Global, words: &'a [S]) -> Result<ArgMatches<'a>, clap::Error> {
+    command(alloc)?.try_get_matches_from(words)
+}
+
+/// A whole number of up to thirteen digits, from 1 to a greatest one.
+fn number(text: Option<&str>, default: u64, most: u64) -> Option<u32> {
+    let value = match text {
+        Some(text) => numeral(text, 13)?,
+        None => default,
+    };
+    if value < 1 || value > most {
+        return None;
+    }
+    u32::try_from(value).ok()
+}
+
+/// The edge and the greatest side. An edge is compared with the greatest side only where that is a number within its limits.
+fn sides(edge: Option<&str>, max: Option<&str>) -> Result<(u32, u32), LineFault> {
+    let max = number(max, MAX, 16384);
+    let Some(edge) = number(edge, EDGE, 1024) else {
+        return Err(LineFault::Edge);
+    };
+    match max {
+        Some(max) if edge > max => Err(LineFault::Edge),
+        Some(max) => Ok((edge, max)),
+        None => Err(LineFault::Max),
+    }
+}
+
+/// The names and files of images: at least one, each name of its own and within its limit.
+fn images<'a>(alloc: Global, words: &[&'a str]) -> Result<Vec<(&'a str, &'a str)>, LineFault> {
+    let mut images: Vec<(&'a str, &'a str)> = Vec::new(alloc);
+    for word in words {
+        let Some((name, file)) = word.split_once('=') else {
+            return Err(LineFault::Image);
+        };
+        if !is_name(name) || images.iter().any(|image| image.0 == name) {
+            return Err(LineFault::Image);
+        }
+        if images.push((name, file)).is_err() {
+            return Err(LineFault::NoMemory);
+        }
+    }
+    if images.is_empty() {
+        return Err(LineFault::Image);
+    }
+    Ok(images)
+}
+
+/// What the words ask for, or the first thing that is wrong with them.
+pub fn options_in<'a>(alloc: Global, matches: &ArgMatches<'a>) -> Result<Options<'a>, LineFault> {
+    let base = match matches.get_str("base") {
+        Some(base) if is_base_url(base) => base,
+        _ => return Err(LineFault::Base),
+    };
+    let (edge, max) = sides(matches.get_str("edge"), matches.get_str("max"))?;
+    let images = match matches.get_strs("images") {
+        Some(words) => images(alloc, words)?,
+        None => return Err(LineFault::Image),
+    };
+    let Some(target) = matches.get_str("one") else {
+        return Err(LineFault::Mode);
+    };
+    Ok(Options {
+        base,
+        edge,
+        max,
+        images,
+        target,
+        hex: matches.get_flag("hex"),
+    })
+}

@@ -1,0 +1,36 @@
+//! Where an image's bytes are.
+
+ghost use Rattle.std.specs.Prelude.{ℕ, List, Bool};
+ghost use Rattle.iiif_serve.specs.Stored.{bytes_of, keeps_of, gave_of};
+
+use iiif_source::{FileSource, MemSource, ReadFault, Source};
+use std::sync::Wait;
+
+/// A source in memory, or a file.
+#[derive(Drop)]
+pub enum Stored {
+    Memory(MemSource),
+    File(FileSource),
+}
+
+impl<R: Wait> Source<R> for Stored {
+    ghost bytes = { bytes_of };
+
+    ghost keeps = { keeps_of };
+
+    ghost gave = { gave_of };
+
+    fn len(&self) -> u64 {
+        match self {
+            Stored::Memory(source) => Source::<R>::len(source),
+            Stored::File(source) => Source::<R>::len(source),
+        }
+    }
+
+    fn read_at(&self, rt: &R, at: u64, buffer: &mut [u8]) -> Result<(), ReadFault> {
+        match self {
+            Stored::Memory(source) => source.read_at(rt, at, buffer),
+            Stored::File(source) => source.read_at(rt, at, buffer),
+        }
+    }
+}

@@ -1,0 +1,13 @@
+use Rattle.std.proofs.Common.{◌≡◌, ℕ, List, rules, tests, bytes_eq, string_bytes, find, option_map}
+use Rattle.std.proofs.lemmas.Iterator.{YieldsList-from_slice}
+use Rattle.std.proofs.lemmas.Iterator.Search.{find_from_yields_List}
+use Rattle.iiif_server.specs.Collection.{Item}
+use Rattle.iiif_server.specs.Items.{item_of}
+use Rattle.iiif_server.proofs.ItemLemmas.{found_item}
+use Rattle.iiif_server.proofs.catalogue.Catalogue.find.Goals as goal
+
+pub returns : goal.returns
+returns g c =
+    found_item (λ y. y.now) item_of (λ item. bytes_eq item.name c.args.name.now) c.args.self.now.entries.items c.find.result
+    (find_from_yields_List (λ e. bytes_eq (string_bytes e.name) c.args.name.now) _ _ c.find.result c.find.ensures.ran
+    (YieldsList-from_slice c.args.self.now.entries.items cc) (λ x b q k. search (rules, tests)))

@@ -1,0 +1,34 @@
+use Rattle.std.proofs.Common.{◌≡◌, ◌∙◌, ℕ, List, sym, ap, subst, Err}
+use Rattle.iiif_request.specs.Targets.{AsksFor, resource_of}
+use Rattle.iiif_server.specs.Answers.{no_path, no_item}
+use Rattle.iiif_server.specs.Collection.{item_named}
+use Rattle.iiif_server.specs.Items.{item_of}
+use Rattle.iiif_server.specs.Nodes.{items, settings}
+use Rattle.iiif_server.proofs.ReplyLemmas.{base_replies, information_replies, words_reply}
+use Rattle.iiif_server.proofs.node.Node.outcome.Goals as goal
+
+pub returns-in-Err-Path-clause-comes : goal.returns-in-Err-Path-clause-comes
+returns-in-Err-Path-clause-comes g c stable =
+    no_path (λ r asks. c.in-Err-Path.ensures.path (ap Err c.in-Err-Path.field-0-is)
+    (r, subst (λ (t : List ℕ). AsksFor t c.args.target.now r) (sym c.prefix.ensures) asks))
+
+pub returns-in_default-clause-comes : goal.returns-in_default-clause-comes
+returns-in_default-clause-comes g c stable =
+    no_item (resource_of c.in-Ok.resource) (subst (λ (t : List ℕ). AsksFor t c.args.target.now (resource_of c.in-Ok.resource)) c.prefix.ensures c.in-Ok.ensures.target)
+    (ap (item_named (items c.args.self.now)) (sym c.identifier.ensures) ∙ sym c.in_default.ensures)
+
+pub returns-in-Base-clause-comes : goal.returns-in-Base-clause-comes
+returns-in-Base-clause-comes g c stable =
+    base_replies g.S.Source.bytes (settings c.args.self.now) (items c.args.self.now) c.args.target.now c.prefix.result.now c.identifier.result.now c.in-Ok.resource
+    c.in-Base.field-0 (item_of c.in-Some.entry.now) c.prefix.ensures c.in-Ok.ensures.target c.in-Base.is c.identifier.ensures c.in-Some.ensures
+
+pub returns-in-Info-clause-comes : goal.returns-in-Info-clause-comes
+returns-in-Info-clause-comes g c stable =
+    information_replies g.S.Source.bytes (settings c.args.self.now) (items c.args.self.now) c.args.target.now c.prefix.result.now c.identifier.result.now
+    c.in-Ok.resource c.in-Info.field-0 (item_of c.in-Some.entry.now) c.prefix.ensures c.in-Ok.ensures.target c.in-Info.is c.identifier.ensures c.in-Some.ensures
+
+pub returns-clause-comes : goal.returns-clause-comes
+returns-clause-comes g c stable =
+    words_reply g.S.Source.bytes g.S.Source.keeps g.S.Source.gave (settings c.args.self.now) (items c.args.self.now) c.args.target.now c.prefix.result.now
+    c.identifier.result.now c.in-Ok.resource c.in-Image.field-0 c.in-Image.words (item_of c.in-Some.entry.now) c.limits.result c.image.result
+    c.prefix.ensures c.in-Ok.ensures.target c.in-Image.is c.identifier.ensures c.in-Some.ensures c.limits.ensures.all c.image.ensures.comes stable

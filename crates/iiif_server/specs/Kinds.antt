@@ -1,0 +1,18 @@
+-- Kinds of pictures.
+use Rattle.std.specs.Prelude.{ℕ, ◌==◌, if◌then◌else◌}
+use Rattle.iiif_pixel.specs.Picture.{Picture}
+use Rattle.iiif_pixel.specs.declared.geometry.Kind.{Kind}
+use Rattle.iiif_pixel.specs.declared.geometry.Kind.TheVariants.{Gray, Rgb}
+use Rattle.iiif_pixel.specs.declared.geometry.Quality.{Quality}
+use Rattle.iiif_pixel.specs.declared.geometry.Quality.TheVariants as quality
+
+-- red, green and blue where there are three channels, else gray
+abbrev pub kind_of : Picture → Kind
+kind_of p = if p.channels == 3 then Rgb else Gray
+
+-- the channels of a picture in a quality
+abbrev pub channels_in : Quality → ℕ → ℕ
+channels_in quality.Default channels = channels
+channels_in quality.Color channels = channels
+channels_in quality.Gray channels = 1
+channels_in quality.Bitonal channels = 1

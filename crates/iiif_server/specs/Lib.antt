@@ -1,0 +1,11 @@
+pub mod Numerals
+pub mod BaseUrl
+pub mod Settings
+pub mod Kinds
+pub mod Collection
+pub mod Items
+pub mod Nodes
+pub mod Sent
+pub mod Answers
+pub mod Allowed
+pub mod Outcomes

@@ -1,0 +1,26 @@
+-- What one answer leaves in a writer.
+use Rattle.std.specs.Prelude.{◌≡◌, ℕ, ◌<◌, List, length, take, Option, Result, Ok, Err}
+use Rattle.std.specs.Io.KnownBytes.{Appends}
+use Rattle.iiif_server.specs.declared.answer.Sent.{Sent}
+use Rattle.iiif_server.specs.declared.answer.Cut.{Cut}
+use Rattle.iiif_server.specs.declared.answer.Cause.{Cause}
+use Rattle.iiif_server.specs.declared.answer.Cause.TheVariants.{Writer}
+
+-- an answer: its status, and its text
+pub record Answer : Type 0 where
+  pub status : ℕ
+  pub text : List ℕ
+
+-- a first part of a text, and not all of it
+abbrev pub IsStrictPrefix : List ℕ → List ℕ → Type 0
+IsStrictPrefix part text = (n : ℕ) × (n < length text) × (part ≡ take n text)
+
+-- The text was sent with that result: the whole answer, or a strict prefix before the writer failed.
+abbrev pub EndsWith : Type 0 → Answer → List ℕ → Result Sent Cut → Type 0
+EndsWith writer a text (Ok sent) = (text ≡ a.text) × (sent.status ≡ a.status) × (sent.bytes ≡ length text)
+EndsWith writer a text (Err cut) = (cut.sent ≡ length text) × (cut.cause ≡ Writer) × writer × IsStrictPrefix text a.text
+
+-- the writer has a text more than before, which was sent with that result
+abbrev pub IsSent : {W : Type 0} → (W → Option (List ℕ)) → (W → W → Type 0) → W → W → Answer → Result Sent Cut → Type 0
+IsSent {W} contents fails old new a result =
+    (text : List ℕ) × Appends (contents old) (contents new) text × EndsWith ((before : W) × fails before new) a text result

@@ -1,0 +1,48 @@
+//! What a call ends with.
+
+use iiif_source::ReadFault;
+
+/// Why an image could not be loaded.
+#[derive(Clone, Copy, Debug, PartialEq, Eq)]
+pub enum Fault {
+    /// A read of the image's source failed.
+    Source(ReadFault),
+    /// Memory was wanting.
+    NoMemory,
+    /// No image has the name.
+    UnknownName,
+    /// The key names no part of the image.
+    BadKey,
+}
+
+/// An answer that was sent whole.
+#[derive(Clone, Copy, Debug, PartialEq, Eq)]
+pub struct Sent {
+    /// The status of HTTP.
+    pub status: u16,
+    /// How many bytes were written.
+    pub bytes: u64,
+    /// The greatest number of the answer's samples and sums that were held at once; 0 while answers aren't sent in bands.
+    pub held: u64,
+}
+
+/// What ended an answer too soon.
+#[derive(Clone, Copy, Debug, PartialEq, Eq)]
+pub enum Cause {
+    /// The writer failed.
+    Writer,
+    /// The rest of the image could not be loaded.
+    Load(Fault),
+}
+
+/// An answer that was cut off.
+#[derive(Clone, Copy, Debug, PartialEq, Eq)]
+pub struct Cut {
+    /// How many bytes were written.
+    pub sent: u64,
+    pub cause: Cause,
+}
+
+/// A caller's passes to the caches. There are none yet, and it holds nothing.
+#[derive(Clone, Copy, Debug, PartialEq, Eq)]
+pub struct Passes;

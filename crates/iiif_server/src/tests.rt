@@ -1,0 +1,216 @@
+//! Answers of a node over sources in memory.
+
+use crate::{AddFault, Catalogue, Cause, Config, ConfigFault, Node, Passes};
+use iiif_canonical::Limits;
+use iiif_io::fakes::FailingWriter;
+use iiif_source::{FuseSource, MemSource};
+use iiif_tiff_read::open;
+use std::test::Fail;
+
+/// A TIFF file of 4 by 4 gray samples: 10 more for each column, and 40 more for each row.
+const SAMPLE: [u8; 138] = [
+    0x49, 0x49, 0x2a, 0, 0x18, 0, 0, 0, 0, 10, 20, 30, 40, 50, 60, 70, 80, 90, 100, 110, 120, 130,
+    140, 150, 9, 0, 0, 1, 3, 0, 1, 0, 0, 0, 4, 0, 0, 0, 1, 1, 3, 0, 1, 0, 0, 0, 4, 0, 0, 0, 2, 1, 3,
+    0, 1, 0, 0, 0, 8, 0, 0, 0, 3, 1, 3, 0, 1, 0, 0, 0, 1, 0, 0, 0, 6, 1, 3, 0, 1, 0, 0, 0, 1, 0, 0,
+    0, 0x11, 1, 4, 0, 1, 0, 0, 0, 8, 0, 0, 0, 0x15, 1, 3, 0, 1, 0, 0, 0, 1, 0, 0, 0, 0x16, 1, 3, 0,
+    1, 0, 0, 0, 4, 0, 0, 0, 0x17, 1, 4, 0, 1, 0, 0, 0, 0x10, 0, 0, 0, 0, 0, 0, 0,
+];
+
+const WHOLE: &[u8] = b"/iiif/a/full/max/0/default.tif";
+
+fn limits(max: u32) -> Limits {
+    Limits {
+        max_w: max,
+        max_h: max,
+    }
+}
+
+fn memory(rt: &HostRuntime) -> Result<MemSource, Fail> {
+    Ok(MemSource::new(Vec::from_slice(rt.alloc(), &SAMPLE)?))
+}
+
+/// A node with the sample under a name.
+fn node(rt: &HostRuntime, name: &str) -> Result<Node<(), MemSource>, Fail> {
+    let alloc = rt.alloc();
+    let source = memory(rt)?;
+    let Ok(layout) = open(&(), alloc, &source) else {
+        return Err(Fail::from("the sample is refused"));
+    };
+    let mut catalogue = Catalogue::new(alloc);
+    let added = catalogue.add(String::from_str(alloc, name)?, source, layout);
+    assert_eq!(rt; added, Ok(()));
+    let Ok(config) = Config::new(alloc, "http://localhost/iiif", 2, limits(4096), 64, 2) else {
+        return Err(Fail::from("the settings are refused"));
+    };
+    Ok(Node::new(config, catalogue))
+}
+
+/// The status and body that a target is answered.
+fn body(rt: &HostRuntime, node: &Node<(), MemSource>, target: &[u8]) -> Result<(u16, Vec<u8>), Fail> {
+    let mut out = Vec::new(rt.alloc());
+    match node.body_one(&(), rt.alloc(), &mut [Passes], target, &mut out) {
+        Ok(sent) => {
+            assert_eq!(rt; sent.bytes, out.len() as u64);
+            Ok((sent.status, out))
+        }
+        Err(_) => Err(Fail::from("the answer was cut off")),
+    }
+}
+
+/// The last bytes of a body.
+fn tail(body: &[u8], count: usize) -> &[u8] {
+    let (_, last) = body.split_at(body.len() - count.min(body.len()));
+    last
+}
+
+#[test]
+fn whole_sample_is_190_bytes(rt: HostRuntime) -> Result<(), Fail> {
+    let (status, body) = body(&rt, &node(&rt, "a")?, WHOLE)?;
+    assert_eq!(rt; status, 200);
+    assert_eq!(rt; body.len(), 190);
+    assert_eq!(rt; tail(&body, 16), &SAMPLE[8..24]);
+    Ok(())
+}
+
+#[test]
+fn scaled_and_turned_samples(rt: HostRuntime) -> Result<(), Fail> {
+    let node = node(&rt, "a")?;
+    let cases: [(&[u8], &[u8]); 9] = [
+        (b"/iiif/a/full/2,/0/default.tif", &[25, 45, 105, 125]),
+        (b"/iiif/a/full/%5E2,/0/default.tif", &[25, 45, 105, 125]),
+        (b"/iiif/a/full/3,3/0/default.tif", &[13, 25, 38, 63, 75, 88, 113, 125, 138]),
+        (b"/iiif/a/full/2,/90/default.tif", &[105, 25, 125, 45]),
+        (b"/iiif/a/full/2,/!90/default.tif", &[125, 45, 105, 25]),
+        (b"/iiif/a/full/2,/!180/default.tif", &[105, 125, 25, 45]),
+        (b"/iiif/a/3,3,5,5/max/0/default.tif", &[150]),
+        (b"/iiif/a/pct:25,25,50,50/max/0/default.tif", &[50, 60, 90, 100]),
+        (b"/iiif/a/full/max/0/bitonal.tif", &[0, 0, 0, 0x70]),
+    ];
+    for (target, samples) in cases {
+        let (status, body) = body(&rt, &node, target)?;
+        assert_eq!(rt; status, 200);
+        assert_eq!(rt; tail(&body, samples.len()), samples);
+    }
+    Ok(())
+}
+
+#[test]
+fn each_refusal_by_its_line(rt: HostRuntime) -> Result<(), Fail> {
+    let node = node(&rt, "a")?;
+    let cases: [(&[u8], u16, &[u8]); 14] = [
+        (b"/iiif/a%2/full/max/0/default.tif", 400, b"Q3 path\n"),
+        (b"/other/a/full/max/0/default.tif", 400, b"Q3 path\n"),
+        (b"/iiif/zz/bad/max/0/default.tif", 404, b"Q4 identifier\n"),
+        (b"/iiif/zz", 404, b"Q4 identifier\n"),
+        (b"/iiif/a/bad/bad/0/default.tif", 400, b"Q5 region\n"),
+        (b"/iiif/a/full/full/45/default.tif", 400, b"Q6 size\n"),
+        (b"/iiif/a/full/max/45/best.tif", 400, b"Q7 rotation\n"),
+        (b"/iiif/a/full/max/0/best.jpg", 400, b"Q8 quality\n"),
+        (b"/iiif/a/full/max/0/default.jpg", 400, b"Q9 format\n"),
+        (b"/iiif/a/4,0,1,1/max/0/default.tif", 400, b"Q10 empty\n"),
+        (b"/iiif/a/full/0,/0/default.tif", 400, b"Q11 zero\n"),
+        (b"/iiif/a/full/8,/0/default.tif", 400, b"Q12 larger\n"),
+        (b"/iiif/a/full/^8,/0/default.tif", 501, b"Q13 upscale\n"),
+        (b"/iiif/a/full/pct:100.1/0/default.tif", 400, b"Q12 larger\n"),
+    ];
+    for (target, status, line) in cases {
+        let (answered, body) = body(&rt, &node, target)?;
+        assert_eq!(rt; body.as_slice(), line);
+        assert_eq!(rt; answered, status);
+    }
+    let (status, body) = body(&rt, &node, b"/iiif/a")?;
+    assert_eq!(rt; (status, body.len()), (303, 0));
+    Ok(())
+}
+
+#[test]
+fn escaped_slash_in_a_name(rt: HostRuntime) -> Result<(), Fail> {
+    let (status, body) = body(&rt, &node(&rt, "a/b")?, b"/iiif/a%2Fb/full/max/0/default.tif?x=1")?;
+    assert_eq!(rt; (status, body.len()), (200, 190));
+    Ok(())
+}
+
+#[test]
+fn failed_read_is_a_source_fault(rt: HostRuntime) -> Result<(), Fail> {
+    let alloc = rt.alloc();
+    let source = memory(&rt)?;
+    let Ok(layout) = open(&(), alloc, &source) else {
+        return Err(Fail::from("the sample is refused"));
+    };
+    let mut catalogue = Catalogue::new(alloc);
+    let added = catalogue.add(String::from_str(alloc, "a")?, FuseSource::new(source, 1), layout);
+    assert_eq!(rt; added, Ok(()));
+    let Ok(config) = Config::new(alloc, "http://localhost/iiif", 2, limits(4096), 64, 2) else {
+        return Err(Fail::from("the settings are refused"));
+    };
+    let node: Node<(), FuseSource<MemSource>> = Node::new(config, catalogue);
+    let mut out = Vec::new(alloc);
+    let sent = node.body_one(&(), alloc, &mut [Passes], WHOLE, &mut out);
+    assert_eq!(rt; sent.map(|sent| sent.status), Ok(500));
+    assert_eq!(rt; out.as_slice(), b"L1 source\n".as_slice());
+    Ok(())
+}
+
+#[test]
+fn writer_that_fails_leaves_a_strict_prefix(rt: HostRuntime) -> Result<(), Fail> {
+    let node = node(&rt, "a")?;
+    let (_, whole) = body(&rt, &node, WHOLE)?;
+    for room in 0..190usize {
+        let mut out = FailingWriter {
+            taken: Vec::new(rt.alloc()),
+            room,
+            piece: 7,
+        };
+        match node.body_one(&(), rt.alloc(), &mut [Passes], WHOLE, &mut out) {
+            Ok(_) => return Err(Fail::from("the writer failed")),
+            Err(cut) => {
+                assert_eq!(rt; cut.sent, room as u64);
+                assert_eq!(rt; cut.cause, Cause::Writer);
+                assert_eq!(rt; out.taken.as_slice(), &whole[..room]);
+            }
+        }
+    }
+    Ok(())
+}
+
+#[test]
+fn settings_are_refused_in_order(rt: HostRuntime) -> Result<(), Fail> {
+    let alloc = rt.alloc();
+    let cases = [
+        ("http:/localhost", 5, 4, 0, 0, ConfigFault::Base),
+        ("http://localhost/", 2, 4, 64, 2, ConfigFault::Base),
+        ("http://localhost:65536/iiif", 2, 4, 64, 2, ConfigFault::Base),
+        ("ftp://localhost", 2, 4, 64, 2, ConfigFault::Base),
+        ("http://localhost", 5, 4, 64, 2, ConfigFault::Edge),
+        ("http://localhost", 1025, 4096, 64, 2, ConfigFault::Edge),
+        ("http://localhost", 5, 16385, 64, 2, ConfigFault::Max),
+        ("http://localhost", 5, 16384, 0, 2, ConfigFault::Band),
+        ("http://localhost", 5, 16384, 64, 17, ConfigFault::Workers),
+    ];
+    for (base, edge, max, band, workers, fault) in cases {
+        let config = Config::new(alloc, base, edge, limits(max), band, workers);
+        assert_eq!(rt; config.map(|_| ()), Err(fault));
+    }
+    let Ok(config) = Config::new(alloc, "https://a-b.example:8080/x/~y", 1, limits(1), 1, 1) else {
+        return Err(Fail::from("the settings are refused"));
+    };
+    assert_eq!(rt; config.base(), "https://a-b.example:8080/x/~y");
+    assert_eq!(rt; config.prefix(), b"/x/~y".as_slice());
+    assert_eq!(rt; config.limits(), limits(1));
+    Ok(())
+}
+
+#[test]
+fn names_are_taken_once(rt: HostRuntime) -> Result<(), Fail> {
+    let alloc = rt.alloc();
+    let mut catalogue: Catalogue<(), MemSource> = Catalogue::new(alloc);
+    for (name, answer) in [("", Err(AddFault::Name)), ("a", Ok(())), ("a", Err(AddFault::Twice))] {
+        let source = memory(&rt)?;
+        let Ok(layout) = open(&(), alloc, &source) else {
+            return Err(Fail::from("the sample is refused"));
+        };
+        assert_eq!(rt; catalogue.add(String::from_str(alloc, name)?, source, layout), answer);
+    }
+    assert!(rt; catalogue.has("a") && catalogue.find("b").is_none());
+    Ok(())
+}
