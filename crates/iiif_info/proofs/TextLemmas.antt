@@ -1,6 +1,6 @@
 -- The text of a value without floats.
-use Rattle.std.proofs.Common.{◌≡◌, ℕ, false, List, [], ◌∷◌, map, refl, sym, ap, ◌∙◌, Result, Ok, Err, IfOk}
-use Rattle.serde_json.specs.Data.{Data, number, unsigned}
+use Rattle.std.proofs.Common.{◌≡◌, ℕ, false, List, [], ◌∷◌, map, refl, ap, ◌∙◌, Result, Ok, Err, IfOk}
+use Rattle.serde_json.specs.Data.{Data}
 use Rattle.serde_json.specs.View.{items_of}
 use Rattle.serde_json.specs.Written.{items_have_float, has_float, compact_text}
 use Rattle.iiif_pixel.specs.declared.geometry.Dim.{Dim}

@@ -1,7 +1,7 @@
 -- The information about an image, as JSON (IIIF Image API 3.0, section 5).
 use Rattle.std.specs.Prelude.{ℕ, ◌+◌, ◌*◌, ◌^◌, max, List, [], ◌∷◌, codes, map, nat_le}
 use Rattle.std.specs.List.{position_or_len, range_with_len}
-use Rattle.serde_json.specs.Data.{Data, number, unsigned, string, array, object, Items, no_items, item, Members, no_members, member}
+use Rattle.serde_json.specs.Data.{Data, number, unsigned, string, array, object, no_items, item, no_members, member}
 use Rattle.serde_json.specs.View.{items_of}
 use Rattle.serde_json.specs.Written.{compact_text}
 use Rattle.iiif_pixel.specs.declared.geometry.Dim.{Dim}

@@ -64,8 +64,18 @@ fn command<'a>(alloc: Global) -> Result<Command<'a>, clap::Error> {
         .about("Answers requests of the IIIF Image API 3.0 from uncompressed TIFF files")
         .no_binary_name(true)
         .arg(option(alloc, "base", "URL", "the URL that begins each image's"))?
-        .arg(option(alloc, "edge", "PIXELS", "the edge of a tile, 256 if left out"))?
-        .arg(option(alloc, "max", "PIXELS", "the greatest side of a result, 4096 if left out"))?
+        .arg(option(
+            alloc,
+            "edge",
+            "PIXELS",
+            "the edge of a tile, 256 if left out",
+        ))?
+        .arg(option(
+            alloc,
+            "max",
+            "PIXELS",
+            "the greatest side of a result, 4096 if left out",
+        ))?
         .arg(option(alloc, "one", "TARGET", "answer this target and end"))?
         .arg(hex)?
         .arg(images)?;

@@ -32,6 +32,7 @@ const SAMPLE_WORDS: [&str; 8] = [
 
 /// The rows of a band and the workers of a request.
 const BAND: u32 = 64;
+
 const WORKERS: u32 = 2;
 
 /// Why the program ends without an answer.

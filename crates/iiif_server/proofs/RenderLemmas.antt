@@ -46,6 +46,7 @@ pub image_sides : (region scaled turned image : Picture) (size : Dim) (t : Turn)
 image_sides region scaled turned image size t to few made by in_quality =
     let whole : image ≡ quality (turn (scale region size) t) to = rw (in_quality, by, made) refl in
     let last = quality_sides (turn (scale region size) t) to in
-    let before = prepared_sides t.quarters t.mirror (scale region size) few in
-    (ap dim_of whole ∙ last.0 ∙ before.0,
-     ap (λ (p : Picture). p.channels) whole ∙ last.1 ∙ ap (channels_in to) before.1)
+    let before = prepared_sides t.quarters t.mirror (scale region size) few in (
+      ap dim_of whole ∙ last.0 ∙ before.0,
+      ap (λ (p : Picture). p.channels) whole ∙ last.1 ∙ ap (channels_in to) before.1,
+    )

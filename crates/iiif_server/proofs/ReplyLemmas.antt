@@ -46,16 +46,18 @@ named items id t u item e same found =
 pub base_replies : {S : Type 0} (bytes : S → List ℕ) (settings : Settings) (items : List (Item S)) (target prefix id : List ℕ) (t : Target)
     (f : String Global) (item : Item S) → prefix ≡ path_of settings.base → AsksFor prefix target (resource_of t) → t ≡ Target.Base f
     → id ≡ identifier_of (resource_of t) → Some item ≡ item_named items id → (x : List ℕ) × Replies bytes settings items target (redirect x)
-base_replies bytes settings items target prefix id t f item p asks e same found =
-    (string_bytes f, of_base (string_bytes f) item (asked (path_of settings.base) prefix target t (Target.Base f) p asks e)
-        (named items id t (Target.Base f) item e same found))
+base_replies bytes settings items target prefix id t f item p asks e same found = (
+  string_bytes f,
+  of_base (string_bytes f) item (asked (path_of settings.base) prefix target t (Target.Base f) p asks e)
+      (named items id t (Target.Base f) item e same found),
+)
 
 pub information_replies : {S : Type 0} (bytes : S → List ℕ) (settings : Settings) (items : List (Item S)) (target prefix id : List ℕ) (t : Target)
     (f : String Global) (item : Item S) → prefix ≡ path_of settings.base → AsksFor prefix target (resource_of t) → t ≡ Target.Info f
     → id ≡ identifier_of (resource_of t) → Some item ≡ item_named items id → Replies bytes settings items target (refused Path)
 information_replies bytes settings items target prefix id t f item p asks e same found =
     no_information (string_bytes f) item (asked (path_of settings.base) prefix target t (Target.Info f) p asks e)
-        (named items id t (Target.Info f) item e same found)
+    (named items id t (Target.Info f) item e same found)
 
 pub words_reply : {S : Type 0} (bytes : S → List ℕ) (keeps : S → Type 0) (gave : S → ReadFault → Bool) (settings : Settings) (items : List (Item S))
     (target prefix id : List ℕ) (t : Target) (f : String Global) (w : Words) (item : Item S) (limits : Limits) (o : Outcome)

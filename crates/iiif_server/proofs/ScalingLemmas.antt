@@ -51,7 +51,7 @@ pub one_tile : AllRows → (p : Picture) (size : Dim) (g : Grid) → IsWhole p �
 one_tile law p size g whole columns rows made =
     let same = whole_crop law p whole in
     let first : g ≡ sums_of p size (part_of (whole_of (dim_of p)) (whole_of (dim_of p))) =
-        made p (sym same) ∙ ap (λ (q : Picture). sums_of q size (part_of (whole_of (dim_of p)) (whole_of (dim_of p)))) same in
+    made p (sym same) ∙ ap (λ (q : Picture). sums_of q size (part_of (whole_of (dim_of p)) (whole_of (dim_of p)))) same in
     let second : g ≡ sums_of p size (whole_of (dim_of p)) = first ∙ ap (λ (r : Rect). sums_of p size r) (whole_part (dim_of p)) in
     let places : g.rect ≡ whole_of size = ap (λ (h : Grid). h.rect) second ∙ whole_places (dim_of p) size columns rows in
     record {
@@ -84,7 +84,7 @@ tile_from law p size sides at at' g whole columns rows same is is' made =
     let place : at ≡ whole_of (dim_of p) = is ∙ ap whole_of same in
     let place' : at' ≡ whole_of (dim_of p) = is' ∙ ap whole_of same in
     let first : (q : Picture) → p ≡ crop q (whole_of (dim_of p)) → g ≡ sums_of (crop q at') size (part_of (whole_of (dim_of p)) at') =
-        λ q. subst (λ (r : Rect). p ≡ crop q r → g ≡ sums_of (crop q at') size (part_of r at')) place (made q) in
+    λ q. subst (λ (r : Rect). p ≡ crop q r → g ≡ sums_of (crop q at') size (part_of r at')) place (made q) in
     one_tile law p size g whole columns rows
     (λ q. subst (λ (r : Rect). p ≡ crop q (whole_of (dim_of p)) → g ≡ sums_of (crop q r) size (part_of (whole_of (dim_of p)) r)) place' (first q))
 

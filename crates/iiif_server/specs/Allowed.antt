@@ -45,7 +45,6 @@ MayFail gave source _ = ⊥
 -- of the image's own, and not nothing, where the rest of the image could not be loaded.
 abbrev pub IsCut : {S : Type 0} → Wording S → (S → ReadFault → Bool) → (Reply S → Type 0) → Type 0 → List ℕ → Cause → Type 0
 IsCut {S} w gave Reaches writer text Writer = writer × ((a : Answer) × MayAnswer w gave Reaches a × IsStrictPrefix text a.text)
-
 IsCut {S} w gave Reaches writer text (Load fault) = (item : Item S) × (q : Request) × (p r : Picture) × Reaches (given item q p r)
     × MayFail gave item.source fault × IsStrictPrefix text (w.of_reply (given item q p r)).text × (1 ≤ length text)
 

@@ -2,10 +2,10 @@
 #![tactic(auto)]
 
 pub use answer::{Cause, Cut, Fault, Passes, Sent};
+pub use base_url::is_base_url;
 pub use catalogue::{AddFault, Catalogue, is_name};
 pub use config::{Config, ConfigFault};
 pub use node::Node;
-pub use base_url::is_base_url;
 pub use numerals::numeral;
 
 pub mod answer;

@@ -10,10 +10,10 @@ use std::test::Fail;
 /// A TIFF file of 4 by 4 gray samples: 10 more for each column, and 40 more for each row.
 const SAMPLE: [u8; 138] = [
     0x49, 0x49, 0x2a, 0, 0x18, 0, 0, 0, 0, 10, 20, 30, 40, 50, 60, 70, 80, 90, 100, 110, 120, 130,
-    140, 150, 9, 0, 0, 1, 3, 0, 1, 0, 0, 0, 4, 0, 0, 0, 1, 1, 3, 0, 1, 0, 0, 0, 4, 0, 0, 0, 2, 1, 3,
-    0, 1, 0, 0, 0, 8, 0, 0, 0, 3, 1, 3, 0, 1, 0, 0, 0, 1, 0, 0, 0, 6, 1, 3, 0, 1, 0, 0, 0, 1, 0, 0,
-    0, 0x11, 1, 4, 0, 1, 0, 0, 0, 8, 0, 0, 0, 0x15, 1, 3, 0, 1, 0, 0, 0, 1, 0, 0, 0, 0x16, 1, 3, 0,
-    1, 0, 0, 0, 4, 0, 0, 0, 0x17, 1, 4, 0, 1, 0, 0, 0, 0x10, 0, 0, 0, 0, 0, 0, 0,
+    140, 150, 9, 0, 0, 1, 3, 0, 1, 0, 0, 0, 4, 0, 0, 0, 1, 1, 3, 0, 1, 0, 0, 0, 4, 0, 0, 0, 2, 1,
+    3, 0, 1, 0, 0, 0, 8, 0, 0, 0, 3, 1, 3, 0, 1, 0, 0, 0, 1, 0, 0, 0, 6, 1, 3, 0, 1, 0, 0, 0, 1, 0,
+    0, 0, 0x11, 1, 4, 0, 1, 0, 0, 0, 8, 0, 0, 0, 0x15, 1, 3, 0, 1, 0, 0, 0, 1, 0, 0, 0, 0x16, 1, 3,
+    0, 1, 0, 0, 0, 4, 0, 0, 0, 0x17, 1, 4, 0, 1, 0, 0, 0, 0x10, 0, 0, 0, 0, 0, 0, 0,
 ];
 
 const WHOLE: &[u8] = b"/iiif/a/full/max/0/default.tif";
@@ -37,8 +37,12 @@ fn node(rt: &HostRuntime, name: &str) -> Result<Node<(), MemSource>, Fail> {
         return Err(Fail::from("the sample is refused"));
     };
     let mut catalogue = Catalogue::new(alloc);
-    let added = catalogue.add(String::from_str(alloc, name)?, source, layout);
-    assert_eq!(rt; added, Ok(()));
+    if catalogue
+        .add(String::from_str(alloc, name)?, source, layout)
+        .is_err()
+    {
+        return Err(Fail::from("the sample is not taken in"));
+    }
     let Ok(config) = Config::new(alloc, "http://localhost/iiif", 2, limits(4096), 64, 2) else {
         return Err(Fail::from("the settings are refused"));
     };
@@ -46,13 +50,15 @@ fn node(rt: &HostRuntime, name: &str) -> Result<Node<(), MemSource>, Fail> {
 }
 
 /// The status and body that a target is answered.
-fn body(rt: &HostRuntime, node: &Node<(), MemSource>, target: &[u8]) -> Result<(u16, Vec<u8>), Fail> {
+fn body(
+    rt: &HostRuntime,
+    node: &Node<(), MemSource>,
+    target: &[u8],
+) -> Result<(u16, Vec<u8>), Fail> {
     let mut out = Vec::new(rt.alloc());
     match node.body_one(&(), rt.alloc(), &mut [Passes], target, &mut out) {
-        Ok(sent) => {
-            assert_eq!(rt; sent.bytes, out.len() as u64);
-            Ok((sent.status, out))
-        }
+        Ok(sent) if sent.bytes == out.len() as u64 => Ok((sent.status, out)),
+        Ok(_) => Err(Fail::from("another number of bytes")),
         Err(_) => Err(Fail::from("the answer was cut off")),
     }
 }
@@ -78,12 +84,18 @@ fn scaled_and_turned_samples(rt: HostRuntime) -> Result<(), Fail> {
     let cases: [(&[u8], &[u8]); 9] = [
         (b"/iiif/a/full/2,/0/default.tif", &[25, 45, 105, 125]),
         (b"/iiif/a/full/%5E2,/0/default.tif", &[25, 45, 105, 125]),
-        (b"/iiif/a/full/3,3/0/default.tif", &[13, 25, 38, 63, 75, 88, 113, 125, 138]),
+        (
+            b"/iiif/a/full/3,3/0/default.tif",
+            &[13, 25, 38, 63, 75, 88, 113, 125, 138],
+        ),
         (b"/iiif/a/full/2,/90/default.tif", &[105, 25, 125, 45]),
         (b"/iiif/a/full/2,/!90/default.tif", &[125, 45, 105, 25]),
         (b"/iiif/a/full/2,/!180/default.tif", &[105, 125, 25, 45]),
         (b"/iiif/a/3,3,5,5/max/0/default.tif", &[150]),
-        (b"/iiif/a/pct:25,25,50,50/max/0/default.tif", &[50, 60, 90, 100]),
+        (
+            b"/iiif/a/pct:25,25,50,50/max/0/default.tif",
+            &[50, 60, 90, 100],
+        ),
         (b"/iiif/a/full/max/0/bitonal.tif", &[0, 0, 0, 0x70]),
     ];
     for (target, samples) in cases {
@@ -111,7 +123,11 @@ fn each_refusal_by_its_line(rt: HostRuntime) -> Result<(), Fail> {
         (b"/iiif/a/full/0,/0/default.tif", 400, b"Q11 zero\n"),
         (b"/iiif/a/full/8,/0/default.tif", 400, b"Q12 larger\n"),
         (b"/iiif/a/full/^8,/0/default.tif", 501, b"Q13 upscale\n"),
-        (b"/iiif/a/full/pct:100.1/0/default.tif", 400, b"Q12 larger\n"),
+        (
+            b"/iiif/a/full/pct:100.1/0/default.tif",
+            400,
+            b"Q12 larger\n",
+        ),
     ];
     for (target, status, line) in cases {
         let (answered, body) = body(&rt, &node, target)?;
@@ -125,7 +141,11 @@ fn each_refusal_by_its_line(rt: HostRuntime) -> Result<(), Fail> {
 
 #[test]
 fn escaped_slash_in_a_name(rt: HostRuntime) -> Result<(), Fail> {
-    let (status, body) = body(&rt, &node(&rt, "a/b")?, b"/iiif/a%2Fb/full/max/0/default.tif?x=1")?;
+    let (status, body) = body(
+        &rt,
+        &node(&rt, "a/b")?,
+        b"/iiif/a%2Fb/full/max/0/default.tif?x=1",
+    )?;
     assert_eq!(rt; (status, body.len()), (200, 190));
     Ok(())
 }
@@ -138,7 +158,11 @@ fn failed_read_is_a_source_fault(rt: HostRuntime) -> Result<(), Fail> {
         return Err(Fail::from("the sample is refused"));
     };
     let mut catalogue = Catalogue::new(alloc);
-    let added = catalogue.add(String::from_str(alloc, "a")?, FuseSource::new(source, 1), layout);
+    let added = catalogue.add(
+        String::from_str(alloc, "a")?,
+        FuseSource::new(source, 1),
+        layout,
+    );
     assert_eq!(rt; added, Ok(()));
     let Ok(config) = Config::new(alloc, "http://localhost/iiif", 2, limits(4096), 64, 2) else {
         return Err(Fail::from("the settings are refused"));
@@ -179,7 +203,14 @@ fn settings_are_refused_in_order(rt: HostRuntime) -> Result<(), Fail> {
     let cases = [
         ("http:/localhost", 5, 4, 0, 0, ConfigFault::Base),
         ("http://localhost/", 2, 4, 64, 2, ConfigFault::Base),
-        ("http://localhost:65536/iiif", 2, 4, 64, 2, ConfigFault::Base),
+        (
+            "http://localhost:65536/iiif",
+            2,
+            4,
+            64,
+            2,
+            ConfigFault::Base,
+        ),
         ("ftp://localhost", 2, 4, 64, 2, ConfigFault::Base),
         ("http://localhost", 5, 4, 64, 2, ConfigFault::Edge),
         ("http://localhost", 1025, 4096, 64, 2, ConfigFault::Edge),
@@ -204,12 +235,19 @@ fn settings_are_refused_in_order(rt: HostRuntime) -> Result<(), Fail> {
 fn names_are_taken_once(rt: HostRuntime) -> Result<(), Fail> {
     let alloc = rt.alloc();
     let mut catalogue: Catalogue<(), MemSource> = Catalogue::new(alloc);
-    for (name, answer) in [("", Err(AddFault::Name)), ("a", Ok(())), ("a", Err(AddFault::Twice))] {
+    for (name, answer) in [
+        ("", Err(AddFault::Name)),
+        ("a", Ok(())),
+        ("a", Err(AddFault::Twice)),
+    ] {
         let source = memory(&rt)?;
         let Ok(layout) = open(&(), alloc, &source) else {
             return Err(Fail::from("the sample is refused"));
         };
-        assert_eq!(rt; catalogue.add(String::from_str(alloc, name)?, source, layout), answer);
+        assert_eq!(rt;
+            catalogue.add(String::from_str(alloc, name)?, source, layout),
+            answer
+        );
     }
     assert!(rt; catalogue.has("a") && catalogue.find("b").is_none());
     Ok(())
