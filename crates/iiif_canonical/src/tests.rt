@@ -336,7 +336,7 @@ fn comes_back(rt: &impl Abort, alloc: Global, request: &Request) -> Result<(), F
         .as_str()
         .strip_prefix("http://localhost")
         .ok_or("no path")?;
-    let target = split(alloc, "/iiif", path.as_bytes())
+    let target = split(alloc, b"/iiif", path.as_bytes())
         .ok()
         .ok_or("no target")?;
     let Target::Image(id, words) = target else {
