@@ -28,11 +28,8 @@ fn no_words_print_the_sample(rt: HostRuntime) -> Result<(), Fail> {
     assert_eq!(rt; (status, err.len()), (0, 0));
     assert_eq!(rt; out.len(), 190 * 3);
     let first = b"49 49 2a 00 08 00 00 00 0c 00 00 01 04 00 01 00\n";
-    assert_eq!(rt; &out[..48], first.as_slice());
-    assert_eq!(rt;
-        &out[528..],
-        b"14 1e 28 32 3c 46 50 5a 64 6e 78 82 8c 96\n".as_slice()
-    );
+    assert!(rt; out.starts_with(first));
+    assert!(rt; out.ends_with(b"14 1e 28 32 3c 46 50 5a 64 6e 78 82 8c 96\n"));
     Ok(())
 }
 
@@ -180,7 +177,9 @@ fn files_that_are_no_images_are_named(rt: HostRuntime) -> Result<(), Fail> {
     assert_eq!(rt; out.as_slice(), sample.as_slice());
     // Compression, the fourth entry, is 5 in place of 1.
     let mut packed = sample;
-    packed[54] = 5;
+    if let Some(compression) = packed.get_mut(54) {
+        *compression = 5;
+    }
     fs::write(&rt, "packed.tif", &packed)?;
     let (status, out, err) = run(&rt, &["--base", BASE, "--one", WHOLE, "a=packed.tif"])?;
     assert_eq!(rt; err.as_slice(), b"image a: 4\n".as_slice());

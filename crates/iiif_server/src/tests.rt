@@ -190,7 +190,8 @@ fn writer_that_fails_leaves_a_strict_prefix(rt: HostRuntime) -> Result<(), Fail>
             Err(cut) => {
                 assert_eq!(rt; cut.sent, room as u64);
                 assert_eq!(rt; cut.cause, Cause::Writer);
-                assert_eq!(rt; out.taken.as_slice(), &whole[..room]);
+                assert_eq!(rt; out.taken.len(), room);
+                assert!(rt; whole.starts_with(&out.taken));
             }
         }
     }
