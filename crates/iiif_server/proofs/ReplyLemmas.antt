@@ -14,13 +14,13 @@ use Rattle.iiif_server.specs.Answers.{Replies, identifier_of, no_request, no_ima
 use Rattle.iiif_request.specs.declared.request.Refusal.TheVariants.{Path}
 use Rattle.iiif_server.specs.Allowed.{IsStable}
 use Rattle.iiif_canonical.specs.declared.resolved.Limits.{Limits}
-use Rattle.iiif_server.specs.Outcomes.{ImageComes, Comes_to}
+use Rattle.iiif_server.specs.Outcomes.{ImageComes, ComesTo}
 use Rattle.iiif_server.specs.declared.outcome.Outcome.{Outcome}
 use Rattle.iiif_server.specs.declared.outcome.Outcome.TheVariants.{Refused, Redirect, Image, Source, NoMemory}
 
 pub image_replies : {S : Type 0} (bytes : S → List ℕ) (gave : S → ReadFault → Bool) (settings : Settings) (items : List (Item S)) (target id : List ℕ)
     (w : Texts) (item : Item S) (o : Outcome) → AsksFor (path_of settings.base) target (image id w) → item_named items id ≡ Some item
-    → ImageComes (bytes item.source) (gave item.source) (limits_of settings) w o → Comes_to gave (Replies bytes settings items target) o
+    → ImageComes (bytes item.source) (gave item.source) (limits_of settings) w o → ComesTo gave (Replies bytes settings items target) o
 image_replies bytes gave settings items target id w item (Refused e) asks found (inl says) = no_request id w item e asks found says
 image_replies bytes gave settings items target id w item (Refused e) asks found (inr m) = no_image id w item m.1 m.0 e asks found m.2 m.3 m.4
 image_replies bytes gave settings items target id w item Redirect asks found m = elim m [ ]
@@ -64,7 +64,7 @@ pub words_reply : {S : Type 0} (bytes : S → List ℕ) (keeps : S → Type 0) (
     → prefix ≡ path_of settings.base → AsksFor prefix target (resource_of t) → t ≡ Target.Image f w
     → id ≡ identifier_of (resource_of t) → Some item ≡ item_named items id → limits ≡ limits_of settings
     → (keeps item.source → ImageComes (bytes item.source) (gave item.source) limits (texts w) o)
-    → IsStable keeps settings items target → Comes_to gave (Replies bytes settings items target) o
+    → IsStable keeps settings items target → ComesTo gave (Replies bytes settings items target) o
 words_reply bytes keeps gave settings items target prefix id t f w item limits o p asks e same found l comes stable =
     let asks' = asked (path_of settings.base) prefix target t (Target.Image f w) p asks e in
     let found' = named items id t (Target.Image f w) item e same found in

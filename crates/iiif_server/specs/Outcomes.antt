@@ -30,14 +30,14 @@ ImageComes bytes gave limits w (Source f) = (q : Request) × (p r : Picture) × 
 ImageComes bytes gave limits w NoMemory = Unit {0}
 
 -- what a call comes to, where it reaches these replies
-abbrev pub Comes_to : {S : Type 0} → (S → ReadFault → Bool) → (Reply S → Type 0) → Outcome → Type 0
-Comes_to gave Reaches (Refused e) = Reaches (refused e)
-Comes_to gave Reaches Redirect = (id : List ℕ) × Reaches (redirect id)
-Comes_to {S} gave Reaches (Image raster kind) =
+abbrev pub ComesTo : {S : Type 0} → (S → ReadFault → Bool) → (Reply S → Type 0) → Outcome → Type 0
+ComesTo gave Reaches (Refused e) = Reaches (refused e)
+ComesTo gave Reaches Redirect = (id : List ℕ) × Reaches (redirect id)
+ComesTo {S} gave Reaches (Image raster kind) =
     (item : Item S) × (q : Request) × (p : Picture) × Reaches (given item q p raster) × (kind ≡ out_kind_of (kind_of p) q.quality)
-Comes_to {S} gave Reaches (Source f) =
+ComesTo {S} gave Reaches (Source f) =
     (item : Item S) × (q : Request) × (p r : Picture) × Reaches (given item q p r) × IsTrue (gave item.source f)
-Comes_to gave Reaches NoMemory = Unit {0}
+ComesTo gave Reaches NoMemory = Unit {0}
 
 -- the picture can be written as a file of that kind
 abbrev pub CanBeWritten : Outcome → Type 0

@@ -4,7 +4,7 @@ ghost use Rattle.std.specs.Prelude.{◌≡◌, ℕ, List, IsSome};
 ghost use Rattle.std.specs.Io.KnownBytes.{Appends};
 ghost use Rattle.iiif_server.specs.Answers.{Replies};
 ghost use Rattle.iiif_server.specs.Allowed.{Allowed, IsStable, bodies};
-ghost use Rattle.iiif_server.specs.Outcomes.{CanBeWritten, Comes_to};
+ghost use Rattle.iiif_server.specs.Outcomes.{CanBeWritten, ComesTo};
 ghost use Rattle.iiif_server.specs.Nodes.{settings, items};
 ghost use Rattle.iiif_server.specs.Items.{items_of};
 
@@ -44,7 +44,7 @@ impl<R, S: Source<R> + Drop> Node<R, S> {
     /// What a call for a target comes to.
     fn outcome(&self, rt: &R, alloc: Global, target: &[u8]) -> Outcome
         ensures comes { IsStable S.keeps (settings self.now) (items self.now) target.now
-            → Comes_to S.gave (Replies S.bytes (settings self.now) (items self.now) target.now) result }
+            → ComesTo S.gave (Replies S.bytes (settings self.now) (items self.now) target.now) result }
         ensures written { CanBeWritten result }
     {
         let resource = match split(alloc, self.config.prefix(), target) {
