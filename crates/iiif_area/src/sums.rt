@@ -5,7 +5,7 @@ ghost use Rattle.iiif_pixel.specs.Geometry.{channels_of, sides_of, LiesIn};
 ghost use Rattle.iiif_pixel.specs.Picture.{Picture, dim_of, IsWhole};
 ghost use Rattle.iiif_pixel.specs.Operations.{crop};
 ghost use Rattle.iiif_pixel.specs.Scaling.{scale, whole_of};
-ghost use Rattle.iiif_area.specs.Places.{part_of, IsInside, IsWithinLimits, Meets};
+ghost use Rattle.iiif_area.specs.Places.{part_of, places_of, IsInside, IsWithinLimits, Meets};
 ghost use Rattle.iiif_area.specs.Grid.{finished, grid_of, merged, sums_at, sums_of, IsGrid};
 
 use crate::columns::tile_sums;
@@ -74,7 +74,9 @@ impl Sums {
         requires sides { dim_of tile.now ≡ sides_of at }
         requires meets { Meets at region }
         requires limits { IsWithinLimits (sides_of region) size }
-        ensures { IfOk result (λ s. (p : Picture) → tile.now ≡ crop p at → s ≡ sums_of (crop p region) size (part_of at region)) }
+        ensures sums { IfOk result (λ s. (p : Picture) → tile.now ≡ crop p at → s ≡ sums_of (crop p region) size (part_of at region)) }
+        ensures places { IfOk result (λ s. s.rect ≡ places_of (sides_of region) size (part_of at region)) }
+        ensures channels { IfOk result (λ s. s.channels ≡ tile.now.channels) }
     {
         let sides = Dim {
             w: region.w,

@@ -11,8 +11,8 @@ use Rattle.iiif_area.proofs.sums.Sums.of_tile.Goals as goal
 pub invariant_of-result : goal.invariant_of-result
 invariant_of-result c = rw (c.in_ok-sums.ensures, c.kind.ensures) (length-samples_of _ _ _ _)
 
-pub returns : goal.returns
-returns c = λ p e.
+pub returns-clause-sums : goal.returns-clause-sums
+returns-clause-sums c = λ p e.
     let region = c.args.region in
     let size = c.args.size in
     let r = c.places_of-rect.result in

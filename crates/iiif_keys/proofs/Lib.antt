@@ -1,0 +1,13 @@
+pub mod Cuts
+pub mod Derived
+pub mod Examples
+pub mod KeyBytes
+pub mod KeyTests
+pub mod Meant
+pub mod Numbers
+pub mod Named
+pub mod Names
+pub mod PartLaws
+pub mod Read
+pub mod ValueBytes
+pub mod Written

@@ -1,0 +1,127 @@
+//! What keys are to caches, flights and peers.
+
+ghost use Rattle.std.specs.Prelude.{◌≡◌, ◌↔◌, ◌+◌, ◌^◌, ◌<◌, ◌≤◌, ◌⊎◌, ℕ, true, List, length, Option, Some, None, IfErr, IfOk, IsTrue, MatchResult};
+ghost use Rattle.iiif_pixel.specs.Geometry.{channels_of};
+ghost use Rattle.iiif_pixel.specs.declared.geometry.Dim.{Dim};
+ghost use Rattle.iiif_pixel.specs.Picture.{Picture, dim_of};
+ghost use Rattle.iiif_keys.specs.Names.{Pictures, AreSources, IsName};
+ghost use Rattle.iiif_keys.specs.Blocks.{NamesPart};
+ghost use Rattle.iiif_keys.specs.declared.fault.KeyFault.{KeyFault};
+
+use crate::fault::KeyFault;
+use crate::keys::Shape;
+use crate::name::Name;
+use iiif_pixel::NoMemory;
+use std::alloc::Global;
+
+/// A key, which describes its value: a value is its key's meaning.
+pub trait CacheKey: Drop + Eq {
+    type Value: Drop;
+
+    /// The name of the image, and the side of a tile.
+    ghost name_of: { Self → List ℕ };
+
+    ghost edge_of: { Self → ℕ };
+
+    /// A key waits only for keys of lower ranks.
+    ghost rank_of: { Self → ℕ };
+
+    /// The key names a part of an image with these sides and channels.
+    ghost fits_in: { Dim → ℕ → Self → Type 0 };
+
+    /// The value that the key names, where names have these pictures.
+    ghost meaning: { Pictures → Self → Self.Value };
+
+    /// What its parts' meanings make.
+    ghost derived: { Pictures → Self → Self.Value };
+
+    /// A value has the sides or places, and the channels, of the key's meaning, in an image with these sides and channels.
+    ghost has_shape: { Dim → ℕ → Self → Self.Value → Type 0 };
+
+    /// The keys and the values that are read from bytes, their bytes, and why other bytes are refused.
+    ghost is_key: { Self → Type 0 };
+
+    ghost key_bytes: { Self → List ℕ };
+
+    ghost key_refusal: { List ℕ → Option KeyFault };
+
+    ghost is_value: { Self.Value → Type 0 };
+
+    ghost val_bytes: { Self.Value → List ℕ };
+
+    ghost val_refusal: { List ℕ → Option KeyFault };
+
+    /// The name of the image.
+    fn name(&self) -> &Name
+        ensures value { result.now ≡ name_of self.now }
+        ensures name { IsName (name_of self.now) };
+
+    /// How many levels of parts a value has below it: 0 for a tile. Parts have a rank of one less.
+    fn rank(&self) -> u32
+        ensures { result ≡ rank_of self.now };
+
+    /// Whether the key has this edge and names a part of an image of this shape. It takes no memory.
+    fn fits(&self, edge: u32, shape: &Shape) -> bool
+        ensures fits { IsTrue result ↔ ((edge_of self.now ≡ edge) × fits_in shape.now.dim (channels_of shape.now.kind) self.now) }
+        // Of the shape of the named picture: whether the key names something.
+        ensures named { (shows : Pictures) (p : Picture) → shows (name_of self.now) ≡ Some p → dim_of p ≡ shape.now.dim
+            → p.channels ≡ channels_of shape.now.kind
+            → IsTrue result ↔ NamesPart shows edge (name_of self.now) (edge_of self.now) (λ d n. fits_in d n self.now) };
+
+    /// Whether a value has the sides or places and the channels of the meaning of a key that fits. It takes no memory.
+    fn shaped(&self, shape: &Shape, value: &Self::Value) -> bool
+        requires { fits_in shape.now.dim (channels_of shape.now.kind) self.now }
+        ensures shape { IsTrue result ↔ has_shape shape.now.dim (channels_of shape.now.kind) self.now value.now }
+        ensures value { IsTrue result → is_value value.now };
+
+    /// How many bytes the key and a value take together. It takes no memory.
+    fn size(&self, value: &Self::Value) -> u64
+        ensures { result ≡ length (key_bytes self.now) + length (val_bytes value.now) };
+
+    /// An equal key. The only error is want of memory.
+    fn copy(&self) -> Result<Self, NoMemory>
+        ensures { IfOk result (λ k. k ≡ self.now) };
+
+    /// The key's bytes. The only error is want of memory.
+    fn bytes(&self, alloc: Global) -> Result<Vec<u8>, NoMemory>
+        ensures { IfOk result (λ v. v.items ≡ key_bytes self.now) };
+
+    /// The key with these bytes, or the first check that they fail. Memory is taken for bytes that fail none.
+    fn from_bytes(alloc: Global, bytes: &[u8]) -> Result<Self, KeyFault>
+        ensures found { IfOk result (λ k. is_key k × (bytes.now ≡ key_bytes k)) }
+        ensures only { (k : Self) → is_key k → bytes.now ≡ key_bytes k → MatchResult result (λ r. r ≡ k) (λ f. f ≡ KeyFault.NoMemory) }
+        ensures refused { IfErr result (λ f. (key_refusal bytes.now ≡ Some f) ⊎ ((key_refusal bytes.now ≡ None) × (f ≡ KeyFault.NoMemory))) };
+
+    /// The value's bytes. The only error is want of memory.
+    fn value_bytes(alloc: Global, value: &Self::Value) -> Result<Vec<u8>, NoMemory>
+        ensures { IfOk result (λ v. v.items ≡ val_bytes value.now) };
+
+    /// The value with these bytes, or the first check that they fail. Memory is taken for bytes that fail none.
+    fn value_from(alloc: Global, bytes: &[u8]) -> Result<Self::Value, KeyFault>
+        ensures found { IfOk result (λ v. is_value v × (bytes.now ≡ val_bytes v)) }
+        ensures only { (v : Self.Value) → is_value v → bytes.now ≡ val_bytes v → MatchResult result (λ r. r ≡ v) (λ f. f ≡ KeyFault.NoMemory) }
+        ensures refused { IfErr result (λ f. (val_refusal bytes.now ≡ Some f) ⊎ ((val_refusal bytes.now ≡ None) × (f ≡ KeyFault.NoMemory))) };
+
+    /// It computes nothing: its contract has the laws of keys.
+    fn laws()
+        // What the parts' meanings make is the whole's meaning.
+        ensures derived { (shows : Pictures) (p : Picture) (k : Self) → AreSources shows → shows (name_of k) ≡ Some p
+            → fits_in (dim_of p) p.channels k → derived shows k ≡ meaning shows k }
+
+        // A meaning has its key's shape, and is read from bytes.
+        ensures meant { (shows : Pictures) (p : Picture) (k : Self) → AreSources shows → shows (name_of k) ≡ Some p
+            → fits_in (dim_of p) p.channels k → has_shape (dim_of p) p.channels k (meaning shows k) × is_value (meaning shows k) }
+
+        // A key that fits an image is read from bytes, and it and the values of its shape are short enough to be sent.
+        ensures keys { (image : Dim) (channels : ℕ) (k : Self) → image.w < 2 ^ 32 → image.h < 2 ^ 32 → IsName (name_of k)
+            → fits_in image channels k → is_key k }
+        ensures key_len { (k : Self) → is_key k → length (key_bytes k) ≤ 4096 }
+        ensures val_len { (image : Dim) (channels : ℕ) (k : Self) (v : Self.Value) → channels ≤ 3 → fits_in image channels k
+            → has_shape image channels k v → is_value v → length (val_bytes v) ≤ 2 ^ 26 };
+
+    /// Keys that are equal by `==` are one key.
+    ghost identical: { (a b : Self) → Self.eq a b ≡ true → a ≡ b };
+
+    /// A key has bytes, so that no entry is of size 0.
+    ghost spelled: { (k : Self) → 0 < length (key_bytes k) };
+}

@@ -1,0 +1,31 @@
+//! Keys of tiles and of sums: which value each means, how a sum is made of its parts, and how keys and values are spelled in
+//! bytes. What an image shows, and what a value is, stands in `specs/`.
+#![tactic(auto)]
+
+pub use cache_key::CacheKey;
+pub use fault::{Fault, KeyFault};
+pub use keys::{Parts, Shape, SumKey, TileKey};
+pub use name::Name;
+pub use splitting::parts;
+pub use values::{SumVal, TileVal};
+
+pub mod cache_key;
+pub mod entries;
+pub mod fault;
+mod fields;
+pub mod keys;
+pub mod laws;
+pub mod name;
+mod places;
+#[cfg(test)]
+mod plain;
+pub mod splitting;
+mod sum_bytes;
+mod sum_val_bytes;
+pub mod sums;
+#[cfg(test)]
+mod tests;
+mod tile_bytes;
+mod tile_val_bytes;
+pub mod tiles;
+pub mod values;
