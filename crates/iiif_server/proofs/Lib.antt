@@ -3,6 +3,8 @@ mod SettingsLemmas
 mod ScalingLemmas
 mod RenderLemmas
 mod OutcomeLemmas
-mod AllowedLemmas
 mod ItemLemmas
 mod ReplyLemmas
+mod StreamLemmas
+mod MessageLemmas
+mod AllowedLemmas

@@ -1,5 +1,5 @@
 -- What numerals are worth.
-use Rattle.std.proofs.Common.{◌≡◌, ℕ, ◌^◌, ◌<◌, ◌≤◌, Bool, true, false, List, length, refl, ap, ◌∙◌, arith, rules, ◌&&◌, Ok, Err, Some, None, Result, nat_lt, nat_le, sym}
+use Rattle.std.proofs.Common.{◌≡◌, ℕ, ◌<◌, ◌≤◌, Bool, true, false, List, length, refl, ◌∙◌, arith, rules, ◌&&◌, Ok, Err, Some, None, Result, nat_lt, nat_le, sym}
 use Rattle.std.proofs.lemmas.Bool.{ltb-true, leb-true, lt-ltb, le-leb}
 use Rattle.std.specs.Char.{is_ascii_digit}
 use Rattle.std.specs.List.{list_all}

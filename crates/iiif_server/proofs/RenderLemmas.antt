@@ -1,5 +1,5 @@
 -- The steps of an image, joined.
-use Rattle.std.proofs.Common.{◌≡◌, ℕ, zero, suc, ◌<◌, Bool, true, false, refl, sym, ap, ◌∙◌, arith}
+use Rattle.std.proofs.Common.{◌≡◌, ℕ, zero, suc, ◌<◌, Bool, true, false, refl, ap, ◌∙◌, arith}
 use Rattle.std.specs.Prelude.{if◌then◌else◌}
 use Rattle.iiif_pixel.specs.Picture.{Picture, dim_of}
 use Rattle.iiif_pixel.specs.Operations.{crop, mirrored, turned_by, turned_width, turned_height, turn, quality}
@@ -50,3 +50,9 @@ image_sides region scaled turned image size t to few made by in_quality =
       ap dim_of whole ∙ last.0 ∙ before.0,
       ap (λ (p : Picture). p.channels) whole ∙ last.1 ∙ ap (channels_in to) before.1,
     )
+
+-- the sides of the image that a request comes to
+pub resolved_sides : (p : Picture) (r : Resolved) → r.turn.quarters < 4 → dim_of (resolved_image p r) ≡ turned_dim r.turn r.size
+unfolding resolved_image
+resolved_sides p r few =
+    (image_sides (crop p r.rect) (scale (crop p r.rect) r.size) (turn (scale (crop p r.rect) r.size) r.turn) (resolved_image p r) r.size r.turn r.quality few refl refl refl).0

@@ -1,5 +1,5 @@
 -- A region taken as one tile, and the result that its sums make.
-use Rattle.std.proofs.Common.{◌≡◌, ℕ, ◌+◌, ◌-◌, ◌*◌, ◌/◌, ◌%◌, ◌<◌, ◌≤◌, min, max, refl, sym, subst, ap, ◌∙◌, arith}
+use Rattle.std.proofs.Common.{◌≡◌, ℕ, ◌+◌, ◌*◌, ◌/◌, ◌%◌, ◌<◌, refl, sym, subst, ap, ◌∙◌, arith}
 use Rattle.std.proofs.Math.Nat.{zero-div, mul-div_cancel_left, mul-mod_right}
 use Rattle.std.specs.Int.{div_ceil}
 use Rattle.iiif_pixel.specs.Geometry.{LiesIn}

@@ -1,5 +1,5 @@
 -- The images that a server has.
-use Rattle.std.specs.Prelude.{◌≡◌, ℕ, ◌≤◌, ◌<◌, Bool, ◌&&◌, ◌||◌, not, List, length, find, bytes_eq, Option, Some, None, Result, Ok, Err, is_some, nat_lt, nat_le, if◌then◌else◌}
+use Rattle.std.specs.Prelude.{◌≡◌, ℕ, Bool, ◌&&◌, not, List, length, find, bytes_eq, Option, Some, None, Result, Ok, Err, is_some, nat_lt, nat_le, if◌then◌else◌}
 use Rattle.iiif_server.specs.declared.catalogue.AddFault.{AddFault}
 use Rattle.iiif_server.specs.declared.catalogue.AddFault.TheVariants.{Name, Twice, NoMemory}
 

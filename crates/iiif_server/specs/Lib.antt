@@ -7,5 +7,9 @@ pub mod Items
 pub mod Nodes
 pub mod Sent
 pub mod Answers
+pub mod Responses
 pub mod Allowed
+pub mod Calls
+pub mod Streams
 pub mod Outcomes
+pub mod Code

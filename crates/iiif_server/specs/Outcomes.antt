@@ -1,48 +1,71 @@
--- What a call comes to before anything is sent.
-use Rattle.std.specs.Prelude.{◌≡◌, ℕ, ◌<◌, ◌^◌, ◌⊎◌, Bool, List, IsTrue, Ok, Err}
+-- What a target comes to before anything is loaded or sent.
+use Rattle.std.specs.Prelude.{◌≡◌, ℕ, ◌<◌, ◌^◌, List, Result, Ok, Err}
+use Rattle.iiif_area.specs.Places.{IsWithinLimits}
+use Rattle.iiif_pixel.specs.Geometry.{LiesIn, sides_of}
 use Rattle.iiif_pixel.specs.Picture.{Picture, dim_of}
-use Rattle.iiif_source.specs.declared.ReadFault.{ReadFault}
-use Rattle.iiif_tiff.specs.Tiff.{Shows}
+use Rattle.iiif_pixel.specs.TurnPlaces.{turned_dim}
+use Rattle.iiif_tiff.specs.Tiff.{Shows, Scheme}
+use Rattle.iiif_tiff_read.specs.Layouts as layouts
 use Rattle.iiif_tiff_write.specs.File.{file_len}
 use Rattle.iiif_tiff_write.specs.OutKind.{out_kind_of, samples_per_pixel}
+use Rattle.iiif_request.specs.Requests.{HasShortDecimals}
 use Rattle.iiif_request.specs.Spells.{Texts, Says}
 use Rattle.iiif_request.specs.declared.request.Request.{Request}
+use Rattle.iiif_request.specs.declared.request.Refusal.{Refusal}
 use Rattle.iiif_canonical.specs.Images as images
+use Rattle.iiif_canonical.specs.Images.{resolved_image}
+use Rattle.iiif_canonical.specs.Canonical.{canonical}
 use Rattle.iiif_canonical.specs.declared.resolved.Limits.{Limits}
-use Rattle.iiif_server.specs.Answers.{Reply, refused, redirect, given}
-use Rattle.iiif_server.specs.Collection.{Item}
-use Rattle.iiif_server.specs.Kinds.{kind_of}
+use Rattle.iiif_server.specs.Answers.{Reply, refused, redirect, described, given}
+use Rattle.iiif_server.specs.Items.{item_of}
+use Rattle.iiif_server.specs.Kinds.{kind_of, channels_in}
+use Rattle.iiif_server.specs.declared.accepted.Accepted.{Accepted}
 use Rattle.iiif_server.specs.declared.outcome.Outcome.{Outcome}
-use Rattle.iiif_server.specs.declared.outcome.Outcome.TheVariants.{Refused, Redirect, Image, Source, NoMemory}
+use Rattle.iiif_server.specs.declared.outcome.Outcome.TheVariants.{Refused, Redirect, Information, Image, NoMemory}
 
--- a request of the words, for a picture that the bytes show, comes to this
-abbrev pub Comes : List ℕ → Limits → Texts → Request → Picture → Picture → Type 0
-Comes bytes limits w q p r = Shows bytes p × Says w (Ok q) × (images.image p q limits ≡ Ok r)
+-- a request of the words, for a picture that the bytes show, comes to these values
+pub record Comes (bytes : List ℕ) (limits : Limits) (w : Texts) (a : Accepted) : Type 0 where
+  pub request : Request
+  pub picture : Picture
+  pub shows : Shows bytes picture
+  pub says : Says w (Ok request)
+  pub is_image : images.image picture request limits ≡ Ok (resolved_image picture a.resolved)
+  pub is_canonical : canonical request (dim_of picture) (kind_of picture) limits ≡ Ok a.canonical
+  pub is_kind : a.kind ≡ out_kind_of (kind_of picture) request.quality
 
--- what the words come to for the image of these bytes; gave: the faults of its source
-abbrev pub ImageComes : List ℕ → (ReadFault → Bool) → Limits → Texts → Outcome → Type 0
-ImageComes bytes gave limits w (Refused e) =
-    Says w (Err e) ⊎ ((q : Request) × (p : Picture) × Shows bytes p × Says w (Ok q) × (images.image p q limits ≡ Err e))
-ImageComes bytes gave limits w Redirect = ⊥
-ImageComes bytes gave limits w (Image raster kind) =
-    (q : Request) × (p : Picture) × Comes bytes limits w q p raster × (kind ≡ out_kind_of (kind_of p) q.quality)
-ImageComes bytes gave limits w (Source f) = (q : Request) × (p r : Picture) × Comes bytes limits w q p r × IsTrue (gave f)
-ImageComes bytes gave limits w NoMemory = Unit {0}
+-- the words are refused, or the request that they spell
+pub data IsRefused (bytes : List ℕ) (limits : Limits) (w : Texts) (e : Refusal) : Type 0 where
+  no_request : Says w (Err e) → IsRefused bytes limits w e
+  no_image : (q : Request) (p : Picture) → Shows bytes p → Says w (Ok q) → images.image p q limits ≡ Err e → IsRefused bytes limits w e
 
--- what a call comes to, where it reaches these replies
-abbrev pub ComesTo : {S : Type 0} → (S → ReadFault → Bool) → (Reply S → Type 0) → Outcome → Type 0
-ComesTo gave Reaches (Refused e) = Reaches (refused e)
-ComesTo gave Reaches Redirect = (id : List ℕ) × Reaches (redirect id)
-ComesTo {S} gave Reaches (Image raster kind) =
-    (item : Item S) × (q : Request) × (p : Picture) × Reaches (given item q p raster) × (kind ≡ out_kind_of (kind_of p) q.quality)
-ComesTo {S} gave Reaches (Source f) =
-    (item : Item S) × (q : Request) × (p r : Picture) × Reaches (given item q p r) × IsTrue (gave item.source f)
-ComesTo gave Reaches NoMemory = Unit {0}
+-- what the words come to for the image of these bytes
+abbrev pub Accepts : List ℕ → Limits → Texts → Result Accepted Refusal → Type 0
+Accepts bytes limits w (Ok a) = Comes bytes limits w a
+Accepts bytes limits w (Err e) = IsRefused bytes limits w e
 
--- the picture can be written as a file of that kind
-abbrev pub CanBeWritten : Outcome → Type 0
-CanBeWritten (Refused e) = Unit {0}
-CanBeWritten Redirect = Unit {0}
-CanBeWritten (Image raster kind) = (raster.channels ≡ samples_per_pixel kind) × (file_len kind (dim_of raster) < 2 ^ 32)
-CanBeWritten (Source f) = Unit {0}
-CanBeWritten NoMemory = Unit {0}
+-- the image can be made of a source with that layout, and written
+pub record IsReady (layout : Scheme) (a : Accepted) : Type 0 where
+  pub inside : LiesIn a.resolved.rect (layouts.dim_of layout)
+  pub sizes : IsWithinLimits (sides_of a.resolved.rect) a.resolved.size
+  pub quarters : a.resolved.turn.quarters < 4
+  pub channels : channels_in a.resolved.quality layout.channels ≡ samples_per_pixel a.kind
+  pub len : file_len a.kind (turned_dim a.resolved.turn a.resolved.size) < 2 ^ 32
+  pub short : HasShortDecimals a.canonical
+
+-- what a target comes to, where it reaches these replies and the source that it names keeps its bytes
+abbrev pub ComesTo : {R S : Type 0} {d : _} → (S → List ℕ) → (S → Type 0) → (Reply S → Type 0) → Outcome R S d → Type 0
+ComesTo bytes keeps Reaches (Refused e) = Reaches (refused e)
+ComesTo bytes keeps Reaches (Redirect entry) = Reaches (redirect (item_of entry.now))
+ComesTo bytes keeps Reaches (Information entry d) = Reaches (described (item_of entry.now) d)
+ComesTo bytes keeps Reaches (Image entry a) =
+    keeps entry.now.source × ((q : Request) × (p : Picture) × Shows (bytes entry.now.source) p × (a.kind ≡ out_kind_of (kind_of p) q.quality)
+    × Reaches (given (record { item = item_of entry.now; request = q; canonical = a.canonical; picture = p; image = resolved_image p a.resolved })))
+ComesTo bytes keeps Reaches NoMemory = Unit {0}
+
+-- an image can be made and written
+abbrev pub CanBeMade : {R S : Type 0} {d : _} → Outcome R S d → Type 0
+CanBeMade (Refused e) = Unit {0}
+CanBeMade (Redirect entry) = Unit {0}
+CanBeMade (Information entry d) = Unit {0}
+CanBeMade (Image entry a) = IsReady entry.now.layout a
+CanBeMade NoMemory = Unit {0}

@@ -1,15 +1,18 @@
 -- What one answer leaves in a writer.
-use Rattle.std.specs.Prelude.{◌≡◌, ℕ, ◌<◌, List, length, take, Option, Result, Ok, Err}
+use Rattle.std.specs.Prelude.{◌≡◌, ℕ, ◌<◌, List, ◌++◌, length, take, Option, Result, Ok, Err}
 use Rattle.std.specs.Io.KnownBytes.{Appends}
 use Rattle.iiif_server.specs.declared.answer.Sent.{Sent}
 use Rattle.iiif_server.specs.declared.answer.Cut.{Cut}
-use Rattle.iiif_server.specs.declared.answer.Cause.{Cause}
 use Rattle.iiif_server.specs.declared.answer.Cause.TheVariants.{Writer}
 
--- an answer: its status, and its text
+-- an answer as it is written: its status, and the head and the body that are sent
 pub record Answer : Type 0 where
   pub status : ℕ
-  pub text : List ℕ
+  pub head : List ℕ
+  pub body : List ℕ
+
+abbrev pub text_of : Answer → List ℕ
+text_of a = a.head ++ a.body
 
 -- a first part of a text, and not all of it
 abbrev pub IsStrictPrefix : List ℕ → List ℕ → Type 0
@@ -17,8 +20,8 @@ IsStrictPrefix part text = (n : ℕ) × (n < length text) × (part ≡ take n te
 
 -- The text was sent with that result: the whole answer, or a strict prefix before the writer failed.
 abbrev pub EndsWith : Type 0 → Answer → List ℕ → Result Sent Cut → Type 0
-EndsWith writer a text (Ok sent) = (text ≡ a.text) × (sent.status ≡ a.status) × (sent.bytes ≡ length text)
-EndsWith writer a text (Err cut) = (cut.sent ≡ length text) × (cut.cause ≡ Writer) × writer × IsStrictPrefix text a.text
+EndsWith writer a text (Ok sent) = (text ≡ text_of a) × (sent.status ≡ a.status) × (sent.bytes ≡ length text)
+EndsWith writer a text (Err cut) = (cut.sent ≡ length text) × (cut.cause ≡ Writer) × writer × IsStrictPrefix text (text_of a)
 
 -- the writer has a text more than before, which was sent with that result
 abbrev pub IsSent : {W : Type 0} → (W → Option (List ℕ)) → (W → W → Type 0) → W → W → Answer → Result Sent Cut → Type 0

@@ -1,5 +1,5 @@
 -- What a server is told before it starts.
-use Rattle.std.specs.Prelude.{◌≡◌, ℕ, ◌<◌, ◌≤◌, Bool, ◌&&◌, not, true, false, List, length, min, nat_lt, nat_le, if◌then◌else◌, Option, None, Some, Result, Ok, Err, ⊤}
+use Rattle.std.specs.Prelude.{◌≡◌, ℕ, ◌≤◌, Bool, ◌&&◌, not, true, List, nat_lt, nat_le, if◌then◌else◌, Option, None, Some, Result, Ok, Err, ⊤}
 use Rattle.iiif_server.specs.BaseUrl.{is_base_url}
 use Rattle.iiif_server.specs.declared.config.ConfigFault.{ConfigFault}
 use Rattle.iiif_canonical.specs.declared.resolved.Limits.{Limits}

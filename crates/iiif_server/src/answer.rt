@@ -1,19 +1,6 @@
 //! What a call ends with.
 
-use iiif_source::ReadFault;
-
-/// Why an image could not be loaded.
-#[derive(Clone, Copy, Debug, PartialEq, Eq)]
-pub enum Fault {
-    /// A read of the image's source failed.
-    Source(ReadFault),
-    /// Memory was wanting.
-    NoMemory,
-    /// No image has the name.
-    UnknownName,
-    /// The key names no part of the image.
-    BadKey,
-}
+use iiif_keys::Fault;
 
 /// An answer that was sent whole.
 #[derive(Clone, Copy, Debug, PartialEq, Eq)]

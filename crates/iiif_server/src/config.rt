@@ -1,6 +1,6 @@
 //! What a server is told before it starts.
 
-ghost use Rattle.std.specs.Prelude.{◌≡◌};
+ghost use Rattle.std.specs.Prelude.{◌≡◌, ◌<◌};
 ghost use Rattle.iiif_server.specs.BaseUrl.{path_of};
 ghost use Rattle.iiif_server.specs.Settings.{AreLegal, Configures, is_within, limits_of, refusal_of, settings_of};
 
@@ -108,6 +108,14 @@ impl Config {
         ensures { result.now ≡ path_of self.now.base }
     {
         path_of(self.base.as_str())
+    }
+
+    /// The edge of a tile, in pixels.
+    pub fn edge(&self) -> u32
+        ensures value { result ≡ self.now.edge }
+        ensures some { 0 < result }
+    {
+        self.edge
     }
 
     /// The greatest sides of a result.

@@ -1,22 +1,32 @@
-//! The server: what it is told, the images that it has, and the answer to a call.
+//! The server: what it is told, the images that it has, and the answers to calls and connections.
 #![tactic(auto)]
 
-pub use answer::{Cause, Cut, Fault, Passes, Sent};
+pub use answer::{Cause, Cut, Passes, Sent};
 pub use base_url::is_base_url;
 pub use catalogue::{AddFault, Catalogue, is_name};
 pub use config::{Config, ConfigFault};
+pub use iiif_keys::Fault;
 pub use node::Node;
 pub use numerals::numeral;
+pub use part::Part;
 
+mod accepted;
 pub mod answer;
 mod base_url;
+mod calls;
 pub mod catalogue;
 pub mod config;
 pub mod entry;
+#[cfg(test)]
+mod http_tests;
+mod images;
+mod message;
 pub mod node;
 mod numerals;
 mod outcome;
+pub mod part;
 mod render;
 mod sending;
+pub mod stream;
 #[cfg(test)]
 mod tests;

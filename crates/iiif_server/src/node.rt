@@ -1,23 +1,36 @@
 //! A node: what it was told, its images, and its answers.
 
-ghost use Rattle.std.specs.Prelude.{◌≡◌, ℕ, List, IsSome};
+ghost use Rattle.std.specs.Prelude.{◌≡◌, ℕ, List, IfOk, IsSome};
 ghost use Rattle.std.specs.Io.KnownBytes.{Appends};
 ghost use Rattle.iiif_server.specs.Answers.{Replies};
-ghost use Rattle.iiif_server.specs.Allowed.{Allowed, IsStable, bodies};
-ghost use Rattle.iiif_server.specs.Outcomes.{CanBeWritten, ComesTo};
+ghost use Rattle.iiif_server.specs.Allowed.{Allowed, IsStable, MayAnswer};
+ghost use Rattle.iiif_server.specs.Calls.{RepliesToCall, part_of};
+ghost use Rattle.iiif_server.specs.Code.{answer_of};
+ghost use Rattle.iiif_server.specs.Outcomes.{CanBeMade, ComesTo};
 ghost use Rattle.iiif_server.specs.Nodes.{settings, items};
 ghost use Rattle.iiif_server.specs.Items.{items_of};
+ghost use Rattle.iiif_server.specs.Responses.{Response, written};
+ghost use Rattle.iiif_server.specs.declared.part.Part.TheVariants.{Body};
 
+use crate::accepted::accept;
 use crate::answer::{Cut, Passes, Sent};
+use crate::calls::{is_answered, part_of};
 use crate::catalogue::Catalogue;
 use crate::config::Config;
-use crate::outcome::{Outcome, identifier, image};
-use crate::sending::send_answer;
+use crate::images::image_message;
+use crate::message::{
+    Message, information_message, redirect_message, refusal_message, source_message,
+};
+use crate::outcome::{Outcome, identifier, sides};
+use crate::part::Part;
+use crate::sending::send_message;
+use iiif_http_front::Call;
 use iiif_io::Outlet;
+use iiif_pixel::NoMemory;
 use iiif_request::{Refusal, SplitFault, Target, split};
 use iiif_source::Source;
-use iiif_tiff_write::{head, put_rows};
-use std::alloc::Global;
+use iiif_tiff_read::LoadFault;
+use std::alloc::{AllocError, Global};
 
 /// A server: what it was told, and its images.
 #[derive(Drop)]
@@ -41,11 +54,11 @@ impl<R, S: Source<R> + Drop> Node<R, S> {
         Some(Passes)
     }
 
-    /// What a call for a target comes to.
-    fn outcome(&self, rt: &R, alloc: Global, target: &[u8]) -> Outcome
+    /// What a target comes to before anything is loaded.
+    fn outcome(&self, alloc: Global, target: &[u8]) -> Outcome<'_, R, S>
         ensures comes { IsStable S.keeps (settings self.now) (items self.now) target.now
-            → ComesTo S.gave (Replies S.bytes (settings self.now) (items self.now) target.now) result }
-        ensures written { CanBeWritten result }
+            → ComesTo S.bytes S.keeps (Replies S.bytes (settings self.now) (items self.now) target.now) result }
+        ensures made { CanBeMade result }
     {
         let resource = match split(alloc, self.config.prefix(), target) {
             Ok(resource) => resource,
@@ -56,9 +69,36 @@ impl<R, S: Source<R> + Drop> Node<R, S> {
             return Outcome::Refused(Refusal::Identifier);
         };
         match &resource {
-            Target::Base(_) => Outcome::Redirect,
-            Target::Info(_) => Outcome::Refused(Refusal::Path),
-            Target::Image(_, words) => image(rt, alloc, entry, &self.config.limits(), words),
+            Target::Base(_) => Outcome::Redirect(entry),
+            Target::Info(_) => Outcome::Information(entry, sides(entry)),
+            Target::Image(_, words) => match accept(entry, &self.config.limits(), words) {
+                Ok(accepted) => Outcome::Image(entry, accepted),
+                Err(refusal) => Outcome::Refused(refusal),
+            },
+        }
+    }
+
+    /// The answer to a target, as that part of it is written.
+    fn message(&self, rt: &R, alloc: Global, part: Part, target: &[u8]) -> Result<Message, NoMemory>
+        ensures { IsStable S.keeps (settings self.now) (items self.now) target.now → IfOk result (λ m. (a : Response)
+            × MayAnswer (settings self.now) part S.gave (Replies S.bytes (settings self.now) (items self.now) target.now) a
+            × (answer_of m ≡ written part a)) }
+    {
+        let base = self.config.base();
+        match self.outcome(alloc, target) {
+            Outcome::Refused(refusal) => refusal_message(alloc, part, refusal),
+            Outcome::Redirect(entry) => redirect_message(alloc, part, base, entry.name.as_str()),
+            Outcome::Information(entry, dim) => {
+                information_message(alloc, part, &self.config, entry.name.as_str(), dim)
+            }
+            Outcome::Image(entry, accepted) => {
+                match image_message(rt, alloc, part, base, entry, &accepted) {
+                    Ok(message) => Ok(message),
+                    Err(LoadFault::Source(_)) => source_message(alloc, part),
+                    Err(LoadFault::NoMemory) => Err(AllocError),
+                }
+            }
+            Outcome::NoMemory => Err(AllocError),
         }
     }
 
@@ -71,25 +111,49 @@ impl<R, S: Source<R> + Drop> Node<R, S> {
         target: &[u8],
         out: &mut W,
     ) -> Result<Sent, Cut>
-        ensures allowed { IsStable S.keeps (settings self.now) (items self.now) target.now
-            → (text : List ℕ) × Appends (W.contents out.old) (W.contents out.new) text
-            × Allowed bodies S.gave (Replies S.bytes (settings self.now) (items self.now) target.now) ((before : W) × W.fails before out.new) text result }
+        ensures allowed { (text : List ℕ) × Appends (W.contents out.old) (W.contents out.new) text
+            × (IsStable S.keeps (settings self.now) (items self.now) target.now → Allowed (settings self.now) Body S.gave
+            (Replies S.bytes (settings self.now) (items self.now) target.now) ((before : W) × W.fails before out.new) text result) }
     {
-        match self.outcome(rt, alloc, target) {
-            Outcome::Refused(refusal) => {
-                send_answer(out, refusal.status(), refusal.line().as_bytes(), b"\n")
-            }
-            Outcome::Redirect => send_answer(out, 303, b"", b""),
-            Outcome::Image(raster, kind) => {
-                let head = head(kind, raster.dim());
-                let mut rows = Vec::new(alloc);
-                match put_rows(&raster, kind, &mut rows) {
-                    Ok(()) => send_answer(out, 200, head.as_slice(), &rows),
-                    Err(_) => send_answer(out, 500, b"L2 memory", b"\n"),
-                }
-            }
-            Outcome::Source(_) => send_answer(out, 500, b"L1 source", b"\n"),
-            Outcome::NoMemory => send_answer(out, 500, b"L2 memory", b"\n"),
+        let message = self.message(rt, alloc, Part::Body, target);
+        send_message(out, Part::Body, message)
+    }
+
+    /// The answer to a call, as that part of it is written.
+    fn call_message(
+        &self,
+        rt: &R,
+        alloc: Global,
+        part: Part,
+        call: &Call,
+    ) -> Result<Message, NoMemory>
+        ensures { IsStable S.keeps (settings self.now) (items self.now) call.now.target.items → IfOk result (λ m. (a : Response)
+            × MayAnswer (settings self.now) part S.gave (RepliesToCall S.bytes (settings self.now) (items self.now) call.now.method call.now.target.items) a
+            × (answer_of m ≡ written part a)) }
+    {
+        if is_answered(call) {
+            self.message(rt, alloc, part, &call.target)
+        } else {
+            refusal_message(alloc, part, Refusal::Method)
         }
+    }
+
+    /// Answers a call: to GET with head and body, to HEAD with the same head alone, for which nothing is loaded.
+    pub fn serve_one<W: Outlet>(
+        &self,
+        rt: &R,
+        alloc: Global,
+        _passes: &mut [Passes],
+        call: &Call,
+        out: &mut W,
+    ) -> Result<Sent, Cut>
+        ensures allowed { (text : List ℕ) × Appends (W.contents out.old) (W.contents out.new) text
+            × (IsStable S.keeps (settings self.now) (items self.now) call.now.target.items
+            → Allowed (settings self.now) (part_of call.now.method call.now.close) S.gave
+            (RepliesToCall S.bytes (settings self.now) (items self.now) call.now.method call.now.target.items) ((before : W) × W.fails before out.new) text result) }
+    {
+        let part = part_of(call);
+        let message = self.call_message(rt, alloc, part, call);
+        send_message(out, part, message)
     }
 }

@@ -1,29 +1,44 @@
-//! An answer sent.
+//! Answers sent.
 
-ghost use Rattle.std.specs.Prelude.{◌++◌};
+ghost use Rattle.std.specs.Prelude.{IfOk, IfErr};
+ghost use Rattle.iiif_server.specs.Code.{answer_of};
+ghost use Rattle.iiif_server.specs.Responses.{want_of_memory, written};
 ghost use Rattle.iiif_server.specs.Sent.{IsSent};
 
 use crate::answer::{Cause, Cut, Sent};
+use crate::message::{Message, memory_body, memory_head};
+use crate::part::Part;
 use iiif_io::{Outlet, send_both};
+use iiif_pixel::NoMemory;
 
-/// Sends an answer of this status, whose text is given in two pieces.
-pub fn send_answer<W: Outlet>(
-    out: &mut W,
-    status: u16,
-    first: &[u8],
-    second: &[u8],
-) -> Result<Sent, Cut>
-    ensures { IsSent W.contents W.fails out.old out.new (record { status = status; text = first.now ++ second.now }) result }
+/// Sends an answer of this status.
+fn send_answer<W: Outlet>(out: &mut W, status: u16, head: &[u8], body: &[u8]) -> Result<Sent, Cut>
+    ensures { IsSent W.contents W.fails out.old out.new (record { status = status; head = head.now; body = body.now }) result }
 {
-    match send_both(out, first, second) {
+    match send_both(out, head, body) {
         Ok(()) => Ok(Sent {
             status,
-            bytes: first.len() as u64 + second.len() as u64,
+            bytes: head.len() as u64 + body.len() as u64,
             held: 0,
         }),
         Err(sent) => Err(Cut {
             sent,
             cause: Cause::Writer,
         }),
+    }
+}
+
+/// Sends an answer, or, where there was no memory for it, the one that stands ready.
+pub fn send_message<W: Outlet>(
+    out: &mut W,
+    part: Part,
+    message: Result<Message, NoMemory>,
+) -> Result<Sent, Cut>
+    ensures made { IfOk message (λ m. IsSent W.contents W.fails out.old out.new (answer_of m) result) }
+    ensures memory { IfErr message (λ _. IsSent W.contents W.fails out.old out.new (written part want_of_memory) result) }
+{
+    match message {
+        Ok(message) => send_answer(out, message.status, &message.head, &message.body),
+        Err(_) => send_answer(out, 500, memory_head(part), memory_body(part)),
     }
 }

@@ -8,7 +8,7 @@ use iiif_tiff_read::open;
 use std::test::Fail;
 
 /// A TIFF file of 4 by 4 gray samples: 10 more for each column, and 40 more for each row.
-const SAMPLE: [u8; 138] = [
+pub const SAMPLE: [u8; 138] = [
     0x49, 0x49, 0x2a, 0, 0x18, 0, 0, 0, 0, 10, 20, 30, 40, 50, 60, 70, 80, 90, 100, 110, 120, 130,
     140, 150, 9, 0, 0, 1, 3, 0, 1, 0, 0, 0, 4, 0, 0, 0, 1, 1, 3, 0, 1, 0, 0, 0, 4, 0, 0, 0, 2, 1,
     3, 0, 1, 0, 0, 0, 8, 0, 0, 0, 3, 1, 3, 0, 1, 0, 0, 0, 1, 0, 0, 0, 6, 1, 3, 0, 1, 0, 0, 0, 1, 0,
@@ -16,21 +16,21 @@ const SAMPLE: [u8; 138] = [
     0, 1, 0, 0, 0, 4, 0, 0, 0, 0x17, 1, 4, 0, 1, 0, 0, 0, 0x10, 0, 0, 0, 0, 0, 0, 0,
 ];
 
-const WHOLE: &[u8] = b"/iiif/a/full/max/0/default.tif";
+pub const WHOLE: &[u8] = b"/iiif/a/full/max/0/default.tif";
 
-fn limits(max: u32) -> Limits {
+pub fn limits(max: u32) -> Limits {
     Limits {
         max_w: max,
         max_h: max,
     }
 }
 
-fn memory(rt: &HostRuntime) -> Result<MemSource, Fail> {
+pub fn memory(rt: &HostRuntime) -> Result<MemSource, Fail> {
     Ok(MemSource::new(Vec::from_slice(rt.alloc(), &SAMPLE)?))
 }
 
 /// A node with the sample under a name.
-fn node(rt: &HostRuntime, name: &str) -> Result<Node<(), MemSource>, Fail> {
+pub fn node(rt: &HostRuntime, name: &str) -> Result<Node<(), MemSource>, Fail> {
     let alloc = rt.alloc();
     let source = memory(rt)?;
     let Ok(layout) = open(&(), alloc, &source) else {

@@ -1,4 +1,4 @@
-use Rattle.std.proofs.Common.{arith, rules, tests, ℕ, ◌<◌, length}
+use Rattle.std.proofs.Common.{arith, rules, tests, ◌<◌, length}
 use Rattle.std.proofs.lemmas.Iterator.{YieldsList-from_slice}
 use Rattle.std.proofs.lemmas.Iterator.Search.{all_from_yields_List}
 use Rattle.iiif_server.specs.BaseUrl.{is_host, is_host_byte}

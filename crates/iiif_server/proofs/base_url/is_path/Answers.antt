@@ -1,7 +1,7 @@
 use Rattle.std.proofs.Common.{rules, tests, ◌==◌, ℕ}
 use Rattle.std.proofs.lemmas.Iterator.Search.{all_from_yields_List}
 use Rattle.std.proofs.lemmas.Iterator.Splits.{YieldsList-from_slice_split}
-use Rattle.iiif_server.specs.BaseUrl.{is_path, is_segment}
+use Rattle.iiif_server.specs.BaseUrl.{is_segment}
 use Rattle.iiif_server.proofs.base_url.is_path.Goals as goal
 
 pub returns : goal.returns

@@ -1,4 +1,4 @@
-use Rattle.std.proofs.Common.{◌≡◌, ◌∙◌, ap}
+use Rattle.std.proofs.Common.{◌∙◌, ap}
 use Rattle.iiif_server.specs.Kinds.{channels_in}
 use Rattle.iiif_server.proofs.RenderLemmas.{image_is, image_sides}
 use Rattle.iiif_server.proofs.render.render.Goals as goal

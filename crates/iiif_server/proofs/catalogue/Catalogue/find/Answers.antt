@@ -1,7 +1,6 @@
-use Rattle.std.proofs.Common.{◌≡◌, ℕ, List, rules, tests, bytes_eq, string_bytes, find, option_map}
+use Rattle.std.proofs.Common.{rules, tests, bytes_eq, string_bytes}
 use Rattle.std.proofs.lemmas.Iterator.{YieldsList-from_slice}
 use Rattle.std.proofs.lemmas.Iterator.Search.{find_from_yields_List}
-use Rattle.iiif_server.specs.Collection.{Item}
 use Rattle.iiif_server.specs.Items.{item_of}
 use Rattle.iiif_server.proofs.ItemLemmas.{found_item}
 use Rattle.iiif_server.proofs.catalogue.Catalogue.find.Goals as goal

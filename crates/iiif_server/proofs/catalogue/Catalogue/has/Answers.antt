@@ -1,4 +1,4 @@
-use Rattle.std.proofs.Common.{◌≡◌, ◌∙◌}
+use Rattle.std.proofs.Common.{◌∙◌}
 use Rattle.iiif_server.specs.Collection.{item_named}
 use Rattle.iiif_server.specs.Items.{item_of, items_of}
 use Rattle.iiif_server.proofs.ItemLemmas.{some_mapped}

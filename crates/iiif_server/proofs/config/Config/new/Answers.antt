@@ -1,5 +1,4 @@
-use Rattle.std.proofs.Common.{rules, subst, sym, string_bytes}
-use Rattle.iiif_server.specs.Settings.{IsLegal, settings_of}
+use Rattle.std.proofs.Common.{rules}
 use Rattle.iiif_server.proofs.SettingsLemmas.{legal}
 use Rattle.iiif_server.proofs.config.Config.new.Goals as goal
 

@@ -1,10 +1,10 @@
-use Rattle.std.proofs.Common.{◌≡◌, ◌∙◌, ℕ, List, sym, ap, subst, Err}
+use Rattle.std.proofs.Common.{◌∙◌, ℕ, List, sym, ap, subst, Err}
 use Rattle.iiif_request.specs.Targets.{AsksFor, resource_of}
 use Rattle.iiif_server.specs.Answers.{no_path, no_item}
 use Rattle.iiif_server.specs.Collection.{item_named}
 use Rattle.iiif_server.specs.Items.{item_of}
 use Rattle.iiif_server.specs.Nodes.{items, settings}
-use Rattle.iiif_server.proofs.ReplyLemmas.{base_replies, information_replies, words_reply}
+use Rattle.iiif_server.proofs.ReplyLemmas.{asks_for, base_replies, information_replies, words_refused, words_accepted}
 use Rattle.iiif_server.proofs.node.Node.outcome.Goals as goal
 
 pub returns-in-Err-Path-clause-comes : goal.returns-in-Err-Path-clause-comes
@@ -19,16 +19,29 @@ returns-in_default-clause-comes g c stable =
 
 pub returns-in-Base-clause-comes : goal.returns-in-Base-clause-comes
 returns-in-Base-clause-comes g c stable =
-    base_replies g.S.Source.bytes (settings c.args.self.now) (items c.args.self.now) c.args.target.now c.prefix.result.now c.identifier.result.now c.in-Ok.resource
-    c.in-Base.field-0 (item_of c.in-Some.entry.now) c.prefix.ensures c.in-Ok.ensures.target c.in-Base.is c.identifier.ensures c.in-Some.ensures
+    base_replies g.S.Source.bytes (settings c.args.self.now) (items c.args.self.now) c.args.target.now c.in-Base.field-0 (item_of c.in-Some.entry.now)
+    (asks_for (settings c.args.self.now) (items c.args.self.now) c.args.target.now c.prefix.result.now c.identifier.result.now c.in-Ok.resource _
+    (item_of c.in-Some.entry.now) c.prefix.ensures c.in-Ok.ensures.target c.in-Base.is c.identifier.ensures c.in-Some.ensures)
 
 pub returns-in-Info-clause-comes : goal.returns-in-Info-clause-comes
 returns-in-Info-clause-comes g c stable =
-    information_replies g.S.Source.bytes (settings c.args.self.now) (items c.args.self.now) c.args.target.now c.prefix.result.now c.identifier.result.now
-    c.in-Ok.resource c.in-Info.field-0 (item_of c.in-Some.entry.now) c.prefix.ensures c.in-Ok.ensures.target c.in-Info.is c.identifier.ensures c.in-Some.ensures
+    information_replies g.S.Source.bytes g.S.Source.keeps (settings c.args.self.now) (items c.args.self.now) c.args.target.now c.in-Info.field-0
+    (item_of c.in-Some.entry.now) c.sides.result
+    (asks_for (settings c.args.self.now) (items c.args.self.now) c.args.target.now c.prefix.result.now c.identifier.result.now c.in-Ok.resource _
+    (item_of c.in-Some.entry.now) c.prefix.ensures c.in-Ok.ensures.target c.in-Info.is c.identifier.ensures c.in-Some.ensures) c.sides.ensures stable
+
+pub returns-in-Ok-accept-clause-comes : goal.returns-in-Ok-accept-clause-comes
+returns-in-Ok-accept-clause-comes g c stable =
+    words_accepted g.S.Source.bytes g.S.Source.keeps (settings c.args.self.now) (items c.args.self.now) c.args.target.now c.in-Image.field-0 c.in-Image.words
+    (item_of c.in-Some.entry.now) c.limits.result c.in-Ok-accept.accepted c.accept.result
+    (asks_for (settings c.args.self.now) (items c.args.self.now) c.args.target.now c.prefix.result.now c.identifier.result.now c.in-Ok.resource _
+    (item_of c.in-Some.entry.now) c.prefix.ensures c.in-Ok.ensures.target c.in-Image.is c.identifier.ensures c.in-Some.ensures) c.limits.ensures.all c.in-Ok-accept.is
+    c.accept.ensures.accepts stable
 
 pub returns-clause-comes : goal.returns-clause-comes
 returns-clause-comes g c stable =
-    words_reply g.S.Source.bytes g.S.Source.keeps g.S.Source.gave (settings c.args.self.now) (items c.args.self.now) c.args.target.now c.prefix.result.now
-    c.identifier.result.now c.in-Ok.resource c.in-Image.field-0 c.in-Image.words (item_of c.in-Some.entry.now) c.limits.result c.image.result
-    c.prefix.ensures c.in-Ok.ensures.target c.in-Image.is c.identifier.ensures c.in-Some.ensures c.limits.ensures.all c.image.ensures.comes stable
+    words_refused g.S.Source.bytes g.S.Source.keeps (settings c.args.self.now) (items c.args.self.now) c.args.target.now c.in-Image.field-0 c.in-Image.words
+    (item_of c.in-Some.entry.now) c.limits.result c.in-Err.refusal c.accept.result
+    (asks_for (settings c.args.self.now) (items c.args.self.now) c.args.target.now c.prefix.result.now c.identifier.result.now c.in-Ok.resource _
+    (item_of c.in-Some.entry.now) c.prefix.ensures c.in-Ok.ensures.target c.in-Image.is c.identifier.ensures c.in-Some.ensures) c.limits.ensures.all c.in-Err.is
+    c.accept.ensures.accepts stable

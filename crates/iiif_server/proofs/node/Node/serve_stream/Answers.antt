@@ -1,0 +1,42 @@
+use Rattle.std.proofs.Common.{ap, arith, ◌<◌}
+use Rattle.iiif_http_front.specs.Reading.{Reading, input_of}
+use Rattle.iiif_server.specs.Nodes.{items, settings}
+use Rattle.iiif_server.specs.Streams.{terms}
+use Rattle.iiif_server.proofs.StreamLemmas.{begins_so, goes_further, ends_so, next_no_memory, at_start}
+use Rattle.iiif_server.proofs.node.Node.serve_stream.Goals as goal
+
+pub returns-in_default : goal.returns-in_default
+returns-in_default g c = record {
+  serves = next_no_memory (terms g.S.Source.bytes g.S.Source.keeps g.S.Source.gave (settings c.args.self.now) (items c.args.self.now) ((a b : g.row.I.Denot) × g.I.Inlet.fails a b)
+      ((a b : g.row.W.Denot) × g.W.Outlet.fails a b)) 1 (g.I.Read.remaining c.args.reader) (g.W.Write.contents c.args.out.now)
+      (g.W.Write.contents c.close_for_memory.new.out) c.close_for_memory.ensures;
+}
+
+pub loop-alloc-init : goal.loop-alloc-init
+loop-alloc-init g c = record {
+  no_fault = ap (λ (r : Reading g.row.I.Denot). r.fault) c.in-Ok.ensures;
+  few = omega arith;
+  goes_on = begins_so (terms g.S.Source.bytes g.S.Source.keeps g.S.Source.gave (settings c.args.self.now) (items c.args.self.now) ((a b : g.row.I.Denot) × g.I.Inlet.fails a b)
+      ((a b : g.row.W.Denot) × g.W.Outlet.fails a b)) (g.I.Read.remaining c.args.reader) (input_of g.I.Read.remaining c.in-Ok.heads) (g.W.Write.contents c.args.out.now)
+      (at_start g.I.Read.remaining c.in-Ok.heads c.args.reader c.in-Ok.ensures);
+}
+
+pub loop-alloc-preserved : goal.loop-alloc-preserved
+loop-alloc-preserved g c =
+    let more : c.loop-alloc.n < 1000 = c.serve_next.ensures.few c.loop-alloc-test.true in
+    record {
+      no_fault = c.serve_next.ensures.goes_on c.loop-alloc-test.true;
+      few = omega (arith, more);
+      goes_on = goes_further (terms g.S.Source.bytes g.S.Source.keeps g.S.Source.gave (settings c.args.self.now) (items c.args.self.now) ((a b : g.row.I.Denot) × g.I.Inlet.fails a b)
+          ((a b : g.row.W.Denot) × g.W.Outlet.fails a b)) c.loop-alloc.n (g.I.Read.remaining c.args.reader) (input_of g.I.Read.remaining c.loop-alloc.heads)
+          (input_of g.I.Read.remaining c.serve_next.new.heads) (g.W.Write.contents c.args.out.now) (g.W.Write.contents c.loop-alloc.out) (g.W.Write.contents c.serve_next.new.out)
+          c.serve_next.result c.loop-alloc-test.true c.loop-alloc.invariant.goes_on c.serve_next.ensures.serves;
+    }
+
+pub returns : goal.returns
+returns g c = record {
+  serves = ends_so (terms g.S.Source.bytes g.S.Source.keeps g.S.Source.gave (settings c.args.self.now) (items c.args.self.now) ((a b : g.row.I.Denot) × g.I.Inlet.fails a b)
+      ((a b : g.row.W.Denot) × g.W.Outlet.fails a b)) c.loop-alloc.n (g.I.Read.remaining c.args.reader) (input_of g.I.Read.remaining c.loop-alloc.heads)
+      (input_of g.I.Read.remaining c.serve_next.new.heads) (g.W.Write.contents c.args.out.now) (g.W.Write.contents c.loop-alloc.out) (g.W.Write.contents c.serve_next.new.out)
+      c.serve_next.result c.loop-alloc-test.false c.loop-alloc.invariant.goes_on c.serve_next.ensures.serves;
+}

@@ -1,0 +1,139 @@
+//! Connections.
+
+ghost use Rattle.std.specs.Prelude.{◌≡◌, ◌≤◌, ◌<◌, ◌==◌, ◌||◌, ℕ, List, true, IfSome, None};
+ghost use Rattle.std.specs.Io.KnownBytes.{Appends};
+ghost use Rattle.iiif_http_front.specs.Reading.{input_of};
+ghost use Rattle.iiif_server.specs.Code.{CloseFor, IsAnswered, Served};
+ghost use Rattle.iiif_server.specs.Nodes.{settings, items};
+ghost use Rattle.iiif_server.specs.Streams.{IsConnection, call_limit, terms, IsClosing};
+ghost use Rattle.iiif_server.specs.Responses.{refusal_response, want_of_memory};
+ghost use Rattle.iiif_request.specs.declared.request.Refusal.TheVariants as refusal;
+
+use crate::answer::Passes;
+use crate::message::refusal_message;
+use crate::node::Node;
+use crate::part::Part;
+use crate::sending::send_message;
+use iiif_http_front::{Call, HeadFault, Heads};
+use iiif_io::{Inlet, Outlet};
+use iiif_request::Refusal;
+use iiif_source::Source;
+use std::alloc::{AllocError, Global};
+
+/// The most calls of one connection.
+pub const CALL_LIMIT: u32 = 1000;
+
+/// Sends the answer to want of memory, after which the connection closes.
+fn close_for_memory<W: Outlet>(out: &mut W)
+    ensures { (text : List ℕ) × Appends (W.contents out.old) (W.contents out.new) text
+        × IsClosing ((before after : W) × W.fails before after) want_of_memory text }
+{
+    let _ = send_message(out, Part::Whole(true), Err(AllocError));
+}
+
+/// Sends the answer to a head that is none, or to want of memory, after which the connection closes.
+fn close_for_head<W: Outlet>(alloc: Global, out: &mut W)
+    ensures { (text : List ℕ) × Appends (W.contents out.old) (W.contents out.new) text
+        × CloseFor ((before after : W) × W.fails before after) (refusal_response refusal.Head) text }
+{
+    let part = Part::Whole(true);
+    let message = refusal_message(alloc, part, Refusal::Head);
+    let _ = send_message(out, part, message);
+}
+
+/// A call as the `n`-th of its connection: the last one that is answered closes it.
+fn closing_call(call: Call, n: u32) -> Call
+    ensures method { result.method ≡ call.method }
+    ensures target { result.target.items ≡ call.target.items }
+    ensures close { result.close ≡ (call.close || n == call_limit) }
+{
+    Call {
+        method: call.method,
+        target: call.target,
+        close: call.close || n == CALL_LIMIT,
+    }
+}
+
+impl<R, S: Source<R> + Drop> Node<R, S> {
+    /// Answers a call, and says whether another may follow.
+    fn serve_call<W: Outlet>(
+        &self,
+        rt: &R,
+        alloc: Global,
+        passes: &mut [Passes],
+        call: &Call,
+        out: &mut W,
+    ) -> bool
+        ensures { (text : List ℕ) × Appends (W.contents out.old) (W.contents out.new) text
+            × IsAnswered S.bytes S.keeps S.gave (settings self.now) (items self.now) ((before after : W) × W.fails before after)
+            call.now.method call.now.target.items call.now.close text result }
+    {
+        match self.serve_one(rt, alloc, passes, call, out) {
+            Ok(_) => !call.close,
+            Err(_) => false,
+        }
+    }
+
+    /// Answers the next call of a connection, which is its `n`-th, or what ended it. Says whether more may follow.
+    fn serve_next<I: Inlet + Drop, W: Outlet>(
+        &self,
+        rt: &R,
+        alloc: Global,
+        passes: &mut [Passes],
+        heads: &mut Heads<I>,
+        n: u32,
+        out: &mut W,
+    ) -> bool
+        requires no_fault { heads.old.fault ≡ None }
+        requires few { n ≤ 1000 }
+        ensures serves { IfSome (input_of I.remaining heads.old) (λ input. (text : List ℕ) × Appends (W.contents out.old) (W.contents out.new) text
+            × Served (terms S.bytes S.keeps S.gave (settings self.now) (items self.now) ((before after : I) × I.fails before after) ((before after : W) × W.fails before after))
+            n input (input_of I.remaining heads.new) text result) }
+        ensures goes_on { result ≡ true → heads.new.fault ≡ None }
+        ensures few { result ≡ true → n < 1000 }
+    {
+        let call = match heads.read_head() {
+            Ok(Some(call)) => closing_call(call, n),
+            Ok(None) => return false,
+            Err(HeadFault::Bad) => {
+                close_for_head(alloc, out);
+                return false;
+            }
+            Err(HeadFault::TooLong) => {
+                close_for_head(alloc, out);
+                return false;
+            }
+            Err(HeadFault::NoMemory) => {
+                close_for_memory(out);
+                return false;
+            }
+            Err(HeadFault::Cut) => return false,
+            Err(HeadFault::Io) => return false,
+        };
+        self.serve_call(rt, alloc, passes, &call, out)
+    }
+
+    /// Answers the calls of a connection in order, until its input ends, a call closes it, its 1,000th call was answered, an
+    /// answer is cut off, or a head is at fault.
+    pub fn serve_stream<I: Inlet + Drop, W: Outlet>(
+        &self,
+        rt: &R,
+        alloc: Global,
+        passes: &mut [Passes],
+        reader: I,
+        out: &mut W,
+    )
+        ensures serves { IfSome (I.remaining reader) (λ input. (output : List ℕ) × Appends (W.contents out.old) (W.contents out.new) output
+            × IsConnection (terms S.bytes S.keeps S.gave (settings self.now) (items self.now) ((before after : I) × I.fails before after) ((before after : W) × W.fails before after))
+            input output) }
+    {
+        let Ok(mut heads) = Heads::new(alloc, reader) else {
+            close_for_memory(out);
+            return;
+        };
+        let mut n = 1;
+        while self.serve_next(rt, alloc, passes, &mut heads, n, out) {
+            n += 1;
+        }
+    }
+}
