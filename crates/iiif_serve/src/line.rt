@@ -28,6 +28,14 @@ pub enum LineFault {
     NoMemory,
 }
 
+/// How the program is run: for one target, whose answer it writes, perhaps as hexadecimal digits; or for the connections that
+/// come to an address.
+#[derive(Clone, Copy, Debug, PartialEq, Eq)]
+pub enum Mode<'a> {
+    One { target: &'a str, hex: bool },
+    Listen(&'a str),
+}
+
 /// What the words ask for.
 #[derive(Debug, Drop)]
 pub struct Options<'a> {
@@ -36,8 +44,7 @@ pub struct Options<'a> {
     pub max: u32,
     /// Each image's name and file.
     pub images: Vec<(&'a str, &'a str)>,
-    pub target: &'a str,
-    pub hex: bool,
+    pub mode: Mode<'a>,
 }
 
 /// An option that takes one text.
@@ -77,6 +84,12 @@ fn command<'a>(alloc: Global) -> Result<Command<'a>, clap::Error> {
             "the greatest side of a result, 4096 if left out",
         ))?
         .arg(option(alloc, "one", "TARGET", "answer this target and end"))?
+        .arg(option(
+            alloc,
+            "listen",
+            "ADDR",
+            "answer the connections that come to this address and port",
+        ))?
         .arg(hex)?
         .arg(images)?;
     Ok(command)
@@ -143,15 +156,21 @@ pub fn options_in<'a>(alloc: Global, matches: &ArgMatches<'a>) -> Result<Options
         Some(words) => images(alloc, words)?,
         None => return Err(LineFault::Image),
     };
-    let Some(target) = matches.get_str("one") else {
-        return Err(LineFault::Mode);
-    };
     Ok(Options {
         base,
         edge,
         max,
         images,
-        target,
-        hex: matches.get_flag("hex"),
+        mode: mode_in(matches)?,
     })
+}
+
+/// How the program is run: exactly one way.
+fn mode_in<'a>(matches: &ArgMatches<'a>) -> Result<Mode<'a>, LineFault> {
+    let hex = matches.get_flag("hex");
+    match (matches.get_str("one"), matches.get_str("listen")) {
+        (Some(target), None) => Ok(Mode::One { target, hex }),
+        (None, Some(address)) if !hex => Ok(Mode::Listen(address)),
+        _ => Err(LineFault::Mode),
+    }
 }

@@ -3,6 +3,7 @@
 
 mod hex;
 mod line;
+mod listen;
 mod program;
 mod sample;
 mod stored;

@@ -1,7 +1,8 @@
 //! The program's work: what its words ask for, done.
 
 use crate::hex::write_hex;
-use crate::line::{LineFault, Options, matches, options_in};
+use crate::line::{LineFault, Mode, Options, matches, options_in};
+use crate::listen::serve_connections;
 use crate::sample::sample;
 use crate::stored::Stored;
 use clap::ArgMatches;
@@ -15,6 +16,7 @@ use std::convert::AsStr;
 use std::fs;
 use std::fs::File;
 use std::io::Write;
+use std::net::{Net, TcpListener, TcpStream};
 use std::rt::Files;
 use std::sync::Wait;
 
@@ -36,19 +38,21 @@ const BAND: u32 = 64;
 const WORKERS: u32 = 2;
 
 /// Why the program ends without an answer.
-enum Stop<'a> {
+#[derive(Clone, Copy, Debug, PartialEq, Eq)]
+pub enum Stop<'a> {
     /// An image can't be opened: its name, and the number of the fault, 0 where there is no such file.
     Image(&'a str, u8),
     Memory,
     Write,
     Source,
+    Listen,
 }
 
 /// Answers what the words ask for. The status is 0 where it was answered, by a refusal too; 1 where it failed while running; 2
 /// where a word or an image is at fault, which standard error then names.
 pub fn program<R, S, O, E>(rt: &R, words: &[S], out: &mut O, err: &mut E) -> u8
 where
-    R: Files<File = File> + Wait + AllocGlobal,
+    R: Files<File = File> + Net<Listener = TcpListener, Stream = TcpStream> + Wait + AllocGlobal,
     S: AsStr,
     O: Outlet,
     E: Write,
@@ -84,7 +88,7 @@ fn with_matches<R, O, E>(
     err: &mut E,
 ) -> u8
 where
-    R: Files<File = File> + Wait + AllocGlobal,
+    R: Files<File = File> + Net<Listener = TcpListener, Stream = TcpStream> + Wait + AllocGlobal,
     O: Outlet,
     E: Write,
 {
@@ -105,6 +109,7 @@ where
         Err(Stop::Memory) => ended(err, "run: memory", 1),
         Err(Stop::Write) => ended(err, "run: write", 1),
         Err(Stop::Source) => ended(err, "run: source", 1),
+        Err(Stop::Listen) => ended(err, "run: listen", 1),
     }
 }
 
@@ -161,16 +166,14 @@ where
     Ok(catalogue)
 }
 
-/// Answers the one target.
-fn answer<'a, R, O>(
+/// A node of the settings and images in the options.
+pub fn node<'a, R>(
     rt: &R,
     alloc: Global,
     options: &Options<'a>,
-    out: &mut O,
-) -> Result<(), Stop<'a>>
+) -> Result<Node<R, Stored>, Stop<'a>>
 where
     R: Files<File = File> + Wait + AllocGlobal,
-    O: Outlet,
 {
     let limits = Limits {
         max_w: options.max,
@@ -179,17 +182,60 @@ where
     let Ok(config) = Config::new(alloc, options.base, options.edge, limits, BAND, WORKERS) else {
         return Err(Stop::Memory);
     };
-    let node = Node::new(config, catalogue(rt, alloc, &options.images)?);
-    let target = options.target.as_bytes();
-    let mut passes = [Passes];
-    if !options.hex {
-        return match node.body_one(rt, alloc, &mut passes, target, out) {
-            Ok(_) => Ok(()),
-            Err(cut) => Err(stopped_by(cut.cause)),
-        };
+    Ok(Node::new(config, catalogue(rt, alloc, &options.images)?))
+}
+
+/// Answers what the options ask for.
+fn answer<'a, R, O>(
+    rt: &R,
+    alloc: Global,
+    options: &Options<'a>,
+    out: &mut O,
+) -> Result<(), Stop<'a>>
+where
+    R: Files<File = File> + Net<Listener = TcpListener, Stream = TcpStream> + Wait + AllocGlobal,
+    O: Outlet,
+{
+    let node = node(rt, alloc, options)?;
+    match options.mode {
+        Mode::One { target, hex: false } => answer_one(rt, alloc, &node, target, out),
+        Mode::One { target, hex: true } => answer_in_hex(rt, alloc, &node, target, out),
+        Mode::Listen(address) => {
+            let Ok(listener) = TcpListener::bind(rt, address) else {
+                return Err(Stop::Listen);
+            };
+            match serve_connections(rt, alloc, &node, &listener) {
+                Ok(()) => Ok(()),
+                Err(_) => Err(Stop::Listen),
+            }
+        }
     }
+}
+
+/// Writes the body of the answer to a target.
+fn answer_one<'a, R: Wait, O: Outlet>(
+    rt: &R,
+    alloc: Global,
+    node: &Node<R, Stored>,
+    target: &str,
+    out: &mut O,
+) -> Result<(), Stop<'a>> {
+    match node.body_one(rt, alloc, &mut [Passes], target.as_bytes(), out) {
+        Ok(_) => Ok(()),
+        Err(cut) => Err(stopped_by(cut.cause)),
+    }
+}
+
+/// Writes the body of the answer to a target as hexadecimal digits.
+fn answer_in_hex<'a, R: Wait, O: Outlet>(
+    rt: &R,
+    alloc: Global,
+    node: &Node<R, Stored>,
+    target: &str,
+    out: &mut O,
+) -> Result<(), Stop<'a>> {
     let mut body = Vec::new(alloc);
-    if let Err(cut) = node.body_one(rt, alloc, &mut passes, target, &mut body) {
+    if let Err(cut) = node.body_one(rt, alloc, &mut [Passes], target.as_bytes(), &mut body) {
         return Err(match cut.cause {
             Cause::Writer => Stop::Memory,
             cause => stopped_by(cause),

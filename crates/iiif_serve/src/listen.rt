@@ -1,0 +1,82 @@
+//! Connections over TCP.
+
+use crate::stored::Stored;
+use iiif_server::Node;
+use std::alloc::Global;
+use std::io;
+use std::io::{ErrorKind, Read};
+use std::net::{Net, Shutdown, TcpListener, TcpStream};
+use std::sync::Wait;
+use std::time::Duration;
+
+/// How long a viewer may send nothing, in milliseconds, before its connection is closed. Another connection waits so long.
+const IDLE: u64 = 2000;
+
+/// How long a viewer may take nothing of an answer, in milliseconds, before it counts as gone.
+const STALLED: u64 = 10000;
+
+/// How long, in milliseconds, a viewer whose connection is closed may go on to send before it is left alone.
+const LINGER: u64 = 200;
+
+/// How many blocks of 4,096 bytes are read and dropped behind the last answer.
+const UNREAD_BLOCKS: u32 = 64;
+
+/// Answers the connections that a listener takes, one after the other, until the listener fails. What becomes of one connection
+/// changes nothing for the next.
+pub fn serve_connections<R: Wait>(
+    rt: &R,
+    alloc: Global,
+    node: &Node<R, Stored>,
+    listener: &TcpListener,
+) -> io::Result<()> {
+    for stream in listener.incoming() {
+        match stream {
+            Ok(stream) => serve_connection(rt, alloc, node, stream),
+            Err(error) if is_passing(error.kind()) => {}
+            Err(error) => return Err(error),
+        }
+    }
+    Ok(())
+}
+
+/// Whether a listener that failed so goes on to listen: the connection was gone before it was taken.
+fn is_passing(kind: ErrorKind) -> bool {
+    match kind {
+        ErrorKind::ConnectionAborted => true,
+        ErrorKind::ConnectionReset => true,
+        ErrorKind::Interrupted => true,
+        _ => false,
+    }
+}
+
+/// Answers the calls of a connection, and closes it.
+pub fn serve_connection<R: Wait>(rt: &R, alloc: Global, node: &Node<R, Stored>, stream: TcpStream) {
+    let _ = stream.set_nodelay(true);
+    let _ = stream.set_read_timeout(Some(Duration::from_millis(IDLE)));
+    let _ = stream.set_write_timeout(Some(Duration::from_millis(STALLED)));
+    let Some(passes) = node.pass() else {
+        return;
+    };
+    let Ok(mut out) = stream.try_clone() else {
+        return;
+    };
+    node.serve_stream(rt, alloc, &mut [passes], stream, &mut out);
+    close(out);
+}
+
+/// Closes a connection whose answers are sent. Input that was left unread would make the kernel reset the connection and drop
+/// what it has not sent yet, so the sending side is closed first, and then a bounded amount of input is read and dropped.
+fn close(mut stream: TcpStream) {
+    if stream.shutdown(Shutdown::Write).is_err() {
+        return;
+    }
+    let _ = stream.set_read_timeout(Some(Duration::from_millis(LINGER)));
+    let mut block = [0u8; 4096];
+    for _ in 0..UNREAD_BLOCKS {
+        match stream.read(&mut block) {
+            Ok(0) => return,
+            Ok(_) => {}
+            Err(_) => return,
+        }
+    }
+}
