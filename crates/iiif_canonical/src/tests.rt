@@ -396,3 +396,78 @@ fn links_come_back(rt: HostRuntime) -> Result<(), Fail> {
     }
     Ok(())
 }
+
+/// That the words of a target come, for a gray image, to this canonical text, or this refusal.
+fn words_come_to(
+    rt: &impl Abort,
+    alloc: Global,
+    dim: Dim,
+    words: &str,
+    want: Result<&str, Refusal>,
+) -> Result<(), Fail> {
+    let target = format!(in alloc; "/iiif/a/{words}")?;
+    let target = split(alloc, b"/iiif", target.as_bytes())
+        .ok()
+        .ok_or("no target")?;
+    let Target::Image(_, words) = target else {
+        return Err("no image")?;
+    };
+    let request = parse(&words).ok().ok_or("no request")?;
+    comes_to(rt, alloc, dim, request, want)
+}
+
+#[test]
+fn words_of_the_square(rt: HostRuntime) -> Result<(), Fail> {
+    for (words, want) in [
+        ("full/2,/0/default.tif", Ok("full/2,2/0/default.tif")),
+        ("full/%5E2,/0/default.tif", Ok("full/2,2/0/default.tif")),
+        ("0,0,9,9/max/360/color.tif", Ok("full/max/0/default.tif")),
+        ("4,0,1,1/max/0/default.tif", Err(Refusal::Empty)),
+        ("1,1,0,2/max/0/default.tif", Err(Refusal::Empty)),
+        ("3,3,5,5/max/0/default.tif", Ok("3,3,1,1/max/0/default.tif")),
+        ("full/8,/0/default.tif", Err(Refusal::Larger)),
+        ("full/^8,/0/default.tif", Err(Refusal::Upscale)),
+        ("full/^max/0/default.tif", Err(Refusal::Upscale)),
+        ("full/pct:100.1/0/default.tif", Err(Refusal::Larger)),
+        (
+            "full/^pct:100.1/0/default.tif",
+            Ok("full/max/0/default.tif"),
+        ),
+        ("full/^!2,9/0/default.tif", Ok("full/2,2/0/default.tif")),
+        (
+            "pct:25,25,50,50/max/0/default.tif",
+            Ok("1,1,2,2/max/0/default.tif"),
+        ),
+    ] {
+        words_come_to(&rt, rt.alloc(), SQUARE, words, want)?;
+    }
+    Ok(())
+}
+
+#[test]
+fn words_of_thin_images(rt: HostRuntime) -> Result<(), Fail> {
+    for (dim, words, want) in [
+        (THIN, "full/100,/0/default.tif", Err(Refusal::Zero)),
+        (THIN, "full/!100,100/0/default.tif", Err(Refusal::Zero)),
+        (
+            THIN,
+            "full/pct:50/0/default.tif",
+            Ok("full/500,1/0/default.tif"),
+        ),
+        (
+            Dim { w: 4, h: 1 },
+            "square/max/0/default.tif",
+            Ok("1,0,1,1/max/0/default.tif"),
+        ),
+        (
+            THINNEST,
+            "full/4096,1/0/default.tif",
+            Ok("full/4096,1/0/default.tif"),
+        ),
+        (THINNEST, "full/4097,1/0/default.tif", Err(Refusal::Limit)),
+        (THINNEST, "full/max/0/default.tif", Err(Refusal::Zero)),
+    ] {
+        words_come_to(&rt, rt.alloc(), dim, words, want)?;
+    }
+    Ok(())
+}

@@ -189,6 +189,12 @@ fn first_refusal_from_the_left(rt: HostRuntime) -> Result<(), Fail> {
         read_reply(rt.alloc(), &mut reader(other, 3), b"a").err(),
         Some(WireFault::Key)
     );
+    // A fault with a value of one byte: the status.
+    let valued = b"IGR1\0\0\0\x01a\x02\0\0\0\x01\x07";
+    assert_eq!(rt;
+        read_reply(rt.alloc(), &mut reader(valued, 3), b"a").err(),
+        Some(WireFault::Status)
+    );
     // A fault with a value above 64 MiB: the length.
     let long = b"IGR1\0\0\0\x01a\x02\x04\0\0\x01";
     assert_eq!(rt;
