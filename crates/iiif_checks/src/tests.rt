@@ -1,0 +1,260 @@
+//! Every region, size, turn and quality of small pictures.
+
+use crate::plain::Plain;
+use iiif_canonical::Limits;
+use iiif_pixel::{Dim, Kind, Raster, Rect};
+use iiif_server::{Catalogue, Config, Node, Passes};
+use iiif_source::MemSource;
+use iiif_tiff_read::open;
+use iiif_tiff_write::{OutKind, fits, head, put_rows};
+use std::alloc::Global;
+use std::test::Fail;
+
+/// A node that has one file under the name `a`.
+fn node(alloc: Global, file: Vec<u8>) -> Result<Node<(), MemSource>, Fail> {
+    let source = MemSource::new(file);
+    let Ok(layout) = open(&(), alloc, &source) else {
+        return Err(Fail::from("the file is refused"));
+    };
+    let mut catalogue = Catalogue::new(alloc);
+    if catalogue
+        .add(String::from_str(alloc, "a")?, source, layout)
+        .is_err()
+    {
+        return Err(Fail::from("the file is not taken in"));
+    }
+    let limits = Limits {
+        max_w: 4096,
+        max_h: 4096,
+    };
+    match Config::new(alloc, "http://localhost/iiif", 2, limits, 64, 2) {
+        Ok(config) => Ok(Node::new(config, catalogue)),
+        Err(_) => Err(Fail::from("the settings are refused")),
+    }
+}
+
+/// The file of a raster.
+fn file(alloc: Global, raster: &Raster, kind: OutKind) -> Result<Vec<u8>, Fail> {
+    if !fits(kind, raster.dim())
+        || raster.kind().channels() != usize::from(kind.samples_per_pixel())
+    {
+        return Err(Fail::from("no such file"));
+    }
+    let mut bytes = Vec::from_slice(alloc, head(kind, raster.dim()).as_slice())?;
+    put_rows(raster, kind, &mut bytes)?;
+    Ok(bytes)
+}
+
+/// The picture turned: mirrored or not, and then so many quarters.
+fn turned(alloc: Global, picture: &Plain, mirror: bool, quarters: u32) -> Result<Plain, Fail> {
+    let mut now = if mirror {
+        picture.mirrored(alloc)?
+    } else {
+        picture.crop(alloc, 0, 0, picture.w, picture.h)?
+    };
+    for _ in 0..quarters {
+        now = now.turned(alloc)?;
+    }
+    Ok(now)
+}
+
+/// The strip of a picture in a quality.
+fn strip(alloc: Global, picture: &Plain, quality: &str) -> Result<Vec<u8>, Fail> {
+    match quality {
+        "gray" => Ok(picture.gray(alloc)?.bytes(alloc)?),
+        "bitonal" => Ok(picture.bits(alloc)?),
+        _ => Ok(picture.bytes(alloc)?),
+    }
+}
+
+/// What differs: the target, where the answer isn't the strip behind a head with these sides.
+fn differs(
+    alloc: Global,
+    node: &Node<(), MemSource>,
+    target: &str,
+    sides: (u64, u64),
+    strip: &[u8],
+) -> Result<bool, Fail> {
+    let mut out = Vec::new(alloc);
+    let Ok(sent) = node.body_one(&(), alloc, &mut [Passes], target.as_bytes(), &mut out) else {
+        return Err(Fail::from("the answer was cut off"));
+    };
+    let width = out.get(18).copied().unwrap_or(0);
+    let height = out.get(30).copied().unwrap_or(0);
+    Ok(
+        sent.status != 200
+            || (u64::from(width), u64::from(height)) != sides
+            || !out.ends_with(strip)
+            || out.len().saturating_sub(strip.len()) > 180,
+    )
+}
+
+/// Compares each size, turn and quality of one region.
+fn region(
+    alloc: Global,
+    node: &Node<(), MemSource>,
+    part: &Plain,
+    text: &str,
+) -> Result<u64, Fail> {
+    let mut compared = 0u64;
+    for d in 1..=part.h.min(9) {
+        for c in 1..=part.w.min(9) {
+            let scaled = part.scale(alloc, c, d)?;
+            for (rotation, mirror, quarters) in [
+                ("0", false, 0),
+                ("90", false, 1),
+                ("180", false, 2),
+                ("270", false, 3),
+                ("!0", true, 0),
+                ("!90", true, 1),
+                ("!180", true, 2),
+                ("!360", true, 0),
+                ("!270", true, 3),
+            ] {
+                let now = turned(alloc, &scaled, mirror, quarters)?;
+                for quality in ["default", "color", "gray", "bitonal"] {
+                    let target = format!(in alloc;
+                        "/iiif/a/{text}/{c},{d}/{rotation}/{quality}.tif"
+                    )?;
+                    let strip = strip(alloc, &now, quality)?;
+                    if differs(alloc, node, target.as_str(), (now.w, now.h), &strip)? {
+                        return Err(Fail::from("another image"));
+                    }
+                    compared = compared.wrapping_add(1);
+                }
+            }
+        }
+    }
+    Ok(compared)
+}
+
+/// Compares each region of a picture, whose file this is, and counts the comparisons.
+fn all(alloc: Global, picture: &Plain, file: Vec<u8>) -> Result<u64, Fail> {
+    let node = node(alloc, file)?;
+    let mut compared = 0u64;
+    for y in 0..picture.h {
+        for x in 0..picture.w {
+            for h in 1..=picture.h.saturating_sub(y).min(9) {
+                for w in 1..=picture.w.saturating_sub(x).min(9) {
+                    let part = picture.crop(alloc, x, y, w, h)?;
+                    let text = format!(in alloc; "{x},{y},{w},{h}")?;
+                    compared = compared.wrapping_add(region(alloc, &node, &part, text.as_str())?);
+                }
+            }
+        }
+    }
+    Ok(compared)
+}
+
+/// A picture with these samples, and its file.
+fn pair(
+    alloc: Global,
+    dim: Dim,
+    kind: Kind,
+    out: OutKind,
+    samples: &[u8],
+) -> Result<(Plain, Vec<u8>), Fail> {
+    let Some(count) = (dim.w as usize * dim.h as usize).checked_mul(kind.channels()) else {
+        return Err(Fail::from("too many samples"));
+    };
+    if count != samples.len() {
+        return Err(Fail::from("another count of samples"));
+    }
+    let mut plain = Vec::new(alloc);
+    for sample in samples {
+        plain.push(u64::from(*sample))?;
+    }
+    let raster = Raster::from_samples(dim, kind, Vec::from_slice(alloc, samples)?);
+    let picture = Plain {
+        w: u64::from(dim.w),
+        h: u64::from(dim.h),
+        channels: kind.channels() as u64,
+        samples: plain,
+    };
+    Ok((picture, file(alloc, &raster, out)?))
+}
+
+#[test]
+fn gray_picture_of_4_by_4(rt: HostRuntime) -> Result<(), Fail> {
+    let samples = [
+        0, 10, 20, 30, 40, 50, 60, 70, 80, 90, 100, 110, 120, 130, 140, 150,
+    ];
+    let dim = Dim { w: 4, h: 4 };
+    let (picture, file) = pair(rt.alloc(), dim, Kind::Gray, OutKind::Gray, &samples)?;
+    assert_eq!(rt; all(rt.alloc(), &picture, file)?, 400 * 36);
+    Ok(())
+}
+
+#[test]
+fn rgb_picture_of_3_by_2(rt: HostRuntime) -> Result<(), Fail> {
+    let samples = [
+        2, 0, 0, 0, 255, 7, 128, 127, 126, 255, 255, 255, 13, 77, 201, 90, 14, 3,
+    ];
+    let dim = Dim { w: 3, h: 2 };
+    let (picture, file) = pair(rt.alloc(), dim, Kind::Rgb, OutKind::Rgb, &samples)?;
+    assert_eq!(rt; all(rt.alloc(), &picture, file)?, 10 * 4 * 36);
+    Ok(())
+}
+
+#[test]
+fn bilevel_picture_of_4_by_3(rt: HostRuntime) -> Result<(), Fail> {
+    let samples = [0, 255, 255, 0, 255, 0, 255, 255, 0, 0, 0, 255];
+    let dim = Dim { w: 4, h: 3 };
+    let (picture, file) = pair(rt.alloc(), dim, Kind::Gray, OutKind::Bitonal, &samples)?;
+    assert_eq!(rt; all(rt.alloc(), &picture, file)?, 20 * 10 * 36);
+    Ok(())
+}
+
+/// Whether the file of a picture with these samples is opened as one of its sides and kind, and has these samples.
+fn reads_back(
+    alloc: Global,
+    dim: Dim,
+    kind: Kind,
+    out: OutKind,
+    samples: &[u8],
+) -> Result<bool, Fail> {
+    let (_picture, file) = pair(alloc, dim, kind, out, samples)?;
+    let source = MemSource::new(file);
+    let Ok(layout) = open(&(), alloc, &source) else {
+        return Ok(false);
+    };
+    let sides = layout.dim();
+    let whole = Rect {
+        x: 0,
+        y: 0,
+        w: sides.w,
+        h: sides.h,
+    };
+    if sides != dim || layout.kind() != kind || !whole.lies_in(sides) {
+        return Ok(false);
+    }
+    let Ok(raster) = layout.read_rect(&(), alloc, &source, whole) else {
+        return Ok(false);
+    };
+    Ok(raster.samples() == samples)
+}
+
+#[test]
+fn written_files_are_read_back(rt: HostRuntime) -> Result<(), Fail> {
+    let alloc = rt.alloc();
+    let steps = [
+        0, 10, 20, 30, 40, 50, 60, 70, 80, 90, 100, 110, 120, 130, 140, 150,
+    ];
+    let sides = Dim { w: 4, h: 4 };
+    assert!(&rt; reads_back(alloc, sides, Kind::Gray, OutKind::Gray, &steps)?);
+    let sides = Dim { w: 2, h: 1 };
+    let colours = [2, 0, 0, 0, 0, 0];
+    assert!(&rt; reads_back(alloc, sides, Kind::Rgb, OutKind::Rgb, &colours)?);
+    let sides = Dim { w: 9, h: 1 };
+    assert!(&rt; reads_back(alloc, sides, Kind::Gray, OutKind::Bitonal, &[255; 9])?);
+    // Two rows of two bytes each.
+    let bits = [
+        255, 0, 255, 0, 0, 0, 0, 255, 255, 0, 255, 0, 0, 0, 255, 255, 255, 0, 0, 0,
+    ];
+    let sides = Dim { w: 10, h: 2 };
+    assert!(&rt; reads_back(alloc, sides, Kind::Gray, OutKind::Bitonal, &bits)?);
+    // Bits don't hold the steps.
+    let sides = Dim { w: 4, h: 4 };
+    assert!(&rt; !reads_back(alloc, sides, Kind::Gray, OutKind::Bitonal, &steps)?);
+    Ok(())
+}
