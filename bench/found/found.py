@@ -1,0 +1,241 @@
+"""TIFF files as other programs write them, opened by the program: accepted with the same pixels, or refused by the right line.
+
+    /usr/bin/python3 bench/found/found.py --program crates/iiif_serve/out/iiif_serve
+
+Needs numpy, Pillow, tiffcp (libtiff-tools), vips (libvips-tools), gdal_translate and gdaladdo (gdal-bin) and ImageMagick's
+convert. Three small pictures (gray, RGB and bilevel, 203 by 151, whose sides no tile divides) are handed to each writer without
+loss, so that the samples that each file must show are known from the start; Pillow decodes each accepted file too. An accepted file
+is asked for the whole image, for a region and for a scaled image, and each answer is compared with the known samples, cut and
+averaged by numpy over whole numbers. A refused file must end the program with status 2, nothing on standard output and the
+line `image a: N` on standard error. What must be refused, and by which number, stands in the table below, by the reading rules of
+docs/OPERATING.md. Prints a Markdown table of what was right, names on standard error
+what wasn't, and ends with status 1 where there is any.
+"""
+import argparse
+import io
+import os
+import re
+import shutil
+import struct
+import subprocess
+import sys
+
+import numpy as np
+from PIL import Image
+
+NOT_TIFF, TRUNCATED, MISSING, UNSUPPORTED, BAD_FIELD, TOO_LARGE = 1, 2, 3, 4, 5, 6
+W, H = 203, 151
+
+
+def pictures():
+    """Gray, RGB and bilevel (0 and 255), each h by w by channels."""
+    x, y = np.meshgrid(np.arange(W), np.arange(H))
+    gray = (x * 7 + y * 13 + (x * y >> 5)) & 255
+    rgb = np.stack([gray, (x * 3 + 20) & 255, (255 - y) & 255], axis=2)
+    bits = np.where((x // 3 + y // 5 + (x * y >> 7)) % 3 == 0, 255, 0)
+    return {"gray": gray[:, :, None].astype(np.uint8), "rgb": rgb.astype(np.uint8), "bits": bits[:, :, None].astype(np.uint8)}
+
+
+def plain(samples, bits=False):
+    """A plain file for the other programs to start from: one strip, low byte first."""
+    channels = samples.shape[2]
+    data = np.packbits(samples[:, :, 0] > 127, axis=1).tobytes() if bits else samples.tobytes()
+    depth = 1 if bits else 8
+    entries = [(256, 4, 1, W), (257, 4, 1, H), (258, 3, channels, 134 if channels == 3 else depth), (259, 3, 1, 1),
+               (262, 3, 1, 2 if channels == 3 else 1), (273, 4, 1, 140), (277, 3, 1, channels), (278, 4, 1, H), (279, 4, 1, len(data)),
+               (284, 3, 1, 1)]
+    head = b"II*\0\x08\0\0\0" + struct.pack("<H", 10) + b"".join(struct.pack("<HHII", *entry) for entry in entries)
+    return head + bytes(4) + struct.pack("<3H", 8, 8, 8) + data
+
+
+# Writer, what it is told, the picture, and None where the file is to be accepted, else the number of its refusal.
+TIFFCP = [
+    ("-c none -s -r 1", "gray", None), ("-c none -s -r 16 -B", "gray", None), ("-c none -s -r 1000", "rgb", None),
+    ("-c none -t -w 64 -l 64", "gray", None), ("-c none -t -w 64 -l 48 -B", "rgb", None), ("-c none -t -w 256 -l 256", "rgb", None),
+    ("-c none -s -r 8 -L", "bits", None), ("-c none -t -w 32 -l 32 -B", "bits", None), ("-c none -p contig -s -r 7 -B", "rgb", None),
+    ("-c none -p separate -s -r 16", "rgb", UNSUPPORTED), ("-c none -f lsb2msb -s -r 16", "bits", UNSUPPORTED),
+    ("-c lzw", "gray", UNSUPPORTED), ("-c zip", "rgb", UNSUPPORTED), ("-c packbits", "bits", UNSUPPORTED),
+    ("-c g4", "bits", UNSUPPORTED), ("-c g3", "bits", UNSUPPORTED), ("-c jpeg -t -w 64 -l 64", "gray", UNSUPPORTED),
+    ("-8 -c none -s -r 16", "gray", NOT_TIFF), ("-8 -B -c none -t -w 64 -l 64", "rgb", NOT_TIFF),
+]
+VIPS = [
+    ("", "gray", None), ("", "rgb", None), ("--bitdepth 1", "bits", None), ("--tile --tile-width 64 --tile-height 64", "gray", None),
+    ("--tile --tile-width 128 --tile-height 128", "rgb", None), ("--tile --tile-width 64 --tile-height 64 --bitdepth 1", "bits", None),
+    ("--miniswhite", "gray", None), ("--miniswhite --bitdepth 1", "bits", None), ("--tile --pyramid", "gray", None),
+    ("--bitdepth 4", "gray", UNSUPPORTED), ("--compression lzw", "gray", UNSUPPORTED), ("--compression deflate", "rgb", UNSUPPORTED),
+    ("--compression jpeg", "rgb", UNSUPPORTED), ("--compression ccittfax4 --bitdepth 1", "bits", UNSUPPORTED),
+    ("--bigtiff", "gray", NOT_TIFF),
+]
+GDAL = [
+    ("", "gray", None), ("-co TILED=YES -co BLOCKXSIZE=64 -co BLOCKYSIZE=64", "gray", None), ("-co INTERLEAVE=PIXEL", "rgb", None),
+    ("-co TILED=YES -co INTERLEAVE=PIXEL -co ENDIANNESS=BIG", "rgb", None), ("-co BLOCKYSIZE=1 -co ENDIANNESS=BIG", "gray", None),
+    ("-co NBITS=1", "bits", None), ("-co PHOTOMETRIC=MINISWHITE", "gray", None), ("-co PROFILE=BASELINE -co TILED=YES", "rgb", None),
+    ("-co INTERLEAVE=BAND", "rgb", UNSUPPORTED), ("-co ALPHA=YES -b 1 -b 1", "gray", UNSUPPORTED), ("-ot UInt16", "gray", UNSUPPORTED),
+    ("-ot Float32", "gray", UNSUPPORTED), ("-ot Byte -b 1 -b 2", "rgb", UNSUPPORTED), ("-co COMPRESS=LZW", "gray", UNSUPPORTED),
+    ("-co COMPRESS=DEFLATE -co TILED=YES", "rgb", UNSUPPORTED), ("-co COMPRESS=PACKBITS", "gray", UNSUPPORTED),
+    ("-co BIGTIFF=YES", "gray", NOT_TIFF),
+]
+MAGICK = [
+    ("-compress none", "gray", None), ("-compress none", "rgb", None), ("-compress none -type bilevel", "bits", None),
+    ("-compress none -endian MSB", "rgb", None), ("-compress none -define tiff:rows-per-strip=5", "gray", None),
+    ("-compress none -define tiff:tile-geometry=64x64", "gray", None), ("-compress none -define tiff:tile-geometry=64x32 -endian MSB", "rgb", None),
+    ("-compress none -orient right-top", "gray", UNSUPPORTED), ("-compress none -depth 16", "gray", UNSUPPORTED),
+    ("-compress none -alpha on", "rgb", UNSUPPORTED), ("-compress none -colorspace CMYK", "rgb", UNSUPPORTED),
+    ("-compress none -colors 16 -type palette", "rgb", UNSUPPORTED), ("-compress lzw", "gray", UNSUPPORTED),
+    ("-compress zip", "rgb", UNSUPPORTED), ("-compress group4 -type bilevel", "bits", UNSUPPORTED), ("-compress rle", "gray", UNSUPPORTED),
+]
+PILLOW = [
+    ("L", {}, "gray", None), ("RGB", {}, "rgb", None), ("1", {}, "bits", None), ("P", {}, "gray", UNSUPPORTED), ("CMYK", {}, "rgb", UNSUPPORTED),
+    ("LA", {}, "gray", UNSUPPORTED), ("RGBA", {}, "rgb", UNSUPPORTED), ("YCbCr", {}, "rgb", UNSUPPORTED), ("LAB", {}, "rgb", UNSUPPORTED),
+    ("I;16", {}, "gray", UNSUPPORTED), ("I", {}, "gray", UNSUPPORTED), ("F", {}, "gray", UNSUPPORTED),
+    ("L", {"compression": "tiff_lzw"}, "gray", UNSUPPORTED), ("RGB", {"compression": "tiff_adobe_deflate"}, "rgb", UNSUPPORTED),
+    ("1", {"compression": "group4"}, "bits", UNSUPPORTED), ("L", {"save_all": True}, "gray", None),
+]
+
+
+def call(*command):
+    done = subprocess.run([str(word) for word in command], capture_output=True, text=True)
+    if done.returncode:
+        raise RuntimeError(f"{' '.join(map(str, command))}: {done.stderr.strip()[-300:]}")
+
+
+def files(folder, sources, samples):
+    """Each file: the writer, what it was told, the picture, what is expected, and its path."""
+    number = 0
+
+    def path():
+        nonlocal number
+        number += 1
+        return os.path.join(folder, f"{number:03}.tif")
+
+    for options, picture, expected in TIFFCP:
+        call("tiffcp", *options.split(), sources[picture], out := path())
+        yield "tiffcp", options, picture, expected, out
+    for options, picture, expected in VIPS:
+        call("vips", "tiffsave", sources[picture], out := path(), *options.split())
+        yield "vips tiffsave", options, picture, expected, out
+    for options, picture, expected in GDAL:
+        scale = ["-scale", "0", "255", "0", "1"] if "NBITS=1" in options else []
+        source = sources["bits8" if picture == "bits" else picture]
+        call("gdal_translate", "-q", *options.split(), *scale, source, out := path())
+        yield "gdal_translate", options, picture, expected, out
+    call("gdal_translate", "-q", "-co", "TILED=YES", sources["gray"], out := path())
+    call("gdaladdo", "-q", out, "2", "4")
+    yield "gdal_translate, gdaladdo", "-co TILED=YES; 2 4", "gray", None, out
+    call("gdal_translate", "-q", "-of", "COG", "-co", "COMPRESS=NONE", "-co", "BLOCKSIZE=128", sources["gray"], out := path())
+    yield "gdal_translate", "-of COG -co COMPRESS=NONE -co BLOCKSIZE=128", "gray", None, out
+    call("gdal_create", "-q", "-co", "SPARSE_OK=TRUE", "-outsize", W, H, "-bands", "1", out := path())
+    yield "gdal_create", "-co SPARSE_OK=TRUE (no strip is stored)", "gray", BAD_FIELD, out
+    for options, picture, expected in MAGICK:
+        call("convert", sources[picture], *options.split(), out := path())
+        yield "convert", options, picture, expected, out
+    for mode, options, picture, expected in PILLOW:
+        array = samples[picture]
+        image = Image.fromarray(array[:, :, 0] if array.shape[2] == 1 else array)
+        image = Image.fromarray(array[:, :, 0].astype(np.uint16)) if mode == "I;16" else image.convert(mode)
+        if options.get("save_all"):
+            options = {**options, "append_images": [Image.new("L", (50, 40))]}
+        image.save(out := path(), **options)
+        told = ", ".join([f"mode {mode}", *filter(None, [options.get("compression"), "two pages" * ("save_all" in options)])])
+        yield "Pillow", told, picture, expected, out
+    with open(sources["gray"], "rb") as file:
+        whole = file.read()
+    for what, data, expected in [("no byte", b"", NOT_TIFF), ("a PNG file", b"\x89PNG\r\n\x1a\n" + bytes(40), NOT_TIFF),
+                                 ("the last byte cut off", whole[:-1], TRUNCATED), ("cut inside the directory", whole[:60], TRUNCATED)]:
+        with open(out := path(), "wb") as file:
+            file.write(data)
+        yield "by hand", what, "gray", expected, out
+
+
+def ask(program, words, path):
+    """Status, standard output and standard error of the program for one target."""
+    done = subprocess.run([program, "--base", "http://localhost/iiif", "--one", f"/iiif/a/{words}", "a=" + path], capture_output=True)
+    return done.returncode, done.stdout, done.stderr.decode(errors="replace")
+
+
+def shown(body):
+    """The samples of an answer, by Pillow."""
+    with Image.open(io.BytesIO(body)) as image:
+        return np.asarray(image.convert("RGB" if image.mode == "RGB" else "L")).reshape(image.height, image.width, -1)
+
+
+def weights(places, size):
+    """How long each source cell overlaps each of `size` result cells."""
+    cell, place = np.arange(size, dtype=np.int64)[:, None], np.arange(places, dtype=np.int64)[None, :]
+    return np.clip(np.minimum((cell + 1) * places, (place + 1) * size) - np.maximum(cell * places, place * size), 0, None)
+
+
+def averaged(samples, width):
+    """The picture scaled to a width, its height in proportion, by averages to the nearest, a half up."""
+    h, w, _ = samples.shape
+    height = (2 * h * width + w) // (2 * w)
+    sums = np.einsum("jy,yxk,ix->jik", weights(h, height), samples.astype(np.int64), weights(w, width))
+    return ((2 * sums + w * h) // (2 * w * h)).astype(np.uint8)
+
+
+def shown_by(samples, writer, options, picture):
+    """The samples that a file must show. GDAL keeps the stored values where it is told MINISWHITE, so its file shows the negative."""
+    return 255 - samples[picture] if writer == "gdal_translate" and "MINISWHITE" in options else samples[picture]
+
+
+def judged(program, path, wanted, expected):
+    """What happened, and whether it was right."""
+    if expected is not None:
+        status, out, err = ask(program, "full/max/0/default.tif", path)
+        right = (status, out, err) == (2, b"", f"image a: {expected}\n")
+        return f"`{err.strip()}`, status {status}" + (f", {len(out)} bytes" if out else ""), right
+    with Image.open(path) as image:
+        same = np.array_equal(np.asarray(image.convert("RGB" if wanted.shape[2] == 3 else "L")).reshape(wanted.shape), wanted)
+    if not same:
+        return "Pillow decodes another picture than the writer was given", False
+    cases = [("full/max/0/default.tif", wanted), ("37,29,101,90/max/0/default.tif", wanted[29:119, 37:138]),
+             ("full/31,/0/default.tif", averaged(wanted, 31))]
+    for words, samples in cases:
+        status, out, err = ask(program, words, path)
+        if status or err or out[:4] != b"II*\0":
+            return f"{words}: status {status} `{(err or out[:40].decode(errors='replace')).strip()}`", False
+        if not np.array_equal(shown(out), samples):
+            return f"{words}: other samples", False
+    return "accepted, the same samples", True
+
+
+def version(*command):
+    done = subprocess.run(command, capture_output=True, text=True)
+    line = next(line for line in (done.stdout + done.stderr).split("\n") if re.search(r"\d\.\d", line))
+    return line.removeprefix("Version: ").split(", rel")[0]
+
+
+def main():
+    parser = argparse.ArgumentParser(description=__doc__, formatter_class=argparse.RawDescriptionHelpFormatter)
+    parser.add_argument("--program", required=True)
+    parser.add_argument("--work", default="/tmp/iiif_found")
+    args = parser.parse_args()
+    shutil.rmtree(args.work, ignore_errors=True)
+    os.makedirs(args.work)
+    samples, sources = pictures(), {}
+    for name, bits in [("gray", False), ("rgb", False), ("bits", True), ("bits8", False)]:
+        sources[name] = os.path.join(args.work, name + ".tif")
+        with open(sources[name], "wb") as file:
+            file.write(plain(samples["bits" if bits or name == "bits8" else name], bits))
+    print(f"{version('tiffcp', '-h')}; {version('vips', '--version')}; {version('gdal_translate', '--version')};",
+          f"{version('convert', '-version').rsplit(' Q16')[0]}; Pillow {Image.__version__}\n")
+    groups, wrong, count = {}, [], 0
+    for writer, options, picture, expected, path in files(args.work, sources, samples):
+        got, right = judged(args.program, path, shown_by(samples, writer, options, picture), expected)
+        told = f"{picture}: `{options}`" if options else f"{picture}: nothing"
+        count += 1
+        if right:
+            groups.setdefault((writer, got), []).append(told)
+        else:
+            wrong.append(f"{writer}, {told}: expected {'accepted' if expected is None else expected}, got {got} ({path})")
+    print("| Writer | Files | The program | Picture, and what the writer was told |\n|---|---|---|---|")
+    for (writer, got), told in groups.items():
+        print(f"| {writer} | {len(told)} | {got} | {'; '.join(told)} |")
+    for line in wrong:
+        print(f"wrong: {line}", file=sys.stderr)
+    print(f"\n{count} files, {len(wrong)} wrong")
+    return 1 if wrong else 0
+
+
+if __name__ == "__main__":
+    sys.exit(main())
