@@ -231,22 +231,22 @@ const ANSWERS: &str =
     "HTTP/1.1 303 See Other\r\nAccess-Control-Allow-Origin: *\r\nLocation: http://localhost/iiif/a/info.json\r\nContent-Length: 0\r\n\r\nHTTP/1.1 405 Method Not Allowed\r\nContent-Type: text/plain\r\nAccess-Control-Allow-Origin: *\r\nAllow: GET, HEAD\r\nContent-Length: 10\r\n\r\nQ2 method\nHTTP/1.1 200 OK\r\nContent-Type: image/tiff\r\nAccess-Control-Allow-Origin: *\r\nLink: <http://localhost/iiif/a/full/max/0/default.tif>;rel=\"canonical\"\r\nContent-Length: 190\r\n\r\n";
 
 /// The options of a server of the sample.
-fn sample_options<'a>(alloc: Global, mode: Mode<'a>) -> Result<Options<'a>, Fail> {
-    let mut images = Vec::new(alloc);
+fn sample_options(alloc: Global) -> Result<Options<'static>, Fail> {
+    let mut images: Vec<(&'static str, &'static str)> = Vec::new(alloc);
     images.push(("a", ":sample"))?;
     Ok(Options {
         base: BASE,
         edge: 2,
         max: 4096,
         images,
-        mode,
+        mode: Mode::Listen("127.0.0.1:0"),
     })
 }
 
 #[test]
 fn three_requests_over_loopback(rt: HostRuntime) -> Result<(), Fail> {
     let alloc = rt.alloc();
-    let options = sample_options(alloc, Mode::Listen("127.0.0.1:0"))?;
+    let options = sample_options(alloc)?;
     let Ok(node) = node(&rt, alloc, &options) else {
         return Err(Fail::from("the sample is refused"));
     };
@@ -265,7 +265,7 @@ fn three_requests_over_loopback(rt: HostRuntime) -> Result<(), Fail> {
 #[test]
 fn answers_reach_a_viewer_that_sent_more(rt: HostRuntime) -> Result<(), Fail> {
     let alloc = rt.alloc();
-    let options = sample_options(alloc, Mode::Listen("127.0.0.1:0"))?;
+    let options = sample_options(alloc)?;
     let Ok(node) = node(&rt, alloc, &options) else {
         return Err(Fail::from("the sample is refused"));
     };
