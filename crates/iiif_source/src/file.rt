@@ -1,6 +1,7 @@
 //! A file as a source.
 
-ghost use Rattle.std.specs.Prelude.{◌||◌, ◌==◌, ℕ, IsTrue, replicate};
+ghost use Rattle.std.specs.Prelude.{◌||◌, ◌==◌, ◌≡◌, ◌≢◌, ℕ, IsTrue, replicate};
+ghost use Rattle.std.specs.declared.io.ErrorKind.TheVariants.{UnexpectedEof};
 ghost use Rattle.iiif_source.specs.Cause.{failed, ended};
 
 use crate::{ReadFault, Source};
@@ -61,7 +62,9 @@ impl<R: Wait> Source<R> for FileSource {
 
 /// The cause of a read's fault: the file ended, or the read failed.
 fn cause_of(kind: ErrorKind) -> u8
-    ensures { IsTrue (result == failed || result == ended) }
+    ensures ended { kind ≡ UnexpectedEof → result ≡ ended }
+    ensures failed { kind ≢ UnexpectedEof → result ≡ failed }
+    ensures known { IsTrue (result == failed || result == ended) }
 {
     match kind {
         ErrorKind::UnexpectedEof => ReadFault::ENDED,

@@ -66,6 +66,16 @@ fn fuse_within_a_fuse_fails_first(rt: HostRuntime) -> Result<(), Fail> {
     Ok(())
 }
 
+#[test]
+fn fuse_of_zero_fails_at_the_first_read(rt: HostRuntime) -> Result<(), Fail> {
+    let source = FuseSource::new(five(rt.alloc())?, 0);
+    let fault = ReadFault { place: 2, cause: 3 };
+    assert_eq!(rt; two_at(&(), &source, 2), Err(fault));
+    source.mend();
+    assert_eq!(rt; two_at(&(), &source, 2), Ok([3, 4]));
+    Ok(())
+}
+
 /// An open file of these bytes, and a second handle of it. Its name is gone at once.
 fn open_file(rt: &HostRuntime, name: &str, bytes: &[u8]) -> Result<(File, File), Fail> {
     fs::write(rt, name, bytes)?;
@@ -94,6 +104,16 @@ fn file_that_became_shorter_ended(rt: HostRuntime) -> Result<(), Fail> {
     assert_eq!(rt; two_at(&rt, &source, 3), Err(fault));
     assert_eq!(rt; two_at(&rt, &source, 2), Ok([3, 4]));
     assert_eq!(rt; Source::<HostRuntime>::len(&source), 5);
+    Ok(())
+}
+
+#[test]
+fn fuse_hands_on_the_fault_of_what_is_inside(rt: HostRuntime) -> Result<(), Fail> {
+    let (file, second) = open_file(&rt, "iiif_source_inside", &[1, 2, 3, 4, 5])?;
+    let source = FuseSource::new(FileSource::new(file)?, 9);
+    second.set_len(4)?;
+    let fault = ReadFault { place: 3, cause: 2 };
+    assert_eq!(rt; two_at(&rt, &source, 3), Err(fault));
     Ok(())
 }
 

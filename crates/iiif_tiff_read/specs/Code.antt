@@ -102,6 +102,17 @@ IsDeviceFault gave (opens.Unsupported tag) = ⊥
 IsDeviceFault gave (opens.BadField tag) = ⊥
 IsDeviceFault gave opens.TooLarge = ⊥
 
+-- The fault is not want of memory: a check that takes none never answers that.
+abbrev pub IsNotMemory : OpenFault → Type 0
+IsNotMemory opens.NotTiff = Unit {0}
+IsNotMemory opens.Truncated = Unit {0}
+IsNotMemory (opens.Missing tag) = Unit {0}
+IsNotMemory (opens.Unsupported tag) = Unit {0}
+IsNotMemory (opens.BadField tag) = Unit {0}
+IsNotMemory opens.TooLarge = Unit {0}
+IsNotMemory (opens.Source f) = Unit {0}
+IsNotMemory opens.NoMemory = ⊥
+
 abbrev pub image_scheme : Image → Scheme
 image_scheme i = scheme_of i.dim i.format i.grid i.offsets.items
 

@@ -1,11 +1,11 @@
 //! The checks of a file's fields, in their order.
 
-ghost use Rattle.std.specs.Prelude.{◌≡◌, ◌≢◌, ◌+◌, ◌*◌, ◌^◌, ◌<◌, ◌≤◌, ◌==◌, ◌&&◌, if◌then◌else◌, ℕ, IfOk};
+ghost use Rattle.std.specs.Prelude.{◌≡◌, ◌≢◌, ◌+◌, ◌*◌, ◌^◌, ◌<◌, ◌≤◌, ◌==◌, ◌&&◌, if◌then◌else◌, ℕ, IfOk, IfErr};
 ghost use Rattle.std.specs.List.{list_all};
 ghost use Rattle.iiif_pixel.specs.Geometry.{channels_of};
 ghost use Rattle.iiif_tiff.specs.Tiff as tiff;
 ghost use Rattle.iiif_tiff.specs.Tiff.{sides, samples, samples_per_pixel, bits_per_sample, photometric, planar_configuration, extra_samples, sample_format, tile_side, value_or, width, height, channels, bits, white_is_zero};
-ghost use Rattle.iiif_tiff_read.specs.Code.{Reads};
+ghost use Rattle.iiif_tiff_read.specs.Code.{Reads, IsNotMemory};
 ghost use Rattle.iiif_tiff_read.specs.Faults.{Answers};
 
 use crate::fault::OpenFault;
@@ -56,6 +56,7 @@ impl<'a, R, S: Source<R>> Fields<'a, R, S> {
             (sides (S.bytes self.now.source.now))
             (λ d. (d.w ≡ width (S.bytes self.now.source.now)) × (d.h ≡ height (S.bytes self.now.source.now))) result }
         ensures bounds { IfOk result (λ d. (0 < d.w) × (d.w ≤ 1000000) × (0 < d.h) × (d.h ≤ 1000000) × (d.w * d.h ≤ 2 ^ 32)) }
+        ensures memory { IfErr result IsNotMemory }
     {
         let w = self.needed(tag::IMAGE_WIDTH)?;
         if w == 0 {
@@ -77,7 +78,8 @@ impl<'a, R, S: Source<R>> Fields<'a, R, S> {
     /// How many channels the image has.
     #[tactic(auto, unfolding(iiif_tiff::specs::Tiff::samples_per_pixel))]
     fn samples_per_pixel(&self) -> Result<Kind, OpenFault>
-        ensures { Answers (Reads (S.bytes self.now.source.now) self.now.order self.now.entries.items) (S.gave self.now.source.now) (samples_per_pixel (S.bytes self.now.source.now)) (λ k. channels_of k ≡ channels (S.bytes self.now.source.now)) result }
+        ensures answer { Answers (Reads (S.bytes self.now.source.now) self.now.order self.now.entries.items) (S.gave self.now.source.now) (samples_per_pixel (S.bytes self.now.source.now)) (λ k. channels_of k ≡ channels (S.bytes self.now.source.now)) result }
+        ensures memory { IfErr result IsNotMemory }
     {
         match self.optional(tag::SAMPLES_PER_PIXEL, 1)? {
             0 => Err(OpenFault::BadField(tag::SAMPLES_PER_PIXEL)),
@@ -103,7 +105,8 @@ impl<'a, R, S: Source<R>> Fields<'a, R, S> {
     /// Whether a sample of 0 is white.
     #[tactic(auto, unfolding(iiif_tiff::specs::Tiff::photometric))]
     fn photometric(&self, channels: u32) -> Result<bool, OpenFault>
-        ensures { Answers ((Reads (S.bytes self.now.source.now) self.now.order self.now.entries.items) × (channels ≡ tiff.channels (S.bytes self.now.source.now))) (S.gave self.now.source.now) (photometric (S.bytes self.now.source.now)) (λ b. b ≡ white_is_zero (S.bytes self.now.source.now)) result }
+        ensures answer { Answers ((Reads (S.bytes self.now.source.now) self.now.order self.now.entries.items) × (channels ≡ tiff.channels (S.bytes self.now.source.now))) (S.gave self.now.source.now) (photometric (S.bytes self.now.source.now)) (λ b. b ≡ white_is_zero (S.bytes self.now.source.now)) result }
+        ensures memory { IfErr result IsNotMemory }
     {
         let photometric = self.needed(tag::PHOTOMETRIC)?;
         match (channels, photometric) {
@@ -117,7 +120,8 @@ impl<'a, R, S: Source<R>> Fields<'a, R, S> {
 
     #[tactic(auto, unfolding(iiif_tiff::specs::Tiff::planar_configuration))]
     fn planar_configuration(&self, channels: u32) -> Result<(), OpenFault>
-        ensures { Answers ((Reads (S.bytes self.now.source.now) self.now.order self.now.entries.items) × (channels ≡ tiff.channels (S.bytes self.now.source.now))) (S.gave self.now.source.now) (planar_configuration (S.bytes self.now.source.now)) (λ _. Unit {0}) result }
+        ensures answer { Answers ((Reads (S.bytes self.now.source.now) self.now.order self.now.entries.items) × (channels ≡ tiff.channels (S.bytes self.now.source.now))) (S.gave self.now.source.now) (planar_configuration (S.bytes self.now.source.now)) (λ _. Unit {0}) result }
+        ensures memory { IfErr result IsNotMemory }
     {
         if channels != 1 {
             self.only(tag::PLANAR_CONFIGURATION, 1)?;
@@ -127,7 +131,8 @@ impl<'a, R, S: Source<R>> Fields<'a, R, S> {
 
     #[tactic(auto, unfolding(iiif_tiff::specs::Tiff::extra_samples))]
     fn extra_samples(&self) -> Result<(), OpenFault>
-        ensures { Answers (Reads (S.bytes self.now.source.now) self.now.order self.now.entries.items) (S.gave self.now.source.now) (extra_samples (S.bytes self.now.source.now)) (λ _. Unit {0}) result }
+        ensures answer { Answers (Reads (S.bytes self.now.source.now) self.now.order self.now.entries.items) (S.gave self.now.source.now) (extra_samples (S.bytes self.now.source.now)) (λ _. Unit {0}) result }
+        ensures memory { IfErr result IsNotMemory }
     {
         if self.has(tag::EXTRA_SAMPLES) {
             Err(OpenFault::Unsupported(tag::EXTRA_SAMPLES))
@@ -179,6 +184,7 @@ impl<'a, R, S: Source<R>> Fields<'a, R, S> {
             (tile_side (S.bytes self.now.source.now) tag)
             (λ n. n ≡ value_or (S.bytes self.now.source.now) tag 0 0) result }
         ensures bounds { IfOk result (λ n. (0 < n) × (n ≤ 2 ^ 20)) }
+        ensures memory { IfErr result IsNotMemory }
     {
         let side = self.needed(tag)?;
         if side == 0 {

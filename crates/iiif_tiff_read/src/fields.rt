@@ -7,7 +7,7 @@ ghost use Rattle.iiif_tiff.specs.Tiff.{header, order, number, directory_fits, en
 ghost use Rattle.iiif_tiff.specs.Tiff as tiff;
 ghost use Rattle.iiif_tiff_read.specs.Code.{endian, entry_view, entry_views, first_values, Reads};
 ghost use Rattle.iiif_tiff_read.specs.Faults.{Answers};
-ghost use Rattle.iiif_tiff_read.specs.Code.{IsDeviceFault};
+ghost use Rattle.iiif_tiff_read.specs.Code.{IsDeviceFault, IsNotMemory};
 
 use crate::fault::OpenFault;
 use crate::number::{ByteOrder, FieldType};
@@ -88,6 +88,7 @@ fn read_header<R, S: Source<R>>(rt: &R, source: &S) -> Result<Header, OpenFault>
     ensures header { Answers (S.keeps source.now) (S.gave source.now) (header (S.bytes source.now))
         (λ h. (endian h.order ≡ order (S.bytes source.now)) × (h.directory ≡ tiff.directory (S.bytes source.now))) result }
     ensures whole { IfOk result (λ _. 8 ≤ length (S.bytes source.now)) }
+    ensures memory { IfErr result IsNotMemory }
 {
     if source.len() < 8 {
         return Err(OpenFault::NotTiff);
@@ -196,9 +197,10 @@ impl<'a, R, S: Source<R>> Fields<'a, R, S> {
     /// The only value of an entry with a tag.
     #[tactic(auto, unfolding(iiif_tiff::specs::Tiff::entry_fits, iiif_tiff::specs::Tiff::value))]
     fn only_value(&self, tag: u16, entry: Entry) -> Result<u32, OpenFault>
-        ensures { Answers (Reads (S.bytes self.now.source.now) self.now.order self.now.entries.items) (S.gave self.now.source.now)
+        ensures answer { Answers (Reads (S.bytes self.now.source.now) self.now.order self.now.entries.items) (S.gave self.now.source.now)
             (entry_fits (S.bytes self.now.source.now) tag (one entry.count) (entry_view entry))
             (λ v. v ≡ value (S.bytes self.now.source.now) (entry_view entry) 0) result }
+        ensures memory { IfErr result IsNotMemory }
     {
         match FieldType::of(entry.kind) {
             Some(kind) if entry.count == 1 => Ok(kind.decode(self.order, &entry.inside)),
@@ -209,9 +211,10 @@ impl<'a, R, S: Source<R>> Fields<'a, R, S> {
     /// The value of a field that has to be there.
     #[tactic(auto, unfolding(iiif_tiff::specs::Tiff::needed, iiif_tiff::specs::Tiff::value_or))]
     pub fn needed(&self, tag: u16) -> Result<u32, OpenFault>
-        ensures { Answers (Reads (S.bytes self.now.source.now) self.now.order self.now.entries.items) (S.gave self.now.source.now)
+        ensures answer { Answers (Reads (S.bytes self.now.source.now) self.now.order self.now.entries.items) (S.gave self.now.source.now)
             (needed (S.bytes self.now.source.now) tag one)
             (λ v. v ≡ value_or (S.bytes self.now.source.now) tag 0 0) result }
+        ensures memory { IfErr result IsNotMemory }
     {
         match self.find(tag) {
             Some(entry) => self.only_value(tag, entry),
@@ -222,9 +225,10 @@ impl<'a, R, S: Source<R>> Fields<'a, R, S> {
     /// The value of a field, or its default.
     #[tactic(auto, unfolding(iiif_tiff::specs::Tiff::optional, iiif_tiff::specs::Tiff::value_or))]
     pub fn optional(&self, tag: u16, default: u32) -> Result<u32, OpenFault>
-        ensures { Answers (Reads (S.bytes self.now.source.now) self.now.order self.now.entries.items) (S.gave self.now.source.now)
+        ensures answer { Answers (Reads (S.bytes self.now.source.now) self.now.order self.now.entries.items) (S.gave self.now.source.now)
             (optional (S.bytes self.now.source.now) tag one)
             (λ v. v ≡ value_or (S.bytes self.now.source.now) tag 0 default) result }
+        ensures memory { IfErr result IsNotMemory }
     {
         match self.find(tag) {
             Some(entry) => self.only_value(tag, entry),
@@ -309,8 +313,9 @@ impl<'a, R, S: Source<R>> Fields<'a, R, S> {
     /// Refuses a field of another value than this, which is its default.
     #[tactic(auto, unfolding(iiif_tiff::specs::Tiff::only))]
     pub fn only(&self, tag: u16, value: u32) -> Result<(), OpenFault>
-        ensures { Answers (Reads (S.bytes self.now.source.now) self.now.order self.now.entries.items) (S.gave self.now.source.now)
+        ensures answer { Answers (Reads (S.bytes self.now.source.now) self.now.order self.now.entries.items) (S.gave self.now.source.now)
             (only (S.bytes self.now.source.now) tag value) (λ _. Unit {0}) result }
+        ensures memory { IfErr result IsNotMemory }
     {
         if self.optional(tag, value)? == value {
             Ok(())

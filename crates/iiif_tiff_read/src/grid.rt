@@ -1,10 +1,10 @@
 //! How an image is cut into pieces, which are strips or tiles.
 
-ghost use Rattle.std.specs.Prelude.{◌≡◌, true, false, ◌+◌, ◌*◌, ◌^◌, ◌<◌, ◌≤◌, ◌-◌, min, ℕ, IfOk, if◌then◌else◌};
+ghost use Rattle.std.specs.Prelude.{◌≡◌, true, false, ◌+◌, ◌*◌, ◌^◌, ◌<◌, ◌≤◌, ◌-◌, min, ℕ, IfOk, IfErr, if◌then◌else◌};
 ghost use Rattle.std.specs.Int.{div_ceil};
 ghost use Rattle.iiif_pixel.specs.Geometry.{channels_of};
 ghost use Rattle.iiif_tiff.specs.Tiff as tiff;
-ghost use Rattle.iiif_tiff_read.specs.Code.{Reads, IsGrid};
+ghost use Rattle.iiif_tiff_read.specs.Code.{Reads, IsGrid, IsNotMemory};
 ghost use Rattle.iiif_tiff_read.specs.Faults.{Answers};
 
 use crate::checks::Format;
@@ -62,6 +62,7 @@ impl<'a, R, S: Source<R>> Fields<'a, R, S> {
             (S.gave self.now.source.now) (tiff.tile_grid (S.bytes self.now.source.now)) (λ g. IsGrid (S.bytes self.now.source.now) g) result }
         ensures bounds { IfOk result (λ g. (0 < g.width) × (g.width ≤ 2 ^ 20) × (0 < g.height) × (g.height ≤ 2 ^ 20) × (g.count ≤ 2 ^ 20)) }
         ensures shape { IfOk result (λ g. (g.across ≡ div_ceil dim.w g.width) × (g.count ≡ g.across * div_ceil dim.h g.height) × (g.tiled ≡ false → g.width ≡ dim.w)) }
+        ensures memory { IfErr result IsNotMemory }
     {
         let width = self.tile_side(tag::TILE_WIDTH)?;
         let height = self.tile_side(tag::TILE_LENGTH)?;
@@ -88,6 +89,7 @@ impl<'a, R, S: Source<R>> Fields<'a, R, S> {
             (S.gave self.now.source.now) (tiff.strip_grid (S.bytes self.now.source.now)) (λ g. IsGrid (S.bytes self.now.source.now) g) result }
         ensures bounds { IfOk result (λ g. (0 < g.width) × (g.width ≤ 2 ^ 20) × (0 < g.height) × (g.count ≤ 2 ^ 20)) }
         ensures shape { IfOk result (λ g. (g.across ≡ div_ceil dim.w g.width) × (g.count ≡ g.across * div_ceil dim.h g.height) × (g.tiled ≡ false → g.width ≡ dim.w)) }
+        ensures memory { IfErr result IsNotMemory }
     {
         let height = self.optional(tag::ROWS_PER_STRIP, u32::MAX)?;
         if height == 0 {
@@ -110,6 +112,7 @@ impl<'a, R, S: Source<R>> Fields<'a, R, S> {
             (S.gave self.now.source.now) (tiff.grid (S.bytes self.now.source.now)) (λ g. IsGrid (S.bytes self.now.source.now) g) result }
         ensures bounds { IfOk result (λ g. (0 < g.width) × (g.width ≤ 2 ^ 20) × (0 < g.height) × (g.count ≤ 2 ^ 20)) }
         ensures shape { IfOk result (λ g. (g.across ≡ div_ceil dim.w g.width) × (g.count ≡ g.across * div_ceil dim.h g.height) × (g.tiled ≡ false → g.width ≡ dim.w)) }
+        ensures memory { IfErr result IsNotMemory }
     {
         if self.has(tag::TILE_WIDTH) {
             self.tiles(dim)

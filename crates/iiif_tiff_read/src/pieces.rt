@@ -1,10 +1,10 @@
 //! Where the pieces of an image stand.
 
-ghost use Rattle.std.specs.Prelude.{◌≡◌, ◌+◌, ◌*◌, ◌^◌, ◌<◌, ◌≤◌, ℕ, List, length, map, nat_le, IfOk, OnOk, if◌then◌else◌};
+ghost use Rattle.std.specs.Prelude.{◌≡◌, ◌+◌, ◌*◌, ◌^◌, ◌<◌, ◌≤◌, ℕ, List, length, map, nat_le, IfOk, IfErr, OnOk, if◌then◌else◌};
 ghost use Rattle.std.specs.List.{range_with_len};
 ghost use Rattle.iiif_tiff.specs.Tiff.{needed, piece, pieces, piece_offset, piece_byte_count, piece_bytes, offsets_tag, counts_tag, first, pieces_fit};
 ghost use Rattle.iiif_tiff.specs.Tiff as tiff;
-ghost use Rattle.iiif_tiff_read.specs.Code.{Reads, IsKnown};
+ghost use Rattle.iiif_tiff_read.specs.Code.{Reads, IsKnown, IsNotMemory};
 ghost use Rattle.iiif_tiff_read.specs.Layouts.{FitsIn};
 ghost use Rattle.iiif_tiff_read.specs.Code.{scheme_of};
 ghost use Rattle.iiif_tiff_read.specs.Faults.{Answers};
@@ -60,6 +60,7 @@ impl<'a, R, S: Source<R>> Fields<'a, R, S> {
         ensures in_file { OnOk result (piece.offset + piece.needed ≤ length (S.bytes self.now.source.now)) }
         ensures check { (i : ℕ) → Answers ((counts_tag ≡ tiff.counts_tag (S.bytes self.now.source.now)) × (piece.offset ≡ piece_offset (S.bytes self.now.source.now) i) × (piece.count ≡ piece_byte_count (S.bytes self.now.source.now) i) × (piece.needed ≡ piece_bytes (tiff.scheme (S.bytes self.now.source.now)) i))
             (S.gave self.now.source.now) (tiff.piece (S.bytes self.now.source.now) i) (λ _. Unit {0}) result }
+        ensures memory { IfErr result IsNotMemory }
     {
         if (piece.count as u64) < piece.needed {
             return Err(OpenFault::BadField(counts_tag));
@@ -86,6 +87,7 @@ impl<'a, R, S: Source<R>> Fields<'a, R, S> {
         ensures checks { Answers (IsKnown (S.bytes self.now.source.now) dim format grid.now × (counts_tag ≡ tiff.counts_tag (S.bytes self.now.source.now)) × (offsets.now ≡ map (piece_offset (S.bytes self.now.source.now)) (range_with_len 0 grid.now.count))
             × (counts.now ≡ map (piece_byte_count (S.bytes self.now.source.now)) (range_with_len 0 grid.now.count)))
             (S.gave self.now.source.now) (first (map (piece (S.bytes self.now.source.now)) (range_with_len 0 grid.now.count))) (λ _. Unit {0}) result }
+        ensures memory { IfErr result IsNotMemory }
     {
         let row_bytes = grid.row_bytes(format);
         for i in 0..grid.count {

@@ -3,10 +3,12 @@ ghost use Rattle.std.specs.Prelude.{◌≤◌};
 use super::*;
 use iiif_pixel::{Kind, Rect};
 use iiif_source::{FuseSource, MemSource, ReadFault, Source};
+use one_fault::OneFault;
 use std::alloc::Global;
 use std::test::Fail;
 use writer::{Field, Form, PLAIN, write_file};
 
+mod one_fault;
 mod writer;
 
 /// A file of low bytes first: a gray picture of 4 by 4 with v(x, y) = 10x + 40y in one strip, and its directory behind it.
@@ -374,6 +376,52 @@ fn fields_are_checked_one_by_one(rt: HostRuntime) {
 }
 
 #[test]
+fn each_field_of_a_tiled_file_has_its_refusal(rt: HostRuntime) -> Result<(), Fail> {
+    let cases = [
+        (Field(256, 4, &[1_000_001]), OpenFault::TooLarge),
+        (Field(257, 3, &[0]), OpenFault::BadField(257)),
+        (Field(257, 4, &[1_000_001]), OpenFault::TooLarge),
+        (Field(277, 3, &[0]), OpenFault::BadField(277)),
+        (Field(277, 3, &[2]), OpenFault::Unsupported(277)),
+        (Field(258, 3, &[8, 8]), OpenFault::BadField(258)),
+        (Field(266, 3, &[2]), OpenFault::Unsupported(266)),
+        (Field(274, 3, &[9]), OpenFault::Unsupported(274)),
+        (Field(339, 3, &[1, 1]), OpenFault::BadField(339)),
+        (Field(339, 3, &[2]), OpenFault::Unsupported(339)),
+        (Field(322, 3, &[0]), OpenFault::BadField(322)),
+        (Field(322, 4, &[1_048_577]), OpenFault::TooLarge),
+        (Field(323, 2, &[3]), OpenFault::BadField(323)),
+        (Field(323, 3, &[0]), OpenFault::BadField(323)),
+        (Field(324, 4, &[0, 9, 18]), OpenFault::BadField(324)),
+        (Field(325, 4, &[9, 9, 9]), OpenFault::BadField(325)),
+        (Field(325, 4, &[9, 9, 9, 8]), OpenFault::BadField(325)),
+    ];
+    for (field, fault) in cases {
+        // The first entry with a tag counts.
+        let mut fields = vec![in rt.alloc(); field]?;
+        fields.extend_from_slice(&TILES)?;
+        assert_eq!(rt; refused(rt.alloc(), &fields)?, fault);
+    }
+    Ok(())
+}
+
+#[test]
+fn areas_and_tiles_without_end_are_too_large(rt: HostRuntime) -> Result<(), Fail> {
+    let mut fields = TILES;
+    fields[0] = Field(256, 4, &[1_000_000]);
+    fields[1] = Field(257, 4, &[4_295]);
+    assert_eq!(rt; refused(rt.alloc(), &fields)?, OpenFault::TooLarge);
+    // 1,025 by 1,024 tiles
+    fields[0] = Field(256, 4, &[3_075]);
+    fields[1] = Field(257, 4, &[3_072]);
+    assert_eq!(rt; refused(rt.alloc(), &fields)?, OpenFault::TooLarge);
+    // 1,024 by 1,024 tiles, of which four have offsets
+    fields[0] = Field(256, 4, &[3_072]);
+    assert_eq!(rt; refused(rt.alloc(), &fields)?, OpenFault::BadField(324));
+    Ok(())
+}
+
+#[test]
 fn colours_in_planes_or_with_more_samples_are_refused(rt: HostRuntime) -> Result<(), Fail> {
     let alloc = rt.alloc();
     let mut fields = Vec::from_slice(alloc, &COLOURS)?;
@@ -443,6 +491,38 @@ fn failing_reads_come_out_with_their_place_until_mended(rt: HostRuntime) -> Resu
         let raster = layout.read_rect(&(), alloc, &source, MIDDLE)?;
         assert_eq!(rt; raster.samples(), [50, 60, 90, 100].as_slice());
     }
+    Ok(())
+}
+
+/// The first fault of the device while the sample is opened and its middle is read.
+fn first_fault(alloc: Global, failing: u64) -> Result<Option<ReadFault>, Fail> {
+    let source = OneFault::new(MemSource::new(Vec::from_slice(alloc, &SAMPLE)?), failing);
+    let layout = match open(&(), alloc, &source) {
+        Ok(layout) => layout,
+        Err(OpenFault::Source(fault)) => return Ok(Some(fault)),
+        Err(_) => return Err("the file is refused".into()),
+    };
+    let dim = layout.dim();
+    if dim.w != 4 || dim.h != 4 {
+        return Err("the sides are others".into());
+    }
+    match layout.read_rect(&(), alloc, &source, MIDDLE) {
+        Ok(_) => Ok(None),
+        Err(LoadFault::Source(fault)) => Ok(Some(fault)),
+        Err(LoadFault::NoMemory) => Err("out of memory".into()),
+    }
+}
+
+#[test]
+fn failed_reads_are_not_tried_again(rt: HostRuntime) -> Result<(), Fail> {
+    // The header, the number of entries, the entries and two rows.
+    for (failing, place) in [(0, 0), (1, 24), (2, 26), (3, 13), (4, 17)] {
+        assert_eq!(rt;
+            first_fault(rt.alloc(), failing)?,
+            Some(ReadFault { place, cause: 1 })
+        );
+    }
+    assert_eq!(rt; first_fault(rt.alloc(), 5)?, None);
     Ok(())
 }
 
