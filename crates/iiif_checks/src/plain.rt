@@ -13,13 +13,20 @@ pub struct Plain {
 
 impl Plain {
     /// The sample in a column, a row and a channel.
-    pub fn at(&self, x: u64, y: u64, k: u64) -> u64 {
+    pub(crate) fn at(&self, x: u64, y: u64, k: u64) -> u64 {
         let place = y.wrapping_mul(self.w).wrapping_add(x);
         let index = place.wrapping_mul(self.channels).wrapping_add(k);
         self.samples.get(index as usize).copied().unwrap_or(999)
     }
 
-    pub fn crop(&self, alloc: Global, x: u64, y: u64, w: u64, h: u64) -> Result<Plain, AllocError> {
+    pub(crate) fn crop(
+        &self,
+        alloc: Global,
+        x: u64,
+        y: u64,
+        w: u64,
+        h: u64,
+    ) -> Result<Plain, AllocError> {
         let mut samples = Vec::new(alloc);
         for j in 0..h {
             for i in 0..w {
@@ -48,7 +55,7 @@ impl Plain {
         sum
     }
 
-    pub fn scale(&self, alloc: Global, c: u64, d: u64) -> Result<Plain, AllocError> {
+    pub(crate) fn scale(&self, alloc: Global, c: u64, d: u64) -> Result<Plain, AllocError> {
         let area = self.w.wrapping_mul(self.h);
         let mut samples = Vec::new(alloc);
         for j in 0..d {
@@ -70,7 +77,7 @@ impl Plain {
         })
     }
 
-    pub fn mirrored(&self, alloc: Global) -> Result<Plain, AllocError> {
+    pub(crate) fn mirrored(&self, alloc: Global) -> Result<Plain, AllocError> {
         let mut samples = Vec::new(alloc);
         for y in 0..self.h {
             for x in 0..self.w {
@@ -88,7 +95,7 @@ impl Plain {
     }
 
     /// Turned clockwise by one quarter.
-    pub fn turned(&self, alloc: Global) -> Result<Plain, AllocError> {
+    pub(crate) fn turned(&self, alloc: Global) -> Result<Plain, AllocError> {
         let mut samples = Vec::new(alloc);
         for y in 0..self.w {
             for x in 0..self.h {
@@ -105,7 +112,7 @@ impl Plain {
         })
     }
 
-    pub fn gray(&self, alloc: Global) -> Result<Plain, AllocError> {
+    pub(crate) fn gray(&self, alloc: Global) -> Result<Plain, AllocError> {
         let mut samples = Vec::new(alloc);
         for y in 0..self.h {
             for x in 0..self.w {
@@ -131,7 +138,7 @@ impl Plain {
     }
 
     /// The rows as they stand in a file, a byte a sample.
-    pub fn bytes(&self, alloc: Global) -> Result<Vec<u8>, AllocError> {
+    pub(crate) fn bytes(&self, alloc: Global) -> Result<Vec<u8>, AllocError> {
         let mut bytes = Vec::new(alloc);
         for sample in &self.samples {
             bytes.push((*sample & 0xff) as u8)?;
@@ -140,7 +147,7 @@ impl Plain {
     }
 
     /// The rows as they stand in a file, a bit a place, 1 for white, each row padded to whole bytes.
-    pub fn bits(&self, alloc: Global) -> Result<Vec<u8>, AllocError> {
+    pub(crate) fn bits(&self, alloc: Global) -> Result<Vec<u8>, AllocError> {
         let mut bytes = Vec::new(alloc);
         for y in 0..self.h {
             let mut byte = 0u64;
