@@ -1,6 +1,6 @@
 //! Writers.
 
-ghost use Rattle.std.specs.Prelude.{◌≡◌, ◌<◌, ◌++◌, length, IfOk, IfErr, OnOk, OnErr};
+ghost use Rattle.std.specs.Prelude.{◌≡◌, ◌<◌, ◌++◌, length, Some, IfOk, IfErr, OnOk, OnErr};
 ghost use Rattle.std.specs.Io.{WritesAtMost};
 ghost use Rattle.std.specs.Io.KnownBytes.{Appends, WriteAppends};
 ghost use Rattle.iiif_io.specs.Sending.{WasCut};
@@ -53,12 +53,19 @@ pub fn send_both<W: Outlet>(out: &mut W, first: &[u8], second: &[u8]) -> Result<
     }
 }
 
-/// Memory, which fails only where a growth is refused, and then is as it was.
+/// Memory, which takes all bytes at once. It fails only where a growth is refused, and then is as it was.
 impl Outlet for Vec<u8> {
     ghost fails = { λ old new. new.items ≡ old.items };
 
-    fn put(&mut self, bytes: &[u8]) -> io::Result<usize> {
-        self.write(bytes)
+    fn put(&mut self, bytes: &[u8]) -> io::Result<usize>
+        ensures bound { WritesAtMost result bytes.now }
+        ensures bytes { WriteAppends (Some self.old.items) (Some self.new.items) result bytes.now }
+        ensures err { OnErr result (self.new.items ≡ self.old.items) }
+        ensures none { IfOk result (λ n. n ≡ 0 → 0 < length bytes.now → self.new.items ≡ self.old.items) }
+        ensures whole { IfOk result (λ n. n ≡ length bytes.now) }
+    {
+        self.extend_from_slice(bytes)?;
+        Ok(bytes.len())
     }
 }
 

@@ -3,3 +3,4 @@ pub mod Only
 pub mod Parts
 pub mod Taken
 pub mod Whole
+mod Wanted

@@ -1,5 +1,5 @@
 -- Why a part of a message was not read, by the bytes that were taken: words of the code alone.
-use Rattle.std.specs.Prelude.{◌≡◌, ℕ, List, [], ◌++◌, Option, Result, Err, ⊤}
+use Rattle.std.specs.Prelude.{◌≡◌, ℕ, ◌≤◌, List, [], ◌++◌, length, Option, Result, Err, ⊤}
 use Rattle.std.specs.Io.KnownBytes.{Consumes, IsAtEnd}
 use Rattle.iiif_peer_wire.specs.declared.fault.WireFault.{WireFault}
 use Rattle.iiif_peer_wire.specs.declared.fault.WireFault.TheVariants.{Magic, Short, Long, Key, Digest, Status, Io, NoMemory}
@@ -10,6 +10,13 @@ pub record Refuses {A : Type 0} (old new : Option (List ℕ)) (reading : List �
   pub took : Consumes old new read
   pub ended : fault ≡ Short → IsAtEnd new
   pub refused : (rest : List ℕ) → (fault ≡ Short → rest ≡ []) → reading (read ++ rest) ≡ Err fault
+
+-- behind a front some bytes came, of so many
+pub record Came (old new : Option (List ℕ)) (front : List ℕ) (count : ℕ) : Type 0 where
+  pub came : List ℕ
+  pub some : 1 ≤ length came
+  pub few : length came ≤ count
+  pub took : Consumes old new (front ++ came)
 
 -- the reader failed, memory was refused, or the bytes are refused
 abbrev pub Unread : {R A : Type 0} → (R → Option (List ℕ)) → (R → R → Type 0) → R → R → (List ℕ → Result A WireFault) → WireFault → Type 0

@@ -34,6 +34,17 @@ pub record IsAsk (group : ℕ) (key : List ℕ) : Type 0 where
 unfoldable pub ask_text : ℕ → List ℕ → List ℕ
 ask_text group key = ask_magic ++ group ∷ field key
 
+-- the front of an ask: its magic, its group, the length of its key, and a byte of the key or more
+pub record IsFrontOfAsk (text : List ℕ) : Type 0 where
+  pub group : ℕ
+  pub size : ℕ
+  pub came : List ℕ
+  pub group_known : IsGroup group
+  pub within : size ≤ key_limit
+  pub some : 1 ≤ length came
+  pub few : length came ≤ size
+  pub spelled : text ≡ ask_magic ++ group ∷ (to_be_bytes w32 size ++ came)
+
 -- what a reply for a key can be: status 0 with the value, or the number of a fault, 1 to 4, with none
 pub record IsReply (key : List ℕ) (status : ℕ) (value : List ℕ) : Type 0 where
   pub key_within : length key ≤ key_limit
@@ -44,3 +55,13 @@ pub record IsReply (key : List ℕ) (status : ℕ) (value : List ℕ) : Type 0 w
 -- a reply: its magic, the key, the status, the value, and SHA-256 of the key and then the value (RFC 6234)
 unfoldable pub reply_text : List ℕ → ℕ → List ℕ → List ℕ
 reply_text key status value = reply_magic ++ (field key ++ status ∷ (field value ++ sha256 (key ++ value)))
+
+-- the front of a reply for a key: its magic, the key, status 0, the length of its value, and a byte of the value or more
+pub record IsFrontOfReply (key text : List ℕ) : Type 0 where
+  pub size : ℕ
+  pub came : List ℕ
+  pub key_within : length key ≤ key_limit
+  pub within : size ≤ value_limit
+  pub some : 1 ≤ length came
+  pub few : length came ≤ size
+  pub spelled : text ≡ reply_magic ++ (field key ++ 0 ∷ (to_be_bytes w32 size ++ came))

@@ -3,7 +3,7 @@
 ghost use Rattle.std.specs.Prelude.{◌≡◌, ℕ, ◌++◌, List, [], Some, MatchResult, IfErr, IfNone, IfOk, IfSome, IsErrOf, IsNone, IsSomeAnd, OnOk};
 ghost use Rattle.std.specs.Io.KnownBytes.{Appends, Consumes, IsAtEnd};
 ghost use Rattle.iiif_peer_wire.specs.Faults.{IsCut, IsRefusal};
-ghost use Rattle.iiif_peer_wire.specs.Messages.{ask_text, IsAsk};
+ghost use Rattle.iiif_peer_wire.specs.Messages.{ask_text, IsAsk, IsFrontOfAsk};
 ghost use Rattle.iiif_peer_wire.specs.Reading.{ask_at, IsInput};
 
 use crate::fault::WireFault;
@@ -56,6 +56,10 @@ pub fn read_ask<R: Inlet>(alloc: Global, reader: &mut R) -> Result<Option<Ask>, 
     ensures refused { IfErr result (λ fault. IsRefusal fault
         → (input : List ℕ) × IsInput (R.remaining reader.old) input × (ask_at input ≡ Err fault)) }
     ensures io { IsErrOf result WireFault.Io → (before : R) × R.fails before reader.new }
+
+    // Memory is wanted inside an ask alone, once the first bytes of its key have come.
+    ensures memory { IsErrOf result WireFault.NoMemory → (text : List ℕ) × IsFrontOfAsk text
+        × Consumes (R.remaining reader.old) (R.remaining reader.new) text }
 {
     ask_from(alloc, reader)
 }

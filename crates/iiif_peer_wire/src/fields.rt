@@ -1,10 +1,10 @@
 //! Fields of messages, read from any reader.
 
-ghost use Rattle.std.specs.Prelude.{false, ◌≡◌, ℕ, ◌<◌, ◌≤◌, ◌^◌, List, [], ◌∷◌, ◌++◌, length, slice_index, take, IfOk, IsTrue, ◌↔◌, IfErr, IfNone, IfSome, OnOk};
+ghost use Rattle.std.specs.Prelude.{false, ◌≡◌, ◌≢◌, ℕ, ◌<◌, ◌≤◌, ◌^◌, List, [], ◌∷◌, ◌++◌, length, slice_index, take, IfOk, IsTrue, ◌↔◌, IfErr, IfNone, IfSome, OnOk};
 ghost use Rattle.std.specs.Int.{w32, to_be_bytes};
 ghost use Rattle.std.specs.Io.KnownBytes.{Consumes, IsAtEnd};
-ghost use Rattle.iiif_peer_wire.specs.Code.{Unread};
-ghost use Rattle.iiif_peer_wire.specs.Messages.{ask_magic, ask_text, field, IsAsk, IsGroup, IsReply, reply_text};
+ghost use Rattle.iiif_peer_wire.specs.Code.{Came, Unread};
+ghost use Rattle.iiif_peer_wire.specs.Messages.{ask_magic, ask_text, field, IsAsk, IsFrontOfAsk, IsFrontOfReply, IsGroup, IsReply, reply_text};
 ghost use Rattle.iiif_peer_wire.specs.Reading.{ask_at, ask_fields_at, byte_at, bytes_at, digest_at, key_at, length_at, magic_at, reply_at, value_at};
 ghost use Rattle.sha2.specs.Sha256.{sha256};
 
@@ -47,6 +47,7 @@ fn read_field<R: Inlet>(reader: &mut R, buffer: &mut [u8]) -> Result<(), WireFau
     ensures bytes { OnOk result ((k : ℕ) → slice_index buffer.new k < 256) }
     ensures unread { IfErr result (λ fault. (count : ℕ) → length buffer.old ≡ count
         → Unread R.remaining R.fails reader.old reader.new (bytes_at count) fault) }
+    ensures memory { IfErr result (λ fault. fault ≢ WireFault.NoMemory) }
 {
     let came = fill(reader, buffer)?;
     if came < buffer.len() {
@@ -59,6 +60,7 @@ fn read_field<R: Inlet>(reader: &mut R, buffer: &mut [u8]) -> Result<(), WireFau
 fn read_byte<R: Inlet>(reader: &mut R) -> Result<u8, WireFault>
     ensures whole { IfOk result (λ byte. Consumes (R.remaining reader.old) (R.remaining reader.new) (byte ∷ [])) }
     ensures unread { IfErr result (Unread R.remaining R.fails reader.old reader.new byte_at) }
+    ensures memory { IfErr result (λ fault. fault ≢ WireFault.NoMemory) }
 {
     let mut byte = [0u8; 1];
     read_field(reader, &mut byte)?;
@@ -71,6 +73,7 @@ fn read_length<R: Inlet>(reader: &mut R, limit: usize) -> Result<usize, WireFaul
     ensures within { IfOk result (λ size. size ≤ limit) }
     ensures whole { IfOk result (λ size. Consumes (R.remaining reader.old) (R.remaining reader.new) (to_be_bytes w32 size)) }
     ensures unread { IfErr result (Unread R.remaining R.fails reader.old reader.new (length_at limit)) }
+    ensures memory { IfErr result (λ fault. fault ≢ WireFault.NoMemory) }
 {
     let mut bytes = [0u8; 4];
     read_field(reader, &mut bytes)?;
@@ -85,6 +88,7 @@ fn read_length<R: Inlet>(reader: &mut R, limit: usize) -> Result<usize, WireFaul
 fn read_magic<R: Inlet>(reader: &mut R, magic: [u8; 4]) -> Result<(), WireFault>
     ensures whole { OnOk result (Consumes (R.remaining reader.old) (R.remaining reader.new) magic) }
     ensures unread { IfErr result (Unread R.remaining R.fails reader.old reader.new (magic_at magic)) }
+    ensures memory { IfErr result (λ fault. fault ≢ WireFault.NoMemory) }
 {
     let mut bytes = [0u8; 4];
     read_field(reader, &mut bytes)?;
@@ -99,6 +103,7 @@ fn read_bytes<R: Inlet>(alloc: Global, reader: &mut R, count: usize) -> Result<V
     ensures size { IfOk result (λ bytes. length bytes.items ≡ count) }
     ensures whole { IfOk result (λ bytes. Consumes (R.remaining reader.old) (R.remaining reader.new) bytes.items) }
     ensures unread { IfErr result (Unread R.remaining R.fails reader.old reader.new (bytes_at count)) }
+    ensures memory { IfErr result (λ fault. fault ≡ WireFault.NoMemory → Came (R.remaining reader.old) (R.remaining reader.new) [] count) }
 {
     let mut bytes = Vec::new(alloc);
     let mut chunk = [0u8; CHUNK];
@@ -122,6 +127,7 @@ fn read_key<R: Inlet>(reader: &mut R, asked: &[u8]) -> Result<(), WireFault>
     ensures within { OnOk result (length asked.now ≤ KEY_LIMIT) }
     ensures whole { OnOk result (Consumes (R.remaining reader.old) (R.remaining reader.new) (field asked.now)) }
     ensures unread { IfErr result (Unread R.remaining R.fails reader.old reader.new (key_at asked.now)) }
+    ensures memory { IfErr result (λ fault. fault ≢ WireFault.NoMemory) }
 {
     let size = read_length(reader, KEY_LIMIT)?;
     let mut buffer = [0u8; KEY_LIMIT];
@@ -140,6 +146,8 @@ fn read_value<R: Inlet>(alloc: Global, reader: &mut R) -> Result<(u8, Vec<u8>), 
     ensures no_value { IfOk result (λ answer. 0 < answer.0 → answer.1.items ≡ []) }
     ensures whole { IfOk result (λ answer. Consumes (R.remaining reader.old) (R.remaining reader.new) (answer.0 ∷ field answer.1.items)) }
     ensures unread { IfErr result (Unread R.remaining R.fails reader.old reader.new value_at) }
+    ensures memory { IfErr result (λ fault. fault ≡ WireFault.NoMemory → (size : ℕ) × (size ≤ VALUE_LIMIT)
+        × Came (R.remaining reader.old) (R.remaining reader.new) (0 ∷ to_be_bytes w32 size) size) }
 {
     let status = read_byte(reader)?;
     if status > 4 {
@@ -157,6 +165,7 @@ fn read_value<R: Inlet>(alloc: Global, reader: &mut R) -> Result<(u8, Vec<u8>), 
 fn read_digest<R: Inlet>(reader: &mut R, key: &[u8], value: &[u8]) -> Result<(), WireFault>
     ensures whole { OnOk result (Consumes (R.remaining reader.old) (R.remaining reader.new) (sha256 (key.now ++ value.now))) }
     ensures unread { IfErr result (Unread R.remaining R.fails reader.old reader.new (digest_at (key.now ++ value.now))) }
+    ensures memory { IfErr result (λ fault. fault ≢ WireFault.NoMemory) }
 {
     let mut digest = [0u8; 32];
     read_field(reader, &mut digest)?;
@@ -181,6 +190,7 @@ fn read_ask_magic<R: Inlet>(reader: &mut R) -> Result<bool, WireFault>
     ensures none { IfOk result (λ begun. begun ≡ false → Consumes (R.remaining reader.old) (R.remaining reader.new) []
         × IsAtEnd (R.remaining reader.new)) }
     ensures whole { IfOk result (λ begun. IsTrue begun → Consumes (R.remaining reader.old) (R.remaining reader.new) ask_magic) }
+    ensures memory { IfErr result (λ fault. fault ≢ WireFault.NoMemory) }
     ensures unread { IfErr result (Unread R.remaining R.fails reader.old reader.new ask_at) }
 {
     let mut bytes = [0u8; 4];
@@ -205,6 +215,8 @@ pub fn ask_from<R: Inlet>(alloc: Global, reader: &mut R) -> Result<Option<Ask>, 
     ensures whole { IfOk result (λ answer. IfSome answer (λ ask.
         Consumes (R.remaining reader.old) (R.remaining reader.new) (ask_text ask.group ask.key.items))) }
     ensures unread { IfErr result (Unread R.remaining R.fails reader.old reader.new ask_at) }
+    ensures memory { IfErr result (λ fault. fault ≡ WireFault.NoMemory → (text : List ℕ) × IsFrontOfAsk text
+        × Consumes (R.remaining reader.old) (R.remaining reader.new) text) }
 {
     if !read_ask_magic(reader)? {
         return Ok(None);
@@ -223,6 +235,8 @@ pub fn reply_from<R: Inlet>(
     ensures whole { IfOk result (λ answer. Consumes (R.remaining reader.old) (R.remaining reader.new)
         (reply_text asked.now answer.0 answer.1.items)) }
     ensures unread { IfErr result (Unread R.remaining R.fails reader.old reader.new (reply_at asked.now)) }
+    ensures memory { IfErr result (λ fault. fault ≡ WireFault.NoMemory → (text : List ℕ) × IsFrontOfReply asked.now text
+        × Consumes (R.remaining reader.old) (R.remaining reader.new) text) }
 {
     read_magic(reader, *b"IGR1")?;
     read_key(reader, asked)?;
@@ -236,6 +250,8 @@ fn read_ask_fields<R: Inlet>(alloc: Global, reader: &mut R) -> Result<(u8, Vec<u
     ensures known { IfOk result (λ ask. IsAsk ask.0 ask.1.items) }
     ensures whole { IfOk result (λ ask. Consumes (R.remaining reader.old) (R.remaining reader.new) (ask.0 ∷ field ask.1.items)) }
     ensures unread { IfErr result (Unread R.remaining R.fails reader.old reader.new ask_fields_at) }
+    ensures memory { IfErr result (λ fault. fault ≡ WireFault.NoMemory → (group size : ℕ) × IsGroup group × (size ≤ KEY_LIMIT)
+        × Came (R.remaining reader.old) (R.remaining reader.new) (group ∷ to_be_bytes w32 size) size) }
 {
     let group = read_byte(reader)?;
     if !is_group(group) {

@@ -3,7 +3,7 @@
 ghost use Rattle.std.specs.Prelude.{◌≡◌, ℕ, ◌≤◌, ◌∷◌, ◌++◌, List, length, Some, MatchResult, IfErr, IfOk, IsErrOf, OnOk};
 ghost use Rattle.std.specs.Io.KnownBytes.{Appends, Consumes};
 ghost use Rattle.iiif_peer_wire.specs.Faults.{IsCut, IsRefusal};
-ghost use Rattle.iiif_peer_wire.specs.Messages.{field, IsReply, key_limit, reply_magic, reply_text, value_limit};
+ghost use Rattle.iiif_peer_wire.specs.Messages.{field, IsFrontOfReply, IsReply, key_limit, reply_magic, reply_text, value_limit};
 ghost use Rattle.sha2.specs.Sha256.{sha256};
 ghost use Rattle.iiif_peer_wire.specs.Reading.{IsInput, reply_at};
 
@@ -93,6 +93,10 @@ pub fn read_reply<R: Inlet>(
     ensures refused { IfErr result (λ fault. IsRefusal fault
         → (input : List ℕ) × IsInput (R.remaining reader.old) input × (reply_at asked_key.now input ≡ Err fault)) }
     ensures io { IsErrOf result WireFault.Io → (before : R) × R.fails before reader.new }
+
+    // Memory is wanted inside a reply for this key alone, once the first bytes of its value have come.
+    ensures memory { IsErrOf result WireFault.NoMemory → (text : List ℕ) × IsFrontOfReply asked_key.now text
+        × Consumes (R.remaining reader.old) (R.remaining reader.new) text }
 {
     reply_from(alloc, reader, asked_key)
 }

@@ -244,7 +244,7 @@ asked_to raw segments (information id) z s = information_to raw id (subst (AllZi
 asked_to raw segments (image id w) z s = image_to raw id s.0 w (subst (AllZip IsSegmentOf raw) s.2 z) s.1 s.3
 
 -- a whole target
-cut_is : (prefix target rooted path : List ℕ) → behind prefix (path_of target) ≡ Some rooted → behind (codes "/") rooted ≡ Some path → IsCut prefix target (slice_split is_slash path)
+pub cut_is : (prefix target rooted path : List ℕ) → behind prefix (path_of target) ≡ Some rooted → behind (codes "/") rooted ≡ Some path → IsCut prefix target (slice_split is_slash path)
 cut_is prefix target rooted path first second =
     let query = path_is target in
     record {

@@ -1,5 +1,5 @@
 -- The grammar once more as functions of one word each, for private functions alone; `Spells` and `Targets` say what is meant.
-use Rattle.std.specs.Prelude.{◌≡◌, ⊤, take, ℕ, ◌*◌, ◌^◌, ◌==◌, Bool, true, false, ◌&&◌, ◌||◌, List, [], ◌∷◌, ◌++◌, length, drop, codes, bytes_eq, nat_eq, nat_lt, nat_le, slice_index, if◌then◌else◌, Option, None, Some, option_map, is_some, position, Result, Ok, Err}
+use Rattle.std.specs.Prelude.{◌≡◌, ⊤, take, ℕ, ◌*◌, ◌^◌, ◌==◌, Bool, true, false, ◌⊎◌, ◌&&◌, ◌||◌, List, [], ◌∷◌, ◌++◌, length, drop, codes, bytes_eq, nat_eq, nat_lt, nat_le, slice_index, if◌then◌else◌, Option, None, Some, option_map, is_some, position, Result, Ok, Err}
 use Rattle.std.specs.List.{before_first, after_first, starts_with, list_all, slice_split}
 use Rattle.std.specs.Char.{is_ascii_digit, is_ascii_hexdigit}
 use Rattle.std.specs.Str.{is_utf8}
@@ -222,6 +222,10 @@ asked_by (i ∷ n ∷ []) = information_of (identifier_of (text_of i)) (text_of 
 asked_by (i ∷ r ∷ s ∷ t ∷ l ∷ []) =
     image_of (identifier_of (text_of i)) (words_of (text_of r) (text_of s) (text_of t) (text_of l))
 asked_by _ = None
+
+-- there are one, two or five segments
+abbrev pub IsCounted : List (List ℕ) → Type 0
+IsCounted segments = (length segments ≡ 1) ⊎ (length segments ≡ 2) ⊎ (length segments ≡ 5)
 
 -- the path without what stands behind the first question mark
 abbrev pub path_of : List ℕ → List ℕ

@@ -35,6 +35,11 @@ pub record IsCut (prefix target : List ℕ) (segments : List (List ℕ)) : Type 
   pub some : 1 ≤ length segments
   pub parted : All (Lacks 47) segments
 
+-- the target is cut into one segment, two or five: as many as a base URI, an image's information or an image has (IIIF Image API 3.0, section 2)
+abbrev pub HasCountOfResource : List ℕ → List ℕ → Type 0
+HasCountOfResource prefix target =
+    (segments : List (List ℕ)) × IsCut prefix target segments × ((length segments ≡ 1) ⊎ (length segments ≡ 2) ⊎ (length segments ≡ 5))
+
 -- what a target may ask for: an image's base URI, its information, or an image of it
 pub data Resource : Type 0 where
   base : List ℕ → Resource

@@ -3,8 +3,8 @@
 
 ghost use Rattle.std.specs.Prelude.{◌≡◌, ◌==◌, ◌∷◌, [], IfOk, MatchOption, option_map, position, string_bytes};
 ghost use Rattle.std.specs.List.{before_first, after_first, slice_split};
-ghost use Rattle.iiif_request.specs.Code.{begins_with_digits, has_whole_escapes, text_of, identifier_of, words_of, path_of, behind, asked_by, asked_of, Gives};
-ghost use Rattle.iiif_request.specs.Targets.{AsksFor, Resource, resource_of};
+ghost use Rattle.iiif_request.specs.Code.{begins_with_digits, has_whole_escapes, text_of, identifier_of, words_of, path_of, behind, asked_by, asked_of, Gives, IsCounted};
+ghost use Rattle.iiif_request.specs.Targets.{AsksFor, HasCountOfResource, Resource, resource_of};
 ghost use Rattle.iiif_request.specs.Words.{texts};
 
 use percent_encoding::{DecodeError, percent_decode};
@@ -197,7 +197,8 @@ fn cut_at_slash(path: &[u8]) -> Option<(&[u8], &[u8])>
 
 /// What the segments of a path ask for.
 fn resource(alloc: Global, path: &[u8]) -> Result<Target, SplitFault>
-    ensures { Gives resource_of result (asked_by (slice_split (λ b. b == 47) path.now)) }
+    ensures gives { Gives resource_of result (asked_by (slice_split (λ b. b == 47) path.now)) }
+    ensures counted { result ≡ Err SplitFault.NoMemory → IsCounted (slice_split (λ b. b == 47) path.now) }
 {
     let Some((id, rest)) = cut_at_slash(path) else {
         return base(alloc, path);
@@ -236,7 +237,8 @@ fn behind<'t>(front: &[u8], text: &'t [u8]) -> Option<&'t [u8]>
 
 /// What a target asks for, by the functions of each step.
 fn target_in(alloc: Global, prefix: &[u8], target: &[u8]) -> Result<Target, SplitFault>
-    ensures { Gives resource_of result (asked_of prefix.now target.now) }
+    ensures gives { Gives resource_of result (asked_of prefix.now target.now) }
+    ensures counted { result ≡ Err SplitFault.NoMemory → HasCountOfResource prefix.now target.now }
 {
     let Some(rooted) = behind(prefix, path_of(target)) else {
         return Err(SplitFault::Path);
@@ -259,6 +261,7 @@ pub fn split(alloc: Global, prefix: &[u8], target: &[u8]) -> Result<Target, Spli
     ensures target { IfOk result (λ t. AsksFor prefix.now target.now (resource_of t)) }
     ensures path { result ≡ Err SplitFault.Path
         → ¬ ((r : Resource) × AsksFor prefix.now target.now r) }
+    ensures memory { result ≡ Err SplitFault.NoMemory → HasCountOfResource prefix.now target.now }
 {
     target_in(alloc, prefix, target)
 }

@@ -7,6 +7,7 @@ use Rattle.iiif_peer_wire.specs.Reading.{ask_at, ask_fields_at}
 use Rattle.iiif_peer_wire.proofs.Taken.{exit_fault, unread_behind}
 use Rattle.iiif_peer_wire.proofs.fields.ask_from.Goals as goal
 use Rattle.iiif_peer_wire.proofs.Whole.{ask_at-no_fields, ask_text-parts}
+use Rattle.iiif_peer_wire.proofs.Wanted.{WantsAsk, ask_front}
 
 pub returns-in_err-group-clause-unread : goal.returns-in_err-group-clause-unread
 returns-in_err-group-clause-unread g c = let fault = c.in_err-group.field-0.0 in
@@ -19,3 +20,10 @@ returns-clause-whole g c = let group = c.in_ok-group.group in let key = c.in_ok-
     let begun : Consumes (g.R.Read.remaining c.args.reader.now) (g.R.Read.remaining c.read_ask_magic.new.reader) ask_magic = c.in_ok-read_ask_magic.ensures.whole (search rules) in
     subst (Consumes (g.R.Read.remaining c.args.reader.now) (g.R.Read.remaining c.read_ask_fields.new.reader)) (ask_text-parts group key)
     (Consumes-trans _ _ _ ask_magic (group ∷ field key) begun c.in_ok-group.ensures.whole)
+
+pub returns-in_err-group-clause-memory : goal.returns-in_err-group-clause-memory
+returns-in_err-group-clause-memory g c = let fault = c.in_err-group.field-0.0 in
+    let old = g.R.Read.remaining c.args.reader.now in
+    let new = g.R.Read.remaining c.read_ask_fields.new.reader in
+    exit_fault c.from_residual-in_err-group.result (WantsAsk old new) fault c.from_residual-in_err-group.ensures.1
+    (λ wanted. ask_front old (g.R.Read.remaining c.read_ask_magic.new.reader) new (c.in_ok-read_ask_magic.ensures.whole (search rules)) (c.in_err-group.ensures.memory wanted))

@@ -7,6 +7,7 @@ use Rattle.iiif_peer_wire.specs.Reading.{digest_at, key_at, magic_at, reply_at, 
 use Rattle.iiif_peer_wire.proofs.Taken.{exit_fault, unread_behind, unread_first}
 use Rattle.iiif_peer_wire.proofs.fields.reply_from.Goals as goal
 use Rattle.sha2.specs.Sha256.{sha256}
+use Rattle.iiif_peer_wire.proofs.Wanted.{WantsReply, reply_front}
 use Rattle.iiif_peer_wire.proofs.Whole.{reply_at-no_magic, reply_at-no_key, reply_at-no_value, reply_at-no_digest, reply_text-parts}
 
 pub returns-in_err-read_magic-clause-unread : goal.returns-in_err-read_magic-clause-unread
@@ -52,3 +53,11 @@ returns-clause-whole g c =
     subst (λ v. Consumes (g.R.Read.remaining c.read_value.new.reader) (g.R.Read.remaining c.read_digest.new.reader) (sha256 (asked ++ v))) c.as_slice.ensures.value c.in_ok-read_digest.ensures.whole in
     subst (Consumes (g.R.Read.remaining c.args.reader.now) (g.R.Read.remaining c.read_digest.new.reader)) (reply_text-parts asked status value)
     (Consumes-trans _ _ _ ((reply_magic ++ field asked) ++ (status ∷ field value)) (sha256 (asked ++ value)) most last)
+
+pub returns-in_err-status-clause-memory : goal.returns-in_err-status-clause-memory
+returns-in_err-status-clause-memory g c = let fault = c.in_err-status.field-0.0 in let asked = c.args.asked.now in
+    let old = g.R.Read.remaining c.args.reader.now in
+    let new = g.R.Read.remaining c.read_value.new.reader in
+    exit_fault c.from_residual-in_err-status.result (WantsReply asked old new) fault c.from_residual-in_err-status.ensures.1
+    (λ wanted. reply_front old (g.R.Read.remaining c.read_magic.new.reader) (g.R.Read.remaining c.read_key.new.reader) new asked
+    c.in_ok-read_key.ensures.within c.in_ok-read_magic.ensures.whole c.in_ok-read_key.ensures.whole (c.in_err-status.ensures.memory wanted))

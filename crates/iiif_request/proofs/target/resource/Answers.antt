@@ -3,8 +3,8 @@ use Rattle.iiif_request.specs.Code.{asked_by}
 use Rattle.iiif_request.proofs.TargetLemmas.{six_parts}
 use Rattle.iiif_request.proofs.target.resource.Goals as goal
 
-pub returns-in-Some-cut_at_slash-4 : goal.returns-in-Some-cut_at_slash-4
-returns-in-Some-cut_at_slash-4 c =
+pub returns-in-Some-cut_at_slash-4-clause-gives : goal.returns-in-Some-cut_at_slash-4-clause-gives
+returns-in-Some-cut_at_slash-4-clause-gives c =
     let id = c.in-Some.id.now in
     let region = c.in-Some-cut_at_slash.region.now in
     let size = c.in-Some-cut_at_slash-2.size.now in
