@@ -1,0 +1,6 @@
+pub mod Counts
+pub mod Covers
+pub mod LevelLaws
+pub mod Lines
+pub mod Meeting
+pub mod Once

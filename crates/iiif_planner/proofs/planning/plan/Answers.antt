@@ -1,0 +1,58 @@
+use Rattle.std.proofs.Common.{◌≡◌, ℕ, ◌<◌, true, false, List, sym, ap, subst, ◌∙◌, refl, arith}
+use Rattle.std.specs.Prelude.{nat_eq, ◌&&◌}
+use Rattle.std.proofs.lemmas.Bool.{eqb-true, false≢true}
+use Rattle.iiif_keys.specs.declared.keys.SumKey.{SumKey}
+use Rattle.iiif_keys.specs.declared.keys.TileKey.{TileKey}
+use Rattle.iiif_keys.proofs.Names.{both}
+use Rattle.iiif_pixel.specs.Geometry.{channels_of, sides_of}
+use Rattle.iiif_pixel.specs.declared.geometry.Dim.{Dim}
+use Rattle.iiif_planner.specs.Levels.{IsLevel}
+use Rattle.iiif_planner.specs.Plans.{TilesCover, BlocksCover}
+use Rattle.iiif_planner.proofs.Counts.{equal}
+use Rattle.iiif_planner.proofs.Covers.{tiles_cover, blocks_cover}
+use Rattle.iiif_planner.proofs.LevelLaws.{level_limits, channels_few}
+use Rattle.iiif_planner.proofs.planning.plan.Goals as goal
+
+-- sides that are tested equal are, and others are not
+same_sides : (a b : Dim) → true ≡ (nat_eq a.w b.w && nat_eq a.h b.h) → a ≡ b
+same_sides a b e =
+    let t = both (nat_eq a.w b.w) (nat_eq a.h b.h) (sym e) in
+    let w = eqb-true a.w b.w t.0 in
+    let h = eqb-true a.h b.h t.1 in
+    ap (λ (n : ℕ). let d : Dim = record { w = n; h = a.h } in d) w ∙ ap (λ (n : ℕ). let d : Dim = record { w = b.w; h = n } in d) h
+
+other_sides : (a b : Dim) → false ≡ (nat_eq a.w b.w && nat_eq a.h b.h) → a ≡ b → ⊥
+other_sides a b e same =
+    let w = equal a.w b.w (ap (λ (d : Dim). d.w) same) in
+    let h = equal a.h b.h (ap (λ (d : Dim). d.h) same) in
+    false≢true (e ∙ rw (w, h) refl)
+
+pub returns-then-eq : goal.returns-then-eq
+returns-then-eq c =
+    let r = c.args.resolved.now.rect in
+    let w : 0 < r.w = omega (arith, c.requires.columns) in
+    let h : 0 < r.h = omega (arith, c.requires.rows) in
+    let cover = tiles_cover c.args.name.now c.args.edge c.args.dim (channels_of c.args.kind) r c.requires.edge c.requires.inside w h in
+    record {
+      plan = (
+        same_sides c.args.resolved.now.size (sides_of r) c.if-eq.ensures,
+        subst (λ (keys : List TileKey). TilesCover c.args.name.now c.args.edge c.args.dim (channels_of c.args.kind) r keys) (sym c.in_ok-tiles.ensures) cover,
+      );
+    }
+
+pub returns : goal.returns
+returns c =
+    let r = c.args.resolved.now.rect in
+    let size = c.args.resolved.now.size in
+    let n = channels_of c.args.kind in
+    let level = subst (λ (m : ℕ). IsLevel c.args.edge c.args.dim (sides_of r) size m c.args.room c.level.result) c.channels.ensures c.level.ensures.level in
+    let most = level_limits c.args.edge c.args.dim (sides_of r) size n c.args.room c.level.result c.requires.edge c.requires.room (channels_few c.args.kind) c.requires.columns c.requires.rows level in
+    let cover = blocks_cover c.args.name.now c.args.edge c.args.dim n r size c.level.result c.requires.edge c.level.ensures.within c.requires.inside c.requires.columns c.requires.rows most in
+    record {
+      plan = (
+        other_sides size (sides_of r) c.if-eq.ensures,
+        c.level.result,
+        level,
+        subst (λ (keys : List SumKey). BlocksCover c.args.name.now c.args.edge c.args.dim n r size c.level.result keys) (sym c.in_ok-blocks.ensures) cover,
+      );
+    }

@@ -1,0 +1,27 @@
+-- The law of plans: what covers a region names each tile or block that has a place of it once.
+use Rattle.std.specs.Prelude.{◌≡◌, ℕ, ◌*◌, ◌^◌, List, Bool, ◌&&◌, ◌==◌, nat_lt, count_by, if◌then◌else◌}
+use Rattle.iiif_pixel.specs.Geometry.{LiesIn}
+use Rattle.iiif_pixel.specs.declared.geometry.Dim.{Dim}
+use Rattle.iiif_pixel.specs.declared.geometry.Rect.{Rect}
+use Rattle.iiif_area.specs.Places.{part_of}
+use Rattle.iiif_keys.specs.Blocks.{square, clipped}
+use Rattle.iiif_keys.specs.declared.keys.TileKey.{TileKey}
+use Rattle.iiif_keys.specs.declared.keys.SumKey.{SumKey}
+use Rattle.iiif_planner.specs.Plans.{TilesCover, BlocksCover}
+
+-- whether the square in column i and row j has, within the image, a place of the region
+abbrev pub is_met : Dim → ℕ → Rect → ℕ → ℕ → Bool
+is_met image side region i j =
+    let part = part_of (clipped image (square side i j)) region in
+    nat_lt 0 part.w && nat_lt 0 part.h
+
+-- Of the tiles of an image, each that has a place of the region is listed once, and no other.
+abbrev pub EachTileOnce : Type 0
+EachTileOnce = (name : List ℕ) (edge : ℕ) (image : Dim) (channels : ℕ) (region : Rect) (keys : List TileKey) → LiesIn region image →
+    TilesCover name edge image channels region keys → (i j : ℕ) → count_by (λ k. k.tx == i && k.ty == j) keys ≡ (if is_met image edge region i j then 1 else 0)
+
+-- And so it is of the blocks of the level.
+abbrev pub EachBlockOnce : Type 0
+EachBlockOnce = (name : List ℕ) (edge : ℕ) (image : Dim) (channels : ℕ) (region : Rect) (size : Dim) (level : ℕ) (keys : List SumKey) → LiesIn region image →
+    BlocksCover name edge image channels region size level keys →
+    (i j : ℕ) → count_by (λ k. k.bx == i && k.by == j) keys ≡ (if is_met image (2 ^ level * edge) region i j then 1 else 0)
