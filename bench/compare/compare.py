@@ -8,14 +8,17 @@ and kept in --work. The exact averages are worked out from the formula alone, by
 the program and of the plain one are compared with them byte for byte. The others scale in ways of their own (libvips by `crop`
 and `shrink`, and by `thumbnail`; GDAL by `-r average`, which gives bits of bits): how far their samples are from the exact averages
 is printed, not judged. Each job is run by every program in turn, --rounds times, and the medians are printed: wall clock,
-processor time of all threads, and the peak of the resident memory.
+processor time of all threads, and the peak of the resident memory. With --before, another build of the program runs beside it. Where
+`strace` is there, the reads of the source that a job takes are counted in a run of their own.
 
 The status is 1 where an answer of the program differs or a program fails, and with --strict also where the program's memory passes
-its bound: the region's samples, one byte each, 9 bytes for each sample of the result (its sum and itself), and 4 MiB.
+its bound: 9 bytes for each sample of a scaled result (its sum and itself), 2 for one of a result that isn't scaled (itself, and in the
+answer), and 4 MiB.
 """
 import argparse
 import os
 import re
+import shutil
 import statistics
 import struct
 import subprocess
@@ -98,7 +101,7 @@ SOURCES = [
 ]
 
 # The programs whose answers are to be equal to the exact averages.
-OWN = ("this program", "plain Rust")
+OWN = ("this program", "the build before", "plain Rust")
 
 # Name of the job, source, rectangle, sides of the result.
 JOBS = [
@@ -166,8 +169,11 @@ def programs(args, job):
     factor = repr(rect[2] / size)
     lines = {
         "this program": [[args.program, "--base", "http://localhost/iiif", "--one", target, "a=" + path]],
+        "the build before": [[args.before, "--base", "http://localhost/iiif", "--one", target, "a=" + path]],
         "plain Rust": [[args.plain, path, x, y, w, h, str(size), str(size), answer_path(args, job, "plain Rust")]],
     }
+    if not args.before:
+        del lines["the build before"]
     out, between = answer_path(args, job, "libvips"), answer_path(args, job, "libvips") + ".v"
     if native:
         lines["libvips"] = [["vips", "crop", path, out, x, y, w, h]]
@@ -206,6 +212,16 @@ def run(commands, out):
     return wall, cpu, peak
 
 
+def reads(command, out):
+    """How many reads of its source a program takes for a job."""
+    counts = out + ".reads"
+    with open(os.devnull, "wb") as nowhere:
+        subprocess.run(["strace", "-f", "-c", "-o", counts, "-e", "trace=pread64", *command], stdout=nowhere, check=True)
+    with open(counts) as text:
+        found = re.search(r"^.*\spread64$", text.read(), re.M)
+    return int(found[0].split()[3]) if found else 0
+
+
 def difference(out, wanted):
     """How far another program's samples are from the exact averages: in the mean, and at most."""
     with Image.open(out) as image:
@@ -239,6 +255,7 @@ def load():
 def main():
     parser = argparse.ArgumentParser(description=__doc__, formatter_class=argparse.RawDescriptionHelpFormatter)
     parser.add_argument("--program", required=True, help="the proved program")
+    parser.add_argument("--before", help="another build of the proved program, to run beside it")
     parser.add_argument("--plain", required=True, help="main.rs of this folder, built by rustc -O")
     parser.add_argument("--work", default="/tmp/iiif_compare", help="where the sources and answers are kept, about 500 MB")
     parser.add_argument("--rounds", type=int, default=5)
@@ -285,14 +302,17 @@ def main():
     table("Peak memory, MiB", jobs, medians, lambda job, name, times: f"{times[2] / 1024:.1f}")
     table("How far samples are from the exact averages: in the mean, at most", jobs, medians, lambda job, name, times: (
         "equal" if name in OWN else difference(answer_path(args, job, name), wanted[job])))
-    print("\n**Memory of this program, MiB**\n\n| Job | the region's samples | 9 bytes a sample of the result | peak |\n|---|---|---|---|")
+    if shutil.which("strace"):
+        counts = {key: reads(programs(args, key[0])[key[1]][0], answer_path(args, *key)) for key in medians if key[1] in OWN[:2]}
+        table("Reads of the source", jobs, counts, lambda job, name, count: f"{count:,}")
+    print("\n**Memory of this program, MiB**\n\n| Job | the region's samples | bytes a sample of the result | those of the result | peak |\n|---|---|---|---|---|")
     for job in jobs:
-        name, number, rect, _ = JOBS[job]
+        name, number, rect, size = JOBS[job]
         if (job, "this program") in medians:
-            peak = medians[job, "this program"][2] / 1024
-            raster, result = rect[2] * rect[3] * SOURCES[number].channels / 2**20, 9 * wanted[job].size / 2**20
-            print(f"| {name} | {raster:.1f} | {result:.1f} | {peak:.1f} |")
-            if peak > raster + result + 4:
+            peak, each = medians[job, "this program"][2] / 1024, 2 if size == rect[2] else 9
+            raster, result = rect[2] * rect[3] * SOURCES[number].channels / 2**20, each * wanted[job].size / 2**20
+            print(f"| {name} | {raster:.1f} | {each} | {result:.1f} | {peak:.1f} |")
+            if peak > result + 4:
                 failed |= args.strict
                 print(f"{name}: {peak:.1f} MiB are more than the bound", file=sys.stderr)
     return 1 if failed else 0

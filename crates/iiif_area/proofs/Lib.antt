@@ -4,8 +4,10 @@ pub mod CutLaws
 pub mod FinishLaws
 pub mod GridLaws
 pub mod MergeLaws
+pub mod NestLaws
 pub mod PieceLaws
 pub mod PlaceLaws
+pub mod SameSides
 pub mod SumLaws
 pub mod SumsSeen
 pub mod TileLaws

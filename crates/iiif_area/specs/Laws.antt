@@ -1,10 +1,10 @@
 -- The laws of weights and of sums over parts.
-use Rattle.std.specs.Prelude.{◌≡◌, ℕ, ◌+◌, ◌*◌, ◌/◌, ◌^◌, ◌<◌, ◌≤◌, ◌↔◌, true, List, sum, sum_by, count_by, map, fold, if◌then◌else◌}
+use Rattle.std.specs.Prelude.{◌≡◌, ℕ, ◌+◌, ◌*◌, ◌/◌, ◌^◌, ◌<◌, ◌≤◌, ◌↔◌, true, List, sum, sum_by, count_by, map, fold, All, if◌then◌else◌}
 use Rattle.std.specs.Int.{div_ceil}
-use Rattle.std.specs.List.{range_with_len}
+use Rattle.std.specs.List.{flat_map, range_with_len}
 use Rattle.iiif_pixel.specs.Geometry.{HasPlace}
-use Rattle.iiif_pixel.specs.Picture.{Picture, IsWhole}
-use Rattle.iiif_pixel.specs.Scaling.{sum_from, weight_of, area_sum}
+use Rattle.iiif_pixel.specs.Picture.{Picture, IsWhole, dim_of}
+use Rattle.iiif_pixel.specs.Scaling.{sum_from, weight_of, area_sum, scale}
 use Rattle.iiif_pixel.specs.declared.geometry.Dim.{Dim}
 use Rattle.iiif_pixel.specs.declared.geometry.Rect.{Rect}
 use Rattle.iiif_area.specs.Places.{part_of, places_of, IsInside}
@@ -89,6 +89,16 @@ abbrev pub PiecesMerge : Type 0
 PiecesMerge = (p : Picture) (size : Dim) (part rect : Rect) (rects : List Rect) → IsWhole p → 0 < p.width → 0 < p.height →
     p.width * p.height ≤ 2 ^ 32 → IsCutInto part rects →
     fold merged (grid_of rect p.channels (λ i j k. 0)) (map (λ r. sums_of p size r) rects) ≡ sums_at rect p size part
+
+-- a whole picture that isn't empty, scaled to its own sides, is that picture
+abbrev pub SameSidesChangeNothing : Type 0
+SameSidesChangeNothing = (p : Picture) → IsWhole p → 0 < p.width → 0 < p.height → scale p (dim_of p) ≡ p
+
+-- Where a part is cut into rectangles, and each of these into pieces, it is cut into the pieces. Each pair is a rectangle and
+-- its pieces.
+abbrev pub CutsNest : Type 0
+CutsNest = (part : Rect) (cuts : List (Rect × List Rect)) → IsCutInto part (map (λ c. c.0) cuts) →
+    All (λ c. IsCutInto c.0 c.1) cuts → IsCutInto part (flat_map (λ c. c.1) cuts)
 
 -- a sum over a range, in std's words
 abbrev pub IsSumOverRange : Type 0

@@ -1,7 +1,7 @@
 //! What holds of weights and of sums over parts at every argument. The functions compute nothing: their contracts are the
 //! laws, for the crates above.
 
-ghost use Rattle.iiif_area.specs.Laws.{WeightsAddUp, NoWeightBefore, NoWeightFrom, SplitsAtColumn, SplitsAtRow, CutsAddUp, IsZeroElsewhere, PartIsCommon, PlaceIsTested, IsOfPart, PlacesGrow, IsBounded, SumsFit, MergingAdds, PiecesMerge, IsSumOverRange};
+ghost use Rattle.iiif_area.specs.Laws.{WeightsAddUp, NoWeightBefore, NoWeightFrom, SplitsAtColumn, SplitsAtRow, CutsAddUp, IsZeroElsewhere, PartIsCommon, PlaceIsTested, IsOfPart, PlacesGrow, IsBounded, SumsFit, MergingAdds, PiecesMerge, CutsNest, SameSidesChangeNothing, IsSumOverRange};
 
 /// So the average of samples is at most the greatest of them.
 pub fn weights_add_up()
@@ -44,6 +44,16 @@ pub fn sums_fit()
 pub fn merging_adds()
     ensures one { MergingAdds }
     ensures all { PiecesMerge }
+{}
+
+/// So a region may be cut into blocks, and each block into tiles.
+pub fn cuts_nest()
+    ensures { CutsNest }
+{}
+
+/// So a region whose sides stay as they are needs no sums.
+pub fn same_sides_change_nothing()
+    ensures { SameSidesChangeNothing }
 {}
 
 /// The sums are those of std's words.

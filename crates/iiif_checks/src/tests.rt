@@ -10,8 +10,8 @@ use iiif_tiff_write::{OutKind, fits, head, put_rows};
 use std::alloc::Global;
 use std::test::Fail;
 
-/// A node that has one file under the name `a`.
-fn node(alloc: Global, file: Vec<u8>) -> Result<Node<(), MemSource>, Fail> {
+/// A node with tiles of this edge that has one file under the name `a`.
+fn node(alloc: Global, file: Vec<u8>, edge: u32) -> Result<Node<(), MemSource>, Fail> {
     let source = MemSource::new(file);
     let Ok(layout) = open(&(), alloc, &source) else {
         return Err(Fail::from("the file is refused"));
@@ -27,7 +27,7 @@ fn node(alloc: Global, file: Vec<u8>) -> Result<Node<(), MemSource>, Fail> {
         max_w: 4096,
         max_h: 4096,
     };
-    match Config::new(alloc, "http://localhost/iiif", 2, limits, 64, 2) {
+    match Config::new(alloc, "http://localhost/iiif", edge, limits, 64, 2) {
         Ok(config) => Ok(Node::new(config, catalogue)),
         Err(_) => Err(Fail::from("the settings are refused")),
     }
@@ -89,10 +89,10 @@ fn differs(
     )
 }
 
-/// Compares each size, turn and quality of one region.
+/// Compares each size, turn and quality of one region, as each of the nodes answers it.
 fn region(
     alloc: Global,
-    node: &Node<(), MemSource>,
+    nodes: &[Node<(), MemSource>],
     part: &Plain,
     text: &str,
 ) -> Result<u64, Fail> {
@@ -117,10 +117,12 @@ fn region(
                         "/iiif/a/{text}/{c},{d}/{rotation}/{quality}.tif"
                     )?;
                     let strip = strip(alloc, &now, quality)?;
-                    if differs(alloc, node, target.as_str(), (now.w, now.h), &strip)? {
-                        return Err(Fail::from("another image"));
+                    for node in nodes {
+                        if differs(alloc, node, target.as_str(), (now.w, now.h), &strip)? {
+                            return Err(Fail::from("another image"));
+                        }
+                        compared = compared.wrapping_add(1);
                     }
-                    compared = compared.wrapping_add(1);
                 }
             }
         }
@@ -128,9 +130,12 @@ fn region(
     Ok(compared)
 }
 
-/// Compares each region of a picture, whose file this is, and counts the comparisons.
-fn all(alloc: Global, picture: &Plain, file: Vec<u8>) -> Result<u64, Fail> {
-    let node = node(alloc, file)?;
+/// Compares each region of a picture, whose file this is, at each edge of tiles from 1 to 5, and counts the comparisons.
+fn all(alloc: Global, picture: &Plain, file: &[u8]) -> Result<u64, Fail> {
+    let mut nodes = Vec::new(alloc);
+    for edge in 1..=5 {
+        nodes.push(node(alloc, Vec::from_slice(alloc, file)?, edge)?)?;
+    }
     let mut compared = 0u64;
     for y in 0..picture.h {
         for x in 0..picture.w {
@@ -138,7 +143,7 @@ fn all(alloc: Global, picture: &Plain, file: Vec<u8>) -> Result<u64, Fail> {
                 for w in 1..=picture.w.saturating_sub(x).min(9) {
                     let part = picture.crop(alloc, x, y, w, h)?;
                     let text = format!(in alloc; "{x},{y},{w},{h}")?;
-                    compared = compared.wrapping_add(region(alloc, &node, &part, text.as_str())?);
+                    compared = compared.wrapping_add(region(alloc, &nodes, &part, text.as_str())?);
                 }
             }
         }
@@ -181,7 +186,7 @@ fn gray_picture_of_4_by_4(rt: HostRuntime) -> Result<(), Fail> {
     ];
     let dim = Dim { w: 4, h: 4 };
     let (picture, file) = pair(rt.alloc(), dim, Kind::Gray, OutKind::Gray, &samples)?;
-    assert_eq!(rt; all(rt.alloc(), &picture, file)?, 400 * 36);
+    assert_eq!(rt; all(rt.alloc(), &picture, &file)?, 400 * 36 * 5);
     Ok(())
 }
 
@@ -192,7 +197,7 @@ fn rgb_picture_of_3_by_2(rt: HostRuntime) -> Result<(), Fail> {
     ];
     let dim = Dim { w: 3, h: 2 };
     let (picture, file) = pair(rt.alloc(), dim, Kind::Rgb, OutKind::Rgb, &samples)?;
-    assert_eq!(rt; all(rt.alloc(), &picture, file)?, 10 * 4 * 36);
+    assert_eq!(rt; all(rt.alloc(), &picture, &file)?, 10 * 4 * 36 * 5);
     Ok(())
 }
 
@@ -201,7 +206,7 @@ fn bilevel_picture_of_4_by_3(rt: HostRuntime) -> Result<(), Fail> {
     let samples = [0, 255, 255, 0, 255, 0, 255, 255, 0, 0, 0, 255];
     let dim = Dim { w: 4, h: 3 };
     let (picture, file) = pair(rt.alloc(), dim, Kind::Gray, OutKind::Bitonal, &samples)?;
-    assert_eq!(rt; all(rt.alloc(), &picture, file)?, 20 * 10 * 36);
+    assert_eq!(rt; all(rt.alloc(), &picture, &file)?, 20 * 10 * 36 * 5);
     Ok(())
 }
 

@@ -2,9 +2,12 @@ mod NumeralLemmas
 mod SettingsLemmas
 mod ScalingLemmas
 mod RenderLemmas
+mod PasteLemmas
+mod BlockLemmas
 mod OutcomeLemmas
 mod ItemLemmas
 mod ReplyLemmas
 mod StreamLemmas
+mod SilenceLemmas
 mod MessageLemmas
 mod AllowedLemmas

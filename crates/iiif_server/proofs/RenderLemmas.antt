@@ -1,16 +1,20 @@
 -- The steps of an image, joined.
-use Rattle.std.proofs.Common.{◌≡◌, ℕ, zero, suc, ◌<◌, Bool, true, false, refl, ap, ◌∙◌, arith}
+use Rattle.std.proofs.Common.{◌≡◌, ℕ, zero, suc, ◌<◌, List, Bool, true, false, refl, ap, subst, ◌∙◌, arith}
 use Rattle.std.specs.Prelude.{if◌then◌else◌}
 use Rattle.iiif_pixel.specs.Picture.{Picture, dim_of}
 use Rattle.iiif_pixel.specs.Operations.{crop, mirrored, turned_by, turned_width, turned_height, turn, quality}
 use Rattle.iiif_pixel.specs.Scaling.{scale}
 use Rattle.iiif_pixel.specs.TurnPlaces.{turned_dim}
 use Rattle.iiif_pixel.specs.declared.geometry.Dim.{Dim}
+use Rattle.iiif_pixel.specs.declared.geometry.Rect.{Rect}
 use Rattle.iiif_pixel.specs.declared.geometry.Turn.{Turn}
 use Rattle.iiif_pixel.specs.declared.geometry.Quality.{Quality}
 use Rattle.iiif_pixel.specs.declared.geometry.Quality.TheVariants as q
 use Rattle.iiif_canonical.specs.Images.{resolved_image}
 use Rattle.iiif_canonical.specs.declared.resolved.Resolved.{Resolved}
+use Rattle.iiif_keys.specs.declared.keys.SumKey.{SumKey}
+use Rattle.iiif_keys.specs.declared.keys.TileKey.{TileKey}
+use Rattle.iiif_planner.specs.Plans.{TilesCover, BlocksCover}
 use Rattle.iiif_server.specs.Kinds.{channels_in}
 
 pub image_is : (p region scaled turned image : Picture) (r : Resolved) → region ≡ crop p r.rect → scaled ≡ scale region r.size
@@ -40,13 +44,12 @@ quality_sides p q.Gray = (refl, refl)
 quality_sides p q.Bitonal = (refl, refl)
 
 -- the sides and channels of an image, whatever its region holds
-pub image_sides : (region scaled turned image : Picture) (size : Dim) (t : Turn) (to : Quality) → t.quarters < 4
-    → scaled ≡ scale region size → turned ≡ turn scaled t → image ≡ quality turned to
-    → (dim_of image ≡ turned_dim t size) × (image.channels ≡ channels_in to region.channels)
-image_sides region scaled turned image size t to few made by in_quality =
-    let whole : image ≡ quality (turn (scale region size) t) to = rw (in_quality, by, made) refl in
-    let last = quality_sides (turn (scale region size) t) to in
-    let before = prepared_sides t.quarters t.mirror (scale region size) few in (
+pub image_sides : (scaled turned image : Picture) (t : Turn) (to : Quality) → t.quarters < 4 → turned ≡ turn scaled t → image ≡ quality turned to
+    → (dim_of image ≡ turned_dim t (dim_of scaled)) × (image.channels ≡ channels_in to scaled.channels)
+image_sides scaled turned image t to few by in_quality =
+    let whole : image ≡ quality (turn scaled t) to = rw (in_quality, by) refl in
+    let last = quality_sides (turn scaled t) to in
+    let before = prepared_sides t.quarters t.mirror scaled few in (
       ap dim_of whole ∙ last.0 ∙ before.0,
       ap (λ (p : Picture). p.channels) whole ∙ last.1 ∙ ap (channels_in to) before.1,
     )
@@ -55,4 +58,19 @@ image_sides region scaled turned image size t to few made by in_quality =
 pub resolved_sides : (p : Picture) (r : Resolved) → r.turn.quarters < 4 → dim_of (resolved_image p r) ≡ turned_dim r.turn r.size
 unfolding resolved_image
 resolved_sides p r few =
-    (image_sides (crop p r.rect) (scale (crop p r.rect) r.size) (turn (scale (crop p r.rect) r.size) r.turn) (resolved_image p r) r.size r.turn r.quality few refl refl refl).0
+    (image_sides (scale (crop p r.rect) r.size) (turn (scale (crop p r.rect) r.size) r.turn) (resolved_image p r) r.turn r.quality few refl refl).0
+
+-- the tiles of a plan cover the region of the image that was asked for
+pub tiles_cover : (name : List ℕ) (edge : ℕ) (a image : Dim) (m channels : ℕ) (region : Rect) (planned keys : List TileKey) → a ≡ image → m ≡ channels → planned ≡ keys
+    → TilesCover name edge a m region planned → TilesCover name edge image channels region keys
+tiles_cover name edge a image m channels region planned keys sides same are cover =
+    subst (λ (ks : List TileKey). TilesCover name edge image channels region ks) are
+    (subst (λ (n : ℕ). TilesCover name edge image n region planned) same (subst (λ (d : Dim). TilesCover name edge d m region planned) sides cover))
+
+-- and so do its blocks
+pub blocks_cover : (name : List ℕ) (edge : ℕ) (a image : Dim) (m channels : ℕ) (region : Rect) (size : Dim) (level : ℕ) (planned keys : List SumKey) → a ≡ image
+    → m ≡ channels → planned ≡ keys → BlocksCover name edge a m region size level planned → BlocksCover name edge image channels region size level keys
+blocks_cover name edge a image m channels region size level planned keys sides same are cover =
+    subst (λ (ks : List SumKey). BlocksCover name edge image channels region size level ks) are
+    (subst (λ (n : ℕ). BlocksCover name edge image n region size level planned) same
+    (subst (λ (d : Dim). BlocksCover name edge d m region size level planned) sides cover))

@@ -9,6 +9,7 @@ use Rattle.iiif_http_front.specs.declared.call.Call.{Call}
 use Rattle.iiif_http_front.specs.declared.call.HeadFault.TheVariants as fault
 use Rattle.iiif_request.specs.declared.request.Refusal.TheVariants as refusal
 use Rattle.iiif_http_front.specs.RequestHeads.{BeginsWithCall}
+use Rattle.iiif_http_front.proofs.AnswerLemmas.{call-append}
 use Rattle.iiif_source.specs.declared.ReadFault.{ReadFault}
 use Rattle.iiif_server.specs.Answers.{Reply}
 use Rattle.iiif_server.specs.Allowed.{Allowed, IsCut, IsStable}
@@ -215,3 +216,50 @@ nothing_before (Some bytes) = refl
 pub at_start : {R : Type 0} (remaining : R → Option (List ℕ)) (heads : Reading R) (reader : R)
     → heads ≡ record { unread = []; reader = reader; fault = None } → input_of remaining heads ≡ remaining reader
 at_start remaining heads reader is = ap (input_of remaining) is ∙ nothing_before (remaining reader)
+
+-- ---- The same over the bytes that came, where those that the reader has left are not known
+
+-- What came and was written so far, before the n-th call: whatever may be written for the unread bytes and any that come
+-- behind them makes it a connection's output.
+abbrev pub CameSo : Terms → ℕ → List ℕ → Option (List ℕ) → Option (List ℕ) → Type 0
+CameSo t n unread old new = (came : List ℕ) × (front : List ℕ) × Appends old new front
+    × ((later more : List ℕ) → Stream t n (unread ++ later) more → Stream t 1 (came ++ later) (front ++ more))
+
+pub nothing_came : (t : Terms) (unread : List ℕ) (written : Option (List ℕ)) → unread ≡ [] → CameSo t 1 unread written written
+nothing_came t unread written none =
+    ([], [], Appends-nil written, λ later more stream. subst (λ (u : List ℕ). Stream t 1 (u ++ later) more) none stream)
+
+-- two texts joined behind two others
+regrouped : (t : Terms) (came next later front text more : List ℕ) → Stream t 1 (came ++ (next ++ later)) (front ++ (text ++ more))
+    → Stream t 1 ((came ++ next) ++ later) ((front ++ text) ++ more)
+regrouped t came next later front text more stream =
+    let first = subst (λ (o : List ℕ). Stream t 1 (came ++ (next ++ later)) o) (sym (append_assoc front text more)) stream in
+    subst (λ (i : List ℕ). Stream t 1 i ((front ++ text) ++ more)) (sym (append_assoc came next later)) first
+
+same_bytes : (a b : List ℕ) → Some a ≡ Some b → b ≡ a
+same_bytes a b same = cc
+
+pub came_further : (t : Terms) (n : ℕ) (unread left : List ℕ) (old mid new : Option (List ℕ)) (more : Bool) → more ≡ true → CameSo t n unread old mid
+    → ((came : List ℕ) × (text : List ℕ) × Appends mid new text × Served t n (unread ++ came) (Some left) text more) → CameSo t (n + 1) left old new
+came_further t n unread left old mid new more is_more on sent =
+    let served : Served t n (unread ++ sent.0) (Some left) sent.1 true =
+    subst (λ (b : Bool). Served t n (unread ++ sent.0) (Some left) sent.1 b) is_more sent.3 in
+    let same : served.1 ≡ left = same_bytes left served.1 served.5 in (
+      on.0 ++ sent.0,
+      on.1 ++ sent.1,
+      Appends-trans old mid new on.1 sent.1 on.2 sent.2,
+      λ later more' stream.
+          let call : BeginsWithCall (unread ++ (sent.0 ++ later)) served.0 (served.1 ++ later) =
+          subst (λ (i : List ℕ). BeginsWithCall i served.0 (served.1 ++ later)) (append_assoc unread sent.0 later)
+          (call-append (unread ++ sent.0) served.0 served.1 later served.2) in
+          let rest : Stream t (n + 1) (served.1 ++ later) more' = subst (λ (i : List ℕ). Stream t (n + 1) (i ++ later) more') (sym same) stream in
+          regrouped t on.0 sent.0 later on.1 sent.1 more'
+          (on.3 (sent.0 ++ later) (sent.1 ++ more') (goes_on n (unread ++ (sent.0 ++ later)) (served.1 ++ later) sent.1 more' served.0 call served.3 served.4 rest)),
+    )
+
+pub came_at_end : (t : Terms) (n : ℕ) (unread left : List ℕ) (old mid new : Option (List ℕ)) (more : Bool) → more ≡ false → CameSo t n unread old mid
+    → ((came : List ℕ) × (text : List ℕ) × Appends mid new text × Served t n (unread ++ came) (Some left) text more)
+    → (came : List ℕ) × (output : List ℕ) × Appends old new output × IsConnection t came output
+came_at_end t n unread left old mid new more is_last on sent =
+    let served : Stream t n (unread ++ sent.0) sent.1 = subst (λ (b : Bool). Served t n (unread ++ sent.0) (Some left) sent.1 b) is_last sent.3 in
+    (on.0 ++ sent.0, on.1 ++ sent.1, Appends-trans old mid new on.1 sent.1 on.2 sent.2, on.3 sent.0 sent.1 served)

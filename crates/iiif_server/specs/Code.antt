@@ -1,8 +1,19 @@
 -- Words of private functions.
-use Rattle.std.specs.Prelude.{◌≡◌, ℕ, ◌⊎◌, Bool, true, false, not, List, Option, Some, Ok, Err}
+use Prim.Native.Nat.{zero, suc}
+use Rattle.std.specs.Prelude.{◌≡◌, ℕ, ◌<◌, ◌≤◌, ◌⊎◌, Bool, true, false, not, List, [], ◌∷◌, count_by, map, Option, Some, Ok, Err}
+use Rattle.std.specs.List.{flat_map}
 use Rattle.httparse.specs.Grammar.{RequestHead}
 use Rattle.iiif_http_front.specs.RequestHeads.{BeginsWithCall}
 use Rattle.iiif_source.specs.declared.ReadFault.{ReadFault}
+use Rattle.iiif_pixel.specs.Geometry.{HasPlace}
+use Rattle.iiif_pixel.specs.Picture.{Picture, sample_at}
+use Rattle.iiif_pixel.specs.declared.geometry.Dim.{Dim}
+use Rattle.iiif_pixel.specs.declared.geometry.Rect.{Rect}
+use Rattle.iiif_tiff.specs.Tiff.{Scheme, Shows, scheme}
+use Rattle.iiif_area.specs.Grid.{Grid, has_place, sums_of}
+use Rattle.iiif_keys.specs.Blocks.{part_in}
+use Rattle.iiif_keys.specs.Meaning.{sums_below}
+use Rattle.iiif_keys.specs.declared.keys.SumKey.{SumKey}
 use Rattle.iiif_server.specs.Allowed.{Allowed, IsStable}
 use Rattle.iiif_server.specs.Calls.{RepliesToCall, part_of}
 use Rattle.iiif_server.specs.Collection.{Item}
@@ -35,3 +46,36 @@ abbrev pub Served : Terms → ℕ → List ℕ → Option (List ℕ) → List �
 Served t n input left text true = (h : RequestHead) × (rest : List ℕ) × BeginsWithCall input h rest × (closes_after n h ≡ false) × t.whole h false text
     × (left ≡ Some rest)
 Served t n input left text false = Stream t n input text
+
+-- neither side is above the other's
+abbrev pub IsNotLarger : Dim → Dim → Type 0
+IsNotLarger size region = (size.w ≤ region.w) × (size.h ≤ region.h)
+
+-- p is the picture of a source which keeps its bytes, and the layout is that of its file
+abbrev pub IsSeen : {S : Type 0} → (S → Type 0) → (S → List ℕ) → S → Scheme → Picture → Type 0
+IsSeen keeps bytes source layout p = keeps source × (layout ≡ scheme (bytes source)) × Shows (bytes source) p
+
+-- At the places of a part the new picture has the samples f x y k, and at all others what the old one had.
+pub record Copies (part : Rect) (f : ℕ → ℕ → ℕ → ℕ) (old new : Picture) : Type 0 where
+  pub width : new.width ≡ old.width
+  pub height : new.height ≡ old.height
+  pub channels : new.channels ≡ old.channels
+  pub copied : (x y k : ℕ) → HasPlace part x y → k < old.channels → sample_at new x y k ≡ f x y k
+  pub kept : (x y k : ℕ) → x < old.width → y < old.height → k < old.channels → ¬ (HasPlace part x y) → sample_at new x y k ≡ sample_at old x y k
+
+-- at each place of these rectangles the picture p has the sample of another
+abbrev pub HasCopied : Picture → List Rect → Picture → Type 0
+HasCopied from rects p = (x y k : ℕ) → x < p.width → y < p.height → k < p.channels → 0 < count_by (λ r. has_place r x y) rects →
+    sample_at p x y k ≡ sample_at from x y k
+
+-- the blocks of level 0 that lie in a block and have a place of its rectangle: n is the block's level
+unfoldable pub tiles_within : ℕ → SumKey → List SumKey
+tiles_within zero k = k ∷ []
+tiles_within (suc n) k = flat_map (tiles_within n) (sums_below k)
+
+abbrev pub tiles_below : SumKey → List SumKey
+tiles_below k = tiles_within k.level k
+
+-- the sums over what these blocks of an image have of a region that p shows, where that is scaled to a size
+abbrev pub grids_of : Dim → Picture → Dim → List SumKey → List Grid
+grids_of image p size keys = map (λ k. sums_of p size (part_in image k)) keys

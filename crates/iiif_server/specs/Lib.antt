@@ -11,5 +11,6 @@ pub mod Responses
 pub mod Allowed
 pub mod Calls
 pub mod Streams
+pub mod Laws
 pub mod Outcomes
 pub mod Code

@@ -1,5 +1,5 @@
 -- What a target comes to before anything is loaded or sent.
-use Rattle.std.specs.Prelude.{◌≡◌, ℕ, ◌<◌, ◌^◌, List, Result, Ok, Err}
+use Rattle.std.specs.Prelude.{◌≡◌, ℕ, ◌<◌, ◌≤◌, ◌^◌, List, Result, Ok, Err}
 use Rattle.iiif_area.specs.Places.{IsWithinLimits}
 use Rattle.iiif_pixel.specs.Geometry.{LiesIn, sides_of}
 use Rattle.iiif_pixel.specs.Picture.{Picture, dim_of}
@@ -47,6 +47,7 @@ Accepts bytes limits w (Err e) = IsRefused bytes limits w e
 pub record IsReady (layout : Scheme) (a : Accepted) : Type 0 where
   pub inside : LiesIn a.resolved.rect (layouts.dim_of layout)
   pub sizes : IsWithinLimits (sides_of a.resolved.rect) a.resolved.size
+  pub not_larger : (a.resolved.size.w ≤ a.resolved.rect.w) × (a.resolved.size.h ≤ a.resolved.rect.h)
   pub quarters : a.resolved.turn.quarters < 4
   pub channels : channels_in a.resolved.quality layout.channels ≡ samples_per_pixel a.kind
   pub len : file_len a.kind (turned_dim a.resolved.turn a.resolved.size) < 2 ^ 32

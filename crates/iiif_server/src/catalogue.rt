@@ -7,6 +7,7 @@ ghost use Rattle.iiif_server.specs.Collection.{Item, is_name, item_named, refusa
 ghost use Rattle.iiif_server.specs.Items.{items_of, item_of};
 
 use crate::entry::Entry;
+use iiif_keys::Name;
 use iiif_source::Source;
 use iiif_tiff_read::Layout;
 use std::alloc::Global;
@@ -61,9 +62,9 @@ impl<R, S: Source<R> + Drop> Catalogue<R, S> {
         ensures err { OnErr result (items_of self.new ≡ items_of self.old) }
         ensures takes { Takes (items_of self.old) (string_bytes name) result }
     {
-        if !is_name(name.as_str()) {
+        let Some(name) = Name::new(name) else {
             return Err(AddFault::Name);
-        }
+        };
         if self.has(name.as_str()) {
             return Err(AddFault::Twice);
         }

@@ -1,6 +1,7 @@
 //! What a server is told before it starts.
 
 ghost use Rattle.std.specs.Prelude.{◌≡◌, ◌<◌};
+ghost use Rattle.iiif_keys.specs.Blocks.{IsEdge};
 ghost use Rattle.iiif_server.specs.BaseUrl.{path_of};
 ghost use Rattle.iiif_server.specs.Settings.{AreLegal, Configures, is_within, limits_of, refusal_of, settings_of};
 
@@ -113,6 +114,7 @@ impl Config {
     /// The edge of a tile, in pixels.
     pub fn edge(&self) -> u32
         ensures value { result ≡ self.now.edge }
+        ensures edge { IsEdge result }
         ensures some { 0 < result }
     {
         self.edge

@@ -6,6 +6,7 @@ ghost use Rattle.iiif_canonical.specs.Texts.{uri_of};
 ghost use Rattle.iiif_pixel.specs.Operations.{turned_width, turned_height};
 ghost use Rattle.iiif_pixel.specs.Picture.{Picture, dim_of};
 ghost use Rattle.iiif_pixel.specs.TurnPlaces.{turned_dim};
+ghost use Rattle.iiif_keys.specs.Blocks.{IsEdge};
 ghost use Rattle.iiif_request.specs.Requests.{HasShortDecimals};
 ghost use Rattle.iiif_tiff.specs.Tiff.{Shows, scheme};
 ghost use Rattle.iiif_tiff_read.specs.Faults.{IsLoadFault};
@@ -16,6 +17,7 @@ ghost use Rattle.iiif_server.specs.Outcomes.{IsReady};
 ghost use Rattle.iiif_server.specs.Responses.{body_in, canonical_link, image_response, is_loaded, written};
 
 use crate::accepted::Accepted;
+use crate::config::Config;
 use crate::entry::Entry;
 use crate::message::{ANY_ORIGIN, Message, head_in};
 use crate::part::Part;
@@ -97,15 +99,25 @@ fn image_head(
 fn image_file<R, S: Source<R>>(
     rt: &R,
     alloc: Global,
+    edge: u32,
     entry: &Entry<R, S>,
     accepted: &Accepted,
 ) -> Result<Vec<u8>, LoadFault>
+    requires edge { IsEdge edge }
     requires ready { IsReady entry.now.layout accepted.now }
     ensures file { IfOk result (λ b. S.keeps entry.now.source → (p : Picture) → Shows (S.bytes entry.now.source) p
         → b.items ≡ file (resolved_image p accepted.now.resolved) accepted.now.kind) }
     ensures fault { IfErr result (IsLoadFault (S.gave entry.now.source)) }
 {
-    let raster = render(rt, alloc, &entry.source, &entry.layout, &accepted.resolved)?;
+    let raster = render(
+        rt,
+        alloc,
+        &entry.source,
+        &entry.layout,
+        &entry.name,
+        edge,
+        &accepted.resolved,
+    )?;
     let mut bytes = Vec::new(alloc);
     bytes.extend_from_slice(head(accepted.kind, raster.dim()).as_slice())?;
     put_rows(&raster, accepted.kind, &mut bytes)?;
@@ -117,9 +129,11 @@ fn image_body<R, S: Source<R>>(
     rt: &R,
     alloc: Global,
     part: Part,
+    edge: u32,
     entry: &Entry<R, S>,
     accepted: &Accepted,
 ) -> Result<Vec<u8>, LoadFault>
+    requires edge { IsEdge edge }
     requires ready { IsReady entry.now.layout accepted.now }
     ensures body { IfOk result (λ b. S.keeps entry.now.source → (p : Picture) → Shows (S.bytes entry.now.source) p
         → b.items ≡ body_in part (file (resolved_image p accepted.now.resolved) accepted.now.kind)) }
@@ -127,8 +141,8 @@ fn image_body<R, S: Source<R>>(
     ensures loaded { IfErr result (λ fault. (fault ≡ LoadFault.NoMemory) ⊎ (is_loaded part ≡ true)) }
 {
     match part {
-        Part::Body => image_file(rt, alloc, entry, accepted),
-        Part::Whole(_) => image_file(rt, alloc, entry, accepted),
+        Part::Body => image_file(rt, alloc, edge, entry, accepted),
+        Part::Whole(_) => image_file(rt, alloc, edge, entry, accepted),
         Part::Head(_) => Ok(Vec::new(alloc)),
     }
 }
@@ -138,18 +152,18 @@ pub fn image_message<R, S: Source<R>>(
     rt: &R,
     alloc: Global,
     part: Part,
-    base: &str,
+    config: &Config,
     entry: &Entry<R, S>,
     accepted: &Accepted,
 ) -> Result<Message, LoadFault>
     requires ready { IsReady entry.now.layout accepted.now }
     ensures image { IfOk result (λ m. S.keeps entry.now.source → (p : Picture) → Shows (S.bytes entry.now.source) p → answer_of m
-        ≡ written part (image_response base.now (string_bytes entry.now.name) accepted.now.canonical (resolved_image p accepted.now.resolved) accepted.now.kind)) }
+        ≡ written part (image_response config.now.base entry.now.name accepted.now.canonical (resolved_image p accepted.now.resolved) accepted.now.kind)) }
     ensures fault { IfErr result (IsLoadFault (S.gave entry.now.source)) }
     ensures loaded { IfErr result (λ fault. (fault ≡ LoadFault.NoMemory) ⊎ (is_loaded part ≡ true)) }
 {
-    let head = image_head(alloc, part, base, entry.name.as_str(), accepted)?;
-    let body = image_body(rt, alloc, part, entry, accepted)?;
+    let head = image_head(alloc, part, config.base(), entry.name.as_str(), accepted)?;
+    let body = image_body(rt, alloc, part, config.edge(), entry, accepted)?;
     Ok(Message {
         status: 200,
         head,

@@ -92,7 +92,7 @@ impl<R, S: Source<R> + Drop> Node<R, S> {
                 information_message(alloc, part, &self.config, entry.name.as_str(), dim)
             }
             Outcome::Image(entry, accepted) => {
-                match image_message(rt, alloc, part, base, entry, &accepted) {
+                match image_message(rt, alloc, part, &self.config, entry, &accepted) {
                     Ok(message) => Ok(message),
                     Err(LoadFault::Source(_)) => source_message(alloc, part),
                     Err(LoadFault::NoMemory) => Err(AllocError),

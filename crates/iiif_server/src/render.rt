@@ -1,51 +1,78 @@
-//! The image that a request comes to, from a whole source.
+//! The image that a request comes to, made of the tiles or of the blocks of its plan.
 
-ghost use Rattle.std.specs.Prelude.{◌≡◌, ◌<◌, length, IfOk, IfErr};
+ghost use Rattle.std.specs.Prelude.{◌≡◌, ◌<◌, ◌≤◌, length, IfOk, IfErr};
 ghost use Rattle.iiif_pixel.specs.Geometry.{LiesIn, sides_of};
 ghost use Rattle.iiif_pixel.specs.Picture.{Picture, dim_of};
-ghost use Rattle.iiif_pixel.specs.Operations.{turn, quality};
+ghost use Rattle.iiif_pixel.specs.Operations.{crop, turn, quality};
 ghost use Rattle.iiif_pixel.specs.TurnPlaces.{turned_dim};
-ghost use Rattle.iiif_pixel.specs.Scaling.{scale, whole_of};
+ghost use Rattle.iiif_pixel.specs.Scaling.{scale};
 ghost use Rattle.iiif_area.specs.Places.{IsWithinLimits};
 ghost use Rattle.iiif_tiff.specs.Tiff.{Shows, scheme};
 ghost use Rattle.iiif_tiff_read.specs.Layouts.{FitsIn};
 ghost use Rattle.iiif_tiff_read.specs.Layouts as layouts;
 ghost use Rattle.iiif_tiff_read.specs.Faults.{IsLoadFault};
 ghost use Rattle.iiif_canonical.specs.Images.{resolved_image};
+ghost use Rattle.iiif_keys.specs.Blocks.{IsEdge};
+ghost use Rattle.iiif_server.specs.Code.{IsNotLarger, IsSeen};
 ghost use Rattle.iiif_server.specs.Kinds.{channels_in};
 
-use iiif_area::Sums;
+use crate::blocks::summed;
+use crate::tiles::copied;
+use iiif_area::laws::same_sides_change_nothing;
 use iiif_canonical::Resolved;
-use iiif_pixel::laws::{bands_follow, whole_stays_whole};
-use iiif_pixel::{Dim, NoMemory, Quality, Raster, Rect, Turn};
+use iiif_keys::Name;
+use iiif_pixel::laws::whole_stays_whole;
+use iiif_pixel::{NoMemory, Quality, Raster, Turn};
+use iiif_planner::{Plan, plan};
 use iiif_source::Source;
 use iiif_tiff_read::{Layout, LoadFault};
 use std::alloc::Global;
 
-/// A rectangle from the upper left corner on.
-fn whole(dim: Dim) -> Rect
-    ensures { result ≡ whole_of dim }
-{
-    Rect {
-        x: 0,
-        y: 0,
-        w: dim.w,
-        h: dim.h,
-    }
-}
+/// How many sums a block of a plan has at most.
+const ROOM: u64 = 65_536;
 
-/// A region scaled to other sides, its sums taken as those of one tile.
-fn scaled(alloc: Global, region: &Raster, size: Dim) -> Result<Raster, NoMemory>
-    requires limits { IsWithinLimits (dim_of region.now) size }
-    ensures { IfOk result (λ r. r ≡ scale region.now size) }
+/// The region of a request at the request's size: put together of its tiles, or averaged over its blocks.
+fn assembled<R, S: Source<R>>(
+    rt: &R,
+    alloc: Global,
+    source: &S,
+    layout: &Layout,
+    name: &Name,
+    edge: u32,
+    resolved: &Resolved,
+) -> Result<Raster, LoadFault>
+    requires inside { LiesIn resolved.now.rect (layouts.dim_of layout.now) }
+    requires sizes { IsWithinLimits (sides_of resolved.now.rect) resolved.now.size }
+    requires not_larger { IsNotLarger resolved.now.size (sides_of resolved.now.rect) }
+    requires edge { IsEdge edge }
+    requires in_file { FitsIn layout.now (length (S.bytes source.now)) }
+    ensures image { IfOk result (λ r. (p : Picture) → IsSeen S.keeps S.bytes source.now layout.now p
+        → r ≡ scale (crop p resolved.now.rect) resolved.now.size) }
+    ensures sides { IfOk result (λ r. dim_of r ≡ resolved.now.size) }
+    ensures channels { IfOk result (λ r. r.channels ≡ layout.now.channels) }
+    ensures fault { IfErr result (IsLoadFault (S.gave source.now)) }
 {
-    let sides = region.dim();
-    let _samples = region.samples();
-    bands_follow();
+    same_sides_change_nothing();
     whole_stays_whole();
-    let sums = Sums::of_tile(alloc, region, whole(sides), whole(sides), size)?;
-    let scaled = sums.finish(alloc, sides, whole(size))?;
-    Ok(scaled)
+    let (region, size) = (resolved.rect, resolved.size);
+    match plan(
+        alloc,
+        name,
+        resolved,
+        layout.dim(),
+        layout.kind(),
+        edge,
+        ROOM,
+    )? {
+        Plan::Copy(keys) => {
+            let image = copied(rt, alloc, source, layout, region, &keys)?;
+            Ok(image)
+        }
+        Plan::Sum(keys) => {
+            let image = summed(rt, alloc, source, layout, region, size, &keys)?;
+            Ok(image)
+        }
+    }
 }
 
 /// A raster turned.
@@ -69,17 +96,22 @@ fn qualified(raster: Raster, to: Quality) -> Result<Raster, NoMemory>
     }
 }
 
-/// The image that a request comes to: the rectangle of the source, scaled, turned, in its quality.
+/// The image that a request comes to: the rectangle of the source, scaled, turned, in its quality. The name is
+/// that of the source's image, and the edge that of its tiles.
 pub fn render<R, S: Source<R>>(
     rt: &R,
     alloc: Global,
     source: &S,
     layout: &Layout,
+    name: &Name,
+    edge: u32,
     resolved: &Resolved,
 ) -> Result<Raster, LoadFault>
     requires inside { LiesIn resolved.now.rect (layouts.dim_of layout.now) }
     requires sizes { IsWithinLimits (sides_of resolved.now.rect) resolved.now.size }
+    requires not_larger { IsNotLarger resolved.now.size (sides_of resolved.now.rect) }
     requires quarters { resolved.now.turn.quarters < 4 }
+    requires edge { IsEdge edge }
     requires in_file { FitsIn layout.now (length (S.bytes source.now)) }
     ensures image { IfOk result (λ r. S.keeps source.now → layout.now ≡ scheme (S.bytes source.now)
         → (p : Picture) → Shows (S.bytes source.now) p → r ≡ resolved_image p resolved.now) }
@@ -87,8 +119,7 @@ pub fn render<R, S: Source<R>>(
     ensures channels { IfOk result (λ r. r.channels ≡ channels_in resolved.now.quality layout.now.channels) }
     ensures fault { IfErr result (IsLoadFault (S.gave source.now)) }
 {
-    let region = layout.read_rect(rt, alloc, source, resolved.rect)?;
-    let scaled = scaled(alloc, &region, resolved.size)?;
+    let scaled = assembled(rt, alloc, source, layout, name, edge, resolved)?;
     let turned = turned(scaled, resolved.turn)?;
     let image = qualified(turned, resolved.quality)?;
     Ok(image)

@@ -1,6 +1,6 @@
 //! Connections.
 
-ghost use Rattle.std.specs.Prelude.{◌≡◌, ◌≤◌, ◌<◌, ◌==◌, ◌||◌, ℕ, List, true, IfSome, None};
+ghost use Rattle.std.specs.Prelude.{◌≡◌, ◌≤◌, ◌<◌, ◌==◌, ◌||◌, ◌++◌, ℕ, List, true, IfSome, None, Some};
 ghost use Rattle.std.specs.Io.KnownBytes.{Appends};
 ghost use Rattle.iiif_http_front.specs.Reading.{input_of};
 ghost use Rattle.iiif_server.specs.Code.{CloseFor, IsAnswered, Served};
@@ -89,6 +89,9 @@ impl<R, S: Source<R> + Drop> Node<R, S> {
         ensures serves { IfSome (input_of I.remaining heads.old) (λ input. (text : List ℕ) × Appends (W.contents out.old) (W.contents out.new) text
             × Served (terms S.bytes S.keeps S.gave (settings self.now) (items self.now) ((before after : I) × I.fails before after) ((before after : W) × W.fails before after))
             n input (input_of I.remaining heads.new) text result) }
+        ensures came { (came : List ℕ) × (text : List ℕ) × Appends (W.contents out.old) (W.contents out.new) text
+            × Served (terms S.bytes S.keeps S.gave (settings self.now) (items self.now) ((before after : I) × I.fails before after) ((before after : W) × W.fails before after))
+            n (heads.old.unread ++ came) (Some heads.new.unread) text result }
         ensures goes_on { result ≡ true → heads.new.fault ≡ None }
         ensures few { result ≡ true → n < 1000 }
     {
@@ -123,9 +126,15 @@ impl<R, S: Source<R> + Drop> Node<R, S> {
         reader: I,
         out: &mut W,
     )
+        // Where the bytes that the reader has left are known, the output is that for them.
         ensures serves { IfSome (I.remaining reader) (λ input. (output : List ℕ) × Appends (W.contents out.old) (W.contents out.new) output
             × IsConnection (terms S.bytes S.keeps S.gave (settings self.now) (items self.now) ((before after : I) × I.fails before after) ((before after : W) × W.fails before after))
             input output) }
+
+        // Where they are not, as at a socket, it is that for the bytes that came.
+        ensures came { (came : List ℕ) × (output : List ℕ) × Appends (W.contents out.old) (W.contents out.new) output
+            × IsConnection (terms S.bytes S.keeps S.gave (settings self.now) (items self.now) ((before after : I) × I.fails before after) ((before after : W) × W.fails before after))
+            came output }
     {
         let Ok(mut heads) = Heads::new(alloc, reader) else {
             close_for_memory(out);

@@ -27,6 +27,7 @@ returns-clause-ready g c =
     record {
       inside = lies_in_layout c.in_ok-resolved.resolved.rect c.dim-dim.result (layouts.dim_of c.args.entry.now.layout) c.dim-dim.ensures.width c.dim-dim.ensures.height resolved.inside;
       sizes = sizes_within c.in_ok-resolved.resolved c.dim-dim.result c.kind-kind.result c.args.limits.now resolved c.dim-dim.ensures.limits;
+      not_larger = resolved.not_larger;
       quarters = resolved.quarters;
       channels = channels_fit c.kind-kind.result c.in_ok-request.request.quality c.in_ok-resolved.resolved.quality c.args.entry.now.layout.channels c.of.result plain
           c.kind-kind.ensures c.of.ensures.kind;

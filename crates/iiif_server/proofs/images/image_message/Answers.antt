@@ -7,6 +7,7 @@ pub returns-clause-image : goal.returns-clause-image
 returns-clause-image g c keeps p shows =
     rw (
       c.in_ok-head.ensures (resolved_image p c.args.accepted.now.resolved) (resolved_sides p c.args.accepted.now.resolved c.requires.ready.quarters),
-      c.as_str.ensures.value,
+      c.base.ensures,
+      c.as_str.ensures.text,
       c.in_ok-body.ensures.body keeps p shows,
     ) refl

@@ -1,4 +1,4 @@
-use Rattle.std.proofs.Common.{rules, tests, bytes_eq, string_bytes}
+use Rattle.std.proofs.Common.{rules, tests, bytes_eq}
 use Rattle.std.proofs.lemmas.Iterator.{YieldsList-from_slice}
 use Rattle.std.proofs.lemmas.Iterator.Search.{find_from_yields_List}
 use Rattle.iiif_server.specs.Items.{item_of}
@@ -8,5 +8,5 @@ use Rattle.iiif_server.proofs.catalogue.Catalogue.find.Goals as goal
 pub returns : goal.returns
 returns g c =
     found_item (λ y. y.now) item_of (λ item. bytes_eq item.name c.args.name.now) c.args.self.now.entries.items c.find.result
-    (find_from_yields_List (λ e. bytes_eq (string_bytes e.name) c.args.name.now) _ _ c.find.result c.find.ensures.ran
+    (find_from_yields_List (λ e. bytes_eq e.name c.args.name.now) _ _ c.find.result c.find.ensures.ran
     (YieldsList-from_slice c.args.self.now.entries.items cc) (λ x b q k. search (rules, tests)))

@@ -20,13 +20,13 @@ pub returns-in-Redirect : goal.returns-in-Redirect
 returns-in-Redirect g c stable =
     may_be_given (settings c.args.self.now) c.args.part g.S.Source.gave (Replies g.S.Source.bytes (settings c.args.self.now) (items c.args.self.now) c.args.target.now)
     c.redirect_message.result _ (own (redirect (item_of c.in-Redirect.entry.now)) (c.in-Redirect.ensures.comes stable))
-    (rw (c.base-base.ensures, c.as_str.ensures.value) at c.redirect_message.ensures)
+    (rw (c.base-base.ensures, c.as_str.ensures.text) at c.redirect_message.ensures)
 
 pub returns-in-Information : goal.returns-in-Information
 returns-in-Information g c stable =
     may_be_given (settings c.args.self.now) c.args.part g.S.Source.gave (Replies g.S.Source.bytes (settings c.args.self.now) (items c.args.self.now) c.args.target.now)
     c.information_message.result _ (own (described (item_of c.in-Information.entry.now) c.in-Information.dim) (c.in-Information.ensures.comes stable))
-    (rw (c.as_str-in-Information.ensures.value) at c.information_message.ensures)
+    (rw (c.as_str-in-Information.ensures.text) at c.information_message.ensures)
 
 pub returns-in-Ok : goal.returns-in-Ok
 returns-in-Ok g c stable =
@@ -40,7 +40,7 @@ returns-in-Ok g c stable =
     } in (
       response_of (settings c.args.self.now) (given image),
       own (given image) came.1.4,
-      rw (c.base-base.ensures, came.1.3) at c.in-Ok.ensures.image came.0 came.1.1 came.1.2,
+      rw came.1.3 at c.in-Ok.ensures.image came.0 came.1.1 came.1.2,
     )
 
 pub returns-in-Err-Source : goal.returns-in-Err-Source

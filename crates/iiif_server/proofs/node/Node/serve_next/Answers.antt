@@ -1,4 +1,4 @@
-use Rattle.std.proofs.Common.{Err, ap}
+use Rattle.std.proofs.Common.{◌++◌, Err, Some, ap}
 use Rattle.iiif_http_front.specs.Reading.{input_of}
 use Rattle.iiif_server.specs.Nodes.{items, settings}
 use Rattle.iiif_server.specs.Streams.{terms}
@@ -47,3 +47,55 @@ returns-clause-serves g c =
     c.args.n (input_of g.I.Read.remaining c.args.heads.now) (input_of g.I.Read.remaining c.read_head.new.self) c.in-Ok-Some.call c.closing_call-call.result c.serve_call.result
     (g.W.Write.contents c.args.out.now) (g.W.Write.contents c.serve_call.new.out) (rw c.in-Ok-Some.field-0-is at c.in-Ok-Some.ensures.answers c.requires.no_fault)
     c.closing_call-call.ensures.method c.closing_call-call.ensures.target c.closing_call-call.ensures.close c.serve_call.ensures
+
+pub returns-in-Ok-None-clause-came : goal.returns-in-Ok-None-clause-came
+returns-in-Ok-None-clause-came g c =
+    let came = (rw c.in-Ok-None.field-0-is at c.in-Ok-None.ensures.came c.requires.no_fault) in
+    let sent = next_none (terms g.S.Source.bytes g.S.Source.keeps g.S.Source.gave (settings c.args.self.now) (items c.args.self.now) ((a b : g.row.I.Denot) × g.I.Inlet.fails a b) ((a b : g.row.W.Denot) × g.W.Outlet.fails a b))
+    c.args.n (Some (c.args.heads.now.unread ++ came.0)) (Some c.read_head.new.self.unread) (g.W.Write.contents c.args.out.now) came.1 in
+    (came.0, sent.0, sent.1, sent.2)
+
+pub returns-in-Err-Bad-clause-came : goal.returns-in-Err-Bad-clause-came
+returns-in-Err-Bad-clause-came g c =
+    let came = (rw c.in-Err-Bad.field-0-is at c.in-Err-Bad.ensures.came c.requires.no_fault) in
+    let sent = next_bad (terms g.S.Source.bytes g.S.Source.keeps g.S.Source.gave (settings c.args.self.now) (items c.args.self.now) ((a b : g.row.I.Denot) × g.I.Inlet.fails a b) ((a b : g.row.W.Denot) × g.W.Outlet.fails a b))
+    c.args.n (Some (c.args.heads.now.unread ++ came.0)) (Some c.read_head.new.self.unread) (g.W.Write.contents c.args.out.now) (g.W.Write.contents c.close_for_head.new.out) came.1 c.close_for_head.ensures in
+    (came.0, sent.0, sent.1, sent.2)
+
+pub returns-in-Err-TooLong-clause-came : goal.returns-in-Err-TooLong-clause-came
+returns-in-Err-TooLong-clause-came g c =
+    let came = (rw c.in-Err-TooLong.field-0-is at c.in-Err-TooLong.ensures.came c.requires.no_fault) in
+    let sent = next_too_long (terms g.S.Source.bytes g.S.Source.keeps g.S.Source.gave (settings c.args.self.now) (items c.args.self.now) ((a b : g.row.I.Denot) × g.I.Inlet.fails a b) ((a b : g.row.W.Denot) × g.W.Outlet.fails a b))
+    c.args.n (Some (c.args.heads.now.unread ++ came.0)) (Some c.read_head.new.self.unread) (g.W.Write.contents c.args.out.now) (g.W.Write.contents c.close_for_head-in-Err-TooLong.new.out) came.1
+    c.close_for_head-in-Err-TooLong.ensures in
+    (came.0, sent.0, sent.1, sent.2)
+
+pub returns-in-Err-NoMemory-clause-came : goal.returns-in-Err-NoMemory-clause-came
+returns-in-Err-NoMemory-clause-came g c =
+    let sent = next_no_memory (terms g.S.Source.bytes g.S.Source.keeps g.S.Source.gave (settings c.args.self.now) (items c.args.self.now) ((a b : g.row.I.Denot) × g.I.Inlet.fails a b) ((a b : g.row.W.Denot) × g.W.Outlet.fails a b))
+    c.args.n (Some (c.args.heads.now.unread ++ (c.in-Err-NoMemory.ensures.came c.requires.no_fault).0)) (g.W.Write.contents c.args.out.now) (g.W.Write.contents c.close_for_memory.new.out) c.close_for_memory.ensures in
+    ((c.in-Err-NoMemory.ensures.came c.requires.no_fault).0, sent.0, sent.1, sent.2)
+
+pub returns-in-Err-Cut-clause-came : goal.returns-in-Err-Cut-clause-came
+returns-in-Err-Cut-clause-came g c =
+    let came = (rw c.in-Err-Cut.field-0-is at c.in-Err-Cut.ensures.came c.requires.no_fault) in
+    let sent = next_cut (terms g.S.Source.bytes g.S.Source.keeps g.S.Source.gave (settings c.args.self.now) (items c.args.self.now) ((a b : g.row.I.Denot) × g.I.Inlet.fails a b) ((a b : g.row.W.Denot) × g.W.Outlet.fails a b))
+    c.args.n (Some (c.args.heads.now.unread ++ came.0)) (Some c.read_head.new.self.unread) (g.W.Write.contents c.args.out.now) came.1 in
+    (came.0, sent.0, sent.1, sent.2)
+
+pub returns-in-Err-Io-clause-came : goal.returns-in-Err-Io-clause-came
+returns-in-Err-Io-clause-came g c =
+    let failed = c.in-Err-Io.ensures.io c.requires.no_fault (ap Err c.in-Err-Io.field-0-is) in
+    let came = c.in-Err-Io.ensures.came c.requires.no_fault in
+    let sent = next_failed (terms g.S.Source.bytes g.S.Source.keeps g.S.Source.gave (settings c.args.self.now) (items c.args.self.now) ((a b : g.row.I.Denot) × g.I.Inlet.fails a b) ((a b : g.row.W.Denot) × g.W.Outlet.fails a b))
+    c.args.n (Some (c.args.heads.now.unread ++ came.0)) (g.W.Write.contents c.args.out.now) (failed.0, _, failed.1) in
+    (came.0, sent.0, sent.1, sent.2)
+
+pub returns-clause-came : goal.returns-clause-came
+returns-clause-came g c =
+    let came = (rw c.in-Ok-Some.field-0-is at c.in-Ok-Some.ensures.came c.requires.no_fault) in
+    let sent = next_call g.S.Source.bytes g.S.Source.keeps g.S.Source.gave (settings c.args.self.now) (items c.args.self.now) ((a b : g.row.I.Denot) × g.I.Inlet.fails a b) ((a b : g.row.W.Denot) × g.W.Outlet.fails a b)
+    c.args.n (Some (c.args.heads.now.unread ++ came.0)) (Some c.read_head.new.self.unread) c.in-Ok-Some.call c.closing_call-call.result c.serve_call.result
+    (g.W.Write.contents c.args.out.now) (g.W.Write.contents c.serve_call.new.out) came.1
+    c.closing_call-call.ensures.method c.closing_call-call.ensures.target c.closing_call-call.ensures.close c.serve_call.ensures in
+    (came.0, sent.0, sent.1, sent.2)

@@ -1,8 +1,8 @@
-use Rattle.std.proofs.Common.{ap, arith, ◌<◌}
+use Rattle.std.proofs.Common.{[], Some, ap, arith, ◌<◌}
 use Rattle.iiif_http_front.specs.Reading.{Reading, input_of}
 use Rattle.iiif_server.specs.Nodes.{items, settings}
 use Rattle.iiif_server.specs.Streams.{terms}
-use Rattle.iiif_server.proofs.StreamLemmas.{begins_so, goes_further, ends_so, next_no_memory, at_start}
+use Rattle.iiif_server.proofs.StreamLemmas.{begins_so, goes_further, ends_so, next_no_memory, at_start, came_at_end, came_further, nothing_came}
 use Rattle.iiif_server.proofs.node.Node.serve_stream.Goals as goal
 
 pub returns-in_default : goal.returns-in_default
@@ -10,6 +10,9 @@ returns-in_default g c = record {
   serves = next_no_memory (terms g.S.Source.bytes g.S.Source.keeps g.S.Source.gave (settings c.args.self.now) (items c.args.self.now) ((a b : g.row.I.Denot) × g.I.Inlet.fails a b)
       ((a b : g.row.W.Denot) × g.W.Outlet.fails a b)) 1 (g.I.Read.remaining c.args.reader) (g.W.Write.contents c.args.out.now)
       (g.W.Write.contents c.close_for_memory.new.out) c.close_for_memory.ensures;
+  came = let sent = next_no_memory (terms g.S.Source.bytes g.S.Source.keeps g.S.Source.gave (settings c.args.self.now) (items c.args.self.now) ((a b : g.row.I.Denot) × g.I.Inlet.fails a b) ((a b : g.row.W.Denot) × g.W.Outlet.fails a b)) 1 (Some []) (g.W.Write.contents c.args.out.now)
+      (g.W.Write.contents c.close_for_memory.new.out) c.close_for_memory.ensures in
+      ([], sent.0, sent.1, sent.2);
 }
 
 pub loop-alloc-init : goal.loop-alloc-init
@@ -19,6 +22,8 @@ loop-alloc-init g c = record {
   goes_on = begins_so (terms g.S.Source.bytes g.S.Source.keeps g.S.Source.gave (settings c.args.self.now) (items c.args.self.now) ((a b : g.row.I.Denot) × g.I.Inlet.fails a b)
       ((a b : g.row.W.Denot) × g.W.Outlet.fails a b)) (g.I.Read.remaining c.args.reader) (input_of g.I.Read.remaining c.in-Ok.heads) (g.W.Write.contents c.args.out.now)
       (at_start g.I.Read.remaining c.in-Ok.heads c.args.reader c.in-Ok.ensures);
+  came = nothing_came (terms g.S.Source.bytes g.S.Source.keeps g.S.Source.gave (settings c.args.self.now) (items c.args.self.now) ((a b : g.row.I.Denot) × g.I.Inlet.fails a b) ((a b : g.row.W.Denot) × g.W.Outlet.fails a b))
+      c.in-Ok.heads.unread (g.W.Write.contents c.args.out.now) (ap (λ (r : Reading g.row.I.Denot). r.unread) c.in-Ok.ensures);
 }
 
 pub loop-alloc-preserved : goal.loop-alloc-preserved
@@ -31,6 +36,9 @@ loop-alloc-preserved g c =
           ((a b : g.row.W.Denot) × g.W.Outlet.fails a b)) c.loop-alloc.n (g.I.Read.remaining c.args.reader) (input_of g.I.Read.remaining c.loop-alloc.heads)
           (input_of g.I.Read.remaining c.serve_next.new.heads) (g.W.Write.contents c.args.out.now) (g.W.Write.contents c.loop-alloc.out) (g.W.Write.contents c.serve_next.new.out)
           c.serve_next.result c.loop-alloc-test.true c.loop-alloc.invariant.goes_on c.serve_next.ensures.serves;
+      came = came_further (terms g.S.Source.bytes g.S.Source.keeps g.S.Source.gave (settings c.args.self.now) (items c.args.self.now) ((a b : g.row.I.Denot) × g.I.Inlet.fails a b) ((a b : g.row.W.Denot) × g.W.Outlet.fails a b))
+          c.loop-alloc.n c.loop-alloc.heads.unread c.serve_next.new.heads.unread (g.W.Write.contents c.args.out.now) (g.W.Write.contents c.loop-alloc.out) (g.W.Write.contents c.serve_next.new.out)
+          c.serve_next.result c.loop-alloc-test.true c.loop-alloc.invariant.came c.serve_next.ensures.came;
     }
 
 pub returns : goal.returns
@@ -39,4 +47,7 @@ returns g c = record {
       ((a b : g.row.W.Denot) × g.W.Outlet.fails a b)) c.loop-alloc.n (g.I.Read.remaining c.args.reader) (input_of g.I.Read.remaining c.loop-alloc.heads)
       (input_of g.I.Read.remaining c.serve_next.new.heads) (g.W.Write.contents c.args.out.now) (g.W.Write.contents c.loop-alloc.out) (g.W.Write.contents c.serve_next.new.out)
       c.serve_next.result c.loop-alloc-test.false c.loop-alloc.invariant.goes_on c.serve_next.ensures.serves;
+  came = came_at_end (terms g.S.Source.bytes g.S.Source.keeps g.S.Source.gave (settings c.args.self.now) (items c.args.self.now) ((a b : g.row.I.Denot) × g.I.Inlet.fails a b) ((a b : g.row.W.Denot) × g.W.Outlet.fails a b))
+      c.loop-alloc.n c.loop-alloc.heads.unread c.serve_next.new.heads.unread (g.W.Write.contents c.args.out.now) (g.W.Write.contents c.loop-alloc.out) (g.W.Write.contents c.serve_next.new.out)
+      c.serve_next.result c.loop-alloc-test.false c.loop-alloc.invariant.came c.serve_next.ensures.came;
 }

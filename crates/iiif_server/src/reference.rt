@@ -1,0 +1,59 @@
+//! The image that a request comes to, from the whole of its region as one tile. It is what the answers of a node are compared
+//! with.
+
+ghost use Rattle.std.specs.Prelude.{◌≡◌, ◌<◌, length, IfOk, IfErr};
+ghost use Rattle.iiif_pixel.specs.Geometry.{LiesIn, sides_of};
+ghost use Rattle.iiif_pixel.specs.Picture.{Picture, dim_of};
+ghost use Rattle.iiif_pixel.specs.Scaling.{scale};
+ghost use Rattle.iiif_area.specs.Places.{IsWithinLimits};
+ghost use Rattle.iiif_tiff.specs.Tiff.{Shows, scheme};
+ghost use Rattle.iiif_tiff_read.specs.Layouts.{FitsIn};
+ghost use Rattle.iiif_tiff_read.specs.Layouts as layouts;
+ghost use Rattle.iiif_tiff_read.specs.Faults.{IsLoadFault};
+ghost use Rattle.iiif_canonical.specs.Images.{resolved_image};
+
+use crate::blocks::whole;
+use iiif_area::Sums;
+use iiif_canonical::Resolved;
+use iiif_pixel::laws::{bands_follow, whole_stays_whole};
+use iiif_pixel::{Dim, NoMemory, Raster};
+use iiif_source::Source;
+use iiif_tiff_read::{Layout, LoadFault};
+use std::alloc::Global;
+
+/// A region scaled to other sides, its sums taken as those of one tile.
+fn scaled(alloc: Global, region: &Raster, size: Dim) -> Result<Raster, NoMemory>
+    requires limits { IsWithinLimits (dim_of region.now) size }
+    ensures { IfOk result (λ r. r ≡ scale region.now size) }
+{
+    let sides = region.dim();
+    let _samples = region.samples();
+    bands_follow();
+    whole_stays_whole();
+    let sums = Sums::of_tile(alloc, region, whole(sides), whole(sides), size)?;
+    let scaled = sums.finish(alloc, sides, whole(size))?;
+    Ok(scaled)
+}
+
+/// The image that a request comes to: the rectangle of the source, scaled, turned, in its quality.
+pub fn plain_render<R, S: Source<R>>(
+    rt: &R,
+    alloc: Global,
+    source: &S,
+    layout: &Layout,
+    resolved: &Resolved,
+) -> Result<Raster, LoadFault>
+    requires inside { LiesIn resolved.now.rect (layouts.dim_of layout.now) }
+    requires sizes { IsWithinLimits (sides_of resolved.now.rect) resolved.now.size }
+    requires quarters { resolved.now.turn.quarters < 4 }
+    requires in_file { FitsIn layout.now (length (S.bytes source.now)) }
+    ensures image { IfOk result (λ r. S.keeps source.now → layout.now ≡ scheme (S.bytes source.now)
+        → (p : Picture) → Shows (S.bytes source.now) p → r ≡ resolved_image p resolved.now) }
+    ensures fault { IfErr result (IsLoadFault (S.gave source.now)) }
+{
+    let region = layout.read_rect(rt, alloc, source, resolved.rect)?;
+    let scaled = scaled(alloc, &region, resolved.size)?;
+    let turned = scaled.turn(resolved.turn)?;
+    let image = turned.quality(resolved.quality)?;
+    Ok(image)
+}
