@@ -112,6 +112,7 @@ JOBS = [
     ("a tile of 256 square, from tiles", 0, (5120, 5120, 256, 256), 256),
     ("a tile of 256 square, from strips", 1, (5120, 5120, 256, 256), 256),
     ("4,096 square to 256 wide, from tiles", 0, (2048, 2048, 4096, 4096), 256),
+    ("4,096 square to 256 wide, from strips", 1, (2048, 2048, 4096, 4096), 256),
     ("RGB 8,000 square in strips, to 1,024 wide", 2, (0, 0, 8_000, 8_000), 1024),
     ("bilevel 20,000 square in strips, to 1,024 wide", 3, (0, 0, 20_000, 20_000), 1024),
 ]

@@ -1,0 +1,131 @@
+"""The program beside an evaluation of the definitions in Python, on requests by chance.
+
+    /usr/bin/python3 bench/found/requests.py crates/iiif_serve/out/iiif_serve [COUNT] [SEED]
+
+Pictures of up to 70 by 70 (gray, RGB, bits) in strips and tiles, edges from 1 to 64, regions, sizes, turns and qualities by chance; the
+averages are exact fractions over the whole region, place by place, so nothing here knows of tiles or blocks. The status is 1 where an
+answer differs.
+"""
+import os
+import random
+import struct
+import subprocess
+import sys
+import tempfile
+
+
+def plain(rows, channels, bits, tile, strip):
+    """A picture as a TIFF file, low byte first, in tiles with this side or in strips of so many rows."""
+    height, width = len(rows), len(rows[0])
+
+    def packed(line):
+        if bits == 8:
+            return bytes(sample for place in line for sample in place)
+        text = "".join("1" if place[0] else "0" for place in line)
+        text += "0" * (-len(text) % 8)
+        return bytes(int(text[at:at + 8], 2) for at in range(0, len(text), 8))
+
+    pieces = []
+    if tile:
+        fill = [99] * channels if bits == 8 else [1]
+        for y in range(0, height, tile):
+            for x in range(0, width, tile):
+                lines = [list(row[x:x + tile]) for row in rows[y:y + tile]]
+                lines = [line + [fill] * (tile - len(line)) for line in lines] + [[fill] * tile] * (tile - len(lines))
+                pieces.append(b"".join(map(packed, lines)))
+    else:
+        pieces = [b"".join(map(packed, rows[y:y + strip])) for y in range(0, height, strip)]
+    data, places = b"", []
+    for piece in pieces:
+        places.append(8 + len(data))
+        data += piece
+    data += b"\0" * (len(data) % 2)
+    lists = 8 + len(data)
+    counts = lists + 4 * len(pieces)
+    depth = counts + 4 * len(pieces)
+    data += struct.pack(f"<{len(pieces)}I", *places) + struct.pack(f"<{len(pieces)}I", *map(len, pieces)) + struct.pack("<4H", 8, 8, 8, 0)
+
+    def entry(tag, kind, count, value):
+        return struct.pack("<HHI", tag, kind, count) + (struct.pack("<HH", value, 0) if kind == 3 and count == 1 else struct.pack("<I", value))
+
+    one = len(pieces) == 1
+    entries = [(256, 4, 1, width), (257, 4, 1, height), (258, 3, channels, depth if channels == 3 else bits), (262, 3, 1, 2 if channels == 3 else 1),
+               (277, 3, 1, channels)]
+    where, length = (324, 325) if tile else (273, 279)
+    entries += [(where, 4, len(pieces), places[0] if one else lists), (length, 4, len(pieces), len(pieces[0]) if one else counts)]
+    entries += [(322, 4, 1, tile), (323, 4, 1, tile)] if tile else [(278, 4, 1, strip)]
+    directory = struct.pack("<H", len(entries)) + b"".join(entry(*it) for it in sorted(entries)) + bytes(4)
+    return struct.pack("<2sHI", b"II", 42, 8 + len(data)) + data + directory
+
+
+def scaled(rows, c, d, channels):
+    """The averages, to the nearest and a half up: the weight of a source column is how much of it the result column covers."""
+    b, a = len(rows), len(rows[0])
+
+    def weights(n, m):
+        return [[(x, min((i + 1) * n, (x + 1) * m) - max(i * n, x * m)) for x in range(n) if min((i + 1) * n, (x + 1) * m) > max(i * n, x * m)] for i in range(m)]
+
+    columns, lines = weights(a, c), weights(b, d)
+    return [[[(2 * sum(u * v * rows[y][x][k] for y, v in line for x, u in column) + a * b) // (2 * a * b) for k in range(channels)]
+             for column in columns] for line in lines]
+
+
+def turned(rows, mirror, quarters):
+    if mirror:
+        rows = [row[::-1] for row in rows]
+    for _ in range(quarters):
+        rows = [list(row) for row in zip(*rows[::-1])]
+    return rows
+
+
+def strip_of(rows, quality, bits):
+    """The bytes of the answer's strip."""
+    if len(rows[0][0]) == 3 and quality in ("gray", "bitonal"):
+        rows = [[[(299 * r + 587 * g + 114 * b + 500) // 1000] for r, g, b in row] for row in rows]
+    if quality != "bitonal":
+        return bytes(sample for row in rows for place in row for sample in place)
+    out = b""
+    for row in rows:
+        text = "".join("1" if place[0] >= 128 else "0" for place in row)
+        text += "0" * (-len(text) % 8)
+        out += bytes(int(text[at:at + 8], 2) for at in range(0, len(text), 8))
+    return out
+
+
+def main():
+    program, count, seed = sys.argv[1], int((sys.argv[2:] or [2000])[0]), int((sys.argv[3:] or [1])[0])
+    random.seed(seed)
+    wrong = asked = 0
+    with tempfile.TemporaryDirectory() as room:
+        path = os.path.join(room, "a.tif")
+        while asked < count:
+            channels, bits = random.choice([(1, 8), (3, 8), (1, 1)])
+            width, height = random.randint(1, 70), random.randint(1, 70)
+            top = 255 if bits == 8 else 1
+            rows = [[[random.randint(0, top) for _ in range(channels)] for _ in range(width)] for _ in range(height)]
+            tile = random.choice([0, 16, 32, 48])
+            with open(path, "wb") as file:
+                file.write(plain(rows, channels, bits, tile, random.randint(1, height)))
+            if bits == 1:
+                rows = [[[255 * place[0]] for place in row] for row in rows]
+            for _ in range(20):
+                x, y = random.randrange(width), random.randrange(height)
+                w, h = random.randint(1, width - x), random.randint(1, height - y)
+                c, d = random.choice([(w, h), (random.randint(1, w), random.randint(1, h))])
+                mirror, quarters = random.random() < 0.3, random.choice([0, 0, 0, 1, 2, 3])
+                quality = random.choice(["default", "color", "gray", "bitonal"])
+                edge = random.randint(1, 64)
+                target = f"/iiif/a/{x},{y},{w},{h}/{c},{d}/{'!' * mirror}{90 * quarters}/{quality}.tif"
+                got = subprocess.run([program, "--base", "http://localhost/iiif", "--edge", str(edge), "--one", target, "a=" + path], capture_output=True).stdout
+                region = [row[x:x + w] for row in rows[y:y + h]]
+                strip = strip_of(turned(scaled(region, c, d, channels), mirror, quarters), quality, bits)
+                asked += 1
+                if not got.endswith(strip) or len(got) - len(strip) not in (174, 180):
+                    wrong += 1
+                    print("wrong:", target, "edge", edge, "tile", tile, (width, height), channels, bits)
+    print(f"{asked} requests, {wrong} wrong")
+    return 1 if wrong else 0
+
+
+if __name__ == "__main__":
+    sys.exit(main())
