@@ -11,7 +11,7 @@ use Rattle.iiif_pixel.specs.declared.geometry.Dim.{Dim}
 use Rattle.iiif_pixel.specs.declared.geometry.Rect.{Rect}
 use Rattle.iiif_pixel.specs.declared.geometry.Quality.{Quality}
 use Rattle.iiif_pixel.specs.declared.geometry.Quality.TheVariants.{Default, Color, Gray, Bitonal}
-use Rattle.iiif_pixel.proofs.Samples.{samples_of-same, sample_at-picture_of, picture_of-samples}
+use Rattle.iiif_pixel.proofs.SampleLists.{samples_of-same, sample_at-picture_of, picture_of-samples}
 use Rattle.iiif_pixel.proofs.TurnLemmas.{sample_at-mirrored, sample_at-quarter_turned}
 use Rattle.iiif_pixel.proofs.Reading.{sample_at-crop}
 

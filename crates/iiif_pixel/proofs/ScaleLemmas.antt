@@ -18,13 +18,13 @@ sum_from-mul u zero c f = omega arith
 sum_from-mul u (suc n) c f = omega (arith, sum_from-mul u n c f)
 
 -- what [p, q) shares with columns u to u + n of width c is what it shares with all of them together
-overlaps_add : (p q c u n : ℕ) → p ≤ q → sum_from u n (λ x. overlap p q (x * c) ((x + 1) * c)) ≡ overlap p q (u * c) ((u + n) * c)
+pub overlaps_add : (p q c u n : ℕ) → p ≤ q → sum_from u n (λ x. overlap p q (x * c) ((x + 1) * c)) ≡ overlap p q (u * c) ((u + n) * c)
 unfolding sum_from overlap
 overlaps_add p q c u zero h = omega arith
 overlaps_add p q c u (suc n) h = omega (arith, overlaps_add p q c u n h)
 
 -- result column i takes at most a of any source columns
-weights-le : (i a c u n : ℕ) → sum_from u n (λ x. weight_of i x a c) ≤ a
+pub weights-le : (i a c u n : ℕ) → sum_from u n (λ x. weight_of i x a c) ≤ a
 unfolding weight_of overlap
 weights-le i a c u n = omega (arith, overlaps_add (i * a) ((i + 1) * a) c u n (omega arith))
 

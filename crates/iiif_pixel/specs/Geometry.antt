@@ -1,14 +1,26 @@
--- Words on sides, rectangles and kinds.
+-- Words on sides, rectangles, kinds and depths.
 use Rattle.std.specs.Prelude.{ℕ, ◌+◌, ◌≤◌, ◌<◌}
 use Rattle.iiif_pixel.specs.declared.geometry.Dim.{Dim}
 use Rattle.iiif_pixel.specs.declared.geometry.Rect.{Rect}
 use Rattle.iiif_pixel.specs.declared.geometry.Kind.{Kind}
 use Rattle.iiif_pixel.specs.declared.geometry.Kind.TheVariants.{Gray, Rgb}
+use Rattle.iiif_pixel.specs.declared.geometry.Depth.{Depth}
+use Rattle.iiif_pixel.specs.declared.geometry.Depth.TheVariants.{Eight, Sixteen}
 
 -- How many samples a place has: TIFF 6.0, sections 4 (grayscale) and 6 (RGB).
 abbrev pub channels_of : Kind → ℕ
 channels_of Gray = 1
 channels_of Rgb = 3
+
+-- The greatest sample, which is white: TIFF 6.0, section 8 (BitsPerSample), so many bits without a sign.
+abbrev pub top_of : Depth → ℕ
+top_of Eight = 255
+top_of Sixteen = 65535
+
+-- how many bytes a sample takes
+abbrev pub bytes_of : Depth → ℕ
+bytes_of Eight = 1
+bytes_of Sixteen = 2
 
 -- The rectangle lies inside the sides: IIIF Image API 3.0, section 4.1, a region that is cut off at the image's edges.
 pub record LiesIn (r : Rect) (d : Dim) : Type 0 where

@@ -1,4 +1,5 @@
 pub mod Geometry
+pub mod Depths
 pub mod Picture
 pub mod Operations
 pub mod TurnPlaces

@@ -1,7 +1,7 @@
 //! Sides, rectangles, kinds, turns and qualities.
 
-ghost use Rattle.std.specs.Prelude.{◌≡◌, ℕ, ◌<◌, ◌+◌, ◌≤◌, ◌↔◌, IsTrue};
-ghost use Rattle.iiif_pixel.specs.Geometry.{LiesIn, HasPlace};
+ghost use Rattle.std.specs.Prelude.{◌≡◌, ℕ, ◌<◌, ◌+◌, ◌*◌, ◌^◌, ◌≤◌, ◌↔◌, IsTrue, SomeIff};
+ghost use Rattle.iiif_pixel.specs.Geometry.{LiesIn, HasPlace, sides_of};
 ghost use Rattle.iiif_pixel.specs.TurnPlaces.{mirrored_column, turned_dim, turned_place, MovesTo, TurnsInto};
 
 /// The sides of a picture, in places (pixels).
@@ -25,6 +25,13 @@ pub struct Rect {
 pub enum Kind {
     Gray,
     Rgb,
+}
+
+/// How many bits a sample has (TIFF 6.0, section 8, BitsPerSample): black is 0, and white is the greatest number of so many.
+#[derive(Clone, Copy, Debug, PartialEq, Eq)]
+pub enum Depth {
+    Eight,
+    Sixteen,
 }
 
 /// A mirroring on the vertical axis, or none, and then quarter turns clockwise, 0 to 3 (IIIF Image API 3.0, 4.3 Rotation).
@@ -56,6 +63,38 @@ impl Kind {
             Kind::Rgb => 3,
         }
     }
+
+    /// How many samples a picture of these sides has; `None` where they are more than there are addresses.
+    pub fn count(self, dim: Dim) -> Option<usize>
+        ensures { SomeIff result (dim.w * dim.h * channels_of self < 2 ^ 64) (dim.w * dim.h * channels_of self) }
+    {
+        let places = dim.w as usize * dim.h as usize;
+        places.checked_mul(self.channels())
+    }
+}
+
+impl Depth {
+    ghost use Rattle.iiif_pixel.specs.Geometry.{top_of, bytes_of};
+
+    /// The greatest sample, which is white.
+    pub fn top(self) -> u16
+        ensures { result ≡ top_of self }
+    {
+        match self {
+            Depth::Eight => 255,
+            Depth::Sixteen => 65_535,
+        }
+    }
+
+    /// How many bytes a sample takes.
+    pub fn bytes(self) -> usize
+        ensures { result ≡ bytes_of self }
+    {
+        match self {
+            Depth::Eight => 1,
+            Depth::Sixteen => 2,
+        }
+    }
 }
 
 impl Dim {
@@ -78,6 +117,16 @@ impl Dim {
 }
 
 impl Rect {
+    /// The sides.
+    pub fn dim(self) -> Dim
+        ensures { result ≡ sides_of self }
+    {
+        Dim {
+            w: self.w,
+            h: self.h,
+        }
+    }
+
     /// Whether the rectangle lies inside these sides.
     pub fn lies_in(self, dim: Dim) -> bool
         ensures { IsTrue result ↔ LiesIn self dim }

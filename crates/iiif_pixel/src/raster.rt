@@ -1,60 +1,62 @@
 //! Pictures in memory.
 
-ghost use Rattle.std.specs.Prelude.{◌≡◌, ◌*◌, ◌<◌, ◌≤◌, ◌^◌, IfOk, length, slice_index, ◌+◌};
-ghost use Rattle.iiif_pixel.specs.Geometry.{channels_of, LiesIn};
-ghost use Rattle.iiif_pixel.specs.Picture.{dim_of, sample_at, picture_of, IsWhole, with_sample, with_span, span_of};
+ghost use Rattle.std.specs.Prelude.{◌≡◌, ◌*◌, ◌<◌, ◌≤◌, ◌+◌, IfOk, length};
+ghost use Rattle.iiif_pixel.specs.Geometry.{channels_of, top_of, LiesIn};
+ghost use Rattle.iiif_pixel.specs.Depths.{values_of, depth_of, span_values, span_depth};
+ghost use Rattle.iiif_pixel.specs.Picture.{dim_of, index_of, sample_at, picture_of, IsWhole, with_sample, with_span, span_of};
 ghost use Rattle.iiif_pixel.specs.Operations.{bitonal, crop, gray, quality, turn};
 ghost use Rattle.iiif_pixel.specs.RasterPicture.{raster_picture};
 
-use crate::fills::fill_turned;
-use crate::geometry::{Dim, Kind, Quality, Rect, Turn};
-use crate::grays::{blacken_or_whiten, gray_samples};
+use crate::depths::{Samples, Span};
+use crate::fills::turned_samples;
+use crate::geometry::{Depth, Dim, Kind, Quality, Rect, Turn};
+use crate::grays::{bits_of, gray_samples};
 pub use std::alloc::AllocError as NoMemory;
 use std::alloc::{AllocError, Global};
 use std::marker::Model;
 
-/// A picture in memory, with samples of 8 bits, 0 for black and 255 for white. Contracts see the picture alone.
+/// A picture in memory, with samples of 8 bits in a byte each, or of 16 bits in two. Contracts see the picture alone.
 #[derive(Drop)]
 pub struct Raster {
     dim: Dim,
     kind: Kind,
-    samples: Vec<u8>,
+    samples: Samples,
 }
 
 impl Model for Raster {
     ghost use Rattle.std.specs.Prelude.{◌≡◌, ◌*◌, length};
     ghost use Rattle.iiif_pixel.specs.Geometry.{channels_of};
+    ghost use Rattle.iiif_pixel.specs.Depths.{values_of, depth_of};
     ghost use Rattle.iiif_pixel.specs.Picture.{Picture};
     ghost use Rattle.iiif_pixel.specs.RasterPicture.{raster_picture};
 
     ghost Value = { Picture };
 
-    ghost view = { λ r. raster_picture r.dim r.kind r.samples.items };
+    ghost view = { λ r. raster_picture r.dim r.kind (depth_of r.samples) (values_of r.samples) };
 
-    ghost invariant = { λ r. length r.samples.items ≡ r.dim.w * r.dim.h * channels_of r.kind };
+    ghost invariant = { λ r. length (values_of r.samples) ≡ r.dim.w * r.dim.h * channels_of r.kind };
 }
 
 impl Raster {
     /// A picture of zeros. Sides with more samples than addresses are answered as want of memory too.
-    pub fn new(alloc: Global, dim: Dim, kind: Kind) -> Result<Raster, NoMemory>
-        ensures { IfOk result (λ r. r ≡ picture_of dim.w dim.h (channels_of kind) 255 (λ x y k. 0)) }
+    pub fn new(alloc: Global, dim: Dim, kind: Kind, depth: Depth) -> Result<Raster, NoMemory>
+        ensures { IfOk result (λ r. r ≡ picture_of dim.w dim.h (channels_of kind) (top_of depth) (λ x y k. 0)) }
     {
-        let places = dim.w as usize * dim.h as usize;
-        let Some(count) = places.checked_mul(kind.channels()) else {
+        let Some(count) = kind.count(dim) else {
             return Err(AllocError);
         };
         Ok(Raster {
             dim,
             kind,
-            samples: vec![in alloc; 0; count]?,
+            samples: Samples::zeros(alloc, depth, count)?,
         })
     }
 
     /// The picture with these samples, row by row from the top, in a row place by place from the left, at a place channel by
     /// channel. It takes no memory.
-    pub fn from_samples(dim: Dim, kind: Kind, samples: Vec<u8>) -> Raster
-        requires { length samples.items ≡ dim.w * dim.h * channels_of kind }
-        ensures { result ≡ raster_picture dim kind samples.items }
+    pub fn from_samples(dim: Dim, kind: Kind, samples: Samples) -> Raster
+        requires { length (values_of samples) ≡ dim.w * dim.h * channels_of kind }
+        ensures { result ≡ raster_picture dim kind (depth_of samples) (values_of samples) }
     {
         Raster { dim, kind, samples }
     }
@@ -74,62 +76,74 @@ impl Raster {
         self.kind
     }
 
-    /// All samples, in the order of `from_samples`. The clauses besides are what a caller knows of every raster: the greatest
-    /// sample is 255, and there are as many samples as the sides and channels ask for, none above it.
-    pub fn samples(&self) -> &[u8]
-        ensures all { result.now ≡ self.now.samples }
-        ensures top { self.now.top ≡ 255 }
+    /// How many bits a sample has.
+    pub fn depth(&self) -> Depth
+        ensures { top_of result ≡ self.now.top }
+    {
+        self.samples.depth()
+    }
+
+    /// Computes nothing: its clause is what a caller knows of every raster. There are as many samples as the sides and channels
+    /// ask for, none above the depth's greatest.
+    pub fn is_whole(&self)
         ensures whole { IsWhole self.now }
     {
-        let samples = self.samples.as_slice();
-        samples
+        let _samples = self.samples();
+    }
+
+    /// All samples, in the order of `from_samples`, with the clause of `is_whole` besides.
+    pub fn samples(&self) -> Span<'_>
+        ensures all { span_values result ≡ self.now.samples }
+        ensures depth { top_of (span_depth result) ≡ self.now.top }
+        ensures whole { IsWhole self.now }
+    {
+        self.samples.as_span()
     }
 
     /// The sample in a column, a row and a channel.
     #[tactic(auto, unfolding(crate::specs::Picture::sample_at))]
-    pub fn get(&self, x: u32, y: u32, channel: usize) -> u8
+    pub fn get(&self, x: u32, y: u32, channel: usize) -> u16
         requires column { x < self.now.width }
         requires row { y < self.now.height }
         requires channel { channel < self.now.channels }
         ensures { result ≡ sample_at self.now x y channel }
     {
-        self.samples[(y as usize * self.dim.w as usize + x as usize) * self.kind.channels()
-            + channel]
+        self.samples.get(self.index(x, y, channel))
     }
 
     /// Writes the sample in a column, a row and a channel, and leaves all others.
-    pub fn set(&mut self, x: u32, y: u32, channel: usize, value: u8)
+    pub fn set(&mut self, x: u32, y: u32, channel: usize, value: u16)
         requires column { x < self.old.width }
         requires row { y < self.old.height }
         requires channel { channel < self.old.channels }
+        requires value { value ≤ self.old.top }
         ensures { self.new ≡ with_sample self.old x y channel value }
     {
-        let index = (y as usize * self.dim.w as usize + x as usize) * self.kind.channels()
-            + channel;
-        self.samples[index] = value;
+        let index = self.index(x, y, channel);
+        self.samples.set(index, value);
     }
 
     /// The samples of `w` places of row `y`, from column `x` on.
-    pub fn span(&self, x: u32, y: u32, w: u32) -> &[u8]
+    pub fn span(&self, x: u32, y: u32, w: u32) -> Span<'_>
         requires columns { x + w ≤ self.now.width }
         requires row { y < self.now.height }
-        ensures { result.now ≡ span_of self.now x y w }
+        ensures samples { span_values result ≡ span_of self.now x y w }
+        ensures depth { top_of (span_depth result) ≡ self.now.top }
     {
-        let channels = self.kind.channels();
-        let start = (y as usize * self.dim.w as usize + x as usize) * channels;
-        &self.samples[start..start + w as usize * channels]
+        let start = self.start(x, y, w);
+        self.samples.part(start, w as usize * self.kind.channels())
     }
 
-    /// Writes the samples of `w` places of row `y`, from column `x` on, and leaves all others.
-    pub fn put_span(&mut self, x: u32, y: u32, w: u32, samples: &[u8])
+    /// Writes the samples of `w` places of row `y`, from column `x` on, and leaves all others. They are as deep as the raster's.
+    pub fn put_span(&mut self, x: u32, y: u32, w: u32, samples: Span)
         requires columns { x + w ≤ self.old.width }
         requires row { y < self.old.height }
-        requires len { length samples.now ≡ w * self.old.channels }
-        ensures { self.new ≡ with_span self.old x y samples.now }
+        requires len { length (span_values samples) ≡ w * self.old.channels }
+        requires depth { top_of (span_depth samples) ≡ self.old.top }
+        ensures { self.new ≡ with_span self.old x y (span_values samples.entry) }
     {
-        let channels = self.kind.channels();
-        let start = (y as usize * self.dim.w as usize + x as usize) * channels;
-        self.samples[start..start + w as usize * channels].copy_from_slice(samples);
+        let start = self.start(x, y, w);
+        self.samples.put(start, samples);
     }
 
     /// The part in a rectangle (IIIF Image API 3.0, 4.1 Region). The only error is want of memory.
@@ -140,15 +154,13 @@ impl Raster {
         // Read, so that the rows' numbers are known to fit.
         let _height = self.dim.h;
         let count = rect.w as usize * self.kind.channels() * rect.h as usize;
-        let mut samples = Vec::with_capacity(*self.samples.allocator(), count)?;
+        let alloc = self.samples.allocator();
+        let mut samples = Samples::with_capacity(alloc, self.samples.depth(), count)?;
         for row in 0..rect.h {
-            samples.extend_from_slice(self.span(rect.x, rect.y + row, rect.w))?;
+            samples.extend(self.span(rect.x, rect.y + row, rect.w))?;
         }
         Ok(Raster {
-            dim: Dim {
-                w: rect.w,
-                h: rect.h,
-            },
+            dim: rect.dim(),
             kind: self.kind,
             samples,
         })
@@ -160,8 +172,10 @@ impl Raster {
         requires { by.quarters < 4 }
         ensures { IfOk result (λ r. r ≡ turn self.now by) }
     {
-        let alloc = *self.samples.allocator();
-        let samples = turned_samples(alloc, &self.samples, self.dim, self.kind, by)?;
+        if by.quarters == 0 && !by.mirror {
+            return self.copy();
+        }
+        let samples = turned_samples(&self.samples, self.dim, self.kind, by)?;
         Ok(Raster {
             dim: self.dim.turned(by),
             kind: self.kind,
@@ -188,15 +202,36 @@ impl Raster {
         Ok(Raster {
             dim: self.dim,
             kind: self.kind,
-            samples: Vec::from_slice(*self.samples.allocator(), &self.samples)?,
+            samples: self.samples.copy()?,
         })
+    }
+
+    /// Where the sample in a column, a row and a channel lies.
+    fn index(&self, x: u32, y: u32, channel: usize) -> usize
+        requires column { x < self.now.width }
+        requires row { y < self.now.height }
+        requires channel { channel < self.now.channels }
+        ensures value { result ≡ index_of self.now x y channel }
+        ensures within { result < length self.now.samples }
+    {
+        (y as usize * self.dim.w as usize + x as usize) * self.kind.channels() + channel
+    }
+
+    /// Where the samples of `w` places of row `y`, from column `x` on, begin.
+    fn start(&self, x: u32, y: u32, w: u32) -> usize
+        requires columns { x + w ≤ self.now.width }
+        requires row { y < self.now.height }
+        ensures value { result ≡ (y * self.now.width + x) * self.now.channels }
+        ensures within { result + w * self.now.channels ≤ length self.now.samples }
+    {
+        (y as usize * self.dim.w as usize + x as usize) * self.kind.channels()
     }
 
     fn gray(&self) -> Result<Raster, NoMemory>
         ensures { IfOk result (λ r. r ≡ gray self.now) }
     {
         let count = self.dim.w as usize * self.dim.h as usize;
-        let samples = gray_samples(*self.samples.allocator(), &self.samples, self.kind, count)?;
+        let samples = gray_samples(&self.samples, self.kind, count)?;
         Ok(Raster {
             dim: self.dim,
             kind: Kind::Gray,
@@ -208,36 +243,11 @@ impl Raster {
         ensures { IfOk result (λ r. r ≡ bitonal self.now) }
     {
         let count = self.dim.w as usize * self.dim.h as usize;
-        let mut samples = gray_samples(*self.samples.allocator(), &self.samples, self.kind, count)?;
-        blacken_or_whiten(&mut samples);
+        let grays = gray_samples(&self.samples, self.kind, count)?;
         Ok(Raster {
             dim: self.dim,
             kind: Kind::Gray,
-            samples,
+            samples: Samples::Eight(bits_of(grays)?),
         })
     }
-}
-
-/// The samples of a raster with these sides and of this kind, turned.
-fn turned_samples(
-    alloc: Global,
-    samples: &[u8],
-    dim: Dim,
-    kind: Kind,
-    by: Turn,
-) -> Result<Vec<u8>, NoMemory>
-    requires count { length samples.now ≡ dim.w * dim.h * channels_of kind }
-    requires quarters { by.quarters < 4 }
-    requires fits { length samples.now < 2 ^ 63 }
-    ensures { IfOk result (λ v. v.items ≡ (turn (raster_picture dim kind samples.now) by).samples) }
-{
-    if by.quarters == 0 && !by.mirror {
-        return Vec::from_slice(alloc, samples);
-    }
-    let mut turned = vec![in alloc; 0; samples.len()]?;
-    match kind {
-        Kind::Gray => fill_turned::<1>(&mut turned, samples, dim.w as usize, dim.h as usize, by),
-        Kind::Rgb => fill_turned::<3>(&mut turned, samples, dim.w as usize, dim.h as usize, by),
-    }
-    Ok(turned)
 }

@@ -1,11 +1,12 @@
 //! Crops, turns and qualities of an RGB raster: with no argument the check sums of a small one, with `large` the
-//! milliseconds of processor time for one of 4,000 by 4,000, the least of five runs. `bench/pixel/main.rs` does the same in
-//! plain Rust.
+//! milliseconds of processor time for one of 4,000 by 4,000, the least of five runs, with `sixteen` of 16 bits a sample.
+//! `bench/pixel/main.rs` does the same in plain Rust.
 #![tactic(auto)]
 
 ghost use Rattle.std.specs.Prelude.{◌≡◌, IfOk, length};
+ghost use Rattle.iiif_pixel.specs.Depths.{values_of};
 
-use iiif_pixel::{Dim, Kind, NoMemory, Quality, Raster, Rect, Turn};
+use iiif_pixel::{Depth, Dim, Kind, NoMemory, Quality, Raster, Rect, Samples, Span, Turn};
 use std::alloc::Global;
 use std::time::CpuClock;
 use std::{env, io};
@@ -19,22 +20,44 @@ enum Work {
 }
 
 /// Samples that look random, the same in each run.
-fn pattern(alloc: Global, count: usize) -> Result<Vec<u8>, NoMemory>
-    ensures { IfOk result (λ v. length v.items ≡ count) }
+fn pattern(alloc: Global, depth: Depth, count: usize) -> Result<Samples, NoMemory>
+    ensures { IfOk result (λ s. length (values_of s) ≡ count) }
 {
-    let mut samples = vec![in alloc; 0u8; count]?;
     let mut state = 12345u32;
-    for sample in samples.iter_mut() {
-        state = state.wrapping_mul(1_664_525).wrapping_add(1_013_904_223);
-        *sample = (state >> 24) as u8;
+    match depth {
+        Depth::Eight => {
+            let mut samples = vec![in alloc; 0u8; count]?;
+            for sample in samples.iter_mut() {
+                state = state.wrapping_mul(1_664_525).wrapping_add(1_013_904_223);
+                *sample = (state >> 24) as u8;
+            }
+            Ok(Samples::Eight(samples))
+        }
+        Depth::Sixteen => {
+            let mut samples = vec![in alloc; 0u16; count]?;
+            for sample in samples.iter_mut() {
+                state = state.wrapping_mul(1_664_525).wrapping_add(1_013_904_223);
+                *sample = (state >> 16) as u16;
+            }
+            Ok(Samples::Sixteen(samples))
+        }
     }
-    Ok(samples)
 }
 
-fn check_sum(samples: &[u8]) -> u64 {
+fn check_sum(samples: Span) -> u64 {
+    let next = |sum: u64, sample: u64| sum.wrapping_mul(31).wrapping_add(sample);
     let mut sum = 0u64;
-    for sample in samples {
-        sum = sum.wrapping_mul(31).wrapping_add(u64::from(*sample));
+    match samples {
+        Span::Eight(samples) => {
+            for sample in samples {
+                sum = next(sum, u64::from(*sample));
+            }
+        }
+        Span::Sixteen(samples) => {
+            for sample in samples {
+                sum = next(sum, u64::from(*sample));
+            }
+        }
     }
     sum
 }
@@ -102,11 +125,16 @@ fn measure_all(
 
 fn main(rt: HostRuntime) -> io::Result<()> {
     let mut large = false;
+    let mut depth = Depth::Eight;
     for word in env::args(&rt)? {
-        large |= word.as_str() == "large";
+        match word.as_str() {
+            "large" => large = true,
+            "sixteen" => depth = Depth::Sixteen,
+            _ => {}
+        }
     }
     if large {
-        let samples = pattern(rt.alloc(), 4000 * 4000 * 3)?;
+        let samples = pattern(rt.alloc(), depth, 4000 * 4000 * 3)?;
         let raster = Raster::from_samples(Dim { w: 4000, h: 4000 }, Kind::Rgb, samples);
         let part = Rect {
             x: 100,
@@ -116,7 +144,7 @@ fn main(rt: HostRuntime) -> io::Result<()> {
         };
         measure_all(&rt, &raster, part, true)
     } else {
-        let samples = pattern(rt.alloc(), 37 * 23 * 3)?;
+        let samples = pattern(rt.alloc(), depth, 37 * 23 * 3)?;
         let raster = Raster::from_samples(Dim { w: 37, h: 23 }, Kind::Rgb, samples);
         let part = Rect {
             x: 3,

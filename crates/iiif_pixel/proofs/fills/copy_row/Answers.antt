@@ -9,19 +9,19 @@ loop-x-preserved g c =
     let i = c.loop-x.x in
     let end : i * n + n ≤ c.args.w * n = omega (arith, mul-le (i + 1) n c.args.w n (omega arith) (omega arith)) in
     record {
-      here = λ x k lx lk. elim (cases_lt x i) [
+      here = λ d x k lx lk. elim (cases_lt x i) [
         | inl before ↦
             let apart : x * n + n ≤ i * n = omega (arith, mul-le (x + 1) n i n (omega arith) (omega arith)) in
-            c.copy_place.ensures.others (c.args.to + (x * n + k)) (inl (omega arith)) ∙ c.loop-x.invariant.here x k before lk
+            c.copy_place.ensures.others d (c.args.to + (x * n + k)) (inl (omega arith)) ∙ c.loop-x.invariant.here d x k before lk
         | inr behind ↦
             let same : x ≡ i = omega arith in
             rw same
-            (ap (λ (j : ℕ). get_or c.copy_place.new.dst j 0) (omega arith)
-            ∙ c.copy_place.ensures.here k lk
-            ∙ ap (λ (j : ℕ). get_or c.args.src.now j 0) (omega arith))
+            (ap (λ (j : ℕ). get_or c.copy_place.new.dst j d) (omega arith)
+            ∙ c.copy_place.ensures.here d k lk
+            ∙ ap (λ (j : ℕ). get_or c.args.src.now j d) (omega arith))
       ];
-      others = λ j outside. c.copy_place.ensures.others j (elim outside [
+      others = λ d j outside. c.copy_place.ensures.others d j (elim outside [
         | inl before ↦ inl (omega arith)
         | inr behind ↦ inr (omega arith)
-      ]) ∙ c.loop-x.invariant.others j outside;
+      ]) ∙ c.loop-x.invariant.others d j outside;
     }

@@ -1,0 +1,162 @@
+//! Samples of either depth: owned, and borrowed.
+
+ghost use Rattle.std.specs.Prelude.{◌≡◌, ◌+◌, ◌<◌, ◌≤◌, ◌^◌, ◌++◌, [], All, IfOk, OnOk, length, take, drop, replicate, slice_index, slice_set};
+ghost use Rattle.iiif_pixel.specs.Geometry.{top_of};
+ghost use Rattle.iiif_pixel.specs.Depths.{values_of, depth_of, capacity_of, span_values, span_depth};
+
+use crate::geometry::Depth;
+use std::alloc::{AllocError, Global};
+
+/// Samples, each in as many bytes as its depth asks for.
+#[derive(Drop)]
+pub enum Samples {
+    Eight(Vec<u8>),
+    Sixteen(Vec<u16>),
+}
+
+/// Samples that a picture lends.
+#[derive(Clone, Copy, Debug, PartialEq)]
+pub enum Span<'a> {
+    Eight(&'a [u8]),
+    Sixteen(&'a [u16]),
+}
+
+impl Samples {
+    /// So many zeros.
+    pub(crate) fn zeros(alloc: Global, depth: Depth, count: usize) -> Result<Samples, AllocError>
+        ensures values { IfOk result (λ s. values_of s ≡ replicate count 0) }
+        ensures depth { IfOk result (λ s. depth_of s ≡ depth) }
+    {
+        Ok(match depth {
+            Depth::Eight => Samples::Eight(vec![in alloc; 0u8; count]?),
+            Depth::Sixteen => Samples::Sixteen(vec![in alloc; 0u16; count]?),
+        })
+    }
+
+    /// None yet, and room for so many.
+    pub fn with_capacity(alloc: Global, depth: Depth, count: usize) -> Result<Samples, AllocError>
+        ensures values { IfOk result (λ s. values_of s ≡ []) }
+        ensures depth { IfOk result (λ s. depth_of s ≡ depth) }
+        ensures capacity { IfOk result (λ s. capacity_of s ≡ count) }
+    {
+        Ok(match depth {
+            Depth::Eight => Samples::Eight(Vec::with_capacity(alloc, count)?),
+            Depth::Sixteen => Samples::Sixteen(Vec::with_capacity(alloc, count)?),
+        })
+    }
+
+    /// How many bits each has.
+    pub fn depth(&self) -> Depth
+        ensures { result ≡ depth_of self.now }
+    {
+        match self {
+            Samples::Eight(_) => Depth::Eight,
+            Samples::Sixteen(_) => Depth::Sixteen,
+        }
+    }
+
+    pub(crate) fn allocator(&self) -> Global {
+        match self {
+            Samples::Eight(samples) => *samples.allocator(),
+            Samples::Sixteen(samples) => *samples.allocator(),
+        }
+    }
+
+    /// All of them. None is above the depth's top, and they are few enough for an index.
+    pub fn as_span(&self) -> Span<'_>
+        ensures values { span_values result ≡ values_of self.now }
+        ensures depth { span_depth result ≡ depth_of self.now }
+        ensures bound { All (λ v. v ≤ top_of (depth_of self.now)) (values_of self.now) }
+    {
+        match self {
+            Samples::Eight(samples) => {
+                let samples = samples.as_slice();
+                Span::Eight(samples)
+            }
+            Samples::Sixteen(samples) => {
+                let samples = samples.as_slice();
+                Span::Sixteen(samples)
+            }
+        }
+    }
+
+    /// The one at an index.
+    pub(crate) fn get(&self, index: usize) -> u16
+        requires { index < length (values_of self.now) }
+        ensures { result ≡ slice_index (values_of self.now) index }
+    {
+        match self {
+            Samples::Eight(samples) => u16::from(samples[index]),
+            Samples::Sixteen(samples) => samples[index],
+        }
+    }
+
+    /// Writes the one at an index.
+    pub(crate) fn set(&mut self, index: usize, value: u16)
+        requires index { index < length (values_of self.old) }
+        requires value { value ≤ top_of (depth_of self.old) }
+        ensures values { values_of self.new ≡ slice_set (values_of self.old) index value }
+        ensures depth { depth_of self.new ≡ depth_of self.old }
+    {
+        match self {
+            Samples::Eight(samples) => samples[index] = value as u8,
+            Samples::Sixteen(samples) => samples[index] = value,
+        }
+    }
+
+    /// `count` of them from an index on.
+    pub(crate) fn part(&self, start: usize, count: usize) -> Span<'_>
+        requires { start + count ≤ length (values_of self.now) }
+        ensures values { span_values result ≡ take count (drop start (values_of self.now)) }
+        ensures depth { span_depth result ≡ depth_of self.now }
+    {
+        match self {
+            Samples::Eight(samples) => Span::Eight(&samples[start..start + count]),
+            Samples::Sixteen(samples) => Span::Sixteen(&samples[start..start + count]),
+        }
+    }
+
+    /// Writes those from an index on.
+    pub(crate) fn put(&mut self, start: usize, part: Span)
+        requires depth { span_depth part ≡ depth_of self.old }
+        requires within { start + length (span_values part) ≤ length (values_of self.old) }
+        ensures values { values_of self.new ≡ take start (values_of self.old) ++ span_values part.entry ++ drop (start + length (span_values part.entry)) (values_of self.old) }
+        ensures depth { depth_of self.new ≡ depth_of self.old }
+    {
+        match (self, part) {
+            (Samples::Eight(samples), Span::Eight(part)) => {
+                samples[start..start + part.len()].copy_from_slice(part);
+            }
+            (Samples::Sixteen(samples), Span::Sixteen(part)) => {
+                samples[start..start + part.len()].copy_from_slice(part);
+            }
+            _ => {}
+        }
+    }
+
+    /// Appends more.
+    pub(crate) fn extend(&mut self, more: Span) -> Result<(), AllocError>
+        requires { span_depth more ≡ depth_of self.old }
+        ensures values { OnOk result (values_of self.new ≡ values_of self.old ++ span_values more.entry) }
+        ensures depth { depth_of self.new ≡ depth_of self.old }
+    {
+        match (self, more) {
+            (Samples::Eight(samples), Span::Eight(more)) => samples.extend_from_slice(more)?,
+            (Samples::Sixteen(samples), Span::Sixteen(more)) => samples.extend_from_slice(more)?,
+            _ => {}
+        }
+        Ok(())
+    }
+
+    /// Equal samples.
+    pub(crate) fn copy(&self) -> Result<Samples, AllocError>
+        ensures values { IfOk result (λ s. values_of s ≡ values_of self.now) }
+        ensures depth { IfOk result (λ s. depth_of s ≡ depth_of self.now) }
+    {
+        let alloc = self.allocator();
+        Ok(match self {
+            Samples::Eight(samples) => Samples::Eight(Vec::from_slice(alloc, samples)?),
+            Samples::Sixteen(samples) => Samples::Sixteen(Vec::from_slice(alloc, samples)?),
+        })
+    }
+}
