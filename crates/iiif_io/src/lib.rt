@@ -2,10 +2,12 @@
 #![tactic(auto)]
 
 pub use inlet::Inlet;
+pub use memory::{CountingSink, FixedBuffer};
 pub use outlet::{Outlet, send, send_both};
 
 pub mod fakes;
 pub mod inlet;
+pub mod memory;
 pub mod outlet;
 #[cfg(test)]
 mod tests;

@@ -1,7 +1,7 @@
 //! What reaches a writer that fails.
 
 use crate::fakes::{FailingReader, FailingWriter};
-use crate::{Inlet, send, send_both};
+use crate::{CountingSink, FixedBuffer, Inlet, send, send_both};
 use std::test::Fail;
 
 fn writer(rt: &HostRuntime, room: usize, piece: usize) -> FailingWriter {
@@ -49,5 +49,44 @@ fn reader_gives_pieces_and_fails(rt: HostRuntime) -> Result<(), Fail> {
     assert_eq!(rt; &buffer[..2], b"ab".as_slice());
     assert_eq!(rt; reader.pull(&mut buffer)?, 2);
     assert!(rt; reader.pull(&mut buffer).is_err());
+    Ok(())
+}
+
+#[test]
+fn slice_is_read_to_its_end(rt: HostRuntime) -> Result<(), Fail> {
+    let mut left: &[u8] = b"abcde";
+    let mut buffer = [0u8; 4];
+    assert_eq!(rt; left.pull(&mut buffer)?, 4);
+    assert_eq!(rt; &buffer[..], b"abcd".as_slice());
+    assert_eq!(rt; left.pull(&mut buffer)?, 1);
+    assert_eq!(rt; &buffer[..1], b"e".as_slice());
+    assert_eq!(rt; left.pull(&mut buffer)?, 0);
+    Ok(())
+}
+
+#[test]
+fn sink_counts_what_it_takes(rt: HostRuntime) -> Result<(), Fail> {
+    let mut out = CountingSink { written: 5 };
+    assert_eq!(rt;
+        send_both(&mut out, b"HTTP/1.1 200 OK\r\n\r\n", b"body").err(),
+        None
+    );
+    assert_eq!(rt; out.written, 28);
+    let mut full = CountingSink {
+        written: u64::MAX - 1,
+    };
+    assert_eq!(rt; send(&mut full, b"abc").err(), None);
+    assert_eq!(rt; full.written, u64::MAX);
+    Ok(())
+}
+
+#[test]
+fn buffer_takes_what_fits(rt: HostRuntime) -> Result<(), Fail> {
+    let mut out: FixedBuffer<5> = FixedBuffer::new(rt.alloc())?;
+    assert_eq!(rt; send(&mut out, b"abc").err(), None);
+    assert_eq!(rt; send(&mut out, b"def").err(), Some(2));
+    assert_eq!(rt; out.as_slice(), b"abcde".as_slice());
+    assert_eq!(rt; send(&mut out, b"").err(), None);
+    assert_eq!(rt; send(&mut out, b"g").err(), Some(0));
     Ok(())
 }

@@ -15,5 +15,7 @@ returns-in-Err-clause-cut g c =
       written = subst (Appends (g.W.Write.contents c.args.out.now) (g.W.Write.contents c.send-2.new.out)) (sym (take-append-add head body c.in-Err.sent))
           (Appends-trans _ _ _ _ _ c.in_ok-send.ensures.whole cut.written);
       before = cut.before;
+      reached = subst (Appends (g.W.Write.contents c.args.out.now) (g.W.Write.contents cut.before)) (sym (take-append-add head body c.in-Err.sent))
+          (Appends-trans _ _ _ _ _ c.in_ok-send.ensures.whole cut.reached);
       failed = cut.failed;
     }
