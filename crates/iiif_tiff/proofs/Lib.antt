@@ -1,2 +1,4 @@
+pub mod Numbers
 pub mod Passing
 pub mod OnePicture
+pub mod Samples

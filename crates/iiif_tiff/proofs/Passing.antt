@@ -1,8 +1,8 @@
 -- What a file that passes the checks says.
-use Rattle.std.proofs.Common.{◌≡◌, ℕ, ◌⊎◌, Bool, true, false, List, Option, Some, None, refl, sym, inl, inr, ◌==◌, ◌||◌, not}
-use Rattle.std.proofs.lemmas.Bool.{eqb-true}
+use Rattle.std.proofs.Common.{◌≡◌, ◌≢◌, ℕ, ◌*◌, ◌<◌, ◌^◌, ◌⊎◌, Bool, true, false, List, Option, Some, None, refl, sym, inl, inr, ltb, ◌==◌, ◌||◌, not, arith}
+use Rattle.std.proofs.lemmas.Bool.{eqb-true, eqb-false, ltb-false}
 use Rattle.iiif_tiff.specs.Tiff as tiff
-use Rattle.iiif_tiff.specs.Tiff.{Refusal, ◌<|>◌, line, channels}
+use Rattle.iiif_tiff.specs.Tiff.{Refusal, ◌<|>◌, line, channels, AcceptedIsReadable}
 
 -- where two checks pass, each passes
 pub first_passes : (a b : Option Refusal) → a <|> b ≡ None → a ≡ None
@@ -38,3 +38,39 @@ channels_pass bytes e =
       | inl one ↦ inl (eqb-true _ _ one)
       | inr three ↦ inr (eqb-true _ _ three)
     ]
+
+-- six lines between two checks
+lines_pass : (a b : Option Refusal) (p q r s t : Bool) (n m l : Refusal) → a <|> line p n <|> line q l <|> b <|> line r m <|> line s l <|> line t l ≡ None
+    → (p ≡ false) × (q ≡ false) × (r ≡ false) × (s ≡ false) × (t ≡ false)
+lines_pass a b p q r s t n m l e =
+    let width = rest_passes a (line p n <|> line q l <|> b <|> line r m <|> line s l <|> line t l) e in
+    let most = rest_passes (line p n) (line q l <|> b <|> line r m <|> line s l <|> line t l) width in
+    let height = rest_passes b (line r m <|> line s l <|> line t l) (rest_passes (line q l) (b <|> line r m <|> line s l <|> line t l) most) in
+    let last = rest_passes (line r m) (line s l <|> line t l) height in (
+      line_passes p n (first_passes _ _ width),
+      line_passes q l (first_passes _ _ most),
+      line_passes r m (first_passes _ _ height),
+      line_passes s l (first_passes _ _ last),
+      line_passes t l (rest_passes (line s l) _ last),
+    )
+
+positive : (n : ℕ) → n ≢ 0 → 0 < n
+positive n some = omega arith
+
+-- the sides are those that are read
+pub readable : AcceptedIsReadable
+unfolding tiff.refusal_of tiff.sides
+readable bytes e =
+    let checks = rest_passes (tiff.opening bytes) _ e in
+    let sides : tiff.sides bytes ≡ None = first_passes (tiff.sides bytes) _ checks in
+    let w = tiff.width bytes in
+    let h = tiff.height bytes in
+    let no = lines_pass (tiff.needed bytes tiff.ImageWidth tiff.one) (tiff.needed bytes tiff.ImageLength tiff.one) (w == 0) (ltb 1000000 w) (h == 0) (ltb 1000000 h) (ltb (2 ^ 32) (w * h))
+    (tiff.BadField tiff.ImageWidth) (tiff.BadField tiff.ImageLength) tiff.TooLarge sides in
+    record {
+      width_some = positive w (eqb-false w 0 no.0);
+      width_most = ltb-false 1000000 w no.1;
+      height_some = positive h (eqb-false h 0 no.2);
+      height_most = ltb-false 1000000 h no.3;
+      area = ltb-false (2 ^ 32) (w * h) no.4;
+    }

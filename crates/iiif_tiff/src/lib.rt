@@ -3,11 +3,28 @@
 #![tactic(auto)]
 
 ghost use Rattle.std.specs.Prelude.{◌≡◌, ◌≤◌, ℕ, List, All, None};
-ghost use Rattle.iiif_tiff.specs.Tiff.{refusal_of, ShowsOnePicture};
+ghost use Rattle.iiif_tiff.specs.Tiff.{refusal_of, AcceptedIsReadable, ShowsInverted, ShowsOnePicture, SampleIsShown};
+
+pub mod tag;
 
 /// A file of bytes that no check refuses shows exactly one picture.
 pub fn shows_one_picture()
     ensures { (bytes : List ℕ) → All (λ b. b ≤ 255) bytes → refusal_of bytes ≡ None → ShowsOnePicture bytes }
+{}
+
+/// A file that no check refuses has sides of 1 to 1,000,000, and at most 2^32 places.
+pub fn accepted_is_readable()
+    ensures { AcceptedIsReadable }
+{}
+
+/// WhiteIsZero counts each sample down from white.
+pub fn white_is_zero_inverts()
+    ensures { ShowsInverted }
+{}
+
+/// Four files that were read by hand show the samples that stand in them.
+pub fn samples_are_shown()
+    ensures { SampleIsShown }
 {}
 
 #[cfg(test)]

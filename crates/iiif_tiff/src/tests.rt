@@ -1,6 +1,9 @@
 use super::*;
 
 #[test]
-fn the_law_can_be_called() {
+fn laws_can_be_called() {
     shows_one_picture();
+    accepted_is_readable();
+    white_is_zero_inverts();
+    samples_are_shown();
 }

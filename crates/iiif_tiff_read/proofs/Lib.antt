@@ -1,9 +1,9 @@
 pub mod Bytes
 pub mod Values
-pub mod Depth
 pub mod PieceLemmas
-pub mod Splice
+pub mod Runs
 pub mod Windows
 pub mod Spans
 pub mod Places
+pub mod Units
 pub mod Cropped

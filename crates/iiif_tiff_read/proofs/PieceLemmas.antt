@@ -17,10 +17,6 @@ use Rattle.iiif_tiff_read.specs.Code.{IsKnown, first_values}
 use Rattle.iiif_tiff_read.specs.Faults.{IsOpenFault}
 use Rattle.iiif_tiff_read.specs.Code.{scheme_of}
 
--- a strip is as wide as the image
-pub one_across : (w : ℕ) → 0 < w → div_ceil w w ≡ 1
-one_across w pos = grind arith
-
 -- the checks that are left, from i on
 pub left_next : (p : ℕ → Option Refusal) (n i : ℕ) (total : Option Refusal) → i < n → p i ≡ None → first (map p (range_with_len i (n - i))) ≡ total → first (map p (range_with_len (i + 1) (n - (i + 1)))) ≡ total
 unfolding first

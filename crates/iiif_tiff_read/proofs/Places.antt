@@ -1,17 +1,16 @@
 -- Where the samples of a part stand: in the file, and among those of the rectangle.
 use Rattle.std.proofs.Common.{◌≡◌, ℕ, ◌+◌, ◌*◌, ◌-◌, ◌/◌, ◌%◌, ◌<◌, ◌≤◌, ◌⊎◌, List, length, get_or, refl, sym, ap, ◌∙◌, inl, inr, arith}
 use Rattle.std.specs.Prelude.{min, slice_index, false}
-use Rattle.iiif_pixel.proofs.Samples.{index_below}
 use Rattle.std.specs.Int.{div_ceil}
 use Rattle.std.proofs.Math.Nat.{mul-le-mul_right}
 use Rattle.std.proofs.lemmas.Bool.{cases_lt, cases_Bool}
 use Rattle.std.proofs.lemmas.Nat.{mul-add-lt, row_fits, div_below, mod_below, div-add-mod', div-mul-add, mod-mul-add}
 use Rattle.iiif_pixel.specs.declared.geometry.Rect.{Rect}
-use Rattle.iiif_tiff.specs.Tiff.{Scheme, row_bytes, piece_rows, piece_bytes, stored, sample_of, shown}
+use Rattle.iiif_tiff.specs.Tiff.{Scheme, row_bytes, piece_rows, piece_bytes, stored}
 use Rattle.iiif_tiff_read.specs.declared.rects.Part.{Part}
 use Rattle.iiif_tiff_read.specs.Layouts.{FitsIn}
-use Rattle.iiif_tiff_read.specs.Code.{IsSound, IsPart, FitsWindow, HoldsRows, HoldsPart, KeepsOthers, HoldsStored, HoldsShown, row_place, stored_at, window_of}
-use Rattle.iiif_tiff_read.proofs.PieceLemmas.{one_across}
+use Rattle.iiif_tiff_read.specs.Code.{IsSound, IsPart, FitsWindow, HoldsRows, HoldsPart, KeepsOthers, row_place, stored_at, window_of}
+use Rattle.iiif_tiff.proofs.Numbers.{one_piece}
 
 one_row : (q m r : ℕ) → m ≡ 1 → (q + m) * r ≡ q * r + r
 one_row q m r e = rw e (omega arith)
@@ -27,7 +26,7 @@ div_lt_ceil y h r pos lt =
     ]
 
 across_one : (s : Scheme) → IsSound s → s.tiled ≡ false → s.tiles_across ≡ 1
-across_one s sound strips = sound.across ∙ rw (sound.strip strips) (one_across s.width sound.width.0)
+across_one s sound strips = sound.across ∙ rw (sound.strip strips) (one_piece s.width sound.width.0)
 
 -- the piece of a place is one of the pieces
 pub piece_index : (s : Scheme) (x y : ℕ) → IsSound s → x < s.width → y < s.height → y / s.piece_height * s.tiles_across + x / s.piece_width < length s.offsets
@@ -159,16 +158,3 @@ filled_part bytes old new s r p sound part held rest so_far x y k xw kc (inr b) 
             ∙ ap (λ (m : ℕ). stored_at bytes s m (r.y + p.top + (y - p.top)) k) xs ∙ ap (λ (m : ℕ). stored_at bytes s (r.x + x) m k) ys
       ]
     ]
-
--- ---- the samples that are shown
-
-pub shown_stored : (bytes : List ℕ) (s : Scheme) (x y k : ℕ) → shown bytes s x y k ≡ sample_of s.white_is_zero (stored_at bytes s x y k)
-unfolding shown stored_at row_place
-shown_stored bytes s x y k = refl
-
--- stored samples, interpreted, are shown
-pub interpreted : (bytes old new : List ℕ) (s : Scheme) (r : Rect) → length old ≡ r.w * r.h * s.channels → ((i : ℕ) → i < length old → get_or new i 0 ≡ sample_of s.white_is_zero (get_or old i 0))
-    → HoldsStored bytes s r old → HoldsShown bytes s r new
-interpreted bytes old new s r len is held x y k xw yh kc =
-    let below : (y * r.w + x) * s.channels + k < length old = omega (arith, len, index_below r.w r.h s.channels x y k xw yh kc) in
-    is ((y * r.w + x) * s.channels + k) below ∙ ap (sample_of s.white_is_zero) (held x y k xw yh kc) ∙ sym (shown_stored bytes s (r.x + x) (r.y + y) k)

@@ -9,7 +9,7 @@ use Rattle.iiif_tiff.specs.Tiff.{stored}
 use Rattle.iiif_tiff_read.specs.declared.rows.Window.{Window}
 use Rattle.iiif_tiff_read.specs.declared.rows.Span.{Span}
 use Rattle.iiif_tiff_read.specs.Code.{IsSpan, FitsWindow, HoldsRows, KeepsRest}
-use Rattle.iiif_tiff_read.proofs.Splice.{get_or-put_inside, get_or-put_below, get_or-put_above}
+use Rattle.iiif_pixel.proofs.Splice.{get_or-put_inside, get_or-put_below, get_or-put_above}
 
 pub eight_or_one : (bits : ℕ) → (bits ≢ 8 → bits ≡ 1) → (bits ≡ 8) ⊎ (bits ≡ 1)
 eight_or_one bits h = elim (cases_Bool (bits == 8)) [

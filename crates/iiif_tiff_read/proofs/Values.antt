@@ -1,11 +1,11 @@
 -- The values of an entry, inside it or at its offset.
-use Rattle.std.proofs.Common.{◌≡◌, ℕ, ◌+◌, ◌*◌, ◌-◌, ◌<◌, ◌≤◌, List, [], ◌∷◌, ◌++◌, length, get_or, take, drop, map, Some, None, Bool, true, false, ltb, leb, cond, refl, sym, ◌∙◌, arith}
+use Rattle.std.proofs.Common.{◌≡◌, ℕ, ◌+◌, ◌*◌, ◌-◌, ◌<◌, ◌≤◌, List, [], ◌∷◌, ◌++◌, length, get_or, take, drop, map, Some, None, Bool, true, false, ltb, leb, cond, refl, sym, ap, ◌∙◌, arith}
 use Rattle.std.specs.Int.{w32}
 use Rattle.std.specs.List.{range_with_len}
 use Rattle.std.specs.Prelude.{option_map, if◌then◌else◌}
 use Rattle.std.proofs.lemmas.Bool.{le-leb, lt-leb, le-ltb}
 use Rattle.std.proofs.lemmas.Nat.{row_fits}
-use Rattle.std.proofs.lemmas.List.{get_or-drop, get_or-take, take_rest}
+use Rattle.std.proofs.lemmas.List.{get_or-drop, get_or-take, take_rest, take-append-le, take-take, length-take, length-take-le, length-drop}
 use Rattle.std.proofs.lemmas.List.FromFn.{map-range_with_len_more, length-map-range_with_len, get_or-map-range_with_len, fill_by_all}
 use Rattle.iiif_tiff.specs.Tiff.{Order, Little, Big, number, is_unsigned, size, width_of, values, offset, entry_fits}
 use Rattle.iiif_tiff.specs.Tiff as tiff
@@ -75,3 +75,16 @@ unfolding tiff.value_or first_values
 of_field bytes tag n e is =
     let here : (i : ℕ) → i < n → tiff.value bytes e i ≡ tiff.value_or bytes tag i 0 = λ i below. rw is refl in
     same_on_range (tiff.value bytes e) (λ i. tiff.value_or bytes tag i 0) n here
+
+-- the bytes of few values, read into the front of a buffer
+pub few_bytes : (buffer new file : List ℕ) (off n : ℕ) → new ≡ take (length (take n buffer)) (drop off file) → n ≤ length buffer → off + n ≤ length file → take n (new ++ drop n buffer) ≡ take n (drop off file)
+few_bytes buffer new file off n new-is room fits =
+    let read : new ≡ take n (drop off file) = new-is ∙ rw (length-take-le n buffer room) refl in
+    let len : length new ≡ n = ap length read ∙ omega (arith, length-take n (drop off file), length-drop off file) in
+    let le : n ≤ length new = omega (arith, len) in
+    take-append-le n new (drop n buffer) le ∙ ap (take n) read ∙ take-take n n (drop off file) (omega arith)
+
+pub few_fit : (t : FieldType) (n : ℕ) → n ≤ 3 → n * size (code t) ≤ 12
+few_fit types.Byte n le = omega arith
+few_fit types.Short n le = omega arith
+few_fit types.Long n le = omega arith

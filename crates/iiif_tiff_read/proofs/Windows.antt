@@ -5,7 +5,7 @@ use Rattle.std.proofs.lemmas.Nat.{row_fits}
 use borrow.Rule.Slice.PartMut.{put_mid}
 use Rattle.iiif_tiff_read.specs.declared.rows.Window.{Window}
 use Rattle.iiif_tiff_read.specs.Code.{FitsWindow, HoldsRows, KeepsRest}
-use Rattle.iiif_tiff_read.proofs.Splice.{get_or-put_inside, get_or-put_below, get_or-put_above}
+use Rattle.iiif_pixel.proofs.Splice.{get_or-put_inside, get_or-put_below, get_or-put_above}
 
 -- one row more of the window
 pub row_held : (f : ℕ → ℕ → ℕ) (v : Window) (n j m : ℕ) (old row : List ℕ) → FitsWindow v n → length old ≡ n → j < v.rows → length row ≡ v.columns

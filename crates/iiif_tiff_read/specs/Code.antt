@@ -1,5 +1,5 @@
 -- What the reader's own types stand for. Only private contracts and the layout's model cite these words.
-use Rattle.std.specs.Prelude.{◌≡◌, ◌≢◌, ℕ, ◌+◌, ◌-◌, ◌*◌, ◌/◌, ◌%◌, ◌<◌, ◌≤◌, ◌^◌, ◌⊎◌, Bool, IsTrue, false, List, length, map, slice_index}
+use Rattle.std.specs.Prelude.{◌≡◌, ◌≢◌, ℕ, ◌+◌, ◌-◌, ◌*◌, ◌/◌, ◌%◌, ◌<◌, ◌≤◌, ◌^◌, ◌⊎◌, Bool, IsTrue, false, List, length, map, slice_index, Option, Result, ◌==◌, if◌then◌else◌}
 use Rattle.std.specs.Int.{div_ceil}
 use Rattle.std.specs.List.{range_with_len}
 use Rattle.iiif_pixel.specs.Geometry.{channels_of, LiesIn}
@@ -7,17 +7,20 @@ use Rattle.iiif_pixel.specs.declared.geometry.Dim.{Dim}
 use Rattle.iiif_pixel.specs.declared.geometry.Rect.{Rect}
 use Rattle.iiif_source.specs.declared.ReadFault.{ReadFault}
 use Rattle.iiif_tiff.specs.Tiff as tiff
-use Rattle.iiif_tiff.specs.Tiff.{Order, Little, Big, Scheme, row_bytes, stored, shown}
+use Rattle.iiif_tiff.specs.Tiff.{Order, Little, Big, Refusal, Scheme, row_bytes, stored, shown}
 use Rattle.iiif_tiff_read.specs.Layouts.{dim_of}
+use Rattle.iiif_tiff_read.specs.Faults.{Answers}
 use Rattle.iiif_tiff_read.specs.declared.number.ByteOrder.{ByteOrder}
 use Rattle.iiif_tiff_read.specs.declared.number.ByteOrder.TheVariants as orders
 use Rattle.iiif_tiff_read.specs.declared.number.FieldType.{FieldType}
 use Rattle.iiif_tiff_read.specs.declared.number.FieldType.TheVariants as types
 use Rattle.iiif_tiff_read.specs.declared.fields.Entry.{Entry}
+use Rattle.iiif_tiff_read.specs.declared.fields.Fields.{Fields}
 use Rattle.iiif_tiff_read.specs.declared.grid.Grid.{Grid}
 use Rattle.iiif_tiff_read.specs.declared.checks.Format.{Format}
 use Rattle.iiif_tiff_read.specs.declared.image.Image.{Image}
 use Rattle.iiif_tiff_read.specs.declared.rects.Part.{Part}
+use Rattle.iiif_tiff_read.specs.declared.rows.Runs.{Runs}
 use Rattle.iiif_tiff_read.specs.declared.rows.Span.{Span}
 use Rattle.iiif_tiff_read.specs.declared.rows.Window.{Window}
 use Rattle.iiif_tiff_read.specs.declared.fault.OpenFault.{OpenFault}
@@ -48,6 +51,21 @@ pub record Reads (bytes : List ℕ) (o : ByteOrder) (es : List Entry) : Type 0 w
   pub order_is : endian o ≡ tiff.order bytes
   pub entries_are : entry_views es ≡ tiff.entries bytes
 
+-- The answer that fields give to a check of their file: a value where it applies nowhere, else its refusal, or a fault of
+-- the device, or want of memory; of a file with these fields, of which Known is known besides.
+abbrev pub TellsWhere : {R S X : Type 0} → (S → List ℕ) → (S → ReadFault → Bool) → Fields R S → (List ℕ → Type 0) → (List ℕ → Option Refusal) → (List ℕ → X → Type 0) → Result X OpenFault → Type 0
+TellsWhere bytes gave f Known check Right result =
+    Answers (Reads (bytes f.source.now) f.order f.entries.items × Known (bytes f.source.now)) (gave f.source.now) (check (bytes f.source.now)) (Right (bytes f.source.now)) result
+
+-- the same, where nothing more has to be known
+abbrev pub Tells : {R S X : Type 0} → (S → List ℕ) → (S → ReadFault → Bool) → Fields R S → (List ℕ → Option Refusal) → (List ℕ → X → Type 0) → Result X OpenFault → Type 0
+Tells bytes gave f check Right result =
+    Answers (Reads (bytes f.source.now) f.order f.entries.items) (gave f.source.now) (check (bytes f.source.now)) (Right (bytes f.source.now)) result
+
+-- The sides are those of the bytes.
+abbrev pub HasSides : List ℕ → Dim → Type 0
+HasSides bytes d = (d.w ≡ tiff.width bytes) × (d.h ≡ tiff.height bytes)
+
 -- The grid is that of the bytes.
 pub record IsGrid (bytes : List ℕ) (g : Grid) : Type 0 where
   pub tiled : g.tiled ≡ tiff.is_tiled bytes
@@ -62,11 +80,13 @@ pub record IsKnown (bytes : List ℕ) (d : Dim) (f : Format) (g : Grid) : Type 0
   pub height_is : d.h ≡ tiff.height bytes
   pub channels_is : channels_of f.kind ≡ tiff.channels bytes
   pub bits_is : f.bits ≡ tiff.bits bytes
+  pub order_is : endian f.order ≡ tiff.order bytes
   pub grid_is : IsGrid bytes g
 
 -- what a layout's fields say of its image
 abbrev pub scheme_of : Dim → Format → Grid → List ℕ → Scheme
 scheme_of d f g offsets = record {
+  order = endian f.order;
   width = d.w;
   height = d.h;
   channels = channels_of f.kind;
@@ -79,7 +99,7 @@ scheme_of d f g offsets = record {
   offsets = offsets;
 }
 
--- The sides are within their limits, and there is an offset for each piece.
+-- The sides are within their limits, a sample has 8 bits or one, and there is an offset for each piece.
 pub record IsSound (s : Scheme) : Type 0 where
   pub width : (0 < s.width) × (s.width ≤ 1000000)
   pub height : (0 < s.height) × (s.height ≤ 1000000)
@@ -116,6 +136,23 @@ IsNotMemory opens.NoMemory = ⊥
 abbrev pub image_scheme : Image → Scheme
 image_scheme i = scheme_of i.dim i.format i.grid i.offsets.items
 
+-- A sample of 16 bits takes two bytes: an image of them is read as one of twice as many samples of 8 bits, its units.
+abbrev pub units_of : ℕ → ℕ
+units_of bits = if bits == 16 then 2 else 1
+
+abbrev pub unit_bits : ℕ → ℕ
+unit_bits bits = if bits == 16 then 8 else bits
+
+abbrev pub units : Scheme → Scheme
+units s = record s { channels = s.channels * units_of s.bits; bits = unit_bits s.bits }
+
+abbrev pub image_units : Image → Scheme
+image_units i = units (image_scheme i)
+
+-- A unit has 8 bits or one.
+abbrev pub AreBits : ℕ → Type 0
+AreBits bits = (bits ≤ 16) × (unit_bits bits ≤ 8) × (unit_bits bits ≢ 8 → unit_bits bits ≡ 1)
+
 -- where the row of a place of the image begins in the file
 unfoldable pub row_place : Scheme → ℕ → ℕ → ℕ
 row_place s x y = slice_index s.offsets (y / s.piece_height * s.tiles_across + x / s.piece_width) + y % s.piece_height * row_bytes s
@@ -123,6 +160,16 @@ row_place s x y = slice_index s.offsets (y / s.piece_height * s.tiles_across + x
 -- the sample that is stored at a place of the image
 unfoldable pub stored_at : List ℕ → Scheme → ℕ → ℕ → ℕ → ℕ
 stored_at bytes s x y k = stored s.bits bytes (row_place s x y) (x % s.piece_width * s.channels + k)
+
+-- The runs stand in a file of n bytes. (The bounds are those of every image that is read.)
+pub record AreIn (n : ℕ) (r : Runs) : Type 0 where
+  pub small : (r.at ≤ 2 ^ 61) × (r.stride ≤ 2 ^ 23) × (r.len ≤ r.stride)
+  pub some : 0 < r.count
+  pub within : r.at + (r.count - 1) * r.stride + r.len ≤ n
+
+-- The first m runs stand one after another in the buffer.
+abbrev pub HoldsRuns : List ℕ → Runs → ℕ → List ℕ → Type 0
+HoldsRuns bytes r m buffer = (j i : ℕ) → j < m → i < r.len → slice_index buffer (j * r.len + i) ≡ slice_index bytes (r.at + j * r.stride + i)
 
 -- The span is of the bytes that n samples of a row need, from the first-th on, and of no others.
 pub record IsSpan (bits first n : ℕ) (span : Span) : Type 0 where

@@ -1,5 +1,5 @@
 -- Words on the layout of an image in its file.
-use Rattle.std.specs.Prelude.{ℕ, ◌+◌, ◌*◌, ◌<◌, ◌≤◌, ◌^◌, length, slice_index}
+use Rattle.std.specs.Prelude.{ℕ, ◌+◌, ◌<◌, ◌≤◌, length, slice_index}
 use Rattle.iiif_pixel.specs.declared.geometry.Dim.{Dim}
 use Rattle.iiif_tiff.specs.Tiff.{Scheme, piece_bytes}
 
@@ -10,11 +10,3 @@ FitsIn s n = (i : ℕ) → i < length s.offsets → slice_index s.offsets i + pi
 -- the sides of the image
 abbrev pub dim_of : Scheme → Dim
 dim_of s = record { w = s.width; h = s.height }
-
--- The limits on the sides of an image, in pixels.
-pub record IsWithinLimits (d : Dim) : Type 0 where
-  pub width_some : 0 < d.w
-  pub width_most : d.w ≤ 1000000
-  pub height_some : 0 < d.h
-  pub height_most : d.h ≤ 1000000
-  pub area : d.w * d.h ≤ 2 ^ 32

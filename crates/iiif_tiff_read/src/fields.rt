@@ -5,12 +5,12 @@ ghost use Rattle.std.specs.Int.{w16, w32};
 ghost use Rattle.std.specs.List.{range_with_len};
 ghost use Rattle.iiif_tiff.specs.Tiff.{header, order, number, directory_fits, entries, entry_of, one, needed, optional, value_or, entry_fits, value, values, values_or, one_or, only, opening};
 ghost use Rattle.iiif_tiff.specs.Tiff as tiff;
-ghost use Rattle.iiif_tiff_read.specs.Code.{endian, entry_view, entry_views, first_values, Reads};
+ghost use Rattle.iiif_tiff_read.specs.Code.{endian, entry_view, entry_views, first_values, Reads, Tells, TellsWhere};
 ghost use Rattle.iiif_tiff_read.specs.Faults.{Answers};
 ghost use Rattle.iiif_tiff_read.specs.Code.{IsDeviceFault, IsNotMemory};
 
 use crate::fault::OpenFault;
-use crate::number::{ByteOrder, FieldType};
+use crate::number::{ByteOrder, Few, FieldType};
 use iiif_source::{ReadFault, Source};
 use std::alloc::{AllocError, Global};
 
@@ -187,6 +187,13 @@ impl<'a, R, S: Source<R>> Fields<'a, R, S> {
         self.source.len()
     }
 
+    /// Which byte of a number stands first.
+    pub fn order(&self) -> ByteOrder
+        ensures { result ≡ self.now.order }
+    {
+        self.order
+    }
+
     /// The first entry with a tag.
     fn find(&self, tag: u16) -> Option<Entry>
         ensures { Reads (S.bytes self.now.source.now) self.now.order self.now.entries.items → option_map entry_view result ≡ entry_of (S.bytes self.now.source.now) tag }
@@ -197,9 +204,7 @@ impl<'a, R, S: Source<R>> Fields<'a, R, S> {
     /// The only value of an entry with a tag.
     #[tactic(auto, unfolding(iiif_tiff::specs::Tiff::entry_fits, iiif_tiff::specs::Tiff::value))]
     fn only_value(&self, tag: u16, entry: Entry) -> Result<u32, OpenFault>
-        ensures answer { Answers (Reads (S.bytes self.now.source.now) self.now.order self.now.entries.items) (S.gave self.now.source.now)
-            (entry_fits (S.bytes self.now.source.now) tag (one entry.count) (entry_view entry))
-            (λ v. v ≡ value (S.bytes self.now.source.now) (entry_view entry) 0) result }
+        ensures answer { Tells S.bytes S.gave self.now (λ file. entry_fits file tag (one entry.count) (entry_view entry)) (λ file v. v ≡ value file (entry_view entry) 0) result }
         ensures memory { IfErr result IsNotMemory }
     {
         match FieldType::of(entry.kind) {
@@ -211,9 +216,7 @@ impl<'a, R, S: Source<R>> Fields<'a, R, S> {
     /// The value of a field that has to be there.
     #[tactic(auto, unfolding(iiif_tiff::specs::Tiff::needed, iiif_tiff::specs::Tiff::value_or))]
     pub fn needed(&self, tag: u16) -> Result<u32, OpenFault>
-        ensures answer { Answers (Reads (S.bytes self.now.source.now) self.now.order self.now.entries.items) (S.gave self.now.source.now)
-            (needed (S.bytes self.now.source.now) tag one)
-            (λ v. v ≡ value_or (S.bytes self.now.source.now) tag 0 0) result }
+        ensures answer { Tells S.bytes S.gave self.now (λ file. needed file tag one) (λ file v. v ≡ value_or file tag 0 0) result }
         ensures memory { IfErr result IsNotMemory }
     {
         match self.find(tag) {
@@ -225,9 +228,7 @@ impl<'a, R, S: Source<R>> Fields<'a, R, S> {
     /// The value of a field, or its default.
     #[tactic(auto, unfolding(iiif_tiff::specs::Tiff::optional, iiif_tiff::specs::Tiff::value_or))]
     pub fn optional(&self, tag: u16, default: u32) -> Result<u32, OpenFault>
-        ensures answer { Answers (Reads (S.bytes self.now.source.now) self.now.order self.now.entries.items) (S.gave self.now.source.now)
-            (optional (S.bytes self.now.source.now) tag one)
-            (λ v. v ≡ value_or (S.bytes self.now.source.now) tag 0 default) result }
+        ensures answer { Tells S.bytes S.gave self.now (λ file. optional file tag one) (λ file v. v ≡ value_or file tag 0 default) result }
         ensures memory { IfErr result IsNotMemory }
     {
         match self.find(tag) {
@@ -248,9 +249,8 @@ impl<'a, R, S: Source<R>> Fields<'a, R, S> {
     ) -> Result<Vec<u32>, OpenFault>
         requires { IsTrue allowed → n ≤ entry.count }
         ensures length { IfOk result (λ v. length v.items ≡ n) }
-        ensures values { Answers (S.keeps self.now.source.now × Reads (S.bytes self.now.source.now) self.now.order self.now.entries.items) (S.gave self.now.source.now)
-            (entry_fits (S.bytes self.now.source.now) tag allowed (entry_view entry))
-            (λ v. v.items ≡ values (S.bytes self.now.source.now) (entry_view entry) n) result }
+        ensures values { TellsWhere S.bytes S.gave self.now (λ _. S.keeps self.now.source.now) (λ file. entry_fits file tag allowed (entry_view entry))
+            (λ file v. v.items ≡ values file (entry_view entry) n) result }
     {
         let kind = match FieldType::of(entry.kind) {
             Some(kind) if allowed => kind,
@@ -274,25 +274,46 @@ impl<'a, R, S: Source<R>> Fields<'a, R, S> {
         Ok(kind.decode_all(alloc, self.order, &bytes, n)?)
     }
 
+    /// All values of an entry with a tag, where its count is allowed.
+    #[tactic(auto, unfolding(iiif_tiff::specs::Tiff::entry_fits))]
+    fn few_values(&self, tag: u16, entry: Entry, allowed: bool) -> Result<Few, OpenFault>
+        requires { IsTrue allowed → entry.count ≤ 3 }
+        ensures values { TellsWhere S.bytes S.gave self.now (λ _. S.keeps self.now.source.now) (λ file. entry_fits file tag allowed (entry_view entry))
+            (λ file v. v ≡ values file (entry_view entry) entry.count) result }
+        ensures memory { IfErr result IsNotMemory }
+    {
+        let kind = match FieldType::of(entry.kind) {
+            Some(kind) if allowed => kind,
+            _ => return Err(OpenFault::BadField(tag)),
+        };
+        let count = entry.count as usize;
+        let len = count * kind.size();
+        if len <= 4 {
+            return Ok(Few::decode(kind, self.order, &entry.inside, count));
+        }
+        let offset = self.order.long(entry.inside) as u64;
+        if self.source.len() < offset + len as u64 {
+            return Err(OpenFault::Truncated);
+        }
+        let mut bytes = [0u8; 12];
+        self.source.read_at(self.rt, offset, &mut bytes[..len])?;
+        Ok(Few::decode(kind, self.order, &bytes[..len], count))
+    }
+
     /// All values of a field, one or as many as there are channels, or its default.
     #[tactic(auto, unfolding(iiif_tiff::specs::Tiff::optional, iiif_tiff::specs::Tiff::values_or))]
-    pub fn each(
-        &self,
-        alloc: Global,
-        tag: u16,
-        channels: u32,
-        default: u32,
-    ) -> Result<Vec<u32>, OpenFault>
-        ensures { Answers (S.keeps self.now.source.now × Reads (S.bytes self.now.source.now) self.now.order self.now.entries.items) (S.gave self.now.source.now)
-            (optional (S.bytes self.now.source.now) tag (one_or channels))
-            (λ v. v.items ≡ values_or (S.bytes self.now.source.now) tag default) result }
+    pub fn each(&self, tag: u16, channels: u32, default: u32) -> Result<Few, OpenFault>
+        requires { channels ≤ 3 }
+        ensures values { TellsWhere S.bytes S.gave self.now (λ _. S.keeps self.now.source.now) (λ file. optional file tag (one_or channels))
+            (λ file v. v ≡ values_or file tag default) result }
+        ensures memory { IfErr result IsNotMemory }
     {
         match self.find(tag) {
             Some(entry) => {
                 let allowed = entry.count == 1 || entry.count == channels;
-                self.first_values(alloc, tag, entry, allowed, entry.count)
+                self.few_values(tag, entry, allowed)
             }
-            None => Ok(vec![in alloc; default]?),
+            None => Ok(Few::of(default)),
         }
     }
 
@@ -300,9 +321,8 @@ impl<'a, R, S: Source<R>> Fields<'a, R, S> {
     #[tactic(auto, unfolding(iiif_tiff::specs::Tiff::needed), using(crate::proofs::Values::of_field))]
     pub fn list(&self, alloc: Global, tag: u16, n: u32) -> Result<Vec<u32>, OpenFault>
         ensures length { IfOk result (λ v. length v.items ≡ n) }
-        ensures values { Answers (S.keeps self.now.source.now × Reads (S.bytes self.now.source.now) self.now.order self.now.entries.items) (S.gave self.now.source.now)
-            (needed (S.bytes self.now.source.now) tag (nat_le n))
-            (λ v. v.items ≡ first_values (S.bytes self.now.source.now) tag n) result }
+        ensures values { TellsWhere S.bytes S.gave self.now (λ _. S.keeps self.now.source.now) (λ file. needed file tag (nat_le n))
+            (λ file v. v.items ≡ first_values file tag n) result }
     {
         match self.find(tag) {
             Some(entry) => self.first_values(alloc, tag, entry, n <= entry.count, n),
@@ -313,8 +333,7 @@ impl<'a, R, S: Source<R>> Fields<'a, R, S> {
     /// Refuses a field of another value than this, which is its default.
     #[tactic(auto, unfolding(iiif_tiff::specs::Tiff::only))]
     pub fn only(&self, tag: u16, value: u32) -> Result<(), OpenFault>
-        ensures answer { Answers (Reads (S.bytes self.now.source.now) self.now.order self.now.entries.items) (S.gave self.now.source.now)
-            (only (S.bytes self.now.source.now) tag value) (λ _. Unit {0}) result }
+        ensures answer { Tells S.bytes S.gave self.now (λ file. only file tag value) (λ _ _. Unit {0}) result }
         ensures memory { IfErr result IsNotMemory }
     {
         if self.optional(tag, value)? == value {

@@ -4,15 +4,14 @@ ghost use Rattle.std.specs.Prelude.{◌≡◌, true, false, ◌+◌, ◌*◌, �
 ghost use Rattle.std.specs.Int.{div_ceil};
 ghost use Rattle.iiif_pixel.specs.Geometry.{channels_of};
 ghost use Rattle.iiif_tiff.specs.Tiff as tiff;
-ghost use Rattle.iiif_tiff_read.specs.Code.{Reads, IsGrid, IsNotMemory};
-ghost use Rattle.iiif_tiff_read.specs.Faults.{Answers};
+ghost use Rattle.iiif_tiff_read.specs.Code.{HasSides, IsGrid, IsNotMemory, TellsWhere};
 
 use crate::checks::Format;
 use crate::fault::OpenFault;
 use crate::fields::Fields;
-use crate::tag;
 use iiif_pixel::Dim;
 use iiif_source::Source;
+use iiif_tiff::tag;
 
 const MAX_PIECES: u64 = 1 << 20;
 
@@ -29,18 +28,18 @@ pub struct Grid {
 impl Grid {
     /// The bytes of a row of a piece.
     pub fn row_bytes(&self, format: Format) -> u64
-        requires { (self.now.width ≤ 2 ^ 20) × (format.bits ≤ 8) }
+        requires { (self.now.width ≤ 2 ^ 20) × (format.bits ≤ 16) }
         ensures bytes { result ≡ div_ceil (self.now.width * channels_of format.kind * format.bits) 8 }
-        ensures bound { result ≤ 2 ^ 22 }
+        ensures bound { result ≤ 2 ^ 23 }
     {
         (self.width as u64 * format.kind.channels() as u64 * format.bits as u64).div_ceil(8)
     }
 
     /// The bytes of a piece: an edge tile is padded, and the last strip may be shorter.
     pub fn piece_bytes(&self, dim: Dim, row_bytes: u64, i: u32) -> u64
-        requires { row_bytes ≤ 2 ^ 22 }
+        requires { row_bytes ≤ 2 ^ 23 }
         ensures bytes { result ≡ (if self.now.tiled then self.now.height else min self.now.height (dim.h - i * self.now.height)) * row_bytes }
-        ensures bound { result ≤ 2 ^ 54 }
+        ensures bound { result ≤ 2 ^ 55 }
     {
         let height = self.height as u64;
         let rows = if self.tiled {
@@ -57,9 +56,8 @@ impl<'a, R, S: Source<R>> Fields<'a, R, S> {
     #[tactic(auto, unfolding(iiif_tiff::specs::Tiff::tile_grid))]
     fn tiles(&self, dim: Dim) -> Result<Grid, OpenFault>
         requires { (0 < dim.w) × (dim.w ≤ 1000000) × (0 < dim.h) × (dim.h ≤ 1000000) }
-        ensures grid { Answers (Reads (S.bytes self.now.source.now) self.now.order self.now.entries.items × (dim.w ≡ tiff.width (S.bytes self.now.source.now)) × (dim.h ≡ tiff.height (S.bytes self.now.source.now))
-            × (tiff.is_tiled (S.bytes self.now.source.now) ≡ true))
-            (S.gave self.now.source.now) (tiff.tile_grid (S.bytes self.now.source.now)) (λ g. IsGrid (S.bytes self.now.source.now) g) result }
+        ensures grid { TellsWhere S.bytes S.gave self.now (λ file. HasSides file dim × (tiff.is_tiled file ≡ true)) tiff.tile_grid
+            IsGrid result }
         ensures bounds { IfOk result (λ g. (0 < g.width) × (g.width ≤ 2 ^ 20) × (0 < g.height) × (g.height ≤ 2 ^ 20) × (g.count ≤ 2 ^ 20)) }
         ensures shape { IfOk result (λ g. (g.across ≡ div_ceil dim.w g.width) × (g.count ≡ g.across * div_ceil dim.h g.height) × (g.tiled ≡ false → g.width ≡ dim.w)) }
         ensures memory { IfErr result IsNotMemory }
@@ -81,12 +79,11 @@ impl<'a, R, S: Source<R>> Fields<'a, R, S> {
     }
 
     /// The grid of an image in strips, each as wide as the image.
-    #[tactic(auto, unfolding(iiif_tiff::specs::Tiff::strip_grid), using(crate::proofs::PieceLemmas::one_across))]
+    #[tactic(auto, unfolding(iiif_tiff::specs::Tiff::strip_grid), using(iiif_tiff::proofs::Numbers::one_piece))]
     fn strips(&self, dim: Dim) -> Result<Grid, OpenFault>
         requires { (0 < dim.w) × (dim.w ≤ 1000000) × (0 < dim.h) × (dim.h ≤ 1000000) }
-        ensures grid { Answers (Reads (S.bytes self.now.source.now) self.now.order self.now.entries.items × (dim.w ≡ tiff.width (S.bytes self.now.source.now)) × (dim.h ≡ tiff.height (S.bytes self.now.source.now))
-            × (tiff.is_tiled (S.bytes self.now.source.now) ≡ false))
-            (S.gave self.now.source.now) (tiff.strip_grid (S.bytes self.now.source.now)) (λ g. IsGrid (S.bytes self.now.source.now) g) result }
+        ensures grid { TellsWhere S.bytes S.gave self.now (λ file. HasSides file dim × (tiff.is_tiled file ≡ false)) tiff.strip_grid
+            IsGrid result }
         ensures bounds { IfOk result (λ g. (0 < g.width) × (g.width ≤ 2 ^ 20) × (0 < g.height) × (g.count ≤ 2 ^ 20)) }
         ensures shape { IfOk result (λ g. (g.across ≡ div_ceil dim.w g.width) × (g.count ≡ g.across * div_ceil dim.h g.height) × (g.tiled ≡ false → g.width ≡ dim.w)) }
         ensures memory { IfErr result IsNotMemory }
@@ -108,8 +105,8 @@ impl<'a, R, S: Source<R>> Fields<'a, R, S> {
     #[tactic(auto, unfolding(iiif_tiff::specs::Tiff::grid))]
     pub fn grid(&self, dim: Dim) -> Result<Grid, OpenFault>
         requires { (0 < dim.w) × (dim.w ≤ 1000000) × (0 < dim.h) × (dim.h ≤ 1000000) }
-        ensures grid { Answers (Reads (S.bytes self.now.source.now) self.now.order self.now.entries.items × (dim.w ≡ tiff.width (S.bytes self.now.source.now)) × (dim.h ≡ tiff.height (S.bytes self.now.source.now)))
-            (S.gave self.now.source.now) (tiff.grid (S.bytes self.now.source.now)) (λ g. IsGrid (S.bytes self.now.source.now) g) result }
+        ensures grid { TellsWhere S.bytes S.gave self.now (λ file. HasSides file dim) tiff.grid
+            IsGrid result }
         ensures bounds { IfOk result (λ g. (0 < g.width) × (g.width ≤ 2 ^ 20) × (0 < g.height) × (g.count ≤ 2 ^ 20)) }
         ensures shape { IfOk result (λ g. (g.across ≡ div_ceil dim.w g.width) × (g.count ≡ g.across * div_ceil dim.h g.height) × (g.tiled ≡ false → g.width ≡ dim.w)) }
         ensures memory { IfErr result IsNotMemory }

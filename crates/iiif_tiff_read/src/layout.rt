@@ -1,18 +1,18 @@
 //! Opens a file, and reads rectangles of its image.
 
 ghost use Rattle.std.specs.Prelude.{◌≡◌, ◌≤◌, ℕ, List, length, IfOk, IfErr};
-ghost use Rattle.iiif_pixel.specs.Geometry.{channels_of, LiesIn};
+ghost use Rattle.iiif_pixel.specs.Geometry.{channels_of, top_of, LiesIn};
 ghost use Rattle.iiif_pixel.specs.Picture.{Picture};
 ghost use Rattle.iiif_pixel.specs.Operations.{crop};
-ghost use Rattle.iiif_tiff.specs.Tiff.{Scheme, Shows, scheme, refusal_of};
-ghost use Rattle.iiif_tiff_read.specs.Code.{IsSound, image_scheme};
-ghost use Rattle.iiif_tiff_read.specs.Layouts.{FitsIn, dim_of, IsWithinLimits};
+ghost use Rattle.iiif_tiff.specs.Tiff.{IsReadable, Scheme, Shows, scheme, refusal_of, white_of};
+ghost use Rattle.iiif_tiff_read.specs.Code.{IsSound, image_scheme, image_units};
+ghost use Rattle.iiif_tiff_read.specs.Layouts.{FitsIn, dim_of};
 ghost use Rattle.iiif_tiff_read.specs.Faults.{Answers, IsLoadFault};
 
 use crate::fault::{LoadFault, OpenFault};
 use crate::fields::Fields;
 use crate::image::Image;
-use iiif_pixel::{Dim, Kind, Raster, Rect};
+use iiif_pixel::{Depth, Dim, Kind, Raster, Rect};
 use iiif_source::Source;
 use std::alloc::Global;
 use std::marker::Model;
@@ -28,7 +28,7 @@ impl Model for Layout {
 
     ghost view = { λ l. image_scheme l.image };
 
-    ghost invariant = { λ l. IsSound (image_scheme l.image) };
+    ghost invariant = { λ l. IsSound (image_units l.image) };
 }
 
 impl Layout {
@@ -36,7 +36,7 @@ impl Layout {
     pub fn dim(&self) -> Dim
         ensures width { result.w ≡ self.now.width }
         ensures height { result.h ≡ self.now.height }
-        ensures limits { IsWithinLimits result }
+        ensures limits { IsReadable result }
     {
         self.image.dim
     }
@@ -46,6 +46,13 @@ impl Layout {
         ensures { channels_of result ≡ self.now.channels }
     {
         self.image.format.kind
+    }
+
+    /// How many bits a sample has. A bilevel image has samples of eight, black and white.
+    pub fn depth(&self) -> Depth
+        ensures { top_of result ≡ white_of self.now.bits }
+    {
+        self.image.format.depth()
     }
 
     /// A rectangle of the image, from the source that the layout was opened from. It reads only the bytes that the
@@ -59,17 +66,13 @@ impl Layout {
     ) -> Result<Raster, LoadFault>
         requires inside { LiesIn rect (dim_of self.now) }
         requires in_file { FitsIn self.now (length (S.bytes source.now)) }
-        ensures sides { IfOk result (λ r. (r.width ≡ rect.w) × (r.height ≡ rect.h) × (r.channels ≡ self.now.channels)) }
+        ensures sides { IfOk result (λ r. (r.width ≡ rect.w) × (r.height ≡ rect.h) × (r.channels ≡ self.now.channels) × (r.top ≡ white_of self.now.bits)) }
         ensures crop { IfOk result (λ r. S.keeps source.now → self.now ≡ scheme (S.bytes source.now)
             → (p : Picture) → Shows (S.bytes source.now) p → r ≡ crop p rect) }
         ensures fault { IfErr result (IsLoadFault (S.gave source.now)) }
     {
         let samples = self.image.read_samples(rt, alloc, source, rect)?;
-        let dim = Dim {
-            w: rect.w,
-            h: rect.h,
-        };
-        Ok(Raster::from_samples(dim, self.image.format.kind, samples))
+        Ok(Raster::from_samples(rect.dim(), self.image.format.kind, samples))
     }
 }
 
@@ -83,7 +86,7 @@ pub fn open<R, S: Source<R>>(rt: &R, alloc: Global, source: &S) -> Result<Layout
 {
     let fields = Fields::read(rt, alloc, source)?;
     let dim = fields.sides()?;
-    let format = fields.format(alloc)?;
+    let format = fields.format()?;
     let grid = fields.grid(dim)?;
     let offsets = fields.pieces(alloc, dim, format, &grid)?;
     let image = Image {

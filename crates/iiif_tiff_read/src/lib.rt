@@ -11,7 +11,6 @@ mod number;
 mod pieces;
 mod rects;
 mod rows;
-mod tag;
 
 pub use fault::{LoadFault, OpenFault};
 pub use layout::{Layout, open};

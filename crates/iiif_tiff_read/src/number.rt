@@ -1,12 +1,13 @@
 //! Numbers in a file's byte order.
 
-ghost use Rattle.std.specs.Prelude.{◌≡◌, ◌≤◌, ◌*◌, length, map, IfOk, Some, None, option_map, if◌then◌else◌};
+ghost use Rattle.std.specs.Prelude.{◌≡◌, ◌≤◌, ◌*◌, [], ◌∷◌, length, map, IfOk, Some, None, option_map, if◌then◌else◌};
 ghost use Rattle.std.specs.Int.{w16, w32};
 ghost use Rattle.std.specs.List.{range_with_len};
 ghost use Rattle.iiif_tiff.specs.Tiff.{number, is_unsigned, size, width_of};
 ghost use Rattle.iiif_tiff_read.specs.Code.{endian, code};
 
 use std::alloc::{AllocError, Global};
+use std::marker::Model;
 
 /// Which byte of a number stands first.
 #[derive(Clone, Copy, Debug, PartialEq, Eq)]
@@ -94,5 +95,52 @@ impl FieldType {
             numbers.push(self.decode(order, &bytes[i as usize * self.size()..]))?;
         }
         Ok(numbers)
+    }
+}
+
+/// At most three numbers: the values of a field that has one for each sample of a place.
+#[derive(Drop)]
+pub struct Few {
+    values: [u32; 3],
+    count: usize,
+}
+
+impl Model for Few {
+    ghost use Rattle.std.specs.Prelude.{ℕ, List, take, ◌≤◌};
+
+    ghost Value = { List ℕ };
+
+    ghost view = { λ f. take f.count f.values };
+
+    ghost invariant = { λ f. f.count ≤ 3 };
+}
+
+impl Few {
+    pub fn of(value: u32) -> Few
+        ensures { result ≡ value ∷ [] }
+    {
+        Few {
+            values: [value, 0, 0],
+            count: 1,
+        }
+    }
+
+    pub fn as_slice(&self) -> &[u32]
+        ensures { result.now ≡ self.now }
+    {
+        &self.values[..self.count]
+    }
+
+    /// The first n numbers of a type that stand one after the other.
+    pub fn decode(kind: FieldType, order: ByteOrder, bytes: &[u8], n: usize) -> Few
+        requires few { n ≤ 3 }
+        requires bytes { n * size (code kind) ≤ length bytes.now }
+        ensures { result ≡ map (λ i. number (endian order) (width_of (code kind)) bytes.now (i * size (code kind))) (range_with_len 0 n) }
+    {
+        let mut values = [0; 3];
+        for i in 0..n {
+            values[i] = kind.decode(order, &bytes[i * kind.size()..]);
+        }
+        Few { values, count: n }
     }
 }

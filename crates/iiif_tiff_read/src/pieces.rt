@@ -4,7 +4,7 @@ ghost use Rattle.std.specs.Prelude.{◌≡◌, ◌+◌, ◌*◌, ◌^◌, ◌<�
 ghost use Rattle.std.specs.List.{range_with_len};
 ghost use Rattle.iiif_tiff.specs.Tiff.{needed, piece, pieces, piece_offset, piece_byte_count, piece_bytes, offsets_tag, counts_tag, first, pieces_fit};
 ghost use Rattle.iiif_tiff.specs.Tiff as tiff;
-ghost use Rattle.iiif_tiff_read.specs.Code.{Reads, IsKnown, IsNotMemory};
+ghost use Rattle.iiif_tiff_read.specs.Code.{IsKnown, IsNotMemory, TellsWhere};
 ghost use Rattle.iiif_tiff_read.specs.Layouts.{FitsIn};
 ghost use Rattle.iiif_tiff_read.specs.Code.{scheme_of};
 ghost use Rattle.iiif_tiff_read.specs.Faults.{Answers};
@@ -13,9 +13,9 @@ use crate::checks::Format;
 use crate::fault::OpenFault;
 use crate::fields::Fields;
 use crate::grid::Grid;
-use crate::tag;
 use iiif_pixel::Dim;
 use iiif_source::Source;
+use iiif_tiff::tag;
 use std::alloc::Global;
 
 /// The tags of the pieces' offsets and byte counts.
@@ -56,7 +56,7 @@ impl<'a, R, S: Source<R>> Fields<'a, R, S> {
     /// Refuses a piece whose byte count is too small, or that reaches past the end.
     #[tactic(auto, unfolding(iiif_tiff::specs::Tiff::piece))]
     fn check_piece(&self, counts_tag: u16, piece: Piece) -> Result<(), OpenFault>
-        requires { piece.needed ≤ 2 ^ 54 }
+        requires { piece.needed ≤ 2 ^ 55 }
         ensures in_file { OnOk result (piece.offset + piece.needed ≤ length (S.bytes self.now.source.now)) }
         ensures check { (i : ℕ) → Answers ((counts_tag ≡ tiff.counts_tag (S.bytes self.now.source.now)) × (piece.offset ≡ piece_offset (S.bytes self.now.source.now) i) × (piece.count ≡ piece_byte_count (S.bytes self.now.source.now) i) × (piece.needed ≡ piece_bytes (tiff.scheme (S.bytes self.now.source.now)) i))
             (S.gave self.now.source.now) (tiff.piece (S.bytes self.now.source.now) i) (λ _. Unit {0}) result }
@@ -81,7 +81,7 @@ impl<'a, R, S: Source<R>> Fields<'a, R, S> {
         offsets: &[u32],
         counts: &[u32],
     ) -> Result<(), OpenFault>
-        requires bounds { (grid.now.width ≤ 2 ^ 20) × (format.bits ≤ 8) }
+        requires bounds { (grid.now.width ≤ 2 ^ 20) × (format.bits ≤ 16) }
         requires lengths { (length offsets.now ≡ grid.now.count) × (length counts.now ≡ grid.now.count) }
         ensures in_file { OnOk result (FitsIn (scheme_of dim format grid.now offsets.now) (length (S.bytes self.now.source.now))) }
         ensures checks { Answers (IsKnown (S.bytes self.now.source.now) dim format grid.now × (counts_tag ≡ tiff.counts_tag (S.bytes self.now.source.now)) × (offsets.now ≡ map (piece_offset (S.bytes self.now.source.now)) (range_with_len 0 grid.now.count))
@@ -110,12 +110,11 @@ impl<'a, R, S: Source<R>> Fields<'a, R, S> {
         format: Format,
         grid: &Grid,
     ) -> Result<Vec<u32>, OpenFault>
-        requires { (grid.now.width ≤ 2 ^ 20) × (format.bits ≤ 8) }
+        requires { (grid.now.width ≤ 2 ^ 20) × (format.bits ≤ 16) }
         ensures length { IfOk result (λ v. length v.items ≡ grid.now.count) }
         ensures in_file { IfOk result (λ v. FitsIn (scheme_of dim format grid.now v.items) (length (S.bytes self.now.source.now))) }
-        ensures pieces { Answers (S.keeps self.now.source.now × Reads (S.bytes self.now.source.now) self.now.order self.now.entries.items × IsKnown (S.bytes self.now.source.now) dim format grid.now)
-            (S.gave self.now.source.now) (pieces_fit (S.bytes self.now.source.now))
-            (λ v. v.items ≡ (tiff.scheme (S.bytes self.now.source.now)).offsets) result }
+        ensures pieces { TellsWhere S.bytes S.gave self.now (λ file. S.keeps self.now.source.now × IsKnown file dim format grid.now) pieces_fit
+            (λ file v. v.items ≡ (tiff.scheme file).offsets) result }
     {
         let tags = Tags::of(grid.tiled);
         let offsets = self.list(alloc, tags.offsets, grid.count)?;

@@ -1,15 +1,18 @@
 //! Reads rectangles of samples from strips and tiles.
 
 ghost use Rattle.std.specs.Prelude.{◌≡◌, ◌*◌, ◌^◌, ◌<◌, ◌≤◌, length, IfOk, IfErr, OnOk};
-ghost use Rattle.iiif_pixel.specs.Geometry.{channels_of, LiesIn};
+ghost use Rattle.iiif_pixel.specs.Geometry.{channels_of, top_of, LiesIn};
+ghost use Rattle.iiif_pixel.specs.Depths.{depth_of, values_of};
+ghost use Rattle.iiif_tiff.specs.Tiff.{row_bytes, white_of};
 ghost use Rattle.iiif_tiff_read.specs.Layouts.{FitsIn, dim_of};
-ghost use Rattle.iiif_tiff_read.specs.Code.{IsSound, image_scheme, row_place, IsPart, HoldsPart, KeepsOthers, HoldsStored, HoldsShown};
+ghost use Rattle.iiif_tiff_read.specs.Code.{IsSound, image_scheme, image_units, row_place, IsPart, HoldsPart, KeepsOthers, HoldsStored, HoldsShown};
 ghost use Rattle.iiif_tiff_read.specs.Faults.{IsLoadFault};
 
+use crate::checks::Format;
 use crate::fault::LoadFault;
 use crate::image::Image;
-use crate::rows::{Window, interpret, read_window};
-use iiif_pixel::Rect;
+use crate::rows::{Rows, Window, interpreted, pairs_interpreted, read_window};
+use iiif_pixel::{Rect, Samples};
 use iiif_source::Source;
 use std::alloc::Global;
 
@@ -23,17 +26,26 @@ pub struct Part {
 }
 
 impl Image {
+    /// How many bytes a row of a piece takes.
+    fn row_bytes(&self) -> u64
+        requires { IsSound (image_units self.now) }
+        ensures bytes { result ≡ row_bytes (image_units self.now) }
+        ensures bound { result ≤ 2 ^ 23 }
+    {
+        self.grid.row_bytes(self.format)
+    }
+
     /// Where the row of a place begins in the file.
     fn row_place(&self, x: u32, y: u32) -> u64
-        requires sound { IsSound (image_scheme self.now) }
+        requires sound { IsSound (image_units self.now) }
         requires inside { (x < self.now.dim.w) × (y < self.now.dim.h) }
-        ensures place { result ≡ row_place (image_scheme self.now) x y }
+        ensures place { result ≡ row_place (image_units self.now) x y }
         ensures small { result ≤ 2 ^ 60 }
     {
         let above = (y / self.grid.height) as usize * self.grid.across as usize;
         let offsets = self.offsets.as_slice();
         let offset = offsets[above + (x / self.grid.width) as usize];
-        offset as u64 + (y % self.grid.height) as u64 * self.grid.row_bytes(self.format)
+        offset as u64 + (y % self.grid.height) as u64 * self.row_bytes()
     }
 
     /// Reads the part's samples, as they are stored, into those of the rectangle.
@@ -46,36 +58,30 @@ impl Image {
         part: Part,
         samples: &mut [u8],
     ) -> Result<(), LoadFault>
-        requires sound { IsSound (image_scheme self.now) }
-        requires in_file { FitsIn (image_scheme self.now) (length (S.bytes source.now)) }
-        requires part { IsPart (image_scheme self.now) rect part }
-        requires length { length samples.old ≡ rect.w * rect.h * channels_of self.now.format.kind }
-        ensures held { OnOk result (S.keeps source.now → HoldsPart (S.bytes source.now) (image_scheme self.now) rect part samples.new) }
-        ensures rest { OnOk result (KeepsOthers (image_scheme self.now) rect part samples.old samples.new) }
+        requires sound { IsSound (image_units self.now) }
+        requires in_file { FitsIn (image_units self.now) (length (S.bytes source.now)) }
+        requires part { IsPart (image_units self.now) rect part }
+        requires length { length samples.old ≡ rect.w * rect.h * (image_units self.now).channels }
+        ensures held { OnOk result (S.keeps source.now → HoldsPart (S.bytes source.now) (image_units self.now) rect part samples.new) }
+        ensures rest { OnOk result (KeepsOthers (image_units self.now) rect part samples.old samples.new) }
         ensures fault { IfErr result (IsLoadFault (S.gave source.now)) }
     {
-        let channels = self.format.kind.channels();
+        let units = self.format.units();
         let x = rect.x + part.left;
-        let row = self.row_place(x, rect.y + part.top);
+        let rows = Rows {
+            bits: self.format.unit_bits(),
+            at: self.row_place(x, rect.y + part.top),
+            stride: self.row_bytes(),
+            first: (x % self.grid.width) as usize * units,
+        };
         let window = Window {
-            width: rect.w as usize * channels,
-            left: part.left as usize * channels,
+            width: rect.w as usize * units,
+            left: part.left as usize * units,
             top: part.top,
-            columns: part.columns as usize * channels,
+            columns: part.columns as usize * units,
             rows: part.rows,
         };
-        read_window(
-            rt,
-            alloc,
-            source,
-            self.format.bits,
-            row,
-            self.grid.row_bytes(self.format),
-            (x % self.grid.width) as usize * channels,
-            window,
-            samples,
-        )?;
-        Ok(())
+        read_window(rt, alloc, source, rows, window, samples)
     }
 
     /// Reads the samples of a rectangle, as they are stored, piece by piece.
@@ -87,11 +93,11 @@ impl Image {
         rect: Rect,
         samples: &mut [u8],
     ) -> Result<(), LoadFault>
-        requires sound { IsSound (image_scheme self.now) }
-        requires in_file { FitsIn (image_scheme self.now) (length (S.bytes source.now)) }
+        requires sound { IsSound (image_units self.now) }
+        requires in_file { FitsIn (image_units self.now) (length (S.bytes source.now)) }
         requires inside { LiesIn rect (dim_of (image_scheme self.now)) }
-        requires length { length samples.old ≡ rect.w * rect.h * channels_of self.now.format.kind }
-        ensures stored { OnOk result (S.keeps source.now → HoldsStored (S.bytes source.now) (image_scheme self.now) rect samples.new) }
+        requires length { length samples.old ≡ rect.w * rect.h * (image_units self.now).channels }
+        ensures stored { OnOk result (S.keeps source.now → HoldsStored (S.bytes source.now) (image_units self.now) rect samples.new) }
         ensures fault { IfErr result (IsLoadFault (S.gave source.now)) }
     {
         let mut top = 0;
@@ -116,25 +122,25 @@ impl Image {
         Ok(())
     }
 
-    /// Reads the samples of a rectangle into a buffer of their number.
-    fn fill_shown<R, S: Source<R>>(
+    /// The samples of a rectangle as they are stored, row by row.
+    fn read_stored<R, S: Source<R>>(
         &self,
         rt: &R,
         alloc: Global,
         source: &S,
         rect: Rect,
-        samples: &mut [u8],
-    ) -> Result<(), LoadFault>
-        requires sound { IsSound (image_scheme self.now) }
-        requires in_file { FitsIn (image_scheme self.now) (length (S.bytes source.now)) }
+    ) -> Result<Vec<u8>, LoadFault>
+        requires sound { IsSound (image_units self.now) }
+        requires in_file { FitsIn (image_units self.now) (length (S.bytes source.now)) }
         requires inside { LiesIn rect (dim_of (image_scheme self.now)) }
-        requires length { length samples.old ≡ rect.w * rect.h * channels_of self.now.format.kind }
-        ensures shown { OnOk result (S.keeps source.now → HoldsShown (S.bytes source.now) (image_scheme self.now) rect samples.new) }
+        ensures length { IfOk result (λ v. length v.items ≡ rect.w * rect.h * (image_units self.now).channels) }
+        ensures stored { IfOk result (λ v. S.keeps source.now → HoldsStored (S.bytes source.now) (image_units self.now) rect v.items) }
         ensures fault { IfErr result (IsLoadFault (S.gave source.now)) }
     {
-        self.fill(rt, alloc, source, rect, samples)?;
-        interpret(self.format.white_is_zero, samples);
-        Ok(())
+        let count = rect.w as usize * rect.h as usize * self.format.units();
+        let mut stored = vec![in alloc; 0u8; count]?;
+        self.fill(rt, alloc, source, rect, &mut stored)?;
+        Ok(stored)
     }
 
     /// The samples of a rectangle, row by row.
@@ -144,17 +150,27 @@ impl Image {
         alloc: Global,
         source: &S,
         rect: Rect,
-    ) -> Result<Vec<u8>, LoadFault>
-        requires sound { IsSound (image_scheme self.now) }
-        requires in_file { FitsIn (image_scheme self.now) (length (S.bytes source.now)) }
+    ) -> Result<Samples, LoadFault>
+        requires sound { IsSound (image_units self.now) }
+        requires in_file { FitsIn (image_units self.now) (length (S.bytes source.now)) }
         requires inside { LiesIn rect (dim_of (image_scheme self.now)) }
-        ensures length { IfOk result (λ v. length v.items ≡ rect.w * rect.h * channels_of self.now.format.kind) }
-        ensures shown { IfOk result (λ v. S.keeps source.now → HoldsShown (S.bytes source.now) (image_scheme self.now) rect v.items) }
+        ensures length { IfOk result (λ v. length (values_of v) ≡ rect.w * rect.h * channels_of self.now.format.kind) }
+        ensures depth { IfOk result (λ v. top_of (depth_of v) ≡ white_of self.now.format.bits) }
+        ensures shown { IfOk result (λ v. S.keeps source.now → HoldsShown (S.bytes source.now) (image_scheme self.now) rect (values_of v)) }
         ensures fault { IfErr result (IsLoadFault (S.gave source.now)) }
     {
-        let count = rect.w as usize * rect.h as usize * self.format.kind.channels();
-        let mut samples = vec![in alloc; 0u8; count]?;
-        self.fill_shown(rt, alloc, source, rect, &mut samples)?;
-        Ok(samples)
+        let Format {
+            bits,
+            order,
+            white_is_zero,
+            ..
+        } = self.format;
+        let stored = self.read_stored(rt, alloc, source, rect)?;
+        if bits == 16 {
+            let samples = pairs_interpreted(alloc, order, white_is_zero, &stored)?;
+            Ok(Samples::Sixteen(samples))
+        } else {
+            Ok(Samples::Eight(interpreted(white_is_zero, stored)))
+        }
     }
 }

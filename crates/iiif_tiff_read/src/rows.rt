@@ -1,14 +1,15 @@
 //! Reads runs of bytes, and unpacks rows of samples.
 
 ghost use Rattle.std.specs.Prelude.{◌≡◌, ◌≢◌, ◌+◌, ◌-◌, ◌*◌, ◌/◌, ◌%◌, ◌^◌, ◌<◌, ◌≤◌, ℕ, List, length, slice_index, take, drop, IsTrue, IfOk, IfErr, OnOk};
-ghost use Rattle.std.specs.Int.{div_ceil};
-ghost use Rattle.iiif_tiff.specs.Tiff.{stored, sample_of};
-ghost use Rattle.iiif_tiff_read.specs.Code.{IsSpan, FitsWindow, HoldsRows, KeepsRest};
+ghost use Rattle.std.specs.Int.{div_ceil, w16};
+ghost use Rattle.iiif_tiff.specs.Tiff.{number, stored, sample_of};
+ghost use Rattle.iiif_tiff_read.specs.Code.{endian, AreIn, HoldsRuns, IsSpan, FitsWindow, HoldsRows, KeepsRest};
 ghost use Rattle.iiif_tiff_read.specs.Faults.{IsLoadFault};
 
 use crate::fault::LoadFault;
+use crate::number::ByteOrder;
 use iiif_source::{ReadFault, Source};
-use std::alloc::Global;
+use std::alloc::{AllocError, Global};
 
 /// Turns white into black.
 fn invert(samples: &mut [u8])
@@ -20,63 +21,111 @@ fn invert(samples: &mut [u8])
 }
 
 /// Makes of stored samples those that they stand for.
-pub fn interpret(white_is_zero: bool, samples: &mut [u8])
-    ensures { (i : ℕ) → i < length samples.old → slice_index samples.new i ≡ sample_of white_is_zero (slice_index samples.old i) }
+fn interpret(white_is_zero: bool, samples: &mut [u8])
+    ensures { (i : ℕ) → i < length samples.old → slice_index samples.new i ≡ sample_of white_is_zero 255 (slice_index samples.old i) }
 {
     if white_is_zero {
         invert(samples);
     }
 }
 
-/// Reads so many runs of bytes, which begin a stride apart, one after another into the buffer: by one read where they lie
-/// together, else by one read a run.
+/// What a stored pair of bytes stands for.
+fn sample_of_pair(order: ByteOrder, white_is_zero: bool, pair: [u8; 2]) -> u16
+    ensures { result ≡ sample_of white_is_zero 65535 (number (endian order) w16 pair 0) }
+{
+    let sample = order.short(pair);
+    if white_is_zero {
+        u16::MAX - sample
+    } else {
+        sample
+    }
+}
+
+/// Makes of stored pairs of bytes the samples that they stand for.
+fn interpret_pairs(order: ByteOrder, white_is_zero: bool, bytes: &[u8], samples: &mut [u16])
+    requires { length bytes.now ≡ 2 * length samples.old }
+    ensures length { length samples.new ≡ length samples.old }
+    ensures samples { (i : ℕ) → i < length samples.old → slice_index samples.new i ≡ sample_of white_is_zero 65535 (number (endian order) w16 bytes.now (2 * i)) }
+{
+    for i in 0..samples.len() {
+        let pair = [bytes[2 * i], bytes[2 * i + 1]];
+        samples[i] = sample_of_pair(order, white_is_zero, pair);
+    }
+}
+
+/// The samples that stored bytes stand for.
+pub fn interpreted(white_is_zero: bool, mut stored: Vec<u8>) -> Vec<u8>
+    ensures length { length result.items ≡ length stored.items }
+    ensures samples { (i : ℕ) → i < length stored.items → slice_index result.items i ≡ sample_of white_is_zero 255 (slice_index stored.items i) }
+{
+    interpret(white_is_zero, &mut stored);
+    stored
+}
+
+/// The samples that stored pairs of bytes stand for.
+pub fn pairs_interpreted(
+    alloc: Global,
+    order: ByteOrder,
+    white_is_zero: bool,
+    stored: &[u8],
+) -> Result<Vec<u16>, AllocError>
+    requires { length stored.now % 2 ≡ 0 }
+    ensures length { IfOk result (λ v. length v.items ≡ length stored.now / 2) }
+    ensures samples { IfOk result (λ v. (i : ℕ) → i < length v.items → slice_index v.items i ≡ sample_of white_is_zero 65535 (number (endian order) w16 stored.now (2 * i))) }
+{
+    let mut samples = vec![in alloc; 0u16; stored.len() / 2]?;
+    interpret_pairs(order, white_is_zero, stored, &mut samples);
+    Ok(samples)
+}
+
+/// Runs of bytes in a file: where the first begins, how far apart they begin, how long each is, and how many they are.
+#[derive(Clone, Copy, Debug)]
+struct Runs {
+    at: u64,
+    stride: u64,
+    len: usize,
+    count: u32,
+}
+
+/// Reads runs of bytes, one after another into the buffer: by one read where they lie together, else by one read a run.
 fn read_runs<R, S: Source<R>>(
     rt: &R,
     source: &S,
-    at: u64,
-    stride: u64,
-    run: usize,
-    rows: u32,
+    runs: Runs,
     buffer: &mut [u8],
 ) -> Result<(), ReadFault>
-    requires small { (at ≤ 2 ^ 61) × (stride ≤ 2 ^ 22) × (run ≤ stride) }
-    requires rows { 0 < rows }
-    requires in_file { at + (rows - 1) * stride + run ≤ length (S.bytes source.now) }
-    requires length { length buffer.old ≡ rows * run }
+    requires runs { AreIn (length (S.bytes source.now)) runs }
+    requires length { length buffer.old ≡ runs.count * runs.len }
     ensures length { length buffer.new ≡ length buffer.old }
-    ensures bytes { OnOk result (S.keeps source.now → (j i : ℕ) → j < rows → i < run → slice_index buffer.new (j * run + i) ≡ slice_index (S.bytes source.now) (at + j * stride + i)) }
+    ensures bytes { OnOk result (S.keeps source.now → HoldsRuns (S.bytes source.now) runs runs.count buffer.new) }
     ensures fault { IfErr result (λ f. IsTrue (S.gave source.now f)) }
 {
-    if run as u64 == stride {
-        source.read_at(rt, at, buffer)?;
+    if runs.len as u64 == runs.stride {
+        source.read_at(rt, runs.at, buffer)?;
         return Ok(());
     }
-    for j in 0..rows {
-        let start = j as usize * run;
-        source.read_at(rt, at + j as u64 * stride, &mut buffer[start..start + run])?;
+    for j in 0..runs.count {
+        let start = j as usize * runs.len;
+        let run = &mut buffer[start..start + runs.len];
+        source.read_at(rt, runs.at + j as u64 * runs.stride, run)?;
     }
     Ok(())
 }
 
-/// So many runs of bytes, one after another.
+/// The bytes of the runs, one run after another.
 fn runs_at<R, S: Source<R>>(
     rt: &R,
     alloc: Global,
     source: &S,
-    at: u64,
-    stride: u64,
-    run: usize,
-    rows: u32,
+    runs: Runs,
 ) -> Result<Vec<u8>, LoadFault>
-    requires small { (at ≤ 2 ^ 61) × (stride ≤ 2 ^ 22) × (run ≤ stride) }
-    requires rows { 0 < rows }
-    requires in_file { at + (rows - 1) * stride + run ≤ length (S.bytes source.now) }
-    ensures length { IfOk result (λ v. length v.items ≡ rows * run) }
-    ensures bytes { IfOk result (λ v. S.keeps source.now → (j i : ℕ) → j < rows → i < run → slice_index v.items (j * run + i) ≡ slice_index (S.bytes source.now) (at + j * stride + i)) }
+    requires runs { AreIn (length (S.bytes source.now)) runs }
+    ensures length { IfOk result (λ v. length v.items ≡ runs.count * runs.len) }
+    ensures bytes { IfOk result (λ v. S.keeps source.now → HoldsRuns (S.bytes source.now) runs runs.count v.items) }
     ensures fault { IfErr result (IsLoadFault (S.gave source.now)) }
 {
-    let mut bytes = vec![in alloc; 0u8; rows as usize * run]?;
-    read_runs(rt, source, at, stride, run, rows, &mut bytes)?;
+    let mut bytes = vec![in alloc; 0u8; runs.count as usize * runs.len]?;
+    read_runs(rt, source, runs, &mut bytes)?;
     Ok(bytes)
 }
 
@@ -177,39 +226,50 @@ fn put_rows(bits: u32, bytes: &[u8], span: Span, window: Window, samples: &mut [
     }
 }
 
+/// Rows of samples in a file: how many bits a sample has, where the first row begins and how many bytes each row takes,
+/// and which of its samples is the first that is wanted.
+#[derive(Clone, Copy, Debug)]
+pub struct Rows {
+    pub bits: u32,
+    pub at: u64,
+    pub stride: u64,
+    pub first: usize,
+}
+
+/// Reads samples of rows into their window.
 #[tactic(auto, using(crate::proofs::Spans::span_in_row, crate::proofs::Spans::span_skip, crate::proofs::Spans::span_room))]
-/// Reads rows of samples into their window: from the first-th on of each row, where the rows stand in the file a stride apart.
 pub fn read_window<R, S: Source<R>>(
     rt: &R,
     alloc: Global,
     source: &S,
-    bits: u32,
-    row: u64,
-    stride: u64,
-    first: usize,
+    rows: Rows,
     window: Window,
     samples: &mut [u8],
 ) -> Result<(), LoadFault>
-    requires bits { bits ≢ 8 → bits ≡ 1 }
-    requires small { (row ≤ 2 ^ 60) × (stride ≤ 2 ^ 22) }
+    requires bits { rows.bits ≢ 8 → rows.bits ≡ 1 }
+    requires small { (rows.at ≤ 2 ^ 60) × (rows.stride ≤ 2 ^ 23) }
     requires rows { 0 < window.rows }
-    requires in_row { div_ceil ((first + window.columns) * bits) 8 ≤ stride }
-    requires in_file { row + window.rows * stride ≤ length (S.bytes source.now) }
+    requires in_row { div_ceil ((rows.first + window.columns) * rows.bits) 8 ≤ rows.stride }
+    requires in_file { rows.at + window.rows * rows.stride ≤ length (S.bytes source.now) }
     requires fits { FitsWindow window (length samples.old) }
-    ensures held { OnOk result (S.keeps source.now → HoldsRows (λ j i. stored bits (S.bytes source.now) (row + j * stride) (first + i)) window window.rows samples.new) }
+    ensures held { OnOk result (S.keeps source.now → HoldsRows (λ j i. stored rows.bits (S.bytes source.now) (rows.at + j * rows.stride) (rows.first + i)) window window.rows samples.new) }
     ensures rest { OnOk result (KeepsRest window window.rows samples.old samples.new) }
     ensures fault { IfErr result (IsLoadFault (S.gave source.now)) }
 {
-    let span = span_of(bits, first, window.columns);
-    let at = row + span.start as u64;
-    if bits == 8 && window.columns == window.width {
+    let span = span_of(rows.bits, rows.first, window.columns);
+    let runs = Runs {
+        at: rows.at + span.start as u64,
+        stride: rows.stride,
+        len: span.len,
+        count: window.rows,
+    };
+    if rows.bits == 8 && window.columns == window.width {
         let start = window.top as usize * window.width;
         let end = start + window.rows as usize * window.width;
-        let rows = &mut samples[start..end];
-        read_runs(rt, source, at, stride, span.len, window.rows, rows)?;
+        read_runs(rt, source, runs, &mut samples[start..end])?;
         return Ok(());
     }
-    let read = runs_at(rt, alloc, source, at, stride, span.len, window.rows)?;
-    put_rows(bits, &read, span, window, samples);
+    let read = runs_at(rt, alloc, source, runs)?;
+    put_rows(rows.bits, &read, span, window, samples);
     Ok(())
 }

@@ -3,17 +3,17 @@ use Rattle.std.proofs.Common.{◌≡◌, ℕ, zero, suc, ◌+◌, ◌*◌, ◌<�
 use Rattle.std.proofs.lemmas.List.{append-nil}
 use Rattle.std.proofs.lemmas.Bool.{lt-ltb, le-ltb, cases_lt}
 use Rattle.std.proofs.lemmas.List.Sums.{sum_by-cons}
-use Rattle.std.specs.Int.{div_ceil}
+use Rattle.std.specs.Int.{div_ceil, to_le_bytes, w16}
 use Rattle.std.specs.Prelude.{sum}
 use Rattle.std.specs.List.{flat_map}
 use Rattle.iiif_pixel.specs.Picture.{Picture, joined, sample_at}
 use Rattle.iiif_pixel.proofs.Joined.{joined_more, joined-same}
-use Rattle.iiif_pixel.proofs.Samples.{row_of-same}
+use Rattle.iiif_pixel.proofs.SampleLists.{row_of-same}
 use Rattle.iiif_pixel.proofs.Reading.{sample_at-crop}
 use Rattle.iiif_tiff_write.specs.declared.kind.OutKind.{OutKind}
-use Rattle.iiif_tiff_write.specs.declared.kind.OutKind.TheVariants.{Gray, Rgb, Bitonal}
+use Rattle.iiif_tiff_write.specs.declared.kind.OutKind.TheVariants.{Gray, Rgb, Bitonal, Gray16, Rgb16}
 use Rattle.iiif_tiff_write.specs.OutKind.{samples_per_pixel}
-use Rattle.iiif_tiff_write.specs.File.{row, strip, bit_at}
+use Rattle.iiif_tiff_write.specs.File.{row, strip, bit_at, shorts_of}
 use Rattle.iiif_tiff_write.specs.Bands.{band, bands}
 
 sample_of_band : (p : Picture) (y n x j c : ℕ) → x < p.width → j < n → c < p.channels → sample_at (band p y n) x j c ≡ sample_at p x (y + j) c
@@ -26,10 +26,16 @@ bit_of_band p y n x j lj lc = elim (cases_lt x p.width) [
   | inr outside ↦ let is : ltb x p.width ≡ false = le-ltb _ _ outside in rw is refl
 ]
 
+shorts_of-same : (w c : ℕ) (f g : ℕ → ℕ → ℕ) → ((x k : ℕ) → x < w → k < c → f x k ≡ g x k) → shorts_of w c f ≡ shorts_of w c g
+unfolding shorts_of
+shorts_of-same w c f g e = joined-same w _ _ (λ x lx. joined-same c _ _ (λ k lk. ap (to_le_bytes w16) (e x k lx lk)))
+
 row_of_band : (p : Picture) (k : OutKind) (y n j : ℕ) → p.channels ≡ samples_per_pixel k → j < n → row k (band p y n) j ≡ row k p (y + j)
 unfolding row
 row_of_band p Gray y n j e lj = row_of-same p.width 1 _ _ (λ x c lx lc. sample_of_band p y n x j c lx lj (omega arith))
 row_of_band p Rgb y n j e lj = row_of-same p.width 3 _ _ (λ x c lx lc. sample_of_band p y n x j c lx lj (omega arith))
+row_of_band p Gray16 y n j e lj = shorts_of-same p.width 1 _ _ (λ x c lx lc. sample_of_band p y n x j c lx lj (omega arith))
+row_of_band p Rgb16 y n j e lj = shorts_of-same p.width 3 _ _ (λ x c lx lc. sample_of_band p y n x j c lx lj (omega arith))
 row_of_band p Bitonal y n j e lj = joined-same (div_ceil p.width 8) _ _ (λ i li. rw (
   bit_of_band p y n (8 * i + 0) j lj (omega arith),
   bit_of_band p y n (8 * i + 1) j lj (omega arith),

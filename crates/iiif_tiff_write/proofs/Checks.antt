@@ -1,16 +1,15 @@
 -- A written file passes every check of the reader.
 use Rattle.std.proofs.Common.{◌≡◌, ℕ, ◌+◌, ◌*◌, ◌-◌, ◌<◌, ◌≤◌, ◌^◌, List, [], ◌∷◌, ◌++◌, length, Some, None, refl, true, false, ltb, eqb, ◌∙◌, arith}
 use Rattle.std.specs.Prelude.{min}
-use Rattle.std.specs.Int.{div_ceil}
 use Rattle.std.proofs.lemmas.Bool.{le-ltb, ne_eqb}
 use Rattle.iiif_pixel.specs.declared.geometry.Dim.{Dim}
 use Rattle.iiif_tiff.specs.Tiff as tiff
-use Rattle.iiif_tiff.specs.Tiff.{ImageWidth, ImageLength, BitsPerSample, RowsPerStrip, StripOffsets, StripByteCounts, Little, ◌<|>◌}
+use Rattle.iiif_tiff.proofs.Numbers.{one_piece}
+use Rattle.iiif_tiff.specs.Tiff.{ImageWidth, ImageLength, BitsPerSample, RowsPerStrip, StripOffsets, StripByteCounts, IsReadable, Little, ◌<|>◌}
 use Rattle.iiif_tiff_write.specs.declared.kind.OutKind.{OutKind}
-use Rattle.iiif_tiff_write.specs.declared.kind.OutKind.TheVariants.{Gray, Rgb, Bitonal}
+use Rattle.iiif_tiff_write.specs.declared.kind.OutKind.TheVariants.{Gray, Rgb, Bitonal, Gray16, Rgb16}
 use Rattle.iiif_tiff_write.specs.OutKind.{samples_per_pixel}
 use Rattle.iiif_tiff_write.specs.File.{head_of, bits_per_sample, long_field, row_len, strip_len, strip_offset, file_len}
-use Rattle.iiif_tiff_write.specs.Reading.{IsReadable}
 use Rattle.iiif_tiff_write.proofs.Lengths.{length-head_before}
 use Rattle.iiif_tiff_write.proofs.Entries.{low_first, value-long, width_entry, height_entry, rows_entry, offset_entry, count_entry, no_tiles, channels_are, depth, bits_are, black_is_zero, offset_bounds}
 
@@ -28,6 +27,8 @@ opening_passes : (k : OutKind) (d : Dim) (s : List ℕ) → tiff.opening (head_o
 unfolding head_of
 opening_passes Gray d s = opening_from _ refl refl refl (omega (arith, length-head_before Gray d s))
 opening_passes Rgb d s = opening_from _ refl refl refl (omega (arith, length-head_before Rgb d s))
+opening_passes Gray16 d s = opening_from _ refl refl refl (omega (arith, length-head_before Gray16 d s))
+opening_passes Rgb16 d s = opening_from _ refl refl refl (omega (arith, length-head_before Rgb16 d s))
 opening_passes Bitonal d s = opening_from _ refl refl refl (omega (arith, length-head_before Bitonal d s))
 
 -- ---- The sides
@@ -36,10 +37,10 @@ sides_from : (b : List ℕ) (d : Dim) → tiff.entry_of b ImageWidth ≡ Some (l
     → tiff.width b ≡ d.w → tiff.height b ≡ d.h → IsReadable d → tiff.sides b ≡ None
 unfolding tiff.sides tiff.needed tiff.entry_fits
 sides_from b d we he w-is h-is l =
-    let a : eqb d.w 0 ≡ false = ne_eqb d.w 0 (λ e. omega (arith, l.width.0)) in
-    let c : eqb d.h 0 ≡ false = ne_eqb d.h 0 (λ e. omega (arith, l.height.0)) in
-    let e : ltb 1000000 d.w ≡ false = le-ltb _ _ l.width.1 in
-    let f : ltb 1000000 d.h ≡ false = le-ltb _ _ l.height.1 in
+    let a : eqb d.w 0 ≡ false = ne_eqb d.w 0 (λ e. omega (arith, l.width_some)) in
+    let c : eqb d.h 0 ≡ false = ne_eqb d.h 0 (λ e. omega (arith, l.height_some)) in
+    let e : ltb 1000000 d.w ≡ false = le-ltb _ _ l.width_most in
+    let f : ltb 1000000 d.h ≡ false = le-ltb _ _ l.height_most in
     let g : ltb (2 ^ 32) (d.w * d.h) ≡ false = le-ltb _ _ l.area in
     rw (we, he, w-is, h-is, a, c, e, f, g) refl
 
@@ -48,6 +49,10 @@ sides_from b d we he w-is h-is l =
 gray_samples : (d : Dim) (s : List ℕ) → tiff.samples (head_of Gray d ++ s) ≡ None
 unfolding head_of tiff.entry_of tiff.entries tiff.entry tiff.value_or tiff.value tiff.values_or tiff.samples tiff.samples_per_pixel tiff.bits_per_sample tiff.only tiff.optional tiff.needed tiff.entry_fits tiff.photometric tiff.planar_configuration tiff.extra_samples tiff.sample_format
 gray_samples d s = refl
+
+gray16_samples : (d : Dim) (s : List ℕ) → tiff.samples (head_of Gray16 d ++ s) ≡ None
+unfolding head_of tiff.entry_of tiff.entries tiff.entry tiff.value_or tiff.value tiff.values_or tiff.samples tiff.samples_per_pixel tiff.bits_per_sample tiff.only tiff.optional tiff.needed tiff.entry_fits tiff.photometric tiff.planar_configuration tiff.extra_samples tiff.sample_format
+gray16_samples d s = refl
 
 bitonal_samples : (d : Dim) (s : List ℕ) → tiff.samples (head_of Bitonal d ++ s) ≡ None
 unfolding head_of tiff.entry_of tiff.entries tiff.entry tiff.value_or tiff.value tiff.values_or tiff.samples tiff.samples_per_pixel tiff.bits_per_sample tiff.only tiff.optional tiff.needed tiff.entry_fits tiff.photometric tiff.planar_configuration tiff.extra_samples tiff.sample_format
@@ -74,9 +79,36 @@ rgb_rest : (d : Dim) (s : List ℕ) → tiff.bits_per_sample (head_of Rgb d ++ s
 unfolding head_of tiff.entry_of tiff.entries tiff.entry tiff.value_or tiff.value tiff.values_or tiff.samples tiff.samples_per_pixel tiff.only tiff.optional tiff.needed tiff.entry_fits tiff.photometric tiff.planar_configuration tiff.extra_samples tiff.sample_format
 rgb_rest d s e = rw e refl
 
+three_bits16 : (d : Dim) (s : List ℕ) → tiff.entry_of (head_of Rgb16 d ++ s) BitsPerSample ≡ Some (bits_per_sample Rgb16)
+unfolding head_of tiff.entry_of tiff.entries tiff.entry
+three_bits16 d s = refl
+
+all_sixteen : (d : Dim) (s : List ℕ) → tiff.all_are (head_of Rgb16 d ++ s) BitsPerSample 1 16 ≡ true
+unfolding head_of tiff.entry_of tiff.entries tiff.entry tiff.value tiff.values_or
+all_sixteen d s = refl
+
+not_eight : (d : Dim) (s : List ℕ) → tiff.all_are (head_of Rgb16 d ++ s) BitsPerSample 1 8 ≡ false
+unfolding head_of tiff.entry_of tiff.entries tiff.entry tiff.value tiff.values_or
+not_eight d s = refl
+
+bits_from16 : (b : List ℕ) → tiff.order b ≡ Little → tiff.entry_of b BitsPerSample ≡ Some (bits_per_sample Rgb16) → tiff.channels b ≡ 3 → tiff.all_are b BitsPerSample 1 8 ≡ false → tiff.all_are b BitsPerSample 1 16 ≡ true → 180 ≤ length b → tiff.bits_per_sample b ≡ None
+unfolding tiff.bits_per_sample tiff.optional tiff.entry_fits
+bits_from16 b o e c eight all long =
+    let x : ltb (length b) 180 ≡ false = le-ltb _ _ long in
+    rw (e, c, o, eight, all, x) refl
+
+rgb16_bits : (d : Dim) (s : List ℕ) → tiff.bits_per_sample (head_of Rgb16 d ++ s) ≡ None
+rgb16_bits d s = bits_from16 _ (low_first Rgb16 d s) (three_bits16 d s) (channels_are Rgb16 d s) (not_eight d s) (all_sixteen d s) (omega (arith, length-head_before Rgb16 d s))
+
+rgb16_rest : (d : Dim) (s : List ℕ) → tiff.bits_per_sample (head_of Rgb16 d ++ s) ≡ None → tiff.samples (head_of Rgb16 d ++ s) ≡ None
+unfolding head_of tiff.entry_of tiff.entries tiff.entry tiff.value_or tiff.value tiff.values_or tiff.samples tiff.samples_per_pixel tiff.only tiff.optional tiff.needed tiff.entry_fits tiff.photometric tiff.planar_configuration tiff.extra_samples tiff.sample_format
+rgb16_rest d s e = rw e refl
+
 samples_pass : (k : OutKind) (d : Dim) (s : List ℕ) → tiff.samples (head_of k d ++ s) ≡ None
 samples_pass Gray d s = gray_samples d s
 samples_pass Rgb d s = rgb_rest d s (rgb_bits d s)
+samples_pass Gray16 d s = gray16_samples d s
+samples_pass Rgb16 d s = rgb16_rest d s (rgb16_bits d s)
 samples_pass Bitonal d s = bitonal_samples d s
 
 -- ---- The strip
@@ -87,13 +119,10 @@ grid_from b h strips e is some =
     let a : eqb h 0 ≡ false = ne_eqb h 0 (λ z. omega arith) in
     rw (strips, e, is, a) refl
 
--- one strip
-pub one_piece : (n : ℕ) → 0 < n → div_ceil n n ≡ 1
-one_piece n some = grind arith
-
 -- what the fields of a written file say of the strip
 abbrev pub scheme_of : OutKind → Dim → tiff.Scheme
 scheme_of k d = record {
+  order = Little;
   width = d.w;
   height = d.h;
   channels = samples_per_pixel k;
@@ -116,19 +145,19 @@ pub record Fields (b : List ℕ) (k : OutKind) (d : Dim) : Type 0 where
   pub strips : tiff.is_tiled b ≡ false
   pub scheme : tiff.scheme b ≡ scheme_of k d
 
-scheme_from : (b : List ℕ) (k : OutKind) (d : Dim) → tiff.width b ≡ d.w → tiff.height b ≡ d.h → tiff.channels b ≡ samples_per_pixel k → tiff.bits b ≡ depth k → tiff.white_is_zero b ≡ false
+scheme_from : (b : List ℕ) (k : OutKind) (d : Dim) → tiff.order b ≡ Little → tiff.width b ≡ d.w → tiff.height b ≡ d.h → tiff.channels b ≡ samples_per_pixel k → tiff.bits b ≡ depth k → tiff.white_is_zero b ≡ false
     → tiff.is_tiled b ≡ false → tiff.rows_per_strip b ≡ d.h → tiff.value_or b StripOffsets 0 0 ≡ strip_offset k → 0 < d.w → 0 < d.h → tiff.scheme b ≡ scheme_of k d
-scheme_from b k d w-is h-is c n z strips rows offset wp hp =
-    rw (strips, w-is, h-is, c, n, z, rows, one_piece d.w wp, one_piece d.h hp, strips, offset) refl
+scheme_from b k d o w-is h-is c n z strips rows offset wp hp =
+    rw (o, strips, w-is, h-is, c, n, z, rows, one_piece d.w wp, one_piece d.h hp, strips, offset) refl
 
 pub fields : (k : OutKind) (d : Dim) (s : List ℕ) → IsReadable d → file_len k d < 2 ^ 32 → Fields (head_of k d ++ s) k d
 fields k d s l small =
     let b = head_of k d ++ s in
     let o = low_first k d s in
     let off = offset_bounds k in
-    let w-is : tiff.width b ≡ d.w = value-long b ImageWidth 0 d.w o (width_entry k d s) (omega (arith, l.width.1)) in
-    let h-is : tiff.height b ≡ d.h = value-long b ImageLength 0 d.h o (height_entry k d s) (omega (arith, l.height.1)) in
-    let rows : tiff.rows_per_strip b ≡ d.h = value-long b RowsPerStrip (2 ^ 32 - 1) d.h o (rows_entry k d s) (omega (arith, l.height.1)) in
+    let w-is : tiff.width b ≡ d.w = value-long b ImageWidth 0 d.w o (width_entry k d s) (omega (arith, l.width_most)) in
+    let h-is : tiff.height b ≡ d.h = value-long b ImageLength 0 d.h o (height_entry k d s) (omega (arith, l.height_most)) in
+    let rows : tiff.rows_per_strip b ≡ d.h = value-long b RowsPerStrip (2 ^ 32 - 1) d.h o (rows_entry k d s) (omega (arith, l.height_most)) in
     let offset : tiff.value_or b StripOffsets 0 0 ≡ strip_offset k = value-long b StripOffsets 0 (strip_offset k) o (offset_entry k d s) (omega (arith, off.1)) in
     let count : tiff.value_or b StripByteCounts 0 0 ≡ strip_len k d = value-long b StripByteCounts 0 (strip_len k d) o (count_entry k d s) (omega (arith, small)) in
     let strips = no_tiles k d s in
@@ -139,13 +168,15 @@ fields k d s l small =
       offset = offset;
       count = count;
       strips = strips;
-      scheme = scheme_from b k d w-is h-is (channels_are k d s) (bits_are k d s) (black_is_zero k d s) strips rows offset l.width.0 l.height.0;
+      scheme = scheme_from b k d o w-is h-is (channels_are k d s) (bits_are k d s) (black_is_zero k d s) strips rows offset l.width_some l.height_some;
     }
 
 pub row_bytes_are : (k : OutKind) (d : Dim) → tiff.row_bytes (scheme_of k d) ≡ row_len k d.w
 row_bytes_are Gray d = omega arith
 row_bytes_are Rgb d = omega arith
 row_bytes_are Bitonal d = omega arith
+row_bytes_are Gray16 d = omega arith
+row_bytes_are Rgb16 d = omega arith
 
 one_strip : (h r : ℕ) → min h (h - 0 * h) * r ≡ r * h
 one_strip h r =
@@ -181,6 +212,6 @@ passes k d s l len small =
     let a = opening_passes k d s in
     let c = sides_from b d (width_entry k d s) (height_entry k d s) f.width f.height l in
     let e = samples_pass k d s in
-    let g = grid_from b d.h f.strips (rows_entry k d s) f.rows l.height.0 in
-    let h = pieces_from b k d f (offset_entry k d s) (count_entry k d s) l.width.0 l.height.0 (piece_from b k d f (length-head_before k d s ∙ rw len refl)) in
+    let g = grid_from b d.h f.strips (rows_entry k d s) f.rows l.height_some in
+    let h = pieces_from b k d f (offset_entry k d s) (count_entry k d s) l.width_some l.height_some (piece_from b k d f (length-head_before k d s ∙ rw len refl)) in
     rw (a, c, e, g, h) refl

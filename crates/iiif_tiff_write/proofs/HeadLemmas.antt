@@ -3,10 +3,10 @@ use Rattle.std.proofs.Common.{◌≡◌, List, ℕ, [], ◌++◌, refl}
 use Rattle.std.specs.Int.{w16, w32, to_le_bytes}
 use Rattle.iiif_pixel.specs.declared.geometry.Dim.{Dim}
 use Rattle.iiif_tiff_write.specs.OutKind.{samples_per_pixel}
-use Rattle.iiif_tiff.specs.Tiff.{ImageWidth, ImageLength, Compression, PhotometricInterpretation, StripOffsets, SamplesPerPixel, RowsPerStrip, StripByteCounts}
-use Rattle.iiif_tiff_write.specs.File.{XResolution, YResolution, ResolutionUnit, head_of, header, outside, entry_bytes, long_field, short_field, rational_field_at, bits_per_sample, photometric, strip_offset, strip_len}
+use Rattle.iiif_tiff.specs.Tiff.{ImageWidth, ImageLength, Compression, PhotometricInterpretation, StripOffsets, SamplesPerPixel, RowsPerStrip, StripByteCounts, XResolution, YResolution, ResolutionUnit}
+use Rattle.iiif_tiff_write.specs.File.{head_of, header, outside, entry_bytes, long_field, short_field, rational_field_at, bits_per_sample, photometric, strip_offset, strip_len}
 use Rattle.iiif_tiff_write.specs.declared.kind.OutKind.{OutKind}
-use Rattle.iiif_tiff_write.specs.declared.kind.OutKind.TheVariants.{Gray, Rgb, Bitonal}
+use Rattle.iiif_tiff_write.specs.declared.kind.OutKind.TheVariants.{Gray, Rgb, Bitonal, Gray16, Rgb16}
 
 -- as they are put
 abbrev pub pieces : OutKind → Dim → List ℕ
@@ -34,3 +34,5 @@ unfolding head_of
 pieces_are Gray d = refl
 pieces_are Rgb d = refl
 pieces_are Bitonal d = refl
+pieces_are Gray16 d = refl
+pieces_are Rgb16 d = refl

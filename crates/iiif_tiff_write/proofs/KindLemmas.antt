@@ -1,21 +1,18 @@
 -- A picture in a quality is one that a file of that quality's kind holds.
-use Rattle.std.proofs.Common.{◌≡◌, ℕ, zero, suc, ◌+◌, ◌/◌, ◌<◌, ◌⊎◌, refl, inl, inr, List, [], All, Bool, true, false, if◌then◌else◌, nat_lt, arith}
-use Rattle.std.proofs.lemmas.List.Elements.{All-append, All-cons, All-nil}
-use Rattle.iiif_pixel.specs.Picture.{Picture, IsWhole, joined, row_of, samples_of}
-use Rattle.iiif_pixel.specs.Operations.{gray, bitonal, gray_at}
-use Rattle.iiif_pixel.proofs.Whole.{whole_gray, whole_bitonal}
-use Rattle.iiif_tiff_write.specs.declared.kind.OutKind.TheVariants.{Gray, Bitonal}
+use Rattle.std.proofs.Common.{◌≡◌, ℕ, ◌+◌, ◌/◌, ◌⊎◌, refl, inl, inr, Bool, true, false, if◌then◌else◌, nat_lt}
+use Rattle.iiif_pixel.specs.Picture.{Picture, IsWhole}
+use Rattle.iiif_pixel.specs.Operations.{gray, bitonal, gray_at, quality}
+use Rattle.iiif_pixel.proofs.Whole.{All-samples_of, whole_gray, whole_bitonal}
+use Rattle.iiif_pixel.specs.Geometry.{channels_of, top_of}
+use Rattle.iiif_pixel.specs.declared.geometry.Depth.{Depth}
+use Rattle.iiif_pixel.specs.declared.geometry.Depth.TheVariants as depths
+use Rattle.iiif_pixel.specs.declared.geometry.Kind.{Kind}
+use Rattle.iiif_pixel.specs.declared.geometry.Kind.TheVariants as source
+use Rattle.iiif_pixel.specs.declared.geometry.Quality.{Quality}
+use Rattle.iiif_pixel.specs.declared.geometry.Quality.TheVariants as qualities
+use Rattle.iiif_tiff_write.specs.declared.kind.OutKind.TheVariants.{Bitonal}
+use Rattle.iiif_tiff_write.specs.OutKind.{kind_of, out_kind_of}
 use Rattle.iiif_tiff_write.specs.Reading.{Holds}
-
-All-joined : (P : ℕ → Type 0) (n : ℕ) (g : ℕ → List ℕ) → ((i : ℕ) → i < n → All P (g i)) → All P (joined n g)
-All-joined P zero g e = All-nil P
-All-joined P (suc n) g e =
-    All-append P (joined n g) (g n) (All-joined P n g (λ i l. e i (omega arith))) (e n (omega arith))
-
-All-samples_of : (P : ℕ → Type 0) (w h c : ℕ) (f : ℕ → ℕ → ℕ → ℕ) → ((x y k : ℕ) → P (f x y k)) → All P (samples_of w h c f)
-unfolding samples_of row_of
-All-samples_of P w h c f e =
-    All-joined P h _ (λ y ly. All-joined P w _ (λ x lx. All-joined P c _ (λ k lk. All-cons P (f x y k) [] (e x y k) (All-nil P))))
 
 one_of : (b : Bool) (m n : ℕ) → ((if b then m else n) ≡ m) ⊎ ((if b then m else n) ≡ n)
 one_of true m n = inl refl
@@ -26,8 +23,17 @@ bits_held p = record {
   whole = whole_bitonal p;
   top = refl;
   channels = refl;
-  samples = All-samples_of (λ v. (v ≡ 0) ⊎ (v ≡ 255)) p.width p.height 1 _ (λ x y k. one_of (nat_lt (gray_at p x y k) ((p.top + 1) / 2)) 0 255);
+  samples = All-samples_of (λ v. (v ≡ 0) ⊎ (v ≡ 255)) p.width p.height 1 _ (λ x y k lx ly lk. one_of (nat_lt (gray_at p x y k) ((p.top + 1) / 2)) 0 255);
 }
 
-pub gray_held : (p : Picture) → IsWhole p → p.top ≡ 255 → Holds Gray (gray p)
-gray_held p whole top = record { whole = whole_gray p whole; top = top; channels = refl; samples = tt }
+own_held : (k : Kind) (d : Depth) (p : Picture) → IsWhole p → p.top ≡ top_of d → p.channels ≡ channels_of k → Holds (kind_of k d) p
+own_held source.Gray depths.Eight p whole top channels = record { whole = whole; top = top; channels = channels; samples = tt }
+own_held source.Rgb depths.Eight p whole top channels = record { whole = whole; top = top; channels = channels; samples = tt }
+own_held source.Gray depths.Sixteen p whole top channels = record { whole = whole; top = top; channels = channels; samples = tt }
+own_held source.Rgb depths.Sixteen p whole top channels = record { whole = whole; top = top; channels = channels; samples = tt }
+
+pub held : (k : Kind) (d : Depth) (q : Quality) (p : Picture) → IsWhole p → p.top ≡ top_of d → p.channels ≡ channels_of k → Holds (out_kind_of k d q) (quality p q)
+held k d qualities.Default p whole top channels = own_held k d p whole top channels
+held k d qualities.Color p whole top channels = own_held k d p whole top channels
+held k d qualities.Gray p whole top channels = own_held source.Gray d (gray p) (whole_gray p whole) top refl
+held k d qualities.Bitonal p whole top channels = bits_held p

@@ -1,15 +1,19 @@
 -- Rows of bits, byte by byte.
-use Rattle.std.proofs.Common.{◌≡◌, ℕ, ◌+◌, ◌*◌, ◌/◌, ◌<◌, ◌≤◌, List, [], ◌∷◌, ◌++◌, length, get_or, refl, sym, ap, subst, ◌∙◌, ◌⊎◌, arith, append_assoc, true, false, ltb, inl, inr}
-use Rattle.std.specs.Int.{div_ceil}
+use Rattle.std.proofs.Common.{◌≡◌, ℕ, zero, suc, ◌+◌, ◌*◌, ◌/◌, ◌<◌, ◌≤◌, List, [], ◌∷◌, ◌++◌, length, get_or, take, add-one, refl, sym, ap, subst, ◌∙◌, ◌⊎◌, arith, append_assoc, true, false, ltb, inl, inr}
+use Rattle.std.specs.Int.{div_ceil, to_le_bytes, w16}
+use Rattle.std.specs.List.{flat_map}
+use Rattle.std.proofs.Math.Seq.{take-suc}
+use Rattle.std.proofs.lemmas.List.{append-nil}
+use Rattle.std.proofs.lemmas.Grind.{flat_map-append}
 use Rattle.std.proofs.lemmas.Nat.{mul-le}
 use Rattle.std.proofs.lemmas.Bool.{lt-ltb, le-ltb, cases_lt}
 use Rattle.iiif_pixel.specs.Picture.{Picture, IsWhole, joined, row_of, sample_at, samples_of, span_of}
 use Rattle.iiif_pixel.proofs.Joined.{joined_more, joined-same}
-use Rattle.iiif_pixel.proofs.Samples.{length-row_of, get_or-row_of, picture_of-samples}
+use Rattle.iiif_pixel.proofs.SampleLists.{length-row_of, get_or-row_of, picture_of-samples}
 use Rattle.iiif_tiff_write.specs.declared.kind.OutKind.{OutKind}
-use Rattle.iiif_tiff_write.specs.declared.kind.OutKind.TheVariants.{Gray, Rgb, Bitonal}
+use Rattle.iiif_tiff_write.specs.declared.kind.OutKind.TheVariants.{Gray, Rgb, Bitonal, Gray16, Rgb16}
 use Rattle.iiif_tiff_write.specs.OutKind.{samples_per_pixel}
-use Rattle.iiif_tiff_write.specs.File.{row, strip, bit_at}
+use Rattle.iiif_tiff_write.specs.File.{row, strip, bit_at, shorts_of}
 use Rattle.iiif_tiff_write.specs.Code.{bit_of, byte_from, packed_bytes, packed_row, rows_before}
 
 pub packed_bytes_none : (s : List ℕ) → packed_bytes s 0 ≡ []
@@ -116,3 +120,44 @@ rgb_rows p w e = subst (λ (c : ℕ). joined p.height (λ y. row_of p.width c (�
 pub whole_rows : (p : Picture) (k : OutKind) → IsWhole p → p.channels ≡ samples_per_pixel k → (k ≡ Gray) ⊎ (k ≡ Rgb) → strip k p ≡ p.samples
 whole_rows p k w e (inl gray) = rw gray (gray_rows p w (rw gray at e))
 whole_rows p k w e (inr rgb) = rw rgb (rgb_rows p w (rw rgb at e))
+
+-- ---- samples of 16 bits
+
+flat_map-joined : (f : ℕ → List ℕ) (n : ℕ) (g : ℕ → List ℕ) → flat_map f (joined n g) ≡ joined n (λ i. flat_map f (g i))
+flat_map-joined f zero g = refl
+flat_map-joined f (suc n) g = flat_map-append f (joined n g) (g n) ∙ ap (λ (s : List ℕ). s ++ flat_map f (g n)) (flat_map-joined f n g)
+
+shorts_row : (w c : ℕ) (f : ℕ → ℕ → ℕ) → flat_map (to_le_bytes w16) (row_of w c f) ≡ shorts_of w c f
+unfolding row_of shorts_of
+shorts_row w c f =
+    flat_map-joined (to_le_bytes w16) w _ ∙ joined-same w _ _ (λ x lx. flat_map-joined (to_le_bytes w16) c _ ∙ joined-same c _ _ (λ k lk. append-nil (to_le_bytes w16 (f x k))))
+
+shorts_rows : (p : Picture) → IsWhole p → joined p.height (λ y. shorts_of p.width p.channels (λ x k. sample_at p x y k)) ≡ flat_map (to_le_bytes w16) p.samples
+shorts_rows p w =
+    sym (ap (flat_map (to_le_bytes w16)) (sym (rows_are p w)) ∙ flat_map-joined (to_le_bytes w16) p.height _ ∙ joined-same p.height _ _ (λ y ly. shorts_row p.width p.channels (λ x k. sample_at p x y k)))
+
+gray16_rows : (p : Picture) → IsWhole p → p.channels ≡ 1 → strip Gray16 p ≡ flat_map (to_le_bytes w16) p.samples
+unfolding strip row
+gray16_rows p w e = subst (λ (c : ℕ). joined p.height (λ y. shorts_of p.width c (λ x k. sample_at p x y k)) ≡ flat_map (to_le_bytes w16) p.samples) e (shorts_rows p w)
+
+rgb16_rows : (p : Picture) → IsWhole p → p.channels ≡ 3 → strip Rgb16 p ≡ flat_map (to_le_bytes w16) p.samples
+unfolding strip row
+rgb16_rows p w e = subst (λ (c : ℕ). joined p.height (λ y. shorts_of p.width c (λ x k. sample_at p x y k)) ≡ flat_map (to_le_bytes w16) p.samples) e (shorts_rows p w)
+
+pub deep_rows : (p : Picture) (k : OutKind) → IsWhole p → p.channels ≡ samples_per_pixel k → (k ≡ Gray16) ⊎ (k ≡ Rgb16) → strip k p ≡ flat_map (to_le_bytes w16) p.samples
+deep_rows p k w e (inl gray) = rw gray (gray16_rows p w (rw gray at e))
+deep_rows p k w e (inr rgb) = rw rgb (rgb16_rows p w (rw rgb at e))
+
+-- one sample more
+pub shorts_more : (out before after samples : List ℕ) (i low high : ℕ) → i < length samples → before ≡ out ++ flat_map (to_le_bytes w16) (take i samples)
+    → low ≡ get_or (to_le_bytes w16 (get_or samples i 0)) 0 0 → high ≡ get_or (to_le_bytes w16 (get_or samples i 0)) 1 0
+    → after ≡ (before ++ low ∷ []) ++ high ∷ [] → after ≡ out ++ flat_map (to_le_bytes w16) (take (i + 1) samples)
+shorts_more out before after samples i low high lt so_far low-is high-is more =
+    let le = to_le_bytes w16 in
+    let v = get_or samples i 0 in
+    let next : take (i + 1) samples ≡ take i samples ++ v ∷ [] = rw add-one (take-suc samples i 0 lt) in
+    let pair : low ∷ high ∷ [] ≡ le v = rw (low-is, high-is) refl in
+    let one : flat_map le (v ∷ []) ≡ le v = append-nil (le v) in
+    let all : flat_map le (take (i + 1) samples) ≡ flat_map le (take i samples) ++ le v = ap (flat_map le) next ∙ flat_map-append le (take i samples) (v ∷ []) ∙ ap (λ (s : List ℕ). flat_map le (take i samples) ++ s) one in
+    more ∙ append_assoc before (low ∷ []) (high ∷ []) ∙ ap (λ (s : List ℕ). before ++ s) pair ∙ ap (λ (s : List ℕ). s ++ le v) so_far
+    ∙ append_assoc out (flat_map le (take i samples)) (le v) ∙ ap (λ (s : List ℕ). out ++ s) (sym all)

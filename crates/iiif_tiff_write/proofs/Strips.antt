@@ -1,14 +1,15 @@
 -- The strip of a written file, byte by byte.
 use Rattle.std.proofs.Common.{◌≡◌, ℕ, ◌+◌, ◌*◌, ◌-◌, ◌/◌, ◌%◌, ◌<◌, ◌≤◌, ◌^◌, ◌⊎◌, inl, inr, get_or, refl, ap, true, false, ltb, cond, zero, suc, ◌∙◌, arith}
-use Rattle.std.specs.Int.{div_ceil}
+use Rattle.std.specs.Int.{div_ceil, to_le_bytes, w16}
+use Rattle.std.proofs.lemmas.Nat.{mul-add-lt}
 use Rattle.std.proofs.lemmas.Bool.{lt-ltb}
-use Rattle.iiif_pixel.specs.Picture.{Picture, sample_at}
+use Rattle.iiif_pixel.specs.Picture.{Picture, joined, sample_at}
 use Rattle.iiif_pixel.proofs.Joined.{get_or-joined, get_or-singles}
 use Rattle.iiif_tiff_write.specs.declared.kind.OutKind.{OutKind}
 use Rattle.iiif_tiff_write.specs.declared.kind.OutKind.TheVariants.{Bitonal}
 use Rattle.iiif_pixel.specs.Operations.{black_or_white}
-use Rattle.iiif_tiff_write.specs.File.{row, strip, row_len, packed, bit_at, white_bit}
-use Rattle.iiif_tiff_write.proofs.Lengths.{length-row}
+use Rattle.iiif_tiff_write.specs.File.{row, strip, row_len, packed, bit_at, shorts_of, white_bit}
+use Rattle.iiif_tiff_write.proofs.Lengths.{length-row, length-shorts}
 
 -- byte n of row y
 pub get_or-strip : (k : OutKind) (p : Picture) (y n : ℕ) → y < p.height → n < row_len k p.width → get_or (strip k p) (y * row_len k p.width + n) 0 ≡ get_or (row k p y) n 0
@@ -54,3 +55,10 @@ bit_back p x y lx =
     let inside : ltb x p.width ≡ true = lt-ltb _ _ lx in
     let is : bit_at p y (8 * (x / 8) + x % 8) ≡ white_bit p.top (sample_at p x y 0) = rw (here, inside) refl in
     ap (λ (n : ℕ). n / 2 ^ (7 - x % 8) % 2) byte ∙ bit ∙ is
+
+-- byte j of the sample in column x and channel k of a row of samples of 16 bits
+pub get_or-shorts_of : (w c : ℕ) (f : ℕ → ℕ → ℕ) (x k j : ℕ) → x < w → k < c → j < 2 → get_or (shorts_of w c f) (x * (c * 2) + (k * 2 + j)) 0 ≡ get_or (to_le_bytes w16 (f x k)) j 0
+unfolding shorts_of
+get_or-shorts_of w c f x k j lx lk lj =
+    get_or-joined w (c * 2) (λ x. joined c (λ k. to_le_bytes w16 (f x k))) (λ x lx. length-shorts c (f x)) x (k * 2 + j) 0 lx (omega (arith, mul-add-lt k 2 j c lk lj))
+    ∙ get_or-joined c 2 (λ k. to_le_bytes w16 (f x k)) (λ k lk. refl) k j 0 lk lj

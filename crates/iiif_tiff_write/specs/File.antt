@@ -4,21 +4,10 @@ use Rattle.std.specs.List.{flat_map}
 use Rattle.std.specs.Int.{w16, w32, to_le_bytes, div_ceil}
 use Rattle.iiif_pixel.specs.declared.geometry.Dim.{Dim}
 use Rattle.iiif_pixel.specs.Picture.{Picture, dim_of, joined, row_of, sample_at}
-use Rattle.iiif_tiff.specs.Tiff.{Entry, ImageWidth, ImageLength, BitsPerSample, Compression, PhotometricInterpretation, StripOffsets, SamplesPerPixel, RowsPerStrip, StripByteCounts}
+use Rattle.iiif_tiff.specs.Tiff.{Entry, ImageWidth, ImageLength, BitsPerSample, Compression, PhotometricInterpretation, StripOffsets, SamplesPerPixel, RowsPerStrip, StripByteCounts, XResolution, YResolution, ResolutionUnit}
 use Rattle.iiif_tiff_write.specs.OutKind.{samples_per_pixel}
 use Rattle.iiif_tiff_write.specs.declared.kind.OutKind.{OutKind}
-use Rattle.iiif_tiff_write.specs.declared.kind.OutKind.TheVariants.{Gray, Rgb, Bitonal}
-
--- ---- Section 8: tags of fields that say nothing of the samples
-
-abbrev pub XResolution : ℕ
-XResolution = 282
-
-abbrev pub YResolution : ℕ
-YResolution = 283
-
-abbrev pub ResolutionUnit : ℕ
-ResolutionUnit = 296
+use Rattle.iiif_tiff_write.specs.declared.kind.OutKind.TheVariants.{Gray, Rgb, Bitonal, Gray16, Rgb16}
 
 -- ---- Section 2: entries of the directory
 
@@ -44,34 +33,45 @@ rational_field_at tag offset = record { tag = tag; kind = 5; count = 1; inside =
 
 -- ---- What differs from kind to kind
 
--- BitsPerSample, sections 3, 4 and 6: 8, or 8 for each of red, green and blue, which stand behind the resolutions, or 1.
+-- BitsPerSample, sections 3, 4 and 6: 8 or 16, or as many for each of red, green and blue, which stand behind the
+-- resolutions, or 1.
 abbrev pub bits_per_sample : OutKind → Entry
 bits_per_sample Gray = short_field BitsPerSample 8
 bits_per_sample Rgb = shorts_field_at BitsPerSample 3 174
 bits_per_sample Bitonal = short_field BitsPerSample 1
+bits_per_sample Gray16 = short_field BitsPerSample 16
+bits_per_sample Rgb16 = shorts_field_at BitsPerSample 3 174
 
 abbrev pub bits_outside : OutKind → List ℕ
 bits_outside Gray = []
 bits_outside Rgb = to_le_bytes w16 8 ++ to_le_bytes w16 8 ++ to_le_bytes w16 8
 bits_outside Bitonal = []
+bits_outside Gray16 = []
+bits_outside Rgb16 = to_le_bytes w16 16 ++ to_le_bytes w16 16 ++ to_le_bytes w16 16
 
 -- PhotometricInterpretation, sections 3, 4 and 6: BlackIsZero (1) or RGB (2).
 abbrev pub photometric : OutKind → ℕ
 photometric Gray = 1
 photometric Rgb = 2
 photometric Bitonal = 1
+photometric Gray16 = 1
+photometric Rgb16 = 2
 
 -- StripOffsets, section 3: where the one strip begins, behind all else.
 abbrev pub strip_offset : OutKind → ℕ
 strip_offset Gray = 174
 strip_offset Rgb = 180
 strip_offset Bitonal = 174
+strip_offset Gray16 = 174
+strip_offset Rgb16 = 180
 
 -- Section 8, Compression 1: the bytes of a row of w places; a row of bits is padded to whole bytes.
 abbrev pub row_len : OutKind → ℕ → ℕ
 row_len Gray w = w
 row_len Rgb w = w * 3
 row_len Bitonal w = div_ceil w 8
+row_len Gray16 w = w * 2
+row_len Rgb16 w = w * 6
 
 -- StripByteCounts, section 3: the bytes of the strip, which has all rows.
 abbrev pub strip_len : OutKind → Dim → ℕ
@@ -136,12 +136,18 @@ packed bit = bit 0 * 128 + bit 1 * 64 + bit 2 * 32 + bit 3 * 16 + bit 4 * 8 + bi
 abbrev pub bit_at : Picture → ℕ → ℕ → ℕ
 bit_at p y x = if nat_lt x p.width then white_bit p.top (sample_at p x y 0) else 0
 
+-- a row of w places, whose sample f x k in column x and channel k takes two bytes: section 2, "Types", SHORT, low byte first
+unfoldable pub shorts_of : ℕ → ℕ → (ℕ → ℕ → ℕ) → List ℕ
+shorts_of w c f = joined w (λ x. joined c (λ k. to_le_bytes w16 (f x k)))
+
 -- Row y from the left: its samples, at a place of RGB red, green, blue (section 8, PlanarConfiguration 1), or its bits, eight
 -- to a byte.
 unfoldable pub row : OutKind → Picture → ℕ → List ℕ
 row Gray p y = row_of p.width 1 (λ x k. sample_at p x y k)
 row Rgb p y = row_of p.width 3 (λ x k. sample_at p x y k)
 row Bitonal p y = joined (div_ceil p.width 8) (λ j. packed (λ b. bit_at p y (8 * j + b)) ∷ [])
+row Gray16 p y = shorts_of p.width 1 (λ x k. sample_at p x y k)
+row Rgb16 p y = shorts_of p.width 3 (λ x k. sample_at p x y k)
 
 -- all rows from the top (section 8, Orientation 1)
 unfoldable pub strip : OutKind → Picture → List ℕ

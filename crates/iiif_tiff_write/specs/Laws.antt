@@ -4,10 +4,10 @@ use Rattle.std.specs.List.{flat_map}
 use Rattle.iiif_pixel.specs.declared.geometry.Dim.{Dim}
 use Rattle.iiif_pixel.specs.Picture.{Picture, dim_of}
 use Rattle.iiif_pixel.specs.Operations.{bitonal}
-use Rattle.iiif_tiff.specs.Tiff.{refusal_of, Shows}
+use Rattle.iiif_tiff.specs.Tiff.{IsReadable, refusal_of, Shows}
 use Rattle.iiif_tiff_write.specs.OutKind.{samples_per_pixel}
 use Rattle.iiif_tiff_write.specs.File.{file, file_len, rational, strip}
-use Rattle.iiif_tiff_write.specs.Reading.{IsReadable, Holds}
+use Rattle.iiif_tiff_write.specs.Reading.{Holds}
 use Rattle.iiif_tiff_write.specs.Bands.{band, bands}
 use Rattle.iiif_tiff_write.specs.declared.kind.OutKind.{OutKind}
 use Rattle.iiif_tiff_write.specs.declared.kind.OutKind.TheVariants.{Bitonal}

@@ -6,20 +6,16 @@ ghost use Rattle.iiif_tiff_write.specs.File.{file, file_len, head_of, photometri
 
 use crate::head_bytes::Head;
 use crate::kind::OutKind;
-use crate::tags::{
-    COMPRESSION, IMAGE_LENGTH, IMAGE_WIDTH, PHOTOMETRIC_INTERPRETATION, RESOLUTION_UNIT,
-    ROWS_PER_STRIP, SAMPLES_PER_PIXEL, STRIP_BYTE_COUNTS, STRIP_OFFSETS, X_RESOLUTION,
-    Y_RESOLUTION,
-};
 use iiif_pixel::Dim;
+use iiif_tiff::tag;
 
 /// BlackIsZero or RGB.
 fn photometric(kind: OutKind) -> u16
     ensures { result ≡ photometric kind }
 {
     match kind {
-        OutKind::Gray | OutKind::Bitonal => 1,
-        OutKind::Rgb => 2,
+        OutKind::Gray | OutKind::Bitonal | OutKind::Gray16 => 1,
+        OutKind::Rgb | OutKind::Rgb16 => 2,
     }
 }
 
@@ -34,18 +30,18 @@ pub fn head(kind: OutKind, dim: Dim) -> Head
     let mut head = Head::new();
     head.put_header();
     head.put_short(12);
-    head.put_long_field(IMAGE_WIDTH, dim.w);
-    head.put_long_field(IMAGE_LENGTH, dim.h);
+    head.put_long_field(tag::IMAGE_WIDTH, dim.w);
+    head.put_long_field(tag::IMAGE_LENGTH, dim.h);
     head.put_bits_per_sample(kind);
-    head.put_short_field(COMPRESSION, 1);
-    head.put_short_field(PHOTOMETRIC_INTERPRETATION, photometric(kind));
-    head.put_long_field(STRIP_OFFSETS, kind.strip_offset());
-    head.put_short_field(SAMPLES_PER_PIXEL, u16::from(kind.samples_per_pixel()));
-    head.put_long_field(ROWS_PER_STRIP, dim.h);
-    head.put_long_field(STRIP_BYTE_COUNTS, strip_len);
-    head.put_rational_field_at(X_RESOLUTION, 158);
-    head.put_rational_field_at(Y_RESOLUTION, 166);
-    head.put_short_field(RESOLUTION_UNIT, 1);
+    head.put_short_field(tag::COMPRESSION, 1);
+    head.put_short_field(tag::PHOTOMETRIC_INTERPRETATION, photometric(kind));
+    head.put_long_field(tag::STRIP_OFFSETS, kind.strip_offset());
+    head.put_short_field(tag::SAMPLES_PER_PIXEL, u16::from(kind.samples_per_pixel()));
+    head.put_long_field(tag::ROWS_PER_STRIP, dim.h);
+    head.put_long_field(tag::STRIP_BYTE_COUNTS, strip_len);
+    head.put_rational_field_at(tag::X_RESOLUTION, 158);
+    head.put_rational_field_at(tag::Y_RESOLUTION, 166);
+    head.put_short_field(tag::RESOLUTION_UNIT, 1);
     head.put_long(0);
     head.put_outside(kind);
     head

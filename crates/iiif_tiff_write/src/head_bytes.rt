@@ -5,8 +5,15 @@ ghost use Rattle.std.specs.Int.{w16, w32, to_le_bytes};
 ghost use Rattle.iiif_tiff_write.specs.File.{entry_bytes, long_field, short_field, shorts_field_at, rational_field_at, bits_per_sample, header, outside};
 
 use crate::kind::OutKind;
-use crate::tags::{BITS_PER_SAMPLE, LONG, RATIONAL, SHORT};
+use iiif_tiff::tag;
 use std::marker::Model;
+
+/// The types of values (TIFF 6.0, section 2).
+const SHORT: u16 = 3;
+
+const LONG: u16 = 4;
+
+const RATIONAL: u16 = 5;
 
 /// The bytes of a file before its strip: header, directory, and the values that stand outside of it.
 #[derive(Drop)]
@@ -137,9 +144,10 @@ impl Head {
         ensures len { length self.new ≡ length self.old + 12 }
     {
         match kind {
-            OutKind::Gray => self.put_short_field(BITS_PER_SAMPLE, 8),
-            OutKind::Rgb => self.put_shorts_field_at(BITS_PER_SAMPLE, 3, 174),
-            OutKind::Bitonal => self.put_short_field(BITS_PER_SAMPLE, 1),
+            OutKind::Gray => self.put_short_field(tag::BITS_PER_SAMPLE, 8),
+            OutKind::Gray16 => self.put_short_field(tag::BITS_PER_SAMPLE, 16),
+            OutKind::Rgb | OutKind::Rgb16 => self.put_shorts_field_at(tag::BITS_PER_SAMPLE, 3, 174),
+            OutKind::Bitonal => self.put_short_field(tag::BITS_PER_SAMPLE, 1),
         }
     }
 
@@ -153,11 +161,16 @@ impl Head {
         self.put_long(1);
         self.put_long(1);
         match kind {
-            OutKind::Gray | OutKind::Bitonal => {}
+            OutKind::Gray | OutKind::Bitonal | OutKind::Gray16 => {}
             OutKind::Rgb => {
                 self.put_short(8);
                 self.put_short(8);
                 self.put_short(8);
+            }
+            OutKind::Rgb16 => {
+                self.put_short(16);
+                self.put_short(16);
+                self.put_short(16);
             }
         }
     }

@@ -15,8 +15,8 @@ impl OutKind {
         ensures { result ≡ strip_offset self }
     {
         match self {
-            OutKind::Gray | OutKind::Bitonal => 174,
-            OutKind::Rgb => 180,
+            OutKind::Gray | OutKind::Bitonal | OutKind::Gray16 => 174,
+            OutKind::Rgb | OutKind::Rgb16 => 180,
         }
     }
 
@@ -28,6 +28,8 @@ impl OutKind {
             OutKind::Gray => u64::from(w),
             OutKind::Rgb => u64::from(w) * 3,
             OutKind::Bitonal => u64::from(w).div_ceil(8),
+            OutKind::Gray16 => u64::from(w) * 2,
+            OutKind::Rgb16 => u64::from(w) * 6,
         }
     }
 }

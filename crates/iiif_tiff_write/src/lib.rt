@@ -13,6 +13,5 @@ pub mod kind;
 pub mod laws;
 mod layout;
 mod rows;
-mod tags;
 #[cfg(test)]
 mod tests;

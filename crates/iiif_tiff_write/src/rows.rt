@@ -1,13 +1,16 @@
 //! The rows of a picture as the bytes of a strip.
 
 ghost use Rattle.std.specs.Prelude.{◌≡◌, ◌+◌, ◌*◌, ◌<◌, ◌≤◌, ◌++◌, length, vec_len, vec_capacity, OnOk, OnErr};
-ghost use Rattle.std.specs.Int.{div_ceil};
-ghost use Rattle.iiif_tiff_write.specs.OutKind.{samples_per_pixel};
+ghost use Rattle.std.specs.Int.{div_ceil, to_le_bytes, w16};
+ghost use Rattle.std.specs.List.{flat_map};
+ghost use Rattle.iiif_pixel.specs.Geometry.{top_of};
+ghost use Rattle.iiif_pixel.specs.Depths.{span_depth, span_values};
+ghost use Rattle.iiif_tiff_write.specs.OutKind.{out_depth, samples_per_pixel};
 ghost use Rattle.iiif_tiff_write.specs.File.{row_len, strip, white_bit};
 ghost use Rattle.iiif_tiff_write.specs.Code.{bit_of, byte_from, packed_row};
 
 use crate::kind::OutKind;
-use iiif_pixel::{NoMemory, Raster};
+use iiif_pixel::{NoMemory, Raster, Span};
 
 /// White, which is the upper half, is 1.
 fn white_bit(sample: u8) -> u8
@@ -84,19 +87,65 @@ fn pack_rows(raster: &Raster, out: &mut Vec<u8>)
 {
     let dim = raster.dim();
     for y in 0..dim.h {
-        pack_row(raster.span(0, y, dim.w), out);
+        pack_row(bytes_of(raster.span(0, y, dim.w)), out);
     }
+}
+
+/// The samples of 8 bits.
+fn bytes_of<'a>(span: Span<'a>) -> &'a [u8]
+    requires { top_of (span_depth span) ≡ 255 }
+    ensures { result.now ≡ span_values span.entry }
+{
+    match span {
+        Span::Eight(samples) => samples,
+        Span::Sixteen(_) => &[],
+    }
+}
+
+/// The samples of 16 bits.
+fn shorts_of<'a>(span: Span<'a>) -> &'a [u16]
+    requires { top_of (span_depth span) ≡ 65535 }
+    ensures { result.now ≡ span_values span.entry }
+{
+    match span {
+        Span::Eight(_) => &[],
+        Span::Sixteen(samples) => samples,
+    }
+}
+
+/// Appends samples of 16 bits, the low byte of each first.
+fn push_shorts(samples: &[u16], out: &mut Vec<u8>)
+    requires { vec_len out.old + 2 * length samples.now ≤ vec_capacity out.old }
+    ensures { out.new.items ≡ out.old.items ++ flat_map (to_le_bytes w16) samples.now }
+{
+    for sample in samples {
+        let pair = sample.to_le_bytes();
+        out.push_reserved(pair[0]);
+        out.push_reserved(pair[1]);
+    }
+}
+
+/// Appends samples of 16 bits, or leaves the vector where memory is refused.
+fn put_shorts(samples: &[u16], out: &mut Vec<u8>) -> Result<(), NoMemory>
+    ensures rows { OnOk result (out.new.items ≡ out.old.items ++ flat_map (to_le_bytes w16) samples.now) }
+    ensures err { OnErr result (out.new.items ≡ out.old.items) }
+{
+    out.reserve(samples.len() * 2)?;
+    push_shorts(samples, out);
+    Ok(())
 }
 
 /// Appends the rows of a raster as they stand in the strip of a file. A whole picture or a band of its rows will do.
 pub fn put_rows(raster: &Raster, kind: OutKind, out: &mut Vec<u8>) -> Result<(), NoMemory>
-    requires { raster.now.channels ≡ samples_per_pixel kind }
+    requires channels { raster.now.channels ≡ samples_per_pixel kind }
+    requires depth { raster.now.top ≡ top_of (out_depth kind) }
     ensures rows { OnOk result (out.new.items ≡ out.old.items ++ strip kind raster.now) }
     ensures err { OnErr result (out.new.items ≡ out.old.items) }
 {
-    let samples = raster.samples();
+    raster.is_whole();
     match kind {
-        OutKind::Gray | OutKind::Rgb => out.extend_from_slice(samples),
+        OutKind::Gray | OutKind::Rgb => out.extend_from_slice(bytes_of(raster.samples())),
+        OutKind::Gray16 | OutKind::Rgb16 => put_shorts(shorts_of(raster.samples()), out),
         OutKind::Bitonal => {
             let dim = raster.dim();
             out.reserve(dim.w.div_ceil(8) as usize * dim.h as usize)?;

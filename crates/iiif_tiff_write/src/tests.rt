@@ -1,5 +1,5 @@
 use crate::{OutKind, fits, head, laws, put_rows, total_len};
-use iiif_pixel::{Dim, Kind, NoMemory, Quality, Raster, Rect};
+use iiif_pixel::{Depth, Dim, Kind, NoMemory, Quality, Raster, Rect, Samples};
 use std::alloc::Global;
 use std::process::Abort;
 use std::test::Fail;
@@ -16,7 +16,21 @@ fn raster(
     let dim = Dim { w, h };
     assert!(rt; w < 100 && h < 100);
     assert_eq!(rt; samples.len(), w as usize * h as usize * kind.channels());
-    Ok(Raster::from_samples(dim, kind, samples))
+    Ok(Raster::from_samples(dim, kind, Samples::Eight(samples)))
+}
+
+fn deep(
+    rt: &impl Abort,
+    alloc: Global,
+    w: u32,
+    kind: Kind,
+    samples: &[u16],
+) -> Result<Raster, NoMemory> {
+    let samples = Vec::from_slice(alloc, samples)?;
+    let dim = Dim { w, h: 1 };
+    assert!(rt; w < 100);
+    assert_eq!(rt; samples.len(), w as usize * kind.channels());
+    Ok(Raster::from_samples(dim, kind, Samples::Sixteen(samples)))
 }
 
 /// Head and rows, one after another.
@@ -29,6 +43,7 @@ fn file(
     let dim = picture.dim();
     assert!(rt; fits(kind, dim));
     assert!(rt; picture.kind().channels() == usize::from(kind.samples_per_pixel()));
+    assert!(rt; picture.depth() == kind.depth());
     let mut bytes = Vec::new(alloc);
     bytes.extend_from_slice(head(kind, dim).as_slice())?;
     put_rows(picture, kind, &mut bytes)?;
@@ -74,6 +89,25 @@ fn rgb_has_its_bits_before_the_strip(rt: HostRuntime) -> Result<(), Fail> {
 }
 
 #[test]
+fn sixteen_bits_have_their_low_byte_first(rt: HostRuntime) -> Result<(), Fail> {
+    let gray = deep(&rt, rt.alloc(), 2, Kind::Gray, &[0, 65_535])?;
+    let bytes = file(&rt, rt.alloc(), &gray, OutKind::Gray16)?;
+    assert!(&rt; bytes.len() == 178);
+    // BitsPerSample is the third entry.
+    assert_eq!(rt;
+        &bytes[34..46],
+        [2u8, 1, 3, 0, 1, 0, 0, 0, 16, 0, 0, 0].as_slice()
+    );
+    assert_eq!(rt; &bytes[174..], [0u8, 0, 0xff, 0xff].as_slice());
+    let rgb = deep(&rt, rt.alloc(), 1, Kind::Rgb, &[1, 515, 65_534])?;
+    let bytes = file(&rt, rt.alloc(), &rgb, OutKind::Rgb16)?;
+    assert!(&rt; bytes.len() == 186);
+    assert_eq!(rt; &bytes[174..180], [16u8, 0, 16, 0, 16, 0].as_slice());
+    assert_eq!(rt; &bytes[180..], [1u8, 0, 3, 2, 254, 255].as_slice());
+    Ok(())
+}
+
+#[test]
 fn rows_of_bits_end_at_whole_bytes(rt: HostRuntime) -> Result<(), Fail> {
     let white = raster(&rt, rt.alloc(), 9, 1, Kind::Gray, &[255; 9])?;
     let bytes = file(&rt, rt.alloc(), &white, OutKind::Bitonal)?;
@@ -106,10 +140,8 @@ fn bands_make_the_same_strip(rt: HostRuntime) -> Result<(), Fail> {
     ];
     for kind in [OutKind::Gray, OutKind::Rgb, OutKind::Bitonal] {
         let picture = match kind {
-            OutKind::Gray | OutKind::Bitonal => {
-                raster(&rt, rt.alloc(), 9, 3, Kind::Gray, &samples)?
-            }
             OutKind::Rgb => raster(&rt, rt.alloc(), 3, 3, Kind::Rgb, &samples)?,
+            _ => raster(&rt, rt.alloc(), 9, 3, Kind::Gray, &samples)?,
         };
         let width = picture.dim().w;
         assert!(&rt; picture.dim().h == 3);
@@ -123,11 +155,12 @@ fn bands_make_the_same_strip(rt: HostRuntime) -> Result<(), Fail> {
                 h,
             })?;
             assert!(&rt; band.kind().channels() == usize::from(kind.samples_per_pixel()));
+            assert!(&rt; band.depth() == kind.depth());
             put_rows(&band, kind, &mut bands)?;
         }
         let want: &[u8] = match kind {
-            OutKind::Gray | OutKind::Rgb => &samples,
             OutKind::Bitonal => &[0xa1, 0x80, 0x0e, 0x80, 0x18, 0x80],
+            _ => &samples,
         };
         assert_eq!(rt; bands.as_slice(), want, "{kind:?}");
     }
@@ -141,13 +174,14 @@ fn refused_rows_leave_the_vector(rt: HostRuntime) -> Result<(), Fail> {
     for kind in [OutKind::Gray, OutKind::Bitonal] {
         let mut out = Vec::from_slice(rt.alloc(), &[1, 2, 3])?;
         assert!(&rt; gray.kind().channels() == usize::from(kind.samples_per_pixel()));
+        assert!(&rt; gray.depth() == kind.depth());
         let done = put_rows(&gray, kind, &mut out);
         assert!(&rt; out.len() >= 3);
         assert_eq!(rt; &out[..3], [1u8, 2, 3].as_slice(), "{kind:?}");
         let want: &[u8] = match (done, kind) {
             (Err(_), _) => &[],
             (Ok(()), OutKind::Bitonal) => &[0, 0, 0, 0x70],
-            (Ok(()), OutKind::Gray | OutKind::Rgb) => &SAMPLE,
+            (Ok(()), _) => &SAMPLE,
         };
         assert_eq!(rt; &out[3..], want, "{kind:?}");
     }
@@ -168,7 +202,20 @@ fn kinds_of_the_qualities(rt: HostRuntime) {
     ];
     for (source, quality, want) in cases {
         assert_eq!(rt;
-            OutKind::of(source, quality),
+            OutKind::of(source, Depth::Eight, quality),
+            want,
+            "{source:?} {quality:?}"
+        );
+    }
+    let cases = [
+        (Kind::Gray, Quality::Default, OutKind::Gray16),
+        (Kind::Rgb, Quality::Color, OutKind::Rgb16),
+        (Kind::Rgb, Quality::Gray, OutKind::Gray16),
+        (Kind::Gray, Quality::Bitonal, OutKind::Bitonal),
+    ];
+    for (source, quality, want) in cases {
+        assert_eq!(rt;
+            OutKind::of(source, Depth::Sixteen, quality),
             want,
             "{source:?} {quality:?}"
         );

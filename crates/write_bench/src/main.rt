@@ -1,11 +1,11 @@
-//! Head and rows of the TIFF files of a picture: with no argument the check sums of three small files, with `large` the
+//! Head and rows of the TIFF files of a picture: with no argument the check sums of five small files, with `large` the
 //! milliseconds of processor time for pictures of 4,000 by 4,000, the least of five runs. `bench/write/main.rs` does the
 //! same in plain Rust.
 #![tactic(auto)]
 
-ghost use Rattle.std.specs.Prelude.{◌≡◌, IfOk, length};
+ghost use Rattle.std.specs.Prelude.{◌≡◌, ◌*◌, ◌≤◌, ◌^◌, IfOk, length};
 
-use iiif_pixel::{Dim, Kind, NoMemory, Raster};
+use iiif_pixel::{Dim, Kind, NoMemory, Raster, Samples};
 use iiif_tiff_write::{OutKind, fits, head, put_rows, total_len};
 use std::alloc::Global;
 use std::time::CpuClock;
@@ -24,6 +24,19 @@ fn pattern(alloc: Global, count: usize) -> Result<Vec<u8>, NoMemory>
     Ok(samples)
 }
 
+/// The same with samples of 16 bits.
+fn deep_pattern(alloc: Global, count: usize) -> Result<Vec<u16>, NoMemory>
+    ensures { IfOk result (λ v. length v.items ≡ count) }
+{
+    let mut samples = vec![in alloc; 0u16; count]?;
+    let mut state = 12345u32;
+    for sample in samples.iter_mut() {
+        state = state.wrapping_mul(1_664_525).wrapping_add(1_013_904_223);
+        *sample = (state >> 16) as u16;
+    }
+    Ok(samples)
+}
+
 fn check_sum(bytes: &[u8]) -> u64 {
     let mut sum = 0u64;
     for byte in bytes {
@@ -32,11 +45,13 @@ fn check_sum(bytes: &[u8]) -> u64 {
     sum
 }
 
-/// The file of a picture in a buffer with room for it; nothing where the kind has not the picture's channels or the file
-/// would be too long.
+/// The file of a picture in a buffer with room for it; nothing where the kind has not the picture's channels and depth
+/// or the file would be too long.
 fn write(raster: &Raster, kind: OutKind, out: &mut Vec<u8>) -> Result<(), NoMemory> {
     let dim = raster.dim();
-    if fits(kind, dim) && raster.kind().channels() == usize::from(kind.samples_per_pixel()) {
+    let is_held = raster.kind().channels() == usize::from(kind.samples_per_pixel())
+        && raster.depth() == kind.depth();
+    if fits(kind, dim) && is_held {
         out.extend_from_slice(head(kind, dim).as_slice())?;
         put_rows(raster, kind, out)?;
     }
@@ -77,16 +92,24 @@ fn measure(
     Ok(())
 }
 
-fn measure_all(
-    rt: &(impl Print + CpuClock),
-    alloc: Global,
-    gray: &Raster,
-    rgb: &Raster,
-    large: bool,
-) -> io::Result<()> {
-    measure(rt, alloc, gray, "gray", OutKind::Gray, large)?;
-    measure(rt, alloc, rgb, "rgb", OutKind::Rgb, large)?;
-    measure(rt, alloc, gray, "bitonal", OutKind::Bitonal, large)
+/// Pictures of these sides in each kind of file.
+fn measure_all(rt: &(impl Print + CpuClock), alloc: Global, dim: Dim, large: bool) -> io::Result<()>
+    requires { dim.w * dim.h ≤ 2 ^ 32 }
+{
+    let places = dim.w as usize * dim.h as usize;
+    let gray = Samples::Eight(pattern(alloc, places)?);
+    let gray = Raster::from_samples(dim, Kind::Gray, gray);
+    measure(rt, alloc, &gray, "gray", OutKind::Gray, large)?;
+    let rgb = Samples::Eight(pattern(alloc, places * 3)?);
+    let rgb = Raster::from_samples(dim, Kind::Rgb, rgb);
+    measure(rt, alloc, &rgb, "rgb", OutKind::Rgb, large)?;
+    measure(rt, alloc, &gray, "bitonal", OutKind::Bitonal, large)?;
+    let gray = Samples::Sixteen(deep_pattern(alloc, places)?);
+    let gray = Raster::from_samples(dim, Kind::Gray, gray);
+    measure(rt, alloc, &gray, "gray of 16 bits", OutKind::Gray16, large)?;
+    let rgb = Samples::Sixteen(deep_pattern(alloc, places * 3)?);
+    let rgb = Raster::from_samples(dim, Kind::Rgb, rgb);
+    measure(rt, alloc, &rgb, "rgb of 16 bits", OutKind::Rgb16, large)
 }
 
 fn main(rt: HostRuntime) -> io::Result<()> {
@@ -94,15 +117,10 @@ fn main(rt: HostRuntime) -> io::Result<()> {
     for word in env::args(&rt)? {
         large |= word.as_str() == "large";
     }
-    if large {
-        let dim = Dim { w: 4000, h: 4000 };
-        let gray = Raster::from_samples(dim, Kind::Gray, pattern(rt.alloc(), 4000 * 4000)?);
-        let rgb = Raster::from_samples(dim, Kind::Rgb, pattern(rt.alloc(), 4000 * 4000 * 3)?);
-        measure_all(&rt, rt.alloc(), &gray, &rgb, true)
+    let dim = if large {
+        Dim { w: 4000, h: 4000 }
     } else {
-        let dim = Dim { w: 37, h: 23 };
-        let gray = Raster::from_samples(dim, Kind::Gray, pattern(rt.alloc(), 37 * 23)?);
-        let rgb = Raster::from_samples(dim, Kind::Rgb, pattern(rt.alloc(), 37 * 23 * 3)?);
-        measure_all(&rt, rt.alloc(), &gray, &rgb, false)
-    }
+        Dim { w: 37, h: 23 }
+    };
+    measure_all(&rt, rt.alloc(), dim, large)
 }

@@ -3,7 +3,7 @@ use Rattle.std.specs.Prelude.{ℕ, ◌*◌, ◌-◌, ◌^◌, Bool, List, map, m
 use Rattle.std.specs.List.{range_with_len}
 use Rattle.std.specs.Int.{div_ceil}
 use Rattle.iiif_tiff.specs.Tiff.Tags.{ImageWidth, ImageLength, BitsPerSample, PhotometricInterpretation, SamplesPerPixel, RowsPerStrip, StripOffsets, StripByteCounts, TileWidth, TileLength, TileOffsets, TileByteCounts}
-use Rattle.iiif_tiff.specs.Tiff.Structure.{entry_of, value_or, all_are}
+use Rattle.iiif_tiff.specs.Tiff.Structure.{Order, order, entry_of, value_or, all_are}
 
 -- Section 8, ImageWidth: the columns of the image.
 abbrev pub width : List ℕ → ℕ
@@ -17,9 +17,13 @@ height bytes = value_or bytes ImageLength 0 0
 abbrev pub channels : List ℕ → ℕ
 channels bytes = value_or bytes SamplesPerPixel 0 1
 
--- Section 8, BitsPerSample: 8 where all samples have 8 bits, else the one bit of a bilevel image.
+-- Section 8, BitsPerSample: 8 or 16 where all samples have so many bits, else the one bit of a bilevel image.
 abbrev pub bits : List ℕ → ℕ
-bits bytes = if all_are bytes BitsPerSample 1 8 then 8 else 1
+bits bytes = if all_are bytes BitsPerSample 1 8 then 8 else (if all_are bytes BitsPerSample 1 16 then 16 else 1)
+
+-- Section 8, BitsPerSample: the greatest sample that is shown, which is white. A bit is shown in 8 bits.
+abbrev pub white_of : ℕ → ℕ
+white_of bits = if bits == 16 then 65535 else 255
 
 -- Section 8, PhotometricInterpretation: 0 is WhiteIsZero.
 abbrev pub white_is_zero : List ℕ → Bool
@@ -73,6 +77,7 @@ piece_byte_count bytes i = value_or bytes (counts_tag bytes) i 0
 
 -- where the samples of an image stand: all that its fields say of it
 pub record Scheme : Type 0 where
+  pub order : Order
   pub width : ℕ
   pub height : ℕ
   pub channels : ℕ
@@ -86,6 +91,7 @@ pub record Scheme : Type 0 where
 
 abbrev pub scheme : List ℕ → Scheme
 scheme bytes = record {
+  order = order bytes;
   width = width bytes;
   height = height bytes;
   channels = channels bytes;

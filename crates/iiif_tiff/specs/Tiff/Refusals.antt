@@ -94,9 +94,9 @@ sides bytes =
 unfoldable pub samples_per_pixel : List ℕ → Option Refusal
 samples_per_pixel bytes = optional bytes SamplesPerPixel one <|> line (channels bytes == 0) (BadField SamplesPerPixel) <|> line (not (channels bytes == 1 || channels bytes == 3)) (Unsupported SamplesPerPixel)
 
--- 8 bits for all samples, or 1 bit for the only one
+-- 8 bits for all samples, or 16, or 1 bit for the only one
 unfoldable pub bits_per_sample : List ℕ → Option Refusal
-bits_per_sample bytes = optional bytes BitsPerSample (one_or (channels bytes)) <|> line (not (all_are bytes BitsPerSample 1 8 || channels bytes == 1 && all_are bytes BitsPerSample 1 1)) (Unsupported BitsPerSample)
+bits_per_sample bytes = optional bytes BitsPerSample (one_or (channels bytes)) <|> line (not (all_are bytes BitsPerSample 1 8 || all_are bytes BitsPerSample 1 16 || channels bytes == 1 && all_are bytes BitsPerSample 1 1)) (Unsupported BitsPerSample)
 
 -- WhiteIsZero (0) or BlackIsZero (1) with one sample, RGB (2) with three
 unfoldable pub photometric : List ℕ → Option Refusal

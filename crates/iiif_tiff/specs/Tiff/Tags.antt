@@ -1,4 +1,5 @@
--- The tags of the fields that decide what an image shows: TIFF 6.0, sections 8, 15, 18 and 19.
+-- The tags of fields: those that decide what an image shows (TIFF 6.0, sections 8, 15, 18 and 19), and those of its
+-- resolution, which every baseline image has (section 8).
 use Rattle.std.specs.Prelude.{ℕ}
 
 abbrev pub ImageWidth : ℕ
@@ -34,8 +35,17 @@ RowsPerStrip = 278
 abbrev pub StripByteCounts : ℕ
 StripByteCounts = 279
 
+abbrev pub XResolution : ℕ
+XResolution = 282
+
+abbrev pub YResolution : ℕ
+YResolution = 283
+
 abbrev pub PlanarConfiguration : ℕ
 PlanarConfiguration = 284
+
+abbrev pub ResolutionUnit : ℕ
+ResolutionUnit = 296
 
 abbrev pub TileWidth : ℕ
 TileWidth = 322

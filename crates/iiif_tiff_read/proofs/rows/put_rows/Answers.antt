@@ -2,7 +2,7 @@ use Rattle.std.proofs.Common.{◌≡◌, ◌+◌, ◌-◌, ◌≤◌, ◌<◌, �
 use Rattle.std.proofs.lemmas.Nat.{row_fits}
 use Rattle.std.specs.Prelude.{slice_index}
 use Rattle.iiif_tiff.specs.Tiff.{stored}
-use Rattle.iiif_tiff_read.proofs.Splice.{length-mid}
+use Rattle.iiif_tiff_read.proofs.Runs.{length-mid}
 use Rattle.iiif_tiff_read.proofs.Windows.{row_held, row_rest}
 use Rattle.iiif_tiff_read.proofs.rows.put_rows.Goals as goal
 

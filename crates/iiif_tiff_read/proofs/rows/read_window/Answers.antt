@@ -1,5 +1,5 @@
 use Rattle.std.proofs.Common.{◌≡◌, ◌+◌, ◌-◌, ◌≤◌, ◌*◌, length, refl, ◌∙◌, arith}
-use Rattle.iiif_tiff_read.proofs.Splice.{length-mid}
+use Rattle.iiif_tiff_read.proofs.Runs.{length-mid}
 use Rattle.iiif_tiff_read.proofs.Spans.{whole_rows, whole_rest, window_read}
 use Rattle.iiif_tiff_read.proofs.rows.read_window.Goals as goal
 
@@ -9,8 +9,8 @@ returns-then-window-clause-held g c = λ keeps.
     let m-is : v.top * v.width + v.rows * v.width - v.top * v.width ≡ v.rows * v.width = omega arith in
     let total : v.top * v.width + v.rows * v.width ≤ length c.args.samples.now = omega (arith, c.requires.fits.rows) in
     let size : length c.read_runs.new.buffer ≡ v.rows * v.width = c.read_runs.ensures.length ∙ length-mid (v.top * v.width) _ (v.rows * v.width) c.args.samples.now m-is total in
-    whole_rows c.args.bits c.args.first c.args.row c.args.stride _ (length c.args.samples.now) c.span_of-span.result v (g.S.Source.bytes c.args.source.now) c.args.samples.now c.read_runs.new.buffer
-    c.if-bits-eq8.true c.span_of-span.ensures c.requires.fits refl c.if-window.true size (c.in_ok-read_runs.ensures.bytes keeps)
+    whole_rows c.args.rows.bits c.args.rows.first c.args.rows.at c.args.rows.stride _ (length c.args.samples.now) c.span_of-span.result v (g.S.Source.bytes c.args.source.now) c.args.samples.now c.read_runs.new.buffer
+    c.if-rows-eq8.true c.span_of-span.ensures c.requires.fits refl c.if-window.true size (c.in_ok-read_runs.ensures.bytes keeps)
 
 pub returns-then-window-clause-rest : goal.returns-then-window-clause-rest
 returns-then-window-clause-rest g c =
@@ -22,5 +22,5 @@ returns-then-window-clause-rest g c =
 
 pub returns-clause-held : goal.returns-clause-held
 returns-clause-held g c = λ keeps.
-    window_read c.args.bits c.args.first c.args.row c.args.stride c.span_of-span.result c.args.window (g.S.Source.bytes c.args.source.now) c.deref.result.now c.put_rows.new.samples c.requires.bits c.span_of-span.ensures
+    window_read c.args.rows.bits c.args.rows.first c.args.rows.at c.args.rows.stride c.span_of-span.result c.args.window (g.S.Source.bytes c.args.source.now) c.deref.result.now c.put_rows.new.samples c.requires.bits c.span_of-span.ensures
     (λ j b lt below. rw c.deref.ensures.value (c.in_ok-read.ensures.bytes keeps j b lt below)) c.put_rows.ensures.held

@@ -1,12 +1,23 @@
 use Rattle.std.proofs.Common.{◌≡◌, ◌∙◌, sym, rules}
+use Rattle.std.specs.Int.{to_le_bytes, w16}
+use Rattle.std.specs.List.{flat_map}
 use Rattle.iiif_tiff_write.specs.File.{strip}
-use Rattle.iiif_tiff_write.proofs.PackingLemmas.{whole_rows}
+use Rattle.iiif_tiff_write.proofs.PackingLemmas.{whole_rows, deep_rows}
 use Rattle.iiif_tiff_write.proofs.rows.put_rows.Goals as goal
 
 pub returns-in-Gray : goal.returns-in-Gray
 returns-in-Gray c =
-    let same : strip c.args.kind c.args.raster.now ≡ c.samples-samples.result.now =
-    whole_rows c.args.raster.now c.args.kind c.samples-samples.ensures.whole c.requires c.in-Gray.is ∙ sym c.samples-samples.ensures.all in
+    let same : strip c.args.kind c.args.raster.now ≡ c.bytes_of.result.now =
+    whole_rows c.args.raster.now c.args.kind c.is_whole.ensures.whole c.requires.channels c.in-Gray.is ∙ sym c.samples.ensures.all ∙ sym c.bytes_of.ensures in
+    record {
+      rows = rw same (search rules);
+      err = search rules;
+    }
+
+pub returns-in-Gray16 : goal.returns-in-Gray16
+returns-in-Gray16 c =
+    let same : strip c.args.kind c.args.raster.now ≡ flat_map (to_le_bytes w16) c.shorts_of.result.now =
+    rw (c.shorts_of.ensures, c.samples-in-Gray16.ensures.all) (deep_rows c.args.raster.now c.args.kind c.is_whole.ensures.whole c.requires.channels c.in-Gray16.is) in
     record {
       rows = rw same (search rules);
       err = search rules;

@@ -1,13 +1,13 @@
 use Rattle.std.proofs.Common.{◌+◌, ◌%◌, ◌<◌, arith}
 use Rattle.std.proofs.lemmas.Nat.{mod_below}
 use Rattle.iiif_tiff_read.specs.declared.rects.Part.{Part}
-use Rattle.iiif_tiff_read.specs.Code.{image_scheme, IsPart}
+use Rattle.iiif_tiff_read.specs.Code.{image_units, IsPart}
 use Rattle.iiif_tiff_read.proofs.Places.{filled_part}
 use Rattle.iiif_tiff_read.proofs.image.Image.fill.Goals as goal
 
 pub loop-left-preserved : goal.loop-left-preserved
 loop-left-preserved g c =
-    let s = image_scheme c.args.self.now in
+    let s = image_units c.args.self.now in
     let p : Part = record { left = c.loop-left.left; top = c.loop-top.top; columns = c.min-columns.result; rows = c.min-rows.result } in
     let x-below : (c.args.rect.x + c.loop-left.left) % s.piece_width < s.piece_width = mod_below (c.args.rect.x + c.loop-left.left) s.piece_width c.requires.sound.piece_width.0 in
     let y-below : (c.args.rect.y + c.loop-top.top) % s.piece_height < s.piece_height = mod_below (c.args.rect.y + c.loop-top.top) s.piece_height c.requires.sound.piece_height.0 in

@@ -1,0 +1,19 @@
+use Rattle.std.proofs.Common.{◌*◌, ◌≤◌, refl, ◌∙◌, arith}
+use Rattle.iiif_tiff_read.proofs.Values.{kind_is, all_inside, all_outside, few_bytes, few_fit}
+use Rattle.iiif_tiff_read.specs.Code.{endian, entry_view}
+use Rattle.iiif_tiff_read.proofs.fields.Fields.few_values.Goals as goal
+
+pub returns-then-len-le4-clause-values : goal.returns-then-len-le4-clause-values
+returns-then-len-le4-clause-values g c = λ p. rw c.if-allowed.true
+    (all_inside (g.S.Source.bytes c.args.self.now.source.now) (endian c.args.self.now.order) (entry_view c.args.entry) c.in-Some.kind c.args.tag c.args.entry.count c.decode.result
+    p.0.order_is (kind_is c.in-Some.kind c.args.entry.kind c.in-Some.ensures) (rw c.size.ensures at c.if-len-le4.true) c.decode.ensures)
+
+pub returns-clause-values : goal.returns-clause-values
+returns-clause-values g c = λ p.
+    let n = c.args.entry.count * c.size.result in
+    let room : n ≤ 12 = rw c.size.ensures (few_fit c.in-Some.kind c.args.entry.count (c.requires c.if-allowed.true)) in
+    let there = few_bytes _ c.read_at.new.buffer (g.S.Source.bytes c.args.self.now.source.now) c.long-offset.result n (c.in_ok-read_at.ensures.bytes_there p.1) room (omega (arith, c.if-len-offset.false)) in
+    rw c.if-allowed.true
+    (all_outside (g.S.Source.bytes c.args.self.now.source.now) (endian c.args.self.now.order) (entry_view c.args.entry) c.in-Some.kind c.args.tag c.args.entry.count c.long-offset.result c.decode-2.result _
+    p.0.order_is (kind_is c.in-Some.kind c.args.entry.kind c.in-Some.ensures) (rw c.size.ensures at c.if-len-le4.false) c.long-offset.ensures
+    (omega (arith, rw c.size.ensures at c.if-len-offset.false)) (there ∙ rw c.size.ensures refl) c.decode-2.ensures)
