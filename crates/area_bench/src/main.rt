@@ -1,12 +1,13 @@
 //! A picture scaled from its tiles: with no argument the check sums of small ones, with `large` the milliseconds of processor
-//! time for a gray one of 10,000 by 10,000 in tiles of 256, the least of five runs. `bench/area/main.rs` does the same in
-//! plain Rust, in one run over the whole picture.
+//! time for a gray one of 10,000 by 10,000 in tiles of 256, the least of five runs, with `sixteen` of 16 bits a sample.
+//! `bench/area/main.rs` does the same in plain Rust, in one run over the whole picture.
 #![tactic(auto)]
 
 ghost use Rattle.std.specs.Prelude.{◌≡◌, IfOk, length};
+ghost use Rattle.iiif_pixel.specs.Depths.{values_of};
 
-use iiif_area::{Sums, is_within_limits, meets};
-use iiif_pixel::{Dim, Kind, NoMemory, Raster, Rect};
+use iiif_area::{Sums, is_scalable, meets};
+use iiif_pixel::{Depth, Dim, Kind, NoMemory, Raster, Rect, Samples, Span};
 use std::alloc::Global;
 use std::time::CpuClock;
 use std::{env, io};
@@ -27,22 +28,44 @@ struct Tile {
 }
 
 /// Samples that look random, the same in each run.
-fn pattern(alloc: Global, count: usize) -> Result<Vec<u8>, NoMemory>
-    ensures { IfOk result (λ v. length v.items ≡ count) }
+fn pattern(alloc: Global, depth: Depth, count: usize) -> Result<Samples, NoMemory>
+    ensures { IfOk result (λ s. length (values_of s) ≡ count) }
 {
-    let mut samples = vec![in alloc; 0u8; count]?;
     let mut state = 12345u32;
-    for sample in samples.iter_mut() {
-        state = state.wrapping_mul(1_664_525).wrapping_add(1_013_904_223);
-        *sample = (state >> 24) as u8;
+    match depth {
+        Depth::Eight => {
+            let mut samples = vec![in alloc; 0u8; count]?;
+            for sample in samples.iter_mut() {
+                state = state.wrapping_mul(1_664_525).wrapping_add(1_013_904_223);
+                *sample = (state >> 24) as u8;
+            }
+            Ok(Samples::Eight(samples))
+        }
+        Depth::Sixteen => {
+            let mut samples = vec![in alloc; 0u16; count]?;
+            for sample in samples.iter_mut() {
+                state = state.wrapping_mul(1_664_525).wrapping_add(1_013_904_223);
+                *sample = (state >> 16) as u16;
+            }
+            Ok(Samples::Sixteen(samples))
+        }
     }
-    Ok(samples)
 }
 
-fn check_sum(samples: &[u8]) -> u64 {
+fn check_sum(samples: Span) -> u64 {
+    let next = |sum: u64, sample: u64| sum.wrapping_mul(31).wrapping_add(sample);
     let mut sum = 0u64;
-    for sample in samples {
-        sum = sum.wrapping_mul(31).wrapping_add(u64::from(*sample));
+    match samples {
+        Span::Eight(samples) => {
+            for sample in samples {
+                sum = next(sum, u64::from(*sample));
+            }
+        }
+        Span::Sixteen(samples) => {
+            for sample in samples {
+                sum = next(sum, u64::from(*sample));
+            }
+        }
     }
     sum
 }
@@ -74,7 +97,7 @@ fn scaled(
     rt: &(impl Print + CpuClock),
     alloc: Global,
     tiles: &[Tile],
-    kind: Kind,
+    (kind, depth): (Kind, Depth),
     region: Rect,
     size: Dim,
     times: &mut Times,
@@ -85,17 +108,14 @@ fn scaled(
         w: size.w,
         h: size.h,
     };
-    let sides = Dim {
-        w: region.w,
-        h: region.h,
-    };
+    let sides = region.dim();
     let mut sums = Sums::zero(alloc, whole, kind)?;
     for tile in tiles {
         let dim = tile.raster.dim();
         if dim.w == tile.at.w
             && dim.h == tile.at.h
             && meets(tile.at, region)
-            && is_within_limits(sides, size)
+            && is_scalable(sides, size)
         {
             let start = rt.thread_cpu_time()?;
             let part = Sums::of_tile(alloc, &tile.raster, tile.at, region, size)?;
@@ -112,11 +132,11 @@ fn scaled(
                 .saturating_add(end.saturating_sub(made).as_micros());
         }
     }
-    if !is_within_limits(sides, size) {
-        return Ok(Raster::new(alloc, size, kind)?);
+    if !is_scalable(sides, size) {
+        return Ok(Raster::new(alloc, size, kind, depth)?);
     }
     let start = rt.thread_cpu_time()?;
-    let made = sums.finish(alloc, sides, sums.rect())?;
+    let made = sums.finish(alloc, sides, sums.rect(), depth)?;
     times.finishing = rt.thread_cpu_time()?.saturating_sub(start).as_micros();
     Ok(made)
 }
@@ -155,7 +175,15 @@ fn measure(
             merging: 0,
             finishing: 0,
         };
-        let made = scaled(rt, alloc, &tiles, picture.kind(), region, size, &mut times)?;
+        let made = scaled(
+            rt,
+            alloc,
+            &tiles,
+            (picture.kind(), picture.depth()),
+            region,
+            size,
+            &mut times,
+        )?;
         sum = check_sum(made.samples());
         least.tiles = least.tiles.min(times.tiles);
         least.merging = least.merging.min(times.merging);
@@ -173,12 +201,17 @@ fn measure(
 
 fn main(rt: HostRuntime) -> io::Result<()> {
     let mut large = false;
+    let mut depth = Depth::Eight;
     for word in env::args(&rt)? {
-        large |= word.as_str() == "large";
+        match word.as_str() {
+            "large" => large = true,
+            "sixteen" => depth = Depth::Sixteen,
+            _ => {}
+        }
     }
     let alloc = rt.alloc();
     if large {
-        let samples = pattern(alloc, 10_000 * 10_000)?;
+        let samples = pattern(alloc, depth, 10_000 * 10_000)?;
         let picture = Raster::from_samples(
             Dim {
                 w: 10_000,
@@ -191,7 +224,7 @@ fn main(rt: HostRuntime) -> io::Result<()> {
             measure(&rt, alloc, &picture, 256, Dim { w: side, h: side }, true)?;
         }
     } else {
-        let samples = pattern(alloc, 37 * 23 * 3)?;
+        let samples = pattern(alloc, depth, 37 * 23 * 3)?;
         let picture = Raster::from_samples(Dim { w: 37, h: 23 }, Kind::Rgb, samples);
         for size in [
             Dim { w: 5, h: 3 },

@@ -98,7 +98,7 @@ span_total-area region size part tile corner i j k n c columns s en ec span h =
 
 -- and it fits
 pub tile_area-fits : (region size : Dim) (part : Rect) (tile : Picture) (corner : ℕ × ℕ) (i j k : ℕ) → region.w * region.h ≤ 2 ^ 32 →
-    ((x y k : ℕ) → sample_at tile x y k ≤ 255) → area_sum region size part (tile_sample tile corner part k) i j < 2 ^ 64
+    ((x y k : ℕ) → sample_at tile x y k ≤ 65535) → area_sum region size part (tile_sample tile corner part k) i j < 2 ^ 64
 unfolding tile_sample
 tile_area-fits region size part tile corner i j k area h =
     area-fits region size part (tile_sample tile corner part k) i j area (λ x y _. omega (arith, h (corner.0 + (x - part.x)) (corner.1 + (y - part.y)) k))

@@ -4,12 +4,13 @@ use Rattle.std.proofs.lemmas.Nat.{same_from_place, div-add-mod', div_below, mod_
 use Rattle.std.proofs.lemmas.Bool.{false≢true, cases_lt, cases_order, and_from, le-leb, lt-ltb}
 use Rattle.std.proofs.lemmas.Bool.Decides.{nat_tests}
 use Rattle.std.proofs.Math.Nat.{mul-le-mul_right}
-use borrow.Rule.Slice.PartMut.{put_mid, post_of}
-use Rattle.std.proofs.lemmas.List.{get_or_append_left, get_or-append_right, get_or_push, length_push, length-take-le, get_or-take, get_or-drop}
+use borrow.Rule.Slice.PartMut.{put_mid}
+use Rattle.std.proofs.lemmas.List.{get_or_append_left, get_or_push, length_push, get_or-take, get_or-drop}
 use Rattle.iiif_pixel.specs.Geometry.{HasPlace}
 use Rattle.iiif_pixel.specs.Picture.{samples_of}
 use Rattle.iiif_pixel.specs.declared.geometry.Rect.{Rect}
-use Rattle.iiif_pixel.proofs.Samples.{index_below, samples_from_places, samples_of-same, get_or-samples_of}
+use Rattle.iiif_pixel.proofs.SampleLists.{index_below, samples_from_places, samples_of-same, get_or-samples_of}
+use Rattle.iiif_pixel.proofs.Splice.{get_or-put_inside, get_or-put_below, get_or-put_above}
 use Rattle.iiif_area.specs.Grid.{Grid, grid_of, sum_at, has_place}
 use Rattle.iiif_area.specs.Laws.{PlaceIsTested}
 
@@ -121,45 +122,25 @@ index_parts n w t h =
 pub part_at : (a k : ℕ) (xs : List ℕ) (t : ℕ) → t < k → get_or (take k (drop a xs)) t 0 ≡ get_or xs (a + t) 0
 part_at a k xs t h = get_or-take k (drop a xs) t 0 h ∙ get_or-drop a xs t 0
 
--- after a write to a part of a list
-written_in : (a k : ℕ) (xs ys : List ℕ) (t p : ℕ) → a ≤ length xs → t < length ys → a + t ≡ p → get_or (put_mid a k xs ys) p 0 ≡ get_or ys t 0
-written_in a k xs ys t p h l e =
-    let d : p - a ≡ t = omega arith in
-    get_or-append_right (take a xs) (ys ++ post_of a k xs) a p 0 (length-take-le a xs h) (omega arith)
-    ∙ ap (λ u. get_or (ys ++ post_of a k xs) u 0) d
-    ∙ get_or_append_left ys (post_of a k xs) 0 t l
-
-written_below : (a k : ℕ) (xs ys : List ℕ) (p : ℕ) → a ≤ length xs → p < a → get_or (put_mid a k xs ys) p 0 ≡ get_or xs p 0
-written_below a k xs ys p h l =
-    get_or_append_left (take a xs) (ys ++ post_of a k xs) 0 p (omega (arith, length-take-le a xs h)) ∙ get_or-take a xs p 0 l
-
-written_above : (a k : ℕ) (xs ys : List ℕ) (p : ℕ) → a ≤ length xs → length ys ≡ k → a + k ≤ p → get_or (put_mid a k xs ys) p 0 ≡ get_or xs p 0
-written_above a k xs ys p h e l =
-    let d : a + (k + (p - a - k)) ≡ p = omega arith in
-    get_or-append_right (take a xs) (ys ++ post_of a k xs) a p 0 (length-take-le a xs h) (omega arith)
-    ∙ get_or-append_right ys (post_of a k xs) k (p - a) 0 e (omega arith)
-    ∙ get_or-drop k (drop a xs) (p - a - k) 0
-    ∙ get_or-drop a xs (k + (p - a - k)) 0
-    ∙ ap (λ u. get_or xs u 0) d
-
 -- The row q of a grid after a write to its places from column l on, m places long: there it is what was written.
 pub get_or-row_written : (xs ys : List ℕ) (w n l m q i k : ℕ) → length ys ≡ m * n → (q * w + l) * n + m * n ≤ length xs → l ≤ i → i < l + m → k < n →
     get_or (put_mid ((q * w + l) * n) (m * n) xs ys) (place_index w n i q k) 0 ≡ get_or ys ((i - l) * n + k) 0
 get_or-row_written xs ys w n l m q i k e f a b c =
     let d = entry-lt (i - l) m n k (omega arith) c in
-    let g : (q * w + l) * n + ((i - l) * n + k) ≡ place_index w n i q k =
+    let g : place_index w n i q k ≡ (q * w + l) * n + ((i - l) * n + k) =
     let h : i ≡ l + (i - l) = omega arith in
     let r : i * n ≡ (l + (i - l)) * n = ap (λ u. u * n) h in omega arith in
-    written_in ((q * w + l) * n) (m * n) xs ys ((i - l) * n + k) (place_index w n i q k) (omega arith) (omega arith) g
+    ap (λ u. get_or (put_mid ((q * w + l) * n) (m * n) xs ys) u 0) g
+    ∙ get_or-put_inside ((q * w + l) * n) (m * n) xs ys ((i - l) * n + k) (omega arith) (omega arith)
 
 -- every other place has what it had
 pub get_or-row_kept : (xs ys : List ℕ) (w n l m q i j k : ℕ) → length ys ≡ m * n → (q * w + l) * n + m * n ≤ length xs → l + m ≤ w → i < w → k < n → (j ≡ q → l ≤ i → i < l + m → ⊥) →
     get_or (put_mid ((q * w + l) * n) (m * n) xs ys) (place_index w n i j k) 0 ≡ get_or xs (place_index w n i j k) 0
 get_or-row_kept xs ys w n l m q i j k e f a b c apart =
-    let before = λ (h : j * w + i < q * w + l). written_below ((q * w + l) * n) (m * n) xs ys (place_index w n i j k) (omega arith) (entry-lt (j * w + i) (q * w + l) n k h c) in
+    let before = λ (h : j * w + i < q * w + l). get_or-put_below ((q * w + l) * n) (m * n) xs ys (place_index w n i j k) (omega arith) (entry-lt (j * w + i) (q * w + l) n k h c) in
     let after = λ (h : q * w + l + m ≤ j * w + i).
     (let s : (q * w + l + m) * n ≤ (j * w + i) * n = mul-le-mul_right n h in
-    written_above ((q * w + l) * n) (m * n) xs ys (place_index w n i j k) (omega arith) e (omega arith)) in
+    get_or-put_above ((q * w + l) * n) (m * n) xs ys (place_index w n i j k) (omega arith) e (omega arith)) in
     ⊎_elim
     (λ (same : j ≡ q). ⊎_elim
     (λ (h : i < l). before (omega (arith, ap (λ u. u * w) same)))

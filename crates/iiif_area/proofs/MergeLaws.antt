@@ -7,7 +7,7 @@ use Rattle.iiif_pixel.specs.Geometry.{HasPlace}
 use Rattle.iiif_pixel.specs.Picture.{Picture, dim_of, sample_at}
 use Rattle.iiif_pixel.specs.declared.geometry.Dim.{Dim}
 use Rattle.iiif_pixel.specs.declared.geometry.Rect.{Rect}
-use Rattle.iiif_pixel.proofs.Samples.{samples_from_places}
+use Rattle.iiif_pixel.proofs.SampleLists.{samples_from_places}
 use Rattle.iiif_area.specs.Laws.{MergingAdds}
 use Rattle.iiif_area.specs.Places.{corner_of, part_of, places_of}
 use Rattle.iiif_area.specs.Grid.{Grid, grid_of, merged, part_sum, sum_at, sums_of}

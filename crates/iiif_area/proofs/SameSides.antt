@@ -6,7 +6,7 @@ use Rattle.iiif_pixel.specs.Picture.{dim_of, sample_at}
 use Rattle.iiif_pixel.specs.Scaling.{sum_from, overlap, weight_of, area_sum, average, whole_of, scaled_at}
 use Rattle.iiif_pixel.specs.declared.geometry.Dim.{Dim}
 use Rattle.iiif_pixel.proofs.CropLaws.{same_built}
-use Rattle.iiif_pixel.proofs.Samples.{picture_of-samples}
+use Rattle.iiif_pixel.proofs.SampleLists.{picture_of-samples}
 use Rattle.iiif_area.specs.Laws.{SameSidesChangeNothing}
 use Rattle.iiif_area.proofs.AreaLaws.{area_by_rows}
 use Rattle.iiif_area.proofs.SumLaws.{sum_from-narrow, sum_from-one}

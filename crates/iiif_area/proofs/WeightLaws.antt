@@ -1,22 +1,13 @@
 -- The laws of overlaps and weights.
-use Rattle.std.proofs.Common.{ap, ◌≡◌, ℕ, zero, suc, ◌+◌, ◌-◌, ◌*◌, ◌/◌, ◌<◌, ◌≤◌, ◌∙◌, arith}
+use Rattle.std.proofs.Common.{ap, ◌≡◌, ℕ, ◌+◌, ◌*◌, ◌/◌, ◌<◌, ◌≤◌, ◌∙◌, arith}
 use Rattle.std.proofs.Math.Nat.{mul-le-mul_right, le_trans}
 use Rattle.std.proofs.lemmas.Nat.{div-add-mod', mod_below}
 use Rattle.std.proofs.lemmas.Grind.{div_ceil_times}
 use Rattle.std.specs.Int.{div_ceil}
 use Rattle.iiif_pixel.specs.Scaling.{sum_from, overlap, weight_of}
+use Rattle.iiif_pixel.proofs.ScaleLemmas.{overlaps_add, weights-le}
 use Rattle.iiif_area.specs.Laws.{WeightsAddUp, NoWeightBefore, NoWeightFrom}
 use Rattle.iiif_area.proofs.SumLaws.{sum_from-same, sum_from-shift, weighted_sum-le}
-
--- the parts of [p, q) in the columns u to u + n of width c are its part in all of them
-pub overlaps_add : (p q c u n : ℕ) → p ≤ q → sum_from u n (λ x. overlap p q (x * c) ((x + 1) * c)) ≡ overlap p q (u * c) ((u + n) * c)
-unfolding sum_from overlap
-overlaps_add p q c u zero h = omega arith
-overlaps_add p q c u (suc n) h = omega (arith, overlaps_add p q c u n h)
-
-pub overlap-le : (p q r s : ℕ) → overlap p q r s ≤ q - p
-unfolding overlap
-overlap-le p q r s = omega arith
 
 pub overlap_turned : (p q r s : ℕ) → overlap p q r s ≡ overlap r s p q
 unfolding overlap
@@ -39,11 +30,6 @@ weight_after i x a c h = omega arith
 pub weights_are : (i a c u n : ℕ) → sum_from u n (λ x. weight_of i x a c) ≡ overlap (i * a) ((i + 1) * a) (u * c) ((u + n) * c)
 unfolding weight_of
 weights_are i a c u n = overlaps_add (i * a) ((i + 1) * a) c u n (omega arith)
-
-pub weights-le : (i a c u n : ℕ) → sum_from u n (λ x. weight_of i x a c) ≤ a
-weights-le i a c u n =
-    let e = overlap-le (i * a) ((i + 1) * a) (u * c) ((u + n) * c) in
-    omega (arith, weights_are i a c u n)
 
 -- each result column takes a in all
 pub weights_whole : WeightsAddUp

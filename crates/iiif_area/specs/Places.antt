@@ -43,8 +43,8 @@ places_of region size part =
       h = div_ceil ((part.y + part.h) * size.h) region.h - top;
     }
 
--- Neither a region nor the sides that it is scaled to are empty, and the region is small enough for sums to fit 64 bits.
-pub record IsWithinLimits (region size : Dim) : Type 0 where
+-- A region can be scaled to these sides: neither is empty, and the region is small enough for its sums to fit 64 bits.
+pub record IsScalable (region size : Dim) : Type 0 where
   pub columns : 0 < region.w
   pub rows : 0 < region.h
   pub area : region.w * region.h ≤ 2 ^ 32

@@ -1,12 +1,13 @@
 //! The sums over a tile: each result row adds up the tile's columns, and each result place takes its part of them.
 
-ghost use Rattle.std.specs.Prelude.{◌≡◌, ℕ, ◌+◌, ◌*◌, ◌<◌, ◌≤◌, ◌^◌, length, slice_index, slice_index_or, EachIndex, vec_len, IfOk};
+ghost use Rattle.std.specs.Prelude.{◌≡◌, ℕ, ◌+◌, ◌*◌, ◌<◌, ◌≤◌, ◌^◌, length, slice_index, slice_index_or, vec_len, IfOk};
 ghost use Rattle.iiif_pixel.specs.Geometry.{LiesIn};
 ghost use Rattle.iiif_pixel.specs.Picture.{samples_of, sample_at};
 ghost use Rattle.iiif_pixel.specs.Scaling.{area_sum};
-ghost use Rattle.iiif_area.specs.Places.{places_of, IsWithinLimits};
+ghost use Rattle.iiif_area.specs.Places.{places_of, IsScalable};
 ghost use Rattle.iiif_area.specs.Code.{column_sum, span_total, tile_sample, IsSpan};
 
+use crate::rows::add_row;
 use crate::weights::{sources, weight};
 use iiif_pixel::{Dim, NoMemory, Raster, Rect};
 use std::alloc::{AllocError, Global};
@@ -31,7 +32,7 @@ pub(crate) fn tile_sums(
     size: Dim,
     rect: Rect,
 ) -> Result<Vec<u64>, NoMemory>
-    requires limits { IsWithinLimits region size }
+    requires limits { IsScalable region size }
     requires inside { LiesIn part region }
     requires held { (corner.0 + part.w ≤ tile.now.width) × (corner.1 + part.h ≤ tile.now.height) }
     requires corner { corner.1 + part.h < 2 ^ 32 }
@@ -39,13 +40,13 @@ pub(crate) fn tile_sums(
     ensures { IfOk result (λ v. v.items ≡ samples_of rect.w rect.h tile.now.channels
         (λ i j k. area_sum region size part (tile_sample tile.now corner part k) (rect.x + i) (rect.y + j))) }
 {
-    let _samples = tile.samples();
+    // No sample is above 65,535, so the sums fit.
+    tile.is_whole();
     let channels = tile.kind().channels();
     let mut cells = vec![in alloc; 0u64; part.w as usize * channels]?;
     let columns = cells.as_mut_slice();
     let spans = spans(alloc, rect.x, rect.w, region.w, size.w, part.x, part.w)?;
-    let places = rect.w as usize * rect.h as usize;
-    let Some(count) = places.checked_mul(channels) else {
+    let Some(count) = tile.kind().count(rect.dim()) else {
         return Err(AllocError);
     };
     let mut sums = Vec::with_capacity(alloc, count)?;
@@ -121,7 +122,7 @@ fn fill_columns(
     j: u32,
 )
     requires divides { 0 < d }
-    requires samples { (x y k : ℕ) → sample_at tile.now x y k ≤ 255 }
+    requires samples { (x y k : ℕ) → sample_at tile.now x y k ≤ 65535 }
     requires inside { part.y + part.h ≤ b }
     requires held { (corner.0 + part.w ≤ tile.now.width) × (corner.1 + part.h ≤ tile.now.height) }
     requires corner { corner.1 + part.h < 2 ^ 32 }
@@ -133,18 +134,7 @@ fn fill_columns(
     let (start, end) = sources(j, b, d, part.y, part.h);
     for s in start..end {
         let row = tile.span(corner.0, corner.1 + s, part.w);
-        add_weighted(columns, row, weight(j, part.y + s, b, d) as u32);
-    }
-}
-
-/// Adds each number of `row`, times `weight`, to that of `columns` at its index.
-fn add_weighted(columns: &mut [u64], row: &[u8], weight: u32)
-    requires same { length columns.old ≡ length row.now }
-    requires room { (t : ℕ) → t < length columns.old → slice_index columns.old t + weight * slice_index row.now t < 2 ^ 64 }
-    ensures { EachIndex columns.new (λ t. slice_index columns.new t ≡ slice_index columns.old t + weight * slice_index row.now t) }
-{
-    for (t, column) in columns.iter_mut().enumerate() {
-        *column += u64::from(weight) * u64::from(row[t]);
+        add_row(columns, row, weight(j, part.y + s, b, d) as u32);
     }
 }
 

@@ -3,7 +3,7 @@
 ghost use Rattle.std.specs.Prelude.{◌≡◌, ℕ, ◌+◌, ◌<◌, ◌≤◌, ◌↔◌, IsTrue, ◌-◌, ◌*◌, ◌/◌, min, max};
 ghost use Rattle.std.specs.Int.{div_ceil};
 ghost use Rattle.iiif_pixel.specs.Geometry.{HasPlace, LiesIn};
-ghost use Rattle.iiif_area.specs.Places.{corner_of, part_of, places_of, IsInside, IsWithinLimits, Meets};
+ghost use Rattle.iiif_area.specs.Places.{corner_of, part_of, places_of, IsInside, IsScalable, Meets};
 
 use iiif_pixel::{Dim, Rect};
 
@@ -64,9 +64,9 @@ pub fn is_inside(rect: Rect, whole: Rect) -> bool
         && end(rect.y, rect.h) <= end(whole.y, whole.h)
 }
 
-/// Whether neither the region nor the sides that it is scaled to are empty, and the region's sums fit 64 bits.
-pub fn is_within_limits(region: Dim, size: Dim) -> bool
-    ensures { IsTrue result ↔ IsWithinLimits region size }
+/// Whether the region can be scaled to these sides: neither is empty, and the region's sums fit 64 bits.
+pub fn is_scalable(region: Dim, size: Dim) -> bool
+    ensures { IsTrue result ↔ IsScalable region size }
 {
     let area = u64::from(region.w) * u64::from(region.h);
     region.w > 0 && region.h > 0 && area <= 1 << 32 && size.w > 0 && size.h > 0

@@ -17,7 +17,8 @@ fn counted_weight(i: u32, x: u32, a: u32, c: u32) -> u64 {
     count
 }
 
-fn sample(picture: &Raster, x: u32, y: u32, channel: usize) -> u64 {
+/// The sample at a place; 0 outside the picture.
+pub fn sample(picture: &Raster, x: u32, y: u32, channel: usize) -> u64 {
     let dim = picture.dim();
     if x < dim.w && y < dim.h && channel < picture.kind().channels() {
         u64::from(picture.get(x, y, channel))
@@ -56,11 +57,15 @@ pub fn sum_at(
     sum
 }
 
-/// The average of a sum over a whole region, to the nearest, a half up.
+/// The average of a sum over a whole region, to the nearest, a half up: the greatest number of 16 bits that is no further
+/// above it than a half.
 pub fn average(region: Rect, sum: u64) -> u64 {
     let area = u64::from(region.w) * u64::from(region.h);
-    let mut least = 0;
-    for value in 0..256u64 {
+    let mut least = 0u64;
+    for step in [
+        32_768u64, 16_384, 8192, 4096, 2048, 1024, 512, 256, 128, 64, 32, 16, 8, 4, 2, 1,
+    ] {
+        let value = least.wrapping_add(step);
         // value - 1/2 <= sum / area
         if value.wrapping_mul(2).wrapping_mul(area) <= sum.wrapping_mul(2).wrapping_add(area) {
             least = value;

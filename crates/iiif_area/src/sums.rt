@@ -1,22 +1,20 @@
 //! Sums at result places: of a tile, merged, and made into samples.
 
-ghost use Rattle.std.specs.Prelude.{◌≡◌, ℕ, ◌*◌, ◌<◌, ◌≤◌, ◌^◌, ◌+◌, ◌/◌, IfOk, length, min};
-ghost use Rattle.iiif_pixel.specs.Geometry.{channels_of, sides_of, LiesIn};
+ghost use Rattle.std.specs.Prelude.{◌≡◌, ℕ, ◌*◌, ◌<◌, ◌≤◌, ◌^◌, IfOk, length};
+ghost use Rattle.iiif_pixel.specs.Geometry.{channels_of, sides_of, top_of, LiesIn};
 ghost use Rattle.iiif_pixel.specs.Picture.{Picture, dim_of, IsWhole};
 ghost use Rattle.iiif_pixel.specs.Operations.{crop};
 ghost use Rattle.iiif_pixel.specs.Scaling.{scale, whole_of};
-ghost use Rattle.iiif_area.specs.Places.{part_of, places_of, IsInside, IsWithinLimits, Meets};
+ghost use Rattle.iiif_area.specs.Places.{part_of, places_of, IsInside, IsScalable, Meets};
 ghost use Rattle.iiif_area.specs.Grid.{finished, grid_of, merged, sums_at, sums_of, IsGrid};
 
+use crate::averages::push_averages;
 use crate::columns::tile_sums;
 use crate::merging::add_places;
 use crate::places::{corner_of, part_of, places_of};
-use iiif_pixel::{Dim, Kind, NoMemory, Raster, Rect};
+use iiif_pixel::{Depth, Dim, Kind, NoMemory, Raster, Rect, Samples};
 use std::alloc::{AllocError, Global};
 use std::marker::Model;
-
-/// The greatest sample of a raster of 8 bits.
-const TOP: u64 = 255;
 
 /// A rectangle of result places, with a sum for each place and channel.
 #[derive(Drop)]
@@ -43,8 +41,7 @@ impl Sums {
     pub fn zero(alloc: Global, rect: Rect, kind: Kind) -> Result<Sums, NoMemory>
         ensures { IfOk result (λ s. s ≡ grid_of rect (channels_of kind) (λ i j k. 0)) }
     {
-        let places = rect.w as usize * rect.h as usize;
-        let Some(count) = places.checked_mul(kind.channels()) else {
+        let Some(count) = kind.count(rect.dim()) else {
             return Err(AllocError);
         };
         Ok(Sums {
@@ -73,15 +70,12 @@ impl Sums {
     ) -> Result<Sums, NoMemory>
         requires sides { dim_of tile.now ≡ sides_of at }
         requires meets { Meets at region }
-        requires limits { IsWithinLimits (sides_of region) size }
+        requires limits { IsScalable (sides_of region) size }
         ensures sums { IfOk result (λ s. (p : Picture) → tile.now ≡ crop p at → s ≡ sums_of (crop p region) size (part_of at region)) }
         ensures places { IfOk result (λ s. s.rect ≡ places_of (sides_of region) size (part_of at region)) }
         ensures channels { IfOk result (λ s. s.channels ≡ tile.now.channels) }
     {
-        let sides = Dim {
-            w: region.w,
-            h: region.h,
-        };
+        let sides = region.dim();
         let part = part_of(at, region);
         let rect = places_of(sides, size, part);
         let corner = corner_of(at, region);
@@ -100,6 +94,7 @@ impl Sums {
         self.rect
     }
 
+    /// Gray or RGB.
     pub fn kind(&self) -> Kind
         ensures { channels_of result ≡ self.now.channels }
     {
@@ -124,16 +119,22 @@ impl Sums {
         add_places(channels, self.rect, &mut self.sums, other.rect, &other.sums);
     }
 
-    /// The samples that sums over the whole of a region make at the places of `rect`: the averages, rounded to the nearest
-    /// and a half up, and the greatest sample for any above it. Where they are the sums of a picture, as `of_tile` and
-    /// `merge` give them, the raster is that part of the scaled picture.
-    pub fn finish(&self, alloc: Global, region: Dim, rect: Rect) -> Result<Raster, NoMemory>
+    /// The samples of a depth that sums over the whole of a region make at the places of `rect`: the averages, rounded to the
+    /// nearest and a half up, and the depth's greatest sample for any above it. Where they are the sums of a picture of this
+    /// depth, as `of_tile` and `merge` give them, the raster is that part of the scaled picture.
+    pub fn finish(
+        &self,
+        alloc: Global,
+        region: Dim,
+        rect: Rect,
+        depth: Depth,
+    ) -> Result<Raster, NoMemory>
         requires columns { 0 < region.w }
         requires rows { 0 < region.h }
         requires area { region.w * region.h ≤ 2 ^ 32 }
         requires inside { IsInside rect self.now.rect }
-        ensures samples { IfOk result (λ r. r ≡ finished self.now region 255 rect) }
-        ensures scaled { IfOk result (λ r. (p : Picture) (size : Dim) → IsWhole p → p.top ≡ 255 → dim_of p ≡ region → LiesIn rect size
+        ensures samples { IfOk result (λ r. r ≡ finished self.now region (top_of depth) rect) }
+        ensures scaled { IfOk result (λ r. (p : Picture) (size : Dim) → IsWhole p → p.top ≡ top_of depth → dim_of p ≡ region → LiesIn rect size
             → self.now ≡ sums_at self.now.rect p size (whole_of (dim_of p)) → r ≡ crop (scale p size) rect) }
     {
         let area = u64::from(region.w) * u64::from(region.h);
@@ -144,25 +145,11 @@ impl Sums {
             (rect.y - self.rect.y) as usize,
         );
         let run = rect.w as usize * channels;
-        let mut samples = Vec::with_capacity(alloc, run * rect.h as usize)?;
+        let mut samples = Samples::with_capacity(alloc, depth, run * rect.h as usize)?;
         for y in 0..rect.h as usize {
             let from = ((top + y) * width + left) * channels;
-            for sum in &self.sums[from..from + run] {
-                samples.push_reserved(rounded(*sum, area));
-            }
+            push_averages(&mut samples, &self.sums[from..from + run], area);
         }
-        let dim = Dim {
-            w: rect.w,
-            h: rect.h,
-        };
-        Ok(Raster::from_samples(dim, self.kind, samples))
+        Ok(Raster::from_samples(rect.dim(), self.kind, samples))
     }
-}
-
-/// `sum / area` to the nearest whole number, a half up, and `TOP` for any above it.
-fn rounded(sum: u64, area: u64) -> u8
-    requires { (0 < area) × (area ≤ 2 ^ 32) }
-    ensures { result ≡ min 255 ((2 * sum + area) / (2 * area)) }
-{
-    (sum.saturating_add(area / 2) / area).min(TOP) as u8
 }

@@ -2,11 +2,11 @@
 
 ghost use Rattle.std.specs.Prelude.{◌≡◌, ◌*◌, IfOk, length};
 
-use crate::places::{is_inside, is_within_limits, meets};
+use crate::places::{is_inside, is_scalable, meets};
 use crate::plain;
 use crate::sums::Sums;
 use crate::weights::weight;
-use iiif_pixel::{Dim, Kind, NoMemory, Raster, Rect};
+use iiif_pixel::{Depth, Dim, Kind, NoMemory, Raster, Rect, Samples, Span};
 use std::alloc::Global;
 use std::process::Abort;
 use std::test::Fail;
@@ -17,40 +17,36 @@ fn rect(x: u32, y: u32, w: u32, h: u32) -> Rect
     Rect { x, y, w, h }
 }
 
-fn sides(rect: Rect) -> Dim
-    ensures { result ≡ record { w = rect.w; h = rect.h } }
-{
-    Dim {
-        w: rect.w,
-        h: rect.h,
-    }
-}
-
 /// 4 by 4, 10 more with each column and 40 more with each row.
 fn steps(alloc: Global) -> Result<Raster, NoMemory> {
     let samples = vec![in alloc;
         0, 10, 20, 30, 40, 50, 60, 70, 80, 90, 100, 110, 120, 130, 140, 150,
     ]?;
-    Ok(Raster::from_samples(Dim { w: 4, h: 4 }, Kind::Gray, samples))
+    Ok(Raster::from_samples(Dim { w: 4, h: 4 }, Kind::Gray, Samples::Eight(samples)))
 }
 
 /// A gray row of these samples.
 fn row(alloc: Global, samples: [u8; 4]) -> Result<Raster, NoMemory> {
     let samples = Vec::from_array(alloc, samples)?;
-    Ok(Raster::from_samples(Dim { w: 4, h: 1 }, Kind::Gray, samples))
+    Ok(Raster::from_samples(Dim { w: 4, h: 1 }, Kind::Gray, Samples::Eight(samples)))
 }
 
 /// A picture of samples that look random.
-fn pattern(alloc: Global, dim: Dim, kind: Kind) -> Result<Raster, NoMemory> {
-    let mut picture = Raster::new(alloc, dim, kind)?;
+fn pattern(alloc: Global, dim: Dim, kind: Kind, depth: Depth) -> Result<Raster, NoMemory> {
+    let mut picture = Raster::new(alloc, dim, kind, depth)?;
     let mut state = 12345u32;
     for y in 0..dim.h {
         for x in 0..dim.w {
             for channel in 0..kind.channels() {
                 state = state.wrapping_mul(1_664_525).wrapping_add(1_013_904_223);
                 let at = picture.dim();
+                let value = match depth {
+                    Depth::Eight => state >> 24,
+                    Depth::Sixteen => state >> 16,
+                };
+                let value = (value as u16).min(picture.depth().top());
                 if x < at.w && y < at.h && channel < picture.kind().channels() {
-                    picture.set(x, y, channel, (state >> 24) as u8);
+                    picture.set(x, y, channel, value);
                 }
             }
         }
@@ -69,9 +65,9 @@ fn tile_sums(
 ) -> Result<Sums, NoMemory> {
     assert!(rt; at.lies_in(picture.dim()));
     let tile = picture.crop(at)?;
-    assert!(rt; tile.dim() == sides(at));
+    assert!(rt; tile.dim() == at.dim());
     assert!(rt; meets(at, region));
-    assert!(rt; is_within_limits(sides(region), size));
+    assert!(rt; is_scalable(region.dim(), size));
     Sums::of_tile(alloc, &tile, at, region, size)
 }
 
@@ -87,11 +83,12 @@ fn finish(
     sums: &Sums,
     region: Rect,
     part: Rect,
+    depth: Depth,
 ) -> Result<Raster, NoMemory> {
-    let sides = sides(region);
-    assert!(rt; is_within_limits(sides, sides));
+    let sides = region.dim();
+    assert!(rt; is_scalable(sides, sides));
     assert!(rt; is_inside(part, sums.rect()));
-    sums.finish(alloc, sides, part)
+    sums.finish(alloc, sides, part, depth)
 }
 
 /// The region of a picture scaled to `size`, of the sums of the picture's tiles with this edge.
@@ -121,6 +118,14 @@ fn scaled(
     Ok(sums)
 }
 
+/// The samples of a raster of 8 bits; none of another.
+fn bytes(raster: &Raster) -> &[u8] {
+    match raster.samples() {
+        Span::Eight(samples) => samples,
+        Span::Sixteen(_) => &[],
+    }
+}
+
 /// Each sum is what the plain way gives.
 fn compare_sums(rt: &impl Abort, picture: &Raster, at: Rect, region: Rect, size: Dim, sums: &Sums) {
     let places = sums.rect();
@@ -146,18 +151,18 @@ fn compare_samples(
     part: Rect,
     made: &Raster,
 ) {
-    let mut samples = made.samples().iter();
+    assert!(rt; made.dim() == part.dim());
+    assert!(rt; made.kind() == picture.kind() && made.depth() == picture.depth());
     for j in 0..part.h {
         for i in 0..part.w {
             for channel in 0..picture.kind().channels() {
                 let (x, y) = (part.x.wrapping_add(i), part.y.wrapping_add(j));
                 let sum = plain::sum_at(picture, region, region, size, x, y, channel);
                 let plain = plain::average(region, sum);
-                assert_eq!(rt; samples.next().map(|s| u64::from(*s)), Some(plain));
+                assert_eq!(rt; plain::sample(made, i, j, channel), plain);
             }
         }
     }
-    assert!(rt; samples.next().is_none());
 }
 
 /// A region of the picture at one size, from tiles of edge 1 to 5, whole and row by row.
@@ -170,11 +175,11 @@ fn compare_cuts(
 ) -> Result<(), NoMemory> {
     for edge in 1..6 {
         let sums = scaled(rt, alloc, picture, region, size, edge)?;
-        let made = finish(rt, alloc, &sums, region, sums.rect())?;
+        let made = finish(rt, alloc, &sums, region, sums.rect(), picture.depth())?;
         compare_samples(rt, picture, region, size, sums.rect(), &made);
         for j in 0..size.h {
             let band = rect(0, j, size.w, 1);
-            let made = finish(rt, alloc, &sums, region, band)?;
+            let made = finish(rt, alloc, &sums, region, band, picture.depth())?;
             compare_samples(rt, picture, region, size, band, &made);
         }
     }
@@ -182,8 +187,14 @@ fn compare_cuts(
 }
 
 /// All rectangles of a picture, at all sizes up to one above theirs.
-fn compare_all(rt: &impl Abort, alloc: Global, dim: Dim, kind: Kind) -> Result<(), NoMemory> {
-    let picture = pattern(alloc, dim, kind)?;
+fn compare_all(
+    rt: &impl Abort,
+    alloc: Global,
+    dim: Dim,
+    kind: Kind,
+    depth: Depth,
+) -> Result<(), NoMemory> {
+    let picture = pattern(alloc, dim, kind, depth)?;
     for y in 0..dim.h {
         for x in 0..dim.w {
             for h in 1..=dim.h - y {
@@ -203,14 +214,60 @@ fn compare_all(rt: &impl Abort, alloc: Global, dim: Dim, kind: Kind) -> Result<(
 
 #[test]
 fn all_cuts_of_gray_pictures_agree(rt: HostRuntime) -> Result<(), Fail> {
-    compare_all(&rt, rt.alloc(), Dim { w: 5, h: 3 }, Kind::Gray)?;
-    compare_all(&rt, rt.alloc(), Dim { w: 2, h: 4 }, Kind::Gray)?;
+    compare_all(
+        &rt,
+        rt.alloc(),
+        Dim { w: 5, h: 3 },
+        Kind::Gray,
+        Depth::Eight,
+    )?;
+    compare_all(
+        &rt,
+        rt.alloc(),
+        Dim { w: 2, h: 4 },
+        Kind::Gray,
+        Depth::Eight,
+    )?;
     Ok(())
 }
 
 #[test]
 fn all_cuts_of_rgb_pictures_agree(rt: HostRuntime) -> Result<(), Fail> {
-    compare_all(&rt, rt.alloc(), Dim { w: 3, h: 3 }, Kind::Rgb)?;
+    compare_all(&rt, rt.alloc(), Dim { w: 3, h: 3 }, Kind::Rgb, Depth::Eight)?;
+    Ok(())
+}
+
+#[test]
+fn all_cuts_of_sixteen_bits_agree(rt: HostRuntime) -> Result<(), Fail> {
+    compare_all(
+        &rt,
+        rt.alloc(),
+        Dim { w: 3, h: 2 },
+        Kind::Gray,
+        Depth::Sixteen,
+    )?;
+    compare_all(
+        &rt,
+        rt.alloc(),
+        Dim { w: 2, h: 2 },
+        Kind::Rgb,
+        Depth::Sixteen,
+    )?;
+    Ok(())
+}
+
+#[test]
+fn half_of_sixteen_bits_rounds_up(rt: HostRuntime) -> Result<(), Fail> {
+    let alloc = rt.alloc();
+    for (white, average) in [(65_535, 32_768), (65_534, 32_767)] {
+        let samples = Vec::from_array(alloc, [0, white])?;
+        let dim = Dim { w: 2, h: 1 };
+        let picture = Raster::from_samples(dim, Kind::Gray, Samples::Sixteen(samples));
+        let region = rect(0, 0, 2, 1);
+        let sums = scaled(&rt, alloc, &picture, region, Dim { w: 1, h: 1 }, 1)?;
+        let made = finish(&rt, alloc, &sums, region, rect(0, 0, 1, 1), Depth::Sixteen)?;
+        assert_eq!(rt; made.samples(), Span::Sixteen(&[average]));
+    }
     Ok(())
 }
 
@@ -220,8 +277,8 @@ fn half_width_averages_columns(rt: HostRuntime) -> Result<(), Fail> {
     let picture = steps(alloc)?;
     let region = rect(0, 0, 4, 4);
     let sums = scaled(&rt, alloc, &picture, region, Dim { w: 2, h: 2 }, 2)?;
-    let made = finish(&rt, alloc, &sums, region, rect(0, 0, 2, 2))?;
-    assert_eq!(rt; made.samples(), [25, 45, 105, 125].as_slice());
+    let made = finish(&rt, alloc, &sums, region, rect(0, 0, 2, 2), Depth::Eight)?;
+    assert_eq!(rt; bytes(&made), [25, 45, 105, 125].as_slice());
     Ok(())
 }
 
@@ -231,13 +288,13 @@ fn three_of_four_columns_take_parts(rt: HostRuntime) -> Result<(), Fail> {
     let picture = steps(alloc)?;
     let region = rect(0, 0, 4, 4);
     let sums = scaled(&rt, alloc, &picture, region, Dim { w: 3, h: 3 }, 2)?;
-    let made = finish(&rt, alloc, &sums, region, rect(0, 0, 3, 3))?;
+    let made = finish(&rt, alloc, &sums, region, rect(0, 0, 3, 3), Depth::Eight)?;
     assert_eq!(rt;
-        made.samples(),
+        bytes(&made),
         [13, 25, 38, 63, 75, 88, 113, 125, 138].as_slice()
     );
-    let band = finish(&rt, alloc, &sums, region, rect(1, 2, 2, 1))?;
-    assert_eq!(rt; band.samples(), [125, 138].as_slice());
+    let band = finish(&rt, alloc, &sums, region, rect(1, 2, 2, 1), Depth::Eight)?;
+    assert_eq!(rt; bytes(&band), [125, 138].as_slice());
     Ok(())
 }
 
@@ -245,11 +302,11 @@ fn three_of_four_columns_take_parts(rt: HostRuntime) -> Result<(), Fail> {
 fn a_half_rounds_up_in_each_channel(rt: HostRuntime) -> Result<(), Fail> {
     let alloc = rt.alloc();
     let samples = vec![in alloc; 2, 0, 0, 0, 0, 0]?;
-    let picture = Raster::from_samples(Dim { w: 2, h: 1 }, Kind::Rgb, samples);
+    let picture = Raster::from_samples(Dim { w: 2, h: 1 }, Kind::Rgb, Samples::Eight(samples));
     let region = rect(0, 0, 2, 1);
     let sums = scaled(&rt, alloc, &picture, region, Dim { w: 1, h: 1 }, 1)?;
-    let made = finish(&rt, alloc, &sums, region, rect(0, 0, 1, 1))?;
-    assert_eq!(rt; made.samples(), [1, 0, 0].as_slice());
+    let made = finish(&rt, alloc, &sums, region, rect(0, 0, 1, 1), Depth::Eight)?;
+    assert_eq!(rt; bytes(&made), [1, 0, 0].as_slice());
     Ok(())
 }
 
@@ -259,8 +316,8 @@ fn a_quarter_rounds_down_and_its_own_square_does_not(rt: HostRuntime) -> Result<
     let picture = row(alloc, [0, 1, 0, 0])?;
     for (region, sample) in [(rect(0, 0, 4, 1), 0), (rect(1, 0, 1, 1), 1)] {
         let sums = scaled(&rt, alloc, &picture, region, Dim { w: 1, h: 1 }, 2)?;
-        let made = finish(&rt, alloc, &sums, region, rect(0, 0, 1, 1))?;
-        assert_eq!(rt; made.samples(), [sample].as_slice());
+        let made = finish(&rt, alloc, &sums, region, rect(0, 0, 1, 1), Depth::Eight)?;
+        assert_eq!(rt; bytes(&made), [sample].as_slice());
     }
     Ok(())
 }
@@ -271,11 +328,8 @@ fn larger_sizes_are_averages_too(rt: HostRuntime) -> Result<(), Fail> {
     let picture = steps(alloc)?;
     let region = rect(0, 0, 2, 2);
     let sums = scaled(&rt, alloc, &picture, region, Dim { w: 3, h: 3 }, 2)?;
-    let made = finish(&rt, alloc, &sums, region, rect(0, 0, 3, 3))?;
-    assert_eq!(rt;
-        made.samples(),
-        [0, 5, 10, 20, 25, 30, 40, 45, 50].as_slice()
-    );
+    let made = finish(&rt, alloc, &sums, region, rect(0, 0, 3, 3), Depth::Eight)?;
+    assert_eq!(rt; bytes(&made), [0, 5, 10, 20, 25, 30, 40, 45, 50].as_slice());
     Ok(())
 }
 
@@ -305,8 +359,24 @@ fn sums_from_elsewhere_are_cut_off_and_others_kept(rt: HostRuntime) -> Result<()
     assert_eq!(rt; sums.sums(), [u64::MAX].as_slice());
     assert_eq!(rt; sums.rect(), rect(last, last, 1, 1));
     let region = rect(0, 0, 1, 1);
-    let made = finish(&rt, alloc, &sums, region, rect(last, last, 1, 1))?;
-    assert_eq!(rt; made.samples(), [255].as_slice());
+    let made = finish(
+        &rt,
+        alloc,
+        &sums,
+        region,
+        rect(last, last, 1, 1),
+        Depth::Eight,
+    )?;
+    assert_eq!(rt; bytes(&made), [255].as_slice());
+    let made = finish(
+        &rt,
+        alloc,
+        &sums,
+        region,
+        rect(last, last, 1, 1),
+        Depth::Sixteen,
+    )?;
+    assert_eq!(rt; made.samples(), Span::Sixteen(&[65_535]));
     // four places, of which the other sums have the lower right one
     let mut sums = Sums::zero(alloc, rect(last - 2, last - 1, 2, 2), Kind::Gray)?;
     merge(&rt, &mut sums, &more);

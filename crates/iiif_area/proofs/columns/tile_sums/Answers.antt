@@ -2,15 +2,15 @@ use Rattle.std.proofs.Common.{◌≡◌, ℕ, ◌+◌, ◌*◌, ◌≤◌, arith
 use Rattle.std.proofs.Math.Nat.{mul-le-mul_right}
 use Rattle.iiif_pixel.specs.Picture.{samples_of}
 use Rattle.iiif_pixel.specs.Scaling.{area_sum}
-use Rattle.iiif_pixel.proofs.Samples.{index_below}
-use Rattle.iiif_pixel.proofs.Whole.{sample_at-le}
+use Rattle.iiif_pixel.proofs.SampleLists.{index_below}
+use Rattle.iiif_pixel.proofs.Whole.{sample_at-le, top-le}
 use Rattle.iiif_area.specs.Code.{tile_sample, IsSpan}
 use Rattle.iiif_area.proofs.ColumnLaws.{span_total-area, tile_area-fits}
 use Rattle.iiif_area.proofs.GridLaws.{FilledTo-push, filled_is}
 use Rattle.iiif_area.proofs.columns.tile_sums.Goals as goal
 
 pub fill_columns-requires-clause-samples : goal.fill_columns-requires-clause-samples
-fill_columns-requires-clause-samples c = λ x y k. omega (arith, sample_at-le c.args.tile.now c.samples-samples.ensures.whole x y k, c.samples-samples.ensures.top)
+fill_columns-requires-clause-samples c = λ x y k. omega (arith, sample_at-le c.args.tile.now c.is_whole.ensures.whole x y k, top-le c.args.tile.now c.is_whole.ensures.whole)
 
 pub span_sum-sum-requires-clause-within : goal.span_sum-sum-requires-clause-within
 span_sum-sum-requires-clause-within c =
@@ -31,7 +31,7 @@ span_sum-sum-requires-clause-fits c =
     let sum = span_total-area c.args.region c.args.size c.args.part c.args.tile.now c.args.corner i j k c.channels-channels.result c.from.result c.fill_columns.new.columns c.index-span.result.now
     ch c.from.ensures span (λ t l. c.fill_columns.ensures t k l (omega arith)) in
     let fits = tile_area-fits c.args.region c.args.size c.args.part c.args.tile.now c.args.corner i j k c.requires.limits.area
-    (λ x y k. omega (arith, sample_at-le c.args.tile.now c.samples-samples.ensures.whole x y k, c.samples-samples.ensures.top)) in
+    (λ x y k. omega (arith, sample_at-le c.args.tile.now c.is_whole.ensures.whole x y k, top-le c.args.tile.now c.is_whole.ensures.whole)) in
     omega arith
 
 pub loop-k-preserved : goal.loop-k-preserved

@@ -2,7 +2,7 @@ use Rattle.std.proofs.Common.{ℕ, List, ap, ◌∙◌}
 use Rattle.iiif_pixel.specs.Geometry.{sides_of}
 use Rattle.iiif_pixel.specs.Picture.{Picture}
 use Rattle.iiif_pixel.specs.declared.geometry.Rect.{Rect}
-use Rattle.iiif_pixel.proofs.Samples.{length-samples_of}
+use Rattle.iiif_pixel.proofs.SampleLists.{length-samples_of}
 use Rattle.iiif_area.specs.Grid.{Grid}
 use Rattle.iiif_area.specs.Places.{corner_of, part_of, places_of}
 use Rattle.iiif_area.proofs.TileLaws.{tile_grid, tile_grid-is}
@@ -20,8 +20,8 @@ returns-clause-sums c = λ p e.
     let corner = c.corner_of-corner.result in
     let P : ℕ → List ℕ → Grid = λ n s. record { rect = r; channels = n; sums = s } in
     ap (λ n. P n c.in_ok-sums.sums.items) c.kind.ensures
-    ∙ ap (P c.args.tile.now.channels) c.in_ok-sums.ensures
-    ∙ ap (λ (q : Rect). tile_grid region size q part corner c.args.tile.now) c.places_of-rect.ensures.places
+    ∙ ap (P c.args.tile.now.channels) (rw c.dim-sides.ensures at c.in_ok-sums.ensures)
+    ∙ ap (λ (q : Rect). tile_grid region size q part corner c.args.tile.now) (rw c.dim-sides.ensures at c.places_of-rect.ensures.places)
     ∙ ap (λ (q : Rect). tile_grid region size (places_of (sides_of region) size q) q corner c.args.tile.now) c.part_of-part.ensures.part
     ∙ ap (λ (k : ℕ × ℕ). tile_grid region size (places_of (sides_of region) size (part_of c.args.at region)) (part_of c.args.at region) k c.args.tile.now) c.corner_of-corner.ensures
     ∙ ap (λ (t : Picture). tile_grid region size (places_of (sides_of region) size (part_of c.args.at region)) (part_of c.args.at region) (corner_of c.args.at region) t) e
