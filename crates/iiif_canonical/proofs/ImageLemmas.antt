@@ -11,7 +11,7 @@ use Rattle.iiif_pixel.specs.declared.geometry.Rect.{Rect}
 use Rattle.iiif_pixel.specs.declared.geometry.Turn.{Turn}
 use Rattle.iiif_pixel.specs.declared.geometry.Quality.{Quality}
 use Rattle.iiif_pixel.specs.declared.geometry.Quality.TheVariants.{Default, Color, Gray, Bitonal}
-use Rattle.iiif_pixel.proofs.Samples.{samples_from_places, length-samples_of}
+use Rattle.iiif_pixel.proofs.SampleLists.{samples_from_places, length-samples_of}
 use Rattle.iiif_request.specs.declared.request.Refusal.{Refusal}
 use Rattle.iiif_request.specs.declared.request.Request.{Request}
 use Rattle.iiif_canonical.specs.Regions.{region_of}

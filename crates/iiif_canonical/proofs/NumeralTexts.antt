@@ -1,5 +1,6 @@
 -- The texts of numbers spell them.
-use Rattle.std.proofs.Common.{◌≡◌, ℕ, zero, suc, ◌+◌, ◌*◌, ◌/◌, ◌%◌, ◌^◌, ◌<◌, ◌≤◌, inl, inr, Bool, true, false, List, [], ◌∷◌, ◌++◌, length, refl, sym, ap, subst, ◌∙◌, arith, rules, ◌&&◌, decimal, append_assoc}
+use Rattle.std.proofs.lemmas.Bool.{and_from}
+use Rattle.std.proofs.Common.{◌≡◌, ℕ, zero, suc, ◌+◌, ◌*◌, ◌/◌, ◌%◌, ◌^◌, ◌<◌, ◌≤◌, inl, inr, Bool, true, false, List, [], ◌∷◌, ◌++◌, length, refl, sym, ap, subst, ◌∙◌, arith, decimal, append_assoc}
 use Rattle.std.specs.Prelude.{codes, if◌then◌else◌, ◌==◌}
 use Rattle.std.specs.List.{list_all}
 use Rattle.std.specs.Char.{is_ascii_digit, digit_value}
@@ -10,25 +11,18 @@ use Rattle.std.proofs.lemmas.Int.Digits.{digits_value_push}
 use Rattle.std.proofs.lemmas.List.{append-nil}
 use Rattle.std.proofs.lemmas.List.Folds.{list_all-append}
 use Rattle.std.proofs.lemmas.Nat.{pow-add}
-use Rattle.std.proofs.lemmas.Str.Parse.{IsNumeralModel, numerals_by_value, digits_value_short}
+use Rattle.std.proofs.lemmas.Str.Parse.{digits_value_short}
 use Rattle.std.proofs.Math.ListN.{length-append}
 use Rattle.std.proofs.Math.Nat.{div-div-eq-div-mul, div-lt_iff_lt-mul}
+use Rattle.iiif_request.proofs.NumeralLemmas.{own}
 use Rattle.iiif_request.specs.Requests.{IsShort, IsSmallWhole, IsSmallDecimal}
 use Rattle.iiif_request.specs.Spells.{IsDigits, IsWhole, IsDecimal}
 use Rattle.iiif_request.specs.declared.request.Decimal.{Decimal}
 use Rattle.iiif_canonical.specs.Texts.{last_digits, decimal_text}
 use Rattle.iiif_canonical.proofs.Powers.{ten_some}
 
-pub own : IsNumeralModel (λ ds. list_all is_ascii_digit ds ≡ true) (digits_value 10)
-own = numerals_by_value _ (search rules)
-
 pub decimal_digits : (n : ℕ) → n < 2 ^ 64 → list_all is_ascii_digit (decimal n) ≡ true
 decimal_digits n small = digits_decimal own n small
-
-pub both_true : (a b : Bool) → a ≡ true → b ≡ true → a && b ≡ true
-both_true true true ea eb = refl
-both_true true false ea eb = cc
-both_true false b ea eb = cc
 
 -- a small whole number is spelled by its digits
 pub whole_spelled : (n : ℕ) → IsSmallWhole n → IsWhole (decimal n) n
@@ -57,7 +51,7 @@ last_digits_are zero v = refl
 last_digits_are (suc n) v =
     let front = last_digits_are n (v / 10) in
     let digit : is_ascii_digit (48 + v % 10) ≡ true = digit_is (v % 10) (omega arith) in
-    let one : list_all is_ascii_digit ((48 + v % 10) ∷ []) ≡ true = both_true _ true digit refl in
+    let one : list_all is_ascii_digit ((48 + v % 10) ∷ []) ≡ true = and_from _ true digit refl in
     rw (last_digit v, list_all-append is_ascii_digit (last_digits n (v / 10)) ((48 + v % 10) ∷ []), front) one
 
 digit_value_of : (k : ℕ) → k < 10 → digit_value (48 + k) ≡ k
@@ -124,7 +118,7 @@ decimal_small text d (inl is) =
     let P : ℕ → Type 0 = λ p. d.digits < 10 ^ (9 + p) in
     (omega (arith, is.1), subst P (sym is.1) (whole_small text d.digits is.0))
 decimal_small text d (inr is) =
-    let all : list_all is_ascii_digit (is.0 ++ is.1) ≡ true = list_all-append is_ascii_digit is.0 is.1 ∙ both_true _ _ is.2.digits is.3.digits in
+    let all : list_all is_ascii_digit (is.0 ++ is.1) ≡ true = list_all-append is_ascii_digit is.0 is.1 ∙ and_from _ _ is.2.digits is.3.digits in
     let few : length (is.0 ++ is.1) ≤ 9 + d.places = omega (arith, length-append is.0 is.1, is.2.few, is.6) in
     let below : digits_value 10 (is.0 ++ is.1) < 10 ^ (9 + d.places) = digits_value_short own (is.0 ++ is.1) (9 + d.places) all few in
     (omega (arith, is.3.few, is.6), rw is.5 below)

@@ -1,4 +1,5 @@
 -- The texts of a request's parts need no escape, but for the `^` of a size.
+use Rattle.std.proofs.lemmas.Bool.{and_parts, and_from}
 use Rattle.std.proofs.Common.{◌≡◌, ◌≢◌, ℕ, ◌+◌, ◌/◌, ◌^◌, ◌<◌, ◌⊎◌, inl, inr, Bool, true, false, not, ◌&&◌, nat_lt, List, [], ◌∷◌, ◌++◌, refl, ap, subst, ◌∙◌, arith, map, decimal}
 use Rattle.std.specs.Prelude.{codes, if◌then◌else◌, ◌==◌, All, IsUtf8}
 use Rattle.std.specs.Char.{is_ascii_digit}
@@ -20,7 +21,7 @@ use Rattle.iiif_request.specs.declared.request.Form.{Form}
 use Rattle.iiif_request.specs.declared.request.Form.TheVariants.{Max, Width, Height, Percent, Both, Within}
 use Rattle.iiif_request.specs.declared.request.Rotation.{Rotation}
 use Rattle.iiif_canonical.specs.Texts.{last_digits, decimal_text, region_text, form_text, rotation_text, quality_text}
-use Rattle.iiif_canonical.proofs.NumeralTexts.{both_true, decimal_digits, last_digits_are, whole_part_small}
+use Rattle.iiif_canonical.proofs.NumeralTexts.{decimal_digits, last_digits_are, whole_part_small}
 
 -- ASCII, and none of `%`, `/` and `?`
 abbrev pub is_plain : ℕ → Bool
@@ -29,22 +30,17 @@ is_plain b = nat_lt b 128 && not (b == 37) && not (b == 47) && not (b == 63)
 abbrev pub IsPlain : List ℕ → Type 0
 IsPlain text = list_all is_plain text ≡ true
 
-and_true : (a b : Bool) → a && b ≡ true → (a ≡ true) × (b ≡ true)
-and_true true true h = (refl, refl)
-and_true true false h = cc
-and_true false b h = cc
-
 digit_plain : (b : ℕ) → is_ascii_digit b ≡ true → is_plain b ≡ true
 digit_plain b digit = grind (arith, nat_tests)
 
 digits_plain : (text : List ℕ) → list_all is_ascii_digit text ≡ true → IsPlain text
 digits_plain [] all = refl
 digits_plain (b ∷ bs) all =
-    let two = and_true (is_ascii_digit b) (list_all is_ascii_digit bs) all in
-    both_true _ _ (digit_plain b two.0) (digits_plain bs two.1)
+    let two = and_parts (is_ascii_digit b) (list_all is_ascii_digit bs) all in
+    and_from _ _ (digit_plain b two.0) (digits_plain bs two.1)
 
 pub joined_plain : (a b : List ℕ) → IsPlain a → IsPlain b → IsPlain (a ++ b)
-joined_plain a b pa pb = list_all-append is_plain a b ∙ both_true _ _ pa pb
+joined_plain a b pa pb = list_all-append is_plain a b ∙ and_from _ _ pa pb
 
 whole_plain : (n : ℕ) → IsSmallWhole n → IsPlain (decimal n)
 whole_plain n small = digits_plain (decimal n) (decimal_digits n (omega arith))
@@ -109,7 +105,7 @@ last_plain q = joined_plain (quality_text q) (codes ".tif") (quality_plain q) re
 pub all_from : (P : ℕ → Type 0) (p : ℕ → Bool) → ((b : ℕ) → p b ≡ true → P b) → (text : List ℕ) → list_all p text ≡ true → All P text
 all_from P p each [] all = All-nil P
 all_from P p each (b ∷ bs) all =
-    let two = and_true (p b) (list_all p bs) all in
+    let two = and_parts (p b) (list_all p bs) all in
     All-cons P b bs (each b two.0) (all_from P p each bs two.1)
 
 plain_ascii : (b : ℕ) → is_plain b ≡ true → b < 128
@@ -134,7 +130,7 @@ singles_joined (b ∷ bs) = ap (λ (t : List ℕ). b ∷ t) (singles_joined bs)
 singles_stand : (text : List ℕ) → IsPlain text → AllZip StandsFor (map single text) text
 singles_stand [] plain = tt
 singles_stand (b ∷ bs) plain =
-    let two = and_true (is_plain b) (list_all is_plain bs) plain in
+    let two = and_parts (is_plain b) (list_all is_plain bs) plain in
     (inl (refl, plain_other b 37 (inl refl) two.0), singles_stand bs two.1)
 
 -- a plain text stands for itself

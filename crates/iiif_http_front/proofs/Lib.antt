@@ -1,5 +1,6 @@
 pub mod AnswerLemmas
 pub mod BufferLemmas
 pub mod InputLemmas
+pub mod PlainFields
 pub mod ReadBackLemmas
 pub mod SearchLemmas

@@ -1,5 +1,5 @@
 -- A head that is written is read back.
-use Rattle.std.proofs.Common.{◌≡◌, ℕ, ◌+◌, ◌/◌, ◌%◌, ◌<◌, ◌^◌, Bool, true, false, not, List, [], ◌∷◌, ◌++◌, length, map, reverse, refl, sym, ap, ◌∙◌, arith, rules, append_assoc, append-nil, decimal, codes, IsTrue, Some}
+use Rattle.std.proofs.Common.{◌≡◌, ℕ, ◌+◌, ◌/◌, ◌%◌, ◌<◌, ◌^◌, Bool, true, false, not, List, [], ◌∷◌, ◌++◌, length, map, refl, sym, ap, ◌∙◌, arith, rules, append_assoc, append-nil, decimal, codes, IsTrue, Some}
 use Rattle.std.specs.Prelude.{All, unwrap_or}
 use Rattle.std.specs.List.{list_all, flat_map}
 use Rattle.std.specs.Char.{is_ascii_digit}
@@ -7,20 +7,16 @@ use Rattle.std.specs.Str.Parse.{digits_value}
 use Rattle.std.proofs.lemmas.Bool.{agree_below, agree_below_at}
 use Rattle.std.proofs.lemmas.Fmt.{digits_value-decimal, decimal_by_steps, decimal_step, decimal_nonempty, length-decimal-le}
 use Rattle.std.proofs.lemmas.Str.Parse.{IsNumeralModel, numerals_by_value}
-use Rattle.std.proofs.lemmas.List.{reverse-reverse}
 use Rattle.std.proofs.Math.ListN.{length-append}
 use Rattle.std.proofs.lemmas.List.Concat.{flat_map-append}
 use Rattle.std.proofs.lemmas.List.Elements.{All-append, All-head, All-tail, All-nil, All-cons, All-map, All-weaker, All-push}
 use Rattle.std.proofs.lemmas.List.Sums.{AllPass-from_list_all}
-use Rattle.httparse.proofs.TrimLemmas.{AllPass-reverse}
-use Rattle.httparse.specs.Grammar.{AllPass, is_token_byte, is_value_byte, is_ows, skip_ows, trim_ows, crlf, print_field, Field, IsField, ResponseHead, IsResponseHead, print_response}
+use Rattle.httparse.specs.Grammar.{AllPass, is_token_byte, is_value_byte, is_ows, trim_ows, crlf, print_field, Field, IsField, ResponseHead, IsResponseHead, print_response}
 use Rattle.httparse.specs.Spans.{name_and_value}
 use Rattle.http.specs.StatusCode.{IsStatusCode, reason_phrase}
 use Rattle.iiif_http_front.specs.AnswerHeads.{line_end, status_line, field_line, length_line, close_line, head_text}
 use Rattle.iiif_http_front.specs.Laws.{IsPlainField, close_fields, WrittenHeadReadsBack}
-
-own : IsNumeralModel (λ ds. list_all is_ascii_digit ds ≡ true) (digits_value 10)
-own = numerals_by_value _ (search rules)
+use Rattle.iiif_http_front.proofs.PlainFields.{trimmed_none}
 
 -- a field as it stands in the head
 abbrev written : List ℕ × List ℕ → Field
@@ -73,21 +69,6 @@ digits_pass test all n small =
     (λ d below. AllPass-from_list_all test ((48 + d) ∷ []) (rw (digit d below) refl))
     (λ m ds big pass. All-push (λ b. IsTrue (test b)) ds (48 + m % 10) pass (digit (m % 10) (omega arith)))
     n small
-
-skipped_none : (bytes : List ℕ) → AllPass (λ b. not (is_ows b)) bytes → skip_ows bytes ≡ bytes
-skipped_none [] pass = refl
-skipped_none (b ∷ bytes) pass =
-    let other : not (is_ows b) ≡ true = All-head (λ x. IsTrue (not (is_ows x))) b bytes pass in
-    by_test (is_ows b) refl other
-  where
-    by_test : (t : Bool) → is_ows b ≡ t → not t ≡ true → skip_ows (b ∷ bytes) ≡ b ∷ bytes
-    by_test false e h = rw e refl
-    by_test true e h = cc
-
-trimmed_none : (bytes : List ℕ) → AllPass (λ b. not (is_ows b)) bytes → trim_ows bytes ≡ bytes
-unfolding trim_ows
-trimmed_none bytes pass =
-    rw (skipped_none bytes pass, skipped_none (reverse bytes) (AllPass-reverse (λ b. not (is_ows b)) bytes pass)) (reverse-reverse bytes)
 
 plain_length : (n : ℕ) → n < 2 ^ 64 → IsPlainField (codes "Content-Length", decimal n)
 unfolding is_token_byte
@@ -173,6 +154,7 @@ reads_back status fields n close is plain small =
     let all : List (List ℕ × List ℕ) = fields ++ (codes "Content-Length", decimal n) ∷ close_fields close in
     let all_plain : All IsPlainField all =
     All-append IsPlainField fields _ plain (All-cons IsPlainField _ _ (plain_length n small) (plain_close close)) in
+    let digits : IsNumeralModel (λ ds. list_all is_ascii_digit ds ≡ true) (digits_value 10) = numerals_by_value _ (search rules) in
     let valid : IsResponseHead (head_of status all) = record {
       minor = omega arith;
       digits = (status_length status is, digits_pass is_ascii_digit refl status (omega arith));
@@ -182,6 +164,6 @@ reads_back status fields n close is plain small =
       head_of status all,
       (valid, text_is status fields n close ∙ print_is status all ∙ sym (append-nil (print_response (head_of status all)))),
       refl,
-      digits_value-decimal own status (omega arith),
+      digits_value-decimal digits status (omega arith),
       values_are all all_plain,
     )

@@ -1,7 +1,8 @@
 -- Laws of inputs and of answers, which the functions of the module `laws` have as their contracts.
-use Rattle.std.specs.Prelude.{◌≡◌, ℕ, ◌^◌, ◌<◌, ◌⊎◌, Bool, List, [], ◌∷◌, ◌++◌, All, map, codes, decimal, if◌then◌else◌, Option, Some, Result, Ok, Err}
+use Rattle.std.specs.Prelude.{◌≡◌, true, ◌&&◌, bytes_eq, ℕ, ◌^◌, ◌<◌, ◌⊎◌, Bool, List, [], ◌∷◌, ◌++◌, All, map, codes, decimal, if◌then◌else◌, Option, Some, Result, Ok, Err}
+use Rattle.std.specs.List.{list_all}
 use Rattle.http.specs.StatusCode.{IsStatusCode}
-use Rattle.httparse.specs.Grammar.{AllPass, is_value_byte, IsToken, trim_ows, RequestHead, ResponseHead, ReadsResponse, status_code}
+use Rattle.httparse.specs.Grammar.{AllPass, is_uri_byte, is_value_byte, IsToken, is_token, trim_ows, RequestHead, ResponseHead, ReadsResponse, status_code}
 use Rattle.httparse.specs.Spans.{name_and_value}
 use Rattle.iiif_http_front.specs.AnswerHeads.{head_text}
 use Rattle.iiif_http_front.specs.RequestHeads.{BeginsWithCall}
@@ -29,6 +30,17 @@ pub record IsPlainField (f : List ℕ × List ℕ) : Type 0 where
   pub name : IsToken f.0
   pub value : AllPass is_value_byte f.1
   pub trimmed : trim_ows f.1 ≡ f.1
+
+-- the same as a test
+abbrev pub is_plain_field : List ℕ × List ℕ → Bool
+is_plain_field f = is_token f.0 && (list_all is_value_byte f.1 && bytes_eq (trim_ows f.1) f.1)
+
+-- A field that passes the test is plain, and so is one whose name is a token and each byte of whose value is visible or past
+-- ASCII. Values of such bytes may be joined.
+abbrev pub PlainFieldsAreTested : Type 0
+PlainFieldsAreTested =
+    ((f : List ℕ × List ℕ) → is_plain_field f ≡ true → IsPlainField f)
+    × ((name value : List ℕ) → is_token name ≡ true → list_all is_uri_byte value ≡ true → IsPlainField (name, value))
 
 -- the field by which a connection closes, where it does (RFC 9112, section 9.6)
 abbrev pub close_fields : Bool → List (List ℕ × List ℕ)

@@ -39,6 +39,13 @@ pub data IsBad (bytes : List ℕ) : Type 0 where
   many_fields : RequestExceeds field_limit bytes → RequestOverflows field_limit bytes → IsBad bytes
   has_body : (h : RequestHead) (rest : List ℕ) → ReadsRequest bytes h rest → announces_body h ≡ true → IsBad bytes
 
+-- a head may have begun with these bytes, and none is whole yet: where the reader fails behind them no call is lost, and no
+-- head that is to be refused
+pub record IsUnfinished (bytes : List ℕ) : Type 0 where
+  pub not_whole : HasNoRequest bytes
+  pub unfinished : MayBecomeRequest bytes
+  pub short : length bytes < byte_limit
+
 -- as many bytes as a head may have are no whole head, and may be the front of one
 pub record IsTooLong (input : List ℕ) : Type 0 where
   pub full : byte_limit ≤ length input

@@ -9,7 +9,7 @@ use http::StatusCode;
 use std::alloc::Global;
 use std::fmt::Write;
 
-// Room for a head of the usual length.
+/// Room for a head of the usual length.
 const USUAL_LENGTH: usize = 512;
 
 /// A field of an answer's head (RFC 9110, section 6.3). Neither part may have a line end in it.
@@ -21,7 +21,7 @@ pub struct Field<'a> {
     pub value: &'a str,
 }
 
-// The reason phrase, or none where the status has no registered one.
+/// The reason phrase, or none where the status has no registered one.
 fn reason_of(status: StatusCode) -> &'static str
     ensures { result.now ≡ unwrap_or (reason_phrase status) [] }
 {
@@ -31,6 +31,7 @@ fn reason_of(status: StatusCode) -> &'static str
     }
 }
 
+/// Writes the status line (RFC 9112, section 4).
 #[tactic(auto, unfolding(crate::specs::AnswerHeads::status_line))]
 fn push_status(text: &mut String, status: StatusCode) -> Result<(), NoMemory>
     ensures { OnOk result (string_bytes text.new ≡ string_bytes text.old ++ status_line status) }
@@ -40,6 +41,7 @@ fn push_status(text: &mut String, status: StatusCode) -> Result<(), NoMemory>
     write!(text, "HTTP/1.1 {code} {reason}\r\n")
 }
 
+/// Writes a field line (RFC 9112, section 5).
 #[tactic(auto, unfolding(crate::specs::AnswerHeads::field_line))]
 fn push_field(text: &mut String, field: Field<'_>) -> Result<(), NoMemory>
     ensures { OnOk result (string_bytes text.new ≡ string_bytes text.old ++ field_line (name_and_value field.entry)) }
@@ -48,6 +50,7 @@ fn push_field(text: &mut String, field: Field<'_>) -> Result<(), NoMemory>
     write!(text, "{name}: {value}\r\n")
 }
 
+/// Writes the length of the body (RFC 9110, section 8.6).
 #[tactic(auto, unfolding(crate::specs::AnswerHeads::length_line))]
 fn push_length(text: &mut String, length: u64) -> Result<(), NoMemory>
     ensures { OnOk result (string_bytes text.new ≡ string_bytes text.old ++ length_line length) }
@@ -55,6 +58,7 @@ fn push_length(text: &mut String, length: u64) -> Result<(), NoMemory>
     write!(text, "Content-Length: {length}\r\n")
 }
 
+/// Writes that the connection closes, where it does (RFC 9112, section 9.6).
 #[tactic(auto, unfolding(crate::specs::AnswerHeads::close_line))]
 fn push_close(text: &mut String, close: bool) -> Result<(), NoMemory>
     ensures { OnOk result (string_bytes text.new ≡ string_bytes text.old ++ close_line close) }

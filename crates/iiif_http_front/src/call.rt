@@ -4,6 +4,7 @@ ghost use Rattle.std.specs.Prelude.{◌≡◌};
 ghost use Rattle.iiif_http_front.specs.Reading.{number_of};
 
 use http::Method;
+use thiserror::Error;
 
 /// A request, as far as its head says. The answers to it have no use for its other fields.
 #[derive(Debug, Drop)]
@@ -17,23 +18,28 @@ pub struct Call {
 }
 
 /// Why no call was read.
-#[derive(Clone, Copy, Debug, PartialEq, Eq)]
+#[derive(Clone, Copy, Debug, PartialEq, Eq, Error)]
 pub enum HeadFault {
     /// What came is no head that is taken, whatever follows.
+    #[error("not the head of a request")]
     Bad,
     /// The head has more bytes than are taken.
+    #[error("the head of the request is too long")]
     TooLong,
     /// The input ends inside a head.
+    #[error("the input ended inside a head")]
     Cut,
     /// The reader failed.
+    #[error("the device failed")]
     Io,
     /// The call wanted memory.
+    #[error("out of memory")]
     NoMemory,
 }
 
 impl HeadFault {
     /// The number by which the fault is known outside, 1 to 5.
-    pub fn number(self) -> u8
+    pub const fn number(self) -> u8
         ensures { result ≡ number_of self }
     {
         match self {

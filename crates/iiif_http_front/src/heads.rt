@@ -2,7 +2,7 @@
 
 ghost use Rattle.std.specs.Prelude.{◌≡◌, ℕ, List, [], ◌++◌, Option, None, Some, Err, IfOk, IfErr, IfSome, OnOk};
 ghost use Rattle.std.specs.Io.KnownBytes.{prepend_known};
-ghost use Rattle.iiif_http_front.specs.Reading.{Answers, input_of};
+ghost use Rattle.iiif_http_front.specs.Reading.{Answers, IsUnfinished, input_of};
 ghost use Rattle.iiif_http_front.specs.declared.call.HeadFault.TheVariants as HeadFault;
 
 use crate::call::{Call, HeadFault};
@@ -54,8 +54,9 @@ impl<R: Inlet + Drop> Heads<R> {
         // Where they are not, as at a socket, it is the answer to the bytes that came by then.
         ensures came { self.old.fault ≡ None → (came : List ℕ) × Answers (self.old.unread ++ came) (Some self.new.unread) result }
 
-        // The reader failed in this call.
+        // The reader failed in this call, and the bytes that came before hold no call and nothing that is to be refused.
         ensures io { self.old.fault ≡ None → result ≡ Err HeadFault.Io → (before : R) × R.fails before self.new.reader }
+        ensures held { self.old.fault ≡ None → result ≡ Err HeadFault.Io → IsUnfinished self.new.unread }
 
         ensures repeats { IfSome self.old.fault (λ fault. (result ≡ Err fault) × (self.new ≡ self.old)) }
         ensures remembers { IfErr result (λ fault. self.new.fault ≡ Some fault) }
@@ -72,7 +73,7 @@ impl<R: Inlet + Drop> Heads<R> {
     }
 }
 
-// The next call, where no fault came yet.
+/// The next call, where no fault came yet.
 fn next_head<R: Inlet>(
     alloc: Global,
     unread: &mut Unread,
@@ -82,6 +83,7 @@ fn next_head<R: Inlet>(
         Answers input (prepend_known unread.new (R.remaining reader.new)) result) }
     ensures came { (came : List ℕ) × Answers (unread.old ++ came) (Some unread.new) result }
     ensures io { result ≡ Err HeadFault.Io → (before : R) × R.fails before reader.new }
+    ensures held { result ≡ Err HeadFault.Io → IsUnfinished unread.new }
 {
     'heads: loop {
         match find_call(alloc, unread.as_slice()) {

@@ -1,6 +1,6 @@
 //! What holds of every input and every answer. The functions compute nothing: their contracts are the laws.
 
-ghost use Rattle.iiif_http_front.specs.Laws.{BeginsWithOneCall, AnswersEachCall, WrittenHeadReadsBack};
+ghost use Rattle.iiif_http_front.specs.Laws.{BeginsWithOneCall, AnswersEachCall, PlainFieldsAreTested, WrittenHeadReadsBack};
 
 /// So a call and what is left behind it are determined by the input.
 pub fn input_begins_with_one_call()
@@ -15,4 +15,9 @@ pub fn each_call_is_answered()
 /// So no field of an answer is split, and no body is taken for a field, where the fields hold no control byte.
 pub fn written_head_reads_back()
     ensures { WrittenHeadReadsBack }
+{}
+
+/// So that a field is plain can be computed, or follows from its value's bytes.
+pub fn plain_fields_are_tested()
+    ensures { PlainFieldsAreTested }
 {}

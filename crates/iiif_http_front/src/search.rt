@@ -10,14 +10,14 @@ use httparse::Status;
 use httparse::spans::{EMPTY_HEADER_SPAN, parse_request};
 use std::alloc::Global;
 
-// A call and how many bytes its head has, or not yet a whole head.
+/// A call and how many bytes its head has, or not yet a whole head.
 #[derive(Drop)]
 pub enum Found {
     Whole(Call, usize),
     Partial,
 }
 
-// Looks for a call at the front.
+/// Looks for a call at the front.
 pub fn find_call(alloc: Global, bytes: &[u8]) -> Result<Found, HeadFault>
     requires { length bytes.now ≤ 8192 }
     ensures { Finds bytes.now result }

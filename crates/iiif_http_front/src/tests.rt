@@ -13,12 +13,12 @@ use std::{io, str};
 const REQUESTS: &str =
     "GET /iiif/a HTTP/1.1\r\nHost: localhost\r\n\r\nPOST /iiif/a/full/max/0/default.tif HTTP/1.1\r\nHost: localhost\r\n\r\nHEAD /iiif/b HTTP/1.1\nHost: localhost\n\n";
 
-// The lengths of the first head and of the first two.
+/// The lengths of the first head and of the first two.
 const FIRST: usize = 41;
 
 const SECOND: usize = 106;
 
-// A reader that gives one part and then the other.
+/// A reader that gives one part and then the other.
 #[derive(Drop)]
 struct Parts<'a> {
     first: &'a [u8],
@@ -43,7 +43,7 @@ impl<'a> Inlet for Parts<'a> {
     }
 }
 
-// A reader that fails at its second read alone.
+/// A reader that fails at its second read alone.
 #[derive(Drop)]
 struct FailsOnce<'a> {
     left: &'a [u8],
@@ -77,7 +77,7 @@ fn whole(text: &[u8], piece: usize) -> FailingReader<'_> {
     }
 }
 
-// The calls, a line each, and how the reading ends. A fault is asked for twice.
+/// The calls, a line each, and how the reading ends. A fault is asked for twice.
 fn transcript<R: Inlet + Drop>(alloc: Global, reader: R) -> Result<String, NoMemory> {
     let mut text = String::new(alloc);
     let mut heads = Heads::new(alloc, reader)?;
@@ -143,7 +143,7 @@ fn input_cut_after_each_byte(rt: HostRuntime) -> Result<(), Fail> {
     Ok(())
 }
 
-// A head of so many bytes, which has them in its one field.
+/// A head of so many bytes, which has them in its one field.
 fn long_head(alloc: Global, length: usize) -> Result<Vec<u8>, NoMemory> {
     let mut text = Vec::new(alloc);
     text.extend_from_slice(b"GET /a HTTP/1.1\r\nA: ")?;
@@ -297,6 +297,35 @@ fn failed_read_is_answered_again(rt: HostRuntime) -> Result<(), Fail> {
         reads: 0,
     };
     assert_eq!(rt; transcript(rt.alloc(), reader)?.as_str(), "Io Some(Io)");
+    Ok(())
+}
+
+#[test]
+fn calls_that_came_are_answered_before_a_failure(rt: HostRuntime) -> Result<(), Fail> {
+    let reader = FailingReader {
+        left: REQUESTS.as_bytes(),
+        piece: 1000,
+        reads: 1,
+    };
+    let calls =
+        "GET /iiif/a stays\nPOST /iiif/a/full/max/0/default.tif stays\nHEAD /iiif/b stays\nIo Some(Io)";
+    assert_eq!(rt; transcript(rt.alloc(), reader)?.as_str(), calls);
+    Ok(())
+}
+
+#[test]
+fn slice_in_memory_is_read_to_its_end(rt: HostRuntime) -> Result<(), Fail> {
+    let read = transcript(rt.alloc(), REQUESTS.as_bytes())?;
+    let calls =
+        "GET /iiif/a stays\nPOST /iiif/a/full/max/0/default.tif stays\nHEAD /iiif/b stays\nend";
+    assert_eq!(rt; read.as_str(), calls);
+    Ok(())
+}
+
+#[test]
+fn faults_have_their_texts(rt: HostRuntime) -> Result<(), Fail> {
+    let text = format!(in rt.alloc(); "{}", HeadFault::Cut)?;
+    assert_eq!(rt; text.as_str(), "the input ended inside a head");
     Ok(())
 }
 

@@ -8,10 +8,10 @@ use std::alloc::{AllocError, Global};
 use std::io;
 use std::marker::Model;
 
-// The most bytes that are held, which is also the most that a head may have.
+/// The most bytes that are held, which is also the most that a head may have.
 pub const BYTE_LIMIT: usize = 8192;
 
-// `bytes[start..end]` is unread. The buffer never grows.
+/// `bytes[start..end]` is unread. The buffer never grows.
 #[derive(Drop)]
 pub struct Unread {
     bytes: Vec<u8>,
@@ -47,7 +47,7 @@ impl Unread {
         &self.bytes[self.start..self.end]
     }
 
-    // Gives up the first bytes.
+    /// Gives up the first bytes.
     pub fn consume(&mut self, count: usize)
         requires { count ≤ length self.old }
         ensures { self.new ≡ drop count self.old }
@@ -55,7 +55,7 @@ impl Unread {
         self.start += count;
     }
 
-    // Reads some bytes behind these, and none only at the end. All room is brought behind them first.
+    /// Reads some bytes behind these, and none only at the end. All room is brought behind them first.
     pub fn fill<R: Inlet>(&mut self, reader: &mut R) -> io::Result<usize>
         requires { length self.old < 8192 }
         ensures came { IfOk result (λ count. (came : List ℕ) × (length came ≡ count) × (self.new ≡ self.old ++ came)

@@ -27,7 +27,7 @@ const FEATURES: [&str; 13] = [
     "sizeByWh",
 ];
 
-// The members from the greatest width on. The last of them is put first, so that none is moved.
+/// The members from the greatest width on. The last of them is put first, so that none is moved.
 fn last_members(
     alloc: Global,
     dim: Dim,
@@ -58,7 +58,7 @@ fn last_members(
     Ok(map)
 }
 
-// The information as a value.
+/// The information as a value.
 #[tactic(auto, unfolding(crate::specs::Information::information))]
 fn information(
     alloc: Global,

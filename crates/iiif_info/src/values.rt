@@ -8,7 +8,7 @@ use iiif_pixel::NoMemory;
 use serde_json::{Value, json};
 use std::alloc::Global;
 
-// A list of texts.
+/// A list of texts.
 pub fn texts(alloc: Global, words: &[&str]) -> Result<Value, NoMemory>
     ensures { IfOk result (λ value. view value ≡ texts (map (λ word. word.now) words.now)) }
 {
@@ -19,7 +19,7 @@ pub fn texts(alloc: Global, words: &[&str]) -> Result<Value, NoMemory>
     Ok(Value::Array(list))
 }
 
-// A list of whole numbers.
+/// A list of whole numbers.
 fn wholes(alloc: Global, numbers: &[u64]) -> Result<Value, NoMemory>
     ensures { IfOk result (λ value. view value ≡ wholes numbers.now) }
 {
@@ -30,7 +30,7 @@ fn wholes(alloc: Global, numbers: &[u64]) -> Result<Value, NoMemory>
     Ok(Value::Array(list))
 }
 
-// The scale factors of tiles with this edge.
+/// The scale factors of tiles with this edge.
 fn scale_factors(alloc: Global, edge: u32, side: u32) -> Result<Vec<u64>, NoMemory>
     requires { 0 < edge }
     ensures { IfOk result (λ factors. factors.items ≡ scale_factors edge side) }
@@ -45,7 +45,7 @@ fn scale_factors(alloc: Global, edge: u32, side: u32) -> Result<Vec<u64>, NoMemo
     Ok(factors)
 }
 
-// The tiles.
+/// The tiles.
 #[tactic(auto, unfolding(crate::specs::Information::tiles))]
 pub fn tiles(alloc: Global, edge: u32, side: u32) -> Result<Value, NoMemory>
     requires { 0 < edge }

@@ -4,7 +4,7 @@ use Rattle.std.specs.Prelude.{◌==◌, IsUtf8}
 use Rattle.std.specs.Char.{is_ascii_hexdigit, digit_value}
 use Rattle.std.specs.List.{list_all, slice_split, onto_first, concat, AllZip}
 use Rattle.std.specs.Str.{is_utf8}
-use Rattle.std.proofs.lemmas.Bool.{both_ways, and_from, le-leb}
+use Rattle.std.proofs.lemmas.Bool.{both_ways, and_from, le-leb, and_parts}
 use Rattle.std.proofs.lemmas.Bool.Decides.{eqb_tells, nat_tests}
 use Rattle.std.proofs.lemmas.List.Splits.{slice_split-cons_yes, slice_split-cons_no}
 use Rattle.std.proofs.lemmas.Str.{IsUtf8-from_is_utf8, is_utf8-from_IsUtf8}
@@ -13,7 +13,6 @@ use Rattle.percent_encoding.proofs.PercentLemmas.{percent_decode-nil, percent_de
 use Rattle.iiif_request.specs.Code.{begins_with_digits, has_whole_escapes, text_of}
 use Rattle.iiif_request.specs.Targets.{StandsFor, Decodes, IsSegmentOf}
 use Rattle.iiif_request.proofs.OptionLemmas.{cond_some}
-use Rattle.iiif_request.proofs.NumeralLemmas.{and_true}
 use Rattle.iiif_request.proofs.CutLemmas.{ne-eqb}
 
 abbrev is_percent : ℕ → Bool
@@ -103,8 +102,8 @@ escape_behind (high ∷ raw) part parts e h = ⊎_elim
         let cut : (high ∷ low ∷ rest.0) ∷ rest.1 ≡ part ∷ parts =
         ap (onto_first high) (sym (slice_split-cons_no is_percent low raw t.0 ∙ ap (onto_first low) rest.2)) ∙ e in
         let same : high ∷ low ∷ rest.0 ≡ part = cc in
-        let tests = and_true _ (is_ascii_hexdigit low) (ap begins_with_digits same ∙ h) in
-        (high, low, raw, refl, hex_worth high (and_true _ (is_ascii_hexdigit high) tests.0).1, hex_worth low tests.1))
+        let tests = and_parts _ (is_ascii_hexdigit low) (ap begins_with_digits same ∙ h) in
+        (high, low, raw, refl, hex_worth high (and_parts _ (is_ascii_hexdigit high) tests.0).1, hex_worth low tests.1))
         (eqb_tells low 37)
 
 -- one unit more
@@ -126,7 +125,7 @@ escape_unit high low raw first second d =
 whole_behind : (raw : List ℕ) → has_whole_escapes (37 ∷ raw) ≡ true → BeginsWithEscape raw
 whole_behind raw h =
     let cut = split_some raw in
-    escape_behind raw cut.0 cut.1 cut.2 (and_true _ _ (sym (whole_percent raw cut.0 cut.1 cut.2) ∙ h)).0
+    escape_behind raw cut.0 cut.1 cut.2 (and_parts _ _ (sym (whole_percent raw cut.0 cut.1 cut.2) ∙ h)).0
 
 -- whole escapes are decoded
 pub decodes_by : (fuel : ℕ) (raw : List ℕ) → length raw ≤ fuel → has_whole_escapes raw ≡ true → Decodes raw (percent_decode raw)
@@ -172,7 +171,7 @@ units_decoded (u ∷ units) (b ∷ text) z = unit_decoded u (concat units) text 
 pub segment_is : (raw text : List ℕ) → text_of raw ≡ Some text → IsSegmentOf raw text
 segment_is raw text h =
     let n = cond_some (has_whole_escapes raw && is_utf8 (percent_decode raw)) (percent_decode raw) text h in
-    let tests = and_true _ _ n.0 in
+    let tests = and_parts _ _ n.0 in
     subst (IsSegmentOf raw) n.1 (decodes_by (length raw) raw (omega arith) tests.0, IsUtf8-from_is_utf8 (percent_decode raw) tests.1)
 
 pub segment_to : (raw text : List ℕ) → IsSegmentOf raw text → text_of raw ≡ Some text

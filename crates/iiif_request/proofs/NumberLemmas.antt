@@ -3,20 +3,21 @@ use Rattle.std.proofs.Common.{◌≡◌, ◌≢◌, ℕ, true, false, List, [], 
 use Rattle.std.specs.Prelude.{option_map}
 use Rattle.std.specs.Char.{is_ascii_digit}
 use Rattle.std.specs.Str.Parse.{digits_value}
-use Rattle.std.proofs.lemmas.Bool.{both_ways, lt-ltb, le-leb, and_from}
+use Rattle.std.proofs.lemmas.Bool.{both_ways, lt-ltb, le-leb, and_from, and_parts}
 use Rattle.std.proofs.lemmas.List.Elements.{All-append, All-cons, All-nil, All-same}
 use Rattle.std.proofs.lemmas.List.Sums.{AllPass-from_list_all}
 use Rattle.iiif_request.specs.declared.request.Decimal.{Decimal}
-use Rattle.iiif_request.specs.Code.{is_numeral, whole_of, cut_of, pointed_of, parted_decimal_of, decimal_of}
+use Rattle.iiif_request.specs.Code.{whole_of, cut_of, pointed_of, parted_decimal_of, decimal_of}
+use Rattle.iiif_request.specs.Numerals.{is_numeral}
 use Rattle.iiif_request.specs.Spells.{IsDigits, IsWhole, IsDecimal}
 use Rattle.iiif_request.specs.Targets.{Lacks}
 use Rattle.iiif_request.proofs.OptionLemmas.{cond_some, map_some}
-use Rattle.iiif_request.proofs.NumeralLemmas.{and_true, numeral_len}
+use Rattle.iiif_request.proofs.NumeralLemmas.{numeral_len}
 use Rattle.iiif_request.proofs.CutLemmas.{cut_at, cut_cases, cut_none}
 
 pub digits_is : (most : ℕ) (text : List ℕ) → is_numeral most text ≡ true → IsDigits most text
 unfolding is_numeral
-digits_is most text h = record { some = (numeral_len most text h).0; few = (numeral_len most text h).1; digits = (and_true _ _ h).1 }
+digits_is most text h = record { some = (numeral_len most text h).0; few = (numeral_len most text h).1; digits = (and_parts _ _ h).1 }
 
 pub digits_to : (most : ℕ) (text : List ℕ) → IsDigits most text → is_numeral most text ≡ true
 unfolding is_numeral
@@ -52,7 +53,7 @@ decimal_is text d h = ⊎_elim
     inl (whole_is text d.digits digits, sym (ap (λ (r : Decimal). r.places) read.2)))
     (λ s.
     let read = cond_some (is_numeral 9 s.0 && is_numeral 10 s.1) _ d (ap (parted_decimal_of text) (sym s.2) ∙ h) in
-    let tests = and_true _ _ read.0 in
+    let tests = and_parts _ _ read.0 in
     inr (
       s.0,
       s.1,

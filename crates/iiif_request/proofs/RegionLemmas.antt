@@ -3,7 +3,7 @@ use Rattle.std.proofs.Common.{◌≡◌, ℕ, true, false, List, [], ◌∷◌, 
 use Rattle.std.specs.Prelude.{bytes_eq, nat_eq}
 use Rattle.std.specs.Char.{is_ascii_digit}
 use Rattle.std.specs.List.{list_all, starts_with}
-use Rattle.std.proofs.lemmas.Bool.{both_ways}
+use Rattle.std.proofs.lemmas.Bool.{both_ways, and_parts}
 use Rattle.std.proofs.lemmas.Slice.Eq.{bytes_eq-Decides, starts_is}
 use Rattle.std.proofs.lemmas.Bool.Decides.{Decides-eqb}
 use Rattle.iiif_request.specs.declared.request.Decimal.{Decimal}
@@ -13,7 +13,6 @@ use Rattle.iiif_request.specs.Code.{whole_of, decimal_of, cut_of, Parts, third_c
 use Rattle.iiif_request.specs.Spells.{IsDigits, IsWhole, IsDecimal, SpellsRegion}
 use Rattle.iiif_request.specs.Targets.{Lacks}
 use Rattle.iiif_request.proofs.OptionLemmas.{some_same, never_some, cond_cases}
-use Rattle.iiif_request.proofs.NumeralLemmas.{and_true}
 use Rattle.iiif_request.proofs.NumberLemmas.{digits_lack, decimal_lacks, whole_is, whole_to, decimal_is, decimal_to}
 use Rattle.iiif_request.proofs.CutLemmas.{cut_at, cut_some, ne-eqb}
 
@@ -34,7 +33,7 @@ differs_digit c other digit sign = ne-eqb other c (λ e. both_ways (is_ascii_dig
 -- digits begin with one
 pub head_of : (most : ℕ) (text : List ℕ) → IsDigits most text → (c : ℕ) × (rest : List ℕ) × (text ≡ c ∷ rest) × (is_ascii_digit c ≡ true)
 head_of most [] d = absurd (omega (arith, d.some))
-head_of most (c ∷ rest) d = (c, rest, refl, (and_true (is_ascii_digit c) (list_all is_ascii_digit rest) d.digits).0)
+head_of most (c ∷ rest) d = (c, rest, refl, (and_parts (is_ascii_digit c) (list_all is_ascii_digit rest) d.digits).0)
 
 -- four parts and the text that they were cut from
 third_is : (a b text : List ℕ) (p : Parts) → third_cut_of a b (cut_of 44 text) ≡ Some p

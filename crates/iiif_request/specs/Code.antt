@@ -1,7 +1,7 @@
 -- The grammar once more as functions of one word each, for private functions alone; `Spells` and `Targets` say what is meant.
-use Rattle.std.specs.Prelude.{◌≡◌, ⊤, take, ℕ, ◌*◌, ◌^◌, ◌==◌, Bool, true, false, ◌⊎◌, ◌&&◌, ◌||◌, List, [], ◌∷◌, ◌++◌, length, drop, codes, bytes_eq, nat_eq, nat_lt, nat_le, slice_index, if◌then◌else◌, Option, None, Some, option_map, is_some, position, Result, Ok, Err}
+use Rattle.std.specs.Prelude.{◌≡◌, ⊤, take, ℕ, ◌*◌, ◌^◌, ◌==◌, Bool, true, false, ◌⊎◌, ◌&&◌, ◌||◌, List, [], ◌∷◌, ◌++◌, length, drop, codes, bytes_eq, nat_eq, nat_le, slice_index, if◌then◌else◌, Option, None, Some, option_map, is_some, position, Result, Ok, Err}
 use Rattle.std.specs.List.{before_first, after_first, starts_with, list_all, slice_split}
-use Rattle.std.specs.Char.{is_ascii_digit, is_ascii_hexdigit}
+use Rattle.std.specs.Char.{is_ascii_hexdigit}
 use Rattle.std.specs.Str.{is_utf8}
 use Rattle.std.specs.Str.Parse.{digits_value}
 use Rattle.percent_encoding.specs.Percent.{percent_decode}
@@ -19,16 +19,13 @@ use Rattle.iiif_request.specs.declared.request.Refusal.{Refusal}
 use Rattle.iiif_request.specs.declared.request.Refusal.TheVariants as refusal
 use Rattle.iiif_request.specs.declared.target.SplitFault.{SplitFault}
 use Rattle.iiif_request.specs.declared.target.SplitFault.TheVariants.{Path, NoMemory}
+use Rattle.iiif_request.specs.Numerals.{is_numeral, numeral_of}
 use Rattle.iiif_request.specs.Spells.{Texts}
 use Rattle.iiif_request.specs.Targets.{Resource, base, information, image}
 
--- one to so many digits
-unfoldable pub is_numeral : ℕ → List ℕ → Bool
-is_numeral most text = nat_lt 0 (length text) && nat_le (length text) most && list_all is_ascii_digit text
-
 -- the number that one to nine digits write
 abbrev pub whole_of : List ℕ → Option ℕ
-whole_of text = if is_numeral 9 text then Some (digits_value 10 text) else None
+whole_of text = numeral_of 9 text
 
 -- what stands before and behind the first such byte
 unfoldable pub cut_of : ℕ → List ℕ → Option (List ℕ × List ℕ)

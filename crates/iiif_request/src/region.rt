@@ -4,7 +4,7 @@ ghost use Rattle.std.specs.Prelude.{◌≡◌, option_map};
 ghost use Rattle.iiif_request.specs.Code.{cut_of, parts_of, pixels_of, percents_of, region_of, Parts};
 
 use crate::Region;
-use crate::numeral::{decimal, whole};
+use crate::numerals::{decimal, whole};
 
 /// What stands before and behind the first comma.
 #[tactic(auto, unfolding(crate::specs::Code::cut_of))]

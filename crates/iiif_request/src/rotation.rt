@@ -3,7 +3,7 @@
 ghost use Rattle.std.specs.Prelude.{◌≡◌, ◌≤◌};
 ghost use Rattle.iiif_request.specs.Code.{is_quarters, decimal_of, turned_of, rotation_of};
 
-use crate::numeral::decimal;
+use crate::numerals::decimal;
 use crate::{Decimal, Rotation};
 
 /// Whether the decimal is 0, 90, 180, 270 or 360.

@@ -4,7 +4,7 @@ ghost use Rattle.std.specs.Prelude.{◌≡◌};
 ghost use Rattle.iiif_request.specs.Code.{two_of, whole_of, cut_of, sides_of, bounds_of, pair_of, form_of, size_of};
 ghost use Rattle.iiif_request.specs.declared.request.Form.TheVariants as form;
 
-use crate::numeral::{decimal, whole};
+use crate::numerals::{decimal, whole};
 use crate::region::cut_at_comma;
 use crate::{Form, Size};
 

@@ -1,3 +1,4 @@
+use crate::numerals::{is_numeral, numeral};
 use crate::{
     Decimal, Form, Refusal, Region, Request, Rotation, Size, SplitFault, Target, Words, asked_once,
     parse, says_once, spelled_once, split,
@@ -509,4 +510,19 @@ fn the_laws_hold() {
     spelled_once();
     says_once();
     asked_once();
+}
+
+#[test]
+fn numerals_to_so_many_digits(rt: HostRuntime) -> Result<(), Fail> {
+    assert_eq!(rt; numeral(b"0042", 4), Some(42));
+    assert_eq!(rt;
+        numeral(b"9999999999999999999", 19),
+        Some(9_999_999_999_999_999_999)
+    );
+    assert_eq!(rt; numeral(b"12345", 4), None);
+    assert_eq!(rt; numeral(b"", 4), None);
+    assert_eq!(rt; numeral(b"1 2", 4), None);
+    assert!(rt; is_numeral(b"007", 3));
+    assert!(rt; !is_numeral(b"-7", 3));
+    Ok(())
 }

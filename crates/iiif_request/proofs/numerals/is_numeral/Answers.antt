@@ -3,7 +3,7 @@ use Rattle.std.specs.Char.{is_ascii_digit}
 use Rattle.std.proofs.lemmas.Iterator.{YieldsList-from_slice}
 use Rattle.std.proofs.lemmas.Iterator.Search.{all_from_yields_List}
 use Rattle.iiif_request.proofs.NumeralLemmas.{numeral_tests}
-use Rattle.iiif_request.proofs.numeral.is_numeral.Goals as goal
+use Rattle.iiif_request.proofs.numerals.is_numeral.Goals as goal
 
 pub returns-then-text-most : goal.returns-then-text-most
 returns-then-text-most c =

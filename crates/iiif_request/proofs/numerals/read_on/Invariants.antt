@@ -1,6 +1,6 @@
 use Rattle.std.proofs.Common.{◌≡◌, drop}
 use Rattle.std.specs.Str.Parse.{digits_value_after}
-use Rattle.iiif_request.proofs.numeral.read_on.Given as goal
+use Rattle.iiif_request.proofs.numerals.read_on.Given as goal
 
 abbrev pub invariant-loop-digit : goal.invariant-loop-digit
 invariant-loop-digit l = digits_value_after 10 l.value (drop l.digit-index l.digits) ≡ digits_value_after 10 l.start l.digits

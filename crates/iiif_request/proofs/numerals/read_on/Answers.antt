@@ -2,7 +2,7 @@ use Rattle.std.proofs.Common.{arith, ◌∙◌, sym, ap, ℕ, drop, ◌+◌, ◌
 use Rattle.std.specs.Str.Parse.{digits_value_after}
 use Rattle.std.proofs.lemmas.Str.Parse.{digit_at}
 use Rattle.iiif_request.proofs.NumeralLemmas.{after_le, after_more}
-use Rattle.iiif_request.proofs.numeral.read_on.Goals as goal
+use Rattle.iiif_request.proofs.numerals.read_on.Goals as goal
 
 pub overflow_mul-value : goal.overflow_mul-value
 overflow_mul-value c =

@@ -1,14 +1,15 @@
-//! Whole numbers and decimals.
+//! Numbers as they are written in digits: whole numbers and decimals.
 
 ghost use Rattle.std.specs.Prelude.{◌≡◌, ◌<◌, ◌≤◌, ◌^◌, IfSome, option_map};
 ghost use Rattle.std.specs.Str.Parse.{AllDigits, digits_value_after};
-ghost use Rattle.iiif_request.specs.Code.{is_numeral, whole_of, pointed_of, decimal_of, cut_of};
+ghost use Rattle.iiif_request.specs.Numerals.{is_numeral, numeral_of};
+ghost use Rattle.iiif_request.specs.Code.{whole_of, pointed_of, decimal_of, cut_of};
 
 use crate::Decimal;
 
 /// Whether a text is one to so many digits.
-#[tactic(auto, unfolding(crate::specs::Code::is_numeral))]
-fn is_numeral(text: &[u8], most: usize) -> bool
+#[tactic(auto, unfolding(crate::specs::Numerals::is_numeral))]
+pub fn is_numeral(text: &[u8], most: usize) -> bool
     ensures { result ≡ is_numeral most text.now }
 {
     0 < text.len() && text.len() <= most && text.iter().all(|b| b.is_ascii_digit())
@@ -27,14 +28,23 @@ fn read_on(start: u64, digits: &[u8]) -> u64
     value
 }
 
+/// The number that a text of one to so many digits writes.
+pub fn numeral(text: &[u8], most: usize) -> Option<u64>
+    requires { most ≤ 19 }
+    ensures { result ≡ numeral_of most text.now }
+{
+    if !is_numeral(text, most) {
+        return None;
+    }
+    Some(read_on(0, text))
+}
+
 /// A whole number of one to nine digits.
 pub(crate) fn whole(text: &[u8]) -> Option<u32>
     ensures { result ≡ whole_of text.now }
 {
-    if !is_numeral(text, 9) {
-        return None;
-    }
-    Some(read_on(0, text) as u32)
+    let value = numeral(text, 9)?;
+    Some(value as u32)
 }
 
 /// A number with digits behind a point.

@@ -1,7 +1,7 @@
 use Rattle.std.proofs.Common.{arith, ap, sym}
 use Rattle.std.specs.Str.Parse.{digits_value_after}
 use Rattle.iiif_request.proofs.NumeralLemmas.{nine_fit, both_fit, numeral_digits, numeral_len, joined, pointed_is}
-use Rattle.iiif_request.proofs.numeral.pointed.Goals as goal
+use Rattle.iiif_request.proofs.numerals.pointed.Goals as goal
 
 pub read_on-requires-clause-digits : goal.read_on-requires-clause-digits
 read_on-requires-clause-digits c = numeral_digits 9 _ (sym c.if-not-is_numeral.ensures)
