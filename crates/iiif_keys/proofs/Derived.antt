@@ -4,7 +4,7 @@ use Rattle.std.specs.Prelude.{unwrap_or, ◌==◌}
 use Rattle.std.specs.List.{filter, AllByRecursion}
 use Rattle.std.proofs.Math.Nat.{mul-le-mul}
 use Rattle.std.proofs.lemmas.Bool.{eqb-true}
-use Rattle.iiif_pixel.specs.Geometry.{LiesIn, sides_of}
+use Rattle.iiif_pixel.specs.Geometry.{channels_of, LiesIn, sides_of}
 use Rattle.iiif_pixel.specs.Picture.{Picture, dim_of, IsWhole}
 use Rattle.iiif_pixel.specs.Operations.{crop}
 use Rattle.iiif_pixel.specs.declared.geometry.Rect.{Rect}
@@ -15,10 +15,13 @@ use Rattle.iiif_area.specs.Grid.{Grid, grid_of, merged, sums_of}
 use Rattle.iiif_area.proofs.PieceLaws.{pieces_merge}
 use Rattle.iiif_area.proofs.TileLaws.{tile_grid-is}
 use Rattle.iiif_keys.specs.declared.keys.SumKey.{SumKey}
-use Rattle.iiif_keys.specs.Names.{Pictures, AreSources, named, no_picture}
+use Rattle.iiif_keys.specs.declared.keys.Shape.{Shape}
+use Rattle.iiif_keys.specs.Names.{Pictures, named, no_picture, IsSource}
+use Rattle.iiif_keys.specs.Shapes.{HasPicture}
 use Rattle.iiif_keys.specs.Blocks.{square, clipped, tile_of, block_of, part_in, places_in, SumFitsIn}
 use Rattle.iiif_keys.specs.Meaning.{sum_meaning, sum_derived, tile_meaning, tile_below, tile_sums, no_sums, quarter, quarters, meets_rect, sums_below}
 use Rattle.iiif_keys.proofs.Cuts.{whole_square, square_part, clipped_part, quarters_cut}
+use Rattle.iiif_keys.proofs.Shaped.{fits_picture}
 
 -- a name's picture
 pub picture_is : (shows : Pictures) (name : List ℕ) (p : Picture) → shows name ≡ Some p → named shows name ≡ p
@@ -91,13 +94,12 @@ chosen : (b : Bool) (x y z : Grid) → (b ≡ true → x ≡ z) → (b ≡ false
 chosen true x y z f g = f refl
 chosen false x y z f g = g refl
 
-pub derived_is : (shows : Pictures) (p : Picture) (k : SumKey) → AreSources shows → shows k.name ≡ Some p → SumFitsIn (dim_of p) p.channels k → sum_derived shows k ≡ sum_meaning shows k
-derived_is shows p k sources known fits =
-    let name = picture_is shows k.name p known in
-    let source = sources k.name p known in
+pub derived_is : (shows : Pictures) (s : Shape) (k : SumKey) → HasPicture shows k.name s → IsSource (named shows k.name) → SumFitsIn s.dim (channels_of s.kind) k
+    → sum_derived shows k ≡ sum_meaning shows k
+derived_is shows s k has source fits =
+    let p = named shows k.name in
+    let own : SumFitsIn (dim_of p) p.channels k = fits_picture (λ d n. SumFitsIn d n k) p s has.shape source.whole fits in
     ap (λ (g : Grid). record { sums = g })
     (chosen (k.level == 0) _ _ _
-    (λ e. ap (λ (u : Picture). tile_sums (tile_meaning shows (tile_below k)).raster (tile_of (dim_of u) (tile_below k)) k (places_in (dim_of u) k)) name
-    ∙ tile_meant shows p k known (eqb-true k.level 0 e))
-    (λ e. ap (λ (u : Picture). fold merged (no_sums (dim_of u) u.channels k) (map (λ q. (sum_meaning shows q).sums) (sums_below k))) name
-    ∙ merged_meaning shows p k known source.whole source.area fits (above k.level e)))
+    (λ e. tile_meant shows p k has.known (eqb-true k.level 0 e))
+    (λ e. merged_meaning shows p k has.known source.whole source.area own (above k.level e)))

@@ -9,5 +9,6 @@ pub mod Named
 pub mod Names
 pub mod PartLaws
 pub mod Read
+pub mod Shaped
 pub mod ValueBytes
 pub mod Written

@@ -1,11 +1,13 @@
 -- The laws of parts and of meanings.
-use Rattle.std.specs.Prelude.{◌≡◌, ℕ, ◌+◌, ◌-◌, ◌/◌, ◌^◌, ◌<◌, Bool, ◌&&◌, ◌==◌, All, count_by, map, Some, if◌then◌else◌}
-use Rattle.iiif_pixel.specs.Picture.{Picture, dim_of}
+use Rattle.std.specs.Prelude.{◌≡◌, ℕ, ◌+◌, ◌-◌, ◌/◌, ◌^◌, ◌<◌, Bool, ◌&&◌, ◌==◌, All, count_by, map, if◌then◌else◌}
+use Rattle.iiif_pixel.specs.Geometry.{channels_of}
 use Rattle.iiif_pixel.specs.declared.geometry.Dim.{Dim}
 use Rattle.iiif_area.specs.Laws.{IsCutInto}
-use Rattle.iiif_keys.specs.Names.{Pictures, AreSources}
+use Rattle.iiif_keys.specs.Names.{Pictures, named, IsSource}
+use Rattle.iiif_keys.specs.Shapes.{HasPicture}
 use Rattle.iiif_keys.specs.Blocks.{part_in, HasParts, IsOfBlock, SumFitsIn, TileFitsIn}
 use Rattle.iiif_keys.specs.Meaning.{meets_rect, sum_derived, sum_meaning, sums_below, tile_below}
+use Rattle.iiif_keys.specs.declared.keys.Shape.{Shape}
 use Rattle.iiif_keys.specs.declared.keys.SumKey.{SumKey}
 
 -- the block in column i and row j of the level below is a quarter of the block, and has a place of the rectangle
@@ -51,8 +53,8 @@ PartsCut = (image : Dim) (k : SumKey) → 0 < k.level → IsOfBlock image k → 
 
 -- what the parts' meanings make is the meaning
 abbrev pub PartsMakeMeaning : Type 0
-PartsMakeMeaning = (shows : Pictures) (p : Picture) (k : SumKey) → AreSources shows → shows k.name ≡ Some p → SumFitsIn (dim_of p) p.channels k →
-    sum_derived shows k ≡ sum_meaning shows k
+PartsMakeMeaning = (shows : Pictures) (s : Shape) (k : SumKey) → HasPicture shows k.name s → IsSource (named shows k.name)
+    → SumFitsIn s.dim (channels_of s.kind) k → sum_derived shows k ≡ sum_meaning shows k
 
 -- a key that fits an image has parts
 abbrev pub FittingHasParts : Type 0

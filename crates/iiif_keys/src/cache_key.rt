@@ -1,11 +1,10 @@
 //! What keys are to caches, flights and peers.
 
-ghost use Rattle.std.specs.Prelude.{◌≡◌, ◌↔◌, ◌+◌, ◌^◌, ◌<◌, ◌≤◌, ◌⊎◌, ℕ, true, List, length, Option, Some, None, IfErr, IfOk, IsTrue, MatchResult};
-ghost use Rattle.iiif_pixel.specs.Geometry.{channels_of};
-ghost use Rattle.iiif_pixel.specs.declared.geometry.Dim.{Dim};
-ghost use Rattle.iiif_pixel.specs.Picture.{Picture, dim_of};
-ghost use Rattle.iiif_keys.specs.Names.{Pictures, AreSources, IsName};
+ghost use Rattle.std.specs.Prelude.{◌≡◌, ◌↔◌, ◌+◌, ◌^◌, ◌<◌, ◌≤◌, ◌⊎◌, ℕ, true, Bool, List, length, Option, None, IfErr, IfOk, IsTrue, MatchResult};
+ghost use Rattle.iiif_keys.specs.Names.{named, Pictures, IsName, IsSource};
+ghost use Rattle.iiif_keys.specs.Shapes.{HasPicture};
 ghost use Rattle.iiif_keys.specs.Blocks.{NamesPart};
+ghost use Rattle.iiif_keys.specs.declared.keys.Shape.{Shape};
 ghost use Rattle.iiif_keys.specs.declared.fault.KeyFault.{KeyFault};
 
 use crate::fault::KeyFault;
@@ -13,9 +12,10 @@ use crate::keys::Shape;
 use crate::name::Name;
 use iiif_pixel::NoMemory;
 use std::alloc::Global;
+use std::hash::Hash;
 
 /// A key, which describes its value: a value is its key's meaning.
-pub trait CacheKey: Drop + Eq {
+pub trait CacheKey: Drop + Eq + Hash {
     type Value: Drop;
 
     /// The name of the image, and the side of a tile.
@@ -26,8 +26,8 @@ pub trait CacheKey: Drop + Eq {
     /// A key waits only for keys of lower ranks.
     ghost rank_of: { Self → ℕ };
 
-    /// The key names a part of an image with these sides and channels.
-    ghost fits_in: { Dim → ℕ → Self → Type 0 };
+    /// The key names a part of an image of this shape.
+    ghost fits_in: { Shape → Self → Type 0 };
 
     /// The value that the key names, where names have these pictures.
     ghost meaning: { Pictures → Self → Self.Value };
@@ -35,8 +35,11 @@ pub trait CacheKey: Drop + Eq {
     /// What its parts' meanings make.
     ghost derived: { Pictures → Self → Self.Value };
 
-    /// A value has the sides or places, and the channels, of the key's meaning, in an image with these sides and channels.
-    ghost has_shape: { Dim → ℕ → Self → Self.Value → Type 0 };
+    /// A value has the sides or places, the channels, and of a tile the depth, of the key's meaning, in an image of this shape.
+    ghost has_shape: { Shape → Self → Self.Value → Type 0 };
+
+    /// The same of the picture of the key's name, as a test. A fact of it can stand beside a value that is kept.
+    ghost is_shaped: { Pictures → Self → Self.Value → Bool };
 
     /// The keys and the values that are read from bytes, their bytes, and why other bytes are refused.
     ghost is_key: { Self → Type 0 };
@@ -62,17 +65,20 @@ pub trait CacheKey: Drop + Eq {
 
     /// Whether the key has this edge and names a part of an image of this shape. It takes no memory.
     fn fits(&self, edge: u32, shape: &Shape) -> bool
-        ensures fits { IsTrue result ↔ ((edge_of self.now ≡ edge) × fits_in shape.now.dim (channels_of shape.now.kind) self.now) }
+        ensures fits { IsTrue result ↔ ((edge_of self.now ≡ edge) × fits_in shape.now self.now) }
         // Of the shape of the named picture: whether the key names something.
-        ensures named { (shows : Pictures) (p : Picture) → shows (name_of self.now) ≡ Some p → dim_of p ≡ shape.now.dim
-            → p.channels ≡ channels_of shape.now.kind
-            → IsTrue result ↔ NamesPart shows edge (name_of self.now) (edge_of self.now) (λ d n. fits_in d n self.now) };
+        ensures named { (shows : Pictures) → HasPicture shows (name_of self.now) shape.now
+            → IsTrue result ↔ NamesPart shows edge (name_of self.now) (edge_of self.now) (λ s. fits_in s self.now) };
 
-    /// Whether a value has the sides or places and the channels of the meaning of a key that fits. It takes no memory.
+    /// Whether a value has the sides or places, the channels, and of a tile the depth, of the meaning of a key that fits. It takes no
+    /// memory.
     fn shaped(&self, shape: &Shape, value: &Self::Value) -> bool
-        requires { fits_in shape.now.dim (channels_of shape.now.kind) self.now }
-        ensures shape { IsTrue result ↔ has_shape shape.now.dim (channels_of shape.now.kind) self.now value.now }
-        ensures value { IsTrue result → is_value value.now };
+        requires { fits_in shape.now self.now }
+        ensures shape { IsTrue result ↔ has_shape shape.now self.now value.now }
+        ensures value { IsTrue result → is_value value.now }
+        // Of the shape of the named picture: the test of the value.
+        ensures named { (shows : Pictures) → HasPicture shows (name_of self.now) shape.now
+            → IsTrue result ↔ IsTrue (is_shaped shows self.now value.now) };
 
     /// How many bytes the key and a value take together. It takes no memory.
     fn size(&self, value: &Self::Value) -> u64
@@ -105,19 +111,22 @@ pub trait CacheKey: Drop + Eq {
     /// It computes nothing: its contract has the laws of keys.
     fn laws()
         // What the parts' meanings make is the whole's meaning.
-        ensures derived { (shows : Pictures) (p : Picture) (k : Self) → AreSources shows → shows (name_of k) ≡ Some p
-            → fits_in (dim_of p) p.channels k → derived shows k ≡ meaning shows k }
+        ensures derived { (shows : Pictures) (s : Shape) (k : Self) → HasPicture shows (name_of k) s → IsSource (named shows (name_of k))
+            → fits_in s k → derived shows k ≡ meaning shows k }
 
         // A meaning has its key's shape, and is read from bytes.
-        ensures meant { (shows : Pictures) (p : Picture) (k : Self) → AreSources shows → shows (name_of k) ≡ Some p
-            → fits_in (dim_of p) p.channels k → has_shape (dim_of p) p.channels k (meaning shows k) × is_value (meaning shows k) }
+        ensures meant { (shows : Pictures) (s : Shape) (k : Self) → HasPicture shows (name_of k) s → IsSource (named shows (name_of k))
+            → fits_in s k → has_shape s k (meaning shows k) × is_value (meaning shows k) }
+
+        // The test of a value's shape.
+        ensures shapes { (shows : Pictures) (s : Shape) (k : Self) (v : Self.Value) → HasPicture shows (name_of k) s
+            → IsTrue (is_shaped shows k v) ↔ has_shape s k v }
 
         // A key that fits an image is read from bytes, and it and the values of its shape are short enough to be sent.
-        ensures keys { (image : Dim) (channels : ℕ) (k : Self) → image.w < 2 ^ 32 → image.h < 2 ^ 32 → IsName (name_of k)
-            → fits_in image channels k → is_key k }
+        ensures keys { (s : Shape) (k : Self) → s.dim.w < 2 ^ 32 → s.dim.h < 2 ^ 32 → IsName (name_of k) → fits_in s k → is_key k }
         ensures key_len { (k : Self) → is_key k → length (key_bytes k) ≤ 4096 }
-        ensures val_len { (image : Dim) (channels : ℕ) (k : Self) (v : Self.Value) → channels ≤ 3 → fits_in image channels k
-            → has_shape image channels k v → is_value v → length (val_bytes v) ≤ 2 ^ 26 };
+        ensures val_len { (s : Shape) (k : Self) (v : Self.Value) → fits_in s k → has_shape s k v → is_value v
+            → length (val_bytes v) ≤ 2 ^ 26 };
 
     /// Keys that are equal by `==` are one key.
     ghost identical: { (a b : Self) → Self.eq a b ≡ true → a ≡ b };

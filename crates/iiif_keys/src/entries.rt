@@ -12,10 +12,11 @@ use iiif_pixel::NoMemory;
 use std::alloc::Global;
 
 impl CacheKey for TileKey {
+    ghost use Rattle.iiif_pixel.specs.Geometry.{channels_of};
     ghost use Rattle.iiif_keys.specs.KeyLaws.{tile_identical, tile_spelled};
     ghost use Rattle.iiif_keys.specs.Blocks.{TileFitsIn};
     ghost use Rattle.iiif_keys.specs.Bytes.{tile_key_bytes, tile_val_bytes, IsTileKey, IsTileVal};
-    ghost use Rattle.iiif_keys.specs.Meaning.{tile_meaning, tile_rank, TileHasShape};
+    ghost use Rattle.iiif_keys.specs.Meaning.{tile_is_shaped, tile_meaning, tile_rank, TileHasShape};
     ghost use Rattle.iiif_keys.specs.Reading.{tile_key_refusal, tile_val_refusal};
 
     type Value = TileVal;
@@ -26,13 +27,15 @@ impl CacheKey for TileKey {
 
     ghost rank_of = { tile_rank };
 
-    ghost fits_in = { TileFitsIn };
+    ghost fits_in = { λ s k. TileFitsIn s.dim (channels_of s.kind) k };
 
     ghost meaning = { tile_meaning };
 
     ghost derived = { tile_meaning };
 
     ghost has_shape = { TileHasShape };
+
+    ghost is_shaped = { tile_is_shaped };
 
     ghost is_key = { IsTileKey };
 
@@ -47,7 +50,8 @@ impl CacheKey for TileKey {
     ghost val_refusal = { tile_val_refusal };
 
     fn name(&self) -> &Name {
-        self.name.as_str();
+        // Read, so that it is known to be a name.
+        let _text = self.name.as_str();
         &self.name
     }
 
@@ -95,10 +99,11 @@ impl CacheKey for TileKey {
 }
 
 impl CacheKey for SumKey {
+    ghost use Rattle.iiif_pixel.specs.Geometry.{channels_of};
     ghost use Rattle.iiif_keys.specs.KeyLaws.{sum_identical, sum_spelled};
     ghost use Rattle.iiif_keys.specs.Blocks.{SumFitsIn};
     ghost use Rattle.iiif_keys.specs.Bytes.{sum_key_bytes, sum_val_bytes, IsSumKey, IsSumVal};
-    ghost use Rattle.iiif_keys.specs.Meaning.{sum_derived, sum_meaning, sum_rank, SumHasShape};
+    ghost use Rattle.iiif_keys.specs.Meaning.{sum_derived, sum_is_shaped, sum_meaning, sum_rank, SumHasShape};
     ghost use Rattle.iiif_keys.specs.Reading.{sum_key_refusal, sum_val_refusal};
 
     type Value = SumVal;
@@ -109,13 +114,15 @@ impl CacheKey for SumKey {
 
     ghost rank_of = { sum_rank };
 
-    ghost fits_in = { SumFitsIn };
+    ghost fits_in = { λ s k. SumFitsIn s.dim (channels_of s.kind) k };
 
     ghost meaning = { sum_meaning };
 
     ghost derived = { sum_derived };
 
     ghost has_shape = { SumHasShape };
+
+    ghost is_shaped = { sum_is_shaped };
 
     ghost is_key = { IsSumKey };
 
@@ -130,7 +137,8 @@ impl CacheKey for SumKey {
     ghost val_refusal = { sum_val_refusal };
 
     fn name(&self) -> &Name {
-        self.name.as_str();
+        // Read, so that it is known to be a name.
+        let _text = self.name.as_str();
         &self.name
     }
 

@@ -5,8 +5,10 @@
 pub use cache_key::CacheKey;
 pub use fault::{Fault, KeyFault};
 pub use keys::{Parts, Shape, SumKey, TileKey};
-pub use name::Name;
+pub use name::{Name, is_name};
+pub use places::{LEVEL_LIMIT, side_of};
 pub use splitting::parts;
+pub use system::System;
 pub use values::{SumVal, TileVal};
 
 pub mod cache_key;
@@ -16,13 +18,14 @@ mod fields;
 pub mod keys;
 pub mod laws;
 pub mod name;
-mod places;
+pub mod places;
 #[cfg(test)]
 mod plain;
 pub mod splitting;
 mod sum_bytes;
 mod sum_val_bytes;
 pub mod sums;
+pub mod system;
 #[cfg(test)]
 mod tests;
 mod tile_bytes;

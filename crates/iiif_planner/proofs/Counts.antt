@@ -12,7 +12,7 @@ use Rattle.iiif_keys.proofs.Names.{both}
 use Rattle.iiif_keys.proofs.Cuts.{is_false, counted, one_if, Halves, First, Second, Neither}
 use Rattle.iiif_planner.specs.declared.squares.Squares.{Squares}
 use Rattle.iiif_planner.specs.Plans.{StandsBefore}
-use Rattle.iiif_planner.specs.Code.{row_from, rows_from, each_square}
+use Rattle.iiif_planner.specs.Items.{row_from, rows_from, each_square}
 
 row_all : {K : Type 0} (f : ℕ → ℕ → K) (P : K → Type 0) (left j n : ℕ) → ((i : ℕ) → left ≤ i → i < left + n → P (f i j)) → All P (row_from f left j n)
 unfolding row_from

@@ -10,7 +10,7 @@ use Rattle.iiif_keys.specs.Blocks.{square, clipped, tile_of, part_in, sum_val_le
 use Rattle.iiif_keys.specs.declared.keys.SumKey.{SumKey}
 use Rattle.iiif_keys.proofs.Cuts.{clipped_part}
 use Rattle.iiif_planner.specs.Plans.{StandsBefore, IsTileFor, IsBlockFor, TilesCover, BlocksCover}
-use Rattle.iiif_planner.specs.Code.{each_square, squares_met, tile_at, block_at}
+use Rattle.iiif_planner.specs.Items.{each_square, squares_met, tile_at, block_at}
 use Rattle.iiif_planner.proofs.Counts.{each_all, each_pair}
 use Rattle.iiif_planner.specs.Levels.{met_at_most, sums_at_most}
 use Rattle.iiif_planner.proofs.LevelLaws.{most_sums, places_met}

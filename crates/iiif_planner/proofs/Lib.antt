@@ -1,5 +1,6 @@
 pub mod Counts
 pub mod Covers
+pub mod Greatest
 pub mod LevelLaws
 pub mod Lines
 pub mod Meeting

@@ -2,7 +2,7 @@
 use Rattle.std.proofs.Common.{◌≡◌, ℕ, suc, ◌+◌, ◌-◌, ◌≤◌, List, [], ◌∷◌, ◌++◌, refl, sym, append_assoc, arith}
 use Rattle.std.proofs.lemmas.List.{append-nil}
 use Rattle.iiif_planner.specs.declared.squares.Squares.{Squares}
-use Rattle.iiif_planner.specs.Code.{row_from, rows_from, each_square}
+use Rattle.iiif_planner.specs.Items.{row_from, rows_from, each_square}
 
 pub row_none : {K : Type 0} (f : ℕ → ℕ → K) (left j n : ℕ) → n ≡ 0 → row_from f left j n ≡ []
 unfolding row_from

@@ -17,7 +17,7 @@ use Rattle.iiif_area.proofs.WeightLaws.{div_ceil-times}
 use Rattle.iiif_keys.specs.Blocks.{square}
 use Rattle.iiif_keys.proofs.Names.{both}
 use Rattle.iiif_keys.proofs.Cuts.{alike, one_if}
-use Rattle.iiif_planner.specs.Code.{each_square, squares_met}
+use Rattle.iiif_planner.specs.Items.{each_square, squares_met}
 use Rattle.iiif_planner.proofs.Counts.{each_count, count_mapped, equal, within, within_yes}
 
 -- the column of squares that has a column

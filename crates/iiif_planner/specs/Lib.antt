@@ -1,4 +1,4 @@
 pub mod Levels
 pub mod Plans
 pub mod Laws
-pub mod Code
+pub mod Items

@@ -5,10 +5,8 @@ ghost use Rattle.std.specs.Int.{div_ceil};
 ghost use Rattle.iiif_planner.specs.Levels.{sums_at_most, HoldsImage, IsLevel, IsUsable};
 ghost use Rattle.iiif_keys.specs.Blocks.{IsEdge};
 
+use iiif_keys::{LEVEL_LIMIT, side_of};
 use iiif_pixel::Dim;
-
-/// The greatest level of a block.
-const LEVEL_LIMIT: u8 = 20;
 
 /// What a level is chosen for: a region of an image that is scaled to `size`, tiles with this edge, so many channels, and room
 /// for so many sums of a block.
@@ -76,17 +74,6 @@ impl Scaled {
             * met_at_most(side, self.region.h, self.size.h)
             * self.channels
     }
-}
-
-/// The side of a block, in places.
-pub(crate) fn side_of(edge: u32, level: u8) -> u64
-    requires edge { IsEdge edge }
-    requires level { level ≤ 20 }
-    ensures side { result ≡ 2 ^ level * edge }
-    ensures some { 0 < result }
-    ensures within { result ≤ 2 ^ 30 }
-{
-    u64::from(edge) << level
 }
 
 /// How many result columns a block with this side meets at most, where `a` columns are scaled to `c`.

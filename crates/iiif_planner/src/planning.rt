@@ -3,14 +3,14 @@
 ghost use Rattle.std.specs.Prelude.{◌≡◌, ◌+◌, ◌*◌, ◌^◌, ◌<◌, ◌≤◌, IfOk};
 ghost use Rattle.iiif_pixel.specs.Geometry.{channels_of, LiesIn};
 ghost use Rattle.iiif_keys.specs.Blocks.{IsEdge};
-ghost use Rattle.iiif_planner.specs.Code.{block_at, each_square, squares_met, tile_at};
+ghost use Rattle.iiif_planner.specs.Items.{block_at, each_square, squares_met, tile_at, HasItems};
 ghost use Rattle.iiif_planner.specs.Plans.{IsPlan};
 
-use crate::levels::{Scaled, side_of};
+use crate::levels::Scaled;
 use crate::plans::Plan;
 use crate::squares::Squares;
 use iiif_canonical::Resolved;
-use iiif_keys::{Name, SumKey, TileKey};
+use iiif_keys::{Name, SumKey, TileKey, side_of};
 use iiif_pixel::{Dim, Kind, NoMemory, Rect};
 use std::alloc::Global;
 
@@ -32,6 +32,7 @@ pub fn plan(
     requires columns { (0 < resolved.now.size.w) × (resolved.now.size.w ≤ resolved.now.rect.w) }
     requires rows { (0 < resolved.now.size.h) × (resolved.now.size.h ≤ resolved.now.rect.h) }
     ensures plan { IfOk result (IsPlan name.now edge dim (channels_of kind) room resolved.now) }
+    ensures exact { IfOk result (HasItems name.now edge dim (channels_of kind) room resolved.now) }
 {
     let (rect, size) = (resolved.rect, resolved.size);
     let region = Dim {

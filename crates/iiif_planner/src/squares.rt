@@ -2,7 +2,7 @@
 
 ghost use Rattle.std.specs.Prelude.{◌≡◌, ◌+◌, ◌-◌, ◌*◌, ◌/◌, ◌^◌, ◌<◌, ◌≤◌};
 ghost use Rattle.std.specs.Int.{div_ceil};
-ghost use Rattle.iiif_planner.specs.Code.{squares_met};
+ghost use Rattle.iiif_planner.specs.Items.{squares_met};
 
 use iiif_pixel::Rect;
 

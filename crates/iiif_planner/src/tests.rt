@@ -2,7 +2,7 @@
 
 use crate::{Plan, laws, plan};
 use iiif_canonical::Resolved;
-use iiif_keys::{Name, Parts, SumKey, TileKey, parts};
+use iiif_keys::{Name, Parts, SumKey, TileKey, is_name, parts};
 use iiif_pixel::{Dim, Kind, NoMemory, Quality, Rect, Turn};
 use std::alloc::Global;
 use std::process::Abort;
@@ -46,10 +46,11 @@ fn planned(
 ) -> Result<Result<Plan, NoMemory>, Fail> {
     let sides = 0 < w && w <= rect.w && 0 < h && h <= rect.h;
     let limits = 0 < image.edge && image.edge <= 1024 && image.room <= 65_536;
-    if !(sides && limits && rect.lies_in(image.dim)) {
+    let name = "a";
+    if !(sides && limits && rect.lies_in(image.dim) && is_name(name)) {
         return Err(Fail::from("a condition of the call is not met"));
     }
-    let name = Name::new(String::from_str(alloc, "a")?).ok_or("a name")?;
+    let name = Name::new(String::from_str(alloc, name)?)?;
     let resolved = Resolved {
         rect,
         size: Dim { w, h },
@@ -119,6 +120,7 @@ fn whole_image_is_one_block(rt: HostRuntime) -> Result<(), Fail> {
         Parts::Tile(_) => return Err(Fail::from("a block of level 1 has sums")),
     }
     laws::each_is_listed_once();
+    laws::level_is_greatest();
     Ok(())
 }
 

@@ -1,6 +1,6 @@
 use Rattle.std.proofs.Common.{◌≡◌, ℕ, List, ◌-◌, ap, sym, ◌∙◌, arith}
 use Rattle.iiif_planner.specs.declared.squares.Squares.{Squares}
-use Rattle.iiif_planner.specs.Code.{block_at, each_square, squares_met}
+use Rattle.iiif_planner.specs.Items.{block_at, each_square, squares_met}
 use Rattle.iiif_planner.proofs.Lines.{before_first, before_pushed, before_row, before_end}
 use Rattle.iiif_planner.proofs.planning.blocks.Goals as goal
 

@@ -1,5 +1,5 @@
 use Rattle.std.proofs.Common.{◌≡◌}
-use Rattle.iiif_planner.specs.Code.{block_at}
+use Rattle.iiif_planner.specs.Items.{block_at}
 use Rattle.iiif_planner.proofs.Lines.{squares_before}
 use Rattle.iiif_planner.proofs.planning.blocks.Given as goal
 

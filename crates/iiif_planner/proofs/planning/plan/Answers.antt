@@ -10,6 +10,8 @@ use Rattle.iiif_planner.specs.Levels.{IsLevel}
 use Rattle.iiif_planner.specs.Plans.{TilesCover, BlocksCover}
 use Rattle.iiif_planner.proofs.Counts.{equal}
 use Rattle.iiif_planner.proofs.Covers.{tiles_cover, blocks_cover}
+use Rattle.iiif_planner.specs.Items.{blocks_for}
+use Rattle.iiif_planner.proofs.Greatest.{level_greatest}
 use Rattle.iiif_planner.proofs.LevelLaws.{level_limits, channels_few}
 use Rattle.iiif_planner.proofs.planning.plan.Goals as goal
 
@@ -38,6 +40,7 @@ returns-then-eq c =
         same_sides c.args.resolved.now.size (sides_of r) c.if-eq.ensures,
         subst (λ (keys : List TileKey). TilesCover c.args.name.now c.args.edge c.args.dim (channels_of c.args.kind) r keys) (sym c.in_ok-tiles.ensures) cover,
       );
+      exact = (sym c.if-eq.ensures, c.in_ok-tiles.ensures);
     }
 
 pub returns : goal.returns
@@ -54,5 +57,10 @@ returns c =
         c.level.result,
         level,
         subst (λ (keys : List SumKey). BlocksCover c.args.name.now c.args.edge c.args.dim n r size c.level.result keys) (sym c.in_ok-blocks.ensures) cover,
+      );
+      exact = (
+        sym c.if-eq.ensures,
+        c.in_ok-blocks.ensures
+            ∙ ap (λ (l : ℕ). blocks_for c.args.name.now c.args.edge l c.args.resolved.now) ((level_greatest c.args.edge c.args.dim (sides_of r) size n c.args.room c.level.result).0 level),
       );
     }

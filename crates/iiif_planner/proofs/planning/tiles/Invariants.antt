@@ -1,5 +1,5 @@
 use Rattle.std.proofs.Common.{◌≡◌}
-use Rattle.iiif_planner.specs.Code.{tile_at}
+use Rattle.iiif_planner.specs.Items.{tile_at}
 use Rattle.iiif_planner.proofs.Lines.{squares_before}
 use Rattle.iiif_planner.proofs.planning.tiles.Given as goal
 
