@@ -1,5 +1,5 @@
 -- A text that was cut, as a part of a longer one.
-use Rattle.std.proofs.Common.{◌≡◌, ℕ, ◌+◌, ◌≤◌, List, [], ◌∷◌, ◌++◌, length, get_or, take, Option, sym, ap, subst, length-append, arith}
+use Rattle.std.proofs.Common.{◌≡◌, ℕ, ◌+◌, ◌≤◌, List, [], ◌∷◌, ◌++◌, length, get_or, take, Option, sym, ap, ◌∙◌, subst, length-append, arith}
 use Rattle.std.proofs.lemmas.List.{take-append-le}
 use Rattle.std.proofs.Math.Seq.{take-append-add}
 use Rattle.std.specs.Io.KnownBytes.{Appends}
@@ -8,7 +8,8 @@ use Rattle.std.specs.Int.{w32, to_be_bytes}
 use Rattle.iiif_io.specs.Sending.{WasCut}
 use Rattle.iiif_peer_wire.specs.declared.fault.WireFault.{WireFault}
 use Rattle.iiif_peer_wire.specs.Faults.{IsCut}
-use Rattle.iiif_peer_wire.specs.Messages.{ask_text, field, reply_magic}
+use Rattle.iiif_peer_wire.specs.declared.version.Version.{Version}
+use Rattle.iiif_peer_wire.specs.Messages.{digit_of, ask_text, field, reply_magic}
 
 module _ {W : Type 0} (contents : W → Option (List ℕ)) (fails : W → W → Type 0) where
   -- cut in the first of two texts
@@ -19,6 +20,7 @@ module _ {W : Type 0} (contents : W → Option (List ℕ)) (fails : W → W → 
         strict = omega (arith, cut.strict, length-append first second);
         written = subst (Appends (contents old) (contents new)) (sym (take-append-le sent first second within)) cut.written;
         before = cut.before;
+        reached = subst (Appends (contents old) (contents cut.before)) (sym (take-append-le sent first second within)) cut.reached;
         failed = cut.failed;
       }
 
@@ -29,6 +31,7 @@ module _ {W : Type 0} (contents : W → Option (List ℕ)) (fails : W → W → 
     strict = omega (arith, cut.strict, length-append first second);
     written = subst (Appends (contents old) (contents new)) (sym (take-append-add first second sent)) (Appends-trans (contents old) (contents mid) (contents new) first (take sent second) whole cut.written);
     before = cut.before;
+    reached = subst (Appends (contents old) (contents cut.before)) (sym (take-append-add first second sent)) (Appends-trans (contents old) (contents mid) (contents cut.before) first (take sent second) whole cut.reached);
     failed = cut.failed;
   }
 
@@ -41,14 +44,18 @@ module _ {W : Type 0} (contents : W → Option (List ℕ)) (fails : W → W → 
 
 -- the bytes that a message begins with
 
-pub ask_head : (size key : List ℕ) (group : ℕ) → size ≡ to_be_bytes w32 (length key)
-    → (73 ∷ 71 ∷ 65 ∷ 49 ∷ group ∷ get_or size 0 0 ∷ get_or size 1 0 ∷ get_or size 2 0 ∷ get_or size 3 0 ∷ []) ++ key ≡ ask_text group key
+pub ask_head : (version : Version) (size key : List ℕ) (digit group : ℕ) → digit ≡ digit_of version → size ≡ to_be_bytes w32 (length key)
+    → (73 ∷ 71 ∷ 65 ∷ digit ∷ group ∷ get_or size 0 0 ∷ get_or size 1 0 ∷ get_or size 2 0 ∷ get_or size 3 0 ∷ []) ++ key ≡ ask_text version group key
 unfolding ask_text
-ask_head size key group e = ap (λ s. (73 ∷ 71 ∷ 65 ∷ 49 ∷ group ∷ get_or s 0 0 ∷ get_or s 1 0 ∷ get_or s 2 0 ∷ get_or s 3 0 ∷ []) ++ key) e
+ask_head version size key digit group d e =
+    ap (λ n. (73 ∷ 71 ∷ 65 ∷ n ∷ group ∷ get_or size 0 0 ∷ get_or size 1 0 ∷ get_or size 2 0 ∷ get_or size 3 0 ∷ []) ++ key) d
+    ∙ ap (λ s. (73 ∷ 71 ∷ 65 ∷ digit_of version ∷ group ∷ get_or s 0 0 ∷ get_or s 1 0 ∷ get_or s 2 0 ∷ get_or s 3 0 ∷ []) ++ key) e
 
-pub reply_head : (size key : List ℕ) → size ≡ to_be_bytes w32 (length key)
-    → (73 ∷ 71 ∷ 82 ∷ 49 ∷ get_or size 0 0 ∷ get_or size 1 0 ∷ get_or size 2 0 ∷ get_or size 3 0 ∷ []) ++ key ≡ reply_magic ++ field key
-reply_head size key e = ap (λ s. (73 ∷ 71 ∷ 82 ∷ 49 ∷ get_or s 0 0 ∷ get_or s 1 0 ∷ get_or s 2 0 ∷ get_or s 3 0 ∷ []) ++ key) e
+pub reply_head : (version : Version) (size key : List ℕ) (digit : ℕ) → digit ≡ digit_of version → size ≡ to_be_bytes w32 (length key)
+    → (73 ∷ 71 ∷ 82 ∷ digit ∷ get_or size 0 0 ∷ get_or size 1 0 ∷ get_or size 2 0 ∷ get_or size 3 0 ∷ []) ++ key ≡ reply_magic version ++ field key
+reply_head version size key digit d e =
+    ap (λ n. (73 ∷ 71 ∷ 82 ∷ n ∷ get_or size 0 0 ∷ get_or size 1 0 ∷ get_or size 2 0 ∷ get_or size 3 0 ∷ []) ++ key) d
+    ∙ ap (λ s. (73 ∷ 71 ∷ 82 ∷ digit_of version ∷ get_or s 0 0 ∷ get_or s 1 0 ∷ get_or s 2 0 ∷ get_or s 3 0 ∷ []) ++ key) e
 
 pub value_head : (size value : List ℕ) (status : ℕ) → size ≡ to_be_bytes w32 (length value)
     → (status ∷ get_or size 0 0 ∷ get_or size 1 0 ∷ get_or size 2 0 ∷ get_or size 3 0 ∷ []) ++ value ≡ status ∷ field value

@@ -3,6 +3,8 @@ use Rattle.std.proofs.Common.{◌≡◌, ℕ, List, [], ◌++◌, Option, Some, 
 use Rattle.std.specs.Io.KnownBytes.{Consumes, IsAtEnd}
 use Rattle.iiif_peer_wire.specs.declared.fault.WireFault.{WireFault}
 use Rattle.iiif_peer_wire.specs.declared.fault.WireFault.TheVariants.{Io}
+use Rattle.iiif_peer_wire.specs.declared.version.Version.{Version}
+use Rattle.iiif_peer_wire.specs.declared.version.Version.TheVariants.{One}
 use Rattle.iiif_peer_wire.specs.Code.{Unread}
 use Rattle.iiif_peer_wire.specs.Faults.{IsRefusal}
 use Rattle.iiif_peer_wire.specs.Messages.{IsAsk, IsReply, ask_text, reply_text}
@@ -29,13 +31,13 @@ abbrev rest_in : {A : Type 0} → Result (A × List ℕ) WireFault → List ℕ
 rest_in (Ok x) = x.1
 rest_in (Err e) = []
 
-abbrev read_some : ℕ × List ℕ → List ℕ → Result (Option (ℕ × List ℕ) × List ℕ) WireFault
+abbrev read_some : Version × (ℕ × List ℕ) → List ℕ → Result (Option (Version × (ℕ × List ℕ)) × List ℕ) WireFault
 read_some ask rest = Ok (Some ask, rest)
 
-abbrev read_none : Result (Option (ℕ × List ℕ) × List ℕ) WireFault
+abbrev read_none : Result (Option (Version × (ℕ × List ℕ)) × List ℕ) WireFault
 read_none = Ok (None, [])
 
-some_is_none : (ask : ℕ × List ℕ) (rest : List ℕ) → read_some ask rest ≡ read_none → ⊥
+some_is_none : (ask : Version × (ℕ × List ℕ)) (rest : List ℕ) → read_some ask rest ≡ read_none → ⊥
 some_is_none ask rest e = let both : Some ask ≡ None = ap (answer_in None) e in cc
 
 module _ {R : Type 0} (left : R → Option (List ℕ)) (fails : R → R → Type 0) (old new : R) where
@@ -53,51 +55,51 @@ module _ {R : Type 0} (left : R → Option (List ℕ)) (fails : R → R → Type
       let r = refused_input left fails old new f fault h is in
       let never : Err fault ≡ Ok answer = sym r.2 ∙ ap f (input_is (left old) xs r.0 known r.1) ∙ e in cc
 
-  module _ {X : Type 0} (group_of : X → ℕ) (key_of : X → List ℕ) where
-    ask_given : (x : X) (group : ℕ) (key rest : List ℕ) → IsAsk group key → left old ≡ Some (ask_text group key ++ rest) → IsAsk (group_of x) (key_of x)
-        → Consumes (left old) (left new) (ask_text (group_of x) (key_of x)) → ((group_of x ≡ group) × (key_of x ≡ key)) × (left new ≡ Some rest)
-    ask_given x group key rest is known found took =
-        let t = consumed (left old) (left new) (ask_text group key ++ rest) (ask_text (group_of x) (key_of x)) known took in
-        let one = sym (ask_at-text (group_of x) (key_of x) t.0 found) ∙ sym (ap ask_at t.2) ∙ ask_at-text group key rest is in
-        let parts : Result (Option (ℕ × List ℕ) × List ℕ) WireFault → ℕ × List ℕ = λ r. unwrap_or (answer_in None r) (0, []) in
+  module _ {X : Type 0} (version_of : X → Version) (group_of : X → ℕ) (key_of : X → List ℕ) where
+    ask_given : (x : X) (version : Version) (group : ℕ) (key rest : List ℕ) → IsAsk group key → left old ≡ Some (ask_text version group key ++ rest) → IsAsk (group_of x) (key_of x)
+        → Consumes (left old) (left new) (ask_text (version_of x) (group_of x) (key_of x)) → ((version_of x ≡ version) × (group_of x ≡ group) × (key_of x ≡ key)) × (left new ≡ Some rest)
+    ask_given x version group key rest is known found took =
+        let t = consumed (left old) (left new) (ask_text version group key ++ rest) (ask_text (version_of x) (group_of x) (key_of x)) known took in
+        let one = sym (ask_at-text (version_of x) (group_of x) (key_of x) t.0 found) ∙ sym (ap ask_at t.2) ∙ ask_at-text version group key rest is in
+        let parts : Result (Option (Version × (ℕ × List ℕ)) × List ℕ) WireFault → Version × (ℕ × List ℕ) = λ r. unwrap_or (answer_in None r) (One, (0, [])) in
         let behind : t.0 ≡ rest = ap rest_in one in
-        ((ap (λ r. (parts r).0) one, ap (λ r. (parts r).1) one), t.1 ∙ ap (λ (l : List ℕ). Some l) behind)
+        ((ap (λ r. (parts r).0) one, ap (λ r. (parts r).1.0) one, ap (λ r. (parts r).1.1) one), t.1 ∙ ap (λ (l : List ℕ). Some l) behind)
 
     -- an ask's text is read as that ask
     pub ask_only : (r : Result (Option X) WireFault) → IfOk r (λ a. IfNone a (Consumes (left old) (left new) [] × IsAtEnd (left new))) → IfOk r (λ a. IfSome a (λ x. IsAsk (group_of x) (key_of x)))
-        → IfOk r (λ a. IfSome a (λ x. Consumes (left old) (left new) (ask_text (group_of x) (key_of x)))) → IfErr r (Unread left fails old new ask_at)
-        → (group : ℕ) (key rest : List ℕ) → IsAsk group key → left old ≡ Some (ask_text group key ++ rest)
-        → MatchResult r (λ a. IsSomeAnd a (λ x. (group_of x ≡ group) × (key_of x ≡ key)) × (left new ≡ Some rest)) (λ fault. IsRefusal fault → ⊥)
-    ask_only (Ok None) none known whole unread group key rest is left_is =
-        let t = consumed (left old) (left new) (ask_text group key ++ rest) [] left_is none.0 in
+        → IfOk r (λ a. IfSome a (λ x. Consumes (left old) (left new) (ask_text (version_of x) (group_of x) (key_of x)))) → IfErr r (Unread left fails old new ask_at)
+        → (version : Version) (group : ℕ) (key rest : List ℕ) → IsAsk group key → left old ≡ Some (ask_text version group key ++ rest)
+        → MatchResult r (λ a. IsSomeAnd a (λ x. (version_of x ≡ version) × (group_of x ≡ group) × (key_of x ≡ key)) × (left new ≡ Some rest)) (λ fault. IsRefusal fault → ⊥)
+    ask_only (Ok None) none known whole unread version group key rest is left_is =
+        let t = consumed (left old) (left new) (ask_text version group key ++ rest) [] left_is none.0 in
         let nothing : t.0 ≡ [] = let P : Option (List ℕ) → Type 0 = λ o. IsAtEnd o in subst P t.1 none.1 in
-        let one = sym (ask_at-text group key rest is) ∙ ap ask_at (t.2 ∙ nothing) ∙ ask_at-nil in
-        absurd (some_is_none (group, key) rest one)
-    ask_only (Ok (Some x)) none known whole unread group key rest is left_is = ask_given x group key rest is left_is known whole
-    ask_only (Err fault) none known whole unread group key rest is left_is = never_refused ask_at (ask_text group key ++ rest) (Some (group, key), rest) fault left_is (ask_at-text group key rest is) unread
+        let one = sym (ask_at-text version group key rest is) ∙ ap ask_at (t.2 ∙ nothing) ∙ ask_at-nil in
+        absurd (some_is_none (version, (group, key)) rest one)
+    ask_only (Ok (Some x)) none known whole unread version group key rest is left_is = ask_given x version group key rest is left_is known whole
+    ask_only (Err fault) none known whole unread version group key rest is left_is = never_refused ask_at (ask_text version group key ++ rest) (Some (version, (group, key)), rest) fault left_is (ask_at-text version group key rest is) unread
 
     -- at a clean end there is no ask
     pub ask_none : (r : Result (Option X) WireFault) → IfOk r (λ a. IfSome a (λ x. IsAsk (group_of x) (key_of x)))
-        → IfOk r (λ a. IfSome a (λ x. Consumes (left old) (left new) (ask_text (group_of x) (key_of x)))) → IfErr r (Unread left fails old new ask_at)
+        → IfOk r (λ a. IfSome a (λ x. Consumes (left old) (left new) (ask_text (version_of x) (group_of x) (key_of x)))) → IfErr r (Unread left fails old new ask_at)
         → left old ≡ Some [] → MatchResult r (λ a. IsNone a) (λ fault. IsRefusal fault → ⊥)
     ask_none (Ok None) known whole unread left_is = refl
     ask_none (Ok (Some x)) known whole unread left_is =
-        let t = consumed (left old) (left new) [] (ask_text (group_of x) (key_of x)) left_is whole in
-        let one = sym (ask_at-text (group_of x) (key_of x) t.0 known) ∙ sym (ap ask_at t.2) ∙ ask_at-nil in
-        absurd (some_is_none (group_of x, key_of x) t.0 one)
+        let t = consumed (left old) (left new) [] (ask_text (version_of x) (group_of x) (key_of x)) left_is whole in
+        let one = sym (ask_at-text (version_of x) (group_of x) (key_of x) t.0 known) ∙ sym (ap ask_at t.2) ∙ ask_at-nil in
+        absurd (some_is_none (version_of x, (group_of x, key_of x)) t.0 one)
     ask_none (Err fault) known whole unread left_is = never_refused ask_at [] (None, []) fault left_is ask_at-nil unread
 
-  module _ {X : Type 0} (status_of : X → ℕ) (value_of : X → List ℕ) (asked : List ℕ) where
+  module _ {X : Type 0} (status_of : X → ℕ) (value_of : X → List ℕ) (version : Version) (asked : List ℕ) where
     -- a reply's text is read as that reply
-    pub reply_only : (r : Result X WireFault) → IfOk r (λ x. IsReply asked (status_of x) (value_of x)) → IfOk r (λ x. Consumes (left old) (left new) (reply_text asked (status_of x) (value_of x)))
-        → IfErr r (Unread left fails old new (reply_at asked))
-        → (status : ℕ) (value rest : List ℕ) → IsReply asked status value → left old ≡ Some (reply_text asked status value ++ rest)
+    pub reply_only : (r : Result X WireFault) → IfOk r (λ x. IsReply asked (status_of x) (value_of x)) → IfOk r (λ x. Consumes (left old) (left new) (reply_text version asked (status_of x) (value_of x)))
+        → IfErr r (Unread left fails old new (reply_at version asked))
+        → (status : ℕ) (value rest : List ℕ) → IsReply asked status value → left old ≡ Some (reply_text version asked status value ++ rest)
         → MatchResult r (λ x. (status_of x ≡ status) × (value_of x ≡ value) × (left new ≡ Some rest)) (λ fault. IsRefusal fault → ⊥)
     reply_only (Ok x) known whole unread status value rest is left_is =
-        let t = consumed (left old) (left new) (reply_text asked status value ++ rest) (reply_text asked (status_of x) (value_of x)) left_is whole in
-        let one = sym (reply_at-text asked (status_of x) (value_of x) t.0 known) ∙ sym (ap (reply_at asked) t.2) ∙ reply_at-text asked status value rest is in
+        let t = consumed (left old) (left new) (reply_text version asked status value ++ rest) (reply_text version asked (status_of x) (value_of x)) left_is whole in
+        let one = sym (reply_at-text version asked (status_of x) (value_of x) t.0 known) ∙ sym (ap (reply_at version asked) t.2) ∙ reply_at-text version asked status value rest is in
         let parts : Result ((ℕ × List ℕ) × List ℕ) WireFault → ℕ × List ℕ = λ r. answer_in (0, []) r in
         let behind : t.0 ≡ rest = ap rest_in one in
         (ap (λ r. (parts r).0) one, ap (λ r. (parts r).1) one, t.1 ∙ ap (λ (l : List ℕ). Some l) behind)
     reply_only (Err fault) known whole unread status value rest is left_is =
-        never_refused (reply_at asked) (reply_text asked status value ++ rest) ((status, value), rest) fault left_is (reply_at-text asked status value rest is) unread
+        never_refused (reply_at version asked) (reply_text version asked status value ++ rest) ((status, value), rest) fault left_is (reply_at-text version asked status value rest is) unread

@@ -1,5 +1,5 @@
 -- What reading a part of a message gives.
-use Rattle.std.proofs.Common.{◌≡◌, ◌≢◌, ℕ, ◌<◌, ◌≤◌, ◌^◌, ◌==◌, ◌||◌, Bool, true, false, List, [], ◌∷◌, ◌++◌, length, Result, Ok, Err, nat_le, zero, suc, inl, inr, ⊎_elim, refl, sym, ap, ◌∙◌, append_assoc, arith, take_at, drop_at, length-append}
+use Rattle.std.proofs.Common.{◌≡◌, ◌≢◌, ℕ, ◌<◌, ◌≤◌, ◌^◌, ◌==◌, ◌||◌, Bool, true, false, List, [], ◌∷◌, ◌++◌, length, Some, None, if◌then◌else◌, Result, Ok, Err, nat_le, zero, suc, inl, inr, ⊎_elim, refl, sym, ap, ◌∙◌, append_assoc, arith, take_at, drop_at, length-append}
 use Rattle.std.proofs.lemmas.Bool.{lt-ltb, le-ltb, le-leb, lt-leb, eq-eqb, ne_eqb, or_left, or_right}
 use Rattle.std.proofs.lemmas.Nat.{from_be_bytes-to_be_bytes_4}
 use Rattle.std.specs.Int.{w32, to_be_bytes, from_be_bytes}
@@ -9,8 +9,10 @@ use Rattle.sha2.specs.Sha256.{sha256}
 use Rattle.sha2.proofs.Facts256.{length-sha256}
 use Rattle.iiif_peer_wire.specs.declared.fault.WireFault.{WireFault}
 use Rattle.iiif_peer_wire.specs.declared.fault.WireFault.TheVariants.{Magic, Short, Long, Key, Digest, Status}
-use Rattle.iiif_peer_wire.specs.Messages.{field, IsGroup}
-use Rattle.iiif_peer_wire.specs.Reading.{◌>>=◌, checked, ask_fields_at, bytes_at, byte_at, length_at, magic_at, key_at, value_at, digest_at}
+use Rattle.iiif_peer_wire.specs.declared.version.Version.{Version}
+use Rattle.iiif_peer_wire.specs.declared.version.Version.TheVariants.{One, Two}
+use Rattle.iiif_peer_wire.specs.Messages.{ask_magic, field, IsGroup}
+use Rattle.iiif_peer_wire.specs.Reading.{◌>>=◌, checked, ask_fields_at, ask_magic_at, ask_version_of, versioned, bytes_at, byte_at, length_at, magic_at, key_at, value_at, digest_at}
 
 neither : (x y : Bool) → x ≡ false → y ≡ false → (x || y) ≡ false
 neither true y p q = cc
@@ -72,6 +74,42 @@ magic_at-other magic bytes rest e apart = magic_at-bytes magic bytes rest e ∙ 
 pub magic_at-refused : (magic input : List ℕ) (fault : WireFault) → bytes_at 4 input ≡ Err fault → magic_at magic input ≡ Err fault
 unfolding magic_at
 magic_at-refused magic input fault e = bound_err (bytes_at 4 input) _ fault e
+
+-- the magic of an ask
+
+version_named : (version : Version) → ask_version_of (ask_magic version) ≡ Some version
+version_named One = refl
+version_named Two = refl
+
+some_same : (v w : Version) → Some v ≡ Some w → v ≡ w
+some_same v w e = cc
+
+never_some : (v : Version) → None ≡ Some v → ⊥
+never_some v e = cc
+
+-- the bytes that name a version are its magic
+pub version_spelled : (bytes : List ℕ) (version : Version) → ask_version_of bytes ≡ Some version → bytes ≡ ask_magic version
+version_spelled bytes version e = by_tests (bytes_eq bytes (ask_magic One)) (bytes_eq bytes (ask_magic Two)) refl refl e
+  where
+    by_tests : (s t : Bool) → bytes_eq bytes (ask_magic One) ≡ s → bytes_eq bytes (ask_magic Two) ≡ t
+        → (if s then Some One else (if t then Some Two else None)) ≡ Some version → bytes ≡ ask_magic version
+    by_tests true t p q found = (bytes_decides bytes (ask_magic One)).0 p ∙ ap ask_magic (some_same One version found)
+    by_tests false true p q found = (bytes_decides bytes (ask_magic Two)).0 q ∙ ap ask_magic (some_same Two version found)
+    by_tests false false p q found = absurd (never_some version found)
+
+ask_magic_at-bytes : (bytes rest : List ℕ) → length bytes ≡ 4 → ask_magic_at (bytes ++ rest) ≡ versioned (ask_version_of bytes) rest
+unfolding ask_magic_at
+ask_magic_at-bytes bytes rest e = bound_ok (bytes_at 4 (bytes ++ rest)) (λ found. versioned (ask_version_of found.0) found.1) (bytes, rest) (bytes_at-whole 4 bytes rest e)
+
+pub ask_magic_at-same : (version : Version) (rest : List ℕ) → ask_magic_at (ask_magic version ++ rest) ≡ Ok (version, rest)
+ask_magic_at-same version rest = ask_magic_at-bytes (ask_magic version) rest refl ∙ ap (λ v. versioned v rest) (version_named version)
+
+pub ask_magic_at-other : (bytes rest : List ℕ) → length bytes ≡ 4 → ask_version_of bytes ≡ None → ask_magic_at (bytes ++ rest) ≡ Err Magic
+ask_magic_at-other bytes rest e none = ask_magic_at-bytes bytes rest e ∙ ap (λ v. versioned v rest) none
+
+pub ask_magic_at-refused : (input : List ℕ) (fault : WireFault) → bytes_at 4 input ≡ Err fault → ask_magic_at input ≡ Err fault
+unfolding ask_magic_at
+ask_magic_at-refused input fault e = bound_err (bytes_at 4 input) _ fault e
 
 -- a digest
 

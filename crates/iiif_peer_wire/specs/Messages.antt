@@ -2,13 +2,20 @@
 use Rattle.std.specs.Prelude.{◌≡◌, ℕ, ◌<◌, ◌≤◌, ◌⊎◌, List, [], ◌∷◌, ◌++◌, length, codes}
 use Rattle.std.specs.Int.{w32, to_be_bytes}
 use Rattle.sha2.specs.Sha256.{sha256}
+use Rattle.iiif_peer_wire.specs.declared.version.Version.{Version}
+use Rattle.iiif_peer_wire.specs.declared.version.Version.TheVariants.{One, Two}
 
--- what an ask and a reply begin with
-abbrev pub ask_magic : List ℕ
-ask_magic = codes "IGA1"
+-- the digit of a version, in ASCII
+abbrev pub digit_of : Version → ℕ
+digit_of One = 49
+digit_of Two = 50
 
-abbrev pub reply_magic : List ℕ
-reply_magic = codes "IGR1"
+-- what an ask and a reply of a version begin with
+abbrev pub ask_magic : Version → List ℕ
+ask_magic version = codes "IGA" ++ digit_of version ∷ []
+
+abbrev pub reply_magic : Version → List ℕ
+reply_magic version = codes "IGR" ++ digit_of version ∷ []
 
 -- how many bytes a key and a value have at most
 abbrev pub key_limit : ℕ
@@ -31,11 +38,12 @@ pub record IsAsk (group : ℕ) (key : List ℕ) : Type 0 where
   pub key_within : length key ≤ key_limit
 
 -- an ask: its magic, the group, the key
-unfoldable pub ask_text : ℕ → List ℕ → List ℕ
-ask_text group key = ask_magic ++ group ∷ field key
+unfoldable pub ask_text : Version → ℕ → List ℕ → List ℕ
+ask_text version group key = ask_magic version ++ group ∷ field key
 
 -- the front of an ask: its magic, its group, the length of its key, and a byte of the key or more
 pub record IsFrontOfAsk (text : List ℕ) : Type 0 where
+  pub version : Version
   pub group : ℕ
   pub size : ℕ
   pub came : List ℕ
@@ -43,7 +51,7 @@ pub record IsFrontOfAsk (text : List ℕ) : Type 0 where
   pub within : size ≤ key_limit
   pub some : 1 ≤ length came
   pub few : length came ≤ size
-  pub spelled : text ≡ ask_magic ++ group ∷ (to_be_bytes w32 size ++ came)
+  pub spelled : text ≡ ask_magic version ++ group ∷ (to_be_bytes w32 size ++ came)
 
 -- what a reply for a key can be: status 0 with the value, or the number of a fault, 1 to 4, with none
 pub record IsReply (key : List ℕ) (status : ℕ) (value : List ℕ) : Type 0 where
@@ -53,15 +61,15 @@ pub record IsReply (key : List ℕ) (status : ℕ) (value : List ℕ) : Type 0 w
   pub no_value : 0 < status → value ≡ []
 
 -- a reply: its magic, the key, the status, the value, and SHA-256 of the key and then the value (RFC 6234)
-unfoldable pub reply_text : List ℕ → ℕ → List ℕ → List ℕ
-reply_text key status value = reply_magic ++ (field key ++ status ∷ (field value ++ sha256 (key ++ value)))
+unfoldable pub reply_text : Version → List ℕ → ℕ → List ℕ → List ℕ
+reply_text version key status value = reply_magic version ++ (field key ++ status ∷ (field value ++ sha256 (key ++ value)))
 
 -- the front of a reply for a key: its magic, the key, status 0, the length of its value, and a byte of the value or more
-pub record IsFrontOfReply (key text : List ℕ) : Type 0 where
+pub record IsFrontOfReply (version : Version) (key text : List ℕ) : Type 0 where
   pub size : ℕ
   pub came : List ℕ
   pub key_within : length key ≤ key_limit
   pub within : size ≤ value_limit
   pub some : 1 ≤ length came
   pub few : length came ≤ size
-  pub spelled : text ≡ reply_magic ++ (field key ++ 0 ∷ (to_be_bytes w32 size ++ came))
+  pub spelled : text ≡ reply_magic version ++ (field key ++ 0 ∷ (to_be_bytes w32 size ++ came))

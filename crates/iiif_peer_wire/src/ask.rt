@@ -5,15 +5,20 @@ ghost use Rattle.std.specs.Io.KnownBytes.{Appends, Consumes, IsAtEnd};
 ghost use Rattle.iiif_peer_wire.specs.Faults.{IsCut, IsRefusal};
 ghost use Rattle.iiif_peer_wire.specs.Messages.{ask_text, IsAsk, IsFrontOfAsk};
 ghost use Rattle.iiif_peer_wire.specs.Reading.{ask_at, IsInput};
+ghost use Rattle.iiif_peer_wire.specs.declared.version.Version.{Version};
 
 use crate::fault::WireFault;
 use crate::fields::ask_from;
-use iiif_io::{Inlet, Outlet, send_both};
+use crate::sending::send_part;
+use crate::version::Version;
+use iiif_io::{Inlet, Outlet};
 use std::alloc::Global;
 
 /// An ask: for the value of a key in a group.
 #[derive(Drop)]
 pub struct Ask {
+    /// The version in which it was asked, and in which the reply is to be.
+    pub version: Version,
     /// 1 for tiles, 2 for sums.
     pub group: u8,
     /// The key's bytes, at most 4,096.
@@ -21,19 +26,22 @@ pub struct Ask {
 }
 
 /// Writes an ask. The only fault is `Io`.
-pub fn write_ask<W: Outlet>(writer: &mut W, group: u8, key: &[u8]) -> Result<(), WireFault>
+pub fn write_ask<W: Outlet>(
+    writer: &mut W,
+    version: Version,
+    group: u8,
+    key: &[u8],
+) -> Result<(), WireFault>
     requires { IsAsk group key.now }
-    ensures whole { OnOk result (Appends (W.contents writer.old) (W.contents writer.new) (ask_text group key.now)) }
-    ensures cut { IfErr result (IsCut W.contents W.fails writer.old writer.new (ask_text group key.now)) }
+    ensures whole { OnOk result (Appends (W.contents writer.old) (W.contents writer.new) (ask_text version group key.now)) }
+    ensures cut { IfErr result (IsCut W.contents W.fails writer.old writer.new (ask_text version group key.now)) }
 {
     let size = (key.len() as u32).to_be_bytes();
+    let digit = version.digit();
     let head = [
-        b'I', b'G', b'A', b'1', group, size[0], size[1], size[2], size[3],
+        b'I', b'G', b'A', digit, group, size[0], size[1], size[2], size[3],
     ];
-    match send_both(writer, &head, key) {
-        Ok(()) => Ok(()),
-        Err(_) => Err(WireFault::Io),
-    }
+    send_part(writer, &head, key)
 }
 
 /// Reads an ask and leaves the rest unread, or answers none where the input is at its end. Memory is taken for the key
@@ -42,13 +50,13 @@ pub fn read_ask<R: Inlet>(alloc: Global, reader: &mut R) -> Result<Option<Ask>, 
     // What is read was spelled, and no more of the input was taken.
     ensures known { IfOk result (λ answer. IfSome answer (λ ask. IsAsk ask.group ask.key.items)) }
     ensures text { IfOk result (λ answer. IfSome answer (λ ask.
-        Consumes (R.remaining reader.old) (R.remaining reader.new) (ask_text ask.group ask.key.items))) }
+        Consumes (R.remaining reader.old) (R.remaining reader.new) (ask_text ask.version ask.group ask.key.items))) }
     ensures end { IfOk result (λ answer. IfNone answer (Consumes (R.remaining reader.old) (R.remaining reader.new) []
         × IsAtEnd (R.remaining reader.new))) }
 
     // What is spelled is read, and a clean end is none, unless a read failed or memory was refused.
-    ensures only { (group : ℕ) (key rest : List ℕ) → IsAsk group key → R.remaining reader.old ≡ Some (ask_text group key ++ rest)
-        → MatchResult result (λ answer. IsSomeAnd answer (λ ask. (ask.group ≡ group) × (ask.key.items ≡ key)) × (R.remaining reader.new ≡ Some rest))
+    ensures only { (version : Version) (group : ℕ) (key rest : List ℕ) → IsAsk group key → R.remaining reader.old ≡ Some (ask_text version group key ++ rest)
+        → MatchResult result (λ answer. IsSomeAnd answer (λ ask. (ask.version ≡ version) × (ask.group ≡ group) × (ask.key.items ≡ key)) × (R.remaining reader.new ≡ Some rest))
         (λ fault. ¬ IsRefusal fault) }
     ensures only_end { R.remaining reader.old ≡ Some [] → MatchResult result (λ answer. IsNone answer) (λ fault. ¬ IsRefusal fault) }
 

@@ -1,15 +1,16 @@
 //! Fields of messages, read from any reader.
 
-ghost use Rattle.std.specs.Prelude.{false, ◌≡◌, ◌≢◌, ℕ, ◌<◌, ◌≤◌, ◌^◌, List, [], ◌∷◌, ◌++◌, length, slice_index, take, IfOk, IsTrue, ◌↔◌, IfErr, IfNone, IfSome, OnOk};
+ghost use Rattle.std.specs.Prelude.{◌≡◌, ◌≢◌, ℕ, ◌<◌, ◌≤◌, ◌^◌, List, [], ◌∷◌, ◌++◌, length, slice_index, take, IfOk, IsTrue, ◌↔◌, IfErr, IfNone, IfSome, OnOk};
 ghost use Rattle.std.specs.Int.{w32, to_be_bytes};
 ghost use Rattle.std.specs.Io.KnownBytes.{Consumes, IsAtEnd};
 ghost use Rattle.iiif_peer_wire.specs.Code.{Came, Unread};
-ghost use Rattle.iiif_peer_wire.specs.Messages.{ask_magic, ask_text, field, IsAsk, IsFrontOfAsk, IsFrontOfReply, IsGroup, IsReply, reply_text};
-ghost use Rattle.iiif_peer_wire.specs.Reading.{ask_at, ask_fields_at, byte_at, bytes_at, digest_at, key_at, length_at, magic_at, reply_at, value_at};
+ghost use Rattle.iiif_peer_wire.specs.Messages.{ask_magic, ask_text, field, IsAsk, IsFrontOfAsk, IsFrontOfReply, IsGroup, IsReply, reply_magic, reply_text};
+ghost use Rattle.iiif_peer_wire.specs.Reading.{ask_at, ask_fields_at, ask_version_of, byte_at, bytes_at, digest_at, key_at, length_at, magic_at, reply_at, value_at};
 ghost use Rattle.sha2.specs.Sha256.{sha256};
 
 use crate::ask::Ask;
 use crate::fault::WireFault;
+use crate::version::Version;
 use iiif_io::Inlet;
 use sha2::{Digest, Sha256};
 use std::alloc::Global;
@@ -96,6 +97,16 @@ fn read_magic<R: Inlet>(reader: &mut R, magic: [u8; 4]) -> Result<(), WireFault>
         return Err(WireFault::Magic);
     }
     Ok(())
+}
+
+/// Reads the magic of a reply of the version.
+fn read_reply_magic<R: Inlet>(reader: &mut R, version: Version) -> Result<(), WireFault>
+    ensures whole { OnOk result (Consumes (R.remaining reader.old) (R.remaining reader.new) (reply_magic version)) }
+    ensures unread { IfErr result (Unread R.remaining R.fails reader.old reader.new (magic_at (reply_magic version))) }
+    ensures memory { IfErr result (λ fault. fault ≢ WireFault.NoMemory) }
+{
+    let digit = version.digit();
+    read_magic(reader, [b'I', b'G', b'R', digit])
 }
 
 /// Reads so many bytes. Memory is taken as they come.
@@ -185,26 +196,40 @@ fn is_group(group: u8) -> bool
     group == 1 || group == 2
 }
 
-/// Reads the magic of an ask, and says whether there is one: the input may be at its end.
-fn read_ask_magic<R: Inlet>(reader: &mut R) -> Result<bool, WireFault>
-    ensures none { IfOk result (λ begun. begun ≡ false → Consumes (R.remaining reader.old) (R.remaining reader.new) []
-        × IsAtEnd (R.remaining reader.new)) }
-    ensures whole { IfOk result (λ begun. IsTrue begun → Consumes (R.remaining reader.old) (R.remaining reader.new) ask_magic) }
+/// The version whose asks begin with these four bytes.
+fn ask_version(bytes: [u8; 4]) -> Option<Version>
+    ensures { result ≡ ask_version_of bytes }
+{
+    if bytes == *b"IGA1" {
+        return Some(Version::One);
+    }
+    if bytes == *b"IGA2" {
+        return Some(Version::Two);
+    }
+    None
+}
+
+/// Reads the magic of an ask, and says its version, or none where the input is at its end.
+fn read_ask_magic<R: Inlet>(reader: &mut R) -> Result<Option<Version>, WireFault>
+    ensures none { IfOk result (λ begun. IfNone begun (Consumes (R.remaining reader.old) (R.remaining reader.new) []
+        × IsAtEnd (R.remaining reader.new))) }
+    ensures whole { IfOk result (λ begun. IfSome begun (λ version.
+        Consumes (R.remaining reader.old) (R.remaining reader.new) (ask_magic version))) }
     ensures memory { IfErr result (λ fault. fault ≢ WireFault.NoMemory) }
     ensures unread { IfErr result (Unread R.remaining R.fails reader.old reader.new ask_at) }
 {
     let mut bytes = [0u8; 4];
     let came = fill(reader, &mut bytes)?;
     if came == 0 {
-        return Ok(false);
+        return Ok(None);
     }
     if came < bytes.len() {
         return Err(WireFault::Short);
     }
-    if bytes != *b"IGA1" {
-        return Err(WireFault::Magic);
+    match ask_version(bytes) {
+        Some(version) => Ok(Some(version)),
+        None => Err(WireFault::Magic),
     }
-    Ok(true)
 }
 
 /// Reads an ask, or none at the input's end.
@@ -213,32 +238,37 @@ pub fn ask_from<R: Inlet>(alloc: Global, reader: &mut R) -> Result<Option<Ask>, 
         × IsAtEnd (R.remaining reader.new))) }
     ensures known { IfOk result (λ answer. IfSome answer (λ ask. IsAsk ask.group ask.key.items)) }
     ensures whole { IfOk result (λ answer. IfSome answer (λ ask.
-        Consumes (R.remaining reader.old) (R.remaining reader.new) (ask_text ask.group ask.key.items))) }
+        Consumes (R.remaining reader.old) (R.remaining reader.new) (ask_text ask.version ask.group ask.key.items))) }
     ensures unread { IfErr result (Unread R.remaining R.fails reader.old reader.new ask_at) }
     ensures memory { IfErr result (λ fault. fault ≡ WireFault.NoMemory → (text : List ℕ) × IsFrontOfAsk text
         × Consumes (R.remaining reader.old) (R.remaining reader.new) text) }
 {
-    if !read_ask_magic(reader)? {
+    let Some(version) = read_ask_magic(reader)? else {
         return Ok(None);
-    }
+    };
     let (group, key) = read_ask_fields(alloc, reader)?;
-    Ok(Some(Ask { group, key }))
+    Ok(Some(Ask {
+        version,
+        group,
+        key,
+    }))
 }
 
-/// Reads a reply for the key.
+/// Reads a reply of the version for the key.
 pub fn reply_from<R: Inlet>(
     alloc: Global,
     reader: &mut R,
+    version: Version,
     asked: &[u8],
 ) -> Result<(u8, Vec<u8>), WireFault>
     ensures known { IfOk result (λ answer. IsReply asked.now answer.0 answer.1.items) }
     ensures whole { IfOk result (λ answer. Consumes (R.remaining reader.old) (R.remaining reader.new)
-        (reply_text asked.now answer.0 answer.1.items)) }
-    ensures unread { IfErr result (Unread R.remaining R.fails reader.old reader.new (reply_at asked.now)) }
-    ensures memory { IfErr result (λ fault. fault ≡ WireFault.NoMemory → (text : List ℕ) × IsFrontOfReply asked.now text
+        (reply_text version asked.now answer.0 answer.1.items)) }
+    ensures unread { IfErr result (Unread R.remaining R.fails reader.old reader.new (reply_at version asked.now)) }
+    ensures memory { IfErr result (λ fault. fault ≡ WireFault.NoMemory → (text : List ℕ) × IsFrontOfReply version asked.now text
         × Consumes (R.remaining reader.old) (R.remaining reader.new) text) }
 {
-    read_magic(reader, *b"IGR1")?;
+    read_reply_magic(reader, version)?;
     read_key(reader, asked)?;
     let (status, value) = read_value(alloc, reader)?;
     read_digest(reader, asked, value.as_slice())?;

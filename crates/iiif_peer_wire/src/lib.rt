@@ -4,10 +4,14 @@
 pub use ask::{Ask, read_ask, write_ask};
 pub use fault::WireFault;
 pub use reply::{read_reply, write_reply};
+pub use version::Version;
 
 pub mod ask;
 pub mod fault;
 mod fields;
+pub mod laws;
 pub mod reply;
+mod sending;
 #[cfg(test)]
 mod tests;
+pub mod version;

@@ -1,6 +1,6 @@
 //! Messages as they stand in the format, cut, changed and in pieces. The digests were computed by Python's `hashlib`.
 
-use crate::{WireFault, read_ask, read_reply, write_ask, write_reply};
+use crate::{Version, WireFault, read_ask, read_reply, write_ask, write_reply};
 use iiif_io::fakes::{FailingReader, FailingWriter};
 use std::test::Fail;
 
@@ -42,22 +42,58 @@ fn ask_fault(rt: &HostRuntime, bytes: &[u8]) -> Option<WireFault> {
 }
 
 fn reply_fault(rt: &HostRuntime, bytes: &[u8]) -> Option<WireFault> {
-    read_reply(rt.alloc(), &mut reader(bytes, 7), &KEY).err()
+    read_reply(rt.alloc(), &mut reader(bytes, 7), Version::One, &KEY).err()
 }
 
 #[test]
 fn ask_is_written_and_read_in_any_pieces(rt: HostRuntime) -> Result<(), Fail> {
     let mut out = Vec::new(rt.alloc());
-    write_ask(&mut out, 1, &KEY)?;
+    write_ask(&mut out, Version::One, 1, &KEY)?;
     assert_eq!(rt; out.as_slice(), ASK.as_slice());
     out.extend_from_slice(b"IGA")?;
     for piece in 1..30usize {
         let mut input = reader(&out, piece);
         let ask = read_ask(rt.alloc(), &mut input)?.ok_or("no ask")?;
+        assert_eq!(rt; ask.version, Version::One);
         assert_eq!(rt; ask.group, 1);
         assert_eq!(rt; ask.key.as_slice(), KEY.as_slice());
         assert_eq!(rt; input.left, b"IGA".as_slice());
     }
+    Ok(())
+}
+
+#[test]
+fn ask_of_the_second_version(rt: HostRuntime) -> Result<(), Fail> {
+    let key = [0u8, 1, 103, 0, 0, 0, 2, 0, 0, 0, 0, 0, 0, 0, 0];
+    let text = [
+        0x49u8, 0x47, 0x41, 0x32, 0x01, 0x00, 0x00, 0x00, 0x0F, 0x00, 0x01, 0x67, 0x00, 0x00, 0x00,
+        0x02, 0x00, 0x00, 0x00, 0x00, 0x00, 0x00, 0x00, 0x00,
+    ];
+    let mut out = Vec::new(rt.alloc());
+    write_ask(&mut out, Version::Two, 1, &key)?;
+    assert_eq!(rt; out.as_slice(), text.as_slice());
+    let ask = read_ask(rt.alloc(), &mut reader(&text, 7))?.ok_or("no ask")?;
+    assert_eq!(rt; ask.version, Version::Two);
+    assert_eq!(rt; ask.group, 1);
+    assert_eq!(rt; ask.key.as_slice(), key.as_slice());
+    Ok(())
+}
+
+#[test]
+fn reply_of_the_other_version_is_refused(rt: HostRuntime) -> Result<(), Fail> {
+    let mut out = Vec::new(rt.alloc());
+    write_reply(&mut out, Version::Two, &KEY, 0, &[1, 2, 3])?;
+    let mut second = REPLY;
+    second[3] = 0x32;
+    assert_eq!(rt; out.as_slice(), second.as_slice());
+    let (status, value) = read_reply(rt.alloc(), &mut reader(&second, 7), Version::Two, &KEY)?;
+    assert_eq!(rt; status, 0);
+    assert_eq!(rt; value.as_slice(), [1, 2, 3].as_slice());
+    assert_eq!(rt; reply_fault(&rt, &second), Some(WireFault::Magic));
+    assert_eq!(rt;
+        read_reply(rt.alloc(), &mut reader(&REPLY, 7), Version::Two, &KEY).err(),
+        Some(WireFault::Magic)
+    );
     Ok(())
 }
 
@@ -67,7 +103,7 @@ fn ask_without_a_key_and_the_longest(rt: HostRuntime) -> Result<(), Fail> {
         let key = vec![in rt.alloc(); 7u8; size]?;
         assert!(rt; key.len() <= 4096);
         let mut out = Vec::new(rt.alloc());
-        write_ask(&mut out, 2, key.as_slice())?;
+        write_ask(&mut out, Version::One, 2, key.as_slice())?;
         assert_eq!(rt; out.len(), size + 9);
         let ask = read_ask(rt.alloc(), &mut reader(&out, 1000))?.ok_or("no ask")?;
         assert_eq!(rt; ask.group, 2);
@@ -92,7 +128,7 @@ fn ask_cut_anywhere_is_short_and_at_the_start_none(rt: HostRuntime) -> Result<()
 
 #[test]
 fn asks_that_are_refused(rt: HostRuntime) -> Result<(), Fail> {
-    assert_eq!(rt; ask_fault(&rt, b"IGA2\x01\0\0\0\0"), Some(WireFault::Magic));
+    assert_eq!(rt; ask_fault(&rt, b"IGA3\x01\0\0\0\0"), Some(WireFault::Magic));
     assert_eq!(rt; ask_fault(&rt, b"IGR1"), Some(WireFault::Magic));
     assert_eq!(rt; ask_fault(&rt, b"IGB"), Some(WireFault::Short));
     assert_eq!(rt; ask_fault(&rt, b"IGA1\x00"), Some(WireFault::Magic));
@@ -111,12 +147,12 @@ fn asks_that_are_refused(rt: HostRuntime) -> Result<(), Fail> {
 #[test]
 fn reply_is_written_and_read_in_any_pieces(rt: HostRuntime) -> Result<(), Fail> {
     let mut out = Vec::new(rt.alloc());
-    write_reply(&mut out, &KEY, 0, &[1, 2, 3])?;
+    write_reply(&mut out, Version::One, &KEY, 0, &[1, 2, 3])?;
     assert_eq!(rt; out.as_slice(), REPLY.as_slice());
     out.extend_from_slice(b"IGR1")?;
     for piece in 1..70usize {
         let mut input = reader(&out, piece);
-        let (status, value) = read_reply(rt.alloc(), &mut input, &KEY)?;
+        let (status, value) = read_reply(rt.alloc(), &mut input, Version::One, &KEY)?;
         assert_eq!(rt; status, 0);
         assert_eq!(rt; value.as_slice(), [1, 2, 3].as_slice());
         assert_eq!(rt; input.left, b"IGR1".as_slice());
@@ -127,9 +163,9 @@ fn reply_is_written_and_read_in_any_pieces(rt: HostRuntime) -> Result<(), Fail> 
 #[test]
 fn fault_is_replied_without_a_value(rt: HostRuntime) -> Result<(), Fail> {
     let mut out = Vec::new(rt.alloc());
-    write_reply(&mut out, &KEY, 3, &[])?;
+    write_reply(&mut out, Version::One, &KEY, 3, &[])?;
     assert_eq!(rt; out.as_slice(), FAULT.as_slice());
-    let (status, value) = read_reply(rt.alloc(), &mut reader(&out, 7), &KEY)?;
+    let (status, value) = read_reply(rt.alloc(), &mut reader(&out, 7), Version::One, &KEY)?;
     assert_eq!(rt; status, 3);
     assert!(rt; value.is_empty());
     Ok(())
@@ -186,30 +222,30 @@ fn first_refusal_from_the_left(rt: HostRuntime) -> Result<(), Fail> {
     // Another key and a status above 4: the key.
     let other = b"IGR1\0\0\0\x01b\x05\0\0\0\0";
     assert_eq!(rt;
-        read_reply(rt.alloc(), &mut reader(other, 3), b"a").err(),
+        read_reply(rt.alloc(), &mut reader(other, 3), Version::One, b"a").err(),
         Some(WireFault::Key)
     );
     // A fault with a value of one byte: the status.
     let valued = b"IGR1\0\0\0\x01a\x02\0\0\0\x01\x07";
     assert_eq!(rt;
-        read_reply(rt.alloc(), &mut reader(valued, 3), b"a").err(),
+        read_reply(rt.alloc(), &mut reader(valued, 3), Version::One, b"a").err(),
         Some(WireFault::Status)
     );
     // A fault with a value above 64 MiB: the length.
     let long = b"IGR1\0\0\0\x01a\x02\x04\0\0\x01";
     assert_eq!(rt;
-        read_reply(rt.alloc(), &mut reader(long, 3), b"a").err(),
+        read_reply(rt.alloc(), &mut reader(long, 3), Version::One, b"a").err(),
         Some(WireFault::Long)
     );
     let above = b"IGR1\0\0\0\x01a\0\x04\0\0\x01";
     assert_eq!(rt;
-        read_reply(rt.alloc(), &mut reader(above, 3), b"a").err(),
+        read_reply(rt.alloc(), &mut reader(above, 3), Version::One, b"a").err(),
         Some(WireFault::Long)
     );
     // The longest value is announced, and nothing comes.
     let none = b"IGR1\0\0\0\x01a\0\x04\0\0\0";
     assert_eq!(rt;
-        read_reply(rt.alloc(), &mut reader(none, 3), b"a").err(),
+        read_reply(rt.alloc(), &mut reader(none, 3), Version::One, b"a").err(),
         Some(WireFault::Short)
     );
     Ok(())
@@ -232,7 +268,7 @@ fn reader_that_fails_at_each_read(rt: HostRuntime) -> Result<(), Fail> {
             reads,
         };
         assert_eq!(rt;
-            read_reply(rt.alloc(), &mut input, &KEY).err(),
+            read_reply(rt.alloc(), &mut input, Version::One, &KEY).err(),
             Some(WireFault::Io)
         );
     }
@@ -247,7 +283,10 @@ fn writer_that_fails_after_each_byte(rt: HostRuntime) -> Result<(), Fail> {
             room,
             piece: 5,
         };
-        assert_eq!(rt; write_ask(&mut out, 1, &KEY).err(), Some(WireFault::Io));
+        assert_eq!(rt;
+            write_ask(&mut out, Version::One, 1, &KEY).err(),
+            Some(WireFault::Io)
+        );
         assert_eq!(rt; out.taken.as_slice(), ASK.split_at(room).0);
     }
     for room in 0..63usize {
@@ -257,7 +296,7 @@ fn writer_that_fails_after_each_byte(rt: HostRuntime) -> Result<(), Fail> {
             piece: 5,
         };
         assert_eq!(rt;
-            write_reply(&mut out, &KEY, 0, &[1, 2, 3]).err(),
+            write_reply(&mut out, Version::One, &KEY, 0, &[1, 2, 3]).err(),
             Some(WireFault::Io)
         );
         assert_eq!(rt; out.taken.as_slice(), REPLY.split_at(room).0);

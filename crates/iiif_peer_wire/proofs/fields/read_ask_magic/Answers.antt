@@ -1,11 +1,9 @@
-use Rattle.std.proofs.Common.{◌≡◌, false, length, take, take_all, length-take-le, rules, sym, ◌∙◌, subst, arith}
+use Rattle.std.proofs.Common.{◌≡◌, length, take, take_all, length-take-le, rules, sym, ◌∙◌, subst, arith, Some, None}
 use Rattle.std.specs.Io.KnownBytes.{Consumes}
-use Rattle.iiif_peer_wire.specs.Messages.{ask_magic}
-use Rattle.iiif_peer_wire.specs.Reading.{ask_at}
+use Rattle.iiif_peer_wire.specs.Reading.{ask_at, ask_version_of}
+use Rattle.iiif_peer_wire.proofs.Parts.{version_spelled}
 use Rattle.iiif_peer_wire.proofs.Taken.{unread_magic, unread_short}
 use Rattle.iiif_peer_wire.proofs.fields.read_ask_magic.Goals as goal
-use Rattle.std.specs.Str.{bytes_eq}
-use Rattle.std.proofs.lemmas.Bool.{not-true}
 use Rattle.iiif_peer_wire.proofs.Whole.{ask_at-cut, ask_at-other}
 
 pub returns-then-came-lt4-clause-unread : goal.returns-then-came-lt4-clause-unread
@@ -16,12 +14,20 @@ returns-then-came-lt4-clause-unread g c =
     unread_short g.R.Read.remaining g.R.Inlet.fails c.args.reader.now c.fill.new.reader ask_at read c.in_ok-came.ensures.bytes (c.in_ok-came.ensures.end (search rules))
     (ask_at-cut read (omega (arith, size)) (omega (arith, size)))
 
-pub returns-then-ne-clause-unread : goal.returns-then-ne-clause-unread
-returns-then-ne-clause-unread g c =
+pub returns-in-None-clause-unread : goal.returns-in-None-clause-unread
+returns-in-None-clause-unread g c =
     let bytes = c.fill.new.buffer in
     let full : length bytes ≡ 4 = search rules in
     let all : take c.in_ok-came.came bytes ≡ bytes = take_all c.in_ok-came.came bytes (omega (arith, full)) in
     let took : Consumes (g.R.Read.remaining c.args.reader.now) (g.R.Read.remaining c.fill.new.reader) bytes =
     subst (Consumes (g.R.Read.remaining c.args.reader.now) (g.R.Read.remaining c.fill.new.reader)) all c.in_ok-came.ensures.bytes in
-    let apart : bytes_eq bytes ask_magic ≡ false = not-true (bytes_eq bytes ask_magic) (sym c.ne.ensures ∙ c.if-ne.true) in
-    unread_magic g.R.Read.remaining g.R.Inlet.fails c.args.reader.now c.fill.new.reader ask_at bytes took (λ rest. ask_at-other bytes rest full apart)
+    let none : ask_version_of bytes ≡ None = sym c.ask_version.ensures ∙ c.in-None.is in
+    unread_magic g.R.Read.remaining g.R.Inlet.fails c.args.reader.now c.fill.new.reader ask_at bytes took (λ rest. ask_at-other bytes rest full none)
+
+pub returns-in-Some-clause-whole : goal.returns-in-Some-clause-whole
+returns-in-Some-clause-whole g c =
+    let bytes = c.fill.new.buffer in
+    let full : length bytes ≡ 4 = search rules in
+    let all : take c.in_ok-came.came bytes ≡ bytes = take_all c.in_ok-came.came bytes (omega (arith, full)) in
+    let named : ask_version_of bytes ≡ Some c.in-Some.version = sym c.ask_version.ensures ∙ c.in-Some.is in
+    subst (Consumes (g.R.Read.remaining c.args.reader.now) (g.R.Read.remaining c.fill.new.reader)) (all ∙ version_spelled bytes c.in-Some.version named) c.in_ok-came.ensures.bytes
