@@ -1,0 +1,24 @@
+use Rattle.std.proofs.Common.{arith, sym, ◌∙◌, subst}
+use Rattle.iiif_tables.proofs.Caches.{Single, single_evict}
+use Rattle.iiif_tables.proofs.CacheLaws.{victim_none}
+use Rattle.iiif_outcome.specs.Views.{entry_size}
+use Rattle.iiif_byte_cache.proofs.Placing.{if_none, none_of}
+use Rattle.iiif_byte_cache.specs.View.{cache_of}
+use Rattle.iiif_byte_cache.proofs.cache.ByteCache.evict_oldest.Goals as goal
+
+pub invariant_of-self : goal.invariant_of-self
+invariant_of-self g c =
+    let now = c.args.self.now in
+    let eq = g.K.PartialEq.eq in
+    let old = cache_of now in
+    record {
+      within = omega (arith, c.evict.ensures.bytes, now.within);
+      small = now.small;
+      single = subst (Single eq) (sym (c.evict.ensures.rest now.limit)) (single_evict eq (entry_size g.K.CacheKey.key_bytes g.K.CacheKey.val_bytes) old now.single);
+      room = c.evict.ensures.room.1 ∙ now.room ∙ sym c.evict.ensures.room.0;
+    }
+
+pub returns-clause-none : goal.returns-clause-none
+returns-clause-none g c =
+    let old = cache_of c.args.self.now in
+    if_none c.evict.result (λ h. victim_none (entry_size g.K.CacheKey.key_bytes g.K.CacheKey.val_bytes) (λ k v. omega (arith, g.met.K.CacheKey.spelled k)) old (sym (c.evict.ensures.victim c.args.self.now.limit) ∙ none_of _ c.evict.result h))

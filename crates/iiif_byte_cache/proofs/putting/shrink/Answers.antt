@@ -1,0 +1,43 @@
+use Rattle.std.proofs.Common.{◌≡◌, suc, ◌+◌, ◌-◌, arith, sym, ap, ◌∙◌, refl}
+use Rattle.iiif_tables.specs.Cache.{bytes_in, evict_at_most}
+use Rattle.iiif_tables.proofs.CacheLaws.{evict_none, evict_one, evict_zero, shrink_within}
+use Rattle.iiif_outcome.specs.Views.{entry_size}
+use Rattle.iiif_byte_cache.specs.View.{lists_of}
+use Rattle.iiif_byte_cache.proofs.putting.shrink.Goals as goal
+
+pub returns-then-main-hot-clause-lists : goal.returns-then-main-hot-clause-lists
+returns-then-main-hot-clause-lists g c =
+    let now = lists_of c.loop.main c.loop.hot c.args.limit in
+    sym (evict_none (entry_size g.K.CacheKey.key_bytes g.K.CacheKey.val_bytes) _ now (omega (arith, c.if-main-hot.true, c.loop.main.sum, c.loop.hot.sum))) ∙ c.loop.invariant.lists
+
+pub loop-preserved : goal.loop-preserved
+loop-preserved g c =
+    let size = (entry_size g.K.CacheKey.key_bytes g.K.CacheKey.val_bytes) in
+    let count = c.len.result + c.len-2.result in
+    let now = lists_of c.loop.main c.loop.hot c.args.limit in
+    let n = count - (c.loop.counter + 1) in
+    let one : suc n ≡ count - c.loop.counter = omega (arith, c.loop-test.true) in
+    record {
+      lists = ap (evict_at_most size n) (c.evict-gone.ensures.rest c.args.limit)
+          ∙ sym (evict_one size n now (omega (arith, c.if-main-hot.false, c.loop.main.sum, c.loop.hot.sum)))
+          ∙ ap (λ m. evict_at_most size m now) one
+          ∙ c.loop.invariant.lists;
+      limit = refl;
+      main = c.evict-gone.ensures.room.0 ∙ c.loop.invariant.main;
+      hot = c.evict-gone.ensures.room.1 ∙ c.loop.invariant.hot;
+      fits = omega (arith, c.evict-gone.ensures.bytes, c.loop.invariant.fits);
+    }
+
+pub returns-clause-lists : goal.returns-clause-lists
+returns-clause-lists g c =
+    let size = (entry_size g.K.CacheKey.key_bytes g.K.CacheKey.val_bytes) in
+    let now = lists_of c.loop.main c.loop.hot c.args.limit in
+    let none : 0 ≡ c.len.result + c.len-2.result - c.loop.counter = omega (arith, c.loop-test.false) in
+    sym (evict_zero size now) ∙ ap (λ m. evict_at_most size m now) none ∙ c.loop.invariant.lists
+
+pub returns-clause-within : goal.returns-clause-within
+returns-clause-within g c =
+    let size = (entry_size g.K.CacheKey.key_bytes g.K.CacheKey.val_bytes) in
+    let old = lists_of c.args.main.now c.args.hot.now c.args.limit in
+    let same = ap (bytes_in size) (returns-clause-lists g c) in
+    omega (arith, same, shrink_within size old, c.loop.main.sum, c.loop.hot.sum)
