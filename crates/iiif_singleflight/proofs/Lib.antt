@@ -1,0 +1,5 @@
+pub mod Functions
+mod Keyed
+mod Known
+pub mod LandingLaws
+pub mod Laws

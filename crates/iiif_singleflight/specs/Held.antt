@@ -1,0 +1,30 @@
+-- The open flights as a function of class and key.
+use Rattle.std.specs.Prelude.{ℕ, ◌+◌, Bool, Option, option_map}
+use Rattle.std.specs.HashMap.{HashMap, get, hash_map_len}
+use Rattle.iiif_tables.specs.declared.table.Class.{Class}
+use Rattle.iiif_tables.specs.declared.table.Class.TheVariants.{Wide, Local}
+use Rattle.iiif_outcome.specs.Views.{flight_cell, flight_ticket}
+use Rattle.iiif_singleflight.specs.Seen.{Seen}
+use Rattle.iiif_singleflight.specs.declared.named.Open.{Open}
+use Rattle.iiif_singleflight.specs.declared.opens.Opens.{Opens}
+
+-- what is seen of an open flight
+abbrev pub seen : {K J V : Type 0} {a b c d : _} → Open K J V a b c d → Seen
+seen o = record { flight = record { ticket = flight_ticket o.flight; found = o.found }; cell = flight_cell o.flight }
+
+-- what is open for a key
+abbrev pub held : {K J V S : Type 0} {a b c d : _} → (K → K → Bool) → HashMap K (Open K J V a b c d) S → K → Option Seen
+held eq m q = option_map seen (get eq m q)
+
+-- one of two, by class
+abbrev pub per_class : {A : Type 0} → A → A → Class → A
+per_class w l Wide = w
+per_class w l Local = l
+
+-- what is open for each class and key
+abbrev pub open_at : {K J V : Type 0} {a b c d : _} → (K → K → Bool) → Opens K J V a b c d → Class → K → Option Seen
+open_at eq o c q = per_class (held eq o.wide.map q) (held eq o.local.map q) c
+
+-- how many are open
+abbrev pub aloft : {K J V : Type 0} {a b c d : _} → Opens K J V a b c d → ℕ
+aloft o = hash_map_len o.wide.map + hash_map_len o.local.map

@@ -1,0 +1,5 @@
+pub mod Counting
+pub mod Held
+pub mod Meeting
+pub mod Seen
+pub mod View

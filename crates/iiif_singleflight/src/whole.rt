@@ -1,0 +1,21 @@
+//! How many parts a ledger has.
+
+ghost use Rattle.std.specs.Prelude.{◌≡◌};
+
+use std::marker::PhantomData;
+use std::sync::ledger::Ledger;
+
+/// What knows that a ledger has 65,537 parts: one for each of the passes that can be out, and one that stays home.
+#[derive(Drop)]
+pub struct Whole<L: Ledger> {
+    of: PhantomData<L>,
+    pub ghost parts: { L.parts ≡ 65537 },
+}
+
+impl<L: Ledger> Whole<L> {
+    pub fn new() -> Whole<L>
+        requires { L.parts ≡ 65537 }
+    {
+        Whole { of: PhantomData }
+    }
+}
