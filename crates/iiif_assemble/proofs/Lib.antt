@@ -1,0 +1,9 @@
+pub mod ZipLemmas
+pub mod SumLemmas
+pub mod PasteLemmas
+pub mod CutLemmas
+pub mod ImageLemmas
+pub mod FinishLemmas
+pub mod HeldLemmas
+pub mod WholeLemmas
+pub mod JobLemmas

@@ -1,0 +1,4 @@
+pub mod Gathering
+pub mod Jobs
+pub mod Faults
+pub mod Code

@@ -1,0 +1,182 @@
+//! Bands of the image of a request.
+
+ghost use Rattle.std.specs.Prelude.{◌≡◌, ℕ, ◌<◌, IfOk, IfErr, length};
+ghost use Rattle.iiif_pixel.specs.Geometry.{channels_of, sides_of, top_of, LiesIn};
+ghost use Rattle.iiif_pixel.specs.Picture.{Picture, dim_of};
+ghost use Rattle.iiif_pixel.specs.Operations.{crop, turn, quality};
+ghost use Rattle.iiif_pixel.specs.Scaling.{scale};
+ghost use Rattle.iiif_pixel.specs.TurnPlaces.{turned_dim};
+ghost use Rattle.iiif_canonical.specs.Images.{resolved_image};
+ghost use Rattle.iiif_keys.specs.Names.{named, Pictures};
+ghost use Rattle.iiif_keys.specs.declared.fault.Fault.TheVariants as Fault;
+ghost use Rattle.iiif_assemble.specs.Jobs.{channels_in, top_in, IsBandOf, IsHeldFor, IsJob, IsShown, SumsAreMeant, SumsServe, TilesAreMeant, TilesServe};
+ghost use Rattle.iiif_assemble.specs.Code.{count_of, IsPictureOf, IsWithin, ListsMetItems};
+ghost use Rattle.iiif_assemble.specs.Faults.{IsBandFault, IsPlanFault};
+
+use crate::finishing::count_of;
+use crate::items::Items;
+use crate::job::{Job, Made};
+use crate::merging::summed;
+use crate::pasting::pasted;
+use iiif_area::laws::same_sides_change_nothing;
+use iiif_bands::Band;
+use iiif_keys::{Fault, SumKey, SumVal, TileKey, TileVal};
+use iiif_pixel::laws::{bands_follow, quality_of_crop, whole_stays_whole};
+use iiif_pixel::{Quality, Rect, Turn, unturn_rect};
+use iiif_planner::Plan;
+use std::alloc::Global;
+use std::thread::Threads;
+
+/// The part in `from` of the scaled result.
+fn scaled_part<
+    T: Items<TileKey, TileVal, P, R> + Sync,
+    S: Items<SumKey, SumVal, P, R> + Sync,
+    P: Send,
+    R: Threads + Sync,
+>(
+    rt: &R,
+    alloc: Global,
+    tiles: &T,
+    sums: &S,
+    passes: &mut [P],
+    job: &Job,
+    items: &[usize],
+    from: Rect,
+) -> Result<Made, Fault>
+    requires some { 0 < length passes.old }
+    requires job { IsJob job.now }
+    requires inside { LiesIn from job.now.resolved.size }
+    requires lists { ListsMetItems job.now.resolved.rect from job.now.plan items.now }
+    requires tiles { TilesServe job.now (T.fits tiles.now) (T.means tiles.now) }
+    requires sums { SumsServe job.now (S.fits sums.now) (S.means sums.now) }
+    ensures image { IfOk result (λ m. (shows : Pictures) (p : Picture) → IsPictureOf shows job.now p
+        → TilesAreMeant shows job.now (T.means tiles.now) → SumsAreMeant shows job.now (S.means sums.now)
+        → m.raster ≡ crop (scale (crop p job.now.resolved.rect) job.now.resolved.size) from) }
+    ensures sides { IfOk result (λ m. dim_of m.raster ≡ sides_of from) }
+    ensures channels { IfOk result (λ m. m.raster.channels ≡ channels_of job.now.shape.kind) }
+    ensures top { IfOk result (λ m. m.raster.top ≡ top_of job.now.shape.depth) }
+    ensures held { IfOk result (λ m. IsWithin (count_of m.raster) m.held) }
+    ensures fault { IfErr result (IsBandFault (T.means tiles.now) (T.failed tiles.now) (S.means sums.now) (S.failed sums.now) job.now.plan items.now) }
+{
+    same_sides_change_nothing();
+    whole_stays_whole();
+    match &job.plan {
+        Plan::Copy(keys) => pasted(rt, alloc, tiles, passes, job, keys, items, from),
+        Plan::Sum(keys) => summed(rt, alloc, sums, passes, job, keys, items, from),
+    }
+}
+
+/// A part turned. For a moment both are held.
+fn turned(made: Made, by: Turn) -> Result<Made, Fault>
+    requires { by.quarters < 4 }
+    ensures ok { IfOk result (λ m. m.raster ≡ turn made.raster by) }
+    ensures held { IsWithin (count_of made.raster) made.held → IfOk result (λ m. IsWithin (count_of m.raster) m.held) }
+    ensures err { IfErr result (λ f. f ≡ Fault.NoMemory) }
+{
+    if by.quarters == 0 && !by.mirror {
+        return Ok(made);
+    }
+    match made.raster.turn(by) {
+        Ok(raster) => {
+            let held = made.held.max(count_of(&made.raster) + count_of(&raster));
+            Ok(Made { raster, held })
+        }
+        Err(_) => Err(Fault::NoMemory),
+    }
+}
+
+/// A part in another quality. For a moment both are held.
+fn qualified(made: Made, to: Quality) -> Result<Made, Fault>
+    ensures ok { IfOk result (λ m. m.raster ≡ quality made.raster to) }
+    ensures held { IsWithin (count_of made.raster) made.held → IfOk result (λ m. IsWithin (count_of made.raster) m.held) }
+    ensures err { IfErr result (λ f. f ≡ Fault.NoMemory) }
+{
+    match to {
+        Quality::Default | Quality::Color => Ok(made),
+        Quality::Gray | Quality::Bitonal => match made.raster.quality(to) {
+            Ok(raster) => {
+                let held = made.held.max(count_of(&made.raster) + count_of(&raster));
+                Ok(Made { raster, held })
+            }
+            Err(_) => Err(Fault::NoMemory),
+        },
+    }
+}
+
+/// A band of the image of a job: just these rows, made of the items that have a place of them. There is a worker for each pass,
+/// and which of them asks for an item changes nothing. Where a key's value isn't its meaning, as where a source's bytes change,
+/// the samples are any, and all else holds.
+///
+/// # Errors
+///
+/// The fault of the first item of the band, in the plan's order, that failed; or `NoMemory`.
+pub fn assemble_band<
+    T: Items<TileKey, TileVal, P, R> + Sync,
+    S: Items<SumKey, SumVal, P, R> + Sync,
+    P: Send,
+    R: Threads + Sync,
+>(
+    rt: &R,
+    alloc: Global,
+    tiles: &T,
+    sums: &S,
+    passes: &mut [P],
+    job: &Job,
+    band: &Band,
+) -> Result<Made, Fault>
+    requires some { 0 < length passes.old }
+    requires job { IsJob job.now }
+    requires band { IsBandOf job.now band.now }
+    requires tiles { TilesServe job.now (T.fits tiles.now) (T.means tiles.now) }
+    requires sums { SumsServe job.now (S.fits sums.now) (S.means sums.now) }
+    ensures image { IfOk result (λ m. (shows : Pictures) → IsShown shows job.now (T.means tiles.now) (S.means sums.now)
+        → m.raster ≡ crop (resolved_image (named shows job.now.name) job.now.resolved) band.now.rect) }
+    ensures sides { IfOk result (λ m. dim_of m.raster ≡ sides_of band.now.rect) }
+    ensures channels { IfOk result (λ m. m.raster.channels ≡ channels_in job.now.resolved.quality (channels_of job.now.shape.kind)) }
+    ensures top { IfOk result (λ m. m.raster.top ≡ top_in job.now.resolved.quality (top_of job.now.shape.depth)) }
+    ensures held { IfOk result (λ m. IsHeldFor (sides_of band.now.rect) (channels_of job.now.shape.kind) m.held) }
+    ensures fault { IfErr result (IsBandFault (T.means tiles.now) (T.failed tiles.now) (S.means sums.now) (S.failed sums.now)
+        job.now.plan band.now.items.items) }
+{
+    quality_of_crop();
+    let resolved = &job.resolved;
+    let from = unturn_rect(resolved.turn, resolved.size, band.rect);
+    match scaled_part(rt, alloc, tiles, sums, passes, job, &band.items, from) {
+        Ok(scaled) => match turned(scaled, resolved.turn) {
+            Ok(turned) => qualified(turned, resolved.quality),
+            Err(fault) => Err(fault),
+        },
+        Err(fault) => Err(fault),
+    }
+}
+
+/// The image of a job: the band of all its rows.
+///
+/// # Errors
+///
+/// The fault of the first item of the plan that failed; or `NoMemory`.
+pub fn assemble<
+    T: Items<TileKey, TileVal, P, R> + Sync,
+    S: Items<SumKey, SumVal, P, R> + Sync,
+    P: Send,
+    R: Threads + Sync,
+>(rt: &R, alloc: Global, tiles: &T, sums: &S, passes: &mut [P], job: &Job) -> Result<Made, Fault>
+    requires some { 0 < length passes.old }
+    requires job { IsJob job.now }
+    requires tiles { TilesServe job.now (T.fits tiles.now) (T.means tiles.now) }
+    requires sums { SumsServe job.now (S.fits sums.now) (S.means sums.now) }
+    ensures image { IfOk result (λ m. (shows : Pictures) → IsShown shows job.now (T.means tiles.now) (S.means sums.now)
+        → m.raster ≡ resolved_image (named shows job.now.name) job.now.resolved) }
+    ensures sides { IfOk result (λ m. dim_of m.raster ≡ turned_dim job.now.resolved.turn job.now.resolved.size) }
+    ensures channels { IfOk result (λ m. m.raster.channels ≡ channels_in job.now.resolved.quality (channels_of job.now.shape.kind)) }
+    ensures top { IfOk result (λ m. m.raster.top ≡ top_in job.now.resolved.quality (top_of job.now.shape.depth)) }
+    ensures held { IfOk result (λ m. IsHeldFor (turned_dim job.now.resolved.turn job.now.resolved.size) (channels_of job.now.shape.kind) m.held) }
+    ensures fault { IfErr result (IsPlanFault (T.means tiles.now) (T.failed tiles.now) (S.means sums.now) (S.failed sums.now) job.now.plan) }
+{
+    whole_stays_whole();
+    bands_follow();
+    match job.whole(alloc) {
+        Ok(band) => assemble_band(rt, alloc, tiles, sums, passes, job, &band),
+        Err(_) => Err(Fault::NoMemory),
+    }
+}

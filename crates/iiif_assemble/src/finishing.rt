@@ -1,0 +1,115 @@
+//! Sums made into samples, place by place, by as many threads as there are processors.
+
+ghost use Rattle.std.specs.Prelude.{◌≡◌, ◌*◌, ◌<◌, ◌≤◌, ◌^◌, IfOk};
+ghost use Rattle.std.specs.List.{AllZip};
+ghost use Rattle.iiif_pixel.specs.Depths.{values_of, depth_of};
+ghost use Rattle.iiif_pixel.specs.Geometry.{top_of};
+ghost use Rattle.iiif_area.specs.Grid.{finished};
+ghost use Rattle.iiif_assemble.specs.Code.{count_of, rounded_sum};
+
+use iiif_area::Sums;
+use iiif_pixel::{Depth, Dim, NoMemory, Raster, Samples, Span};
+use rayon::prelude::*;
+use std::alloc::Global;
+use std::thread::Threads;
+
+/// `sum / area` to the nearest whole number, a half up, and `top` for any above it.
+fn rounded(sum: u64, area: u64, top: u16) -> u16
+    requires { (0 < area) × (area ≤ 2 ^ 32) }
+    ensures { result ≡ rounded_sum area top sum }
+{
+    (sum.saturating_add(area / 2) / area).min(u64::from(top)) as u16
+}
+
+/// The samples of 8 bits of sums, in their order, whoever makes them.
+fn rounded_eight<R: Threads + Sync>(
+    rt: &R,
+    alloc: Global,
+    sums: &[u64],
+    area: u64,
+) -> Result<Vec<u8>, NoMemory>
+    requires { (0 < area) × (area ≤ 2 ^ 32) }
+    ensures { IfOk result (λ v. AllZip (λ s b. b ≡ rounded_sum area 255 s) sums.now v.items) }
+{
+    sums.par_iter()
+        .map(
+            |s: &u64| -> u8
+                requires { (0 < area) × (area ≤ 2 ^ 32) }
+                ensures { result ≡ rounded_sum area 255 s.now }
+            { rounded(*s, area, 255) as u8 },
+        )
+        .collect(rt, alloc)
+}
+
+/// Those of 16 bits.
+fn rounded_sixteen<R: Threads + Sync>(
+    rt: &R,
+    alloc: Global,
+    sums: &[u64],
+    area: u64,
+) -> Result<Vec<u16>, NoMemory>
+    requires { (0 < area) × (area ≤ 2 ^ 32) }
+    ensures { IfOk result (λ v. AllZip (λ s b. b ≡ rounded_sum area 65535 s) sums.now v.items) }
+{
+    sums.par_iter()
+        .map(
+            |s: &u64| -> u16
+                requires { (0 < area) × (area ≤ 2 ^ 32) }
+                ensures { result ≡ rounded_sum area 65535 s.now }
+            { rounded(*s, area, 65_535) },
+        )
+        .collect(rt, alloc)
+}
+
+/// The samples of a depth of sums, in their order.
+fn rounded_all<R: Threads + Sync>(
+    rt: &R,
+    alloc: Global,
+    sums: &[u64],
+    area: u64,
+    depth: Depth,
+) -> Result<Samples, NoMemory>
+    requires { (0 < area) × (area ≤ 2 ^ 32) }
+    ensures values { IfOk result (λ s. AllZip (λ n b. b ≡ rounded_sum area (top_of depth) n) sums.now (values_of s)) }
+    ensures depth { IfOk result (λ s. depth_of s ≡ depth) }
+{
+    match depth {
+        Depth::Eight => {
+            let samples = rounded_eight(rt, alloc, sums, area)?;
+            Ok(Samples::Eight(samples))
+        }
+        Depth::Sixteen => {
+            let samples = rounded_sixteen(rt, alloc, sums, area)?;
+            Ok(Samples::Sixteen(samples))
+        }
+    }
+}
+
+/// How many samples a raster has.
+pub(crate) fn count_of(raster: &Raster) -> u64
+    ensures count { result ≡ count_of raster.now }
+    ensures small { result < 2 ^ 63 }
+{
+    match raster.samples() {
+        Span::Eight(samples) => samples.len() as u64,
+        Span::Sixteen(samples) => samples.len() as u64,
+    }
+}
+
+/// The samples of a depth that sums over the whole of a region make, at all their places.
+pub(crate) fn finish_all<R: Threads + Sync>(
+    rt: &R,
+    alloc: Global,
+    total: &Sums,
+    region: Dim,
+    depth: Depth,
+) -> Result<Raster, NoMemory>
+    requires columns { 0 < region.w }
+    requires rows { 0 < region.h }
+    requires area { region.w * region.h ≤ 2 ^ 32 }
+    ensures { IfOk result (λ r. r ≡ finished total.now region (top_of depth) total.now.rect) }
+{
+    let area = u64::from(region.w) * u64::from(region.h);
+    let samples = rounded_all(rt, alloc, total.sums(), area, depth)?;
+    Ok(Raster::from_samples(total.rect().dim(), total.kind(), samples))
+}

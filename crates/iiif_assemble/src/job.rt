@@ -1,0 +1,108 @@
+//! What an image is made of, and what is made.
+
+ghost use Rattle.std.specs.Prelude.{◌≡◌, ◌<◌, ◌≤◌, All, IfOk};
+ghost use Rattle.iiif_pixel.specs.Geometry.{sides_of, LiesIn};
+ghost use Rattle.iiif_pixel.specs.Scaling.{whole_of};
+ghost use Rattle.iiif_pixel.specs.TurnPlaces.{turned_dim};
+ghost use Rattle.iiif_area.specs.Places.{IsScalable};
+ghost use Rattle.iiif_keys.specs.Blocks.{IsEdge};
+ghost use Rattle.iiif_bands.specs.Bands.{AreBands};
+ghost use Rattle.iiif_assemble.specs.Jobs.{IsBandOf, IsJob};
+
+use iiif_bands::laws::bands_cut_results;
+use iiif_bands::{Band, band_in, bands};
+use iiif_canonical::Resolved;
+use iiif_keys::{Name, Shape};
+use iiif_pixel::{NoMemory, Raster, Rect};
+use iiif_planner::{Plan, plan};
+use std::alloc::Global;
+
+/// A request that is planned.
+#[derive(Drop)]
+pub struct Job {
+    /// The name of the image.
+    pub name: Name,
+    /// The side of its tiles, in places.
+    pub edge: u32,
+    /// The image's shape.
+    pub shape: Shape,
+    /// What the request comes to.
+    pub resolved: Resolved,
+    /// Of which tiles or blocks it is made.
+    pub plan: Plan,
+}
+
+/// A part of an image.
+#[derive(Drop)]
+pub struct Made {
+    /// The part.
+    pub raster: Raster,
+    /// How many samples and sums of the result were held at once, at most, while it was made.
+    pub held: u64,
+}
+
+impl Job {
+    /// What a request comes to on the named image of this shape, planned: of tiles with this edge, and of blocks with at most
+    /// `room` sums where there are such. The only error is want of memory.
+    pub fn new(
+        alloc: Global,
+        name: Name,
+        edge: u32,
+        shape: Shape,
+        resolved: Resolved,
+        room: u64,
+    ) -> Result<Job, NoMemory>
+        requires edge { IsEdge edge }
+        requires room { room ≤ 65536 }
+        requires inside { LiesIn resolved.rect shape.dim }
+        requires columns { resolved.size.w ≤ resolved.rect.w }
+        requires rows { resolved.size.h ≤ resolved.rect.h }
+        requires scalable { IsScalable (sides_of resolved.rect) resolved.size }
+        requires quarters { resolved.turn.quarters < 4 }
+        ensures job { IfOk result IsJob }
+        ensures name { IfOk result (λ j. j.name ≡ name) }
+        ensures edge { IfOk result (λ j. j.edge ≡ edge) }
+        ensures shape { IfOk result (λ j. j.shape ≡ shape) }
+        ensures resolved { IfOk result (λ j. j.resolved ≡ resolved) }
+    {
+        let plan = plan(alloc, &name, &resolved, shape.dim, shape.kind, edge, room)?;
+        Ok(Job {
+            name,
+            edge,
+            shape,
+            resolved,
+            plan,
+        })
+    }
+
+    /// The bands of `rows` of the job's result, from the top, the last perhaps of fewer. The only error is want of memory.
+    pub fn bands(&self, alloc: Global, rows: u32) -> Result<Vec<Band>, NoMemory>
+        requires job { IsJob self.now }
+        requires rows { 0 < rows }
+        ensures bands { IfOk result (λ bs. AreBands self.now.resolved self.now.plan rows bs.items) }
+        ensures each { IfOk result (λ bs. All (IsBandOf self.now) bs.items) }
+    {
+        bands_cut_results();
+        // Read, so that the image's sides are known to fit.
+        let (_w, _h) = (self.shape.dim.w, self.shape.dim.h);
+        bands(alloc, &self.resolved, &self.plan, rows)
+    }
+
+    /// The band of all rows. The only error is want of memory.
+    pub fn whole(&self, alloc: Global) -> Result<Band, NoMemory>
+        requires { IsJob self.now }
+        ensures rect { IfOk result (λ b. b.rect ≡ whole_of (turned_dim self.now.resolved.turn self.now.resolved.size)) }
+        ensures band { IfOk result (IsBandOf self.now) }
+    {
+        // Read, so that the image's sides are known to fit.
+        let (_w, _h) = (self.shape.dim.w, self.shape.dim.h);
+        let dim = self.resolved.size.turned(self.resolved.turn);
+        let rect = Rect {
+            x: 0,
+            y: 0,
+            w: dim.w,
+            h: dim.h,
+        };
+        band_in(alloc, &self.resolved, &self.plan, rect)
+    }
+}

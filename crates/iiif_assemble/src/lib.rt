@@ -1,0 +1,16 @@
+//! Images made of their plans, band by band, by several workers.
+#![tactic(auto)]
+
+pub mod band;
+mod crew;
+mod finishing;
+pub mod items;
+pub mod job;
+mod merging;
+mod pasting;
+#[cfg(test)]
+mod tests;
+
+pub use band::{assemble, assemble_band};
+pub use items::Items;
+pub use job::{Job, Made};

@@ -1,0 +1,100 @@
+//! The part of a scaled result, of the sums of blocks.
+
+ghost use Rattle.std.specs.Prelude.{◌≡◌, ℕ, ◌*◌, ◌^◌, ◌<◌, List, All, IfOk, IfErr, length, map, fold};
+ghost use Rattle.std.specs.Arc.{arc_value};
+ghost use Rattle.iiif_pixel.specs.Geometry.{channels_of, sides_of, top_of, LiesIn};
+ghost use Rattle.iiif_pixel.specs.Picture.{Picture, dim_of};
+ghost use Rattle.iiif_pixel.specs.Operations.{crop};
+ghost use Rattle.iiif_pixel.specs.Scaling.{scale};
+ghost use Rattle.iiif_area.specs.Grid.{Grid, merged};
+ghost use Rattle.iiif_keys.specs.Names.{Pictures};
+ghost use Rattle.iiif_keys.specs.declared.keys.SumKey.{SumKey};
+ghost use Rattle.iiif_keys.specs.declared.values.SumVal.{SumVal};
+ghost use Rattle.iiif_bands.specs.Bands.{block_places};
+ghost use Rattle.iiif_assemble.specs.Gathering.{IsItemFault};
+ghost use Rattle.iiif_assemble.specs.Jobs.{IsJob, SumsAreMeant, SumsServe};
+ghost use Rattle.iiif_assemble.specs.Code.{count_of, sums_in, AreBlocks, IsPictureOf, IsWithin, ListsMet};
+
+use crate::crew::gathered;
+use crate::finishing::{count_of, finish_all};
+use crate::items::Items;
+use crate::job::{Job, Made};
+use iiif_area::Sums;
+use iiif_area::laws::merging_adds;
+use iiif_keys::{Fault, SumKey, SumVal};
+use iiif_pixel::Rect;
+use iiif_pixel::laws::whole_stays_whole;
+use std::alloc::Global;
+use std::sync::Arc;
+use std::thread::Threads;
+
+/// Adds a value's sums.
+fn add(total: &mut Sums, value: &Arc<SumVal>)
+    requires { (sums_in (arc_value value.now)).channels ≡ total.old.channels }
+    ensures { total.new ≡ merged total.old (sums_in (arc_value value.now)) }
+{
+    total.merge(&value.sums);
+}
+
+/// How many sums there are.
+fn count_of_sums(total: &Sums) -> u64
+    ensures count { result ≡ total.now.rect.w * total.now.rect.h * total.now.channels }
+    ensures small { result < 2 ^ 63 }
+{
+    total.sums().len() as u64
+}
+
+/// Adds the sums of values, one after another.
+fn add_all(total: &mut Sums, values: &[Arc<SumVal>])
+    requires { All (λ v. (sums_in (arc_value v)).channels ≡ total.old.channels) values.now }
+    ensures sums { total.new ≡ fold merged total.old (map (λ v. (sums_in (arc_value v))) values.now) }
+    ensures places { total.new.rect ≡ total.old.rect }
+    ensures channels { total.new.channels ≡ total.old.channels }
+{
+    for value in values {
+        add(total, value);
+    }
+}
+
+/// The part in `from` of a region that is scaled, of the sums of the blocks that have a place of it. Nothing is held of the
+/// result but its sums at these places, and then the samples.
+pub(crate) fn summed<S: Items<SumKey, SumVal, P, R> + Sync, P: Send, R: Threads + Sync>(
+    rt: &R,
+    alloc: Global,
+    group: &S,
+    passes: &mut [P],
+    job: &Job,
+    keys: &[SumKey],
+    items: &[usize],
+    from: Rect,
+) -> Result<Made, Fault>
+    requires some { 0 < length passes.old }
+    requires job { IsJob job.now }
+    requires cover { AreBlocks job.now keys.now }
+    requires serves { SumsServe job.now (S.fits group.now) (S.means group.now) }
+    requires inside { LiesIn from job.now.resolved.size }
+    requires lists { ListsMet block_places from keys.now items.now }
+    ensures image { IfOk result (λ m. (shows : Pictures) (p : Picture) → IsPictureOf shows job.now p
+        → SumsAreMeant shows job.now (S.means group.now) → m.raster ≡ crop (scale (crop p job.now.resolved.rect) job.now.resolved.size) from) }
+    ensures sides { IfOk result (λ m. dim_of m.raster ≡ sides_of from) }
+    ensures channels { IfOk result (λ m. m.raster.channels ≡ channels_of job.now.shape.kind) }
+    ensures top { IfOk result (λ m. m.raster.top ≡ top_of job.now.shape.depth) }
+    ensures held { IfOk result (λ m. IsWithin (count_of m.raster) m.held) }
+    ensures fault { IfErr result (IsItemFault (S.means group.now) (S.failed group.now) keys.now items.now) }
+{
+    merging_adds();
+    whole_stays_whole();
+    let run = items.len().div_ceil(passes.len());
+    let values = gathered(rt, alloc, group, passes, keys, items, run)?;
+    let Ok(mut total) = Sums::zero(alloc, from, job.shape.kind) else {
+        return Err(Fault::NoMemory);
+    };
+    add_all(&mut total, &values);
+    match finish_all(rt, alloc, &total, job.resolved.rect.dim(), job.shape.depth) {
+        Ok(raster) => {
+            let held = count_of_sums(&total) + count_of(&raster);
+            Ok(Made { raster, held })
+        }
+        Err(_) => Err(Fault::NoMemory),
+    }
+}

@@ -1,0 +1,140 @@
+//! The part of a region that keeps its sides, of its tiles.
+
+ghost use Rattle.std.specs.Prelude.{◌≡◌, ℕ, ◌+◌, ◌-◌, ◌<◌, ◌≤◌, List, All, slice_index_or, IfOk, IfErr, length, map};
+ghost use Rattle.std.specs.Arc.{arc_value};
+ghost use Rattle.iiif_pixel.specs.Geometry.{channels_of, nested, sides_of, top_of, LiesIn};
+ghost use Rattle.iiif_pixel.specs.Picture.{Picture, dim_of, sample_at};
+ghost use Rattle.iiif_pixel.specs.Operations.{crop};
+ghost use Rattle.iiif_area.specs.Places.{part_of};
+ghost use Rattle.iiif_keys.specs.Blocks.{tile_of, TileFitsIn};
+ghost use Rattle.iiif_keys.specs.Names.{Pictures};
+ghost use Rattle.iiif_keys.specs.Meaning.{TileHasShape};
+ghost use Rattle.iiif_keys.specs.declared.keys.TileKey.{TileKey};
+ghost use Rattle.iiif_bands.specs.Bands.{tile_places};
+ghost use Rattle.iiif_assemble.specs.Gathering.{AreValues, IsItemFault};
+ghost use Rattle.iiif_assemble.specs.Jobs.{IsJob, TilesAreMeant, TilesServe};
+ghost use Rattle.iiif_assemble.specs.Code.{count_of, tile_in, AreTiles, Copies, HasCopied, IsPictureOf, IsWithin, ListsMet};
+
+use crate::crew::gathered;
+use crate::finishing::count_of;
+use crate::items::Items;
+use crate::job::{Job, Made};
+use iiif_area::{corner_of, meets, part_of};
+use iiif_keys::{Fault, Shape, TileKey, TileVal};
+use iiif_pixel::laws::{crop_of_crop, whole_stays_whole};
+use iiif_pixel::{Raster, Rect};
+use std::alloc::Global;
+use std::sync::Arc;
+use std::thread::Threads;
+
+/// Puts a part of a tile, from its place `corner` on, in its place in a picture.
+fn put_part(picture: &mut Raster, tile: &Raster, corner: (u32, u32), part: Rect)
+    requires channels { tile.now.channels ≡ picture.old.channels }
+    requires top { tile.now.top ≡ picture.old.top }
+    requires inside { LiesIn part (dim_of picture.old) }
+    requires columns { corner.0 + part.w ≤ tile.now.width }
+    requires rows { corner.1 + part.h ≤ tile.now.height }
+    ensures { Copies part (λ x y k. sample_at tile.now (corner.0 + (x - part.x)) (corner.1 + (y - part.y)) k) picture.old picture.new }
+{
+    // Read, so that the rows' numbers are known to fit.
+    let (_sides, _bounds) = (tile.dim(), picture.dim());
+    for row in 0..part.h {
+        picture.is_whole();
+        let run = tile.span(corner.0, corner.1 + row, part.w);
+        picture.put_span(part.x, part.y + row, part.w, run);
+    }
+}
+
+/// Puts what a tile has of a rectangle of the image in its place in the rectangle's picture.
+fn put_tile(picture: &mut Raster, shape: &Shape, rect: Rect, key: &TileKey, value: &Arc<TileVal>)
+    requires fits { TileFitsIn shape.now.dim (channels_of shape.now.kind) key.now }
+    requires shaped { TileHasShape shape.now key.now (arc_value value.now) }
+    requires sides { dim_of picture.old ≡ sides_of rect }
+    requires channels { picture.old.channels ≡ channels_of shape.now.kind }
+    requires top { picture.old.top ≡ top_of shape.now.depth }
+    ensures sides { dim_of picture.new ≡ dim_of picture.old }
+    ensures channels { picture.new.channels ≡ picture.old.channels }
+    ensures top { picture.new.top ≡ picture.old.top }
+    ensures copies { (p : Picture) → p.channels ≡ channels_of shape.now.kind → tile_in (arc_value value.now) ≡ crop p (tile_of shape.now.dim key.now)
+        → Copies (part_of (tile_of shape.now.dim key.now) rect) (λ x y k. sample_at (crop p rect) x y k) picture.old picture.new }
+{
+    let at = key.rect_in(shape.dim);
+    if meets(at, rect) {
+        let tile = &value.raster;
+        put_part(picture, tile, corner_of(at, rect), part_of(at, rect));
+    }
+}
+
+/// Puts what tiles have of a rectangle of the image in its place, one after another.
+fn put_all(
+    picture: &mut Raster,
+    shape: &Shape,
+    rect: Rect,
+    keys: &[TileKey],
+    items: &[usize],
+    values: &[Arc<TileVal>],
+)
+    requires fits { All (TileFitsIn shape.now.dim (channels_of shape.now.kind)) keys.now }
+    requires within { All (λ i. i < length keys.now) items.now }
+    requires shaped { AreValues (TileHasShape shape.now) keys.now items.now (map arc_value values.now) }
+    requires sides { dim_of picture.old ≡ sides_of rect }
+    requires channels { picture.old.channels ≡ channels_of shape.now.kind }
+    requires top { picture.old.top ≡ top_of shape.now.depth }
+    ensures sides { dim_of picture.new ≡ dim_of picture.old }
+    ensures channels { picture.new.channels ≡ picture.old.channels }
+    ensures top { picture.new.top ≡ picture.old.top }
+    ensures copies { (p : Picture) (x : TileKey) → p.channels ≡ channels_of shape.now.kind
+        → AreValues (λ k v. tile_in v ≡ crop p (tile_of shape.now.dim k)) keys.now items.now (map arc_value values.now)
+        → HasCopied (crop p rect) (map (λ i. part_of (tile_of shape.now.dim (slice_index_or keys.now i x)) rect) items.now) picture.new }
+{
+    for n in 0..items.len() {
+        put_tile(picture, shape, rect, &keys[items[n]], &values[n]);
+    }
+}
+
+/// The part in `from` of a region that keeps its sides, of the tiles that have a place of it. Nothing is held of the result but
+/// this part.
+pub(crate) fn pasted<T: Items<TileKey, TileVal, P, R> + Sync, P: Send, R: Threads + Sync>(
+    rt: &R,
+    alloc: Global,
+    group: &T,
+    passes: &mut [P],
+    job: &Job,
+    keys: &[TileKey],
+    items: &[usize],
+    from: Rect,
+) -> Result<Made, Fault>
+    requires some { 0 < length passes.old }
+    requires job { IsJob job.now }
+    requires cover { AreTiles job.now keys.now }
+    requires serves { TilesServe job.now (T.fits group.now) (T.means group.now) }
+    requires inside { LiesIn from (sides_of job.now.resolved.rect) }
+    requires lists { ListsMet (tile_places job.now.resolved.rect) from keys.now items.now }
+    ensures image { IfOk result (λ m. (shows : Pictures) (p : Picture) → IsPictureOf shows job.now p
+        → TilesAreMeant shows job.now (T.means group.now) → m.raster ≡ crop (crop p job.now.resolved.rect) from) }
+    ensures sides { IfOk result (λ m. dim_of m.raster ≡ sides_of from) }
+    ensures channels { IfOk result (λ m. m.raster.channels ≡ channels_of job.now.shape.kind) }
+    ensures top { IfOk result (λ m. m.raster.top ≡ top_of job.now.shape.depth) }
+    ensures held { IfOk result (λ m. IsWithin (count_of m.raster) m.held) }
+    ensures fault { IfErr result (IsItemFault (T.means group.now) (T.failed group.now) keys.now items.now) }
+{
+    whole_stays_whole();
+    crop_of_crop();
+    let run = items.len().div_ceil(passes.len());
+    let values = gathered(rt, alloc, group, passes, keys, items, run)?;
+    let Ok(mut raster) = Raster::new(alloc, from.dim(), job.shape.kind, job.shape.depth) else {
+        return Err(Fault::NoMemory);
+    };
+    // Read, so that the region's numbers are known to fit.
+    let (_w, _h) = (job.shape.dim.w, job.shape.dim.h);
+    let region = job.resolved.rect;
+    let rect = Rect {
+        x: region.x + from.x,
+        y: region.y + from.y,
+        ..from
+    };
+    put_all(&mut raster, &job.shape, rect, keys, items, &values);
+    raster.is_whole();
+    let held = count_of(&raster);
+    Ok(Made { raster, held })
+}

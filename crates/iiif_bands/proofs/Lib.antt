@@ -1,0 +1,3 @@
+pub mod BandLemmas
+pub mod CutLaws
+pub mod ItemLaws

@@ -1,0 +1,19 @@
+use Rattle.std.proofs.Common.{◌∙◌, ap, sym, arith, List}
+use Rattle.std.proofs.lemmas.List.{take_all}
+use Rattle.iiif_keys.specs.declared.keys.SumKey.{SumKey}
+use Rattle.iiif_bands.specs.Bands.{places_from}
+use Rattle.iiif_bands.specs.Code.{block_met}
+use Rattle.iiif_bands.proofs.BandLemmas.{places_next, places_none}
+use Rattle.iiif_bands.proofs.banding.blocks_in.Goals as goal
+
+pub loop-i-init : goal.loop-i-init
+loop-i-init c = c.new-items.ensures.items ∙ places_none (block_met c.args.rect) c.args.keys.now
+
+pub loop-i-preserved : goal.loop-i-preserved
+loop-i-preserved c =
+    places_next (block_met c.args.rect) c.args.keys.now c.loop-i.i c.index-keys-i.result c.loop-i.items.items c.push_where.new.items.items c.block_meets.result
+    (omega arith) (sym c.index-keys-i.is) c.loop-i.invariant c.block_meets.ensures c.in_ok-push_where.ensures
+
+pub returns : goal.returns
+returns c =
+    c.loop-i.invariant ∙ ap (λ (ks : List SumKey). places_from 0 (block_met c.args.rect) ks) (take_all c.loop-i.i c.args.keys.now (omega arith))

@@ -1,0 +1,9 @@
+//! Bands of a result, and the items of a plan that each is made of.
+#![tactic(auto)]
+
+pub mod banding;
+pub mod laws;
+#[cfg(test)]
+mod tests;
+
+pub use banding::{Band, band_in, bands};
