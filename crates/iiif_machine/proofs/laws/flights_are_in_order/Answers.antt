@@ -1,0 +1,9 @@
+use Rattle.iiif_machine.proofs.Apart.{one_outcome}
+use Rattle.iiif_machine.proofs.Waiting.{waits_fall}
+use Rattle.iiif_machine.proofs.laws.flights_are_in_order.Goals as goal
+
+pub returns-clause-waits : goal.returns-clause-waits
+returns-clause-waits c = waits_fall
+
+pub returns-clause-outcome : goal.returns-clause-outcome
+returns-clause-outcome c = one_outcome

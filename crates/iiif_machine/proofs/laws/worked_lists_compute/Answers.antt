@@ -1,0 +1,71 @@
+use Rattle.iiif_machine.proofs.WorkedLists.{reply_of_another_key_is_not_taken, two_share_a_value, two_share_a_fault, waits_for_its_calls, kept_is_found, not_kept_is_not_found, failing_read, not_again, fault_is_not_kept, none_is_answered_yet, both_are_answered, late_repeat_changes_nothing, both_stay_answered, lost_ask_is_answered, fault_of_a_peer_is_not_answered, stopped_node, stopped_calls_are_gone, found_again_is_answered, found_again_is_counted, halved_is, deep_halved_is, cut_out_is, first_fault_is_answered}
+use Rattle.iiif_machine.proofs.laws.worked_lists_compute.Goals as goal
+
+pub returns-clause-waits_for_its_calls : goal.returns-clause-waits_for_its_calls
+returns-clause-waits_for_its_calls c = waits_for_its_calls
+
+pub returns-clause-kept_is_found : goal.returns-clause-kept_is_found
+returns-clause-kept_is_found c = kept_is_found
+
+pub returns-clause-not_kept_is_not_found : goal.returns-clause-not_kept_is_not_found
+returns-clause-not_kept_is_not_found c = not_kept_is_not_found
+
+pub returns-clause-failing_read : goal.returns-clause-failing_read
+returns-clause-failing_read c = failing_read
+
+pub returns-clause-not_again : goal.returns-clause-not_again
+returns-clause-not_again c = not_again
+
+pub returns-clause-fault_is_not_kept : goal.returns-clause-fault_is_not_kept
+returns-clause-fault_is_not_kept c = fault_is_not_kept
+
+pub returns-clause-none_is_answered_yet : goal.returns-clause-none_is_answered_yet
+returns-clause-none_is_answered_yet c = none_is_answered_yet
+
+pub returns-clause-both_are_answered : goal.returns-clause-both_are_answered
+returns-clause-both_are_answered c = both_are_answered
+
+pub returns-clause-late_repeat_changes_nothing : goal.returns-clause-late_repeat_changes_nothing
+returns-clause-late_repeat_changes_nothing c = late_repeat_changes_nothing
+
+pub returns-clause-both_stay_answered : goal.returns-clause-both_stay_answered
+returns-clause-both_stay_answered c = both_stay_answered
+
+pub returns-clause-lost_ask_is_answered : goal.returns-clause-lost_ask_is_answered
+returns-clause-lost_ask_is_answered c = lost_ask_is_answered
+
+pub returns-clause-fault_of_a_peer_is_not_answered : goal.returns-clause-fault_of_a_peer_is_not_answered
+returns-clause-fault_of_a_peer_is_not_answered c = fault_of_a_peer_is_not_answered
+
+pub returns-clause-stopped_node : goal.returns-clause-stopped_node
+returns-clause-stopped_node c = stopped_node
+
+pub returns-clause-stopped_calls_are_gone : goal.returns-clause-stopped_calls_are_gone
+returns-clause-stopped_calls_are_gone c = stopped_calls_are_gone
+
+pub returns-clause-found_again_is_answered : goal.returns-clause-found_again_is_answered
+returns-clause-found_again_is_answered c = found_again_is_answered
+
+pub returns-clause-found_again_is_counted : goal.returns-clause-found_again_is_counted
+returns-clause-found_again_is_counted c = found_again_is_counted
+
+pub returns-clause-halved_is : goal.returns-clause-halved_is
+returns-clause-halved_is c = halved_is
+
+pub returns-clause-deep_halved_is : goal.returns-clause-deep_halved_is
+returns-clause-deep_halved_is c = deep_halved_is
+
+pub returns-clause-cut_out_is : goal.returns-clause-cut_out_is
+returns-clause-cut_out_is c = cut_out_is
+
+pub returns-clause-first_fault_is_answered : goal.returns-clause-first_fault_is_answered
+returns-clause-first_fault_is_answered c = first_fault_is_answered
+
+pub returns-clause-two_share_a_value : goal.returns-clause-two_share_a_value
+returns-clause-two_share_a_value c = two_share_a_value
+
+pub returns-clause-two_share_a_fault : goal.returns-clause-two_share_a_fault
+returns-clause-two_share_a_fault c = two_share_a_fault
+
+pub returns-clause-reply_of_another_key_is_not_taken : goal.returns-clause-reply_of_another_key_is_not_taken
+returns-clause-reply_of_another_key_is_not_taken c = reply_of_another_key_is_not_taken

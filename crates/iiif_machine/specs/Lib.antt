@@ -1,0 +1,9 @@
+pub mod Types
+pub mod Owners
+pub mod Tables
+pub mod Rows
+pub mod Worlds
+pub mod Steps
+pub mod Sound
+pub mod Promises
+pub mod Worked

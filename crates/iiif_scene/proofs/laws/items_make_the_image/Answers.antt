@@ -1,0 +1,14 @@
+use Rattle.iiif_scene.proofs.Assembling.{plans_have_items, items_fit, items_make_image, refused_has_no_image}
+use Rattle.iiif_scene.proofs.laws.items_make_the_image.Goals as goal
+
+pub returns-clause-fit : goal.returns-clause-fit
+returns-clause-fit c = items_fit
+
+pub returns-clause-image : goal.returns-clause-image
+returns-clause-image c = items_make_image
+
+pub returns-clause-refused : goal.returns-clause-refused
+returns-clause-refused c = refused_has_no_image
+
+pub returns-clause-plan : goal.returns-clause-plan
+returns-clause-plan c = plans_have_items
