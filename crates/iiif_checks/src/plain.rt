@@ -2,12 +2,13 @@
 
 use std::alloc::{AllocError, Global};
 
-/// A picture: its sides, its channels, its samples row by row.
+/// A picture: its sides, its channels, its greatest sample (255 or 65,535), its samples row by row.
 #[derive(Drop)]
 pub struct Plain {
     pub w: u64,
     pub h: u64,
     pub channels: u64,
+    pub top: u64,
     pub samples: Vec<u64>,
 }
 
@@ -39,6 +40,7 @@ impl Plain {
             w,
             h,
             channels: self.channels,
+            top: self.top,
             samples,
         })
     }
@@ -73,6 +75,7 @@ impl Plain {
             w: c,
             h: d,
             channels: self.channels,
+            top: self.top,
             samples,
         })
     }
@@ -90,6 +93,7 @@ impl Plain {
             w: self.w,
             h: self.h,
             channels: self.channels,
+            top: self.top,
             samples,
         })
     }
@@ -108,6 +112,7 @@ impl Plain {
             w: self.h,
             h: self.w,
             channels: self.channels,
+            top: self.top,
             samples,
         })
     }
@@ -123,6 +128,7 @@ impl Plain {
             w: self.w,
             h: self.h,
             channels: 1,
+            top: self.top,
             samples,
         })
     }
@@ -137,22 +143,26 @@ impl Plain {
         red.wrapping_add(green).wrapping_add(blue).wrapping_add(500) / 1000
     }
 
-    /// The rows as they stand in a file, a byte a sample.
+    /// The rows as they stand in a file: a byte a sample, or two, the low one first.
     pub(crate) fn bytes(&self, alloc: Global) -> Result<Vec<u8>, AllocError> {
         let mut bytes = Vec::new(alloc);
         for sample in &self.samples {
             bytes.push((*sample & 0xff) as u8)?;
+            if self.top > 255 {
+                bytes.push(((*sample >> 8) & 0xff) as u8)?;
+            }
         }
         Ok(bytes)
     }
 
     /// The rows as they stand in a file, a bit a place, 1 for white, each row padded to whole bytes.
     pub(crate) fn bits(&self, alloc: Global) -> Result<Vec<u8>, AllocError> {
+        let white_from = if self.top > 255 { 32_768 } else { 128 };
         let mut bytes = Vec::new(alloc);
         for y in 0..self.h {
             let mut byte = 0u64;
             for x in 0..self.w.div_ceil(8).wrapping_mul(8) {
-                let white = x < self.w && self.gray_at(x, y) >= 128;
+                let white = x < self.w && self.gray_at(x, y) >= white_from;
                 byte = (byte.wrapping_mul(2).wrapping_add(u64::from(white))) & 0xff;
                 if x % 8 == 7 {
                     bytes.push((byte & 0xff) as u8)?;

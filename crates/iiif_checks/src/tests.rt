@@ -1,8 +1,13 @@
 //! Every region, size, turn and quality of small pictures.
 
+ghost use Rattle.std.specs.Prelude.{◌≡◌, length};
+ghost use Rattle.iiif_pixel.specs.Depths.{span_values};
+
 use crate::plain::Plain;
+use http::Method;
 use iiif_canonical::Limits;
-use iiif_pixel::{Dim, Kind, Raster, Rect};
+use iiif_http_front::Call;
+use iiif_pixel::{Dim, Kind, Raster, Rect, Samples, Span};
 use iiif_server::{Catalogue, Config, Node, Passes};
 use iiif_source::MemSource;
 use iiif_tiff_read::open;
@@ -37,6 +42,7 @@ fn node(alloc: Global, file: Vec<u8>, edge: u32) -> Result<Node<(), MemSource>, 
 fn file(alloc: Global, raster: &Raster, kind: OutKind) -> Result<Vec<u8>, Fail> {
     if !fits(kind, raster.dim())
         || raster.kind().channels() != usize::from(kind.samples_per_pixel())
+        || raster.depth() != kind.depth()
     {
         return Err(Fail::from("no such file"));
     }
@@ -151,32 +157,55 @@ fn all(alloc: Global, picture: &Plain, file: &[u8]) -> Result<u64, Fail> {
     Ok(compared)
 }
 
-/// A picture with these samples, and its file.
-fn pair(
-    alloc: Global,
-    dim: Dim,
-    kind: Kind,
-    out: OutKind,
-    samples: &[u8],
-) -> Result<(Plain, Vec<u8>), Fail> {
-    let Some(count) = (dim.w as usize * dim.h as usize).checked_mul(kind.channels()) else {
+/// How many samples there are.
+fn count(samples: Span) -> usize
+    ensures { result ≡ length (span_values samples.entry) }
+{
+    match samples {
+        Span::Eight(samples) => samples.len(),
+        Span::Sixteen(samples) => samples.len(),
+    }
+}
+
+/// A raster with these samples.
+fn raster(dim: Dim, kind: Kind, samples: Samples) -> Result<Raster, Fail> {
+    let Some(asked) = (dim.w as usize * dim.h as usize).checked_mul(kind.channels()) else {
         return Err(Fail::from("too many samples"));
     };
-    if count != samples.len() {
+    if asked != count(samples.as_span()) {
         return Err(Fail::from("another count of samples"));
     }
-    let mut plain = Vec::new(alloc);
-    for sample in samples {
-        plain.push(u64::from(*sample))?;
+    Ok(Raster::from_samples(dim, kind, samples))
+}
+
+/// A picture for the plain evaluation, with the samples of a raster.
+fn plain(alloc: Global, raster: &Raster) -> Result<Plain, Fail> {
+    let mut samples = Vec::new(alloc);
+    match raster.samples() {
+        Span::Eight(bytes) => {
+            for sample in bytes {
+                samples.push(u64::from(*sample))?;
+            }
+        }
+        Span::Sixteen(shorts) => {
+            for sample in shorts {
+                samples.push(u64::from(*sample))?;
+            }
+        }
     }
-    let raster = Raster::from_samples(dim, kind, Vec::from_slice(alloc, samples)?);
-    let picture = Plain {
+    let dim = raster.dim();
+    Ok(Plain {
         w: u64::from(dim.w),
         h: u64::from(dim.h),
-        channels: kind.channels() as u64,
-        samples: plain,
-    };
-    Ok((picture, file(alloc, &raster, out)?))
+        channels: raster.kind().channels() as u64,
+        top: u64::from(raster.depth().top()),
+        samples,
+    })
+}
+
+/// Compares all of a raster, in a file of this kind.
+fn all_of(alloc: Global, raster: &Raster, out: OutKind) -> Result<u64, Fail> {
+    all(alloc, &plain(alloc, raster)?, &file(alloc, raster, out)?)
 }
 
 #[test]
@@ -185,8 +214,9 @@ fn gray_picture_of_4_by_4(rt: HostRuntime) -> Result<(), Fail> {
         0, 10, 20, 30, 40, 50, 60, 70, 80, 90, 100, 110, 120, 130, 140, 150,
     ];
     let dim = Dim { w: 4, h: 4 };
-    let (picture, file) = pair(rt.alloc(), dim, Kind::Gray, OutKind::Gray, &samples)?;
-    assert_eq!(rt; all(rt.alloc(), &picture, &file)?, 400 * 36 * 5);
+    let samples = Samples::Eight(Vec::from_slice(rt.alloc(), &samples)?);
+    let raster = raster(dim, Kind::Gray, samples)?;
+    assert_eq!(rt; all_of(rt.alloc(), &raster, OutKind::Gray)?, 400 * 36 * 5);
     Ok(())
 }
 
@@ -196,8 +226,9 @@ fn rgb_picture_of_3_by_2(rt: HostRuntime) -> Result<(), Fail> {
         2, 0, 0, 0, 255, 7, 128, 127, 126, 255, 255, 255, 13, 77, 201, 90, 14, 3,
     ];
     let dim = Dim { w: 3, h: 2 };
-    let (picture, file) = pair(rt.alloc(), dim, Kind::Rgb, OutKind::Rgb, &samples)?;
-    assert_eq!(rt; all(rt.alloc(), &picture, &file)?, 10 * 4 * 36 * 5);
+    let samples = Samples::Eight(Vec::from_slice(rt.alloc(), &samples)?);
+    let raster = raster(dim, Kind::Rgb, samples)?;
+    assert_eq!(rt; all_of(rt.alloc(), &raster, OutKind::Rgb)?, 10 * 4 * 36 * 5);
     Ok(())
 }
 
@@ -205,21 +236,45 @@ fn rgb_picture_of_3_by_2(rt: HostRuntime) -> Result<(), Fail> {
 fn bilevel_picture_of_4_by_3(rt: HostRuntime) -> Result<(), Fail> {
     let samples = [0, 255, 255, 0, 255, 0, 255, 255, 0, 0, 0, 255];
     let dim = Dim { w: 4, h: 3 };
-    let (picture, file) = pair(rt.alloc(), dim, Kind::Gray, OutKind::Bitonal, &samples)?;
-    assert_eq!(rt; all(rt.alloc(), &picture, &file)?, 20 * 10 * 36 * 5);
+    let samples = Samples::Eight(Vec::from_slice(rt.alloc(), &samples)?);
+    let raster = raster(dim, Kind::Gray, samples)?;
+    assert_eq!(rt;
+        all_of(rt.alloc(), &raster, OutKind::Bitonal)?,
+        20 * 10 * 36 * 5
+    );
     Ok(())
 }
 
-/// Whether the file of a picture with these samples is opened as one of its sides and kind, and has these samples.
-fn reads_back(
-    alloc: Global,
-    dim: Dim,
-    kind: Kind,
-    out: OutKind,
-    samples: &[u8],
-) -> Result<bool, Fail> {
-    let (_picture, file) = pair(alloc, dim, kind, out, samples)?;
-    let source = MemSource::new(file);
+#[test]
+fn gray_picture_of_16_bits(rt: HostRuntime) -> Result<(), Fail> {
+    let samples = [0, 65_535, 32_768, 32_767, 257, 255, 256, 1, 40_000];
+    let samples = Samples::Sixteen(Vec::from_slice(rt.alloc(), &samples)?);
+    let raster = raster(Dim { w: 3, h: 3 }, Kind::Gray, samples)?;
+    assert_eq!(rt;
+        all_of(rt.alloc(), &raster, OutKind::Gray16)?,
+        10 * 10 * 36 * 5
+    );
+    Ok(())
+}
+
+#[test]
+fn rgb_picture_of_16_bits(rt: HostRuntime) -> Result<(), Fail> {
+    let samples = [
+        2, 0, 0, 0, 65_535, 7, 32_768, 32_767, 32_766, 65_535, 65_535, 65_535, 513, 19_712, 51_456,
+        23_040, 3_584, 770,
+    ];
+    let samples = Samples::Sixteen(Vec::from_slice(rt.alloc(), &samples)?);
+    let raster = raster(Dim { w: 3, h: 2 }, Kind::Rgb, samples)?;
+    assert_eq!(rt;
+        all_of(rt.alloc(), &raster, OutKind::Rgb16)?,
+        10 * 4 * 36 * 5
+    );
+    Ok(())
+}
+
+/// Whether the file of a raster is opened as one of its sides, its kind and its depth, and has its samples.
+fn reads_back(alloc: Global, raster: &Raster, out: OutKind) -> Result<bool, Fail> {
+    let source = MemSource::new(file(alloc, raster, out)?);
     let Ok(layout) = open(&(), alloc, &source) else {
         return Ok(false);
     };
@@ -230,13 +285,29 @@ fn reads_back(
         w: sides.w,
         h: sides.h,
     };
-    if sides != dim || layout.kind() != kind || !whole.lies_in(sides) {
+    if sides != raster.dim()
+        || layout.kind() != raster.kind()
+        || layout.depth() != raster.depth()
+        || !whole.lies_in(sides)
+    {
         return Ok(false);
     }
-    let Ok(raster) = layout.read_rect(&(), alloc, &source, whole) else {
+    let Ok(read) = layout.read_rect(&(), alloc, &source, whole) else {
         return Ok(false);
     };
-    Ok(raster.samples() == samples)
+    Ok(read.samples() == raster.samples())
+}
+
+/// The same for a picture with these samples of 8 bits.
+fn bytes_read_back(
+    alloc: Global,
+    [w, h]: [u32; 2],
+    kind: Kind,
+    out: OutKind,
+    samples: &[u8],
+) -> Result<bool, Fail> {
+    let samples = Samples::Eight(Vec::from_slice(alloc, samples)?);
+    reads_back(alloc, &raster(Dim { w, h }, kind, samples)?, out)
 }
 
 #[test]
@@ -245,21 +316,65 @@ fn written_files_are_read_back(rt: HostRuntime) -> Result<(), Fail> {
     let steps = [
         0, 10, 20, 30, 40, 50, 60, 70, 80, 90, 100, 110, 120, 130, 140, 150,
     ];
-    let sides = Dim { w: 4, h: 4 };
-    assert!(&rt; reads_back(alloc, sides, Kind::Gray, OutKind::Gray, &steps)?);
-    let sides = Dim { w: 2, h: 1 };
+    assert!(&rt; bytes_read_back(alloc, [4, 4], Kind::Gray, OutKind::Gray, &steps)?);
     let colours = [2, 0, 0, 0, 0, 0];
-    assert!(&rt; reads_back(alloc, sides, Kind::Rgb, OutKind::Rgb, &colours)?);
-    let sides = Dim { w: 9, h: 1 };
-    assert!(&rt; reads_back(alloc, sides, Kind::Gray, OutKind::Bitonal, &[255; 9])?);
+    assert!(&rt; bytes_read_back(alloc, [2, 1], Kind::Rgb, OutKind::Rgb, &colours)?);
+    assert!(&rt; bytes_read_back(alloc, [9, 1], Kind::Gray, OutKind::Bitonal, &[255; 9])?);
     // Two rows of two bytes each.
     let bits = [
         255, 0, 255, 0, 0, 0, 0, 255, 255, 0, 255, 0, 0, 0, 255, 255, 255, 0, 0, 0,
     ];
-    let sides = Dim { w: 10, h: 2 };
-    assert!(&rt; reads_back(alloc, sides, Kind::Gray, OutKind::Bitonal, &bits)?);
+    assert!(&rt; bytes_read_back(alloc, [10, 2], Kind::Gray, OutKind::Bitonal, &bits)?);
     // Bits don't hold the steps.
-    let sides = Dim { w: 4, h: 4 };
-    assert!(&rt; !reads_back(alloc, sides, Kind::Gray, OutKind::Bitonal, &steps)?);
+    assert!(&rt; !bytes_read_back(alloc, [4, 4], Kind::Gray, OutKind::Bitonal, &steps)?);
+    Ok(())
+}
+
+#[test]
+fn written_files_of_16_bits_are_read_back(rt: HostRuntime) -> Result<(), Fail> {
+    let alloc = rt.alloc();
+    let samples = [0, 255, 256, 32_767, 32_768, 65_535];
+    for (dim, kind, out) in [
+        (Dim { w: 3, h: 2 }, Kind::Gray, OutKind::Gray16),
+        (Dim { w: 1, h: 2 }, Kind::Rgb, OutKind::Rgb16),
+    ] {
+        let samples = Samples::Sixteen(Vec::from_slice(alloc, &samples)?);
+        assert!(&rt; reads_back(alloc, &raster(dim, kind, samples)?, out)?);
+    }
+    Ok(())
+}
+
+#[test]
+fn sixteen_megabytes_are_answered_whole(rt: HostRuntime) -> Result<(), Fail> {
+    let alloc = rt.alloc();
+    let dim = Dim { w: 2048, h: 2731 };
+    let mut samples = Vec::new(alloc);
+    for row in 0..2731u32 {
+        for sample in 0..6144u32 {
+            samples.push((row.wrapping_mul(7).wrapping_add(sample) % 251) as u8)?;
+        }
+    }
+    if samples.len() != 16_779_264 {
+        return Err(Fail::from("another count of samples"));
+    }
+    let raster = Raster::from_samples(
+        dim,
+        Kind::Rgb,
+        Samples::Eight(Vec::from_slice(alloc, &samples)?),
+    );
+    let file = file(alloc, &raster, OutKind::Rgb)?;
+    let node = node(alloc, Vec::from_slice(alloc, &file)?, 1024)?;
+    let call = Call {
+        method: Method::GET,
+        target: Vec::from_slice(alloc, b"/iiif/a/full/max/0/default.tif")?,
+        close: false,
+    };
+    let mut out = Vec::new(alloc);
+    let Ok(sent) = node.serve_one(&(), alloc, &mut [Passes], &call, &mut out) else {
+        return Err(Fail::from("the answer was cut off"));
+    };
+    assert_eq!(&rt; (sent.status, sent.bytes), (200, out.len() as u64));
+    assert!(&rt; out.starts_with(b"HTTP/1.1 200 OK\r\n"));
+    assert!(&rt; out.ends_with(&file) && out.ends_with(&samples));
     Ok(())
 }

@@ -1,7 +1,8 @@
 //! The command line.
 
 use clap::{Arg, ArgAction, ArgMatches, Command};
-use iiif_server::{is_base_url, is_name, numeral};
+use iiif_request::numerals::numeral;
+use iiif_server::{is_base_url, is_name};
 use std::alloc::Global;
 use std::convert::AsStr;
 use thiserror::Error;
@@ -103,7 +104,7 @@ pub fn matches<'a, S: AsStr>(alloc: Global, words: &'a [S]) -> Result<ArgMatches
 /// A whole number of up to thirteen digits, from 1 to a greatest one.
 fn number(text: Option<&str>, default: u64, most: u64) -> Option<u32> {
     let value = match text {
-        Some(text) => numeral(text, 13)?,
+        Some(text) => numeral(text.as_bytes(), 13)?,
         None => default,
     };
     if value < 1 || value > most {

@@ -3,11 +3,12 @@
 use crate::stored::Stored;
 use iiif_server::Node;
 use std::alloc::Global;
-use std::io;
 use std::io::{ErrorKind, Read};
 use std::net::{Net, Shutdown, TcpListener, TcpStream};
+use std::rt::Clock;
 use std::sync::Wait;
 use std::time::Duration;
+use std::{io, thread};
 
 /// How long a viewer may send nothing, in milliseconds, before its connection is closed. Another connection waits so long.
 const IDLE: u64 = 2000;
@@ -21,25 +22,48 @@ const LINGER: u64 = 200;
 /// How many blocks of 4,096 bytes are read and dropped behind the last answer.
 const UNREAD_BLOCKS: u32 = 64;
 
-/// Answers the connections that a listener takes, one after the other, until the listener fails. What becomes of one connection
-/// changes nothing for the next.
-pub fn serve_connections<R: Wait>(
+/// How long the server waits before it tries again, in milliseconds, where a connection could not be taken.
+const PAUSE: u64 = 10;
+
+/// How often in a row it tries again.
+const TRIES: u32 = 1000;
+
+/// Answers the connections that a listener takes, one after the other. What becomes of one connection changes nothing for the
+/// next. Where none can be taken, as where files or memory are wanting, it waits and goes on, and gives up where that was so
+/// 1,000 times in a row.
+pub fn serve_connections<R: Wait + Clock>(
     rt: &R,
     alloc: Global,
     node: &Node<R, Stored>,
     listener: &TcpListener,
 ) -> io::Result<()> {
+    let mut failures = 0u32;
     for stream in listener.incoming() {
         match stream {
-            Ok(stream) => serve_connection(rt, alloc, node, stream),
+            Ok(stream) => {
+                failures = 0;
+                serve_connection(rt, alloc, node, stream);
+            }
             Err(error) if is_passing(error.kind()) => {}
-            Err(error) => return Err(error),
+            Err(error) if is_lasting(error.kind()) || failures >= TRIES => return Err(error),
+            Err(_) => {
+                failures += 1;
+                thread::sleep(rt, Duration::from_millis(PAUSE));
+            }
         }
     }
     Ok(())
 }
 
-/// Whether a listener that failed so goes on to listen: the connection was gone before it was taken.
+/// Whether a listener that failed so is none, and stays so.
+fn is_lasting(kind: ErrorKind) -> bool {
+    match kind {
+        ErrorKind::InvalidInput => true,
+        _ => false,
+    }
+}
+
+/// Whether a listener that failed so goes on at once: the connection was gone before it was taken.
 fn is_passing(kind: ErrorKind) -> bool {
     match kind {
         ErrorKind::ConnectionAborted => true,

@@ -17,7 +17,7 @@ use std::fs;
 use std::fs::File;
 use std::io::Write;
 use std::net::{Net, TcpListener, TcpStream};
-use std::rt::Files;
+use std::rt::{Clock, Files};
 use std::sync::Wait;
 
 /// What the program is run for where it is given no words: the built-in sample, whole, as hexadecimal digits.
@@ -52,7 +52,11 @@ pub enum Stop<'a> {
 /// where a word or an image is at fault, which standard error then names.
 pub fn program<R, S, O, E>(rt: &R, words: &[S], out: &mut O, err: &mut E) -> u8
 where
-    R: Files<File = File> + Net<Listener = TcpListener, Stream = TcpStream> + Wait + AllocGlobal,
+    R: Files<File = File>
+        + Net<Listener = TcpListener, Stream = TcpStream>
+        + Wait
+        + Clock
+        + AllocGlobal,
     S: AsStr,
     O: Outlet,
     E: Write,
@@ -88,7 +92,11 @@ fn with_matches<R, O, E>(
     err: &mut E,
 ) -> u8
 where
-    R: Files<File = File> + Net<Listener = TcpListener, Stream = TcpStream> + Wait + AllocGlobal,
+    R: Files<File = File>
+        + Net<Listener = TcpListener, Stream = TcpStream>
+        + Wait
+        + Clock
+        + AllocGlobal,
     O: Outlet,
     E: Write,
 {
@@ -114,7 +122,7 @@ where
 }
 
 /// Says why the program ends.
-fn ended<E: Write>(err: &mut E, line: &str, status: u8) -> u8 {
+pub fn ended<E: Write>(err: &mut E, line: &str, status: u8) -> u8 {
     let _ = writeln!(err, "{line}");
     status
 }
@@ -193,7 +201,11 @@ fn answer<'a, R, O>(
     out: &mut O,
 ) -> Result<(), Stop<'a>>
 where
-    R: Files<File = File> + Net<Listener = TcpListener, Stream = TcpStream> + Wait + AllocGlobal,
+    R: Files<File = File>
+        + Net<Listener = TcpListener, Stream = TcpStream>
+        + Wait
+        + Clock
+        + AllocGlobal,
     O: Outlet,
 {
     let node = node(rt, alloc, options)?;

@@ -5,13 +5,13 @@ use crate::listen::serve_connection;
 use crate::program::{node, program};
 use std::alloc::Global;
 use std::fmt::Write as _;
-use std::fs;
 use std::fs::File;
 use std::io::{Read, Write};
 use std::net::{Net, Shutdown, TcpListener, TcpStream};
-use std::rt::Files;
+use std::rt::{Clock, Files};
 use std::sync::Wait;
 use std::test::Fail;
+use std::{fs, thread};
 
 const BASE: &str = "http://localhost/iiif";
 
@@ -20,7 +20,11 @@ const WHOLE: &str = "/iiif/a/full/max/0/default.tif";
 /// The program's status, and what it wrote to standard output and to standard error.
 fn run<R>(rt: &R, words: &[&str]) -> Result<(u8, Vec<u8>, Vec<u8>), Fail>
 where
-    R: Files<File = File> + Net<Listener = TcpListener, Stream = TcpStream> + Wait + AllocGlobal,
+    R: Files<File = File>
+        + Net<Listener = TcpListener, Stream = TcpStream>
+        + Wait
+        + Clock
+        + AllocGlobal,
 {
     let mut out = Vec::new(rt.alloc());
     let mut err = Vec::new(rt.alloc());
@@ -217,6 +221,13 @@ fn files_that_are_no_images_are_named(rt: HostRuntime) -> Result<(), Fail> {
     let (status, out, err) = run(&rt, &["--base", BASE, "--one", WHOLE, "a=packed.tif"])?;
     assert_eq!(rt; err.as_slice(), b"image a: 4\n".as_slice());
     assert_eq!(rt; (status, out.len()), (2, 0));
+    // BitsPerSample, the third entry, is 16 in place of 8: the strip's 16 bytes are half of the need.
+    let mut short = SAMPLE_FILE;
+    short[42] = 16;
+    fs::write(&rt, "short.tif", &short)?;
+    let (status, _, err) = run(&rt, &["--base", BASE, "--one", WHOLE, "a=short.tif"])?;
+    assert_eq!(rt; err.as_slice(), b"image a: 5\n".as_slice());
+    assert_eq!(rt; status, 2);
     let (status, _, err) = run(&rt, &["--base", BASE, "--one", WHOLE, "a=nowhere.tif"])?;
     assert_eq!(rt; err.as_slice(), b"image a: 0\n".as_slice());
     assert_eq!(rt; status, 2);
@@ -254,6 +265,24 @@ fn three_requests_over_loopback(rt: HostRuntime) -> Result<(), Fail> {
     let mut viewer = TcpStream::connect(&rt, listener.local_addr()?)?;
     viewer.write_all(REQUESTS.as_bytes())?;
     viewer.shutdown(Shutdown::Write)?;
+    let (stream, _) = listener.accept()?;
+    serve_connection(&rt, alloc, &node, stream);
+    let mut answers = Vec::new(alloc);
+    viewer.read_to_end(&mut answers)?;
+    assert_eq!(rt; answers.as_slice(), ANSWERS.as_bytes());
+    Ok(())
+}
+
+#[test]
+fn calls_in_one_write_are_answered_while_the_viewer_stays(rt: HostRuntime) -> Result<(), Fail> {
+    let alloc = rt.alloc();
+    let options = sample_options(alloc)?;
+    let Ok(node) = node(&rt, alloc, &options) else {
+        return Err(Fail::from("the sample is refused"));
+    };
+    let listener = TcpListener::bind(&rt, "127.0.0.1:0")?;
+    let mut viewer = TcpStream::connect(&rt, listener.local_addr()?)?;
+    viewer.write_all(REQUESTS.as_bytes())?;
     let (stream, _) = listener.accept()?;
     serve_connection(&rt, alloc, &node, stream);
     let mut answers = Vec::new(alloc);
@@ -360,6 +389,34 @@ const WHITE: [u8; 183] = [
     0xff, 0xff, 0xff, 0xff, 0xff, 0xff, 0xff,
 ];
 
+/// Two gray places of 16 bits in a row, 0 and 65,535, high bytes first.
+const DEEP: [u8; 126] = [
+    0x4d, 0x4d, 0x00, 0x2a, 0x00, 0x00, 0x00, 0x0c, 0x00, 0x00, 0xff, 0xff, 0x00, 0x09, 0x01, 0x00,
+    0x00, 0x03, 0x00, 0x00, 0x00, 0x01, 0x00, 0x02, 0x00, 0x00, 0x01, 0x01, 0x00, 0x03, 0x00, 0x00,
+    0x00, 0x01, 0x00, 0x01, 0x00, 0x00, 0x01, 0x02, 0x00, 0x03, 0x00, 0x00, 0x00, 0x01, 0x00, 0x10,
+    0x00, 0x00, 0x01, 0x03, 0x00, 0x03, 0x00, 0x00, 0x00, 0x01, 0x00, 0x01, 0x00, 0x00, 0x01, 0x06,
+    0x00, 0x03, 0x00, 0x00, 0x00, 0x01, 0x00, 0x01, 0x00, 0x00, 0x01, 0x11, 0x00, 0x04, 0x00, 0x00,
+    0x00, 0x01, 0x00, 0x00, 0x00, 0x08, 0x01, 0x15, 0x00, 0x03, 0x00, 0x00, 0x00, 0x01, 0x00, 0x01,
+    0x00, 0x00, 0x01, 0x16, 0x00, 0x03, 0x00, 0x00, 0x00, 0x01, 0x00, 0x01, 0x00, 0x00, 0x01, 0x17,
+    0x00, 0x04, 0x00, 0x00, 0x00, 0x01, 0x00, 0x00, 0x00, 0x04, 0x00, 0x00, 0x00, 0x00,
+];
+
+/// What stands before the rows of 2,048 by 2,731 places in red, green and blue.
+const LARGE_HEAD: [u8; 180] = [
+    0x49, 0x49, 0x2a, 0x00, 0x08, 0x00, 0x00, 0x00, 0x0c, 0x00, 0x00, 0x01, 0x04, 0x00, 0x01, 0x00,
+    0x00, 0x00, 0x00, 0x08, 0x00, 0x00, 0x01, 0x01, 0x04, 0x00, 0x01, 0x00, 0x00, 0x00, 0xab, 0x0a,
+    0x00, 0x00, 0x02, 0x01, 0x03, 0x00, 0x03, 0x00, 0x00, 0x00, 0xae, 0x00, 0x00, 0x00, 0x03, 0x01,
+    0x03, 0x00, 0x01, 0x00, 0x00, 0x00, 0x01, 0x00, 0x00, 0x00, 0x06, 0x01, 0x03, 0x00, 0x01, 0x00,
+    0x00, 0x00, 0x02, 0x00, 0x00, 0x00, 0x11, 0x01, 0x04, 0x00, 0x01, 0x00, 0x00, 0x00, 0xb4, 0x00,
+    0x00, 0x00, 0x15, 0x01, 0x03, 0x00, 0x01, 0x00, 0x00, 0x00, 0x03, 0x00, 0x00, 0x00, 0x16, 0x01,
+    0x04, 0x00, 0x01, 0x00, 0x00, 0x00, 0xab, 0x0a, 0x00, 0x00, 0x17, 0x01, 0x04, 0x00, 0x01, 0x00,
+    0x00, 0x00, 0x00, 0x08, 0x00, 0x01, 0x1a, 0x01, 0x05, 0x00, 0x01, 0x00, 0x00, 0x00, 0x9e, 0x00,
+    0x00, 0x00, 0x1b, 0x01, 0x05, 0x00, 0x01, 0x00, 0x00, 0x00, 0xa6, 0x00, 0x00, 0x00, 0x28, 0x01,
+    0x03, 0x00, 0x01, 0x00, 0x00, 0x00, 0x01, 0x00, 0x00, 0x00, 0x00, 0x00, 0x00, 0x00, 0x01, 0x00,
+    0x00, 0x00, 0x01, 0x00, 0x00, 0x00, 0x01, 0x00, 0x00, 0x00, 0x01, 0x00, 0x00, 0x00, 0x08, 0x00,
+    0x08, 0x00, 0x08, 0x00,
+];
+
 /// What stands before the rows of a million places in a row, a bit each.
 const WIDE_HEAD: [u8; 174] = [
     0x49, 0x49, 0x2a, 0x00, 0x08, 0x00, 0x00, 0x00, 0x0c, 0x00, 0x00, 0x01, 0x04, 0x00, 0x01, 0x00,
@@ -378,7 +435,11 @@ const WIDE_HEAD: [u8; 174] = [
 /// What one target is answered of one image, where it is answered.
 fn one<R>(rt: &R, image: &str, target: &str) -> Result<Vec<u8>, Fail>
 where
-    R: Files<File = File> + Net<Listener = TcpListener, Stream = TcpStream> + Wait + AllocGlobal,
+    R: Files<File = File>
+        + Net<Listener = TcpListener, Stream = TcpStream>
+        + Wait
+        + Clock
+        + AllocGlobal,
 {
     let (status, out, err) = run(rt, &["--base", BASE, "--edge", "2", "--one", target, image])?;
     if status != 0 || !err.is_empty() {
@@ -414,7 +475,8 @@ fn bodies_of_one_target(rt: HostRuntime) -> Result<(), Fail> {
 fn worked_images(rt: HostRuntime) -> Result<(), Fail> {
     fs::write(&rt, "rgb.tif", &RGB)?;
     fs::write(&rt, "white.tif", &WHITE)?;
-    let cases: [(&str, &str, usize, &[u8]); 7] = [
+    fs::write(&rt, "deep.tif", &DEEP)?;
+    let cases: [(&str, &str, usize, &[u8]); 10] = [
         (
             "a=:sample",
             "/iiif/a/full/2,/90/default.tif",
@@ -447,6 +509,14 @@ fn worked_images(rt: HostRuntime) -> Result<(), Fail> {
             176,
             &[0xff, 0x80],
         ),
+        ("a=deep.tif", WHOLE, 178, &[0, 0, 0xff, 0xff]),
+        (
+            "a=deep.tif",
+            "/iiif/a/full/1,1/0/default.tif",
+            176,
+            &[0, 0x80],
+        ),
+        ("a=deep.tif", "/iiif/a/full/1,1/0/bitonal.tif", 175, &[0x80]),
     ];
     for (image, target, bytes, last) in cases {
         let out = one(&rt, image, target)?;
@@ -475,5 +545,41 @@ fn million_columns_of_bits(rt: HostRuntime) -> Result<(), Fail> {
         let out = one(&rt, "a=wide.tif", target)?;
         assert_eq!(rt; out.as_slice(), line.as_bytes());
     }
+    Ok(())
+}
+
+#[test]
+fn sixteen_megabytes_over_loopback(rt: HostRuntime) -> Result<(), Fail> {
+    let alloc = rt.alloc();
+    let mut file = Vec::from_slice(alloc, &LARGE_HEAD)?;
+    for row in 0..2731u32 {
+        for sample in 0..6144u32 {
+            file.push((row.wrapping_mul(7).wrapping_add(sample) % 251) as u8)?;
+        }
+    }
+    fs::write(&rt, "large.tif", &file)?;
+    let mut options = sample_options(alloc)?;
+    options.edge = 1024;
+    options.images = Vec::from_slice(alloc, &[("a", "large.tif")])?;
+    let Ok(node) = node(&rt, alloc, &options) else {
+        return Err(Fail::from("the file is refused"));
+    };
+    let listener = TcpListener::bind(&rt, "127.0.0.1:0")?;
+    let mut viewer = TcpStream::connect(&rt, listener.local_addr()?)?;
+    viewer.write_all(b"GET /iiif/a/full/max/0/default.tif HTTP/1.1\r\n\r\n")?;
+    viewer.shutdown(Shutdown::Write)?;
+    let (stream, _) = listener.accept()?;
+    let (at, served) = (&rt, &node);
+    let (_, answer) = thread::join(
+        at,
+        move || serve_connection(at, alloc, served, stream),
+        move || {
+            let mut answer = Vec::new(alloc);
+            viewer.read_to_end(&mut answer).map(|_| answer)
+        },
+    );
+    let answer = answer?;
+    assert!(rt; answer.starts_with(b"HTTP/1.1 200 OK\r\n"));
+    assert!(rt; answer.ends_with(&file));
     Ok(())
 }

@@ -15,7 +15,7 @@ use Rattle.iiif_pixel.specs.declared.geometry.Dim.{Dim}
 use Rattle.iiif_pixel.specs.declared.geometry.Rect.{Rect}
 use Rattle.iiif_area.specs.Grid.{Grid, grid_of, has_place, merged, sums_of, sums_at}
 use Rattle.iiif_area.specs.Laws.{IsCutInto, PiecesMerge}
-use Rattle.iiif_area.specs.Places.{part_of, IsWithinLimits}
+use Rattle.iiif_area.specs.Places.{part_of, IsScalable}
 use Rattle.iiif_area.proofs.NestLaws.{cuts_join}
 use Rattle.iiif_keys.specs.Blocks.{part_in, tile_of, block_of, square, clipped, SumFitsIn, TileFitsIn}
 use Rattle.iiif_keys.specs.Laws.{IsBelow, PartsAreBelow, PartsCut, PartsFit}
@@ -124,7 +124,7 @@ tile_inside image channels k fits =
 
 -- a region within an image whose area is within its limit is within the limits of sums
 pub region_within : (image : Dim) (rect : Rect) (size : Dim) → LiesIn rect image → image.w * image.h ≤ 2 ^ 32 → (0 < size.w) × (size.w ≤ rect.w) →
-    (0 < size.h) × (size.h ≤ rect.h) → IsWithinLimits (sides_of rect) size
+    (0 < size.h) × (size.h ≤ rect.h) → IsScalable (sides_of rect) size
 region_within image rect size inside area columns rows =
     let c = inside.columns in let r = inside.rows in
     let less : rect.w * rect.h ≤ image.w * image.h = mul-le-mul (omega arith) (omega arith) in
@@ -170,7 +170,7 @@ grids_of_block below image p size start new quarters i k above are all made =
 
 -- the sums of all blocks are those over the region
 pub grids_of_region : PiecesMerge → PartsAreBelow → PartsFit → PartsCut → (image : Dim) (channels : ℕ) (q : Picture) (size : Dim) (total : Grid) (keys : List SumKey) (i : ℕ) →
-    IsWhole q → IsWithinLimits (dim_of q) size → All (SumFitsIn image channels) keys → IsCutInto (whole_of (dim_of q)) (map (part_in image) keys) →
+    IsWhole q → IsScalable (dim_of q) size → All (SumFitsIn image channels) keys → IsCutInto (whole_of (dim_of q)) (map (part_in image) keys) →
     length keys ≤ i → total.rect ≡ whole_of size →
     total ≡ fold merged (grid_of (whole_of size) q.channels (λ i j k. 0)) (grids_of image q size (flat_map tiles_below (take i keys))) →
     total ≡ sums_at total.rect q size (whole_of (dim_of q))

@@ -1,4 +1,4 @@
-mod NumeralLemmas
+mod BaseUrlLemmas
 mod SettingsLemmas
 mod ScalingLemmas
 mod RenderLemmas
@@ -11,3 +11,4 @@ mod StreamLemmas
 mod SilenceLemmas
 mod MessageLemmas
 mod AllowedLemmas
+mod PlainLemmas

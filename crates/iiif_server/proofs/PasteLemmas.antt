@@ -10,7 +10,7 @@ use Rattle.iiif_pixel.specs.Operations.{crop}
 use Rattle.iiif_pixel.specs.declared.geometry.Rect.{Rect}
 use Rattle.iiif_pixel.proofs.Crops.{span_fits}
 use Rattle.iiif_pixel.proofs.Reading.{sample_at-crop, get_or-span_of}
-use Rattle.iiif_pixel.proofs.Samples.{length-row_of, same_pictures}
+use Rattle.iiif_pixel.proofs.SampleLists.{length-row_of, same_pictures}
 use Rattle.iiif_area.specs.Grid.{has_place}
 use Rattle.iiif_area.specs.Laws.{IsCutInto}
 use Rattle.iiif_area.specs.Places.{part_of, corner_of}
@@ -57,6 +57,7 @@ copies_none part f p = record {
   width = refl;
   height = refl;
   channels = refl;
+  top = refl;
   copied = λ x y k h _. absurd (omega arith);
   kept = λ x y k _ _ _ _. refl;
 }
@@ -77,6 +78,7 @@ copies_row part corner tile old mid new n before count more inside same made =
       width = ap (λ (p : Picture). p.width) made ∙ before.width;
       height = ap (λ (p : Picture). p.height) made ∙ before.height;
       channels = ap (λ (p : Picture). p.channels) made ∙ before.channels;
+      top = ap (λ (p : Picture). p.top) made ∙ before.top;
       copied = λ x y k h lk. ⊎_elim
           (λ (above : y < part.y + n). let l = inside.columns in
           stays x y k (omega arith) lk (λ e _ _. omega arith) ∙ before.copied x y k (h.0, h.1, h.2, above) lk)
@@ -101,6 +103,7 @@ copies_as part f g old new same c = record {
   width = c.width;
   height = c.height;
   channels = c.channels;
+  top = c.top;
   copied = λ x y k h lk. c.copied x y k h lk ∙ same x y k h lk;
   kept = c.kept;
 }

@@ -15,7 +15,7 @@ use Rattle.iiif_canonical.specs.declared.resolved.Resolved.{Resolved}
 use Rattle.iiif_keys.specs.declared.keys.SumKey.{SumKey}
 use Rattle.iiif_keys.specs.declared.keys.TileKey.{TileKey}
 use Rattle.iiif_planner.specs.Plans.{TilesCover, BlocksCover}
-use Rattle.iiif_server.specs.Kinds.{channels_in}
+use Rattle.iiif_server.specs.Kinds.{channels_in, top_in}
 
 pub image_is : (p region scaled turned image : Picture) (r : Resolved) → region ≡ crop p r.rect → scaled ≡ scale region r.size
     → turned ≡ turn scaled r.turn → image ≡ quality turned r.quality → image ≡ resolved_image p r
@@ -53,6 +53,27 @@ image_sides scaled turned image t to few by in_quality =
       ap dim_of whole ∙ last.0 ∙ before.0,
       ap (λ (p : Picture). p.channels) whole ∙ last.1 ∙ ap (channels_in to) before.1,
     )
+
+turned_by_top : (n : ℕ) (p : Picture) → (turned_by n p).top ≡ p.top
+turned_by_top zero p = refl
+turned_by_top (suc n) p = turned_by_top n p
+
+prepared_top : (n : ℕ) (m : Bool) (p : Picture) → (turned_by n (if m then mirrored p else p)).top ≡ p.top
+prepared_top n true p = turned_by_top n (mirrored p)
+prepared_top n false p = turned_by_top n p
+
+quality_top : (p : Picture) (to : Quality) → (quality p to).top ≡ top_in to p.top
+quality_top p q.Default = refl
+quality_top p q.Color = refl
+quality_top p q.Gray = refl
+quality_top p q.Bitonal = refl
+
+-- its greatest sample, whatever its region holds
+pub image_top : (scaled turned image : Picture) (t : Turn) (to : Quality) → turned ≡ turn scaled t → image ≡ quality turned to
+    → image.top ≡ top_in to scaled.top
+image_top scaled turned image t to by in_quality =
+    ap (λ (p : Picture). p.top) in_quality ∙ quality_top turned to ∙ ap (λ (p : Picture). top_in to p.top) by
+    ∙ ap (top_in to) (prepared_top t.quarters t.mirror scaled)
 
 -- the sides of the image that a request comes to
 pub resolved_sides : (p : Picture) (r : Resolved) → r.turn.quarters < 4 → dim_of (resolved_image p r) ≡ turned_dim r.turn r.size

@@ -1,5 +1,5 @@
 -- A connection whose input begins with a call is not silent.
-use Rattle.std.proofs.Common.{◌≡◌, ℕ, ◌<◌, Bool, true, false, List, [], ◌∷◌, ◌++◌, length, Option, Some, None, Result, Ok, Err, ◌⊎◌, inl, inr, sym, subst, refl, ap, ◌∙◌, arith, length-append}
+use Rattle.std.proofs.Common.{◌≡◌, ℕ, ◌<◌, Bool, true, false, List, [], ◌∷◌, ◌++◌, length, Option, Some, None, Result, Ok, Err, ◌⊎◌, inl, inr, sym, refl, ap, ◌∙◌, arith, length-append}
 use Rattle.std.specs.Prelude.{if◌then◌else◌}
 use Rattle.httparse.specs.Grammar.{RequestHead}
 use Rattle.iiif_http_front.specs.AnswerHeads.{head_text}
@@ -8,9 +8,9 @@ use Rattle.iiif_http_front.specs.RequestHeads.{BeginsWithCall}
 use Rattle.iiif_http_front.specs.declared.call.Call.{Call}
 use Rattle.iiif_http_front.specs.declared.call.HeadFault.{HeadFault}
 use Rattle.iiif_http_front.specs.declared.call.HeadFault.TheVariants as fault
-use Rattle.iiif_http_front.proofs.InputLemmas.{one_call, each_call}
+use Rattle.iiif_http_front.proofs.InputLemmas.{each_call}
 use Rattle.iiif_source.specs.declared.ReadFault.{ReadFault}
-use Rattle.iiif_server.specs.Allowed.{Allowed, IsCut, IsStable}
+use Rattle.iiif_server.specs.Allowed.{Allowed, IsCut}
 use Rattle.iiif_server.specs.Answers.{Reply}
 use Rattle.iiif_server.specs.Calls.{RepliesToCall, is_head, part_of}
 use Rattle.iiif_server.specs.Collection.{Item}
@@ -90,30 +90,22 @@ none_first : (a b : List ℕ) → a ++ b ≡ [] → a ≡ []
 none_first [] b none = refl
 none_first (x ∷ a) b none = cc
 
-same_target : {S : Type 0} (keeps : S → Type 0) (s : Settings) (items : List (Item S)) (input rest left : List ℕ) (h k : RequestHead) → BeginsWithCall input h rest
-    → BeginsWithCall input k left → IsStable keeps s items h.target → IsStable keeps s items k.target
-same_target keeps s items input rest left h k begins other stable =
-    subst (λ (x : RequestHead). IsStable keeps s items x.target) (one_call input h k rest left begins other).0 stable
-
+-- no byte was written though a call came: the writer failed
 silent_at : {S : Type 0} (bytes : S → List ℕ) (keeps : S → Type 0) (gave : S → ReadFault → Bool) (s : Settings) (items : List (Item S)) (reader writer : Type 0)
-    (n : ℕ) (input output rest : List ℕ) (h : RequestHead) → output ≡ [] → BeginsWithCall input h rest → IsStable keeps s items h.target
-    → Stream (terms bytes keeps gave s items reader writer) n input output → reader ⊎ writer
-silent_at bytes keeps gave s items reader writer _ _ _ rest h none begins stable (goes_on n input left text output k other stays whole stream) =
-    absurd (not_whole s k.method false gave (RepliesToCall bytes s items k.method k.target) writer text (none_first text output none)
-    (whole (same_target keeps s items input rest left h k begins other stable)))
-silent_at bytes keeps gave s items reader writer _ _ _ rest h none begins stable (closed n input left text k other shut whole) =
-    absurd (not_whole s k.method true gave (RepliesToCall bytes s items k.method k.target) writer text none
-    (whole (same_target keeps s items input rest left h k begins other stable)))
-silent_at bytes keeps gave s items reader writer _ _ _ rest h none begins stable (cut_off n input left text k other part) =
-    let c = part (same_target keeps s items input rest left h k begins other stable) in
-    inr (cut_by_writer s k.method (closes_after n k) gave (RepliesToCall bytes s items k.method k.target) writer text c.0.cause none c.1.1)
-silent_at bytes keeps gave s items reader writer _ _ _ rest h none begins stable (ended n) = absurd (not_at_end [] h rest refl begins)
-silent_at bytes keeps gave s items reader writer _ _ _ rest h none begins stable (head_cut n input faults) = absurd (not_cut input h rest begins faults)
-silent_at bytes keeps gave s items reader writer _ _ _ rest h none begins stable (reader_failed n input failed) = inl failed
-silent_at bytes keeps gave s items reader writer _ _ _ rest h none begins stable (no_head n input text faults sent) = absurd (not_bad input h rest begins faults)
-silent_at bytes keeps gave s items reader writer _ _ _ rest h none begins stable (no_memory n input text sent) =
-    inr (closing_by_writer writer want_of_memory text none sent)
+    (n : ℕ) (input output rest : List ℕ) (h : RequestHead) → output ≡ [] → BeginsWithCall input h rest
+    → Stream (terms bytes keeps gave s items reader writer) n input output → writer
+silent_at bytes keeps gave s items reader writer _ _ _ rest h none begins (goes_on n input left text output k other stays whole stream) =
+    absurd (not_whole s k.method false gave (RepliesToCall bytes keeps s items k.method k.target) writer text (none_first text output none) whole)
+silent_at bytes keeps gave s items reader writer _ _ _ rest h none begins (closed n input left text k other shut whole) =
+    absurd (not_whole s k.method true gave (RepliesToCall bytes keeps s items k.method k.target) writer text none whole)
+silent_at bytes keeps gave s items reader writer _ _ _ rest h none begins (cut_off n input left text k other part) =
+    cut_by_writer s k.method (closes_after n k) gave (RepliesToCall bytes keeps s items k.method k.target) writer text part.0.cause none part.1.1
+silent_at bytes keeps gave s items reader writer _ _ _ rest h none begins (ended n) = absurd (not_at_end [] h rest refl begins)
+silent_at bytes keeps gave s items reader writer _ _ _ rest h none begins (head_cut n input faults) = absurd (not_cut input h rest begins faults)
+silent_at bytes keeps gave s items reader writer _ _ _ rest h none begins (reader_failed n input failed unfinished) = absurd (unfinished.not_whole h rest begins.reads)
+silent_at bytes keeps gave s items reader writer _ _ _ rest h none begins (no_head n input text faults sent) = absurd (not_bad input h rest begins faults)
+silent_at bytes keeps gave s items reader writer _ _ _ rest h none begins (no_memory n input text sent) = closing_by_writer writer want_of_memory text none sent
 
 pub silent : {S : Type 0} (bytes : S → List ℕ) (keeps : S → Type 0) (gave : S → ReadFault → Bool) (reader writer : Type 0) → NoSilence bytes keeps gave reader writer
-silent bytes keeps gave reader writer s items input rest h begins stable stream =
-    silent_at bytes keeps gave s items reader writer 1 input [] rest h refl begins stable stream
+silent bytes keeps gave reader writer s items input rest h begins stream =
+    silent_at bytes keeps gave s items reader writer 1 input [] rest h refl begins stream

@@ -1,13 +1,18 @@
 -- Which text may be sent for a call, and with which result.
-use Rattle.std.specs.Prelude.{◌≡◌, ℕ, ◌≤◌, Bool, true, List, length, IsTrue, IfSome, Result, Ok, Err}
+use Rattle.std.specs.Prelude.{◌≡◌, ℕ, ◌≤◌, Bool, true, List, length, IsTrue, Result, Ok, Err}
 use Rattle.iiif_source.specs.declared.ReadFault.{ReadFault}
-use Rattle.iiif_request.specs.Targets.{Resource, AsksFor}
-use Rattle.iiif_server.specs.Answers.{Reply, Given, given, identifier_of}
-use Rattle.iiif_server.specs.BaseUrl.{path_of}
-use Rattle.iiif_server.specs.Collection.{Item, item_named}
-use Rattle.iiif_server.specs.Responses.{Response, response_of, source_fault, want_of_memory, written, is_loaded}
+use Rattle.iiif_pixel.specs.Picture.{Picture, dim_of}
+use Rattle.iiif_tiff_read.specs.Layouts as layouts
+use Rattle.iiif_tiff_write.specs.declared.kind.OutKind.{OutKind}
+use Rattle.iiif_canonical.specs.Images as images
+use Rattle.iiif_canonical.specs.Texts.{CanBeSpelled}
+use Rattle.iiif_request.specs.declared.request.Request.{Request}
+use Rattle.iiif_request.specs.declared.request.Refusal.{Refusal}
+use Rattle.iiif_server.specs.Answers.{Reply, Given, given}
+use Rattle.iiif_server.specs.Collection.{Item}
+use Rattle.iiif_server.specs.Responses.{Response, refusal_response, redirect_response, information_response, image_response, response_of, source_fault, want_of_memory, written, is_loaded}
 use Rattle.iiif_server.specs.Sent.{text_of, IsStrictPrefix}
-use Rattle.iiif_server.specs.Settings.{Settings}
+use Rattle.iiif_server.specs.Settings.{Settings, limits_of}
 use Rattle.iiif_server.specs.declared.answer.Sent.{Sent}
 use Rattle.iiif_server.specs.declared.answer.Cut.{Cut}
 use Rattle.iiif_server.specs.declared.answer.Cause.{Cause}
@@ -52,7 +57,20 @@ Allowed settings part gave Reaches writer text (Ok sent) =
     × (sent.bytes ≡ length text)
 Allowed settings part gave Reaches writer text (Err cut) = (cut.sent ≡ length text) × IsCut settings part gave Reaches writer text cut.cause
 
--- keeps: a source's bytes don't change and a read that succeeds gives them. The source that a target names keeps so.
-abbrev pub IsStable : {S : Type 0} → (S → Type 0) → Settings → List (Item S) → List ℕ → Type 0
-IsStable keeps settings items target =
-    (r : Resource) → AsksFor (path_of settings.base) target r → IfSome (item_named items (identifier_of r)) (λ item. keeps item.source)
+-- What may be said of an answer whatever the sources' reads give: it is a refusal; the place of an item's information; that
+-- information, of the sides that the item's file said when it was opened; an image of an item, of the sides that a request comes
+-- to for those; or a fault.
+pub data IsFramed (S : Type 0) (settings : Settings) : Response → Type 0 where
+  refusal : (e : Refusal) → IsFramed S settings (refusal_response e)
+  redirect : (item : Item S) → IsFramed S settings (redirect_response settings.base item.name)
+  information : (item : Item S) → IsFramed S settings (information_response settings item.name (layouts.dim_of item.layout))
+  an_image : (item : Item S) (q canonical : Request) (p asked image : Picture) (kind : OutKind) → dim_of p ≡ layouts.dim_of item.layout
+      → images.image p q (limits_of settings) ≡ Ok asked → dim_of image ≡ dim_of asked → CanBeSpelled canonical
+      → IsFramed S settings (image_response settings.base item.name canonical image kind)
+  failed_read : IsFramed S settings source_fault
+  no_memory : IsFramed S settings want_of_memory
+
+-- that part of such an answer was sent, or a strict prefix of it before it was cut off
+abbrev pub IsFramedText : Type 0 → Settings → Part → List ℕ → Result Sent Cut → Type 0
+IsFramedText S settings part text (Ok sent) = (a : Response) × IsFramed S settings a × (text ≡ text_of (written part a))
+IsFramedText S settings part text (Err cut) = (a : Response) × IsFramed S settings a × IsStrictPrefix text (text_of (written part a))

@@ -5,7 +5,7 @@ use Rattle.std.specs.Option.{option_map_or}
 use Rattle.std.specs.List.{before_first, after_first, slice_split, starts_with, list_all}
 use Rattle.std.specs.Char.{is_ascii_alphanumeric}
 use Rattle.iiif_canonical.specs.Escapes.{is_unreserved}
-use Rattle.iiif_server.specs.Numerals.{numeral_of}
+use Rattle.iiif_request.specs.Numerals.{numeral_of}
 
 abbrev pub is_slash : ℕ → Bool
 is_slash b = b == 47

@@ -19,7 +19,7 @@ is_answered method = bytes_eq method (codes "GET") || is_head method
 abbrev pub part_of : List ℕ → Bool → Part
 part_of method close = if is_head method then Head close else Whole close
 
--- bytes: those of a source. Another method is refused before the target is looked at.
-pub data RepliesToCall {S : Type 0} (bytes : S → List ℕ) (settings : Settings) (items : List (Item S)) (method target : List ℕ) : Reply S → Type 0 where
-  no_method : is_answered method ≡ false → RepliesToCall bytes settings items method target (refused Method)
-  of_target : (r : Reply S) → is_answered method ≡ true → Replies bytes settings items target r → RepliesToCall bytes settings items method target r
+-- bytes, keeps: those of a source. Another method is refused before the target is looked at.
+pub data RepliesToCall {S : Type 0} (bytes : S → List ℕ) (keeps : S → Type 0) (settings : Settings) (items : List (Item S)) (method target : List ℕ) : Reply S → Type 0 where
+  no_method : is_answered method ≡ false → RepliesToCall bytes keeps settings items method target (refused Method)
+  of_target : (r : Reply S) → is_answered method ≡ true → Replies bytes keeps settings items target r → RepliesToCall bytes keeps settings items method target r

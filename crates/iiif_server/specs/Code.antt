@@ -14,7 +14,7 @@ use Rattle.iiif_area.specs.Grid.{Grid, has_place, sums_of}
 use Rattle.iiif_keys.specs.Blocks.{part_in}
 use Rattle.iiif_keys.specs.Meaning.{sums_below}
 use Rattle.iiif_keys.specs.declared.keys.SumKey.{SumKey}
-use Rattle.iiif_server.specs.Allowed.{Allowed, IsStable}
+use Rattle.iiif_server.specs.Allowed.{Allowed}
 use Rattle.iiif_server.specs.Calls.{RepliesToCall, part_of}
 use Rattle.iiif_server.specs.Collection.{Item}
 use Rattle.iiif_server.specs.Responses.{Response, want_of_memory}
@@ -22,7 +22,7 @@ use Rattle.iiif_server.specs.Settings.{Settings}
 use Rattle.iiif_server.specs.declared.answer.Sent.{Sent}
 use Rattle.iiif_server.specs.declared.answer.Cut as cut
 use Rattle.iiif_server.specs.Sent.{Answer}
-use Rattle.iiif_server.specs.Streams.{Terms, Stream, IsClosing, closes_after}
+use Rattle.iiif_server.specs.Streams.{Terms, Stream, IsCame, IsClosing, closes_after}
 use Rattle.iiif_server.specs.declared.message.Message.{Message}
 
 -- an answer as it is written
@@ -33,19 +33,23 @@ answer_of m = record { status = m.status; head = m.head.items; body = m.body.ite
 abbrev pub CloseFor : Type 0 → Response → List ℕ → Type 0
 CloseFor writer r text = IsClosing writer r text ⊎ IsClosing writer want_of_memory text
 
--- The call of that method and target, where the source that it names is stable, was sent a whole answer, after which another may
--- follow where it doesn't close the connection; or its answer was cut off, and none follows.
+-- The call of that method and target was sent a whole answer, after which another may follow where it doesn't close the
+-- connection; or its answer was cut off, and none follows.
 abbrev pub IsAnswered : {S : Type 0} → (S → List ℕ) → (S → Type 0) → (S → ReadFault → Bool) → Settings → List (Item S) → Type 0 → List ℕ → List ℕ → Bool → List ℕ
     → Bool → Type 0
 IsAnswered bytes keeps gave s items writer method target close text more =
-    ((IsStable keeps s items target → (sent : Sent) × Allowed s (part_of method close) gave (RepliesToCall bytes s items method target) writer text (Ok sent)) × (more ≡ not close))
-    ⊎ ((IsStable keeps s items target → (c : cut.Cut) × Allowed s (part_of method close) gave (RepliesToCall bytes s items method target) writer text (Err c)) × (more ≡ false))
+    (((sent : Sent) × Allowed s (part_of method close) gave (RepliesToCall bytes keeps s items method target) writer text (Ok sent)) × (more ≡ not close))
+    ⊎ (((c : cut.Cut) × Allowed s (part_of method close) gave (RepliesToCall bytes keeps s items method target) writer text (Err c)) × (more ≡ false))
 
--- a call was answered after which the connection goes on with what is left; or the connection has ended
-abbrev pub Served : Terms → ℕ → List ℕ → Option (List ℕ) → List ℕ → Bool → Type 0
-Served t n input left text true = (h : RequestHead) × (rest : List ℕ) × BeginsWithCall input h rest × (closes_after n h ≡ false) × t.whole h false text
+-- a call was answered after which the connection goes on with what is left
+abbrev pub GoesOn : Terms → ℕ → List ℕ → Option (List ℕ) → List ℕ → Type 0
+GoesOn t n input left text = (h : RequestHead) × (rest : List ℕ) × BeginsWithCall input h rest × (closes_after n h ≡ false) × t.whole h false text
     × (left ≡ Some rest)
-Served t n input left text false = Stream t n input text
+
+-- so it was; or the connection has ended, with what came of the input
+abbrev pub Served : Terms → ℕ → List ℕ → Option (List ℕ) → List ℕ → Bool → Type 0
+Served t n input left text true = GoesOn t n input left text
+Served t n input left text false = (came : List ℕ) × IsCame t.reader input came × Stream t n came text
 
 -- neither side is above the other's
 abbrev pub IsNotLarger : Dim → Dim → Type 0
@@ -60,6 +64,7 @@ pub record Copies (part : Rect) (f : ℕ → ℕ → ℕ → ℕ) (old new : Pic
   pub width : new.width ≡ old.width
   pub height : new.height ≡ old.height
   pub channels : new.channels ≡ old.channels
+  pub top : new.top ≡ old.top
   pub copied : (x y k : ℕ) → HasPlace part x y → k < old.channels → sample_at new x y k ≡ f x y k
   pub kept : (x y k : ℕ) → x < old.width → y < old.height → k < old.channels → ¬ (HasPlace part x y) → sample_at new x y k ≡ sample_at old x y k
 

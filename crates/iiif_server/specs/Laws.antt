@@ -1,15 +1,31 @@
--- Laws of connections.
-use Rattle.std.specs.Prelude.{ℕ, ◌⊎◌, Bool, List, []}
-use Rattle.httparse.specs.Grammar.{RequestHead}
+-- Laws of connections and of answers.
+use Rattle.std.specs.Prelude.{◌≡◌, ℕ, ◌^◌, ◌<◌, Bool, List, [], ◌∷◌, ◌++◌, All, length, map, codes, decimal}
+use Rattle.httparse.specs.Grammar.{RequestHead, ResponseHead, ReadsResponse, status_code}
+use Rattle.httparse.specs.Spans.{name_and_value}
+use Rattle.iiif_http_front.specs.AnswerHeads.{head_text}
+use Rattle.iiif_http_front.specs.Laws.{IsPlainField, close_fields}
 use Rattle.iiif_http_front.specs.RequestHeads.{BeginsWithCall}
 use Rattle.iiif_source.specs.declared.ReadFault.{ReadFault}
-use Rattle.iiif_server.specs.Allowed.{IsStable}
+use Rattle.iiif_server.specs.Allowed.{IsFramed}
 use Rattle.iiif_server.specs.Collection.{Item}
-use Rattle.iiif_server.specs.Settings.{Settings}
+use Rattle.iiif_server.specs.Responses.{Response}
+use Rattle.iiif_server.specs.Settings.{Settings, IsLegal}
 use Rattle.iiif_server.specs.Streams.{IsConnection, terms}
 
--- Where a connection's input begins with a call for a stable source, something is written, unless a device failed.
+-- Where what came of a connection begins with a call, something is written, unless the writer failed.
 abbrev pub NoSilence : {S : Type 0} → (S → List ℕ) → (S → Type 0) → (S → ReadFault → Bool) → Type 0 → Type 0 → Type 0
 NoSilence {S} bytes keeps gave reader writer =
-    (settings : Settings) (items : List (Item S)) (input rest : List ℕ) (h : RequestHead) → BeginsWithCall input h rest → IsStable keeps settings items h.target
-    → IsConnection (terms bytes keeps gave settings items reader writer) input [] → reader ⊎ writer
+    (settings : Settings) (items : List (Item S)) (input rest : List ℕ) (h : RequestHead) → BeginsWithCall input h rest
+    → IsConnection (terms bytes keeps gave settings items reader writer) input [] → writer
+
+-- The fields of each answer are plain where the settings are legal.
+abbrev pub FieldsArePlain : Type 0 → Type 0
+FieldsArePlain S = (settings : Settings) (a : Response) → IsLegal settings → IsFramed S settings a → All IsPlainField a.fields
+
+-- So the head of each answer is the head of a response in the standard's grammar, of its status, with its fields in their order
+-- and then the length, and nothing stands behind it (RFC 9112, sections 2 to 5).
+abbrev pub HeadsReadBack : Type 0 → Type 0
+HeadsReadBack S =
+    (settings : Settings) (a : Response) (close : Bool) → IsLegal settings → IsFramed S settings a → length a.body < 2 ^ 64
+    → (h : ResponseHead) × ReadsResponse (head_text a.status a.fields (length a.body) close) h [] × (h.minor ≡ 1) × (status_code h ≡ a.status)
+    × (map name_and_value h.fields ≡ a.fields ++ (codes "Content-Length", decimal (length a.body)) ∷ close_fields close)

@@ -1,4 +1,3 @@
-pub mod Numerals
 pub mod BaseUrl
 pub mod Settings
 pub mod Kinds

@@ -1,13 +1,13 @@
 -- What a target comes to before anything is loaded or sent.
 use Rattle.std.specs.Prelude.{◌≡◌, ℕ, ◌<◌, ◌≤◌, ◌^◌, List, Result, Ok, Err}
-use Rattle.iiif_area.specs.Places.{IsWithinLimits}
-use Rattle.iiif_pixel.specs.Geometry.{LiesIn, sides_of}
+use Rattle.iiif_area.specs.Places.{IsScalable}
+use Rattle.iiif_pixel.specs.Geometry.{LiesIn, sides_of, top_of}
 use Rattle.iiif_pixel.specs.Picture.{Picture, dim_of}
 use Rattle.iiif_pixel.specs.TurnPlaces.{turned_dim}
-use Rattle.iiif_tiff.specs.Tiff.{Shows, Scheme}
+use Rattle.iiif_tiff.specs.Tiff.{Scheme, white_of}
 use Rattle.iiif_tiff_read.specs.Layouts as layouts
 use Rattle.iiif_tiff_write.specs.File.{file_len}
-use Rattle.iiif_tiff_write.specs.OutKind.{out_kind_of, samples_per_pixel}
+use Rattle.iiif_tiff_write.specs.OutKind.{out_depth, out_kind_of, samples_per_pixel}
 use Rattle.iiif_request.specs.Requests.{HasShortDecimals}
 use Rattle.iiif_request.specs.Spells.{Texts, Says}
 use Rattle.iiif_request.specs.declared.request.Request.{Request}
@@ -15,52 +15,62 @@ use Rattle.iiif_request.specs.declared.request.Refusal.{Refusal}
 use Rattle.iiif_canonical.specs.Images as images
 use Rattle.iiif_canonical.specs.Images.{resolved_image}
 use Rattle.iiif_canonical.specs.Canonical.{canonical}
+use Rattle.iiif_canonical.specs.Texts.{CanBeSpelled}
 use Rattle.iiif_canonical.specs.declared.resolved.Limits.{Limits}
-use Rattle.iiif_server.specs.Answers.{Reply, refused, redirect, described, given}
+use Rattle.iiif_server.specs.Answers.{Reply, Given, refused, redirect, described, given, IsPictureOf, IsSentFor}
+use Rattle.iiif_server.specs.Collection.{Item}
 use Rattle.iiif_server.specs.Items.{item_of}
-use Rattle.iiif_server.specs.Kinds.{kind_of, channels_in}
+use Rattle.iiif_server.specs.Kinds.{kind_of, depth_of, channels_in, top_in}
 use Rattle.iiif_server.specs.declared.accepted.Accepted.{Accepted}
 use Rattle.iiif_server.specs.declared.outcome.Outcome.{Outcome}
 use Rattle.iiif_server.specs.declared.outcome.Outcome.TheVariants.{Refused, Redirect, Information, Image, NoMemory}
 
--- a request of the words, for a picture that the bytes show, comes to these values
-pub record Comes (bytes : List ℕ) (limits : Limits) (w : Texts) (a : Accepted) : Type 0 where
+-- a request of the words, for an item's picture, comes to these values
+pub record Comes {S : Type 0} (bytes : S → List ℕ) (keeps : S → Type 0) (item : Item S) (limits : Limits) (w : Texts) (a : Accepted) : Type 0 where
   pub request : Request
   pub picture : Picture
-  pub shows : Shows bytes picture
+  pub is_picture : IsPictureOf bytes keeps item picture
   pub says : Says w (Ok request)
   pub is_image : images.image picture request limits ≡ Ok (resolved_image picture a.resolved)
   pub is_canonical : canonical request (dim_of picture) (kind_of picture) limits ≡ Ok a.canonical
-  pub is_kind : a.kind ≡ out_kind_of (kind_of picture) request.quality
+  pub spelled : CanBeSpelled a.canonical
+  pub is_kind : a.kind ≡ out_kind_of (kind_of picture) (depth_of picture) request.quality
 
 -- the words are refused, or the request that they spell
-pub data IsRefused (bytes : List ℕ) (limits : Limits) (w : Texts) (e : Refusal) : Type 0 where
-  no_request : Says w (Err e) → IsRefused bytes limits w e
-  no_image : (q : Request) (p : Picture) → Shows bytes p → Says w (Ok q) → images.image p q limits ≡ Err e → IsRefused bytes limits w e
+pub data IsRefused {S : Type 0} (bytes : S → List ℕ) (keeps : S → Type 0) (item : Item S) (limits : Limits) (w : Texts) (e : Refusal) : Type 0 where
+  no_request : Says w (Err e) → IsRefused bytes keeps item limits w e
+  no_image : (q : Request) (p : Picture) → IsPictureOf bytes keeps item p → Says w (Ok q) → images.image p q limits ≡ Err e
+      → IsRefused bytes keeps item limits w e
 
--- what the words come to for the image of these bytes
-abbrev pub Accepts : List ℕ → Limits → Texts → Result Accepted Refusal → Type 0
-Accepts bytes limits w (Ok a) = Comes bytes limits w a
-Accepts bytes limits w (Err e) = IsRefused bytes limits w e
+-- what the words come to for an item's image
+abbrev pub Accepts : {S : Type 0} → (S → List ℕ) → (S → Type 0) → Item S → Limits → Texts → Result Accepted Refusal → Type 0
+Accepts bytes keeps item limits w (Ok a) = Comes bytes keeps item limits w a
+Accepts bytes keeps item limits w (Err e) = IsRefused bytes keeps item limits w e
 
 -- the image can be made of a source with that layout, and written
 pub record IsReady (layout : Scheme) (a : Accepted) : Type 0 where
   pub inside : LiesIn a.resolved.rect (layouts.dim_of layout)
-  pub sizes : IsWithinLimits (sides_of a.resolved.rect) a.resolved.size
+  pub sizes : IsScalable (sides_of a.resolved.rect) a.resolved.size
   pub not_larger : (a.resolved.size.w ≤ a.resolved.rect.w) × (a.resolved.size.h ≤ a.resolved.rect.h)
   pub quarters : a.resolved.turn.quarters < 4
   pub channels : channels_in a.resolved.quality layout.channels ≡ samples_per_pixel a.kind
+  pub top : top_in a.resolved.quality (white_of layout.bits) ≡ top_of (out_depth a.kind)
   pub len : file_len a.kind (turned_dim a.resolved.turn a.resolved.size) < 2 ^ 32
   pub short : HasShortDecimals a.canonical
 
--- what a target comes to, where it reaches these replies and the source that it names keeps its bytes
+-- an image that is sent for what a request of an item's picture comes to
+abbrev pub given_of : {S : Type 0} → Item S → Request → Accepted → Picture → Picture → Given S
+given_of item q a p image =
+    record { item = item; request = q; canonical = a.canonical; picture = p; asked = resolved_image p a.resolved; image = image }
+
+-- what a target comes to, where it reaches these replies
 abbrev pub ComesTo : {R S : Type 0} {d : _} → (S → List ℕ) → (S → Type 0) → (Reply S → Type 0) → Outcome R S d → Type 0
 ComesTo bytes keeps Reaches (Refused e) = Reaches (refused e)
 ComesTo bytes keeps Reaches (Redirect entry) = Reaches (redirect (item_of entry.now))
 ComesTo bytes keeps Reaches (Information entry d) = Reaches (described (item_of entry.now) d)
 ComesTo bytes keeps Reaches (Image entry a) =
-    keeps entry.now.source × ((q : Request) × (p : Picture) × Shows (bytes entry.now.source) p × (a.kind ≡ out_kind_of (kind_of p) q.quality)
-    × Reaches (given (record { item = item_of entry.now; request = q; canonical = a.canonical; picture = p; image = resolved_image p a.resolved })))
+    (q : Request) × (p : Picture) × IsPictureOf bytes keeps (item_of entry.now) p × (a.kind ≡ out_kind_of (kind_of p) (depth_of p) q.quality)
+    × ((image : Picture) → IsSentFor (keeps entry.now.source) (resolved_image p a.resolved) image → Reaches (given (given_of (item_of entry.now) q a p image)))
 ComesTo bytes keeps Reaches NoMemory = Unit {0}
 
 -- an image can be made and written

@@ -13,7 +13,7 @@ use Rattle.iiif_request.specs.declared.request.Refusal.{Refusal}
 use Rattle.iiif_request.specs.declared.request.Refusal.TheVariants.{Method}
 use Rattle.iiif_canonical.specs.Texts.{image_uri_of, uri_of}
 use Rattle.iiif_server.specs.Answers.{Reply, refused, redirect, described, given}
-use Rattle.iiif_server.specs.Kinds.{kind_of}
+use Rattle.iiif_server.specs.Kinds.{kind_of, depth_of}
 use Rattle.iiif_server.specs.Sent.{Answer}
 use Rattle.iiif_server.specs.Settings.{Settings, limits_of}
 use Rattle.iiif_server.specs.declared.part.Part.{Part}
@@ -93,7 +93,7 @@ abbrev pub response_of : {S : Type 0} → Settings → Reply S → Response
 response_of s (refused e) = refusal_response e
 response_of s (redirect item) = redirect_response s.base item.name
 response_of s (described item d) = information_response s item.name d
-response_of s (given g) = image_response s.base g.item.name g.canonical g.image (out_kind_of (kind_of g.picture) g.request.quality)
+response_of s (given g) = image_response s.base g.item.name g.canonical g.image (out_kind_of (kind_of g.picture) (depth_of g.picture) g.request.quality)
 
 -- the answers where a read of the image's source failed, and where memory was wanting
 abbrev pub source_fault : Response

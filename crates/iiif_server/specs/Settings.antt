@@ -29,6 +29,15 @@ settings_of base edge limits band workers = record {
 abbrev pub limits_of : Settings → Limits
 limits_of s = record { max_w = s.max_w; max_h = s.max_h }
 
+-- the fault's number outside
+abbrev pub number_of : ConfigFault → ℕ
+number_of Base = 1
+number_of Edge = 2
+number_of Max = 3
+number_of Band = 4
+number_of Workers = 5
+number_of NoMemory = 6
+
 -- from 1 to a greatest number
 abbrev pub is_within : ℕ → ℕ → Bool
 is_within most n = nat_lt 0 n && nat_le n most

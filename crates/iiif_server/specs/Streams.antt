@@ -1,12 +1,12 @@
 -- A connection: what is written for what was read, and why it ends (RFC 9112, section 9).
 use Rattle.std.specs.Prelude.{◌≡◌, ℕ, ◌+◌, ◌⊎◌, ◌==◌, ◌||◌, Bool, true, false, List, [], ◌++◌, Ok, Err}
 use Rattle.httparse.specs.Grammar.{RequestHead}
-use Rattle.iiif_http_front.specs.Reading.{Faults}
+use Rattle.iiif_http_front.specs.Reading.{Faults, IsUnfinished}
 use Rattle.iiif_http_front.specs.RequestHeads.{closes, BeginsWithCall}
 use Rattle.iiif_http_front.specs.declared.call.HeadFault.TheVariants.{Bad, TooLong, Cut}
 use Rattle.iiif_request.specs.declared.request.Refusal.TheVariants as refusal
 use Rattle.iiif_source.specs.declared.ReadFault.{ReadFault}
-use Rattle.iiif_server.specs.Allowed.{Allowed, IsStable}
+use Rattle.iiif_server.specs.Allowed.{Allowed}
 use Rattle.iiif_server.specs.Calls.{RepliesToCall, part_of}
 use Rattle.iiif_server.specs.Collection.{Item}
 use Rattle.iiif_server.specs.Responses.{Response, refusal_response, want_of_memory, written}
@@ -42,7 +42,7 @@ abbrev pub IsClosing : Type 0 → Response → List ℕ → Type 0
 IsClosing writer r text = (text ≡ closing r) ⊎ (writer × IsStrictPrefix text (closing r))
 
 -- Stream t n input output: the n-th call is the next, at the front of the input, and output is what is yet written.
--- Each end has its cause.
+-- Each end has its cause: where the reader failed, no call is left of what came.
 pub data Stream (t : Terms) : ℕ → List ℕ → List ℕ → Type 0 where
   goes_on : (n : ℕ) (input rest text output : List ℕ) (h : RequestHead) → BeginsWithCall input h rest → closes_after n h ≡ false
       → t.whole h false text → Stream t (n + 1) rest output → Stream t n input (text ++ output)
@@ -52,21 +52,25 @@ pub data Stream (t : Terms) : ℕ → List ℕ → List ℕ → Type 0 where
       → t.part h (closes_after n h) text → Stream t n input text
   ended : (n : ℕ) → Stream t n [] []
   head_cut : (n : ℕ) (input : List ℕ) → Faults Cut input → Stream t n input []
-  reader_failed : (n : ℕ) (input : List ℕ) → t.reader → Stream t n input []
+  reader_failed : (n : ℕ) (input : List ℕ) → t.reader → IsUnfinished input → Stream t n input []
   no_head : (n : ℕ) (input text : List ℕ) → (Faults Bad input ⊎ Faults TooLong input)
       → IsClosing t.writer (refusal_response refusal.Head) text → Stream t n input text
   no_memory : (n : ℕ) (input text : List ℕ) → IsClosing t.writer want_of_memory text → Stream t n input text
 
--- The terms of a server: each call is answered as the rule of answers allows, where the source that its target names is stable.
+-- The terms of a server: each call is answered as the rule of answers allows.
 abbrev pub terms : {S : Type 0} → (S → List ℕ) → (S → Type 0) → (S → ReadFault → Bool) → Settings → List (Item S) → Type 0 → Type 0 → Terms
 terms bytes keeps gave settings items reader writer = record {
-  whole = λ h close text. IsStable keeps settings items h.target
-      → (sent : Sent) × Allowed settings (part_of h.method close) gave (RepliesToCall bytes settings items h.method h.target) writer text (Ok sent);
-  part = λ h close text. IsStable keeps settings items h.target
-      → (c : cut.Cut) × Allowed settings (part_of h.method close) gave (RepliesToCall bytes settings items h.method h.target) writer text (Err c);
+  whole = λ h close text.
+      (sent : Sent) × Allowed settings (part_of h.method close) gave (RepliesToCall bytes keeps settings items h.method h.target) writer text (Ok sent);
+  part = λ h close text.
+      (c : cut.Cut) × Allowed settings (part_of h.method close) gave (RepliesToCall bytes keeps settings items h.method h.target) writer text (Err c);
   reader = reader;
   writer = writer;
 }
+
+-- What came of an input: all of it, or a first part where the reader failed.
+abbrev pub IsCame : Type 0 → List ℕ → List ℕ → Type 0
+IsCame reader input came = (came ≡ input) ⊎ (reader × ((rest : List ℕ) × (input ≡ came ++ rest)))
 
 -- a whole connection
 abbrev pub IsConnection : Terms → List ℕ → List ℕ → Type 0

@@ -2,6 +2,7 @@
 
 ghost use Rattle.std.specs.Prelude.{◌≡◌, length, IfOk};
 ghost use Rattle.iiif_request.specs.Words.{texts};
+ghost use Rattle.iiif_server.specs.Items.{item_of};
 ghost use Rattle.iiif_server.specs.Outcomes.{Accepts, IsReady};
 ghost use Rattle.iiif_server.specs.Settings.{AreLegal};
 
@@ -29,7 +30,7 @@ pub fn accept<R, S: Source<R>>(
     words: &Words,
 ) -> Result<Accepted, Refusal>
     requires limits { AreLegal limits.now }
-    ensures accepts { S.keeps entry.now.source → Accepts (S.bytes entry.now.source) limits.now (texts words.now) result }
+    ensures accepts { Accepts S.bytes S.keeps (item_of entry.now) limits.now (texts words.now) result }
     ensures ready { IfOk result (IsReady entry.now.layout) }
 {
     let layout = &entry.layout;
@@ -43,6 +44,6 @@ pub fn accept<R, S: Source<R>>(
     Ok(Accepted {
         resolved,
         canonical: canonical(&resolved, dim, kind, limits),
-        kind: OutKind::of(kind, request.quality),
+        kind: OutKind::of(kind, layout.depth(), request.quality),
     })
 }

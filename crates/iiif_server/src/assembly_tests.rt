@@ -3,32 +3,52 @@
 use crate::reference::plain_render;
 use crate::tests::{SAMPLE, WHOLE, limits};
 use crate::{Catalogue, Config, Node, Passes};
-use iiif_area::is_within_limits;
+use iiif_area::is_scalable;
 use iiif_canonical::Resolved;
-use iiif_pixel::{Dim, Kind, Quality, Raster, Rect, Turn};
+use iiif_pixel::{Depth, Dim, Kind, NoMemory, Quality, Raster, Rect, Span, Turn};
 use iiif_source::{FuseSource, MemSource};
 use iiif_tiff_read::open;
 use iiif_tiff_write::{OutKind, fits, head, put_rows};
+use std::alloc::Global;
 use std::test::Fail;
 
-/// The file of a picture 7 by 5, whose samples are so many steps apart.
-fn file(rt: &HostRuntime, kind: Kind, step: u8) -> Result<Vec<u8>, Fail> {
+/// A picture 7 by 5, whose samples are so many steps apart.
+fn picture(alloc: Global, kind: Kind, depth: Depth, step: u16) -> Result<Raster, NoMemory> {
     let dim = Dim { w: 7, h: 5 };
-    let mut samples = Vec::new(rt.alloc());
-    let mut sample = 9u8;
-    for _ in 0..35 * kind.channels() {
-        samples.push(sample)?;
-        sample = sample.wrapping_add(step);
+    let mut picture = Raster::new(alloc, dim, kind, depth)?;
+    let mut sample = 9u16;
+    for y in 0..dim.h {
+        for x in 0..dim.w {
+            for channel in 0..kind.channels() {
+                let at = picture.dim();
+                let value = match depth {
+                    Depth::Eight => sample & 0xff,
+                    Depth::Sixteen => sample,
+                };
+                let value = value.min(picture.depth().top());
+                if x < at.w && y < at.h && channel < picture.kind().channels() {
+                    picture.set(x, y, channel, value);
+                }
+                sample = sample.wrapping_add(step);
+            }
+        }
     }
-    let out = OutKind::of(kind, Quality::Default);
-    if samples.len() != 35 * kind.channels() || !fits(out, dim) {
-        return Err(Fail::from("another count of samples"));
+    Ok(picture)
+}
+
+/// The file of that picture.
+fn file(rt: &HostRuntime, kind: Kind, depth: Depth, step: u16) -> Result<Vec<u8>, Fail> {
+    let alloc = rt.alloc();
+    let raster = picture(alloc, kind, depth, step)?;
+    let out = OutKind::of(kind, depth, Quality::Default);
+    let sides = raster.dim();
+    if !fits(out, sides)
+        || raster.kind().channels() != usize::from(out.samples_per_pixel())
+        || raster.depth() != out.depth()
+    {
+        return Err(Fail::from("no such file"));
     }
-    let raster = Raster::from_samples(dim, kind, samples);
-    if raster.kind().channels() != usize::from(out.samples_per_pixel()) {
-        return Err(Fail::from("another kind"));
-    }
-    let mut bytes = Vec::from_slice(rt.alloc(), head(out, dim).as_slice())?;
+    let mut bytes = Vec::from_slice(alloc, head(out, sides).as_slice())?;
     put_rows(&raster, out, &mut bytes)?;
     Ok(bytes)
 }
@@ -73,7 +93,7 @@ fn answer(
     }
 }
 
-/// The samples of the image that a request comes to, from the whole of its region.
+/// The samples of the image that a request comes to, from the whole of its region, as they stand in its file.
 fn plain_samples(
     rt: &HostRuntime,
     source: &MemSource,
@@ -87,15 +107,24 @@ fn plain_samples(
         h: resolved.rect.h,
     };
     if !resolved.rect.lies_in(layout.dim())
-        || !is_within_limits(sides, resolved.size)
+        || !is_scalable(sides, resolved.size)
         || resolved.turn.quarters >= 4
     {
         return Err(Fail::from("no such request"));
     }
-    match plain_render(&(), rt.alloc(), source, &layout, resolved) {
-        Ok(image) => Ok(Vec::from_slice(rt.alloc(), image.samples())?),
-        Err(_) => Err(Fail::from("a read failed")),
+    let Ok(image) = plain_render(&(), rt.alloc(), source, &layout, resolved) else {
+        return Err(Fail::from("a read failed"));
+    };
+    let mut bytes = Vec::new(rt.alloc());
+    match image.samples() {
+        Span::Eight(samples) => bytes.extend_from_slice(samples)?,
+        Span::Sixteen(samples) => {
+            for sample in samples {
+                bytes.extend_from_slice(&sample.to_le_bytes())?;
+            }
+        }
     }
+    Ok(bytes)
 }
 
 /// Requests of a picture 7 by 5, and what they come to: kept at their sides, scaled, turned, and at the picture's edges.
@@ -152,10 +181,15 @@ fn resolved(
 
 #[test]
 fn tiles_and_blocks_make_what_whole_regions_make(rt: HostRuntime) -> Result<(), Fail> {
-    for (kind, step) in [(Kind::Gray, 37), (Kind::Rgb, 101)] {
-        let source = MemSource::new(file(&rt, kind, step)?);
+    for (kind, depth, step) in [
+        (Kind::Gray, Depth::Eight, 37),
+        (Kind::Rgb, Depth::Eight, 101),
+        (Kind::Gray, Depth::Sixteen, 9_973),
+        (Kind::Rgb, Depth::Sixteen, 25_999),
+    ] {
+        let source = MemSource::new(file(&rt, kind, depth, step)?);
         for edge in 1..=8 {
-            let node = node(&rt, file(&rt, kind, step)?, edge, 10_000)?;
+            let node = node(&rt, file(&rt, kind, depth, step)?, edge, 10_000)?;
             for (target, resolved) in &requests() {
                 let samples = plain_samples(&rt, &source, resolved)?;
                 let (status, body) = answer(&rt, &node, target)?;

@@ -4,14 +4,14 @@ ghost use Rattle.std.specs.Prelude.{◌≡◌, option_map, position};
 ghost use Rattle.iiif_server.specs.BaseUrl.{is_authority, is_base_url, is_hierarchy, is_host, is_host_byte, is_path, is_port, is_segment, is_slash, behind_scheme, path_of, path_in};
 ghost use Rattle.iiif_canonical.specs.Escapes.{is_unreserved};
 
-use crate::numerals::numeral;
+use iiif_request::numerals::numeral;
 
 /// Whether a text is one to five digits that write a port.
 #[tactic(auto, unfolding(crate::specs::BaseUrl::is_port))]
 fn is_port(text: &str) -> bool
     ensures { result ≡ is_port text.now }
 {
-    match numeral(text, 5) {
+    match numeral(text.as_bytes(), 5) {
         Some(port) => port <= 65535,
         None => false,
     }

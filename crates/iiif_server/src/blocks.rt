@@ -7,7 +7,8 @@ ghost use Rattle.iiif_pixel.specs.Picture.{Picture, dim_of};
 ghost use Rattle.iiif_pixel.specs.Operations.{crop};
 ghost use Rattle.iiif_pixel.specs.Scaling.{scale, whole_of};
 ghost use Rattle.iiif_area.specs.Grid.{merged, sums_of};
-ghost use Rattle.iiif_area.specs.Places.{IsWithinLimits};
+ghost use Rattle.iiif_area.specs.Places.{IsScalable};
+ghost use Rattle.iiif_tiff.specs.Tiff.{white_of};
 ghost use Rattle.iiif_tiff_read.specs.Layouts.{FitsIn};
 ghost use Rattle.iiif_tiff_read.specs.Layouts as layouts;
 ghost use Rattle.iiif_tiff_read.specs.Faults.{IsLoadFault};
@@ -115,10 +116,11 @@ pub fn summed<R, S: Source<R>>(
     requires cover { (name : List ℕ) × (edge : ℕ) × (level : ℕ)
         × BlocksCover name edge (layouts.dim_of layout.now) layout.now.channels region size level keys.now }
     requires in_file { FitsIn layout.now (length (S.bytes source.now)) }
-    requires limits { IsWithinLimits (sides_of region) size }
+    requires limits { IsScalable (sides_of region) size }
     ensures image { IfOk result (λ r. (p : Picture) → IsSeen S.keeps S.bytes source.now layout.now p → r ≡ scale (crop p region) size) }
     ensures sides { IfOk result (λ r. dim_of r ≡ size) }
     ensures channels { IfOk result (λ r. r.channels ≡ layout.now.channels) }
+    ensures top { IfOk result (λ r. r.top ≡ white_of layout.now.bits) }
     ensures fault { IfErr result (IsLoadFault (S.gave source.now)) }
 {
     parts_are_exact();
@@ -129,10 +131,6 @@ pub fn summed<R, S: Source<R>>(
     for key in keys {
         add_block(rt, alloc, source, layout, key, &mut total)?;
     }
-    let sides = Dim {
-        w: region.w,
-        h: region.h,
-    };
-    let scaled = total.finish(alloc, sides, whole(size))?;
+    let scaled = total.finish(alloc, region.dim(), whole(size), layout.depth())?;
     Ok(scaled)
 }

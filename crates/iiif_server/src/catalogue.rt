@@ -3,41 +3,62 @@
 ghost use Rattle.std.specs.Prelude.{◌≡◌, ◌++◌, ◌∷◌, [], None, Some, is_some, length, OnOk, OnErr, IfErr, map, find, option_map, string_bytes, bytes_eq};
 ghost use Rattle.iiif_tiff.specs.Tiff.{refusal_of, scheme};
 ghost use Rattle.iiif_tiff_read.specs.Layouts.{FitsIn};
-ghost use Rattle.iiif_server.specs.Collection.{Item, is_name, item_named, refusal_of_name, Takes};
-ghost use Rattle.iiif_server.specs.Items.{items_of, item_of};
+ghost use Rattle.iiif_server.specs.Collection.{Item, item_named, number_of, refusal_of_name, Takes};
+ghost use Rattle.iiif_server.specs.Items.{item_of};
 
 use crate::entry::Entry;
-use iiif_keys::Name;
+use iiif_keys::{Name, is_name};
 use iiif_source::Source;
 use iiif_tiff_read::Layout;
 use std::alloc::Global;
-use std::marker::PhantomData;
+use std::marker::{Model, PhantomData};
+use thiserror::Error;
 
 /// Why an image isn't taken in: its name's length, a name that is there already, or want of memory.
-#[derive(Clone, Copy, Debug, PartialEq, Eq)]
+#[derive(Clone, Copy, Debug, PartialEq, Eq, Error)]
 pub enum AddFault {
+    #[error("a name has 1 to 1,024 bytes")]
     Name,
+    #[error("there is an image of that name")]
     Twice,
+    #[error("out of memory")]
     NoMemory,
 }
 
-/// Whether a text may be an image's name: 1 to 1,024 bytes.
-pub fn is_name(name: &str) -> bool
-    ensures { result ≡ is_name name.now }
-{
-    0 < name.len() && name.len() <= 1024
+impl AddFault {
+    /// The number by which the fault is known outside, 1 to 3.
+    pub const fn number(self) -> u8
+        ensures { result ≡ number_of self }
+    {
+        match self {
+            AddFault::Name => 1,
+            AddFault::Twice => 2,
+            AddFault::NoMemory => 3,
+        }
+    }
 }
 
-/// Images with names of their own.
+/// Images with names of their own. Clauses see them in the order in which they were taken in.
 #[derive(Drop)]
 pub struct Catalogue<R, S: Source<R>> {
     entries: Vec<Entry<R, S>>,
 }
 
+impl<R, S: Source<R>> Model for Catalogue<R, S> {
+    ghost use Rattle.std.specs.Prelude.{List, map};
+    ghost use Rattle.iiif_server.specs.Collection.{Item};
+
+    ghost Value = { List (Item S) };
+
+    ghost use Rattle.iiif_server.specs.Items.{item_of};
+
+    ghost view = { λ c. map item_of c.entries.items };
+}
+
 impl<R, S: Source<R> + Drop> Catalogue<R, S> {
     /// No image.
     pub fn new(alloc: Global) -> Catalogue<R, S>
-        ensures { items_of result ≡ [] }
+        ensures { result ≡ [] }
     {
         Catalogue {
             entries: Vec::new(alloc),
@@ -46,7 +67,7 @@ impl<R, S: Source<R> + Drop> Catalogue<R, S> {
 
     /// Whether there is an image of a name.
     pub fn has(&self, name: &str) -> bool
-        ensures { result ≡ is_some (item_named (items_of self.now) name.now) }
+        ensures { result ≡ is_some (item_named self.now name.now) }
     {
         self.find(name).is_some()
     }
@@ -58,16 +79,19 @@ impl<R, S: Source<R> + Drop> Catalogue<R, S> {
         requires in_file { FitsIn layout (length (S.bytes source)) }
         requires accepted { S.keeps source → refusal_of (S.bytes source) ≡ None }
         requires shown { S.keeps source → layout ≡ scheme (S.bytes source) }
-        ensures ok { OnOk result (items_of self.new ≡ items_of self.old ++ (record { name = string_bytes name; source = source }) ∷ []) }
-        ensures err { OnErr result (items_of self.new ≡ items_of self.old) }
-        ensures takes { Takes (items_of self.old) (string_bytes name) result }
+        ensures ok { OnOk result (self.new ≡ self.old ++ (record { name = string_bytes name; source = source; layout = layout }) ∷ []) }
+        ensures err { OnErr result (self.new ≡ self.old) }
+        ensures takes { Takes self.old (string_bytes name) result }
     {
-        let Some(name) = Name::new(name) else {
+        if !is_name(name.as_str()) {
             return Err(AddFault::Name);
-        };
+        }
         if self.has(name.as_str()) {
             return Err(AddFault::Twice);
         }
+        let Ok(name) = Name::new(name) else {
+            return Err(AddFault::NoMemory);
+        };
         let entry = Entry {
             name,
             source,
@@ -82,7 +106,7 @@ impl<R, S: Source<R> + Drop> Catalogue<R, S> {
 
     /// The image of a name.
     pub fn find(&self, name: &str) -> Option<&Entry<R, S>>
-        ensures { option_map (λ e. item_of e.now) result ≡ item_named (items_of self.now) name.now }
+        ensures { option_map (λ e. item_of e.now) result ≡ item_named self.now name.now }
     {
         self.entries
             .iter()

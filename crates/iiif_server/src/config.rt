@@ -3,22 +3,45 @@
 ghost use Rattle.std.specs.Prelude.{◌≡◌, ◌<◌};
 ghost use Rattle.iiif_keys.specs.Blocks.{IsEdge};
 ghost use Rattle.iiif_server.specs.BaseUrl.{path_of};
-ghost use Rattle.iiif_server.specs.Settings.{AreLegal, Configures, is_within, limits_of, refusal_of, settings_of};
+ghost use Rattle.iiif_server.specs.Settings.{AreLegal, Configures, is_within, limits_of, number_of, refusal_of, settings_of};
 
 use crate::base_url::{is_base_url, path_of};
 use iiif_canonical::Limits;
 use std::alloc::Global;
 use std::marker::Model;
+use thiserror::Error;
 
 /// Why settings are refused: the first of the first five that applies, in this order, or want of memory.
-#[derive(Clone, Copy, Debug, PartialEq, Eq)]
+#[derive(Clone, Copy, Debug, PartialEq, Eq, Error)]
 pub enum ConfigFault {
+    #[error("the base URL is none")]
     Base,
+    #[error("the edge of a tile is out of its bounds")]
     Edge,
+    #[error("a greatest side is out of its bounds")]
     Max,
+    #[error("the rows of a band are out of their bounds")]
     Band,
+    #[error("the workers are out of their bounds")]
     Workers,
+    #[error("out of memory")]
     NoMemory,
+}
+
+impl ConfigFault {
+    /// The number by which the fault is known outside, 1 to 6.
+    pub const fn number(self) -> u8
+        ensures { result ≡ number_of self }
+    {
+        match self {
+            ConfigFault::Base => 1,
+            ConfigFault::Edge => 2,
+            ConfigFault::Max => 3,
+            ConfigFault::Band => 4,
+            ConfigFault::Workers => 5,
+            ConfigFault::NoMemory => 6,
+        }
+    }
 }
 
 /// What a server was told, all of it legal.

@@ -187,8 +187,8 @@ fn refusals_with_their_heads(rt: HostRuntime) -> Result<(), Fail> {
     Ok(())
 }
 
-/// A node whose source fails at its first read.
-fn fused(rt: &HostRuntime) -> Result<Node<(), FuseSource<MemSource>>, Fail> {
+/// A node whose source fails from its `k`-th read on.
+fn fused(rt: &HostRuntime, k: u64) -> Result<Node<(), FuseSource<MemSource>>, Fail> {
     let alloc = rt.alloc();
     let source = memory(rt)?;
     let Ok(layout) = open(&(), alloc, &source) else {
@@ -197,7 +197,7 @@ fn fused(rt: &HostRuntime) -> Result<Node<(), FuseSource<MemSource>>, Fail> {
     let mut catalogue = Catalogue::new(alloc);
     let name = String::from_str(alloc, "a")?;
     if catalogue
-        .add(name, FuseSource::new(source, 1), layout)
+        .add(name, FuseSource::new(source, k), layout)
         .is_err()
     {
         return Err(Fail::from("the sample is not taken in"));
@@ -211,7 +211,7 @@ fn fused(rt: &HostRuntime) -> Result<Node<(), FuseSource<MemSource>>, Fail> {
 #[test]
 fn head_reads_nothing(rt: HostRuntime) -> Result<(), Fail> {
     let alloc = rt.alloc();
-    let node = fused(&rt)?;
+    let node = fused(&rt, 1)?;
     let mut out = Vec::new(alloc);
     let head = call(&rt, Method::HEAD, WHOLE)?;
     let sent = node.serve_one(&(), alloc, &mut [Passes], &head, &mut out);
@@ -224,6 +224,54 @@ fn head_reads_nothing(rt: HostRuntime) -> Result<(), Fail> {
     let text =
         b"HTTP/1.1 500 Internal Server Error\r\nContent-Type: text/plain\r\nAccess-Control-Allow-Origin: *\r\nContent-Length: 10\r\n\r\nL1 source\n";
     assert_eq!(rt; out.as_slice(), text.as_slice());
+    Ok(())
+}
+
+/// The status that a call for the whole sample is answered by.
+fn status(
+    rt: &HostRuntime,
+    node: &Node<(), FuseSource<MemSource>>,
+    method: Method,
+) -> Result<u16, Fail> {
+    let mut out = Vec::new(rt.alloc());
+    let call = call(rt, method, WHOLE)?;
+    match node.serve_one(&(), rt.alloc(), &mut [Passes], &call, &mut out) {
+        Ok(sent) => Ok(sent.status),
+        Err(_) => Err(Fail::from("the answer was cut off")),
+    }
+}
+
+#[test]
+fn head_spends_no_read(rt: HostRuntime) -> Result<(), Fail> {
+    let mut last = 0u64;
+    for k in 1..100u64 {
+        last = k;
+        if status(&rt, &fused(&rt, k)?, Method::GET)? == 200 {
+            break;
+        }
+    }
+    assert!(rt; last > 1);
+    let node = fused(&rt, last)?;
+    assert_eq!(rt; status(&rt, &node, Method::HEAD)?, 200);
+    assert_eq!(rt; status(&rt, &node, Method::GET)?, 200);
+    assert_eq!(rt; status(&rt, &node, Method::GET)?, 500);
+    Ok(())
+}
+
+#[test]
+fn calls_that_came_are_answered_before_the_reader_fails(rt: HostRuntime) -> Result<(), Fail> {
+    let node = node(&rt, "a")?;
+    for (reads, answered) in [(0, 0), (1, 2), (2, 3)] {
+        let mut out = Vec::new(rt.alloc());
+        let reader = FailingReader {
+            left: b"GET /iiif/a HTTP/1.1\r\n\r\nGET /iiif/a HTTP/1.1\r\n\r\nGET /iiif/a HTTP/1.1\r\n\r\n",
+            piece: 60,
+            reads,
+        };
+        node.serve_stream(&(), rt.alloc(), &mut [Passes], reader, &mut out);
+        assert_eq!(rt; count(&out, b"HTTP/1.1 303 See Other\r\n"), answered);
+        assert_eq!(rt; count(&out, b"HTTP/1.1 "), answered);
+    }
     Ok(())
 }
 

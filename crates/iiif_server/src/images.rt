@@ -8,11 +8,12 @@ ghost use Rattle.iiif_pixel.specs.Picture.{Picture, dim_of};
 ghost use Rattle.iiif_pixel.specs.TurnPlaces.{turned_dim};
 ghost use Rattle.iiif_keys.specs.Blocks.{IsEdge};
 ghost use Rattle.iiif_request.specs.Requests.{HasShortDecimals};
-ghost use Rattle.iiif_tiff.specs.Tiff.{Shows, scheme};
 ghost use Rattle.iiif_tiff_read.specs.Faults.{IsLoadFault};
 ghost use Rattle.iiif_tiff_read.specs.declared.fault.LoadFault.TheVariants as LoadFault;
 ghost use Rattle.iiif_tiff_write.specs.File.{file, file_len};
+ghost use Rattle.iiif_server.specs.Answers.{IsPictureOf, IsSentFor};
 ghost use Rattle.iiif_server.specs.Code.{answer_of};
+ghost use Rattle.iiif_server.specs.Items.{item_of};
 ghost use Rattle.iiif_server.specs.Outcomes.{IsReady};
 ghost use Rattle.iiif_server.specs.Responses.{body_in, canonical_link, image_response, is_loaded, written};
 
@@ -105,8 +106,8 @@ fn image_file<R, S: Source<R>>(
 ) -> Result<Vec<u8>, LoadFault>
     requires edge { IsEdge edge }
     requires ready { IsReady entry.now.layout accepted.now }
-    ensures file { IfOk result (λ b. S.keeps entry.now.source → (p : Picture) → Shows (S.bytes entry.now.source) p
-        → b.items ≡ file (resolved_image p accepted.now.resolved) accepted.now.kind) }
+    ensures file { IfOk result (λ b. (p : Picture) → IsPictureOf S.bytes S.keeps (item_of entry.now) p → (image : Picture)
+        × IsSentFor (S.keeps entry.now.source) (resolved_image p accepted.now.resolved) image × (b.items ≡ file image accepted.now.kind)) }
     ensures fault { IfErr result (IsLoadFault (S.gave entry.now.source)) }
 {
     let raster = render(
@@ -135,8 +136,8 @@ fn image_body<R, S: Source<R>>(
 ) -> Result<Vec<u8>, LoadFault>
     requires edge { IsEdge edge }
     requires ready { IsReady entry.now.layout accepted.now }
-    ensures body { IfOk result (λ b. S.keeps entry.now.source → (p : Picture) → Shows (S.bytes entry.now.source) p
-        → b.items ≡ body_in part (file (resolved_image p accepted.now.resolved) accepted.now.kind)) }
+    ensures body { IfOk result (λ b. (p : Picture) → IsPictureOf S.bytes S.keeps (item_of entry.now) p → (image : Picture)
+        × IsSentFor (S.keeps entry.now.source) (resolved_image p accepted.now.resolved) image × (b.items ≡ body_in part (file image accepted.now.kind))) }
     ensures fault { IfErr result (IsLoadFault (S.gave entry.now.source)) }
     ensures loaded { IfErr result (λ fault. (fault ≡ LoadFault.NoMemory) ⊎ (is_loaded part ≡ true)) }
 {
@@ -157,8 +158,9 @@ pub fn image_message<R, S: Source<R>>(
     accepted: &Accepted,
 ) -> Result<Message, LoadFault>
     requires ready { IsReady entry.now.layout accepted.now }
-    ensures image { IfOk result (λ m. S.keeps entry.now.source → (p : Picture) → Shows (S.bytes entry.now.source) p → answer_of m
-        ≡ written part (image_response config.now.base entry.now.name accepted.now.canonical (resolved_image p accepted.now.resolved) accepted.now.kind)) }
+    ensures image { IfOk result (λ m. (p : Picture) → IsPictureOf S.bytes S.keeps (item_of entry.now) p → (image : Picture)
+        × IsSentFor (S.keeps entry.now.source) (resolved_image p accepted.now.resolved) image
+        × (answer_of m ≡ written part (image_response config.now.base entry.now.name accepted.now.canonical image accepted.now.kind))) }
     ensures fault { IfErr result (IsLoadFault (S.gave entry.now.source)) }
     ensures loaded { IfErr result (λ fault. (fault ≡ LoadFault.NoMemory) ⊎ (is_loaded part ≡ true)) }
 {

@@ -1,11 +1,25 @@
-//! What holds of connections. The function computes nothing: its contract is the law, for those who read `serve_stream`'s.
+//! What holds of connections and of answers. The functions compute nothing: their contracts are the laws, for those who read
+//! `serve_stream`'s and `serve_one`'s.
 
-ghost use Rattle.iiif_server.specs.Laws.{NoSilence};
+ghost use Rattle.iiif_server.specs.Laws.{FieldsArePlain, HeadsReadBack, NoSilence};
 
+use iiif_http_front::laws::written_head_reads_back;
 use iiif_io::{Inlet, Outlet};
 use iiif_source::Source;
 
-/// So `serve_stream` never lets a call go without a byte of an answer, where neither device fails.
+/// So `serve_stream` never lets a call go without a byte of an answer, where the writer doesn't fail.
 pub fn calls_are_not_passed_over<R, S: Source<R>, I: Inlet, W: Outlet>()
     ensures { NoSilence S.bytes S.keeps S.gave ((before after : I) × I.fails before after) ((before after : W) × W.fails before after) }
 {}
+
+/// So no field of an answer is split, and no body is taken for a field.
+pub fn fields_are_plain<R, S: Source<R>>()
+    ensures { FieldsArePlain S }
+{}
+
+/// So each head that is sent is read as it was meant.
+pub fn heads_read_back<R, S: Source<R>>()
+    ensures { HeadsReadBack S }
+{
+    written_head_reads_back();
+}

@@ -3,11 +3,10 @@
 
 pub use answer::{Cause, Cut, Passes, Sent};
 pub use base_url::is_base_url;
-pub use catalogue::{AddFault, Catalogue, is_name};
+pub use catalogue::{AddFault, Catalogue};
 pub use config::{Config, ConfigFault};
-pub use iiif_keys::Fault;
+pub use iiif_keys::{Fault, is_name};
 pub use node::Node;
-pub use numerals::numeral;
 pub use part::Part;
 
 mod accepted;
@@ -26,7 +25,6 @@ mod images;
 pub mod laws;
 mod message;
 pub mod node;
-mod numerals;
 mod outcome;
 pub mod part;
 #[cfg(test)]

@@ -3,12 +3,10 @@
 ghost use Rattle.std.specs.Prelude.{◌≡◌, ℕ, List, IfOk, IsSome};
 ghost use Rattle.std.specs.Io.KnownBytes.{Appends};
 ghost use Rattle.iiif_server.specs.Answers.{Replies};
-ghost use Rattle.iiif_server.specs.Allowed.{Allowed, IsStable, MayAnswer};
+ghost use Rattle.iiif_server.specs.Allowed.{Allowed, IsFramedText, MayAnswer};
 ghost use Rattle.iiif_server.specs.Calls.{RepliesToCall, part_of};
 ghost use Rattle.iiif_server.specs.Code.{answer_of};
 ghost use Rattle.iiif_server.specs.Outcomes.{CanBeMade, ComesTo};
-ghost use Rattle.iiif_server.specs.Nodes.{settings, items};
-ghost use Rattle.iiif_server.specs.Items.{items_of};
 ghost use Rattle.iiif_server.specs.Responses.{Response, written};
 ghost use Rattle.iiif_server.specs.declared.part.Part.TheVariants.{Body};
 
@@ -31,18 +29,27 @@ use iiif_request::{Refusal, SplitFault, Target, split};
 use iiif_source::Source;
 use iiif_tiff_read::LoadFault;
 use std::alloc::{AllocError, Global};
+use std::marker::Model;
 
-/// A server: what it was told, and its images.
+/// A server. Clauses see what it was told, and its images.
 #[derive(Drop)]
 pub struct Node<R, S: Source<R>> {
     config: Config,
     catalogue: Catalogue<R, S>,
 }
 
+impl<R, S: Source<R>> Model for Node<R, S> {
+    ghost use Rattle.iiif_server.specs.Nodes.{Service};
+
+    ghost Value = { Service S };
+
+    ghost view = { λ n. record { settings = n.config; items = n.catalogue } };
+}
+
 impl<R, S: Source<R> + Drop> Node<R, S> {
     pub fn new(config: Config, catalogue: Catalogue<R, S>) -> Node<R, S>
-        ensures settings { settings result ≡ config }
-        ensures items { items result ≡ items_of catalogue }
+        ensures settings { result.settings ≡ config }
+        ensures items { result.items ≡ catalogue }
     {
         Node { config, catalogue }
     }
@@ -56,8 +63,7 @@ impl<R, S: Source<R> + Drop> Node<R, S> {
 
     /// What a target comes to before anything is loaded.
     fn outcome(&self, alloc: Global, target: &[u8]) -> Outcome<'_, R, S>
-        ensures comes { IsStable S.keeps (settings self.now) (items self.now) target.now
-            → ComesTo S.bytes S.keeps (Replies S.bytes (settings self.now) (items self.now) target.now) result }
+        ensures comes { ComesTo S.bytes S.keeps (Replies S.bytes S.keeps self.now.settings self.now.items target.now) result }
         ensures made { CanBeMade result }
     {
         let resource = match split(alloc, self.config.prefix(), target) {
@@ -80,8 +86,8 @@ impl<R, S: Source<R> + Drop> Node<R, S> {
 
     /// The answer to a target, as that part of it is written.
     fn message(&self, rt: &R, alloc: Global, part: Part, target: &[u8]) -> Result<Message, NoMemory>
-        ensures { IsStable S.keeps (settings self.now) (items self.now) target.now → IfOk result (λ m. (a : Response)
-            × MayAnswer (settings self.now) part S.gave (Replies S.bytes (settings self.now) (items self.now) target.now) a
+        ensures { IfOk result (λ m. (a : Response)
+            × MayAnswer self.now.settings part S.gave (Replies S.bytes S.keeps self.now.settings self.now.items target.now) a
             × (answer_of m ≡ written part a)) }
     {
         let base = self.config.base();
@@ -112,8 +118,9 @@ impl<R, S: Source<R> + Drop> Node<R, S> {
         out: &mut W,
     ) -> Result<Sent, Cut>
         ensures allowed { (text : List ℕ) × Appends (W.contents out.old) (W.contents out.new) text
-            × (IsStable S.keeps (settings self.now) (items self.now) target.now → Allowed (settings self.now) Body S.gave
-            (Replies S.bytes (settings self.now) (items self.now) target.now) ((before : W) × W.fails before out.new) text result) }
+            × Allowed self.now.settings Body S.gave (Replies S.bytes S.keeps self.now.settings self.now.items target.now)
+            ((before : W) × W.fails before out.new) text result }
+        ensures framed { (text : List ℕ) × Appends (W.contents out.old) (W.contents out.new) text × IsFramedText S self.now.settings Body text result }
     {
         let message = self.message(rt, alloc, Part::Body, target);
         send_message(out, Part::Body, message)
@@ -127,8 +134,8 @@ impl<R, S: Source<R> + Drop> Node<R, S> {
         part: Part,
         call: &Call,
     ) -> Result<Message, NoMemory>
-        ensures { IsStable S.keeps (settings self.now) (items self.now) call.now.target.items → IfOk result (λ m. (a : Response)
-            × MayAnswer (settings self.now) part S.gave (RepliesToCall S.bytes (settings self.now) (items self.now) call.now.method call.now.target.items) a
+        ensures { IfOk result (λ m. (a : Response)
+            × MayAnswer self.now.settings part S.gave (RepliesToCall S.bytes S.keeps self.now.settings self.now.items call.now.method call.now.target.items) a
             × (answer_of m ≡ written part a)) }
     {
         if is_answered(call) {
@@ -148,9 +155,10 @@ impl<R, S: Source<R> + Drop> Node<R, S> {
         out: &mut W,
     ) -> Result<Sent, Cut>
         ensures allowed { (text : List ℕ) × Appends (W.contents out.old) (W.contents out.new) text
-            × (IsStable S.keeps (settings self.now) (items self.now) call.now.target.items
-            → Allowed (settings self.now) (part_of call.now.method call.now.close) S.gave
-            (RepliesToCall S.bytes (settings self.now) (items self.now) call.now.method call.now.target.items) ((before : W) × W.fails before out.new) text result) }
+            × Allowed self.now.settings (part_of call.now.method call.now.close) S.gave
+            (RepliesToCall S.bytes S.keeps self.now.settings self.now.items call.now.method call.now.target.items) ((before : W) × W.fails before out.new) text result }
+        ensures framed { (text : List ℕ) × Appends (W.contents out.old) (W.contents out.new) text
+            × IsFramedText S self.now.settings (part_of call.now.method call.now.close) text result }
     {
         let part = part_of(call);
         let message = self.call_message(rt, alloc, part, call);

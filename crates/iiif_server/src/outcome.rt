@@ -2,9 +2,9 @@
 
 ghost use Rattle.std.specs.Prelude.{◌≡◌};
 ghost use Rattle.iiif_pixel.specs.Picture.{Picture, dim_of};
-ghost use Rattle.iiif_tiff.specs.Tiff.{Shows};
 ghost use Rattle.iiif_request.specs.Targets.{resource_of};
-ghost use Rattle.iiif_server.specs.Answers.{identifier_of};
+ghost use Rattle.iiif_server.specs.Answers.{identifier_of, IsPictureOf};
+ghost use Rattle.iiif_server.specs.Items.{item_of};
 
 use crate::accepted::Accepted;
 use crate::entry::Entry;
@@ -37,7 +37,7 @@ pub fn identifier(target: &Target) -> &str
 
 /// The sides of an image.
 pub fn sides<R, S: Source<R>>(entry: &Entry<R, S>) -> Dim
-    ensures { S.keeps entry.now.source → (p : Picture) × Shows (S.bytes entry.now.source) p × (dim_of p ≡ result) }
+    ensures { (p : Picture) × IsPictureOf S.bytes S.keeps (item_of entry.now) p × (dim_of p ≡ result) }
 {
     shows_one_picture();
     let _len = entry.source.len();

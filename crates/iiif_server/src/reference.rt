@@ -5,7 +5,7 @@ ghost use Rattle.std.specs.Prelude.{◌≡◌, ◌<◌, length, IfOk, IfErr};
 ghost use Rattle.iiif_pixel.specs.Geometry.{LiesIn, sides_of};
 ghost use Rattle.iiif_pixel.specs.Picture.{Picture, dim_of};
 ghost use Rattle.iiif_pixel.specs.Scaling.{scale};
-ghost use Rattle.iiif_area.specs.Places.{IsWithinLimits};
+ghost use Rattle.iiif_area.specs.Places.{IsScalable};
 ghost use Rattle.iiif_tiff.specs.Tiff.{Shows, scheme};
 ghost use Rattle.iiif_tiff_read.specs.Layouts.{FitsIn};
 ghost use Rattle.iiif_tiff_read.specs.Layouts as layouts;
@@ -23,15 +23,15 @@ use std::alloc::Global;
 
 /// A region scaled to other sides, its sums taken as those of one tile.
 fn scaled(alloc: Global, region: &Raster, size: Dim) -> Result<Raster, NoMemory>
-    requires limits { IsWithinLimits (dim_of region.now) size }
+    requires limits { IsScalable (dim_of region.now) size }
     ensures { IfOk result (λ r. r ≡ scale region.now size) }
 {
     let sides = region.dim();
-    let _samples = region.samples();
+    region.is_whole();
     bands_follow();
     whole_stays_whole();
     let sums = Sums::of_tile(alloc, region, whole(sides), whole(sides), size)?;
-    let scaled = sums.finish(alloc, sides, whole(size))?;
+    let scaled = sums.finish(alloc, sides, whole(size), region.depth())?;
     Ok(scaled)
 }
 
@@ -44,7 +44,7 @@ pub fn plain_render<R, S: Source<R>>(
     resolved: &Resolved,
 ) -> Result<Raster, LoadFault>
     requires inside { LiesIn resolved.now.rect (layouts.dim_of layout.now) }
-    requires sizes { IsWithinLimits (sides_of resolved.now.rect) resolved.now.size }
+    requires sizes { IsScalable (sides_of resolved.now.rect) resolved.now.size }
     requires quarters { resolved.now.turn.quarters < 4 }
     requires in_file { FitsIn layout.now (length (S.bytes source.now)) }
     ensures image { IfOk result (λ r. S.keeps source.now → layout.now ≡ scheme (S.bytes source.now)

@@ -6,15 +6,15 @@ ghost use Rattle.iiif_pixel.specs.Picture.{Picture, dim_of};
 ghost use Rattle.iiif_pixel.specs.Operations.{crop, turn, quality};
 ghost use Rattle.iiif_pixel.specs.TurnPlaces.{turned_dim};
 ghost use Rattle.iiif_pixel.specs.Scaling.{scale};
-ghost use Rattle.iiif_area.specs.Places.{IsWithinLimits};
-ghost use Rattle.iiif_tiff.specs.Tiff.{Shows, scheme};
+ghost use Rattle.iiif_area.specs.Places.{IsScalable};
+ghost use Rattle.iiif_tiff.specs.Tiff.{Shows, scheme, white_of};
 ghost use Rattle.iiif_tiff_read.specs.Layouts.{FitsIn};
 ghost use Rattle.iiif_tiff_read.specs.Layouts as layouts;
 ghost use Rattle.iiif_tiff_read.specs.Faults.{IsLoadFault};
 ghost use Rattle.iiif_canonical.specs.Images.{resolved_image};
 ghost use Rattle.iiif_keys.specs.Blocks.{IsEdge};
 ghost use Rattle.iiif_server.specs.Code.{IsNotLarger, IsSeen};
-ghost use Rattle.iiif_server.specs.Kinds.{channels_in};
+ghost use Rattle.iiif_server.specs.Kinds.{channels_in, top_in};
 
 use crate::blocks::summed;
 use crate::tiles::copied;
@@ -42,7 +42,7 @@ fn assembled<R, S: Source<R>>(
     resolved: &Resolved,
 ) -> Result<Raster, LoadFault>
     requires inside { LiesIn resolved.now.rect (layouts.dim_of layout.now) }
-    requires sizes { IsWithinLimits (sides_of resolved.now.rect) resolved.now.size }
+    requires sizes { IsScalable (sides_of resolved.now.rect) resolved.now.size }
     requires not_larger { IsNotLarger resolved.now.size (sides_of resolved.now.rect) }
     requires edge { IsEdge edge }
     requires in_file { FitsIn layout.now (length (S.bytes source.now)) }
@@ -50,6 +50,7 @@ fn assembled<R, S: Source<R>>(
         → r ≡ scale (crop p resolved.now.rect) resolved.now.size) }
     ensures sides { IfOk result (λ r. dim_of r ≡ resolved.now.size) }
     ensures channels { IfOk result (λ r. r.channels ≡ layout.now.channels) }
+    ensures top { IfOk result (λ r. r.top ≡ white_of layout.now.bits) }
     ensures fault { IfErr result (IsLoadFault (S.gave source.now)) }
 {
     same_sides_change_nothing();
@@ -108,7 +109,7 @@ pub fn render<R, S: Source<R>>(
     resolved: &Resolved,
 ) -> Result<Raster, LoadFault>
     requires inside { LiesIn resolved.now.rect (layouts.dim_of layout.now) }
-    requires sizes { IsWithinLimits (sides_of resolved.now.rect) resolved.now.size }
+    requires sizes { IsScalable (sides_of resolved.now.rect) resolved.now.size }
     requires not_larger { IsNotLarger resolved.now.size (sides_of resolved.now.rect) }
     requires quarters { resolved.now.turn.quarters < 4 }
     requires edge { IsEdge edge }
@@ -117,6 +118,7 @@ pub fn render<R, S: Source<R>>(
         → (p : Picture) → Shows (S.bytes source.now) p → r ≡ resolved_image p resolved.now) }
     ensures sides { IfOk result (λ r. dim_of r ≡ turned_dim resolved.now.turn resolved.now.size) }
     ensures channels { IfOk result (λ r. r.channels ≡ channels_in resolved.now.quality layout.now.channels) }
+    ensures top { IfOk result (λ r. r.top ≡ top_in resolved.now.quality (white_of layout.now.bits)) }
     ensures fault { IfErr result (IsLoadFault (S.gave source.now)) }
 {
     let scaled = assembled(rt, alloc, source, layout, name, edge, resolved)?;

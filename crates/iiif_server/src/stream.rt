@@ -4,8 +4,7 @@ ghost use Rattle.std.specs.Prelude.{◌≡◌, ◌≤◌, ◌<◌, ◌==◌, ◌
 ghost use Rattle.std.specs.Io.KnownBytes.{Appends};
 ghost use Rattle.iiif_http_front.specs.Reading.{input_of};
 ghost use Rattle.iiif_server.specs.Code.{CloseFor, IsAnswered, Served};
-ghost use Rattle.iiif_server.specs.Nodes.{settings, items};
-ghost use Rattle.iiif_server.specs.Streams.{IsConnection, call_limit, terms, IsClosing};
+ghost use Rattle.iiif_server.specs.Streams.{IsCame, IsConnection, call_limit, terms, IsClosing};
 ghost use Rattle.iiif_server.specs.Responses.{refusal_response, want_of_memory};
 ghost use Rattle.iiif_request.specs.declared.request.Refusal.TheVariants as refusal;
 
@@ -26,7 +25,7 @@ pub const CALL_LIMIT: u32 = 1000;
 /// Sends the answer to want of memory, after which the connection closes.
 fn close_for_memory<W: Outlet>(out: &mut W)
     ensures { (text : List ℕ) × Appends (W.contents out.old) (W.contents out.new) text
-        × IsClosing ((before after : W) × W.fails before after) want_of_memory text }
+        × IsClosing ((before : W) × W.fails before out.new) want_of_memory text }
 {
     let _ = send_message(out, Part::Whole(true), Err(AllocError));
 }
@@ -34,7 +33,7 @@ fn close_for_memory<W: Outlet>(out: &mut W)
 /// Sends the answer to a head that is none, or to want of memory, after which the connection closes.
 fn close_for_head<W: Outlet>(alloc: Global, out: &mut W)
     ensures { (text : List ℕ) × Appends (W.contents out.old) (W.contents out.new) text
-        × CloseFor ((before after : W) × W.fails before after) (refusal_response refusal.Head) text }
+        × CloseFor ((before : W) × W.fails before out.new) (refusal_response refusal.Head) text }
 {
     let part = Part::Whole(true);
     let message = refusal_message(alloc, part, Refusal::Head);
@@ -65,7 +64,7 @@ impl<R, S: Source<R> + Drop> Node<R, S> {
         out: &mut W,
     ) -> bool
         ensures { (text : List ℕ) × Appends (W.contents out.old) (W.contents out.new) text
-            × IsAnswered S.bytes S.keeps S.gave (settings self.now) (items self.now) ((before after : W) × W.fails before after)
+            × IsAnswered S.bytes S.keeps S.gave self.now.settings self.now.items ((before : W) × W.fails before out.new)
             call.now.method call.now.target.items call.now.close text result }
     {
         match self.serve_one(rt, alloc, passes, call, out) {
@@ -87,10 +86,10 @@ impl<R, S: Source<R> + Drop> Node<R, S> {
         requires no_fault { heads.old.fault ≡ None }
         requires few { n ≤ 1000 }
         ensures serves { IfSome (input_of I.remaining heads.old) (λ input. (text : List ℕ) × Appends (W.contents out.old) (W.contents out.new) text
-            × Served (terms S.bytes S.keeps S.gave (settings self.now) (items self.now) ((before after : I) × I.fails before after) ((before after : W) × W.fails before after))
+            × Served (terms S.bytes S.keeps S.gave self.now.settings self.now.items ((before after : I) × I.fails before after) ((before : W) × W.fails before out.new))
             n input (input_of I.remaining heads.new) text result) }
         ensures came { (came : List ℕ) × (text : List ℕ) × Appends (W.contents out.old) (W.contents out.new) text
-            × Served (terms S.bytes S.keeps S.gave (settings self.now) (items self.now) ((before after : I) × I.fails before after) ((before after : W) × W.fails before after))
+            × Served (terms S.bytes S.keeps S.gave self.now.settings self.now.items ((before after : I) × I.fails before after) ((before : W) × W.fails before out.new))
             n (heads.old.unread ++ came) (Some heads.new.unread) text result }
         ensures goes_on { result ≡ true → heads.new.fault ≡ None }
         ensures few { result ≡ true → n < 1000 }
@@ -126,14 +125,16 @@ impl<R, S: Source<R> + Drop> Node<R, S> {
         reader: I,
         out: &mut W,
     )
-        // Where the bytes that the reader has left are known, the output is that for them.
+        // Where the bytes that the reader has left are known, the output is that for what came of them: all, or a first part where
+        // the reader failed.
         ensures serves { IfSome (I.remaining reader) (λ input. (output : List ℕ) × Appends (W.contents out.old) (W.contents out.new) output
-            × IsConnection (terms S.bytes S.keeps S.gave (settings self.now) (items self.now) ((before after : I) × I.fails before after) ((before after : W) × W.fails before after))
-            input output) }
+            × ((came : List ℕ) × IsCame ((before after : I) × I.fails before after) input came
+            × IsConnection (terms S.bytes S.keeps S.gave self.now.settings self.now.items ((before after : I) × I.fails before after) ((before : W) × W.fails before out.new))
+            came output)) }
 
         // Where they are not, as at a socket, it is that for the bytes that came.
         ensures came { (came : List ℕ) × (output : List ℕ) × Appends (W.contents out.old) (W.contents out.new) output
-            × IsConnection (terms S.bytes S.keeps S.gave (settings self.now) (items self.now) ((before after : I) × I.fails before after) ((before after : W) × W.fails before after))
+            × IsConnection (terms S.bytes S.keeps S.gave self.now.settings self.now.items ((before after : I) × I.fails before after) ((before : W) × W.fails before out.new))
             came output }
     {
         let Ok(mut heads) = Heads::new(alloc, reader) else {

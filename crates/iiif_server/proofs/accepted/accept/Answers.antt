@@ -1,24 +1,29 @@
+use Rattle.std.proofs.Common.{arith}
 use Rattle.std.proofs.lemmas.Result.{err_from_is_err_and}
 use Rattle.iiif_request.specs.Words.{texts}
+use Rattle.iiif_tiff.specs.Tiff.{white_of}
 use Rattle.iiif_tiff_read.specs.Layouts as layouts
-use Rattle.iiif_server.proofs.OutcomeLemmas.{comes, refused_comes, refused_exit, quality_is, channels_fit, file_fits, lies_in_layout, sizes_within}
+use Rattle.iiif_server.specs.Items.{item_of}
+use Rattle.iiif_server.proofs.OutcomeLemmas.{comes, refused_comes, refused_exit, quality_is, channels_fit, file_fits, lies_in_layout, sizes_within, top_fits}
 use Rattle.iiif_server.proofs.accepted.accept.Goals as goal
 
 pub returns-clause-accepts : goal.returns-clause-accepts
-returns-clause-accepts g c keeps =
-    comes (g.S.Source.bytes c.args.entry.now.source) c.args.limits.now (texts c.args.words.now) c.in_ok-request.request c.canonical.result c.args.entry.now.layout c.dim-dim.result
-    c.kind-kind.result c.in_ok-resolved.resolved c.of.result c.shows_one_picture.ensures c.len-len.ensures.bytes (c.args.entry.now.accepted keeps)
-    (c.args.entry.now.shown keeps) c.in_ok-request.ensures.says c.dim-dim.ensures.width c.dim-dim.ensures.height c.kind-kind.ensures c.in_ok-resolved.ensures.same_image
-    c.in_ok-resolved.ensures.value c.canonical.ensures.value c.of.ensures.kind
+returns-clause-accepts g c =
+    comes g.S.Source.bytes g.S.Source.keeps (item_of c.args.entry.now) c.args.limits.now (texts c.args.words.now) c.in_ok-request.request c.canonical.result c.dim-dim.result
+    c.kind-kind.result c.depth.result c.in_ok-resolved.resolved c.of.result
+    (record { one = c.shows_one_picture.ensures; small = c.len-len.ensures.bytes; accepted = c.args.entry.now.accepted; same = c.args.entry.now.shown })
+    c.in_ok-request.ensures.says c.dim-dim.ensures.width c.dim-dim.ensures.height c.kind-kind.ensures c.depth.ensures c.in_ok-resolved.ensures.same_image
+    c.in_ok-resolved.ensures.value c.canonical.ensures.value
+    (c.canonical.ensures.spelled (omega (arith, c.dim-dim.ensures.limits.width_most)) (omega (arith, c.dim-dim.ensures.limits.height_most))) c.of.ensures.kind
 
 pub returns-in_err-resolved-clause-accepts : goal.returns-in_err-resolved-clause-accepts
-returns-in_err-resolved-clause-accepts g c keeps =
+returns-in_err-resolved-clause-accepts g c =
     let left = err_from_is_err_and c.from_residual-in_err-resolved.result c.from_residual-in_err-resolved.ensures.1 in
-    let bytes = g.S.Source.bytes c.args.entry.now.source in
-    let refused = refused_comes bytes c.args.limits.now (texts c.args.words.now) c.in_ok-request.request c.args.entry.now.layout c.dim-dim.result
-    c.kind-kind.result _ c.shows_one_picture.ensures c.len-len.ensures.bytes (c.args.entry.now.accepted keeps)
-    (c.args.entry.now.shown keeps) c.in_ok-request.ensures.says c.dim-dim.ensures.width c.dim-dim.ensures.height c.kind-kind.ensures c.in_err-resolved.ensures.same_image in
-    refused_exit bytes c.args.limits.now (texts c.args.words.now) c.from_residual-in_err-resolved.result left.0 _ left.1 left.2 refused
+    let item = item_of c.args.entry.now in
+    let refused = refused_comes g.S.Source.bytes g.S.Source.keeps item c.args.limits.now (texts c.args.words.now) c.in_ok-request.request c.dim-dim.result c.kind-kind.result _
+    (record { one = c.shows_one_picture.ensures; small = c.len-len.ensures.bytes; accepted = c.args.entry.now.accepted; same = c.args.entry.now.shown })
+    c.in_ok-request.ensures.says c.dim-dim.ensures.width c.dim-dim.ensures.height c.kind-kind.ensures c.in_err-resolved.ensures.same_image in
+    refused_exit g.S.Source.bytes g.S.Source.keeps item c.args.limits.now (texts c.args.words.now) c.from_residual-in_err-resolved.result left.0 _ left.1 left.2 refused
 
 pub returns-clause-ready : goal.returns-clause-ready
 returns-clause-ready g c =
@@ -29,8 +34,10 @@ returns-clause-ready g c =
       sizes = sizes_within c.in_ok-resolved.resolved c.dim-dim.result c.kind-kind.result c.args.limits.now resolved c.dim-dim.ensures.limits;
       not_larger = resolved.not_larger;
       quarters = resolved.quarters;
-      channels = channels_fit c.kind-kind.result c.in_ok-request.request.quality c.in_ok-resolved.resolved.quality c.args.entry.now.layout.channels c.of.result plain
+      channels = channels_fit c.kind-kind.result c.depth.result c.in_ok-request.request.quality c.in_ok-resolved.resolved.quality c.args.entry.now.layout.channels c.of.result plain
           c.kind-kind.ensures c.of.ensures.kind;
+      top = top_fits c.kind-kind.result c.depth.result c.in_ok-request.request.quality c.in_ok-resolved.resolved.quality (white_of c.args.entry.now.layout.bits) c.of.result plain
+          c.depth.ensures c.of.ensures.kind;
       len = file_fits c.lengths_fit.ensures.in_32_bits c.of.result c.in_ok-resolved.resolved.turn c.in_ok-resolved.resolved.size c.args.limits.now
           resolved.within_limits c.requires.limits.width.1 c.requires.limits.height.1;
       short = c.canonical.ensures.short;

@@ -3,7 +3,7 @@ use Rattle.std.proofs.lemmas.Iterator.{YieldsList-from_slice}
 use Rattle.std.proofs.lemmas.Iterator.Search.{all_from_yields_List}
 use Rattle.iiif_server.specs.BaseUrl.{is_segment}
 use Rattle.iiif_canonical.specs.Escapes.{is_unreserved}
-use Rattle.iiif_server.proofs.NumeralLemmas.{some_pass}
+use Rattle.iiif_server.proofs.BaseUrlLemmas.{some_pass}
 use Rattle.iiif_server.proofs.base_url.is_segment.Goals as goal
 
 pub returns-then-text-gt0 : goal.returns-then-text-gt0

@@ -1,9 +1,10 @@
-use Rattle.std.proofs.Common.{arith, refl, ◌≡◌, ◌∙◌, ap, sym, get_or}
+use Rattle.std.proofs.Common.{arith, ◌≡◌, ◌∙◌, ap, sym, get_or}
 use Rattle.std.proofs.lemmas.List.Elements.{All-weaker}
 use Rattle.iiif_pixel.specs.Operations.{crop}
 use Rattle.iiif_pixel.specs.Scaling.{scale}
 use Rattle.iiif_keys.specs.Blocks.{SumFitsIn}
 use Rattle.iiif_planner.specs.Plans.{IsBlockFor}
+use Rattle.iiif_tiff.specs.Tiff.{Scheme, white_of}
 use Rattle.iiif_tiff_read.specs.Layouts as layouts
 use Rattle.iiif_server.proofs.BlockLemmas.{element, grids_next, grids_of_region}
 use Rattle.iiif_server.proofs.ScalingLemmas.{all_lies, finished_whole}
@@ -38,6 +39,6 @@ returns-clause-image g c p seen =
     let fits = All-weaker (IsBlockFor cover.0 cover.1 image channels c.args.region c.args.size cover.2) (SumFitsIn image channels) (λ k b. b.fits) keys cover.3.blocks in
     let total = grids_of_region c.merging_adds.ensures.all exact.below exact.fit exact.cut image channels q c.args.size c.loop-key.total keys c.loop-key.key-index whole
     c.requires.limits fits cover.3.cut (omega arith) c.loop-key.invariant.places (c.loop-key.invariant.sums p seen) in
-    c.in_ok-scaled.ensures.scaled q c.args.size whole seen.2.top_is refl (all_lies c.args.size c.whole-2.result c.whole-2.ensures) total
+    c.in_ok-scaled.ensures.scaled q c.args.size whole (seen.2.top_is ∙ sym (c.depth.ensures ∙ ap (λ (s : Scheme). white_of s.bits) seen.1)) (sym c.dim.ensures) (all_lies c.args.size c.whole-2.result c.whole-2.ensures) total
     ∙ ap (crop (scale q c.args.size)) c.whole-2.ensures
     ∙ finished_whole c.bands_follow.ensures.all q c.args.size (c.whole_stays_whole.ensures.scale q c.args.size whole)

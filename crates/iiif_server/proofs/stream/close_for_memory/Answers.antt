@@ -7,5 +7,5 @@ returns g c =
     let sent = c.send_message.ensures.memory in (
       sent.0,
       sent.1,
-      closing_sent g.W.Outlet.fails c.send_message.new.out want_of_memory sent.0 c.send_message.result sent.2,
+      closing_sent ((b : g.row.W.Denot) × g.W.Outlet.fails b c.send_message.new.out) want_of_memory sent.0 c.send_message.result sent.2,
     )

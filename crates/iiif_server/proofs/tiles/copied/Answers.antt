@@ -6,7 +6,7 @@ use Rattle.iiif_pixel.specs.Scaling.{whole_of}
 use Rattle.iiif_pixel.specs.declared.geometry.Dim.{Dim}
 use Rattle.iiif_area.specs.Laws.{IsCutInto}
 use Rattle.iiif_area.specs.Places.{part_of}
-use Rattle.iiif_tiff.specs.Tiff.{Scheme}
+use Rattle.iiif_tiff.specs.Tiff.{Scheme, white_of}
 use Rattle.iiif_tiff_read.specs.Layouts as layouts
 use Rattle.iiif_keys.specs.Blocks.{tile_of}
 use Rattle.iiif_keys.specs.declared.keys.TileKey.{TileKey}
@@ -25,6 +25,7 @@ loop-key-preserved g c =
     record {
       sides = c.in_ok-put_tile.ensures.sides ∙ c.loop-key.invariant.sides;
       channels = c.in_ok-put_tile.ensures.channels ∙ c.loop-key.invariant.channels;
+      top = c.in_ok-put_tile.ensures.top ∙ c.loop-key.invariant.top;
       copied = λ p seen.
           subst (λ (ks : List TileKey). HasCopied (crop p c.args.region) (map part ks) c.put_tile.new.picture) (sym taken)
           (tiles_more (crop p c.args.region) c.loop-key.picture c.put_tile.new.picture part (take i keys) k (c.loop-key.invariant.copied p seen)
@@ -41,7 +42,7 @@ returns-clause-image g c p seen =
     let copied = subst (λ (ks : List TileKey). HasCopied q (map part ks) picture) all (c.loop-key.invariant.copied p seen) in
     let sides = c.loop-key.invariant.sides in
     let cut = subst (λ (d : Dim). IsCutInto (whole_of d) (map part keys)) (sym sides) c.requires.cover.2.cut in
-    copied_all q picture (map part keys) copied cut c.samples-samples.ensures.whole (c.whole_stays_whole.ensures.crop p c.args.region seen.2.whole)
+    copied_all q picture (map part keys) copied cut c.is_whole.ensures.whole (c.whole_stays_whole.ensures.crop p c.args.region seen.2.whole)
     (ap (λ (d : Dim). d.w) sides) (ap (λ (d : Dim). d.h) sides)
     (c.loop-key.invariant.channels ∙ ap (λ (s : Scheme). s.channels) seen.1 ∙ sym seen.2.channels_is)
-    (c.samples-samples.ensures.top ∙ sym seen.2.top_is)
+    (c.loop-key.invariant.top ∙ ap (λ (s : Scheme). white_of s.bits) seen.1 ∙ sym seen.2.top_is)

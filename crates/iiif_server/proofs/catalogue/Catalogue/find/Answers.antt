@@ -7,6 +7,7 @@ use Rattle.iiif_server.proofs.catalogue.Catalogue.find.Goals as goal
 
 pub returns : goal.returns
 returns g c =
-    found_item (λ y. y.now) item_of (λ item. bytes_eq item.name c.args.name.now) c.args.self.now.entries.items c.find.result
+    rw (← c.self.view_is)
+    (found_item (λ y. y.now) item_of (λ item. bytes_eq item.name c.args.name.now) c.self.inside.entries.items c.find.result
     (find_from_yields_List (λ e. bytes_eq e.name c.args.name.now) _ _ c.find.result c.find.ensures.ran
-    (YieldsList-from_slice c.args.self.now.entries.items cc) (λ x b q k. search (rules, tests)))
+    (YieldsList-from_slice c.self.inside.entries.items cc) (λ x b q k. search (rules, tests))))
