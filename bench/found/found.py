@@ -3,8 +3,9 @@
     /usr/bin/python3 bench/found/found.py --program crates/iiif_serve/out/iiif_serve
 
 Needs numpy, Pillow, tiffcp (libtiff-tools), vips (libvips-tools), gdal_translate and gdaladdo (gdal-bin) and ImageMagick's
-convert. Three small pictures (gray, RGB and bilevel, 203 by 151, whose sides no tile divides) are handed to each writer without
-loss, so that the samples that each file must show are known from the start; Pillow decodes each accepted file too. An accepted file
+convert. Five small pictures (gray and RGB of 8 and of 16 bits, and bilevel, 203 by 151, whose sides no tile divides) are handed to each
+writer without loss, so that the samples that each file must show are known from the start; Pillow, or libvips where a sample has 16
+bits, decodes each accepted file too. An accepted file
 is asked for the whole image, for a region and for a scaled image, and each answer is compared with the known samples, cut and
 averaged by numpy over whole numbers. A refused file must end the program with status 2, nothing on standard output and the
 line `image a: N` on standard error. What must be refused, and by which number, stands in the table below, by the reading rules of
@@ -28,24 +29,27 @@ W, H = 203, 151
 
 
 def pictures():
-    """Gray, RGB and bilevel (0 and 255), each h by w by channels."""
+    """Gray, RGB and bilevel (0 and 255), and gray and RGB of 16 bits, each h by w by channels."""
     x, y = np.meshgrid(np.arange(W), np.arange(H))
     gray = (x * 7 + y * 13 + (x * y >> 5)) & 255
     rgb = np.stack([gray, (x * 3 + 20) & 255, (255 - y) & 255], axis=2)
     bits = np.where((x // 3 + y // 5 + (x * y >> 7)) % 3 == 0, 255, 0)
-    return {"gray": gray[:, :, None].astype(np.uint8), "rgb": rgb.astype(np.uint8), "bits": bits[:, :, None].astype(np.uint8)}
+    deep = (x * 331 + y * 977 + (x * y << 2)) & 65535
+    deep_rgb = np.stack([deep, (x * 323 + 20) & 65535, (65535 - 401 * y) & 65535], axis=2)
+    return {"gray": gray[:, :, None].astype(np.uint8), "rgb": rgb.astype(np.uint8), "bits": bits[:, :, None].astype(np.uint8),
+            "gray16": deep[:, :, None].astype(np.uint16), "rgb16": deep_rgb.astype(np.uint16)}
 
 
 def plain(samples, bits=False):
     """A plain file for the other programs to start from: one strip, low byte first."""
     channels = samples.shape[2]
     data = np.packbits(samples[:, :, 0] > 127, axis=1).tobytes() if bits else samples.tobytes()
-    depth = 1 if bits else 8
+    depth = 1 if bits else 8 * samples.itemsize
     entries = [(256, 4, 1, W), (257, 4, 1, H), (258, 3, channels, 134 if channels == 3 else depth), (259, 3, 1, 1),
                (262, 3, 1, 2 if channels == 3 else 1), (273, 4, 1, 140), (277, 3, 1, channels), (278, 4, 1, H), (279, 4, 1, len(data)),
                (284, 3, 1, 1)]
     head = b"II*\0\x08\0\0\0" + struct.pack("<H", 10) + b"".join(struct.pack("<HHII", *entry) for entry in entries)
-    return head + bytes(4) + struct.pack("<3H", 8, 8, 8) + data
+    return head + bytes(4) + struct.pack("<3H", depth, depth, depth) + data
 
 
 # Writer, what it is told, the picture, and None where the file is to be accepted, else the number of its refusal.
@@ -57,6 +61,8 @@ TIFFCP = [
     ("-c lzw", "gray", UNSUPPORTED), ("-c zip", "rgb", UNSUPPORTED), ("-c packbits", "bits", UNSUPPORTED),
     ("-c g4", "bits", UNSUPPORTED), ("-c g3", "bits", UNSUPPORTED), ("-c jpeg -t -w 64 -l 64", "gray", UNSUPPORTED),
     ("-8 -c none -s -r 16", "gray", NOT_TIFF), ("-8 -B -c none -t -w 64 -l 64", "rgb", NOT_TIFF),
+    ("-c none -s -r 16", "gray16", None), ("-c none -t -w 64 -l 64 -B", "gray16", None), ("-c none -s -r 7 -B", "rgb16", None),
+    ("-c none -t -w 64 -l 48", "rgb16", None), ("-c none -p separate -s -r 16", "rgb16", UNSUPPORTED), ("-c lzw", "gray16", UNSUPPORTED),
 ]
 VIPS = [
     ("", "gray", None), ("", "rgb", None), ("--bitdepth 1", "bits", None), ("--tile --tile-width 64 --tile-height 64", "gray", None),
@@ -65,12 +71,17 @@ VIPS = [
     ("--bitdepth 4", "gray", UNSUPPORTED), ("--compression lzw", "gray", UNSUPPORTED), ("--compression deflate", "rgb", UNSUPPORTED),
     ("--compression jpeg", "rgb", UNSUPPORTED), ("--compression ccittfax4 --bitdepth 1", "bits", UNSUPPORTED),
     ("--bigtiff", "gray", NOT_TIFF),
+    ("", "gray16", None), ("--tile --tile-width 64 --tile-height 64", "rgb16", None), ("--miniswhite", "gray16", None),
+    ("--tile --pyramid", "gray16", None), ("--compression deflate", "rgb16", UNSUPPORTED),
 ]
 GDAL = [
     ("", "gray", None), ("-co TILED=YES -co BLOCKXSIZE=64 -co BLOCKYSIZE=64", "gray", None), ("-co INTERLEAVE=PIXEL", "rgb", None),
     ("-co TILED=YES -co INTERLEAVE=PIXEL -co ENDIANNESS=BIG", "rgb", None), ("-co BLOCKYSIZE=1 -co ENDIANNESS=BIG", "gray", None),
     ("-co NBITS=1", "bits", None), ("-co PHOTOMETRIC=MINISWHITE", "gray", None), ("-co PROFILE=BASELINE -co TILED=YES", "rgb", None),
-    ("-co INTERLEAVE=BAND", "rgb", UNSUPPORTED), ("-co ALPHA=YES -b 1 -b 1", "gray", UNSUPPORTED), ("-ot UInt16", "gray", UNSUPPORTED),
+    ("-co INTERLEAVE=BAND", "rgb", UNSUPPORTED), ("-co ALPHA=YES -b 1 -b 1", "gray", UNSUPPORTED), ("-ot UInt16", "gray", None),
+    ("", "gray16", None), ("-co TILED=YES -co BLOCKXSIZE=64 -co BLOCKYSIZE=64 -co ENDIANNESS=BIG", "gray16", None),
+    ("-co INTERLEAVE=PIXEL -co ENDIANNESS=BIG", "rgb16", None), ("-co PHOTOMETRIC=MINISWHITE", "gray16", None),
+    ("-co INTERLEAVE=BAND", "rgb16", UNSUPPORTED), ("-ot Int16", "gray", UNSUPPORTED),
     ("-ot Float32", "gray", UNSUPPORTED), ("-ot Byte -b 1 -b 2", "rgb", UNSUPPORTED), ("-co COMPRESS=LZW", "gray", UNSUPPORTED),
     ("-co COMPRESS=DEFLATE -co TILED=YES", "rgb", UNSUPPORTED), ("-co COMPRESS=PACKBITS", "gray", UNSUPPORTED),
     ("-co BIGTIFF=YES", "gray", NOT_TIFF),
@@ -79,7 +90,8 @@ MAGICK = [
     ("-compress none", "gray", None), ("-compress none", "rgb", None), ("-compress none -type bilevel", "bits", None),
     ("-compress none -endian MSB", "rgb", None), ("-compress none -define tiff:rows-per-strip=5", "gray", None),
     ("-compress none -define tiff:tile-geometry=64x64", "gray", None), ("-compress none -define tiff:tile-geometry=64x32 -endian MSB", "rgb", None),
-    ("-compress none -orient right-top", "gray", UNSUPPORTED), ("-compress none -depth 16", "gray", UNSUPPORTED),
+    ("-compress none -orient right-top", "gray", UNSUPPORTED), ("-compress none -depth 16", "gray16", None),
+    ("-compress none -depth 16 -endian MSB -define tiff:tile-geometry=64x64", "rgb16", None), ("-compress zip", "rgb16", UNSUPPORTED),
     ("-compress none -alpha on", "rgb", UNSUPPORTED), ("-compress none -colorspace CMYK", "rgb", UNSUPPORTED),
     ("-compress none -colors 16 -type palette", "rgb", UNSUPPORTED), ("-compress lzw", "gray", UNSUPPORTED),
     ("-compress zip", "rgb", UNSUPPORTED), ("-compress group4 -type bilevel", "bits", UNSUPPORTED), ("-compress rle", "gray", UNSUPPORTED),
@@ -87,7 +99,7 @@ MAGICK = [
 PILLOW = [
     ("L", {}, "gray", None), ("RGB", {}, "rgb", None), ("1", {}, "bits", None), ("P", {}, "gray", UNSUPPORTED), ("CMYK", {}, "rgb", UNSUPPORTED),
     ("LA", {}, "gray", UNSUPPORTED), ("RGBA", {}, "rgb", UNSUPPORTED), ("YCbCr", {}, "rgb", UNSUPPORTED), ("LAB", {}, "rgb", UNSUPPORTED),
-    ("I;16", {}, "gray", UNSUPPORTED), ("I", {}, "gray", UNSUPPORTED), ("F", {}, "gray", UNSUPPORTED),
+    ("I;16", {}, "gray16", None), ("I", {}, "gray", UNSUPPORTED), ("F", {}, "gray", UNSUPPORTED),
     ("L", {"compression": "tiff_lzw"}, "gray", UNSUPPORTED), ("RGB", {"compression": "tiff_adobe_deflate"}, "rgb", UNSUPPORTED),
     ("1", {"compression": "group4"}, "bits", UNSUPPORTED), ("L", {"save_all": True}, "gray", None),
 ]
@@ -132,7 +144,7 @@ def files(folder, sources, samples):
     for mode, options, picture, expected in PILLOW:
         array = samples[picture]
         image = Image.fromarray(array[:, :, 0] if array.shape[2] == 1 else array)
-        image = Image.fromarray(array[:, :, 0].astype(np.uint16)) if mode == "I;16" else image.convert(mode)
+        image = image if mode == "I;16" else image.convert(mode)
         if options.get("save_all"):
             options = {**options, "append_images": [Image.new("L", (50, 40))]}
         image.save(out := path(), **options)
@@ -153,8 +165,10 @@ def ask(program, words, path):
     return done.returncode, done.stdout, done.stderr.decode(errors="replace")
 
 
-def shown(body):
-    """The samples of an answer, by Pillow."""
+def shown(body, like):
+    """The samples of an answer: of 16 bits its last bytes, else by Pillow."""
+    if like.itemsize == 2:
+        return np.frombuffer(body[len(body) - like.nbytes:], "<u2").reshape(like.shape)
     with Image.open(io.BytesIO(body)) as image:
         return np.asarray(image.convert("RGB" if image.mode == "RGB" else "L")).reshape(image.height, image.width, -1)
 
@@ -170,12 +184,22 @@ def averaged(samples, width):
     h, w, _ = samples.shape
     height = (2 * h * width + w) // (2 * w)
     sums = np.einsum("jy,yxk,ix->jik", weights(h, height), samples.astype(np.int64), weights(w, width))
-    return ((2 * sums + w * h) // (2 * w * h)).astype(np.uint8)
+    return ((2 * sums + w * h) // (2 * w * h)).astype(samples.dtype)
 
 
 def shown_by(samples, writer, options, picture):
     """The samples that a file must show. GDAL keeps the stored values where it is told MINISWHITE, so its file shows the negative."""
-    return 255 - samples[picture] if writer == "gdal_translate" and "MINISWHITE" in options else samples[picture]
+    wanted = samples[picture].astype(np.uint16) if "UInt16" in options else samples[picture]
+    return np.iinfo(wanted.dtype).max - wanted if writer == "gdal_translate" and "MINISWHITE" in options else wanted
+
+
+def decoded(path, wanted):
+    """The samples of a file, by libvips where they have 16 bits, else by Pillow."""
+    if wanted.itemsize == 2:
+        call("vips", "rawsave", path, path + ".raw")
+        return np.fromfile(path + ".raw", "<u2").reshape(wanted.shape)
+    with Image.open(path) as image:
+        return np.asarray(image.convert("RGB" if wanted.shape[2] == 3 else "L")).reshape(wanted.shape)
 
 
 def judged(program, path, wanted, expected):
@@ -184,17 +208,15 @@ def judged(program, path, wanted, expected):
         status, out, err = ask(program, "full/max/0/default.tif", path)
         right = (status, out, err) == (2, b"", f"image a: {expected}\n")
         return f"`{err.strip()}`, status {status}" + (f", {len(out)} bytes" if out else ""), right
-    with Image.open(path) as image:
-        same = np.array_equal(np.asarray(image.convert("RGB" if wanted.shape[2] == 3 else "L")).reshape(wanted.shape), wanted)
-    if not same:
-        return "Pillow decodes another picture than the writer was given", False
+    if not np.array_equal(decoded(path, wanted), wanted):
+        return "another program decodes another picture than the writer was given", False
     cases = [("full/max/0/default.tif", wanted), ("37,29,101,90/max/0/default.tif", wanted[29:119, 37:138]),
              ("full/31,/0/default.tif", averaged(wanted, 31))]
     for words, samples in cases:
         status, out, err = ask(program, words, path)
         if status or err or out[:4] != b"II*\0":
             return f"{words}: status {status} `{(err or out[:40].decode(errors='replace')).strip()}`", False
-        if not np.array_equal(shown(out), samples):
+        if not np.array_equal(shown(out, samples), samples):
             return f"{words}: other samples", False
     return "accepted, the same samples", True
 
@@ -213,7 +235,7 @@ def main():
     shutil.rmtree(args.work, ignore_errors=True)
     os.makedirs(args.work)
     samples, sources = pictures(), {}
-    for name, bits in [("gray", False), ("rgb", False), ("bits", True), ("bits8", False)]:
+    for name, bits in [("gray", False), ("rgb", False), ("bits", True), ("bits8", False), ("gray16", False), ("rgb16", False)]:
         sources[name] = os.path.join(args.work, name + ".tif")
         with open(sources[name], "wb") as file:
             file.write(plain(samples["bits" if bits or name == "bits8" else name], bits))

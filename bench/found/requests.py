@@ -2,9 +2,10 @@
 
     /usr/bin/python3 bench/found/requests.py crates/iiif_serve/out/iiif_serve [COUNT] [SEED]
 
-Pictures of up to 70 by 70 (gray, RGB, bits) in strips and tiles, edges from 1 to 64, regions, sizes, turns and qualities by chance; the
-averages are exact fractions over the whole region, place by place, so nothing here knows of tiles or blocks. The status is 1 where an
-answer differs.
+Pictures of up to 70 by 70 (gray and RGB of 8 and 16 bits, bits), in both byte orders, gray ones also counted down from white, in strips
+and tiles; edges from 1 to 64, regions, sizes, turns and qualities by chance. The averages are exact fractions over the whole region,
+place by place, so nothing here knows of tiles or blocks. The status is 1 where an answer differs. With `sixteen` as a fourth word all
+pictures have 16 bits.
 """
 import os
 import random
@@ -14,20 +15,25 @@ import sys
 import tempfile
 
 
-def plain(rows, channels, bits, tile, strip):
-    """A picture as a TIFF file, low byte first, in tiles with this side or in strips of so many rows."""
+def plain(rows, channels, bits, tile, strip, order, inverted):
+    """A picture as a TIFF file in this byte order, in tiles with this side or in strips of so many rows; counted down from white where it
+    is inverted."""
+    top = 2 ** bits - 1
+    if inverted:
+        rows = [[[top - sample for sample in place] for place in row] for row in rows]
     height, width = len(rows), len(rows[0])
 
     def packed(line):
-        if bits == 8:
-            return bytes(sample for place in line for sample in place)
-        text = "".join("1" if place[0] else "0" for place in line)
+        samples = [sample for place in line for sample in place]
+        if bits > 1:
+            return struct.pack(f"{order}{len(samples)}{'B' if bits == 8 else 'H'}", *samples)
+        text = "".join("1" if sample else "0" for sample in samples)
         text += "0" * (-len(text) % 8)
         return bytes(int(text[at:at + 8], 2) for at in range(0, len(text), 8))
 
     pieces = []
     if tile:
-        fill = [99] * channels if bits == 8 else [1]
+        fill = [99] * channels if bits > 1 else [1]
         for y in range(0, height, tile):
             for x in range(0, width, tile):
                 lines = [list(row[x:x + tile]) for row in rows[y:y + tile]]
@@ -43,19 +49,20 @@ def plain(rows, channels, bits, tile, strip):
     lists = 8 + len(data)
     counts = lists + 4 * len(pieces)
     depth = counts + 4 * len(pieces)
-    data += struct.pack(f"<{len(pieces)}I", *places) + struct.pack(f"<{len(pieces)}I", *map(len, pieces)) + struct.pack("<4H", 8, 8, 8, 0)
+    data += struct.pack(f"{order}{len(pieces)}I", *places) + struct.pack(f"{order}{len(pieces)}I", *map(len, pieces))
+    data += struct.pack(f"{order}4H", bits, bits, bits, 0)
 
     def entry(tag, kind, count, value):
-        return struct.pack("<HHI", tag, kind, count) + (struct.pack("<HH", value, 0) if kind == 3 and count == 1 else struct.pack("<I", value))
+        return struct.pack(f"{order}HHI", tag, kind, count) + struct.pack(*((f"{order}HH", value, 0) if kind == 3 and count == 1 else (f"{order}I", value)))
 
     one = len(pieces) == 1
-    entries = [(256, 4, 1, width), (257, 4, 1, height), (258, 3, channels, depth if channels == 3 else bits), (262, 3, 1, 2 if channels == 3 else 1),
+    entries = [(256, 4, 1, width), (257, 4, 1, height), (258, 3, channels, depth if channels == 3 else bits), (262, 3, 1, 2 if channels == 3 else 1 - inverted),
                (277, 3, 1, channels)]
     where, length = (324, 325) if tile else (273, 279)
     entries += [(where, 4, len(pieces), places[0] if one else lists), (length, 4, len(pieces), len(pieces[0]) if one else counts)]
     entries += [(322, 4, 1, tile), (323, 4, 1, tile)] if tile else [(278, 4, 1, strip)]
-    directory = struct.pack("<H", len(entries)) + b"".join(entry(*it) for it in sorted(entries)) + bytes(4)
-    return struct.pack("<2sHI", b"II", 42, 8 + len(data)) + data + directory
+    directory = struct.pack(f"{order}H", len(entries)) + b"".join(entry(*it) for it in sorted(entries)) + bytes(4)
+    return struct.pack(f"{order}2sHI", b"II" if order == "<" else b"MM", 42, 8 + len(data)) + data + directory
 
 
 def scaled(rows, c, d, channels):
@@ -79,14 +86,16 @@ def turned(rows, mirror, quarters):
 
 
 def strip_of(rows, quality, bits):
-    """The bytes of the answer's strip."""
+    """The bytes of the answer's strip: of pictures with 16 bits two bytes a sample, the low one first."""
     if len(rows[0][0]) == 3 and quality in ("gray", "bitonal"):
         rows = [[[(299 * r + 587 * g + 114 * b + 500) // 1000] for r, g, b in row] for row in rows]
     if quality != "bitonal":
-        return bytes(sample for row in rows for place in row for sample in place)
+        samples = [sample for row in rows for place in row for sample in place]
+        return struct.pack(f"<{len(samples)}{'H' if bits == 16 else 'B'}", *samples)
     out = b""
+    white = 32768 if bits == 16 else 128
     for row in rows:
-        text = "".join("1" if place[0] >= 128 else "0" for place in row)
+        text = "".join("1" if place[0] >= white else "0" for place in row)
         text += "0" * (-len(text) % 8)
         out += bytes(int(text[at:at + 8], 2) for at in range(0, len(text), 8))
     return out
@@ -94,18 +103,19 @@ def strip_of(rows, quality, bits):
 
 def main():
     program, count, seed = sys.argv[1], int((sys.argv[2:] or [2000])[0]), int((sys.argv[3:] or [1])[0])
+    kinds = [(1, 16), (3, 16)] if sys.argv[4:] == ["sixteen"] else [(1, 8), (3, 8), (1, 1), (1, 16), (3, 16)]
     random.seed(seed)
     wrong = asked = 0
     with tempfile.TemporaryDirectory() as room:
         path = os.path.join(room, "a.tif")
         while asked < count:
-            channels, bits = random.choice([(1, 8), (3, 8), (1, 1)])
+            channels, bits = random.choice(kinds)
             width, height = random.randint(1, 70), random.randint(1, 70)
-            top = 255 if bits == 8 else 1
+            top = 2 ** bits - 1
             rows = [[[random.randint(0, top) for _ in range(channels)] for _ in range(width)] for _ in range(height)]
             tile = random.choice([0, 16, 32, 48])
             with open(path, "wb") as file:
-                file.write(plain(rows, channels, bits, tile, random.randint(1, height)))
+                file.write(plain(rows, channels, bits, tile, random.randint(1, height), random.choice("<>"), channels == 1 and random.random() < 0.3))
             if bits == 1:
                 rows = [[[255 * place[0]] for place in row] for row in rows]
             for _ in range(20):

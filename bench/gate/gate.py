@@ -1,0 +1,90 @@
+#!/usr/bin/env python3
+"""Runs the gate (`rt ci`) and prints, as a table of Markdown, what each crate cost: processor seconds of its proof, of the
+proof of its tests and of its must-fail edits, and the most memory that one of its checks held.
+
+    bench/gate/gate.py [FOLDER] [--jobs N]
+
+FOLDER is the top of a checkout (by default this one). The numbers are read from /proc five times a second, so each check may
+miss its last fifth of a second; the sum in the last line is the system's own and misses nothing. Run it with nothing else
+running: then the time is the gate's too.
+"""
+import argparse
+import collections
+import os
+import resource
+import signal
+import subprocess
+import sys
+import time
+
+MARK = "LIFTHORG_GATE"
+TICKS = os.sysconf("SC_CLK_TCK")
+PAGE = os.sysconf("SC_PAGE_SIZE")
+
+
+def kind_of(pid, words):
+    """The crate and the lane that a process works for."""
+    if "--crate-name" not in words:
+        return None
+    crate = words[words.index("--crate-name") + 1]
+    if os.readlink(f"/proc/{pid}/cwd").startswith("/tmp/rt-edit-"):
+        return crate, "edits"
+    return crate, "tests" if "--test" in words else "proof"
+
+
+def read(pid, value):
+    """What a process of this run is for, its processor seconds so far and its memory; None for others."""
+    with open(f"/proc/{pid}/environ", "rb") as it:
+        if value not in it.read().split(b"\0"):
+            return None
+    with open(f"/proc/{pid}/cmdline", "rb") as it:
+        words = it.read().decode(errors="replace").split("\0")
+    with open(f"/proc/{pid}/stat") as it:
+        fields = it.read().rsplit(")", 1)[1].split()
+    kind = kind_of(pid, words)
+    return (kind, (int(fields[11]) + int(fields[12])) / TICKS, int(fields[21]) * PAGE, fields[19]) if kind else None
+
+
+def main():
+    parser = argparse.ArgumentParser(description=__doc__.split("\n")[0])
+    parser.add_argument("folder", nargs="?", default=os.path.dirname(os.path.dirname(os.path.dirname(os.path.abspath(__file__)))))
+    parser.add_argument("--jobs", help="how many checks side by side (RT_JOBS)")
+    parser.add_argument("--log", default="/tmp/gate.log", help="where the gate's own output goes")
+    given = parser.parse_args()
+    # Stopped early it ends the gate and says what was measured by then.
+    signal.signal(signal.SIGTERM, lambda *_: gate.terminate())
+    mark = str(os.getpid())
+    env = {**os.environ, MARK: mark, **({"RT_JOBS": given.jobs} if given.jobs else {})}
+    start, cost, memory = time.time(), {}, collections.Counter()
+    with open(given.log, "w") as log:
+        gate = subprocess.Popen(["rt", "ci"], cwd=given.folder, env=env, stdout=log, stderr=subprocess.STDOUT)
+        while gate.poll() is None:
+            for pid in filter(str.isdigit, os.listdir("/proc")):
+                try:
+                    found = read(pid, f"{MARK}={mark}".encode())
+                except OSError:
+                    continue
+                if found:
+                    kind, seconds, held, begun = found
+                    cost[pid, begun] = (kind, seconds)
+                    memory[kind[0]] = max(memory[kind[0]], held)
+            time.sleep(0.2)
+    used = resource.getrusage(resource.RUSAGE_CHILDREN)
+    sums = collections.defaultdict(collections.Counter)
+    for kind, seconds in cost.values():
+        sums[kind[0]][kind[1]] += seconds
+    print("| Crate | Proof | Tests | Edits | Together | Memory, MiB |\n|---|---:|---:|---:|---:|---:|")
+    for crate, lanes in sorted(sums.items(), key=lambda it: -sum(it[1].values())):
+        row = [lanes["proof"], lanes["tests"], lanes["edits"], sum(lanes.values())]
+        print(f"| `{crate}` | {' | '.join(f'{it:.0f}' for it in row)} | {memory[crate] / 2**20:.0f} |")
+    total = {lane: sum(it[lane] for it in sums.values()) for lane in ("proof", "tests", "edits")}
+    print(f"| all | {total['proof']:.0f} | {total['tests']:.0f} | {total['edits']:.0f} | {sum(total.values()):.0f} | |")
+    with open(given.log) as log:
+        last = log.read().rstrip("\n").split("\n")[-1]
+    print(f"\n{last}; {(time.time() - start) / 60:.1f} minutes, {used.ru_utime + used.ru_stime:.0f} processor seconds, "
+          f"{os.cpu_count()} processors")
+    return gate.returncode
+
+
+if __name__ == "__main__":
+    sys.exit(main())
