@@ -72,11 +72,7 @@ fn hot_of(alloc: Global, cache: &Cache) -> Result<Vec<u32>, Fail> {
 /// The value that is kept under a number, which comes to the front.
 fn got(alloc: Global, cache: &mut Cache, number: u32) -> Result<Option<u32>, Fail> {
     let key = sample(alloc, number)?;
-    Ok(
-        cache
-            .get(&key)
-            .map(|entry: &Entry<Sample, Lax>| -> u32 { u32::from(**entry.value()) }),
-    )
+    Ok(cache.get(&key).map(|entry: &Entry<Sample, Lax>| -> u32 { u32::from(**entry.value()) }))
 }
 
 #[test]
