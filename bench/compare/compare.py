@@ -7,18 +7,21 @@ Needs numpy and Pillow, `vips` (libvips-tools), `gdal_translate` (gdal-bin) and 
 and kept in --work. The exact averages are worked out from the formula alone, by integrals over whole numbers, and the answers of
 the program and of the plain one are compared with them byte for byte. The others scale in ways of their own (libvips by `crop`
 and `shrink`, and by `thumbnail`; GDAL by `-r average`, which gives bits of bits): how far their samples are from the exact averages
-is printed, not judged. Each job is run by every program in turn, --rounds times, and the medians are printed: wall clock,
-processor time of all threads, and the peak of the resident memory. With --before, another build of the program runs beside it. Where
-`strace` is there, the reads of the source that a job takes are counted in a run of their own.
+is printed, not judged. Each job is run by every program in turn, --rounds times (libvips three times), and the medians are printed:
+wall clock and processor time of all threads. A job that keeps its size is so short that the program, the build before and the plain
+program do it ten times a round. The peak of the resident memory is taken in seven runs of its own (of the others three). With --before, another build of the
+program runs beside it, on the jobs of 8 bits and of bits where it reads no others. With --reads, `strace` counts the reads of the source
+that a job takes, in a run of its own.
 
-The status is 1 where an answer of the program differs or a program fails, and with --strict also where the program's memory passes
-its bound: 9 bytes for each sample of a scaled result (its sum and itself), 2 for one of a result that isn't scaled (itself, and in the
-answer), and 4 MiB.
+The status is 1 where an answer of the program differs or a program fails, and with --strict also where a limit is passed. Memory: 9
+bytes for each sample of a scaled result (its sum and itself), 2 for one of a result that isn't scaled (itself, and in the answer), a
+byte or two more where a sample has 16 bits, and 4 MiB. Processor time: on 8 bits and on bits 1.05 of the build before, on 16 bits 1.5 of
+plain Rust's and 1.0 of GDAL's average. Peak memory: that of the build before, and 128 KiB by which equal runs differ.
 """
 import argparse
+import concurrent.futures
 import os
 import re
-import shutil
 import statistics
 import struct
 import subprocess
@@ -45,14 +48,19 @@ class Source:
         k = np.arange(self.channels, dtype=np.int64)[None, None, :]
         middle = self.side // 2
         rings = (column - middle) ** 2 + (row - middle) ** 2 >> self.shift
-        value = (rings + 37 * ((column >> 6 ^ row >> 6) & 1) + 85 * k) & 255
+        unit = 257 if self.bits == 16 else 1
+        value = (rings + 37 * unit * ((column >> 6 ^ row >> 6) & 1) + 85 * unit * k) & 255 * unit
         return np.where(value >= 128, 255, 0) if self.bits == 1 else value
 
     def packed(self, samples):
         """Rows of samples as they stand in a file."""
         if self.bits == 1:
             return np.packbits(samples[:, :, 0] > 0, axis=1).tobytes()
-        return samples.astype(np.uint8).tobytes()
+        return samples.astype(self.held()).tobytes()
+
+    def held(self):
+        """The type of a sample in an answer."""
+        return np.dtype("<u2" if self.bits == 16 else "u1")
 
     def write(self, path):
         """The file: strips of `rows` rows, or tiles with a side of `tile` that are padded with 99."""
@@ -98,6 +106,9 @@ SOURCES = [
     Source("gray-strips", 10_000, 12),
     Source("rgb-strips", 8_000, 12, channels=3),
     Source("bits-strips", 20_000, 14, bits=1),
+    Source("gray16-tiles", 10_000, 4, bits=16, tile=256),
+    Source("gray16-strips", 10_000, 4, bits=16),
+    Source("rgb16-tiles", 8_000, 4, channels=3, bits=16, tile=256),
 ]
 
 # The programs whose answers are to be equal to the exact averages.
@@ -115,6 +126,14 @@ JOBS = [
     ("4,096 square to 256 wide, from strips", 1, (2048, 2048, 4096, 4096), 256),
     ("RGB 8,000 square in strips, to 1,024 wide", 2, (0, 0, 8_000, 8_000), 1024),
     ("bilevel 20,000 square in strips, to 1,024 wide", 3, (0, 0, 20_000, 20_000), 1024),
+    ("16 bits: gray 10,000 square in tiles, to 1,024 wide", 4, (0, 0, 10_000, 10_000), 1024),
+    ("16 bits: gray 10,000 square in strips, to 1,024 wide", 5, (0, 0, 10_000, 10_000), 1024),
+    ("16 bits: gray 10,000 square in tiles, to 256 wide", 4, (0, 0, 10_000, 10_000), 256),
+    ("16 bits: a tile of 256 square, from tiles", 4, (5120, 5120, 256, 256), 256),
+    ("16 bits: a tile of 256 square, from strips", 5, (5120, 5120, 256, 256), 256),
+    ("16 bits: 4,096 square to 256 wide, from tiles", 4, (2048, 2048, 4096, 4096), 256),
+    ("16 bits: 4,096 square to 256 wide, from strips", 5, (2048, 2048, 4096, 4096), 256),
+    ("16 bits: RGB 8,000 square in tiles, to 1,024 wide", 6, (0, 0, 8_000, 8_000), 1024),
 ]
 
 
@@ -135,7 +154,7 @@ def exact(source, rect, size):
     """The exact averages of a rectangle of the formula's picture, to the nearest, a half up."""
     x, y, w, h = rect
     if w == size:
-        return source.samples(*rect).astype(np.uint8)
+        return source.samples(*rect).astype(source.held())
     rows = np.empty((source.channels, size, h), np.int64)
     for top in range(0, h, 64):
         count = min(64, h - top)
@@ -143,18 +162,18 @@ def exact(source, rect, size):
         for k in range(source.channels):
             rows[k, :, top:top + count] = along_last(band[:, :, k], size).T
     sums = np.stack([along_last(rows[k], size).T for k in range(source.channels)], axis=2)
-    return ((2 * sums + w * h) // (2 * w * h)).astype(np.uint8)
+    return ((2 * sums + w * h) // (2 * w * h)).astype(source.held())
 
 
 def answer_file(samples):
     """The answer's bytes: TIFF 6.0, low byte first, twelve entries at 8, one strip."""
     height, width, channels = samples.shape
-    rgb = channels == 3
-    entries = [(256, 4, 1, width), (257, 4, 1, height), (258, 3, 3, 174) if rgb else (258, 3, 1, 8), (259, 3, 1, 1),
+    rgb, depth = channels == 3, 8 * samples.itemsize
+    entries = [(256, 4, 1, width), (257, 4, 1, height), (258, 3, 3, 174) if rgb else (258, 3, 1, depth), (259, 3, 1, 1),
                (262, 3, 1, 2 if rgb else 1), (273, 4, 1, 180 if rgb else 174), (277, 3, 1, channels), (278, 4, 1, height),
-               (279, 4, 1, samples.size), (282, 5, 1, 158), (283, 5, 1, 166), (296, 3, 1, 1)]
+               (279, 4, 1, samples.nbytes), (282, 5, 1, 158), (283, 5, 1, 166), (296, 3, 1, 1)]
     head = b"II*\0\x08\0\0\0" + struct.pack("<H", 12) + b"".join(struct.pack("<HHII", *entry) for entry in entries)
-    head += bytes(4) + struct.pack("<4I", 1, 1, 1, 1) + (struct.pack("<3H", 8, 8, 8) if rgb else b"")
+    head += bytes(4) + struct.pack("<4I", 1, 1, 1, 1) + (struct.pack("<3H", depth, depth, depth) if rgb else b"")
     return head + samples.tobytes()
 
 
@@ -173,7 +192,7 @@ def programs(args, job):
         "the build before": [[args.before, "--base", "http://localhost/iiif", "--one", target, "a=" + path]],
         "plain Rust": [[args.plain, path, x, y, w, h, str(size), str(size), answer_path(args, job, "plain Rust")]],
     }
-    if not args.before:
+    if not args.before or source.bits == 16:
         del lines["the build before"]
     out, between = answer_path(args, job, "libvips"), answer_path(args, job, "libvips") + ".v"
     if native:
@@ -181,7 +200,8 @@ def programs(args, job):
     elif whole:
         lines["libvips"] = [["vips", "shrink", path, out, factor, factor]]
         thumbnail = answer_path(args, job, "libvips thumbnail")
-        lines["libvips thumbnail"] = [["vips", "thumbnail", path, thumbnail, str(size), "--height", str(size), "--size", "force"]]
+        if source.bits < 16:  # of 16 bits it makes 8
+            lines["libvips thumbnail"] = [["vips", "thumbnail", path, thumbnail, str(size), "--height", str(size), "--size", "force"]]
     else:
         lines["libvips"] = [["vips", "crop", path, between, x, y, w, h], ["vips", "shrink", between, out, factor, factor]]
     out = answer_path(args, job, "GDAL")
@@ -192,25 +212,37 @@ def programs(args, job):
     return {name: line for name, line in lines.items() if name.split(" ")[0] not in args.without}
 
 
-def run(commands, out):
-    """Runs the commands one after the other: wall clock and processor time in seconds, peak memory in KiB of the largest."""
-    wall = cpu = peak = 0
+def run(commands, out, repeat=1):
+    """Runs the commands one after the other, and all so often: wall clock and processor time in seconds of each time."""
+    times = []
+    for _ in range(repeat):
+        wall = cpu = 0
+        for command in commands:
+            own = command[-1].startswith("a=")
+            with open(out if own else os.devnull, "wb") as stdout, open(out + ".err", "wb") as errors:
+                start = time.perf_counter()
+                child = subprocess.Popen(command, stdout=stdout, stderr=errors)
+                _, status, usage = os.wait4(child.pid, 0)
+                wall += time.perf_counter() - start
+            child.returncode = os.waitstatus_to_exitcode(status)
+            if child.returncode:
+                with open(out + ".err", errors="replace") as errors:
+                    sys.exit(f"{' '.join(command)}\nstatus {child.returncode}: {errors.read()}")
+            cpu += usage.ru_utime + usage.ru_stime
+        times.append((wall, cpu))
+    return times
+
+
+def peak(commands, out):
+    """The peak of resident memory in KiB, of the largest of the commands, by a small parent that doesn't add its own."""
+    most = 0
     for command in commands:
-        own = command[-1].startswith("a=")
-        with open(out if own else os.devnull, "wb") as stdout, open(out + ".err", "wb") as errors:
-            start = time.perf_counter()
+        with open(os.devnull, "wb") as nowhere:
             timed = ["/usr/bin/time", "-q", "-o", out + ".time", "-f", "%M", *command]
-            child = subprocess.Popen(timed, stdout=stdout, stderr=errors)
-            _, status, usage = os.wait4(child.pid, 0)
-            wall += time.perf_counter() - start
-        child.returncode = os.waitstatus_to_exitcode(status)
-        if child.returncode:
-            with open(out + ".err", errors="replace") as errors:
-                sys.exit(f"{' '.join(command)}\nstatus {child.returncode}: {errors.read()}")
-        cpu += usage.ru_utime + usage.ru_stime
+            subprocess.run(timed, stdout=nowhere, stderr=nowhere, check=True)
         with open(out + ".time") as peaks:
-            peak = max(peak, int(peaks.read().split()[-1]))
-    return wall, cpu, peak
+            most = max(most, int(peaks.read().split()[-1]))
+    return most
 
 
 def reads(command, out):
@@ -225,8 +257,12 @@ def reads(command, out):
 
 def difference(out, wanted):
     """How far another program's samples are from the exact averages: in the mean, and at most."""
-    with Image.open(out) as image:
-        got = np.asarray(image.convert("RGB" if wanted.shape[2] == 3 else "L")).reshape(wanted.shape).astype(int)
+    if wanted.itemsize == 2:
+        subprocess.run(["vips", "rawsave", out, out + ".raw"], check=True)
+        got = np.fromfile(out + ".raw", "<u2").reshape(wanted.shape).astype(int)
+    else:
+        with Image.open(out) as image:
+            got = np.asarray(image.convert("RGB" if wanted.shape[2] == 3 else "L")).reshape(wanted.shape).astype(int)
     away = np.abs(got - wanted.astype(int))
     return f"{away.mean():.2f}, {away.max()}" if away.any() else "equal"
 
@@ -253,19 +289,9 @@ def load():
     return " ".join(f"{number:.1f}" for number in os.getloadavg())
 
 
-def main():
-    parser = argparse.ArgumentParser(description=__doc__, formatter_class=argparse.RawDescriptionHelpFormatter)
-    parser.add_argument("--program", required=True, help="the proved program")
-    parser.add_argument("--before", help="another build of the proved program, to run beside it")
-    parser.add_argument("--plain", required=True, help="main.rs of this folder, built by rustc -O")
-    parser.add_argument("--work", default="/tmp/iiif_compare", help="where the sources and answers are kept, about 500 MB")
-    parser.add_argument("--rounds", type=int, default=5)
-    parser.add_argument("--jobs", default="", help="only jobs whose name has this pattern")
-    parser.add_argument("--without", nargs="*", default=[], help="libvips, GDAL, plain: programs to leave out")
-    parser.add_argument("--strict", action="store_true", help="status 1 where the program's memory passes its bound")
-    args = parser.parse_args()
-    os.makedirs(args.work, exist_ok=True)
-    jobs = [job for job, (name, *_) in enumerate(JOBS) if re.search(args.jobs, name)]
+def prepared(args, jobs):
+    """The sources of the jobs, written where they aren't there and read once, so that every program finds them in memory; and the exact
+    answer of each job."""
     wanted = {}
     for job in jobs:
         _, number, rect, size = JOBS[job]
@@ -273,50 +299,114 @@ def main():
         path = os.path.join(args.work, source.name + ".tif")
         if not os.path.exists(path):
             source.write(path)
-        kept = os.path.join(args.work, f"exact{job}.npy")
+        kept = os.path.join(args.work, f"exact-{source.name}-{'-'.join(map(str, rect))}-{size}.npy")
         if not os.path.exists(kept):
             np.save(kept, exact(source, rect, size))
         wanted[job] = np.load(kept)
         with open(path, "rb") as file:
             while file.read(1 << 24):
-                pass  # so that every program finds the file in memory
+                pass
+    return wanted
+
+
+def measured(args, jobs, wanted):
+    """The medians of each job and program (wall clock, processor time, peak memory), and whether an answer was wrong."""
+    times, peaks, wrong = {}, {}, False
+    for turn in range(args.rounds):
+        for job in jobs:
+            for name, commands in programs(args, job).items():
+                if turn >= 3 and name.startswith("libvips"):
+                    continue
+                out = answer_path(args, job, name)
+                short = name in OWN and JOBS[job][2][2] == JOBS[job][3]
+                times.setdefault((job, name), []).extend(run(commands, out, 10 if short else 1))
+                if turn == 0 and name in OWN:
+                    with open(out, "rb") as file:
+                        if file.read() != answer_file(wanted[job]):
+                            wrong = True
+                            print(f"{JOBS[job][0]}: {name} differs from the exact averages", file=sys.stderr)
+    with concurrent.futures.ThreadPoolExecutor(os.cpu_count()) as pool:
+        for job, name in times:
+            commands, out = programs(args, job)[name], answer_path(args, job, name)
+            runs = 7 if name in OWN else 3
+            peaks[job, name] = pool.submit(lambda runs, commands, out: [peak(commands, out) for _ in range(runs)], runs, commands, out)
+    return {key: [statistics.median(column) for column in zip(*runs)] + [statistics.median(peaks[key].result())]
+            for key, runs in times.items()}, wrong
+
+
+def limits(jobs, medians, wanted):
+    """A table of the ratios of processor time and of peak memory that have limits; the names of those that pass them."""
+    passed = []
+
+    def ratio(job, other, at, limit):
+        if (job, other) not in medians:
+            return ""
+        value = medians[job, "this program"][at] / medians[job, other][at]
+        over = limit is not None and value > limit
+        if over:
+            passed.append(f"{JOBS[job][0]}: {value:.2f} of {other}, above {limit:.2f}")
+        return f"{value:.2f}{' (!)' if over else ''}"
+
+    print("\n**Beside the limits: processor time, and peak memory**\n")
+    print("| Job | time beside the build before | beside plain Rust | beside GDAL | memory beside the build before |\n|---|---|---|---|---|")
+    for job in jobs:
+        name, number, rect, size = JOBS[job]
+        deep = SOURCES[number].bits == 16
+        before = medians.get((job, "the build before"))
+        cells = [ratio(job, "the build before", 1, 1.05), ratio(job, "plain Rust", 1, 1.5 if deep else None),
+                 ratio(job, "GDAL", 1, 1.0 if deep else None), ratio(job, "the build before", 2, 1 + 128 / before[2] if before else None)]
+        print(f"| {name} | {' | '.join(cells)} |")
+    print("\n**Memory of this program, MiB**\n\n| Job | the region's samples | bytes a sample of the result | those of the result | peak |\n|---|---|---|---|---|")
+    for job in jobs:
+        name, number, rect, size = JOBS[job]
+        held, most = wanted[job].itemsize, medians[job, "this program"][2] / 1024
+        each = 2 * held if size == rect[2] else 8 + held
+        raster, result = rect[2] * rect[3] * SOURCES[number].channels * held / 2**20, each * wanted[job].size / 2**20
+        print(f"| {name} | {raster:.1f} | {each} | {result:.1f} | {most:.1f} |")
+        if most > result + 4:
+            passed.append(f"{name}: {most:.1f} MiB are more than the bound")
+    return passed
+
+
+def compare(args):
+    os.makedirs(args.work, exist_ok=True)
+    jobs = [job for job, (name, *_) in enumerate(JOBS) if re.search(args.jobs, name)]
+    wanted = prepared(args, jobs)
     with open("/proc/cpuinfo") as info:
         model = re.search("model name\t: (.*)", info.read())[1]
     print(f"{os.cpu_count()} processors, {model}; {version(['vips', '--version'])}; {version(['gdal_translate', '--version'])};",
           f"{version(['rustc', '--version'])}; {args.rounds} rounds; load before: {load()}")
-    results, failed = {}, False
-    for turn in range(args.rounds):
-        for job in jobs:
-            for name, commands in programs(args, job).items():
-                out = answer_path(args, job, name)
-                results.setdefault((job, name), []).append(run(commands, out))
-                if turn == 0 and name in OWN:
-                    with open(out, "rb") as file:
-                        if file.read() != answer_file(wanted[job]):
-                            failed = True
-                            print(f"{JOBS[job][0]}: {name} differs from the exact averages", file=sys.stderr)
+    medians, failed = measured(args, jobs, wanted)
     print(f"load after: {load()}")
-    medians = {key: [statistics.median(column) for column in zip(*runs)] for key, runs in results.items()}
-    table("Wall clock, ms", jobs, medians, lambda job, name, times: f"{times[0] * 1000:.0f}")
-    table("Processor time of all threads, ms (and beside plain Rust's)", jobs, medians, lambda job, name, times: f"{times[1] * 1000:.0f}" + (
+    table("Wall clock, ms", jobs, medians, lambda job, name, times: f"{times[0] * 1000:.1f}")
+    table("Processor time of all threads, ms (and beside plain Rust's)", jobs, medians, lambda job, name, times: f"{times[1] * 1000:.1f}" + (
         f" ({times[1] / medians[job, 'plain Rust'][1]:.2f})" if (job, "plain Rust") in medians and name != "plain Rust" else ""))
     table("Peak memory, MiB", jobs, medians, lambda job, name, times: f"{times[2] / 1024:.1f}")
     table("How far samples are from the exact averages: in the mean, at most", jobs, medians, lambda job, name, times: (
         "equal" if name in OWN else difference(answer_path(args, job, name), wanted[job])))
-    if shutil.which("strace"):
-        counts = {key: reads(programs(args, key[0])[key[1]][0], answer_path(args, *key)) for key in medians if key[1] in OWN[:2]}
+    if args.reads:
+        with concurrent.futures.ThreadPoolExecutor(os.cpu_count()) as pool:
+            keys = [key for key in medians if key[1] in OWN[:2]]
+            counts = dict(zip(keys, pool.map(lambda key: reads(programs(args, key[0])[key[1]][0], answer_path(args, *key)), keys)))
         table("Reads of the source", jobs, counts, lambda job, name, count: f"{count:,}")
-    print("\n**Memory of this program, MiB**\n\n| Job | the region's samples | bytes a sample of the result | those of the result | peak |\n|---|---|---|---|---|")
-    for job in jobs:
-        name, number, rect, size = JOBS[job]
-        if (job, "this program") in medians:
-            peak, each = medians[job, "this program"][2] / 1024, 2 if size == rect[2] else 9
-            raster, result = rect[2] * rect[3] * SOURCES[number].channels / 2**20, each * wanted[job].size / 2**20
-            print(f"| {name} | {raster:.1f} | {each} | {result:.1f} | {peak:.1f} |")
-            if peak > result + 4:
-                failed |= args.strict
-                print(f"{name}: {peak:.1f} MiB are more than the bound", file=sys.stderr)
-    return 1 if failed else 0
+    passed = limits(jobs, medians, wanted)
+    for line in passed:
+        print(line, file=sys.stderr)
+    return 1 if failed or (args.strict and passed) else 0
+
+
+def main():
+    parser = argparse.ArgumentParser(description=__doc__, formatter_class=argparse.RawDescriptionHelpFormatter)
+    parser.add_argument("--program", required=True, help="the proved program")
+    parser.add_argument("--before", help="another build of the proved program, to run beside it")
+    parser.add_argument("--plain", required=True, help="main.rs of this folder, built by rustc -O")
+    parser.add_argument("--work", default="/tmp/iiif_compare", help="where the sources and answers are kept, about 1.3 GB")
+    parser.add_argument("--rounds", type=int, default=7)
+    parser.add_argument("--jobs", default="", help="only jobs whose name has this pattern")
+    parser.add_argument("--without", nargs="*", default=[], help="libvips, GDAL, plain: programs to leave out")
+    parser.add_argument("--reads", action="store_true", help="count the reads of the source")
+    parser.add_argument("--strict", action="store_true", help="status 1 where a limit is passed")
+    return compare(parser.parse_args())
 
 
 if __name__ == "__main__":

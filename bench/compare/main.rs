@@ -1,7 +1,7 @@
 //! One region of an uncompressed TIFF file, scaled by exact area averaging and written as a TIFF file: the same work as the
 //! program does for `x,y,w,h/c,d/0/default.tif`, in plain Rust, to compare times and memory in one run. Built by `rustc -O`.
 //!
-//! `compare FILE x y w h c d OUT`. FILE has the low byte first, strips or tiles, gray or RGB of 8 bits or BlackIsZero bits; it is
+//! `compare FILE x y w h c d OUT`. FILE has the low byte first, strips or tiles, gray or RGB of 8 or 16 bits or BlackIsZero bits; it is
 //! taken at its word. One row of strips or tiles is held at a time.
 
 use std::fs::File;
@@ -16,6 +16,59 @@ struct Layout {
     tile_width: usize,
     tile_length: usize,
     offsets: Vec<u64>,
+}
+
+/// A sample of 8 or of 16 bits.
+trait Sample: Copy + Default + Into<u64> {
+    /// The samples of a row's bytes from a place on, of a file with so many bits a sample.
+    fn unpack(bits: usize, line: &[u8], from: usize, samples: &mut [Self]);
+
+    /// The low bits of a number.
+    fn low(number: u64) -> Self;
+
+    /// Samples as they stand in the answer.
+    fn put(samples: &[Self], out: &mut impl Write) -> Result<()>;
+}
+
+impl Sample for u8 {
+    fn unpack(bits: usize, line: &[u8], from: usize, samples: &mut [u8]) {
+        if bits == 8 {
+            samples.copy_from_slice(&line[from..from + samples.len()]);
+        } else {
+            for (x, sample) in (from..).zip(samples) {
+                *sample = (line[x / 8] >> (7 - x % 8) & 1) * 255;
+            }
+        }
+    }
+
+    fn low(number: u64) -> u8 {
+        number as u8
+    }
+
+    fn put(samples: &[u8], out: &mut impl Write) -> Result<()> {
+        out.write_all(samples)
+    }
+}
+
+impl Sample for u16 {
+    fn unpack(_: usize, line: &[u8], from: usize, samples: &mut [u16]) {
+        let bytes = &line[2 * from..2 * (from + samples.len())];
+        for (sample, pair) in samples.iter_mut().zip(bytes.chunks_exact(2)) {
+            *sample = u16::from_le_bytes([pair[0], pair[1]]);
+        }
+    }
+
+    fn low(number: u64) -> u16 {
+        number as u16
+    }
+
+    fn put(samples: &[u16], out: &mut impl Write) -> Result<()> {
+        for some in samples.chunks(4096) {
+            let bytes: Vec<u8> = some.iter().flat_map(|v| v.to_le_bytes()).collect();
+            out.write_all(&bytes)?;
+        }
+        Ok(())
+    }
 }
 
 fn number(bytes: &[u8]) -> u64 {
@@ -81,18 +134,18 @@ struct Rect {
 }
 
 /// The rows from `y` on that stand in one row of strips or tiles, `rows` of them, in `samples`.
-fn read_rows(
+fn read_rows<T: Sample>(
     file: &File,
     l: &Layout,
     r: Rect,
     y: usize,
     rows: usize,
-    samples: &mut Vec<u8>,
+    samples: &mut Vec<T>,
 ) -> Result<()> {
     let per_row = (l.tile_width * l.channels * l.bits).div_ceil(8);
     let across = l.width.div_ceil(l.tile_width);
     let row = r.w * l.channels;
-    samples.resize(rows * row, 0);
+    samples.resize(rows * row, T::default());
     let mut bytes = Vec::new();
     for tile in r.x / l.tile_width..=(r.x + r.w - 1) / l.tile_width {
         let left = tile * l.tile_width;
@@ -106,14 +159,7 @@ fn read_rows(
             .zip(samples.chunks_exact_mut(row))
         {
             let samples = &mut samples[(from - r.x) * l.channels..(to - r.x) * l.channels];
-            if l.bits == 8 {
-                samples
-                    .copy_from_slice(&line[(from - left) * l.channels..(to - left) * l.channels]);
-            } else {
-                for (x, sample) in (from - left..).zip(samples) {
-                    *sample = (line[x / 8] >> (7 - x % 8) & 1) * 255;
-                }
-            }
+            T::unpack(l.bits, line, (from - left) * l.channels, samples);
         }
     }
     Ok(())
@@ -127,7 +173,13 @@ fn weight(i: usize, x: usize, a: usize, c: usize) -> u64 {
 }
 
 /// One row of the result, from the weighted sums of its columns.
-fn put_row(columns: &[u64], channels: usize, (a, b): (usize, usize), c: usize, out: &mut Vec<u8>) {
+fn put_row<T: Sample>(
+    columns: &[u64],
+    channels: usize,
+    (a, b): (usize, usize),
+    c: usize,
+    out: &mut Vec<T>,
+) {
     let area = (a * b) as u64;
     for i in 0..c {
         let (first, past) = (i * a / c, ((i + 1) * a).div_ceil(c));
@@ -141,17 +193,17 @@ fn put_row(columns: &[u64], channels: usize, (a, b): (usize, usize), c: usize, o
                         .map(|x| columns[x * channels + k])
                         .sum::<u64>();
             }
-            out.push(((2 * sum + area) / (2 * area)) as u8);
+            out.push(T::low((2 * sum + area) / (2 * area)));
         }
     }
 }
 
 /// The samples of the region, scaled to c by d.
-fn scaled(file: &File, l: &Layout, r: Rect, (c, d): (usize, usize)) -> Result<Vec<u8>> {
+fn scaled<T: Sample>(file: &File, l: &Layout, r: Rect, (c, d): (usize, usize)) -> Result<Vec<T>> {
     let row = r.w * l.channels;
     let mut out = Vec::with_capacity(c * d * l.channels);
     let mut columns = vec![0u64; row];
-    let mut samples = Vec::new();
+    let mut samples = Vec::<T>::new();
     let (mut y, mut j) = (0, 0);
     while y < r.h {
         let rows = (l.tile_length - (r.y + y) % l.tile_length).min(r.h - y);
@@ -163,7 +215,7 @@ fn scaled(file: &File, l: &Layout, r: Rect, (c, d): (usize, usize)) -> Result<Ve
                 loop {
                     let w = weight(j, y, r.h, d);
                     for (column, sample) in columns.iter_mut().zip(line) {
-                        *column += w * u64::from(*sample);
+                        *column += w * Into::<u64>::into(*sample);
                     }
                     if (j + 1) * r.h > (y + 1) * d {
                         break;
@@ -182,12 +234,12 @@ fn scaled(file: &File, l: &Layout, r: Rect, (c, d): (usize, usize)) -> Result<Ve
     Ok(out)
 }
 
-/// The file of a picture of 8 bits: one strip, low byte first, twelve entries.
-fn write(out: &str, (c, d): (usize, usize), channels: usize, samples: &[u8]) -> Result<()> {
+/// The file of a picture of 8 or 16 bits: one strip, low byte first, twelve entries.
+fn write<T: Sample>(out: &str, (c, d): (usize, usize), channels: usize, samples: &[T]) -> Result<()> {
     let mut out = BufWriter::new(File::create(out)?);
-    let (c, d, length) = (c as u32, d as u32, samples.len() as u32);
-    let rgb = channels == 3;
-    let bits = if rgb { (3, 174) } else { (1, 8) };
+    let (c, d, length) = (c as u32, d as u32, size_of_val(samples) as u32);
+    let (rgb, depth) = (channels == 3, 8 * size_of::<T>() as u8);
+    let bits = if rgb { (3, 174) } else { (1, u32::from(depth)) };
     let entries: [(u16, u16, u32, u32); 12] = [
         (256, 4, 1, c),
         (257, 4, 1, d),
@@ -210,9 +262,9 @@ fn write(out: &str, (c, d): (usize, usize), channels: usize, samples: &[u8]) -> 
     out.write_all(&[0; 4])?;
     out.write_all(&[1, 0, 0, 0].repeat(4))?;
     if rgb {
-        out.write_all(&[8, 0, 8, 0, 8, 0])?;
+        out.write_all(&[depth, 0, depth, 0, depth, 0])?;
     }
-    out.write_all(samples)?;
+    T::put(samples, &mut out)?;
     out.flush()
 }
 
@@ -230,6 +282,12 @@ fn main() -> Result<()> {
         w: n[2],
         h: n[3],
     };
-    let samples = scaled(&file, &layout, region, (n[4], n[5]))?;
-    write(&words[8], (n[4], n[5]), layout.channels, &samples)
+    let size = (n[4], n[5]);
+    if layout.bits == 16 {
+        let samples = scaled::<u16>(&file, &layout, region, size)?;
+        write(&words[8], size, layout.channels, &samples)
+    } else {
+        let samples = scaled::<u8>(&file, &layout, region, size)?;
+        write(&words[8], size, layout.channels, &samples)
+    }
 }

@@ -3,14 +3,14 @@
     /usr/bin/python3 bench/found/found.py --program crates/iiif_serve/out/iiif_serve
 
 Needs numpy, Pillow, tiffcp (libtiff-tools), vips (libvips-tools), gdal_translate and gdaladdo (gdal-bin) and ImageMagick's
-convert. Five small pictures (gray and RGB of 8 and of 16 bits, and bilevel, 203 by 151, whose sides no tile divides) are handed to each
-writer without loss, so that the samples that each file must show are known from the start; Pillow, or libvips where a sample has 16
-bits, decodes each accepted file too. An accepted file
-is asked for the whole image, for a region and for a scaled image, and each answer is compared with the known samples, cut and
-averaged by numpy over whole numbers. A refused file must end the program with status 2, nothing on standard output and the
-line `image a: N` on standard error. What must be refused, and by which number, stands in the table below, by the reading rules of
-docs/OPERATING.md. Prints a Markdown table of what was right, names on standard error
-what wasn't, and ends with status 1 where there is any.
+convert. Six small pictures (gray and RGB of 8 and of 16 bits, bilevel, and gray of 16 bits counted down from white, 203 by 151, whose sides
+no tile divides) are handed to each writer without loss, so that the samples that each file must show are known from the start; Pillow,
+or libvips where a sample has 16 bits, decodes each accepted file too. An accepted file is asked for the whole image, for a region, for
+a scaled image and for bits, and each answer is compared with the known samples, cut, averaged and packed by numpy over whole numbers.
+A refused file must end the program with status 2, nothing on standard output and the line `image a: N` on standard error. What must be
+refused, and by which number, stands in the tables below, by the reading rules of docs/OPERATING.md. Prints Markdown tables of what was
+right (all files by writer, and those of 16 bits by how their samples stand in them), names on standard error what wasn't, and ends
+with status 1 where there is any.
 """
 import argparse
 import io
@@ -29,7 +29,7 @@ W, H = 203, 151
 
 
 def pictures():
-    """Gray, RGB and bilevel (0 and 255), and gray and RGB of 16 bits, each h by w by channels."""
+    """Gray, RGB and bilevel (0 and 255), and of 16 bits gray, gray to be counted down from white, and RGB, each h by w by channels."""
     x, y = np.meshgrid(np.arange(W), np.arange(H))
     gray = (x * 7 + y * 13 + (x * y >> 5)) & 255
     rgb = np.stack([gray, (x * 3 + 20) & 255, (255 - y) & 255], axis=2)
@@ -37,16 +37,17 @@ def pictures():
     deep = (x * 331 + y * 977 + (x * y << 2)) & 65535
     deep_rgb = np.stack([deep, (x * 323 + 20) & 65535, (65535 - 401 * y) & 65535], axis=2)
     return {"gray": gray[:, :, None].astype(np.uint8), "rgb": rgb.astype(np.uint8), "bits": bits[:, :, None].astype(np.uint8),
-            "gray16": deep[:, :, None].astype(np.uint16), "rgb16": deep_rgb.astype(np.uint16)}
+            "gray16": deep[:, :, None].astype(np.uint16), "white16": deep[::-1, :, None].astype(np.uint16), "rgb16": deep_rgb.astype(np.uint16)}
 
 
-def plain(samples, bits=False):
-    """A plain file for the other programs to start from: one strip, low byte first."""
+def plain(samples, bits=False, white=False):
+    """A plain file for the other programs to start from: one strip, low byte first; counted down from white where that is wanted."""
     channels = samples.shape[2]
+    samples = np.iinfo(samples.dtype).max - samples if white else samples
     data = np.packbits(samples[:, :, 0] > 127, axis=1).tobytes() if bits else samples.tobytes()
     depth = 1 if bits else 8 * samples.itemsize
     entries = [(256, 4, 1, W), (257, 4, 1, H), (258, 3, channels, 134 if channels == 3 else depth), (259, 3, 1, 1),
-               (262, 3, 1, 2 if channels == 3 else 1), (273, 4, 1, 140), (277, 3, 1, channels), (278, 4, 1, H), (279, 4, 1, len(data)),
+               (262, 3, 1, 2 if channels == 3 else 0 if white else 1), (273, 4, 1, 140), (277, 3, 1, channels), (278, 4, 1, H), (279, 4, 1, len(data)),
                (284, 3, 1, 1)]
     head = b"II*\0\x08\0\0\0" + struct.pack("<H", 10) + b"".join(struct.pack("<HHII", *entry) for entry in entries)
     return head + bytes(4) + struct.pack("<3H", depth, depth, depth) + data
@@ -61,8 +62,11 @@ TIFFCP = [
     ("-c lzw", "gray", UNSUPPORTED), ("-c zip", "rgb", UNSUPPORTED), ("-c packbits", "bits", UNSUPPORTED),
     ("-c g4", "bits", UNSUPPORTED), ("-c g3", "bits", UNSUPPORTED), ("-c jpeg -t -w 64 -l 64", "gray", UNSUPPORTED),
     ("-8 -c none -s -r 16", "gray", NOT_TIFF), ("-8 -B -c none -t -w 64 -l 64", "rgb", NOT_TIFF),
-    ("-c none -s -r 16", "gray16", None), ("-c none -t -w 64 -l 64 -B", "gray16", None), ("-c none -s -r 7 -B", "rgb16", None),
-    ("-c none -t -w 64 -l 48", "rgb16", None), ("-c none -p separate -s -r 16", "rgb16", UNSUPPORTED), ("-c lzw", "gray16", UNSUPPORTED),
+    ("-c none -s -r 16 -L", "gray16", None), ("-c none -s -r 1 -B", "gray16", None), ("-c none -t -w 64 -l 64 -L", "gray16", None),
+    ("-c none -t -w 64 -l 48 -B", "gray16", None), ("-c none -s -r 1000 -L", "rgb16", None), ("-c none -s -r 7 -B", "rgb16", None),
+    ("-c none -t -w 64 -l 48 -L", "rgb16", None), ("-c none -t -w 256 -l 256 -B", "rgb16", None), ("-c none -s -r 16 -L", "white16", None),
+    ("-c none -s -r 7 -B", "white16", None), ("-c none -t -w 32 -l 48 -L", "white16", None), ("-c none -t -w 64 -l 64 -B", "white16", None),
+    ("-c lzw", "gray16", UNSUPPORTED), ("-c zip", "rgb16", UNSUPPORTED), ("-8 -c none -s -r 16", "gray16", NOT_TIFF),
 ]
 VIPS = [
     ("", "gray", None), ("", "rgb", None), ("--bitdepth 1", "bits", None), ("--tile --tile-width 64 --tile-height 64", "gray", None),
@@ -71,27 +75,44 @@ VIPS = [
     ("--bitdepth 4", "gray", UNSUPPORTED), ("--compression lzw", "gray", UNSUPPORTED), ("--compression deflate", "rgb", UNSUPPORTED),
     ("--compression jpeg", "rgb", UNSUPPORTED), ("--compression ccittfax4 --bitdepth 1", "bits", UNSUPPORTED),
     ("--bigtiff", "gray", NOT_TIFF),
-    ("", "gray16", None), ("--tile --tile-width 64 --tile-height 64", "rgb16", None), ("--miniswhite", "gray16", None),
-    ("--tile --pyramid", "gray16", None), ("--compression deflate", "rgb16", UNSUPPORTED),
+    ("", "gray16", None), ("", "rgb16", None), ("--tile --tile-width 128 --tile-height 64", "gray16", None),
+    ("--tile --tile-width 64 --tile-height 64", "rgb16", None), ("--miniswhite", "gray16", None),
+    ("--miniswhite --tile --tile-width 64 --tile-height 64", "gray16", None), ("--tile --pyramid", "gray16", None),
+    ("--compression deflate", "rgb16", UNSUPPORTED), ("--bigtiff", "rgb16", NOT_TIFF),
 ]
 GDAL = [
     ("", "gray", None), ("-co TILED=YES -co BLOCKXSIZE=64 -co BLOCKYSIZE=64", "gray", None), ("-co INTERLEAVE=PIXEL", "rgb", None),
     ("-co TILED=YES -co INTERLEAVE=PIXEL -co ENDIANNESS=BIG", "rgb", None), ("-co BLOCKYSIZE=1 -co ENDIANNESS=BIG", "gray", None),
     ("-co NBITS=1", "bits", None), ("-co PHOTOMETRIC=MINISWHITE", "gray", None), ("-co PROFILE=BASELINE -co TILED=YES", "rgb", None),
     ("-co INTERLEAVE=BAND", "rgb", UNSUPPORTED), ("-co ALPHA=YES -b 1 -b 1", "gray", UNSUPPORTED), ("-ot UInt16", "gray", None),
-    ("", "gray16", None), ("-co TILED=YES -co BLOCKXSIZE=64 -co BLOCKYSIZE=64 -co ENDIANNESS=BIG", "gray16", None),
-    ("-co INTERLEAVE=PIXEL -co ENDIANNESS=BIG", "rgb16", None), ("-co PHOTOMETRIC=MINISWHITE", "gray16", None),
-    ("-co INTERLEAVE=BAND", "rgb16", UNSUPPORTED), ("-ot Int16", "gray", UNSUPPORTED),
+    ("", "gray16", None), ("-co BLOCKYSIZE=3 -co ENDIANNESS=BIG", "gray16", None),
+    ("-co TILED=YES -co BLOCKXSIZE=64 -co BLOCKYSIZE=64", "gray16", None),
+    ("-co TILED=YES -co BLOCKXSIZE=64 -co BLOCKYSIZE=64 -co ENDIANNESS=BIG", "gray16", None),
+    ("-co INTERLEAVE=PIXEL", "rgb16", None), ("-co INTERLEAVE=PIXEL -co ENDIANNESS=BIG", "rgb16", None),
+    ("-co TILED=YES -co INTERLEAVE=PIXEL", "rgb16", None), ("-co TILED=YES -co INTERLEAVE=PIXEL -co ENDIANNESS=BIG", "rgb16", None),
+    ("-co PHOTOMETRIC=MINISWHITE", "gray16", None), ("-co PHOTOMETRIC=MINISWHITE -co ENDIANNESS=BIG", "gray16", None),
+    ("-co PHOTOMETRIC=MINISWHITE -co TILED=YES", "gray16", None),
+    ("-co PHOTOMETRIC=MINISWHITE -co TILED=YES -co BLOCKXSIZE=16 -co BLOCKYSIZE=16 -co ENDIANNESS=BIG", "gray16", None),
+    ("-co INTERLEAVE=BAND", "rgb16", UNSUPPORTED), ("-co NBITS=12 -scale 0 65535 0 4095", "gray16", UNSUPPORTED),
+    ("-co ALPHA=YES -b 1 -b 1", "gray16", UNSUPPORTED), ("-co COMPRESS=LZW", "rgb16", UNSUPPORTED),
+    ("-ot Int16", "gray", UNSUPPORTED), ("-ot UInt32", "gray16", UNSUPPORTED),
     ("-ot Float32", "gray", UNSUPPORTED), ("-ot Byte -b 1 -b 2", "rgb", UNSUPPORTED), ("-co COMPRESS=LZW", "gray", UNSUPPORTED),
     ("-co COMPRESS=DEFLATE -co TILED=YES", "rgb", UNSUPPORTED), ("-co COMPRESS=PACKBITS", "gray", UNSUPPORTED),
     ("-co BIGTIFF=YES", "gray", NOT_TIFF),
 ]
 MAGICK = [
     ("-compress none", "gray", None), ("-compress none", "rgb", None), ("-compress none -type bilevel", "bits", None),
-    ("-compress none -endian MSB", "rgb", None), ("-compress none -define tiff:rows-per-strip=5", "gray", None),
-    ("-compress none -define tiff:tile-geometry=64x64", "gray", None), ("-compress none -define tiff:tile-geometry=64x32 -endian MSB", "rgb", None),
+    ("-compress none -define tiff:endian=msb", "rgb", None), ("-compress none -define tiff:rows-per-strip=5", "gray", None),
+    ("-compress none -define tiff:tile-geometry=64x64", "gray", None), ("-compress none -define tiff:tile-geometry=64x32 -define tiff:endian=msb", "rgb", None),
     ("-compress none -orient right-top", "gray", UNSUPPORTED), ("-compress none -depth 16", "gray16", None),
-    ("-compress none -depth 16 -endian MSB -define tiff:tile-geometry=64x64", "rgb16", None), ("-compress zip", "rgb16", UNSUPPORTED),
+    ("-compress none -depth 16 -define tiff:endian=msb", "gray16", None), ("-compress none -depth 16", "rgb16", None),
+    ("-compress none -depth 16 -define tiff:endian=msb -define tiff:rows-per-strip=9", "rgb16", None),
+    ("-compress none -depth 16 -define tiff:tile-geometry=64x32", "gray16", None),
+    ("-compress none -depth 16 -define tiff:endian=msb -define tiff:tile-geometry=64x64", "rgb16", None),
+    ("-compress none -depth 16 -define quantum:polarity=min-is-white", "gray16", None),
+    ("-compress none -depth 16 -define tiff:endian=msb -define quantum:polarity=min-is-white", "gray16", None),
+    ("-compress none -depth 16 -alpha on", "rgb16", UNSUPPORTED), ("-compress none -depth 16 -colorspace CMYK", "rgb16", UNSUPPORTED),
+    ("-compress zip", "rgb16", UNSUPPORTED),
     ("-compress none -alpha on", "rgb", UNSUPPORTED), ("-compress none -colorspace CMYK", "rgb", UNSUPPORTED),
     ("-compress none -colors 16 -type palette", "rgb", UNSUPPORTED), ("-compress lzw", "gray", UNSUPPORTED),
     ("-compress zip", "rgb", UNSUPPORTED), ("-compress group4 -type bilevel", "bits", UNSUPPORTED), ("-compress rle", "gray", UNSUPPORTED),
@@ -99,7 +120,8 @@ MAGICK = [
 PILLOW = [
     ("L", {}, "gray", None), ("RGB", {}, "rgb", None), ("1", {}, "bits", None), ("P", {}, "gray", UNSUPPORTED), ("CMYK", {}, "rgb", UNSUPPORTED),
     ("LA", {}, "gray", UNSUPPORTED), ("RGBA", {}, "rgb", UNSUPPORTED), ("YCbCr", {}, "rgb", UNSUPPORTED), ("LAB", {}, "rgb", UNSUPPORTED),
-    ("I;16", {}, "gray16", None), ("I", {}, "gray", UNSUPPORTED), ("F", {}, "gray", UNSUPPORTED),
+    ("I;16", {}, "gray16", None), ("I;16B", {}, "gray16", None), ("I;16", {"compression": "tiff_lzw"}, "gray16", UNSUPPORTED),
+    ("I", {}, "gray", UNSUPPORTED), ("F", {}, "gray", UNSUPPORTED),
     ("L", {"compression": "tiff_lzw"}, "gray", UNSUPPORTED), ("RGB", {"compression": "tiff_adobe_deflate"}, "rgb", UNSUPPORTED),
     ("1", {"compression": "group4"}, "bits", UNSUPPORTED), ("L", {"save_all": True}, "gray", None),
 ]
@@ -127,7 +149,7 @@ def files(folder, sources, samples):
         call("vips", "tiffsave", sources[picture], out := path(), *options.split())
         yield "vips tiffsave", options, picture, expected, out
     for options, picture, expected in GDAL:
-        scale = ["-scale", "0", "255", "0", "1"] if "NBITS=1" in options else []
+        scale = ["-scale", "0", "255", "0", "1"] if "NBITS=1" in options.split() else []
         source = sources["bits8" if picture == "bits" else picture]
         call("gdal_translate", "-q", *options.split(), *scale, source, out := path())
         yield "gdal_translate", options, picture, expected, out
@@ -144,7 +166,10 @@ def files(folder, sources, samples):
     for mode, options, picture, expected in PILLOW:
         array = samples[picture]
         image = Image.fromarray(array[:, :, 0] if array.shape[2] == 1 else array)
-        image = image if mode == "I;16" else image.convert(mode)
+        if mode == "I;16B":
+            image = Image.frombytes(mode, image.size, array.astype(">u2").tobytes())
+        elif mode != "I;16":
+            image = image.convert(mode)
         if options.get("save_all"):
             options = {**options, "append_images": [Image.new("L", (50, 40))]}
         image.save(out := path(), **options)
@@ -166,9 +191,10 @@ def ask(program, words, path):
 
 
 def shown(body, like):
-    """The samples of an answer: of 16 bits its last bytes, else by Pillow."""
+    """The samples of an answer: of 16 bits its last bytes behind the head of its length, else by Pillow."""
     if like.itemsize == 2:
-        return np.frombuffer(body[len(body) - like.nbytes:], "<u2").reshape(like.shape)
+        head = 180 if like.shape[2] == 3 else 174
+        return np.frombuffer(body[head:], "<u2").reshape(like.shape) if len(body) == head + like.nbytes else None
     with Image.open(io.BytesIO(body)) as image:
         return np.asarray(image.convert("RGB" if image.mode == "RGB" else "L")).reshape(image.height, image.width, -1)
 
@@ -187,10 +213,18 @@ def averaged(samples, width):
     return ((2 * sums + w * h) // (2 * w * h)).astype(samples.dtype)
 
 
+def bitonal(samples):
+    """0 and 255, by the gray formula and half of what the samples' type holds."""
+    gray = samples.astype(np.int64)
+    gray = (gray @ [299, 587, 114] + 500) // 1000 if samples.shape[2] == 3 else gray[:, :, 0]
+    return np.where(gray > np.iinfo(samples.dtype).max // 2, 255, 0).astype(np.uint8)[:, :, None]
+
+
 def shown_by(samples, writer, options, picture):
-    """The samples that a file must show. GDAL keeps the stored values where it is told MINISWHITE, so its file shows the negative."""
+    """The samples that a file must show. GDAL and ImageMagick keep the stored values where they are told that white is 0, so their files
+    show the negative."""
     wanted = samples[picture].astype(np.uint16) if "UInt16" in options else samples[picture]
-    return np.iinfo(wanted.dtype).max - wanted if writer == "gdal_translate" and "MINISWHITE" in options else wanted
+    return np.iinfo(wanted.dtype).max - wanted if re.search("=MINISWHITE|=min-is-white", options) else wanted
 
 
 def decoded(path, wanted):
@@ -202,6 +236,24 @@ def decoded(path, wanted):
         return np.asarray(image.convert("RGB" if wanted.shape[2] == 3 else "L")).reshape(wanted.shape)
 
 
+def standing(path):
+    """How the samples of a file stand in it: depth, channels, byte order, cut and which end is white; nothing where it is no TIFF."""
+    with open(path, "rb") as file:
+        data = file.read()
+    order = {b"II*\0": "<", b"MM\0*": ">"}.get(data[:4])
+    at = struct.unpack_from(f"{order}I", data, 4)[0] if order else len(data)
+    if at + 2 > len(data):
+        return ""
+    tags = {}
+    for entry in range(at + 2, at + 2 + 12 * struct.unpack_from(f"{order}H", data, at)[0], 12):
+        tag, kind, count = struct.unpack_from(f"{order}HHI", data, entry) if entry + 12 <= len(data) else (0, 0, 0)
+        tags[tag] = struct.unpack_from(f"{order}H" if kind == 3 and count == 1 else f"{order}I", data, entry + 8)[0] if tag else 0
+        if tag == 258 and count > 2 and tags[tag] + 2 <= len(data):
+            tags[tag] = struct.unpack_from(f"{order}H", data, tags[tag])[0]
+    colour = {0: "gray, MinIsWhite", 1: "gray, MinIsBlack", 2: "RGB"}.get(tags.get(262), "other")
+    return f"{tags.get(258, 1)} bits, {colour}, {'II' if order == '<' else 'MM'}, {'tiles' if 322 in tags else 'strips'}"
+
+
 def judged(program, path, wanted, expected):
     """What happened, and whether it was right."""
     if expected is not None:
@@ -211,13 +263,13 @@ def judged(program, path, wanted, expected):
     if not np.array_equal(decoded(path, wanted), wanted):
         return "another program decodes another picture than the writer was given", False
     cases = [("full/max/0/default.tif", wanted), ("37,29,101,90/max/0/default.tif", wanted[29:119, 37:138]),
-             ("full/31,/0/default.tif", averaged(wanted, 31))]
+             ("full/31,/0/default.tif", averaged(wanted, 31)), ("full/max/0/bitonal.tif", bitonal(wanted))]
     for words, samples in cases:
         status, out, err = ask(program, words, path)
         if status or err or out[:4] != b"II*\0":
             return f"{words}: status {status} `{(err or out[:40].decode(errors='replace')).strip()}`", False
-        if not np.array_equal(shown(out, samples), samples):
-            return f"{words}: other samples", False
+        if not np.array_equal(got := shown(out, samples), samples):
+            return f"{words}: {'another length' if got is None else 'other samples'}", False
     return "accepted, the same samples", True
 
 
@@ -235,24 +287,29 @@ def main():
     shutil.rmtree(args.work, ignore_errors=True)
     os.makedirs(args.work)
     samples, sources = pictures(), {}
-    for name, bits in [("gray", False), ("rgb", False), ("bits", True), ("bits8", False), ("gray16", False), ("rgb16", False)]:
+    for name in [*samples, "bits8"]:
         sources[name] = os.path.join(args.work, name + ".tif")
         with open(sources[name], "wb") as file:
-            file.write(plain(samples["bits" if bits or name == "bits8" else name], bits))
+            file.write(plain(samples["bits" if name == "bits8" else name], name == "bits", name == "white16"))
     print(f"{version('tiffcp', '-h')}; {version('vips', '--version')}; {version('gdal_translate', '--version')};",
           f"{version('convert', '-version').rsplit(' Q16')[0]}; Pillow {Image.__version__}\n")
-    groups, wrong, count = {}, [], 0
+    groups, wrong, count, deep = {}, [], 0, {}
     for writer, options, picture, expected, path in files(args.work, sources, samples):
         got, right = judged(args.program, path, shown_by(samples, writer, options, picture), expected)
         told = f"{picture}: `{options}`" if options else f"{picture}: nothing"
         count += 1
         if right:
             groups.setdefault((writer, got), []).append(told)
+            if expected is None and standing(path).startswith("16 bits"):
+                deep.setdefault(standing(path), []).append(writer.split(",")[0])
         else:
             wrong.append(f"{writer}, {told}: expected {'accepted' if expected is None else expected}, got {got} ({path})")
     print("| Writer | Files | The program | Picture, and what the writer was told |\n|---|---|---|---|")
     for (writer, got), told in groups.items():
         print(f"| {writer} | {len(told)} | {got} | {'; '.join(told)} |")
+    print("\n| Accepted, as it stands in the file | Files | Writers |\n|---|---|---|")
+    for how, writers in sorted(deep.items()):
+        print(f"| {how} | {len(writers)} | {', '.join(dict.fromkeys(writers))} |")
     for line in wrong:
         print(f"wrong: {line}", file=sys.stderr)
     print(f"\n{count} files, {len(wrong)} wrong")

@@ -3,9 +3,9 @@
     /usr/bin/python3 bench/found/requests.py crates/iiif_serve/out/iiif_serve [COUNT] [SEED]
 
 Pictures of up to 70 by 70 (gray and RGB of 8 and 16 bits, bits), in both byte orders, gray ones also counted down from white, in strips
-and tiles; edges from 1 to 64, regions, sizes, turns and qualities by chance. The averages are exact fractions over the whole region,
-place by place, so nothing here knows of tiles or blocks. The status is 1 where an answer differs. With `sixteen` as a fourth word all
-pictures have 16 bits.
+and tiles, some with samples about the half at which bits become white; edges from 1 to 64, regions, sizes, turns and qualities by
+chance. The averages are exact fractions over the whole region, place by place, so nothing here knows of tiles or blocks. The status is
+1 where an answer differs. With `sixteen` as a fourth word all pictures have 16 bits.
 """
 import os
 import random
@@ -112,7 +112,9 @@ def main():
             channels, bits = random.choice(kinds)
             width, height = random.randint(1, 70), random.randint(1, 70)
             top = 2 ** bits - 1
-            rows = [[[random.randint(0, top) for _ in range(channels)] for _ in range(width)] for _ in range(height)]
+            near_half = bits > 1 and random.random() < 0.3
+            low, high = (top // 2 - 1, top // 2 + 2) if near_half else (0, top)
+            rows = [[[random.randint(low, high) for _ in range(channels)] for _ in range(width)] for _ in range(height)]
             tile = random.choice([0, 16, 32, 48])
             with open(path, "wb") as file:
                 file.write(plain(rows, channels, bits, tile, random.randint(1, height), random.choice("<>"), channels == 1 and random.random() < 0.3))
