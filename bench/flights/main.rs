@@ -1,137 +1,16 @@
 //! The same work as the program `flights_bench large`, in plain Rust, to compare times. Built by `rustc -O`.
 //! A table of kept values, open flights and counts behind a lock; an outcome stands in a cell that is set once.
 
+#[path = "../recent.rs"]
+mod recent;
+
+use recent::{Entry, Key, Recent, cpu};
 use std::collections::HashMap;
 use std::sync::{Arc, Mutex, OnceLock};
 use std::thread;
-use std::time::{Duration, Instant};
-
-extern "C" {
-    fn clock_gettime(id: i32, time: *mut [i64; 2]) -> i32;
-}
-
-/// The processor time of this thread.
-fn cpu() -> Duration {
-    let mut time = [0i64; 2];
-    unsafe { clock_gettime(3, &mut time) };
-    Duration::new(time[0] as u64, time[1] as u32)
-}
+use std::time::Instant;
 
 type Cell = Arc<OnceLock<(Arc<Key>, u64, Arc<u32>)>>;
-
-#[derive(Clone, PartialEq, Eq, Hash)]
-struct Key {
-    name: Arc<str>,
-    edge: u32,
-    tx: u32,
-    ty: u32,
-}
-
-/// A value, and what a receipt of its flight has.
-#[derive(Clone)]
-struct Entry {
-    value: Arc<u32>,
-    cell: Cell,
-    ticket: u64,
-}
-
-impl Entry {
-    fn size(&self) -> u64 {
-        15 + u64::from(*self.value)
-    }
-}
-
-const NONE: usize = usize::MAX;
-
-struct Node {
-    key: Arc<Key>,
-    entry: Entry,
-    before: usize,
-    behind: usize,
-}
-
-/// One list: its first node was used last.
-struct Recent {
-    places: HashMap<Arc<Key>, usize>,
-    nodes: Vec<Option<Node>>,
-    free: Vec<usize>,
-    first: usize,
-    last: usize,
-    room: usize,
-    bytes: u64,
-}
-
-impl Recent {
-    fn new(room: usize) -> Recent {
-        Recent { places: HashMap::new(), nodes: Vec::new(), free: Vec::new(), first: NONE, last: NONE, room, bytes: 0 }
-    }
-
-    fn node(&mut self, at: usize) -> &mut Node {
-        self.nodes[at].as_mut().unwrap()
-    }
-
-    fn unlink(&mut self, at: usize) {
-        let (before, behind) = (self.node(at).before, self.node(at).behind);
-        if before == NONE { self.first = behind } else { self.node(before).behind = behind }
-        if behind == NONE { self.last = before } else { self.node(behind).before = before }
-    }
-
-    fn to_front(&mut self, at: usize) {
-        let first = self.first;
-        let node = self.node(at);
-        node.before = NONE;
-        node.behind = first;
-        if first == NONE { self.last = at } else { self.node(first).before = at }
-        self.first = at;
-    }
-
-    fn get(&mut self, key: &Key) -> Option<&Entry> {
-        let at = *self.places.get(key)?;
-        self.unlink(at);
-        self.to_front(at);
-        self.nodes[at].as_ref().map(|node| &node.entry)
-    }
-
-    fn pop(&mut self) -> Option<(Arc<Key>, Entry)> {
-        if self.last == NONE {
-            return None;
-        }
-        let at = self.last;
-        self.unlink(at);
-        let node = self.nodes[at].take().unwrap();
-        self.free.push(at);
-        self.places.remove(&node.key);
-        self.bytes -= node.entry.size();
-        Some((node.key, node.entry))
-    }
-
-    fn push(&mut self, key: Arc<Key>, entry: Entry) {
-        self.bytes += entry.size();
-        if let Some(&at) = self.places.get(&key) {
-            self.bytes -= self.node(at).entry.size();
-            self.node(at).entry = entry;
-            self.unlink(at);
-            self.to_front(at);
-            return;
-        }
-        if self.places.len() == self.room {
-            self.pop();
-        }
-        let node = Node { key: key.clone(), entry, before: NONE, behind: NONE };
-        let at = match self.free.pop() {
-            Some(at) => {
-                self.nodes[at] = Some(node);
-                at
-            }
-            None => {
-                self.nodes.push(Some(node));
-                self.nodes.len() - 1
-            }
-        };
-        self.places.insert(key, at);
-        self.to_front(at);
-    }
-}
 
 #[derive(Clone)]
 struct Flight {
@@ -149,8 +28,8 @@ struct Book {
 }
 
 struct Table {
-    main: Recent,
-    hot: Recent,
+    main: Recent<Cell>,
+    hot: Recent<Cell>,
     limit: u64,
     open: HashMap<Arc<Key>, Flight>,
     book: Book,

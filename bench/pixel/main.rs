@@ -1,36 +1,72 @@
 //! The same work as the program `pixel_bench`, in plain Rust, to compare times in one run. Built by `rustc -O`.
-//! With no argument the check sums of a small picture, with `large` the milliseconds for one of 4,000 by 4,000.
+//! With no argument the check sums of a small picture, with `large` the milliseconds for one of 4,000 by 4,000, with `sixteen` of
+//! 16 bits a sample.
 
 use std::env;
 
 const BLOCK: usize = 32;
 
-struct Picture {
-    w: usize,
-    h: usize,
-    samples: Vec<u8>,
+/// A sample of 8 or of 16 bits.
+trait Sample: Copy + Default + Into<u32> + Into<u64> {
+    const TOP: Self;
+
+    /// The high bits of a number.
+    fn high(number: u32) -> Self;
+
+    /// The low bits of a number.
+    fn low(number: u32) -> Self;
 }
 
-fn pattern(w: usize, h: usize) -> Picture {
+impl Sample for u8 {
+    const TOP: u8 = 255;
+
+    fn high(number: u32) -> u8 {
+        (number >> 24) as u8
+    }
+
+    fn low(number: u32) -> u8 {
+        number as u8
+    }
+}
+
+impl Sample for u16 {
+    const TOP: u16 = 65_535;
+
+    fn high(number: u32) -> u16 {
+        (number >> 16) as u16
+    }
+
+    fn low(number: u32) -> u16 {
+        number as u16
+    }
+}
+
+struct Picture<T> {
+    w: usize,
+    h: usize,
+    samples: Vec<T>,
+}
+
+fn pattern<T: Sample>(w: usize, h: usize) -> Picture<T> {
     let mut state = 12345u32;
     let samples = (0..w * h * 3)
         .map(|_| {
             state = state.wrapping_mul(1_664_525).wrapping_add(1_013_904_223);
-            (state >> 24) as u8
+            T::high(state)
         })
         .collect();
     Picture { w, h, samples }
 }
 
-fn check_sum(samples: &[u8]) -> u64 {
+fn check_sum<T: Sample>(samples: &[T]) -> u64 {
     let mut sum = 0u64;
     for s in samples {
-        sum = sum.wrapping_mul(31).wrapping_add(u64::from(*s));
+        sum = sum.wrapping_mul(31).wrapping_add((*s).into());
     }
     sum
 }
 
-fn crop(p: &Picture, x: usize, y: usize, w: usize, h: usize) -> Vec<u8> {
+fn crop<T: Sample>(p: &Picture<T>, x: usize, y: usize, w: usize, h: usize) -> Vec<T> {
     let mut part = Vec::with_capacity(w * h * 3);
     for row in y..y + h {
         let start = (row * p.w + x) * 3;
@@ -40,8 +76,8 @@ fn crop(p: &Picture, x: usize, y: usize, w: usize, h: usize) -> Vec<u8> {
 }
 
 /// Rows stay rows, with columns or rows running backwards.
-fn rows(p: &Picture, flip_x: bool, flip_y: bool) -> Vec<u8> {
-    let mut turned = vec![0u8; p.samples.len()];
+fn rows<T: Sample>(p: &Picture<T>, flip_x: bool, flip_y: bool) -> Vec<T> {
+    let mut turned = vec![T::default(); p.samples.len()];
     for (y, row) in turned.chunks_exact_mut(p.w * 3).enumerate() {
         let v = if flip_y { p.h - 1 - y } else { y };
         let from = &p.samples[v * p.w * 3..(v + 1) * p.w * 3];
@@ -57,8 +93,8 @@ fn rows(p: &Picture, flip_x: bool, flip_y: bool) -> Vec<u8> {
 }
 
 /// Columns become rows, square block by square block.
-fn columns(p: &Picture, flip_x: bool, flip_y: bool) -> Vec<u8> {
-    let mut turned = vec![0u8; p.samples.len()];
+fn columns<T: Sample>(p: &Picture<T>, flip_x: bool, flip_y: bool) -> Vec<T> {
+    let mut turned = vec![T::default(); p.samples.len()];
     for top in (0..p.w).step_by(BLOCK) {
         for left in (0..p.h).step_by(BLOCK) {
             for y in top..(top + BLOCK).min(p.w) {
@@ -75,7 +111,7 @@ fn columns(p: &Picture, flip_x: bool, flip_y: bool) -> Vec<u8> {
     turned
 }
 
-fn turn(p: &Picture, mirror: bool, quarters: u8) -> Vec<u8> {
+fn turn<T: Sample>(p: &Picture<T>, mirror: bool, quarters: u8) -> Vec<T> {
     match quarters {
         0 => rows(p, mirror, false),
         1 => columns(p, true, mirror),
@@ -84,19 +120,20 @@ fn turn(p: &Picture, mirror: bool, quarters: u8) -> Vec<u8> {
     }
 }
 
-fn gray(p: &Picture) -> Vec<u8> {
-    p.samples
-        .chunks_exact(3)
-        .map(|c| ((299 * u32::from(c[0]) + 587 * u32::from(c[1]) + 114 * u32::from(c[2]) + 500) / 1000) as u8)
-        .collect()
+/// The gray value of a place, by the weights of BT.601 in thousandths.
+fn gray_of<T: Sample>(place: &[T]) -> u32 {
+    let (r, g, b): (u32, u32, u32) = (place[0].into(), place[1].into(), place[2].into());
+    (299 * r + 587 * g + 114 * b + 500) / 1000
 }
 
-fn bitonal(p: &Picture) -> Vec<u8> {
-    let mut samples = gray(p);
-    for s in samples.iter_mut() {
-        *s = if *s < 128 { 0 } else { 255 };
-    }
-    samples
+fn gray<T: Sample>(p: &Picture<T>) -> Vec<T> {
+    p.samples.chunks_exact(3).map(|place| T::low(gray_of(place))).collect()
+}
+
+/// 0 and 255, of both depths.
+fn bitonal<T: Sample>(p: &Picture<T>) -> Vec<u8> {
+    let top: u32 = T::TOP.into();
+    p.samples.chunks_exact(3).map(|place| if gray_of(place) <= top / 2 { 0 } else { 255 }).collect()
 }
 
 #[repr(C)]
@@ -116,28 +153,22 @@ fn thread_micros() -> u64 {
     time.seconds as u64 * 1_000_000 + time.nanos as u64 / 1000
 }
 
-fn measure(name: &str, large: bool, work: impl Fn() -> Vec<u8>) {
-    let rounds = if large { 5 } else { 1 };
-    let mut least = u64::MAX;
-    let mut sum = 0;
-    for _ in 0..rounds {
-        let start = thread_micros();
-        let made = work();
-        least = least.min(thread_micros() - start);
-        sum = check_sum(&made);
-    }
+fn measure<T: Sample>(name: &str, large: bool, work: impl Fn() -> Vec<T>) {
+    let start = thread_micros();
+    let made = work();
+    let time = thread_micros() - start;
+    let sum = check_sum(&made);
     if large {
-        println!("{name}: {}.{} ms, sum {sum}", least / 1000, least / 100 % 10);
+        println!("{name}: {}.{} ms, sum {sum}", time / 1000, time / 100 % 10);
     } else {
         println!("{name}: sum {sum}");
     }
 }
 
-fn main() {
-    let large = env::args().skip(1).any(|word| word == "large");
+fn measure_all<T: Sample>(large: bool) {
     let side = if large { (4000, 4000) } else { (37, 23) };
     let part = if large { (100, 100, 3800, 3800) } else { (3, 2, 30, 20) };
-    let p = pattern(side.0, side.1);
+    let p = pattern::<T>(side.0, side.1);
     measure("crop", large, || crop(&p, part.0, part.1, part.2, part.3));
     for mirror in [false, true] {
         for quarters in 0..4u8 {
@@ -147,4 +178,13 @@ fn main() {
     }
     measure("gray", large, || gray(&p));
     measure("bitonal", large, || bitonal(&p));
+}
+
+fn main() {
+    let large = env::args().any(|word| word == "large");
+    if env::args().any(|word| word == "sixteen") {
+        measure_all::<u16>(large);
+    } else {
+        measure_all::<u8>(large);
+    }
 }

@@ -11,6 +11,4 @@ mod fields;
 pub mod heads;
 pub mod laws;
 mod search;
-#[cfg(test)]
-mod tests;
 mod unread;

@@ -12,6 +12,4 @@ mod fields;
 pub mod laws;
 pub mod reply;
 mod sending;
-#[cfg(test)]
-mod tests;
 pub mod version;

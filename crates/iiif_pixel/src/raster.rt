@@ -243,11 +243,11 @@ impl Raster {
         ensures { IfOk result (λ r. r ≡ bitonal self.now) }
     {
         let count = self.dim.w as usize * self.dim.h as usize;
-        let grays = gray_samples(&self.samples, self.kind, count)?;
+        let bits = bits_of(&self.samples, self.kind, count)?;
         Ok(Raster {
             dim: self.dim,
             kind: Kind::Gray,
-            samples: Samples::Eight(bits_of(grays)?),
+            samples: Samples::Eight(bits),
         })
     }
 }

@@ -14,6 +14,3 @@ mod rows;
 
 pub use fault::{LoadFault, OpenFault};
 pub use layout::{Layout, open};
-
-#[cfg(test)]
-mod tests;

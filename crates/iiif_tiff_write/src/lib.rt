@@ -13,5 +13,3 @@ pub mod kind;
 pub mod laws;
 mod layout;
 mod rows;
-#[cfg(test)]
-mod tests;

@@ -1,5 +1,5 @@
 //! Crops, turns and qualities of an RGB raster: with no argument the check sums of a small one, with `large` the
-//! milliseconds of processor time for one of 4,000 by 4,000, the least of five runs, with `sixteen` of 16 bits a sample.
+//! milliseconds of processor time for one of 4,000 by 4,000, with `sixteen` of 16 bits a sample.
 //! `bench/pixel/main.rs` does the same in plain Rust.
 #![tactic(auto)]
 
@@ -79,18 +79,12 @@ fn measure(
     work: Work,
     large: bool,
 ) -> io::Result<()> {
-    let rounds = if large { 5 } else { 1 };
-    let mut least = u128::MAX;
-    let mut sum = 0;
-    for _ in 0..rounds {
-        let start = rt.thread_cpu_time()?;
-        let made = done(raster, work)?;
-        let time = rt.thread_cpu_time()?.saturating_sub(start).as_micros();
-        least = least.min(time);
-        sum = check_sum(made.samples());
-    }
+    let start = rt.thread_cpu_time()?;
+    let made = done(raster, work)?;
+    let time = rt.thread_cpu_time()?.saturating_sub(start).as_micros();
+    let sum = check_sum(made.samples());
     if large {
-        let (whole, tenth) = (least / 1000, least / 100 % 10);
+        let (whole, tenth) = (time / 1000, time / 100 % 10);
         println!(rt; "{name}: {whole}.{tenth} ms, sum {sum}")?;
     } else {
         println!(rt; "{name}: sum {sum}")?;

@@ -1,9 +1,10 @@
 //! Reads rectangles of 256 by 256 of gray files in tiles and in strips: with no argument the check sums of small files in
-//! memory, with `large` the microseconds of processor time a rectangle of two files of 10,000 by 10,000, and what plain reads
-//! of the same bytes take, the least of five runs. The files are written to the working directory, and removed at the end.
+//! memory, with `large` the microseconds of processor time a rectangle of files of 10,000 by 10,000, of 8 and of 16 bits a
+//! sample, and what plain reads of the same bytes take, the least of five runs. The files are written to the working directory,
+//! and removed at the end.
 #![tactic(auto)]
 
-use iiif_pixel::{Rect, Span};
+use iiif_pixel::{Depth, Rect, Span};
 use iiif_source::{FileSource, MemSource, Source};
 use iiif_tiff_read::{LoadFault, OpenFault, open};
 use std::alloc::{AllocError, Global};
@@ -44,18 +45,26 @@ fn put_entry(
     out.extend_from_slice(&value.to_le_bytes())
 }
 
-/// A gray file of so many pixels a side, whose samples follow a pattern of columns and rows.
-fn gray_file(alloc: Global, side: u32, cut: Cut) -> Result<Vec<u8>, AllocError> {
+/// How many bytes a sample takes.
+fn bytes_of(depth: Depth) -> u32 {
+    match depth {
+        Depth::Eight => 1,
+        Depth::Sixteen => 2,
+    }
+}
+
+/// A gray file of so many pixels a side, whose samples follow a pattern of columns and rows, the low byte first.
+fn gray_file(alloc: Global, side: u32, depth: Depth, cut: Cut) -> Result<Vec<u8>, AllocError> {
     let (width, height) = cut.piece(side);
     let (across, down) = (side.div_ceil(width.max(1)), side.div_ceil(height.max(1)));
     let pieces = across.wrapping_mul(down);
-    let size = width.wrapping_mul(height);
+    let size = width.wrapping_mul(height).wrapping_mul(bytes_of(depth));
     let lists = 8 + 2 + 12 * 9 + 4u32;
     let data = lists.wrapping_add(pieces.wrapping_mul(8));
     let mut out = Vec::from_slice(alloc, b"II*\0\x08\0\0\0\x09\0")?;
     put_entry(&mut out, 256, 4, 1, side)?;
     put_entry(&mut out, 257, 4, 1, side)?;
-    put_entry(&mut out, 258, 3, 1, 8)?;
+    put_entry(&mut out, 258, 3, 1, bytes_of(depth).wrapping_mul(8))?;
     put_entry(&mut out, 262, 3, 1, 1)?;
     let tags = match cut {
         Cut::Tiles(_) => [322, 323, 324, 325],
@@ -83,6 +92,7 @@ fn gray_file(alloc: Global, side: u32, cut: Cut) -> Result<Vec<u8>, AllocError> 
         for column in 0..across {
             put_piece(
                 &mut out,
+                depth,
                 column.wrapping_mul(width),
                 piece.wrapping_mul(height),
                 width,
@@ -94,12 +104,22 @@ fn gray_file(alloc: Global, side: u32, cut: Cut) -> Result<Vec<u8>, AllocError> 
 }
 
 /// The samples of one piece.
-fn put_piece(out: &mut Vec<u8>, x: u32, y: u32, width: u32, height: u32) -> Result<(), AllocError> {
+fn put_piece(
+    out: &mut Vec<u8>,
+    depth: Depth,
+    x: u32,
+    y: u32,
+    width: u32,
+    height: u32,
+) -> Result<(), AllocError> {
     for row in 0..height {
         let start = y.wrapping_add(row).wrapping_mul(7);
         for column in 0..width {
             let sample = x.wrapping_add(column).wrapping_mul(3).wrapping_add(start);
             out.push((sample & 0xff) as u8)?;
+            if let Depth::Sixteen = depth {
+                out.push((sample >> 8 & 0xff) as u8)?;
+            }
         }
     }
     Ok(())
@@ -166,9 +186,13 @@ fn read_rects<R, S: Source<R>>(
             };
             if rect.lies_in(dim) {
                 let raster = layout.read_rect(rt, alloc, source, rect)?;
-                if let Span::Eight(samples) = raster.samples() {
-                    sum = check_sum(&samples[..samples.len().min(1)], sum);
-                }
+                sum = match raster.samples() {
+                    Span::Eight(samples) => check_sum(&samples[..samples.len().min(1)], sum),
+                    Span::Sixteen(samples) => match samples.first() {
+                        Some(first) => check_sum(&first.to_le_bytes(), sum),
+                        None => sum,
+                    },
+                };
                 count = count.wrapping_add(1);
             }
         }
@@ -202,17 +226,20 @@ fn read_plainly<R, S: Source<R>>(
 fn measure_file<R: Wait + Files<File = File> + Print + AllocGlobal + CpuClock>(
     rt: &R,
     name: &str,
+    depth: Depth,
     cut: Cut,
 ) -> Result<(), BenchFault> {
     let alloc = rt.alloc();
     let path = "tiff_bench.tmp";
-    fs::write(rt, path, gray_file(alloc, 10_000, cut)?.as_slice())?;
+    fs::write(rt, path, gray_file(alloc, 10_000, depth, cut)?.as_slice())?;
     let file = File::open(rt, path)?;
     fs::remove_file(rt, path)?;
     let source = FileSource::new(file)?;
-    let plan = match cut {
-        Cut::Tiles(_) => (1_521, 65_536, 65_536),
-        Cut::Strips(_) => (1_521 * 256, 256, 256),
+    let plan = match (cut, depth) {
+        (Cut::Tiles(_), Depth::Eight) => (1_521, 65_536, 65_536),
+        (Cut::Tiles(_), Depth::Sixteen) => (1_521, 131_072, 131_072),
+        (Cut::Strips(_), Depth::Eight) => (1_521 * 256, 256, 256),
+        (Cut::Strips(_), Depth::Sixteen) => (1_521 * 256, 512, 512),
     };
     let (mut reader, mut plain) = (u128::MAX, u128::MAX);
     for _ in 0..5 {
@@ -232,7 +259,7 @@ fn measure_file<R: Wait + Files<File = File> + Print + AllocGlobal + CpuClock>(
 fn main(rt: HostRuntime) -> Result<(), BenchFault> {
     let alloc = rt.alloc();
     for (name, cut) in [("tiles", Cut::Tiles(8)), ("strips", Cut::Strips(3))] {
-        let source = MemSource::new(gray_file(alloc, 20, cut)?);
+        let source = MemSource::new(gray_file(alloc, 20, Depth::Eight, cut)?);
         let (sum, count) = read_rects(&(), alloc, &source, 8)?;
         println!(rt; "{name}: {count} rectangles, sum {sum}")?;
     }
@@ -241,8 +268,14 @@ fn main(rt: HostRuntime) -> Result<(), BenchFault> {
         large |= word.as_str() == "large";
     }
     if large {
-        measure_file(&rt, "tiles", Cut::Tiles(256))?;
-        measure_file(&rt, "strips", Cut::Strips(16))?;
+        for (name, depth, cut) in [
+            ("tiles", Depth::Eight, Cut::Tiles(256)),
+            ("strips", Depth::Eight, Cut::Strips(16)),
+            ("tiles of 16 bits", Depth::Sixteen, Cut::Tiles(256)),
+            ("strips of 16 bits", Depth::Sixteen, Cut::Strips(16)),
+        ] {
+            measure_file(&rt, name, depth, cut)?;
+        }
     }
     Ok(())
 }

@@ -1,9 +1,9 @@
-use crate::numerals::{is_numeral, numeral};
-use crate::{
+use iiif_pixel::Quality;
+use iiif_request::numerals::{is_numeral, numeral};
+use iiif_request::{
     Decimal, Form, Refusal, Region, Request, Rotation, Size, SplitFault, Target, Words, asked_once,
     parse, says_once, spelled_once, split,
 };
-use iiif_pixel::Quality;
 use std::alloc::{AllocError, Global};
 use std::process::Abort;
 use std::test::Fail;

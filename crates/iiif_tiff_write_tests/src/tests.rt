@@ -1,35 +1,32 @@
-use crate::{OutKind, fits, head, laws, put_rows, total_len};
 use iiif_pixel::{Depth, Dim, Kind, NoMemory, Quality, Raster, Rect, Samples};
+use iiif_tiff_write::{OutKind, fits, head, laws, put_rows, total_len};
 use std::alloc::Global;
 use std::process::Abort;
 use std::test::Fail;
 
-fn raster(
-    rt: &impl Abort,
-    alloc: Global,
-    w: u32,
-    h: u32,
-    kind: Kind,
-    samples: &[u8],
-) -> Result<Raster, NoMemory> {
-    let samples = Vec::from_slice(alloc, samples)?;
+/// The raster with these samples of 8 bits.
+fn raster(alloc: Global, w: u32, h: u32, kind: Kind, samples: &[u8]) -> Result<Raster, Fail> {
     let dim = Dim { w, h };
-    assert!(rt; w < 100 && h < 100);
-    assert_eq!(rt; samples.len(), w as usize * h as usize * kind.channels());
+    let samples = Vec::from_slice(alloc, samples)?;
+    let Some(count) = kind.count(dim) else {
+        return Err("too many samples".into());
+    };
+    if count != samples.len() {
+        return Err("another count of samples".into());
+    }
     Ok(Raster::from_samples(dim, kind, Samples::Eight(samples)))
 }
 
-fn deep(
-    rt: &impl Abort,
-    alloc: Global,
-    w: u32,
-    kind: Kind,
-    samples: &[u16],
-) -> Result<Raster, NoMemory> {
-    let samples = Vec::from_slice(alloc, samples)?;
+/// The row with these samples of 16 bits.
+fn deep(alloc: Global, w: u32, kind: Kind, samples: &[u16]) -> Result<Raster, Fail> {
     let dim = Dim { w, h: 1 };
-    assert!(rt; w < 100);
-    assert_eq!(rt; samples.len(), w as usize * kind.channels());
+    let samples = Vec::from_slice(alloc, samples)?;
+    let Some(count) = kind.count(dim) else {
+        return Err("too many samples".into());
+    };
+    if count != samples.len() {
+        return Err("another count of samples".into());
+    }
     Ok(Raster::from_samples(dim, kind, Samples::Sixteen(samples)))
 }
 
@@ -72,7 +69,7 @@ const SAMPLE_FILE: [u8; 190] = [
 
 #[test]
 fn gray_file_of_190_bytes(rt: HostRuntime) -> Result<(), Fail> {
-    let sample = raster(&rt, rt.alloc(), 4, 4, Kind::Gray, &SAMPLE)?;
+    let sample = raster(rt.alloc(), 4, 4, Kind::Gray, &SAMPLE)?;
     let bytes = file(&rt, rt.alloc(), &sample, OutKind::Gray)?;
     assert_eq!(rt; bytes.as_slice(), SAMPLE_FILE.as_slice());
     Ok(())
@@ -80,7 +77,7 @@ fn gray_file_of_190_bytes(rt: HostRuntime) -> Result<(), Fail> {
 
 #[test]
 fn rgb_has_its_bits_before_the_strip(rt: HostRuntime) -> Result<(), Fail> {
-    let two = raster(&rt, rt.alloc(), 2, 1, Kind::Rgb, &[2, 0, 0, 0, 0, 0])?;
+    let two = raster(rt.alloc(), 2, 1, Kind::Rgb, &[2, 0, 0, 0, 0, 0])?;
     let bytes = file(&rt, rt.alloc(), &two, OutKind::Rgb)?;
     assert!(&rt; bytes.len() == 186);
     assert_eq!(rt; &bytes[174..180], [8u8, 0, 8, 0, 8, 0].as_slice());
@@ -90,7 +87,7 @@ fn rgb_has_its_bits_before_the_strip(rt: HostRuntime) -> Result<(), Fail> {
 
 #[test]
 fn sixteen_bits_have_their_low_byte_first(rt: HostRuntime) -> Result<(), Fail> {
-    let gray = deep(&rt, rt.alloc(), 2, Kind::Gray, &[0, 65_535])?;
+    let gray = deep(rt.alloc(), 2, Kind::Gray, &[0, 65_535])?;
     let bytes = file(&rt, rt.alloc(), &gray, OutKind::Gray16)?;
     assert!(&rt; bytes.len() == 178);
     // BitsPerSample is the third entry.
@@ -99,7 +96,7 @@ fn sixteen_bits_have_their_low_byte_first(rt: HostRuntime) -> Result<(), Fail> {
         [2u8, 1, 3, 0, 1, 0, 0, 0, 16, 0, 0, 0].as_slice()
     );
     assert_eq!(rt; &bytes[174..], [0u8, 0, 0xff, 0xff].as_slice());
-    let rgb = deep(&rt, rt.alloc(), 1, Kind::Rgb, &[1, 515, 65_534])?;
+    let rgb = deep(rt.alloc(), 1, Kind::Rgb, &[1, 515, 65_534])?;
     let bytes = file(&rt, rt.alloc(), &rgb, OutKind::Rgb16)?;
     assert!(&rt; bytes.len() == 186);
     assert_eq!(rt; &bytes[174..180], [16u8, 0, 16, 0, 16, 0].as_slice());
@@ -109,11 +106,11 @@ fn sixteen_bits_have_their_low_byte_first(rt: HostRuntime) -> Result<(), Fail> {
 
 #[test]
 fn rows_of_bits_end_at_whole_bytes(rt: HostRuntime) -> Result<(), Fail> {
-    let white = raster(&rt, rt.alloc(), 9, 1, Kind::Gray, &[255; 9])?;
+    let white = raster(rt.alloc(), 9, 1, Kind::Gray, &[255; 9])?;
     let bytes = file(&rt, rt.alloc(), &white, OutKind::Bitonal)?;
     assert!(&rt; bytes.len() == 176);
     assert_eq!(rt; &bytes[174..], [0xffu8, 0x80].as_slice());
-    let sample = raster(&rt, rt.alloc(), 4, 4, Kind::Gray, &SAMPLE)?;
+    let sample = raster(rt.alloc(), 4, 4, Kind::Gray, &SAMPLE)?;
     let black_and_white = sample.quality(Quality::Bitonal)?;
     let bytes = file(&rt, rt.alloc(), &black_and_white, OutKind::Bitonal)?;
     assert!(&rt; bytes.len() == 178);
@@ -125,7 +122,7 @@ fn rows_of_bits_end_at_whole_bytes(rt: HostRuntime) -> Result<(), Fail> {
 #[test]
 fn bits_of_gray_samples(rt: HostRuntime) -> Result<(), Fail> {
     let samples = [127, 128, 0, 255, 1, 254, 127, 128, 128, 0];
-    let gray = raster(&rt, rt.alloc(), 10, 1, Kind::Gray, &samples)?;
+    let gray = raster(rt.alloc(), 10, 1, Kind::Gray, &samples)?;
     let bytes = file(&rt, rt.alloc(), &gray, OutKind::Bitonal)?;
     assert!(&rt; bytes.len() == 176);
     assert_eq!(rt; &bytes[174..], [0x55u8, 0x80].as_slice());
@@ -140,8 +137,8 @@ fn bands_make_the_same_strip(rt: HostRuntime) -> Result<(), Fail> {
     ];
     for kind in [OutKind::Gray, OutKind::Rgb, OutKind::Bitonal] {
         let picture = match kind {
-            OutKind::Rgb => raster(&rt, rt.alloc(), 3, 3, Kind::Rgb, &samples)?,
-            _ => raster(&rt, rt.alloc(), 9, 3, Kind::Gray, &samples)?,
+            OutKind::Rgb => raster(rt.alloc(), 3, 3, Kind::Rgb, &samples)?,
+            _ => raster(rt.alloc(), 9, 3, Kind::Gray, &samples)?,
         };
         let width = picture.dim().w;
         assert!(&rt; picture.dim().h == 3);
@@ -170,7 +167,7 @@ fn bands_make_the_same_strip(rt: HostRuntime) -> Result<(), Fail> {
 /// Run with each allocation refused in turn, this sees a vector after its refusal.
 #[test]
 fn refused_rows_leave_the_vector(rt: HostRuntime) -> Result<(), Fail> {
-    let gray = raster(&rt, rt.alloc(), 4, 4, Kind::Gray, &SAMPLE)?;
+    let gray = raster(rt.alloc(), 4, 4, Kind::Gray, &SAMPLE)?;
     for kind in [OutKind::Gray, OutKind::Bitonal] {
         let mut out = Vec::from_slice(rt.alloc(), &[1, 2, 3])?;
         assert!(&rt; gray.kind().channels() == usize::from(kind.samples_per_pixel()));

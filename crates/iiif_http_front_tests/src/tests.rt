@@ -1,7 +1,7 @@
 //! Heads as they stand on the wire.
 
-use crate::{Field, HeadFault, Heads, NoMemory, head_bytes};
 use http::StatusCode;
+use iiif_http_front::{Field, HeadFault, Heads, NoMemory, head_bytes};
 use iiif_io::Inlet;
 use iiif_io::fakes::FailingReader;
 use std::alloc::Global;

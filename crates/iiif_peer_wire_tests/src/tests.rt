@@ -1,7 +1,7 @@
 //! Messages as they stand in the format, cut, changed and in pieces. The digests were computed by Python's `hashlib`.
 
-use crate::{Version, WireFault, read_ask, read_reply, write_ask, write_reply};
 use iiif_io::fakes::{FailingReader, FailingWriter};
+use iiif_peer_wire::{Version, WireFault, read_ask, read_reply, write_ask, write_reply};
 use std::test::Fail;
 
 /// The key of the tile (0, 0) of `a` at edge 2.

@@ -1,8 +1,6 @@
-ghost use Rattle.std.specs.Prelude.{◌≤◌};
-
-use super::*;
-use iiif_pixel::{Dim, Kind, Rect, Span};
+use iiif_pixel::{Dim, Kind, Raster, Rect, Span};
 use iiif_source::{FuseSource, MemSource, ReadFault, Source};
+use iiif_tiff_read::{LoadFault, OpenFault, open};
 use one_fault::OneFault;
 use std::alloc::Global;
 use std::test::Fail;
@@ -123,15 +121,38 @@ fn part(alloc: Global, bytes: &[u8], rect: Rect) -> Result<Vec<u8>, Fail> {
     part_of(alloc, &MemSource::new(Vec::from_slice(alloc, bytes)?), rect)
 }
 
+/// Why a part of an image is not read.
+#[derive(Debug, Drop)]
+enum Failed {
+    Open(OpenFault),
+    Load(LoadFault),
+    Outside,
+}
+
+/// A rectangle of the image in a source, or all of it.
+fn read_part<S: Source<()>>(
+    alloc: Global,
+    source: &S,
+    part: Option<Rect>,
+) -> Result<Raster, Failed> {
+    let layout = match open(&(), alloc, source) {
+        Ok(layout) => layout,
+        Err(fault) => return Err(Failed::Open(fault)),
+    };
+    let Dim { w, h } = layout.dim();
+    let rect = part.unwrap_or(Rect { x: 0, y: 0, w, h });
+    if !rect.lies_in(layout.dim()) {
+        return Err(Failed::Outside);
+    }
+    match layout.read_rect(&(), alloc, source, rect) {
+        Ok(raster) => Ok(raster),
+        Err(fault) => Err(Failed::Load(fault)),
+    }
+}
+
 /// The samples of a rectangle of the image in a source.
 fn part_of<S: Source<()>>(alloc: Global, source: &S, rect: Rect) -> Result<Vec<u8>, Fail> {
-    let layout = open(&(), alloc, source)?;
-    let dim = layout.dim();
-    if rect.x > dim.w || rect.w > dim.w - rect.x || rect.y > dim.h || rect.h > dim.h - rect.y {
-        return Err("the rectangle is outside".into());
-    }
-    let raster = layout.read_rect(&(), alloc, source, rect)?;
-    match raster.samples() {
+    match read_part(alloc, source, Some(rect))?.samples() {
         Span::Eight(samples) => Ok(Vec::from_slice(alloc, samples)?),
         Span::Sixteen(_) => Err("the samples have 16 bits".into()),
     }
@@ -140,10 +161,7 @@ fn part_of<S: Source<()>>(alloc: Global, source: &S, rect: Rect) -> Result<Vec<u
 /// The samples of 16 bits of the whole image in these bytes.
 fn deep(alloc: Global, bytes: &[u8]) -> Result<Vec<u16>, Fail> {
     let source = MemSource::new(Vec::from_slice(alloc, bytes)?);
-    let layout = open(&(), alloc, &source)?;
-    let Dim { w, h } = layout.dim();
-    let whole = Rect { x: 0, y: 0, w, h };
-    match layout.read_rect(&(), alloc, &source, whole)?.samples() {
+    match read_part(alloc, &source, None)?.samples() {
         Span::Eight(_) => Err("the samples have 8 bits".into()),
         Span::Sixteen(samples) => Ok(Vec::from_slice(alloc, samples)?),
     }
@@ -158,10 +176,8 @@ fn opened(alloc: Global, bytes: &[u8]) -> Result<(u32, u32, Kind), OpenFault> {
 /// What is answered once four bytes of the sample are others.
 fn changed(alloc: Global, at: usize, value: [u8; 4]) -> Result<(u32, u32, Kind), OpenFault> {
     let mut bytes = SAMPLE;
-    for (i, byte) in bytes.iter_mut().enumerate() {
-        if at <= i && i - at < 4 {
-            *byte = value[i - at];
-        }
+    for (byte, new) in bytes.iter_mut().skip(at).zip(value) {
+        *byte = new;
     }
     opened(alloc, &bytes)
 }
@@ -542,19 +558,11 @@ fn fused(alloc: Global, k: u64) -> Result<FuseSource<MemSource>, Fail> {
 
 /// The first fault of the device while an image is opened and its middle is read.
 fn first_fault<S: Source<()>>(alloc: Global, source: &S) -> Result<Option<ReadFault>, Fail> {
-    let layout = match open(&(), alloc, source) {
-        Ok(layout) => layout,
-        Err(OpenFault::Source(fault)) => return Ok(Some(fault)),
-        Err(_) => return Err("the file is refused".into()),
-    };
-    let dim = layout.dim();
-    if dim.w < 3 || dim.h < 3 {
-        return Err("the sides are others".into());
-    }
-    match layout.read_rect(&(), alloc, source, MIDDLE) {
+    match read_part(alloc, source, Some(MIDDLE)) {
         Ok(_) => Ok(None),
-        Err(LoadFault::Source(fault)) => Ok(Some(fault)),
-        Err(LoadFault::NoMemory) => Err("out of memory".into()),
+        Err(Failed::Open(OpenFault::Source(fault))) => Ok(Some(fault)),
+        Err(Failed::Load(LoadFault::Source(fault))) => Ok(Some(fault)),
+        Err(_) => Err("the file is refused, or memory is wanted".into()),
     }
 }
 
