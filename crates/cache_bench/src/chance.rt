@@ -1,18 +1,23 @@
 //! Numbers that look random, the same in each run and in the scripts that compare.
 
+ghost use Rattle.std.specs.Prelude.{◌≡◌, ◌<◌};
+
 /// Numbers from a seed on.
 #[derive(Drop)]
-pub struct Chance {
+pub(crate) struct Chance {
     state: u64,
 }
 
 impl Chance {
-    pub fn new(seed: u64) -> Chance {
+    pub(crate) fn new(seed: u64) -> Chance {
         Chance { state: seed }
     }
 
     /// The next number below a limit; 0 where the limit is 0.
-    pub fn below(&mut self, limit: u32) -> u32 {
+    pub(crate) fn below(&mut self, limit: u32) -> u32
+        ensures below { 0 < limit → result < limit }
+        ensures none { limit ≡ 0 → result ≡ 0 }
+    {
         self.state = self
             .state
             .wrapping_mul(6_364_136_223_846_793_005)

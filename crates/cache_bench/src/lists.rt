@@ -10,10 +10,10 @@ use std::alloc::{AllocError, Global};
 use std::io;
 use std::num::NonZeroUsize;
 
-pub type Cache = ByteCache<Sample, Lax>;
+pub(crate) type Cache = ByteCache<Sample, Lax>;
 
 /// A number on the line; 0 where there is none.
-pub fn number(word: Option<String>) -> u64 {
+pub(crate) fn number(word: Option<String>) -> u64 {
     match word {
         Some(word) => word.as_str().parse::<u64>().unwrap_or(0),
         None => 0,
@@ -21,7 +21,7 @@ pub fn number(word: Option<String>) -> u64 {
 }
 
 /// A sample of the one name that all have.
-pub fn sample(alloc: Global, number: u32) -> Result<Sample, NoMemory> {
+pub(crate) fn sample(alloc: Global, number: u32) -> Result<Sample, NoMemory> {
     let text = format!(in alloc; "a")?;
     if !is_name(text.as_str()) {
         return Err(AllocError);
@@ -29,7 +29,7 @@ pub fn sample(alloc: Global, number: u32) -> Result<Sample, NoMemory> {
     Ok(Sample::new(Name::new(text)?, number))
 }
 
-pub fn cache(alloc: Global, bytes: u32, entries: usize) -> Result<Cache, NoMemory> {
+pub(crate) fn cache(alloc: Global, bytes: u32, entries: usize) -> Result<Cache, NoMemory> {
     let Some(entries) = NonZeroUsize::new(entries) else {
         return Err(AllocError);
     };
@@ -116,7 +116,7 @@ fn state(alloc: Global, cache: &Cache) -> Result<String, NoMemory> {
 }
 
 /// So many lists of calls, each on a new cache.
-pub fn by_chance(rt: &impl Print, alloc: Global, count: u64, seed: u64) -> io::Result<()> {
+pub(crate) fn by_chance(rt: &impl Print, alloc: Global, count: u64, seed: u64) -> io::Result<()> {
     let mut chance = Chance::new(seed);
     for _ in 0..count {
         let limit = chance.below(200);

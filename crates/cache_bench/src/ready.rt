@@ -9,8 +9,8 @@ use iiif_sample_keys::{Lax, Sample};
 
 /// A key, and an entry of a flight for it.
 #[derive(Drop)]
-pub struct Ready {
-    pub key: Sample,
-    pub entry: Entry<Sample, Lax>,
-    pub ghost of_key: { IsTrue (is_of sample_eq key entry) },
+pub(crate) struct Ready {
+    pub(crate) key: Sample,
+    pub(crate) entry: Entry<Sample, Lax>,
+    pub(crate) ghost of_key: { IsTrue (is_of sample_eq key entry) },
 }

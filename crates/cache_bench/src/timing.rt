@@ -30,7 +30,7 @@ fn entries(alloc: Global, keys: &[Sample]) -> io::Result<Vec<Ready>> {
 }
 
 /// The cache with 4,096 entries of 100 bytes, and the least times in nanoseconds of all gets and all puts.
-pub fn measure(rt: &(impl Print + CpuClock), alloc: Global) -> io::Result<()> {
+pub(crate) fn measure(rt: &(impl Print + CpuClock), alloc: Global) -> io::Result<()> {
     let mut keys = Vec::new(alloc);
     for number in 0..KEYS {
         keys.push(sample(alloc, number)?)?;

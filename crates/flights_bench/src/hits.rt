@@ -108,7 +108,7 @@ fn keys(alloc: Global, count: u32) -> Result<Vec<Sample>, NoMemory> {
 }
 
 /// Three keys asked for twice, and what was counted.
-pub fn few<L: Ledger, R: Wait + Print>(rt: &R, alloc: Global, blank: Blank) -> io::Result<()>
+pub(crate) fn few<L: Ledger, R: Wait + Print>(rt: &R, alloc: Global, blank: Blank) -> io::Result<()>
     requires name { blank.name ≡ L.name }
     requires parts { blank.parts ≡ L.parts }
     requires all { L.parts ≡ 65537 }
@@ -125,7 +125,7 @@ pub fn few<L: Ledger, R: Wait + Print>(rt: &R, alloc: Global, blank: Blank) -> i
 }
 
 /// How long a hit takes, with so many entries.
-pub fn many<L: Ledger + Send + Sync, R: Threads + Wait + Clock + CpuClock + Print + Sync>(
+pub(crate) fn many<L: Ledger + Send + Sync, R: Threads + Wait + Clock + CpuClock + Print + Sync>(
     rt: &R,
     alloc: Global,
     entries: u32,

@@ -10,5 +10,3 @@ mod getting;
 mod listing;
 mod putting;
 mod recent;
-#[cfg(test)]
-mod tests;

@@ -102,4 +102,4 @@ derived_is shows s k has source fits =
     ap (λ (g : Grid). record { sums = g })
     (chosen (k.level == 0) _ _ _
     (λ e. tile_meant shows p k has.known (eqb-true k.level 0 e))
-    (λ e. merged_meaning shows p k has.known source.whole source.area own (above k.level e)))
+    (λ e. merged_meaning shows p k has.known source.whole source.readable.area own (above k.level e)))

@@ -19,15 +19,11 @@ pub mod keys;
 pub mod laws;
 pub mod name;
 pub mod places;
-#[cfg(test)]
-mod plain;
 pub mod splitting;
 mod sum_bytes;
 mod sum_val_bytes;
 pub mod sums;
 pub mod system;
-#[cfg(test)]
-mod tests;
 mod tile_bytes;
 mod tile_val_bytes;
 pub mod tiles;

@@ -1,13 +1,21 @@
--- Laws of samples.
-use Rattle.std.specs.Prelude.{◌≡◌, ℕ, ◌<◌, Bool, ◌&&◌, true, nat_eq, length, replicate}
+-- Samples, and their laws.
+use Rattle.std.specs.Prelude.{◌≡◌, ℕ, ◌<◌, List, Bool, ◌&&◌, true, nat_eq, length, replicate}
 use Rattle.std.proofs.Common.{ap, arith}
 use Rattle.std.specs.Cmp.Lexicographic.{pointwise}
 use Rattle.iiif_keys.specs.KeyLaws.{tile_identical}
 use Rattle.iiif_keys.specs.declared.keys.TileKey.{TileKey}
 use Rattle.iiif_sample_keys.specs.declared.sample.Sample.{Sample}
 
-abbrev of_tile : TileKey → Sample
+abbrev pub of_tile : TileKey → Sample
 of_tile t = record { tile = t }
+
+-- the sample of a name that has this number
+abbrev pub sample_of : List ℕ → ℕ → Sample
+sample_of name number = of_tile (record { name = name; edge = 1; tx = number; ty = 0 })
+
+-- the number that tells the samples of a name apart
+abbrev pub number_of : Sample → ℕ
+number_of k = k.tile.tx
 
 -- samples are equal
 abbrev pub sample_eq : Sample → Sample → Bool

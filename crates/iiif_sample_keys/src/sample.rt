@@ -11,8 +11,13 @@ pub struct Sample {
 }
 
 impl Sample {
+    ghost use Rattle.std.specs.Prelude.{◌≡◌};
+    ghost use Rattle.iiif_sample_keys.specs.Samples.{sample_of, number_of};
+
     /// Keys of one name are equal where these numbers are.
-    pub fn new(name: Name, number: u32) -> Sample {
+    pub fn new(name: Name, number: u32) -> Sample
+        ensures { result ≡ sample_of name number }
+    {
         Sample {
             tile: TileKey {
                 name,
@@ -23,7 +28,10 @@ impl Sample {
         }
     }
 
-    pub fn number(&self) -> u32 {
+    /// The number that tells the keys of a name apart.
+    pub fn number(&self) -> u32
+        ensures { result ≡ number_of self.now }
+    {
         self.tile.tx
     }
 }

@@ -23,6 +23,4 @@ mod opening;
 pub mod opens;
 pub mod pass;
 pub mod table;
-#[cfg(test)]
-mod tests;
 pub mod whole;

@@ -2,7 +2,7 @@
 
 ghost use Rattle.std.specs.Prelude.{◌≡◌, ◌^◌, ◌<◌};
 
-use crate::{ByteCache, PutFault};
+use iiif_byte_cache::{ByteCache, PutFault};
 use iiif_keys::{Name, is_name};
 use iiif_outcome::Entry;
 use iiif_sample_keys::{Lax, Sample, kept};
@@ -178,5 +178,48 @@ fn hit_leaves_the_order_and_touch_changes_it(rt: HostRuntime) -> Result<(), Fail
     assert_eq!(rt; main_of(alloc, &cache)?.as_slice(), [1u32, 0].as_slice());
     cache.touch(&key);
     assert_eq!(rt; main_of(alloc, &cache)?.as_slice(), [0u32, 1].as_slice());
+    Ok(())
+}
+
+/// Puts a pair, and once more the pair that came back for want of memory, where the cache is as it was.
+fn put_again(
+    alloc: Global,
+    cache: &mut Cache,
+    list: Into,
+    number: u32,
+    ticket: u64,
+) -> Result<(), Fail> {
+    let key = sample(alloc, number)?;
+    let entry = kept(alloc, &key, 13, ticket)?;
+    let before = (cache.bytes(), cache.len());
+    let answer = match list {
+        Into::Main => cache.put_main(key, entry),
+        Into::Hot => cache.put_hot(key, entry),
+    };
+    let Err(PutFault::NoMemory(key, entry)) = answer else {
+        return answer.map_err(|_| Fail::from("too big"));
+    };
+    if key.number() != number || **entry.value() != 13 || before != (cache.bytes(), cache.len()) {
+        return Err("a refused put changed something".into());
+    }
+    let answer = match list {
+        Into::Main => cache.put_main(key, entry),
+        Into::Hot => cache.put_hot(key, entry),
+    };
+    answer.map_err(|_| Fail::from("refused once more"))
+}
+
+#[test]
+fn pair_is_put_after_a_refused_growth(rt: HostRuntime) -> Result<(), Fail> {
+    let alloc = rt.alloc();
+    let mut cache = cache(alloc, 60, 8)?;
+    put_again(alloc, &mut cache, Into::Main, 0, 1)?;
+    put_again(alloc, &mut cache, Into::Main, 1, 2)?;
+    assert_eq!(rt; got(alloc, &mut cache, 0)?, Some(13));
+    put_again(alloc, &mut cache, Into::Main, 2, 3)?;
+    put_again(alloc, &mut cache, Into::Hot, 3, 4)?;
+    assert_eq!(rt; main_of(alloc, &cache)?.as_slice(), [2u32, 0].as_slice());
+    assert_eq!(rt; cache.hot_keys(alloc)?.len(), 0);
+    assert_eq!(rt; cache.bytes(), 56);
     Ok(())
 }
