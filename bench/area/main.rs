@@ -1,8 +1,10 @@
 //! The same work as the program `area_bench`, in plain Rust, to compare times in one run. Built by `rustc -O`.
 //! With no argument the check sums of a small picture, with `large` the milliseconds of processor time for a gray one of
-//! 10,000 by 10,000, the least of five runs, each over the whole picture at once.
+//! 10,000 by 10,000, over the whole picture at once, with `larger` for gray ones that are scaled up, with `sixteen` of 16 bits a sample.
+//! With `columns` too, the way of the definition, place by place, is left out.
 
 use std::env;
+use std::hint::black_box;
 use std::time::Duration;
 
 const SIDE: u32 = 10_000;
@@ -16,6 +18,41 @@ fn cpu() -> Duration {
     let mut time = [0i64; 2];
     unsafe { clock_gettime(3, &mut time) };
     Duration::new(time[0] as u64, time[1] as u32)
+}
+
+/// A sample of 8 or of 16 bits.
+trait Sample: Copy + Into<u64> {
+    const TOP: u64;
+
+    /// The high bits of a number.
+    fn high(number: u32) -> Self;
+
+    /// The low bits of a number.
+    fn low(number: u64) -> Self;
+}
+
+impl Sample for u8 {
+    const TOP: u64 = 255;
+
+    fn high(number: u32) -> u8 {
+        (number >> 24) as u8
+    }
+
+    fn low(number: u64) -> u8 {
+        number as u8
+    }
+}
+
+impl Sample for u16 {
+    const TOP: u64 = 65_535;
+
+    fn high(number: u32) -> u16 {
+        (number >> 16) as u16
+    }
+
+    fn low(number: u64) -> u16 {
+        number as u16
+    }
 }
 
 fn weight(i: u32, x: u32, a: u32, c: u32) -> u64 {
@@ -32,7 +69,7 @@ fn sources(i: u32, a: u32, c: u32) -> (u32, u32) {
 }
 
 /// The sums of the whole picture in one run, by columns that are added up for each result row.
-fn by_columns(samples: &[u8], side: u32, d: u32) -> Vec<u64> {
+fn by_columns<T: Sample>(samples: &[T], side: u32, d: u32) -> Vec<u64> {
     let mut sums = Vec::with_capacity(d as usize * d as usize);
     let mut columns = vec![0u64; side as usize];
     for j in 0..d {
@@ -42,7 +79,7 @@ fn by_columns(samples: &[u8], side: u32, d: u32) -> Vec<u64> {
             let w = weight(j, y, side, d) as u32;
             let row = &samples[y as usize * side as usize..(y as usize + 1) * side as usize];
             for (column, sample) in columns.iter_mut().zip(row) {
-                *column += u64::from(w) * u64::from(*sample);
+                *column += u64::from(w) * Into::<u64>::into(*sample);
             }
         }
         for i in 0..d {
@@ -57,34 +94,8 @@ fn by_columns(samples: &[u8], side: u32, d: u32) -> Vec<u64> {
     sums
 }
 
-/// The same with columns of 32 bits, which samples of 16 bits would overflow.
-fn by_narrow_columns(samples: &[u8], side: u32, d: u32) -> Vec<u64> {
-    let mut sums = Vec::with_capacity(d as usize * d as usize);
-    let mut columns = vec![0u32; side as usize];
-    for j in 0..d {
-        columns.fill(0);
-        let (top, bottom) = sources(j, side, d);
-        for y in top..bottom {
-            let w = weight(j, y, side, d) as u32;
-            let row = &samples[y as usize * side as usize..(y as usize + 1) * side as usize];
-            for (column, sample) in columns.iter_mut().zip(row) {
-                *column += w * u32::from(*sample);
-            }
-        }
-        for i in 0..d {
-            let (left, right) = sources(i, side, d);
-            let mut sum = 0;
-            for x in left..right {
-                sum += weight(i, x, side, d) * u64::from(columns[x as usize]);
-            }
-            sums.push(sum);
-        }
-    }
-    sums
-}
-
 /// Only the whole rows added up, each with its weight, of which nothing is made: what no way by columns goes below.
-fn rows_alone(samples: &[u8], side: u32, d: u32) -> Vec<u64> {
+fn rows_alone<T: Sample>(samples: &[T], side: u32, d: u32) -> Vec<u64> {
     let mut sums = Vec::with_capacity(d as usize);
     let mut columns = vec![0u64; side as usize];
     for j in 0..d {
@@ -94,7 +105,7 @@ fn rows_alone(samples: &[u8], side: u32, d: u32) -> Vec<u64> {
             let w = weight(j, y, side, d) as u32;
             let row = &samples[y as usize * side as usize..(y as usize + 1) * side as usize];
             for (column, sample) in columns.iter_mut().zip(row) {
-                *column += u64::from(w) * u64::from(*sample);
+                *column += u64::from(w) * Into::<u64>::into(*sample);
             }
         }
         sums.push(columns[j as usize]);
@@ -103,7 +114,7 @@ fn rows_alone(samples: &[u8], side: u32, d: u32) -> Vec<u64> {
 }
 
 /// Place by place, as the definition says it: a picture of a by b with some channels, scaled to c by d.
-fn by_places(samples: &[u8], (a, b): (u32, u32), (c, d): (u32, u32), channels: usize) -> Vec<u64> {
+fn by_places<T: Sample>(samples: &[T], (a, b): (u32, u32), (c, d): (u32, u32), channels: usize) -> Vec<u64> {
     let mut sums = Vec::with_capacity(c as usize * d as usize * channels);
     for j in 0..d {
         let (top, bottom) = sources(j, b, d);
@@ -115,7 +126,7 @@ fn by_places(samples: &[u8], (a, b): (u32, u32), (c, d): (u32, u32), channels: u
                     let mut row = 0;
                     for x in left..right {
                         let place = y as usize * a as usize + x as usize;
-                        row += weight(i, x, a, c) * u64::from(samples[place * channels + k]);
+                        row += weight(i, x, a, c) * Into::<u64>::into(samples[place * channels + k]);
                     }
                     sum += weight(j, y, b, d) * row;
                 }
@@ -126,73 +137,158 @@ fn by_places(samples: &[u8], (a, b): (u32, u32), (c, d): (u32, u32), channels: u
     sums
 }
 
-fn finish(sums: &[u64], area: u64) -> Vec<u8> {
+/// What a row of samples gives to each result column, where none is wider than a source column: parts of two at most.
+fn stretched<T: Sample>(row: &[T], spans: &[(usize, usize, u64, u64)], to: &mut [u64]) {
+    for (sum, &(left, right, first, last)) in to.iter_mut().zip(spans) {
+        *sum = first * row[left].into() + last * row[right].into();
+    }
+}
+
+/// The sums of a gray picture of a by b that is scaled up in both directions to c by d: each source row is stretched once, and
+/// each result row takes of two at most.
+fn by_stretched_rows<T: Sample>(samples: &[T], (a, b): (u32, u32), (c, d): (u32, u32)) -> Vec<u64> {
+    let spans: Vec<_> = (0..c)
+        .map(|i| {
+            let (left, right) = sources(i, a, c);
+            let last = if right - left > 1 {
+                weight(i, right - 1, a, c)
+            } else {
+                0
+            };
+            (
+                left as usize,
+                right as usize - 1,
+                weight(i, left, a, c),
+                last,
+            )
+        })
+        .collect();
+    let mut sums = Vec::with_capacity(c as usize * d as usize);
+    // The stretched rows of even and of odd numbers, and which they are.
+    let mut rows = [
+        (u32::MAX, vec![0u64; c as usize]),
+        (u32::MAX, vec![0u64; c as usize]),
+    ];
+    for j in 0..d {
+        let (top, bottom) = sources(j, b, d);
+        for y in top..bottom {
+            let (held, row) = &mut rows[y as usize % 2];
+            if *held != y {
+                *held = y;
+                stretched(
+                    &samples[y as usize * a as usize..][..a as usize],
+                    &spans,
+                    row,
+                );
+            }
+        }
+        let first = weight(j, top, b, d);
+        let upper = &rows[top as usize % 2].1;
+        if bottom - top == 1 {
+            sums.extend(upper.iter().map(|sum| first * sum));
+        } else {
+            let last = weight(j, top + 1, b, d);
+            let lower = &rows[(top as usize + 1) % 2].1;
+            sums.extend(upper.iter().zip(lower).map(|(p, q)| first * p + last * q));
+        }
+    }
+    sums
+}
+
+fn finish<T: Sample>(sums: &[u64], area: u64) -> Vec<T> {
     sums.iter()
-        .map(|s| ((2 * s + area) / (2 * area)).min(255) as u8)
+        .map(|s| T::low(((2 * s + area) / (2 * area)).min(T::TOP)))
         .collect()
 }
 
-fn check_sum(samples: &[u8]) -> u64 {
+fn check_sum<T: Sample>(samples: &[T]) -> u64 {
     samples.iter().fold(0, |sum, s| {
-        u64::wrapping_add(u64::wrapping_mul(sum, 31), u64::from(*s))
+        u64::wrapping_add(u64::wrapping_mul(sum, 31), (*s).into())
     })
 }
 
-fn least<T>(rounds: u32, mut work: impl FnMut() -> T) -> (f64, T) {
-    let mut best = f64::MAX;
-    let mut made = None;
-    for _ in 0..rounds {
-        let start = cpu();
-        let value = work();
-        best = best.min((cpu() - start).as_secs_f64() * 1000.0);
-        made = Some(value);
-    }
-    (best, made.unwrap())
+/// The milliseconds that a piece of work takes, and what it makes.
+fn timed<T>(work: impl FnOnce() -> T) -> (f64, T) {
+    let start = cpu();
+    let made = work();
+    ((cpu() - start).as_secs_f64() * 1000.0, made)
 }
 
 /// Samples that look random, the same in each run.
-fn pattern(count: usize) -> Vec<u8> {
+fn pattern<T: Sample>(count: usize) -> Vec<T> {
     let mut state = 12345u32;
     (0..count)
         .map(|_| {
             state = state.wrapping_mul(1_664_525).wrapping_add(1_013_904_223);
-            (state >> 24) as u8
+            T::high(state)
         })
         .collect()
 }
 
-fn small() {
-    let samples = pattern(37 * 23 * 3);
-    for (c, d) in [(5, 3), (16, 11), (37, 23)] {
+fn small<T: Sample>() {
+    let samples = pattern::<T>(37 * 23 * 3);
+    for (c, d) in [(5, 3), (16, 11), (37, 23), (50, 31), (74, 11), (7, 100)] {
         let sums = by_places(&samples, (37, 23), (c, d), 3);
-        println!("{c} by {d}: sum {}", check_sum(&finish(&sums, 37 * 23)));
+        println!("{c} by {d}: sum {}", check_sum(&finish::<T>(&sums, 37 * 23)));
     }
 }
 
-fn large() {
-    let samples = pattern(SIDE as usize * SIDE as usize);
+/// The result with a side of `d`, by columns and finished, and what no way by columns goes below.
+fn measure<T: Sample>(samples: &[T], d: u32) -> Vec<u64> {
     let area = u64::from(SIDE) * u64::from(SIDE);
-    let (copied, _) = least(5, || samples.clone());
+    let (columns, sums) = timed(|| by_columns(samples, SIDE, d));
+    let (rows, _) = timed(|| black_box(rows_alone(samples, SIDE, d)));
+    let (finished, made) = timed(|| finish::<T>(&sums, area));
+    let sum = check_sum(&made);
+    println!("{d} by {d}: columns {columns:.1} ms, finished {finished:.1} ms, rows alone {rows:.1} ms, sum {sum}");
+    sums
+}
+
+fn large<T: Sample>(only_columns: bool) {
+    let samples = pattern::<T>(SIDE as usize * SIDE as usize);
+    let (copied, _) = timed(|| black_box(samples.clone()));
     println!("a copy of all samples {copied:.1} ms");
     for d in [100, 1024, 4096, 8000] {
-        let (columns, sums) = least(5, || by_columns(&samples, SIDE, d));
-        let (narrow, same) = least(5, || by_narrow_columns(&samples, SIDE, d));
-        let (rows, _) = least(5, || rows_alone(&samples, SIDE, d));
-        let (places, plain) = least(2, || by_places(&samples, (SIDE, SIDE), (d, d), 1));
-        let (finished, made) = least(5, || finish(&sums, area));
-        assert!(sums == same && sums == plain);
-        println!(
-            "{d} by {d}: columns {columns:.1} ms, of 32 bits {narrow:.1} ms, rows alone {rows:.1} ms, place by place \
-             {places:.1} ms, finished {finished:.1} ms, sum {}",
-            check_sum(&made)
-        );
+        let sums = measure(&samples, d);
+        if !only_columns {
+            let (places, same) = timed(|| by_places(&samples, (SIDE, SIDE), (d, d), 1));
+            assert!(sums == same);
+            println!("{d} by {d}: place by place {places:.1} ms");
+        }
+    }
+}
+
+fn larger<T: Sample>(only_rows: bool) {
+    for (side, d) in [(512, 1024), (1024, 4096)] {
+        let samples = pattern::<T>(side as usize * side as usize);
+        let (stretched, sums) = timed(|| by_stretched_rows(&samples, (side, side), (d, d)));
+        let (finished, made) = timed(|| finish::<T>(&sums, u64::from(side) * u64::from(side)));
+        let sum = check_sum(&made);
+        println!("{d} by {d}: stretched rows {stretched:.1} ms, finished {finished:.1} ms, sum {sum}");
+        if !only_rows {
+            let (places, same) = timed(|| by_places(&samples, (side, side), (d, d), 1));
+            assert!(sums == same);
+            println!("{d} by {d}: place by place {places:.1} ms");
+        }
+    }
+}
+
+fn run<T: Sample>(words: &[String]) {
+    let is_said = |word: &str| words.iter().any(|said| said == word);
+    if is_said("large") {
+        large::<T>(is_said("columns"));
+    } else if is_said("larger") {
+        larger::<T>(is_said("columns"));
+    } else {
+        small::<T>();
     }
 }
 
 fn main() {
-    if env::args().any(|word| word == "large") {
-        large();
+    let words: Vec<String> = env::args().collect();
+    if words.iter().any(|word| word == "sixteen") {
+        run::<u16>(&words);
     } else {
-        small();
+        run::<u8>(&words);
     }
 }

@@ -50,6 +50,16 @@ area_from_corner region size part f i j =
     ∙ sum_from-same 0 part.w _ _ (λ t _ _.
     ap (λ u. weight_of i (part.x + t) region.w size.w * u) (sum_from-shift part.y part.h (λ y. weight_of j y region.h size.h * f (part.x + t) y)))
 
+-- and row by row
+pub area_from_rows : (region size : Dim) (part : Rect) (f : ℕ → ℕ → ℕ) (i j : ℕ) →
+    area_sum region size part f i j
+    ≡ sum_from 0 part.h (λ s. weight_of j (part.y + s) region.h size.h * sum_from 0 part.w (λ t. weight_of i (part.x + t) region.w size.w * f (part.x + t) (part.y + s)))
+area_from_rows region size part f i j =
+    area_by_rows region size part f i j
+    ∙ sum_from-shift part.y part.h (λ y. weight_of j y region.h size.h * sum_from part.x part.w (λ x. weight_of i x region.w size.w * f x y))
+    ∙ sum_from-same 0 part.h _ _ (λ s _ _.
+    ap (λ u. weight_of j (part.y + s) region.h size.h * u) (sum_from-shift part.x part.w (λ x. weight_of i x region.w size.w * f x (part.y + s))))
+
 pub area_same : IsOfPart
 unfolding area_sum
 area_same region size part f g i j h =

@@ -1,3 +1,4 @@
+pub mod AddingLaws
 pub mod AreaLaws
 pub mod ColumnLaws
 pub mod CutLaws

@@ -37,3 +37,8 @@ span_total columns n k c s =
     s.first * slice_index columns (s.start * n + k)
     + c * sum_from (s.start + 1) (s.end - 1 - (s.start + 1)) (λ t. slice_index columns (t * n + k))
     + s.last * slice_index columns ((s.end - 1) * n + k)
+
+-- What result column i takes of a row of samples in channel k, with n channels a place: the places are `count` source columns
+-- from `from` on, of a that are scaled to c.
+unfoldable pub row_sum : List ℕ → ℕ → ℕ → ℕ → ℕ → ℕ → ℕ → ℕ → ℕ
+row_sum row n from count a c i k = sum_from 0 count (λ t. weight_of i (from + t) a c * slice_index row (t * n + k))

@@ -1,14 +1,15 @@
 -- The laws of weights and of sums over parts.
-use Rattle.std.specs.Prelude.{◌≡◌, ℕ, ◌+◌, ◌*◌, ◌/◌, ◌^◌, ◌<◌, ◌≤◌, ◌↔◌, true, List, sum, sum_by, count_by, map, fold, All, if◌then◌else◌}
+use Rattle.std.specs.Prelude.{◌≡◌, ℕ, ◌+◌, ◌*◌, ◌/◌, ◌^◌, ◌<◌, ◌≤◌, ◌↔◌, true, List, Bool, sum, sum_by, count_by, map, fold, All, if◌then◌else◌}
 use Rattle.std.specs.Int.{div_ceil}
-use Rattle.std.specs.List.{flat_map, range_with_len}
-use Rattle.iiif_pixel.specs.Geometry.{HasPlace}
+use Rattle.std.specs.List.{filter, flat_map, range_with_len}
+use Rattle.iiif_pixel.specs.Geometry.{HasPlace, LiesIn}
+use Rattle.iiif_pixel.specs.Operations.{crop}
 use Rattle.iiif_pixel.specs.Picture.{Picture, IsWhole, dim_of}
-use Rattle.iiif_pixel.specs.Scaling.{sum_from, weight_of, area_sum, scale}
+use Rattle.iiif_pixel.specs.Scaling.{sum_from, weight_of, area_sum, scale, whole_of}
 use Rattle.iiif_pixel.specs.declared.geometry.Dim.{Dim}
 use Rattle.iiif_pixel.specs.declared.geometry.Rect.{Rect}
 use Rattle.iiif_area.specs.Places.{part_of, places_of, IsInside}
-use Rattle.iiif_area.specs.Grid.{has_place, grid_of, merged, part_sum, sums_at, sums_of}
+use Rattle.iiif_area.specs.Grid.{finished, has_place, grid_of, merged, part_sum, sums_at, sums_of}
 
 -- what each result column takes of all source columns is a in all
 abbrev pub WeightsAddUp : Type 0
@@ -89,6 +90,23 @@ abbrev pub PiecesMerge : Type 0
 PiecesMerge = (p : Picture) (size : Dim) (part rect : Rect) (rects : List Rect) → IsWhole p → 0 < p.width → 0 < p.height →
     p.width * p.height ≤ 2 ^ 32 → IsCutInto part rects →
     fold merged (grid_of rect p.channels (λ i j k. 0)) (map (λ r. sums_of p size r) rects) ≡ sums_at rect p size part
+
+-- a test that each part passes that has a result place of a rectangle
+abbrev pub PassesMet : Picture → Dim → Rect → (Rect → Bool) → Type 0
+PassesMet p size rect test = (r : Rect) (i j : ℕ) → HasPlace (places_of (dim_of p) size r) i j → HasPlace rect i j → test r ≡ true
+
+-- The other parts add nothing there: what passes such a test, merged into sums of 0, is what all are.
+abbrev pub OthersAddNothing : Type 0
+OthersAddNothing = (p : Picture) (size : Dim) (part rect : Rect) (rects : List Rect) (test : Rect → Bool) → IsWhole p → 0 < p.width → 0 < p.height →
+    p.width * p.height ≤ 2 ^ 32 → IsCutInto part rects → PassesMet p size rect test →
+    fold merged (grid_of rect p.channels (λ i j k. 0)) (map (λ r. sums_of p size r) (filter test rects)) ≡ sums_at rect p size part
+
+-- So a rectangle of the scaled picture is made of the parts that have a result place of it, however the whole is cut.
+abbrev pub BandsAreCut : Type 0
+BandsAreCut = (p : Picture) (size : Dim) (rect : Rect) (rects : List Rect) (test : Rect → Bool) → IsWhole p → 0 < p.width → 0 < p.height →
+    p.width * p.height ≤ 2 ^ 32 → IsCutInto (whole_of (dim_of p)) rects → PassesMet p size rect test → LiesIn rect size →
+    finished (fold merged (grid_of rect p.channels (λ i j k. 0)) (map (λ r. sums_of p size r) (filter test rects))) (dim_of p) p.top rect
+    ≡ crop (scale p size) rect
 
 -- a whole picture that isn't empty, scaled to its own sides, is that picture
 abbrev pub SameSidesChangeNothing : Type 0

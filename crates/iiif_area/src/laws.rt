@@ -1,7 +1,7 @@
 //! What holds of weights and of sums over parts at every argument. The functions compute nothing: their contracts are the
 //! laws, for the crates above.
 
-ghost use Rattle.iiif_area.specs.Laws.{WeightsAddUp, NoWeightBefore, NoWeightFrom, SplitsAtColumn, SplitsAtRow, CutsAddUp, IsZeroElsewhere, PartIsCommon, PlaceIsTested, IsOfPart, PlacesGrow, IsBounded, SumsFit, MergingAdds, PiecesMerge, CutsNest, SameSidesChangeNothing, IsSumOverRange};
+ghost use Rattle.iiif_area.specs.Laws.{WeightsAddUp, NoWeightBefore, NoWeightFrom, SplitsAtColumn, SplitsAtRow, CutsAddUp, IsZeroElsewhere, PartIsCommon, PlaceIsTested, IsOfPart, PlacesGrow, IsBounded, SumsFit, MergingAdds, PiecesMerge, OthersAddNothing, BandsAreCut, CutsNest, SameSidesChangeNothing, IsSumOverRange};
 
 /// So the average of samples is at most the greatest of them.
 pub fn weights_add_up()
@@ -44,6 +44,13 @@ pub fn sums_fit()
 pub fn merging_adds()
     ensures one { MergingAdds }
     ensures all { PiecesMerge }
+{}
+
+/// So a band of a scaled picture is made of the tiles that have a place of it, whichever sides grow: a sum of 0 at each place,
+/// each tile added, and then the averages.
+pub fn bands_are_made_of_parts()
+    ensures sums { OthersAddNothing }
+    ensures scaled { BandsAreCut }
 {}
 
 /// So a region may be cut into blocks, and each block into tiles.

@@ -8,6 +8,7 @@ ghost use Rattle.iiif_pixel.specs.Scaling.{scale, whole_of};
 ghost use Rattle.iiif_area.specs.Places.{part_of, places_of, IsInside, IsScalable, Meets};
 ghost use Rattle.iiif_area.specs.Grid.{finished, grid_of, merged, sums_at, sums_of, IsGrid};
 
+use crate::adding::add_part;
 use crate::averages::push_averages;
 use crate::columns::tile_sums;
 use crate::merging::add_places;
@@ -117,6 +118,29 @@ impl Sums {
     {
         let channels = self.kind.channels();
         add_places(channels, self.rect, &mut self.sums, other.rect, &other.sums);
+    }
+
+    /// Adds what a tile holds of a region that is scaled to `size`, at the places that are there: `merge` with what `of_tile`
+    /// gives, without its memory, and quick where sides grow. The tile lies at `at` in an image, and the region at `region`.
+    pub fn add_tile(&mut self, tile: &Raster, at: Rect, region: Rect, size: Dim)
+        requires sides { dim_of tile.now ≡ sides_of at }
+        requires kind { tile.now.channels ≡ self.old.channels }
+        requires meets { Meets at region }
+        requires limits { IsScalable (sides_of region) size }
+        ensures sums { (p : Picture) → tile.now ≡ crop p at → self.new ≡ merged self.old (sums_of (crop p region) size (part_of at region)) }
+        ensures rect { self.new.rect ≡ self.old.rect }
+        ensures channels { self.new.channels ≡ self.old.channels }
+    {
+        let (part, corner) = (part_of(at, region), corner_of(at, region));
+        add_part(
+            self.rect,
+            &mut self.sums,
+            tile,
+            corner,
+            part,
+            region.dim(),
+            size,
+        );
     }
 
     /// The samples of a depth that sums over the whole of a region make at the places of `rect`: the averages, rounded to the

@@ -15,8 +15,8 @@ use Rattle.iiif_pixel.specs.declared.geometry.Turn.{Turn}
 use Rattle.iiif_canonical.specs.Images.{resolved_image}
 use Rattle.iiif_canonical.specs.declared.resolved.Resolved.{Resolved}
 use Rattle.iiif_planner.specs.declared.plans.Plan.{Plan}
-use Rattle.iiif_planner.specs.declared.plans.Plan.TheVariants.{Copy, Sum}
-use Rattle.iiif_bands.specs.Bands.{block_places, tile_places, ListsItems, ListsThose, ReachesInto}
+use Rattle.iiif_planner.specs.declared.plans.Plan.TheVariants.{Copy, Grow, Sum}
+use Rattle.iiif_bands.specs.Bands.{block_places, grown_places, tile_places, ListsItems, ListsThose, ReachesInto}
 use Rattle.iiif_keys.specs.Names.{named, IsSource, Pictures}
 use Rattle.iiif_keys.specs.Shapes.{HasPicture}
 use Rattle.iiif_keys.specs.declared.keys.Shape.{Shape}
@@ -68,8 +68,9 @@ met_from {K} t d places from rect keys items lies same lists = (
 -- the items of a band are those of the part that is turned into it
 pub items_met : (r : Resolved) (plan : Plan) (from rect : Rect) (items : List ℕ) → LiesIn from r.size →
     ((x y : ℕ) → x < r.size.w → y < r.size.h → HasPlace from x y ↔ HasPlace rect (turned_place r.turn r.size x y).0 (turned_place r.turn r.size x y).1) →
-    ListsItems r plan rect items → ListsMetItems r.rect from plan items
+    ListsItems r plan rect items → ListsMetItems r from plan items
 items_met r (Copy keys) from rect items lies same lists = met_from r.turn r.size (tile_places r.rect) from rect keys.items items lies same lists
+items_met r (Grow keys) from rect items lies same lists = met_from r.turn r.size (grown_places r.rect r.size) from rect keys.items items lies same lists
 items_met r (Sum keys) from rect items lies same lists = met_from r.turn r.size block_places from rect keys.items items lies same lists
 
 pub quality_sides : (p : Picture) (to : Quality) → dim_of (quality p to) ≡ dim_of p

@@ -7,3 +7,4 @@ pub mod FinishLemmas
 pub mod HeldLemmas
 pub mod WholeLemmas
 pub mod JobLemmas
+pub mod GrowLemmas

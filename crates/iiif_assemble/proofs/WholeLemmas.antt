@@ -24,8 +24,8 @@ use Rattle.iiif_keys.specs.declared.values.SumVal.{SumVal}
 use Rattle.iiif_keys.specs.declared.values.TileVal.{TileVal}
 use Rattle.iiif_planner.specs.Plans.{IsBlockFor, IsPlan, IsTileFor}
 use Rattle.iiif_planner.specs.declared.plans.Plan.{Plan}
-use Rattle.iiif_planner.specs.declared.plans.Plan.TheVariants.{Copy, Sum}
-use Rattle.iiif_bands.specs.Bands.{block_places, places_from, tile_places, ListsItems, ListsThose, ReachesInto}
+use Rattle.iiif_planner.specs.declared.plans.Plan.TheVariants.{Copy, Grow, Sum}
+use Rattle.iiif_bands.specs.Bands.{block_places, grown_places, places_from, tile_places, ListsItems, ListsThose, ReachesInto}
 use Rattle.iiif_bands.proofs.BandLemmas.{meets_square, part_lies}
 use Rattle.iiif_assemble.specs.Faults.{IsBandFault, IsPlanFault}
 use Rattle.iiif_assemble.specs.Gathering.{IsItemFault}
@@ -93,6 +93,19 @@ block_reaches name edge image channels region size level t k few b =
     subst (λ (d : Dim). ReachesInto t d (block_places k) (whole_of (turned_dim t d))) b.to_size
     (reaches_whole t k.size (block_places k) few columns.0 rows.0 columns.1 rows.1)
 
+grown_reaches : (name : List ℕ) (edge : ℕ) (image : Dim) (channels : ℕ) (region : Rect) (size : Dim) (t : Turn) (k : TileKey) → t.quarters < 4 → LiesIn region image → 0 < size.w → 0 < size.h →
+    IsTileFor name edge image channels region k → ReachesInto t size (grown_places region size k) (whole_of (turned_dim t size))
+grown_reaches name edge image channels region size t k few lies w h b =
+    let s = square k.edge k.tx k.ty in
+    let m = meets_square image s region lies b.meets in
+    let part = part_of s region in
+    let inside = part_lies s region m in
+    let a = m.columns in
+    let c = m.rows in
+    let columns = column_met part.x part.w region.w size.w (let e = inside.columns in omega arith) w m.columns inside.columns in
+    let rows = column_met part.y part.h region.h size.h (let e = inside.rows in omega arith) h m.rows inside.rows in
+    reaches_whole t size (grown_places region size k) few columns.0 rows.0 columns.1 rows.1
+
 -- where each passes the places are all
 places_all : {K : Type 0} (n : ℕ) (test : K → Bool) (keys : List K) → All (λ k. test k ≡ true) keys → places_from n test keys ≡ range_with_len n (length keys)
 unfolding places_from
@@ -109,16 +122,21 @@ lists_all {K} P keys items each lists =
 
 -- the fault of the band of all rows is that of the plan
 pub plan_fault : (tile : TileKey → TileVal → Type 0) (tile_failed : TileKey → Fault → Type 0) (sum : SumKey → SumVal → Type 0) (sum_failed : SumKey → Fault → Type 0)
-    (name : List ℕ) (edge : ℕ) (image : Dim) (channels room : ℕ) (r : Resolved) (plan : Plan) (items : List ℕ) (fault : Fault) → r.turn.quarters < 4 → LiesIn r.rect image →
+    (name : List ℕ) (edge : ℕ) (image : Dim) (channels room : ℕ) (r : Resolved) (plan : Plan) (items : List ℕ) (fault : Fault) → r.turn.quarters < 4 → LiesIn r.rect image → 0 < r.size.w → 0 < r.size.h →
     IsPlan name edge image channels room r plan → ListsItems r plan (whole_of (turned_dim r.turn r.size)) items →
     IsBandFault tile tile_failed sum sum_failed plan items fault → IsPlanFault tile tile_failed sum sum_failed plan fault
-plan_fault tile tile_failed sum sum_failed name edge image channels room r (Copy keys) items fault few lies planned lists of_band =
+plan_fault tile tile_failed sum sum_failed name edge image channels room r (Copy keys) items fault few lies w h planned lists of_band =
     let P : TileKey → Type 0 = λ k. ReachesInto r.turn r.size (tile_places r.rect k) (whole_of (turned_dim r.turn r.size)) in
     let each : All P keys.items = All-weaker (IsTileFor name edge image channels r.rect) P
     (λ k b. subst (λ (d : Dim). ReachesInto r.turn d (tile_places r.rect k) (whole_of (turned_dim r.turn d))) (sym planned.0)
     (tile_reaches name edge image channels r.rect r.turn k few lies b)) keys.items planned.1.tiles in
     subst (λ (js : List ℕ). IsItemFault tile tile_failed keys.items js fault) (lists_all P keys.items items each lists) of_band
-plan_fault tile tile_failed sum sum_failed name edge image channels room r (Sum keys) items fault few lies planned lists of_band =
+plan_fault tile tile_failed sum sum_failed name edge image channels room r (Grow keys) items fault few lies w h planned lists of_band =
+    let P : TileKey → Type 0 = λ k. ReachesInto r.turn r.size (grown_places r.rect r.size k) (whole_of (turned_dim r.turn r.size)) in
+    let each : All P keys.items = All-weaker (IsTileFor name edge image channels r.rect) P
+    (λ k b. grown_reaches name edge image channels r.rect r.size r.turn k few lies w h b) keys.items planned.1.tiles in
+    subst (λ (js : List ℕ). IsItemFault tile tile_failed keys.items js fault) (lists_all P keys.items items each lists) of_band
+plan_fault tile tile_failed sum sum_failed name edge image channels room r (Sum keys) items fault few lies w h planned lists of_band =
     let level = planned.1 in
     let P : SumKey → Type 0 = λ k. ReachesInto r.turn r.size (block_places k) (whole_of (turned_dim r.turn r.size)) in
     let each : All P keys.items = All-weaker (IsBlockFor name edge image channels r.rect r.size level) P

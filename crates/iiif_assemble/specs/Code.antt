@@ -2,17 +2,23 @@
 use Rattle.std.specs.Prelude.{◌≡◌, ℕ, ◌+◌, ◌*◌, ◌/◌, ◌<◌, ◌≤◌, min, List, true, Bool, count_by, Some}
 use Rattle.iiif_pixel.specs.Geometry.{channels_of, top_of, HasPlace}
 use Rattle.iiif_pixel.specs.Picture.{Picture, IsWhole, dim_of, sample_at}
+use Rattle.iiif_pixel.specs.Operations.{crop}
+use Rattle.iiif_pixel.specs.declared.geometry.Dim.{Dim}
 use Rattle.iiif_pixel.specs.declared.geometry.Rect.{Rect}
-use Rattle.iiif_area.specs.Grid.{Grid, has_place}
+use Rattle.iiif_area.specs.Grid.{Grid, has_place, sums_of}
+use Rattle.iiif_area.specs.Places.{part_of, Meets}
+use Rattle.iiif_canonical.specs.declared.resolved.Resolved.{Resolved}
+use Rattle.iiif_keys.specs.Blocks.{tile_of, TileFitsIn}
+use Rattle.iiif_keys.specs.declared.keys.Shape.{Shape}
 use Rattle.iiif_keys.specs.Names.{Pictures}
 use Rattle.iiif_keys.specs.declared.keys.SumKey.{SumKey}
 use Rattle.iiif_keys.specs.declared.keys.TileKey.{TileKey}
 use Rattle.iiif_keys.specs.declared.values.SumVal.{SumVal}
 use Rattle.iiif_keys.specs.declared.values.TileVal.{TileVal}
-use Rattle.iiif_bands.specs.Bands.{block_places, places_from, tile_places}
+use Rattle.iiif_bands.specs.Bands.{block_places, grown_places, places_from, tile_places}
 use Rattle.iiif_planner.specs.Plans.{BlocksCover, TilesCover}
 use Rattle.iiif_planner.specs.declared.plans.Plan.{Plan}
-use Rattle.iiif_planner.specs.declared.plans.Plan.TheVariants.{Copy, Sum}
+use Rattle.iiif_planner.specs.declared.plans.Plan.TheVariants.{Copy, Grow, Sum}
 use Rattle.iiif_assemble.specs.declared.job.Job.{Job}
 
 -- the tiles, and the blocks, of a plan of the job
@@ -65,9 +71,19 @@ abbrev pub tile_in : TileVal → Picture
 tile_in v = v.raster
 
 -- the same of the items of a plan and a part of the scaled result
-abbrev pub ListsMetItems : Rect → Rect → Plan → List ℕ → Type 0
-ListsMetItems region from (Copy keys) items = ListsMet (tile_places region) from keys.items items
-ListsMetItems region from (Sum keys) items = ListsMet block_places from keys.items items
+abbrev pub ListsMetItems : Resolved → Rect → Plan → List ℕ → Type 0
+ListsMetItems r from (Copy keys) items = ListsMet (tile_places r.rect) from keys.items items
+ListsMetItems r from (Grow keys) items = ListsMet (grown_places r.rect r.size) from keys.items items
+ListsMetItems r from (Sum keys) items = ListsMet block_places from keys.items items
+
+-- a tile of an image of a shape, which has a place of a region
+pub record TileHasPart (s : Shape) (region : Rect) (k : TileKey) : Type 0 where
+  pub fits : TileFitsIn s.dim (channels_of s.kind) k
+  pub meets : Meets (tile_of s.dim k) region
+
+-- what a tile of a picture adds to the sums of a region that is scaled to a size
+abbrev pub tile_adds : Picture → Dim → Rect → Dim → TileKey → Grid
+tile_adds p image region size k = sums_of (crop p region) size (part_of (tile_of image k) region)
 
 -- a sum over an area as a sample: the average, a half up, and top for any above it
 abbrev pub rounded_sum : ℕ → ℕ → ℕ → ℕ

@@ -14,6 +14,7 @@ ghost use Rattle.iiif_assemble.specs.Code.{count_of, IsPictureOf, IsWithin, List
 ghost use Rattle.iiif_assemble.specs.Faults.{IsBandFault, IsPlanFault};
 
 use crate::finishing::count_of;
+use crate::growing::grown;
 use crate::items::Items;
 use crate::job::{Job, Made};
 use crate::merging::summed;
@@ -46,7 +47,7 @@ fn scaled_part<
     requires some { 0 < length passes.old }
     requires job { IsJob job.now }
     requires inside { LiesIn from job.now.resolved.size }
-    requires lists { ListsMetItems job.now.resolved.rect from job.now.plan items.now }
+    requires lists { ListsMetItems job.now.resolved from job.now.plan items.now }
     requires tiles { TilesServe job.now (T.fits tiles.now) (T.means tiles.now) }
     requires sums { SumsServe job.now (S.fits sums.now) (S.means sums.now) }
     ensures image { IfOk result (λ m. (shows : Pictures) (p : Picture) → IsPictureOf shows job.now p
@@ -62,6 +63,7 @@ fn scaled_part<
     whole_stays_whole();
     match &job.plan {
         Plan::Copy(keys) => pasted(rt, alloc, tiles, passes, job, keys, items, from),
+        Plan::Grow(keys) => grown(rt, alloc, tiles, passes, job, keys, items, from),
         Plan::Sum(keys) => summed(rt, alloc, sums, passes, job, keys, items, from),
     }
 }

@@ -55,8 +55,6 @@ impl Job {
         requires edge { IsEdge edge }
         requires room { room ≤ 65536 }
         requires inside { LiesIn resolved.rect shape.dim }
-        requires columns { resolved.size.w ≤ resolved.rect.w }
-        requires rows { resolved.size.h ≤ resolved.rect.h }
         requires scalable { IsScalable (sides_of resolved.rect) resolved.size }
         requires quarters { resolved.turn.quarters < 4 }
         ensures job { IfOk result IsJob }

@@ -4,12 +4,11 @@
 pub mod band;
 mod crew;
 mod finishing;
+mod growing;
 pub mod items;
 pub mod job;
 mod merging;
 mod pasting;
-#[cfg(test)]
-mod tests;
 
 pub use band::{assemble, assemble_band};
 pub use items::Items;

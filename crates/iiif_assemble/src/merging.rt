@@ -37,7 +37,7 @@ fn add(total: &mut Sums, value: &Arc<SumVal>)
 }
 
 /// How many sums there are.
-fn count_of_sums(total: &Sums) -> u64
+pub(crate) fn count_of_sums(total: &Sums) -> u64
     ensures count { result ≡ total.now.rect.w * total.now.rect.h * total.now.channels }
     ensures small { result < 2 ^ 63 }
 {
@@ -56,7 +56,7 @@ fn add_all(total: &mut Sums, values: &[Arc<SumVal>])
     }
 }
 
-/// The part in `from` of a region that is scaled, of the sums of the blocks that have a place of it. Nothing is held of the
+/// The part in `from` of a region that is scaled down, of the sums of the blocks that have a place of it. Nothing is held of the
 /// result but its sums at these places, and then the samples.
 pub(crate) fn summed<S: Items<SumKey, SumVal, P, R> + Sync, P: Send, R: Threads + Sync>(
     rt: &R,

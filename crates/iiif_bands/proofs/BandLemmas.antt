@@ -17,7 +17,7 @@ use Rattle.iiif_planner.specs.Plans.{IsTileFor, IsBlockFor, TilesCover, BlocksCo
 use Rattle.std.proofs.lemmas.List.Elements.{All-weaker}
 use Rattle.iiif_keys.proofs.Names.{both}
 use Rattle.iiif_bands.specs.Bands.{places_from, ListsThose, ReachesInto}
-use Rattle.iiif_bands.specs.Code.{have_common, one_if, BlockIsSmall, TileIsSmall}
+use Rattle.iiif_bands.specs.Code.{have_common, one_if, BlockIsSmall, TileIsSmall, TileReaches}
 
 placed : (b : Bool) (n : ℕ) (q p t : List ℕ) → q ≡ p ++ t → (if b then n ∷ q else q) ≡ (if b then n ∷ p else p) ++ t
 placed true n q p t e = ap (λ ys. n ∷ ys) e
@@ -109,6 +109,24 @@ pub meets_square : (image : Dim) (r g : Rect) → LiesIn g image → Meets (clip
 meets_square image r g h m =
     let e = clipped_part image r g h in
     record { columns = subst (λ (p : Rect). 0 < p.w) e m.columns; rows = subst (λ (p : Rect). 0 < p.h) e m.rows }
+
+-- the numbers of tiles that meet a region are small
+pub tiles_reach : (name : List ℕ) (edge : ℕ) (image : Dim) (channels : ℕ) (region : Rect) (keys : List TileKey) → image.w < 2 ^ 32 → image.h < 2 ^ 32 → LiesIn region image →
+    TilesCover name edge image channels region keys → All (TileReaches region) keys
+tiles_reach name edge image channels region keys w h lies cover =
+    All-weaker (IsTileFor name edge image channels region) (TileReaches region)
+    (λ k t.
+    let c = t.fits.column in
+    let r = t.fits.row in
+    let m = meets_square image (square k.edge k.tx k.ty) region lies t.meets in
+    let a = m.columns in
+    let b = m.rows in
+    record {
+      small = record { edge = t.fits.edge.within; column = omega arith; row = omega arith };
+      columns = omega arith;
+      rows = omega arith;
+      meets = m;
+    }) keys cover.tiles
 
 -- where a block that meets a region begins in an image
 begins : (image : Dim) (r g : Rect) → LiesIn g image → Meets r g → (r.x < image.w) × (r.y < image.h)

@@ -5,12 +5,12 @@ ghost use Rattle.iiif_pixel.specs.Geometry.{LiesIn};
 ghost use Rattle.iiif_pixel.specs.TurnPlaces.{turned_dim};
 ghost use Rattle.iiif_keys.specs.Blocks.{square};
 ghost use Rattle.iiif_bands.specs.Bands.{places_from, AreBands, IsPlanned, ListsItems};
-ghost use Rattle.iiif_bands.specs.Code.{block_met, one_if, tile_met, BlockIsSmall, TileIsSmall};
+ghost use Rattle.iiif_bands.specs.Code.{block_met, grown_met, one_if, tile_met, BlockIsSmall, TileIsSmall, TileReaches};
 
 use iiif_area::{meets, part_of, places_of};
 use iiif_canonical::Resolved;
 use iiif_keys::{SumKey, TileKey, side_of};
-use iiif_pixel::{NoMemory, Rect, unturn_rect};
+use iiif_pixel::{Dim, NoMemory, Rect, unturn_rect};
 use iiif_planner::Plan;
 use std::alloc::Global;
 
@@ -45,6 +45,16 @@ fn tile_meets(region: Rect, key: &TileKey, rect: Rect) -> bool
 {
     let tile = square(u64::from(key.edge), key.tx, key.ty);
     meets(part_of(tile, region), rect)
+}
+
+/// Whether a tile has samples for a place of a rectangle of the result, where the region is scaled to `size`.
+fn grown_meets(region: Rect, size: Dim, key: &TileKey, rect: Rect) -> bool
+    requires { TileReaches region key.now }
+    ensures { result ≡ grown_met region size rect key.now }
+{
+    let tile = square(u64::from(key.edge), key.tx, key.ty);
+    let part = part_of(tile, region);
+    meets(places_of(region.dim(), size, part), rect)
 }
 
 /// Whether a block has sums for a place of a rectangle of the result.
@@ -84,6 +94,24 @@ fn tiles_in(
     Ok(items)
 }
 
+/// The places of the tiles that have samples for a place of a rectangle of the result, where the region is scaled to `size`.
+fn grown_in(
+    alloc: Global,
+    region: Rect,
+    size: Dim,
+    keys: &[TileKey],
+    rect: Rect,
+) -> Result<Vec<usize>, NoMemory>
+    requires { All (TileReaches region) keys.now }
+    ensures { IfOk result (λ v. v.items ≡ places_from 0 (grown_met region size rect) keys.now) }
+{
+    let mut items = Vec::new(alloc);
+    for i in 0..keys.len() {
+        push_where(&mut items, grown_meets(region, size, &keys[i], rect), i)?;
+    }
+    Ok(items)
+}
+
 /// The places of the blocks that have sums for a place of a rectangle of the result.
 fn blocks_in(alloc: Global, keys: &[SumKey], rect: Rect) -> Result<Vec<usize>, NoMemory>
     requires { All BlockIsSmall keys.now }
@@ -114,6 +142,10 @@ pub fn band_in(
     match plan {
         Plan::Copy(keys) => {
             let items = tiles_in(alloc, resolved.rect, keys, from)?;
+            Ok(Band { rect, items })
+        }
+        Plan::Grow(keys) => {
+            let items = grown_in(alloc, resolved.rect, resolved.size, keys, from)?;
             Ok(Band { rect, items })
         }
         Plan::Sum(keys) => {

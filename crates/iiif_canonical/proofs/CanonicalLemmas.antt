@@ -12,12 +12,12 @@ use Rattle.iiif_request.specs.Requests.{IsShortRegion, IsShortForm, HasShortDeci
 use Rattle.iiif_request.specs.declared.request.Region.TheVariants.{Full, Pixels}
 use Rattle.iiif_request.specs.declared.request.Form.TheVariants.{Max, Both}
 use Rattle.iiif_canonical.specs.Regions.{clipped, region_of}
-use Rattle.iiif_canonical.specs.Sizes.{largest, asked_of, checked, size_of}
+use Rattle.iiif_canonical.specs.Sizes.{asked_of, is_larger, checked, size_of}
 use Rattle.iiif_canonical.specs.Resolution.{resolved_of, quarters_of, IsResolved}
-use Rattle.iiif_canonical.specs.Canonical.{canonical_region, canonical_form, canonical_of, canonical}
+use Rattle.iiif_canonical.specs.Canonical.{canonical_region, canonical_size, canonical_of, canonical}
 use Rattle.iiif_canonical.specs.declared.resolved.Limits.{Limits}
 use Rattle.iiif_canonical.specs.declared.resolved.Resolved.{Resolved}
-use Rattle.iiif_canonical.proofs.ResolutionLemmas.{IsPart, IsWithin}
+use Rattle.iiif_canonical.proofs.ResolutionLemmas.{IsPart, IsWithin, sides_not_larger}
 
 -- a rectangle of the image isn't clipped
 clipped_part : (d : Dim) (r : Rect) → IsPart d r → clipped d r.x r.y r.w r.h ≡ Ok r
@@ -52,27 +52,44 @@ region_back : (d : Dim) (r : Rect) → IsPart d r → region_of (canonical_regio
 unfolding canonical_region
 region_back d r part = region_by d r _ part refl
 
--- sides within the region and the limits aren't refused
-checked_back : (a b : ℕ) (l : Limits) (s : Dim) → IsWithin a b l s → checked false false a b l (s.w, s.h) ≡ Ok s
+-- a size above the region's isn't refused where the server scales up
+larger_allowed : (may : Bool) (a b : ℕ) (l : Limits) (s : Dim) → l.upscale ≡ may → IsWithin a b l s → is_larger a b (s.w, s.h) ≡ true → l.upscale ≡ true
+larger_allowed true a b l s u within larger = u
+larger_allowed false a b l s u within larger =
+    let region = within.not_larger u in
+    grind (arith, nat_tests, region.0, region.1)
+
+-- sides within the limits, written with `^` just where one is above the region's, aren't refused
+checked_back : (up : Bool) (a b : ℕ) (l : Limits) (s : Dim) → IsWithin a b l s → is_larger a b (s.w, s.h) ≡ up → checked up false a b l (s.w, s.h) ≡ Ok s
 unfolding checked
-checked_back a b l s within = grind (arith, nat_tests, within.not_zero, within.not_larger, within.within_limits)
+checked_back false a b l s within larger =
+    let region = sides_not_larger a b (s.w, s.h) larger in
+    grind (arith, nat_tests, within.not_zero, region, within.within_limits)
+checked_back true a b l s within larger =
+    let may : l.upscale ≡ true = larger_allowed _ a b l s refl within larger in
+    rw may (grind (arith, nat_tests, within.not_zero, within.within_limits))
 
 same_pair : (p : ℕ × ℕ) (a b : ℕ) → p.0 ≡ a → p.1 ≡ b → p ≡ (a, b)
 same_pair p a b ea eb = λ i. (ea i, eb i)
 
-size_by : (a b : ℕ) (l : Limits) (s : Dim) (t : Bool) → IsWithin a b l s → s.w == (largest a b l).0 && s.h == (largest a b l).1 ≡ t
-    → size_of (record { up = false; form = if t then Max else Both s.w s.h }) a b l ≡ Ok s
-unfolding size_of asked_of
-size_by a b l s true within e =
-    let w : (largest a b l).0 ≡ s.w = grind (arith, nat_tests) in
-    let h : (largest a b l).1 ≡ s.h = grind (arith, nat_tests) in
-    let same : largest a b l ≡ (s.w, s.h) = same_pair (largest a b l) s.w s.h w h in
-    rw same (checked_back a b l s within)
-size_by a b l s false within e = checked_back a b l s within
+same_most : (most : ℕ × ℕ) (s : Dim) → s.w == most.0 && s.h == most.1 ≡ true → most ≡ (s.w, s.h)
+same_most most s e =
+    let w : most.0 ≡ s.w = grind (arith, nat_tests) in
+    let h : most.1 ≡ s.h = grind (arith, nat_tests) in
+    same_pair most s.w s.h w h
 
-size_back : (a b : ℕ) (l : Limits) (s : Dim) → IsWithin a b l s → size_of (record { up = false; form = canonical_form s a b l }) a b l ≡ Ok s
-unfolding canonical_form
-size_back a b l s within = size_by a b l s _ within refl
+size_by : (up : Bool) (a b : ℕ) (l : Limits) (s : Dim) (t : Bool) → IsWithin a b l s → is_larger a b (s.w, s.h) ≡ up
+    → s.w == (asked_of up Max a b l).0 && s.h == (asked_of up Max a b l).1 ≡ t
+    → size_of (record { up = up; form = if t then Max else Both s.w s.h }) a b l ≡ Ok s
+unfolding size_of
+size_by up a b l s true within larger e =
+    rw (same_most (asked_of up Max a b l) s e) (checked_back up a b l s within larger)
+size_by up a b l s false within larger e = unfold asked_of in checked_back up a b l s within larger
+
+-- the size that is written comes to the size
+size_back : (a b : ℕ) (l : Limits) (s : Dim) → IsWithin a b l s → size_of (canonical_size s a b l) a b l ≡ Ok s
+unfolding canonical_size
+size_back a b l s within = size_by _ a b l s _ within refl refl
 
 quarters_back : (q : ℕ) → q < 4 → quarters_of (record { digits = 90 * q; places = 0 }) ≡ q
 unfolding quarters_of
@@ -101,7 +118,7 @@ form_short s false = tt
 
 -- no decimal of it has places
 pub canonical_short : (r : Resolved) (d : Dim) (l : Limits) → HasShortDecimals (canonical_of r d l)
-unfolding canonical_of canonical_region canonical_form
+unfolding canonical_of canonical_region canonical_size
 canonical_short r d l = record {
   region = region_short r.rect _;
   size = form_short r.size _;

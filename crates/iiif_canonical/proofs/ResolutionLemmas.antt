@@ -27,10 +27,10 @@ pub record IsPart (d : Dim) (r : Rect) : Type 0 where
   pub inside : LiesIn r d
   pub not_empty : (1 ≤ r.w) × (1 ≤ r.h)
 
--- at least one place, no more than a region a by b, and within the limits
+-- at least one place, no more than a region a by b unless the server scales up, and within the limits
 pub record IsWithin (a b : ℕ) (l : Limits) (s : Dim) : Type 0 where
   pub not_zero : (1 ≤ s.w) × (1 ≤ s.h)
-  pub not_larger : (s.w ≤ a) × (s.h ≤ b)
+  pub not_larger : l.upscale ≡ false → (s.w ≤ a) × (s.h ≤ b)
   pub within_limits : (s.w ≤ l.max_w) × (s.h ≤ l.max_h)
 
 clipped_by : (d : Dim) (x y w h : ℕ) (t : Bool) → nat_lt x d.w && nat_lt y d.h && nat_lt 0 w && nat_lt 0 h ≡ t → (r : Rect)
@@ -62,38 +62,49 @@ region_part Square d r is = clipped_part d _ _ _ _ r is
 region_part (Pixels x y w h) d r is = clipped_part d _ _ _ _ r is
 region_part (Percents x y w h) d r is = clipped_part d _ _ _ _ r is
 
-sides_within : (a b : ℕ) (l : Limits) (s : ℕ × ℕ) → (s.0 == 0 || s.1 == 0) ≡ false → is_larger a b s ≡ false → is_above_limits l s ≡ false → (r : Dim)
+-- sides that aren't tested larger
+pub sides_not_larger : (a b : ℕ) (s : ℕ × ℕ) → is_larger a b s ≡ false → (s.0 ≤ a) × (s.1 ≤ b)
+sides_not_larger a b s e =
+    let w : s.0 ≤ a = grind (arith, nat_tests) in
+    let h : s.1 ≤ b = grind (arith, nat_tests) in
+    (w, h)
+
+sides_within : (a b : ℕ) (l : Limits) (s : ℕ × ℕ) → (s.0 == 0 || s.1 == 0) ≡ false → (l.upscale ≡ false → is_larger a b s ≡ false) → is_above_limits l s ≡ false → (r : Dim)
     → s.0 ≡ r.w → s.1 ≡ r.h → IsWithin a b l r
 sides_within a b l s z e m r w_is h_is =
     let w_some : 0 < s.0 = grind (arith, nat_tests) in
     let h_some : 0 < s.1 = grind (arith, nat_tests) in
-    let w_region : s.0 ≤ a = grind (arith, nat_tests) in
-    let h_region : s.1 ≤ b = grind (arith, nat_tests) in
     let w_limit : s.0 ≤ l.max_w = grind (arith, nat_tests) in
     let h_limit : s.1 ≤ l.max_h = grind (arith, nat_tests) in
     record {
       not_zero = (omega arith, omega arith);
-      not_larger = (omega arith, omega arith);
+      not_larger = λ (none : l.upscale ≡ false).
+          let region = sides_not_larger a b s (e none) in
+          (omega (arith, region.0, w_is), omega (arith, region.1, h_is));
       within_limits = (omega arith, omega arith);
     }
 
-checked_by : (up above zero_side larger above_limits : Bool) (a b : ℕ) (l : Limits) (s : ℕ × ℕ)
+checked_by : (up above may zero_side larger above_limits : Bool) (a b : ℕ) (l : Limits) (s : ℕ × ℕ) → l.upscale ≡ may
     → (s.0 == 0 || s.1 == 0) ≡ zero_side → is_larger a b s ≡ larger → is_above_limits l s ≡ above_limits → (r : Dim)
-    → (if zero_side then Err Zero else (if not up && (larger || above) then Err Larger else (if up && larger then Err Upscale else (
+    → (if zero_side then Err Zero else (if not up && (larger || above) then Err Larger else (if up && not may && larger then Err Upscale else (
     if above_limits then Err Limit else Ok (record { w = s.0; h = s.1 }))))) ≡ Ok r → IsWithin a b l r
-checked_by up above true larger above_limits a b l s z e m r is = cc
-checked_by false true false true above_limits a b l s z e m r is = cc
-checked_by false true false false above_limits a b l s z e m r is = cc
-checked_by false false false true above_limits a b l s z e m r is = cc
-checked_by true above false true above_limits a b l s z e m r is = cc
-checked_by false false false false true a b l s z e m r is = cc
-checked_by true above false false true a b l s z e m r is = cc
-checked_by false false false false false a b l s z e m r is = sides_within a b l s z e m r (cc) (cc)
-checked_by true above false false false a b l s z e m r is = sides_within a b l s z e m r (cc) (cc)
+checked_by up above may true larger above_limits a b l s u z e m r is = cc
+checked_by false true may false true above_limits a b l s u z e m r is = cc
+checked_by false true may false false above_limits a b l s u z e m r is = cc
+checked_by false false may false true above_limits a b l s u z e m r is = cc
+checked_by true above false false true above_limits a b l s u z e m r is = cc
+checked_by false false may false false true a b l s u z e m r is = cc
+checked_by true above true false false true a b l s u z e m r is = cc
+checked_by true above false false false true a b l s u z e m r is = cc
+checked_by true above true false true true a b l s u z e m r is = cc
+checked_by false false may false false false a b l s u z e m r is = sides_within a b l s z (λ none. e) m r (cc) (cc)
+checked_by true above true false false false a b l s u z e m r is = sides_within a b l s z (λ none. e) m r (cc) (cc)
+checked_by true above false false false false a b l s u z e m r is = sides_within a b l s z (λ none. e) m r (cc) (cc)
+checked_by true above true false true false a b l s u z e m r is = sides_within a b l s z (λ none. cc) m r (cc) (cc)
 
 pub checked_within : (up above : Bool) (a b : ℕ) (l : Limits) (s : ℕ × ℕ) (r : Dim) → checked up above a b l s ≡ Ok r → IsWithin a b l r
 unfolding checked
-checked_within up above a b l s r is = checked_by up above _ _ _ a b l s refl refl refl r is
+checked_within up above a b l s r is = checked_by up above _ _ _ _ a b l s refl refl refl refl r is
 
 -- a size that isn't refused is within the region and the limits
 pub size_within : (s : Size) (a b : ℕ) (l : Limits) (r : Dim) → size_of s a b l ≡ Ok r → IsWithin a b l r

@@ -1,5 +1,5 @@
 -- The words of a request's text spell it.
-use Rattle.std.proofs.Common.{ℕ, ◌^◌, ◌<◌, Bool, true, false, List, ◌++◌, refl, arith, decimal}
+use Rattle.std.proofs.Common.{◌≡◌, ℕ, ◌^◌, ◌<◌, Bool, true, false, List, ◌++◌, refl, arith, decimal}
 use Rattle.std.specs.Prelude.{codes, if◌then◌else◌}
 use Rattle.iiif_pixel.specs.Geometry.{LiesIn}
 use Rattle.iiif_pixel.specs.declared.geometry.Dim.{Dim}
@@ -14,7 +14,7 @@ use Rattle.iiif_request.specs.declared.request.Region.TheVariants.{Full, Square,
 use Rattle.iiif_request.specs.declared.request.Form.{Form}
 use Rattle.iiif_request.specs.declared.request.Form.TheVariants.{Max, Width, Height, Percent, Both, Within}
 use Rattle.iiif_request.specs.declared.request.Request.{Request}
-use Rattle.iiif_canonical.specs.Canonical.{canonical_region, canonical_form, canonical_of}
+use Rattle.iiif_canonical.specs.Canonical.{canonical_region, canonical_size, canonical_of, HasShortSides}
 use Rattle.iiif_canonical.specs.Resolution.{IsResolved}
 use Rattle.iiif_canonical.specs.declared.resolved.Limits.{Limits}
 use Rattle.iiif_canonical.specs.declared.resolved.Resolved.{Resolved}
@@ -129,16 +129,26 @@ form_by : (s : Dim) (t : Bool) → s.w < 10 ^ 9 → s.h < 10 ^ 9 → IsSmallForm
 form_by s true w h = tt
 form_by s false w h = (w, h)
 
--- the canonical form of a request for an image whose sides have nine digits at most
-pub canonical_spelled : (r : Resolved) (d : Dim) (k : Kind) (l : Limits) → IsResolved d k l r → d.w < 10 ^ 9 → d.h < 10 ^ 9 → CanBeSpelled (canonical_of r d l)
-unfolding canonical_of canonical_region canonical_form
-canonical_spelled r d k l is w h =
+-- the sides of a result have nine digits at most
+sides_short : (may : Bool) (r : Resolved) (d : Dim) (k : Kind) (l : Limits) → l.upscale ≡ may → IsResolved d k l r → HasShortSides d l → (r.size.w < 10 ^ 9) × (r.size.h < 10 ^ 9)
+sides_short true r d k l u is short =
+    let limits = short.limits u in
+    (omega (arith, limits.0, is.within_limits), omega (arith, limits.1, is.within_limits))
+sides_short false r d k l u is short =
+    let region = is.not_larger u in
+    (omega (arith, region.0, is.inside.columns, short.image), omega (arith, region.1, is.inside.rows, short.image))
+
+-- the canonical form of a request, where no side has more than nine digits
+pub canonical_spelled : (r : Resolved) (d : Dim) (k : Kind) (l : Limits) → IsResolved d k l r → HasShortSides d l → CanBeSpelled (canonical_of r d l)
+unfolding canonical_of canonical_region canonical_size
+canonical_spelled r d k l is sides =
     let c = canonical_of r d l in
+    let size = sides_short _ r d k l refl is sides in
     let spellable : IsSpellable c = record {
       short = canonical_short r d l;
       small = record {
-        region = region_by d r.rect _ is.inside w h;
-        size = form_by r.size _ (omega (arith, is.not_larger, is.inside.columns)) (omega (arith, is.not_larger, is.inside.rows));
+        region = region_by d r.rect _ is.inside sides.image.0 sides.image.1;
+        size = form_by r.size _ size.0 size.1;
         degrees = omega (arith, is.quarters);
       };
       quarters = (r.turn.quarters, omega (arith, is.quarters), omega arith);

@@ -1,5 +1,5 @@
 -- What a request comes to for an image: IIIF Image API 3.0, sections 4.1 to 4.4.
-use Rattle.std.specs.Prelude.{◌≡◌, ℕ, ◌*◌, ◌/◌, ◌%◌, ◌^◌, ◌<◌, ◌≤◌, Result, Ok, Err}
+use Rattle.std.specs.Prelude.{◌≡◌, ℕ, ◌*◌, ◌/◌, ◌%◌, ◌^◌, ◌<◌, ◌≤◌, false, Result, Ok, Err}
 use Rattle.iiif_pixel.specs.Geometry.{LiesIn}
 use Rattle.iiif_pixel.specs.declared.geometry.Dim.{Dim}
 use Rattle.iiif_pixel.specs.declared.geometry.Kind.{Kind}
@@ -46,13 +46,13 @@ resolved_of q d k l = do
   Ok (record { rect = rect; size = size; turn = turn_of q.rotation; quality = plain_quality k q.quality })
 
 -- What holds of each request that isn't refused: its rectangle lies inside the image and isn't empty; its size has at
--- least one place, is within the limits and isn't above the rectangle's; fewer than four quarter turns are left; its
--- quality changes something or is the default.
+-- least one place, is within the limits and, unless the server scales up, isn't above the rectangle's; fewer than four
+-- quarter turns are left; its quality changes something or is the default.
 pub record IsResolved (d : Dim) (k : Kind) (l : Limits) (r : Resolved) : Type 0 where
   pub inside : LiesIn r.rect d
   pub not_empty : (1 ≤ r.rect.w) × (1 ≤ r.rect.h)
   pub not_zero : (1 ≤ r.size.w) × (1 ≤ r.size.h)
-  pub not_larger : (r.size.w ≤ r.rect.w) × (r.size.h ≤ r.rect.h)
+  pub not_larger : l.upscale ≡ false → (r.size.w ≤ r.rect.w) × (r.size.h ≤ r.rect.h)
   pub within_limits : (r.size.w ≤ l.max_w) × (r.size.h ≤ l.max_h)
   pub quarters : r.turn.quarters < 4
   pub quality : plain_quality k r.quality ≡ r.quality

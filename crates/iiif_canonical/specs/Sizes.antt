@@ -46,12 +46,13 @@ is_larger a b s = nat_lt a s.0 || nat_lt b s.1
 abbrev pub is_above_limits : Limits → ℕ × ℕ → Bool
 is_above_limits l s = nat_lt l.max_w s.0 || nat_lt l.max_h s.1
 
--- the sides, or the first refusal, in this order; `above`: more than a hundred percent were asked for
+-- the sides, or the first refusal, in this order; `above`: more than a hundred percent were asked for. A side above the
+-- region's needs the `^`, and a server that scales up.
 unfoldable pub checked : Bool → Bool → ℕ → ℕ → Limits → ℕ × ℕ → Result Dim Refusal
 checked up above a b l s =
     if s.0 == 0 || s.1 == 0 then Err Zero else (
     if not up && (is_larger a b s || above) then Err Larger else (
-    if up && is_larger a b s then Err Upscale else (
+    if up && not l.upscale && is_larger a b s then Err Upscale else (
     if is_above_limits l s then Err Limit else
     Ok (record { w = s.0; h = s.1 }))))
 

@@ -1,15 +1,15 @@
 //! The canonical form of a request: IIIF Image API 3.0, section 4.7.
-ghost use Rattle.std.specs.Prelude.{◌≡◌, ◌<◌, ◌^◌, Ok, IfOk};
+ghost use Rattle.std.specs.Prelude.{◌≡◌, ◌<◌, Ok, IfOk};
 ghost use Rattle.iiif_pixel.specs.Geometry.{channels_of};
 ghost use Rattle.iiif_pixel.specs.Picture.{Picture, dim_of};
 ghost use Rattle.iiif_request.specs.Requests.{HasShortDecimals};
-ghost use Rattle.iiif_canonical.specs.Canonical.{canonical_region, canonical_form, canonical_of, canonical};
+ghost use Rattle.iiif_canonical.specs.Canonical.{canonical_region, canonical_size, canonical_of, canonical, HasShortSides};
 ghost use Rattle.iiif_canonical.specs.Resolution.{resolved_of, IsResolved};
 ghost use Rattle.iiif_canonical.specs.Images.{image, resolved_image};
 ghost use Rattle.iiif_canonical.specs.Texts.{CanBeSpelled};
 
 use crate::resolved::{Limits, Resolved, resolve};
-use crate::sizes::largest;
+use crate::sizes::asked;
 use iiif_pixel::{Dim, Kind, Rect};
 use iiif_request::{Decimal, Form, Refusal, Region, Request, Rotation, Size};
 
@@ -25,24 +25,30 @@ fn region(rect: Rect, dim: Dim) -> Region
     }
 }
 
-/// `max` where it gives this size, else the size.
-#[tactic(auto, unfolding(crate::specs::Canonical::canonical_form))]
-fn form(size: Dim, a: u32, b: u32, limits: &Limits) -> Form
+/// The size as it is written for a region a by b.
+#[tactic(auto, unfolding(crate::specs::Canonical::canonical_size))]
+fn size(size: Dim, a: u32, b: u32, limits: &Limits) -> Size
     requires width { 0 < a }
     requires height { 0 < b }
-    ensures { result ≡ canonical_form size a b limits.now }
+    ensures { result ≡ canonical_size size a b limits.now }
 {
-    let (w, h) = largest(a, b, limits);
-    if u128::from(size.w) == w && u128::from(size.h) == h {
+    let up = size.w > a || size.h > b;
+    let max = Size {
+        up,
+        form: Form::Max,
+    };
+    let (w, h) = asked(max, a, b, limits);
+    let form = if u128::from(size.w) == w && u128::from(size.h) == h {
         Form::Max
     } else {
         Form::Both(size.w, size.h)
-    }
+    };
+    Size { up, form }
 }
 
 /// The one request that is written for all that come to the same: the clipped region, the size that
-/// it comes to, the rotation below 360, and the quality where it changes something. It takes no
-/// memory.
+/// it comes to, with `^` where a side is above the region's, the rotation below 360, and the quality
+/// where it changes something. It takes no memory.
 #[tactic(auto, unfolding(crate::specs::Canonical::canonical_of))]
 pub fn canonical(resolved: &Resolved, dim: Dim, kind: Kind, limits: &Limits) -> Request
     requires { IsResolved dim kind limits.now resolved.now }
@@ -52,14 +58,11 @@ pub fn canonical(resolved: &Resolved, dim: Dim, kind: Kind, limits: &Limits) -> 
     ensures same_image { (p : Picture) → dim_of p ≡ dim → p.channels ≡ channels_of kind
         → image p result limits.now ≡ Ok (resolved_image p resolved.now) }
     ensures short { HasShortDecimals result }
-    ensures spelled { dim.w < 10 ^ 9 → dim.h < 10 ^ 9 → CanBeSpelled result }
+    ensures spelled { HasShortSides dim limits.now → CanBeSpelled result }
 {
     Request {
         region: region(resolved.rect, dim),
-        size: Size {
-            up: false,
-            form: form(resolved.size, resolved.rect.w, resolved.rect.h, limits),
-        },
+        size: size(resolved.size, resolved.rect.w, resolved.rect.h, limits),
         rotation: Rotation {
             mirror: resolved.turn.mirror,
             degrees: Decimal {
@@ -90,7 +93,7 @@ pub fn canonical_request(
     ensures same_image { (p : Picture) → dim_of p ≡ dim → p.channels ≡ channels_of kind
         → IfOk result (λ c. image p c limits.now ≡ image p request.now limits.now) }
     ensures short { IfOk result HasShortDecimals }
-    ensures spelled { dim.w < 10 ^ 9 → dim.h < 10 ^ 9 → IfOk result CanBeSpelled }
+    ensures spelled { HasShortSides dim limits.now → IfOk result CanBeSpelled }
 {
     let resolved = resolve(request, dim, kind, limits)?;
     Ok(canonical(&resolved, dim, kind, limits))

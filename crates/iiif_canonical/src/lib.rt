@@ -12,7 +12,5 @@ pub mod laws;
 mod regions;
 pub mod resolved;
 mod sizes;
-#[cfg(test)]
-mod tests;
 pub mod texts;
 pub mod uris;

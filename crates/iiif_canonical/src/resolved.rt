@@ -11,11 +11,12 @@ use crate::sizes::size;
 use iiif_pixel::{Dim, Kind, Quality, Rect, Turn};
 use iiif_request::{Decimal, Refusal, Request};
 
-/// The greatest sides of a result, in pixels.
+/// How large a result may be: its greatest sides, in pixels, and whether a size with `^` may be above its region's.
 #[derive(Clone, Copy, Debug, PartialEq, Eq)]
 pub struct Limits {
     pub max_w: u32,
     pub max_h: u32,
+    pub upscale: bool,
 }
 
 /// What a request comes to for an image: the part of it that is taken, the sides it is scaled to, and
@@ -56,7 +57,7 @@ fn plain(kind: Kind, quality: Quality) -> Quality
 ///
 /// # Errors
 ///
-/// The first of `Empty`, `Zero`, `Larger`, `Upscale` and `Limit` that applies.
+/// The first of `Empty`, `Zero`, `Larger`, `Upscale` and `Limit` that applies; `Upscale` only where the limits don't allow it.
 #[tactic(auto, unfolding(crate::specs::Resolution::resolved_of))]
 pub fn resolve(
     request: &Request,

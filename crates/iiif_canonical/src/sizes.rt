@@ -1,5 +1,5 @@
 //! Sizes: IIIF Image API 3.0, section 4.2.
-ghost use Rattle.std.specs.Prelude.{◌≡◌, ◌<◌, ◌≤◌, IfOk};
+ghost use Rattle.std.specs.Prelude.{◌≡◌, ◌<◌, ◌≤◌, false, IfOk};
 ghost use Rattle.iiif_request.specs.Requests.{IsShortForm};
 ghost use Rattle.iiif_canonical.specs.Sizes.{fit, largest, asked_of, is_above_hundred, checked, size_of};
 
@@ -25,7 +25,7 @@ fn fit(a: u32, b: u32, p: u32, q: u32) -> (u128, u128)
 
 /// `max`: the region itself where it is within the limits, else what fits them.
 #[tactic(auto, unfolding(crate::specs::Sizes::largest))]
-pub fn largest(a: u32, b: u32, limits: &Limits) -> (u128, u128)
+fn largest(a: u32, b: u32, limits: &Limits) -> (u128, u128)
     requires width { 0 < a }
     requires height { 0 < b }
     ensures { result ≡ largest a b limits.now }
@@ -39,7 +39,7 @@ pub fn largest(a: u32, b: u32, limits: &Limits) -> (u128, u128)
 
 /// The sides that a size asks for, of a region a by b.
 #[tactic(auto, unfolding(crate::specs::Sizes::asked_of))]
-fn asked(size: Size, a: u32, b: u32, limits: &Limits) -> (u128, u128)
+pub fn asked(size: Size, a: u32, b: u32, limits: &Limits) -> (u128, u128)
     requires width { 0 < a }
     requires height { 0 < b }
     requires short { IsShortForm size.form }
@@ -97,7 +97,7 @@ fn check(
 ) -> Result<Dim, Refusal>
     ensures value { result ≡ checked up above a b limits.now sides }
     ensures not_zero { IfOk result (λ s. (1 ≤ s.w) × (1 ≤ s.h)) }
-    ensures not_larger { IfOk result (λ s. (s.w ≤ a) × (s.h ≤ b)) }
+    ensures not_larger { IfOk result (λ s. limits.now.upscale ≡ false → (s.w ≤ a) × (s.h ≤ b)) }
     ensures within_limits { IfOk result (λ s. (s.w ≤ limits.now.max_w) × (s.h ≤ limits.now.max_h)) }
 {
     let (c, d) = sides;
@@ -106,7 +106,7 @@ fn check(
         Err(Refusal::Zero)
     } else if !up && (larger || above) {
         Err(Refusal::Larger)
-    } else if up && larger {
+    } else if up && !limits.upscale && larger {
         Err(Refusal::Upscale)
     } else if c > u128::from(limits.max_w) || d > u128::from(limits.max_h) {
         Err(Refusal::Limit)
@@ -126,7 +126,7 @@ pub fn size(size: Size, a: u32, b: u32, limits: &Limits) -> Result<Dim, Refusal>
     requires short { IsShortForm size.form }
     ensures value { result ≡ size_of size a b limits.now }
     ensures not_zero { IfOk result (λ s. (1 ≤ s.w) × (1 ≤ s.h)) }
-    ensures not_larger { IfOk result (λ s. (s.w ≤ a) × (s.h ≤ b)) }
+    ensures not_larger { IfOk result (λ s. limits.now.upscale ≡ false → (s.w ≤ a) × (s.h ≤ b)) }
     ensures within_limits { IfOk result (λ s. (s.w ≤ limits.now.max_w) × (s.h ≤ limits.now.max_h)) }
 {
     check(

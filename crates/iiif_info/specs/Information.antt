@@ -1,5 +1,5 @@
 -- The information about an image, as JSON (IIIF Image API 3.0, section 5).
-use Rattle.std.specs.Prelude.{ℕ, ◌+◌, ◌*◌, ◌^◌, max, List, [], ◌∷◌, codes, map, nat_le}
+use Rattle.std.specs.Prelude.{ℕ, ◌+◌, ◌*◌, ◌^◌, max, List, [], ◌∷◌, codes, map, nat_le, if◌then◌else◌}
 use Rattle.std.specs.List.{position_or_len, range_with_len}
 use Rattle.serde_json.specs.Data.{Data, number, unsigned, string, array, object, no_items, item, no_members, member}
 use Rattle.serde_json.specs.View.{items_of}
@@ -35,19 +35,19 @@ tiles edge side = array (item (object (
     member (codes "scaleFactors") (wholes (scale_factors edge side)) (
     member (codes "width") (whole edge) no_members)))) no_items)
 
--- the features beyond the lowest level of compliance (section 5.7)
-abbrev pub features : List (List ℕ)
-features =
+-- the features beyond the lowest level of compliance (section 5.7); the last one where a size with `^` may be above its region's
+abbrev pub features : Limits → List (List ℕ)
+features l =
     codes "baseUriRedirect" ∷ codes "canonicalLinkHeader" ∷ codes "cors" ∷ codes "mirroring" ∷ codes "regionByPct"
     ∷ codes "regionByPx" ∷ codes "regionSquare" ∷ codes "rotationBy90s" ∷ codes "sizeByConfinedWh" ∷ codes "sizeByH"
-    ∷ codes "sizeByPct" ∷ codes "sizeByW" ∷ codes "sizeByWh" ∷ []
+    ∷ codes "sizeByPct" ∷ codes "sizeByW" ∷ codes "sizeByWh" ∷ (if l.upscale then codes "sizeUpscaling" ∷ [] else [])
 
--- the members in the order of their keys (sections 5.2 to 5.7). id: the image's URI; d: its sides in pixels; l: the
--- greatest sides of a result; edge: that of a tile
+-- the members in the order of their keys (sections 5.2 to 5.7). id: the image's URI; d: its sides in pixels; l: how large a
+-- result may be; edge: the side of a tile
 unfoldable pub information : List ℕ → Dim → Limits → ℕ → Data
 information id d l edge = object (
     member (codes "@context") (string (codes "http://iiif.io/api/image/3/context.json")) (
-    member (codes "extraFeatures") (texts features) (
+    member (codes "extraFeatures") (texts (features l)) (
     member (codes "extraFormats") (texts (codes "tif" ∷ [])) (
     member (codes "extraQualities") (texts (codes "bitonal" ∷ codes "color" ∷ codes "gray" ∷ [])) (
     member (codes "height") (whole d.h) (

@@ -3,7 +3,7 @@
 ghost use Rattle.std.specs.Prelude.{◌≡◌, ◌<◌, IfOk, codes, string_bytes, max};
 ghost use Rattle.serde_json.specs.Data.{string, member, no_members};
 ghost use Rattle.serde_json.specs.View.{view, members_view};
-ghost use Rattle.iiif_info.specs.Information.{information, info_text, whole};
+ghost use Rattle.iiif_info.specs.Information.{features, information, info_text, texts, whole};
 
 use crate::values::{texts, tiles};
 use iiif_canonical::{Limits, image_uri};
@@ -11,7 +11,8 @@ use iiif_pixel::{Dim, NoMemory};
 use serde_json::{Map, Value, put};
 use std::alloc::Global;
 
-const FEATURES: [&str; 13] = [
+/// The features. The last is had where a size with `^` may be above its region's.
+const FEATURES: [&str; 14] = [
     "baseUriRedirect",
     "canonicalLinkHeader",
     "cors",
@@ -25,7 +26,19 @@ const FEATURES: [&str; 13] = [
     "sizeByPct",
     "sizeByW",
     "sizeByWh",
+    "sizeUpscaling",
 ];
+
+/// The features that a server with these limits has.
+fn features(alloc: Global, limits: &Limits) -> Result<Value, NoMemory>
+    ensures { IfOk result (λ value. view value ≡ texts (features limits.now)) }
+{
+    if limits.upscale {
+        texts(alloc, &FEATURES)
+    } else {
+        texts(alloc, &FEATURES[..13])
+    }
+}
 
 /// The members from the greatest width on. The last of them is put first, so that none is moved.
 fn last_members(
@@ -79,15 +92,15 @@ fn information(
     let qualities = texts(alloc, &["bitonal", "color", "gray"])?;
     put(&mut map, alloc, "extraQualities", qualities)?;
     put(&mut map, alloc, "extraFormats", texts(alloc, &["tif"])?)?;
-    put(&mut map, alloc, "extraFeatures", texts(alloc, &FEATURES)?)?;
+    put(&mut map, alloc, "extraFeatures", features(alloc, limits)?)?;
     let context = Value::try_from_str(alloc, "http://iiif.io/api/image/3/context.json")?;
     put(&mut map, alloc, "@context", context)?;
     Ok(Value::Object(map))
 }
 
 /// The text of an image's information: compact JSON with its keys in the order of their bytes. `base` is the server's
-/// URL without a `/` at its end, `id` the image's name as it is, `dim` the image's sides in pixels, `limits` the
-/// greatest sides of a result, and `edge` that of a tile.
+/// URL without a `/` at its end, `id` the image's name as it is, `dim` the image's sides in pixels, `limits` how large a
+/// result may be, and `edge` the side of a tile.
 pub fn info(
     alloc: Global,
     base: &str,

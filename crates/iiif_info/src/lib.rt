@@ -5,6 +5,4 @@ pub use document::info;
 
 pub mod document;
 pub mod laws;
-#[cfg(test)]
-mod tests;
 mod values;

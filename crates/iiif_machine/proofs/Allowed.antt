@@ -1,13 +1,14 @@
 -- An event is allowed exactly where the table of events says so.
 use Rattle.std.proofs.Common.{◌≡◌, ℕ, List, ◌⊎◌, inl, inr, Option, Some, None, refl, ap, subst, ◌∙◌, ⊎_elim}
-use Rattle.std.specs.Prelude.{slice_get, position}
+use Rattle.std.specs.Prelude.{Bool, true, false, ◌≤◌, nat_lt, if◌then◌else◌, slice_get, position}
 use Rattle.std.specs.Str.{bytes_eq}
 use Rattle.std.proofs.lemmas.Option.{none-some}
+use Rattle.std.proofs.lemmas.Bool.{ltb-false, le-ltb}
 use Rattle.iiif_scene.specs.Keys.{parts_of}
 use Rattle.iiif_machine.specs.Types.{Key, ReadFault}
 use Rattle.iiif_machine.specs.Tables.{Class, Wide, Local, Outcome, Place, enter}
 use Rattle.iiif_machine.specs.Rows.{Node, Purpose, ForRequest, ForPart, ForFallback, ForAsk, Caller, CallState, Fresh, Hit, In, Gone, Call, Lead, Stage, New, Looked, Asking, Fallback, Parts, Ready, Ended, Flight, Reply}
-use Rattle.iiif_machine.specs.Worlds.{World, ◌>>=◌, owner_of, table_at, with_stage, with_ask, with_reply, learned, all_learned, collected, outcome_from}
+use Rattle.iiif_machine.specs.Worlds.{World, ◌>>=◌, version_shown, version_at, speaker, owner_of, table_at, with_stage, with_ask, with_reply, learned, all_learned, collected, outcome_from}
 use Rattle.iiif_machine.specs.Steps.{Event, Want, Enter, Again, AskPeer, Serve, Take, Lose, GoLocal, Load, SourceFault, Land, Evict, Stop, after_enter, after_again, after_ask_peer, after_reply, after_take, after_lose, after_go_local, after_load, after_fault, after_land, step}
 use Rattle.iiif_machine.specs.declared.events.Event.TheVariants as event
 use Rattle.iiif_machine.specs.Sound.{caller_of, lead_in, card_of, cards, IsThere, IsSound}
@@ -35,6 +36,18 @@ lead_node w f fl h at = node_there w fl.lead.node (h.placed.leads f fl.lead (get
 call_node : (w : World) (c : ℕ) (call : Call) → IsSound w → slice_get w.calls c ≡ Some call → (n : Node) × (slice_get w.nodes call.caller.node ≡ Some n)
 call_node w c call h at = node_there w call.caller.node (h.placed.callers c call.caller (get_map caller_of w.calls c call at))
 
+-- a node speaks the versions up to its own, and no other
+
+speaks : (n : Node) (v : ℕ) → v ≤ n.version → speaker n v ≡ Some n
+speaks n v h = ap (λ b. if b then None else Some n) (le-ltb n.version v h)
+
+only_speakers : (n m : Node) (v : ℕ) → speaker n v ≡ Some m → v ≤ n.version
+only_speakers n m v h = by (nat_lt n.version v) refl h
+  where
+    by : (b : Bool) → nat_lt n.version v ≡ b → (if b then None else Some n) ≡ Some m → v ≤ n.version
+    by true e h = absurd (none-some m h)
+    by false e h = ltb-false n.version v e
+
 -- what is allowed
 
 enters : (w : World) (c : ℕ) (who : Caller) (n : Node) → IsSound w → slice_get w.nodes who.node ≡ Some n → Goes (after_enter w c who n Fresh)
@@ -45,8 +58,8 @@ enters w c who n h there =
 asks : (w : World) (f : ℕ) (l : Lead) (n : Node) (c : Class) → c ≡ Wide → IsSound w → slice_get w.nodes l.node ≡ Some n → Goes (after_ask_peer w f l n c Looked)
 asks w f l n Wide e h there =
     let o = owner_there w l.node n l.key h.placed there in
-    goes (position (λ m. bytes_eq m.name (owner_of n l.key)) w.nodes) (λ o. Some (with_ask (with_stage w f l Asking) (record { node = o; key = l.key; flight = f }))) o.0 o.1
-    (with_ask (with_stage w f l Asking) (record { node = o.0; key = l.key; flight = f }), refl)
+    goes (position (λ m. bytes_eq m.name (owner_of n l.key)) w.nodes) (λ o. Some (with_ask (with_stage w f l Asking) (record { node = o; key = l.key; flight = f; version = version_at w.scene l.key }))) o.0 o.1
+    (with_ask (with_stage w f l Asking) (record { node = o.0; key = l.key; flight = f; version = version_at w.scene l.key }), refl)
 asks w f l n Local e h there = absurd cc
 
 replies : (w : World) (c : ℕ) (who : Caller) (a : ℕ) (p : Purpose) (o : Outcome) → p ≡ ForAsk a → learned w c ≡ Some o → Goes (after_reply w c who p)
@@ -72,7 +85,9 @@ fails w f l e Wide ks p q = absurd cc
 
 pub allowed_goes : (w : World) (e : Event) → IsSound w → IsAllowed w e → Goes (step w e)
 unfolding step
-allowed_goes w (Want i name q) h a = goes (slice_get w.nodes i) _ a.0.0 a.0.1 (goes (w.scene.shows name) _ a.1.0 a.1.1 (_, refl))
+allowed_goes w (Want i name q) h a =
+    let n = a.2.0 in
+    goes (slice_get w.nodes i) _ n a.2.1 (goes (w.scene.shows name) _ a.0 a.1 (goes (speaker n (version_shown a.0)) _ n (speaks n (version_shown a.0) a.2.2) (_, refl)))
 allowed_goes w (Enter c) h a =
     let call : Call = record { caller = a.0; state = Fresh } in
     let n = call_node w c call h a.1 in
@@ -85,7 +100,9 @@ allowed_goes w (AskPeer f) h a =
     let fl : Flight = record { lead = a.0; stage = Looked } in
     let n = lead_node w f fl h a.1 in
     goes (slice_get w.flights f) _ fl a.1 (goes (slice_get w.nodes a.0.node) _ n.0 n.1 (asks w f a.0 n.0 a.0.class a.2 h n.1))
-allowed_goes w (Serve i) h a = goes (slice_get w.asks i) _ a.0 a.1 (_, refl)
+allowed_goes w (Serve i) h a =
+    let n = a.2.0 in
+    goes (slice_get w.asks i) _ a.0 a.1 (goes (slice_get w.nodes a.0.node) _ n a.2.1 (goes (speaker n a.0.version) _ n (speaks n a.0.version a.2.2) (_, refl)))
 allowed_goes w (event.Reply c) h a = goes (slice_get w.calls c) _ a.0 a.1 (replies w c a.0.caller a.2.0 a.0.caller.purpose a.3.0 a.2.1 a.3.1)
 allowed_goes w (Take f r) h a =
     ⊎_elim
@@ -224,7 +241,8 @@ unfolding step
 goes_allowed w (Want i name q) v h =
     let n = bind_inv (slice_get w.nodes i) _ v h in
     let p = bind_inv (w.scene.shows name) _ v n.2 in
-    ((n.0, n.1), (p.0, p.1))
+    let m = bind_inv (speaker n.0 (version_shown p.0)) _ v p.2 in
+    (p.0, p.1, (n.0, n.1, only_speakers n.0 m.0 (version_shown p.0) m.1))
 goes_allowed w (Enter c) v h =
     let call = bind_inv (slice_get w.calls c) _ v h in
     let n = bind_inv (slice_get w.nodes call.0.caller.node) _ v call.2 in
@@ -238,7 +256,11 @@ goes_allowed w (AskPeer f) v h =
     let n = bind_inv (slice_get w.nodes fl.0.lead.node) _ v fl.2 in
     let is = only_wide w f fl.0.lead n.0 fl.0.lead.class fl.0.stage v n.2 in
     (fl.0.lead, at_stage w f fl.0 Looked fl.1 is.0, is.1)
-goes_allowed w (Serve i) v h = let q = bind_inv (slice_get w.asks i) _ v h in (q.0, q.1)
+goes_allowed w (Serve i) v h =
+    let q = bind_inv (slice_get w.asks i) _ v h in
+    let n = bind_inv (slice_get w.nodes q.0.node) _ v q.2 in
+    let m = bind_inv (speaker n.0 q.0.version) _ v n.2 in
+    (q.0, q.1, (n.0, n.1, only_speakers n.0 m.0 q.0.version m.1))
 goes_allowed w (event.Reply c) v h =
     let call = bind_inv (slice_get w.calls c) _ v h in
     let is = only_served w c call.0.caller call.0.caller.purpose v call.2 in

@@ -11,7 +11,7 @@ use Rattle.std.specs.Str.{bytes_eq}
 use Rattle.iiif_machine.specs.Tables.{Class, Wide, Local, Table, Outcome, IsOpen, Entered, finds, joins, leads, enter, again, land, emptied}
 use Rattle.iiif_machine.proofs.Words.{TableLaws}
 use Rattle.iiif_machine.specs.Rows.{Node, Purpose, ForRequest, ForPart, ForFallback, ForAsk, Caller, CallState, Fresh, Hit, In, Gone, Call, Lead, Stage, New, Looked, Asking, Fallback, Parts, Ready, Ended, Flight, Reply, Wish}
-use Rattle.iiif_machine.specs.Worlds.{World, ◌>>=◌, table_at, put_table, with_node, with_stage, with_state, with_flight, with_ask, with_reply, learned, all_learned, collected, outcome_from, settled, known_by}
+use Rattle.iiif_machine.specs.Worlds.{World, ◌>>=◌, version_shown, version_at, speaker, table_at, put_table, with_node, with_stage, with_state, with_flight, with_ask, with_reply, learned, all_learned, collected, outcome_from, settled, known_by}
 use Rattle.iiif_machine.specs.Steps.{Want, Enter, Again, AskPeer, Serve, Take, Lose, GoLocal, Load, SourceFault, Land, Evict, Stop, after_want, is_open, is_open_for, lead_of, after_meeting, after_enter, stage_found, after_again, after_ask_peer, after_reply, stage_taken, after_take, after_lose, after_go_local, after_begin, after_load, after_fault, after_land, node_without, stage_stopped, flight_stopped, after_stop, step}
 use Rattle.iiif_machine.specs.declared.events.Event.TheVariants as event
 use Rattle.iiif_machine.specs.Sound.{IsRegistered, IsSameCall, IsApart}
@@ -158,7 +158,7 @@ looking_apart w f l n (Ended o) tables h at there = tt
 
 asking_apart : (w : World) (f : ℕ) (l : Lead) (n : Node) (c : Class) (x : Stage) → IsApart w → slice_get w.flights f ≡ Some (record { lead = l; stage = x }) → After IsApart (after_ask_peer w f l n c x)
 asking_apart w f l n Wide Looked h at =
-    bind (position (λ m. bytes_eq m.name (owner_of n l.key)) w.nodes) (λ o. Some (with_ask (with_stage w f l Asking) (record { node = o; key = l.key; flight = f })))
+    bind (position (λ m. bytes_eq m.name (owner_of n l.key)) w.nodes) (λ o. Some (with_ask (with_stage w f l Asking) (record { node = o; key = l.key; flight = f; version = version_at w.scene l.key })))
     (λ o _. apart_stage w _ f l Looked Asking at refl refl refl h)
 asking_apart w f l n Local x h at = tt
 asking_apart w f l n Wide New h at = tt
@@ -324,15 +324,15 @@ wanted_apart w n p q (Ok r) h = apart_same w _ refl refl h
 pub step_apart : StepsStayApart
 unfolding step
 step_apart w (Want node name request) laws tables h =
-    bind (slice_get w.nodes node) _ (λ n at. bind (w.scene.shows name) _ (λ p shown.
-    wanted_apart w n p (record { node = node; name = name; request = request }) (resolved w.scene p request) h))
+    bind (slice_get w.nodes node) _ (λ n at. bind (w.scene.shows name) _ (λ p shown. bind (speaker n (version_shown p)) _ (λ m speaks.
+    wanted_apart w n p (record { node = node; name = name; request = request }) (resolved w.scene p request) h)))
 step_apart w (Enter c) laws tables h =
     bind (slice_get w.calls c) _ (λ call at. bind (slice_get w.nodes call.caller.node) _ (λ n there. entering_apart w c call.caller n call.state tables h there))
 step_apart w (Again f) laws tables h =
     bind (slice_get w.flights f) _ (λ fl at. bind (slice_get w.nodes fl.lead.node) _ (λ n there. looking_apart w f fl.lead n fl.stage tables h at there))
 step_apart w (AskPeer f) laws tables h =
     bind (slice_get w.flights f) _ (λ fl at. bind (slice_get w.nodes fl.lead.node) _ (λ n there. asking_apart w f fl.lead n fl.lead.class fl.stage h at))
-step_apart w (Serve a) laws tables h = bind (slice_get w.asks a) _ (λ q at. apart_same w _ refl refl h)
+step_apart w (Serve a) laws tables h = bind (slice_get w.asks a) _ (λ q at. bind (slice_get w.nodes q.node) _ (λ n there. bind (speaker n q.version) _ (λ m speaks. apart_same w _ refl refl h)))
 step_apart w (event.Reply c) laws tables h = bind (slice_get w.calls c) _ (λ call at. replying_apart w c call.caller call.caller.purpose h)
 step_apart w (Take f r) laws tables h =
     bind (slice_get w.flights f) _ (λ fl at. bind (slice_get w.replies r) _ (λ reply there. taking_apart w f fl.lead reply fl.stage h at))

@@ -7,7 +7,7 @@ use Rattle.iiif_scene.specs.Plans.{resolved}
 use Rattle.iiif_machine.specs.Types.{Key, Picture, Resolved, Refusal}
 use Rattle.iiif_machine.specs.Tables.{Class, Wide, Local, Table, Entered, finds, joins, leads, enter}
 use Rattle.iiif_machine.specs.Rows.{Node, Purpose, ForRequest, ForPart, ForFallback, ForAsk, Caller, CallState, Fresh, Hit, In, Gone, Lead, Stage, New, Looked, Asking, Fallback, Parts, Ready, Ended, Reply, Wish}
-use Rattle.iiif_machine.specs.Worlds.{World, ◌>>=◌, owner_of, table_at, put_table, with_node, with_stage, with_state, with_ask, with_reply, learned, all_learned, collected, outcome_from}
+use Rattle.iiif_machine.specs.Worlds.{World, ◌>>=◌, version_shown, version_at, speaker, owner_of, table_at, put_table, with_node, with_stage, with_state, with_ask, with_reply, learned, all_learned, collected, outcome_from}
 use Rattle.iiif_machine.specs.Steps.{Event, Want, Enter, Again, AskPeer, Serve, Take, Lose, GoLocal, Load, SourceFault, Land, Evict, Stop, after_want, is_open_for, after_meeting, after_enter, after_again, after_ask_peer, after_reply, after_take, after_lose, after_go_local, after_begin, after_load, after_land, step, run}
 use Rattle.iiif_machine.specs.declared.events.Event.TheVariants as event
 use Rattle.iiif_machine.specs.Promises.{After, reads_fail, OnlySourcesGive}
@@ -45,7 +45,7 @@ looking w f l n (Ended o) = tt
 
 asking : (w : World) (f : ℕ) (l : Lead) (n : Node) (c : Class) (x : Stage) → After (Same w) (after_ask_peer w f l n c x)
 asking w f l n Wide Looked =
-    bind w (position (λ m. bytes_eq m.name (owner_of n l.key)) w.nodes) (λ o. Some (with_ask (with_stage w f l Asking) (record { node = o; key = l.key; flight = f }))) (λ o. refl)
+    bind w (position (λ m. bytes_eq m.name (owner_of n l.key)) w.nodes) (λ o. Some (with_ask (with_stage w f l Asking) (record { node = o; key = l.key; flight = f; version = version_at w.scene l.key }))) (λ o. refl)
 asking w f l n Local x = tt
 asking w f l n Wide New = tt
 asking w f l n Wide Asking = tt
@@ -109,11 +109,11 @@ landing w f l n kept (Ended o) = tt
 
 one : (w : World) (e : Event) → reads_fail (e ∷ []) ≡ false → After (Same w) (step w e)
 unfolding step
-one w (Want i name q) none = bind w (slice_get w.nodes i) _ (λ n. bind w (w.scene.shows name) _ (λ p. wanted w n p (record { node = i; name = name; request = q }) (resolved w.scene p q)))
+one w (Want i name q) none = bind w (slice_get w.nodes i) _ (λ n. bind w (w.scene.shows name) _ (λ p. bind w (speaker n (version_shown p)) _ (λ m. wanted w n p (record { node = i; name = name; request = q }) (resolved w.scene p q))))
 one w (Enter c) none = bind w (slice_get w.calls c) _ (λ call. bind w (slice_get w.nodes call.caller.node) _ (λ n. entering w c call.caller n call.state))
 one w (Again f) none = bind w (slice_get w.flights f) _ (λ fl. bind w (slice_get w.nodes fl.lead.node) _ (λ n. looking w f fl.lead n fl.stage))
 one w (AskPeer f) none = bind w (slice_get w.flights f) _ (λ fl. bind w (slice_get w.nodes fl.lead.node) _ (λ n. asking w f fl.lead n fl.lead.class fl.stage))
-one w (Serve a) none = bind w (slice_get w.asks a) _ (λ q. refl)
+one w (Serve a) none = bind w (slice_get w.asks a) _ (λ q. bind w (slice_get w.nodes q.node) _ (λ n. bind w (speaker n q.version) _ (λ m. refl)))
 one w (event.Reply c) none = bind w (slice_get w.calls c) _ (λ call. replying w c call.caller call.caller.purpose)
 one w (Take f r) none = bind w (slice_get w.flights f) _ (λ fl. bind w (slice_get w.replies r) _ (λ reply. taking w f fl.lead reply fl.stage))
 one w (Lose f) none = bind w (slice_get w.flights f) _ (λ fl. losing w f fl.lead fl.stage)

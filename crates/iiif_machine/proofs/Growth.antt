@@ -70,4 +70,4 @@ requests_later s a b xs later =
     each_as (λ q. ProgressIsHonest s a q.wish q.progress) (λ q. ProgressIsHonest s b q.wish q.progress) xs (λ q h. progress_later s a b q.wish q.progress later h)
 
 pub asks_later : (s : Scene) (a b : Facts) (xs : List Ask) → Later a b → Each (AskIsHonest s a) xs → Each (AskIsHonest s b) xs
-asks_later s a b xs later = each_as (AskIsHonest s a) (AskIsHonest s b) xs (λ q h. record { fits = h.fits; flight = (h.flight.0, later.leads q.flight h.flight.0 h.flight.1, h.flight.2, h.flight.3) })
+asks_later s a b xs later = each_as (AskIsHonest s a) (AskIsHonest s b) xs (λ q h. record { fits = h.fits; flight = (h.flight.0, later.leads q.flight h.flight.0 h.flight.1, h.flight.2, h.flight.3); version = h.version })

@@ -12,7 +12,7 @@ use Rattle.iiif_machine.specs.Worlds.{owner_of}
 use Rattle.std.specs.Str.{bytes_eq}
 use Rattle.iiif_machine.specs.Tables.{Class, Wide, Local, Table, Outcome, Peer, IsOpen, Entered, finds, joins, leads, enter, again, land, emptied}
 use Rattle.iiif_machine.specs.Rows.{Node, Purpose, ForRequest, ForPart, ForFallback, ForAsk, Caller, CallState, Fresh, Hit, In, Gone, Lead, Stage, New, Looked, Asking, Fallback, Parts, Ready, Ended, Flight, Reply, Wish}
-use Rattle.iiif_machine.specs.Worlds.{World, ◌>>=◌, table_at, put_table, with_node, with_stage, with_state, with_flight, with_ask, with_reply, learned, all_learned, collected, outcome_from, settled, resumed, resumed_stage, ready_with}
+use Rattle.iiif_machine.specs.Worlds.{World, ◌>>=◌, version_shown, version_at, speaker, table_at, put_table, with_node, with_stage, with_state, with_flight, with_ask, with_reply, learned, all_learned, collected, outcome_from, settled, resumed, resumed_stage, ready_with}
 use Rattle.iiif_machine.specs.Steps.{Event, Want, Enter, Again, AskPeer, Serve, Take, Lose, GoLocal, Load, SourceFault, Land, Evict, Stop, after_want, is_open, is_open_for, lead_of, after_meeting, after_enter, stage_found, after_again, after_ask_peer, after_reply, stage_taken, after_take, after_lose, after_go_local, after_begin, after_load, after_fault, after_land, node_without, stage_stopped, flight_stopped, after_stop, step}
 use Rattle.iiif_machine.specs.declared.events.Event.TheVariants as event
 use Rattle.iiif_tables.specs.Flights.{same_class}
@@ -221,7 +221,7 @@ looking_listed w f l n (Ended o) h at there = tt
 
 asking_listed : (w : World) (f : ℕ) (l : Lead) (n : Node) (c : Class) (x : Stage) → IsListed w → slice_get w.flights f ≡ Some (record { lead = l; stage = x }) → After IsListed (after_ask_peer w f l n c x)
 asking_listed w f l n Wide Looked h at =
-    bind (position (λ m. bytes_eq m.name (owner_of n l.key)) w.nodes) (λ o. Some (with_ask (with_stage w f l Asking) (record { node = o; key = l.key; flight = f })))
+    bind (position (λ m. bytes_eq m.name (owner_of n l.key)) w.nodes) (λ o. Some (with_ask (with_stage w f l Asking) (record { node = o; key = l.key; flight = f; version = version_at w.scene l.key })))
     (λ o _. listed_stage w _ f l Looked Asking at refl refl refl h)
 asking_listed w f l n Local x h at = tt
 asking_listed w f l n Wide New h at = tt
@@ -379,15 +379,15 @@ wanted_listed w n p q (Ok r) h = listed_same w (after_want w n p q (Ok r)) refl 
 pub step_listed : (w : World) (e : Event) → IsApart w → IsListed w → After IsListed (step w e)
 unfolding step
 step_listed w (Want node name request) a h =
-    bind (slice_get w.nodes node) _ (λ n at. bind (w.scene.shows name) _ (λ p shown.
-    wanted_listed w n p (record { node = node; name = name; request = request }) (resolved w.scene p request) h))
+    bind (slice_get w.nodes node) _ (λ n at. bind (w.scene.shows name) _ (λ p shown. bind (speaker n (version_shown p)) _ (λ m speaks.
+    wanted_listed w n p (record { node = node; name = name; request = request }) (resolved w.scene p request) h)))
 step_listed w (Enter c) a h =
     bind (slice_get w.calls c) _ (λ call at. bind (slice_get w.nodes call.caller.node) _ (λ n there. entering_listed w c call.caller n call.state h there))
 step_listed w (Again f) a h =
     bind (slice_get w.flights f) _ (λ fl at. bind (slice_get w.nodes fl.lead.node) _ (λ n there. looking_listed w f fl.lead n fl.stage h at there))
 step_listed w (AskPeer f) a h =
     bind (slice_get w.flights f) _ (λ fl at. bind (slice_get w.nodes fl.lead.node) _ (λ n there. asking_listed w f fl.lead n fl.lead.class fl.stage h at))
-step_listed w (Serve k) a h = bind (slice_get w.asks k) _ (λ q at. listed_same w _ refl refl h)
+step_listed w (Serve k) a h = bind (slice_get w.asks k) _ (λ q at. bind (slice_get w.nodes q.node) _ (λ n there. bind (speaker n q.version) _ (λ m speaks. listed_same w _ refl refl h)))
 step_listed w (event.Reply c) a h = bind (slice_get w.calls c) _ (λ call at. replying_listed w c call.caller call.caller.purpose h)
 step_listed w (Take f r) a h =
     bind (slice_get w.flights f) _ (λ fl at. bind (slice_get w.replies r) _ (λ reply there. taking_listed w f fl.lead reply fl.stage h at))

@@ -7,7 +7,7 @@ use Rattle.iiif_scene.specs.Plans.{resolved, items}
 use Rattle.iiif_machine.specs.Types.{Key, ReadFault, Picture, Resolved, Refusal}
 use Rattle.iiif_machine.specs.Tables.{Class, Wide, Local, Table, Outcome, Entered, finds, joins, leads, enter, again}
 use Rattle.iiif_machine.specs.Rows.{Node, Purpose, ForRequest, ForPart, ForFallback, ForAsk, Caller, CallState, Fresh, Hit, In, Gone, Lead, Stage, New, Looked, Asking, Fallback, Parts, Ready, Ended, Flight, Ask, Reply, Wish}
-use Rattle.iiif_machine.specs.Worlds.{World, ◌>>=◌, owner_of, table_at, put_table, with_node, with_stage, with_state, with_calls, with_flight, with_ask, with_reply, call_for, learned, all_learned, collected, outcome_from, resumed, settled}
+use Rattle.iiif_machine.specs.Worlds.{World, ◌>>=◌, version_shown, version_at, speaker, owner_of, table_at, put_table, with_node, with_stage, with_state, with_calls, with_flight, with_ask, with_reply, call_for, learned, all_learned, collected, outcome_from, resumed, settled}
 use Rattle.iiif_machine.specs.Steps.{Want, Enter, Again, AskPeer, Serve, Take, Lose, GoLocal, Load, SourceFault, Land, Evict, Stop, after_want, is_open, is_open_for, lead_of, after_meeting, after_enter, stage_found, after_again, after_ask_peer, caller_serving, after_reply, stage_taken, after_take, after_lose, after_go_local, after_begin, after_load, after_fault, after_land, node_without, flight_stopped, call_stopped, after_stop, step}
 use Rattle.iiif_machine.specs.declared.events.Event.TheVariants as event
 use Rattle.iiif_machine.specs.Sound.{Each, facts, caller_of, lead_in, Card, card_of, cards, IsThere, NamesNodes, IsPlaced}
@@ -174,9 +174,9 @@ looking_stays w f l n (Ended o) at is h = tt
 asking_stays : (w : World) (f : ℕ) (l : Lead) (n : Node) (c : Class) (x : Stage) → slice_get w.flights f ≡ Some (record { lead = l; stage = x }) → IsPlaced w →
     After (Stays w) (after_ask_peer w f l n c x)
 asking_stays w f l n Wide Looked at h =
-    bind w (position (λ m. bytes_eq m.name (owner_of n l.key)) w.nodes) (λ o. Some (with_ask (with_stage w f l Asking) (record { node = o; key = l.key; flight = f })))
+    bind w (position (λ m. bytes_eq m.name (owner_of n l.key)) w.nodes) (λ o. Some (with_ask (with_stage w f l Asking) (record { node = o; key = l.key; flight = f; version = version_at w.scene l.key })))
     (λ o found.
-    let q : Ask = record { node = o; key = l.key; flight = f } in
+    let q : Ask = record { node = o; key = l.key; flight = f; version = version_at w.scene l.key } in
     let m = position_found (λ m. bytes_eq m.name (owner_of n l.key)) w.nodes o found in
     stays_by w (with_ask (with_stage w f l Asking) q) refl (ended_set w.flights f l Looked Asking at refl) h.callers
     (each_kept (λ l. IsThere (cards w) l.node) (facts w).leads _ (leads_set w.flights f l Looked Asking at) h.leads)
@@ -306,8 +306,8 @@ stopped_stays w i n at h =
 pub step_placed : StepsStayPlaced
 unfolding step
 step_placed w (Want node name request) h =
-    bind w (slice_get w.nodes node) _ (λ n at. bind w (w.scene.shows name) _ (λ p shown.
-    wanted_stays w n p (record { node = node; name = name; request = request }) (resolved w.scene p request) at h))
+    bind w (slice_get w.nodes node) _ (λ n at. bind w (w.scene.shows name) _ (λ p shown. bind w (speaker n (version_shown p)) _ (λ m speaks.
+    wanted_stays w n p (record { node = node; name = name; request = request }) (resolved w.scene p request) at h)))
 step_placed w (Enter c) h =
     bind w (slice_get w.calls c) _ (λ call at. bind w (slice_get w.nodes call.caller.node) _ (λ n is. entering_stays w c call.caller n call.state at is h))
 step_placed w (Again f) h =
@@ -315,8 +315,8 @@ step_placed w (Again f) h =
 step_placed w (AskPeer f) h =
     bind w (slice_get w.flights f) _ (λ fl at. bind w (slice_get w.nodes fl.lead.node) _ (λ n is. asking_stays w f fl.lead n fl.lead.class fl.stage at h))
 step_placed w (Serve a) h =
-    bind w (slice_get w.asks a) _ (λ q at. flights_stay w _ refl refl
-    (calls_there w w (caller_serving a q ∷ []) refl (each_one (λ z. IsThere (cards w) z.node) (caller_serving a q) (h.asks a q at)) h) refl h)
+    bind w (slice_get w.asks a) _ (λ q at. bind w (slice_get w.nodes q.node) _ (λ n is. bind w (speaker n q.version) _ (λ m speaks. flights_stay w _ refl refl
+    (calls_there w w (caller_serving a q ∷ []) refl (each_one (λ z. IsThere (cards w) z.node) (caller_serving a q) (h.asks a q at)) h) refl h)))
 step_placed w (event.Reply c) h = bind w (slice_get w.calls c) _ (λ call at. replying_stays w c call.caller call.caller.purpose h)
 step_placed w (Take f r) h =
     bind w (slice_get w.flights f) _ (λ fl at. bind w (slice_get w.replies r) _ (λ reply is. taking_stays w f fl.lead reply fl.stage at h))

@@ -11,7 +11,7 @@ use Rattle.iiif_machine.proofs.Words.{SubjectLaws}
 use Rattle.iiif_machine.specs.Tables.{Class, Wide, Local, Table, Outcome, Main, Peer, Entered, finds, joins, leads, enter, again, land}
 use Rattle.iiif_machine.proofs.Words.{TableLaws}
 use Rattle.iiif_machine.specs.Rows.{Node, Given, Purpose, ForRequest, ForPart, ForFallback, ForAsk, Caller, CallState, Fresh, Hit, In, Gone, Lead, Stage, New, Looked, Asking, Fallback, Parts, Ready, Ended, Ask, Reply, Wish, Refused, Progress, Waiting, Answered}
-use Rattle.iiif_machine.specs.Worlds.{World, ◌>>=◌, table_at, put_table, with_node, with_stage, with_state, with_calls, with_flight, with_ask, with_reply, with_given, with_request, call_for, numbers, learned, all_learned, collected, outcome_from}
+use Rattle.iiif_machine.specs.Worlds.{World, ◌>>=◌, version_at, table_at, put_table, with_node, with_stage, with_state, with_calls, with_flight, with_ask, with_reply, with_given, with_request, call_for, numbers, learned, all_learned, collected, outcome_from}
 use Rattle.iiif_machine.specs.Steps.{after_want, is_open, is_open_for, lead_of, after_meeting, after_enter, stage_found, after_again, after_ask_peer, after_reply, stage_taken, after_take, after_lose, after_go_local, after_begin, after_load, after_fault, after_land}
 use Rattle.iiif_tables.specs.Flights.{same_class}
 use Rattle.iiif_machine.specs.Sound.{CallerIsRight, facts, lead_in, IsHonest, StageIsHonest, ReplyIsHonest, NodeIsHonest, IsHonestWorld}
@@ -140,14 +140,15 @@ pub asking_kept : (w : World) (f : ℕ) (l : Lead) (n : Node) (c : Class) (x : S
     slice_get w.flights f ≡ Some (record { lead = l; stage = x }) → Kept_by w (after_ask_peer w f l n c x)
 asking_kept w f l n Wide Looked e h at =
     after_bind (Next w) (position (λ m. bytes_eq m.name (owner_of n l.key)) w.nodes)
-    (λ o. Some (with_ask (with_stage w f l Asking) (record { node = o; key = l.key; flight = f })))
+    (λ o. Some (with_ask (with_stage w f l Asking) (record { node = o; key = l.key; flight = f; version = version_at w.scene l.key })))
     (λ o _.
     let v1 = with_stage w f l Asking in
-    let q : Ask = record { node = o; key = l.key; flight = f } in
+    let q : Ask = record { node = o; key = l.key; flight = f; version = version_at w.scene l.key } in
     let h1 = stage_set w f l Looked Asking at h e in
     next_by w {v = with_ask v1 q} refl refl refl (ask_add v1 q h1 (record {
       fits = (h.flights f _ at).fits;
       flight = (l, (later_stage w f l Looked Asking at).leads f l (get_map lead_in w.flights f _ at), refl, e);
+      version = refl;
     })))
 asking_kept w f l n Local x e h at = tt
 asking_kept w f l n Wide New e h at = tt

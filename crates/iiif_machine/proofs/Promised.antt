@@ -15,7 +15,7 @@ use Rattle.iiif_machine.specs.Steps.{Event, after_want, step, run}
 use Rattle.iiif_machine.specs.Sound.{IsApart, IsListed, NodeIsHonest, TableIsHonest, caller_of}
 use Rattle.iiif_machine.specs.Promises.{Follows, After}
 use Rattle.iiif_machine.proofs.Words.{SubjectLaws, Next, Stays}
-use Rattle.iiif_machine.specs.Worlds.{new_world}
+use Rattle.iiif_machine.specs.Worlds.{new_world, version_shown, speaker}
 use Rattle.iiif_scene.specs.Scenes.{IsProper}
 use Rattle.iiif_machine.specs.Sound.{IsSound}
 use Rattle.iiif_machine.specs.Promises.{IsNew, RefusedAtOnce, EachStep, EachRun, AnswersAreRight, ValuesAreMeanings, NoFaultNoFailure, CanonicalFormsAgree}
@@ -140,8 +140,9 @@ unfolding step
 refused_at_once w v i name q p e proper shown h stepped =
     let n = bind_inv (slice_get w.nodes i) _ v stepped in
     let o = bind_inv (w.scene.shows name) _ v n.2 in
+    let m = bind_inv (speaker n.0 (version_shown o.0)) _ v o.2 in
     let same : o.0 ≡ p = some_same o.0 p (sym o.1 ∙ shown) in
     let wish : Wish = record { node = i; name = name; request = q } in
-    let there : after_want w n.0 p wish (resolved w.scene p q) ≡ v = ap (λ x. after_want w n.0 x wish (resolved w.scene x q)) (sym same) ∙ some_same _ v o.2 in
+    let there : after_want w n.0 p wish (resolved w.scene p q) ≡ v = ap (λ x. after_want w n.0 x wish (resolved w.scene x q)) (sym same) ∙ some_same _ v m.2 in
     subst (λ (x : World). slice_get x.requests (length w.requests) ≡ Some (record { wish = wish; progress = Answered (Refused e) })) there
     (refused_by w n.0 p wish (resolved w.scene p q) e (subject_laws w.scene proper) shown refl h)

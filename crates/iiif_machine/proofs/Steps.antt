@@ -3,7 +3,7 @@ use Rattle.std.proofs.Common.{[], ◌∷◌, refl}
 use Rattle.std.specs.Prelude.{slice_get}
 use Rattle.iiif_scene.specs.Keys.{parts_of}
 use Rattle.iiif_scene.specs.Plans.{resolved}
-use Rattle.iiif_machine.specs.Worlds.{with_node, with_calls}
+use Rattle.iiif_machine.specs.Worlds.{version_shown, speaker, with_node, with_calls}
 use Rattle.iiif_machine.specs.Steps.{Want, Enter, Again, AskPeer, Serve, Take, Lose, GoLocal, Load, SourceFault, Land, Evict, Stop, caller_serving, node_without, step}
 use Rattle.iiif_machine.specs.declared.events.Event.TheVariants as event
 use Rattle.iiif_machine.specs.Sound.{CallerIsRight, facts, caller_of}
@@ -19,8 +19,8 @@ use Rattle.iiif_machine.proofs.Preserved.{after_bind, wanted_kept, entering_kept
 pub step_kept : StepsStayHonest
 unfolding step
 step_kept w (Want node name request) laws tables h =
-    after_bind (Next w) (slice_get w.nodes node) _ (λ n at. after_bind (Next w) (w.scene.shows name) _ (λ p shown.
-    wanted_kept w n p (record { node = node; name = name; request = request }) (resolved w.scene p request) laws h shown refl))
+    after_bind (Next w) (slice_get w.nodes node) _ (λ n at. after_bind (Next w) (w.scene.shows name) _ (λ p shown. after_bind (Next w) (speaker n (version_shown p)) _ (λ m speaks.
+    wanted_kept w n p (record { node = node; name = name; request = request }) (resolved w.scene p request) laws h shown refl)))
 step_kept w (Enter c) laws tables h =
     after_bind (Next w) (slice_get w.calls c) _ (λ call at. after_bind (Next w) (slice_get w.nodes call.caller.node) _ (λ n there.
     entering_kept w c call.caller n call.state laws tables h at (h.nodes _ n there)))
@@ -31,8 +31,9 @@ step_kept w (AskPeer f) laws tables h =
     after_bind (Next w) (slice_get w.flights f) _ (λ fl at. after_bind (Next w) (slice_get w.nodes fl.lead.node) _ (λ n there.
     asking_kept w f fl.lead n fl.lead.class fl.stage refl h at))
 step_kept w (Serve a) laws tables h =
-    after_bind (Next w) (slice_get w.asks a) _ (λ q at. next_by w {v = with_calls w (caller_serving a q ∷ [])} refl refl refl
-    (calls_add w (caller_serving a q ∷ []) h (each_one (CallerIsRight w.scene (facts w)) (caller_serving a q) (record { fits = (h.asks a q at).fits; purpose = (q, at, refl, refl) }))))
+    after_bind (Next w) (slice_get w.asks a) _ (λ q at. after_bind (Next w) (slice_get w.nodes q.node) _ (λ n there. after_bind (Next w) (speaker n q.version) _ (λ m speaks.
+    next_by w {v = with_calls w (caller_serving a q ∷ [])} refl refl refl
+    (calls_add w (caller_serving a q ∷ []) h (each_one (CallerIsRight w.scene (facts w)) (caller_serving a q) (record { fits = (h.asks a q at).fits; purpose = (q, at, refl, refl) }))))))
 step_kept w (event.Reply c) laws tables h =
     after_bind (Next w) (slice_get w.calls c) _ (λ call at. replying_kept w c call.caller call.caller.purpose h (get_map caller_of w.calls c call at))
 step_kept w (Take f r) laws tables h =

@@ -17,12 +17,12 @@ use Rattle.iiif_scene.specs.Plans.{resolved, items}
 use Rattle.iiif_scene.specs.Images.{assembled}
 use Rattle.iiif_machine.specs.Owners.{owner}
 use Rattle.iiif_machine.specs.Tables.{enter, again, land, evicted, emptied}
-use Rattle.iiif_machine.specs.Worlds.{owner_of}
+use Rattle.iiif_machine.specs.Worlds.{owner_of, version_at}
 use Rattle.iiif_machine.specs.Steps.{step, run}
-use Rattle.iiif_machine.specs.Worked.{ReplyOfAnotherKeyIsNotTaken, TwoShareAValue, TwoShareAFault, WaitsForItsCalls, KeptIsFound, NotKeptIsNotFound, FailingRead, NotAgain, FaultIsNotKept, NoneIsAnsweredYet, BothAreAnswered, LateRepeatChangesNothing, BothStayAnswered, LostAskIsAnswered, FaultOfAPeerIsNotAnswered, StoppedNode, StoppedCallsAreGone, FoundAgainIsAnswered, FoundAgainIsCounted, HalvedIs, DeepHalvedIs, CutOutIs, FirstFaultIsAnswered}
+use Rattle.iiif_machine.specs.Worked.{ReplyOfAnotherKeyIsNotTaken, TwoShareAValue, TwoShareAFault, WaitsForItsCalls, KeptIsFound, NotKeptIsNotFound, FailingRead, NotAgain, FaultIsNotKept, NoneIsAnsweredYet, BothAreAnswered, LateRepeatChangesNothing, BothStayAnswered, LostAskIsAnswered, FaultOfAPeerIsNotAnswered, StoppedNode, StoppedCallsAreGone, FoundAgainIsAnswered, FoundAgainIsCounted, HalvedIs, DeepHalvedIs, EnlargedIs, CutOutIs, FirstFaultIsAnswered, DeepAskIsNotServed, DeepAskIsAnswered, AskIsServed, DeepIsNotWanted, SevenIsWanted}
 
 abbrev everything : ℕ
-unfolding step run emptied evicted name_of rank_of key_eq is_tile meaning parts_of derived resolved items assembled owner_of owner key_bytes value_bytes enter again land tables.enter tables.again tables.land touch without placed evict evict_at_most put resolved_of region_of clipped size_of checked asked_of largest fit round quarters_of row_from rows_from greatest crop_at sample_at samples_of row_of tile_key_bytes sum_key_bytes tile_val_bytes sum_val_bytes sum_from overlap weight_of area_sum scaled_at sum_at has_place part_sum
+unfolding step run emptied evicted name_of rank_of key_eq is_tile meaning parts_of derived resolved items assembled owner_of version_at owner key_bytes value_bytes enter again land tables.enter tables.again tables.land touch without placed evict evict_at_most put resolved_of region_of clipped size_of checked asked_of largest fit round quarters_of row_from rows_from greatest crop_at sample_at samples_of row_of tile_key_bytes sum_key_bytes tile_val_bytes sum_val_bytes sum_from overlap weight_of area_sum scaled_at sum_at has_place part_sum
 everything = 0
 
 pub waits_for_its_calls : WaitsForItsCalls
@@ -97,6 +97,10 @@ pub deep_halved_is : DeepHalvedIs
 unfolding everything
 deep_halved_is = refl
 
+pub enlarged_is : EnlargedIs
+unfolding everything
+enlarged_is = refl
+
 pub cut_out_is : CutOutIs
 unfolding everything
 cut_out_is = refl
@@ -116,3 +120,23 @@ two_share_a_fault = refl
 pub reply_of_another_key_is_not_taken : ReplyOfAnotherKeyIsNotTaken
 unfolding everything
 reply_of_another_key_is_not_taken = refl
+
+pub deep_ask_is_not_served : DeepAskIsNotServed
+unfolding everything
+deep_ask_is_not_served = refl
+
+pub deep_ask_is_answered : DeepAskIsAnswered
+unfolding everything
+deep_ask_is_answered = refl
+
+pub ask_is_served : AskIsServed
+unfolding everything
+ask_is_served = refl
+
+pub deep_is_not_wanted : DeepIsNotWanted
+unfolding everything
+deep_is_not_wanted = refl
+
+pub seven_is_wanted : SevenIsWanted
+unfolding everything
+seven_is_wanted = refl

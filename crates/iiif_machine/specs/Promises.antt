@@ -1,5 +1,5 @@
 -- The promises, of every list of events, in the images' own words.
-use Rattle.std.specs.Prelude.{◌≡◌, ◌↔◌, ◌⊎◌, ℕ, ◌<◌, List, [], ◌∷◌, ◌++◌, Bool, true, false, ◌||◌, Option, Some, None, Ok, Err, map, length, slice_get}
+use Rattle.std.specs.Prelude.{◌≡◌, ◌↔◌, ◌⊎◌, ℕ, ◌<◌, ◌≤◌, List, [], ◌∷◌, ◌++◌, Bool, true, false, ◌||◌, Option, Some, None, Ok, Err, map, length, slice_get}
 use Rattle.iiif_pixel.specs.Picture.{dim_of}
 use Rattle.iiif_canonical.specs.Canonical.{canonical}
 use Rattle.iiif_ring.specs.Owner.{IsOwner}
@@ -14,7 +14,7 @@ use Rattle.iiif_machine.specs.Types.{Key, Value, Picture, Request, Refusal, Reso
 use Rattle.iiif_machine.specs.Owners.{owner}
 use Rattle.iiif_machine.specs.Tables.{Class, Wide, Local, Place, Outcome, Holds}
 use Rattle.iiif_machine.specs.Rows.{Node, Purpose, ForRequest, ForPart, ForFallback, ForAsk, Caller, Call, Fresh, In, Lead, Stage, New, Looked, Asking, Fallback, Parts, Ready, Ended, Ask, Reply, Wish, Answer, Refused, Image, Failed, Answered, Waiting, Gone}
-use Rattle.iiif_machine.specs.Worlds.{World, new_world, learned, all_learned, collected}
+use Rattle.iiif_machine.specs.Worlds.{World, new_world, version_shown, learned, all_learned, collected}
 use Rattle.iiif_machine.specs.Steps.{Event, Want, Enter, Again, AskPeer, Serve, Take, Lose, GoLocal, Load, SourceFault, Land, Evict, Stop, is_open, step, run}
 use Rattle.iiif_machine.specs.declared.events.Event.TheVariants as event
 use Rattle.iiif_machine.specs.Sound.{Each, Kept, facts, IsHonest, AnswerIsRight, card_of, cards, NamesNodes, IsSound}
@@ -102,13 +102,17 @@ IsOfClassAt w f c s = (l : Lead) × (slice_get w.flights f ≡ Some (record { le
 abbrev pub HasNode : World → ℕ → Type 0
 HasNode w i = (n : Node) × (slice_get w.nodes i ≡ Some n)
 
+-- a node has this number, and speaks a version
+abbrev pub Speaks : World → ℕ → ℕ → Type 0
+Speaks w i v = (n : Node) × (slice_get w.nodes i ≡ Some n) × (v ≤ n.version)
+
 -- when an event is allowed
 abbrev pub IsAllowed : World → Event → Type 0
-IsAllowed w (Want i name q) = HasNode w i × ((p : Picture) × (w.scene.shows name ≡ Some p))
+IsAllowed w (Want i name q) = (p : Picture) × (w.scene.shows name ≡ Some p) × Speaks w i (version_shown p)
 IsAllowed w (Enter c) = (who : Caller) × (slice_get w.calls c ≡ Some (record { caller = who; state = Fresh }))
 IsAllowed w (Again f) = IsAt w f New
 IsAllowed w (AskPeer f) = IsOfClassAt w f Wide Looked
-IsAllowed w (Serve a) = (q : Ask) × (slice_get w.asks a ≡ Some q)
+IsAllowed w (Serve a) = (q : Ask) × (slice_get w.asks a ≡ Some q) × Speaks w q.node q.version
 IsAllowed w (event.Reply c) = (call : Call) × (slice_get w.calls c ≡ Some call) × ((a : ℕ) × (call.caller.purpose ≡ ForAsk a)) × ((o : Outcome) × (learned w c ≡ Some o))
 IsAllowed w (Take f r) = (IsAt w f Asking ⊎ ((o : Option Outcome) × IsAt w f (Ended o))) × ((reply : Reply) × (slice_get w.replies r ≡ Some reply))
 IsAllowed w (Lose f) = IsAt w f Asking

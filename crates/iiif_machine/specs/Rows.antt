@@ -21,9 +21,10 @@ pub use Rattle.iiif_machine.specs.declared.rows.Progress.{Progress}
 pub use Rattle.iiif_machine.specs.declared.rows.Progress.TheVariants.{Waiting, Answered, Dropped}
 pub use Rattle.iiif_machine.specs.declared.rows.Wanted.{Wanted}
 
--- a node: its name, the names on its ring, and a table for tiles and one for sums
+-- a node: its name, the names on its ring, the last version of messages that it speaks, and a table for tiles and one for sums
 pub record Node : Type 0 where
   pub name : List ℕ
   pub ring : List (List ℕ)
+  pub version : ℕ
   pub tiles : Table
   pub sums : Table

@@ -7,7 +7,7 @@ use Rattle.iiif_scene.specs.Images.{image}
 use Rattle.iiif_machine.specs.Types.{Key, Value, Picture}
 use Rattle.iiif_machine.specs.Tables.{Class, Wide, Local, Table, Outcome, Holds, IsOpen}
 use Rattle.iiif_machine.specs.Rows.{Node, Given, Purpose, ForRequest, ForPart, ForFallback, ForAsk, Caller, CallState, Fresh, Hit, In, Gone, Call, Lead, Stage, New, Looked, Asking, Fallback, Parts, Ready, Ended, Flight, Ask, Reply, Wish, Answer, Refused, Image, Failed, Progress, Waiting, Answered, Dropped}
-use Rattle.iiif_machine.specs.Worlds.{World, table_at}
+use Rattle.iiif_machine.specs.Worlds.{World, table_at, version_at}
 use Rattle.iiif_machine.specs.Steps.{is_open}
 
 -- P holds of each, which stands at the number i
@@ -87,10 +87,11 @@ pub record CallIsHonest (s : Scene) (a : Facts) (c : Call) : Type 0 where
   pub caller : CallerIsRight s a c.caller
   pub state : StateIsHonest s a c.caller c.state
 
--- an ask is of a wide flight, for its key
+-- an ask is of a wide flight, for its key, and of the key's version
 pub record AskIsHonest (s : Scene) (a : Facts) (q : Ask) : Type 0 where
   pub fits : Fits s q.key
   pub flight : (l : Lead) × (slice_get a.leads q.flight ≡ Some l) × (l.key ≡ q.key) × (l.class ≡ Wide)
+  pub version : q.version ≡ version_at s q.key
 
 -- a value that is replied is its key's meaning
 abbrev pub ReplyIsHonest : Scene → Reply → Type 0
@@ -150,13 +151,14 @@ IsLed fs i k c = (f : ℕ) × (x : Flight) × (slice_get fs f ≡ Some x) × (is
 pub record IsListed (w : World) : Type 0 where
   pub all : (i : ℕ) (n : Node) (k : Key) (c : Class) (m : ℕ) → slice_get w.nodes i ≡ Some n → IsOpen (table_at n k) k c m → IsLed w.flights i k c
 
--- what of a node never changes: its name, and the names on its ring
+-- what of a node never changes: its name, the names on its ring, and its version
 pub record Card : Type 0 where
   pub name : List ℕ
   pub ring : List (List ℕ)
+  pub version : ℕ
 
 abbrev pub card_of : Node → Card
-card_of n = record { name = n.name; ring = n.ring }
+card_of n = record { name = n.name; ring = n.ring; version = n.version }
 
 abbrev pub cards : World → List Card
 cards w = map card_of w.nodes

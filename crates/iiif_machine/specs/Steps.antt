@@ -7,12 +7,12 @@ use Rattle.iiif_scene.specs.Plans.{resolved, items}
 use Rattle.iiif_machine.specs.Types.{Key, Value, Resolved, Refusal, Picture, ReadFault}
 use Rattle.iiif_machine.specs.Tables.{Class, Wide, Local, Table, Outcome, Nowhere, Main, Peer, Entered, finds, joins, leads, enter, again, land, evicted, emptied}
 use Rattle.iiif_machine.specs.Rows.{Node, Purpose, ForRequest, ForPart, ForFallback, ForAsk, Caller, CallState, Fresh, Hit, In, Gone, Call, Lead, Stage, New, Looked, Asking, Fallback, Parts, Ready, Ended, Flight, Ask, Reply, Wish, Refused, Progress, Waiting, Answered, Dropped, Wanted}
-use Rattle.iiif_machine.specs.Worlds.{World, ◌>>=◌, table_at, put_table, with_node, with_stage, with_state, with_calls, with_flight, with_ask, with_reply, with_given, with_request, owner_of, call_for, numbers, learned, all_learned, collected, outcome_from, settled}
+use Rattle.iiif_machine.specs.Worlds.{World, ◌>>=◌, table_at, put_table, with_node, with_stage, with_state, with_calls, with_flight, with_ask, with_reply, with_given, with_request, version_shown, version_at, speaker, owner_of, call_for, numbers, learned, all_learned, collected, outcome_from, settled}
 use Rattle.iiif_machine.specs.declared.events.Event.TheVariants as event
 pub use Rattle.iiif_machine.specs.declared.events.Event.{Event}
 pub use Rattle.iiif_machine.specs.declared.events.Event.TheVariants.{Want, Enter, Again, AskPeer, Serve, Take, Lose, GoLocal, Load, SourceFault, Land, Evict, Stop}
 
--- Want: a new request. It is refused, and answered so; or it waits for a call for each item of its plan.
+-- Want: a new request, at a node that speaks the version of its image. It is refused, and answered so; or it waits for a call for each item of its plan.
 abbrev pub after_want : World → Node → Picture → Wish → Result Resolved Refusal → World
 after_want w n p q (Err e) = with_request w q (Answered (Refused e))
 after_want w n p q (Ok r) =
@@ -67,14 +67,14 @@ after_again w f l n (Parts cs) = None
 after_again w f l n (Ready o p) = None
 after_again w f l n (Ended o) = None
 
--- AskPeer: a wide flight asks the node that owns its key.
+-- AskPeer: a wide flight asks the node that owns its key, by a message of the key's version.
 abbrev pub after_ask_peer : World → ℕ → Lead → Node → Class → Stage → Option World
 after_ask_peer w f l n Wide Looked = do
   o ← position (λ m. bytes_eq m.name (owner_of n l.key)) w.nodes
-  Some (with_ask (with_stage w f l Asking) (record { node = o; key = l.key; flight = f }))
+  Some (with_ask (with_stage w f l Asking) (record { node = o; key = l.key; flight = f; version = version_at w.scene l.key }))
 after_ask_peer w f l n c s = None
 
--- Serve: the asked node serves the ask by a call of the local class, which asks no other node.
+-- Serve: the asked node, where it speaks the ask's version, serves the ask by a call of the local class, which asks no other node.
 abbrev pub caller_serving : ℕ → Ask → Caller
 caller_serving a q = record { node = q.node; key = q.key; class = Local; purpose = ForAsk a }
 
@@ -172,6 +172,7 @@ unfoldable pub step : World → Event → Option World
 step w (Want node name request) = do
   n ← slice_get w.nodes node
   p ← w.scene.shows name
+  speaks ← speaker n (version_shown p)
   Some (after_want w n p (record { node = node; name = name; request = request }) (resolved w.scene p request))
 step w (Enter c) = do
   call ← slice_get w.calls c
@@ -187,6 +188,8 @@ step w (AskPeer f) = do
   after_ask_peer w f fl.lead n fl.lead.class fl.stage
 step w (Serve a) = do
   q ← slice_get w.asks a
+  n ← slice_get w.nodes q.node
+  speaks ← speaker n q.version
   Some (with_calls w (caller_serving a q ∷ []))
 step w (event.Reply c) = do
   call ← slice_get w.calls c

@@ -5,7 +5,7 @@ use Rattle.iiif_pixel.specs.declared.geometry.Quality.TheVariants.{Default}
 use Rattle.iiif_request.specs.declared.request.Region.{Region}
 use Rattle.iiif_request.specs.declared.request.Region.TheVariants.{Full, Pixels}
 use Rattle.iiif_request.specs.declared.request.Form.{Form}
-use Rattle.iiif_request.specs.declared.request.Form.TheVariants.{Max, Width}
+use Rattle.iiif_request.specs.declared.request.Form.TheVariants.{Max, Width, Both}
 use Rattle.iiif_tables.specs.Flights as tables
 use Rattle.iiif_tables.specs.declared.table.Book.{Book}
 use Rattle.iiif_scene.specs.Scenes.{Scene}
@@ -53,7 +53,7 @@ abbrev pub showing : List ℕ → Picture → ℕ → Scene
 showing shown p edge = record {
   shows = λ name. if bytes_eq name shown then Some p else None;
   edge = edge;
-  limits = record { max_w = 4096; max_h = 4096 };
+  limits = record { max_w = 4096; max_h = 4096; upscale = false };
   room = 65536;
 }
 
@@ -78,11 +78,12 @@ halved = asking_for Full (Width 2) 0
 abbrev pub cut_out : Request
 cut_out = asking_for (Pixels 1 0 3 3) Max 90
 
--- a node by the number that is its name, whose ring has one name alone
+-- a node of version 2 by the number that is its name, whose ring has one name alone
 abbrev pub node_on : ℕ → ℕ → Node
 node_on name owner = record {
   name = name ∷ [];
   ring = (owner ∷ []) ∷ [];
+  version = 2;
   tiles = tables.empty_table 1000 8;
   sums = tables.empty_table 1000 8;
 }
@@ -187,6 +188,37 @@ lost_ask = Want 0 p_name all ∷ Enter 0 ∷ Again 0 ∷ AskPeer 0 ∷ Lose 0 �
 abbrev pub LostAskIsAnswered : Type 0
 LostAskIsAnswered = answers_after tiny crossed lost_ask ≡ Some (is_seven ∷ [])
 
+-- 16 bits at a node of version 1: it serves no ask of version 2, and the flight that asked goes on by a local call of its own.
+
+-- gray, one place, of sample 700 of 16 bits
+abbrev pub deep : Picture
+deep = record { width = 1; height = 1; channels = 1; top = 65535; samples = 700 ∷ [] }
+
+-- a node of version 2, and one of version 1, each of which owns all keys for the other
+abbrev pub mixed : List Node
+mixed = node_on 0 1 ∷ record (node_on 1 0) { version = 1 } ∷ []
+
+abbrev pub asked : List Event
+asked = Want 0 p_name all ∷ Enter 0 ∷ Again 0 ∷ AskPeer 0 ∷ []
+
+abbrev pub DeepAskIsNotServed : Type 0
+DeepAskIsNotServed = answers_after (showing p_name deep 1) mixed (asked ++ Serve 0 ∷ []) ≡ None
+
+abbrev pub DeepAskIsAnswered : Type 0
+DeepAskIsAnswered = answers_after (showing p_name deep 1) mixed (asked ++ Lose 0 ∷ GoLocal 0 ∷ Enter 1 ∷ Again 1 ∷ Load 1 ∷ Land 1 true ∷ Land 0 true ∷ [])
+    ≡ Some (Some (Image deep) ∷ [])
+
+-- it serves one of version 1
+abbrev pub AskIsServed : Type 0
+AskIsServed = answers_after tiny mixed (asked ++ Serve 0 ∷ []) ≡ Some (None ∷ [])
+
+-- nor does a request for 16 bits come to it, as one for 8 does
+abbrev pub DeepIsNotWanted : Type 0
+DeepIsNotWanted = answers_after (showing p_name deep 1) mixed (Want 1 p_name all ∷ []) ≡ None
+
+abbrev pub SevenIsWanted : Type 0
+SevenIsWanted = answers_after tiny mixed (Want 1 p_name all ∷ []) ≡ Some (None ∷ [])
+
 -- A fault in a reply isn't the asker's: it goes on by itself.
 
 abbrev pub fault_replied : List Event
@@ -248,6 +280,22 @@ HalvedIs = answers_after graded alone sums
 abbrev pub DeepHalvedIs : Type 0
 DeepHalvedIs = answers_after (showing a_name deep_ramp 2) alone sums
     ≡ Some (Some (Image (record { width = 2; height = 2; channels = 1; top = 65535; samples = 10003 ∷ 18005 ∷ 42011 ∷ 50013 ∷ [] })) ∷ [])
+
+-- A region of one tile, scaled up: each place of the result is the average of the places that it lies on.
+
+-- 0,0,2,2/^3,3/0/default
+abbrev pub enlarged : Request
+enlarged = record (asking_for (Pixels 0 0 2 2) (Both 3 3) 0) { size = record { up = true; form = Both 3 3 } }
+
+abbrev pub larger : Scene
+larger = record graded { limits = record { max_w = 4096; max_h = 4096; upscale = true } }
+
+abbrev pub one_tile : List Event
+one_tile = Want 0 a_name enlarged ∷ Enter 0 ∷ Again 0 ∷ Load 0 ∷ Land 0 true ∷ []
+
+abbrev pub EnlargedIs : Type 0
+EnlargedIs = answers_after larger alone one_tile
+    ≡ Some (Some (Image (record { width = 3; height = 3; channels = 1; top = 255; samples = 0 ∷ 5 ∷ 10 ∷ 20 ∷ 25 ∷ 30 ∷ 40 ∷ 45 ∷ 50 ∷ [] })) ∷ [])
 
 -- Four tiles, put together and turned.
 

@@ -1,8 +1,10 @@
 -- A world, the small changes of which all events are made, what calls know, and what comes of it.
-use Rattle.std.specs.Prelude.{ℕ, suc, List, [], ◌∷◌, ◌++◌, if◌then◌else◌, Option, Some, None, Ok, Err, Result, map, slice_get, slice_set}
+use Rattle.std.specs.Prelude.{ℕ, suc, nat_lt, List, [], ◌∷◌, ◌++◌, if◌then◌else◌, Option, Some, None, Ok, Err, Result, map, slice_get, slice_set}
 use Rattle.std.specs.Str.{bytes_eq}
 use Rattle.iiif_scene.specs.Scenes.{Scene}
-use Rattle.iiif_scene.specs.Keys.{is_tile, key_bytes, derived}
+use Rattle.iiif_keys.specs.Names.{named}
+use Rattle.iiif_keys.specs.Shapes.{shape_of, version_of}
+use Rattle.iiif_scene.specs.Keys.{name_of, is_tile, key_bytes, derived}
 use Rattle.iiif_scene.specs.Images.{assembled}
 use Rattle.iiif_machine.specs.Types.{Key, Value, Resolved, Picture, ReadFault}
 use Rattle.iiif_machine.specs.Owners.{owner}
@@ -68,6 +70,18 @@ with_given w g = record w { given = w.given ++ g ∷ [] }
 
 abbrev pub with_request : World → Wish → Progress → World
 with_request w q p = record w { requests = w.requests ++ record { wish = q; progress = p } ∷ [] }
+
+-- the version of the messages that carry parts of a picture: by the bits of its samples
+abbrev pub version_shown : Picture → ℕ
+version_shown p = version_of (shape_of p).depth
+
+-- the version of the messages that carry a key: that of its image
+unfoldable pub version_at : Scene → Key → ℕ
+version_at s k = version_shown (named s.shows (name_of k))
+
+-- the node, where it speaks a version: its own, or one before it
+abbrev pub speaker : Node → ℕ → Option Node
+speaker n v = if nat_lt n.version v then None else Some n
 
 -- the name of a key's owner, as a node's ring has it
 unfoldable pub owner_of : Node → Key → List ℕ

@@ -1,6 +1,7 @@
 //! The events.
 
 use iiif_keys::Name;
+use iiif_pixel::NoMemory;
 use iiif_request::Request;
 use iiif_scene::Key;
 use iiif_source::ReadFault;
@@ -46,4 +47,15 @@ pub enum WorldFault {
     NotNow,
     /// Memory was refused.
     NoMemory,
+}
+
+impl From<NoMemory> for WorldFault {
+    ghost use Rattle.std.specs.Prelude.{◌≡◌};
+    ghost use Rattle.iiif_machine.specs.declared.events.WorldFault.TheVariants.{NoMemory};
+
+    ghost from_gives = { λ _ f. f ≡ NoMemory };
+
+    fn from(_error: NoMemory) -> WorldFault {
+        WorldFault::NoMemory
+    }
 }

@@ -1,7 +1,7 @@
 //! What holds of every world. The functions compute nothing: their contracts are the laws.
 
 ghost use Rattle.iiif_machine.specs.Promises.{AllowedExactly, AnswersAreRight, CanonicalFormsAgree, EachRun, EachStep, FirstFaultCounts, NoFaultIsTaken, NoFaultNoFailure, NotKeptStays, OneOutcome, OnlySourcesGive, OwnerIsTheRings, RefusedAtOnce, StopTakesAll, ValuesAreMeanings, WaitsFall};
-ghost use Rattle.iiif_machine.specs.Worked.{BothAreAnswered, BothStayAnswered, CutOutIs, DeepHalvedIs, FailingRead, FaultIsNotKept, FaultOfAPeerIsNotAnswered, FirstFaultIsAnswered, FoundAgainIsAnswered, FoundAgainIsCounted, HalvedIs, KeptIsFound, LateRepeatChangesNothing, LostAskIsAnswered, NoneIsAnsweredYet, NotAgain, NotKeptIsNotFound, ReplyOfAnotherKeyIsNotTaken, StoppedCallsAreGone, StoppedNode, TwoShareAFault, TwoShareAValue, WaitsForItsCalls};
+ghost use Rattle.iiif_machine.specs.Worked.{AskIsServed, BothAreAnswered, BothStayAnswered, CutOutIs, DeepAskIsAnswered, DeepAskIsNotServed, DeepHalvedIs, DeepIsNotWanted, EnlargedIs, FailingRead, FaultIsNotKept, FaultOfAPeerIsNotAnswered, FirstFaultIsAnswered, FoundAgainIsAnswered, FoundAgainIsCounted, HalvedIs, KeptIsFound, LateRepeatChangesNothing, LostAskIsAnswered, NoneIsAnsweredYet, NotAgain, NotKeptIsNotFound, ReplyOfAnotherKeyIsNotTaken, SevenIsWanted, StoppedCallsAreGone, StoppedNode, TwoShareAFault, TwoShareAValue, WaitsForItsCalls};
 
 /// After every list of events that is allowed, the world is sound; each event keeps it so, and takes back nothing that was given
 /// or answered.
@@ -48,7 +48,8 @@ pub fn the_owner_is_asked()
     ensures { OwnerIsTheRings }
 {}
 
-/// What worked lists of events come to: the crossed rings, the failing read, the stopped node, and others.
+/// What worked lists of events come to: the crossed rings, the failing read, the stopped node, 16 bits at a node of
+/// version 1, and others.
 pub fn worked_lists_compute()
     ensures waits_for_its_calls { WaitsForItsCalls }
     ensures kept_is_found { KeptIsFound }
@@ -70,7 +71,13 @@ pub fn worked_lists_compute()
     ensures found_again_is_counted { FoundAgainIsCounted }
     ensures halved_is { HalvedIs }
     ensures deep_halved_is { DeepHalvedIs }
+    ensures enlarged_is { EnlargedIs }
     ensures cut_out_is { CutOutIs }
     ensures reply_of_another_key_is_not_taken { ReplyOfAnotherKeyIsNotTaken }
     ensures first_fault_is_answered { FirstFaultIsAnswered }
+    ensures deep_ask_is_not_served { DeepAskIsNotServed }
+    ensures deep_ask_is_answered { DeepAskIsAnswered }
+    ensures ask_is_served { AskIsServed }
+    ensures deep_is_not_wanted { DeepIsNotWanted }
+    ensures seven_is_wanted { SevenIsWanted }
 {}

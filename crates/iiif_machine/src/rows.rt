@@ -93,12 +93,13 @@ pub struct Flight {
     pub stage: Stage,
 }
 
-/// An ask of a flight for its key, at the node that owns the key.
+/// An ask of a flight for its key, at the node that owns the key. The version is that of its message.
 #[derive(Drop)]
 pub struct Ask {
     pub node: usize,
     pub key: Key,
     pub flight: usize,
+    pub version: u8,
 }
 
 /// What a call that served an ask for the key knew.

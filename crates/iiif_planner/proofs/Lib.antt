@@ -5,3 +5,4 @@ pub mod LevelLaws
 pub mod Lines
 pub mod Meeting
 pub mod Once
+pub mod Sides

@@ -5,13 +5,14 @@ use Rattle.std.specs.Int.{div_ceil}
 use Rattle.iiif_pixel.specs.declared.geometry.Dim.{Dim}
 use Rattle.iiif_pixel.specs.declared.geometry.Rect.{Rect}
 use Rattle.iiif_pixel.specs.Geometry.{sides_of}
+use Rattle.iiif_canonical.specs.Sizes.{is_larger}
 use Rattle.iiif_canonical.specs.declared.resolved.Resolved.{Resolved}
 use Rattle.iiif_keys.specs.declared.keys.TileKey.{TileKey}
 use Rattle.iiif_keys.specs.declared.keys.SumKey.{SumKey}
 use Rattle.iiif_planner.specs.Levels.{sums_at_most}
 use Rattle.iiif_planner.specs.declared.squares.Squares.{Squares}
 use Rattle.iiif_planner.specs.declared.plans.Plan.{Plan}
-use Rattle.iiif_planner.specs.declared.plans.Plan.TheVariants.{Copy, Sum}
+use Rattle.iiif_planner.specs.declared.plans.Plan.TheVariants.{Copy, Grow, Sum}
 
 -- what f makes of n squares of row j, from column `left` on
 unfoldable pub row_from : {K : Type 0} → (ℕ → ℕ → K) → ℕ → ℕ → ℕ → List K
@@ -56,6 +57,10 @@ block_at name edge region size level i j = record {
 abbrev pub keeps_size : Resolved → Bool
 keeps_size r = r.size.w == r.rect.w && r.size.h == r.rect.h
 
+-- a side of the result is above the region's
+abbrev pub is_scaled_up : Resolved → Bool
+is_scaled_up r = is_larger r.rect.w r.rect.h (r.size.w, r.size.h)
+
 -- The test of a level that may be planned with: the level below it has no block that holds the whole image, and there is room
 -- for a block's sums.
 abbrev pub is_usable : ℕ → Dim → Dim → Dim → ℕ → ℕ → ℕ → Bool
@@ -80,8 +85,10 @@ tiles_for name edge r = each_square (tile_at name edge) (squares_met edge r.rect
 abbrev pub blocks_for : List ℕ → ℕ → ℕ → Resolved → List SumKey
 blocks_for name edge level r = each_square (block_at name edge r.rect r.size level) (squares_met (2 ^ level * edge) r.rect)
 
--- A plan has just these items in just this order: the tiles where the region keeps its size, else the blocks.
+-- A plan has just these items in just this order: the tiles where the region keeps its size or a side of the result is above its
+-- side, else the blocks.
 abbrev pub HasItems : List ℕ → ℕ → Dim → ℕ → ℕ → Resolved → Plan → Type 0
 HasItems name edge image channels room r (Copy keys) = (keeps_size r ≡ true) × (keys.items ≡ tiles_for name edge r)
+HasItems name edge image channels room r (Grow keys) = (is_scaled_up r ≡ true) × (keys.items ≡ tiles_for name edge r)
 HasItems name edge image channels room r (Sum keys) =
-    (keeps_size r ≡ false) × (keys.items ≡ blocks_for name edge (level_for edge image channels room r) r)
+    (keeps_size r ≡ false) × (is_scaled_up r ≡ false) × (keys.items ≡ blocks_for name edge (level_for edge image channels room r) r)

@@ -3,7 +3,7 @@
 ghost use Rattle.std.specs.Prelude.{◌≡◌, ◌+◌, ◌*◌, ◌^◌, ◌<◌, ◌≤◌, IfOk};
 ghost use Rattle.iiif_pixel.specs.Geometry.{channels_of, LiesIn};
 ghost use Rattle.iiif_keys.specs.Blocks.{IsEdge};
-ghost use Rattle.iiif_planner.specs.Items.{block_at, each_square, squares_met, tile_at, HasItems};
+ghost use Rattle.iiif_planner.specs.Items.{block_at, each_square, is_scaled_up, squares_met, tile_at, HasItems};
 ghost use Rattle.iiif_planner.specs.Plans.{IsPlan};
 
 use crate::levels::Scaled;
@@ -15,8 +15,9 @@ use iiif_pixel::{Dim, Kind, NoMemory, Rect};
 use std::alloc::Global;
 
 /// The plan of a request on the named image, which has the sides `dim`, in places, and is of this kind: the tiles with this edge
-/// that the region meets, where it keeps its size; else the blocks that it meets, of the greatest level at which a block has at
-/// most `room` sums, or of level 0 where there is none. Each is listed once, row by row. The only error is want of memory.
+/// that the region meets, where it keeps its size or a side of the result is above its side; else the blocks that it meets, of
+/// the greatest level at which a block has at most `room` sums, or of level 0 where there is none. Each is listed once, row by
+/// row. The only error is want of memory.
 pub fn plan(
     alloc: Global,
     name: &Name,
@@ -29,8 +30,8 @@ pub fn plan(
     requires edge { IsEdge edge }
     requires room { room ≤ 65536 }
     requires inside { LiesIn resolved.now.rect dim }
-    requires columns { (0 < resolved.now.size.w) × (resolved.now.size.w ≤ resolved.now.rect.w) }
-    requires rows { (0 < resolved.now.size.h) × (resolved.now.size.h ≤ resolved.now.rect.h) }
+    requires columns { (0 < resolved.now.size.w) × (0 < resolved.now.rect.w) }
+    requires rows { (0 < resolved.now.size.h) × (0 < resolved.now.rect.h) }
     ensures plan { IfOk result (IsPlan name.now edge dim (channels_of kind) room resolved.now) }
     ensures exact { IfOk result (HasItems name.now edge dim (channels_of kind) room resolved.now) }
 {
@@ -42,6 +43,9 @@ pub fn plan(
     if size == region {
         return Ok(Plan::Copy(tiles(alloc, name, edge, rect)?));
     }
+    if is_scaled_up(resolved) {
+        return Ok(Plan::Grow(tiles(alloc, name, edge, rect)?));
+    }
     let scaled = Scaled {
         edge,
         image: dim,
@@ -51,6 +55,13 @@ pub fn plan(
         room,
     };
     Ok(Plan::Sum(blocks(alloc, name, edge, rect, size, scaled.level())?))
+}
+
+/// Whether a side of the result is above the region's.
+fn is_scaled_up(resolved: &Resolved) -> bool
+    ensures { result ≡ is_scaled_up resolved.now }
+{
+    resolved.size.w > resolved.rect.w || resolved.size.h > resolved.rect.h
 }
 
 /// The tiles that have a place of the region.

@@ -44,7 +44,7 @@ fn planned(
     w: u32,
     h: u32,
 ) -> Result<Result<Plan, NoMemory>, Fail> {
-    let sides = 0 < w && w <= rect.w && 0 < h && h <= rect.h;
+    let sides = 0 < w && 0 < rect.w && 0 < h && 0 < rect.h;
     let limits = 0 < image.edge && image.edge <= 1024 && image.room <= 65_536;
     let name = "a";
     if !(sides && limits && rect.lies_in(image.dim) && is_name(name)) {
@@ -69,7 +69,7 @@ fn planned(
 fn tiles(alloc: Global, image: Image, rect: Rect) -> Result<Vec<TileKey>, Fail> {
     match planned(alloc, image, rect, rect.w, rect.h)?? {
         Plan::Copy(keys) => Ok(keys),
-        Plan::Sum(_) => Err(Fail::from("blocks where the region keeps its size")),
+        _ => Err(Fail::from("others where the region keeps its size")),
     }
 }
 
@@ -77,7 +77,15 @@ fn tiles(alloc: Global, image: Image, rect: Rect) -> Result<Vec<TileKey>, Fail> 
 fn blocks(alloc: Global, image: Image, rect: Rect, w: u32, h: u32) -> Result<Vec<SumKey>, Fail> {
     match planned(alloc, image, rect, w, h)?? {
         Plan::Sum(keys) => Ok(keys),
-        Plan::Copy(_) => Err(Fail::from("tiles where the region is scaled")),
+        _ => Err(Fail::from("others where the region is scaled down")),
+    }
+}
+
+/// The tiles of a plan to a result with a side above the region's.
+fn grown(alloc: Global, image: Image, rect: Rect, w: u32, h: u32) -> Result<Vec<TileKey>, Fail> {
+    match planned(alloc, image, rect, w, h)?? {
+        Plan::Grow(keys) => Ok(keys),
+        _ => Err(Fail::from("others where the region is scaled up")),
     }
 }
 
@@ -145,6 +153,24 @@ fn region_that_keeps_its_size_is_copied(rt: HostRuntime) -> Result<(), Fail> {
         2,
         &wide,
     );
+    Ok(())
+}
+
+#[test]
+fn region_that_is_scaled_up_is_made_of_tiles(rt: HostRuntime) -> Result<(), Fail> {
+    let alloc = rt.alloc();
+    let image = gray(4, 4, 2);
+    for (rect, w, h, places) in [
+        (rect(0, 0, 2, 2), 3, 3, FOUR.get(..1)),
+        (rect(1, 1, 2, 2), 4, 4, Some(&FOUR[..])),
+        (rect(0, 0, 2, 4), 2, 5, Some(&[(0, 0), (0, 1)][..])),
+        // One side is above the region's and one below.
+        (rect(0, 0, 4, 2), 5, 1, FOUR.get(..2)),
+        (rect(1, 1, 2, 2), 1, 3, Some(&FOUR[..])),
+    ] {
+        let keys = grown(alloc, image, rect, w, h)?;
+        are_tiles(&rt, &keys, 2, places.ok_or("places")?);
+    }
     Ok(())
 }
 

@@ -25,18 +25,19 @@ use Rattle.iiif_keys.specs.declared.keys.SumKey.{SumKey}
 use Rattle.iiif_keys.proofs.Derived.{picture_is}
 use Rattle.iiif_planner.specs.Plans.{IsTileFor, IsBlockFor, TilesCover, BlocksCover}
 use Rattle.iiif_planner.specs.Levels.{met_at_most, sums_at_most}
-use Rattle.iiif_planner.specs.Items.{keeps_size, is_usable, greatest, tiles_for, blocks_for, HasItems}
+use Rattle.iiif_planner.specs.Items.{keeps_size, is_scaled_up, is_usable, greatest, tiles_for, blocks_for, HasItems}
 use Rattle.iiif_planner.specs.declared.plans.Plan.{Plan}
-use Rattle.iiif_planner.specs.declared.plans.Plan.TheVariants.{Copy, Sum}
+use Rattle.iiif_planner.specs.declared.plans.Plan.TheVariants.{Copy, Grow, Sum}
 use Rattle.iiif_planner.proofs.Covers.{tiles_cover, blocks_cover}
 use Rattle.iiif_planner.proofs.LevelLaws.{most_sums, level_limits}
+use Rattle.iiif_planner.proofs.Sides.{up_tested, down_tested}
 use Rattle.iiif_canonical.specs.Resolution.{IsResolved}
 use Rattle.iiif_canonical.specs.Images as images
 use Rattle.iiif_canonical.proofs.ResolutionLemmas.{resolved_is}
 use Rattle.iiif_scene.specs.declared.keys.Key.TheVariants as key
 use Rattle.iiif_scene.specs.Scenes.{Scene, IsProper}
 use Rattle.iiif_scene.specs.Keys.{Key, name_of, Fits, meaning}
-use Rattle.iiif_scene.specs.Plans.{Request, Resolved, resolved, kind_of, level_of, Way, copied, summed, keys_met, keys_in, items}
+use Rattle.iiif_scene.specs.Plans.{Request, Resolved, resolved, kind_of, level_of, Way, copied, grown, summed, keys_met, keys_in, items}
 use Rattle.iiif_scene.specs.Images.{Picture, averaged, made, assembled}
 use Rattle.iiif_scene.specs.Laws.{Accepts, PlansHaveItems, ItemsFit, ItemsMakeImage, RefusedHasNoImage}
 use Rattle.iiif_scene.proofs.Lists.{Each, each_of_all, each_tail}
@@ -70,7 +71,7 @@ averaged_is s name p r level keys shown source inside w h cover =
     let columns = inside.columns in
     let rows = inside.rows in
     let area' : r.rect.w * r.rect.h ≤ p.width * p.height = mul-le-mul (omega arith) (omega arith) in
-    let small = source.area in
+    let small = source.readable.area in
     let area : q.width * q.height ≤ 2 ^ 32 = omega arith in
     let blocks = each_of_all (IsBlockFor name s.edge (dim_of p) p.channels r.rect size level) keys cover.blocks in
     let grids = grids_same s keys ∙ block_sums s name p r.rect size level keys shown blocks in
@@ -151,18 +152,19 @@ tiles_are s name p r a = tiles_cover name s.edge (dim_of p) p.channels r.rect a.
 channels_few : (n : ℕ) → (n ≡ 1) ⊎ (n ≡ 3) → (0 < n) × (n ≤ 3)
 channels_few n h = ⊎_elim (λ (e : n ≡ 1). (omega arith, omega arith)) (λ (e : n ≡ 3). (omega arith, omega arith)) h
 
-blocks_are : (s : Scene) (name : List ℕ) (p : Picture) (r : Resolved) → Accepted s name p r →
+blocks_are : (s : Scene) (name : List ℕ) (p : Picture) (r : Resolved) → Accepted s name p r → is_scaled_up r ≡ false →
     BlocksCover name s.edge (dim_of p) p.channels r.rect r.size (level_of s p r) (blocks_for name s.edge (level_of s p r) r)
-blocks_are s name p r a =
+blocks_are s name p r a up =
     let n = channels_few p.channels a.source.whole.channels in
-    let columns : (0 < r.size.w) × (r.size.w ≤ r.rect.w) = (a.is.not_zero.0, a.is.not_larger.0) in
-    let rows : (0 < r.size.h) × (r.size.h ≤ r.rect.h) = (a.is.not_zero.1, a.is.not_larger.1) in
+    let down = down_tested r up in
+    let columns : (0 < r.size.w) × (r.size.w ≤ r.rect.w) = (a.is.not_zero.0, down.0) in
+    let rows : (0 < r.size.h) × (r.size.h ≤ r.rect.h) = (a.is.not_zero.1, down.1) in
     blocks_cover name s.edge (dim_of p) p.channels r.rect r.size (level_of s p r) a.edge (greatest_within (usable_for s p r) 20) a.is.inside
     columns rows (level_few s p r a.edge a.room n.0 n.1 columns rows)
 
--- the way by whether the region keeps its size
-abbrev way_by : Scene → Picture → Resolved → Bool → Way
-way_by s p r keeps = if keeps then copied else summed (level_of s p r)
+-- the way by whether the region keeps its size, and whether it is scaled up
+abbrev way_by : Scene → Picture → Resolved → Bool → Bool → Way
+way_by s p r keeps up = if keeps then copied else (if up then grown else summed (level_of s p r))
 
 -- what fits in a picture with these channels fits in its shape
 of_shape : (p : Picture) (P : ℕ → Type 0) → IsSource p → P p.channels → P (channels_of (kind_of p))
@@ -187,10 +189,14 @@ sum_is s name p region size level k shown source t = (
   t.named,
 )
 
-fit_by : (s : Scene) (name : List ℕ) (p : Picture) (r : Resolved) (b : Bool) → Accepted s name p r → All (IsItem s name) (keys_met s name r (way_by s p r b))
-fit_by s name p r true a = All-map (IsItem s name) key.Tile (tiles_for name s.edge r) (λ i d h. tile_is s name p r.rect _ a.shown a.source ((tiles_are s name p r a).tiles i d h))
-fit_by s name p r false a = All-map (IsItem s name) key.Sum (blocks_for name s.edge (level_of s p r) r)
-    (λ i d h. sum_is s name p r.rect r.size (level_of s p r) _ a.shown a.source ((blocks_are s name p r a).blocks i d h))
+tiles_fit : (s : Scene) (name : List ℕ) (p : Picture) (r : Resolved) → Accepted s name p r → All (IsItem s name) (map key.Tile (tiles_for name s.edge r))
+tiles_fit s name p r a = All-map (IsItem s name) key.Tile (tiles_for name s.edge r) (λ i d h. tile_is s name p r.rect _ a.shown a.source ((tiles_are s name p r a).tiles i d h))
+
+fit_by : (s : Scene) (name : List ℕ) (p : Picture) (r : Resolved) (b up : Bool) → is_scaled_up r ≡ up → Accepted s name p r → All (IsItem s name) (keys_met s name r (way_by s p r b up))
+fit_by s name p r true up e a = tiles_fit s name p r a
+fit_by s name p r false true e a = tiles_fit s name p r a
+fit_by s name p r false false e a = All-map (IsItem s name) key.Sum (blocks_for name s.edge (level_of s p r) r)
+    (λ i d h. sum_is s name p r.rect r.size (level_of s p r) _ a.shown a.source ((blocks_are s name p r a e).blocks i d h))
 
 dim_same : (a b : Dim) → (a.w == b.w && a.h == b.h) ≡ true → a ≡ b
 dim_same a b h =
@@ -202,38 +208,50 @@ dim_same a b h =
         let first : a ≡ record { w = b.w; h = b.h } = rw (← e, ← f) refl in
         first
 
-scaled_by : (s : Scene) (name : List ℕ) (p : Picture) (r : Resolved) (b : Bool) → keeps_size r ≡ b → Accepted s name p r →
-    made s p r (map (meaning s) (keys_met s name r (way_by s p r b))) (way_by s p r b) ≡ scale (crop p r.rect) r.size
-scaled_by s name p r true e a =
+scaled_by : (s : Scene) (name : List ℕ) (p : Picture) (r : Resolved) (b up : Bool) → keeps_size r ≡ b → is_scaled_up r ≡ up → Accepted s name p r →
+    made s p r (map (meaning s) (keys_met s name r (way_by s p r b up))) (way_by s p r b up) ≡ scale (crop p r.rect) r.size
+scaled_by s name p r true up e f a =
     let size : r.size ≡ sides_of r.rect = dim_same r.size (sides_of r.rect) e in
     let whole = whole_crop p r.rect a.source.whole in
     pasted_is s name p r.rect a.shown a.edge.some a.is.inside
     ∙ sym (same_sides (crop p r.rect) whole a.is.not_empty.0 a.is.not_empty.1)
     ∙ ap (λ (d : Dim). scale (crop p r.rect) d) (sym size)
-scaled_by s name p r false e a =
-    averaged_is s name p r (level_of s p r) (blocks_for name s.edge (level_of s p r) r) a.shown a.source a.is.inside a.is.not_empty.0 a.is.not_empty.1 (blocks_are s name p r a)
+scaled_by s name p r false true e f a = ap (λ (z : Picture). scale z r.size) (pasted_is s name p r.rect a.shown a.edge.some a.is.inside)
+scaled_by s name p r false false e f a =
+    averaged_is s name p r (level_of s p r) (blocks_for name s.edge (level_of s p r) r) a.shown a.source a.is.inside a.is.not_empty.0 a.is.not_empty.1 (blocks_are s name p r a f)
 
 pub items_fit : ItemsFit
 unfolding items
-items_fit s name p q r proper h = fit_by s name p r (keeps_size r) (accepted s name p q r proper h)
+items_fit s name p q r proper h = fit_by s name p r (keeps_size r) (is_scaled_up r) refl (accepted s name p q r proper h)
 
 pub items_make_image : ItemsMakeImage
 unfolding items assembled images.resolved_image
 items_make_image s name p q r proper h =
     let a = accepted s name p q r proper h in
     image_from_resolved s p q (kind_is p a.source.whole) ∙ ap (images.image_from p) h.solved
-    ∙ ap (λ (z : Picture). Ok (quality (turn z r.turn) r.quality)) (sym (scaled_by s name p r (keeps_size r) refl a))
+    ∙ ap (λ (z : Picture). Ok (quality (turn z r.turn) r.quality)) (sym (scaled_by s name p r (keeps_size r) (is_scaled_up r) refl refl a))
 
 pub refused_has_no_image : RefusedHasNoImage
 refused_has_no_image s name p q e proper shown h = refused s p q e (kind_is p (proper.sources name p shown).whole) h
 
-plan_by : (s : Scene) (name : List ℕ) (p : Picture) (r : Resolved) (b : Bool) (plan : Plan) → keeps_size r ≡ b → HasItems name s.edge (dim_of p) p.channels s.room r plan →
-    keys_met s name r (way_by s p r b) ≡ keys_in plan
-plan_by s name p r true (Copy keys) e h = ap (map key.Tile) (sym h.1)
-plan_by s name p r false (Copy keys) e h = let f = h.0 in absurd cc
-plan_by s name p r true (Sum keys) e h = let f = h.0 in absurd cc
-plan_by s name p r false (Sum keys) e h = ap (map key.Sum) (sym h.1)
+-- a region that keeps its size isn't scaled up
+keeps_not_up : (r : Resolved) → keeps_size r ≡ true → is_scaled_up r ≡ true → ⊥
+keeps_not_up r keeps up = ⊎_elim
+    (λ (h : r.rect.w < r.size.w). (let same = eqb-true r.size.w r.rect.w (both _ (r.size.h == r.rect.h) keeps).0 in omega arith))
+    (λ (h : r.rect.h < r.size.h). (let same = eqb-true r.size.h r.rect.h (both (r.size.w == r.rect.w) _ keeps).1 in omega arith))
+    (up_tested r up)
+
+plan_by : (s : Scene) (name : List ℕ) (p : Picture) (r : Resolved) (b up : Bool) (plan : Plan) → keeps_size r ≡ b → is_scaled_up r ≡ up → HasItems name s.edge (dim_of p) p.channels s.room r plan →
+    keys_met s name r (way_by s p r b up) ≡ keys_in plan
+plan_by s name p r true up (Copy keys) e f h = ap (map key.Tile) (sym h.1)
+plan_by s name p r false up (Copy keys) e f h = let g = h.0 in absurd cc
+plan_by s name p r true up (Grow keys) e f h = absurd (keeps_not_up r e h.0)
+plan_by s name p r false true (Grow keys) e f h = ap (map key.Tile) (sym h.1)
+plan_by s name p r false false (Grow keys) e f h = let g = h.0 in absurd cc
+plan_by s name p r true up (Sum keys) e f h = let g = h.0 in absurd cc
+plan_by s name p r false true (Sum keys) e f h = let g = h.1 in absurd cc
+plan_by s name p r false false (Sum keys) e f h = ap (map key.Sum) (sym h.2)
 
 pub plans_have_items : PlansHaveItems
 unfolding items
-plans_have_items s name p r plan h = plan_by s name p r (keeps_size r) plan refl h
+plans_have_items s name p r plan h = plan_by s name p r (keeps_size r) (is_scaled_up r) plan refl refl h

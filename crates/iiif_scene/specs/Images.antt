@@ -3,14 +3,14 @@ use Rattle.std.specs.Prelude.{ℕ, ◌+◌, ◌-◌, ◌*◌, ◌/◌, ◌%◌, 
 use Rattle.iiif_pixel.specs.Geometry.{sides_of}
 use Rattle.iiif_pixel.specs.Picture.{picture_of, sample_at}
 use Rattle.iiif_pixel.specs.Operations.{turn, quality}
-use Rattle.iiif_pixel.specs.Scaling.{whole_of}
+use Rattle.iiif_pixel.specs.Scaling.{scale, whole_of}
 use Rattle.iiif_pixel.specs.declared.geometry.Rect.{Rect}
 use Rattle.iiif_area.specs.Grid.{grid_of, merged, finished}
 use Rattle.iiif_canonical.specs.Images as canonical
 use Rattle.iiif_planner.specs.Items.{squares_met}
 use Rattle.iiif_scene.specs.Scenes.{Scene}
 use Rattle.iiif_scene.specs.Keys.{Value, picture_in, grid_in}
-use Rattle.iiif_scene.specs.Plans.{Request, Refusal, Resolved, Way, copied, summed, way_of}
+use Rattle.iiif_scene.specs.Plans.{Request, Refusal, Resolved, Way, copied, grown, summed, way_of}
 pub use Rattle.iiif_pixel.specs.Picture.{Picture}
 
 -- the image that a request asks for, or its first refusal
@@ -37,6 +37,7 @@ averaged p r sums =
 -- the region at its size
 abbrev pub made : Scene → Picture → Resolved → List Value → Way → Picture
 made s p r values copied = pasted s.edge p r.rect values
+made s p r values grown = scale (pasted s.edge p r.rect values) r.size
 made s p r values (summed level) = averaged p r values
 
 -- what the values of the items make: the region at its size, turned, in its quality (IIIF Image API 3.0, section 4)

@@ -4,9 +4,9 @@ use Rattle.iiif_pixel.specs.Picture.{Picture, dim_of}
 use Rattle.iiif_pixel.specs.declared.geometry.Kind.{Kind}
 use Rattle.iiif_canonical.specs.Resolution.{resolved_of}
 use Rattle.iiif_keys.specs.Shapes.{shape_of}
-use Rattle.iiif_planner.specs.Items.{keeps_size, level_for, tiles_for, blocks_for}
+use Rattle.iiif_planner.specs.Items.{keeps_size, is_scaled_up, level_for, tiles_for, blocks_for}
 use Rattle.iiif_planner.specs.declared.plans.Plan.{Plan}
-use Rattle.iiif_planner.specs.declared.plans.Plan.TheVariants.{Copy, Sum}
+use Rattle.iiif_planner.specs.declared.plans.Plan.TheVariants.{Copy, Grow, Sum}
 use Rattle.iiif_scene.specs.Scenes.{Scene}
 use Rattle.iiif_scene.specs.Keys.{Key}
 use Rattle.iiif_scene.specs.declared.keys.Key.TheVariants as key
@@ -26,18 +26,20 @@ resolved s p q = resolved_of q (dim_of p) (kind_of p) s.limits
 abbrev pub level_of : Scene → Picture → Resolved → ℕ
 level_of s p r = level_for s.edge (dim_of p) p.channels s.room r
 
--- how an image is made: tiles are copied, or the sums of blocks of a level are finished
+-- how an image is made: tiles are copied, or scaled up, or the sums of blocks of a level are finished
 pub data Way : Type 0 where
   copied : Way
+  grown : Way
   summed : (level : ℕ) → Way
 
--- tiles are copied where the region keeps its size
+-- tiles are copied where the region keeps its size, and scaled up where a side of the result is above its side
 abbrev pub way_of : Scene → Picture → Resolved → Way
-way_of s p r = if keeps_size r then copied else summed (level_of s p r)
+way_of s p r = if keeps_size r then copied else (if is_scaled_up r then grown else summed (level_of s p r))
 
 -- the keys of the tiles, or of the blocks, that the region meets, row by row
 abbrev pub keys_met : Scene → List ℕ → Resolved → Way → List Key
 keys_met s name r copied = map key.Tile (tiles_for name s.edge r)
+keys_met s name r grown = map key.Tile (tiles_for name s.edge r)
 keys_met s name r (summed level) = map key.Sum (blocks_for name s.edge level r)
 
 -- the items of a request's plan
@@ -47,4 +49,5 @@ items s name p r = keys_met s name r (way_of s p r)
 -- the keys of a plan that was made
 abbrev pub keys_in : Plan → List Key
 keys_in (Copy keys) = map key.Tile keys.items
+keys_in (Grow keys) = map key.Tile keys.items
 keys_in (Sum keys) = map key.Sum keys.items

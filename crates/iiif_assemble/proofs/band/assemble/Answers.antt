@@ -30,7 +30,7 @@ returns-in-Ok g c =
       fault = IfErr-weaker c.assemble_band.result _ _
           (λ f of_band.
           plan_fault (g.T.Items.means c.args.tiles.now) (g.T.Items.failed c.args.tiles.now) (g.S.Items.means c.args.sums.now) (g.S.Items.failed c.args.sums.now)
-          j.name j.edge j.shape.dim n c.requires.job.room r j.plan band.items.items f c.requires.job.quarters c.requires.job.inside c.requires.job.is_plan
+          j.name j.edge j.shape.dim n c.requires.job.room r j.plan band.items.items f c.requires.job.quarters c.requires.job.inside c.requires.job.scalable.result_columns c.requires.job.scalable.result_rows c.requires.job.is_plan
           (subst (λ (q : Rect). ListsItems r j.plan q band.items.items) is c.in-Ok.ensures.band.items) of_band)
           done.fault;
     }

@@ -16,7 +16,7 @@ scaled_part-requires-clause-lists g c κs within =
     let from = c.unturn_rect-from.result in
     let band = c.args.band.now in
     let met = items_met r c.args.job.now.plan from band.rect band.items.items c.unturn_rect-from.ensures.inside c.unturn_rect-from.ensures.same_places c.requires.band.items in
-    subst (λ (js : List ℕ). ListsMetItems r.rect from c.args.job.now.plan js) (sym c.deref.ensures.value) met
+    subst (λ (js : List ℕ). ListsMetItems r from c.args.job.now.plan js) (sym c.deref.ensures.value) met
 
 pub returns-in-Ok-turned-clause-image : goal.returns-in-Ok-turned-clause-image
 returns-in-Ok-turned-clause-image g c =

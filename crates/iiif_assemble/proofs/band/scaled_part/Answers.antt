@@ -20,5 +20,8 @@ returns-in-Copy-clause-image g c =
     made shows p shown tiles ∙ ap (λ (s : Picture). crop s c.args.from) same)
     c.pasted.ensures.image
 
+pub returns-in-Grow-clause-image : goal.returns-in-Grow-clause-image
+returns-in-Grow-clause-image g c = IfOk-weaker c.grown.result _ _ (λ image made shows p shown tiles sums. made shows p shown tiles) c.grown.ensures.image
+
 pub returns-in-Sum-clause-image : goal.returns-in-Sum-clause-image
 returns-in-Sum-clause-image g c = IfOk-weaker c.summed.result _ _ (λ image made shows p shown tiles sums. made shows p shown sums) c.summed.ensures.image

@@ -1,4 +1,4 @@
-use Rattle.iiif_machine.proofs.WorkedLists.{reply_of_another_key_is_not_taken, two_share_a_value, two_share_a_fault, waits_for_its_calls, kept_is_found, not_kept_is_not_found, failing_read, not_again, fault_is_not_kept, none_is_answered_yet, both_are_answered, late_repeat_changes_nothing, both_stay_answered, lost_ask_is_answered, fault_of_a_peer_is_not_answered, stopped_node, stopped_calls_are_gone, found_again_is_answered, found_again_is_counted, halved_is, deep_halved_is, cut_out_is, first_fault_is_answered}
+use Rattle.iiif_machine.proofs.WorkedLists.{reply_of_another_key_is_not_taken, two_share_a_value, two_share_a_fault, waits_for_its_calls, kept_is_found, not_kept_is_not_found, failing_read, not_again, fault_is_not_kept, none_is_answered_yet, both_are_answered, late_repeat_changes_nothing, both_stay_answered, lost_ask_is_answered, fault_of_a_peer_is_not_answered, stopped_node, stopped_calls_are_gone, found_again_is_answered, found_again_is_counted, halved_is, deep_halved_is, enlarged_is, cut_out_is, first_fault_is_answered, deep_ask_is_not_served, deep_ask_is_answered, ask_is_served, deep_is_not_wanted, seven_is_wanted}
 use Rattle.iiif_machine.proofs.laws.worked_lists_compute.Goals as goal
 
 pub returns-clause-waits_for_its_calls : goal.returns-clause-waits_for_its_calls
@@ -55,6 +55,9 @@ returns-clause-halved_is c = halved_is
 pub returns-clause-deep_halved_is : goal.returns-clause-deep_halved_is
 returns-clause-deep_halved_is c = deep_halved_is
 
+pub returns-clause-enlarged_is : goal.returns-clause-enlarged_is
+returns-clause-enlarged_is c = enlarged_is
+
 pub returns-clause-cut_out_is : goal.returns-clause-cut_out_is
 returns-clause-cut_out_is c = cut_out_is
 
@@ -69,3 +72,18 @@ returns-clause-two_share_a_fault c = two_share_a_fault
 
 pub returns-clause-reply_of_another_key_is_not_taken : goal.returns-clause-reply_of_another_key_is_not_taken
 returns-clause-reply_of_another_key_is_not_taken c = reply_of_another_key_is_not_taken
+
+pub returns-clause-deep_ask_is_not_served : goal.returns-clause-deep_ask_is_not_served
+returns-clause-deep_ask_is_not_served c = deep_ask_is_not_served
+
+pub returns-clause-deep_ask_is_answered : goal.returns-clause-deep_ask_is_answered
+returns-clause-deep_ask_is_answered c = deep_ask_is_answered
+
+pub returns-clause-ask_is_served : goal.returns-clause-ask_is_served
+returns-clause-ask_is_served c = ask_is_served
+
+pub returns-clause-deep_is_not_wanted : goal.returns-clause-deep_is_not_wanted
+returns-clause-deep_is_not_wanted c = deep_is_not_wanted
+
+pub returns-clause-seven_is_wanted : goal.returns-clause-seven_is_wanted
+returns-clause-seven_is_wanted c = seven_is_wanted

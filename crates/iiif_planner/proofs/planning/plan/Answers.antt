@@ -1,4 +1,4 @@
-use Rattle.std.proofs.Common.{◌≡◌, ℕ, ◌<◌, true, false, List, sym, ap, subst, ◌∙◌, refl, arith}
+use Rattle.std.proofs.Common.{◌≡◌, ℕ, ◌<◌, ◌≤◌, true, false, List, sym, ap, subst, ◌∙◌, refl}
 use Rattle.std.specs.Prelude.{nat_eq, ◌&&◌}
 use Rattle.std.proofs.lemmas.Bool.{eqb-true, false≢true}
 use Rattle.iiif_keys.specs.declared.keys.SumKey.{SumKey}
@@ -9,8 +9,9 @@ use Rattle.iiif_pixel.specs.declared.geometry.Dim.{Dim}
 use Rattle.iiif_planner.specs.Levels.{IsLevel}
 use Rattle.iiif_planner.specs.Plans.{TilesCover, BlocksCover}
 use Rattle.iiif_planner.proofs.Counts.{equal}
+use Rattle.iiif_planner.proofs.Sides.{up_tested, down_tested}
 use Rattle.iiif_planner.proofs.Covers.{tiles_cover, blocks_cover}
-use Rattle.iiif_planner.specs.Items.{blocks_for}
+use Rattle.iiif_planner.specs.Items.{blocks_for, is_scaled_up}
 use Rattle.iiif_planner.proofs.Greatest.{level_greatest}
 use Rattle.iiif_planner.proofs.LevelLaws.{level_limits, channels_few}
 use Rattle.iiif_planner.proofs.planning.plan.Goals as goal
@@ -32,9 +33,7 @@ other_sides a b e same =
 pub returns-then-eq : goal.returns-then-eq
 returns-then-eq c =
     let r = c.args.resolved.now.rect in
-    let w : 0 < r.w = omega (arith, c.requires.columns) in
-    let h : 0 < r.h = omega (arith, c.requires.rows) in
-    let cover = tiles_cover c.args.name.now c.args.edge c.args.dim (channels_of c.args.kind) r c.requires.edge c.requires.inside w h in
+    let cover = tiles_cover c.args.name.now c.args.edge c.args.dim (channels_of c.args.kind) r c.requires.edge c.requires.inside c.requires.columns.1 c.requires.rows.1 in
     record {
       plan = (
         same_sides c.args.resolved.now.size (sides_of r) c.if-eq.ensures,
@@ -43,23 +42,41 @@ returns-then-eq c =
       exact = (sym c.if-eq.ensures, c.in_ok-tiles.ensures);
     }
 
+pub returns-then-is_scaled_up : goal.returns-then-is_scaled_up
+returns-then-is_scaled_up c =
+    let r = c.args.resolved.now.rect in
+    let cover = tiles_cover c.args.name.now c.args.edge c.args.dim (channels_of c.args.kind) r c.requires.edge c.requires.inside c.requires.columns.1 c.requires.rows.1 in
+    let up : is_scaled_up c.args.resolved.now ≡ true = sym c.is_scaled_up.ensures ∙ c.if-is_scaled_up.true in
+    record {
+      plan = (
+        up_tested c.args.resolved.now up,
+        subst (λ (keys : List TileKey). TilesCover c.args.name.now c.args.edge c.args.dim (channels_of c.args.kind) r keys) (sym c.in_ok-tiles-2.ensures) cover,
+      );
+      exact = (up, c.in_ok-tiles-2.ensures);
+    }
+
 pub returns : goal.returns
 returns c =
     let r = c.args.resolved.now.rect in
     let size = c.args.resolved.now.size in
     let n = channels_of c.args.kind in
+    let up : is_scaled_up c.args.resolved.now ≡ false = sym c.is_scaled_up.ensures ∙ c.if-is_scaled_up.false in
+    let down = down_tested c.args.resolved.now up in
+    let columns : (0 < size.w) × (size.w ≤ r.w) = (c.requires.columns.0, down.0) in
+    let rows : (0 < size.h) × (size.h ≤ r.h) = (c.requires.rows.0, down.1) in
     let level = subst (λ (m : ℕ). IsLevel c.args.edge c.args.dim (sides_of r) size m c.args.room c.level.result) c.channels.ensures c.level.ensures.level in
-    let most = level_limits c.args.edge c.args.dim (sides_of r) size n c.args.room c.level.result c.requires.edge c.requires.room (channels_few c.args.kind) c.requires.columns c.requires.rows level in
-    let cover = blocks_cover c.args.name.now c.args.edge c.args.dim n r size c.level.result c.requires.edge c.level.ensures.within c.requires.inside c.requires.columns c.requires.rows most in
+    let most = level_limits c.args.edge c.args.dim (sides_of r) size n c.args.room c.level.result c.requires.edge c.requires.room (channels_few c.args.kind) columns rows level in
+    let cover = blocks_cover c.args.name.now c.args.edge c.args.dim n r size c.level.result c.requires.edge c.level.ensures.within c.requires.inside columns rows most in
     record {
       plan = (
-        other_sides size (sides_of r) c.if-eq.ensures,
+        record { other = other_sides size (sides_of r) c.if-eq.ensures; columns = down.0; rows = down.1 },
         c.level.result,
         level,
         subst (λ (keys : List SumKey). BlocksCover c.args.name.now c.args.edge c.args.dim n r size c.level.result keys) (sym c.in_ok-blocks.ensures) cover,
       );
       exact = (
         sym c.if-eq.ensures,
+        up,
         c.in_ok-blocks.ensures
             ∙ ap (λ (l : ℕ). blocks_for c.args.name.now c.args.edge l c.args.resolved.now) ((level_greatest c.args.edge c.args.dim (sides_of r) size n c.args.room c.level.result).0 level),
       );

@@ -8,8 +8,8 @@ ghost use Rattle.iiif_keys.specs.Blocks.{SumFitsIn, TileFitsIn};
 ghost use Rattle.iiif_keys.specs.Meaning.{SumHasShape, TileHasShape};
 ghost use Rattle.iiif_assemble.specs.Jobs.{IsBandOf, IsJob};
 
-use crate::{Items, Job, Made, assemble, assemble_band};
 use iiif_area::{Sums, is_scalable, meets};
+use iiif_assemble::{Items, Job, Made, assemble, assemble_band};
 use iiif_bands::Band;
 use iiif_canonical::Resolved;
 use iiif_keys::{Fault, Name, Shape, SumKey, SumVal, TileKey, TileVal, is_name};
@@ -132,9 +132,8 @@ fn job(alloc: Global, shape: Shape, edge: u32, size: Dim, turn: Turn) -> Result<
         w: shape.dim.w,
         h: shape.dim.h,
     };
-    let smaller = size.w <= rect.w && size.h <= rect.h;
     let limits = 0 < edge && edge <= 1024 && turn.quarters < 4;
-    if !(smaller && limits && rect.lies_in(shape.dim) && is_scalable(rect.dim(), size)) {
+    if !(limits && rect.lies_in(shape.dim) && is_scalable(rect.dim(), size)) {
         return Err(Fail::from("a condition of the call is not met"));
     }
     let text = String::from_str(alloc, "a")?;
@@ -227,6 +226,7 @@ fn any_number_of_workers_makes_one_image(rt: HostRuntime) -> Result<(), Fail> {
     let shown = sample(rt.alloc(), false)?;
     let turned = job(rt.alloc(), shown.shape, 1, shown.shape.dim, QUARTER)?;
     let halved = job(rt.alloc(), shown.shape, 1, Dim { w: 2, h: 2 }, UPRIGHT)?;
+    let grown = job(rt.alloc(), shown.shape, 1, Dim { w: 8, h: 8 }, UPRIGHT)?;
     for workers in [1, 2, 5] {
         let Ok(made) = image(&rt, rt.alloc(), &shown, &turned, workers) else {
             return Err(Fail::from("no turned image"));
@@ -239,6 +239,15 @@ fn any_number_of_workers_makes_one_image(rt: HostRuntime) -> Result<(), Fail> {
         };
         // The averages of four: 0, 10, 40 and 50 come to 25.
         assert_eq!(rt; bytes(&made.raster), [25, 45, 105, 125].as_slice());
+        let Ok(made) = image(&rt, rt.alloc(), &shown, &grown, workers) else {
+            return Err(Fail::from("no larger image"));
+        };
+        // Each place is there four times.
+        assert!(rt;
+            bytes(&made.raster).starts_with(&[
+                0, 0, 10, 10, 20, 20, 30, 30, 0, 0, 10, 10, 20, 20, 30, 30, 40
+            ])
+        );
     }
     Ok(())
 }

@@ -1,13 +1,14 @@
 //! Texts of images whose information was written by hand.
 
-use crate::info;
 use iiif_canonical::Limits;
+use iiif_info::info;
 use iiif_pixel::Dim;
 use std::test::Fail;
 
 const LIMITS: Limits = Limits {
     max_w: 4096,
     max_h: 4096,
+    upscale: false,
 };
 
 #[test]
@@ -73,9 +74,11 @@ fn sides_and_limits_stand_at_their_keys(rt: HostRuntime) -> Result<(), Fail> {
     let limits = Limits {
         max_w: 300,
         max_h: 200,
+        upscale: true,
     };
     let text = info(rt.alloc(), "http://h", "x", Dim { w: 7, h: 5 }, &limits, 8)?;
     for want in [
+        "\"sizeByWh\",\"sizeUpscaling\"],\"extraFormats\"",
         "\"height\":5,\"id\"",
         "\"maxHeight\":200,\"maxWidth\":300,",
         "\"width\":7}",

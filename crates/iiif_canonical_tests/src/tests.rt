@@ -1,7 +1,7 @@
 ghost use Rattle.std.specs.Prelude.{◌≤◌, ◌<◌};
 ghost use Rattle.iiif_request.specs.Requests.{IsShort, IsShortRegion, IsShortForm, HasShortDecimals};
 
-use crate::{
+use iiif_canonical::{
     Limits, Resolved, canonical, canonical_means_the_same, canonical_request, escapes_read_back,
     image_uri, push_escaped, resolve, text, uri,
 };
@@ -14,6 +14,14 @@ use std::test::Fail;
 const LIMITS: Limits = Limits {
     max_w: 4096,
     max_h: 4096,
+    upscale: false,
+};
+
+/// Limits of a server that scales up.
+const LARGER: Limits = Limits {
+    max_w: 8,
+    max_h: 8,
+    upscale: true,
 };
 
 const SQUARE: Dim = Dim { w: 4, h: 4 };
@@ -47,7 +55,28 @@ fn request(region: Region, up: bool, form: Form) -> Request
     }
 }
 
-/// That a request for a gray image has this canonical text, or this refusal.
+/// That a request for a gray image has, within these limits, this canonical text, or this refusal.
+fn comes_within(
+    rt: &impl Abort,
+    alloc: Global,
+    limits: &Limits,
+    dim: Dim,
+    request: Request,
+    want: Result<&str, Refusal>,
+) -> Result<(), Fail>
+    requires { HasShortDecimals request }
+{
+    match canonical_request(&request, dim, Kind::Gray, limits) {
+        Ok(form) => {
+            let written = text(alloc, &form)?;
+            assert_eq!(rt; Ok(written.as_str()), want);
+        }
+        Err(refusal) => assert_eq!(rt; Err(refusal), want),
+    }
+    Ok(())
+}
+
+/// The same within limits of 4,096, where nothing is scaled up.
 fn comes_to(
     rt: &impl Abort,
     alloc: Global,
@@ -57,14 +86,7 @@ fn comes_to(
 ) -> Result<(), Fail>
     requires { HasShortDecimals request }
 {
-    match canonical_request(&request, dim, Kind::Gray, &LIMITS) {
-        Ok(form) => {
-            let written = text(alloc, &form)?;
-            assert_eq!(rt; Ok(written.as_str()), want);
-        }
-        Err(refusal) => assert_eq!(rt; Err(refusal), want),
-    }
-    Ok(())
+    comes_within(rt, alloc, &LIMITS, dim, request, want)
 }
 
 #[test]
@@ -239,6 +261,7 @@ fn greatest_numbers(rt: HostRuntime) -> Result<(), Fail> {
         Limits {
             max_w: u32::MAX,
             max_h: u32::MAX,
+            upscale: false,
         },
     );
     let whole = request(all, true, size);
@@ -324,13 +347,18 @@ fn laws_are_called() {
 }
 
 /// That the link to a request's canonical form, split and parsed, comes to the same.
-fn comes_back(rt: &impl Abort, alloc: Global, request: &Request) -> Result<(), Fail>
+fn comes_back(
+    rt: &impl Abort,
+    alloc: Global,
+    limits: &Limits,
+    request: &Request,
+) -> Result<(), Fail>
     requires { HasShortDecimals request.now }
 {
-    let resolved = resolve(request, SQUARE, Kind::Rgb, &LIMITS)
+    let resolved = resolve(request, SQUARE, Kind::Rgb, limits)
         .ok()
         .ok_or("refused")?;
-    let form = canonical(&resolved, SQUARE, Kind::Rgb, &LIMITS);
+    let form = canonical(&resolved, SQUARE, Kind::Rgb, limits);
     let link = uri(alloc, "http://localhost/iiif", "a/b", &form)?;
     let path = link
         .as_str()
@@ -345,17 +373,18 @@ fn comes_back(rt: &impl Abort, alloc: Global, request: &Request) -> Result<(), F
     assert_eq!(rt; id.as_str(), "a/b");
     let back = parse(&words).ok().ok_or("no request")?;
     assert_eq!(rt; back, form);
-    assert_eq!(rt; resolve(&back, SQUARE, Kind::Rgb, &LIMITS), Ok(resolved));
+    assert_eq!(rt; resolve(&back, SQUARE, Kind::Rgb, limits), Ok(resolved));
     Ok(())
 }
 
-/// The same for each size up to a region's, all turns and qualities.
-fn all_come_back(rt: &impl Abort, alloc: Global, rect: Rect) -> Result<(), Fail>
+/// The same for each size up to a region's, or up to twice that where it is scaled up, all turns and qualities.
+fn all_come_back(rt: &impl Abort, alloc: Global, limits: &Limits, rect: Rect) -> Result<(), Fail>
     requires { (rect.w < 5) × (rect.h < 5) }
 {
     let region = Region::Pixels(rect.x, rect.y, rect.w, rect.h);
-    for w in 1..rect.w + 1 {
-        for h in 1..rect.h + 1 {
+    let times = if limits.upscale { 2 } else { 1 };
+    for w in 1..times * rect.w + 1 {
+        for h in 1..times * rect.h + 1 {
             for turn in 0..8u64 {
                 for quality in [
                     Quality::Default,
@@ -366,7 +395,7 @@ fn all_come_back(rt: &impl Abort, alloc: Global, rect: Rect) -> Result<(), Fail>
                     let request = Request {
                         region,
                         size: Size {
-                            up: false,
+                            up: limits.upscale,
                             form: Form::Both(w, h),
                         },
                         rotation: Rotation {
@@ -375,7 +404,7 @@ fn all_come_back(rt: &impl Abort, alloc: Global, rect: Rect) -> Result<(), Fail>
                         },
                         quality,
                     };
-                    comes_back(rt, alloc, &request)?;
+                    comes_back(rt, alloc, limits, &request)?;
                 }
             }
         }
@@ -389,7 +418,8 @@ fn links_come_back(rt: HostRuntime) -> Result<(), Fail> {
         for y in 0..4u32 {
             for w in 1..5 - x {
                 for h in 1..5 - y {
-                    all_come_back(&rt, rt.alloc(), Rect { x, y, w, h })?;
+                    all_come_back(&rt, rt.alloc(), &LIMITS, Rect { x, y, w, h })?;
+                    all_come_back(&rt, rt.alloc(), &LARGER, Rect { x, y, w, h })?;
                 }
             }
         }
@@ -397,10 +427,11 @@ fn links_come_back(rt: HostRuntime) -> Result<(), Fail> {
     Ok(())
 }
 
-/// That the words of a target come, for a gray image, to this canonical text, or this refusal.
+/// That the words of a target come, for a gray image within these limits, to this canonical text, or this refusal.
 fn words_come_to(
     rt: &impl Abort,
     alloc: Global,
+    limits: &Limits,
     dim: Dim,
     words: &str,
     want: Result<&str, Refusal>,
@@ -413,7 +444,7 @@ fn words_come_to(
         return Err("no image")?;
     };
     let request = parse(&words).ok().ok_or("no request")?;
-    comes_to(rt, alloc, dim, request, want)
+    comes_within(rt, alloc, limits, dim, request, want)
 }
 
 #[test]
@@ -439,7 +470,7 @@ fn words_of_the_square(rt: HostRuntime) -> Result<(), Fail> {
             Ok("1,1,2,2/max/0/default.tif"),
         ),
     ] {
-        words_come_to(&rt, rt.alloc(), SQUARE, words, want)?;
+        words_come_to(&rt, rt.alloc(), &LIMITS, SQUARE, words, want)?;
     }
     Ok(())
 }
@@ -467,7 +498,47 @@ fn words_of_thin_images(rt: HostRuntime) -> Result<(), Fail> {
         (THINNEST, "full/4097,1/0/default.tif", Err(Refusal::Limit)),
         (THINNEST, "full/max/0/default.tif", Err(Refusal::Zero)),
     ] {
-        words_come_to(&rt, rt.alloc(), dim, words, want)?;
+        words_come_to(&rt, rt.alloc(), &LIMITS, dim, words, want)?;
+    }
+    Ok(())
+}
+
+#[test]
+fn words_where_results_may_be_larger(rt: HostRuntime) -> Result<(), Fail> {
+    for (words, want) in [
+        (
+            "0,0,2,2/^3,3/0/default.tif",
+            Ok("0,0,2,2/%5E3,3/0/default.tif"),
+        ),
+        ("full/^max/0/default.tif", Ok("full/%5Emax/0/default.tif")),
+        ("full/^8,/0/default.tif", Ok("full/%5Emax/0/default.tif")),
+        ("full/^7,/0/default.tif", Ok("full/%5E7,7/0/default.tif")),
+        // One side above the region's and one below.
+        ("full/^5,1/0/default.tif", Ok("full/%5E5,1/0/default.tif")),
+        ("full/^1,5/0/default.tif", Ok("full/%5E1,5/0/default.tif")),
+        (
+            "full/^pct:150/0/default.tif",
+            Ok("full/%5E6,6/0/default.tif"),
+        ),
+        (
+            "full/^pct:100.1/0/default.tif",
+            Ok("full/max/0/default.tif"),
+        ),
+        (
+            "0,0,2,1/^!9,9/0/default.tif",
+            Ok("0,0,2,1/%5Emax/0/default.tif"),
+        ),
+        ("full/^4,/0/default.tif", Ok("full/max/0/default.tif")),
+        ("full/^2,/0/default.tif", Ok("full/2,2/0/default.tif")),
+        ("full/max/0/default.tif", Ok("full/max/0/default.tif")),
+        ("full/8,/0/default.tif", Err(Refusal::Larger)),
+        ("full/pct:100.1/0/default.tif", Err(Refusal::Larger)),
+        ("0,0,4,1/^1,/0/default.tif", Err(Refusal::Zero)),
+        ("0,0,1,4/^9,0/0/default.tif", Err(Refusal::Zero)),
+        ("full/^9,/0/default.tif", Err(Refusal::Limit)),
+        ("full/^1,9/0/default.tif", Err(Refusal::Limit)),
+    ] {
+        words_come_to(&rt, rt.alloc(), &LARGER, SQUARE, words, want)?;
     }
     Ok(())
 }

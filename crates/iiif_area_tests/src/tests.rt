@@ -2,10 +2,10 @@
 
 ghost use Rattle.std.specs.Prelude.{◌≡◌, ◌*◌, IfOk, length};
 
-use crate::places::{is_inside, is_scalable, meets};
 use crate::plain;
-use crate::sums::Sums;
-use crate::weights::weight;
+use iiif_area::places::{is_inside, is_scalable, meets};
+use iiif_area::sums::Sums;
+use iiif_area::weights::weight;
 use iiif_pixel::{Depth, Dim, Kind, NoMemory, Raster, Rect, Samples, Span};
 use std::alloc::Global;
 use std::process::Abort;
@@ -118,6 +118,41 @@ fn scaled(
     Ok(sums)
 }
 
+/// The sums at a band of the region scaled to `size`: 0 at each place, and each tile of the picture with this edge added.
+fn added(
+    rt: &impl Abort,
+    alloc: Global,
+    picture: &Raster,
+    region: Rect,
+    size: Dim,
+    edge: u32,
+    band: Rect,
+) -> Result<Sums, NoMemory> {
+    let mut sums = Sums::zero(alloc, band, picture.kind())?;
+    let dim = picture.dim();
+    for row in 0..dim.h {
+        for column in 0..dim.w {
+            let (x, y) = (column.wrapping_mul(edge), row.wrapping_mul(edge));
+            if x < dim.w && y < dim.h {
+                let at = rect(x, y, edge.min(dim.w - x), edge.min(dim.h - y));
+                if meets(at, region) {
+                    assert!(rt; at.lies_in(picture.dim()));
+                    add(rt, &mut sums, &picture.crop(at)?, at, region, size);
+                }
+            }
+        }
+    }
+    Ok(sums)
+}
+
+/// Adds a tile that has a place of the region to sums of its kind.
+fn add(rt: &impl Abort, sums: &mut Sums, tile: &Raster, at: Rect, region: Rect, size: Dim) {
+    assert!(rt; tile.dim() == at.dim() && tile.kind() == sums.kind());
+    assert!(rt; meets(at, region));
+    assert!(rt; is_scalable(region.dim(), size));
+    sums.add_tile(tile, at, region, size);
+}
+
 /// The samples of a raster of 8 bits; none of another.
 fn bytes(raster: &Raster) -> &[u8] {
     match raster.samples() {
@@ -209,6 +244,70 @@ fn compare_all(
             }
         }
     }
+    Ok(())
+}
+
+/// All rectangles of a picture, at all sizes up to twice theirs, of tiles of edge 1 to 5 that are added: whole, and each row
+/// but its first place.
+fn compare_all_added(
+    rt: &impl Abort,
+    alloc: Global,
+    dim: Dim,
+    kind: Kind,
+    depth: Depth,
+) -> Result<(), NoMemory> {
+    let picture = pattern(alloc, dim, kind, depth)?;
+    for y in 0..dim.h {
+        for x in 0..dim.w {
+            for h in 1..=dim.h - y {
+                for w in 1..=dim.w - x {
+                    for d in 1..=h.saturating_mul(2) {
+                        for c in 1..=w.saturating_mul(2) {
+                            let region = rect(x, y, w, h);
+                            compare_added(rt, alloc, &picture, region, Dim { w: c, h: d })?;
+                        }
+                    }
+                }
+            }
+        }
+    }
+    Ok(())
+}
+
+fn compare_added(
+    rt: &impl Abort,
+    alloc: Global,
+    picture: &Raster,
+    region: Rect,
+    size: Dim,
+) -> Result<(), NoMemory> {
+    for edge in 1..6 {
+        let mut bands = vec![in alloc; rect(0, 0, size.w, size.h)]?;
+        for j in 0..size.h {
+            bands.push(rect(1, j, size.w.saturating_sub(1), 1))?;
+        }
+        for band in bands.iter() {
+            let sums = added(rt, alloc, picture, region, size, edge, *band)?;
+            assert_eq!(rt; sums.rect(), *band);
+            compare_sums(rt, picture, region, region, size, &sums);
+        }
+    }
+    Ok(())
+}
+
+#[test]
+fn all_tiles_added_to_gray_pictures_agree(rt: HostRuntime) -> Result<(), Fail> {
+    let alloc = rt.alloc();
+    compare_all_added(&rt, alloc, Dim { w: 4, h: 2 }, Kind::Gray, Depth::Eight)?;
+    compare_all_added(&rt, alloc, Dim { w: 1, h: 3 }, Kind::Gray, Depth::Sixteen)?;
+    Ok(())
+}
+
+#[test]
+fn all_tiles_added_to_rgb_pictures_agree(rt: HostRuntime) -> Result<(), Fail> {
+    let alloc = rt.alloc();
+    compare_all_added(&rt, alloc, Dim { w: 2, h: 3 }, Kind::Rgb, Depth::Eight)?;
+    compare_all_added(&rt, alloc, Dim { w: 3, h: 1 }, Kind::Rgb, Depth::Sixteen)?;
     Ok(())
 }
 
@@ -330,6 +429,121 @@ fn larger_sizes_are_averages_too(rt: HostRuntime) -> Result<(), Fail> {
     let sums = scaled(&rt, alloc, &picture, region, Dim { w: 3, h: 3 }, 2)?;
     let made = finish(&rt, alloc, &sums, region, rect(0, 0, 3, 3), Depth::Eight)?;
     assert_eq!(rt; bytes(&made), [0, 5, 10, 20, 25, 30, 40, 45, 50].as_slice());
+    Ok(())
+}
+
+#[test]
+fn larger_sizes_are_made_of_added_tiles(rt: HostRuntime) -> Result<(), Fail> {
+    let alloc = rt.alloc();
+    let (steps, step) = (steps(alloc)?, row(alloc, [0, 1, 0, 0])?);
+    let (corner, whole) = (rect(0, 0, 2, 2), rect(0, 0, 4, 4));
+    let three = Dim { w: 3, h: 3 };
+    let eight = Dim { w: 8, h: 8 };
+    let cases: [(&Raster, Rect, Dim, Rect, &[u8]); 6] = [
+        (
+            &steps,
+            corner,
+            three,
+            rect(0, 0, 3, 3),
+            &[0, 5, 10, 20, 25, 30, 40, 45, 50],
+        ),
+        (&steps, corner, three, rect(1, 2, 2, 1), &[45, 50]),
+        (
+            &step,
+            rect(0, 0, 2, 1),
+            Dim { w: 3, h: 1 },
+            rect(0, 0, 3, 1),
+            &[0, 1, 1],
+        ),
+        (
+            &steps,
+            whole,
+            eight,
+            rect(0, 0, 8, 2),
+            &[0, 0, 10, 10, 20, 20, 30, 30, 0, 0, 10, 10, 20, 20, 30, 30],
+        ),
+        // Twice as wide, and a quarter as high: the means of columns.
+        (
+            &steps,
+            whole,
+            Dim { w: 8, h: 1 },
+            rect(0, 0, 8, 1),
+            &[60, 60, 70, 70, 80, 80, 90, 90],
+        ),
+        // Each column 4,096 times.
+        (
+            &step,
+            rect(0, 0, 4, 1),
+            Dim { w: 16_384, h: 1 },
+            rect(4095, 0, 2, 1),
+            &[0, 1],
+        ),
+    ];
+    for (picture, region, size, band, samples) in cases {
+        let sums = added(&rt, alloc, picture, region, size, 2, band)?;
+        let made = finish(&rt, alloc, &sums, region, band, Depth::Eight)?;
+        assert_eq!(rt; bytes(&made), samples);
+    }
+    Ok(())
+}
+
+#[test]
+fn added_tiles_are_cut_off_at_the_greatest_sum(rt: HostRuntime) -> Result<(), Fail> {
+    let alloc = rt.alloc();
+    let one = Dim { w: 1, h: 1 };
+    let seven = vec![in alloc; 7]?;
+    let tile = Raster::from_samples(one, Kind::Gray, Samples::Eight(seven));
+    let nearly = vec![in alloc; u64::MAX - 10]?;
+    let mut sums = Sums::from_parts(rect(0, 0, 1, 1), Kind::Gray, nearly);
+    for left in [3, 0, 0] {
+        add(
+            &rt,
+            &mut sums,
+            &tile,
+            rect(5, 5, 1, 1),
+            rect(5, 5, 1, 1),
+            one,
+        );
+        assert_eq!(rt; sums.sums(), [u64::MAX - left].as_slice());
+    }
+    Ok(())
+}
+
+#[test]
+fn greatest_regions_and_sizes_are_added(rt: HostRuntime) -> Result<(), Fail> {
+    let alloc = rt.alloc();
+    let size = Dim {
+        w: 16_384,
+        h: 16_384,
+    };
+    let white = vec![in alloc; 65_535]?;
+    let tile = Raster::from_samples(Dim { w: 1, h: 1 }, Kind::Gray, Samples::Sixteen(white));
+    // The last place of 65,536 by 65,536 has 16,384 by 16,384 parts, all in the last result place.
+    let mut sums = Sums::zero(alloc, rect(16_382, 16_383, 2, 1), Kind::Gray)?;
+    let all = rect(0, 0, 65_536, 65_536);
+    add(&rt, &mut sums, &tile, rect(65_535, 65_535, 1, 1), all, size);
+    assert_eq!(rt; sums.sums(), [0, 17_591_917_608_960].as_slice());
+    // One column to 16,384, and as many rows as there may be: each result place has one part of a column, and of a row 16,384.
+    let mut sums = Sums::zero(alloc, rect(8191, 16_383, 2, 1), Kind::Gray)?;
+    let tall = rect(0, 0, 1, u32::MAX);
+    add(
+        &rt,
+        &mut sums,
+        &tile,
+        rect(0, u32::MAX - 1, 1, 1),
+        tall,
+        size,
+    );
+    assert_eq!(rt; sums.sums(), [1_073_725_440, 1_073_725_440].as_slice());
+    assert!(rt;
+        !is_scalable(
+            Dim {
+                w: 65_536,
+                h: 65_537
+            },
+            size
+        )
+    );
     Ok(())
 }
 

@@ -1,0 +1,11 @@
+use Rattle.iiif_pixel.specs.Picture.{samples_of}
+use Rattle.iiif_pixel.specs.Scaling.{area_sum}
+use Rattle.iiif_area.specs.Code.{tile_sample}
+use Rattle.iiif_area.proofs.AddingLaws.{part_sums}
+use Rattle.iiif_area.proofs.MergeLaws.{AddedTo}
+use Rattle.iiif_area.proofs.adding.add_part.Given as goal
+
+-- the rows so far have theirs added
+abbrev pub invariant-loop-j : goal.invariant-loop-j
+invariant-loop-j l =
+    AddedTo l.channels l.mine l.places l.common l.left l.top l.initial.sums (part_sums l.region l.size l.part l.tile l.corner l.channels l.places) l.sums l.j

@@ -1,0 +1,122 @@
+//! The part of a result that has a side above its region's, of tiles.
+
+ghost use Rattle.std.specs.Prelude.{◌≡◌, ℕ, ◌<◌, All, slice_index_or, IfOk, IfErr, length, map, fold};
+ghost use Rattle.std.specs.Arc.{arc_value};
+ghost use Rattle.iiif_pixel.specs.Geometry.{channels_of, sides_of, top_of, LiesIn};
+ghost use Rattle.iiif_pixel.specs.Picture.{Picture, dim_of};
+ghost use Rattle.iiif_pixel.specs.Operations.{crop};
+ghost use Rattle.iiif_pixel.specs.Scaling.{scale};
+ghost use Rattle.iiif_area.specs.Grid.{merged};
+ghost use Rattle.iiif_area.specs.Places.{IsScalable};
+ghost use Rattle.iiif_keys.specs.Blocks.{tile_of};
+ghost use Rattle.iiif_keys.specs.Meaning.{TileHasShape};
+ghost use Rattle.iiif_keys.specs.Names.{Pictures};
+ghost use Rattle.iiif_keys.specs.declared.keys.TileKey.{TileKey};
+ghost use Rattle.iiif_bands.specs.Bands.{grown_places};
+ghost use Rattle.iiif_assemble.specs.Gathering.{AreValues, IsItemFault};
+ghost use Rattle.iiif_assemble.specs.Jobs.{IsJob, TilesAreMeant, TilesServe};
+ghost use Rattle.iiif_assemble.specs.Code.{count_of, tile_adds, tile_in, AreTiles, IsPictureOf, IsWithin, ListsMet, TileHasPart};
+
+use crate::crew::gathered;
+use crate::finishing::{count_of, finish_all};
+use crate::items::Items;
+use crate::job::{Job, Made};
+use crate::merging::count_of_sums;
+use iiif_area::Sums;
+use iiif_area::laws::merging_adds;
+use iiif_keys::{Fault, Shape, TileKey, TileVal};
+use iiif_pixel::laws::whole_stays_whole;
+use iiif_pixel::{Dim, Rect};
+use std::alloc::Global;
+use std::sync::Arc;
+use std::thread::Threads;
+
+/// Adds what a tile has of a region that is scaled to `size`.
+fn add(
+    total: &mut Sums,
+    shape: &Shape,
+    region: Rect,
+    size: Dim,
+    key: &TileKey,
+    value: &Arc<TileVal>,
+)
+    requires part { TileHasPart shape.now region key.now }
+    requires shaped { TileHasShape shape.now key.now (arc_value value.now) }
+    requires channels { total.old.channels ≡ channels_of shape.now.kind }
+    requires limits { IsScalable (sides_of region) size }
+    ensures sums { (p : Picture) → tile_in (arc_value value.now) ≡ crop p (tile_of shape.now.dim key.now)
+        → total.new ≡ merged total.old (tile_adds p shape.now.dim region size key.now) }
+    ensures rect { total.new.rect ≡ total.old.rect }
+    ensures channels { total.new.channels ≡ total.old.channels }
+{
+    total.add_tile(&value.raster, key.rect_in(shape.dim), region, size);
+}
+
+/// Adds what tiles have of a region that is scaled to `size`, one after another.
+fn add_all(
+    total: &mut Sums,
+    shape: &Shape,
+    region: Rect,
+    size: Dim,
+    keys: &[TileKey],
+    items: &[usize],
+    values: &[Arc<TileVal>],
+)
+    requires parts { All (TileHasPart shape.now region) keys.now }
+    requires within { All (λ i. i < length keys.now) items.now }
+    requires shaped { AreValues (TileHasShape shape.now) keys.now items.now (map arc_value values.now) }
+    requires channels { total.old.channels ≡ channels_of shape.now.kind }
+    requires limits { IsScalable (sides_of region) size }
+    ensures sums { (p : Picture) (x : TileKey) → AreValues (λ k v. tile_in v ≡ crop p (tile_of shape.now.dim k)) keys.now items.now (map arc_value values.now)
+        → total.new ≡ fold merged total.old (map (λ i. tile_adds p shape.now.dim region size (slice_index_or keys.now i x)) items.now) }
+    ensures rect { total.new.rect ≡ total.old.rect }
+    ensures channels { total.new.channels ≡ total.old.channels }
+{
+    for n in 0..items.len() {
+        add(total, shape, region, size, &keys[items[n]], &values[n]);
+    }
+}
+
+/// The part in `from` of a result that has a side above its region's, of the tiles that have samples for a place of it. Nothing
+/// is held of the result but its sums at these places, and then the samples.
+pub(crate) fn grown<T: Items<TileKey, TileVal, P, R> + Sync, P: Send, R: Threads + Sync>(
+    rt: &R,
+    alloc: Global,
+    group: &T,
+    passes: &mut [P],
+    job: &Job,
+    keys: &[TileKey],
+    items: &[usize],
+    from: Rect,
+) -> Result<Made, Fault>
+    requires some { 0 < length passes.old }
+    requires job { IsJob job.now }
+    requires cover { AreTiles job.now keys.now }
+    requires serves { TilesServe job.now (T.fits group.now) (T.means group.now) }
+    requires inside { LiesIn from job.now.resolved.size }
+    requires lists { ListsMet (grown_places job.now.resolved.rect job.now.resolved.size) from keys.now items.now }
+    ensures image { IfOk result (λ m. (shows : Pictures) (p : Picture) → IsPictureOf shows job.now p
+        → TilesAreMeant shows job.now (T.means group.now) → m.raster ≡ crop (scale (crop p job.now.resolved.rect) job.now.resolved.size) from) }
+    ensures sides { IfOk result (λ m. dim_of m.raster ≡ sides_of from) }
+    ensures channels { IfOk result (λ m. m.raster.channels ≡ channels_of job.now.shape.kind) }
+    ensures top { IfOk result (λ m. m.raster.top ≡ top_of job.now.shape.depth) }
+    ensures held { IfOk result (λ m. IsWithin (count_of m.raster) m.held) }
+    ensures fault { IfErr result (IsItemFault (T.means group.now) (T.failed group.now) keys.now items.now) }
+{
+    merging_adds();
+    whole_stays_whole();
+    let run = items.len().div_ceil(passes.len());
+    let values = gathered(rt, alloc, group, passes, keys, items, run)?;
+    let Ok(mut total) = Sums::zero(alloc, from, job.shape.kind) else {
+        return Err(Fault::NoMemory);
+    };
+    let (region, size) = (job.resolved.rect, job.resolved.size);
+    add_all(&mut total, &job.shape, region, size, keys, items, &values);
+    match finish_all(rt, alloc, &total, region.dim(), job.shape.depth) {
+        Ok(raster) => {
+            let held = count_of_sums(&total) + count_of(&raster);
+            Ok(Made { raster, held })
+        }
+        Err(_) => Err(Fault::NoMemory),
+    }
+}
