@@ -3,20 +3,22 @@
     rustc -O -o /tmp/plain bench/compare/main.rs
     /usr/bin/python3 bench/compare/compare.py --program crates/iiif_serve/out/iiif_serve --plain /tmp/plain
 
-Needs numpy and Pillow, `vips` (libvips-tools), `gdal_translate` (gdal-bin) and /usr/bin/time. The sources are built by a formula
-and kept in --work. The exact averages are worked out from the formula alone, by integrals over whole numbers, and the answers of
-the program and of the plain one are compared with them byte for byte. The others scale in ways of their own (libvips by `crop`
-and `shrink`, and by `thumbnail`; GDAL by `-r average`, which gives bits of bits): how far their samples are from the exact averages
-is printed, not judged. Each job is run by every program in turn, --rounds times (libvips three times), and the medians are printed:
-wall clock and processor time of all threads. A job that keeps its size is so short that the program, the build before and the plain
-program do it ten times a round. The peak of the resident memory is taken in seven runs of its own (of the others three). With --before, another build of the
-program runs beside it, on the jobs of 8 bits and of bits where it reads no others. With --reads, `strace` counts the reads of the source
-that a job takes, in a run of its own.
+Needs numpy and Pillow, `vips` (libvips-tools), `gdal_translate` (gdal-bin) and /usr/bin/time. The sources are built by a formula and kept
+in --work. The exact averages are worked out from the formula alone, by integrals over whole numbers, and the answers of the program and of
+the plain one are compared with them byte for byte. The others scale in ways of their own (libvips by `crop` and `shrink`, and by
+`thumbnail`; up by `zoom`, which repeats each place as the exact averages do where a side is a multiple, and by `resize`, which filters;
+GDAL by `-r average`, which gives bits of bits): how far their samples are from the exact averages is printed, not judged. Each job is run
+by every program in turn, --rounds times (libvips three times), and the medians are printed: wall clock and processor time of all threads. A
+job that keeps its size, or whose larger result is 1,024 wide at most, is so short that the program, the build before and the plain program
+do it ten times a round. The peak of the resident memory is taken in seven runs of its own (of the others three). With --before, another
+build of the program runs beside it, on the jobs of 8 bits and of bits that aren't scaled up. With --reads, `strace` counts the reads of the
+source that a job takes, in a run of its own.
 
-The status is 1 where an answer of the program differs or a program fails, and with --strict also where a limit is passed. Memory: 9
-bytes for each sample of a scaled result (its sum and itself), 2 for one of a result that isn't scaled (itself, and in the answer), a
-byte or two more where a sample has 16 bits, and 4 MiB. Processor time: on 8 bits and on bits 1.05 of the build before, on 16 bits 1.5 of
-plain Rust's and 1.0 of GDAL's average. Peak memory: that of the build before, and 128 KiB by which equal runs differ.
+The status is 1 where an answer of the program differs or a program fails, and with --strict also where a limit is passed. Memory: 9 bytes
+for each sample of a scaled result (its sum and itself), 2 for one of a result that isn't scaled (itself, and in the answer), a byte or two
+more where a sample has 16 bits, and 4 MiB. Processor time: on 8 bits and on bits 1.05 of the build before, on 16 bits 1.5 of plain Rust's
+and 1.0 of GDAL's average, and 1.5 of plain Rust's where a result is above its region. Peak memory: that of the build before, and 128 KiB by
+which equal runs differ.
 """
 import argparse
 import concurrent.futures
@@ -134,6 +136,13 @@ JOBS = [
     ("16 bits: 4,096 square to 256 wide, from tiles", 4, (2048, 2048, 4096, 4096), 256),
     ("16 bits: 4,096 square to 256 wide, from strips", 5, (2048, 2048, 4096, 4096), 256),
     ("16 bits: RGB 8,000 square in tiles, to 1,024 wide", 6, (0, 0, 8_000, 8_000), 1024),
+    ("up: 512 square to 1,024 square, from tiles", 0, (2048, 2048, 512, 512), 1024),
+    ("up: 1,024 square to 4,096 wide, from tiles", 0, (2048, 2048, 1024, 1024), 4096),
+    ("up: RGB 512 square to 1,024 square, from strips", 2, (2048, 2048, 512, 512), 1024),
+    ("up: RGB 1,024 square to 4,096 wide, from strips", 2, (2048, 2048, 1024, 1024), 4096),
+    ("up: 16 bits, 512 square to 1,024 square, from tiles", 4, (2048, 2048, 512, 512), 1024),
+    ("up: 16 bits, 1,024 square to 4,096 wide, from tiles", 4, (2048, 2048, 1024, 1024), 4096),
+    ("up: 1,000 square to 1,500 wide, from tiles", 0, (2048, 2048, 1000, 1000), 1500),
 ]
 
 
@@ -183,20 +192,26 @@ def programs(args, job):
     source = SOURCES[number]
     path = os.path.join(args.work, source.name + ".tif")
     x, y, w, h = map(str, rect)
-    whole, native = rect[2] == source.side, rect[2] == size
+    whole, native, larger = rect[2] == source.side, rect[2] == size, rect[2] < size
     region = "full" if whole else ",".join((x, y, w, h))
-    target = f"/iiif/a/{region}/{'max' if native else f'{size},'}/0/default.tif"
+    target = f"/iiif/a/{region}/{'max' if native else f'^{size},' if larger else f'{size},'}/0/default.tif"
     factor = repr(rect[2] / size)
     lines = {
-        "this program": [[args.program, "--base", "http://localhost/iiif", "--one", target, "a=" + path]],
+        "this program": [[args.program, "--base", "http://localhost/iiif", *["--upscale"] * larger, "--one", target, "a=" + path]],
         "the build before": [[args.before, "--base", "http://localhost/iiif", "--one", target, "a=" + path]],
         "plain Rust": [[args.plain, path, x, y, w, h, str(size), str(size), answer_path(args, job, "plain Rust")]],
     }
-    if not args.before or source.bits == 16:
+    if not args.before or source.bits == 16 or larger:
         del lines["the build before"]
     out, between = answer_path(args, job, "libvips"), answer_path(args, job, "libvips") + ".v"
     if native:
         lines["libvips"] = [["vips", "crop", path, out, x, y, w, h]]
+    elif larger:
+        times, resized = size // rect[2], answer_path(args, job, "libvips resize")
+        if size % rect[2] == 0:
+            lines["libvips"] = [["vips", "crop", path, between, x, y, w, h], ["vips", "zoom", between, out, str(times), str(times)]]
+        lines["libvips resize"] = [["vips", "crop", path, resized + ".v", x, y, w, h],
+                                   ["vips", "resize", resized + ".v", resized, repr(size / rect[2])]]
     elif whole:
         lines["libvips"] = [["vips", "shrink", path, out, factor, factor]]
         thumbnail = answer_path(args, job, "libvips thumbnail")
@@ -318,7 +333,7 @@ def measured(args, jobs, wanted):
                 if turn >= 3 and name.startswith("libvips"):
                     continue
                 out = answer_path(args, job, name)
-                short = name in OWN and JOBS[job][2][2] == JOBS[job][3]
+                short = name in OWN and JOBS[job][2][2] <= JOBS[job][3] <= 1024
                 times.setdefault((job, name), []).extend(run(commands, out, 10 if short else 1))
                 if turn == 0 and name in OWN:
                     with open(out, "rb") as file:
@@ -351,9 +366,9 @@ def limits(jobs, medians, wanted):
     print("| Job | time beside the build before | beside plain Rust | beside GDAL | memory beside the build before |\n|---|---|---|---|---|")
     for job in jobs:
         name, number, rect, size = JOBS[job]
-        deep = SOURCES[number].bits == 16
+        deep, larger = SOURCES[number].bits == 16, rect[2] < size
         before = medians.get((job, "the build before"))
-        cells = [ratio(job, "the build before", 1, 1.05), ratio(job, "plain Rust", 1, 1.5 if deep else None),
+        cells = [ratio(job, "the build before", 1, 1.05), ratio(job, "plain Rust", 1, 1.5 if deep or larger else None),
                  ratio(job, "GDAL", 1, 1.0 if deep else None), ratio(job, "the build before", 2, 1 + 128 / before[2] if before else None)]
         print(f"| {name} | {' | '.join(cells)} |")
     print("\n**Memory of this program, MiB**\n\n| Job | the region's samples | bytes a sample of the result | those of the result | peak |\n|---|---|---|---|---|")

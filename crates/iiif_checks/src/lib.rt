@@ -2,6 +2,12 @@
 #![tactic(auto)]
 
 #[cfg(test)]
+mod files;
+#[cfg(test)]
 mod plain;
+#[cfg(test)]
+mod sizes;
+#[cfg(test)]
+mod sizes_tests;
 #[cfg(test)]
 mod tests;

@@ -43,6 +43,7 @@ pub struct Options<'a> {
     pub base: &'a str,
     pub edge: u32,
     pub max: u32,
+    pub upscale: bool,
     /// Each image's name and file.
     pub images: Vec<(&'a str, &'a str)>,
     pub mode: Mode<'a>,
@@ -63,6 +64,10 @@ fn command<'a>(alloc: Global) -> Result<Command<'a>, clap::Error> {
         .long("hex")
         .action(ArgAction::SetTrue)
         .help("write the answer's bytes as hexadecimal digits");
+    let upscale = Arg::new(alloc, "upscale")
+        .long("upscale")
+        .action(ArgAction::SetTrue)
+        .help("answer sizes with ^ above the region's");
     let images = Arg::new(alloc, "images")
         .num_args(0..)
         .value_name("NAME=FILE")
@@ -84,6 +89,7 @@ fn command<'a>(alloc: Global) -> Result<Command<'a>, clap::Error> {
             "PIXELS",
             "the greatest side of a result, 4096 if left out",
         ))?
+        .arg(upscale)?
         .arg(option(alloc, "one", "TARGET", "answer this target and end"))?
         .arg(option(
             alloc,
@@ -161,6 +167,7 @@ pub fn options_in<'a>(alloc: Global, matches: &ArgMatches<'a>) -> Result<Options
         base,
         edge,
         max,
+        upscale: matches.get_flag("upscale"),
         images,
         mode: mode_in(matches)?,
     })

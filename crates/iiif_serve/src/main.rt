@@ -9,10 +9,22 @@ mod sample;
 mod stored;
 #[cfg(test)]
 mod tests;
+#[cfg(test)]
+mod upscale_tests;
 
 use crate::program::{ended, program};
+use std::alloc::Global;
 use std::io::ErrorKind;
 use std::process::ExitCode;
+
+/// How much memory is taken and given back at the start.
+const GIVEN_BACK: usize = 4 << 20;
+
+/// Lets the C library's allocator keep what is given back, up to twice the size of the largest piece that was: from then on the
+/// memory of one tile serves for the next, where it would else go back to the system each time, and come back page by page.
+fn keep_memory(alloc: Global) {
+    let _ = Vec::<u8>::with_capacity(alloc, GIVEN_BACK);
+}
 
 /// Gives the words of the command line to the program.
 fn main(rt: HostRuntime) -> ExitCode {
@@ -27,6 +39,7 @@ fn main(rt: HostRuntime) -> ExitCode {
     let Ok(words) = args.skip(1).collect::<Vec<String>>(rt.alloc()) else {
         return ExitCode::from(ended(&mut err, "run: memory", 1));
     };
+    keep_memory(rt.alloc());
     let mut out = rt.stdout();
     ExitCode::from(program(&rt, words.as_slice(), &mut out, &mut err))
 }

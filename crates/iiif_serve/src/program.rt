@@ -6,6 +6,7 @@ use crate::listen::serve_connections;
 use crate::sample::sample;
 use crate::stored::Stored;
 use clap::ArgMatches;
+use clap::error::ErrorKind;
 use iiif_canonical::Limits;
 use iiif_io::Outlet;
 use iiif_server::{Catalogue, Cause, Config, Fault, Node, Passes};
@@ -69,6 +70,7 @@ where
     };
     match matches {
         Ok(matches) => with_matches(rt, alloc, &matches, out, err),
+        Err(error) if error.kind() == ErrorKind::OutOfMemory => ended(err, "run: memory", 1),
         Err(error) if error.use_stderr() => {
             let _ = write!(err, "line: {error}");
             2
@@ -186,6 +188,7 @@ where
     let limits = Limits {
         max_w: options.max,
         max_h: options.max,
+        upscale: options.upscale,
     };
     let Ok(config) = Config::new(alloc, options.base, options.edge, limits, BAND, WORKERS) else {
         return Err(Stop::Memory);

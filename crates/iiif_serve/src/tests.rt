@@ -249,6 +249,7 @@ fn sample_options(alloc: Global) -> Result<Options<'static>, Fail> {
         base: BASE,
         edge: 2,
         max: 4096,
+        upscale: false,
         images,
         mode: Mode::Listen("127.0.0.1:0"),
     })

@@ -65,7 +65,7 @@ tiles_of_quarters below k above =
     ∙ same_flat (tiles_within n) tiles_below (sums_below k)
     (All-weaker (IsBelow k) (λ q. tiles_within n q ≡ tiles_below q) (λ q b. let l = b.level in ap (λ m. tiles_within m q) (omega arith)) (sums_below k) (below k above))
 
-map_twice : {X Y Z : Type 0} (f : Y → Z) (g : X → Y) (xs : List X) → map f (map g xs) ≡ map (λ x. f (g x)) xs
+pub map_twice : {X Y Z : Type 0} (f : Y → Z) (g : X → Y) (xs : List X) → map f (map g xs) ≡ map (λ x. f (g x)) xs
 map_twice f g [] = refl
 map_twice f g (x ∷ xs) = ap (λ ys. f (g x) ∷ ys) (map_twice f g xs)
 

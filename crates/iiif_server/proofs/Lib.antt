@@ -4,6 +4,7 @@ mod ScalingLemmas
 mod RenderLemmas
 mod PasteLemmas
 mod BlockLemmas
+mod GrowLemmas
 mod OutcomeLemmas
 mod ItemLemmas
 mod ReplyLemmas

@@ -51,10 +51,6 @@ abbrev pub Served : Terms → ℕ → List ℕ → Option (List ℕ) → List �
 Served t n input left text true = GoesOn t n input left text
 Served t n input left text false = (came : List ℕ) × IsCame t.reader input came × Stream t n came text
 
--- neither side is above the other's
-abbrev pub IsNotLarger : Dim → Dim → Type 0
-IsNotLarger size region = (size.w ≤ region.w) × (size.h ≤ region.h)
-
 -- p is the picture of a source which keeps its bytes, and the layout is that of its file
 abbrev pub IsSeen : {S : Type 0} → (S → Type 0) → (S → List ℕ) → S → Scheme → Picture → Type 0
 IsSeen keeps bytes source layout p = keeps source × (layout ≡ scheme (bytes source)) × Shows (bytes source) p

@@ -51,7 +51,6 @@ Accepts bytes keeps item limits w (Err e) = IsRefused bytes keeps item limits w 
 pub record IsReady (layout : Scheme) (a : Accepted) : Type 0 where
   pub inside : LiesIn a.resolved.rect (layouts.dim_of layout)
   pub sizes : IsScalable (sides_of a.resolved.rect) a.resolved.size
-  pub not_larger : (a.resolved.size.w ≤ a.resolved.rect.w) × (a.resolved.size.h ≤ a.resolved.rect.h)
   pub quarters : a.resolved.turn.quarters < 4
   pub channels : channels_in a.resolved.quality layout.channels ≡ samples_per_pixel a.kind
   pub top : top_in a.resolved.quality (white_of layout.bits) ≡ top_of (out_depth a.kind)

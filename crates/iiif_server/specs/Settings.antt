@@ -5,13 +5,14 @@ use Rattle.iiif_server.specs.declared.config.ConfigFault.{ConfigFault}
 use Rattle.iiif_canonical.specs.declared.resolved.Limits.{Limits}
 use Rattle.iiif_server.specs.declared.config.ConfigFault.TheVariants.{Base, Edge, Max, Band, Workers, NoMemory}
 
--- The base URL; the edge of a tile, in pixels; the greatest sides of a result, in pixels; the rows of a band; the workers of
--- a request.
+-- The base URL; the edge of a tile, in pixels; the greatest sides of a result, in pixels, and whether a side of it may be above
+-- its region's; the rows of a band; the workers of a request.
 pub record Settings : Type 0 where
   pub base : List ℕ
   pub edge : ℕ
   pub max_w : ℕ
   pub max_h : ℕ
+  pub upscale : Bool
   pub band : ℕ
   pub workers : ℕ
 
@@ -21,13 +22,14 @@ settings_of base edge limits band workers = record {
   edge = edge;
   max_w = limits.max_w;
   max_h = limits.max_h;
+  upscale = limits.upscale;
   band = band;
   workers = workers;
 }
 
--- the greatest sides of a result
+-- how large a result may be
 abbrev pub limits_of : Settings → Limits
-limits_of s = record { max_w = s.max_w; max_h = s.max_h }
+limits_of s = record { max_w = s.max_w; max_h = s.max_h; upscale = s.upscale }
 
 -- the fault's number outside
 abbrev pub number_of : ConfigFault → ℕ

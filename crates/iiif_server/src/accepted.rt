@@ -34,8 +34,10 @@ pub fn accept<R, S: Source<R>>(
     ensures ready { IfOk result (IsReady entry.now.layout) }
 {
     let layout = &entry.layout;
+    // Laws: the file that was opened shows one picture, and the file of each image that may be asked for has a length.
     shows_one_picture();
     lengths_fit();
+    // Read, so that the source's bytes are known to be bytes.
     let _len = entry.source.len();
     let request = parse(words)?;
     let kind = layout.kind();

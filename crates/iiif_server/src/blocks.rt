@@ -61,6 +61,7 @@ fn add_tile<R, S: Source<R>>(
         → total.new ≡ merged total.old (sums_of (crop p key.now.rect) key.now.size (part_in (layouts.dim_of layout.now) key.now))) }
     ensures fault { IfErr result (IsLoadFault (S.gave source.now)) }
 {
+    // A law: the tile of a block of level 0 that fits, fits.
     parts_are_exact();
     let raster = read_tile(rt, alloc, source, layout, tile)?;
     let at = tile.rect_in(layout.dim());
@@ -87,6 +88,7 @@ fn add_block<R, S: Source<R>>(
         ≡ fold merged total.old (grids_of (layouts.dim_of layout.now) (crop p key.now.rect) key.now.size (tiles_below key.now))) }
     ensures fault { IfErr result (IsLoadFault (S.gave source.now)) }
 {
+    // Laws: a block that fits has parts, which fit and have each of its places once.
     parts_are_exact();
     fitting_keys_have_parts();
     // Read, so that the image's sides are known to fit.
@@ -123,6 +125,8 @@ pub fn summed<R, S: Source<R>>(
     ensures top { IfOk result (λ r. r.top ≡ white_of layout.now.bits) }
     ensures fault { IfErr result (IsLoadFault (S.gave source.now)) }
 {
+    // Laws: the tiles below the blocks have each place of the region once, their sums merge into the region's, and what is finished
+    // of all of the result's places is the whole result.
     parts_are_exact();
     merging_adds();
     bands_follow();

@@ -93,7 +93,7 @@ fn refusal(base: &str, edge: u32, limits: Limits, band: u32, workers: u32) -> Op
 }
 
 impl Config {
-    /// A configuration: the base URL; the edge of a tile in pixels; the greatest sides of a result in pixels; the rows of a
+    /// A configuration: the base URL; the edge of a tile in pixels; how large a result may be, in pixels; the rows of a
     /// band; the workers of a request. The URL is copied.
     pub fn new(
         alloc: Global,
@@ -143,7 +143,7 @@ impl Config {
         self.edge
     }
 
-    /// The greatest sides of a result.
+    /// How large a result may be.
     pub fn limits(&self) -> Limits
         ensures all { result ≡ limits_of self.now }
         ensures legal { AreLegal result }

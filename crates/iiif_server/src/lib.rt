@@ -11,27 +11,20 @@ pub use part::Part;
 
 mod accepted;
 pub mod answer;
-#[cfg(test)]
-mod assembly_tests;
 mod base_url;
 mod blocks;
 mod calls;
 pub mod catalogue;
 pub mod config;
 pub mod entry;
-#[cfg(test)]
-mod http_tests;
+mod growing;
 mod images;
 pub mod laws;
 mod message;
 pub mod node;
 mod outcome;
 pub mod part;
-#[cfg(test)]
-mod reference;
 mod render;
 mod sending;
 pub mod stream;
-#[cfg(test)]
-mod tests;
 mod tiles;

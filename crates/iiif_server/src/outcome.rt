@@ -39,7 +39,9 @@ pub fn identifier(target: &Target) -> &str
 pub fn sides<R, S: Source<R>>(entry: &Entry<R, S>) -> Dim
     ensures { (p : Picture) × IsPictureOf S.bytes S.keeps (item_of entry.now) p × (dim_of p ≡ result) }
 {
+    // A law: the file that was opened shows one picture.
     shows_one_picture();
+    // Read, so that the source's bytes are known to be bytes.
     let _len = entry.source.len();
     entry.layout.dim()
 }

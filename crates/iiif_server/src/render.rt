@@ -13,10 +13,11 @@ ghost use Rattle.iiif_tiff_read.specs.Layouts as layouts;
 ghost use Rattle.iiif_tiff_read.specs.Faults.{IsLoadFault};
 ghost use Rattle.iiif_canonical.specs.Images.{resolved_image};
 ghost use Rattle.iiif_keys.specs.Blocks.{IsEdge};
-ghost use Rattle.iiif_server.specs.Code.{IsNotLarger, IsSeen};
+ghost use Rattle.iiif_server.specs.Code.{IsSeen};
 ghost use Rattle.iiif_server.specs.Kinds.{channels_in, top_in};
 
 use crate::blocks::summed;
+use crate::growing::grown;
 use crate::tiles::copied;
 use iiif_area::laws::same_sides_change_nothing;
 use iiif_canonical::Resolved;
@@ -31,7 +32,7 @@ use std::alloc::Global;
 /// How many sums a block of a plan has at most.
 const ROOM: u64 = 65_536;
 
-/// The region of a request at the request's size: put together of its tiles, or averaged over its blocks.
+/// The region of a request at the request's size: put together of its tiles, or averaged over its tiles or its blocks.
 fn assembled<R, S: Source<R>>(
     rt: &R,
     alloc: Global,
@@ -43,7 +44,6 @@ fn assembled<R, S: Source<R>>(
 ) -> Result<Raster, LoadFault>
     requires inside { LiesIn resolved.now.rect (layouts.dim_of layout.now) }
     requires sizes { IsScalable (sides_of resolved.now.rect) resolved.now.size }
-    requires not_larger { IsNotLarger resolved.now.size (sides_of resolved.now.rect) }
     requires edge { IsEdge edge }
     requires in_file { FitsIn layout.now (length (S.bytes source.now)) }
     ensures image { IfOk result (λ r. (p : Picture) → IsSeen S.keeps S.bytes source.now layout.now p
@@ -53,6 +53,7 @@ fn assembled<R, S: Source<R>>(
     ensures top { IfOk result (λ r. r.top ≡ white_of layout.now.bits) }
     ensures fault { IfErr result (IsLoadFault (S.gave source.now)) }
 {
+    // Laws: a region at its own sides is scaled to itself, and a part of a picture has all of its samples.
     same_sides_change_nothing();
     whole_stays_whole();
     let (region, size) = (resolved.rect, resolved.size);
@@ -67,6 +68,10 @@ fn assembled<R, S: Source<R>>(
     )? {
         Plan::Copy(keys) => {
             let image = copied(rt, alloc, source, layout, region, &keys)?;
+            Ok(image)
+        }
+        Plan::Grow(keys) => {
+            let image = grown(rt, alloc, source, layout, region, size, &keys)?;
             Ok(image)
         }
         Plan::Sum(keys) => {
@@ -110,7 +115,6 @@ pub fn render<R, S: Source<R>>(
 ) -> Result<Raster, LoadFault>
     requires inside { LiesIn resolved.now.rect (layouts.dim_of layout.now) }
     requires sizes { IsScalable (sides_of resolved.now.rect) resolved.now.size }
-    requires not_larger { IsNotLarger resolved.now.size (sides_of resolved.now.rect) }
     requires quarters { resolved.now.turn.quarters < 4 }
     requires edge { IsEdge edge }
     requires in_file { FitsIn layout.now (length (S.bytes source.now)) }

@@ -107,6 +107,7 @@ pub fn copied<R, S: Source<R>>(
     ensures top { IfOk result (λ r. r.top ≡ white_of layout.now.bits) }
     ensures fault { IfErr result (IsLoadFault (S.gave source.now)) }
 {
+    // A law: a part of a picture has all of its samples.
     whole_stays_whole();
     let mut picture = Raster::new(alloc, region.dim(), layout.kind(), layout.depth())?;
     for key in keys {

@@ -14,7 +14,11 @@ returns-clause-accepts g c =
     (record { one = c.shows_one_picture.ensures; small = c.len-len.ensures.bytes; accepted = c.args.entry.now.accepted; same = c.args.entry.now.shown })
     c.in_ok-request.ensures.says c.dim-dim.ensures.width c.dim-dim.ensures.height c.kind-kind.ensures c.depth.ensures c.in_ok-resolved.ensures.same_image
     c.in_ok-resolved.ensures.value c.canonical.ensures.value
-    (c.canonical.ensures.spelled (omega (arith, c.dim-dim.ensures.limits.width_most)) (omega (arith, c.dim-dim.ensures.limits.height_most))) c.of.ensures.kind
+    (c.canonical.ensures.spelled (record {
+      image = (omega (arith, c.dim-dim.ensures.limits.width_most), omega (arith, c.dim-dim.ensures.limits.height_most));
+      limits = λ _. (omega (arith, c.requires.limits.width), omega (arith, c.requires.limits.height));
+    }))
+    c.of.ensures.kind
 
 pub returns-in_err-resolved-clause-accepts : goal.returns-in_err-resolved-clause-accepts
 returns-in_err-resolved-clause-accepts g c =
@@ -32,7 +36,6 @@ returns-clause-ready g c =
     record {
       inside = lies_in_layout c.in_ok-resolved.resolved.rect c.dim-dim.result (layouts.dim_of c.args.entry.now.layout) c.dim-dim.ensures.width c.dim-dim.ensures.height resolved.inside;
       sizes = sizes_within c.in_ok-resolved.resolved c.dim-dim.result c.kind-kind.result c.args.limits.now resolved c.dim-dim.ensures.limits;
-      not_larger = resolved.not_larger;
       quarters = resolved.quarters;
       channels = channels_fit c.kind-kind.result c.depth.result c.in_ok-request.request.quality c.in_ok-resolved.resolved.quality c.args.entry.now.layout.channels c.of.result plain
           c.kind-kind.ensures c.of.ensures.kind;

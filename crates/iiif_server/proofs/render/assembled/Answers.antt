@@ -22,6 +22,19 @@ copied-requires-clause-cover g c =
           same c.kind.ensures (sym c.deref.ensures.value) of_plan.1,
     )
 
+pub grown-requires-clause-cover : goal.grown-requires-clause-cover
+grown-requires-clause-cover g c =
+    let name = c.args.name.now in
+    let image = layouts.dim_of c.args.layout.now in
+    let r = c.args.resolved.now in
+    let of_plan = subst (λ (p : Plan). IsPlan name c.args.edge c.dim.result (channels_of c.kind.result) 65536 r p) c.in-Grow.is c.in_ok-keys.ensures.plan in
+    let same = dim_is c.dim.result image c.dim.ensures.width c.dim.ensures.height in (
+      name,
+      c.args.edge,
+      tiles_cover name c.args.edge c.dim.result image (channels_of c.kind.result) c.args.layout.now.channels r.rect c.in-Grow.keys.items c.deref-in-Grow.result.now
+          same c.kind.ensures (sym c.deref-in-Grow.ensures.value) of_plan.1,
+    )
+
 pub summed-requires-clause-cover : goal.summed-requires-clause-cover
 summed-requires-clause-cover g c =
     let name = c.args.name.now in

@@ -1,5 +1,5 @@
-use Rattle.iiif_server.proofs.RenderLemmas.{image_is}
-use Rattle.iiif_server.proofs.reference.plain_render.Goals as goal
+use Rattle.iiif_server_tests.proofs.WholeTile.{image_is}
+use Rattle.iiif_server_tests.proofs.reference.plain_render.Goals as goal
 
 pub returns-clause-image : goal.returns-clause-image
 returns-clause-image g c keeps same p shows =

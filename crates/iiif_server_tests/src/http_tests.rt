@@ -1,13 +1,12 @@
 //! Answers to calls and connections, of a node over sources in memory.
 
-use crate::tests::{SAMPLE, WHOLE, limits, memory, node};
-use crate::{Catalogue, Cause, Config, Cut, Node, Passes, Sent};
+use crate::nodes::{MemNode, NEVER, answer, body, node_of, send_answer, send_stream};
+use crate::tests::{SAMPLE, WHOLE};
 use http::Method;
-use iiif_http_front::Call;
 use iiif_io::Inlet;
 use iiif_io::fakes::{FailingReader, FailingWriter};
-use iiif_source::{FuseSource, MemSource};
-use iiif_tiff_read::open;
+use iiif_server::{Cause, Cut};
+use std::alloc::Global;
 use std::io;
 use std::io::Read;
 use std::test::Fail;
@@ -52,39 +51,20 @@ impl<'a> Inlet for Parts<'a> {
     }
 }
 
-/// A call that leaves the connection open.
-fn call(rt: &HostRuntime, method: Method, target: &[u8]) -> Result<Call, Fail> {
-    Ok(Call {
-        method,
-        target: Vec::from_slice(rt.alloc(), target)?,
-        close: false,
-    })
-}
-
-/// What a call is answered.
-fn answer(
-    rt: &HostRuntime,
-    node: &Node<(), MemSource>,
-    method: Method,
-    target: &[u8],
-) -> Result<(Sent, Vec<u8>), Fail> {
-    let mut out = Vec::new(rt.alloc());
-    let call = call(rt, method, target)?;
-    match node.serve_one(&(), rt.alloc(), &mut [Passes], &call, &mut out) {
-        Ok(sent) => Ok((sent, out)),
-        Err(_) => Err(Fail::from("the answer was cut off")),
-    }
+/// A node with the sample.
+fn node(rt: &HostRuntime) -> Result<MemNode, Fail> {
+    node_of(rt, "a", &SAMPLE, 2, NEVER)
 }
 
 /// What a connection is answered whose input ends.
-fn stream(rt: &HostRuntime, node: &Node<(), MemSource>, input: &[u8]) -> Result<Vec<u8>, Fail> {
+fn stream(rt: &HostRuntime, node: &MemNode, input: &[u8]) -> Result<Vec<u8>, Fail> {
     let mut out = Vec::new(rt.alloc());
     let reader = FailingReader {
         left: input,
         piece: 4096,
         reads: usize::MAX,
     };
-    node.serve_stream(&(), rt.alloc(), &mut [Passes], reader, &mut out);
+    send_stream(rt.alloc(), node, reader, &mut out);
     Ok(out)
 }
 
@@ -102,17 +82,11 @@ fn count(text: &[u8], part: &[u8]) -> usize {
 
 #[test]
 fn three_requests_cut_at_every_place(rt: HostRuntime) -> Result<(), Fail> {
-    let node = node(&rt, "a")?;
+    let node = node(&rt)?;
     let text = REQUESTS.as_bytes();
     for (first, second) in (0..=text.len()).map(|place| text.split_at(place)) {
         let mut out = Vec::new(rt.alloc());
-        node.serve_stream(
-            &(),
-            rt.alloc(),
-            &mut [Passes],
-            Parts { first, second },
-            &mut out,
-        );
+        send_stream(rt.alloc(), &node, Parts { first, second }, &mut out);
         assert_eq!(rt; out.as_slice(), ANSWERS.as_bytes());
     }
     Ok(())
@@ -120,43 +94,42 @@ fn three_requests_cut_at_every_place(rt: HostRuntime) -> Result<(), Fail> {
 
 #[test]
 fn image_with_its_head(rt: HostRuntime) -> Result<(), Fail> {
-    let node = node(&rt, "a")?;
-    let (sent, out) = answer(&rt, &node, Method::GET, WHOLE)?;
+    let (sent, out) = answer(&rt, &node(&rt)?, Method::GET, WHOLE)?;
     let (head, body) = out.split_at(IMAGE_HEAD.len().min(out.len()));
-    assert_eq!(rt; head, IMAGE_HEAD.as_bytes());
-    assert_eq!(rt; body.len(), 190);
-    assert!(rt; body.ends_with(&SAMPLE[8..24]));
-    assert_eq!(rt; (sent.status, sent.bytes), (200, out.len() as u64));
+    assert!(rt; head == IMAGE_HEAD.as_bytes());
+    assert!(rt; body.len() == 190 && body.ends_with(&SAMPLE[8..24]));
+    assert!(rt; sent.status == 200 && sent.bytes == out.len() as u64);
     Ok(())
+}
+
+/// Whether a call is answered by a head alone, or by a head and a body.
+fn has_parts(
+    rt: &HostRuntime,
+    method: Method,
+    target: &[u8],
+    head: &[u8],
+    body: &[u8],
+) -> Result<bool, Fail> {
+    let (_, out) = answer(rt, &node(rt)?, method, target)?;
+    let is_long = out.len() == head.len().saturating_add(body.len());
+    Ok(is_long && out.starts_with(head) && out.ends_with(body))
 }
 
 #[test]
 fn information_of_the_sample(rt: HostRuntime) -> Result<(), Fail> {
-    let node = node(&rt, "a")?;
-    let (_, out) = answer(&rt, &node, Method::GET, b"/iiif/a/info.json")?;
+    let target = b"/iiif/a/info.json";
     let head =
         b"HTTP/1.1 200 OK\r\nContent-Type: application/ld+json;profile=\"http://iiif.io/api/image/3/context.json\"\r\nAccess-Control-Allow-Origin: *\r\nContent-Length: 564\r\n\r\n";
-    assert!(rt; out.starts_with(head));
-    assert!(rt; out.ends_with(INFORMATION.as_bytes()));
-    assert_eq!(rt; out.len(), head.len() + INFORMATION.len());
-    let (_, alone) = answer(&rt, &node, Method::HEAD, b"/iiif/a/info.json")?;
-    assert_eq!(rt; alone.as_slice(), head.as_slice());
-    let mut body = Vec::new(rt.alloc());
-    let sent = node.body_one(
-        &(),
-        rt.alloc(),
-        &mut [Passes],
-        b"/iiif/a/info.json",
-        &mut body,
-    );
-    assert_eq!(rt; sent.map(|sent| sent.status), Ok(200));
-    assert_eq!(rt; body.as_slice(), INFORMATION.as_bytes());
+    assert!(rt; has_parts(&rt, Method::GET, target, head, INFORMATION.as_bytes())?);
+    assert!(rt; has_parts(&rt, Method::HEAD, target, head, b"")?);
+    let (status, body) = body(&rt, &node(&rt)?, target)?;
+    assert!(rt; status == 200 && body.as_slice() == INFORMATION.as_bytes());
     Ok(())
 }
 
 #[test]
 fn refusals_with_their_heads(rt: HostRuntime) -> Result<(), Fail> {
-    let node = node(&rt, "a")?;
+    let node = node(&rt)?;
     let cases: [(Method, &[u8], &[u8]); 4] = [
         (
             Method::GET,
@@ -187,58 +160,31 @@ fn refusals_with_their_heads(rt: HostRuntime) -> Result<(), Fail> {
     Ok(())
 }
 
-/// A node whose source fails from its `k`-th read on.
-fn fused(rt: &HostRuntime, k: u64) -> Result<Node<(), FuseSource<MemSource>>, Fail> {
-    let alloc = rt.alloc();
-    let source = memory(rt)?;
-    let Ok(layout) = open(&(), alloc, &source) else {
-        return Err(Fail::from("the sample is refused"));
-    };
-    let mut catalogue = Catalogue::new(alloc);
-    let name = String::from_str(alloc, "a")?;
-    if catalogue
-        .add(name, FuseSource::new(source, k), layout)
-        .is_err()
-    {
-        return Err(Fail::from("the sample is not taken in"));
-    }
-    let Ok(config) = Config::new(alloc, "http://localhost/iiif", 2, limits(4096), 64, 2) else {
-        return Err(Fail::from("the settings are refused"));
-    };
-    Ok(Node::new(config, catalogue))
+/// A node with the sample, of which the k-th read and each later one fails.
+fn fused(rt: &HostRuntime, k: u64) -> Result<MemNode, Fail> {
+    node_of(rt, "a", &SAMPLE, 2, k)
 }
 
 #[test]
 fn head_reads_nothing(rt: HostRuntime) -> Result<(), Fail> {
-    let alloc = rt.alloc();
-    let node = fused(&rt, 1)?;
-    let mut out = Vec::new(alloc);
-    let head = call(&rt, Method::HEAD, WHOLE)?;
-    let sent = node.serve_one(&(), alloc, &mut [Passes], &head, &mut out);
-    assert_eq!(rt; sent.map(|sent| sent.status), Ok(200));
-    assert_eq!(rt; out.as_slice(), IMAGE_HEAD.as_bytes());
-    let mut out = Vec::new(alloc);
-    let get = call(&rt, Method::GET, WHOLE)?;
-    let sent = node.serve_one(&(), alloc, &mut [Passes], &get, &mut out);
-    assert_eq!(rt; sent.map(|sent| sent.status), Ok(500));
-    let text =
+    let fault =
         b"HTTP/1.1 500 Internal Server Error\r\nContent-Type: text/plain\r\nAccess-Control-Allow-Origin: *\r\nContent-Length: 10\r\n\r\nL1 source\n";
-    assert_eq!(rt; out.as_slice(), text.as_slice());
+    let node = fused(&rt, 1)?;
+    for (method, status, text) in [
+        (Method::HEAD, 200, IMAGE_HEAD.as_bytes()),
+        (Method::GET, 500, fault.as_slice()),
+    ] {
+        let (sent, out) = answer(&rt, &node, method, WHOLE)?;
+        assert_eq!(rt; sent.status, status);
+        assert_eq!(rt; out.as_slice(), text);
+    }
     Ok(())
 }
 
 /// The status that a call for the whole sample is answered by.
-fn status(
-    rt: &HostRuntime,
-    node: &Node<(), FuseSource<MemSource>>,
-    method: Method,
-) -> Result<u16, Fail> {
-    let mut out = Vec::new(rt.alloc());
-    let call = call(rt, method, WHOLE)?;
-    match node.serve_one(&(), rt.alloc(), &mut [Passes], &call, &mut out) {
-        Ok(sent) => Ok(sent.status),
-        Err(_) => Err(Fail::from("the answer was cut off")),
-    }
+fn status(rt: &HostRuntime, node: &MemNode, method: Method) -> Result<u16, Fail> {
+    let (sent, _) = answer(rt, node, method, WHOLE)?;
+    Ok(sent.status)
 }
 
 #[test]
@@ -260,7 +206,7 @@ fn head_spends_no_read(rt: HostRuntime) -> Result<(), Fail> {
 
 #[test]
 fn calls_that_came_are_answered_before_the_reader_fails(rt: HostRuntime) -> Result<(), Fail> {
-    let node = node(&rt, "a")?;
+    let node = node(&rt)?;
     for (reads, answered) in [(0, 0), (1, 2), (2, 3)] {
         let mut out = Vec::new(rt.alloc());
         let reader = FailingReader {
@@ -268,7 +214,7 @@ fn calls_that_came_are_answered_before_the_reader_fails(rt: HostRuntime) -> Resu
             piece: 60,
             reads,
         };
-        node.serve_stream(&(), rt.alloc(), &mut [Passes], reader, &mut out);
+        send_stream(rt.alloc(), &node, reader, &mut out);
         assert_eq!(rt; count(&out, b"HTTP/1.1 303 See Other\r\n"), answered);
         assert_eq!(rt; count(&out, b"HTTP/1.1 "), answered);
     }
@@ -277,7 +223,7 @@ fn calls_that_came_are_answered_before_the_reader_fails(rt: HostRuntime) -> Resu
 
 #[test]
 fn writer_that_fails_ends_the_answer(rt: HostRuntime) -> Result<(), Fail> {
-    let node = node(&rt, "a")?;
+    let node = node(&rt)?;
     let (_, whole) = answer(&rt, &node, Method::GET, WHOLE)?;
     for room in 0..whole.len() {
         let mut out = FailingWriter {
@@ -285,8 +231,7 @@ fn writer_that_fails_ends_the_answer(rt: HostRuntime) -> Result<(), Fail> {
             room,
             piece: 64,
         };
-        let call = call(&rt, Method::GET, WHOLE)?;
-        let sent = node.serve_one(&(), rt.alloc(), &mut [Passes], &call, &mut out);
+        let sent = send_answer(rt.alloc(), &node, Method::GET, WHOLE, &mut out)?;
         let cut = Cut {
             sent: room as u64,
             cause: Cause::Writer,
@@ -303,7 +248,7 @@ fn writer_that_fails_ends_the_answer(rt: HostRuntime) -> Result<(), Fail> {
 
 #[test]
 fn nothing_follows_an_answer_that_was_cut_off(rt: HostRuntime) -> Result<(), Fail> {
-    let node = node(&rt, "a")?;
+    let node = node(&rt)?;
     for room in 0..ANSWERS.len() {
         let mut out = FailingWriter {
             taken: Vec::new(rt.alloc()),
@@ -315,7 +260,7 @@ fn nothing_follows_an_answer_that_was_cut_off(rt: HostRuntime) -> Result<(), Fai
             piece: 64,
             reads: usize::MAX,
         };
-        node.serve_stream(&(), rt.alloc(), &mut [Passes], reader, &mut out);
+        send_stream(rt.alloc(), &node, reader, &mut out);
         assert_eq!(rt; out.taken.len(), room);
         assert!(rt; ANSWERS.as_bytes().starts_with(&out.taken));
     }
@@ -328,54 +273,73 @@ const BAD_HEAD: &str =
 const REDIRECT_CLOSES: &str =
     "HTTP/1.1 303 See Other\r\nAccess-Control-Allow-Origin: *\r\nLocation: http://localhost/iiif/a/info.json\r\nContent-Length: 0\r\nConnection: close\r\n\r\n";
 
-#[test]
-fn heads_that_are_none(rt: HostRuntime) -> Result<(), Fail> {
-    let node = node(&rt, "a")?;
-    let cases: [&[u8]; 4] = [
-        b"GET\r\n\r\nGET /iiif/a HTTP/1.1\r\n\r\n",
-        b"HEAD /iiif/a HTTP/1.1\r\nContent-Length: 5\r\n\r\nhello",
-        b"POST /iiif/a HTTP/1.1\r\nTransfer-Encoding: chunked\r\n\r\n0\r\n\r\n",
-        b"GET /iiif/\xff HTTP/1.1\r\n\r\n",
-    ];
-    for input in cases {
-        assert_eq!(rt; stream(&rt, &node, input)?.as_slice(), BAD_HEAD.as_bytes());
-    }
-    let mut long = Vec::from_slice(rt.alloc(), b"GET /iiif/a HTTP/1.1\r\nX: ")?;
+/// Whether a connection with this input is answered by this text.
+fn is_answered_by(rt: &HostRuntime, input: &[u8], text: &[u8]) -> Result<bool, Fail> {
+    let out = stream(rt, &node(rt)?, input)?;
+    Ok(out.as_slice() == text)
+}
+
+/// The beginning of a head with a field of 9,000 bytes.
+fn long_head(alloc: Global) -> Result<Vec<u8>, Fail> {
+    let mut long = Vec::from_slice(alloc, b"GET /iiif/a HTTP/1.1\r\nX: ")?;
     for _ in 0..9000u32 {
         long.push(b'x')?;
     }
-    assert_eq!(rt; stream(&rt, &node, &long)?.as_slice(), BAD_HEAD.as_bytes());
-    assert_eq!(rt; stream(&rt, &node, b"GET /iiif/a HTT")?.len(), 0);
-    assert_eq!(rt; stream(&rt, &node, b"")?.len(), 0);
+    Ok(long)
+}
+
+#[test]
+fn heads_that_are_none(rt: HostRuntime) -> Result<(), Fail> {
+    let long = long_head(rt.alloc())?;
+    let bad = BAD_HEAD.as_bytes();
+    let cases: [(&[u8], &[u8]); 7] = [
+        (b"GET\r\n\r\nGET /iiif/a HTTP/1.1\r\n\r\n", bad),
+        (
+            b"HEAD /iiif/a HTTP/1.1\r\nContent-Length: 5\r\n\r\nhello",
+            bad,
+        ),
+        (
+            b"POST /iiif/a HTTP/1.1\r\nTransfer-Encoding: chunked\r\n\r\n0\r\n\r\n",
+            bad,
+        ),
+        (b"GET /iiif/\xff HTTP/1.1\r\n\r\n", bad),
+        (&long, bad),
+        (b"GET /iiif/a HTT", b""),
+        (b"", b""),
+    ];
+    for (input, text) in cases {
+        assert!(rt; is_answered_by(&rt, input, text)?);
+    }
     Ok(())
 }
 
 #[test]
 fn calls_that_close(rt: HostRuntime) -> Result<(), Fail> {
-    let node = node(&rt, "a")?;
     let cases: [&[u8]; 2] = [
         b"GET /iiif/a HTTP/1.0\r\n\r\nGET /iiif/a HTTP/1.1\r\n\r\n",
         b"GET /iiif/a HTTP/1.1\r\nConnection: x, Close\r\n\r\nGET /iiif/a HTTP/1.1\r\n\r\n",
     ];
     for input in cases {
-        assert_eq!(rt;
-            stream(&rt, &node, input)?.as_slice(),
-            REDIRECT_CLOSES.as_bytes()
-        );
+        assert!(rt; is_answered_by(&rt, input, REDIRECT_CLOSES.as_bytes())?);
     }
     Ok(())
 }
 
-#[test]
-fn thousand_calls_and_no_more(rt: HostRuntime) -> Result<(), Fail> {
-    let node = node(&rt, "a")?;
-    let mut input = Vec::new(rt.alloc());
+/// A connection of 1,001 calls.
+fn many_calls(alloc: Global) -> Result<Vec<u8>, Fail> {
+    let mut input = Vec::new(alloc);
     for _ in 0..1001u32 {
         input.extend_from_slice(b"GET /iiif/a HTTP/1.1\r\n\r\n")?;
     }
-    let out = stream(&rt, &node, &input)?;
-    assert_eq!(rt; count(&out, b"HTTP/1.1 303 See Other\r\n"), 1000);
-    assert_eq!(rt; count(&out, b"Connection: close"), 1);
+    Ok(input)
+}
+
+#[test]
+fn thousand_calls_and_no_more(rt: HostRuntime) -> Result<(), Fail> {
+    let input = many_calls(rt.alloc())?;
+    let out = stream(&rt, &node(&rt)?, &input)?;
+    assert!(rt; count(&out, b"HTTP/1.1 303 See Other\r\n") == 1000);
+    assert!(rt; count(&out, b"Connection: close") == 1);
     assert!(rt; out.ends_with(REDIRECT_CLOSES.as_bytes()));
     Ok(())
 }

@@ -4,7 +4,7 @@
 ghost use Rattle.std.specs.Prelude.{◌≡◌, ◌<◌, length, IfOk, IfErr};
 ghost use Rattle.iiif_pixel.specs.Geometry.{LiesIn, sides_of};
 ghost use Rattle.iiif_pixel.specs.Picture.{Picture, dim_of};
-ghost use Rattle.iiif_pixel.specs.Scaling.{scale};
+ghost use Rattle.iiif_pixel.specs.Scaling.{scale, whole_of};
 ghost use Rattle.iiif_area.specs.Places.{IsScalable};
 ghost use Rattle.iiif_tiff.specs.Tiff.{Shows, scheme};
 ghost use Rattle.iiif_tiff_read.specs.Layouts.{FitsIn};
@@ -12,14 +12,25 @@ ghost use Rattle.iiif_tiff_read.specs.Layouts as layouts;
 ghost use Rattle.iiif_tiff_read.specs.Faults.{IsLoadFault};
 ghost use Rattle.iiif_canonical.specs.Images.{resolved_image};
 
-use crate::blocks::whole;
 use iiif_area::Sums;
 use iiif_canonical::Resolved;
 use iiif_pixel::laws::{bands_follow, whole_stays_whole};
-use iiif_pixel::{Dim, NoMemory, Raster};
+use iiif_pixel::{Dim, NoMemory, Raster, Rect};
 use iiif_source::Source;
 use iiif_tiff_read::{Layout, LoadFault};
 use std::alloc::Global;
+
+/// The rectangle that is all of a picture with these sides.
+fn whole(dim: Dim) -> Rect
+    ensures { result ≡ whole_of dim }
+{
+    Rect {
+        x: 0,
+        y: 0,
+        w: dim.w,
+        h: dim.h,
+    }
+}
 
 /// A region scaled to other sides, its sums taken as those of one tile.
 fn scaled(alloc: Global, region: &Raster, size: Dim) -> Result<Raster, NoMemory>

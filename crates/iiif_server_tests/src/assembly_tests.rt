@@ -1,16 +1,29 @@
 //! Images that are made of tiles and blocks, beside those of whole regions; and what their reads do.
 
+use crate::nodes::{MemNode, body, node_of};
 use crate::reference::plain_render;
-use crate::tests::{SAMPLE, WHOLE, limits};
-use crate::{Catalogue, Config, Node, Passes};
+use crate::tests::{SAMPLE, WHOLE};
 use iiif_area::is_scalable;
 use iiif_canonical::Resolved;
 use iiif_pixel::{Depth, Dim, Kind, NoMemory, Quality, Raster, Rect, Span, Turn};
-use iiif_source::{FuseSource, MemSource};
+use iiif_source::MemSource;
 use iiif_tiff_read::open;
 use iiif_tiff_write::{OutKind, fits, head, put_rows};
 use std::alloc::Global;
 use std::test::Fail;
+
+/// Writes a sample, of which a depth of eight bits has the low byte, where there is a place for it.
+fn put(picture: &mut Raster, x: u32, y: u32, channel: usize, sample: u16) {
+    let at = picture.dim();
+    let value = match picture.depth() {
+        Depth::Eight => sample & 0xff,
+        Depth::Sixteen => sample,
+    };
+    let value = value.min(picture.depth().top());
+    if x < at.w && y < at.h && channel < picture.kind().channels() {
+        picture.set(x, y, channel, value);
+    }
+}
 
 /// A picture 7 by 5, whose samples are so many steps apart.
 fn picture(alloc: Global, kind: Kind, depth: Depth, step: u16) -> Result<Raster, NoMemory> {
@@ -20,15 +33,7 @@ fn picture(alloc: Global, kind: Kind, depth: Depth, step: u16) -> Result<Raster,
     for y in 0..dim.h {
         for x in 0..dim.w {
             for channel in 0..kind.channels() {
-                let at = picture.dim();
-                let value = match depth {
-                    Depth::Eight => sample & 0xff,
-                    Depth::Sixteen => sample,
-                };
-                let value = value.min(picture.depth().top());
-                if x < at.w && y < at.h && channel < picture.kind().channels() {
-                    picture.set(x, y, channel, value);
-                }
+                put(&mut picture, x, y, channel, sample);
                 sample = sample.wrapping_add(step);
             }
         }
@@ -37,8 +42,7 @@ fn picture(alloc: Global, kind: Kind, depth: Depth, step: u16) -> Result<Raster,
 }
 
 /// The file of that picture.
-fn file(rt: &HostRuntime, kind: Kind, depth: Depth, step: u16) -> Result<Vec<u8>, Fail> {
-    let alloc = rt.alloc();
+fn file(alloc: Global, kind: Kind, depth: Depth, step: u16) -> Result<Vec<u8>, Fail> {
     let raster = picture(alloc, kind, depth, step)?;
     let out = OutKind::of(kind, depth, Quality::Default);
     let sides = raster.dim();
@@ -53,53 +57,9 @@ fn file(rt: &HostRuntime, kind: Kind, depth: Depth, step: u16) -> Result<Vec<u8>
     Ok(bytes)
 }
 
-/// A node with tiles of this edge that has a file under the name `a`, of which the k-th read and each later one fails.
-fn node(
-    rt: &HostRuntime,
-    file: Vec<u8>,
-    edge: u32,
-    k: u64,
-) -> Result<Node<(), FuseSource<MemSource>>, Fail> {
-    let alloc = rt.alloc();
-    let source = MemSource::new(file);
-    let Ok(layout) = open(&(), alloc, &source) else {
-        return Err(Fail::from("the file is refused"));
-    };
-    let mut catalogue = Catalogue::new(alloc);
-    let added = catalogue.add(
-        String::from_str(alloc, "a")?,
-        FuseSource::new(source, k),
-        layout,
-    );
-    if added.is_err() {
-        return Err(Fail::from("the file is not taken in"));
-    }
-    match Config::new(alloc, "http://localhost/iiif", edge, limits(4096), 64, 2) {
-        Ok(config) => Ok(Node::new(config, catalogue)),
-        Err(_) => Err(Fail::from("the settings are refused")),
-    }
-}
-
-/// The status and the body that a target is answered.
-fn answer(
-    rt: &HostRuntime,
-    node: &Node<(), FuseSource<MemSource>>,
-    target: &[u8],
-) -> Result<(u16, Vec<u8>), Fail> {
-    let mut out = Vec::new(rt.alloc());
-    match node.body_one(&(), rt.alloc(), &mut [Passes], target, &mut out) {
-        Ok(sent) => Ok((sent.status, out)),
-        Err(_) => Err(Fail::from("the answer was cut off")),
-    }
-}
-
-/// The samples of the image that a request comes to, from the whole of its region, as they stand in its file.
-fn plain_samples(
-    rt: &HostRuntime,
-    source: &MemSource,
-    resolved: &Resolved,
-) -> Result<Vec<u8>, Fail> {
-    let Ok(layout) = open(&(), rt.alloc(), source) else {
+/// The image that a request comes to, from the whole of its region.
+fn plain_image(alloc: Global, source: &MemSource, resolved: &Resolved) -> Result<Raster, Fail> {
+    let Ok(layout) = open(&(), alloc, source) else {
         return Err(Fail::from("the file is refused"));
     };
     let sides = Dim {
@@ -112,10 +72,15 @@ fn plain_samples(
     {
         return Err(Fail::from("no such request"));
     }
-    let Ok(image) = plain_render(&(), rt.alloc(), source, &layout, resolved) else {
-        return Err(Fail::from("a read failed"));
-    };
-    let mut bytes = Vec::new(rt.alloc());
+    match plain_render(&(), alloc, source, &layout, resolved) {
+        Ok(image) => Ok(image),
+        Err(_) => Err(Fail::from("a read failed")),
+    }
+}
+
+/// The samples of an image, as they stand in its file.
+fn stored(alloc: Global, image: &Raster) -> Result<Vec<u8>, Fail> {
+    let mut bytes = Vec::new(alloc);
     match image.samples() {
         Span::Eight(samples) => bytes.extend_from_slice(samples)?,
         Span::Sixteen(samples) => {
@@ -179,6 +144,32 @@ fn resolved(
     }
 }
 
+/// Whether a target is answered by the image that its request comes to.
+fn is_answered(
+    rt: &HostRuntime,
+    node: &MemNode,
+    source: &MemSource,
+    target: &[u8],
+    resolved: &Resolved,
+) -> Result<bool, Fail> {
+    let image = plain_image(rt.alloc(), source, resolved)?;
+    let samples = stored(rt.alloc(), &image)?;
+    let (status, sent) = body(rt, node, target)?;
+    Ok(status == 200 && sent.ends_with(&samples))
+}
+
+/// Whether each request of a picture is, with tiles of this edge.
+fn all_are_answered(rt: &HostRuntime, file: &[u8], edge: u32) -> Result<bool, Fail> {
+    let source = MemSource::new(Vec::from_slice(rt.alloc(), file)?);
+    let node = node_of(rt, "a", file, edge, 10_000)?;
+    for (target, resolved) in &requests() {
+        if !is_answered(rt, &node, &source, target, resolved)? {
+            return Ok(false);
+        }
+    }
+    Ok(true)
+}
+
 #[test]
 fn tiles_and_blocks_make_what_whole_regions_make(rt: HostRuntime) -> Result<(), Fail> {
     for (kind, depth, step) in [
@@ -187,15 +178,12 @@ fn tiles_and_blocks_make_what_whole_regions_make(rt: HostRuntime) -> Result<(), 
         (Kind::Gray, Depth::Sixteen, 9_973),
         (Kind::Rgb, Depth::Sixteen, 25_999),
     ] {
-        let source = MemSource::new(file(&rt, kind, depth, step)?);
+        let file = file(rt.alloc(), kind, depth, step)?;
         for edge in 1..=8 {
-            let node = node(&rt, file(&rt, kind, depth, step)?, edge, 10_000)?;
-            for (target, resolved) in &requests() {
-                let samples = plain_samples(&rt, &source, resolved)?;
-                let (status, body) = answer(&rt, &node, target)?;
-                assert_eq!(rt; status, 200);
-                assert!(rt; body.ends_with(&samples));
-            }
+            assert!(rt;
+                all_are_answered(&rt, &file, edge)?,
+                "{kind:?} {depth:?} {edge}"
+            );
         }
     }
     Ok(())
@@ -207,10 +195,10 @@ fn tile_that_is_not_read_is_a_source_fault(rt: HostRuntime) -> Result<(), Fail> 
     for target in targets {
         // Four tiles of edge 2, in a picture 4 by 4: one read each at least.
         for (k, status) in [(1, 500), (2, 500), (3, 500), (4, 500), (1000, 200)] {
-            let node = node(&rt, Vec::from_slice(rt.alloc(), &SAMPLE)?, 2, k)?;
-            let (answered, body) = answer(&rt, &node, target)?;
+            let node = node_of(&rt, "a", &SAMPLE, 2, k)?;
+            let (answered, sent) = body(&rt, &node, target)?;
             assert_eq!(rt; answered, status);
-            assert_eq!(rt; body.starts_with(b"L1 source\n"), status == 500);
+            assert_eq!(rt; sent.starts_with(b"L1 source\n"), status == 500);
         }
     }
     Ok(())

@@ -1,10 +1,11 @@
 //! Answers of a node over sources in memory.
 
-use crate::{AddFault, Catalogue, Cause, Config, ConfigFault, Node, Passes};
-use iiif_canonical::Limits;
+use crate::nodes::{NEVER, body, limits, node_of, send_body};
 use iiif_io::fakes::FailingWriter;
-use iiif_source::{FuseSource, MemSource};
+use iiif_server::{AddFault, Catalogue, Cause, Config, ConfigFault, Cut};
+use iiif_source::MemSource;
 use iiif_tiff_read::open;
+use std::alloc::Global;
 use std::test::Fail;
 
 /// A TIFF file of 4 by 4 gray samples: 10 more for each column, and 40 more for each row.
@@ -42,56 +43,6 @@ const DEEP_HIGH_FIRST: [u8; 126] = [
 
 pub const WHOLE: &[u8] = b"/iiif/a/full/max/0/default.tif";
 
-pub fn limits(max: u32) -> Limits {
-    Limits {
-        max_w: max,
-        max_h: max,
-    }
-}
-
-pub fn memory(rt: &HostRuntime) -> Result<MemSource, Fail> {
-    Ok(MemSource::new(Vec::from_slice(rt.alloc(), &SAMPLE)?))
-}
-
-/// A node with the sample under a name.
-pub fn node(rt: &HostRuntime, name: &str) -> Result<Node<(), MemSource>, Fail> {
-    node_of(rt, name, &SAMPLE)
-}
-
-/// A node with a file under a name.
-fn node_of(rt: &HostRuntime, name: &str, file: &[u8]) -> Result<Node<(), MemSource>, Fail> {
-    let alloc = rt.alloc();
-    let source = MemSource::new(Vec::from_slice(alloc, file)?);
-    let Ok(layout) = open(&(), alloc, &source) else {
-        return Err(Fail::from("the file is refused"));
-    };
-    let mut catalogue = Catalogue::new(alloc);
-    if catalogue
-        .add(String::from_str(alloc, name)?, source, layout)
-        .is_err()
-    {
-        return Err(Fail::from("the file is not taken in"));
-    }
-    let Ok(config) = Config::new(alloc, "http://localhost/iiif", 2, limits(4096), 64, 2) else {
-        return Err(Fail::from("the settings are refused"));
-    };
-    Ok(Node::new(config, catalogue))
-}
-
-/// The status and body that a target is answered.
-fn body(
-    rt: &HostRuntime,
-    node: &Node<(), MemSource>,
-    target: &[u8],
-) -> Result<(u16, Vec<u8>), Fail> {
-    let mut out = Vec::new(rt.alloc());
-    match node.body_one(&(), rt.alloc(), &mut [Passes], target, &mut out) {
-        Ok(sent) if sent.bytes == out.len() as u64 => Ok((sent.status, out)),
-        Ok(_) => Err(Fail::from("another number of bytes")),
-        Err(_) => Err(Fail::from("the answer was cut off")),
-    }
-}
-
 /// The last bytes of a body.
 fn tail(body: &[u8], count: usize) -> &[u8] {
     let (_, last) = body.split_at(body.len() - count.min(body.len()));
@@ -100,7 +51,7 @@ fn tail(body: &[u8], count: usize) -> &[u8] {
 
 #[test]
 fn whole_sample_is_190_bytes(rt: HostRuntime) -> Result<(), Fail> {
-    let (status, body) = body(&rt, &node(&rt, "a")?, WHOLE)?;
+    let (status, body) = body(&rt, &node_of(&rt, "a", &SAMPLE, 2, NEVER)?, WHOLE)?;
     assert_eq!(rt; status, 200);
     assert_eq!(rt; body.len(), 190);
     assert_eq!(rt; tail(&body, 16), &SAMPLE[8..24]);
@@ -109,7 +60,7 @@ fn whole_sample_is_190_bytes(rt: HostRuntime) -> Result<(), Fail> {
 
 #[test]
 fn scaled_and_turned_samples(rt: HostRuntime) -> Result<(), Fail> {
-    let node = node(&rt, "a")?;
+    let node = node_of(&rt, "a", &SAMPLE, 2, NEVER)?;
     let cases: [(&[u8], &[u8]); 9] = [
         (b"/iiif/a/full/2,/0/default.tif", &[25, 45, 105, 125]),
         (b"/iiif/a/full/%5E2,/0/default.tif", &[25, 45, 105, 125]),
@@ -148,7 +99,7 @@ fn samples_of_sixteen_bits(rt: HostRuntime) -> Result<(), Fail> {
         (&darker, b"/iiif/a/full/1,1/0/bitonal.tif", 175, &[0]),
     ];
     for (file, target, len, last) in cases {
-        let (status, body) = body(&rt, &node_of(&rt, "a", file)?, target)?;
+        let (status, body) = body(&rt, &node_of(&rt, "a", file, 2, NEVER)?, target)?;
         assert_eq!(rt; (status, body.len()), (200, len));
         assert_eq!(rt; tail(&body, last.len()), last);
     }
@@ -157,31 +108,29 @@ fn samples_of_sixteen_bits(rt: HostRuntime) -> Result<(), Fail> {
 
 #[test]
 fn each_refusal_by_its_line(rt: HostRuntime) -> Result<(), Fail> {
-    let node = node(&rt, "a")?;
-    let cases: [(&[u8], u16, &[u8]); 14] = [
-        (b"/iiif/a%2/full/max/0/default.tif", 400, b"Q3 path\n"),
-        (b"/other/a/full/max/0/default.tif", 400, b"Q3 path\n"),
-        (b"/iiif/zz/bad/max/0/default.tif", 404, b"Q4 identifier\n"),
-        (b"/iiif/zz", 404, b"Q4 identifier\n"),
-        (b"/iiif/a/bad/bad/0/default.tif", 400, b"Q5 region\n"),
-        (b"/iiif/a/full/full/45/default.tif", 400, b"Q6 size\n"),
-        (b"/iiif/a/full/max/45/best.tif", 400, b"Q7 rotation\n"),
-        (b"/iiif/a/full/max/0/best.jpg", 400, b"Q8 quality\n"),
-        (b"/iiif/a/full/max/0/default.jpg", 400, b"Q9 format\n"),
-        (b"/iiif/a/4,0,1,1/max/0/default.tif", 400, b"Q10 empty\n"),
-        (b"/iiif/a/full/0,/0/default.tif", 400, b"Q11 zero\n"),
-        (b"/iiif/a/full/8,/0/default.tif", 400, b"Q12 larger\n"),
-        (b"/iiif/a/full/^8,/0/default.tif", 501, b"Q13 upscale\n"),
-        (
-            b"/iiif/a/full/pct:100.1/0/default.tif",
-            400,
-            b"Q12 larger\n",
-        ),
+    let node = node_of(&rt, "a", &SAMPLE, 2, NEVER)?;
+    let cases: [(&str, u16, &str); 14] = [
+        ("/iiif/a%2/full/max/0/default.tif", 400, "Q3 path\n"),
+        ("/other/a/full/max/0/default.tif", 400, "Q3 path\n"),
+        ("/iiif/zz/bad/max/0/default.tif", 404, "Q4 identifier\n"),
+        ("/iiif/zz", 404, "Q4 identifier\n"),
+        ("/iiif/a/bad/bad/0/default.tif", 400, "Q5 region\n"),
+        ("/iiif/a/full/full/45/default.tif", 400, "Q6 size\n"),
+        ("/iiif/a/full/max/45/best.tif", 400, "Q7 rotation\n"),
+        ("/iiif/a/full/max/0/best.jpg", 400, "Q8 quality\n"),
+        ("/iiif/a/full/max/0/default.jpg", 400, "Q9 format\n"),
+        ("/iiif/a/4,0,1,1/max/0/default.tif", 400, "Q10 empty\n"),
+        ("/iiif/a/full/0,/0/default.tif", 400, "Q11 zero\n"),
+        ("/iiif/a/full/8,/0/default.tif", 400, "Q12 larger\n"),
+        ("/iiif/a/full/^8,/0/default.tif", 501, "Q13 upscale\n"),
+        ("/iiif/a/full/pct:100.1/0/default.tif", 400, "Q12 larger\n"),
     ];
     for (target, status, line) in cases {
-        let (answered, body) = body(&rt, &node, target)?;
-        assert_eq!(rt; body.as_slice(), line);
-        assert_eq!(rt; answered, status);
+        let (answered, body) = body(&rt, &node, target.as_bytes())?;
+        assert!(rt;
+            answered == status && body.as_slice() == line.as_bytes(),
+            "{target}"
+        );
     }
     let (status, body) = body(&rt, &node, b"/iiif/a")?;
     assert_eq!(rt; (status, body.len()), (303, 0));
@@ -192,7 +141,7 @@ fn each_refusal_by_its_line(rt: HostRuntime) -> Result<(), Fail> {
 fn escaped_slash_in_a_name(rt: HostRuntime) -> Result<(), Fail> {
     let (status, body) = body(
         &rt,
-        &node(&rt, "a/b")?,
+        &node_of(&rt, "a/b", &SAMPLE, 2, NEVER)?,
         b"/iiif/a%2Fb/full/max/0/default.tif?x=1",
     )?;
     assert_eq!(rt; (status, body.len()), (200, 190));
@@ -201,32 +150,15 @@ fn escaped_slash_in_a_name(rt: HostRuntime) -> Result<(), Fail> {
 
 #[test]
 fn failed_read_is_a_source_fault(rt: HostRuntime) -> Result<(), Fail> {
-    let alloc = rt.alloc();
-    let source = memory(&rt)?;
-    let Ok(layout) = open(&(), alloc, &source) else {
-        return Err(Fail::from("the sample is refused"));
-    };
-    let mut catalogue = Catalogue::new(alloc);
-    let added = catalogue.add(
-        String::from_str(alloc, "a")?,
-        FuseSource::new(source, 1),
-        layout,
-    );
-    assert_eq!(rt; added, Ok(()));
-    let Ok(config) = Config::new(alloc, "http://localhost/iiif", 2, limits(4096), 64, 2) else {
-        return Err(Fail::from("the settings are refused"));
-    };
-    let node: Node<(), FuseSource<MemSource>> = Node::new(config, catalogue);
-    let mut out = Vec::new(alloc);
-    let sent = node.body_one(&(), alloc, &mut [Passes], WHOLE, &mut out);
-    assert_eq!(rt; sent.map(|sent| sent.status), Ok(500));
-    assert_eq!(rt; out.as_slice(), b"L1 source\n".as_slice());
+    let (status, body) = body(&rt, &node_of(&rt, "a", &SAMPLE, 2, 1)?, WHOLE)?;
+    assert_eq!(rt; status, 500);
+    assert_eq!(rt; body.as_slice(), b"L1 source\n".as_slice());
     Ok(())
 }
 
 #[test]
 fn writer_that_fails_leaves_a_strict_prefix(rt: HostRuntime) -> Result<(), Fail> {
-    let node = node(&rt, "a")?;
+    let node = node_of(&rt, "a", &SAMPLE, 2, NEVER)?;
     let (_, whole) = body(&rt, &node, WHOLE)?;
     for room in 0..190usize {
         let mut out = FailingWriter {
@@ -234,15 +166,14 @@ fn writer_that_fails_leaves_a_strict_prefix(rt: HostRuntime) -> Result<(), Fail>
             room,
             piece: 7,
         };
-        match node.body_one(&(), rt.alloc(), &mut [Passes], WHOLE, &mut out) {
-            Ok(_) => return Err(Fail::from("the writer failed")),
-            Err(cut) => {
-                assert_eq!(rt; cut.sent, room as u64);
-                assert_eq!(rt; cut.cause, Cause::Writer);
-                assert_eq!(rt; out.taken.len(), room);
-                assert!(rt; whole.starts_with(&out.taken));
-            }
-        }
+        let sent = send_body(rt.alloc(), &node, WHOLE, &mut out);
+        let cut = Cut {
+            sent: room as u64,
+            cause: Cause::Writer,
+        };
+        assert_eq!(rt; sent, Err(cut));
+        assert_eq!(rt; out.taken.len(), room);
+        assert!(rt; whole.starts_with(&out.taken));
     }
     Ok(())
 }
@@ -281,23 +212,30 @@ fn settings_are_refused_in_order(rt: HostRuntime) -> Result<(), Fail> {
     Ok(())
 }
 
+/// Takes the sample into a catalogue.
+fn add(
+    alloc: Global,
+    catalogue: &mut Catalogue<(), MemSource>,
+    name: &str,
+) -> Result<Result<(), AddFault>, Fail> {
+    let name = String::from_str(alloc, name)?;
+    let source = MemSource::new(Vec::from_slice(alloc, &SAMPLE)?);
+    let Ok(layout) = open(&(), alloc, &source) else {
+        return Err(Fail::from("the sample is refused"));
+    };
+    Ok(catalogue.add(name, source, layout))
+}
+
 #[test]
 fn names_are_taken_once(rt: HostRuntime) -> Result<(), Fail> {
     let alloc = rt.alloc();
-    let mut catalogue: Catalogue<(), MemSource> = Catalogue::new(alloc);
+    let mut catalogue = Catalogue::new(alloc);
     for (name, answer) in [
         ("", Err(AddFault::Name)),
         ("a", Ok(())),
         ("a", Err(AddFault::Twice)),
     ] {
-        let source = memory(&rt)?;
-        let Ok(layout) = open(&(), alloc, &source) else {
-            return Err(Fail::from("the sample is refused"));
-        };
-        assert_eq!(rt;
-            catalogue.add(String::from_str(alloc, name)?, source, layout),
-            answer
-        );
+        assert_eq!(rt; add(alloc, &mut catalogue, name)?, answer);
     }
     assert!(rt; catalogue.has("a") && catalogue.find("b").is_none());
     assert_eq!(rt; AddFault::Twice.number(), 2);
