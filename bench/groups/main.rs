@@ -1,0 +1,225 @@
+//! The same work as the program `groups_bench large`, in plain Rust, to compare times. Built by `rustc -O`.
+//! A table of kept tiles, open flights and counts behind a lock, with a condition variable for those that wait; a tile stands in a
+//! cell that is set once, and is read from its file row by row while no lock is held.
+
+#[path = "../recent.rs"]
+mod recent;
+
+use recent::{Entry, Key, Recent, cpu};
+use std::collections::HashMap;
+use std::fs::{self, File};
+use std::hint::black_box;
+use std::os::unix::fs::FileExt;
+use std::sync::{Arc, Condvar, Mutex, OnceLock};
+use std::thread;
+use std::time::Instant;
+
+const SIDE: u32 = 2_560;
+const EDGE: u32 = 256;
+const DATA: u64 = 8;
+const BYTES: u64 = 67_108_864;
+const ROUNDS: u32 = 2_000;
+const THREADS: usize = 8;
+
+type Tile = Arc<Vec<u8>>;
+type Cell = Arc<OnceLock<(Arc<Key>, u64, Tile)>>;
+
+#[derive(Clone)]
+struct Flight {
+    cell: Cell,
+    ticket: u64,
+}
+
+#[derive(Default)]
+struct Book {
+    gets: u64,
+    hits: u64,
+    joins: u64,
+    leads: u64,
+    loads: u64,
+    landed: u64,
+}
+
+struct Table {
+    main: Recent<Cell>,
+    hot: Recent<Cell>,
+    limit: u64,
+    open: HashMap<Arc<Key>, Flight>,
+    book: Book,
+}
+
+enum Entered {
+    Hit(Cell, u64),
+    Joined(Flight),
+    Lead(Flight),
+}
+
+impl Table {
+    fn enter(&mut self, gets: &mut u64, key: &Key) -> Entered {
+        self.book.gets += 1;
+        *gets += 1;
+        let found = match self.main.get(key) {
+            Some(entry) => Some(entry),
+            None => self.hot.get(key),
+        };
+        if let Some(entry) = found {
+            self.book.hits += 1;
+            return Entered::Hit(entry.cell.clone(), entry.ticket);
+        }
+        if let Some(flight) = self.open.get(key) {
+            self.book.joins += 1;
+            return Entered::Joined(flight.clone());
+        }
+        self.book.leads += 1;
+        let flight = Flight { cell: Arc::new(OnceLock::new()), ticket: self.book.leads };
+        self.open.insert(Arc::new(key.clone()), flight.clone());
+        Entered::Lead(flight)
+    }
+
+    fn land(&mut self, flight: Flight, key: &Key, tile: Tile) {
+        let key = Arc::new(key.clone());
+        let size = Arc::new(tile.len() as u32 + 15);
+        let _ = flight.cell.set((key.clone(), flight.ticket, tile));
+        self.open.remove(&key);
+        self.book.landed += 1;
+        self.book.loads += 1;
+        self.main.push(key, Entry { value: size, cell: flight.cell, ticket: flight.ticket });
+        while self.main.bytes + self.hot.bytes > self.limit && self.main.pop().is_some() {}
+    }
+}
+
+struct Group {
+    table: Mutex<Table>,
+    landed: Condvar,
+    file: Mutex<File>,
+}
+
+fn tile_in(cell: &Cell) -> Tile {
+    cell.get().unwrap().2.clone()
+}
+
+impl Group {
+    fn new(limit: u64) -> Group {
+        let path = "groups_bench_plain.tmp";
+        let mut bytes = vec![0u8; DATA as usize];
+        for row in 0..SIDE {
+            bytes.extend((0..SIDE).map(|column| column.wrapping_mul(3).wrapping_add(row.wrapping_mul(7)) as u8));
+        }
+        fs::write(path, bytes).unwrap();
+        let file = Mutex::new(File::open(path).unwrap());
+        fs::remove_file(path).unwrap();
+        let (main, hot) = (Recent::new(4096), Recent::new(4096));
+        let table = Mutex::new(Table { main, hot, limit, open: HashMap::new(), book: Book::default() });
+        Group { table, landed: Condvar::new(), file }
+    }
+
+    fn read(&self, key: &Key) -> Vec<u8> {
+        let mut tile = vec![0; (EDGE * EDGE) as usize];
+        for (row, samples) in tile.chunks_exact_mut(EDGE as usize).enumerate() {
+            let y = u64::from(key.ty * EDGE) + row as u64;
+            let at = DATA + y * u64::from(SIDE) + u64::from(key.tx * EDGE);
+            self.file.lock().unwrap().read_exact_at(samples, at).unwrap();
+        }
+        tile
+    }
+
+    fn get(&self, gets: &mut u64, key: &Key) -> Tile {
+        let entered = self.table.lock().unwrap().enter(gets, key);
+        match entered {
+            Entered::Hit(cell, ticket) => {
+                let landed = cell.get().unwrap();
+                assert_eq!(landed.1, ticket);
+                landed.2.clone()
+            }
+            Entered::Joined(flight) => {
+                let mut table = self.table.lock().unwrap();
+                while flight.cell.get().is_none() {
+                    table = self.landed.wait(table).unwrap();
+                }
+                tile_in(&flight.cell)
+            }
+            Entered::Lead(flight) => {
+                let found = self.table.lock().unwrap().main.get(key).map(|entry| tile_in(&entry.cell));
+                let tile = found.unwrap_or_else(|| Arc::new(self.read(key)));
+                self.table.lock().unwrap().land(flight, key, tile.clone());
+                self.landed.notify_all();
+                tile
+            }
+        }
+    }
+
+    fn calls(&self, keys: &[Key], rounds: u32) -> u64 {
+        let (mut gets, mut sum) = (0, 0);
+        for _ in 0..rounds {
+            for key in keys {
+                sum += u64::from(self.get(&mut gets, key)[0]);
+            }
+        }
+        sum
+    }
+
+    fn by_eight(&self, keys: &[Key], rounds: u32) -> u128 {
+        let start = Instant::now();
+        thread::scope(|scope| {
+            for _ in 0..THREADS {
+                scope.spawn(|| black_box(self.calls(keys, rounds)));
+            }
+        });
+        start.elapsed().as_nanos()
+    }
+}
+
+fn hits(keys: &[Key]) {
+    let group = Group::new(BYTES);
+    group.calls(keys, 1);
+    let (mut one, mut eight, mut copied) = (u128::MAX, u128::MAX, u128::MAX);
+    let tile = group.read(&keys[0]);
+    for _ in 0..5 {
+        let start = cpu();
+        black_box(group.calls(keys, ROUNDS));
+        let middle = cpu();
+        for _ in 0..ROUNDS {
+            black_box(tile.clone());
+        }
+        let end = cpu();
+        one = one.min((middle - start).as_nanos());
+        copied = copied.min((end - middle).as_nanos());
+        eight = eight.min(group.by_eight(keys, ROUNDS));
+    }
+    let rounds = u128::from(ROUNDS);
+    let (one, eight, copied) = (one / (rounds * 100), eight / (rounds * 800), copied / rounds);
+    println!("a hit: one thread {one} ns, eight threads {eight} ns; a copy of a tile: {copied} ns");
+}
+
+fn loads(keys: &[Key]) {
+    let group = Group::new(1);
+    let (mut shared, mut plain) = (u128::MAX, u128::MAX);
+    for _ in 0..5 {
+        let start = cpu();
+        black_box(group.calls(keys, 1));
+        let middle = cpu();
+        black_box(keys.iter().map(|key| u64::from(group.read(key)[0])).sum::<u64>());
+        let end = cpu();
+        shared = shared.min((middle - start).as_nanos());
+        plain = plain.min((end - middle).as_nanos());
+    }
+    println!("a load: {} ns, with no group {} ns", shared / 100, plain / 100);
+}
+
+fn main() {
+    let name: Arc<str> = "a".into();
+    let place = |number: u32| Key { name: name.clone(), edge: EDGE, tx: number % 10, ty: number / 10 };
+    let keys: Vec<Key> = (0..100).map(place).collect();
+    hits(&keys);
+    loads(&keys);
+    for _ in 0..5 {
+        let group = Group::new(BYTES);
+        let start = Instant::now();
+        black_box(group.calls(&keys, 1));
+        let time = start.elapsed().as_micros();
+        println!("all tiles by one thread: {time} microseconds, {} loads", group.table.lock().unwrap().book.loads);
+        let group = Group::new(BYTES);
+        let time = group.by_eight(&keys, 1) / 1000;
+        println!("all tiles by eight threads each: {time} microseconds, {} loads", group.table.lock().unwrap().book.loads);
+    }
+}

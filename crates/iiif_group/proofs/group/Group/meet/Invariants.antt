@@ -1,0 +1,9 @@
+use Rattle.std.proofs.Common.{◌≡◌}
+use Rattle.iiif_outcome.specs.Views.{flight_key}
+use Rattle.iiif_group.proofs.group.Group.meet.Given as goal
+
+abbrev pub invariant-loop : goal.invariant-loop
+invariant-loop g l =
+    (goal.iterator-loop g).can_next l.iterator'
+    × (goal.iterator-loop g).is_finite l.iterator'
+    × (flight_key l.flight ≡ flight_key l.fn.flight)

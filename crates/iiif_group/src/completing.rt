@@ -1,0 +1,56 @@
+//! How a load ends.
+
+ghost use Rattle.std.specs.Prelude.{◌≡◌, Err, IfSome, IsFalse, IsTrue, MatchOption};
+ghost use Rattle.std.specs.Result.{ForErr, ForOk};
+ghost use Rattle.std.specs.Arc.{arc_value};
+ghost use Rattle.iiif_outcome.specs.Outcomes.{is_given};
+ghost use Rattle.iiif_outcome.specs.Views.{receipt_known};
+ghost use Rattle.iiif_group.specs.Beginning.{open_key, outcome_of, OutcomeIs, was_asked};
+
+use crate::begun::{Completed, Open};
+use crate::group::Group;
+use crate::outcomes::shared;
+use crate::steps::Origin;
+use iiif_keys::{CacheKey, Fault, System};
+use std::sync::ledger::Ledger;
+use std::sync::{Arc, Wait};
+
+impl<K: CacheKey, J: System, L: Ledger, N, T> Group<K, J, L, N, T> {
+    /// Ends a load with a value that is its key's meaning, or with a fault that its source gave or want of memory, and tells those
+    /// that wait. The local flight has that outcome. So has the wide one, if the call leads one; but it has want of memory where the
+    /// value refuses it a share.
+    pub fn complete<R: Wait>(
+        &self,
+        rt: &R,
+        load: Open<K, J>,
+        key: &K,
+        outcome: Result<Arc<K::Value>, Fault>,
+    ) -> Completed<K, J>
+        requires key { open_key load ≡ key.now }
+        requires meant { J.stable (K.name_of key.now) → IsTrue J.honest → ForOk outcome (λ v. arc_value v ≡ K.meaning J.pictures key.now) }
+        requires shaped { ForOk outcome (λ v. IsTrue (K.is_shaped J.pictures key.now (arc_value v))) }
+        requires given { ForErr outcome (λ f. IsTrue (is_given (J.gave (K.name_of key.now)) f)) }
+        ensures ended { IfSome (receipt_known result.receipt) (λ x. (arc_value x.key ≡ key.now) × OutcomeIs (J.stable (K.name_of key.now)) J.honest (K.meaning J.pictures key.now) (K.is_shaped J.pictures key.now) (J.gave (K.name_of key.now)) x.outcome) }
+        ensures exact { IsTrue result.exact → IfSome (receipt_known result.receipt) (λ x. outcome_of x.outcome ≡ outcome_of outcome) }
+        ensures loaded { MatchOption result.loaded (IsFalse (was_asked load)) (λ r. IfSome (receipt_known r) (λ x. (arc_value x.key ≡ key.now) × (x.outcome ≡ outcome))) }
+        ensures wanting { IsFalse result.exact → IsTrue (was_asked load) × IfSome (receipt_known result.receipt) (λ x. outcome_of x.outcome ≡ Err Fault.NoMemory) }
+    {
+        let Open { local, wide } = load;
+        match wide {
+            None => Completed {
+                receipt: self.finish(rt, local, outcome, Origin::Load),
+                loaded: None,
+                exact: true,
+            },
+            Some(wide) => {
+                let (second, exact) = shared(&outcome);
+                let loaded = self.finish(rt, local, outcome, Origin::Load);
+                Completed {
+                    receipt: self.finish(rt, wide, second, Origin::Flight),
+                    loaded: Some(loaded),
+                    exact,
+                }
+            }
+        }
+    }
+}

@@ -1,0 +1,112 @@
+//! The calls of a group's lock, and waiting for flights.
+
+ghost use Rattle.std.specs.Prelude.{◌≡◌, ◌+◌, IfErr, IfOk, IfSome, IsTrue, OnErr, OnOk};
+ghost use Rattle.std.specs.Result.{ForErr, ForOk};
+ghost use Rattle.std.specs.Arc.{arc_value};
+ghost use Rattle.iiif_outcome.specs.Outcomes.{is_given};
+ghost use Rattle.iiif_outcome.specs.Views.{flight_key, lead_class, lead_key, receipt_known};
+ghost use Rattle.iiif_group.specs.Code.{EntersFor};
+
+use crate::group::Group;
+use crate::steps::{Origin, land};
+use iiif_keys::{CacheKey, Fault, System};
+use iiif_outcome::{Flight, Lead, Receipt};
+use iiif_pixel::NoMemory;
+use iiif_singleflight::{Entered, Landing, Pass};
+use iiif_tables::Class;
+use std::sync::ledger::Ledger;
+use std::sync::{Arc, Wait};
+
+impl<K: CacheKey, J: System, L: Ledger, N, T> Group<K, J, L, N, T> {
+    /// A call enters.
+    pub(crate) fn enter<R: Wait>(
+        &self,
+        rt: &R,
+        pass: &mut Pass<L>,
+        key: &K,
+        class: Class,
+    ) -> Result<Entered<K, J>, NoMemory>
+        ensures entered { IfOk result (λ e. EntersFor class key.now e) }
+        ensures counted { OnOk result (pass.new.gets ≡ pass.old.gets + 1) }
+        ensures refused { OnErr result (pass.new.gets ≡ pass.old.gets) }
+        ensures parts { pass.new.parts ≡ pass.old.parts }
+    {
+        self.home.lock(rt).table.enter(pass, key, class)
+    }
+
+    /// Waits until a flight has landed.
+    pub(crate) fn meet<R: Wait>(&self, rt: &R, flight: Flight<K, J>) -> Receipt<K, J>
+        ensures { IfSome (receipt_known result) (λ x. arc_value x.key ≡ flight_key flight) }
+    {
+        let mut flight = flight;
+        let mut home = self.home.lock(rt);
+        for _ in rt.forever() {
+            match flight.learn() {
+                Ok(receipt) => return receipt,
+                Err(back) => flight = back,
+            }
+            home = self.landed.wait(rt, home);
+        }
+        unreachable!()
+    }
+
+    /// A leader looks again: the value of its key, where one is kept by now.
+    fn again<R: Wait>(&self, rt: &R, lead: &Lead<K, J>) -> Result<Option<Arc<K::Value>>, NoMemory>
+        ensures meant { IfOk result (λ o. IfSome o (λ v. J.stable (K.name_of (lead_key lead.now)) → IsTrue J.honest → arc_value v ≡ K.meaning J.pictures (lead_key lead.now))) }
+        ensures shaped { IfOk result (λ o. IfSome o (λ v. IsTrue (K.is_shaped J.pictures (lead_key lead.now) (arc_value v)))) }
+    {
+        self.home.lock(rt).table.again(lead)
+    }
+
+    /// Tells those that wait, and gives the receipt of a flight that landed with its leader's outcome. A cell that refuses the
+    /// outcome of its only lead, which no run meets, has none of this flight: the leader then waits for good, as those do who joined.
+    fn tell<R: Wait>(&self, rt: &R, landing: Landing<K, J>) -> Receipt<K, J>
+        ensures { IsTrue landing.taken × (receipt_known result ≡ receipt_known landing.receipt) }
+    {
+        self.landed.notify_all();
+        if landing.taken {
+            return landing.receipt;
+        }
+        let mut home = self.home.lock(rt);
+        for _ in rt.forever() {
+            home = self.landed.wait(rt, home);
+        }
+        unreachable!()
+    }
+
+    /// Ends a flight, and tells those that wait.
+    pub(crate) fn finish<R: Wait>(
+        &self,
+        rt: &R,
+        lead: Lead<K, J>,
+        outcome: Result<Arc<K::Value>, Fault>,
+        origin: Origin,
+    ) -> Receipt<K, J>
+        requires meant { J.stable (K.name_of (lead_key lead)) → IsTrue J.honest → ForOk outcome (λ v. arc_value v ≡ K.meaning J.pictures (lead_key lead)) }
+        requires shaped { ForOk outcome (λ v. IsTrue (K.is_shaped J.pictures (lead_key lead) (arc_value v))) }
+        requires given { ForErr outcome (λ f. IsTrue (is_given (J.gave (K.name_of (lead_key lead))) f)) }
+        ensures { IfSome (receipt_known result) (λ x. (x.outcome ≡ outcome) × (arc_value x.key ≡ lead_key lead)) }
+    {
+        let mut home = self.home.lock(rt);
+        let landing = land(&mut *home, lead, outcome, origin);
+        drop(home);
+        self.tell(rt, landing)
+    }
+
+    /// The leader of a flight looks again: what the flight ended with, where a value is kept by now or memory is wanting. Else the
+    /// lead back.
+    pub(crate) fn look<R: Wait>(
+        &self,
+        rt: &R,
+        lead: Lead<K, J>,
+    ) -> Result<Receipt<K, J>, Lead<K, J>>
+        ensures ended { IfOk result (λ r. IfSome (receipt_known r) (λ x. arc_value x.key ≡ lead_key lead)) }
+        ensures back { IfErr result (λ l. (lead_key l ≡ lead_key lead) × (lead_class l ≡ lead_class lead)) }
+    {
+        match self.again(rt, &lead) {
+            Err(_) => Ok(self.finish(rt, lead, Err(Fault::NoMemory), Origin::Flight)),
+            Ok(Some(value)) => Ok(self.finish(rt, lead, Ok(value), Origin::Flight)),
+            Ok(None) => Err(lead),
+        }
+    }
+}

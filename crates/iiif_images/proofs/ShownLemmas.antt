@@ -1,0 +1,144 @@
+-- The picture that a layout shows in bytes.
+use Rattle.std.proofs.Common.{◌≡◌, ℕ, ◌+◌, ◌*◌, ◌≤◌, ◌⊎◌, ◌∙◌, Bool, true, false, List, All, Some, Option, length, drop, refl, sym, ap, subst, inl, inr, arith, ◌==◌, if◌then◌else◌}
+use Rattle.std.specs.Prelude.{slice_index, unwrap_or}
+use Rattle.std.specs.Int.{w16}
+use Rattle.std.proofs.Props.{props}
+use Rattle.std.proofs.lemmas.Bool.{cases_lt}
+use Rattle.std.proofs.lemmas.List.{get_or_past, get_or-drop}
+use Rattle.std.proofs.lemmas.List.Elements.{All-get_or}
+use Rattle.iiif_pixel.specs.Geometry.{channels_of, top_of}
+use Rattle.iiif_pixel.specs.Operations.{crop}
+use Rattle.iiif_pixel.specs.Picture.{Picture, dim_of, picture_of}
+use Rattle.iiif_pixel.specs.declared.geometry.Dim.{Dim}
+use Rattle.iiif_pixel.specs.declared.geometry.Kind.{Kind}
+use Rattle.iiif_pixel.proofs.SampleLists.{sample_at-picture_of}
+use Rattle.iiif_pixel.proofs.Seen.{one_or_three}
+use Rattle.iiif_pixel.proofs.Whole.{whole_picture_of}
+use Rattle.iiif_tiff.specs.Tiff.{Order, Little, Big, IsReadable, Scheme, Shows, scheme, number, stored, stored_sample, sample_of, shown, white_of}
+use Rattle.iiif_tiff.proofs.OnePicture.{stored-le}
+use Rattle.iiif_tiff_read.specs.Layouts as layouts
+use Rattle.iiif_keys.specs.Names.{Pictures, named, no_picture, IsSource}
+use Rattle.iiif_keys.specs.Blocks.{tile_of}
+use Rattle.iiif_keys.specs.Meaning.{tile_meaning}
+use Rattle.iiif_keys.specs.Shapes.{shape_of}
+use Rattle.iiif_keys.specs.declared.keys.Shape.{Shape}
+use Rattle.iiif_keys.specs.declared.keys.TileKey.{TileKey}
+use Rattle.iiif_keys.specs.declared.values.TileVal.{TileVal}
+use Rattle.iiif_keys.proofs.Shaped.{depth_with_top, kind_with_channels, shape_is}
+use Rattle.iiif_images.specs.Collection.{Item}
+use Rattle.iiif_images.specs.Named.{picture_in}
+
+-- ---- Samples are not above white, whatever the bytes are
+
+byte_at : (bytes : List ℕ) → All (λ b. b ≤ 255) bytes → (i : ℕ) → slice_index bytes i ≤ 255
+byte_at bytes all i = elim (cases_lt i (length bytes)) [
+  | inl inside ↦ All-get_or (λ b. b ≤ 255) bytes i 0 inside all
+  | inr past ↦ rw (get_or_past bytes i 0 past) (omega arith)
+]
+
+byte_behind : (bytes : List ℕ) (at i : ℕ) → All (λ b. b ≤ 255) bytes → slice_index (drop at bytes) i ≤ 255
+byte_behind bytes at i all = rw (get_or-drop at bytes i 0) (byte_at bytes all (at + i))
+
+number-le : (o : Order) (bytes : List ℕ) (at : ℕ) → All (λ b. b ≤ 255) bytes → number o w16 bytes at ≤ 65535
+number-le Little bytes at all = omega (arith, byte_behind bytes at 0 all, byte_behind bytes at 1 all)
+number-le Big bytes at all = omega (arith, byte_behind bytes at 0 all, byte_behind bytes at 1 all)
+
+stored_sample-le : (o : Order) (bits : ℕ) (bytes : List ℕ) (row n : ℕ) → All (λ b. b ≤ 255) bytes → stored_sample o bits bytes row n ≤ white_of bits
+stored_sample-le o bits bytes row n all = elim (bits == 16) as (λ b. (if b then number o w16 bytes (row + 2 * n) else stored bits bytes row n) ≤ (if b then 65535 else 255)) [
+  | true ↦ number-le o bytes (row + 2 * n) all
+  | false ↦ stored-le bits bytes row n all
+]
+
+sample_of-le : (white_is_zero : Bool) (white v : ℕ) → v ≤ white → sample_of white_is_zero white v ≤ white
+sample_of-le true white v le = omega arith
+sample_of-le false white v le = le
+
+shown-le : (bytes : List ℕ) (s : Scheme) (x y k : ℕ) → All (λ b. b ≤ 255) bytes → shown bytes s x y k ≤ white_of s.bits
+unfolding shown
+shown-le bytes s x y k all = sample_of-le s.white_is_zero (white_of s.bits) _ (stored_sample-le s.order s.bits bytes _ _ all)
+
+one_of : (b : Bool) (m n : ℕ) → ((if b then m else n) ≡ n) ⊎ ((if b then m else n) ≡ m)
+one_of true m n = inr refl
+one_of false m n = inl refl
+
+white_is : (bits : ℕ) → (white_of bits ≡ 255) ⊎ (white_of bits ≡ 65535)
+white_is bits = one_of (bits == 16) 65535 255
+
+-- ---- The picture that is seen in bytes
+
+abbrev seen : List ℕ → Scheme → Picture
+seen bytes s = picture_of s.width s.height s.channels (white_of s.bits) (shown bytes s)
+
+abbrev dim_made : ℕ → ℕ → Dim
+dim_made w h = record { w = w; h = h }
+
+same_made : (a b c d : ℕ) → a ≡ b → c ≡ d → dim_made a c ≡ dim_made b d
+same_made a b c d p q = cc
+
+same_dim : (d e : Dim) → d.w ≡ e.w → d.h ≡ e.h → d ≡ e
+same_dim d e p q = same_made _ _ _ _ p q
+
+-- it is one that a source holds
+seen_source : (bytes : List ℕ) (s : Scheme) (d : Dim) → All (λ b. b ≤ 255) bytes → (s.channels ≡ 1) ⊎ (s.channels ≡ 3) → d.w ≡ s.width → d.h ≡ s.height → IsReadable d → IsSource (seen bytes s)
+seen_source bytes s d all channels w h limits = record {
+  whole = whole_picture_of s.width s.height s.channels (white_of s.bits) (shown bytes s) channels (white_is s.bits) (λ x y k lx ly lk. shown-le bytes s x y k all);
+  readable = subst IsReadable (same_dim d (dim_made s.width s.height) w h) limits;
+}
+
+shows_own : (bytes : List ℕ) → IsSource (seen bytes (scheme bytes)) → Shows bytes (seen bytes (scheme bytes))
+shows_own bytes p =
+    let s = scheme bytes in
+    record {
+      width_is = refl;
+      height_is = refl;
+      channels_is = refl;
+      top_is = refl;
+      whole = p.whole;
+      places = λ x y k lx ly lk. sample_at-picture_of s.width s.height s.channels (white_of s.bits) (shown bytes s) x y k lx ly lk;
+    }
+
+-- and where the layout is that of the bytes, they show it
+seen_shows : (bytes : List ℕ) (s : Scheme) → s ≡ scheme bytes → IsSource (seen bytes s) → Shows bytes (seen bytes s)
+seen_shows bytes s e p =
+    subst (λ (t : Scheme). IsSource (seen bytes t) → Shows bytes (seen bytes t)) (sym e) (shows_own bytes) p
+
+module _ {S : Type 0} (bytes : S → List ℕ) (item : Item S) where
+  -- the shape of an image's picture
+  pub picture_shape : (s : Shape) → s.dim.w ≡ item.layout.width → s.dim.h ≡ item.layout.height → channels_of s.kind ≡ item.layout.channels → top_of s.depth ≡ white_of item.layout.bits
+      → shape_of (picture_in bytes item) ≡ s
+  unfolding picture_in
+  picture_shape s w h channels top = shape_is (seen (bytes item.source) item.layout) s (same_dim _ s.dim (sym w) (sym h)) (sym channels) (sym top)
+
+  pub picture_source : All (λ b. b ≤ 255) (bytes item.source) → (kind : Kind) → channels_of kind ≡ item.layout.channels → (d : Dim) → d.w ≡ item.layout.width → d.h ≡ item.layout.height
+      → IsReadable d → IsSource (picture_in bytes item)
+  unfolding picture_in
+  picture_source all kind channels d w h limits =
+      seen_source (bytes item.source) item.layout d all (subst (λ n. (n ≡ 1) ⊎ (n ≡ 3)) channels (one_or_three kind)) w h limits
+
+  -- and what a shape says of its layout
+  pub picture_dim : (s : Shape) → shape_of (picture_in bytes item) ≡ s → s.dim ≡ layouts.dim_of item.layout
+  unfolding picture_in
+  picture_dim s shape = ap (λ (u : Shape). u.dim) (sym shape)
+
+  pub picture_kind : (s : Shape) → shape_of (picture_in bytes item) ≡ s → IsSource (picture_in bytes item) → channels_of s.kind ≡ item.layout.channels
+  unfolding picture_in
+  picture_kind s shape source = ap (λ (u : Shape). channels_of u.kind) (sym shape) ∙ kind_with_channels item.layout.channels source.whole.channels
+
+  pub picture_depth : (s : Shape) → shape_of (picture_in bytes item) ≡ s → IsSource (picture_in bytes item) → top_of s.depth ≡ white_of item.layout.bits
+  unfolding picture_in
+  picture_depth s shape source = ap (λ (u : Shape). top_of u.depth) (sym shape) ∙ depth_with_top (white_of item.layout.bits) source.whole.top
+
+  pub picture_shows : item.layout ≡ scheme (bytes item.source) → IsSource (picture_in bytes item) → Shows (bytes item.source) (picture_in bytes item)
+  unfolding picture_in
+  picture_shows e p = seen_shows (bytes item.source) item.layout e p
+
+-- two tiles are equal in one way
+pub tile_val_prop : (v w : TileVal) → IsProp (v ≡ w)
+tile_val_prop v w = hlevel props
+
+pub tile_is : (shows : Pictures) (k : TileKey) (p : Picture) (s : Shape) (v : TileVal) → shows k.name ≡ Some p → shape_of p ≡ s → v.raster ≡ crop p (tile_of s.dim k)
+    → v ≡ tile_meaning shows k
+tile_is shows k p s v known shape made =
+    let is : named shows k.name ≡ p = ap (λ (o : Option Picture). unwrap_or o no_picture) known in
+    ap (λ (r : Picture). let t : TileVal = record { raster = r } in t)
+    (made ∙ ap (λ (u : Shape). crop p (tile_of u.dim k)) (sym shape) ∙ ap (λ (q : Picture). crop q (tile_of (dim_of q) k)) (sym is))

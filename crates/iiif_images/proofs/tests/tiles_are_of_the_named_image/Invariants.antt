@@ -1,0 +1,19 @@
+use Rattle.std.proofs.Common.{◌==◌}
+use Rattle.std.specs.Prelude.{false, ◌||◌}
+use Rattle.iiif_source.specs.Cause.{fuse}
+use Rattle.iiif_images.specs.Named.{gave_of, pictures_of}
+use Rattle.iiif_images.proofs.tests.tiles_are_of_the_named_image.Given as goal
+
+-- what the catalogue shows
+abbrev pub ghosts-tiles_are : goal.ghosts-tiles_are
+ghosts-tiles_are g a = record {
+  pictures = pictures_of (λ s. s) a.catalogue;
+  edge = 2;
+  gave = gave_of (λ s f. false || f.cause == fuse) a.catalogue;
+  stable = λ n. Unit {0};
+  honest = false;
+  tiles_name = 0;
+  tiles_parts = 0;
+  sums_name = 0;
+  sums_parts = 0;
+}

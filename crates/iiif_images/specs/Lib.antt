@@ -1,0 +1,4 @@
+pub mod Collection
+pub mod Items
+pub mod Named
+pub mod Faults

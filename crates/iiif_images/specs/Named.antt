@@ -1,0 +1,36 @@
+-- What the names of a catalogue stand for.
+use Rattle.std.specs.Prelude.{◌≡◌, ℕ, Bool, false, List, Option, None, Some, option_map}
+use Rattle.iiif_pixel.specs.Picture.{Picture, picture_of}
+use Rattle.iiif_source.specs.declared.ReadFault.{ReadFault}
+use Rattle.iiif_tiff.specs.Tiff.{shown, white_of}
+use Rattle.iiif_keys.specs.Names.{Pictures, IsSource}
+use Rattle.iiif_images.specs.Collection.{Item, item_named}
+
+-- The picture that an image's layout shows in the bytes of its source: TIFF 6.0, sections 3 to 8 and 15. Of a source whose bytes
+-- may change it is some picture with the sides, the channels and the depth that the file said.
+unfoldable pub picture_in : {S : Type 0} → (S → List ℕ) → Item S → Picture
+picture_in bytes item =
+    let l = item.layout in
+    picture_of l.width l.height l.channels (white_of l.bits) (shown (bytes item.source) l)
+
+-- the picture of each name
+abbrev pub pictures_of : {S : Type 0} → (S → List ℕ) → List (Item S) → Pictures
+pictures_of bytes items name = option_map (picture_in bytes) (item_named items name)
+
+-- the faults that an image's source gave, where there is an image
+unfoldable pub given_by : {S : Type 0} → (S → ReadFault → Bool) → Option (Item S) → ReadFault → Bool
+given_by gave None f = false
+given_by gave (Some item) f = gave item.source f
+
+-- the faults that the source of each name gave
+abbrev pub gave_of : {S : Type 0} → (S → ReadFault → Bool) → List (Item S) → List ℕ → ReadFault → Bool
+gave_of gave items name f = given_by gave (item_named items name) f
+
+-- The image is the one that a name stands for, where names have these pictures, their sources gave these faults, and these are
+-- stable.
+pub record IsImageOf {S : Type 0} (shows : Pictures) (gave : List ℕ → ReadFault → Bool) (stable : List ℕ → Type 0) (bytes : S → List ℕ)
+    (source_gave : S → ReadFault → Bool) (keeps : S → Type 0) (name : List ℕ) (item : Item S) : Type 0 where
+  pub picture : shows name ≡ Some (picture_in bytes item)
+  pub source : IsSource (picture_in bytes item)
+  pub gave_is : (f : ReadFault) → gave name f ≡ source_gave item.source f
+  pub kept : stable name → ∥ keeps item.source ∥₁

@@ -1,0 +1,115 @@
+//! The images that a node has, by their names.
+
+ghost use Rattle.std.specs.Prelude.{◌≡◌, ◌++◌, ◌∷◌, [], None, is_some, length, OnOk, OnErr, option_map, string_bytes};
+ghost use Rattle.iiif_tiff.specs.Tiff.{refusal_of, scheme};
+ghost use Rattle.iiif_tiff_read.specs.Layouts.{FitsIn};
+ghost use Rattle.iiif_images.specs.Collection.{item_named, number_of, Takes};
+ghost use Rattle.iiif_images.specs.Items.{item_of};
+
+use crate::entry::Entry;
+use iiif_keys::{Name, is_name};
+use iiif_source::Source;
+use iiif_tiff_read::Layout;
+use std::alloc::Global;
+use std::marker::{Model, PhantomData};
+use thiserror::Error;
+
+/// Why an image isn't taken in: its name's length, a name that is there already, or want of memory.
+#[derive(Clone, Copy, Debug, PartialEq, Eq, Error)]
+pub enum AddFault {
+    #[error("a name has 1 to 1,024 bytes")]
+    Name,
+    #[error("there is an image of that name")]
+    Twice,
+    #[error("out of memory")]
+    NoMemory,
+}
+
+impl AddFault {
+    /// The number by which the fault is known outside, 1 to 3.
+    pub const fn number(self) -> u8
+        ensures { result ≡ number_of self }
+    {
+        match self {
+            AddFault::Name => 1,
+            AddFault::Twice => 2,
+            AddFault::NoMemory => 3,
+        }
+    }
+}
+
+/// Images with names of their own. Clauses see them in the order in which they were taken in.
+#[derive(Drop)]
+pub struct Catalogue<R, S: Source<R>> {
+    entries: Vec<Entry<R, S>>,
+}
+
+impl<R, S: Source<R>> Model for Catalogue<R, S> {
+    ghost use Rattle.std.specs.Prelude.{List, map};
+    ghost use Rattle.iiif_images.specs.Collection.{Item};
+
+    ghost Value = { List (Item S) };
+
+    ghost use Rattle.iiif_images.specs.Items.{item_of};
+
+    ghost view = { λ c. map item_of c.entries.items };
+}
+
+impl<R, S: Source<R> + Drop> Catalogue<R, S> {
+    /// No image.
+    pub fn new(alloc: Global) -> Catalogue<R, S>
+        ensures { result ≡ [] }
+    {
+        Catalogue {
+            entries: Vec::new(alloc),
+        }
+    }
+
+    /// Whether there is an image of a name.
+    pub fn has(&self, name: &str) -> bool
+        ensures { result ≡ is_some (item_named self.now name.now) }
+    {
+        self.find(name).is_some()
+    }
+
+    /// Takes in an image: a name of 1 to 1,024 bytes that isn't there yet, a source, and the layout that was opened from it.
+    /// A source and layout that aren't taken in are dropped.
+    #[tactic(auto, unfolding(crate::specs::Collection::refusal_of_name))]
+    pub fn add(&mut self, name: String, source: S, layout: Layout) -> Result<(), AddFault>
+        requires in_file { FitsIn layout (length (S.bytes source)) }
+        requires accepted { S.keeps source → refusal_of (S.bytes source) ≡ None }
+        requires shown { S.keeps source → layout ≡ scheme (S.bytes source) }
+        ensures ok { OnOk result (self.new ≡ self.old ++ (record { name = string_bytes name; source = source; layout = layout }) ∷ []) }
+        ensures err { OnErr result (self.new ≡ self.old) }
+        ensures takes { Takes self.old (string_bytes name) result }
+    {
+        if !is_name(name.as_str()) {
+            return Err(AddFault::Name);
+        }
+        if self.has(name.as_str()) {
+            return Err(AddFault::Twice);
+        }
+        let Ok(name) = Name::new(name) else {
+            return Err(AddFault::NoMemory);
+        };
+        let entry = Entry {
+            name,
+            source,
+            layout,
+            of: PhantomData,
+        };
+        match self.entries.push(entry) {
+            Ok(()) => Ok(()),
+            Err(_) => Err(AddFault::NoMemory),
+        }
+    }
+
+    /// The image of a name.
+    pub fn find(&self, name: &str) -> Option<&Entry<R, S>>
+        ensures { option_map (λ e. item_of e.now) result ≡ item_named self.now name.now }
+    {
+        self.entries
+            .iter()
+            .find(|entry| entry.name.as_str() == name)
+    }
+}

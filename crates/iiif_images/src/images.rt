@@ -1,0 +1,151 @@
+//! The images that a node has, and tiles read from their sources.
+
+ghost use Rattle.std.specs.Prelude.{◌≡◌, ℕ, List, Some, IfOk, IfErr, IsTrue};
+ghost use Rattle.iiif_pixel.specs.Geometry.{channels_of};
+ghost use Rattle.iiif_source.specs.declared.ReadFault.{ReadFault};
+ghost use Rattle.iiif_keys.specs.Blocks.{NamesPart, TileFitsIn};
+ghost use Rattle.iiif_keys.specs.Meaning.{tile_is_shaped, tile_meaning};
+ghost use Rattle.iiif_keys.specs.Names.{named, IsSource};
+ghost use Rattle.iiif_keys.specs.Shapes.{shape_of, HasPicture};
+ghost use Rattle.iiif_outcome.specs.Outcomes.{is_given};
+ghost use Rattle.iiif_images.specs.Collection.{Item, item_named};
+ghost use Rattle.iiif_images.specs.Faults.{IsKeyFault, IsLoadFault};
+ghost use Rattle.iiif_images.specs.Items.{item_of};
+ghost use Rattle.iiif_images.specs.Named.{gave_of, picture_in, pictures_of, IsImageOf};
+
+use crate::catalogue::Catalogue;
+use crate::entry::Entry;
+use iiif_keys::{CacheKey, Fault, Shape, System, TileKey, TileVal};
+use iiif_source::Source;
+use iiif_tiff_read::LoadFault;
+use std::alloc::Global;
+use std::marker::PhantomData;
+
+/// A catalogue, and the side of a tile. J says what its names stand for: the pictures that its sources show, the faults that these
+/// gave, and which of them are stable.
+#[derive(Drop)]
+pub struct Images<R, S: Source<R>, J: System> {
+    catalogue: Catalogue<R, S>,
+    edge: u32,
+    alloc: Global,
+    of: PhantomData<J>,
+    pub ghost pictures: { (name : List ℕ) → J.pictures name ≡ pictures_of S.bytes catalogue name },
+    pub ghost gave: { (name : List ℕ) (f : ReadFault) → J.gave name f ≡ gave_of S.gave catalogue name f },
+    pub ghost stable: { (name : List ℕ) (item : Item S) → item_named catalogue name ≡ Some item → J.stable name → ∥ S.keeps item.source ∥₁ },
+    pub ghost edge_is: { edge ≡ J.edge },
+}
+
+impl<R, S: Source<R> + Drop, J: System> Images<R, S, J> {
+    ghost use Rattle.iiif_pixel.specs.Operations.{crop};
+    ghost use Rattle.iiif_keys.specs.Blocks.{tile_of};
+    ghost use Rattle.iiif_keys.specs.Meaning.{TileHasShape};
+    ghost use Rattle.iiif_pixel.specs.Geometry.{top_of};
+    ghost use Rattle.iiif_tiff.specs.Tiff.{white_of};
+    ghost use Rattle.iiif_tiff_read.specs.Layouts as layouts;
+
+    /// A catalogue at this edge, where the names stand for what it has.
+    pub fn new(alloc: Global, catalogue: Catalogue<R, S>, edge: u32) -> Images<R, S, J>
+        requires pictures { (name : List ℕ) → J.pictures name ≡ pictures_of S.bytes catalogue name }
+        requires gave { (name : List ℕ) (f : ReadFault) → J.gave name f ≡ gave_of S.gave catalogue name f }
+        requires stable { (name : List ℕ) (item : Item S) → item_named catalogue name ≡ Some item → J.stable name → ∥ S.keeps item.source ∥₁ }
+        requires edge { edge ≡ J.edge }
+    {
+        Images {
+            catalogue,
+            edge,
+            alloc,
+            of: PhantomData,
+        }
+    }
+
+    /// The catalogue.
+    pub fn catalogue(&self) -> &Catalogue<R, S>
+        ensures pictures { (name : List ℕ) → J.pictures name ≡ pictures_of S.bytes result.now name }
+        ensures gave { (name : List ℕ) (f : ReadFault) → J.gave name f ≡ gave_of S.gave result.now name f }
+        ensures stable { (name : List ℕ) (item : Item S) → item_named result.now name ≡ Some item → J.stable name → ∥ S.keeps item.source ∥₁ }
+    {
+        &self.catalogue
+    }
+
+    /// The side of a tile, in places.
+    pub fn edge(&self) -> u32
+        ensures { result ≡ J.edge }
+    {
+        self.edge
+    }
+
+    /// The image of a key that names something, and its shape. It takes no memory.
+    pub fn image_of<K: CacheKey>(&self, key: &K) -> Result<(&Entry<R, S>, Shape), Fault>
+        ensures image { IfOk result (λ r. IsImageOf J.pictures J.gave J.stable S.bytes S.gave S.keeps (K.name_of key.now) (item_of r.0.now)) }
+        ensures shape { IfOk result (λ r. shape_of (picture_in S.bytes (item_of r.0.now)) ≡ r.1) }
+        ensures known { IfOk result (λ r. HasPicture J.pictures (K.name_of key.now) r.1) }
+        ensures source { IfOk result (λ r. IsSource (named J.pictures (K.name_of key.now))) }
+        ensures fits { IfOk result (λ r. K.fits_in r.1 key.now) }
+        ensures names { IfOk result (λ r. NamesPart J.pictures J.edge (K.name_of key.now) (K.edge_of key.now) (λ s. K.fits_in s key.now)) }
+        ensures refused { IfErr result (IsKeyFault J.pictures J.edge (K.name_of key.now) (K.edge_of key.now) (λ s. K.fits_in s key.now)) }
+    {
+        let Some(entry) = self.catalogue.find(key.name().as_str()) else {
+            return Err(Fault::UnknownName);
+        };
+        let shape = entry.shape();
+        if !key.fits(self.edge, &shape) {
+            return Err(Fault::BadKey);
+        }
+        Ok((entry, shape))
+    }
+
+    /// A tile, read from its image's source.
+    fn read(
+        &self,
+        rt: &R,
+        entry: &Entry<R, S>,
+        shape: &Shape,
+        key: &TileKey,
+    ) -> Result<TileVal, Fault>
+        requires source { IsSource (picture_in S.bytes (item_of entry.now)) }
+        requires dim { shape.now.dim ≡ layouts.dim_of entry.now.layout }
+        requires kind { channels_of shape.now.kind ≡ entry.now.layout.channels }
+        requires depth { top_of shape.now.depth ≡ white_of entry.now.layout.bits }
+        requires fits { TileFitsIn shape.now.dim (channels_of shape.now.kind) key.now }
+        ensures crop { IfOk result (λ v. S.keeps entry.now.source → v.raster ≡ crop (picture_in S.bytes (item_of entry.now)) (tile_of shape.now.dim key.now)) }
+        ensures shaped { IfOk result (TileHasShape shape.now key.now) }
+        ensures fault { IfErr result (λ f. IsTrue (is_given (S.gave entry.now.source) f)) }
+    {
+        let at = key.rect_in(shape.dim);
+        match entry.layout.read_rect(rt, self.alloc, &entry.source, at) {
+            Ok(raster) => Ok(TileVal { raster }),
+            Err(LoadFault::Source(fault)) => Err(Fault::Source(fault)),
+            Err(LoadFault::NoMemory) => Err(Fault::NoMemory),
+        }
+    }
+
+    /// The tile that a key names, of the image that `image_of` gave for it.
+    pub fn made(
+        &self,
+        rt: &R,
+        entry: &Entry<R, S>,
+        shape: &Shape,
+        key: &TileKey,
+    ) -> Result<TileVal, Fault>
+        requires image { IsImageOf J.pictures J.gave J.stable S.bytes S.gave S.keeps key.now.name (item_of entry.now) }
+        requires shape { shape_of (picture_in S.bytes (item_of entry.now)) ≡ shape.now }
+        requires fits { TileFitsIn shape.now.dim (channels_of shape.now.kind) key.now }
+        ensures meant { J.stable key.now.name → IfOk result (λ v. v ≡ tile_meaning J.pictures key.now) }
+        ensures shaped { IfOk result (λ v. IsTrue (tile_is_shaped J.pictures key.now v)) }
+        ensures given { IfErr result (λ f. IsTrue (is_given (J.gave key.now.name) f)) }
+    {
+        TileKey::laws();
+        self.read(rt, entry, shape, key)
+    }
+
+    /// The tile that a key names, from its image's source.
+    pub fn load(&self, rt: &R, key: &TileKey) -> Result<TileVal, Fault>
+        ensures meant { J.stable key.now.name → IfOk result (λ v. v ≡ tile_meaning J.pictures key.now) }
+        ensures shaped { IfOk result (λ v. IsTrue (tile_is_shaped J.pictures key.now v)) }
+        ensures names { IfOk result (λ v. NamesPart J.pictures J.edge key.now.name key.now.edge (λ s. TileFitsIn s.dim (channels_of s.kind) key.now)) }
+        ensures fault { IfErr result (IsLoadFault J.pictures J.edge key.now.name key.now.edge (λ s. TileFitsIn s.dim (channels_of s.kind) key.now) (J.gave key.now.name)) }
+    {
+        let (entry, shape) = self.image_of(key)?;
+        self.made(rt, entry, &shape, key)
+    }
+}

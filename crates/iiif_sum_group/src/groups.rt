@@ -1,0 +1,122 @@
+//! Tiles and sums of the images that a node has.
+
+ghost use Rattle.std.specs.Prelude.{◌≡◌, ◌+◌, ◌≤◌, IfErr, IfOk, IfSome, IsTrue, OnErr, OnOk};
+ghost use Rattle.std.specs.Arc.{arc_value};
+ghost use Rattle.iiif_pixel.specs.Geometry.{channels_of};
+ghost use Rattle.iiif_keys.specs.Blocks.{NamesPart, SumFitsIn};
+ghost use Rattle.iiif_keys.specs.Meaning.{sum_is_shaped, sum_meaning};
+ghost use Rattle.iiif_outcome.specs.Views.{receipt_known};
+ghost use Rattle.iiif_group.specs.Beginning.{OutcomeIs};
+ghost use Rattle.iiif_images.specs.Faults.{IsGetFault, IsLoadFault};
+
+use crate::passes::{Passes, SumCalls};
+use iiif_group::{Begun, Gate, Group, Link};
+use iiif_keys::{Fault, SumKey, SumVal, System, TileKey};
+use iiif_outcome::Receipt;
+use iiif_source::Source;
+use iiif_tile_group::{TileCalls, Tiles};
+use std::alloc::Global;
+use std::sync::Wait;
+use std::sync::ledger::Ledger;
+
+/// Tiles and sums of the images that a node has, shared by all that ask. J says what the names of the images stand for, and which
+/// ledgers count the calls; N is the way to other nodes, and T what each load passes.
+#[derive(Drop)]
+pub struct Groups<R, S: Source<R>, J: System, N, T>
+where
+    TileCalls<J>: Ledger,
+    SumCalls<J>: Ledger,
+{
+    pub(crate) tiles: Tiles<R, S, J, N, T>,
+    pub(crate) sums: Group<SumKey, J, SumCalls<J>, N, T>,
+    pub(crate) alloc: Global,
+}
+
+impl<R, S: Source<R> + Drop, J: System, N, T> Groups<R, S, J, N, T> {
+    pub fn new(
+        alloc: Global,
+        tiles: Tiles<R, S, J, N, T>,
+        sums: Group<SumKey, J, SumCalls<J>, N, T>,
+    ) -> Groups<R, S, J, N, T> {
+        Groups { tiles, sums, alloc }
+    }
+
+    /// The tiles.
+    pub fn tiles(&self) -> &Tiles<R, S, J, N, T> {
+        &self.tiles
+    }
+
+    /// The group of the sums.
+    pub fn sums(&self) -> &Group<SumKey, J, SumCalls<J>, N, T> {
+        &self.sums
+    }
+}
+
+impl<
+    R: Wait,
+    S: Source<R> + Drop,
+    J: System,
+    N: Link<TileKey, J, R> + Link<SumKey, J, R>,
+    T: Gate<R>,
+> Groups<R, S, J, N, T> {
+    /// The sums that a key names, made of the sums and the tiles below it. They aren't kept; those below are asked of the groups.
+    pub fn load(&self, rt: &R, passes: &mut Passes<J>, key: &SumKey) -> Result<SumVal, Fault>
+        ensures meant { J.stable key.now.name → IsTrue J.honest → IfOk result (λ v. v ≡ sum_meaning J.pictures key.now) }
+        ensures shaped { IfOk result (λ v. IsTrue (sum_is_shaped J.pictures key.now v)) }
+        ensures names { IfOk result (λ v. NamesPart J.pictures J.edge key.now.name key.now.edge (λ s. SumFitsIn s.dim (channels_of s.kind) key.now)) }
+        ensures fault { IfErr result (IsLoadFault J.pictures J.edge key.now.name key.now.edge (λ s. SumFitsIn s.dim (channels_of s.kind) key.now) (J.gave key.now.name)) }
+        ensures counted { (passes.old.tile.gets ≤ passes.new.tile.gets) × (passes.old.sum.gets ≤ passes.new.sum.gets) }
+        ensures parts { (passes.new.tile.parts ≡ passes.old.tile.parts) × (passes.new.sum.parts ≡ passes.old.sum.parts) }
+    {
+        let (_entry, shape) = self.tiles.images().image_of(key)?;
+        self.made(rt, passes, &shape, key)
+    }
+
+    /// What a flight of the key ended with: the sums that it names, or a fault of its source or want of memory. Where another node
+    /// owns the key, that node is asked first.
+    pub fn get(
+        &self,
+        rt: &R,
+        passes: &mut Passes<J>,
+        key: &SumKey,
+    ) -> Result<Receipt<SumKey, J>, Fault>
+        ensures outcome { IfOk result (λ r. IfSome (receipt_known r) (λ x. (arc_value x.key ≡ key.now)
+            × OutcomeIs (J.stable key.now.name) J.honest (sum_meaning J.pictures key.now) (sum_is_shaped J.pictures key.now) (J.gave key.now.name) x.outcome)) }
+        ensures risen { OnOk result (passes.old.sum.gets + 1 ≤ passes.new.sum.gets) }
+        ensures refused { OnErr result ((passes.new.tile.gets ≡ passes.old.tile.gets) × (passes.new.sum.gets ≡ passes.old.sum.gets)) }
+        ensures counted { (passes.old.tile.gets ≤ passes.new.tile.gets) × (passes.old.sum.gets ≤ passes.new.sum.gets) }
+        ensures parts { (passes.new.tile.parts ≡ passes.old.tile.parts) × (passes.new.sum.parts ≡ passes.old.sum.parts) }
+        ensures names { IfOk result (λ r. NamesPart J.pictures J.edge key.now.name key.now.edge (λ s. SumFitsIn s.dim (channels_of s.kind) key.now)) }
+        ensures fault { IfErr result (IsGetFault J.pictures J.edge key.now.name key.now.edge (λ s. SumFitsIn s.dim (channels_of s.kind) key.now)) }
+    {
+        let (_entry, shape) = self.tiles.images().image_of(key)?;
+        self.part(rt, passes, &shape, key)
+    }
+
+    /// The same by this node alone, whoever owns the key; the owners of its parts are asked. So is served what another node asks.
+    pub fn get_local(
+        &self,
+        rt: &R,
+        passes: &mut Passes<J>,
+        key: &SumKey,
+    ) -> Result<Receipt<SumKey, J>, Fault>
+        ensures outcome { IfOk result (λ r. IfSome (receipt_known r) (λ x. (arc_value x.key ≡ key.now)
+            × OutcomeIs (J.stable key.now.name) J.honest (sum_meaning J.pictures key.now) (sum_is_shaped J.pictures key.now) (J.gave key.now.name) x.outcome)) }
+        ensures risen { OnOk result (passes.old.sum.gets + 1 ≤ passes.new.sum.gets) }
+        ensures refused { OnErr result ((passes.new.tile.gets ≡ passes.old.tile.gets) × (passes.new.sum.gets ≡ passes.old.sum.gets)) }
+        ensures counted { (passes.old.tile.gets ≤ passes.new.tile.gets) × (passes.old.sum.gets ≤ passes.new.sum.gets) }
+        ensures parts { (passes.new.tile.parts ≡ passes.old.tile.parts) × (passes.new.sum.parts ≡ passes.old.sum.parts) }
+        ensures names { IfOk result (λ r. NamesPart J.pictures J.edge key.now.name key.now.edge (λ s. SumFitsIn s.dim (channels_of s.kind) key.now)) }
+        ensures fault { IfErr result (IsGetFault J.pictures J.edge key.now.name key.now.edge (λ s. SumFitsIn s.dim (channels_of s.kind) key.now)) }
+    {
+        let (_entry, shape) = self.tiles.images().image_of(key)?;
+        match self.sums.begin_local(rt, &mut passes.sum, key) {
+            Ok(Begun::Known(receipt)) => Ok(receipt),
+            Ok(Begun::Load(load)) => {
+                let made = self.made(rt, passes, &shape, key);
+                Ok(self.end(rt, load, key, made))
+            }
+            Err(_) => Err(Fault::NoMemory),
+        }
+    }
+}

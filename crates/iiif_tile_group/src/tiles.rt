@@ -1,0 +1,154 @@
+//! Tiles, loaded from their sources or shared by a group.
+
+ghost use Rattle.std.specs.Prelude.{◌≡◌, ◌+◌, ◌≤◌, IfOk, IfErr, IfSome, IsTrue, OnErr, OnOk};
+ghost use Rattle.std.specs.Arc.{arc_value};
+ghost use Rattle.std.specs.Result.{ForOk, ForErr};
+ghost use Rattle.iiif_pixel.specs.Geometry.{channels_of};
+ghost use Rattle.iiif_keys.specs.Blocks.{NamesPart, TileFitsIn};
+ghost use Rattle.iiif_keys.specs.Meaning.{tile_is_shaped, tile_meaning};
+ghost use Rattle.iiif_keys.specs.Shapes.{shape_of};
+ghost use Rattle.iiif_outcome.specs.Outcomes.{is_given};
+ghost use Rattle.iiif_outcome.specs.Views.{receipt_known};
+ghost use Rattle.iiif_group.specs.Beginning.{OutcomeIs};
+ghost use Rattle.iiif_images.specs.Faults.{IsGetFault, IsLoadFault};
+ghost use Rattle.iiif_images.specs.Items.{item_of};
+ghost use Rattle.iiif_images.specs.Named.{picture_in, IsImageOf};
+
+use crate::calls::TileCalls;
+use iiif_group::{Begun, Gate, Group, Link, boxed};
+use iiif_images::{Entry, Images};
+use iiif_keys::{Fault, Shape, System, TileKey, TileVal};
+use iiif_outcome::Receipt;
+use iiif_singleflight::Pass;
+use iiif_source::Source;
+use std::alloc::Global;
+use std::sync::ledger::Ledger;
+use std::sync::{Arc, Wait};
+
+/// Tiles of the images that a node has, shared by all that ask. J says what the names of the images stand for, and which ledger
+/// counts the calls; N is the way to other nodes, and T what each load passes.
+#[derive(Drop)]
+pub struct Tiles<R, S: Source<R>, J: System, N, T>
+where
+    TileCalls<J>: Ledger,
+{
+    images: Images<R, S, J>,
+    group: Group<TileKey, J, TileCalls<J>, N, T>,
+    alloc: Global,
+}
+
+impl<R, S: Source<R> + Drop, J: System, N, T> Tiles<R, S, J, N, T> {
+    pub fn new(
+        alloc: Global,
+        images: Images<R, S, J>,
+        group: Group<TileKey, J, TileCalls<J>, N, T>,
+    ) -> Tiles<R, S, J, N, T> {
+        Tiles {
+            images,
+            group,
+            alloc,
+        }
+    }
+
+    /// The images.
+    pub fn images(&self) -> &Images<R, S, J> {
+        &self.images
+    }
+
+    /// The group of the tiles.
+    pub fn group(&self) -> &Group<TileKey, J, TileCalls<J>, N, T> {
+        &self.group
+    }
+
+    /// The tile that a key names, from its image's source. Nothing is looked up, and nothing kept.
+    pub fn load(&self, rt: &R, key: &TileKey) -> Result<TileVal, Fault>
+        ensures meant { J.stable key.now.name → IfOk result (λ v. v ≡ tile_meaning J.pictures key.now) }
+        ensures shaped { IfOk result (λ v. IsTrue (tile_is_shaped J.pictures key.now v)) }
+        ensures names { IfOk result (λ v. NamesPart J.pictures J.edge key.now.name key.now.edge (λ s. TileFitsIn s.dim (channels_of s.kind) key.now)) }
+        ensures fault { IfErr result (IsLoadFault J.pictures J.edge key.now.name key.now.edge (λ s. TileFitsIn s.dim (channels_of s.kind) key.now) (J.gave key.now.name)) }
+    {
+        self.images.load(rt, key)
+    }
+
+    /// The same of the image that `image_of` gave for the key, for all that wait.
+    fn outcome(
+        &self,
+        rt: &R,
+        entry: &Entry<R, S>,
+        shape: &Shape,
+        key: &TileKey,
+    ) -> Result<Arc<TileVal>, Fault>
+        requires image { IsImageOf J.pictures J.gave J.stable S.bytes S.gave S.keeps key.now.name (item_of entry.now) }
+        requires shape { shape_of (picture_in S.bytes (item_of entry.now)) ≡ shape.now }
+        requires fits { TileFitsIn shape.now.dim (channels_of shape.now.kind) key.now }
+        ensures meant { J.stable key.now.name → IsTrue J.honest → ForOk result (λ v. arc_value v ≡ tile_meaning J.pictures key.now) }
+        ensures shaped { ForOk result (λ v. IsTrue (tile_is_shaped J.pictures key.now (arc_value v))) }
+        ensures given { ForErr result (λ f. IsTrue (is_given (J.gave key.now.name) f)) }
+    {
+        match self.images.made(rt, entry, shape, key) {
+            Ok(value) => boxed(self.alloc, value),
+            Err(fault) => Err(fault),
+        }
+    }
+}
+
+impl<R: Wait, S: Source<R> + Drop, J: System, N: Link<TileKey, J, R>, T: Gate<R>> Tiles<
+    R,
+    S,
+    J,
+    N,
+    T,
+> {
+    /// What a flight of the key ended with: the tile that it names, or a fault of its source or want of memory. Where another node
+    /// owns the key, that node is asked first.
+    pub fn get(
+        &self,
+        rt: &R,
+        pass: &mut Pass<TileCalls<J>>,
+        key: &TileKey,
+    ) -> Result<Receipt<TileKey, J>, Fault>
+        ensures outcome { IfOk result (λ r. IfSome (receipt_known r) (λ x. (arc_value x.key ≡ key.now)
+            × OutcomeIs (J.stable key.now.name) J.honest (tile_meaning J.pictures key.now) (tile_is_shaped J.pictures key.now) (J.gave key.now.name) x.outcome)) }
+        ensures counted { OnOk result ((pass.old.gets + 1 ≤ pass.new.gets) × (pass.new.gets ≤ pass.old.gets + 2)) }
+        ensures refused { OnErr result (pass.new.gets ≡ pass.old.gets) }
+        ensures parts { pass.new.parts ≡ pass.old.parts }
+        ensures names { IfOk result (λ r. NamesPart J.pictures J.edge key.now.name key.now.edge (λ s. TileFitsIn s.dim (channels_of s.kind) key.now)) }
+        ensures fault { IfErr result (IsGetFault J.pictures J.edge key.now.name key.now.edge (λ s. TileFitsIn s.dim (channels_of s.kind) key.now)) }
+    {
+        let (entry, shape) = self.images.image_of(key)?;
+        match self.group.begin(rt, pass, key, &shape) {
+            Ok(Begun::Known(receipt)) => Ok(receipt),
+            Ok(Begun::Load(load)) => {
+                let outcome = self.outcome(rt, entry, &shape, key);
+                Ok(self.group.complete(rt, load, key, outcome).receipt)
+            }
+            Err(_) => Err(Fault::NoMemory),
+        }
+    }
+
+    /// The same by this node alone, whoever owns the key. So is served what another node asks.
+    pub fn get_local(
+        &self,
+        rt: &R,
+        pass: &mut Pass<TileCalls<J>>,
+        key: &TileKey,
+    ) -> Result<Receipt<TileKey, J>, Fault>
+        ensures outcome { IfOk result (λ r. IfSome (receipt_known r) (λ x. (arc_value x.key ≡ key.now)
+            × OutcomeIs (J.stable key.now.name) J.honest (tile_meaning J.pictures key.now) (tile_is_shaped J.pictures key.now) (J.gave key.now.name) x.outcome)) }
+        ensures counted { OnOk result (pass.new.gets ≡ pass.old.gets + 1) }
+        ensures refused { OnErr result (pass.new.gets ≡ pass.old.gets) }
+        ensures parts { pass.new.parts ≡ pass.old.parts }
+        ensures names { IfOk result (λ r. NamesPart J.pictures J.edge key.now.name key.now.edge (λ s. TileFitsIn s.dim (channels_of s.kind) key.now)) }
+        ensures fault { IfErr result (IsGetFault J.pictures J.edge key.now.name key.now.edge (λ s. TileFitsIn s.dim (channels_of s.kind) key.now)) }
+    {
+        let (entry, shape) = self.images.image_of(key)?;
+        match self.group.begin_local(rt, pass, key) {
+            Ok(Begun::Known(receipt)) => Ok(receipt),
+            Ok(Begun::Load(load)) => {
+                let outcome = self.outcome(rt, entry, &shape, key);
+                Ok(self.group.complete(rt, load, key, outcome).receipt)
+            }
+            Err(_) => Err(Fault::NoMemory),
+        }
+    }
+}
