@@ -1,0 +1,14 @@
+//! Listeners whose connections have a thread each, up to 64 of each listener, and limits of time for what a connection sends.
+#![tactic(auto)]
+
+pub use closing::close;
+pub use listen::{Serve, serve_listener, serve_listeners, stop};
+pub use pace::{Pace, PacedReader, PacedWriter};
+pub use places::{Place, Places, Taken};
+pub use retry::{Retry, after_failure};
+
+pub mod closing;
+pub mod listen;
+pub mod pace;
+pub mod places;
+pub mod retry;

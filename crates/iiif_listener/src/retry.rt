@@ -1,0 +1,55 @@
+//! What a listener does that could not take a connection.
+
+ghost use Rattle.std.specs.Prelude.{◌≡◌};
+ghost use Rattle.iiif_listener.specs.Failures.{is_lasting as lasts, is_passing as passes, retry_after};
+
+use std::io::ErrorKind;
+
+/// How many failures in a row are waited for.
+pub const TRIES: u32 = 1000;
+
+/// When a listener that could not take a connection tries again.
+#[derive(Clone, Copy, Debug, PartialEq, Eq)]
+pub enum Retry {
+    /// The connection was gone before it was taken: at once.
+    AtOnce,
+    /// Files, memory or the like are wanting: in a while.
+    Later,
+    /// The listener is stopped, or was wanting for too long.
+    Never,
+}
+
+/// Whether a listener that failed so is none, and stays so.
+fn is_lasting(kind: ErrorKind) -> bool
+    ensures { result ≡ lasts kind }
+{
+    match kind {
+        ErrorKind::InvalidInput => true,
+        _ => false,
+    }
+}
+
+/// Whether a listener that failed so goes on at once.
+fn is_passing(kind: ErrorKind) -> bool
+    ensures { result ≡ passes kind }
+{
+    match kind {
+        ErrorKind::ConnectionAborted => true,
+        ErrorKind::ConnectionReset => true,
+        ErrorKind::Interrupted => true,
+        _ => false,
+    }
+}
+
+/// What is done after so many failures in a row and one more of this kind.
+pub fn after_failure(kind: ErrorKind, failures: u32) -> Retry
+    ensures { result ≡ retry_after kind failures }
+{
+    if is_passing(kind) {
+        Retry::AtOnce
+    } else if is_lasting(kind) || failures >= TRIES {
+        Retry::Never
+    } else {
+        Retry::Later
+    }
+}

@@ -1,0 +1,108 @@
+//! A viewer that drips, one that is silent, one that asks again and again, and one that sends more than is read.
+
+use iiif_io::Inlet;
+use iiif_listener::{Pace, PacedReader, PacedWriter, close};
+use std::io::{Read, Write};
+use std::net::{Net, TcpListener, TcpStream};
+use std::test::Fail;
+use std::thread;
+use std::time::{Clock, Duration};
+
+/// How many single bytes are read before the time is over, each answered where `answers` is set.
+fn read_drops<R: Clock>(rt: &R, stream: TcpStream, answers: bool) -> Option<u32> {
+    let pace = Pace::new(rt, Duration::from_millis(500)).ok()?;
+    let mut out = PacedWriter {
+        stream: stream.try_clone().ok()?,
+        rt,
+        pace: &pace,
+    };
+    let mut reader = PacedReader {
+        stream,
+        rt,
+        pace: &pace,
+        idle: Duration::from_millis(400),
+    };
+    let mut byte = [0u8; 1];
+    let mut drops = 0u32;
+    for _ in 0..20u32 {
+        match reader.pull(&mut byte) {
+            Ok(1) => drops = drops.saturating_add(1),
+            _ => return Some(drops),
+        }
+        if answers && out.write(b"+").is_err() {
+            return Some(drops);
+        }
+    }
+    Some(drops)
+}
+
+/// Sends twenty bytes, one each `pause` milliseconds.
+fn drip<R: Clock>(rt: &R, viewer: &mut TcpStream, pause: u64) {
+    for _ in 0..20u32 {
+        if viewer.write_all(b"G").is_err() {
+            return;
+        }
+        thread::sleep(rt, Duration::from_millis(pause));
+    }
+}
+
+/// The pause between bytes, whether each is answered, and at least and at most how many are read.
+const VIEWERS: [(u64, bool, u32, u32); 3] = [
+    (100, false, 1, 8),
+    (100, true, 20, 20),
+    (900, true, 1, 1),
+];
+
+#[test]
+fn dripping_and_silent_viewers_are_left_and_an_asking_one_is_not(
+    rt: HostRuntime,
+) -> Result<(), Fail> {
+    for (pause, answers, least, most) in VIEWERS {
+        let listener = TcpListener::bind(&rt, "127.0.0.1:0")?;
+        let mut viewer = TcpStream::connect(&rt, listener.local_addr()?)?;
+        let (stream, _) = listener.accept()?;
+        let (drops, ()) = thread::join(
+            &rt,
+            || read_drops(&rt, stream, answers),
+            || drip(&rt, &mut viewer, pause),
+        );
+        let drops = drops.ok_or("no clock")?;
+        assert!(rt; least <= drops && drops <= most, "{drops} at {pause}");
+    }
+    Ok(())
+}
+
+/// Answers without reading, and closes.
+fn answer_unread(mut stream: TcpStream) {
+    if stream.write_all(b"answer").is_ok() {
+        close(stream);
+    }
+}
+
+/// Sends more than is read, and gives what was answered.
+fn ask_much(viewer: &mut TcpStream) -> Option<(usize, [u8; 8])> {
+    viewer.write_all(&[b'G'; 50_000]).ok()?;
+    let mut answer = [0u8; 8];
+    let mut came = 0usize;
+    for _ in 0..9u32 {
+        if came > 8 {
+            return None;
+        }
+        match viewer.read(&mut answer[came..]) {
+            Ok(0) => return Some((came, answer)),
+            Ok(n) => came = came.saturating_add(n),
+            Err(_) => return None,
+        }
+    }
+    None
+}
+
+#[test]
+fn answer_arrives_though_input_was_left(rt: HostRuntime) -> Result<(), Fail> {
+    let listener = TcpListener::bind(&rt, "127.0.0.1:0")?;
+    let mut viewer = TcpStream::connect(&rt, listener.local_addr()?)?;
+    let (stream, _) = listener.accept()?;
+    let ((), seen) = thread::join(&rt, || answer_unread(stream), || ask_much(&mut viewer));
+    assert_eq!(rt; seen, Some((6, *b"answer\0\0")));
+    Ok(())
+}

@@ -1,0 +1,3 @@
+pub mod Code
+pub mod Kinds
+pub mod Replying

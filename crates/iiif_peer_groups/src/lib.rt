@@ -1,0 +1,8 @@
+//! What a node's groups reply to other nodes: the value of a key that names something, or why there is none, without another node.
+#![tactic(auto)]
+
+pub use peers::Peers;
+
+mod keys;
+pub mod peers;
+mod replies;

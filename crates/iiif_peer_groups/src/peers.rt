@@ -1,0 +1,115 @@
+//! A node's groups as other nodes have them.
+
+ghost use Rattle.std.specs.Prelude.{◌≡◌, ◌≤◌, IfErr, IfOk, length};
+ghost use Rattle.iiif_images.specs.Faults.{IsKeyFault};
+ghost use Rattle.iiif_keys.specs.Blocks.{NamesPart};
+ghost use Rattle.iiif_keys.specs.Shapes.{HasPicture};
+ghost use Rattle.iiif_peer_groups.specs.Kinds.{sum_kind, system, tile_kind};
+ghost use Rattle.iiif_peer_groups.specs.Replying.{Carries, HasFault, HasValue, MayReply};
+ghost use Rattle.iiif_peer_wire.specs.Messages.{value_limit};
+
+use crate::keys::key_of;
+use crate::replies::{reply_of, value_bytes};
+use iiif_group::{Gate, Link};
+use iiif_keys::{CacheKey, Fault, Shape, SumKey, System, TileKey};
+use iiif_peer_server::Answers;
+use iiif_peer_wire::{Ask, Version};
+use iiif_pixel::Depth;
+use iiif_source::Source;
+use iiif_sum_group::{Groups, Passes, SumCalls};
+use iiif_tile_group::TileCalls;
+use std::alloc::Global;
+use std::sync::Wait;
+use std::sync::ledger::Ledger;
+
+/// A node's groups as other nodes have them: each ask is answered by this node, and no other is asked for the key.
+#[derive(Drop)]
+pub struct Peers<'a, R, S: Source<R>, J: System, N, T>
+where
+    TileCalls<J>: Ledger,
+    SumCalls<J>: Ledger,
+{
+    pub groups: &'a Groups<R, S, J, N, T>,
+}
+
+impl<
+    'a,
+    R: Wait,
+    S: Source<R> + Drop,
+    J: System,
+    N: Link<TileKey, J, R> + Link<SumKey, J, R>,
+    T: Gate<R>,
+> Peers<'a, R, S, J, N, T> {
+    /// The shape of the image that a key names, where messages of this version carry its values.
+    fn shape_of<K: CacheKey>(&self, version: Version, key: &K) -> Result<Shape, Fault>
+        ensures known { IfOk result (HasPicture J.pictures (K.name_of key.now)) }
+        ensures fits { IfOk result (λ s. K.fits_in s key.now) }
+        ensures names { IfOk result (λ s. NamesPart J.pictures J.edge (K.name_of key.now) (K.edge_of key.now) (λ s. K.fits_in s key.now × Carries version s.depth)) }
+        ensures refused { IfErr result (IsKeyFault J.pictures J.edge (K.name_of key.now) (K.edge_of key.now) (λ s. K.fits_in s key.now × Carries version s.depth)) }
+    {
+        let (_entry, shape) = self.groups.tiles().images().image_of(key)?;
+        match (version, shape.depth) {
+            (Version::One, Depth::Sixteen) => Err(Fault::BadKey),
+            _ => Ok(shape),
+        }
+    }
+
+    /// The bytes of the tile that the bytes of a key name.
+    fn tile(
+        &self,
+        rt: &R,
+        alloc: Global,
+        passes: &mut Passes<J>,
+        version: Version,
+        bytes: &[u8],
+    ) -> Result<Vec<u8>, Fault>
+        ensures value { IfOk result (λ v. HasValue tile_kind (system J.pictures J.edge J.gave J.stable J.honest) version bytes.now v.items) }
+        ensures within { IfOk result (λ v. length v.items ≤ value_limit) }
+        ensures fault { IfErr result (HasFault tile_kind (system J.pictures J.edge J.gave J.stable J.honest) version bytes.now) }
+    {
+        let key: TileKey = key_of(alloc, bytes)?;
+        let shape = self.shape_of(version, &key)?;
+        let receipt = self.groups.tiles().get_local(rt, &mut passes.tile, &key)?;
+        value_bytes(alloc, &key, &shape, receipt)
+    }
+
+    /// The bytes of the sums that the bytes of a key name.
+    fn sums(
+        &self,
+        rt: &R,
+        alloc: Global,
+        passes: &mut Passes<J>,
+        version: Version,
+        bytes: &[u8],
+    ) -> Result<Vec<u8>, Fault>
+        ensures value { IfOk result (λ v. HasValue sum_kind (system J.pictures J.edge J.gave J.stable J.honest) version bytes.now v.items) }
+        ensures within { IfOk result (λ v. length v.items ≤ value_limit) }
+        ensures fault { IfErr result (HasFault sum_kind (system J.pictures J.edge J.gave J.stable J.honest) version bytes.now) }
+    {
+        let key: SumKey = key_of(alloc, bytes)?;
+        let shape = self.shape_of(version, &key)?;
+        let receipt = self.groups.get_local(rt, passes, &key)?;
+        value_bytes(alloc, &key, &shape, receipt)
+    }
+}
+
+impl<
+    'a,
+    R: Wait,
+    S: Source<R> + Drop,
+    J: System,
+    N: Link<TileKey, J, R> + Link<SumKey, J, R>,
+    T: Gate<R>,
+> Answers<R, Passes<J>> for Peers<'a, R, S, J, N, T> {
+    ghost answers = { λ _ version group key status value. MayReply (system J.pictures J.edge J.gave J.stable J.honest) version group key status value };
+
+    fn answer(&self, rt: &R, alloc: Global, passes: &mut Passes<J>, ask: &Ask) -> (u8, Vec<u8>) {
+        let key = ask.key.as_slice();
+        if ask.group == 1 {
+            let outcome = self.tile(rt, alloc, passes, ask.version, key);
+            return reply_of(alloc, outcome);
+        }
+        let outcome = self.sums(rt, alloc, passes, ask.version, key);
+        reply_of(alloc, outcome)
+    }
+}

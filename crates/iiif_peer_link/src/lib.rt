@@ -1,0 +1,14 @@
+//! Ways to other nodes: one ask over any reader and writer, and links over TCP that connect anew for each ask within a limit of time.
+#![tactic(auto)]
+
+pub use ask::ask_over;
+pub use tcp::TcpLink;
+pub use timed::{Deadline, Timed};
+pub use values::{sum_over, tile_over};
+pub use versions::version_for;
+
+pub mod ask;
+pub mod tcp;
+pub mod timed;
+pub mod values;
+pub mod versions;

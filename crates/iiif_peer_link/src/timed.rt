@@ -1,0 +1,88 @@
+//! A stream with a limit of time for all that is read and written.
+
+use iiif_io::{Inlet, Outlet};
+use std::io;
+use std::io::{ErrorKind, Read, Write};
+use std::net::TcpStream;
+use std::time::{Clock, Duration, Instant};
+
+/// When something is to have ended.
+#[derive(Drop)]
+pub struct Deadline<'a, R: Clock> {
+    rt: &'a R,
+    start: Instant,
+    limit: Duration,
+}
+
+impl<'a, R: Clock> Deadline<'a, R> {
+    /// So much time from now on.
+    pub fn new(rt: &'a R, limit: Duration) -> io::Result<Deadline<'a, R>> {
+        Ok(Deadline {
+            rt,
+            start: Instant::now(rt)?,
+            limit,
+        })
+    }
+
+    /// The same end.
+    pub fn again(&self) -> Deadline<'a, R> {
+        Deadline {
+            rt: self.rt,
+            start: self.start,
+            limit: self.limit,
+        }
+    }
+
+    /// The time that is left, an error where none is.
+    pub fn left(&self) -> io::Result<Duration> {
+        match self.limit.checked_sub(self.start.elapsed(self.rt)?) {
+            Some(left) if !left.is_zero() => Ok(left),
+            _ => Err(io::Error::from(ErrorKind::TimedOut)),
+        }
+    }
+}
+
+/// A stream whose reads and writes fail once its time is up, however few bytes come at once.
+#[derive(Drop)]
+pub struct Timed<'a, R: Clock> {
+    pub stream: TcpStream,
+    pub deadline: Deadline<'a, R>,
+}
+
+impl<'a, R: Clock> Read for Timed<'a, R> {
+    fn read(&mut self, buffer: &mut [u8]) -> io::Result<usize> {
+        let left = self.deadline.left()?;
+        self.stream.set_read_timeout(Some(left))?;
+        self.stream.pull(buffer)
+    }
+}
+
+/// Nothing is known but that a read failed.
+impl<'a, R: Clock> Inlet for Timed<'a, R> {
+    ghost fails = { λ _ _. Unit {0} };
+
+    fn pull(&mut self, buffer: &mut [u8]) -> io::Result<usize> {
+        self.read(buffer)
+    }
+}
+
+impl<'a, R: Clock> Write for Timed<'a, R> {
+    fn write(&mut self, bytes: &[u8]) -> io::Result<usize> {
+        let left = self.deadline.left()?;
+        self.stream.set_write_timeout(Some(left))?;
+        self.stream.put(bytes)
+    }
+
+    fn flush(&mut self) -> io::Result<()> {
+        Ok(())
+    }
+}
+
+/// Nothing is known but that a write failed.
+impl<'a, R: Clock> Outlet for Timed<'a, R> {
+    ghost fails = { λ _ _. Unit {0} };
+
+    fn put(&mut self, bytes: &[u8]) -> io::Result<usize> {
+        self.write(bytes)
+    }
+}

@@ -1,0 +1,37 @@
+use Rattle.std.proofs.Common.{◌≡◌, ℕ, ◌≤◌, ap, Ok, Err, nat_lt, arith}
+use Rattle.std.proofs.lemmas.Bool.{ltb-true, ltb-false}
+use Rattle.iiif_peer_server.specs.Exchanges.{LeftAt}
+use Rattle.iiif_peer_server.proofs.ExchangeLemmas.{none_left, ends_at_fault, sent_whole, sent_partly}
+use Rattle.iiif_peer_server.proofs.serve.serve_next.Goals as goal
+
+pub returns-in-Ok-None-clause-served : goal.returns-in-Ok-None-clause-served
+returns-in-Ok-None-clause-served g c =
+    let end = rw c.in-Ok-None.field-0-is at c.in-Ok-None.ensures.end in
+    none_left (g.S.Answers.answers c.args.service.now) (LeftAt g.I.Inlet.fails c.read_ask.new.reader) (LeftAt g.W.Outlet.fails c.args.out.now) c.args.n
+    (g.I.Read.remaining c.args.reader.now) (g.I.Read.remaining c.read_ask.new.reader) (g.W.Write.contents c.args.out.now) end.0 end.1
+
+pub returns-in-Err-clause-served : goal.returns-in-Err-clause-served
+returns-in-Err-clause-served g c =
+    ends_at_fault (g.S.Answers.answers c.args.service.now) (LeftAt g.I.Inlet.fails c.read_ask.new.reader) (LeftAt g.W.Outlet.fails c.args.out.now) c.args.n
+    (g.I.Read.remaining c.args.reader.now) (g.I.Read.remaining c.read_ask.new.reader) (g.W.Write.contents c.args.out.now) c.in-Err.field-0 c.in-Err.ensures.refused
+    (λ io. c.in-Err.ensures.io (ap Err io)) (λ memory. c.in-Err.ensures.memory (ap Err memory))
+
+pub returns-in-Ok-clause-served : goal.returns-in-Ok-clause-served
+returns-in-Ok-clause-served g c =
+    let known = rw c.in-Ok-Some.field-0-is at c.in-Ok-Some.ensures.known in
+    let text = rw c.in-Ok-Some.field-0-is at c.in-Ok-Some.ensures.text in
+    sent_whole (g.S.Answers.answers c.args.service.now) (LeftAt g.I.Inlet.fails c.read_ask.new.reader) (LeftAt g.W.Outlet.fails c.write_reply.new.writer)
+    c.in-Ok-Some.ask.version c.args.n c.in-Ok-Some.ask.group c.answer-status.result.0 c.in-Ok-Some.ask.key.items c.answer-status.result.1.items
+    (g.I.Read.remaining c.args.reader.now) (g.I.Read.remaining c.read_ask.new.reader) (g.W.Write.contents c.args.out.now)
+    (g.W.Write.contents c.write_reply.new.writer) (nat_lt c.args.n 1000) known (record { spelled = c.answer-status.ensures.spelled; allowed = c.answer-status.ensures.allowed })
+    text (rw c.deref-2.ensures.value at (rw c.deref.ensures.value at c.in-Ok.ensures.whole)) (λ is. ltb-true c.args.n 1000 is) (λ is. omega (arith, ltb-false c.args.n 1000 is, c.requires.few))
+
+pub returns-clause-served : goal.returns-clause-served
+returns-clause-served g c =
+    let known = rw c.in-Ok-Some.field-0-is at c.in-Ok-Some.ensures.known in
+    let text = rw c.in-Ok-Some.field-0-is at c.in-Ok-Some.ensures.text in
+    sent_partly (g.S.Answers.answers c.args.service.now) (LeftAt g.I.Inlet.fails c.read_ask.new.reader)
+    c.in-Ok-Some.ask.version c.args.n c.in-Ok-Some.ask.group c.answer-status.result.0 c.in-Ok-Some.ask.key.items c.answer-status.result.1.items
+    (g.I.Read.remaining c.args.reader.now) (g.I.Read.remaining c.read_ask.new.reader) g.W.Write.contents g.W.Outlet.fails
+    c.args.out.now c.write_reply.new.writer c.in-Err-write_reply.field-0 known (record { spelled = c.answer-status.ensures.spelled; allowed = c.answer-status.ensures.allowed })
+    text (rw c.deref-2.ensures.value at (rw c.deref.ensures.value at c.in-Err-write_reply.ensures.cut))

@@ -1,0 +1,15 @@
+use Rattle.std.proofs.Common.{◌≤◌, ◌-◌}
+use Rattle.iiif_peer_server.specs.Exchanges.{LeftAt}
+use Rattle.iiif_peer_server.proofs.ExchangeLemmas.{CameSo}
+use Rattle.iiif_peer_server.proofs.serve.serve_peer.Given as goal
+
+abbrev pub invariant-loop-alloc : goal.invariant-loop-alloc
+invariant-loop-alloc g l =
+    record {
+      few : l.n ≤ 1000;
+      came : CameSo (g.S.Answers.answers l.service) (LeftAt g.I.Inlet.fails) (LeftAt g.W.Outlet.fails) l.n (g.I.Read.remaining l.fn.reader)
+          (g.I.Read.remaining l.reader) (g.W.Write.contents l.fn.out) (g.W.Write.contents l.out);
+    }
+
+abbrev pub decreases-loop-alloc : goal.decreases-loop-alloc
+decreases-loop-alloc g l = 1000 - l.n
