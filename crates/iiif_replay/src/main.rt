@@ -1,0 +1,106 @@
+//! Replays lists of events: reads worlds and events from a text, and writes what came of each event, and the answers.
+#![tactic(auto)]
+
+mod describing;
+mod fault;
+mod reading;
+mod replaying;
+mod rows;
+mod state;
+mod values;
+
+use crate::fault::LineFault;
+use crate::state::Replay;
+use std::alloc::Global;
+use std::io::{BufRead, BufReader, BufWriter, ErrorKind, Read, Write};
+use std::process::ExitCode;
+use std::rt::Files;
+use std::{env, fs, io};
+
+/// Why a replay ends early.
+enum Stop {
+    /// A line is no setting and no event, by its number.
+    Line(u64),
+    Memory,
+    Read,
+    Write,
+}
+
+impl From<io::Error> for Stop {
+    fn from(error: io::Error) -> Stop {
+        if error.kind() == ErrorKind::OutOfMemory {
+            Stop::Memory
+        } else {
+            Stop::Write
+        }
+    }
+}
+
+/// Replays the lines of a reader.
+fn replay<R, W>(alloc: Global, reader: R, out: &mut W) -> Result<(), Stop>
+where
+    R: BufRead + Drop,
+    W: Write,
+{
+    let mut replay = Replay::new(alloc);
+    let mut number = 0u64;
+    for line in reader.lines(alloc) {
+        let Ok(line) = line else {
+            return Err(Stop::Read);
+        };
+        number = number.saturating_add(1);
+        match replay.line(alloc, number, line.as_str()) {
+            Ok(text) => out.write_all(text.as_bytes())?,
+            Err(LineFault::Bad) => return Err(Stop::Line(number)),
+            Err(LineFault::NoMemory) => return Err(Stop::Memory),
+        }
+    }
+    match replay.ended(alloc) {
+        Ok(text) => out.write_all(text.as_bytes())?,
+        Err(LineFault::Bad) => return Err(Stop::Line(number)),
+        Err(LineFault::NoMemory) => return Err(Stop::Memory),
+    }
+    out.flush()?;
+    Ok(())
+}
+
+/// Replays the lists of a file, or of standard input where no file is named.
+fn run(rt: &HostRuntime) -> Result<(), Stop> {
+    let alloc = rt.alloc();
+    let mut out = BufWriter::new(alloc, io::writer(rt))?;
+    let mut words = env::args(rt)?;
+    let _program = words.next();
+    match words.next() {
+        Some(path) => {
+            let Ok(file) = fs::open(rt, path.as_str()) else {
+                return Err(Stop::Read);
+            };
+            replay(alloc, BufReader::new(alloc, file)?, &mut out)
+        }
+        None => replay(alloc, BufReader::new(alloc, rt.reader())?, &mut out),
+    }
+}
+
+/// The status is 0 where all was replayed, 2 where a line is no setting and no event, and else 1.
+fn main(rt: HostRuntime) -> ExitCode {
+    let mut err = rt.stderr();
+    match run(&rt) {
+        Ok(()) => ExitCode::from(0),
+        Err(Stop::Line(number)) => {
+            let _ = writeln!(err, "line {number}");
+            ExitCode::from(2)
+        }
+        Err(Stop::Memory) => {
+            let _ = writeln!(err, "memory");
+            ExitCode::from(1)
+        }
+        Err(Stop::Read) => {
+            let _ = writeln!(err, "read");
+            ExitCode::from(1)
+        }
+        Err(Stop::Write) => {
+            let _ = writeln!(err, "write");
+            ExitCode::from(1)
+        }
+    }
+}

@@ -1,0 +1,230 @@
+//! Events, read from the words of a line.
+
+ghost use Rattle.std.specs.Prelude.{◌+◌, ◌<◌, ◌^◌, IfOk};
+ghost use Rattle.iiif_request.specs.Requests.{HasShortDecimals};
+ghost use Rattle.iiif_world.specs.Stepping.{IsShortEvent};
+
+use crate::fault::LineFault;
+use iiif_keys::{Name, SumKey, TileKey, is_name};
+use iiif_machine::Event;
+use iiif_pixel::{Dim, NoMemory, Rect};
+use iiif_request::{Request, Words, parse};
+use iiif_scene::Key;
+use iiif_source::ReadFault;
+use std::alloc::Global;
+
+/// The number at a place.
+pub fn number(words: &[&str], at: usize) -> Result<u64, LineFault> {
+    let Some(word) = words.get(at) else {
+        return Err(LineFault::Bad);
+    };
+    match word.parse::<u64>() {
+        Ok(number) => Ok(number),
+        Err(_) => Err(LineFault::Bad),
+    }
+}
+
+/// The number at a place, where it is a side or a column.
+pub fn side(words: &[&str], at: usize) -> Result<u32, LineFault> {
+    match u32::try_from(number(words, at)?) {
+        Ok(side) => Ok(side),
+        Err(_) => Err(LineFault::Bad),
+    }
+}
+
+/// The number at a place, where it counts rows.
+pub fn count(words: &[&str], at: usize) -> Result<usize, LineFault> {
+    match usize::try_from(number(words, at)?) {
+        Ok(count) => Ok(count),
+        Err(_) => Err(LineFault::Bad),
+    }
+}
+
+/// The number at a place, where it is a byte.
+fn byte(words: &[&str], at: usize) -> Result<u8, LineFault> {
+    match u8::try_from(number(words, at)?) {
+        Ok(byte) => Ok(byte),
+        Err(_) => Err(LineFault::Bad),
+    }
+}
+
+/// The word at a place.
+pub fn word<'a>(words: &[&'a str], at: usize) -> Result<&'a str, LineFault> {
+    match words.get(at) {
+        Some(word) => Ok(*word),
+        None => Err(LineFault::Bad),
+    }
+}
+
+/// The name at a place.
+pub fn name(alloc: Global, words: &[&str], at: usize) -> Result<Name, LineFault> {
+    let text = String::from_str(alloc, word(words, at)?)?;
+    if !is_name(text.as_str()) {
+        return Err(LineFault::Bad);
+    }
+    Ok(Name::new(text)?)
+}
+
+/// The number of an event that has one.
+fn one(words: &[&str]) -> Result<usize, LineFault> {
+    if words.len() != 2 {
+        return Err(LineFault::Bad);
+    }
+    count(words, 1)
+}
+
+/// The request of four words from a place on: region, size, rotation and quality.
+fn request(alloc: Global, words: &[&str], at: usize) -> Result<Request, LineFault>
+    requires { at + 4 < 2 ^ 32 }
+    ensures { IfOk result HasShortDecimals }
+{
+    let words = Words {
+        region: String::from_str(alloc, word(words, at)?)?,
+        size: String::from_str(alloc, word(words, at + 1)?)?,
+        rotation: String::from_str(alloc, word(words, at + 2)?)?,
+        quality: String::from_str(alloc, word(words, at + 3)?)?,
+        format: String::from_str(alloc, "tif")?,
+    };
+    match parse(&words) {
+        Ok(request) => Ok(request),
+        Err(_) => Err(LineFault::Bad),
+    }
+}
+
+/// `want NODE NAME REGION SIZE ROTATION QUALITY`
+fn want(alloc: Global, words: &[&str]) -> Result<Event, LineFault>
+    ensures { IfOk result IsShortEvent }
+{
+    if words.len() != 7 {
+        return Err(LineFault::Bad);
+    }
+    let node = count(words, 1)?;
+    let name = name(alloc, words, 2)?;
+    let request = request(alloc, words, 3)?;
+    Ok(Event::Want(node, name, request))
+}
+
+/// `tile NAME EDGE COLUMN ROW`
+fn tile(alloc: Global, words: &[&str]) -> Result<Key, LineFault> {
+    Ok(Key::Tile(TileKey {
+        name: name(alloc, words, 1)?,
+        edge: side(words, 2)?,
+        tx: side(words, 3)?,
+        ty: side(words, 4)?,
+    }))
+}
+
+/// `sum NAME EDGE X Y W H COLUMNS ROWS LEVEL COLUMN ROW`
+fn sum(alloc: Global, words: &[&str]) -> Result<Key, LineFault> {
+    Ok(Key::Sum(SumKey {
+        name: name(alloc, words, 1)?,
+        edge: side(words, 2)?,
+        rect: Rect {
+            x: side(words, 3)?,
+            y: side(words, 4)?,
+            w: side(words, 5)?,
+            h: side(words, 6)?,
+        },
+        size: Dim {
+            w: side(words, 7)?,
+            h: side(words, 8)?,
+        },
+        level: byte(words, 9)?,
+        bx: side(words, 10)?,
+        by: side(words, 11)?,
+    }))
+}
+
+fn add(keys: &mut Vec<Key>, key: Key) -> Result<(), NoMemory> {
+    keys.push(key)?;
+    Ok(())
+}
+
+/// `evict NODE KEY..`
+fn evict(alloc: Global, words: &[&str]) -> Result<Event, LineFault>
+    ensures { IfOk result IsShortEvent }
+{
+    let node = count(words, 1)?;
+    let mut keys = Vec::new(alloc);
+    let mut at = 2usize;
+    for _ in 0..words.len() {
+        if at >= words.len() {
+            return Ok(Event::Evict(node, keys));
+        }
+        let rest = &words[at..];
+        match word(rest, 0)? {
+            "tile" => {
+                add(&mut keys, tile(alloc, rest)?)?;
+                at = at.saturating_add(5);
+            }
+            "sum" => {
+                add(&mut keys, sum(alloc, rest)?)?;
+                at = at.saturating_add(12);
+            }
+            _ => return Err(LineFault::Bad),
+        }
+    }
+    Err(LineFault::Bad)
+}
+
+/// `take FLIGHT REPLY`
+fn take(words: &[&str]) -> Result<Event, LineFault>
+    ensures { IfOk result IsShortEvent }
+{
+    if words.len() != 3 {
+        return Err(LineFault::Bad);
+    }
+    Ok(Event::Take(count(words, 1)?, count(words, 2)?))
+}
+
+/// `source_fault FLIGHT PLACE CAUSE`
+fn source_fault(words: &[&str]) -> Result<Event, LineFault>
+    ensures { IfOk result IsShortEvent }
+{
+    if words.len() != 4 {
+        return Err(LineFault::Bad);
+    }
+    let fault = ReadFault {
+        place: number(words, 2)?,
+        cause: byte(words, 3)?,
+    };
+    Ok(Event::SourceFault(count(words, 1)?, fault))
+}
+
+/// `land FLIGHT kept` or `land FLIGHT dropped`
+fn land(words: &[&str]) -> Result<Event, LineFault>
+    ensures { IfOk result IsShortEvent }
+{
+    if words.len() != 3 {
+        return Err(LineFault::Bad);
+    }
+    let flight = count(words, 1)?;
+    match word(words, 2)? {
+        "kept" => Ok(Event::Land(flight, true)),
+        "dropped" => Ok(Event::Land(flight, false)),
+        _ => Err(LineFault::Bad),
+    }
+}
+
+/// The event of a line's words.
+pub fn event(alloc: Global, words: &[&str]) -> Result<Event, LineFault>
+    ensures { IfOk result IsShortEvent }
+{
+    match word(words, 0)? {
+        "want" => want(alloc, words),
+        "enter" => Ok(Event::Enter(one(words)?)),
+        "again" => Ok(Event::Again(one(words)?)),
+        "ask_peer" => Ok(Event::AskPeer(one(words)?)),
+        "serve" => Ok(Event::Serve(one(words)?)),
+        "reply" => Ok(Event::Reply(one(words)?)),
+        "take" => take(words),
+        "lose" => Ok(Event::Lose(one(words)?)),
+        "go_local" => Ok(Event::GoLocal(one(words)?)),
+        "load" => Ok(Event::Load(one(words)?)),
+        "source_fault" => source_fault(words),
+        "land" => land(words),
+        "evict" => evict(alloc, words),
+        "stop" => Ok(Event::Stop(one(words)?)),
+        _ => Err(LineFault::Bad),
+    }
+}

@@ -1,0 +1,167 @@
+//! Worlds and their events, line by line.
+
+ghost use Rattle.iiif_replay.specs.Replays.{IsSoundReplay};
+ghost use Rattle.iiif_world.specs.Code.{world_of, IsSoundWorld};
+ghost use Rattle.iiif_world.specs.Stepping.{IsShortEvent};
+
+use crate::describing::Description;
+use crate::fault::LineFault;
+use crate::reading::event;
+use crate::rows::put_rows;
+use crate::state::{Replay, State};
+use crate::values::put_answer;
+use iiif_machine::{Event, WorldFault};
+use iiif_pixel::NoMemory;
+use iiif_world::world::World;
+use std::alloc::Global;
+use std::mem::replace;
+
+/// What an event came to, behind its line's number and its words.
+fn outcome(
+    alloc: Global,
+    world: &mut World,
+    number: u64,
+    line: &str,
+    event: &Event,
+) -> Result<String, LineFault>
+    requires sound { IsSoundWorld (world_of world.old) }
+    requires short { IsShortEvent event.now }
+    ensures { IsSoundWorld (world_of world.new) }
+{
+    let words = line.trim();
+    match world.step(event) {
+        Ok(()) => Ok(format!(in alloc; "{number} {words}: done\n")?),
+        Err(WorldFault::NotNow) => Ok(format!(in alloc; "{number} {words}: not now\n")?),
+        Err(WorldFault::NoMemory) => Err(LineFault::NoMemory),
+    }
+}
+
+/// The answers of a world, a line a request.
+fn answers(alloc: Global, world: &World) -> Result<String, NoMemory> {
+    let mut text = String::new(alloc);
+    for request in 0..world.requests.len() {
+        write!(text, "request {}: ", request)?;
+        match world.answer(request) {
+            Some(answer) => put_answer(&mut text, answer)?,
+            None => text.push_str("none")?,
+        }
+        text.push_str("\n")?;
+    }
+    Ok(text)
+}
+
+/// All rows of a world, one a line.
+fn rows(alloc: Global, world: &World) -> Result<String, NoMemory> {
+    let mut text = String::new(alloc);
+    put_rows(&mut text, world)?;
+    Ok(text)
+}
+
+impl Replay {
+    /// Nothing was read.
+    pub fn new(alloc: Global) -> Replay
+        ensures { IsSoundReplay result }
+    {
+        Replay {
+            state: State::Described(Description::new(alloc)),
+        }
+    }
+
+    /// The world begins, where it has not.
+    fn begin(&mut self, alloc: Global) -> Result<(), LineFault>
+        requires { IsSoundReplay self.old }
+        ensures { IsSoundReplay self.new }
+    {
+        match replace(&mut self.state, State::Lost) {
+            State::Described(description) => {
+                self.state = State::Begun(description.begin(alloc)?);
+                Ok(())
+            }
+            State::Begun(world) => {
+                self.state = State::Begun(world);
+                Ok(())
+            }
+            State::Lost => Err(LineFault::Bad),
+        }
+    }
+
+    /// The answers of the world that has begun, if one has.
+    pub fn ended(&self, alloc: Global) -> Result<String, LineFault> {
+        match &self.state {
+            State::Begun(world) => Ok(answers(alloc, world)?),
+            _ => Ok(String::new(alloc)),
+        }
+    }
+
+    /// All rows of the world that has begun.
+    fn shown(&mut self, alloc: Global) -> Result<String, LineFault>
+        requires { IsSoundReplay self.old }
+        ensures { IsSoundReplay self.new }
+    {
+        self.begin(alloc)?;
+        match &self.state {
+            State::Begun(world) => Ok(rows(alloc, world)?),
+            _ => Err(LineFault::Bad),
+        }
+    }
+
+    /// The next world: the answers of the last one.
+    fn next_world(&mut self, alloc: Global) -> Result<String, LineFault>
+        requires { IsSoundReplay self.old }
+        ensures { IsSoundReplay self.new }
+    {
+        let text = self.ended(alloc)?;
+        self.state = State::Described(Description::new(alloc));
+        Ok(text)
+    }
+
+    /// An event.
+    fn event(
+        &mut self,
+        alloc: Global,
+        number: u64,
+        line: &str,
+        words: &[&str],
+    ) -> Result<String, LineFault>
+        requires { IsSoundReplay self.old }
+        ensures { IsSoundReplay self.new }
+    {
+        let event = event(alloc, words)?;
+        self.begin(alloc)?;
+        match &mut self.state {
+            State::Begun(world) => outcome(alloc, world, number, line, &event),
+            _ => Err(LineFault::Bad),
+        }
+    }
+
+    /// Whether words set something of the world that is described.
+    fn set(&mut self, alloc: Global, words: &[&str]) -> Result<bool, LineFault>
+        requires { IsSoundReplay self.old }
+        ensures { IsSoundReplay self.new }
+    {
+        match &mut self.state {
+            State::Described(description) => description.set(alloc, words),
+            _ => Ok(false),
+        }
+    }
+
+    /// What a line, of a number, comes to.
+    pub fn line(&mut self, alloc: Global, number: u64, line: &str) -> Result<String, LineFault>
+        requires { IsSoundReplay self.old }
+        ensures { IsSoundReplay self.new }
+    {
+        let words: Vec<&str> = line.split_whitespace().collect(alloc)?;
+        match words.first() {
+            None => Ok(String::new(alloc)),
+            Some(word) if word.starts_with('#') => Ok(String::new(alloc)),
+            Some(&"world") if words.len() == 1 => self.next_world(alloc),
+            Some(&"rows") if words.len() == 1 => self.shown(alloc),
+            Some(_) => {
+                if self.set(alloc, &words)? {
+                    return Ok(String::new(alloc));
+                }
+                self.event(alloc, number, line, &words)
+            }
+        }
+    }
+}

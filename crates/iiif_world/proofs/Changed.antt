@@ -1,0 +1,164 @@
+-- Lists of which elements are changed.
+use Rattle.std.proofs.Common.{Vec, true, false, ◌≡◌, ℕ, zero, suc, ◌+◌, ◌≤◌, ◌<◌, List, [], ◌∷◌, ◌++◌, map, length, Some, None, refl, sym, ap, ◌∙◌, arith, get_or, take, subst, length-append}
+use Rattle.std.specs.Prelude.{slice_get, slice_set}
+use Rattle.std.proofs.lemmas.Option.{none-some, get_or_from_slice_get}
+use Rattle.std.proofs.lemmas.List.{take_all, with_items_is}
+use Rattle.std.specs.Vec.{with_items}
+use Rattle.iiif_machine.specs.Sound.{Each}
+use Rattle.iiif_machine.proofs.Lists.{some_same, each_one, each_cons}
+use Rattle.iiif_world.specs.Settling.{joined}
+
+-- the first so many changed
+abbrev pub mixed : {A : Type 0} → (A → A) → ℕ → List A → List A
+mixed g zero xs = xs
+mixed g (suc i) [] = []
+mixed g (suc i) (x ∷ xs) = g x ∷ mixed g i xs
+
+pub mixed_more : {A : Type 0} (g : A → A) (i : ℕ) (xs : List A) (x : A) → slice_get xs i ≡ Some x → slice_set (mixed g i xs) i (g x) ≡ mixed g (suc i) xs
+mixed_more g zero [] x h = absurd (none-some x h)
+mixed_more g zero (y ∷ xs) x h = ap (λ z. g z ∷ xs) (sym (some_same y x h))
+mixed_more g (suc i) [] x h = absurd (none-some x h)
+mixed_more g (suc i) (y ∷ xs) x h = ap (λ l. g y ∷ l) (mixed_more g i xs x h)
+
+pub mixed_next : {A : Type 0} (g : A → A) (i : ℕ) (xs : List A) → slice_get (mixed g i xs) i ≡ slice_get xs i
+mixed_next g zero xs = refl
+mixed_next g (suc i) [] = refl
+mixed_next g (suc i) (x ∷ xs) = mixed_next g i xs
+
+pub mixed_all : {A : Type 0} (g : A → A) (i : ℕ) (xs : List A) → length xs ≤ i → mixed g i xs ≡ map g xs
+mixed_all g zero [] h = refl
+mixed_all g zero (x ∷ xs) h = absurd (omega (arith, h))
+mixed_all g (suc i) [] h = refl
+mixed_all g (suc i) (x ∷ xs) h = ap (λ l. g x ∷ l) (mixed_all g i xs (omega (arith, h)))
+
+pub mixed_length : {A : Type 0} (g : A → A) (i : ℕ) (xs : List A) → length (mixed g i xs) ≡ length xs
+mixed_length g zero xs = refl
+mixed_length g (suc i) [] = refl
+mixed_length g (suc i) (x ∷ xs) = ap suc (mixed_length g i xs)
+
+pub set_same : {A : Type 0} (xs : List A) (i : ℕ) (x : A) → slice_get xs i ≡ Some x → slice_set xs i x ≡ xs
+set_same [] i x h = refl
+set_same (y ∷ xs) zero x h = ap (λ z. z ∷ xs) (sym (some_same y x h))
+set_same (y ∷ xs) (suc i) x h = ap (λ l. y ∷ l) (set_same xs i x h)
+
+pub set_twice : {A : Type 0} (xs : List A) (i : ℕ) (x y : A) → slice_set (slice_set xs i x) i y ≡ slice_set xs i y
+set_twice [] i x y = refl
+set_twice (z ∷ xs) zero x y = refl
+set_twice (z ∷ xs) (suc i) x y = ap (λ l. z ∷ l) (set_twice xs i x y)
+
+pub get_set : {A : Type 0} (xs : List A) (i : ℕ) (x y : A) → slice_get xs i ≡ Some x → slice_get (slice_set xs i y) i ≡ Some y
+get_set [] i x y h = absurd (none-some x h)
+get_set (z ∷ xs) zero x y h = refl
+get_set (z ∷ xs) (suc i) x y h = get_set xs i x y h
+
+pub map-set : {A B : Type 0} (g : A → B) (xs : List A) (i : ℕ) (x : A) → map g (slice_set xs i x) ≡ slice_set (map g xs) i (g x)
+map-set g [] i x = refl
+map-set g (y ∷ xs) zero x = refl
+map-set g (y ∷ xs) (suc i) x = ap (λ l. g y ∷ l) (map-set g xs i x)
+
+pub get_there : {A : Type 0} (xs : List A) (i : ℕ) → i < length xs → (x : A) × (slice_get xs i ≡ Some x)
+get_there [] i h = absurd (omega (arith, h))
+get_there (x ∷ xs) zero h = (x, refl)
+get_there (x ∷ xs) (suc i) h = get_there xs i (omega (arith, h))
+
+pub get_missing : {A : Type 0} (xs : List A) (i : ℕ) → length xs ≤ i → slice_get xs i ≡ None
+get_missing [] i h = refl
+get_missing (x ∷ xs) zero h = absurd (omega (arith, h))
+get_missing (x ∷ xs) (suc i) h = get_missing xs i (omega (arith, h))
+
+pub missing_map : {A B : Type 0} (g : A → B) (xs : List A) (i : ℕ) → slice_get xs i ≡ None → slice_get (map g xs) i ≡ None
+missing_map g [] i h = refl
+missing_map g (x ∷ xs) zero h = absurd (none-some x (sym h))
+missing_map g (x ∷ xs) (suc i) h = missing_map g xs i h
+
+-- the last one is joined first
+pub joined_last : {A B : Type 0} (g : A → B → A) (xs : List A) (ys : List B) (x : A) (y : B) → slice_get xs (length ys) ≡ Some x →
+    joined g (slice_set xs (length ys) (g x y)) ys ≡ joined g xs (ys ++ y ∷ [])
+joined_last g [] ys x y h = absurd (none-some x h)
+joined_last g (z ∷ []) [] x y h = ap (λ v. g v y ∷ []) (sym (some_same z x h))
+joined_last g (z ∷ v ∷ xs) [] x y h = ap (λ u. g u y ∷ v ∷ xs) (sym (some_same z x h))
+joined_last g (z ∷ xs) (v ∷ ys) x y h = ap (λ l. g z v ∷ l) (joined_last g xs ys x y h)
+
+pub joined_nil : {A B : Type 0} (g : A → B → A) (xs : List A) → joined g xs [] ≡ xs
+joined_nil g [] = refl
+joined_nil g (x ∷ xs) = refl
+
+-- each with what is made of it
+pub joined_map : {A B : Type 0} (g : A → B → A) (f : A → B) (h : A → A) (xs : List A) → ((x : A) → g x (f x) ≡ h x) → joined g xs (map f xs) ≡ map h xs
+joined_map g f h [] e = refl
+joined_map g f h (x ∷ xs) e = ap (λ v. v ∷ joined g xs (map f xs)) (e x) ∙ ap (λ l. h x ∷ l) (joined_map g f h xs e)
+
+pub length_set : {A : Type 0} (xs : List A) (i : ℕ) (x : A) → length (slice_set xs i x) ≡ length xs
+length_set [] i x = refl
+length_set (y ∷ xs) zero x = refl
+length_set (y ∷ xs) (suc i) x = ap suc (length_set xs i x)
+
+-- one element more
+pub mixed_step : {A : Type 0} (g : A → A) (old now : List A) (i : ℕ) (y z : A) → now ≡ mixed g i old → i < length now → y ≡ get_or now i y → z ≡ g y →
+    slice_set now i z ≡ mixed g (i + 1) old
+mixed_step g old now i y z is less item made =
+    let shorter : i < length old = omega (arith, ap length is, mixed_length g i old) in
+    let x = get_there old i shorter in
+    let at : slice_get now i ≡ Some x.0 = ap (λ l. slice_get l i) is ∙ mixed_next g i old ∙ x.1 in
+    let same : y ≡ x.0 = item ∙ get_or_from_slice_get now i x.0 y at in
+    let next : suc i ≡ i + 1 = omega arith in
+    ap (λ v. slice_set now i v) (made ∙ ap g same) ∙ ap (λ l. slice_set l i (g x.0)) is ∙ mixed_more g i old x.0 x.1 ∙ ap (λ n. mixed g n old) next
+
+pub mixed_done : {A : Type 0} (g : A → A) (old now : List A) (i : ℕ) → now ≡ mixed g i old → length now ≤ i → now ≡ map g old
+mixed_done g old now i is out =
+    let all : length old ≤ i = omega (arith, ap length is, mixed_length g i old) in
+    is ∙ mixed_all g i old all
+
+-- one less is left to be joined
+pub joined_step : {A B : Type 0} (g : A → B → A) (xs all : List A) (ys ls : List B) (y : B) (x z : A) (p : ℕ) → p ≡ length ls → ys ≡ ls ++ y ∷ [] → length ys ≤ length xs →
+    joined g xs ys ≡ all → x ≡ get_or xs p x → z ≡ g x y → (length ls ≤ length (slice_set xs p z)) × (joined g (slice_set xs p z) ls ≡ all)
+joined_step g xs all ys ls y x z p place list less is item made =
+    let more : length ys ≡ length ls + 1 = ap length list ∙ length-append ls (y ∷ []) in
+    let at = get_there xs (length ls) (omega (arith, more, less)) in
+    let same : x ≡ at.0 = item ∙ ap (λ n. get_or xs n x) place ∙ get_or_from_slice_get xs (length ls) at.0 x at.1 in
+    let put : z ≡ g at.0 y = made ∙ ap (λ v. g v y) same in (
+      omega (arith, more, less, length_set xs p z),
+      ap (λ n. joined g (slice_set xs n z) ls) place
+          ∙ ap (λ v. joined g (slice_set xs (length ls) v) ls) put ∙ joined_last g xs ls at.0 y at.1 ∙ ap (joined g xs) (sym list) ∙ is,
+    )
+
+pub joined_done : {A B : Type 0} (g : A → B → A) (xs all : List A) (ys : List B) → joined g xs ys ≡ all → length ys ≡ 0 → xs ≡ all
+joined_done g xs all [] is none = sym (joined_nil g xs) ∙ is
+joined_done g xs all (y ∷ ys) is none = absurd (omega (arith, none))
+
+-- each of one more
+each_suc : {A : Type 0} (P : A → Type 0) (xs : List A) (i : ℕ) (x : A) → Each P (take i xs) → i < length xs → x ≡ get_or xs i x → P x → Each P (take (suc i) xs)
+each_suc P [] i x e less is p = absurd (omega (arith, less))
+each_suc P (z ∷ xs) zero x e less is p = each_one P z (subst P is p)
+each_suc P (z ∷ xs) (suc i) x e less is p = each_cons P z (take (suc i) xs) (e zero z refl) (each_suc P xs i x (λ j y at. e (suc j) y at) (omega (arith, less)) is p)
+
+pub each_more : {A : Type 0} (P : A → Type 0) (xs : List A) (i : ℕ) (x : A) → Each P (take i xs) → i < length xs → x ≡ get_or xs i x → P x → Each P (take (i + 1) xs)
+each_more P xs i x e less is p = let next : suc i ≡ i + 1 = omega arith in subst (λ n. Each P (take n xs)) next (each_suc P xs i x e less is p)
+
+pub each_all : {A : Type 0} (P : A → Type 0) (xs : List A) (i : ℕ) → Each P (take i xs) → length xs ≤ i → Each P xs
+each_all P xs i e out = subst (Each P) (take_all i xs out) e
+
+-- the same of what is made of them
+pub map_length : {A B : Type 0} (f : A → B) (xs : List A) → length (map f xs) ≡ length xs
+map_length f [] = refl
+map_length f (x ∷ xs) = ap suc (map_length f xs)
+
+each_suc_made : {A B : Type 0} (P : B → Type 0) (f : A → B) (xs : List A) (i : ℕ) (x : A) → Each P (take i (map f xs)) → i < length xs → x ≡ get_or xs i x → P (f x) →
+    Each P (take (suc i) (map f xs))
+each_suc_made P f [] i x e less is p = absurd (omega (arith, less))
+each_suc_made P f (z ∷ xs) zero x e less is p = each_one P (f z) (subst (λ y. P (f y)) is p)
+each_suc_made P f (z ∷ xs) (suc i) x e less is p =
+    each_cons P (f z) (take (suc i) (map f xs)) (e zero (f z) refl) (each_suc_made P f xs i x (λ j y at. e (suc j) y at) (omega (arith, less)) is p)
+
+pub each_more_made : {A B : Type 0} (P : B → Type 0) (f : A → B) (xs : List A) (i : ℕ) (x : A) → Each P (take i (map f xs)) → i < length xs → x ≡ get_or xs i x → P (f x) →
+    Each P (take (i + 1) (map f xs))
+each_more_made P f xs i x e less is p = let next : suc i ≡ i + 1 = omega arith in subst (λ n. Each P (take n (map f xs))) next (each_suc_made P f xs i x e less is p)
+
+-- a list whose elements are all made anew
+pub made_is : {A Z : Type 0} (v : Vec A Z) (ws : List A) (f : A → A) → ws ≡ map f v.items → (with_items v ws).items ≡ map f v.items
+made_is v ws f is =
+    let len : length ws ≡ v.len = omega (arith, ap length is, map_length f v.items, v.ok.0) in
+    with_items_is v ws len ∙ is
+
+pub true-false : true ≡ false → ⊥
+true-false h = cc

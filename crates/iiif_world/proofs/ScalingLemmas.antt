@@ -1,0 +1,95 @@
+-- A region taken as one tile, and the result that its sums make.
+use Rattle.std.proofs.Common.{◌≡◌, ℕ, ◌+◌, ◌*◌, ◌/◌, ◌%◌, ◌<◌, refl, sym, subst, ap, ◌∙◌, arith}
+use Rattle.std.proofs.Math.Nat.{zero-div, mul-div_cancel_left, mul-mod_right}
+use Rattle.std.specs.Int.{div_ceil}
+use Rattle.iiif_pixel.specs.Geometry.{LiesIn}
+use Rattle.iiif_pixel.specs.Picture.{Picture, IsWhole, dim_of}
+use Rattle.iiif_pixel.specs.Operations.{crop}
+use Rattle.iiif_pixel.specs.Scaling.{scale, whole_of}
+use Rattle.iiif_pixel.specs.Laws.{AllRows}
+use Rattle.iiif_pixel.specs.declared.geometry.Dim.{Dim}
+use Rattle.iiif_pixel.specs.declared.geometry.Rect.{Rect}
+use Rattle.iiif_area.specs.Grid.{Grid, sums_at, sums_of}
+use Rattle.iiif_area.specs.Places.{part_of, places_of, IsInside}
+
+rect_is : (r : Rect) (x y w h : ℕ) → r.x ≡ x → r.y ≡ y → r.w ≡ w → r.h ≡ h → r ≡ record { x = x; y = y; w = w; h = h }
+rect_is r x y w h ex ey ew eh = rw (← ex, ← ey, ← ew, ← eh) refl
+
+-- the part of a region that the whole of it has
+pub whole_part : (d : Dim) → part_of (whole_of d) (whole_of d) ≡ whole_of d
+whole_part d = rect_is (part_of (whole_of d) (whole_of d)) 0 0 d.w d.h (omega arith) (omega arith) (omega arith) (omega arith)
+
+div_ceil_whole : (a c : ℕ) → 0 < a → div_ceil ((0 + a) * c) a ≡ c
+div_ceil_whole a c some =
+    let same : (0 + a) * c ≡ a * c = omega arith in
+    let all : a * c / a ≡ c = mul-div_cancel_left c some in
+    let none : a * c % a ≡ 0 = mul-mod_right a c in
+    ap (λ n. div_ceil n a) same ∙ omega (arith, all, none)
+
+-- and the result places that it meets
+pub whole_places : (d s : Dim) → 0 < d.w → 0 < d.h → places_of d s (whole_of d) ≡ whole_of s
+whole_places d s columns rows =
+    let none : (n m : ℕ) → 0 * n / m ≡ 0 = λ n m. let e : 0 * n ≡ 0 = omega arith in ap (λ k. k / m) e ∙ zero-div m in
+    let left = none s.w d.w in
+    let top = none s.h d.h in
+    let width = div_ceil_whole d.w s.w columns in
+    let height = div_ceil_whole d.h s.h rows in
+    rect_is (places_of d s (whole_of d)) 0 0 s.w s.h left top (omega (arith, left, width)) (omega (arith, top, height))
+
+-- the whole of a picture, cropped
+pub whole_crop : AllRows → (p : Picture) → IsWhole p → crop p (whole_of (dim_of p)) ≡ p
+whole_crop law p whole = law p whole
+
+-- Sums of a whole picture that is its own region, as one tile.
+pub record OneTile (p : Picture) (size : Dim) (g : Grid) : Type 0 where
+  pub rect : g.rect ≡ whole_of size
+  pub sums : g ≡ sums_at g.rect p size (whole_of (dim_of p))
+
+pub one_tile : AllRows → (p : Picture) (size : Dim) (g : Grid) → IsWhole p → 0 < p.width → 0 < p.height
+    → ((q : Picture) → p ≡ crop q (whole_of (dim_of p)) → g ≡ sums_of (crop q (whole_of (dim_of p))) size (part_of (whole_of (dim_of p)) (whole_of (dim_of p))))
+    → OneTile p size g
+one_tile law p size g whole columns rows made =
+    let same = whole_crop law p whole in
+    let first : g ≡ sums_of p size (part_of (whole_of (dim_of p)) (whole_of (dim_of p))) =
+    made p (sym same) ∙ ap (λ (q : Picture). sums_of q size (part_of (whole_of (dim_of p)) (whole_of (dim_of p)))) same in
+    let second : g ≡ sums_of p size (whole_of (dim_of p)) = first ∙ ap (λ (r : Rect). sums_of p size r) (whole_part (dim_of p)) in
+    let places : g.rect ≡ whole_of size = ap (λ (h : Grid). h.rect) second ∙ whole_places (dim_of p) size columns rows in
+    record {
+      rect = places;
+      sums = second ∙ ap (λ (r : Rect). sums_at r p size (whole_of (dim_of p))) (sym (ap (λ (h : Grid). h.rect) second));
+    }
+
+pub inside_itself : (r s : Rect) → s ≡ r → IsInside r s
+inside_itself r s e = record {
+  left = omega (arith, ap (λ (t : Rect). t.x) e);
+  right = omega (arith, ap (λ (t : Rect). t.x) e, ap (λ (t : Rect). t.w) e);
+  upper = omega (arith, ap (λ (t : Rect). t.y) e);
+  lower = omega (arith, ap (λ (t : Rect). t.y) e, ap (λ (t : Rect). t.h) e);
+}
+
+pub dim_is : (a b : Dim) → a.w ≡ b.w → a.h ≡ b.h → a ≡ b
+dim_is a b w h =
+    let first : a ≡ record { w = b.w; h = b.h } = rw (← w, ← h) refl in
+    first
+
+-- a whole scaled picture, cropped
+pub finished_whole : AllRows → (p : Picture) (size : Dim) → IsWhole (scale p size) → crop (scale p size) (whole_of size) ≡ scale p size
+finished_whole law p size whole = whole_crop law (scale p size) whole
+
+-- the same from what the calls answered
+pub tile_from : AllRows → (p : Picture) (size sides : Dim) (at at' : Rect) (g : Grid) → IsWhole p → 0 < p.width → 0 < p.height
+    → sides ≡ dim_of p → at ≡ whole_of sides → at' ≡ whole_of sides
+    → ((q : Picture) → p ≡ crop q at → g ≡ sums_of (crop q at') size (part_of at at')) → OneTile p size g
+tile_from law p size sides at at' g whole columns rows same is is' made =
+    let place : at ≡ whole_of (dim_of p) = is ∙ ap whole_of same in
+    let place' : at' ≡ whole_of (dim_of p) = is' ∙ ap whole_of same in
+    let first : (q : Picture) → p ≡ crop q (whole_of (dim_of p)) → g ≡ sums_of (crop q at') size (part_of (whole_of (dim_of p)) at') =
+    λ q. subst (λ (r : Rect). p ≡ crop q r → g ≡ sums_of (crop q at') size (part_of r at')) place (made q) in
+    one_tile law p size g whole columns rows
+    (λ q. subst (λ (r : Rect). p ≡ crop q (whole_of (dim_of p)) → g ≡ sums_of (crop q r) size (part_of (whole_of (dim_of p)) r)) place' (first q))
+
+pub all_lies : (size : Dim) (r : Rect) → r ≡ whole_of size → LiesIn r size
+all_lies size r e = record {
+  columns = omega (arith, ap (λ (t : Rect). t.x) e, ap (λ (t : Rect). t.w) e);
+  rows = omega (arith, ap (λ (t : Rect). t.y) e, ap (λ (t : Rect). t.h) e);
+}

@@ -1,0 +1,9 @@
+use Rattle.std.proofs.Common.{◌≡◌, drop}
+use Rattle.iiif_machine.specs.Worlds.{all_learned}
+use Rattle.iiif_world.specs.Code.{world_of}
+use Rattle.iiif_world.specs.Heard.{heard_all, heard_first}
+use Rattle.iiif_world.proofs.world.World.gathered.Given as goal
+
+-- what was heard so far, and what the others know
+abbrev pub invariant-loop-call : goal.invariant-loop-call
+invariant-loop-call l = heard_all (all_learned (world_of l.self) l.calls) ≡ heard_first l.first (heard_all (all_learned (world_of l.self) (drop l.call-index l.calls)))

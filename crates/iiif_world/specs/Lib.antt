@@ -1,0 +1,9 @@
+pub mod Rows
+pub mod Open
+pub mod Code
+pub mod Heard
+pub mod Settling
+pub mod Entering
+pub mod Stepping
+pub mod Starting
+pub mod Loads

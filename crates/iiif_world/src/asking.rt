@@ -1,0 +1,152 @@
+//! The events of asks and replies.
+
+ghost use Rattle.std.specs.Prelude.{◌≡◌, Some, None, IfErr, IfOk, OnErr, OnOk};
+ghost use Rattle.iiif_machine.specs.Steps.{stage_taken, step};
+ghost use Rattle.iiif_machine.specs.declared.events.Event.{Event};
+ghost use Rattle.iiif_machine.specs.declared.events.WorldFault.{WorldFault};
+ghost use Rattle.iiif_world.specs.Code.{world_of};
+
+use crate::keys::{copied, same};
+use crate::world::World;
+use iiif_machine::{Caller, Flight, Purpose, Reply, Stage, WorldFault};
+use iiif_pixel::NoMemory;
+use iiif_scene::Key;
+use iiif_tables::{Class, Place};
+use std::alloc::Global;
+
+/// The stage of a flight for a key that asked, by the reply that it takes.
+fn taken(alloc: Global, key: &Key, reply: &Reply) -> Result<Stage, NoMemory>
+    ensures { IfOk result (λ s. s ≡ stage_taken key.now reply.now.key reply.now.outcome) }
+{
+    match &reply.outcome {
+        Err(_) => Ok(Stage::Fallback(None)),
+        Ok(value) => {
+            if same(&reply.key, key) {
+                Ok(Stage::Ready(Ok(copied(alloc, value)?), Place::Peer))
+            } else {
+                Ok(Stage::Fallback(None))
+            }
+        }
+    }
+}
+
+impl World {
+    /// The asked node, where it speaks the ask's version, serves it by a local call.
+    #[tactic(auto, unfolding(iiif_machine::specs::Steps::step))]
+    pub fn serve(&mut self, ask: usize) -> Result<(), WorldFault>
+        ensures ok { OnOk result (step (world_of self.old) (Event.Serve ask) ≡ Some (world_of self.new)) }
+        ensures not_now { IfErr result (λ f. f ≡ WorldFault.NotNow → step (world_of self.old) (Event.Serve ask) ≡ None) }
+        ensures same { OnErr result (world_of self.new ≡ world_of self.old) }
+    {
+        let Some(asked) = self.asks.get(ask) else {
+            return Err(WorldFault::NotNow);
+        };
+        let Some(node) = self.node_at(asked.node) else {
+            return Err(WorldFault::NotNow);
+        };
+        if !node.speaks(asked.version) {
+            return Err(WorldFault::NotNow);
+        }
+        let class = Class::Local;
+        let caller = Caller {
+            node: asked.node,
+            key: asked.key.copy()?,
+            class,
+            purpose: Purpose::ForAsk(ask),
+        };
+        self.add_call(caller)?;
+        Ok(())
+    }
+
+    /// A call that serves an ask replies what it knows.
+    #[tactic(auto, unfolding(iiif_machine::specs::Steps::step))]
+    pub fn reply(&mut self, call: usize) -> Result<(), WorldFault>
+        ensures ok { OnOk result (step (world_of self.old) (Event.Reply call) ≡ Some (world_of self.new)) }
+        ensures not_now { IfErr result (λ f. f ≡ WorldFault.NotNow → step (world_of self.old) (Event.Reply call) ≡ None) }
+        ensures same { OnErr result (world_of self.new ≡ world_of self.old) }
+    {
+        let Some(row) = self.calls.get(call) else {
+            return Err(WorldFault::NotNow);
+        };
+        let Purpose::ForAsk(_) = row.caller.purpose else {
+            return Err(WorldFault::NotNow);
+        };
+        let Some(outcome) = self.learned(call)? else {
+            return Err(WorldFault::NotNow);
+        };
+        let key = row.caller.key.copy()?;
+        self.add_reply(Reply { key, outcome })?;
+        Ok(())
+    }
+
+    /// A flight gets a reply.
+    #[tactic(auto, unfolding(iiif_machine::specs::Steps::step))]
+    pub fn take(&mut self, flight: usize, reply: usize) -> Result<(), WorldFault>
+        ensures ok { OnOk result (step (world_of self.old) (Event.Take flight reply) ≡ Some (world_of self.new)) }
+        ensures not_now { IfErr result (λ f. f ≡ WorldFault.NotNow → step (world_of self.old) (Event.Take flight reply) ≡ None) }
+        ensures same { OnErr result (world_of self.new ≡ world_of self.old) }
+    {
+        let Some(row) = self.flights.get(flight) else {
+            return Err(WorldFault::NotNow);
+        };
+        let Some(sent) = self.replies.get(reply) else {
+            return Err(WorldFault::NotNow);
+        };
+        match row.stage {
+            Stage::Asking => {}
+            Stage::Ended(_) => return Ok(()),
+            _ => return Err(WorldFault::NotNow),
+        }
+        let stage = taken(*self.calls.allocator(), &row.lead.key, sent)?;
+        self.set_stage(flight, stage);
+        Ok(())
+    }
+
+    /// An ask gets no reply.
+    #[tactic(auto, unfolding(iiif_machine::specs::Steps::step))]
+    pub fn lose(&mut self, flight: usize) -> Result<(), WorldFault>
+        ensures ok { OnOk result (step (world_of self.old) (Event.Lose flight) ≡ Some (world_of self.new)) }
+        ensures not_now { IfErr result (λ f. f ≡ WorldFault.NotNow → step (world_of self.old) (Event.Lose flight) ≡ None) }
+        ensures same { OnErr result (world_of self.new ≡ world_of self.old) }
+    {
+        match self.flights.get(flight) {
+            Some(
+                Flight {
+                    stage: Stage::Asking,
+                    ..
+                },
+            ) => {}
+            _ => return Err(WorldFault::NotNow),
+        }
+        self.set_stage(flight, Stage::Fallback(None));
+        Ok(())
+    }
+
+    /// A flight that asked in vain makes a local call of its own key.
+    #[tactic(auto, unfolding(iiif_machine::specs::Steps::step))]
+    pub fn go_local(&mut self, flight: usize) -> Result<(), WorldFault>
+        ensures ok { OnOk result (step (world_of self.old) (Event.GoLocal flight) ≡ Some (world_of self.new)) }
+        ensures not_now { IfErr result (λ f. f ≡ WorldFault.NotNow → step (world_of self.old) (Event.GoLocal flight) ≡ None) }
+        ensures same { OnErr result (world_of self.new ≡ world_of self.old) }
+    {
+        let Some(
+            Flight {
+                lead,
+                stage: Stage::Fallback(None),
+            },
+        ) = self.flights.get(flight)
+        else {
+            return Err(WorldFault::NotNow);
+        };
+        let caller = Caller {
+            node: lead.node,
+            key: lead.key.copy()?,
+            class: Class::Local,
+            purpose: Purpose::ForFallback(flight),
+        };
+        let call = self.calls.len();
+        self.add_call(caller)?;
+        self.set_stage(flight, Stage::Fallback(Some(call)));
+        Ok(())
+    }
+}

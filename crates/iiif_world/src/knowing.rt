@@ -1,0 +1,134 @@
+//! What calls know.
+
+ghost use Rattle.std.specs.Prelude.{◌≡◌, IfOk};
+ghost use Rattle.iiif_machine.specs.Worlds.{all_learned, known_by, learned};
+ghost use Rattle.iiif_world.specs.Code.{world_of};
+ghost use Rattle.iiif_world.specs.Heard.{heard, heard_all, heard_first};
+
+use crate::keys::copied;
+use crate::world::World;
+use iiif_machine::{CallState, Flight, Stage};
+use iiif_pixel::NoMemory;
+use iiif_scene::Value;
+use iiif_source::ReadFault;
+use std::alloc::Global;
+
+/// What a call knows, or several, but for the values.
+#[derive(Clone, Copy, Debug, PartialEq, Eq)]
+pub enum Heard {
+    /// Nothing, or one of several knows nothing.
+    Nothing,
+    /// A value, or each knows one.
+    Value,
+    /// A fault, or the first of several.
+    Fault(ReadFault),
+}
+
+/// An equal outcome. The only error is want of memory.
+fn copied_outcome(
+    alloc: Global,
+    outcome: &Result<Value, ReadFault>,
+) -> Result<Result<Value, ReadFault>, NoMemory>
+    ensures { IfOk result (λ o. o ≡ outcome.now) }
+{
+    match outcome {
+        Ok(value) => Ok(Ok(copied(alloc, value)?)),
+        Err(fault) => Ok(Err(*fault)),
+    }
+}
+
+fn heard_of(outcome: &Result<Value, ReadFault>) -> Heard
+    ensures { result ≡ heard (Some outcome.now) }
+{
+    match outcome {
+        Ok(_) => Heard::Value,
+        Err(fault) => Heard::Fault(*fault),
+    }
+}
+
+/// What was heard first, and then.
+fn first_of(first: Heard, next: Heard) -> Heard
+    ensures { result ≡ heard_first first next }
+{
+    match (first, next) {
+        (Heard::Nothing, _) => Heard::Nothing,
+        (Heard::Value, next) => next,
+        (Heard::Fault(_), Heard::Nothing) => Heard::Nothing,
+        (Heard::Fault(fault), Heard::Value) => Heard::Fault(fault),
+        (Heard::Fault(fault), Heard::Fault(_)) => Heard::Fault(fault),
+    }
+}
+
+impl World {
+    /// What a call in a state knows.
+    fn known(&self, state: &CallState) -> Result<Option<Result<Value, ReadFault>>, NoMemory>
+        ensures { IfOk result (λ o. o ≡ known_by (world_of self.now).flights state.now) }
+    {
+        let alloc = *self.calls.allocator();
+        match state {
+            CallState::Fresh => Ok(None),
+            CallState::Hit(value) => Ok(Some(Ok(copied(alloc, value)?))),
+            CallState::In(flight) => match self.flights.get(*flight) {
+                Some(
+                    Flight {
+                        stage: Stage::Ended(Some(outcome)),
+                        ..
+                    },
+                ) => Ok(Some(copied_outcome(alloc, outcome)?)),
+                _ => Ok(None),
+            },
+            CallState::Gone => Ok(None),
+        }
+    }
+
+    /// What a call knows. The only error is want of memory.
+    pub fn learned(&self, call: usize) -> Result<Option<Result<Value, ReadFault>>, NoMemory>
+        ensures { IfOk result (λ o. o ≡ learned (world_of self.now) call) }
+    {
+        match self.calls.get(call) {
+            None => Ok(None),
+            Some(call) => self.known(&call.state),
+        }
+    }
+
+    /// What a call in a state knows, but for the value.
+    fn heard_in(&self, state: &CallState) -> Heard
+        ensures { result ≡ heard (known_by (world_of self.now).flights state.now) }
+    {
+        match state {
+            CallState::Fresh => Heard::Nothing,
+            CallState::Hit(_) => Heard::Value,
+            CallState::In(flight) => match self.flights.get(*flight) {
+                Some(
+                    Flight {
+                        stage: Stage::Ended(Some(outcome)),
+                        ..
+                    },
+                ) => heard_of(outcome),
+                _ => Heard::Nothing,
+            },
+            CallState::Gone => Heard::Nothing,
+        }
+    }
+
+    /// What a call knows, but for the value.
+    fn heard(&self, call: usize) -> Heard
+        ensures { result ≡ heard (learned (world_of self.now) call) }
+    {
+        match self.calls.get(call) {
+            None => Heard::Nothing,
+            Some(call) => self.heard_in(&call.state),
+        }
+    }
+
+    /// What several calls know, but for the values. Of several faults it is the first.
+    pub fn gathered(&self, calls: &[usize]) -> Heard
+        ensures { result ≡ heard_all (all_learned (world_of self.now) calls.now) }
+    {
+        let mut first = Heard::Value;
+        for call in calls {
+            first = first_of(first, self.heard(*call));
+        }
+        first
+    }
+}

@@ -1,0 +1,174 @@
+//! The event of a landing.
+
+ghost use Rattle.std.specs.Prelude.{◌≡◌, ◌<◌, Bool, length, slice_get, Some, None, IfErr, IfOk, MatchOption, OnErr, OnOk};
+ghost use Rattle.iiif_scene.specs.Scenes.{IsProper};
+ghost use Rattle.iiif_machine.specs.Sound.{IsHonestWorld};
+ghost use Rattle.iiif_machine.specs.Steps.{step};
+ghost use Rattle.iiif_machine.specs.Tables.{Outcome, land as landed, value_of};
+ghost use Rattle.iiif_machine.specs.Rows.{Node};
+ghost use Rattle.iiif_machine.specs.Worlds.{put_table, settled, table_at, with_node, with_stage};
+ghost use Rattle.iiif_machine.specs.declared.events.Event.{Event};
+ghost use Rattle.iiif_machine.specs.declared.events.WorldFault.{WorldFault};
+ghost use Rattle.iiif_machine.specs.declared.rows.Lead.{Lead};
+ghost use Rattle.iiif_machine.specs.declared.rows.Stage.{Stage};
+ghost use Rattle.iiif_tables.specs.declared.table.Place.{Place};
+ghost use Rattle.iiif_world.specs.Code.{world_of, IsSoundWorld};
+ghost use Rattle.iiif_world.specs.Entering.{HasFlight};
+
+use crate::keys::copied;
+use crate::world::World;
+use iiif_machine::{Flight, Lead, Stage, WorldFault};
+use iiif_pixel::NoMemory;
+use iiif_scene::Value;
+use iiif_source::ReadFault;
+use iiif_tables::Place;
+use std::alloc::Global;
+use std::mem::replace;
+
+/// A copy of an outcome's value. The only error is want of memory.
+fn value_in(alloc: Global, outcome: &Result<Value, ReadFault>) -> Result<Option<Value>, NoMemory>
+    ensures { IfOk result (λ v. v ≡ value_of outcome.now) }
+{
+    match outcome {
+        Ok(value) => Ok(Some(copied(alloc, value)?)),
+        Err(_) => Ok(None),
+    }
+}
+
+/// A stage that is ready ends; any other stays.
+fn ended(stage: Stage) -> Stage
+    ensures { (o : Outcome) (p : Place) → stage ≡ Stage.Ready o p → result ≡ Stage.Ended (Some o) }
+{
+    match stage {
+        Stage::Ready(outcome, _) => Stage::Ended(Some(outcome)),
+        stage => stage,
+    }
+}
+
+/// A stage that ended with an outcome is ready; any other stays.
+fn reopened(stage: Stage, place: Place) -> Stage
+    ensures { (o : Outcome) → stage ≡ Stage.Ended (Some o) → result ≡ Stage.Ready o place }
+{
+    match stage {
+        Stage::Ended(Some(outcome)) => Stage::Ready(outcome, place),
+        stage => stage,
+    }
+}
+
+/// A flight that is ready ends.
+fn end_flight(flight: &mut Flight)
+    ensures { (l : Lead) (o : Outcome) (p : Place) → flight.old ≡ record { lead = l; stage = Stage.Ready o p } → flight.new ≡ record { lead = l; stage = Stage.Ended (Some o) } }
+{
+    let stage = replace(&mut flight.stage, Stage::New);
+    flight.stage = ended(stage);
+}
+
+/// A flight that ended with an outcome is ready again.
+fn reopen_flight(flight: &mut Flight, place: Place)
+    ensures { (l : Lead) (o : Outcome) → flight.old ≡ record { lead = l; stage = Stage.Ended (Some o) } → flight.new ≡ record { lead = l; stage = Stage.Ready o place } }
+{
+    let stage = replace(&mut flight.stage, Stage::New);
+    flight.stage = reopened(stage, place);
+}
+
+impl World {
+    /// What a flight has that is ready.
+    #[tactic(auto, unfolding(iiif_machine::specs::Steps::step))]
+    fn ready(&self, flight: usize) -> Option<(&Lead, &Result<Value, ReadFault>, Place)>
+        ensures { MatchOption result ((keep : Bool) → step (world_of self.now) (Event.Land flight keep) ≡ None)
+            (λ r. slice_get (world_of self.now).flights flight ≡ Some (record { lead = r.0.now; stage = Stage.Ready r.1.now r.2 })) }
+    {
+        match self.flights.get(flight) {
+            Some(
+                Flight {
+                    lead,
+                    stage: Stage::Ready(outcome, place),
+                },
+            ) => Some((lead, outcome, *place)),
+            _ => None,
+        }
+    }
+
+    /// A flight that is ready ends.
+    fn end(&mut self, flight: usize)
+        requires { flight < length (world_of self.old).flights }
+        ensures { (l : Lead) (o : Outcome) (p : Place) → slice_get (world_of self.old).flights flight ≡ Some (record { lead = l; stage = Stage.Ready o p })
+            → world_of self.new ≡ with_stage (world_of self.old) flight l (Stage.Ended (Some o)) }
+    {
+        end_flight(&mut self.flights[flight]);
+    }
+
+    /// A flight that ended with an outcome is ready again.
+    fn reopen(&mut self, flight: usize, place: Place)
+        requires { flight < length (world_of self.old).flights }
+        ensures { (l : Lead) (o : Outcome) → slice_get (world_of self.old).flights flight ≡ Some (record { lead = l; stage = Stage.Ended (Some o) })
+            → world_of self.new ≡ with_stage (world_of self.old) flight l (Stage.Ready o place) }
+    {
+        reopen_flight(&mut self.flights[flight], place);
+    }
+
+    /// A flight lands in the table of its node, with a value or with a fault. After an error all is as before.
+    fn land_at(
+        &mut self,
+        flight: usize,
+        value: Option<Value>,
+        place: Place,
+        keep: bool,
+    ) -> Result<(), NoMemory>
+        requires { (l : Lead) × (n : Node) × HasFlight (world_of self.old) flight l n }
+        ensures ok { OnOk result ((l : Lead) (n : Node) (o : Outcome) → HasFlight (world_of self.old) flight l n → value_of o ≡ value
+            → world_of self.new ≡ with_node (world_of self.old) l.node (put_table n l.key (landed (table_at n l.key) l.key l.class l.ticket o place keep))) }
+        ensures err { OnErr result (world_of self.new ≡ world_of self.old) }
+    {
+        let lead = &self.flights[flight].lead;
+        self.nodes[lead.node].land(&lead.key, lead.class, lead.ticket, value, place, keep)?;
+        Ok(())
+    }
+
+    /// The table of an ended flight's node has it landed, and all see what its calls know. After an error all is as before.
+    fn settle_landed(
+        &mut self,
+        flight: usize,
+        value: Option<Value>,
+        place: Place,
+        keep: bool,
+    ) -> Result<(), NoMemory>
+        requires proper { IsProper (world_of self.old).scene }
+        requires honest { IsHonestWorld (world_of self.old) }
+        requires there { (l : Lead) × (n : Node) × HasFlight (world_of self.old) flight l n }
+        ensures ok { OnOk result ((l : Lead) (n : Node) (o : Outcome) → HasFlight (world_of self.old) flight l n → value_of o ≡ value
+            → world_of self.new ≡ settled (with_node (world_of self.old) l.node
+            (put_table n l.key (landed (table_at n l.key) l.key l.class l.ticket o place keep)))) }
+        ensures err { OnErr result (world_of self.new ≡ world_of self.old) }
+    {
+        let settling = self.settling()?;
+        self.land_at(flight, value, place, keep)?;
+        self.settle(settling);
+        Ok(())
+    }
+
+    /// A flight that is ready ends, and its calls know.
+    #[tactic(auto, unfolding(iiif_machine::specs::Steps::step))]
+    pub fn land(&mut self, flight: usize, keep: bool) -> Result<(), WorldFault>
+        requires sound { IsSoundWorld (world_of self.old) }
+        ensures ok { OnOk result (step (world_of self.old) (Event.Land flight keep) ≡ Some (world_of self.new)) }
+        ensures not_now { IfErr result (λ f. f ≡ WorldFault.NotNow → step (world_of self.old) (Event.Land flight keep) ≡ None) }
+        ensures same { OnErr result (world_of self.new ≡ world_of self.old) }
+    {
+        let Some((lead, outcome, place)) = self.ready(flight) else {
+            return Err(WorldFault::NotNow);
+        };
+        let Some(_node) = self.node_at(lead.node) else {
+            return Err(WorldFault::NotNow);
+        };
+        let value = value_in(*self.calls.allocator(), outcome)?;
+        self.end(flight);
+        match self.settle_landed(flight, value, place, keep) {
+            Ok(()) => Ok(()),
+            Err(_) => {
+                self.reopen(flight, place);
+                Err(WorldFault::NoMemory)
+            }
+        }
+    }
+}

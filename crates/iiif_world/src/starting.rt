@@ -1,0 +1,193 @@
+//! Worlds in which nothing has happened.
+
+ghost use Rattle.std.specs.Prelude.{◌≡◌, ◌<◌, false, length, map, IfErr, IfOk, IsTrue};
+ghost use Rattle.iiif_keys.specs.Names.{IsSource};
+ghost use Rattle.iiif_machine.specs.Worlds.{new_world};
+ghost use Rattle.iiif_machine.specs.Sound.{Each};
+ghost use Rattle.iiif_ring.specs.Names.{names_of};
+ghost use Rattle.iiif_world.specs.Code.{node_of, scene_of, world_of, IsSoundWorld};
+ghost use Rattle.iiif_world.specs.Starting.{node_for, AreSources, IsNamed, IsSetupFault, NamesNodes};
+
+use crate::node::Node;
+use crate::plain::PlainTable;
+use crate::world::{Item, World};
+use iiif_canonical::Limits;
+use iiif_keys::Name;
+use iiif_pixel::{NoMemory, Raster};
+use iiif_ring::Ring;
+use std::alloc::Global;
+
+/// What a node is made of: its name, the names on its ring, the last version of messages that it speaks, and how many bytes and
+/// entries its tables keep at most.
+#[derive(Drop)]
+pub struct Setup {
+    pub name: Name,
+    pub ring: Ring,
+    pub version: u8,
+    pub limit: u64,
+    pub room: usize,
+}
+
+/// Why a world can't begin so: the first that applies.
+#[derive(Clone, Copy, Debug, PartialEq, Eq)]
+pub enum SetupFault {
+    /// A tile's side isn't 1 to 1,024.
+    Edge,
+    /// A plan has room for more than 65,536 sums.
+    Room,
+    /// A picture has more than 1,000,000 columns or rows, or more than 2^32 places, or none.
+    Picture,
+    /// A ring names no node.
+    Ring,
+    /// Memory was refused.
+    NoMemory,
+}
+
+/// Whether a picture is within the limits on an image's sides.
+fn is_source(picture: &Raster) -> bool
+    ensures yes { IsTrue result → IsSource picture.now }
+    ensures no { result ≡ false → ¬ IsSource picture.now }
+{
+    picture.is_whole();
+    let dim = picture.dim();
+    let limit = 1_000_000;
+    0 < dim.w
+        && dim.w <= limit
+        && 0 < dim.h
+        && dim.h <= limit
+        && u64::from(dim.w) * u64::from(dim.h) <= 1 << 32
+}
+
+fn are_sources(items: &[Item]) -> bool
+    ensures yes { IsTrue result → AreSources items.now }
+    ensures no { result ≡ false → ¬ AreSources items.now }
+{
+    for item in items {
+        if !is_source(&item.picture) {
+            return false;
+        }
+    }
+    true
+}
+
+/// Whether one of the nodes has this name.
+fn is_named(setups: &[Setup], name: &str) -> bool
+    ensures yes { IsTrue result → IsNamed setups.now name.now }
+    ensures no { result ≡ false → ¬ IsNamed setups.now name.now }
+{
+    for setup in setups {
+        if setup.name.as_str() == name {
+            return true;
+        }
+    }
+    false
+}
+
+/// Whether there are names, and each is a node's.
+fn are_named(setups: &[Setup], names: &[String]) -> bool
+    ensures yes { IsTrue result → (0 < length (names_of names.now)) × Each (IsNamed setups.now) (names_of names.now) }
+    ensures no { result ≡ false → ¬ ((0 < length (names_of names.now)) × Each (IsNamed setups.now) (names_of names.now)) }
+{
+    if names.is_empty() {
+        return false;
+    }
+    for name in names {
+        if !is_named(setups, name.as_str()) {
+            return false;
+        }
+    }
+    true
+}
+
+/// Whether each name on each ring is a node's.
+fn rings_name_nodes(setups: &[Setup]) -> bool
+    ensures yes { IsTrue result → Each (NamesNodes setups.now) setups.now }
+    ensures no { result ≡ false → ¬ Each (NamesNodes setups.now) setups.now }
+{
+    for setup in setups {
+        if !are_named(setups, setup.ring.names()) {
+            return false;
+        }
+    }
+    true
+}
+
+/// The nodes that are made so. The only error is want of memory.
+fn nodes_of(alloc: Global, setups: Vec<Setup>) -> Result<Vec<Node>, NoMemory>
+    ensures { IfOk result (λ v. map node_of v.items ≡ map node_for setups.items) }
+{
+    let mut nodes = Vec::new(alloc);
+    for setup in setups {
+        nodes.push(Node {
+            tiles: PlainTable::new(alloc, setup.limit, setup.room),
+            sums: PlainTable::new(alloc, setup.limit, setup.room),
+            name: setup.name,
+            ring: setup.ring,
+            version: setup.version,
+        })?;
+    }
+    Ok(nodes)
+}
+
+/// The world of these images and nodes in which nothing has happened.
+fn begun(
+    alloc: Global,
+    catalogue: Vec<Item>,
+    edge: u32,
+    limits: Limits,
+    room: u64,
+    nodes: Vec<Node>,
+) -> World
+    ensures { world_of result ≡ new_world (scene_of catalogue.items edge limits room) (map node_of nodes.items) }
+{
+    World {
+        catalogue,
+        edge,
+        limits,
+        room,
+        nodes,
+        given: Vec::new(alloc),
+        requests: Vec::new(alloc),
+        calls: Vec::new(alloc),
+        flights: Vec::new(alloc),
+        asks: Vec::new(alloc),
+        replies: Vec::new(alloc),
+    }
+}
+
+impl World {
+    /// A world in which nothing has happened, of these images and nodes.
+    ///
+    /// # Errors
+    ///
+    /// The first of `Edge`, `Room`, `Picture` and `Ring` that applies; or `NoMemory`.
+    pub fn new(
+        alloc: Global,
+        catalogue: Vec<Item>,
+        edge: u32,
+        limits: Limits,
+        room: u64,
+        setups: Vec<Setup>,
+    ) -> Result<World, SetupFault>
+        ensures new { IfOk result (λ w. world_of w ≡ new_world (scene_of catalogue.items edge limits room) (map node_for setups.items)) }
+        ensures sound { IfOk result (λ w. IsSoundWorld (world_of w)) }
+        ensures fault { IfErr result (IsSetupFault catalogue.items edge room setups.items) }
+    {
+        if edge == 0 || 1024 < edge {
+            return Err(SetupFault::Edge);
+        }
+        if 65_536 < room {
+            return Err(SetupFault::Room);
+        }
+        if !are_sources(&catalogue) {
+            return Err(SetupFault::Picture);
+        }
+        if !rings_name_nodes(&setups) {
+            return Err(SetupFault::Ring);
+        }
+        match nodes_of(alloc, setups) {
+            Ok(nodes) => Ok(begun(alloc, catalogue, edge, limits, room, nodes)),
+            Err(_) => Err(SetupFault::NoMemory),
+        }
+    }
+}

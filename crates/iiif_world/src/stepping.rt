@@ -1,0 +1,135 @@
+//! One event, and lists of events.
+
+ghost use Rattle.std.specs.Prelude.{◌≡◌, ◌<◌, ℕ, All, length, take, slice_get, Some, None, IfErr, IfOk, OnErr, OnOk, MatchOption};
+ghost use Rattle.iiif_machine.specs.Steps.{run, step};
+ghost use Rattle.iiif_machine.specs.Worlds.{answer_in, answers};
+ghost use Rattle.iiif_machine.specs.Worlds as worlds;
+ghost use Rattle.iiif_machine.specs.Promises.{Follows};
+ghost use Rattle.iiif_machine.specs.declared.events.Event.{Event};
+ghost use Rattle.iiif_machine.specs.declared.rows.Answer.{Answer};
+ghost use Rattle.iiif_machine.specs.declared.events.WorldFault.{WorldFault};
+ghost use Rattle.iiif_world.specs.Code.{world_of, IsSoundWorld};
+ghost use Rattle.iiif_world.specs.Stepping.{IsShortEvent};
+
+use crate::world::World;
+use iiif_machine::{Answer, Event, Progress, WorldFault};
+use iiif_pixel::NoMemory;
+
+/// An equal answer. The only error is want of memory.
+fn copied_answer(answer: &Answer) -> Result<Answer, NoMemory>
+    ensures { IfOk result (λ a. a ≡ answer.now) }
+{
+    match answer {
+        Answer::Refused(refusal) => Ok(Answer::Refused(*refusal)),
+        Answer::Image(image) => Ok(Answer::Image(image.copy()?)),
+        Answer::Failed(fault) => Ok(Answer::Failed(*fault)),
+    }
+}
+
+/// What came of a request, if it is answered. The only error is want of memory.
+fn answer_in(progress: &Progress) -> Result<Option<Answer>, NoMemory>
+    ensures { IfOk result (λ a. a ≡ answer_in progress.now) }
+{
+    match progress {
+        Progress::Answered(answer) => Ok(Some(copied_answer(answer)?)),
+        Progress::Waiting(_, _) => Ok(None),
+        Progress::Dropped => Ok(None),
+    }
+}
+
+impl World {
+    /// What an event does.
+    fn happen(&mut self, event: &Event) -> Result<(), WorldFault>
+        requires sound { IsSoundWorld (world_of self.old) }
+        requires short { IsShortEvent event.now }
+        ensures ok { OnOk result (step (world_of self.old) event.now ≡ Some (world_of self.new)) }
+        ensures not_now { IfErr result (λ f. f ≡ WorldFault.NotNow → step (world_of self.old) event.now ≡ None) }
+        ensures same { OnErr result (world_of self.new ≡ world_of self.old) }
+    {
+        match event {
+            Event::Want(node, name, request) => self.want(*node, name, request),
+            Event::Enter(call) => self.enter(*call),
+            Event::Again(flight) => self.again(*flight),
+            Event::AskPeer(flight) => self.ask_peer(*flight),
+            Event::Serve(ask) => self.serve(*ask),
+            Event::Reply(call) => self.reply(*call),
+            Event::Take(flight, reply) => self.take(*flight, *reply),
+            Event::Lose(flight) => self.lose(*flight),
+            Event::GoLocal(flight) => self.go_local(*flight),
+            Event::Load(flight) => self.load(*flight),
+            Event::SourceFault(flight, fault) => self.source_fault(*flight, *fault),
+            Event::Land(flight, keep) => self.land(*flight, *keep),
+            Event::Evict(node, keys) => self.evict(*node, keys),
+            Event::Stop(node) => self.stop(*node),
+        }
+    }
+
+    /// One event.
+    ///
+    /// # Errors
+    ///
+    /// `NotNow` where it isn't allowed, and `NoMemory` where memory was refused. The world is as it was.
+    pub fn step(&mut self, event: &Event) -> Result<(), WorldFault>
+        requires sound { IsSoundWorld (world_of self.old) }
+        requires short { IsShortEvent event.now }
+        ensures ok { OnOk result (step (world_of self.old) event.now ≡ Some (world_of self.new)) }
+        ensures not_now { IfErr result (λ f. f ≡ WorldFault.NotNow → step (world_of self.old) event.now ≡ None) }
+        ensures same { OnErr result (world_of self.new ≡ world_of self.old) }
+        ensures follows { OnOk result (Follows (world_of self.old) (world_of self.new)) }
+        ensures sound { IsSoundWorld (world_of self.new) }
+    {
+        match self.happen(event) {
+            Ok(()) => Ok(()),
+            Err(fault) => Err(fault),
+        }
+    }
+
+    /// The answer to a request: none where it waits, or went with its node.
+    pub fn answer(&self, request: usize) -> Option<&Answer>
+        ensures { MatchOption result ((a : Answer) → slice_get (answers (world_of self.now)) request ≡ Some (Some a) → ⊥)
+            (λ a. slice_get (answers (world_of self.now)) request ≡ Some (Some a.now)) }
+    {
+        match self.requests.get(request) {
+            None => None,
+            Some(wanted) => match &wanted.progress {
+                Progress::Answered(answer) => Some(answer),
+                Progress::Waiting(_, _) => None,
+                Progress::Dropped => None,
+            },
+        }
+    }
+
+    /// The answers, by the requests' numbers: none where a request waits, or went with its node. The only error is want of memory.
+    pub fn answers(&self) -> Result<Vec<Option<Answer>>, NoMemory>
+        ensures { IfOk result (λ v. v.items ≡ answers (world_of self.now)) }
+    {
+        let mut all = Vec::new(*self.calls.allocator());
+        for wanted in &self.requests {
+            all.push(answer_in(&wanted.progress)?)?;
+        }
+        Ok(all)
+    }
+}
+
+/// Events, one after another.
+///
+/// # Errors
+///
+/// The place of the first event that was not allowed, with `NotNow`; or of one for which memory was refused.
+pub fn run(world: World, events: &[Event]) -> Result<World, (usize, WorldFault)>
+    requires sound { IsSoundWorld (world_of world) }
+    requires short { All IsShortEvent events.now }
+    ensures ok { IfOk result (λ w. run (world_of world) events.now ≡ Some (world_of w)) }
+    ensures err { IfErr result (λ e. (v : worlds.World) × (x : Event) × (run (world_of world) (take e.0 events.now) ≡ Some v)
+        × (slice_get events.now e.0 ≡ Some x) × (e.1 ≡ WorldFault.NotNow → step v x ≡ None)) }
+    ensures sound { IfOk result (λ w. IsSoundWorld (world_of w)) }
+{
+    let mut world = world;
+    for (place, event) in events.iter().enumerate() {
+        match world.step(event) {
+            Ok(()) => {}
+            Err(fault) => return Err((place, fault)),
+        }
+    }
+    Ok(world)
+}
