@@ -1,0 +1,143 @@
+"""The program as a server: started, asked over connections, and looked at from outside."""
+import os
+import socket
+import subprocess
+import tempfile
+import time
+
+BASE = "http://localhost/iiif"
+
+
+def free_port():
+    with socket.socket() as probe:
+        probe.bind(("127.0.0.1", 0))
+        return probe.getsockname()[1]
+
+
+def options_of(program):
+    """The options that the program's help names."""
+    text = subprocess.run([program, "--help"], capture_output=True, text=True).stdout
+    return {word.strip(",") for word in text.split() if word.startswith("--")}
+
+
+def caches_of(args):
+    """The bytes that the program's two caches may hold, where it has any."""
+    return 2 * args.cache_bytes if "--cache-bytes" in options_of(args.program) else 0
+
+
+class Refused(Exception):
+    """The program ended before it listened: its status and its line."""
+
+
+class Server:
+    """A running server of these images, NAME=FILE each, with more options where given."""
+
+    def __init__(self, program, images, options=(), env=None, ready=None):
+        self.port = free_port()
+        words = [program, "--base", BASE, "--listen", f"127.0.0.1:{self.port}", *map(str, options), *images]
+        # The program writes a line at most; a file holds it, so that nothing waits for a reader.
+        self.said = tempfile.TemporaryFile()
+        self.process = subprocess.Popen(words, stdin=subprocess.DEVNULL, stdout=self.said, stderr=self.said, env=env)
+        for _ in range(4000):
+            if self.process.poll() is not None:
+                raise Refused(self.process.returncode, self.line())
+            try:
+                self.connect().close()
+                return
+            except ConnectionRefusedError:
+                time.sleep(0.005)
+        raise Refused(None, "doesn't listen")
+
+    def line(self):
+        self.said.seek(0)
+        return self.said.read().decode(errors="replace").strip()
+
+    def connect(self, timeout=30):
+        link = socket.create_connection(("127.0.0.1", self.port), timeout)
+        link.setsockopt(socket.IPPROTO_TCP, socket.TCP_NODELAY, 1)
+        return link
+
+    def alive(self):
+        return self.process.poll() is None
+
+    def number(self, name):
+        """A number of kB from the process's status."""
+        with open(f"/proc/{self.process.pid}/status") as status:
+            return next(int(line.split()[1]) for line in status if line.startswith(name + ":"))
+
+    def resident(self):
+        return self.number("VmRSS") * 1024
+
+    def peak(self):
+        return self.number("VmHWM") * 1024
+
+    def files(self):
+        return len(os.listdir(f"/proc/{self.process.pid}/fd"))
+
+    def files_left(self, before, seconds=5):
+        """How many open files there are more than before, once connections that end have had some seconds to go."""
+        deadline = time.monotonic() + seconds
+        while self.files() > before and time.monotonic() < deadline:
+            time.sleep(0.05)
+        return self.files() - before
+
+    def stop(self):
+        if self.alive():
+            self.process.terminate()
+        self.process.wait()
+        self.said.close()
+
+    def __enter__(self):
+        return self
+
+    def __exit__(self, *_):
+        self.stop()
+
+
+def exactly(link, count):
+    """So many bytes of a connection, fewer where it ends."""
+    got = bytearray()
+    while len(got) < count:
+        try:
+            part = link.recv(min(65536, count - len(got)))
+        except (ConnectionResetError, TimeoutError):
+            break
+        if not part:
+            break
+        got += part
+    return bytes(got)
+
+
+def to_the_end(link):
+    """All that a connection gives until it ends, and whether it ended by itself."""
+    got = bytearray()
+    while True:
+        try:
+            part = link.recv(65536)
+        except ConnectionResetError:
+            return bytes(got), True
+        except TimeoutError:
+            return bytes(got), False
+        if not part:
+            return bytes(got), True
+        got += part
+
+
+def exchanged(server, pieces, timeout=20):
+    """What a connection is answered that sends these pieces and then ends its own side."""
+    with server.connect(timeout) as link:
+        try:
+            for piece in pieces:
+                link.sendall(piece)
+            link.shutdown(socket.SHUT_WR)
+        except (BrokenPipeError, ConnectionResetError, OSError):
+            pass
+        return to_the_end(link)
+
+
+def memory_bound(channels, limit, edge, name, pieces, deep=False, longer_side=None):
+    """The bytes that one request can take, by docs/OPERATING.md, with 4 for each strip or tile of the files and a connection's buffer."""
+    per = 10 if deep else 9
+    across = limit // edge + 2
+    down = across if longer_side is None else max(across, longer_side // edge + 2)
+    return per * channels * limit ** 2 + per * channels * (edge + 1) ** 2 + (100 + name) * across * down + 4 * 2 ** 20 + 4 * pieces + 8192
