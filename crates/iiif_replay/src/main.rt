@@ -7,6 +7,8 @@ mod reading;
 mod replaying;
 mod rows;
 mod state;
+#[cfg(test)]
+mod tests;
 mod values;
 
 use crate::fault::LineFault;
