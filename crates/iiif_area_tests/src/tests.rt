@@ -523,7 +523,7 @@ fn greatest_regions_and_sizes_are_added(rt: HostRuntime) -> Result<(), Fail> {
     let all = rect(0, 0, 65_536, 65_536);
     add(&rt, &mut sums, &tile, rect(65_535, 65_535, 1, 1), all, size);
     assert_eq!(rt; sums.sums(), [0, 17_591_917_608_960].as_slice());
-    // One column to 16,384, and as many rows as there may be: each result place has one part of a column, and of a row 16,384.
+    // One column to 16,384, and as many rows as there may be: each result place has one part of a column, and 16,384 parts of each row.
     let mut sums = Sums::zero(alloc, rect(8191, 16_383, 2, 1), Kind::Gray)?;
     let tall = rect(0, 0, 1, u32::MAX);
     add(
