@@ -16,7 +16,7 @@ use std::sync::Wait;
 const SIDE: u32 = 2_560;
 
 /// A gray file of so many places a side, in one strip, whose samples follow a pattern of columns and rows.
-pub fn gray_file(alloc: Global, side: u32) -> Result<Vec<u8>, NoMemory> {
+pub(crate) fn gray_file(alloc: Global, side: u32) -> Result<Vec<u8>, NoMemory> {
     let mut bytes = Vec::new(alloc);
     let dim = Dim { w: side, h: side };
     if fits(OutKind::Gray, dim) {
@@ -32,7 +32,7 @@ pub fn gray_file(alloc: Global, side: u32) -> Result<Vec<u8>, NoMemory> {
 }
 
 /// The large file, opened.
-pub fn open_file<R: Wait + Files<File = File> + AllocGlobal>(
+pub(crate) fn open_file<R: Wait + Files<File = File> + AllocGlobal>(
     rt: &R,
 ) -> Result<FileSource, BenchFault> {
     let path = "groups_bench.tmp";
@@ -43,7 +43,7 @@ pub fn open_file<R: Wait + Files<File = File> + AllocGlobal>(
 }
 
 /// A catalogue of one image, with the name `a`.
-pub fn catalogue<R, S: Source<R> + Drop>(
+pub(crate) fn catalogue<R, S: Source<R> + Drop>(
     rt: &R,
     alloc: Global,
     source: S,

@@ -27,7 +27,7 @@ const ROUNDS: u32 = 2_000;
 const THREADS: usize = 8;
 
 /// Four tiles asked for twice, and what was counted.
-pub fn few<R: Wait + Print, S: Source<R> + Drop, J: System>(
+pub(crate) fn few<R: Wait + Print, S: Source<R> + Drop, J: System>(
     rt: &R,
     alloc: Global,
     catalogue: Catalogue<R, S>,
@@ -70,7 +70,7 @@ fn copies<R, S: Source<R> + Drop, J: System>(
 }
 
 /// What a hit takes, by one thread and by eight, and what a copy of a tile does.
-pub fn hits<
+pub(crate) fn hits<
     R: Threads + Wait + Clock + CpuClock + Print + Send + Sync,
     S: Source<R> + Drop + Send + Sync,
     J: System + Send + Sync,
@@ -154,7 +154,7 @@ fn reads<R, S: Source<R> + Drop, J: System>(
 }
 
 /// What a load takes, where nothing is kept, and what the same read does with no group.
-pub fn loads<R: Wait + CpuClock + Print, S: Source<R> + Drop, J: System>(
+pub(crate) fn loads<R: Wait + CpuClock + Print, S: Source<R> + Drop, J: System>(
     rt: &R,
     alloc: Global,
     catalogue: Catalogue<R, S>,
@@ -188,7 +188,7 @@ pub fn loads<R: Wait + CpuClock + Print, S: Source<R> + Drop, J: System>(
 }
 
 /// How long one thread takes for all tiles from an empty cache, and how many it loads.
-pub fn alone<R: Wait + Clock + Print, S: Source<R> + Drop, J: System>(
+pub(crate) fn alone<R: Wait + Clock + Print, S: Source<R> + Drop, J: System>(
     rt: &R,
     alloc: Global,
     catalogue: Catalogue<R, S>,
@@ -213,7 +213,7 @@ pub fn alone<R: Wait + Clock + Print, S: Source<R> + Drop, J: System>(
 }
 
 /// The same by eight threads, each of which asks for all tiles.
-pub fn together<
+pub(crate) fn together<
     R: Threads + Wait + Clock + Print + Send + Sync,
     S: Source<R> + Drop + Send + Sync,
     J: System + Send + Sync,

@@ -48,7 +48,7 @@ fn ring(alloc: Global) -> Result<Ring, BenchFault>
 }
 
 /// The tiles of a catalogue at this edge, of which so many bytes are kept.
-pub fn made<R, S: Source<R> + Drop, J: System>(
+pub(crate) fn made<R, S: Source<R> + Drop, J: System>(
     alloc: Global,
     catalogue: Catalogue<R, S>,
     edge: u32,
@@ -87,7 +87,7 @@ fn key(alloc: Global, edge: u32, tx: u32, ty: u32) -> Result<TileKey, NoMemory> 
 }
 
 /// The keys of so many tiles in each of so many rows.
-pub fn keys(alloc: Global, edge: u32, side: u32) -> Result<Vec<TileKey>, NoMemory> {
+pub(crate) fn keys(alloc: Global, edge: u32, side: u32) -> Result<Vec<TileKey>, NoMemory> {
     let mut keys = Vec::new(alloc);
     for ty in 0..side {
         for tx in 0..side {
@@ -98,7 +98,7 @@ pub fn keys(alloc: Global, edge: u32, side: u32) -> Result<Vec<TileKey>, NoMemor
 }
 
 /// The first of some samples, 0 where there is none.
-pub fn first(samples: Span<'_>) -> u64 {
+pub(crate) fn first(samples: Span<'_>) -> u64 {
     match samples {
         Span::Eight(samples) => match samples.first() {
             Some(sample) => u64::from(*sample),
@@ -142,7 +142,7 @@ fn call<R: Wait, S: Source<R> + Drop, J: System>(
 }
 
 /// So many rounds of calls for all the keys: the sum of the tiles' first samples.
-pub fn calls<R: Wait, S: Source<R> + Drop, J: System>(
+pub(crate) fn calls<R: Wait, S: Source<R> + Drop, J: System>(
     rt: &R,
     tiles: &Shared<R, S, J>,
     pass: &mut Pass<TileCalls<J>>,
@@ -160,7 +160,7 @@ pub fn calls<R: Wait, S: Source<R> + Drop, J: System>(
 }
 
 /// The same by a thread of its own, 0 where a call fails or no pass is left.
-pub fn all_calls<R: Wait, S: Source<R> + Drop, J: System>(
+pub(crate) fn all_calls<R: Wait, S: Source<R> + Drop, J: System>(
     rt: &R,
     tiles: &Shared<R, S, J>,
     keys: &[TileKey],

@@ -18,7 +18,7 @@ fn counted_weight(i: u32, x: u32, a: u32, c: u32) -> u64 {
 }
 
 /// The sample at a place; 0 outside the picture.
-pub fn sample(picture: &Raster, x: u32, y: u32, channel: usize) -> u64 {
+pub(crate) fn sample(picture: &Raster, x: u32, y: u32, channel: usize) -> u64 {
     let dim = picture.dim();
     if x < dim.w && y < dim.h && channel < picture.kind().channels() {
         u64::from(picture.get(x, y, channel))
@@ -29,7 +29,7 @@ pub fn sample(picture: &Raster, x: u32, y: u32, channel: usize) -> u64 {
 
 /// The sum at result place (`i`, `j`) in a channel over those places of a region that `at` has too, both in the picture's
 /// columns and rows.
-pub fn sum_at(
+pub(crate) fn sum_at(
     picture: &Raster,
     at: Rect,
     region: Rect,
@@ -59,7 +59,7 @@ pub fn sum_at(
 
 /// The average of a sum over a whole region, to the nearest, a half up: the greatest number of 16 bits that is no further
 /// above it than a half.
-pub fn average(region: Rect, sum: u64) -> u64 {
+pub(crate) fn average(region: Rect, sum: u64) -> u64 {
     let area = u64::from(region.w) * u64::from(region.h);
     let mut least = 0u64;
     for step in [

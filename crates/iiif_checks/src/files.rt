@@ -13,7 +13,7 @@ use std::alloc::Global;
 use std::test::Fail;
 
 /// A node with tiles of this edge that has one file under the name `a`, and may scale up.
-pub fn node(
+pub(crate) fn node(
     alloc: Global,
     file: Vec<u8>,
     edge: u32,
@@ -42,7 +42,7 @@ pub fn node(
 }
 
 /// The file of a raster.
-pub fn file(alloc: Global, raster: &Raster, kind: OutKind) -> Result<Vec<u8>, Fail> {
+pub(crate) fn file(alloc: Global, raster: &Raster, kind: OutKind) -> Result<Vec<u8>, Fail> {
     if !fits(kind, raster.dim())
         || raster.kind().channels() != usize::from(kind.samples_per_pixel())
         || raster.depth() != kind.depth()
@@ -65,7 +65,7 @@ fn count(samples: Span) -> usize
 }
 
 /// A raster with these samples.
-pub fn raster(dim: Dim, kind: Kind, samples: Samples) -> Result<Raster, Fail> {
+pub(crate) fn raster(dim: Dim, kind: Kind, samples: Samples) -> Result<Raster, Fail> {
     let Some(asked) = (dim.w as usize * dim.h as usize).checked_mul(kind.channels()) else {
         return Err(Fail::from("too many samples"));
     };

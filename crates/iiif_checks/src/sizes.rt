@@ -177,7 +177,12 @@ fn plain(alloc: Global, raster: &Raster) -> Result<Plain, Fail> {
 /// Compares each region of a raster in each size up to twice the region's, nine turns and four qualities, as a node with tiles of
 /// this edge answers it from a file of this kind, and counts the answers. A node that doesn't scale up answers the sizes up to the
 /// region's, which are a quarter of all.
-pub fn compared(alloc: Global, raster: &Raster, out: OutKind, edge: u32) -> Result<u64, Fail> {
+pub(crate) fn compared(
+    alloc: Global,
+    raster: &Raster,
+    out: OutKind,
+    edge: u32,
+) -> Result<u64, Fail> {
     let pair = Pair {
         larger: node(alloc, file(alloc, raster, out)?, edge, true)?,
         other: node(alloc, file(alloc, raster, out)?, edge, false)?,

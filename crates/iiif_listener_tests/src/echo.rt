@@ -19,14 +19,14 @@ pub struct Echo {
 }
 
 impl Echo {
-    pub fn new() -> Echo {
+    pub(crate) fn new() -> Echo {
         Echo {
             served: AtomicU64::new(0),
         }
     }
 
     /// How many connections were served so far.
-    pub fn count(&self) -> u64 {
+    pub(crate) fn count(&self) -> u64 {
         self.served.load(Ordering::SeqCst)
     }
 }
@@ -68,7 +68,7 @@ impl<R> Serve<R> for Echo {
 }
 
 /// Whether a new connection is greeted.
-pub fn greeted(stream: &mut TcpStream) -> bool {
+pub(crate) fn greeted(stream: &mut TcpStream) -> bool {
     let mut byte = [0u8; 1];
     match stream.read(&mut byte) {
         Ok(1) => byte[0] == b'+',

@@ -114,7 +114,7 @@ fn name(alloc: Global, text: &str) -> Result<Name, Fail> {
 }
 
 /// The key of the tile `g`, of the edge 2.
-pub fn deep_key(alloc: Global) -> Result<TileKey, Fail> {
+pub(crate) fn deep_key(alloc: Global) -> Result<TileKey, Fail> {
     Ok(TileKey {
         name: name(alloc, "g")?,
         edge: 2,
@@ -138,7 +138,7 @@ pub const SAMPLE: Shape = Shape {
 };
 
 /// The key of the tile (1, 1) of `a`.
-pub fn tile_key(alloc: Global) -> Result<TileKey, Fail> {
+pub(crate) fn tile_key(alloc: Global) -> Result<TileKey, Fail> {
     Ok(TileKey {
         name: name(alloc, "a")?,
         edge: 2,
@@ -148,7 +148,7 @@ pub fn tile_key(alloc: Global) -> Result<TileKey, Fail> {
 }
 
 /// The key of the sums over the first block of level 0 of `a`, of which the whole is scaled to 2 by 2.
-pub fn sum_key(alloc: Global) -> Result<SumKey, Fail> {
+pub(crate) fn sum_key(alloc: Global) -> Result<SumKey, Fail> {
     Ok(SumKey {
         name: name(alloc, "a")?,
         edge: 2,
@@ -166,6 +166,6 @@ pub fn sum_key(alloc: Global) -> Result<SumKey, Fail> {
 }
 
 /// The bytes of a value.
-pub fn bytes_of<K: CacheKey>(alloc: Global, value: &K::Value) -> Result<Vec<u8>, Fail> {
+pub(crate) fn bytes_of<K: CacheKey>(alloc: Global, value: &K::Value) -> Result<Vec<u8>, Fail> {
     Ok(K::value_bytes(alloc, value)?)
 }

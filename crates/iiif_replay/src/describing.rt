@@ -160,7 +160,7 @@ fn limits(words: &[&str]) -> Result<Limits, LineFault> {
 
 impl Description {
     /// A world without pictures and nodes.
-    pub fn new(alloc: Global) -> Description {
+    pub(crate) fn new(alloc: Global) -> Description {
         Description {
             edge: 256,
             limits: Limits {
@@ -185,7 +185,7 @@ impl Description {
     }
 
     /// What a line sets; whether it is a setting.
-    pub fn set(&mut self, alloc: Global, words: &[&str]) -> Result<bool, LineFault> {
+    pub(crate) fn set(&mut self, alloc: Global, words: &[&str]) -> Result<bool, LineFault> {
         match word(words, 0)? {
             "edge" if words.len() == 2 => self.edge = side(words, 1)?,
             "room" if words.len() == 2 => self.room = number(words, 1)?,
@@ -198,7 +198,7 @@ impl Description {
     }
 
     /// The world that was described, in which nothing has happened.
-    pub fn begin(self, alloc: Global) -> Result<World, LineFault>
+    pub(crate) fn begin(self, alloc: Global) -> Result<World, LineFault>
         ensures { IfOk result (λ w. IsSoundWorld (world_of w)) }
     {
         let Description {

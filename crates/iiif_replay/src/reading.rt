@@ -14,7 +14,7 @@ use iiif_source::ReadFault;
 use std::alloc::Global;
 
 /// The number at a place.
-pub fn number(words: &[&str], at: usize) -> Result<u64, LineFault> {
+pub(crate) fn number(words: &[&str], at: usize) -> Result<u64, LineFault> {
     let Some(word) = words.get(at) else {
         return Err(LineFault::Bad);
     };
@@ -25,7 +25,7 @@ pub fn number(words: &[&str], at: usize) -> Result<u64, LineFault> {
 }
 
 /// The number at a place, where it is a side or a column.
-pub fn side(words: &[&str], at: usize) -> Result<u32, LineFault> {
+pub(crate) fn side(words: &[&str], at: usize) -> Result<u32, LineFault> {
     match u32::try_from(number(words, at)?) {
         Ok(side) => Ok(side),
         Err(_) => Err(LineFault::Bad),
@@ -33,7 +33,7 @@ pub fn side(words: &[&str], at: usize) -> Result<u32, LineFault> {
 }
 
 /// The number at a place, where it counts rows.
-pub fn count(words: &[&str], at: usize) -> Result<usize, LineFault> {
+pub(crate) fn count(words: &[&str], at: usize) -> Result<usize, LineFault> {
     match usize::try_from(number(words, at)?) {
         Ok(count) => Ok(count),
         Err(_) => Err(LineFault::Bad),
@@ -49,7 +49,7 @@ fn byte(words: &[&str], at: usize) -> Result<u8, LineFault> {
 }
 
 /// The word at a place.
-pub fn word<'a>(words: &[&'a str], at: usize) -> Result<&'a str, LineFault> {
+pub(crate) fn word<'a>(words: &[&'a str], at: usize) -> Result<&'a str, LineFault> {
     match words.get(at) {
         Some(word) => Ok(*word),
         None => Err(LineFault::Bad),
@@ -57,7 +57,7 @@ pub fn word<'a>(words: &[&'a str], at: usize) -> Result<&'a str, LineFault> {
 }
 
 /// The name at a place.
-pub fn name(alloc: Global, words: &[&str], at: usize) -> Result<Name, LineFault> {
+pub(crate) fn name(alloc: Global, words: &[&str], at: usize) -> Result<Name, LineFault> {
     let text = String::from_str(alloc, word(words, at)?)?;
     if !is_name(text.as_str()) {
         return Err(LineFault::Bad);
@@ -207,7 +207,7 @@ fn land(words: &[&str]) -> Result<Event, LineFault>
 }
 
 /// The event of a line's words.
-pub fn event(alloc: Global, words: &[&str]) -> Result<Event, LineFault>
+pub(crate) fn event(alloc: Global, words: &[&str]) -> Result<Event, LineFault>
     ensures { IfOk result IsShortEvent }
 {
     match word(words, 0)? {

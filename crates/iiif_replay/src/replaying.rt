@@ -59,7 +59,7 @@ fn rows(alloc: Global, world: &World) -> Result<String, NoMemory> {
 
 impl Replay {
     /// Nothing was read.
-    pub fn new(alloc: Global) -> Replay
+    pub(crate) fn new(alloc: Global) -> Replay
         ensures { IsSoundReplay result }
     {
         Replay {
@@ -86,7 +86,7 @@ impl Replay {
     }
 
     /// The answers of the world that has begun, if one has.
-    pub fn ended(&self, alloc: Global) -> Result<String, LineFault> {
+    pub(crate) fn ended(&self, alloc: Global) -> Result<String, LineFault> {
         match &self.state {
             State::Begun(world) => Ok(answers(alloc, world)?),
             _ => Ok(String::new(alloc)),
@@ -146,7 +146,12 @@ impl Replay {
     }
 
     /// What a line, of a number, comes to.
-    pub fn line(&mut self, alloc: Global, number: u64, line: &str) -> Result<String, LineFault>
+    pub(crate) fn line(
+        &mut self,
+        alloc: Global,
+        number: u64,
+        line: &str,
+    ) -> Result<String, LineFault>
         requires { IsSoundReplay self.old }
         ensures { IsSoundReplay self.new }
     {

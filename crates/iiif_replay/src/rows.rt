@@ -169,7 +169,7 @@ fn put_reply(text: &mut String, number: usize, reply: &Reply) -> Result<(), NoMe
 }
 
 /// All rows, one a line.
-pub fn put_rows(text: &mut String, world: &World) -> Result<(), NoMemory> {
+pub(crate) fn put_rows(text: &mut String, world: &World) -> Result<(), NoMemory> {
     for (number, node) in world.nodes.iter().enumerate() {
         put_node(text, number, node)?;
     }

@@ -8,7 +8,7 @@ use iiif_source::ReadFault;
 use iiif_tables::Class;
 
 /// A key, in the words by which an event names it.
-pub fn put_key(text: &mut String, key: &Key) -> Result<(), NoMemory> {
+pub(crate) fn put_key(text: &mut String, key: &Key) -> Result<(), NoMemory> {
     match key {
         Key::Tile(k) => {
             let name = k.name.as_str();
@@ -33,7 +33,7 @@ fn kind_word(kind: Kind) -> &'static str {
 }
 
 /// A picture, in the words of a setting.
-pub fn put_raster(text: &mut String, raster: &Raster) -> Result<(), NoMemory> {
+pub(crate) fn put_raster(text: &mut String, raster: &Raster) -> Result<(), NoMemory> {
     let (dim, kind) = (raster.dim(), kind_word(raster.kind()));
     match raster.samples() {
         Span::Eight(samples) => {
@@ -67,26 +67,29 @@ fn put_sums(text: &mut String, value: &SumVal) -> Result<(), NoMemory> {
     Ok(())
 }
 
-pub fn put_value(text: &mut String, value: &Value) -> Result<(), NoMemory> {
+pub(crate) fn put_value(text: &mut String, value: &Value) -> Result<(), NoMemory> {
     match value {
         Value::Tile(TileVal { raster }) => put_raster(text, raster),
         Value::Sum(sums) => put_sums(text, sums),
     }
 }
 
-pub fn put_fault(text: &mut String, fault: &ReadFault) -> Result<(), NoMemory> {
+pub(crate) fn put_fault(text: &mut String, fault: &ReadFault) -> Result<(), NoMemory> {
     write!(text, "fault {} {}", fault.place, fault.cause)
 }
 
 /// A value, or a fault.
-pub fn put_outcome(text: &mut String, outcome: &Result<Value, ReadFault>) -> Result<(), NoMemory> {
+pub(crate) fn put_outcome(
+    text: &mut String,
+    outcome: &Result<Value, ReadFault>,
+) -> Result<(), NoMemory> {
     match outcome {
         Ok(value) => put_value(text, value),
         Err(fault) => put_fault(text, fault),
     }
 }
 
-pub fn put_answer(text: &mut String, answer: &Answer) -> Result<(), NoMemory> {
+pub(crate) fn put_answer(text: &mut String, answer: &Answer) -> Result<(), NoMemory> {
     match answer {
         Answer::Refused(refusal) => write!(text, "refused {:?}", refusal),
         Answer::Image(raster) => {
@@ -97,7 +100,7 @@ pub fn put_answer(text: &mut String, answer: &Answer) -> Result<(), NoMemory> {
     }
 }
 
-pub fn class_word(class: Class) -> &'static str {
+pub(crate) fn class_word(class: Class) -> &'static str {
     match class {
         Class::Wide => "wide",
         Class::Local => "local",
@@ -105,7 +108,7 @@ pub fn class_word(class: Class) -> &'static str {
 }
 
 /// Numbers, each behind a space.
-pub fn put_numbers(text: &mut String, numbers: &Numbers) -> Result<(), NoMemory> {
+pub(crate) fn put_numbers(text: &mut String, numbers: &Numbers) -> Result<(), NoMemory> {
     for number in numbers.items() {
         write!(text, " {}", number)?;
     }

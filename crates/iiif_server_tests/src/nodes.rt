@@ -17,7 +17,7 @@ pub type MemNode = Node<(), FuseSource<MemSource>>;
 pub const NEVER: u64 = u64::MAX;
 
 /// Results at most so wide and high, and none above its region.
-pub fn limits(max: u32) -> Limits {
+pub(crate) fn limits(max: u32) -> Limits {
     Limits {
         max_w: max,
         max_h: max,
@@ -52,7 +52,7 @@ fn images(
 }
 
 /// A node with tiles of this edge that has a file under a name, of which the k-th read and each later one fails.
-pub fn node_of(
+pub(crate) fn node_of(
     rt: &HostRuntime,
     name: &str,
     file: &[u8],
@@ -67,7 +67,7 @@ pub fn node_of(
 
 /// A node with tiles of edge 2 that has a file under the name `a`, whose results are at most so wide and high, and may be above
 /// their regions.
-pub fn larger(rt: &HostRuntime, file: &[u8], max: u32) -> Result<MemNode, Fail> {
+pub(crate) fn larger(rt: &HostRuntime, file: &[u8], max: u32) -> Result<MemNode, Fail> {
     let alloc = rt.alloc();
     let file = Vec::from_slice(alloc, file)?;
     let images = images(alloc, String::from_str(alloc, "a")?, file, NEVER)?;
@@ -80,7 +80,7 @@ pub fn larger(rt: &HostRuntime, file: &[u8], max: u32) -> Result<MemNode, Fail> 
 }
 
 /// Sends the body that a target is answered.
-pub fn send_body<W: Outlet>(
+pub(crate) fn send_body<W: Outlet>(
     alloc: Global,
     node: &MemNode,
     target: &[u8],
@@ -90,7 +90,7 @@ pub fn send_body<W: Outlet>(
 }
 
 /// Sends the answer to a call that leaves the connection open.
-pub fn send_answer<W: Outlet>(
+pub(crate) fn send_answer<W: Outlet>(
     alloc: Global,
     node: &MemNode,
     method: Method,
@@ -106,7 +106,7 @@ pub fn send_answer<W: Outlet>(
 }
 
 /// Answers a connection.
-pub fn send_stream<I: Inlet + Drop, W: Outlet>(
+pub(crate) fn send_stream<I: Inlet + Drop, W: Outlet>(
     alloc: Global,
     node: &MemNode,
     reader: I,
@@ -116,7 +116,11 @@ pub fn send_stream<I: Inlet + Drop, W: Outlet>(
 }
 
 /// The status and body that a target is answered.
-pub fn body(rt: &HostRuntime, node: &MemNode, target: &[u8]) -> Result<(u16, Vec<u8>), Fail> {
+pub(crate) fn body(
+    rt: &HostRuntime,
+    node: &MemNode,
+    target: &[u8],
+) -> Result<(u16, Vec<u8>), Fail> {
     let mut out = Vec::new(rt.alloc());
     match send_body(rt.alloc(), node, target, &mut out) {
         Ok(sent) if sent.bytes == out.len() as u64 => Ok((sent.status, out)),
@@ -126,7 +130,7 @@ pub fn body(rt: &HostRuntime, node: &MemNode, target: &[u8]) -> Result<(u16, Vec
 }
 
 /// What a call is answered.
-pub fn answer(
+pub(crate) fn answer(
     rt: &HostRuntime,
     node: &MemNode,
     method: Method,

@@ -47,7 +47,7 @@ fn scaled(alloc: Global, region: &Raster, size: Dim) -> Result<Raster, NoMemory>
 }
 
 /// The image that a request comes to: the rectangle of the source, scaled, turned, in its quality.
-pub fn plain_render<R, S: Source<R>>(
+pub(crate) fn plain_render<R, S: Source<R>>(
     rt: &R,
     alloc: Global,
     source: &S,
