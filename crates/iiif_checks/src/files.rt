@@ -1,42 +1,47 @@
-//! Pictures as rasters and files, and nodes that have one.
+//! Pictures as rasters and files, and what nodes are made of that have one.
 
 ghost use Rattle.std.specs.Prelude.{◌≡◌, length};
 ghost use Rattle.iiif_pixel.specs.Depths.{span_values};
 
+use crate::sizes::Way;
 use iiif_canonical::Limits;
 use iiif_pixel::{Dim, Kind, Raster, Samples, Span};
-use iiif_server::{Catalogue, Config, Node};
+use iiif_server::{Catalogue, Config};
 use iiif_source::MemSource;
 use iiif_tiff_read::open;
 use iiif_tiff_write::{OutKind, fits, head, put_rows};
 use std::alloc::Global;
 use std::test::Fail;
 
-/// A node with tiles of this edge that has one file under the name `a`, and may scale up.
-pub(crate) fn node(
-    alloc: Global,
-    file: Vec<u8>,
-    edge: u32,
-    upscale: bool,
-) -> Result<Node<(), MemSource>, Fail> {
+/// The images of a node: one file under the name `a`.
+pub(crate) fn images<R>(rt: &R, alloc: Global, file: Vec<u8>) -> Result<Catalogue<R, MemSource>, Fail> {
     let source = MemSource::new(file);
-    let Ok(layout) = open(&(), alloc, &source) else {
+    let Ok(layout) = open(rt, alloc, &source) else {
         return Err(Fail::from("the file is refused"));
     };
     let mut catalogue = Catalogue::new(alloc);
-    if catalogue
-        .add(String::from_str(alloc, "a")?, source, layout)
-        .is_err()
-    {
-        return Err(Fail::from("the file is not taken in"));
+    match catalogue.add(String::from_str(alloc, "a")?, source, layout) {
+        Ok(()) => Ok(catalogue),
+        Err(_) => Err(Fail::from("the file is not taken in")),
     }
+}
+
+/// The settings of a node with tiles of this edge, which may scale up.
+pub(crate) fn settings(alloc: Global, edge: u32, upscale: bool, way: Way) -> Result<Config, Fail> {
     let limits = Limits {
         max_w: 4096,
         max_h: 4096,
         upscale,
     };
-    match Config::new(alloc, "http://localhost/iiif", edge, limits, 64, 2) {
-        Ok(config) => Ok(Node::new(config, catalogue)),
+    match Config::new(
+        alloc,
+        "http://localhost/iiif",
+        edge,
+        limits,
+        way.rows,
+        way.workers,
+    ) {
+        Ok(config) => Ok(config),
         Err(_) => Err(Fail::from("the settings are refused")),
     }
 }

@@ -2,6 +2,8 @@
 #![tactic(auto)]
 
 #[cfg(test)]
+mod bands_tests;
+#[cfg(test)]
 mod files;
 #[cfg(test)]
 mod plain;

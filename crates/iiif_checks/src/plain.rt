@@ -4,7 +4,7 @@ use std::alloc::{AllocError, Global};
 
 /// A picture: its sides, its channels, its greatest sample (255 or 65,535), its samples row by row.
 #[derive(Drop)]
-pub struct Plain {
+pub(crate) struct Plain {
     pub w: u64,
     pub h: u64,
     pub channels: u64,

@@ -42,6 +42,7 @@ impl<R, S: Source<R> + Drop, J: System> Images<R, S, J> {
     ghost use Rattle.iiif_pixel.specs.Geometry.{top_of};
     ghost use Rattle.iiif_tiff.specs.Tiff.{white_of};
     ghost use Rattle.iiif_tiff_read.specs.Layouts as layouts;
+    ghost use Rattle.iiif_images.specs.Views.{items_in};
 
     /// A catalogue at this edge, where the names stand for what it has.
     pub fn new(alloc: Global, catalogue: Catalogue<R, S>, edge: u32) -> Images<R, S, J>
@@ -49,6 +50,7 @@ impl<R, S: Source<R> + Drop, J: System> Images<R, S, J> {
         requires gave { (name : List ℕ) (f : ReadFault) → J.gave name f ≡ gave_of S.gave catalogue name f }
         requires stable { (name : List ℕ) (item : Item S) → item_named catalogue name ≡ Some item → J.stable name → ∥ S.keeps item.source ∥₁ }
         requires edge { edge ≡ J.edge }
+        ensures { items_in result ≡ catalogue }
     {
         Images {
             catalogue,
@@ -60,6 +62,7 @@ impl<R, S: Source<R> + Drop, J: System> Images<R, S, J> {
 
     /// The catalogue.
     pub fn catalogue(&self) -> &Catalogue<R, S>
+        ensures items { result.now ≡ items_in self.now }
         ensures pictures { (name : List ℕ) → J.pictures name ≡ pictures_of S.bytes result.now name }
         ensures gave { (name : List ℕ) (f : ReadFault) → J.gave name f ≡ gave_of S.gave result.now name f }
         ensures stable { (name : List ℕ) (item : Item S) → item_named result.now name ≡ Some item → J.stable name → ∥ S.keeps item.source ∥₁ }

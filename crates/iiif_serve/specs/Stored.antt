@@ -16,6 +16,6 @@ keeps_of (Memory source) = Unit {0}
 keeps_of (File len) = ⊥
 
 -- memory never fails
-abbrev pub gave_of : Stored → ReadFault → Bool
-gave_of (Memory source) f = false
-gave_of (File len) f = f.cause == failed || f.cause == ended
+abbrev pub stored_gave : Stored → ReadFault → Bool
+stored_gave (Memory source) f = false
+stored_gave (File len) f = f.cause == failed || f.cause == ended

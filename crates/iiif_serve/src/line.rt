@@ -1,5 +1,7 @@
 //! The command line.
 
+ghost use Rattle.std.specs.Prelude.{◌<◌, ◌^◌, IfSome};
+
 use clap::{Arg, ArgAction, ArgMatches, Command};
 use iiif_request::numerals::numeral;
 use iiif_server::{is_base_url, is_name};
@@ -11,6 +13,14 @@ use thiserror::Error;
 const EDGE: u64 = 256;
 /// The greatest side of a result where none is given, in pixels.
 const MAX: u64 = 4096;
+/// The bytes of each group's cache where none are given, and the most that may be.
+const CACHE_BYTES: u64 = 67_108_864;
+
+const MOST_CACHE_BYTES: u64 = 1 << 40;
+/// The rows of a band where none are given, and the workers of a request.
+const BAND: u64 = 64;
+
+const WORKERS: u64 = 2;
 
 /// The first thing that is wrong with the words, in this order.
 #[derive(Clone, Copy, Debug, PartialEq, Eq, Error)]
@@ -21,6 +31,12 @@ pub enum LineFault {
     Edge,
     #[error("max")]
     Max,
+    #[error("cache")]
+    Cache,
+    #[error("band")]
+    Band,
+    #[error("workers")]
+    Workers,
     #[error("image")]
     Image,
     #[error("mode")]
@@ -44,6 +60,12 @@ pub struct Options<'a> {
     pub edge: u32,
     pub max: u32,
     pub upscale: bool,
+    /// The bytes of each group's cache.
+    pub cache_bytes: u64,
+    /// The rows of a band.
+    pub band: u32,
+    /// The workers of a request.
+    pub workers: u32,
     /// Each image's name and file.
     pub images: Vec<(&'a str, &'a str)>,
     pub mode: Mode<'a>,
@@ -90,6 +112,24 @@ fn command<'a>(alloc: Global) -> Result<Command<'a>, clap::Error> {
             "the greatest side of a result, 4096 if left out",
         ))?
         .arg(upscale)?
+        .arg(option(
+            alloc,
+            "cache-bytes",
+            "BYTES",
+            "the bytes kept of tiles, and of sums, 67108864 each if left out",
+        ))?
+        .arg(option(
+            alloc,
+            "band",
+            "ROWS",
+            "the rows that are made and sent at once, 64 if left out",
+        ))?
+        .arg(option(
+            alloc,
+            "workers",
+            "COUNT",
+            "the threads that make an image, 2 if left out",
+        ))?
         .arg(option(alloc, "one", "TARGET", "answer this target and end"))?
         .arg(option(
             alloc,
@@ -132,6 +172,20 @@ fn sides(edge: Option<&str>, max: Option<&str>) -> Result<(u32, u32), LineFault>
     }
 }
 
+/// The bytes of a cache: a whole number of up to thirteen digits, within their limit.
+fn cache_bytes(text: Option<&str>) -> Option<u64>
+    ensures { IfSome result (λ n. n < 2 ^ 63) }
+{
+    let value = match text {
+        Some(text) => numeral(text.as_bytes(), 13)?,
+        None => CACHE_BYTES,
+    };
+    if value > MOST_CACHE_BYTES {
+        return None;
+    }
+    Some(value)
+}
+
 /// The names and files of images: at least one, each name of its own and within its limit.
 fn images<'a>(alloc: Global, words: &[&'a str]) -> Result<Vec<(&'a str, &'a str)>, LineFault> {
     let mut images: Vec<(&'a str, &'a str)> = Vec::new(alloc);
@@ -159,6 +213,15 @@ pub fn options_in<'a>(alloc: Global, matches: &ArgMatches<'a>) -> Result<Options
         _ => return Err(LineFault::Base),
     };
     let (edge, max) = sides(matches.get_str("edge"), matches.get_str("max"))?;
+    let Some(cache_bytes) = cache_bytes(matches.get_str("cache-bytes")) else {
+        return Err(LineFault::Cache);
+    };
+    let Some(band) = number(matches.get_str("band"), BAND, 16384) else {
+        return Err(LineFault::Band);
+    };
+    let Some(workers) = number(matches.get_str("workers"), WORKERS, 16) else {
+        return Err(LineFault::Workers);
+    };
     let images = match matches.get_strs("images") {
         Some(words) => images(alloc, words)?,
         None => return Err(LineFault::Image),
@@ -168,6 +231,9 @@ pub fn options_in<'a>(alloc: Global, matches: &ArgMatches<'a>) -> Result<Options
         edge,
         max,
         upscale: matches.get_flag("upscale"),
+        cache_bytes,
+        band,
+        workers,
         images,
         mode: mode_in(matches)?,
     })

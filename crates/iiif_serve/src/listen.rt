@@ -1,12 +1,15 @@
 //! Connections over TCP.
 
 use crate::stored::Stored;
+use crate::workers::{give_back, passes_of};
+use iiif_keys::System;
 use iiif_server::Node;
 use std::alloc::Global;
 use std::io::{ErrorKind, Read};
 use std::net::{Net, Shutdown, TcpListener, TcpStream};
 use std::rt::Clock;
 use std::sync::Wait;
+use std::thread::Threads;
 use std::time::Duration;
 use std::{io, thread};
 
@@ -31,10 +34,11 @@ const TRIES: u32 = 1000;
 /// Answers the connections that a listener takes, one after the other. What becomes of one connection changes nothing for the
 /// next. Where none can be taken, as where files or memory are wanting, it waits and goes on, and gives up where that was so
 /// 1,000 times in a row.
-pub fn serve_connections<R: Wait + Clock>(
+pub fn serve_connections<R: Threads + Wait + Clock + Sync, J: System + Send + Sync>(
     rt: &R,
     alloc: Global,
-    node: &Node<R, Stored>,
+    node: &Node<R, Stored, J>,
+    workers: u32,
     listener: &TcpListener,
 ) -> io::Result<()> {
     let mut failures = 0u32;
@@ -42,7 +46,7 @@ pub fn serve_connections<R: Wait + Clock>(
         match stream {
             Ok(stream) => {
                 failures = 0;
-                serve_connection(rt, alloc, node, stream);
+                serve_connection(rt, alloc, node, workers, stream);
             }
             Err(error) if is_passing(error.kind()) => {}
             Err(error) if is_lasting(error.kind()) || failures >= TRIES => return Err(error),
@@ -73,18 +77,25 @@ fn is_passing(kind: ErrorKind) -> bool {
     }
 }
 
-/// Answers the calls of a connection, and closes it.
-pub fn serve_connection<R: Wait>(rt: &R, alloc: Global, node: &Node<R, Stored>, stream: TcpStream) {
+/// Answers the calls of a connection, and closes it. Where passes for its workers are wanting, it is closed unanswered.
+pub fn serve_connection<R: Threads + Wait + Sync, J: System + Send + Sync>(
+    rt: &R,
+    alloc: Global,
+    node: &Node<R, Stored, J>,
+    workers: u32,
+    stream: TcpStream,
+) {
     let _ = stream.set_nodelay(true);
     let _ = stream.set_read_timeout(Some(Duration::from_millis(IDLE)));
     let _ = stream.set_write_timeout(Some(Duration::from_millis(STALLED)));
-    let Some(passes) = node.pass() else {
-        return;
-    };
     let Ok(mut out) = stream.try_clone() else {
         return;
     };
-    node.serve_stream(rt, alloc, &mut [passes], stream, &mut out);
+    let Some(mut passes) = passes_of(rt, alloc, node, workers) else {
+        return;
+    };
+    node.serve_stream(rt, alloc, &mut passes, stream, &mut out);
+    give_back(rt, node, passes);
     close(out);
 }
 

@@ -11,6 +11,7 @@ mod stored;
 mod tests;
 #[cfg(test)]
 mod upscale_tests;
+mod workers;
 
 use crate::program::{ended, program};
 use std::alloc::Global;

@@ -1,15 +1,23 @@
 //! The program's work: what its words ask for, done.
 
+ghost use Rattle.std.specs.Prelude.{◌≡◌, ℕ, List, Some};
+ghost use Rattle.iiif_source.specs.declared.ReadFault.{ReadFault};
+ghost use Rattle.iiif_images.specs.Collection.{Item, item_named};
+ghost use Rattle.iiif_images.specs.Named.{gave_of, pictures_of};
+ghost use Rattle.iiif_serve.specs.Stored.{bytes_of, keeps_of, stored_gave};
+
 use crate::hex::write_hex;
 use crate::line::{LineFault, Mode, Options, matches, options_in};
 use crate::listen::serve_connections;
 use crate::sample::sample;
 use crate::stored::Stored;
+use crate::workers::{give_back, passes_of};
 use clap::ArgMatches;
 use clap::error::ErrorKind;
 use iiif_canonical::Limits;
 use iiif_io::Outlet;
-use iiif_server::{Catalogue, Cause, Config, Fault, Node, Passes};
+use iiif_keys::System;
+use iiif_server::{Catalogue, Cause, Config, Fault, Node};
 use iiif_source::FileSource;
 use iiif_tiff_read::open;
 use std::alloc::Global;
@@ -17,9 +25,12 @@ use std::convert::AsStr;
 use std::fs;
 use std::fs::File;
 use std::io::Write;
+use std::marker::Brand;
 use std::net::{Net, TcpListener, TcpStream};
 use std::rt::{Clock, Files};
 use std::sync::Wait;
+use std::sync::ledger::Blank;
+use std::thread::Threads;
 
 /// What the program is run for where it is given no words: the built-in sample, whole, as hexadecimal digits.
 const SAMPLE_WORDS: [&str; 8] = [
@@ -33,10 +44,8 @@ const SAMPLE_WORDS: [&str; 8] = [
     "a=:sample",
 ];
 
-/// The rows of a band and the workers of a request.
-const BAND: u32 = 64;
-
-const WORKERS: u32 = 2;
+/// The most bytes of a group's cache.
+const MOST_CACHE_BYTES: u64 = 1 << 40;
 
 /// Why the program ends without an answer.
 #[derive(Clone, Copy, Debug, PartialEq, Eq)]
@@ -55,8 +64,10 @@ pub fn program<R, S, O, E>(rt: &R, words: &[S], out: &mut O, err: &mut E) -> u8
 where
     R: Files<File = File>
         + Net<Listener = TcpListener, Stream = TcpStream>
+        + Threads
         + Wait
         + Clock
+        + Sync
         + AllocGlobal,
     S: AsStr,
     O: Outlet,
@@ -96,8 +107,10 @@ fn with_matches<R, O, E>(
 where
     R: Files<File = File>
         + Net<Listener = TcpListener, Stream = TcpStream>
+        + Threads
         + Wait
         + Clock
+        + Sync
         + AllocGlobal,
     O: Outlet,
     E: Write,
@@ -150,7 +163,7 @@ where
 }
 
 /// The images, opened in the order given.
-fn catalogue<'a, R>(
+pub fn catalogue<'a, R>(
     rt: &R,
     alloc: Global,
     images: &[(&'a str, &'a str)],
@@ -176,24 +189,18 @@ where
     Ok(catalogue)
 }
 
-/// A node of the settings and images in the options.
-pub fn node<'a, R>(
-    rt: &R,
-    alloc: Global,
-    options: &Options<'a>,
-) -> Result<Node<R, Stored>, Stop<'a>>
-where
-    R: Files<File = File> + Wait + AllocGlobal,
-{
+/// The settings in the options.
+pub fn config<'a>(alloc: Global, options: &Options<'a>) -> Result<Config, Stop<'a>> {
     let limits = Limits {
         max_w: options.max,
         max_h: options.max,
         upscale: options.upscale,
     };
-    let Ok(config) = Config::new(alloc, options.base, options.edge, limits, BAND, WORKERS) else {
-        return Err(Stop::Memory);
-    };
-    Ok(Node::new(config, catalogue(rt, alloc, &options.images)?))
+    let (edge, band, workers) = (options.edge, options.band, options.workers);
+    match Config::new(alloc, options.base, edge, limits, band, workers) {
+        Ok(config) => Ok(config),
+        Err(_) => Err(Stop::Memory),
+    }
 }
 
 /// Answers what the options ask for.
@@ -206,20 +213,54 @@ fn answer<'a, R, O>(
 where
     R: Files<File = File>
         + Net<Listener = TcpListener, Stream = TcpStream>
+        + Threads
         + Wait
         + Clock
+        + Sync
         + AllocGlobal,
     O: Outlet,
 {
-    let node = node(rt, alloc, options)?;
+    let config = config(alloc, options)?;
+    let catalogue = catalogue(rt, alloc, &options.images)?;
+    let (tiles, sums) = (Blank::new(65_537), Blank::new(65_537));
+    answer_by::<R, O, Brand>(rt, alloc, options, config, catalogue, tiles, sums, out)
+}
+
+/// Answers by a node of these settings and images.
+fn answer_by<'a, R, O, J: System + Send + Sync>(
+    rt: &R,
+    alloc: Global,
+    options: &Options<'a>,
+    config: Config,
+    catalogue: Catalogue<R, Stored>,
+    tiles: Blank,
+    sums: Blank,
+    out: &mut O,
+) -> Result<(), Stop<'a>>
+where
+    R: Net<Listener = TcpListener, Stream = TcpStream> + Threads + Wait + Clock + Sync,
+    O: Outlet,
+    requires pictures { (name : List ℕ) → J.pictures name ≡ pictures_of bytes_of catalogue name }
+    requires gave { (name : List ℕ) (f : ReadFault) → J.gave name f ≡ gave_of stored_gave catalogue name f }
+    requires stable { (name : List ℕ) (item : Item Stored) → item_named catalogue name ≡ Some item → J.stable name → ∥ keeps_of item.source ∥₁ }
+    requires kept { (name : List ℕ) (item : Item Stored) → item_named catalogue name ≡ Some item → keeps_of item.source → J.stable name }
+    requires edge { config.edge ≡ J.edge }
+    requires tiles { (tiles.name ≡ J.tiles_name) × (tiles.parts ≡ J.tiles_parts) × (J.tiles_parts ≡ 65537) }
+    requires sums { (sums.name ≡ J.sums_name) × (sums.parts ≡ J.sums_parts) × (J.sums_parts ≡ 65537) }
+{
+    let bytes = options.cache_bytes.min(MOST_CACHE_BYTES);
+    let Ok(node) = Node::<R, Stored, J>::alone(alloc, config, catalogue, bytes, tiles, sums) else {
+        return Err(Stop::Memory);
+    };
+    let workers = options.workers;
     match options.mode {
-        Mode::One { target, hex: false } => answer_one(rt, alloc, &node, target, out),
-        Mode::One { target, hex: true } => answer_in_hex(rt, alloc, &node, target, out),
+        Mode::One { target, hex: false } => answer_one(rt, alloc, &node, workers, target, out),
+        Mode::One { target, hex: true } => answer_in_hex(rt, alloc, &node, workers, target, out),
         Mode::Listen(address) => {
             let Ok(listener) = TcpListener::bind(rt, address) else {
                 return Err(Stop::Listen);
             };
-            match serve_connections(rt, alloc, &node, &listener) {
+            match serve_connections(rt, alloc, &node, workers, &listener) {
                 Ok(()) => Ok(()),
                 Err(_) => Err(Stop::Listen),
             }
@@ -228,33 +269,39 @@ where
 }
 
 /// Writes the body of the answer to a target.
-fn answer_one<'a, R: Wait, O: Outlet>(
+fn answer_one<'a, R: Threads + Wait + Sync, O: Outlet, J: System + Send + Sync>(
     rt: &R,
     alloc: Global,
-    node: &Node<R, Stored>,
+    node: &Node<R, Stored, J>,
+    workers: u32,
     target: &str,
     out: &mut O,
 ) -> Result<(), Stop<'a>> {
-    match node.body_one(rt, alloc, &mut [Passes], target.as_bytes(), out) {
+    let Some(mut passes) = passes_of(rt, alloc, node, workers) else {
+        return Err(Stop::Memory);
+    };
+    let sent = node.body_one(rt, alloc, &mut passes, target.as_bytes(), out);
+    give_back(rt, node, passes);
+    match sent {
         Ok(_) => Ok(()),
         Err(cut) => Err(stopped_by(cut.cause)),
     }
 }
 
 /// Writes the body of the answer to a target as hexadecimal digits.
-fn answer_in_hex<'a, R: Wait, O: Outlet>(
+fn answer_in_hex<'a, R: Threads + Wait + Sync, O: Outlet, J: System + Send + Sync>(
     rt: &R,
     alloc: Global,
-    node: &Node<R, Stored>,
+    node: &Node<R, Stored, J>,
+    workers: u32,
     target: &str,
     out: &mut O,
 ) -> Result<(), Stop<'a>> {
     let mut body = Vec::new(alloc);
-    if let Err(cut) = node.body_one(rt, alloc, &mut [Passes], target.as_bytes(), &mut body) {
-        return Err(match cut.cause {
-            Cause::Writer => Stop::Memory,
-            cause => stopped_by(cause),
-        });
+    match answer_one(rt, alloc, node, workers, target, &mut body) {
+        Ok(()) => {}
+        Err(Stop::Write) => return Err(Stop::Memory),
+        Err(stop) => return Err(stop),
     }
     match write_hex(out, &body) {
         Ok(()) => Ok(()),

@@ -1,7 +1,7 @@
 //! Where an image's bytes are.
 
 ghost use Rattle.std.specs.Prelude.{ℕ, List, Bool};
-ghost use Rattle.iiif_serve.specs.Stored.{bytes_of, keeps_of, gave_of};
+ghost use Rattle.iiif_serve.specs.Stored.{bytes_of, keeps_of, stored_gave};
 
 use iiif_source::{FileSource, MemSource, ReadFault, Source};
 use std::sync::Wait;
@@ -18,7 +18,7 @@ impl<R: Wait> Source<R> for Stored {
 
     ghost keeps = { keeps_of };
 
-    ghost gave = { gave_of };
+    ghost gave = { stored_gave };
 
     fn len(&self) -> u64 {
         match self {

@@ -1,16 +1,28 @@
 //! The program on words of the command line.
 
+ghost use Rattle.std.specs.Prelude.{◌≡◌, ℕ, List, Some};
+ghost use Rattle.iiif_source.specs.declared.ReadFault.{ReadFault};
+ghost use Rattle.iiif_images.specs.Collection.{Item, item_named};
+ghost use Rattle.iiif_images.specs.Named.{gave_of, pictures_of};
+ghost use Rattle.iiif_serve.specs.Stored.{bytes_of, keeps_of, stored_gave};
+
 use crate::line::{Mode, Options};
 use crate::listen::serve_connection;
-use crate::program::{node, program};
+use crate::program::{catalogue, config, program};
+use crate::stored::Stored;
+use iiif_keys::System;
+use iiif_server::{Catalogue, Config, Node};
 use std::alloc::Global;
 use std::fmt::Write as _;
 use std::fs::File;
 use std::io::{Read, Write};
+use std::marker::Brand;
 use std::net::{Net, Shutdown, TcpListener, TcpStream};
 use std::rt::{Clock, Files};
 use std::sync::Wait;
+use std::sync::ledger::Blank;
 use std::test::Fail;
+use std::thread::Threads;
 use std::{fs, thread};
 
 const BASE: &str = "http://localhost/iiif";
@@ -22,8 +34,10 @@ fn run<R>(rt: &R, words: &[&str]) -> Result<(u8, Vec<u8>, Vec<u8>), Fail>
 where
     R: Files<File = File>
         + Net<Listener = TcpListener, Stream = TcpStream>
+        + Threads
         + Wait
         + Clock
+        + Sync
         + AllocGlobal,
 {
     let mut out = Vec::new(rt.alloc());
@@ -196,6 +210,50 @@ fn first_wrong_word_is_named(rt: HostRuntime) -> Result<(), Fail> {
 }
 
 #[test]
+fn caches_bands_and_workers_are_told(rt: HostRuntime) -> Result<(), Fail> {
+    let refused: [(&str, &str, &[u8]); 6] = [
+        ("--cache-bytes", "1099511627777", b"line: cache\n"),
+        ("--cache-bytes", "many", b"line: cache\n"),
+        ("--band", "0", b"line: band\n"),
+        ("--band", "16385", b"line: band\n"),
+        ("--workers", "0", b"line: workers\n"),
+        ("--workers", "17", b"line: workers\n"),
+    ];
+    for (option, value, line) in refused {
+        let words = ["--base", BASE, option, value, "--one", WHOLE, "a=:sample"];
+        let (status, out, err) = run(&rt, &words)?;
+        assert_eq!(rt; err.as_slice(), line);
+        assert_eq!(rt; (status, out.len()), (2, 0));
+    }
+    let (_, whole, _) = run(&rt, &["--base", BASE, "--one", WHOLE, "a=:sample"])?;
+    assert_eq!(rt; whole.len(), 190);
+    for (option, value) in [
+        ("--cache-bytes", "0"),
+        ("--cache-bytes", "1099511627776"),
+        ("--band", "1"),
+        ("--band", "16384"),
+        ("--workers", "1"),
+        ("--workers", "16"),
+    ] {
+        let words = [
+            "--base",
+            BASE,
+            "--edge",
+            "2",
+            option,
+            value,
+            "--one",
+            WHOLE,
+            "a=:sample",
+        ];
+        let (status, out, _) = run(&rt, &words)?;
+        assert_eq!(rt; status, 0);
+        assert_eq!(rt; out.as_slice(), whole.as_slice());
+    }
+    Ok(())
+}
+
+#[test]
 fn help_and_version_are_answers(rt: HostRuntime) -> Result<(), Fail> {
     for word in ["--help", "--version"] {
         let (status, out, err) = run(&rt, &[word])?;
@@ -250,24 +308,64 @@ fn sample_options(alloc: Global) -> Result<Options<'static>, Fail> {
         edge: 2,
         max: 4096,
         upscale: false,
+        cache_bytes: 67_108_864,
+        band: 64,
+        workers: 2,
         images,
         mode: Mode::Listen("127.0.0.1:0"),
     })
+}
+
+/// Answers a connection by a node of these settings and images.
+fn serve_by<R: Threads + Wait + Sync + AllocGlobal, J: System + Send + Sync>(
+    rt: &R,
+    config: Config,
+    catalogue: Catalogue<R, Stored>,
+    tiles: Blank,
+    sums: Blank,
+    stream: TcpStream,
+) -> Result<(), Fail>
+    requires pictures { (name : List ℕ) → J.pictures name ≡ pictures_of bytes_of catalogue name }
+    requires gave { (name : List ℕ) (f : ReadFault) → J.gave name f ≡ gave_of stored_gave catalogue name f }
+    requires stable { (name : List ℕ) (item : Item Stored) → item_named catalogue name ≡ Some item → J.stable name → ∥ keeps_of item.source ∥₁ }
+    requires kept { (name : List ℕ) (item : Item Stored) → item_named catalogue name ≡ Some item → keeps_of item.source → J.stable name }
+    requires edge { config.edge ≡ J.edge }
+    requires tiles { (tiles.name ≡ J.tiles_name) × (tiles.parts ≡ J.tiles_parts) × (J.tiles_parts ≡ 65537) }
+    requires sums { (sums.name ≡ J.sums_name) × (sums.parts ≡ J.sums_parts) × (J.sums_parts ≡ 65537) }
+{
+    let alloc = rt.alloc();
+    let node = Node::<R, Stored, J>::alone(alloc, config, catalogue, 67_108_864, tiles, sums)?;
+    serve_connection(rt, alloc, &node, 2, stream);
+    Ok(())
+}
+
+/// Answers a connection as the options ask for.
+fn serve<R: Files<File = File> + Threads + Wait + Sync + AllocGlobal>(
+    rt: &R,
+    options: &Options<'_>,
+    stream: TcpStream,
+) -> Result<(), Fail> {
+    let alloc = rt.alloc();
+    let Ok(config) = config(alloc, options) else {
+        return Err(Fail::from("the settings are refused"));
+    };
+    let Ok(catalogue) = catalogue(rt, alloc, &options.images) else {
+        return Err(Fail::from("the file is refused"));
+    };
+    let (tiles, sums) = (Blank::new(65_537), Blank::new(65_537));
+    serve_by::<R, Brand>(rt, config, catalogue, tiles, sums, stream)
 }
 
 #[test]
 fn three_requests_over_loopback(rt: HostRuntime) -> Result<(), Fail> {
     let alloc = rt.alloc();
     let options = sample_options(alloc)?;
-    let Ok(node) = node(&rt, alloc, &options) else {
-        return Err(Fail::from("the sample is refused"));
-    };
     let listener = TcpListener::bind(&rt, "127.0.0.1:0")?;
     let mut viewer = TcpStream::connect(&rt, listener.local_addr()?)?;
     viewer.write_all(REQUESTS.as_bytes())?;
     viewer.shutdown(Shutdown::Write)?;
     let (stream, _) = listener.accept()?;
-    serve_connection(&rt, alloc, &node, stream);
+    serve(&rt, &options, stream)?;
     let mut answers = Vec::new(alloc);
     viewer.read_to_end(&mut answers)?;
     assert_eq!(rt; answers.as_slice(), ANSWERS.as_bytes());
@@ -278,14 +376,11 @@ fn three_requests_over_loopback(rt: HostRuntime) -> Result<(), Fail> {
 fn calls_in_one_write_are_answered_while_the_viewer_stays(rt: HostRuntime) -> Result<(), Fail> {
     let alloc = rt.alloc();
     let options = sample_options(alloc)?;
-    let Ok(node) = node(&rt, alloc, &options) else {
-        return Err(Fail::from("the sample is refused"));
-    };
     let listener = TcpListener::bind(&rt, "127.0.0.1:0")?;
     let mut viewer = TcpStream::connect(&rt, listener.local_addr()?)?;
     viewer.write_all(REQUESTS.as_bytes())?;
     let (stream, _) = listener.accept()?;
-    serve_connection(&rt, alloc, &node, stream);
+    serve(&rt, &options, stream)?;
     let mut answers = Vec::new(alloc);
     viewer.read_to_end(&mut answers)?;
     assert_eq!(rt; answers.as_slice(), ANSWERS.as_bytes());
@@ -296,9 +391,6 @@ fn calls_in_one_write_are_answered_while_the_viewer_stays(rt: HostRuntime) -> Re
 fn answers_reach_a_viewer_that_sent_more(rt: HostRuntime) -> Result<(), Fail> {
     let alloc = rt.alloc();
     let options = sample_options(alloc)?;
-    let Ok(node) = node(&rt, alloc, &options) else {
-        return Err(Fail::from("the sample is refused"));
-    };
     let listener = TcpListener::bind(&rt, "127.0.0.1:0")?;
     let mut viewer = TcpStream::connect(&rt, listener.local_addr()?)?;
     viewer.write_all(b"GET /iiif/zz HTTP/1.1\r\nConnection: close\r\n\r\n")?;
@@ -307,7 +399,7 @@ fn answers_reach_a_viewer_that_sent_more(rt: HostRuntime) -> Result<(), Fail> {
     }
     viewer.shutdown(Shutdown::Write)?;
     let (stream, _) = listener.accept()?;
-    serve_connection(&rt, alloc, &node, stream);
+    serve(&rt, &options, stream)?;
     let mut answer = Vec::new(alloc);
     viewer.read_to_end(&mut answer)?;
     assert!(rt; answer.starts_with(b"HTTP/1.1 404 Not Found\r\n"));
@@ -438,8 +530,10 @@ fn one<R>(rt: &R, image: &str, target: &str) -> Result<Vec<u8>, Fail>
 where
     R: Files<File = File>
         + Net<Listener = TcpListener, Stream = TcpStream>
+        + Threads
         + Wait
         + Clock
+        + Sync
         + AllocGlobal,
 {
     let (status, out, err) = run(rt, &["--base", BASE, "--edge", "2", "--one", target, image])?;
@@ -562,23 +656,21 @@ fn sixteen_megabytes_over_loopback(rt: HostRuntime) -> Result<(), Fail> {
     let mut options = sample_options(alloc)?;
     options.edge = 1024;
     options.images = Vec::from_slice(alloc, &[("a", "large.tif")])?;
-    let Ok(node) = node(&rt, alloc, &options) else {
-        return Err(Fail::from("the file is refused"));
-    };
     let listener = TcpListener::bind(&rt, "127.0.0.1:0")?;
     let mut viewer = TcpStream::connect(&rt, listener.local_addr()?)?;
     viewer.write_all(b"GET /iiif/a/full/max/0/default.tif HTTP/1.1\r\n\r\n")?;
     viewer.shutdown(Shutdown::Write)?;
     let (stream, _) = listener.accept()?;
-    let (at, served) = (&rt, &node);
-    let (_, answer) = thread::join(
+    let (at, told) = (&rt, &options);
+    let (served, answer) = thread::join(
         at,
-        move || serve_connection(at, alloc, served, stream),
+        move || serve(at, told, stream),
         move || {
             let mut answer = Vec::new(alloc);
             viewer.read_to_end(&mut answer).map(|_| answer)
         },
     );
+    served?;
     let answer = answer?;
     assert!(rt; answer.starts_with(b"HTTP/1.1 200 OK\r\n"));
     assert!(rt; answer.ends_with(&file));

@@ -6,14 +6,17 @@ use std::net::{Net, TcpListener, TcpStream};
 use std::rt::{Clock, Files};
 use std::sync::Wait;
 use std::test::Fail;
+use std::thread::Threads;
 
 /// The program's status, and the last so many bytes of what it writes where the sample is asked for at a size.
 fn answered<R>(rt: &R, words: &[&str], size: &str, count: usize) -> Result<(u8, Vec<u8>), Fail>
 where
     R: Files<File = File>
         + Net<Listener = TcpListener, Stream = TcpStream>
+        + Threads
         + Wait
         + Clock
+        + Sync
         + AllocGlobal,
 {
     let alloc = rt.alloc();

@@ -1,15 +1,12 @@
 mod BaseUrlLemmas
 mod SettingsLemmas
-mod ScalingLemmas
 mod RenderLemmas
-mod PasteLemmas
-mod BlockLemmas
-mod GrowLemmas
 mod OutcomeLemmas
-mod ItemLemmas
+mod NameLemmas
 mod ReplyLemmas
 mod StreamLemmas
 mod SilenceLemmas
 mod MessageLemmas
 mod AllowedLemmas
+mod SendingLemmas
 mod PlainLemmas

@@ -1,16 +1,13 @@
 -- Answers made, told by their definitions.
-use Rattle.std.proofs.Common.{◌≡◌, ◌≢◌, ℕ, Bool, true, List, [], ◌∷◌, Result, Ok, Err, refl, inl, inr}
-use Rattle.std.specs.Prelude.{◌⊎◌, IfOk, codes}
+use Rattle.std.proofs.Common.{◌≡◌, ◌≢◌, ℕ, Bool, List, [], ◌∷◌, Result, Ok, Err, refl}
+use Rattle.std.specs.Prelude.{IfOk, codes}
 use Rattle.iiif_source.specs.declared.ReadFault.{ReadFault}
-use Rattle.iiif_tiff_read.specs.declared.fault.LoadFault.{LoadFault}
-use Rattle.iiif_tiff_read.specs.declared.fault.LoadFault.TheVariants as load
-use Rattle.iiif_server.specs.Allowed.{MayAnswer}
 use Rattle.iiif_server.specs.Answers.{Reply}
 use Rattle.iiif_server.specs.Settings.{Settings}
 use Rattle.iiif_request.specs.Refusals.{status_of, line_of}
 use Rattle.iiif_request.specs.declared.request.Refusal.{Refusal}
 use Rattle.iiif_request.specs.declared.request.Refusal.TheVariants.{Head, Method, Path, Identifier, Region, Size, Rotation, Quality, Format, Empty, Zero, Larger, Upscale, Limit}
-use Rattle.iiif_server.specs.Code.{answer_of}
+use Rattle.iiif_server.specs.Code.{answer_of, MayTell}
 use Rattle.iiif_server.specs.Responses.{Response, written, line, content_type, any_origin, allowed_methods, refusal_response}
 use Rattle.iiif_server.specs.declared.message.Message.{Message}
 use Rattle.iiif_server.specs.declared.part.Part.{Part}
@@ -44,14 +41,9 @@ pub refusal_made : {E : Type 0} (r : Result Message E) (part : Part) (e : Refusa
     → IfOk r (λ m. answer_of m ≡ written part (refusal_response e))
 refusal_made r part e status more body s f b made = rw (s, f, b) at made
 
--- an answer that may be given was made
+-- an answer that may be given, and of which nothing is held, was made
 pub may_be_given : {S E : Type 0} (s : Settings) (part : Part) (gave : S → ReadFault → Bool) (Reaches : Reply S → Type 0) (r : Result Message E) (a : Response)
-    → MayAnswer s part gave Reaches a → IfOk r (λ m. answer_of m ≡ written part a)
-    → IfOk r (λ m. (x : Response) × MayAnswer s part gave Reaches x × (answer_of m ≡ written part x))
-may_be_given s part gave Reaches r a may made = in_other_words r (λ m. answer_of m ≡ written part a)
-    (λ m. (x : Response) × MayAnswer s part gave Reaches x × (answer_of m ≡ written part x)) (λ m is. (a, may, is)) made
-
--- a failed load was for an image that is loaded
-pub was_loaded : (fault : LoadFault) (f : ReadFault) (b : Bool) → fault ≡ load.Source f → (fault ≡ load.NoMemory) ⊎ (b ≡ true) → b ≡ true
-was_loaded fault f b is (inl none) = cc
-was_loaded fault f b is (inr loaded) = loaded
+    → MayTell s part gave Reaches a → IfOk r (λ m. answer_of m ≡ written part a)
+    → IfOk r (λ m. (x : Response) × MayTell s part gave Reaches x × (answer_of m ≡ written part x))
+may_be_given s part gave Reaches r a tell made = in_other_words r (λ m. answer_of m ≡ written part a)
+    (λ m. (x : Response) × MayTell s part gave Reaches x × (answer_of m ≡ written part x)) (λ m is. (a, tell, is)) made

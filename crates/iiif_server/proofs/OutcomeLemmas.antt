@@ -1,5 +1,5 @@
 -- What a request comes to, from what the calls answered.
-use Rattle.std.proofs.Common.{◌≡◌, ℕ, ◌*◌, ◌<◌, ◌≤◌, ◌^◌, ◌%◌, ◌⊎◌, Bool, true, false, List, All, refl, sym, subst, ap, ◌∙◌, arith, inl, None, Result, Ok, Err}
+use Rattle.std.proofs.Common.{◌≡◌, ℕ, ◌*◌, ◌<◌, ◌≤◌, ◌^◌, ◌%◌, ◌⊎◌, Bool, true, false, List, All, refl, sym, subst, ap, ◌∙◌, arith, None, Result, Ok, Err}
 use Rattle.std.specs.Prelude.{if◌then◌else◌, ◌==◌}
 use Rattle.std.proofs.Math.Nat.{mul-le-mul}
 use Rattle.iiif_pixel.specs.Geometry.{channels_of, top_of}
@@ -35,8 +35,10 @@ use Rattle.iiif_canonical.specs.declared.resolved.Resolved.{Resolved}
 use Rattle.iiif_area.specs.Places.{IsScalable}
 use Rattle.iiif_pixel.specs.Geometry.{LiesIn, sides_of}
 use Rattle.iiif_server.specs.Answers.{IsPictureOf}
-use Rattle.iiif_server.specs.Collection.{Item}
-use Rattle.iiif_server.specs.Kinds.{channels_in, depth_of, kind_of, top_in}
+use Rattle.iiif_images.specs.Collection.{Item}
+use Rattle.iiif_images.specs.Named.{picture_in}
+use Rattle.iiif_assemble.specs.Jobs.{channels_in, top_in}
+use Rattle.iiif_server.specs.Kinds.{depth_of, kind_of}
 use Rattle.iiif_canonical.specs.Canonical.{canonical, canonical_of}
 use Rattle.iiif_canonical.specs.Texts.{CanBeSpelled}
 use Rattle.iiif_server.specs.Outcomes.{Accepts, Comes, IsRefused, no_image}
@@ -105,6 +107,15 @@ pictured_item bytes keeps item opened = record {
   shows = λ kept. subst (λ (l : Scheme). Shows (bytes item.source) (pictured (bytes item.source) l)) (sym (opened.same kept))
       (pictured_shows (bytes item.source) (opened.one (bytes item.source) opened.small (opened.accepted kept)));
 }
+
+-- which is the one that the bytes show, where they are kept
+pub picture_same : {S : Type 0} (bytes : S → List ℕ) (keeps : S → Type 0) (item : Item S) → IsOpened bytes keeps item → (p : Picture) → keeps item.source →
+    IsPictureOf bytes keeps item p → picture_in bytes item ≡ p
+unfolding pictured picture_in
+picture_same bytes keeps item opened p kept is =
+    let own = (pictured_item bytes keeps item opened).shows kept in
+    let one = opened.one (bytes item.source) opened.small (opened.accepted kept) in
+    one.2 (pictured (bytes item.source) item.layout) own ∙ sym (one.2 p (is.shows kept))
 
 -- a picture of an item, with the sides, the channels and the depth that its layout says
 pub item_picture : {S : Type 0} (bytes : S → List ℕ) (keeps : S → Type 0) (item : Item S) (dim : Dim) → IsOpened bytes keeps item

@@ -13,7 +13,7 @@ use Rattle.iiif_source.specs.declared.ReadFault.{ReadFault}
 use Rattle.iiif_server.specs.Allowed.{Allowed, IsCut}
 use Rattle.iiif_server.specs.Answers.{Reply}
 use Rattle.iiif_server.specs.Calls.{RepliesToCall, is_head, part_of}
-use Rattle.iiif_server.specs.Collection.{Item}
+use Rattle.iiif_images.specs.Collection.{Item}
 use Rattle.iiif_server.specs.Laws.{NoSilence}
 use Rattle.iiif_server.specs.Responses.{Response, want_of_memory, written}
 use Rattle.iiif_server.specs.Sent.{text_of}
@@ -91,21 +91,21 @@ none_first [] b none = refl
 none_first (x ∷ a) b none = cc
 
 -- no byte was written though a call came: the writer failed
-silent_at : {S : Type 0} (bytes : S → List ℕ) (keeps : S → Type 0) (gave : S → ReadFault → Bool) (s : Settings) (items : List (Item S)) (reader writer : Type 0)
+silent_at : {S : Type 0} (bytes : S → List ℕ) (keeps : S → Type 0) (honest : Bool) (gave : S → ReadFault → Bool) (s : Settings) (items : List (Item S)) (reader writer : Type 0)
     (n : ℕ) (input output rest : List ℕ) (h : RequestHead) → output ≡ [] → BeginsWithCall input h rest
-    → Stream (terms bytes keeps gave s items reader writer) n input output → writer
-silent_at bytes keeps gave s items reader writer _ _ _ rest h none begins (goes_on n input left text output k other stays whole stream) =
-    absurd (not_whole s k.method false gave (RepliesToCall bytes keeps s items k.method k.target) writer text (none_first text output none) whole)
-silent_at bytes keeps gave s items reader writer _ _ _ rest h none begins (closed n input left text k other shut whole) =
-    absurd (not_whole s k.method true gave (RepliesToCall bytes keeps s items k.method k.target) writer text none whole)
-silent_at bytes keeps gave s items reader writer _ _ _ rest h none begins (cut_off n input left text k other part) =
-    cut_by_writer s k.method (closes_after n k) gave (RepliesToCall bytes keeps s items k.method k.target) writer text part.0.cause none part.1.1
-silent_at bytes keeps gave s items reader writer _ _ _ rest h none begins (ended n) = absurd (not_at_end [] h rest refl begins)
-silent_at bytes keeps gave s items reader writer _ _ _ rest h none begins (head_cut n input faults) = absurd (not_cut input h rest begins faults)
-silent_at bytes keeps gave s items reader writer _ _ _ rest h none begins (reader_failed n input failed unfinished) = absurd (unfinished.not_whole h rest begins.reads)
-silent_at bytes keeps gave s items reader writer _ _ _ rest h none begins (no_head n input text faults sent) = absurd (not_bad input h rest begins faults)
-silent_at bytes keeps gave s items reader writer _ _ _ rest h none begins (no_memory n input text sent) = closing_by_writer writer want_of_memory text none sent
+    → Stream (terms bytes keeps honest gave s items reader writer) n input output → writer
+silent_at bytes keeps honest gave s items reader writer _ _ _ rest h none begins (goes_on n input left text output k other stays whole stream) =
+    absurd (not_whole s k.method false gave (RepliesToCall bytes keeps honest s items k.method k.target) writer text (none_first text output none) whole)
+silent_at bytes keeps honest gave s items reader writer _ _ _ rest h none begins (closed n input left text k other shut whole) =
+    absurd (not_whole s k.method true gave (RepliesToCall bytes keeps honest s items k.method k.target) writer text none whole)
+silent_at bytes keeps honest gave s items reader writer _ _ _ rest h none begins (cut_off n input left text k other part) =
+    cut_by_writer s k.method (closes_after n k) gave (RepliesToCall bytes keeps honest s items k.method k.target) writer text part.0.cause none part.1.1
+silent_at bytes keeps honest gave s items reader writer _ _ _ rest h none begins (ended n) = absurd (not_at_end [] h rest refl begins)
+silent_at bytes keeps honest gave s items reader writer _ _ _ rest h none begins (head_cut n input faults) = absurd (not_cut input h rest begins faults)
+silent_at bytes keeps honest gave s items reader writer _ _ _ rest h none begins (reader_failed n input failed unfinished) = absurd (unfinished.not_whole h rest begins.reads)
+silent_at bytes keeps honest gave s items reader writer _ _ _ rest h none begins (no_head n input text faults sent) = absurd (not_bad input h rest begins faults)
+silent_at bytes keeps honest gave s items reader writer _ _ _ rest h none begins (no_memory n input text sent) = closing_by_writer writer want_of_memory text none sent
 
-pub silent : {S : Type 0} (bytes : S → List ℕ) (keeps : S → Type 0) (gave : S → ReadFault → Bool) (reader writer : Type 0) → NoSilence bytes keeps gave reader writer
-silent bytes keeps gave reader writer s items input rest h begins stream =
-    silent_at bytes keeps gave s items reader writer 1 input [] rest h refl begins stream
+pub silent : {S : Type 0} (bytes : S → List ℕ) (keeps : S → Type 0) (honest : Bool) (gave : S → ReadFault → Bool) (reader writer : Type 0) → NoSilence bytes keeps honest gave reader writer
+silent bytes keeps honest gave reader writer s items input rest h begins stream =
+    silent_at bytes keeps honest gave s items reader writer 1 input [] rest h refl begins stream

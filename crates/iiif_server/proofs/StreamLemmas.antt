@@ -13,7 +13,7 @@ use Rattle.iiif_source.specs.declared.ReadFault.{ReadFault}
 use Rattle.iiif_server.specs.Allowed.{Allowed}
 use Rattle.iiif_server.specs.Calls.{RepliesToCall, part_of}
 use Rattle.iiif_server.specs.Code.{CloseFor, GoesOn, IsAnswered, Served, answer_of}
-use Rattle.iiif_server.specs.Collection.{Item}
+use Rattle.iiif_images.specs.Collection.{Item}
 use Rattle.iiif_server.specs.Responses.{Response, refusal_response, want_of_memory, written}
 use Rattle.iiif_server.specs.Sent.{Answer, EndsWith, IsSent}
 use Rattle.iiif_server.specs.Settings.{Settings}
@@ -29,13 +29,13 @@ closing_sent writer r text (Ok sent) ends = inl ends.0
 closing_sent writer r text (Err cut) ends = inr (ends.2, ends.3)
 
 -- what was sent for a call, with the result of the send
-pub is_answered : {S : Type 0} (bytes : S → List ℕ) (keeps : S → Type 0) (gave : S → ReadFault → Bool) (s : Settings) (items : List (Item S)) (writer : Type 0)
+pub is_answered : {S : Type 0} (bytes : S → List ℕ) (keeps : S → Type 0) (honest : Bool) (gave : S → ReadFault → Bool) (s : Settings) (items : List (Item S)) (writer : Type 0)
     (method target : List ℕ) (close : Bool) (text : List ℕ) (r : Result Sent Cut) (more : Bool)
-    → Allowed s (part_of method close) gave (RepliesToCall bytes keeps s items method target) writer text r
+    → Allowed s (part_of method close) gave (RepliesToCall bytes keeps honest s items method target) writer text r
     → IfOk r (λ _. more ≡ not close) → IfErr r (λ _. more ≡ false)
-    → IsAnswered bytes keeps gave s items writer method target close text more
-is_answered bytes keeps gave s items writer method target close text (Ok sent) more allowed ok err = inl ((sent, allowed), ok)
-is_answered bytes keeps gave s items writer method target close text (Err c) more allowed ok err = inr ((c, allowed), err)
+    → IsAnswered bytes keeps honest gave s items writer method target close text more
+is_answered bytes keeps honest gave s items writer method target close text (Ok sent) more allowed ok err = inl ((sent, allowed), ok)
+is_answered bytes keeps honest gave s items writer method target close text (Err c) more allowed ok err = inr ((c, allowed), err)
 
 -- a call was answered whole
 served_whole : (t : Terms) (n : ℕ) (input rest : List ℕ) (left : Option (List ℕ)) (text : List ℕ) (h : RequestHead) (close : Bool)
@@ -70,35 +70,35 @@ head_closing {W} a contents fails old new (Err e) result is made memory =
     (memory.0, memory.1, inr (closing_sent ((before : W) × fails before new) want_of_memory memory.0 result memory.2))
 
 -- the text of a call's answer, told by its head
-served_call : {S : Type 0} (bytes : S → List ℕ) (keeps : S → Type 0) (gave : S → ReadFault → Bool) (s : Settings) (items : List (Item S)) (reader writer : Type 0)
+served_call : {S : Type 0} (bytes : S → List ℕ) (keeps : S → Type 0) (honest : Bool) (gave : S → ReadFault → Bool) (s : Settings) (items : List (Item S)) (reader writer : Type 0)
     (n : ℕ) (input rest : List ℕ) (left : Option (List ℕ)) (text : List ℕ) (h : RequestHead) (close more : Bool) → BeginsWithCall input h rest → left ≡ Some rest
-    → close ≡ closes_after n h → IsAnswered bytes keeps gave s items writer h.method h.target close text more
-    → Served (terms bytes keeps gave s items reader writer) n input left text more
-served_call bytes keeps gave s items reader writer n input rest left text h close more begins is e (inl whole) =
-    let t = terms bytes keeps gave s items reader writer in
+    → close ≡ closes_after n h → IsAnswered bytes keeps honest gave s items writer h.method h.target close text more
+    → Served (terms bytes keeps honest gave s items reader writer) n input left text more
+served_call bytes keeps honest gave s items reader writer n input rest left text h close more begins is e (inl whole) =
+    let t = terms bytes keeps honest gave s items reader writer in
     subst (λ (m : Bool). Served t n input left text m) (sym whole.1) (served_whole t n input rest left text h close begins is e whole.0)
-served_call bytes keeps gave s items reader writer n input rest left text h close more begins is e (inr part) =
-    let t = terms bytes keeps gave s items reader writer in
+served_call bytes keeps honest gave s items reader writer n input rest left text h close more begins is e (inr part) =
+    let t = terms bytes keeps honest gave s items reader writer in
     let over : Served t n input left text false = (input, inl refl, served_partly t n input rest text h close begins e part.0) in
     subst (λ (m : Bool). Served t n input left text m) (sym part.1) over
 
 -- the same, from what was answered to the input
-pub next_call : {S : Type 0} (bytes : S → List ℕ) (keeps : S → Type 0) (gave : S → ReadFault → Bool) (s : Settings) (items : List (Item S)) (reader writer : Type 0)
+pub next_call : {S : Type 0} (bytes : S → List ℕ) (keeps : S → Type 0) (honest : Bool) (gave : S → ReadFault → Bool) (s : Settings) (items : List (Item S)) (reader writer : Type 0)
     (n : ℕ) (input left : Option (List ℕ)) (call shut : Call) (more : Bool) (old new : Option (List ℕ))
     → IfSome input (λ i. Answers i left (Ok (Some call))) → shut.method ≡ call.method → shut.target.items ≡ call.target.items → shut.close ≡ (call.close || n == call_limit)
-    → ((text : List ℕ) × Appends old new text × IsAnswered bytes keeps gave s items writer shut.method shut.target.items shut.close text more)
-    → IfSome input (λ i. (text : List ℕ) × Appends old new text × Served (terms bytes keeps gave s items reader writer) n i left text more)
-next_call bytes keeps gave s items reader writer n None left call shut more old new answers m t c sent = tt
-next_call bytes keeps gave s items reader writer n (Some input) left call shut more old new answers m t c sent =
+    → ((text : List ℕ) × Appends old new text × IsAnswered bytes keeps honest gave s items writer shut.method shut.target.items shut.close text more)
+    → IfSome input (λ i. (text : List ℕ) × Appends old new text × Served (terms bytes keeps honest gave s items reader writer) n i left text more)
+next_call bytes keeps honest gave s items reader writer n None left call shut more old new answers m t c sent = tt
+next_call bytes keeps honest gave s items reader writer n (Some input) left call shut more old new answers m t c sent =
     let is = answers.3 in
     let method : shut.method ≡ answers.0.method = m ∙ is.method in
     let target : shut.target.items ≡ answers.0.target = t ∙ is.target in
     let close : shut.close ≡ closes_after n answers.0 = c ∙ ap (λ (b : Bool). b || n == call_limit) is.close in
-    let first = subst (λ (x : List ℕ). IsAnswered bytes keeps gave s items writer x shut.target.items shut.close sent.0 more) method sent.2 in
-    let second = subst (λ (x : List ℕ). IsAnswered bytes keeps gave s items writer answers.0.method x shut.close sent.0 more) target first in (
+    let first = subst (λ (x : List ℕ). IsAnswered bytes keeps honest gave s items writer x shut.target.items shut.close sent.0 more) method sent.2 in
+    let second = subst (λ (x : List ℕ). IsAnswered bytes keeps honest gave s items writer answers.0.method x shut.close sent.0 more) target first in (
       sent.0,
       sent.1,
-      served_call bytes keeps gave s items reader writer n input answers.1 left sent.0 answers.0 shut.close more answers.2 answers.4 close second,
+      served_call bytes keeps honest gave s items reader writer n input answers.1 left sent.0 answers.0 shut.close more answers.2 answers.4 close second,
     )
 
 -- what was written where a connection ends, with what came of the input

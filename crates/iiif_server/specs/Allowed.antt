@@ -8,8 +8,10 @@ use Rattle.iiif_canonical.specs.Images as images
 use Rattle.iiif_canonical.specs.Texts.{CanBeSpelled}
 use Rattle.iiif_request.specs.declared.request.Request.{Request}
 use Rattle.iiif_request.specs.declared.request.Refusal.{Refusal}
+use Rattle.iiif_delivery.specs.Delivery.{IsHeldInBands}
+use Rattle.iiif_server.specs.Answers as answers
 use Rattle.iiif_server.specs.Answers.{Reply, Given, given}
-use Rattle.iiif_server.specs.Collection.{Item}
+use Rattle.iiif_images.specs.Collection.{Item}
 use Rattle.iiif_server.specs.Responses.{Response, refusal_response, redirect_response, information_response, image_response, response_of, source_fault, want_of_memory, written, is_loaded}
 use Rattle.iiif_server.specs.Sent.{text_of, IsStrictPrefix}
 use Rattle.iiif_server.specs.Settings.{Settings, limits_of}
@@ -20,6 +22,7 @@ use Rattle.iiif_server.specs.declared.answer.Cause.TheVariants.{Writer, Load}
 use Rattle.iiif_keys.specs.declared.fault.Fault.{Fault}
 use Rattle.iiif_keys.specs.declared.fault.Fault.TheVariants.{Source, NoMemory}
 use Rattle.iiif_server.specs.declared.part.Part.{Part}
+use Rattle.iiif_server.specs.declared.part.Part.TheVariants.{Body, Whole, Head}
 
 -- Which answers may be given. Reaches: the call reaches that reply. gave: the faults of reads that a source gave. The call's
 -- own; where it reaches an image that is loaded for it, that of a fault that the image's source gave; and that of want of
@@ -29,6 +32,23 @@ pub data MayAnswer {S : Type 0} (settings : Settings) (part : Part) (gave : S �
   source_failed : (g : Given S) (f : ReadFault) → Reaches (given g) → is_loaded part ≡ true → IsTrue (gave g.item.source f)
       → MayAnswer settings part gave Reaches source_fault
   memory_wanted : MayAnswer settings part gave Reaches want_of_memory
+
+-- how many samples and sums of a reply were held at once, where that part of it was sent: of an image that is loaded, as many as
+-- bands of its rows take, with the channels of its source; else none
+abbrev pub HoldsFor : {S : Type 0} → Settings → Part → Reply S → ℕ → Type 0
+HoldsFor settings part (answers.refused e) held = held ≡ 0
+HoldsFor settings part (answers.redirect item) held = held ≡ 0
+HoldsFor settings part (answers.described item d) held = held ≡ 0
+HoldsFor settings Body (given g) held = IsHeldInBands (dim_of g.image) settings.band g.picture.channels held
+HoldsFor settings (Whole close) (given g) held = IsHeldInBands (dim_of g.image) settings.band g.picture.channels held
+HoldsFor settings (Head close) (given g) held = held ≡ 0
+
+-- the same of an answer
+abbrev pub Holds : {S : Type 0} (settings : Settings) (part : Part) (gave : S → ReadFault → Bool) (Reaches : Reply S → Type 0) (a : Response)
+    → MayAnswer settings part gave Reaches a → ℕ → Type 0
+Holds settings part gave Reaches _ (own r reached) held = HoldsFor settings part r held
+Holds settings part gave Reaches _ (source_failed g f reached loaded failed) held = held ≡ 0
+Holds settings part gave Reaches _ memory_wanted held = held ≡ 0
 
 -- an image's load fails by a fault that its source gave, or for want of memory
 abbrev pub MayFail : {S : Type 0} → (S → ReadFault → Bool) → S → Fault → Type 0
@@ -53,8 +73,8 @@ IsCut {S} settings part gave Reaches writer text (Load fault) =
 -- The text may be what is sent of that part of an answer, with that result.
 abbrev pub Allowed : {S : Type 0} → Settings → Part → (S → ReadFault → Bool) → (Reply S → Type 0) → Type 0 → List ℕ → Result Sent Cut → Type 0
 Allowed settings part gave Reaches writer text (Ok sent) =
-    (a : Response) × MayAnswer settings part gave Reaches a × (text ≡ text_of (written part a)) × (sent.status ≡ a.status)
-    × (sent.bytes ≡ length text)
+    (a : Response) × (may : MayAnswer settings part gave Reaches a) × (text ≡ text_of (written part a)) × (sent.status ≡ a.status)
+    × (sent.bytes ≡ length text) × Holds settings part gave Reaches a may sent.held
 Allowed settings part gave Reaches writer text (Err cut) = (cut.sent ≡ length text) × IsCut settings part gave Reaches writer text cut.cause
 
 -- What may be said of an answer whatever the sources' reads give: it is a refusal; the place of an item's information; that

@@ -2,7 +2,7 @@
 use Rattle.std.specs.Prelude.{◌≡◌, ℕ, Bool, true, false, ◌||◌, List, codes, bytes_eq, if◌then◌else◌}
 use Rattle.iiif_request.specs.declared.request.Refusal.TheVariants.{Method}
 use Rattle.iiif_server.specs.Answers.{Reply, refused, Replies}
-use Rattle.iiif_server.specs.Collection.{Item}
+use Rattle.iiif_images.specs.Collection.{Item}
 use Rattle.iiif_server.specs.Settings.{Settings}
 use Rattle.iiif_server.specs.declared.part.Part.{Part}
 use Rattle.iiif_server.specs.declared.part.Part.TheVariants.{Whole, Head}
@@ -19,7 +19,7 @@ is_answered method = bytes_eq method (codes "GET") || is_head method
 abbrev pub part_of : List ℕ → Bool → Part
 part_of method close = if is_head method then Head close else Whole close
 
--- bytes, keeps: those of a source. Another method is refused before the target is looked at.
-pub data RepliesToCall {S : Type 0} (bytes : S → List ℕ) (keeps : S → Type 0) (settings : Settings) (items : List (Item S)) (method target : List ℕ) : Reply S → Type 0 where
-  no_method : is_answered method ≡ false → RepliesToCall bytes keeps settings items method target (refused Method)
-  of_target : (r : Reply S) → is_answered method ≡ true → Replies bytes keeps settings items target r → RepliesToCall bytes keeps settings items method target r
+-- bytes, keeps: those of a source. honest: other nodes are. Another method is refused before the target is looked at.
+pub data RepliesToCall {S : Type 0} (bytes : S → List ℕ) (keeps : S → Type 0) (honest : Bool) (settings : Settings) (items : List (Item S)) (method target : List ℕ) : Reply S → Type 0 where
+  no_method : is_answered method ≡ false → RepliesToCall bytes keeps honest settings items method target (refused Method)
+  of_target : (r : Reply S) → is_answered method ≡ true → Replies bytes keeps honest settings items target r → RepliesToCall bytes keeps honest settings items method target r

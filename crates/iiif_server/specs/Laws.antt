@@ -7,16 +7,16 @@ use Rattle.iiif_http_front.specs.Laws.{IsPlainField, close_fields}
 use Rattle.iiif_http_front.specs.RequestHeads.{BeginsWithCall}
 use Rattle.iiif_source.specs.declared.ReadFault.{ReadFault}
 use Rattle.iiif_server.specs.Allowed.{IsFramed}
-use Rattle.iiif_server.specs.Collection.{Item}
+use Rattle.iiif_images.specs.Collection.{Item}
 use Rattle.iiif_server.specs.Responses.{Response}
 use Rattle.iiif_server.specs.Settings.{Settings, IsLegal}
 use Rattle.iiif_server.specs.Streams.{IsConnection, terms}
 
 -- Where what came of a connection begins with a call, something is written, unless the writer failed.
-abbrev pub NoSilence : {S : Type 0} → (S → List ℕ) → (S → Type 0) → (S → ReadFault → Bool) → Type 0 → Type 0 → Type 0
-NoSilence {S} bytes keeps gave reader writer =
+abbrev pub NoSilence : {S : Type 0} → (S → List ℕ) → (S → Type 0) → Bool → (S → ReadFault → Bool) → Type 0 → Type 0 → Type 0
+NoSilence {S} bytes keeps honest gave reader writer =
     (settings : Settings) (items : List (Item S)) (input rest : List ℕ) (h : RequestHead) → BeginsWithCall input h rest
-    → IsConnection (terms bytes keeps gave settings items reader writer) input [] → writer
+    → IsConnection (terms bytes keeps honest gave settings items reader writer) input [] → writer
 
 -- The fields of each answer are plain where the settings are legal.
 abbrev pub FieldsArePlain : Type 0 → Type 0

@@ -1,9 +1,8 @@
 pub mod BaseUrl
 pub mod Settings
 pub mod Kinds
-pub mod Collection
-pub mod Items
 pub mod Nodes
+pub mod Stocks
 pub mod Sent
 pub mod Answers
 pub mod Responses

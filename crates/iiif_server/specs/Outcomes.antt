@@ -1,5 +1,5 @@
 -- What a target comes to before anything is loaded or sent.
-use Rattle.std.specs.Prelude.{◌≡◌, ℕ, ◌<◌, ◌≤◌, ◌^◌, List, Result, Ok, Err}
+use Rattle.std.specs.Prelude.{◌≡◌, ℕ, ◌<◌, ◌^◌, Bool, IsTrue, List, Some, Result, Ok, Err}
 use Rattle.iiif_area.specs.Places.{IsScalable}
 use Rattle.iiif_pixel.specs.Geometry.{LiesIn, sides_of, top_of}
 use Rattle.iiif_pixel.specs.Picture.{Picture, dim_of}
@@ -18,9 +18,10 @@ use Rattle.iiif_canonical.specs.Canonical.{canonical}
 use Rattle.iiif_canonical.specs.Texts.{CanBeSpelled}
 use Rattle.iiif_canonical.specs.declared.resolved.Limits.{Limits}
 use Rattle.iiif_server.specs.Answers.{Reply, Given, refused, redirect, described, given, IsPictureOf, IsSentFor}
-use Rattle.iiif_server.specs.Collection.{Item}
-use Rattle.iiif_server.specs.Items.{item_of}
-use Rattle.iiif_server.specs.Kinds.{kind_of, depth_of, channels_in, top_in}
+use Rattle.iiif_images.specs.Collection.{Item, item_named}
+use Rattle.iiif_images.specs.Items.{item_of}
+use Rattle.iiif_server.specs.Kinds.{kind_of, depth_of}
+use Rattle.iiif_assemble.specs.Jobs.{channels_in, top_in}
 use Rattle.iiif_server.specs.declared.accepted.Accepted.{Accepted}
 use Rattle.iiif_server.specs.declared.outcome.Outcome.{Outcome}
 use Rattle.iiif_server.specs.declared.outcome.Outcome.TheVariants.{Refused, Redirect, Information, Image, NoMemory}
@@ -63,14 +64,22 @@ given_of item q a p image =
     record { item = item; request = q; canonical = a.canonical; picture = p; asked = resolved_image p a.resolved; image = image }
 
 -- what a target comes to, where it reaches these replies
-abbrev pub ComesTo : {R S : Type 0} {d : _} → (S → List ℕ) → (S → Type 0) → (Reply S → Type 0) → Outcome R S d → Type 0
-ComesTo bytes keeps Reaches (Refused e) = Reaches (refused e)
-ComesTo bytes keeps Reaches (Redirect entry) = Reaches (redirect (item_of entry.now))
-ComesTo bytes keeps Reaches (Information entry d) = Reaches (described (item_of entry.now) d)
-ComesTo bytes keeps Reaches (Image entry a) =
+abbrev pub ComesTo : {R S : Type 0} {d : _} → (S → List ℕ) → (S → Type 0) → Bool → (Reply S → Type 0) → Outcome R S d → Type 0
+ComesTo bytes keeps honest Reaches (Refused e) = Reaches (refused e)
+ComesTo bytes keeps honest Reaches (Redirect entry) = Reaches (redirect (item_of entry.now))
+ComesTo bytes keeps honest Reaches (Information entry d) = Reaches (described (item_of entry.now) d)
+ComesTo bytes keeps honest Reaches (Image entry a) =
     (q : Request) × (p : Picture) × IsPictureOf bytes keeps (item_of entry.now) p × (a.kind ≡ out_kind_of (kind_of p) (depth_of p) q.quality)
-    × ((image : Picture) → IsSentFor (keeps entry.now.source) (resolved_image p a.resolved) image → Reaches (given (given_of (item_of entry.now) q a p image)))
-ComesTo bytes keeps Reaches NoMemory = Unit {0}
+    × ((image : Picture) → IsSentFor (keeps entry.now.source × IsTrue honest) (resolved_image p a.resolved) image → Reaches (given (given_of (item_of entry.now) q a p image)))
+ComesTo bytes keeps honest Reaches NoMemory = Unit {0}
+
+-- an image that is accepted is the one of its name
+abbrev pub IsFound : {R S : Type 0} {d : _} → List (Item S) → Outcome R S d → Type 0
+IsFound items (Refused e) = Unit {0}
+IsFound items (Redirect entry) = Unit {0}
+IsFound items (Information entry d) = Unit {0}
+IsFound items (Image entry a) = item_named items entry.now.name ≡ Some (item_of entry.now)
+IsFound items NoMemory = Unit {0}
 
 -- an image can be made and written
 abbrev pub CanBeMade : {R S : Type 0} {d : _} → Outcome R S d → Type 0

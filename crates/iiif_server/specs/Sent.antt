@@ -18,9 +18,9 @@ text_of a = a.head ++ a.body
 abbrev pub IsStrictPrefix : List ℕ → List ℕ → Type 0
 IsStrictPrefix part text = (n : ℕ) × (n < length text) × (part ≡ take n text)
 
--- The text was sent with that result: the whole answer, or a strict prefix before the writer failed.
+-- The text of an answer that is no image that was loaded was sent with that result: the whole answer, or a strict prefix before the writer failed.
 abbrev pub EndsWith : Type 0 → Answer → List ℕ → Result Sent Cut → Type 0
-EndsWith writer a text (Ok sent) = (text ≡ text_of a) × (sent.status ≡ a.status) × (sent.bytes ≡ length text)
+EndsWith writer a text (Ok sent) = (text ≡ text_of a) × (sent.status ≡ a.status) × (sent.bytes ≡ length text) × (sent.held ≡ 0)
 EndsWith writer a text (Err cut) = (cut.sent ≡ length text) × (cut.cause ≡ Writer) × writer × IsStrictPrefix text (text_of a)
 
 -- the writer has a text more than before, which was sent with that result

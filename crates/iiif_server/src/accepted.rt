@@ -2,12 +2,12 @@
 
 ghost use Rattle.std.specs.Prelude.{◌≡◌, length, IfOk};
 ghost use Rattle.iiif_request.specs.Words.{texts};
-ghost use Rattle.iiif_server.specs.Items.{item_of};
+ghost use Rattle.iiif_images.specs.Items.{item_of};
 ghost use Rattle.iiif_server.specs.Outcomes.{Accepts, IsReady};
 ghost use Rattle.iiif_server.specs.Settings.{AreLegal};
 
-use crate::entry::Entry;
 use iiif_canonical::{Limits, Resolved, canonical, resolve};
+use iiif_images::Entry;
 use iiif_request::{Refusal, Request, Words, parse};
 use iiif_source::Source;
 use iiif_tiff::shows_one_picture;

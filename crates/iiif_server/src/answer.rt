@@ -9,7 +9,7 @@ pub struct Sent {
     pub status: u16,
     /// How many bytes were written.
     pub bytes: u64,
-    /// The greatest number of the answer's samples and sums that were held at once; 0 while answers aren't sent in bands.
+    /// The greatest number of the answer's samples and sums that were held at once; 0 where no image was made.
     pub held: u64,
 }
 
@@ -29,7 +29,3 @@ pub struct Cut {
     pub sent: u64,
     pub cause: Cause,
 }
-
-/// A caller's passes to the caches. There are none yet, and it holds nothing.
-#[derive(Clone, Copy, Debug, PartialEq, Eq)]
-pub struct Passes;

@@ -150,4 +150,20 @@ impl Config {
     {
         self.limits
     }
+
+    /// How many rows a band of an image has at most.
+    pub fn band(&self) -> u32
+        ensures value { result ≡ self.now.band }
+        ensures some { 0 < result }
+    {
+        self.band
+    }
+
+    /// How many workers make an image.
+    pub fn workers(&self) -> u32
+        ensures value { result ≡ self.now.workers }
+        ensures some { 0 < result }
+    {
+        self.workers
+    }
 }

@@ -1,37 +1,41 @@
 //! Answers that are images.
 
-ghost use Rattle.std.specs.Prelude.{◌≡◌, ◌<◌, ◌⊎◌, ◌^◌, ◌++◌, true, length, IfOk, IfErr, string_bytes};
-ghost use Rattle.iiif_canonical.specs.Images.{resolved_image};
+ghost use Rattle.std.specs.Prelude.{◌≡◌, ◌<◌, ◌^◌, ◌++◌, IfOk, string_bytes};
 ghost use Rattle.iiif_canonical.specs.Texts.{uri_of};
-ghost use Rattle.iiif_pixel.specs.Operations.{turned_width, turned_height};
 ghost use Rattle.iiif_pixel.specs.Picture.{Picture, dim_of};
 ghost use Rattle.iiif_pixel.specs.TurnPlaces.{turned_dim};
 ghost use Rattle.iiif_keys.specs.Blocks.{IsEdge};
+ghost use Rattle.iiif_keys.specs.Names.{IsSource};
+ghost use Rattle.iiif_keys.specs.Shapes.{shape_of};
+ghost use Rattle.iiif_assemble.specs.Jobs.{IsJob};
 ghost use Rattle.iiif_request.specs.Requests.{HasShortDecimals};
-ghost use Rattle.iiif_tiff_read.specs.Faults.{IsLoadFault};
-ghost use Rattle.iiif_tiff_read.specs.declared.fault.LoadFault.TheVariants as LoadFault;
-ghost use Rattle.iiif_tiff_write.specs.File.{file, file_len};
-ghost use Rattle.iiif_server.specs.Answers.{IsPictureOf, IsSentFor};
+ghost use Rattle.iiif_tiff_write.specs.File.{file_len};
+ghost use Rattle.iiif_images.specs.Items.{item_of};
+ghost use Rattle.iiif_images.specs.Named.{picture_in};
+ghost use Rattle.iiif_server.specs.Answers.{IsPictureOf};
 ghost use Rattle.iiif_server.specs.Code.{answer_of};
-ghost use Rattle.iiif_server.specs.Items.{item_of};
 ghost use Rattle.iiif_server.specs.Outcomes.{IsReady};
-ghost use Rattle.iiif_server.specs.Responses.{body_in, canonical_link, image_response, is_loaded, written};
+ghost use Rattle.iiif_server.specs.Responses.{canonical_link, image_response, written};
+ghost use Rattle.iiif_server.specs.declared.part.Part.TheVariants.{Head};
 
 use crate::accepted::Accepted;
 use crate::config::Config;
-use crate::entry::Entry;
 use crate::message::{ANY_ORIGIN, Message, head_in};
 use crate::part::Part;
-use crate::render::render;
 use http::StatusCode;
+use iiif_assemble::Job;
 use iiif_canonical::uri;
 use iiif_http_front::Field;
+use iiif_images::Entry;
 use iiif_pixel::{Dim, NoMemory, Turn};
 use iiif_request::Request;
 use iiif_source::Source;
-use iiif_tiff_read::LoadFault;
-use iiif_tiff_write::{head, put_rows, total_len};
+use iiif_tiff::shows_one_picture;
+use iiif_tiff_write::total_len;
 use std::alloc::Global;
+
+/// How many sums a block of a plan has at most.
+const ROOM: u64 = 65_536;
 
 const TIFF: Field<'static> = Field {
     name: "Content-Type",
@@ -68,7 +72,7 @@ fn canonical_link(
 }
 
 /// The head of an image's answer.
-fn image_head(
+pub fn image_head(
     alloc: Global,
     part: Part,
     base: &str,
@@ -96,79 +100,53 @@ fn image_head(
     )
 }
 
-/// The file of an image.
-fn image_file<R, S: Source<R>>(
-    rt: &R,
+/// The answer to a HEAD of an image. Nothing is loaded for it.
+pub fn head_message<R, S: Source<R>>(
     alloc: Global,
-    edge: u32,
-    entry: &Entry<R, S>,
-    accepted: &Accepted,
-) -> Result<Vec<u8>, LoadFault>
-    requires edge { IsEdge edge }
-    requires ready { IsReady entry.now.layout accepted.now }
-    ensures file { IfOk result (λ b. (p : Picture) → IsPictureOf S.bytes S.keeps (item_of entry.now) p → (image : Picture)
-        × IsSentFor (S.keeps entry.now.source) (resolved_image p accepted.now.resolved) image × (b.items ≡ file image accepted.now.kind)) }
-    ensures fault { IfErr result (IsLoadFault (S.gave entry.now.source)) }
-{
-    let raster = render(
-        rt,
-        alloc,
-        &entry.source,
-        &entry.layout,
-        &entry.name,
-        edge,
-        &accepted.resolved,
-    )?;
-    let mut bytes = Vec::new(alloc);
-    bytes.extend_from_slice(head(accepted.kind, raster.dim()).as_slice())?;
-    put_rows(&raster, accepted.kind, &mut bytes)?;
-    Ok(bytes)
-}
-
-/// The body that is sent of an image's answer: nothing is loaded for a head.
-fn image_body<R, S: Source<R>>(
-    rt: &R,
-    alloc: Global,
-    part: Part,
-    edge: u32,
-    entry: &Entry<R, S>,
-    accepted: &Accepted,
-) -> Result<Vec<u8>, LoadFault>
-    requires edge { IsEdge edge }
-    requires ready { IsReady entry.now.layout accepted.now }
-    ensures body { IfOk result (λ b. (p : Picture) → IsPictureOf S.bytes S.keeps (item_of entry.now) p → (image : Picture)
-        × IsSentFor (S.keeps entry.now.source) (resolved_image p accepted.now.resolved) image × (b.items ≡ body_in part (file image accepted.now.kind))) }
-    ensures fault { IfErr result (IsLoadFault (S.gave entry.now.source)) }
-    ensures loaded { IfErr result (λ fault. (fault ≡ LoadFault.NoMemory) ⊎ (is_loaded part ≡ true)) }
-{
-    match part {
-        Part::Body => image_file(rt, alloc, edge, entry, accepted),
-        Part::Whole(_) => image_file(rt, alloc, edge, entry, accepted),
-        Part::Head(_) => Ok(Vec::new(alloc)),
-    }
-}
-
-/// The answer that is an image.
-pub fn image_message<R, S: Source<R>>(
-    rt: &R,
-    alloc: Global,
-    part: Part,
+    close: bool,
     config: &Config,
     entry: &Entry<R, S>,
     accepted: &Accepted,
-) -> Result<Message, LoadFault>
+) -> Result<Message, NoMemory>
     requires ready { IsReady entry.now.layout accepted.now }
-    ensures image { IfOk result (λ m. (p : Picture) → IsPictureOf S.bytes S.keeps (item_of entry.now) p → (image : Picture)
-        × IsSentFor (S.keeps entry.now.source) (resolved_image p accepted.now.resolved) image
-        × (answer_of m ≡ written part (image_response config.now.base entry.now.name accepted.now.canonical image accepted.now.kind))) }
-    ensures fault { IfErr result (IsLoadFault (S.gave entry.now.source)) }
-    ensures loaded { IfErr result (λ fault. (fault ≡ LoadFault.NoMemory) ⊎ (is_loaded part ≡ true)) }
+    ensures { IfOk result (λ m. (p : Picture) → dim_of p ≡ turned_dim accepted.now.resolved.turn accepted.now.resolved.size
+        → answer_of m ≡ written (Head close) (image_response config.now.base entry.now.name accepted.now.canonical p accepted.now.kind)) }
 {
+    let part = Part::Head(close);
     let head = image_head(alloc, part, config.base(), entry.name.as_str(), accepted)?;
-    let body = image_body(rt, alloc, part, config.edge(), entry, accepted)?;
     Ok(Message {
         status: 200,
         head,
-        body,
+        body: Vec::new(alloc),
     })
+}
+
+/// What an accepted request of an image comes to, planned of tiles with this edge.
+pub fn job_of<R, S: Source<R>>(
+    alloc: Global,
+    edge: u32,
+    entry: &Entry<R, S>,
+    accepted: &Accepted,
+) -> Result<Job, NoMemory>
+    requires edge { IsEdge edge }
+    requires ready { IsReady entry.now.layout accepted.now }
+    ensures job { IfOk result IsJob }
+    ensures name { IfOk result (λ j. j.name ≡ entry.now.name) }
+    ensures edge { IfOk result (λ j. j.edge ≡ edge) }
+    ensures resolved { IfOk result (λ j. j.resolved ≡ accepted.now.resolved) }
+    ensures shape { IfOk result (λ j. shape_of (picture_in S.bytes (item_of entry.now)) ≡ j.shape) }
+    ensures source { IsSource (picture_in S.bytes (item_of entry.now)) }
+{
+    let shape = entry.shape();
+    let name = entry.name.copy()?;
+    Job::new(alloc, name, edge, shape, accepted.resolved, ROOM)
+}
+
+/// Computes nothing: its contract says that the picture which the bytes of an image show is the one of its name, where they are kept.
+pub fn picture_is_shown<R, S: Source<R>>(entry: &Entry<R, S>)
+    ensures { (p : Picture) → S.keeps entry.now.source → IsPictureOf S.bytes S.keeps (item_of entry.now) p → picture_in S.bytes (item_of entry.now) ≡ p }
+{
+    shows_one_picture();
+    // Read, so that the source's bytes are known to be bytes.
+    let _len = entry.source.len();
 }

@@ -5,11 +5,12 @@ ghost use Rattle.iiif_server.specs.Laws.{FieldsArePlain, HeadsReadBack, NoSilenc
 
 use iiif_http_front::laws::written_head_reads_back;
 use iiif_io::{Inlet, Outlet};
+use iiif_keys::System;
 use iiif_source::Source;
 
 /// So `serve_stream` never lets a call go without a byte of an answer, where the writer doesn't fail.
-pub fn calls_are_not_passed_over<R, S: Source<R>, I: Inlet, W: Outlet>()
-    ensures { NoSilence S.bytes S.keeps S.gave ((before after : I) × I.fails before after) ((before after : W) × W.fails before after) }
+pub fn calls_are_not_passed_over<R, S: Source<R>, J: System, I: Inlet, W: Outlet>()
+    ensures { NoSilence S.bytes S.keeps J.honest S.gave ((before after : I) × I.fails before after) ((before after : W) × W.fails before after) }
 {}
 
 /// So no field of an answer is split, and no body is taken for a field.

@@ -1,77 +1,158 @@
-//! A node: what it was told, its images, and its answers.
+//! A node: what it was told, its images, their tiles and sums, and its answers.
 
-ghost use Rattle.std.specs.Prelude.{◌≡◌, ℕ, List, IfOk, IsSome};
+ghost use Rattle.std.specs.Prelude.{◌≡◌, ◌<◌, ◌^◌, ℕ, List, Some, true, false, IfOk, IsTrue, length};
 ghost use Rattle.std.specs.Io.KnownBytes.{Appends};
-ghost use Rattle.iiif_server.specs.Answers.{Replies};
-ghost use Rattle.iiif_server.specs.Allowed.{Allowed, IsFramedText, MayAnswer};
+ghost use Rattle.iiif_source.specs.declared.ReadFault.{ReadFault};
+ghost use Rattle.iiif_pixel.specs.Picture.{Picture};
+ghost use Rattle.iiif_request.specs.declared.request.Request.{Request};
+ghost use Rattle.iiif_tiff_write.specs.OutKind.{out_kind_of};
+ghost use Rattle.iiif_images.specs.Collection.{Item, item_named};
+ghost use Rattle.iiif_images.specs.Items.{item_of};
+ghost use Rattle.iiif_images.specs.Named.{gave_of, pictures_of};
+ghost use Rattle.iiif_server.specs.Answers.{given, Given, IsPictureOf, Replies};
+ghost use Rattle.iiif_server.specs.Allowed.{Allowed, IsFramedText};
 ghost use Rattle.iiif_server.specs.Calls.{RepliesToCall, part_of};
-ghost use Rattle.iiif_server.specs.Code.{answer_of};
-ghost use Rattle.iiif_server.specs.Outcomes.{CanBeMade, ComesTo};
-ghost use Rattle.iiif_server.specs.Responses.{Response, written};
+ghost use Rattle.iiif_server.specs.Code.{IsJobFor, ReachesImageOf};
+ghost use Rattle.iiif_server.specs.Kinds.{depth_of, kind_of};
+ghost use Rattle.iiif_server.specs.Outcomes.{CanBeMade, ComesTo, IsFound, IsReady};
+ghost use Rattle.iiif_server.specs.Responses.{is_loaded};
 ghost use Rattle.iiif_server.specs.declared.part.Part.TheVariants.{Body};
 
-use crate::accepted::accept;
-use crate::answer::{Cut, Passes, Sent};
+use crate::accepted::{Accepted, accept};
+use crate::answer::{Cause, Cut, Sent};
 use crate::calls::{is_answered, part_of};
-use crate::catalogue::Catalogue;
 use crate::config::Config;
-use crate::images::image_message;
-use crate::message::{
-    Message, information_message, redirect_message, refusal_message, source_message,
-};
+use crate::images::{head_message, image_head, job_of, picture_is_shown};
+use crate::message::{information_message, redirect_message, refusal_message};
 use crate::outcome::{Outcome, identifier, sides};
 use crate::part::Part;
-use crate::sending::send_message;
+use crate::sending::{send_fault, send_message};
+use crate::stock::Stock;
+use iiif_assemble::Job;
+use iiif_delivery::{Stopped, send_image};
+use iiif_group::{Gate, Group, Link, NoGate, NoLink};
+use iiif_group_items::GroupItems;
+use iiif_group_items::laws::groups_serve_jobs;
 use iiif_http_front::Call;
+use iiif_images::{Catalogue, Entry, Images};
 use iiif_io::Outlet;
+use iiif_keys::{SumKey, System, TileKey};
 use iiif_pixel::NoMemory;
 use iiif_request::{Refusal, SplitFault, Target, split};
 use iiif_source::Source;
-use iiif_tiff_read::LoadFault;
+use iiif_sum_group::{Groups, Passes, SumCalls};
+use iiif_tile_group::{TileCalls, Tiles};
 use std::alloc::{AllocError, Global};
 use std::marker::Model;
+use std::sync::Wait;
+use std::sync::ledger::{Blank, Ledger};
+use std::thread::Threads;
 
-/// A server. Clauses see what it was told, and its images.
+/// A server. Clauses see what it was told, and its images. J says what the names of the images stand for, and which ledgers count
+/// the calls; N is the way to other nodes, and T what each load passes.
 #[derive(Drop)]
-pub struct Node<R, S: Source<R>> {
+pub struct Node<R, S: Source<R>, J: System, N = NoLink, T = NoGate>
+where
+    TileCalls<J>: Ledger,
+    SumCalls<J>: Ledger,
+{
     config: Config,
-    catalogue: Catalogue<R, S>,
+    groups: Groups<R, S, J, N, T>,
 }
 
-impl<R, S: Source<R>> Model for Node<R, S> {
-    ghost use Rattle.iiif_server.specs.Nodes.{Service};
+impl<R, S: Source<R>, J: System, N, T> Model for Node<R, S, J, N, T>
+where
+    TileCalls<J>: Ledger,
+    SumCalls<J>: Ledger,
+{
+    ghost use Rattle.iiif_sum_group.specs.Views.{items_served};
+    ghost use Rattle.iiif_server.specs.Nodes.{Service, IsTied};
 
     ghost Value = { Service S };
 
-    ghost view = { λ n. record { settings = n.config; items = n.catalogue } };
+    ghost view = { λ n. record { settings = n.config; items = items_served n.groups } };
+
+    ghost invariant = { λ n. IsTied S.keeps J.stable J.edge n.config (items_served n.groups) };
 }
 
-impl<R, S: Source<R> + Drop> Node<R, S> {
-    pub fn new(config: Config, catalogue: Catalogue<R, S>) -> Node<R, S>
-        ensures settings { result.settings ≡ config }
-        ensures items { result.items ≡ catalogue }
+impl<R, S: Source<R> + Drop, J: System, N, T> Node<R, S, J, N, T> {
+    ghost use Rattle.iiif_server.specs.Stocks.{IsStock};
+
+    /// A node of these images, where J says what their names stand for. The only error is want of memory.
+    pub fn new(
+        alloc: Global,
+        config: Config,
+        catalogue: Catalogue<R, S>,
+        tiles: Stock<N, T>,
+        sums: Stock<N, T>,
+    ) -> Result<Self, NoMemory>
+    where
+        N: Drop,
+        T: Drop,
+        requires pictures { (name : List ℕ) → J.pictures name ≡ pictures_of S.bytes catalogue name }
+        requires gave { (name : List ℕ) (f : ReadFault) → J.gave name f ≡ gave_of S.gave catalogue name f }
+        requires stable { (name : List ℕ) (item : Item S) → item_named catalogue name ≡ Some item → J.stable name → ∥ S.keeps item.source ∥₁ }
+        requires kept { (name : List ℕ) (item : Item S) → item_named catalogue name ≡ Some item → S.keeps item.source → J.stable name }
+        requires edge { config.edge ≡ J.edge }
+        requires tiles { IsStock J.tiles_name J.tiles_parts tiles }
+        requires sums { IsStock J.sums_name J.sums_parts sums }
+        ensures settings { IfOk result (λ n. n.settings ≡ config) }
+        ensures items { IfOk result (λ n. n.items ≡ catalogue) }
     {
-        Node { config, catalogue }
+        let edge = config.edge();
+        let images = Images::new(alloc, catalogue, edge);
+        let group = Group::new(
+            alloc,
+            tiles.bytes,
+            tiles.entries,
+            tiles.gate,
+            tiles.ring,
+            tiles.own,
+            tiles.links,
+            tiles.blank,
+        )?;
+        let tiles = Tiles::new(alloc, images, group);
+        let group = Group::new(
+            alloc,
+            sums.bytes,
+            sums.entries,
+            sums.gate,
+            sums.ring,
+            sums.own,
+            sums.links,
+            sums.blank,
+        )?;
+        let groups = Groups::new(alloc, tiles, group);
+        Ok(Node { config, groups })
     }
 
-    /// The passes of a caller.
-    pub fn pass(&self) -> Option<Passes>
-        ensures { IsSome result }
+    /// Its groups of tiles and sums.
+    pub fn groups(&self) -> &Groups<R, S, J, N, T> {
+        &self.groups
+    }
+
+    /// Its images.
+    fn images(&self) -> &Catalogue<R, S>
+        ensures items { result.now ≡ self.now.items }
+        ensures pictures { (name : List ℕ) → J.pictures name ≡ pictures_of S.bytes result.now name }
+        ensures gave { (name : List ℕ) (f : ReadFault) → J.gave name f ≡ gave_of S.gave result.now name f }
+        ensures stable { (name : List ℕ) (item : Item S) → item_named result.now name ≡ Some item → J.stable name → ∥ S.keeps item.source ∥₁ }
     {
-        Some(Passes)
+        self.groups.tiles().images().catalogue()
     }
 
     /// What a target comes to before anything is loaded.
     fn outcome(&self, alloc: Global, target: &[u8]) -> Outcome<'_, R, S>
-        ensures comes { ComesTo S.bytes S.keeps (Replies S.bytes S.keeps self.now.settings self.now.items target.now) result }
+        ensures comes { ComesTo S.bytes S.keeps J.honest (Replies S.bytes S.keeps J.honest self.now.settings self.now.items target.now) result }
         ensures made { CanBeMade result }
+        ensures found { IsFound self.now.items result }
     {
         let resource = match split(alloc, self.config.prefix(), target) {
             Ok(resource) => resource,
             Err(SplitFault::Path) => return Outcome::Refused(Refusal::Path),
             Err(SplitFault::NoMemory) => return Outcome::NoMemory,
         };
-        let Some(entry) = self.catalogue.find(identifier(&resource)) else {
+        let Some(entry) = self.images().find(identifier(&resource)) else {
             return Outcome::Refused(Refusal::Identifier);
         };
         match &resource {
@@ -84,84 +165,261 @@ impl<R, S: Source<R> + Drop> Node<R, S> {
         }
     }
 
-    /// The answer to a target, as that part of it is written.
-    fn message(&self, rt: &R, alloc: Global, part: Part, target: &[u8]) -> Result<Message, NoMemory>
-        ensures { IfOk result (λ m. (a : Response)
-            × MayAnswer self.now.settings part S.gave (Replies S.bytes S.keeps self.now.settings self.now.items target.now) a
-            × (answer_of m ≡ written part a)) }
+    /// What an accepted request of one of its images comes to, planned.
+    fn job(&self, alloc: Global, entry: &Entry<R, S>, accepted: &Accepted) -> Result<Job, NoMemory>
+        requires ready { IsReady entry.now.layout accepted.now }
+        requires found { item_named self.now.items entry.now.name ≡ Some (item_of entry.now) }
+        ensures { IfOk result (IsJobFor J.pictures J.gave J.stable J.edge S.bytes S.gave S.keeps (item_of entry.now) accepted.now) }
     {
-        let base = self.config.base();
-        match self.outcome(alloc, target) {
-            Outcome::Refused(refusal) => refusal_message(alloc, part, refusal),
-            Outcome::Redirect(entry) => redirect_message(alloc, part, base, entry.name.as_str()),
-            Outcome::Information(entry, dim) => {
-                information_message(alloc, part, &self.config, entry.name.as_str(), dim)
-            }
-            Outcome::Image(entry, accepted) => {
-                match image_message(rt, alloc, part, &self.config, entry, &accepted) {
-                    Ok(message) => Ok(message),
-                    Err(LoadFault::Source(_)) => source_message(alloc, part),
-                    Err(LoadFault::NoMemory) => Err(AllocError),
+        // Read, so that it is known what the names stand for.
+        let _images = self.images();
+        job_of(alloc, self.config.edge(), entry, accepted)
+    }
+}
+
+impl<R, S: Source<R> + Drop, J: System> Node<R, S, J, NoLink, NoGate> {
+    /// A node that asks no other, whose groups have room for so many bytes each. The only error is want of memory.
+    pub fn alone(
+        alloc: Global,
+        config: Config,
+        catalogue: Catalogue<R, S>,
+        bytes: u64,
+        tiles: Blank,
+        sums: Blank,
+    ) -> Result<Self, NoMemory>
+        requires pictures { (name : List ℕ) → J.pictures name ≡ pictures_of S.bytes catalogue name }
+        requires gave { (name : List ℕ) (f : ReadFault) → J.gave name f ≡ gave_of S.gave catalogue name f }
+        requires stable { (name : List ℕ) (item : Item S) → item_named catalogue name ≡ Some item → J.stable name → ∥ S.keeps item.source ∥₁ }
+        requires kept { (name : List ℕ) (item : Item S) → item_named catalogue name ≡ Some item → S.keeps item.source → J.stable name }
+        requires edge { config.edge ≡ J.edge }
+        requires bytes { bytes < 2 ^ 63 }
+        requires tiles { (tiles.name ≡ J.tiles_name) × (tiles.parts ≡ J.tiles_parts) × (J.tiles_parts ≡ 65537) }
+        requires sums { (sums.name ≡ J.sums_name) × (sums.parts ≡ J.sums_parts) × (J.sums_parts ≡ 65537) }
+        ensures settings { IfOk result (λ n. n.settings ≡ config) }
+        ensures items { IfOk result (λ n. n.items ≡ catalogue) }
+    {
+        let tiles = Stock::alone(alloc, bytes, tiles)?;
+        let sums = Stock::alone(alloc, bytes, sums)?;
+        Node::new(alloc, config, catalogue, tiles, sums)
+    }
+}
+
+impl<R: Wait, S: Source<R> + Drop, J: System, N, T> Node<R, S, J, N, T> {
+    /// The passes of a worker: one of each group. None where one of them is wanting.
+    pub fn pass(&self, rt: &R) -> Option<Passes<J>> {
+        let tiles = self.groups.tiles().group();
+        let tile = tiles.pass(rt)?;
+        let Some(sum) = self.groups.sums().pass(rt) else {
+            tiles.give_back(rt, tile);
+            return None;
+        };
+        Some(Passes { tile, sum })
+    }
+
+    /// Takes the passes of a worker back.
+    pub fn give_back(&self, rt: &R, passes: Passes<J>) {
+        let Passes { tile, sum } = passes;
+        self.groups.tiles().group().give_back(rt, tile);
+        self.groups.sums().give_back(rt, sum);
+    }
+}
+
+impl<
+    R: Threads + Wait + Sync,
+    S: Source<R> + Drop + Sync,
+    J: System + Send + Sync,
+    N: Link<TileKey, J, R> + Link<SumKey, J, R> + Sync,
+    T: Gate<R> + Sync,
+> Node<R, S, J, N, T> {
+    /// Sends an image for an accepted request, band by band.
+    fn send_loaded<W: Outlet>(
+        &self,
+        rt: &R,
+        alloc: Global,
+        passes: &mut [Passes<J>],
+        part: Part,
+        entry: &Entry<R, S>,
+        accepted: &Accepted,
+        out: &mut W,
+    ) -> Result<Sent, Cut>
+        requires some { 0 < length passes.old }
+        requires ready { IsReady entry.now.layout accepted.now }
+        requires found { item_named self.now.items entry.now.name ≡ Some (item_of entry.now) }
+        requires loaded { is_loaded part ≡ true }
+        ensures { (q : Request) (p : Picture) → IsPictureOf S.bytes S.keeps (item_of entry.now) p → accepted.now.kind ≡ out_kind_of (kind_of p) (depth_of p) q.quality
+            → (text : List ℕ) × Appends (W.contents out.old) (W.contents out.new) text
+            × Allowed self.now.settings part S.gave (ReachesImageOf (S.keeps entry.now.source × IsTrue J.honest) (item_of entry.now) q accepted.now p)
+            ((before : W) × W.fails before out.new) text result }
+    {
+        let Ok(head) = image_head(
+            alloc,
+            part,
+            self.config.base(),
+            entry.name.as_str(),
+            accepted,
+        ) else {
+            return send_message(out, part, Err(AllocError));
+        };
+        let Ok(job) = self.job(alloc, entry, accepted) else {
+            return send_message(out, part, Err(AllocError));
+        };
+        picture_is_shown(entry);
+        groups_serve_jobs::<J>(&job);
+        let items = GroupItems(&self.groups);
+        let rows = self.config.band();
+        match send_image(
+            rt,
+            alloc,
+            &items,
+            &items,
+            passes,
+            &job,
+            rows,
+            accepted.kind,
+            &head,
+            out,
+        ) {
+            Ok(delivered) => Ok(Sent {
+                status: 200,
+                bytes: delivered.bytes,
+                held: delivered.held,
+            }),
+            Err(Stopped::Writer(sent)) => Err(Cut {
+                sent,
+                cause: Cause::Writer,
+            }),
+            Err(Stopped::Load(sent, fault)) => {
+                if sent == 0 {
+                    send_fault(alloc, part, fault, out)
+                } else {
+                    Err(Cut {
+                        sent,
+                        cause: Cause::Load(fault),
+                    })
                 }
             }
-            Outcome::NoMemory => Err(AllocError),
         }
     }
 
-    /// Sends the body of the answer to a GET of a target.
+    /// Sends that part of the answer to an accepted request: for a head nothing is loaded.
+    fn send_accepted<W: Outlet>(
+        &self,
+        rt: &R,
+        alloc: Global,
+        passes: &mut [Passes<J>],
+        part: Part,
+        entry: &Entry<R, S>,
+        accepted: &Accepted,
+        out: &mut W,
+    ) -> Result<Sent, Cut>
+        requires some { 0 < length passes.old }
+        requires ready { IsReady entry.now.layout accepted.now }
+        requires found { item_named self.now.items entry.now.name ≡ Some (item_of entry.now) }
+        ensures allowed { (q : Request) (p : Picture) → IsPictureOf S.bytes S.keeps (item_of entry.now) p → accepted.now.kind ≡ out_kind_of (kind_of p) (depth_of p) q.quality
+            → (text : List ℕ) × Appends (W.contents out.old) (W.contents out.new) text
+            × Allowed self.now.settings part S.gave (ReachesImageOf (S.keeps entry.now.source × IsTrue J.honest) (item_of entry.now) q accepted.now p)
+            ((before : W) × W.fails before out.new) text result }
+        ensures unasked { is_loaded part ≡ false → passes.new ≡ passes.old }
+    {
+        match part {
+            Part::Head(close) => {
+                let message = head_message(alloc, close, &self.config, entry, accepted);
+                send_message(out, part, message)
+            }
+            Part::Body => self.send_loaded(rt, alloc, passes, part, entry, accepted, out),
+            Part::Whole(_) => self.send_loaded(rt, alloc, passes, part, entry, accepted, out),
+        }
+    }
+
+    /// Sends that part of the answer to a target.
+    fn answer<W: Outlet>(
+        &self,
+        rt: &R,
+        alloc: Global,
+        passes: &mut [Passes<J>],
+        part: Part,
+        target: &[u8],
+        out: &mut W,
+    ) -> Result<Sent, Cut>
+        requires some { 0 < length passes.old }
+        ensures allowed { (text : List ℕ) × Appends (W.contents out.old) (W.contents out.new) text
+            × Allowed self.now.settings part S.gave (Replies S.bytes S.keeps J.honest self.now.settings self.now.items target.now)
+            ((before : W) × W.fails before out.new) text result }
+        ensures unasked { ((g : Given S) → Replies S.bytes S.keeps J.honest self.now.settings self.now.items target.now (given g) → is_loaded part ≡ false)
+            → passes.new ≡ passes.old }
+    {
+        let base = self.config.base();
+        match self.outcome(alloc, target) {
+            Outcome::Refused(refusal) => {
+                let message = refusal_message(alloc, part, refusal);
+                send_message(out, part, message)
+            }
+            Outcome::Redirect(entry) => {
+                let message = redirect_message(alloc, part, base, entry.name.as_str());
+                send_message(out, part, message)
+            }
+            Outcome::Information(entry, dim) => {
+                let message = information_message(
+                    alloc,
+                    part,
+                    &self.config,
+                    entry.name.as_str(),
+                    dim,
+                );
+                send_message(out, part, message)
+            }
+            Outcome::Image(entry, accepted) => {
+                self.send_accepted(rt, alloc, passes, part, entry, &accepted, out)
+            }
+            Outcome::NoMemory => send_message(out, part, Err(AllocError)),
+        }
+    }
+
+    /// Sends the body of the answer to a GET of a target. Where it is no image, the passes stay as they are.
     pub fn body_one<W: Outlet>(
         &self,
         rt: &R,
         alloc: Global,
-        _passes: &mut [Passes],
+        passes: &mut [Passes<J>],
         target: &[u8],
         out: &mut W,
     ) -> Result<Sent, Cut>
+        requires some { 0 < length passes.old }
         ensures allowed { (text : List ℕ) × Appends (W.contents out.old) (W.contents out.new) text
-            × Allowed self.now.settings Body S.gave (Replies S.bytes S.keeps self.now.settings self.now.items target.now)
+            × Allowed self.now.settings Body S.gave (Replies S.bytes S.keeps J.honest self.now.settings self.now.items target.now)
             ((before : W) × W.fails before out.new) text result }
         ensures framed { (text : List ℕ) × Appends (W.contents out.old) (W.contents out.new) text × IsFramedText S self.now.settings Body text result }
+        ensures unasked { ((g : Given S) → ¬ Replies S.bytes S.keeps J.honest self.now.settings self.now.items target.now (given g))
+            → passes.new ≡ passes.old }
     {
-        let message = self.message(rt, alloc, Part::Body, target);
-        send_message(out, Part::Body, message)
+        self.answer(rt, alloc, passes, Part::Body, target, out)
     }
 
-    /// The answer to a call, as that part of it is written.
-    fn call_message(
-        &self,
-        rt: &R,
-        alloc: Global,
-        part: Part,
-        call: &Call,
-    ) -> Result<Message, NoMemory>
-        ensures { IfOk result (λ m. (a : Response)
-            × MayAnswer self.now.settings part S.gave (RepliesToCall S.bytes S.keeps self.now.settings self.now.items call.now.method call.now.target.items) a
-            × (answer_of m ≡ written part a)) }
-    {
-        if is_answered(call) {
-            self.message(rt, alloc, part, &call.target)
-        } else {
-            refusal_message(alloc, part, Refusal::Method)
-        }
-    }
-
-    /// Answers a call: to GET with head and body, to HEAD with the same head alone, for which nothing is loaded.
+    /// Answers a call: to GET with head and body, to HEAD with the same head alone, for which nothing is loaded. Where no image is
+    /// loaded, the passes stay as they are.
     pub fn serve_one<W: Outlet>(
         &self,
         rt: &R,
         alloc: Global,
-        _passes: &mut [Passes],
+        passes: &mut [Passes<J>],
         call: &Call,
         out: &mut W,
     ) -> Result<Sent, Cut>
+        requires some { 0 < length passes.old }
         ensures allowed { (text : List ℕ) × Appends (W.contents out.old) (W.contents out.new) text
             × Allowed self.now.settings (part_of call.now.method call.now.close) S.gave
-            (RepliesToCall S.bytes S.keeps self.now.settings self.now.items call.now.method call.now.target.items) ((before : W) × W.fails before out.new) text result }
+            (RepliesToCall S.bytes S.keeps J.honest self.now.settings self.now.items call.now.method call.now.target.items) ((before : W) × W.fails before out.new) text result }
         ensures framed { (text : List ℕ) × Appends (W.contents out.old) (W.contents out.new) text
             × IsFramedText S self.now.settings (part_of call.now.method call.now.close) text result }
+        ensures unasked { ((g : Given S) → RepliesToCall S.bytes S.keeps J.honest self.now.settings self.now.items call.now.method call.now.target.items (given g)
+            → is_loaded (part_of call.now.method call.now.close) ≡ false) → passes.new ≡ passes.old }
     {
         let part = part_of(call);
-        let message = self.call_message(rt, alloc, part, call);
-        send_message(out, part, message)
+        if is_answered(call) {
+            self.answer(rt, alloc, passes, part, &call.target, out)
+        } else {
+            let message = refusal_message(alloc, part, Refusal::Method);
+            send_message(out, part, message)
+        }
     }
 }

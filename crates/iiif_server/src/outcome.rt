@@ -4,10 +4,10 @@ ghost use Rattle.std.specs.Prelude.{◌≡◌};
 ghost use Rattle.iiif_pixel.specs.Picture.{Picture, dim_of};
 ghost use Rattle.iiif_request.specs.Targets.{resource_of};
 ghost use Rattle.iiif_server.specs.Answers.{identifier_of, IsPictureOf};
-ghost use Rattle.iiif_server.specs.Items.{item_of};
+ghost use Rattle.iiif_images.specs.Items.{item_of};
 
 use crate::accepted::Accepted;
-use crate::entry::Entry;
+use iiif_images::Entry;
 use iiif_pixel::Dim;
 use iiif_request::{Refusal, Target};
 use iiif_source::Source;

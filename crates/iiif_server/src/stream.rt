@@ -1,6 +1,6 @@
 //! Connections.
 
-ghost use Rattle.std.specs.Prelude.{◌≡◌, ◌≤◌, ◌<◌, ◌==◌, ◌||◌, ◌++◌, ℕ, List, true, IfSome, None, Some};
+ghost use Rattle.std.specs.Prelude.{◌≡◌, ◌≤◌, ◌<◌, ◌==◌, ◌||◌, ◌++◌, ℕ, List, true, IfSome, None, Some, length};
 ghost use Rattle.std.specs.Io.KnownBytes.{Appends};
 ghost use Rattle.iiif_http_front.specs.Reading.{input_of};
 ghost use Rattle.iiif_server.specs.Code.{CloseFor, IsAnswered, Served};
@@ -8,16 +8,20 @@ ghost use Rattle.iiif_server.specs.Streams.{IsCame, IsConnection, call_limit, te
 ghost use Rattle.iiif_server.specs.Responses.{refusal_response, want_of_memory};
 ghost use Rattle.iiif_request.specs.declared.request.Refusal.TheVariants as refusal;
 
-use crate::answer::Passes;
 use crate::message::refusal_message;
 use crate::node::Node;
 use crate::part::Part;
 use crate::sending::send_message;
+use iiif_group::{Gate, Link};
 use iiif_http_front::{Call, HeadFault, Heads};
 use iiif_io::{Inlet, Outlet};
+use iiif_keys::{SumKey, System, TileKey};
 use iiif_request::Refusal;
 use iiif_source::Source;
+use iiif_sum_group::Passes;
 use std::alloc::{AllocError, Global};
+use std::sync::Wait;
+use std::thread::Threads;
 
 /// The most calls of one connection.
 pub const CALL_LIMIT: u32 = 1000;
@@ -53,18 +57,25 @@ fn closing_call(call: Call, n: u32) -> Call
     }
 }
 
-impl<R, S: Source<R> + Drop> Node<R, S> {
+impl<
+    R: Threads + Wait + Sync,
+    S: Source<R> + Drop + Sync,
+    J: System + Send + Sync,
+    N: Link<TileKey, J, R> + Link<SumKey, J, R> + Sync,
+    T: Gate<R> + Sync,
+> Node<R, S, J, N, T> {
     /// Answers a call, and says whether another may follow.
     fn serve_call<W: Outlet>(
         &self,
         rt: &R,
         alloc: Global,
-        passes: &mut [Passes],
+        passes: &mut [Passes<J>],
         call: &Call,
         out: &mut W,
     ) -> bool
+        requires { 0 < length passes.old }
         ensures { (text : List ℕ) × Appends (W.contents out.old) (W.contents out.new) text
-            × IsAnswered S.bytes S.keeps S.gave self.now.settings self.now.items ((before : W) × W.fails before out.new)
+            × IsAnswered S.bytes S.keeps J.honest S.gave self.now.settings self.now.items ((before : W) × W.fails before out.new)
             call.now.method call.now.target.items call.now.close text result }
     {
         match self.serve_one(rt, alloc, passes, call, out) {
@@ -78,18 +89,19 @@ impl<R, S: Source<R> + Drop> Node<R, S> {
         &self,
         rt: &R,
         alloc: Global,
-        passes: &mut [Passes],
+        passes: &mut [Passes<J>],
         heads: &mut Heads<I>,
         n: u32,
         out: &mut W,
     ) -> bool
+        requires some { 0 < length passes.old }
         requires no_fault { heads.old.fault ≡ None }
         requires few { n ≤ 1000 }
         ensures serves { IfSome (input_of I.remaining heads.old) (λ input. (text : List ℕ) × Appends (W.contents out.old) (W.contents out.new) text
-            × Served (terms S.bytes S.keeps S.gave self.now.settings self.now.items ((before after : I) × I.fails before after) ((before : W) × W.fails before out.new))
+            × Served (terms S.bytes S.keeps J.honest S.gave self.now.settings self.now.items ((before after : I) × I.fails before after) ((before : W) × W.fails before out.new))
             n input (input_of I.remaining heads.new) text result) }
         ensures came { (came : List ℕ) × (text : List ℕ) × Appends (W.contents out.old) (W.contents out.new) text
-            × Served (terms S.bytes S.keeps S.gave self.now.settings self.now.items ((before after : I) × I.fails before after) ((before : W) × W.fails before out.new))
+            × Served (terms S.bytes S.keeps J.honest S.gave self.now.settings self.now.items ((before after : I) × I.fails before after) ((before : W) × W.fails before out.new))
             n (heads.old.unread ++ came) (Some heads.new.unread) text result }
         ensures goes_on { result ≡ true → heads.new.fault ≡ None }
         ensures few { result ≡ true → n < 1000 }
@@ -121,20 +133,21 @@ impl<R, S: Source<R> + Drop> Node<R, S> {
         &self,
         rt: &R,
         alloc: Global,
-        passes: &mut [Passes],
+        passes: &mut [Passes<J>],
         reader: I,
         out: &mut W,
     )
+        requires { 0 < length passes.old }
         // Where the bytes that the reader has left are known, the output is that for what came of them: all, or a first part where
         // the reader failed.
         ensures serves { IfSome (I.remaining reader) (λ input. (output : List ℕ) × Appends (W.contents out.old) (W.contents out.new) output
             × ((came : List ℕ) × IsCame ((before after : I) × I.fails before after) input came
-            × IsConnection (terms S.bytes S.keeps S.gave self.now.settings self.now.items ((before after : I) × I.fails before after) ((before : W) × W.fails before out.new))
+            × IsConnection (terms S.bytes S.keeps J.honest S.gave self.now.settings self.now.items ((before after : I) × I.fails before after) ((before : W) × W.fails before out.new))
             came output)) }
 
         // Where they are not, as at a socket, it is that for the bytes that came.
         ensures came { (came : List ℕ) × (output : List ℕ) × Appends (W.contents out.old) (W.contents out.new) output
-            × IsConnection (terms S.bytes S.keeps S.gave self.now.settings self.now.items ((before after : I) × I.fails before after) ((before : W) × W.fails before out.new))
+            × IsConnection (terms S.bytes S.keeps J.honest S.gave self.now.settings self.now.items ((before after : I) × I.fails before after) ((before : W) × W.fails before out.new))
             came output }
     {
         let Ok(mut heads) = Heads::new(alloc, reader) else {

@@ -1,6 +1,6 @@
 //! Images that are made of tiles and blocks, beside those of whole regions; and what their reads do.
 
-use crate::nodes::{MemNode, body, node_of};
+use crate::nodes::{bodies, body, node_of};
 use crate::reference::plain_render;
 use crate::tests::{SAMPLE, WHOLE};
 use iiif_area::is_scalable;
@@ -10,7 +10,9 @@ use iiif_source::MemSource;
 use iiif_tiff_read::open;
 use iiif_tiff_write::{OutKind, fits, head, put_rows};
 use std::alloc::Global;
+use std::sync::Wait;
 use std::test::Fail;
+use std::thread::Threads;
 
 /// Writes a sample, of which a depth of eight bits has the low byte, where there is a place for it.
 fn put(picture: &mut Raster, x: u32, y: u32, channel: usize, sample: u16) {
@@ -144,26 +146,27 @@ fn resolved(
     }
 }
 
-/// Whether a target is answered by the image that its request comes to.
-fn is_answered(
-    rt: &HostRuntime,
-    node: &MemNode,
-    source: &MemSource,
-    target: &[u8],
-    resolved: &Resolved,
+/// Whether each request of a picture is answered by the image that it comes to, by one node with tiles of this edge.
+fn all_are_answered<R: Threads + Wait + Sync + AllocGlobal>(
+    rt: &R,
+    file: &[u8],
+    edge: u32,
 ) -> Result<bool, Fail> {
-    let image = plain_image(rt.alloc(), source, resolved)?;
-    let samples = stored(rt.alloc(), &image)?;
-    let (status, sent) = body(rt, node, target)?;
-    Ok(status == 200 && sent.ends_with(&samples))
-}
-
-/// Whether each request of a picture is, with tiles of this edge.
-fn all_are_answered(rt: &HostRuntime, file: &[u8], edge: u32) -> Result<bool, Fail> {
-    let source = MemSource::new(Vec::from_slice(rt.alloc(), file)?);
+    let alloc = rt.alloc();
+    let source = MemSource::new(Vec::from_slice(alloc, file)?);
     let node = node_of(rt, "a", file, edge, 10_000)?;
-    for (target, resolved) in &requests() {
-        if !is_answered(rt, &node, &source, target, resolved)? {
+    let requests = requests();
+    let mut targets = Vec::new(alloc);
+    for (target, _) in &requests {
+        targets.push(*target)?;
+    }
+    for ((_, resolved), (status, sent)) in requests
+        .iter()
+        .zip(bodies(rt, alloc, &node, &targets)?)
+    {
+        let image = plain_image(alloc, &source, resolved)?;
+        let samples = stored(alloc, &image)?;
+        if status != 200 || !sent.ends_with(&samples) {
             return Ok(false);
         }
     }

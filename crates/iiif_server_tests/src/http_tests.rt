@@ -1,15 +1,20 @@
 //! Answers to calls and connections, of a node over sources in memory.
 
-use crate::nodes::{MemNode, NEVER, answer, body, node_of, send_answer, send_stream};
+use crate::nodes::{
+    Ask, MemNode, NEVER, answer, answers_of, body, call, ends_of, forgetful, node_of, send_stream,
+};
 use crate::tests::{SAMPLE, WHOLE};
 use http::Method;
+use iiif_http_front::Call;
 use iiif_io::Inlet;
 use iiif_io::fakes::{FailingReader, FailingWriter};
-use iiif_server::{Cause, Cut};
+use iiif_server::{Cause, Cut, Sent};
 use std::alloc::Global;
 use std::io;
 use std::io::Read;
+use std::sync::Wait;
 use std::test::Fail;
+use std::thread::Threads;
 
 /// Three requests: a base URI, a method that isn't answered, and the head of a whole image.
 const REQUESTS: &str =
@@ -52,20 +57,37 @@ impl<'a> Inlet for Parts<'a> {
 }
 
 /// A node with the sample.
-fn node(rt: &HostRuntime) -> Result<MemNode, Fail> {
+fn node<R: Threads + Wait + Sync + AllocGlobal>(rt: &R) -> Result<MemNode, Fail> {
     node_of(rt, "a", &SAMPLE, 2, NEVER)
 }
 
 /// What a connection is answered whose input ends.
-fn stream(rt: &HostRuntime, node: &MemNode, input: &[u8]) -> Result<Vec<u8>, Fail> {
+fn stream<R: Threads + Wait + Sync + AllocGlobal>(
+    rt: &R,
+    node: &MemNode,
+    input: &[u8],
+) -> Result<Vec<u8>, Fail> {
     let mut out = Vec::new(rt.alloc());
     let reader = FailingReader {
         left: input,
         piece: 4096,
         reads: usize::MAX,
     };
-    send_stream(rt.alloc(), node, reader, &mut out);
+    send_stream(rt, node, reader, &mut out)?;
     Ok(out)
+}
+
+/// What these calls are answered, one after another, by one new node.
+fn all_answers<R: Threads + Wait + Sync + AllocGlobal>(
+    rt: &R,
+    node: &MemNode,
+    calls: &[Call],
+) -> Result<Vec<(Sent, Vec<u8>)>, Fail> {
+    let mut asks = Vec::new(rt.alloc());
+    for call in calls {
+        asks.push(Ask::Call(call))?;
+    }
+    answers_of(rt, rt.alloc(), node, &asks)
 }
 
 /// How often a text stands in another.
@@ -86,7 +108,7 @@ fn three_requests_cut_at_every_place(rt: HostRuntime) -> Result<(), Fail> {
     let text = REQUESTS.as_bytes();
     for (first, second) in (0..=text.len()).map(|place| text.split_at(place)) {
         let mut out = Vec::new(rt.alloc());
-        send_stream(rt.alloc(), &node, Parts { first, second }, &mut out);
+        send_stream(&rt, &node, Parts { first, second }, &mut out)?;
         assert_eq!(rt; out.as_slice(), ANSWERS.as_bytes());
     }
     Ok(())
@@ -103,8 +125,8 @@ fn image_with_its_head(rt: HostRuntime) -> Result<(), Fail> {
 }
 
 /// Whether a call is answered by a head alone, or by a head and a body.
-fn has_parts(
-    rt: &HostRuntime,
+fn has_parts<R: Threads + Wait + Sync + AllocGlobal>(
+    rt: &R,
     method: Method,
     target: &[u8],
     head: &[u8],
@@ -152,8 +174,13 @@ fn refusals_with_their_heads(rt: HostRuntime) -> Result<(), Fail> {
             b"HTTP/1.1 405 Method Not Allowed\r\nContent-Type: text/plain\r\nAccess-Control-Allow-Origin: *\r\nAllow: GET, HEAD\r\nContent-Length: 10\r\n\r\nQ2 method\n",
         ),
     ];
+    let mut calls = Vec::new(rt.alloc());
+    let mut texts = Vec::new(rt.alloc());
     for (method, target, text) in cases {
-        let (sent, out) = answer(&rt, &node, method, target)?;
+        calls.push(call(rt.alloc(), method, target)?)?;
+        texts.push(text)?;
+    }
+    for (text, (sent, out)) in texts.into_iter().zip(all_answers(&rt, &node, &calls)?) {
         assert_eq!(rt; out.as_slice(), text);
         assert_eq!(rt; sent.bytes, text.len() as u64);
     }
@@ -161,7 +188,7 @@ fn refusals_with_their_heads(rt: HostRuntime) -> Result<(), Fail> {
 }
 
 /// A node with the sample, of which the k-th read and each later one fails.
-fn fused(rt: &HostRuntime, k: u64) -> Result<MemNode, Fail> {
+fn fused<R: Threads + Wait + Sync + AllocGlobal>(rt: &R, k: u64) -> Result<MemNode, Fail> {
     node_of(rt, "a", &SAMPLE, 2, k)
 }
 
@@ -170,37 +197,50 @@ fn head_reads_nothing(rt: HostRuntime) -> Result<(), Fail> {
     let fault =
         b"HTTP/1.1 500 Internal Server Error\r\nContent-Type: text/plain\r\nAccess-Control-Allow-Origin: *\r\nContent-Length: 10\r\n\r\nL1 source\n";
     let node = fused(&rt, 1)?;
-    for (method, status, text) in [
-        (Method::HEAD, 200, IMAGE_HEAD.as_bytes()),
-        (Method::GET, 500, fault.as_slice()),
-    ] {
-        let (sent, out) = answer(&rt, &node, method, WHOLE)?;
+    let calls = [
+        call(rt.alloc(), Method::HEAD, WHOLE)?,
+        call(rt.alloc(), Method::GET, WHOLE)?,
+    ];
+    let texts = [(200, IMAGE_HEAD.as_bytes()), (500, fault.as_slice())];
+    for ((status, text), (sent, out)) in texts.into_iter().zip(all_answers(&rt, &node, &calls)?) {
         assert_eq!(rt; sent.status, status);
         assert_eq!(rt; out.as_slice(), text);
     }
     Ok(())
 }
 
-/// The status that a call for the whole sample is answered by.
-fn status(rt: &HostRuntime, node: &MemNode, method: Method) -> Result<u16, Fail> {
-    let (sent, _) = answer(rt, node, method, WHOLE)?;
-    Ok(sent.status)
+/// Whether a node that keeps nothing, of whose reads the k-th and each later one fails, answers these calls by these statuses.
+fn has_statuses<R: Threads + Wait + Sync + AllocGlobal>(
+    rt: &R,
+    k: u64,
+    calls: &[Call],
+    statuses: &[u16],
+) -> Result<bool, Fail> {
+    let answers = all_answers(rt, &forgetful(fused(rt, k)?), calls)?;
+    let mut all = answers.len() == statuses.len();
+    for ((sent, _), status) in answers.iter().zip(statuses) {
+        all = all && sent.status == *status;
+    }
+    Ok(all)
 }
 
 #[test]
 fn head_spends_no_read(rt: HostRuntime) -> Result<(), Fail> {
+    let get = [call(rt.alloc(), Method::GET, WHOLE)?];
     let mut last = 0u64;
     for k in 1..100u64 {
         last = k;
-        if status(&rt, &fused(&rt, k)?, Method::GET)? == 200 {
+        if has_statuses(&rt, k, &get, &[200])? {
             break;
         }
     }
     assert!(rt; last > 1);
-    let node = fused(&rt, last)?;
-    assert_eq!(rt; status(&rt, &node, Method::HEAD)?, 200);
-    assert_eq!(rt; status(&rt, &node, Method::GET)?, 200);
-    assert_eq!(rt; status(&rt, &node, Method::GET)?, 500);
+    let calls = [
+        call(rt.alloc(), Method::HEAD, WHOLE)?,
+        call(rt.alloc(), Method::GET, WHOLE)?,
+        call(rt.alloc(), Method::GET, WHOLE)?,
+    ];
+    assert!(rt; has_statuses(&rt, last, &calls, &[200, 200, 500])?);
     Ok(())
 }
 
@@ -214,7 +254,7 @@ fn calls_that_came_are_answered_before_the_reader_fails(rt: HostRuntime) -> Resu
             piece: 60,
             reads,
         };
-        send_stream(rt.alloc(), &node, reader, &mut out);
+        send_stream(&rt, &node, reader, &mut out)?;
         assert_eq!(rt; count(&out, b"HTTP/1.1 303 See Other\r\n"), answered);
         assert_eq!(rt; count(&out, b"HTTP/1.1 "), answered);
     }
@@ -225,18 +265,25 @@ fn calls_that_came_are_answered_before_the_reader_fails(rt: HostRuntime) -> Resu
 fn writer_that_fails_ends_the_answer(rt: HostRuntime) -> Result<(), Fail> {
     let node = node(&rt)?;
     let (_, whole) = answer(&rt, &node, Method::GET, WHOLE)?;
+    let get = call(rt.alloc(), Method::GET, WHOLE)?;
+    let mut asks = Vec::new(rt.alloc());
+    let mut outs = Vec::new(rt.alloc());
     for room in 0..whole.len() {
-        let mut out = FailingWriter {
+        asks.push(Ask::Call(&get))?;
+        outs.push(FailingWriter {
             taken: Vec::new(rt.alloc()),
             room,
             piece: 64,
-        };
-        let sent = send_answer(rt.alloc(), &node, Method::GET, WHOLE, &mut out)?;
+        })?;
+    }
+    let ends = ends_of(&rt, rt.alloc(), &node, &asks, &mut outs)?;
+    assert_eq!(rt; ends.len(), whole.len());
+    for (room, (end, out)) in ends.into_iter().zip(outs).enumerate() {
         let cut = Cut {
             sent: room as u64,
             cause: Cause::Writer,
         };
-        assert_eq!(rt; sent, Err(cut));
+        assert_eq!(rt; end, Err(cut));
         assert_eq!(rt; out.taken.len(), room);
         assert!(rt; whole.starts_with(&out.taken));
         if room == 10 {
@@ -260,7 +307,7 @@ fn nothing_follows_an_answer_that_was_cut_off(rt: HostRuntime) -> Result<(), Fai
             piece: 64,
             reads: usize::MAX,
         };
-        send_stream(rt.alloc(), &node, reader, &mut out);
+        send_stream(&rt, &node, reader, &mut out)?;
         assert_eq!(rt; out.taken.len(), room);
         assert!(rt; ANSWERS.as_bytes().starts_with(&out.taken));
     }
@@ -274,7 +321,11 @@ const REDIRECT_CLOSES: &str =
     "HTTP/1.1 303 See Other\r\nAccess-Control-Allow-Origin: *\r\nLocation: http://localhost/iiif/a/info.json\r\nContent-Length: 0\r\nConnection: close\r\n\r\n";
 
 /// Whether a connection with this input is answered by this text.
-fn is_answered_by(rt: &HostRuntime, input: &[u8], text: &[u8]) -> Result<bool, Fail> {
+fn is_answered_by<R: Threads + Wait + Sync + AllocGlobal>(
+    rt: &R,
+    input: &[u8],
+    text: &[u8],
+) -> Result<bool, Fail> {
     let out = stream(rt, &node(rt)?, input)?;
     Ok(out.as_slice() == text)
 }

@@ -1,6 +1,6 @@
 //! Answers of a node over sources in memory.
 
-use crate::nodes::{NEVER, body, limits, node_of, send_body};
+use crate::nodes::{Ask, NEVER, bodies, body, ends_of, limits, node_of};
 use iiif_io::fakes::FailingWriter;
 use iiif_server::{AddFault, Catalogue, Cause, Config, ConfigFault, Cut};
 use iiif_source::MemSource;
@@ -9,7 +9,7 @@ use std::alloc::Global;
 use std::test::Fail;
 
 /// A TIFF file of 4 by 4 gray samples: 10 more for each column, and 40 more for each row.
-pub const SAMPLE: [u8; 138] = [
+pub(crate) const SAMPLE: [u8; 138] = [
     0x49, 0x49, 0x2a, 0, 0x18, 0, 0, 0, 0, 10, 20, 30, 40, 50, 60, 70, 80, 90, 100, 110, 120, 130,
     140, 150, 9, 0, 0, 1, 3, 0, 1, 0, 0, 0, 4, 0, 0, 0, 1, 1, 3, 0, 1, 0, 0, 0, 4, 0, 0, 0, 2, 1,
     3, 0, 1, 0, 0, 0, 8, 0, 0, 0, 3, 1, 3, 0, 1, 0, 0, 0, 1, 0, 0, 0, 6, 1, 3, 0, 1, 0, 0, 0, 1, 0,
@@ -41,7 +41,7 @@ const DEEP_HIGH_FIRST: [u8; 126] = [
     0x00, 0x04, 0x00, 0x00, 0x00, 0x01, 0x00, 0x00, 0x00, 0x04, 0x00, 0x00, 0x00, 0x00,
 ];
 
-pub const WHOLE: &[u8] = b"/iiif/a/full/max/0/default.tif";
+pub(crate) const WHOLE: &[u8] = b"/iiif/a/full/max/0/default.tif";
 
 /// The last bytes of a body.
 fn tail(body: &[u8], count: usize) -> &[u8] {
@@ -78,10 +78,16 @@ fn scaled_and_turned_samples(rt: HostRuntime) -> Result<(), Fail> {
         ),
         (b"/iiif/a/full/max/0/bitonal.tif", &[0, 0, 0, 0x70]),
     ];
-    for (target, samples) in cases {
-        let (status, body) = body(&rt, &node, target)?;
+    let mut targets = Vec::new(rt.alloc());
+    for (target, _) in cases {
+        targets.push(target)?;
+    }
+    for ((_, samples), (status, body)) in cases
+        .iter()
+        .zip(bodies(&rt, rt.alloc(), &node, &targets)?)
+    {
         assert_eq!(rt; status, 200);
-        assert_eq!(rt; tail(&body, samples.len()), samples);
+        assert_eq!(rt; tail(&body, samples.len()), *samples);
     }
     Ok(())
 }
@@ -125,10 +131,16 @@ fn each_refusal_by_its_line(rt: HostRuntime) -> Result<(), Fail> {
         ("/iiif/a/full/^8,/0/default.tif", 501, "Q13 upscale\n"),
         ("/iiif/a/full/pct:100.1/0/default.tif", 400, "Q12 larger\n"),
     ];
-    for (target, status, line) in cases {
-        let (answered, body) = body(&rt, &node, target.as_bytes())?;
+    let mut targets = Vec::new(rt.alloc());
+    for (target, _, _) in cases {
+        targets.push(target.as_bytes())?;
+    }
+    for ((target, status, line), (answered, body)) in cases
+        .iter()
+        .zip(bodies(&rt, rt.alloc(), &node, &targets)?)
+    {
         assert!(rt;
-            answered == status && body.as_slice() == line.as_bytes(),
+            answered == *status && body.as_slice() == line.as_bytes(),
             "{target}"
         );
     }
@@ -160,18 +172,24 @@ fn failed_read_is_a_source_fault(rt: HostRuntime) -> Result<(), Fail> {
 fn writer_that_fails_leaves_a_strict_prefix(rt: HostRuntime) -> Result<(), Fail> {
     let node = node_of(&rt, "a", &SAMPLE, 2, NEVER)?;
     let (_, whole) = body(&rt, &node, WHOLE)?;
+    let mut asks = Vec::new(rt.alloc());
+    let mut outs = Vec::new(rt.alloc());
     for room in 0..190usize {
-        let mut out = FailingWriter {
+        asks.push(Ask::Body(WHOLE))?;
+        outs.push(FailingWriter {
             taken: Vec::new(rt.alloc()),
             room,
             piece: 7,
-        };
-        let sent = send_body(rt.alloc(), &node, WHOLE, &mut out);
+        })?;
+    }
+    let ends = ends_of(&rt, rt.alloc(), &node, &asks, &mut outs)?;
+    assert_eq!(rt; ends.len(), 190);
+    for (room, (end, out)) in ends.into_iter().zip(outs).enumerate() {
         let cut = Cut {
             sent: room as u64,
             cause: Cause::Writer,
         };
-        assert_eq!(rt; sent, Err(cut));
+        assert_eq!(rt; end, Err(cut));
         assert_eq!(rt; out.taken.len(), room);
         assert!(rt; whole.starts_with(&out.taken));
     }

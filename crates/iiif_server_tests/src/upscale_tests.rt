@@ -3,10 +3,16 @@
 use crate::nodes::{MemNode, NEVER, answer, body, larger, node_of};
 use crate::tests::SAMPLE;
 use http::Method;
+use std::sync::Wait;
 use std::test::Fail;
+use std::thread::Threads;
 
 /// What a GET of an image of a region in a size is sent, head and body.
-fn image(rt: &HostRuntime, node: &MemNode, asked: &str) -> Result<Vec<u8>, Fail> {
+fn image<R: Threads + Wait + Sync + AllocGlobal>(
+    rt: &R,
+    node: &MemNode,
+    asked: &str,
+) -> Result<Vec<u8>, Fail> {
     let target = format!(in rt.alloc(); "/iiif/a/{asked}/0/default.tif")?;
     let (_, out) = answer(rt, node, Method::GET, target.as_bytes())?;
     Ok(out)

@@ -8,6 +8,8 @@ ghost use Rattle.iiif_keys.specs.Meaning.{sum_is_shaped, sum_meaning};
 ghost use Rattle.iiif_outcome.specs.Views.{receipt_known};
 ghost use Rattle.iiif_group.specs.Beginning.{OutcomeIs};
 ghost use Rattle.iiif_images.specs.Faults.{IsGetFault, IsLoadFault};
+ghost use Rattle.iiif_tile_group.specs.Views.{items_tiled};
+ghost use Rattle.iiif_sum_group.specs.Views.{items_served};
 
 use crate::passes::{Passes, SumCalls};
 use iiif_group::{Begun, Gate, Group, Link};
@@ -37,12 +39,16 @@ impl<R, S: Source<R> + Drop, J: System, N, T> Groups<R, S, J, N, T> {
         alloc: Global,
         tiles: Tiles<R, S, J, N, T>,
         sums: Group<SumKey, J, SumCalls<J>, N, T>,
-    ) -> Groups<R, S, J, N, T> {
+    ) -> Groups<R, S, J, N, T>
+        ensures { items_served result ≡ items_tiled tiles }
+    {
         Groups { tiles, sums, alloc }
     }
 
     /// The tiles.
-    pub fn tiles(&self) -> &Tiles<R, S, J, N, T> {
+    pub fn tiles(&self) -> &Tiles<R, S, J, N, T>
+        ensures { items_tiled result.now ≡ items_served self.now }
+    {
         &self.tiles
     }
 

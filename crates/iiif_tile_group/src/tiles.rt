@@ -13,6 +13,8 @@ ghost use Rattle.iiif_group.specs.Beginning.{OutcomeIs};
 ghost use Rattle.iiif_images.specs.Faults.{IsGetFault, IsLoadFault};
 ghost use Rattle.iiif_images.specs.Items.{item_of};
 ghost use Rattle.iiif_images.specs.Named.{picture_in, IsImageOf};
+ghost use Rattle.iiif_images.specs.Views.{items_in};
+ghost use Rattle.iiif_tile_group.specs.Views.{items_tiled};
 
 use crate::calls::TileCalls;
 use iiif_group::{Begun, Gate, Group, Link, boxed};
@@ -42,7 +44,9 @@ impl<R, S: Source<R> + Drop, J: System, N, T> Tiles<R, S, J, N, T> {
         alloc: Global,
         images: Images<R, S, J>,
         group: Group<TileKey, J, TileCalls<J>, N, T>,
-    ) -> Tiles<R, S, J, N, T> {
+    ) -> Tiles<R, S, J, N, T>
+        ensures { items_tiled result ≡ items_in images }
+    {
         Tiles {
             images,
             group,
@@ -51,7 +55,9 @@ impl<R, S: Source<R> + Drop, J: System, N, T> Tiles<R, S, J, N, T> {
     }
 
     /// The images.
-    pub fn images(&self) -> &Images<R, S, J> {
+    pub fn images(&self) -> &Images<R, S, J>
+        ensures { items_in result.now ≡ items_tiled self.now }
+    {
         &self.images
     }
 

@@ -1,4 +1,4 @@
-use Rattle.iiif_server.specs.Items.{item_of}
+use Rattle.iiif_images.specs.Items.{item_of}
 use Rattle.iiif_server.proofs.OutcomeLemmas.{item_picture}
 use Rattle.iiif_server.proofs.outcome.sides.Goals as goal
 

@@ -6,31 +6,31 @@ use Rattle.iiif_server.proofs.node.Node.serve_next.Goals as goal
 
 pub returns-in-Ok-None-clause-serves : goal.returns-in-Ok-None-clause-serves
 returns-in-Ok-None-clause-serves g c =
-    next_none (terms g.S.Source.bytes g.S.Source.keeps g.S.Source.gave c.args.self.now.settings c.args.self.now.items ((a b : g.row.I.Denot) × g.I.Inlet.fails a b) ((b : g.row.W.Denot) × g.W.Outlet.fails b c.args.out.now))
+    next_none (terms g.S.Source.bytes g.S.Source.keeps g.J.System.honest g.S.Source.gave c.args.self.now.settings c.args.self.now.items ((a b : g.row.I.Denot) × g.I.Inlet.fails a b) ((b : g.row.W.Denot) × g.W.Outlet.fails b c.args.out.now))
     c.args.n (input_of g.I.Read.remaining c.args.heads.now) (input_of g.I.Read.remaining c.read_head.new.self) (g.W.Write.contents c.args.out.now)
     (rw c.in-Ok-None.field-0-is at c.in-Ok-None.ensures.answers c.requires.no_fault)
 
 pub returns-in-Err-Bad-clause-serves : goal.returns-in-Err-Bad-clause-serves
 returns-in-Err-Bad-clause-serves g c =
-    next_bad (terms g.S.Source.bytes g.S.Source.keeps g.S.Source.gave c.args.self.now.settings c.args.self.now.items ((a b : g.row.I.Denot) × g.I.Inlet.fails a b) ((b : g.row.W.Denot) × g.W.Outlet.fails b c.close_for_head.new.out))
+    next_bad (terms g.S.Source.bytes g.S.Source.keeps g.J.System.honest g.S.Source.gave c.args.self.now.settings c.args.self.now.items ((a b : g.row.I.Denot) × g.I.Inlet.fails a b) ((b : g.row.W.Denot) × g.W.Outlet.fails b c.close_for_head.new.out))
     c.args.n (input_of g.I.Read.remaining c.args.heads.now) (input_of g.I.Read.remaining c.read_head.new.self) (g.W.Write.contents c.args.out.now)
     (g.W.Write.contents c.close_for_head.new.out) (rw c.in-Err-Bad.field-0-is at c.in-Err-Bad.ensures.answers c.requires.no_fault) c.close_for_head.ensures
 
 pub returns-in-Err-TooLong-clause-serves : goal.returns-in-Err-TooLong-clause-serves
 returns-in-Err-TooLong-clause-serves g c =
-    next_too_long (terms g.S.Source.bytes g.S.Source.keeps g.S.Source.gave c.args.self.now.settings c.args.self.now.items ((a b : g.row.I.Denot) × g.I.Inlet.fails a b) ((b : g.row.W.Denot) × g.W.Outlet.fails b c.close_for_head-in-Err-TooLong.new.out))
+    next_too_long (terms g.S.Source.bytes g.S.Source.keeps g.J.System.honest g.S.Source.gave c.args.self.now.settings c.args.self.now.items ((a b : g.row.I.Denot) × g.I.Inlet.fails a b) ((b : g.row.W.Denot) × g.W.Outlet.fails b c.close_for_head-in-Err-TooLong.new.out))
     c.args.n (input_of g.I.Read.remaining c.args.heads.now) (input_of g.I.Read.remaining c.read_head.new.self) (g.W.Write.contents c.args.out.now)
     (g.W.Write.contents c.close_for_head-in-Err-TooLong.new.out) (rw c.in-Err-TooLong.field-0-is at c.in-Err-TooLong.ensures.answers c.requires.no_fault)
     c.close_for_head-in-Err-TooLong.ensures
 
 pub returns-in-Err-NoMemory-clause-serves : goal.returns-in-Err-NoMemory-clause-serves
 returns-in-Err-NoMemory-clause-serves g c =
-    next_no_memory (terms g.S.Source.bytes g.S.Source.keeps g.S.Source.gave c.args.self.now.settings c.args.self.now.items ((a b : g.row.I.Denot) × g.I.Inlet.fails a b) ((b : g.row.W.Denot) × g.W.Outlet.fails b c.close_for_memory.new.out))
+    next_no_memory (terms g.S.Source.bytes g.S.Source.keeps g.J.System.honest g.S.Source.gave c.args.self.now.settings c.args.self.now.items ((a b : g.row.I.Denot) × g.I.Inlet.fails a b) ((b : g.row.W.Denot) × g.W.Outlet.fails b c.close_for_memory.new.out))
     c.args.n (input_of g.I.Read.remaining c.args.heads.now) (g.W.Write.contents c.args.out.now) (g.W.Write.contents c.close_for_memory.new.out) c.close_for_memory.ensures
 
 pub returns-in-Err-Cut-clause-serves : goal.returns-in-Err-Cut-clause-serves
 returns-in-Err-Cut-clause-serves g c =
-    next_cut (terms g.S.Source.bytes g.S.Source.keeps g.S.Source.gave c.args.self.now.settings c.args.self.now.items ((a b : g.row.I.Denot) × g.I.Inlet.fails a b) ((b : g.row.W.Denot) × g.W.Outlet.fails b c.args.out.now))
+    next_cut (terms g.S.Source.bytes g.S.Source.keeps g.J.System.honest g.S.Source.gave c.args.self.now.settings c.args.self.now.items ((a b : g.row.I.Denot) × g.I.Inlet.fails a b) ((b : g.row.W.Denot) × g.W.Outlet.fails b c.args.out.now))
     c.args.n (input_of g.I.Read.remaining c.args.heads.now) (input_of g.I.Read.remaining c.read_head.new.self) (g.W.Write.contents c.args.out.now)
     (rw c.in-Err-Cut.field-0-is at c.in-Err-Cut.ensures.answers c.requires.no_fault)
 
@@ -38,13 +38,13 @@ pub returns-in-Err-Io-clause-serves : goal.returns-in-Err-Io-clause-serves
 returns-in-Err-Io-clause-serves g c =
     let failed = c.in-Err-Io.ensures.io c.requires.no_fault (ap Err c.in-Err-Io.field-0-is) in
     let none = c.in-Err-Io.ensures.held c.requires.no_fault (ap Err c.in-Err-Io.field-0-is) in
-    next_failed (terms g.S.Source.bytes g.S.Source.keeps g.S.Source.gave c.args.self.now.settings c.args.self.now.items ((a b : g.row.I.Denot) × g.I.Inlet.fails a b) ((b : g.row.W.Denot) × g.W.Outlet.fails b c.args.out.now))
+    next_failed (terms g.S.Source.bytes g.S.Source.keeps g.J.System.honest g.S.Source.gave c.args.self.now.settings c.args.self.now.items ((a b : g.row.I.Denot) × g.I.Inlet.fails a b) ((b : g.row.W.Denot) × g.W.Outlet.fails b c.args.out.now))
     c.args.n (input_of g.I.Read.remaining c.args.heads.now) c.read_head.new.self.unread (g.I.Read.remaining c.read_head.new.self.reader) (g.W.Write.contents c.args.out.now)
     (failed.0, _, failed.1) none (rw c.in-Err-Io.field-0-is at c.in-Err-Io.ensures.answers c.requires.no_fault)
 
 pub returns-clause-serves : goal.returns-clause-serves
 returns-clause-serves g c =
-    next_call g.S.Source.bytes g.S.Source.keeps g.S.Source.gave c.args.self.now.settings c.args.self.now.items ((a b : g.row.I.Denot) × g.I.Inlet.fails a b) ((b : g.row.W.Denot) × g.W.Outlet.fails b c.serve_call.new.out)
+    next_call g.S.Source.bytes g.S.Source.keeps g.J.System.honest g.S.Source.gave c.args.self.now.settings c.args.self.now.items ((a b : g.row.I.Denot) × g.I.Inlet.fails a b) ((b : g.row.W.Denot) × g.W.Outlet.fails b c.serve_call.new.out)
     c.args.n (input_of g.I.Read.remaining c.args.heads.now) (input_of g.I.Read.remaining c.read_head.new.self) c.in-Ok-Some.call c.closing_call-call.result c.serve_call.result
     (g.W.Write.contents c.args.out.now) (g.W.Write.contents c.serve_call.new.out) (rw c.in-Ok-Some.field-0-is at c.in-Ok-Some.ensures.answers c.requires.no_fault)
     c.closing_call-call.ensures.method c.closing_call-call.ensures.target c.closing_call-call.ensures.close c.serve_call.ensures
@@ -52,35 +52,35 @@ returns-clause-serves g c =
 pub returns-in-Ok-None-clause-came : goal.returns-in-Ok-None-clause-came
 returns-in-Ok-None-clause-came g c =
     let came = (rw c.in-Ok-None.field-0-is at c.in-Ok-None.ensures.came c.requires.no_fault) in
-    let sent = next_none (terms g.S.Source.bytes g.S.Source.keeps g.S.Source.gave c.args.self.now.settings c.args.self.now.items ((a b : g.row.I.Denot) × g.I.Inlet.fails a b) ((b : g.row.W.Denot) × g.W.Outlet.fails b c.args.out.now))
+    let sent = next_none (terms g.S.Source.bytes g.S.Source.keeps g.J.System.honest g.S.Source.gave c.args.self.now.settings c.args.self.now.items ((a b : g.row.I.Denot) × g.I.Inlet.fails a b) ((b : g.row.W.Denot) × g.W.Outlet.fails b c.args.out.now))
     c.args.n (Some (c.args.heads.now.unread ++ came.0)) (Some c.read_head.new.self.unread) (g.W.Write.contents c.args.out.now) came.1 in
     (came.0, sent.0, sent.1, sent.2)
 
 pub returns-in-Err-Bad-clause-came : goal.returns-in-Err-Bad-clause-came
 returns-in-Err-Bad-clause-came g c =
     let came = (rw c.in-Err-Bad.field-0-is at c.in-Err-Bad.ensures.came c.requires.no_fault) in
-    let sent = next_bad (terms g.S.Source.bytes g.S.Source.keeps g.S.Source.gave c.args.self.now.settings c.args.self.now.items ((a b : g.row.I.Denot) × g.I.Inlet.fails a b) ((b : g.row.W.Denot) × g.W.Outlet.fails b c.close_for_head.new.out))
+    let sent = next_bad (terms g.S.Source.bytes g.S.Source.keeps g.J.System.honest g.S.Source.gave c.args.self.now.settings c.args.self.now.items ((a b : g.row.I.Denot) × g.I.Inlet.fails a b) ((b : g.row.W.Denot) × g.W.Outlet.fails b c.close_for_head.new.out))
     c.args.n (Some (c.args.heads.now.unread ++ came.0)) (Some c.read_head.new.self.unread) (g.W.Write.contents c.args.out.now) (g.W.Write.contents c.close_for_head.new.out) came.1 c.close_for_head.ensures in
     (came.0, sent.0, sent.1, sent.2)
 
 pub returns-in-Err-TooLong-clause-came : goal.returns-in-Err-TooLong-clause-came
 returns-in-Err-TooLong-clause-came g c =
     let came = (rw c.in-Err-TooLong.field-0-is at c.in-Err-TooLong.ensures.came c.requires.no_fault) in
-    let sent = next_too_long (terms g.S.Source.bytes g.S.Source.keeps g.S.Source.gave c.args.self.now.settings c.args.self.now.items ((a b : g.row.I.Denot) × g.I.Inlet.fails a b) ((b : g.row.W.Denot) × g.W.Outlet.fails b c.close_for_head-in-Err-TooLong.new.out))
+    let sent = next_too_long (terms g.S.Source.bytes g.S.Source.keeps g.J.System.honest g.S.Source.gave c.args.self.now.settings c.args.self.now.items ((a b : g.row.I.Denot) × g.I.Inlet.fails a b) ((b : g.row.W.Denot) × g.W.Outlet.fails b c.close_for_head-in-Err-TooLong.new.out))
     c.args.n (Some (c.args.heads.now.unread ++ came.0)) (Some c.read_head.new.self.unread) (g.W.Write.contents c.args.out.now) (g.W.Write.contents c.close_for_head-in-Err-TooLong.new.out) came.1
     c.close_for_head-in-Err-TooLong.ensures in
     (came.0, sent.0, sent.1, sent.2)
 
 pub returns-in-Err-NoMemory-clause-came : goal.returns-in-Err-NoMemory-clause-came
 returns-in-Err-NoMemory-clause-came g c =
-    let sent = next_no_memory (terms g.S.Source.bytes g.S.Source.keeps g.S.Source.gave c.args.self.now.settings c.args.self.now.items ((a b : g.row.I.Denot) × g.I.Inlet.fails a b) ((b : g.row.W.Denot) × g.W.Outlet.fails b c.close_for_memory.new.out))
+    let sent = next_no_memory (terms g.S.Source.bytes g.S.Source.keeps g.J.System.honest g.S.Source.gave c.args.self.now.settings c.args.self.now.items ((a b : g.row.I.Denot) × g.I.Inlet.fails a b) ((b : g.row.W.Denot) × g.W.Outlet.fails b c.close_for_memory.new.out))
     c.args.n (Some (c.args.heads.now.unread ++ (c.in-Err-NoMemory.ensures.came c.requires.no_fault).0)) (g.W.Write.contents c.args.out.now) (g.W.Write.contents c.close_for_memory.new.out) c.close_for_memory.ensures in
     ((c.in-Err-NoMemory.ensures.came c.requires.no_fault).0, sent.0, sent.1, sent.2)
 
 pub returns-in-Err-Cut-clause-came : goal.returns-in-Err-Cut-clause-came
 returns-in-Err-Cut-clause-came g c =
     let came = (rw c.in-Err-Cut.field-0-is at c.in-Err-Cut.ensures.came c.requires.no_fault) in
-    let sent = next_cut (terms g.S.Source.bytes g.S.Source.keeps g.S.Source.gave c.args.self.now.settings c.args.self.now.items ((a b : g.row.I.Denot) × g.I.Inlet.fails a b) ((b : g.row.W.Denot) × g.W.Outlet.fails b c.args.out.now))
+    let sent = next_cut (terms g.S.Source.bytes g.S.Source.keeps g.J.System.honest g.S.Source.gave c.args.self.now.settings c.args.self.now.items ((a b : g.row.I.Denot) × g.I.Inlet.fails a b) ((b : g.row.W.Denot) × g.W.Outlet.fails b c.args.out.now))
     c.args.n (Some (c.args.heads.now.unread ++ came.0)) (Some c.read_head.new.self.unread) (g.W.Write.contents c.args.out.now) came.1 in
     (came.0, sent.0, sent.1, sent.2)
 
@@ -89,14 +89,14 @@ returns-in-Err-Io-clause-came g c =
     let failed = c.in-Err-Io.ensures.io c.requires.no_fault (ap Err c.in-Err-Io.field-0-is) in
     let none = c.in-Err-Io.ensures.held c.requires.no_fault (ap Err c.in-Err-Io.field-0-is) in
     let came = (rw c.in-Err-Io.field-0-is at c.in-Err-Io.ensures.came c.requires.no_fault) in
-    let sent = next_failed_here (terms g.S.Source.bytes g.S.Source.keeps g.S.Source.gave c.args.self.now.settings c.args.self.now.items ((a b : g.row.I.Denot) × g.I.Inlet.fails a b) ((b : g.row.W.Denot) × g.W.Outlet.fails b c.args.out.now))
+    let sent = next_failed_here (terms g.S.Source.bytes g.S.Source.keeps g.J.System.honest g.S.Source.gave c.args.self.now.settings c.args.self.now.items ((a b : g.row.I.Denot) × g.I.Inlet.fails a b) ((b : g.row.W.Denot) × g.W.Outlet.fails b c.args.out.now))
     c.args.n (c.args.heads.now.unread ++ came.0) c.read_head.new.self.unread (g.W.Write.contents c.args.out.now) (failed.0, _, failed.1) none came.1 in
     (came.0, sent.0, sent.1, sent.2)
 
 pub returns-clause-came : goal.returns-clause-came
 returns-clause-came g c =
     let came = (rw c.in-Ok-Some.field-0-is at c.in-Ok-Some.ensures.came c.requires.no_fault) in
-    let sent = next_call g.S.Source.bytes g.S.Source.keeps g.S.Source.gave c.args.self.now.settings c.args.self.now.items ((a b : g.row.I.Denot) × g.I.Inlet.fails a b) ((b : g.row.W.Denot) × g.W.Outlet.fails b c.serve_call.new.out)
+    let sent = next_call g.S.Source.bytes g.S.Source.keeps g.J.System.honest g.S.Source.gave c.args.self.now.settings c.args.self.now.items ((a b : g.row.I.Denot) × g.I.Inlet.fails a b) ((b : g.row.W.Denot) × g.W.Outlet.fails b c.serve_call.new.out)
     c.args.n (Some (c.args.heads.now.unread ++ came.0)) (Some c.read_head.new.self.unread) c.in-Ok-Some.call c.closing_call-call.result c.serve_call.result
     (g.W.Write.contents c.args.out.now) (g.W.Write.contents c.serve_call.new.out) came.1
     c.closing_call-call.ensures.method c.closing_call-call.ensures.target c.closing_call-call.ensures.close c.serve_call.ensures in

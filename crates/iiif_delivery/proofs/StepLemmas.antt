@@ -1,0 +1,372 @@
+-- The steps of an image that is sent band by band.
+use Rattle.std.proofs.Common.{◌≡◌, ℕ, ◌+◌, ◌*◌, ◌/◌, ◌%◌, ◌<◌, ◌≤◌, ◌⊎◌, ◌==◌, eqb, min, max, Bool, true, false, List, [], ◌++◌, length, get_or, take, inl, inr, refl, sym, ap, subst, ◌∙◌, arith, append_assoc, length-append, Option}
+use Rattle.std.specs.Prelude.{if◌then◌else◌}
+use Rattle.std.specs.Int.{div_ceil}
+use Rattle.std.specs.Io.KnownBytes.{Appends}
+use Rattle.std.proofs.KnownBytes.{Appends-nil, Appends-trans}
+use Rattle.std.proofs.lemmas.Grind.{div_ceil_times}
+use Rattle.std.proofs.lemmas.List.{append-nil, length-map, get_or-map, take-append-le}
+use Rattle.std.proofs.lemmas.List.FromFn.{get_or-map-range_with_len, length-map-range_with_len}
+use Rattle.std.proofs.Math.Nat.{mul-le-mul_left, mul-le-mul_right}
+use Rattle.std.proofs.Math.Seq.{take-append_seam, take-append-add}
+use Rattle.iiif_io.specs.Sending.{WasCut}
+use Rattle.iiif_pixel.specs.Geometry.{channels_of}
+use Rattle.iiif_pixel.specs.Operations.{crop, turn, quality}
+use Rattle.iiif_pixel.specs.Picture.{Picture, IsWhole, dim_of}
+use Rattle.iiif_pixel.specs.Scaling.{scale, whole_of}
+use Rattle.iiif_pixel.specs.TurnPlaces.{turned_dim}
+use Rattle.iiif_pixel.specs.declared.geometry.Dim.{Dim}
+use Rattle.iiif_pixel.specs.declared.geometry.Rect.{Rect}
+use Rattle.iiif_canonical.specs.Images.{resolved_image}
+use Rattle.iiif_canonical.specs.declared.resolved.Resolved.{Resolved}
+use Rattle.iiif_keys.specs.Names.{named, IsSource, Pictures}
+use Rattle.iiif_keys.specs.Shapes.{HasPicture}
+use Rattle.iiif_keys.specs.declared.keys.SumKey.{SumKey}
+use Rattle.iiif_keys.specs.declared.keys.TileKey.{TileKey}
+use Rattle.iiif_keys.specs.declared.values.SumVal.{SumVal}
+use Rattle.iiif_keys.specs.declared.values.TileVal.{TileVal}
+use Rattle.iiif_planner.specs.declared.plans.Plan.{Plan}
+use Rattle.iiif_bands.specs.Bands.{band_rect, AreBands}
+use Rattle.iiif_bands.specs.declared.banding.Band.{Band}
+use Rattle.iiif_assemble.specs.Jobs.{channels_in, top_in, IsHeldFor}
+use Rattle.iiif_assemble.specs.declared.job.Job.{Job}
+use Rattle.iiif_assemble.proofs.ImageLemmas.{all_rows, image_top, picture_shown, quality_channels, turned_channels}
+use Rattle.iiif_tiff_write.specs.Bands.{band}
+use Rattle.iiif_tiff_write.specs.File.{file, file_len, head_of, row_len, strip, strip_len, strip_offset}
+use Rattle.iiif_tiff_write.specs.OutKind.{samples_per_pixel}
+use Rattle.iiif_tiff_write.specs.declared.kind.OutKind.{OutKind}
+use Rattle.iiif_tiff_write.specs.declared.kind.OutKind.TheVariants.{Gray, Rgb, Bitonal, Gray16, Rgb16}
+use Rattle.iiif_tiff_write.proofs.Lengths.{length-head_of, length-strip, length-file}
+use Rattle.iiif_delivery.specs.Delivery.{len_with, result_dim, IsHeldInBands, IsImageFor}
+use Rattle.iiif_delivery.specs.Code.{HasCounted, HasRows, HasText, IsBandFor, Laws}
+use Rattle.iiif_delivery.proofs.RowLemmas.{more_text, text_left}
+
+-- ---- The image that is asked for
+
+asked_whole : Laws → (p : Picture) (r : Resolved) → IsWhole p → IsWhole (resolved_image p r)
+unfolding resolved_image
+asked_whole laws p r whole =
+    let s = scale (crop p r.rect) r.size in
+    laws.qualities (turn s r.turn) r.quality (laws.turns s r.turn (laws.scales (crop p r.rect) r.size (laws.crops p r.rect whole)))
+
+asked_sides : Laws → (p : Picture) (r : Resolved) → IsWhole p → r.turn.quarters < 4 → dim_of (resolved_image p r) ≡ turned_dim r.turn r.size
+asked_sides laws p r whole few =
+    sym (ap dim_of (all_rows laws.rows laws.crops laws.scales laws.turns laws.qualities p r (whole_of (turned_dim r.turn r.size)) whole few refl))
+
+asked_channels : (p : Picture) (r : Resolved) → r.turn.quarters < 4 → (resolved_image p r).channels ≡ channels_in r.quality p.channels
+unfolding resolved_image
+asked_channels p r few =
+    let s = scale (crop p r.rect) r.size in
+    quality_channels (turn s r.turn) r.quality ∙ ap (channels_in r.quality) (turned_channels r.turn s few)
+
+asked_top : (p : Picture) (r : Resolved) → (resolved_image p r).top ≡ top_in r.quality p.top
+unfolding resolved_image
+asked_top p r =
+    let s = scale (crop p r.rect) r.size in
+    image_top s (turn s r.turn) (quality (turn s r.turn) r.quality) r.turn r.quality p.top refl refl refl
+
+-- ---- Bands in their order
+
+begins_above : (h rows m : ℕ) → 0 < rows → m < div_ceil h rows → m * rows < h
+begins_above h rows m some counted =
+    let q = h / rows + min 1 (h % rows) in
+    let bound = div_ceil_times h rows some in
+    let last : (m + 1) * rows ≤ q * rows = mul-le-mul_right rows (omega arith) in
+    let sum : (m + 1) * rows ≡ m * rows + rows = omega arith in
+    omega (arith, bound.1, last, sum)
+
+-- how many there are
+count_of_bands : (r : Resolved) (plan : Plan) (rows : ℕ) (bs : List Band) → AreBands r plan rows bs → length bs ≡ div_ceil (turned_dim r.turn r.size).h rows
+count_of_bands r plan rows bs are =
+    let d = turned_dim r.turn r.size in
+    let rect : Band → Rect = λ b. b.rect in
+    sym (length-map bs rect) ∙ ap length are.rects ∙ length-map-range_with_len (band_rect d rows) 0 (div_ceil d.h rows)
+
+-- and where each stands
+pub band_at : (r : Resolved) (plan : Plan) (rows : ℕ) (bs : List Band) (i : ℕ) (b : Band) → AreBands r plan rows bs → i < length bs → get_or bs i b ≡ b →
+    b.rect ≡ band_rect (turned_dim r.turn r.size) rows i
+band_at r plan rows bs i b are within is =
+    let d = turned_dim r.turn r.size in
+    let rect : Band → Rect = λ q. q.rect in
+    let n = div_ceil d.h rows in
+    let counted : i < n = omega (arith, count_of_bands r plan rows bs are) in
+    ap rect (sym is) ∙ sym (get_or-map rect bs i b b.rect within) ∙ ap (λ rs. get_or rs i b.rect) are.rects
+    ∙ get_or-map-range_with_len (band_rect d rows) 0 n i i b.rect counted (omega arith)
+
+pub band_above : (r : Resolved) (plan : Plan) (rows : ℕ) (bs : List Band) (i : ℕ) → 0 < rows → AreBands r plan rows bs → i < length bs → i * rows < (turned_dim r.turn r.size).h
+band_above r plan rows bs i some are within =
+    begins_above (turned_dim r.turn r.size).h rows i some (omega (arith, count_of_bands r plan rows bs are))
+
+pub bands_end : (r : Resolved) (plan : Plan) (rows : ℕ) (bs : List Band) (i : ℕ) → 0 < rows → AreBands r plan rows bs → length bs ≤ i →
+    min (i * rows) (turned_dim r.turn r.size).h ≡ (turned_dim r.turn r.size).h
+bands_end r plan rows bs i some are past =
+    let h = (turned_dim r.turn r.size).h in
+    let reached : h ≤ div_ceil h rows * rows = (div_ceil_times h rows some).0 in
+    let later : div_ceil h rows * rows ≤ i * rows = mul-le-mul_right rows (omega (arith, count_of_bands r plan rows bs are)) in
+    omega (arith, reached, later)
+
+-- ---- Lengths
+
+row_some : (k : OutKind) (w : ℕ) → 0 < w → 0 < row_len k w
+row_some Gray w l = l
+row_some Rgb w l = omega arith
+row_some Bitonal w l = omega arith
+row_some Gray16 w l = omega arith
+row_some Rgb16 w l = omega arith
+
+offset_some : (k : OutKind) → 0 < strip_offset k
+offset_some Gray = omega arith
+offset_some Rgb = omega arith
+offset_some Bitonal = omega arith
+offset_some Gray16 = omega arith
+offset_some Rgb16 = omega arith
+
+pub length_front : (start : List ℕ) (k : OutKind) (d : Dim) → length (start ++ head_of k d) ≡ length start + strip_offset k
+length_front start k d = length-append start (head_of k d) ∙ ap (λ n. length start + n) (length-head_of k d)
+
+pub length_whole : (start : List ℕ) (k : OutKind) (p : Picture) (d : Dim) → dim_of p ≡ d → length (start ++ file p k) ≡ length start + file_len k d
+length_whole start k p d sides = length-append start (file p k) ∙ ap (λ n. length start + n) (length-file k p ∙ ap (file_len k) sides)
+
+-- rows above the last leave a byte
+pub rows_short : (k : OutKind) (w y h : ℕ) → 0 < w → y < h → row_len k w * y < row_len k w * h
+rows_short k w y h some above =
+    let row = row_len k w in
+    let more : row * (y + 1) ≤ row * h = mul-le-mul_left row (omega arith) in
+    let sum : row * (y + 1) ≡ row * y + row = omega arith in
+    omega (arith, more, sum, row_some k w some)
+
+-- ---- Counts
+
+-- nothing was written yet, or all rows that stand ready
+pub counted_len : (j : Job) (kind : OutKind) (front rows : ℕ) (text : List ℕ) (sent held y : ℕ) → HasCounted j kind front rows text sent held y →
+    sent ≡ len_with kind front (result_dim j).w y
+counted_len j kind front rows text sent held y counted = elim counted.begun [
+  | inl none ↦ let first : eqb y 0 ≡ true = rw (none.0) refl in rw first (none.1)
+  | inr some ↦
+      let later : eqb y 0 ≡ false = grind arith in
+      let empty : length text ≡ 0 = ap length (some.1) in
+      rw later (let t = counted.total in omega (arith, t, empty))
+]
+
+pub counted_front : (j : Job) (kind : OutKind) (front rows : ℕ) (text : List ℕ) (sent held y : ℕ) → HasCounted j kind front rows text sent held y → (sent ≡ 0) ⊎ (front ≤ sent)
+counted_front j kind front rows text sent held y counted = elim counted.begun [
+  | inl none ↦ inl (none.1)
+  | inr some ↦ let empty : length text ≡ 0 = ap length (some.1) in let t = counted.total in inr (omega (arith, t, empty))
+]
+
+-- a band more
+pub counted_more : (j : Job) (kind : OutKind) (front rows : ℕ) (text more after : List ℕ) (sent sent2 held most y n y2 held2 : ℕ) → HasCounted j kind front rows text sent held y →
+    length more ≡ row_len kind (result_dim j).w * n → IsHeldFor (record { w = (result_dim j).w; h = n }) (channels_of j.shape.kind) most → n ≤ min rows (result_dim j).h → 0 < n →
+    held2 ≡ max held most → y2 ≡ y + n → sent2 ≡ sent + length (text ++ more) → after ≡ [] → HasCounted j kind front rows after sent2 held2 y2
+counted_more j kind front rows text more after sent sent2 held most y n y2 held2 counted len is_held few some greater next written none =
+    let d = result_dim j in
+    let c = channels_of j.shape.kind in
+    let row = row_len kind d.w in
+    let both : length (text ++ more) ≡ length text + length more = length-append text more in
+    let sum : row * y2 ≡ row * y + row * n = ap (λ m. row * m) next ∙ omega arith in
+    let narrow : n * (d.w * c) ≤ min rows d.h * (d.w * c) = mul-le-mul_right (d.w * c) few in
+    let one : 1 * (d.w * c) ≤ n * (d.w * c) = mul-le-mul_right (d.w * c) some in
+    let own : d.w * n * c ≡ n * (d.w * c) = omega arith in
+    let wide : min rows d.h * d.w * c ≡ min rows d.h * (d.w * c) = omega arith in
+    record {
+      total = let t = counted.total in let empty : length after ≡ 0 = ap length none in omega (arith, t, both, sum, len, written, empty);
+      band = let a = counted.band in let b = is_held.twice in omega (arith, a, b, narrow, own, wide, greater);
+      begun = inr (omega arith, none, let b = is_held.own in omega (arith, b, one, own, greater));
+    }
+
+pub counted_first : (j : Job) (kind : OutKind) (front rows y : ℕ) (text : List ℕ) → length text ≡ front → y ≡ 0 → HasCounted j kind front rows text 0 0 y
+counted_first j kind front rows y text len none = record {
+  total = let zero : row_len kind (result_dim j).w * y ≡ 0 = ap (λ m. row_len kind (result_dim j).w * m) none ∙ omega arith in omega (arith, len, zero);
+  band = omega arith;
+  begun = inl (none, refl);
+}
+
+-- all rows
+pub counted_done : (j : Job) (kind : OutKind) (front rows : ℕ) (text : List ℕ) (sent held y : ℕ) → 0 < (result_dim j).h → y ≡ (result_dim j).h →
+    HasCounted j kind front rows text sent held y → (text ≡ []) × IsHeldInBands (result_dim j) rows (channels_of j.shape.kind) held
+counted_done j kind front rows text sent held y some end counted = elim counted.begun [
+  | inl none ↦ absurd (omega (arith, none.0, end, some))
+  | inr done ↦ (done.1, record { row = done.2; band = counted.band })
+]
+
+-- ---- What is written
+
+module _ (laws : Laws) (j : Job) (tile_means : TileKey → TileVal → Type 0) (sum_means : SumKey → SumVal → Type 0) (kind : OutKind) (start : List ℕ)
+    (few : j.resolved.turn.quarters < 4) (fits : channels_in j.resolved.quality (channels_of j.shape.kind) ≡ samples_per_pixel kind) where
+  first_image : (shows : Pictures) → HasPicture shows j.name j.shape → IsSource (named shows j.name) →
+      IsImageFor shows j tile_means sum_means (resolved_image (named shows j.name) j.resolved)
+  first_image shows has source =
+      let p = named shows j.name in
+      let r = j.resolved in
+      let of = picture_shown shows j has source in
+      record {
+        sides = asked_sides laws p r of.whole few;
+        channels = asked_channels p r few ∙ ap (channels_in r.quality) of.samples_a_place;
+        top = asked_top p r ∙ ap (top_in r.quality) of.depth;
+        same = λ shown. refl;
+      }
+
+  -- before the first band
+  pub first_rows : (old : Option (List ℕ)) (text : List ℕ) (y : ℕ) → text ≡ start ++ head_of kind (result_dim j) → y ≡ 0 →
+      (shows : Pictures) → HasPicture shows j.name j.shape → IsSource (named shows j.name) → HasRows shows j tile_means sum_means kind start old old text 0 y
+  first_rows old text y is none shows has source =
+      let image = resolved_image (named shows j.name) j.resolved in
+      let front = start ++ head_of kind (result_dim j) in
+      record {
+        written = [];
+        appended = Appends-nil old;
+        count = refl;
+        has = record {
+          image = image;
+          is_for = first_image shows has source;
+          are = is ∙ sym (append-nil front) ∙ ap (λ s. front ++ s) (sym (laws.none image kind 0) ∙ ap (λ m. strip kind (band image 0 m)) (sym none));
+        };
+      }
+
+  -- nothing was sent
+  pub none_sent : (old : Option (List ℕ)) (shows : Pictures) → HasPicture shows j.name j.shape → IsSource (named shows j.name) →
+      (image : Picture) × IsImageFor shows j tile_means sum_means image
+      × ((0 < length (start ++ file image kind)) × Appends old old [] × ((◌≡◌ {A = ℕ} 0 0) ⊎ (length (start ++ head_of kind (result_dim j)) ≤ 0)))
+  none_sent old shows has source =
+      let image = resolved_image (named shows j.name) j.resolved in
+      let is_for = first_image shows has source in
+      let long = length_whole start kind image (result_dim j) is_for.sides in
+      (image, is_for, (omega (arith, long, offset_some kind), Appends-nil old, inl refl))
+
+  -- so much of it as was written before a band failed
+  pub load_stopped : (old new : Option (List ℕ)) (text : List ℕ) (sent held rows y : ℕ) → y < (result_dim j).h → 0 < (result_dim j).w →
+      HasCounted j kind (length (start ++ head_of kind (result_dim j))) rows text sent held y → (shows : Pictures) → HasPicture shows j.name j.shape → IsSource (named shows j.name) →
+      HasRows shows j tile_means sum_means kind start old new text sent y →
+      (image : Picture) × IsImageFor shows j tile_means sum_means image
+      × ((sent < length (start ++ file image kind)) × Appends old new (take sent (start ++ file image kind)) × ((sent ≡ 0) ⊎ (length (start ++ head_of kind (result_dim j)) ≤ sent)))
+  load_stopped old new text sent held rows y above some counted shows has source so_far =
+      let p = named shows j.name in
+      let of = picture_shown shows j has source in
+      let image = so_far.has.image in
+      let left = text_left shows j tile_means sum_means kind start fits laws.more laws.all (asked_whole laws p j.resolved of.whole) (asked_sides laws p j.resolved of.whole few)
+      (so_far.written ++ text) y (omega (arith, above)) so_far.has in
+      let full : start ++ file image kind ≡ so_far.written ++ (text ++ left.0) = left.1 ∙ append_assoc so_far.written text left.0 in
+      let long = length_whole start kind image (result_dim j) so_far.has.is_for.sides in
+      let front = length_front start kind (result_dim j) in
+      let short = rows_short kind (result_dim j).w y (result_dim j).h some above in
+      let total = counted.total in
+      let part : take sent (start ++ file image kind) ≡ so_far.written =
+      ap (λ n. take n (start ++ file image kind)) so_far.count ∙ ap (take (length so_far.written)) full ∙ take-append_seam so_far.written (text ++ left.0) in (
+        image,
+        so_far.has.is_for,
+        (
+          omega (arith, long, front, short, total),
+          subst (Appends old new) (sym part) so_far.appended,
+          counted_front j kind (length (start ++ head_of kind (result_dim j))) rows text sent held y counted,
+        ),
+      )
+
+  -- so much as was written before the writer failed in a band
+  pub writer_stopped : {W : Type 0} (contents : W → Option (List ℕ)) (fails : W → W → Type 0) (old mid new : W) (text : List ℕ) (sent y n m : ℕ) (b : Picture) →
+      y + n ≤ (result_dim j).h → IsBandFor j tile_means sum_means (record { x = 0; y = y; w = (result_dim j).w; h = n }) b →
+      WasCut contents fails mid new (text ++ strip kind b) m → (shows : Pictures) → HasPicture shows j.name j.shape → IsSource (named shows j.name) →
+      HasRows shows j tile_means sum_means kind start (contents old) (contents mid) text sent y →
+      (image : Picture) × IsImageFor shows j tile_means sum_means image × WasCut contents fails old new (start ++ file image kind) (sent + m)
+  writer_stopped contents fails old mid new text sent y n m b within is_band cut shows has source so_far =
+      let p = named shows j.name in
+      let of = picture_shown shows j has source in
+      let whole = asked_whole laws p j.resolved of.whole in
+      let sides = asked_sides laws p j.resolved of.whole few in
+      let next = more_text shows j tile_means sum_means kind start fits laws.more laws.all whole sides (so_far.written ++ text) b y n within so_far.has is_band in
+      let left = text_left shows j tile_means sum_means kind start fits laws.more laws.all whole sides ((so_far.written ++ text) ++ strip kind b) (y + n) within next in
+      let image = next.image in
+      let piece = text ++ strip kind b in
+      let full : start ++ file image kind ≡ so_far.written ++ (piece ++ left.0) =
+      left.1 ∙ ap (λ t. t ++ left.0) (append_assoc so_far.written text (strip kind b)) ∙ append_assoc so_far.written piece left.0 in
+      let strict = cut.strict in
+      let longer : length (start ++ file image kind) ≡ length so_far.written + (length piece + length left.0) =
+      ap length full ∙ length-append so_far.written (piece ++ left.0) ∙ ap (λ k. length so_far.written + k) (length-append piece left.0) in
+      let part : take (sent + m) (start ++ file image kind) ≡ so_far.written ++ take m piece =
+      ap (λ k. take (k + m) (start ++ file image kind)) so_far.count ∙ ap (take (length so_far.written + m)) full
+      ∙ take-append-add so_far.written (piece ++ left.0) m
+      ∙ ap (λ t. so_far.written ++ t) (take-append-le m piece left.0 (omega (arith, strict))) in
+      let count = so_far.count in (
+        image,
+        next.is_for,
+        record {
+          strict = omega (arith, longer, strict, count);
+          written = subst (Appends (contents old) (contents new)) (sym part) (Appends-trans _ _ _ _ _ so_far.appended cut.written);
+          before = cut.before;
+          reached = subst (Appends (contents old) (contents cut.before)) (sym part) (Appends-trans _ _ _ _ _ so_far.appended cut.reached);
+          failed = cut.failed;
+        },
+      )
+
+  -- a band more
+  pub next_rows : (old mid new : Option (List ℕ)) (text after : List ℕ) (sent sent2 y n y2 : ℕ) (b : Picture) → y + n ≤ (result_dim j).h →
+      IsBandFor j tile_means sum_means (record { x = 0; y = y; w = (result_dim j).w; h = n }) b → Appends mid new (text ++ strip kind b) → after ≡ [] → y2 ≡ y + n →
+      sent2 ≡ sent + length (text ++ strip kind b) →
+      (shows : Pictures) → HasPicture shows j.name j.shape → IsSource (named shows j.name) → HasRows shows j tile_means sum_means kind start old mid text sent y →
+      HasRows shows j tile_means sum_means kind start old new after sent2 y2
+  next_rows old mid new text after sent sent2 y n y2 b within is_band appended none is counted shows has source so_far =
+      let p = named shows j.name in
+      let of = picture_shown shows j has source in
+      let whole = asked_whole laws p j.resolved of.whole in
+      let sides = asked_sides laws p j.resolved of.whole few in
+      let next = more_text shows j tile_means sum_means kind start fits laws.more laws.all whole sides (so_far.written ++ text) b y n within so_far.has is_band in
+      let piece = text ++ strip kind b in
+      let all = so_far.written ++ piece in
+      let same : (so_far.written ++ text) ++ strip kind b ≡ all ++ after =
+      append_assoc so_far.written text (strip kind b) ∙ sym (append-nil all) ∙ ap (λ t. all ++ t) (sym none) in
+      let count = so_far.count in
+      record {
+        written = all;
+        appended = Appends-trans _ _ _ _ _ so_far.appended appended;
+        count = omega (arith, count, counted, length-append so_far.written piece);
+        has = subst (λ k. HasText shows j tile_means sum_means kind start (all ++ after) k) (sym is)
+            (subst (λ t. HasText shows j tile_means sum_means kind start t (y + n)) same next);
+      }
+
+  -- all of it
+  pub all_sent : (old new : Option (List ℕ)) (text : List ℕ) (sent y : ℕ) → y ≡ (result_dim j).h → text ≡ [] → (shows : Pictures) →
+      HasRows shows j tile_means sum_means kind start old new text sent y →
+      (image : Picture) × IsImageFor shows j tile_means sum_means image × Appends old new (start ++ file image kind) × (sent ≡ length (start ++ file image kind))
+  all_sent old new text sent y end none shows so_far =
+      let image = so_far.has.image in
+      let is_for = so_far.has.is_for in
+      let d = result_dim j in
+      let front = start ++ head_of kind d in
+      let height : y ≡ image.height = end ∙ sym (ap (λ (e : Dim). e.h) is_for.sides) in
+      let full : so_far.written ≡ start ++ file image kind =
+      sym (append-nil so_far.written) ∙ ap (λ t. so_far.written ++ t) (sym none) ∙ so_far.has.are
+      ∙ ap (λ m. front ++ strip kind (band image 0 m)) height ∙ ap (λ t. front ++ t) (laws.all image kind (is_for.channels ∙ fits))
+      ∙ append_assoc start (head_of kind d) (strip kind image) ∙ ap (λ (e : Dim). start ++ (head_of kind e ++ strip kind image)) (sym is_for.sides) in
+      (image, is_for, subst (Appends old new) full so_far.appended, so_far.count ∙ ap length full)
+
+-- ---- Sides
+
+pub same_dim : (d e : Dim) → d.w ≡ e.w → d.h ≡ e.h → d ≡ e
+same_dim d e w h = rw (w, h) refl
+
+either_some : (b : Bool) (m n : ℕ) → 0 < m → 0 < n → 0 < (if b then m else n)
+either_some true m n p q = p
+either_some false m n p q = q
+
+-- a result has a place
+pub result_some : (j : Job) → 0 < j.resolved.size.w → 0 < j.resolved.size.h → (0 < (result_dim j).w) × (0 < (result_dim j).h)
+result_some j w h =
+    let size = j.resolved.size in (
+      either_some (j.resolved.turn.quarters % 2 == 0) size.w size.h w h,
+      either_some (j.resolved.turn.quarters % 2 == 0) size.h size.w h w,
+    )
+
+-- ---- Bands written
+
+pub more_len : (j : Job) (tile_means : TileKey → TileVal → Type 0) (sum_means : SumKey → SumVal → Type 0) (kind : OutKind) (y n : ℕ) (b : Picture) →
+    IsBandFor j tile_means sum_means (record { x = 0; y = y; w = (result_dim j).w; h = n }) b → length (strip kind b) ≡ row_len kind (result_dim j).w * n
+more_len j tile_means sum_means kind y n b is_band = length-strip kind b ∙ ap (strip_len kind) is_band.sides
+
+pub sent_within : (j : Job) (kind : OutKind) (start : List ℕ) (rows : ℕ) (text more : List ℕ) (sent held y n : ℕ) →
+    HasCounted j kind (length (start ++ head_of kind (result_dim j))) rows text sent held y → length more ≡ row_len kind (result_dim j).w * n → y + n ≤ (result_dim j).h →
+    sent + length (text ++ more) ≤ length start + file_len kind (result_dim j)
+sent_within j kind start rows text more sent held y n counted len within =
+    let row = row_len kind (result_dim j).w in
+    let below : row * (y + n) ≤ row * (result_dim j).h = mul-le-mul_left row within in
+    let sum : row * (y + n) ≡ row * y + row * n = omega arith in
+    let t = counted.total in
+    omega (arith, t, length-append text more, len, below, sum, length_front start kind (result_dim j))

@@ -1,0 +1,73 @@
+-- Words of private functions.
+use Rattle.std.specs.Prelude.{◌≡◌, ℕ, ◌+◌, ◌-◌, ◌*◌, ◌<◌, ◌≤◌, ◌⊎◌, min, List, [], ◌++◌, Option, length, nat_lt, if◌then◌else◌}
+use Rattle.std.specs.Io.KnownBytes.{Appends}
+use Rattle.iiif_pixel.specs.Geometry.{channels_of, sides_of, top_of}
+use Rattle.iiif_pixel.specs.Laws.{AllRows, CropIsWhole, QualityIsWhole, ScaleIsWhole, TurnIsWhole}
+use Rattle.iiif_pixel.specs.Operations.{crop}
+use Rattle.iiif_pixel.specs.Picture.{Picture, IsWhole, dim_of, picture_of, sample_at}
+use Rattle.iiif_pixel.specs.declared.geometry.Rect.{Rect}
+use Rattle.iiif_canonical.specs.Images.{resolved_image}
+use Rattle.iiif_keys.specs.Names.{named, IsSource, Pictures}
+use Rattle.iiif_keys.specs.Shapes.{HasPicture}
+use Rattle.iiif_keys.specs.declared.keys.SumKey.{SumKey}
+use Rattle.iiif_keys.specs.declared.keys.TileKey.{TileKey}
+use Rattle.iiif_keys.specs.declared.values.SumVal.{SumVal}
+use Rattle.iiif_keys.specs.declared.values.TileVal.{TileVal}
+use Rattle.iiif_assemble.specs.Jobs.{channels_in, top_in, IsShown}
+use Rattle.iiif_assemble.specs.declared.job.Job.{Job}
+use Rattle.iiif_tiff_write.specs.Bands.{band}
+use Rattle.iiif_tiff_write.specs.File.{head_of, row_len, strip}
+use Rattle.iiif_tiff_write.specs.Laws.{StripOfAllRows, StripOfMoreRows, StripOfNoRows}
+use Rattle.iiif_tiff_write.specs.declared.kind.OutKind.{OutKind}
+use Rattle.iiif_delivery.specs.Delivery.{result_dim, IsImageFor}
+
+-- what is relied on of pictures and of files
+pub record Laws : Type 0 where
+  pub rows : AllRows
+  pub crops : CropIsWhole
+  pub scales : ScaleIsWhole
+  pub turns : TurnIsWhole
+  pub qualities : QualityIsWhole
+  pub none : StripOfNoRows
+  pub more : StripOfMoreRows
+  pub all : StripOfAllRows
+
+-- A picture of a band of a job's result, by what is answered for tiles and sums.
+pub record IsBandFor (j : Job) (tile_means : TileKey → TileVal → Type 0) (sum_means : SumKey → SumVal → Type 0) (rect : Rect) (b : Picture) : Type 0 where
+  pub whole : IsWhole b
+  pub sides : dim_of b ≡ sides_of rect
+  pub channels : b.channels ≡ channels_in j.resolved.quality (channels_of j.shape.kind)
+  pub top : b.top ≡ top_in j.resolved.quality (top_of j.shape.depth)
+  pub same : (shows : Pictures) → IsShown shows j tile_means sum_means → b ≡ crop (resolved_image (named shows j.name) j.resolved) rect
+
+-- a picture with the rows of another in place of its own, from row y on
+unfoldable pub with_rows : Picture → ℕ → Picture → Picture
+with_rows p y b =
+    picture_of p.width p.height p.channels p.top
+    (λ u v k. if nat_lt v y then sample_at p u v k else (if nat_lt v (y + b.height) then sample_at b u (v - y) k else sample_at p u v k))
+
+-- The bytes are those of an image behind a text, as far as its first y rows.
+pub record HasText (shows : Pictures) (j : Job) (tile_means : TileKey → TileVal → Type 0) (sum_means : SumKey → SumVal → Type 0) (kind : OutKind) (start all : List ℕ)
+    (y : ℕ) : Type 0 where
+  pub image : Picture
+  pub is_for : IsImageFor shows j tile_means sum_means image
+  pub are : all ≡ start ++ head_of kind (result_dim j) ++ strip kind (band image 0 y)
+
+-- Of such bytes some were written, and the text stands ready to be.
+pub record HasRows (shows : Pictures) (j : Job) (tile_means : TileKey → TileVal → Type 0) (sum_means : SumKey → SumVal → Type 0) (kind : OutKind) (start : List ℕ)
+    (old new : Option (List ℕ)) (text : List ℕ) (sent y : ℕ) : Type 0 where
+  pub written : List ℕ
+  pub appended : Appends old new written
+  pub count : sent ≡ length written
+  pub has : HasText shows j tile_means sum_means kind start (written ++ text) y
+
+-- so it is for each way in which names have pictures
+abbrev pub HaveRows : Job → (TileKey → TileVal → Type 0) → (SumKey → SumVal → Type 0) → OutKind → List ℕ → Option (List ℕ) → Option (List ℕ) → List ℕ → ℕ → ℕ → Type 0
+HaveRows j tile_means sum_means kind start old new text sent y =
+    (shows : Pictures) → HasPicture shows j.name j.shape → IsSource (named shows j.name) → HasRows shows j tile_means sum_means kind start old new text sent y
+
+-- Behind a front of so many bytes the first y rows were written or stand ready: nothing was written yet, or all of them.
+pub record HasCounted (j : Job) (kind : OutKind) (front rows : ℕ) (text : List ℕ) (sent held y : ℕ) : Type 0 where
+  pub total : sent + length text ≡ front + row_len kind (result_dim j).w * y
+  pub band : held ≤ 2 * (min rows (result_dim j).h * (result_dim j).w * channels_of j.shape.kind)
+  pub begun : ((y ≡ 0) × (sent ≡ 0)) ⊎ ((0 < y) × (text ≡ []) × ((result_dim j).w * channels_of j.shape.kind ≤ held))

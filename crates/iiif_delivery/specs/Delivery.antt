@@ -1,0 +1,59 @@
+-- What is sent of an image, and what is held of it meanwhile.
+use Rattle.std.specs.Prelude.{◌≡◌, ℕ, ◌+◌, ◌*◌, ◌<◌, ◌≤◌, ◌⊎◌, ◌==◌, min, List, Option, length, take, if◌then◌else◌}
+use Rattle.std.specs.Io.KnownBytes.{Appends}
+use Rattle.iiif_io.specs.Sending.{WasCut}
+use Rattle.iiif_pixel.specs.Geometry.{channels_of, top_of}
+use Rattle.iiif_pixel.specs.Picture.{Picture, dim_of}
+use Rattle.iiif_pixel.specs.TurnPlaces.{turned_dim}
+use Rattle.iiif_pixel.specs.declared.geometry.Dim.{Dim}
+use Rattle.iiif_canonical.specs.Images.{resolved_image}
+use Rattle.iiif_keys.specs.Names.{named, Pictures}
+use Rattle.iiif_keys.specs.declared.fault.Fault.{Fault}
+use Rattle.iiif_keys.specs.declared.fault.Fault.TheVariants as fault
+use Rattle.iiif_keys.specs.declared.keys.SumKey.{SumKey}
+use Rattle.iiif_keys.specs.declared.keys.TileKey.{TileKey}
+use Rattle.iiif_keys.specs.declared.values.SumVal.{SumVal}
+use Rattle.iiif_keys.specs.declared.values.TileVal.{TileVal}
+use Rattle.iiif_bands.specs.declared.banding.Band.{Band}
+use Rattle.iiif_assemble.specs.Faults.{IsBandFault}
+use Rattle.iiif_assemble.specs.Jobs.{channels_in, top_in, IsBandOf, IsShown}
+use Rattle.iiif_assemble.specs.declared.job.Job.{Job}
+use Rattle.iiif_tiff_write.specs.File.{row_len}
+use Rattle.iiif_tiff_write.specs.declared.kind.OutKind.{OutKind}
+use Rattle.iiif_delivery.specs.declared.delivery.Stopped.{Stopped}
+use Rattle.iiif_delivery.specs.declared.delivery.Stopped.TheVariants.{Writer, Load}
+
+-- the sides of a job's result
+abbrev pub result_dim : Job → Dim
+result_dim j = turned_dim j.resolved.turn j.resolved.size
+
+-- An image for a job, where names have these pictures: of the sides, the channels and the depth of what is asked for; and that image
+-- itself where what is answered for tiles and for sums is what they mean.
+pub record IsImageFor (shows : Pictures) (j : Job) (tile_means : TileKey → TileVal → Type 0) (sum_means : SumKey → SumVal → Type 0) (image : Picture) : Type 0 where
+  pub sides : dim_of image ≡ result_dim j
+  pub channels : image.channels ≡ channels_in j.resolved.quality (channels_of j.shape.kind)
+  pub top : image.top ≡ top_in j.resolved.quality (top_of j.shape.depth)
+  pub same : IsShown shows j tile_means sum_means → image ≡ resolved_image (named shows j.name) j.resolved
+
+-- Of an image with these sides that was sent in bands of so many rows, with so many channels in its source, so many samples and sums
+-- were held at once: those of a row at least, and at most twice those of a band.
+pub record IsHeldInBands (d : Dim) (rows channels held : ℕ) : Type 0 where
+  pub row : d.w * channels ≤ held
+  pub band : held ≤ 2 * (min rows d.h * d.w * channels)
+
+-- What was written of a text before its sending stopped. Where the writer failed, a strict prefix. Where a band could not be made,
+-- a strict prefix too, which is empty or has what stands before the rows.
+abbrev pub Stops : {W : Type 0} → (W → Option (List ℕ)) → (W → W → Type 0) → W → W → ℕ → List ℕ → Stopped → Type 0
+Stops contents fails old new front text (Writer n) = WasCut contents fails old new text n
+Stops contents fails old new front text (Load n f) = (n < length text) × Appends (contents old) (contents new) (take n text) × ((n ≡ 0) ⊎ (front ≤ n))
+
+-- how many bytes are written with the first y rows of an image of that width, behind a front of so many
+abbrev pub len_with : OutKind → ℕ → ℕ → ℕ → ℕ
+len_with kind front w y = if y == 0 then 0 else front + row_len kind w * y
+
+-- Why a load stopped the sending: the rows above a band were written, and memory was wanting, or the band could not be made.
+abbrev pub FailsFor : Job → (TileKey → TileVal → Type 0) → (TileKey → Fault → Type 0) → (SumKey → SumVal → Type 0) → (SumKey → Fault → Type 0) → OutKind → ℕ → Stopped → Type 0
+FailsFor j tile tile_failed sum sum_failed kind front (Writer n) = Unit {0}
+FailsFor j tile tile_failed sum sum_failed kind front (Load n f) =
+    (y : ℕ) × (n ≡ len_with kind front (result_dim j).w y)
+    × ((f ≡ fault.NoMemory) ⊎ ((b : Band) × (b.rect.y ≡ y) × IsBandOf j b × IsBandFault tile tile_failed sum sum_failed j.plan b.items.items f))

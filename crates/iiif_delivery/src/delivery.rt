@@ -1,0 +1,117 @@
+//! Images, sent.
+
+ghost use Rattle.std.specs.Prelude.{◌≡◌, ◌<◌, ◌++◌, ◌^◌, IfOk, IfErr, length};
+ghost use Rattle.std.specs.Io.KnownBytes.{Appends};
+ghost use Rattle.iiif_pixel.specs.Geometry.{channels_of, top_of};
+ghost use Rattle.iiif_pixel.specs.Picture.{Picture};
+ghost use Rattle.iiif_keys.specs.Names.{named, IsSource, Pictures};
+ghost use Rattle.iiif_keys.specs.Shapes.{HasPicture};
+ghost use Rattle.iiif_assemble.specs.Jobs.{channels_in, top_in, IsJob, SumsServe, TilesServe};
+ghost use Rattle.iiif_tiff_write.specs.File.{file, file_len, head_of};
+ghost use Rattle.iiif_tiff_write.specs.OutKind.{out_depth, samples_per_pixel};
+ghost use Rattle.iiif_delivery.specs.Delivery.{result_dim, FailsFor, IsHeldInBands, IsImageFor, Stops};
+
+use crate::rows::{laws_of_bands, put_band};
+use iiif_assemble::{Items, Job};
+use iiif_bands::laws::bands_cut_results;
+use iiif_io::{Outlet, send};
+use iiif_keys::{Fault, SumKey, SumVal, TileKey, TileVal};
+use iiif_pixel::{Dim, NoMemory};
+use iiif_tiff_write::{OutKind, head};
+use std::alloc::Global;
+use std::thread::Threads;
+
+/// An image that was sent whole.
+#[derive(Clone, Copy, Debug, PartialEq, Eq)]
+pub struct Delivered {
+    /// How many bytes were written.
+    pub bytes: u64,
+    /// How many samples and sums of the image were held at once, at most.
+    pub held: u64,
+}
+
+/// Why an image wasn't sent whole, and how many bytes were written before.
+#[derive(Clone, Copy, Debug, PartialEq, Eq)]
+pub enum Stopped {
+    /// The writer failed.
+    Writer(u64),
+    /// A band could not be made. Where it was the first, nothing was written.
+    Load(u64, Fault),
+}
+
+/// What stands before the rows: the head of an answer, and that of the file.
+fn front(alloc: Global, start: &[u8], kind: OutKind, dim: Dim) -> Result<Vec<u8>, NoMemory>
+    requires { file_len kind dim < 2 ^ 32 }
+    ensures { IfOk result (λ v. v.items ≡ start.now ++ head_of kind dim) }
+{
+    let mut text = Vec::from_slice(alloc, start)?;
+    text.extend_from_slice(head(kind, dim).as_slice())?;
+    Ok(text)
+}
+
+/// Sends the image of a job behind a text, in bands of `rows`: each is made, written and dropped before the next is made, and the
+/// text goes out with the first. There is a worker for each pass, and which of them asks for an item changes nothing.
+///
+/// # Errors
+///
+/// The first fault of a band, the writer's, or `NoMemory`.
+pub fn send_image<
+    T: Items<TileKey, TileVal, P, R> + Sync,
+    S: Items<SumKey, SumVal, P, R> + Sync,
+    P: Send,
+    R: Threads + Sync,
+    W: Outlet,
+>(
+    rt: &R,
+    alloc: Global,
+    tiles: &T,
+    sums: &S,
+    passes: &mut [P],
+    job: &Job,
+    rows: u32,
+    kind: OutKind,
+    start: &[u8],
+    out: &mut W,
+) -> Result<Delivered, Stopped>
+    requires some { 0 < length passes.old }
+    requires job { IsJob job.now }
+    requires rows { 0 < rows }
+    requires tiles { TilesServe job.now (T.fits tiles.now) (T.means tiles.now) }
+    requires sums { SumsServe job.now (S.fits sums.now) (S.means sums.now) }
+    requires channels { channels_in job.now.resolved.quality (channels_of job.now.shape.kind) ≡ samples_per_pixel kind }
+    requires depth { top_in job.now.resolved.quality (top_of job.now.shape.depth) ≡ top_of (out_depth kind) }
+    requires len { file_len kind (result_dim job.now) < 2 ^ 32 }
+    ensures whole { IfOk result (λ d. (shows : Pictures) → HasPicture shows job.now.name job.now.shape → IsSource (named shows job.now.name)
+        → (image : Picture) × IsImageFor shows job.now (T.means tiles.now) (S.means sums.now) image
+        × Appends (W.contents out.old) (W.contents out.new) (start.now ++ file image kind) × (d.bytes ≡ length (start.now ++ file image kind))) }
+    ensures held { IfOk result (λ d. IsHeldInBands (result_dim job.now) rows (channels_of job.now.shape.kind) d.held) }
+    ensures stopped { IfErr result (λ s. (shows : Pictures) → HasPicture shows job.now.name job.now.shape → IsSource (named shows job.now.name)
+        → (image : Picture) × IsImageFor shows job.now (T.means tiles.now) (S.means sums.now) image
+        × Stops W.contents W.fails out.old out.new (length (start.now ++ head_of kind (result_dim job.now))) (start.now ++ file image kind) s) }
+    ensures fault { IfErr result (FailsFor job.now (T.means tiles.now) (T.failed tiles.now) (S.means sums.now) (S.failed sums.now) kind
+        (length (start.now ++ head_of kind (result_dim job.now)))) }
+{
+    bands_cut_results();
+    laws_of_bands();
+    let dim = job.resolved.size.turned(job.resolved.turn);
+    let Ok(mut text) = front(alloc, start, kind, dim) else {
+        return Err(Stopped::Load(0, Fault::NoMemory));
+    };
+    let Ok(bands) = job.bands(alloc, rows) else {
+        return Err(Stopped::Load(0, Fault::NoMemory));
+    };
+    let mut sent = 0u64;
+    let mut held = 0u64;
+    for band in &bands {
+        match put_band(rt, alloc, tiles, sums, passes, job, kind, band, &mut text) {
+            Ok(most) => held = held.max(most),
+            Err(fault) => return Err(Stopped::Load(sent, fault)),
+        }
+        match send(out, &text) {
+            Ok(()) => sent += text.len() as u64,
+            Err(more) => return Err(Stopped::Writer(sent + more)),
+        }
+        text.clear();
+    }
+    Ok(Delivered { bytes: sent, held })
+}

@@ -1,0 +1,67 @@
+//! The groups of a node as what has the values of keys.
+
+ghost use Rattle.std.specs.Prelude.{◌≡◌, IsTrue};
+ghost use Rattle.iiif_outcome.specs.Outcomes.{is_given};
+ghost use Rattle.iiif_group_items.specs.Values.{SumIsNamed, SumMayBe, TileIsNamed, TileMayBe};
+
+use iiif_assemble::Items;
+use iiif_group::{Gate, Link, taken};
+use iiif_keys::{Fault, SumKey, SumVal, System, TileKey, TileVal};
+use iiif_source::Source;
+use iiif_sum_group::{Groups, Passes, SumCalls};
+use iiif_tile_group::TileCalls;
+use std::sync::ledger::Ledger;
+use std::sync::{Arc, Wait};
+
+/// The groups of a node, as images are made of what they have.
+#[derive(Drop)]
+pub struct GroupItems<'a, R, S: Source<R>, J: System, N, T>(pub &'a Groups<R, S, J, N, T>)
+where
+    TileCalls<J>: Ledger,
+    SumCalls<J>: Ledger;
+
+/// Tiles: what is kept, or what a flight ends with. A worker asks with a pass of each group.
+impl<
+    'a,
+    R: Wait,
+    S: Source<R> + Drop,
+    J: System,
+    N: Link<TileKey, J, R> + Link<SumKey, J, R>,
+    T: Gate<R>,
+> Items<TileKey, TileVal, Passes<J>, R> for GroupItems<'a, R, S, J, N, T> {
+    ghost fits = { λ _ k. TileIsNamed J.pictures J.edge k };
+
+    ghost means = { λ _ k v. TileMayBe J.pictures J.stable J.honest k v };
+
+    ghost failed = { λ _ k f. IsTrue (is_given (J.gave k.name) f) };
+
+    fn get(&self, rt: &R, pass: &mut Passes<J>, key: &TileKey) -> Result<Arc<TileVal>, Fault> {
+        match self.0.tiles().get(rt, &mut pass.tile, key) {
+            Ok(receipt) => taken(receipt, key),
+            Err(fault) => Err(fault),
+        }
+    }
+}
+
+/// Sums, in the same way.
+impl<
+    'a,
+    R: Wait,
+    S: Source<R> + Drop,
+    J: System,
+    N: Link<TileKey, J, R> + Link<SumKey, J, R>,
+    T: Gate<R>,
+> Items<SumKey, SumVal, Passes<J>, R> for GroupItems<'a, R, S, J, N, T> {
+    ghost fits = { λ _ k. SumIsNamed J.pictures J.edge k };
+
+    ghost means = { λ _ k v. SumMayBe J.pictures J.stable J.honest k v };
+
+    ghost failed = { λ _ k f. IsTrue (is_given (J.gave k.name) f) };
+
+    fn get(&self, rt: &R, pass: &mut Passes<J>, key: &SumKey) -> Result<Arc<SumVal>, Fault> {
+        match self.0.get(rt, pass, key) {
+            Ok(receipt) => taken(receipt, key),
+            Err(fault) => Err(fault),
+        }
+    }
+}

@@ -1,0 +1,7 @@
+//! Values as images are made of them, asked of the groups of a node.
+#![tactic(auto)]
+
+pub use items::GroupItems;
+
+pub mod items;
+pub mod laws;

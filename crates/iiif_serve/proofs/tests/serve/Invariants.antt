@@ -1,0 +1,19 @@
+use Rattle.std.specs.Prelude.{true}
+use Rattle.iiif_images.specs.Named.{gave_of, pictures_of}
+use Rattle.iiif_server.specs.Nodes.{stable_of}
+use Rattle.iiif_serve.specs.Stored.{bytes_of, keeps_of, stored_gave}
+use Rattle.iiif_serve.proofs.tests.serve.Given as goal
+
+-- what the catalogue shows, and the ledgers that were just made; no other node is asked
+abbrev pub ghosts-serve_by : goal.ghosts-serve_by
+ghosts-serve_by g a = record {
+  pictures = pictures_of bytes_of a.catalogue;
+  edge = a.config.edge;
+  gave = gave_of stored_gave a.catalogue;
+  stable = stable_of keeps_of a.catalogue;
+  honest = true;
+  tiles_name = a.tiles.name;
+  tiles_parts = a.tiles.parts;
+  sums_name = a.sums.name;
+  sums_parts = a.sums.parts;
+}

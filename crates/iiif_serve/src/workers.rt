@@ -1,0 +1,44 @@
+//! The passes of the workers that make the images of a connection.
+
+ghost use Rattle.std.specs.Prelude.{◌<◌, length, IfSome};
+
+use crate::stored::Stored;
+use iiif_keys::System;
+use iiif_server::{Node, Passes};
+use std::alloc::Global;
+use std::sync::Wait;
+
+/// As many passes as there are workers. None, and none is kept, where one of them is wanting.
+pub fn passes_of<R: Wait, J: System>(
+    rt: &R,
+    alloc: Global,
+    node: &Node<R, Stored, J>,
+    workers: u32,
+) -> Option<Vec<Passes<J>>>
+    ensures { IfSome result (λ ps. 0 < length ps.items) }
+{
+    let Ok(mut all) = Vec::with_capacity(alloc, workers as usize) else {
+        return None;
+    };
+    for _ in 0..workers {
+        let Some(passes) = node.pass(rt) else {
+            give_back(rt, node, all);
+            return None;
+        };
+        if all.push(passes).is_err() {
+            give_back(rt, node, all);
+            return None;
+        }
+    }
+    if all.is_empty() {
+        return None;
+    }
+    Some(all)
+}
+
+/// Gives passes back to the node that they are of.
+pub fn give_back<R: Wait, J: System>(rt: &R, node: &Node<R, Stored, J>, all: Vec<Passes<J>>) {
+    for passes in all {
+        node.give_back(rt, passes);
+    }
+}

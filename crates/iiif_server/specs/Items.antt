@@ -1,6 +1,0 @@
--- The image that a catalogue's entry is.
-use Rattle.iiif_server.specs.Collection.{Item}
-use Rattle.iiif_server.specs.declared.entry.Entry.{Entry}
-
-abbrev pub item_of : {R S : Type 0} {d : _} → Entry R S d → Item S
-item_of e = record { name = e.name; source = e.source; layout = e.layout }
