@@ -14,7 +14,11 @@ use std::alloc::Global;
 use std::test::Fail;
 
 /// The images of a node: one file under the name `a`.
-pub(crate) fn images<R>(rt: &R, alloc: Global, file: Vec<u8>) -> Result<Catalogue<R, MemSource>, Fail> {
+pub(crate) fn images<R>(
+    rt: &R,
+    alloc: Global,
+    file: Vec<u8>,
+) -> Result<Catalogue<R, MemSource>, Fail> {
     let source = MemSource::new(file);
     let Ok(layout) = open(rt, alloc, &source) else {
         return Err(Fail::from("the file is refused"));

@@ -10,7 +10,12 @@ use std::test::Fail;
 use std::thread::Threads;
 
 /// A picture of 8 bits.
-pub(crate) fn bytes(alloc: Global, [w, h]: [u32; 2], kind: Kind, samples: &[u8]) -> Result<Raster, Fail> {
+pub(crate) fn bytes(
+    alloc: Global,
+    [w, h]: [u32; 2],
+    kind: Kind,
+    samples: &[u8],
+) -> Result<Raster, Fail> {
     let samples = Samples::Eight(Vec::from_slice(alloc, samples)?);
     raster(Dim { w, h }, kind, samples)
 }
