@@ -1,3 +1,4 @@
+mod Broken
 pub mod Cut
 pub mod Only
 pub mod Parts

@@ -1,6 +1,7 @@
 -- Why a part of a message was not read, by the bytes that were taken: words of the code alone.
 use Rattle.std.specs.Prelude.{◌≡◌, ℕ, ◌≤◌, List, [], ◌++◌, length, Option, Result, Err, ⊤}
 use Rattle.std.specs.Io.KnownBytes.{Consumes, IsAtEnd}
+use Rattle.iiif_peer_wire.specs.Faults.{LeftAt}
 use Rattle.iiif_peer_wire.specs.declared.fault.WireFault.{WireFault}
 use Rattle.iiif_peer_wire.specs.declared.fault.WireFault.TheVariants.{Magic, Short, Long, Key, Digest, Status, Io, NoMemory}
 
@@ -18,6 +19,10 @@ pub record Came (old new : Option (List ℕ)) (front : List ℕ) (count : ℕ) :
   pub few : length came ≤ count
   pub took : Consumes old new (front ++ came)
 
+-- a reader that failed did so inside the part: the bytes that were taken end early in it
+abbrev pub Broken : {A : Type 0} → Option (List ℕ) → Option (List ℕ) → (List ℕ → Result A WireFault) → WireFault → Type 0
+Broken old new reading fault = fault ≡ Io → (text : List ℕ) × Consumes old new text × (reading text ≡ Err Short)
+
 -- the reader failed, memory was refused, or the bytes are refused
 abbrev pub Unread : {R A : Type 0} → (R → Option (List ℕ)) → (R → R → Type 0) → R → R → (List ℕ → Result A WireFault) → WireFault → Type 0
 Unread left fails old new reading Magic = Refuses (left old) (left new) reading Magic
@@ -26,5 +31,5 @@ Unread left fails old new reading Long = Refuses (left old) (left new) reading L
 Unread left fails old new reading Key = Refuses (left old) (left new) reading Key
 Unread left fails old new reading Digest = Refuses (left old) (left new) reading Digest
 Unread left fails old new reading Status = Refuses (left old) (left new) reading Status
-Unread {R} left fails old new reading Io = (before : R) × fails before new
+Unread {R} left fails old new reading Io = LeftAt fails new
 Unread left fails old new reading NoMemory = ⊤

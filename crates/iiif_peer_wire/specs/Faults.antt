@@ -26,6 +26,10 @@ IsRefusal Status = Unit {0}
 IsRefusal Io = ⊥
 IsRefusal NoMemory = ⊥
 
+-- a device failed, and that left it in this state
+abbrev pub LeftAt : {D : Type 0} → (D → D → Type 0) → D → Type 0
+LeftAt {D} fails last = (before : D) × fails before last
+
 -- a text was not written whole: the fault is Io, a strict prefix stands there, and a write failed
 abbrev pub IsCut : {W : Type 0} → (W → Option (List ℕ)) → (W → W → Type 0) → W → W → List ℕ → WireFault → Type 0
 IsCut contents fails old new text fault = (fault ≡ Io) × ((sent : ℕ) × WasCut contents fails old new text sent)

@@ -1,5 +1,5 @@
 -- Messages read from left to right: what stands there and the bytes behind it, or the first refusal. Each field is checked once it is whole.
-use Rattle.std.specs.Prelude.{◌≡◌, ◌≢◌, ℕ, Bool, true, false, ◌||◌, ◌==◌, List, [], ◌∷◌, ◌++◌, length, take, drop, Option, Some, None, Result, Ok, Err, ⊤, nat_lt, nat_le, if◌then◌else◌}
+use Rattle.std.specs.Prelude.{◌≡◌, ◌≢◌, ◌⊎◌, ℕ, Bool, true, false, ◌||◌, ◌==◌, List, [], ◌∷◌, ◌++◌, length, take, drop, Option, Some, None, Result, Ok, Err, ⊤, nat_lt, nat_le, if◌then◌else◌}
 use Rattle.std.specs.Int.{w32, from_be_bytes}
 use Rattle.std.specs.Str.{bytes_eq}
 use Rattle.sha2.specs.Sha256.{sha256}
@@ -73,6 +73,10 @@ ask_at (first ∷ more) = do
   fields ← ask_magic_at (first ∷ more)
   ask ← ask_fields_at fields.1
   Ok (Some (fields.0, ask.0), ask.1)
+
+-- the bytes hold no whole ask, and none that is to be refused: there are none, or they end early in an ask
+abbrev pub IsUnfinishedAsk : List ℕ → Type 0
+IsUnfinishedAsk text = (text ≡ []) ⊎ (ask_at text ≡ Err Short)
 
 -- the key of a reply, which is to be the one that was asked
 unfoldable pub key_at : List ℕ → List ℕ → Result (List ℕ) WireFault

@@ -2,9 +2,9 @@
 
 ghost use Rattle.std.specs.Prelude.{◌≡◌, ℕ, ◌++◌, List, [], Some, MatchResult, IfErr, IfNone, IfOk, IfSome, IsErrOf, IsNone, IsSomeAnd, OnOk};
 ghost use Rattle.std.specs.Io.KnownBytes.{Appends, Consumes, IsAtEnd};
-ghost use Rattle.iiif_peer_wire.specs.Faults.{IsCut, IsRefusal};
+ghost use Rattle.iiif_peer_wire.specs.Faults.{IsCut, IsRefusal, LeftAt};
 ghost use Rattle.iiif_peer_wire.specs.Messages.{ask_text, IsAsk, IsFrontOfAsk};
-ghost use Rattle.iiif_peer_wire.specs.Reading.{ask_at, IsInput};
+ghost use Rattle.iiif_peer_wire.specs.Reading.{ask_at, IsInput, IsUnfinishedAsk};
 ghost use Rattle.iiif_peer_wire.specs.declared.version.Version.{Version};
 
 use crate::fault::WireFault;
@@ -60,10 +60,12 @@ pub fn read_ask<R: Inlet>(alloc: Global, reader: &mut R) -> Result<Option<Ask>, 
         (λ fault. ¬ IsRefusal fault) }
     ensures only_end { R.remaining reader.old ≡ Some [] → MatchResult result (λ answer. IsNone answer) (λ fault. ¬ IsRefusal fault) }
 
-    // A refusal is the first from the left, and `Io` says that a read failed.
+    // A refusal is the first from the left, and `Io` says that a read failed. No ask that came is lost then: what was taken holds none.
     ensures refused { IfErr result (λ fault. IsRefusal fault
         → (input : List ℕ) × IsInput (R.remaining reader.old) input × (ask_at input ≡ Err fault)) }
-    ensures io { IsErrOf result WireFault.Io → (before : R) × R.fails before reader.new }
+    ensures io { IsErrOf result WireFault.Io → LeftAt R.fails reader.new }
+    ensures unfinished { IsErrOf result WireFault.Io → (text : List ℕ) × IsUnfinishedAsk text
+        × Consumes (R.remaining reader.old) (R.remaining reader.new) text }
 
     // Memory is wanted inside an ask alone, once the first bytes of its key have come.
     ensures memory { IsErrOf result WireFault.NoMemory → (text : List ℕ) × IsFrontOfAsk text

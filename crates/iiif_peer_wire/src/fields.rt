@@ -3,9 +3,10 @@
 ghost use Rattle.std.specs.Prelude.{◌≡◌, ◌≢◌, ℕ, ◌<◌, ◌≤◌, ◌^◌, List, [], ◌∷◌, ◌++◌, length, slice_index, take, IfOk, IsTrue, ◌↔◌, IfErr, IfNone, IfSome, OnOk};
 ghost use Rattle.std.specs.Int.{w32, to_be_bytes};
 ghost use Rattle.std.specs.Io.KnownBytes.{Consumes, IsAtEnd};
-ghost use Rattle.iiif_peer_wire.specs.Code.{Came, Unread};
+ghost use Rattle.iiif_peer_wire.specs.Code.{Broken, Came, Unread};
+ghost use Rattle.iiif_peer_wire.specs.Faults.{LeftAt};
 ghost use Rattle.iiif_peer_wire.specs.Messages.{ask_magic, ask_text, field, IsAsk, IsFrontOfAsk, IsFrontOfReply, IsGroup, IsReply, reply_magic, reply_text};
-ghost use Rattle.iiif_peer_wire.specs.Reading.{ask_at, ask_fields_at, ask_version_of, byte_at, bytes_at, digest_at, key_at, length_at, magic_at, reply_at, value_at};
+ghost use Rattle.iiif_peer_wire.specs.Reading.{ask_at, IsUnfinishedAsk, ask_fields_at, ask_version_of, byte_at, bytes_at, digest_at, key_at, length_at, magic_at, reply_at, value_at};
 ghost use Rattle.sha2.specs.Sha256.{sha256};
 
 use crate::ask::Ask;
@@ -29,7 +30,9 @@ fn fill<R: Inlet>(reader: &mut R, buffer: &mut [u8]) -> Result<usize, WireFault>
     ensures within { IfOk result (λ came. came ≤ length buffer.new) }
     ensures bytes { IfOk result (λ came. Consumes (R.remaining reader.old) (R.remaining reader.new) (take came buffer.new)) }
     ensures end { IfOk result (λ came. came < length buffer.new → IsAtEnd (R.remaining reader.new)) }
-    ensures io { IfErr result (λ fault. (fault ≡ WireFault.Io) × ((before : R) × R.fails before reader.new)) }
+    ensures io { IfErr result (λ fault. (fault ≡ WireFault.Io) × LeftAt R.fails reader.new) }
+    ensures unfinished { IfErr result (λ _. (text : List ℕ) × Consumes (R.remaining reader.old) (R.remaining reader.new) text
+        × (length text < length buffer.new)) }
 {
     let mut came = 0;
     while came < buffer.len() {
@@ -48,6 +51,8 @@ fn read_field<R: Inlet>(reader: &mut R, buffer: &mut [u8]) -> Result<(), WireFau
     ensures bytes { OnOk result ((k : ℕ) → slice_index buffer.new k < 256) }
     ensures unread { IfErr result (λ fault. (count : ℕ) → length buffer.old ≡ count
         → Unread R.remaining R.fails reader.old reader.new (bytes_at count) fault) }
+    ensures broken { IfErr result (λ fault. (count : ℕ) → length buffer.old ≡ count
+        → Broken (R.remaining reader.old) (R.remaining reader.new) (bytes_at count) fault) }
     ensures memory { IfErr result (λ fault. fault ≢ WireFault.NoMemory) }
 {
     let came = fill(reader, buffer)?;
@@ -61,6 +66,7 @@ fn read_field<R: Inlet>(reader: &mut R, buffer: &mut [u8]) -> Result<(), WireFau
 fn read_byte<R: Inlet>(reader: &mut R) -> Result<u8, WireFault>
     ensures whole { IfOk result (λ byte. Consumes (R.remaining reader.old) (R.remaining reader.new) (byte ∷ [])) }
     ensures unread { IfErr result (Unread R.remaining R.fails reader.old reader.new byte_at) }
+    ensures broken { IfErr result (Broken (R.remaining reader.old) (R.remaining reader.new) byte_at) }
     ensures memory { IfErr result (λ fault. fault ≢ WireFault.NoMemory) }
 {
     let mut byte = [0u8; 1];
@@ -74,6 +80,7 @@ fn read_length<R: Inlet>(reader: &mut R, limit: usize) -> Result<usize, WireFaul
     ensures within { IfOk result (λ size. size ≤ limit) }
     ensures whole { IfOk result (λ size. Consumes (R.remaining reader.old) (R.remaining reader.new) (to_be_bytes w32 size)) }
     ensures unread { IfErr result (Unread R.remaining R.fails reader.old reader.new (length_at limit)) }
+    ensures broken { IfErr result (Broken (R.remaining reader.old) (R.remaining reader.new) (length_at limit)) }
     ensures memory { IfErr result (λ fault. fault ≢ WireFault.NoMemory) }
 {
     let mut bytes = [0u8; 4];
@@ -114,6 +121,7 @@ fn read_bytes<R: Inlet>(alloc: Global, reader: &mut R, count: usize) -> Result<V
     ensures size { IfOk result (λ bytes. length bytes.items ≡ count) }
     ensures whole { IfOk result (λ bytes. Consumes (R.remaining reader.old) (R.remaining reader.new) bytes.items) }
     ensures unread { IfErr result (Unread R.remaining R.fails reader.old reader.new (bytes_at count)) }
+    ensures broken { IfErr result (Broken (R.remaining reader.old) (R.remaining reader.new) (bytes_at count)) }
     ensures memory { IfErr result (λ fault. fault ≡ WireFault.NoMemory → Came (R.remaining reader.old) (R.remaining reader.new) [] count) }
 {
     let mut bytes = Vec::new(alloc);
@@ -217,6 +225,8 @@ fn read_ask_magic<R: Inlet>(reader: &mut R) -> Result<Option<Version>, WireFault
         Consumes (R.remaining reader.old) (R.remaining reader.new) (ask_magic version))) }
     ensures memory { IfErr result (λ fault. fault ≢ WireFault.NoMemory) }
     ensures unread { IfErr result (Unread R.remaining R.fails reader.old reader.new ask_at) }
+    ensures unfinished { IfErr result (λ fault. fault ≡ WireFault.Io → (text : List ℕ) × IsUnfinishedAsk text
+        × Consumes (R.remaining reader.old) (R.remaining reader.new) text) }
 {
     let mut bytes = [0u8; 4];
     let came = fill(reader, &mut bytes)?;
@@ -240,6 +250,8 @@ pub fn ask_from<R: Inlet>(alloc: Global, reader: &mut R) -> Result<Option<Ask>, 
     ensures whole { IfOk result (λ answer. IfSome answer (λ ask.
         Consumes (R.remaining reader.old) (R.remaining reader.new) (ask_text ask.version ask.group ask.key.items))) }
     ensures unread { IfErr result (Unread R.remaining R.fails reader.old reader.new ask_at) }
+    ensures unfinished { IfErr result (λ fault. fault ≡ WireFault.Io → (text : List ℕ) × IsUnfinishedAsk text
+        × Consumes (R.remaining reader.old) (R.remaining reader.new) text) }
     ensures memory { IfErr result (λ fault. fault ≡ WireFault.NoMemory → (text : List ℕ) × IsFrontOfAsk text
         × Consumes (R.remaining reader.old) (R.remaining reader.new) text) }
 {
@@ -280,6 +292,7 @@ fn read_ask_fields<R: Inlet>(alloc: Global, reader: &mut R) -> Result<(u8, Vec<u
     ensures known { IfOk result (λ ask. IsAsk ask.0 ask.1.items) }
     ensures whole { IfOk result (λ ask. Consumes (R.remaining reader.old) (R.remaining reader.new) (ask.0 ∷ field ask.1.items)) }
     ensures unread { IfErr result (Unread R.remaining R.fails reader.old reader.new ask_fields_at) }
+    ensures broken { IfErr result (Broken (R.remaining reader.old) (R.remaining reader.new) ask_fields_at) }
     ensures memory { IfErr result (λ fault. fault ≡ WireFault.NoMemory → (group size : ℕ) × IsGroup group × (size ≤ KEY_LIMIT)
         × Came (R.remaining reader.old) (R.remaining reader.new) (group ∷ to_be_bytes w32 size) size) }
 {

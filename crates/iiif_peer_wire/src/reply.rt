@@ -2,7 +2,7 @@
 
 ghost use Rattle.std.specs.Prelude.{◌≡◌, ℕ, ◌≤◌, ◌∷◌, ◌++◌, List, length, Some, MatchResult, IfErr, IfOk, IsErrOf, OnOk};
 ghost use Rattle.std.specs.Io.KnownBytes.{Appends, Consumes};
-ghost use Rattle.iiif_peer_wire.specs.Faults.{IsCut, IsRefusal};
+ghost use Rattle.iiif_peer_wire.specs.Faults.{IsCut, IsRefusal, LeftAt};
 ghost use Rattle.iiif_peer_wire.specs.Messages.{field, IsFrontOfReply, IsReply, key_limit, reply_magic, reply_text, value_limit};
 ghost use Rattle.sha2.specs.Sha256.{sha256};
 ghost use Rattle.iiif_peer_wire.specs.Reading.{IsInput, reply_at};
@@ -91,7 +91,7 @@ pub fn read_reply<R: Inlet>(
     // A refusal is the first from the left, and `Io` says that a read failed.
     ensures refused { IfErr result (λ fault. IsRefusal fault
         → (input : List ℕ) × IsInput (R.remaining reader.old) input × (reply_at version asked_key.now input ≡ Err fault)) }
-    ensures io { IsErrOf result WireFault.Io → (before : R) × R.fails before reader.new }
+    ensures io { IsErrOf result WireFault.Io → LeftAt R.fails reader.new }
 
     // Memory is wanted inside a reply for this key alone, once the first bytes of its value have come.
     ensures memory { IsErrOf result WireFault.NoMemory → (text : List ℕ) × IsFrontOfReply version asked_key.now text

@@ -8,6 +8,7 @@ use Rattle.iiif_peer_wire.proofs.Taken.{exit_fault, unread_behind}
 use Rattle.iiif_peer_wire.proofs.fields.ask_from.Goals as goal
 use Rattle.iiif_peer_wire.proofs.Whole.{ask_at-no_fields, ask_text-parts}
 use Rattle.iiif_peer_wire.proofs.Wanted.{WantsAsk, ask_front}
+use Rattle.iiif_peer_wire.proofs.Broken.{LeavesNoAsk, fields_unfinished}
 
 pub returns-in_err-group-clause-unread : goal.returns-in_err-group-clause-unread
 returns-in_err-group-clause-unread g c = let fault = c.in_err-group.field-0.0 in let version = c.in-Some.version in
@@ -29,3 +30,14 @@ returns-in_err-group-clause-memory g c = let fault = c.in_err-group.field-0.0 in
     let new = g.R.Read.remaining c.read_ask_fields.new.reader in
     exit_fault c.from_residual-in_err-group.result (WantsAsk old new) fault c.from_residual-in_err-group.ensures.1
     (λ wanted. ask_front version old (g.R.Read.remaining c.read_ask_magic.new.reader) new begun (c.in_err-group.ensures.memory wanted))
+
+pub returns-in_err-group-clause-unfinished : goal.returns-in_err-group-clause-unfinished
+returns-in_err-group-clause-unfinished g c =
+    let old = g.R.Read.remaining c.args.reader.now in
+    let mid = g.R.Read.remaining c.read_ask_magic.new.reader in
+    let new = g.R.Read.remaining c.read_ask_fields.new.reader in
+    let fault = c.in_err-group.field-0.0 in
+    let version = c.in-Some.version in
+    let begun : Consumes old mid (ask_magic version) = rw c.in-Some.is at c.in_ok-version.ensures.whole in
+    exit_fault c.from_residual-in_err-group.result (LeavesNoAsk old new) fault c.from_residual-in_err-group.ensures.1
+    (fields_unfinished version old mid new fault begun c.in_err-group.ensures.broken)

@@ -5,6 +5,8 @@ use Rattle.iiif_peer_wire.proofs.Parts.{version_spelled}
 use Rattle.iiif_peer_wire.proofs.Taken.{unread_magic, unread_short}
 use Rattle.iiif_peer_wire.proofs.fields.read_ask_magic.Goals as goal
 use Rattle.iiif_peer_wire.proofs.Whole.{ask_at-cut, ask_at-other}
+use Rattle.iiif_peer_wire.proofs.Broken.{LeavesNoAsk, magic_unfinished}
+use Rattle.iiif_peer_wire.proofs.Taken.{exit_fault}
 
 pub returns-then-came-lt4-clause-unread : goal.returns-then-came-lt4-clause-unread
 returns-then-came-lt4-clause-unread g c =
@@ -31,3 +33,11 @@ returns-in-Some-clause-whole g c =
     let all : take c.in_ok-came.came bytes ≡ bytes = take_all c.in_ok-came.came bytes (omega (arith, full)) in
     let named : ask_version_of bytes ≡ Some c.in-Some.version = sym c.ask_version.ensures ∙ c.in-Some.is in
     subst (Consumes (g.R.Read.remaining c.args.reader.now) (g.R.Read.remaining c.fill.new.reader)) (all ∙ version_spelled bytes c.in-Some.version named) c.in_ok-came.ensures.bytes
+
+pub returns-in_err-came-clause-unfinished : goal.returns-in_err-came-clause-unfinished
+returns-in_err-came-clause-unfinished g c =
+    let old = g.R.Read.remaining c.args.reader.now in
+    let new = g.R.Read.remaining c.fill.new.reader in
+    let fault = c.in_err-came.field-0.0 in
+    let rest = c.in_err-came.ensures.unfinished in
+    exit_fault c.from_residual.result (LeavesNoAsk old new) fault c.from_residual.ensures.1 (magic_unfinished old new fault rest.0 rest.1 (search rules))
