@@ -2,6 +2,7 @@
 use Rattle.std.specs.Prelude.{◌≡◌, ℕ, ◌<◌, ◌⊎◌, List, [], Option, Some, Err}
 use Rattle.std.specs.Io.KnownBytes.{Appends, Consumes}
 use Rattle.iiif_io.specs.Sending.{WasCut}
+use Rattle.iiif_peer_wire.specs.Faults.{LeftAt}
 use Rattle.iiif_peer_wire.specs.Messages.{ask_text, reply_text, IsReply, IsFrontOfReply}
 use Rattle.iiif_peer_wire.specs.Reading.{reply_at, IsInput}
 use Rattle.iiif_peer_wire.specs.declared.fault.WireFault.{WireFault}
@@ -10,10 +11,6 @@ use Rattle.iiif_peer_wire.specs.declared.version.Version.{Version}
 use Rattle.iiif_keys.specs.declared.fault.KeyFault.{KeyFault}
 use Rattle.iiif_group.specs.declared.link.LinkFault.{LinkFault}
 use Rattle.iiif_group.specs.declared.link.LinkFault.TheVariants.{Wire, Refused, Value}
-
--- the device failed, and that left it in this state
-abbrev pub LeftAt : {D : Type 0} → (D → D → Type 0) → D → Type 0
-LeftAt {D} fails last = (before : D) × fails before last
 
 -- What became of an ask. cut: it was cut off, and the writer failed. sent: it was written whole. failed: the reader failed.
 -- before, after: what the reader had and has left.

@@ -2,7 +2,7 @@
 use Rattle.std.specs.Prelude.{◌≡◌, ℕ, ◌+◌, ◌<◌, List, [], ◌++◌, length, take, Err}
 use Rattle.iiif_peer_wire.specs.Faults.{IsRefusal}
 use Rattle.iiif_peer_wire.specs.Messages.{ask_text, reply_text, IsAsk, IsReply, IsFrontOfAsk}
-use Rattle.iiif_peer_wire.specs.Reading.{ask_at}
+use Rattle.iiif_peer_wire.specs.Reading.{ask_at, IsUnfinishedAsk}
 use Rattle.iiif_peer_wire.specs.declared.fault.WireFault.{WireFault}
 use Rattle.iiif_peer_wire.specs.declared.version.Version.{Version}
 
@@ -23,27 +23,24 @@ pub record MayReply (answers : Answering) (version : Version) (group : ℕ) (key
   pub spelled : IsReply key status value
   pub allowed : answers version group key status value
 
--- Exchange answers reader writer n input output: the n-th ask is the next, at the front of the input, and output is what is yet
--- written. Each end has its cause. reader, writer: that device failed.
-pub data Exchange (answers : Answering) (reader writer : Type 0) : ℕ → List ℕ → List ℕ → Type 0 where
+-- Exchange answers reader writer left n input output: the n-th ask is the next, at the front of the input, and output is what is yet
+-- written. Each end has its cause. reader, writer: that device failed. left: these bytes were never taken from the reader. So no ask that
+-- was taken is without its reply, unless memory was refused inside it.
+pub data Exchange (answers : Answering) (reader writer : Type 0) (left : List ℕ → Type 0) : ℕ → List ℕ → List ℕ → Type 0 where
   goes_on : (version : Version) (n group status : ℕ) (key value rest output : List ℕ) → IsAsk group key
-      → MayReply answers version group key status value → n < ask_limit → Exchange answers reader writer (n + 1) rest output
-      → Exchange answers reader writer n (ask_text version group key ++ rest) (reply_text version key status value ++ output)
+      → MayReply answers version group key status value → n < ask_limit → Exchange answers reader writer left (n + 1) rest output
+      → Exchange answers reader writer left n (ask_text version group key ++ rest) (reply_text version key status value ++ output)
   limit : (version : Version) (n group status : ℕ) (key value rest : List ℕ) → IsAsk group key
-      → MayReply answers version group key status value → n ≡ ask_limit
-      → Exchange answers reader writer n (ask_text version group key ++ rest) (reply_text version key status value)
+      → MayReply answers version group key status value → n ≡ ask_limit → left rest
+      → Exchange answers reader writer left n (ask_text version group key ++ rest) (reply_text version key status value)
   cut_off : (version : Version) (n group status : ℕ) (key value rest text : List ℕ) → IsAsk group key
-      → MayReply answers version group key status value → writer → IsStrictPrefix text (reply_text version key status value)
-      → Exchange answers reader writer n (ask_text version group key ++ rest) text
-  ended : (n : ℕ) → Exchange answers reader writer n [] []
-  refused : (n : ℕ) (input : List ℕ) (fault : WireFault) → IsRefusal fault → ask_at input ≡ Err fault → Exchange answers reader writer n input []
-  reader_failed : (n : ℕ) (input : List ℕ) → reader → Exchange answers reader writer n input []
-  no_memory : (n : ℕ) (front rest : List ℕ) → IsFrontOfAsk front → Exchange answers reader writer n (front ++ rest) []
+      → MayReply answers version group key status value → writer → IsStrictPrefix text (reply_text version key status value) → left rest
+      → Exchange answers reader writer left n (ask_text version group key ++ rest) text
+  ended : (n : ℕ) → Exchange answers reader writer left n [] []
+  refused : (n : ℕ) (input : List ℕ) (fault : WireFault) → IsRefusal fault → ask_at input ≡ Err fault → Exchange answers reader writer left n input []
+  reader_failed : (n : ℕ) (begun rest : List ℕ) → reader → IsUnfinishedAsk begun → left rest → Exchange answers reader writer left n (begun ++ rest) []
+  no_memory : (n : ℕ) (front rest : List ℕ) → IsFrontOfAsk front → left rest → Exchange answers reader writer left n (front ++ rest) []
 
 -- a whole connection
-abbrev pub IsExchange : Answering → Type 0 → Type 0 → List ℕ → List ℕ → Type 0
-IsExchange answers reader writer input output = Exchange answers reader writer 1 input output
-
--- the device failed, and that left it in this state
-abbrev pub LeftAt : {D : Type 0} → (D → D → Type 0) → D → Type 0
-LeftAt {D} fails last = (before : D) × fails before last
+abbrev pub IsExchange : Answering → Type 0 → Type 0 → (List ℕ → Type 0) → List ℕ → List ℕ → Type 0
+IsExchange answers reader writer left input output = Exchange answers reader writer left 1 input output

@@ -2,11 +2,12 @@
 
 ghost use Rattle.std.specs.Prelude.{◌≤◌, ◌<◌, ℕ, List, IsTrue};
 ghost use Rattle.std.specs.Io.KnownBytes.{Appends};
+ghost use Rattle.iiif_peer_wire.specs.Faults.{LeftAt};
 ghost use Rattle.iiif_peer_wire.specs.Messages.{IsAsk, IsReply};
 ghost use Rattle.iiif_peer_wire.specs.Reading.{IsInput};
 ghost use Rattle.iiif_peer_wire.specs.declared.version.Version.{Version};
 ghost use Rattle.iiif_peer_server.specs.Code.{Served};
-ghost use Rattle.iiif_peer_server.specs.Exchanges.{ask_limit, IsExchange, LeftAt};
+ghost use Rattle.iiif_peer_server.specs.Exchanges.{ask_limit, IsExchange};
 
 use iiif_io::{Inlet, Outlet};
 use iiif_peer_wire::{Ask, read_ask, write_reply};
@@ -66,7 +67,7 @@ pub fn serve_peer<R, P, S: Answers<R, P>, I: Inlet, W: Outlet>(
     out: &mut W,
 )
     ensures { (came : List ℕ) × (output : List ℕ) × IsInput (I.remaining reader.old) came × Appends (W.contents out.old) (W.contents out.new) output
-        × IsExchange (S.answers service.now) (LeftAt I.fails reader.new) (LeftAt W.fails out.new) came output }
+        × IsExchange (S.answers service.now) (LeftAt I.fails reader.new) (LeftAt W.fails out.new) (IsInput (I.remaining reader.new)) came output }
 {
     let mut n = 1;
     while serve_next(rt, alloc, service, passes, reader, n, out) {

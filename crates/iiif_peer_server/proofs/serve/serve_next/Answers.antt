@@ -1,6 +1,6 @@
-use Rattle.std.proofs.Common.{◌≡◌, ℕ, ◌≤◌, ap, Ok, Err, nat_lt, arith}
+use Rattle.std.proofs.Common.{ap, Err, nat_lt, arith}
 use Rattle.std.proofs.lemmas.Bool.{ltb-true, ltb-false}
-use Rattle.iiif_peer_server.specs.Exchanges.{LeftAt}
+use Rattle.iiif_peer_wire.specs.Faults.{LeftAt}
 use Rattle.iiif_peer_server.proofs.ExchangeLemmas.{none_left, ends_at_fault, sent_whole, sent_partly}
 use Rattle.iiif_peer_server.proofs.serve.serve_next.Goals as goal
 
@@ -14,7 +14,7 @@ pub returns-in-Err-clause-served : goal.returns-in-Err-clause-served
 returns-in-Err-clause-served g c =
     ends_at_fault (g.S.Answers.answers c.args.service.now) (LeftAt g.I.Inlet.fails c.read_ask.new.reader) (LeftAt g.W.Outlet.fails c.args.out.now) c.args.n
     (g.I.Read.remaining c.args.reader.now) (g.I.Read.remaining c.read_ask.new.reader) (g.W.Write.contents c.args.out.now) c.in-Err.field-0 c.in-Err.ensures.refused
-    (λ io. c.in-Err.ensures.io (ap Err io)) (λ memory. c.in-Err.ensures.memory (ap Err memory))
+    (λ io. c.in-Err.ensures.io (ap Err io)) (λ io. c.in-Err.ensures.unfinished (ap Err io)) (λ memory. c.in-Err.ensures.memory (ap Err memory))
 
 pub returns-in-Ok-clause-served : goal.returns-in-Ok-clause-served
 returns-in-Ok-clause-served g c =
