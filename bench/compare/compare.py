@@ -159,18 +159,18 @@ def along_last(values, size):
     return at[..., 1:] - at[..., :-1]
 
 
-def exact(source, rect, size):
+def exact(source, rect, sides):
     """The exact averages of a rectangle of the formula's picture, to the nearest, a half up."""
-    x, y, w, h = rect
-    if w == size:
+    (x, y, w, h), (across, down) = rect, sides
+    if (w, h) == sides:
         return source.samples(*rect).astype(source.held())
-    rows = np.empty((source.channels, size, h), np.int64)
+    rows = np.empty((source.channels, across, h), np.int64)
     for top in range(0, h, 64):
         count = min(64, h - top)
         band = source.samples(x, y + top, w, count)
         for k in range(source.channels):
-            rows[k, :, top:top + count] = along_last(band[:, :, k], size).T
-    sums = np.stack([along_last(rows[k], size).T for k in range(source.channels)], axis=2)
+            rows[k, :, top:top + count] = along_last(band[:, :, k], across).T
+    sums = np.stack([along_last(rows[k], down).T for k in range(source.channels)], axis=2)
     return ((2 * sums + w * h) // (2 * w * h)).astype(source.held())
 
 
@@ -316,7 +316,7 @@ def prepared(args, jobs):
             source.write(path)
         kept = os.path.join(args.work, f"exact-{source.name}-{'-'.join(map(str, rect))}-{size}.npy")
         if not os.path.exists(kept):
-            np.save(kept, exact(source, rect, size))
+            np.save(kept, exact(source, rect, (size, size)))
         wanted[job] = np.load(kept)
         with open(path, "rb") as file:
             while file.read(1 << 24):
