@@ -1,17 +1,24 @@
 """Lists of events by chance, replayed by the built program and by an evaluation of the definitions in Python.
 
-    /usr/bin/python3 bench/machine/lists.py crates/iiif_replay/out/iiif_replay [COUNT] [SEED] [EACH]
+    /usr/bin/python3 bench/machine/lists.py crates/iiif_replay/out/iiif_replay [--count N] [--seed N] [--each N] [--jobs N]
 
 The outcome of each event, the answers, and at the end all rows of each world are compared; of each EACHth list all rows after each
-event too. The status is 1 where a line differs.
+event too. Of a hundred lists one is long: its nodes ask one another again and again, so that tenth values of a peer are kept.
+
+It writes how often each event was done and refused, by what it found and what it left, and which answers there were. The status is 1
+where a line differs, or where an event was never done or never refused.
 """
+import argparse
+import collections
+import multiprocessing
 import random
 import subprocess
 import sys
 
 from machine import LOCAL, WIDE, Node, Scene, World
 
-LENGTH = 45
+# How many events a list has, and a long one; and how many lists a process replays at once.
+LENGTH, LONG, BATCH = 45, 600, 100
 
 
 # Rows, as the program writes them
@@ -116,16 +123,18 @@ def a_picture(chance):
     return (w, h, channels, top, tuple(chance.randint(0, top) for _ in range(w * h * channels)))
 
 
-def a_world(chance):
+def a_world(chance, is_long):
     """The world, and the lines that describe it."""
     pictures = {name: a_picture(chance) for name in chance.choice((["p"], ["p", "picture-a"], ["p", "é"]))}
     edge = chance.randint(1, 3)
     side = chance.choice((8, 8, 8, 3))
     limits = (side, side, chance.random() < 0.5)
     room = chance.choice((65536, 65536, 12, 0))
-    names = ["a", "b", "c"][:chance.randint(2, 3)]
+    names = chance.choice((["a", "b"], ["a", "b"], ["a", "b", "c"], ["a", "b", "c"], ["a", "b", "b"]))
     nodes = [Node(name, chance.sample(names, chance.randint(1, len(names))), chance.choice((1, 2, 2)), chance.choice((60, 120, 1000)),
-                  chance.randint(1, 4)) for name in names]
+                  chance.randint(0, 4)) for name in names]
+    if is_long:
+        nodes = [Node("a", ["b"], 2, 1000, 4), Node("b", ["a"], 2, 1000, 4)]
     lines = ["edge %d" % edge, "limits %d %d%s" % (side, side, " upscale" if limits[2] else ""), "room %d" % room]
     lines += ["picture %s %s" % (name, picture_text(p)) for name, p in pictures.items()]
     lines += ["node %s %d %d %d %s" % (n.name, n.version, n.tiles.limit, n.tiles.room, " ".join(n.ring)) for n in nodes]
@@ -141,6 +150,8 @@ def a_request(chance, p):
 
 
 KINDS = ["enter", "again", "ask_peer", "serve", "reply", "take", "lose", "go_local", "load", "source_fault", "land"]
+
+EVENTS = ["want"] + KINDS + ["evict", "stop"]
 
 
 def allowed(world):
@@ -172,32 +183,137 @@ def allowed(world):
         yield ("serve", a)
 
 
+def a_row(chance, rows):
+    """A row's number; where there is none, and else once in ten perhaps, the number of none."""
+    return chance.randint(0, max(0, len(rows) - (chance.random() < 0.9)))
+
+
+def a_want(chance, world):
+    name = chance.choice(list(world.scene.pictures) + ["none"] * (chance.random() < 0.1))
+    return ("want", a_row(chance, world.nodes), name, a_request(chance, world.scene.pictures.get(name)))
+
+
+def with_words(chance, event):
+    """A read's fault, and whether a landing keeps."""
+    if event[0] == "source_fault":
+        event += (chance.randint(0, 9), chance.randint(1, 3))
+    if event[0] == "land":
+        event += (chance.random() < 0.8,)
+    return event
+
+
 def an_event(chance, world):
     draw = chance.random()
-    nodes = len(world.nodes)
     if not world.requests or draw < 0.06:
-        name = chance.choice(list(world.scene.pictures) + ["none"] * (chance.random() < 0.1))
-        return ("want", chance.randint(0, nodes - (chance.random() < 0.9)), name, a_request(chance, world.scene.pictures.get(name)))
+        return a_want(chance, world)
     if draw < 0.08:
-        return ("stop", chance.randint(0, nodes - (chance.random() < 0.9)))
+        return ("stop", a_row(chance, world.nodes))
     if draw < 0.10:
         keys = [call[1] for call in world.calls]
-        return ("evict", chance.randint(0, nodes - 1), chance.sample(keys, min(len(keys), chance.randint(0, 3))))
+        return ("evict", a_row(chance, world.nodes), chance.sample(keys, min(len(keys), chance.randint(0, 3))))
     some = list(allowed(world))
     if some and draw < 0.85:
         kind = chance.choice(sorted({event[0] for event in some}))
         event = chance.choice([event for event in some if event[0] == kind])
     else:
         kind = chance.choice(KINDS)
-        rows = {"enter": world.calls, "reply": world.calls, "serve": world.asks}.get(kind, world.flights)
-        event = (kind, chance.randint(0, len(rows)))
+        event = (kind, a_row(chance, {"enter": world.calls, "reply": world.calls, "serve": world.asks}.get(kind, world.flights)))
         if kind == "take":
-            event += (chance.randint(0, len(world.replies)),)
-    if event[0] == "source_fault":
-        event += (chance.randint(0, 9), chance.randint(1, 3))
-    if event[0] == "land":
-        event += (chance.random() < 0.8,)
-    return event
+            event += (a_row(chance, world.replies),)
+    return with_words(chance, event)
+
+
+def is_onward(chance, world, event):
+    """Whether an event of a long list helps a wide flight to its value: no ask is lost or served twice, and replies fit."""
+    if event[0] in ("lose", "source_fault"):
+        return chance.random() < 0.02
+    if event[0] == "serve":
+        return all(call[3] != ("ask", event[1]) for call in world.calls)
+    if event[0] == "reply":
+        return all(key != world.calls[event[1]][1] for key, _ in world.replies)
+    if event[0] == "take":
+        key, outcome = world.replies[event[2]]
+        return outcome[0] == "ok" and key == world.flights[event[1]][1]
+    return True
+
+
+def an_event_onward(chance, world):
+    """An event of a long list: values come from peers, and go again, so that they are fetched anew."""
+    some = [event for event in allowed(world) if is_onward(chance, world, event)]
+    draw = chance.random()
+    if not some or draw < 0.02:
+        return a_want(chance, world)
+    if draw < 0.10:
+        n = chance.randrange(len(world.nodes))
+        kept = [entry[0] for table in (world.nodes[n].tiles, world.nodes[n].sums) for entry in table.main + table.hot]
+        return ("evict", n, chance.sample(kept, chance.randint(0, len(kept))))
+    return with_words(chance, chance.choice(some))
+
+
+# What came of events
+
+def found_by(world, event):
+    """What an event finds: the state of its call, the stage of its flight, or whether what it names is there."""
+    kind, number = event[0], event[1]
+    if kind in ("enter", "reply"):
+        if number >= len(world.calls):
+            return "no call"
+        call = world.calls[number]
+        if kind == "enter":
+            return call[4][0]
+        return "%s, %s" % ("serves" if call[3][0] == "ask" else "serves no ask", "knows" if world.learned(number) else "knows nothing")
+    if kind == "serve":
+        if number >= len(world.asks):
+            return "no ask"
+        node, _, _, version = world.asks[number]
+        return "version %d, at a node of %d" % (version, world.nodes[node].version)
+    if kind in ("want", "evict", "stop"):
+        if number >= len(world.nodes):
+            return "no node"
+        if kind != "want":
+            return "a node"
+        p = world.scene.pictures.get(event[2])
+        return "%s bits, at a node of %d" % (8 if p[3] == 255 else 16, world.nodes[number].version) if p else "no picture"
+    if number >= len(world.flights):
+        return "no flight"
+    if kind == "take" and event[2] >= len(world.replies):
+        return "no reply"
+    return flight_word(world, number)
+
+
+def flight_word(world, number):
+    _, key, kind, _, stage = world.flights[number]
+    words = [kind, key[0], stage[0]]
+    if stage[0] == "fallback":
+        words.append("alone" if stage[1] is None else "with its call")
+    if stage[0] == "parts":
+        words.append("known" if world.all_learned(stage[1]) is not None else "not known")
+    if stage[0] in ("ready", "ended"):
+        words.append("none" if stage[1] is None else stage[1][0])
+    return " ".join(words + list(stage[2:]))
+
+
+def left_by(world, event, found):
+    """What an event that was done has left."""
+    kind, number = event[0], event[1]
+    if kind == "want":
+        progress = world.requests[-1][2]
+        return "refused " + progress[1][1] if progress[0] == "answered" else "waiting"
+    if kind == "enter":
+        state = world.calls[number][4]
+        if state[0] == "hit":
+            return "finds"
+        return "leads" if state[1] == len(world.flights) - 1 and world.flights[-1][4] == ("new",) else "joins"
+    if kind == "land":
+        peer = world.nodes[world.flights[number][0]].table(world.flights[number][1]).book["peer"]
+        return ("kept" if event[2] else "dropped") + (", a tenth value" if found.endswith("ok peer") and peer % 10 == 0 else "")
+    if kind in ("again", "ask_peer", "take", "lose", "go_local", "load", "source_fault"):
+        return flight_word(world, number)
+    return "done"
+
+
+def answer_word(answer):
+    return "image of %s bits" % (8 if answer[1][3] == 255 else 16) if answer[0] == "image" else answer_text(answer).split(" ")[0]
 
 
 def event_text(event):
@@ -211,23 +327,60 @@ def event_text(event):
     return " ".join([kind] + [str(n) for n in rest])
 
 
-def a_list(chance, number, each):
+class Tally:
+    """How often what came, of how many lists."""
+
+    def __init__(self):
+        self.lists, self.compared, self.events, self.answers = 0, 0, collections.Counter(), collections.Counter()
+
+    def add(self, other):
+        self.lists += other.lists
+        self.compared += other.compared
+        self.events += other.events
+        self.answers += other.answers
+
+    def done(self, kind, refused=False):
+        return sum(n for (it, _, left), n in self.events.items() if it == kind and (left == "not now") == refused)
+
+    def missing(self):
+        """The events that were never done, or never refused."""
+        return ["%s was never %s" % (kind, word) for kind in EVENTS for refused, word in ((False, "done"), (True, "refused"))
+                if not self.done(kind, refused)]
+
+    def told(self):
+        yield "%d lists, %d events, %d done, %d refused, %d answers; all rows compared after %d events" % (
+            self.lists, sum(self.events.values()), sum(self.done(kind) for kind in EVENTS), sum(self.done(kind, True) for kind in EVENTS),
+            sum(self.answers.values()), self.compared)
+        for kind in EVENTS:
+            yield "%s: %d done, %d refused" % (kind, self.done(kind), self.done(kind, True))
+            for (it, found, left), n in sorted(self.events.items()):
+                if it == kind:
+                    yield "    %-44s %-44s %d" % (found, left, n)
+        for word, n in sorted(self.answers.items()):
+            yield "answered %s: %d" % (word, n)
+
+
+def a_list(chance, number, each, is_long, tally):
     """The lines of a list, and what the program should write for it; `number` is that of its first line."""
-    world, lines = a_world(chance)
-    wanted, happened = [], 0
-    for _ in range(LENGTH):
-        event = an_event(chance, world)
+    world, lines = a_world(chance, is_long)
+    wanted = []
+    for _ in range(LONG if is_long else LENGTH):
+        event = (an_event_onward if is_long else an_event)(chance, world)
+        found = found_by(world, event)
         lines.append(event_text(event))
         done = world.step(event)
-        happened += done
+        tally.events[(event[0], found, left_by(world, event, found) if done else "not now")] += 1
         wanted.append("%d %s: %s" % (number + len(lines) - 1, lines[-1], "done" if done else "not now"))
         if each:
             lines.append("rows")
             wanted += rows(world)
+            tally.compared += 1
     lines += ["rows", "world"]
     wanted += rows(world)
     wanted += ["request %d: %s" % (n, answer_text(r[2][1]) if r[2][0] == "answered" else "none") for n, r in enumerate(world.requests)]
-    return lines, wanted, happened, sum(r[2][0] == "answered" for r in world.requests)
+    tally.answers.update(answer_word(r[2][1]) for r in world.requests if r[2][0] == "answered")
+    tally.lists += 1
+    return lines, wanted
 
 
 def compare(program, lines, wanted):
@@ -242,26 +395,44 @@ def compare(program, lines, wanted):
     return None if len(wanted) == len(wrote) else "%d lines beside %d" % (len(wanted), len(wrote))
 
 
+def a_batch(program, seed, first, end, each):
+    """Lists from one number to another: the tally, what differs first, and the lines."""
+    chance, tally, lines, wanted = random.Random("%d %d" % (seed, first)), Tally(), [], []
+    for n in range(first, end):
+        is_long = n % 100 == 99
+        more, expected = a_list(chance, len(lines) + 1, n % each == 0 and not is_long, is_long, tally)
+        lines += more
+        wanted += expected
+    return tally, compare(program, lines, wanted), lines
+
+
+def batch_of(job):
+    return job[2], *a_batch(*job)
+
+
 def main():
-    program = sys.argv[1]
-    count, seed, each = (int(word) for word in (sys.argv[2:] + ["1000", "1", "10"][len(sys.argv) - 2:])[:3])
-    chance = random.Random(seed)
-    totals = [0, 0, 0, 0]
-    batch = 200
-    for first in range(0, count, batch):
-        lines, wanted = [], []
-        for n in range(first, min(count, first + batch)):
-            more, expected, happened, answered = a_list(chance, len(lines) + 1, n % each == 0)
-            lines += more
-            wanted += expected
-            totals = [a + b for a, b in zip(totals, (1, LENGTH, happened, answered))]
-        differs = compare(program, lines, wanted)
-        if differs:
-            print("lists %d to %d\n%s" % (first, first + batch, differs))
-            with open("differs.txt", "w") as file:
-                file.write("\n".join(lines) + "\n")
-            sys.exit(1)
-    print("%d lists, %d events, %d allowed, %d answers: equal" % tuple(totals))
+    parser = argparse.ArgumentParser(description=__doc__, formatter_class=argparse.RawDescriptionHelpFormatter)
+    parser.add_argument("program")
+    parser.add_argument("--count", type=int, default=1000)
+    parser.add_argument("--seed", type=int, default=1)
+    parser.add_argument("--each", type=int, default=10)
+    parser.add_argument("--jobs", type=int, default=1)
+    args = parser.parse_args()
+    jobs = [(args.program, args.seed, first, min(args.count, first + BATCH), args.each) for first in range(0, args.count, BATCH)]
+    total = Tally()
+    with multiprocessing.Pool(args.jobs) as pool:
+        for first, tally, differs, lines in pool.imap(batch_of, jobs):
+            total.add(tally)
+            if differs:
+                print("lists from %d on\n%s" % (first, differs))
+                with open("differs.txt", "w") as file:
+                    file.write("\n".join(lines) + "\n")
+                sys.exit(1)
+    print("\n".join(total.told()))
+    for word in total.missing():
+        print(word)
+    print("equal")
+    sys.exit(1 if total.missing() else 0)
 
 
 if __name__ == "__main__":
