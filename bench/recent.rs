@@ -1,20 +1,8 @@
-//! What the plain Rust of `bench/cache` and `bench/flights` has in common: keys, entries, and one list in the order of use, as a
+//! What the plain Rust of `bench/cache`, `bench/flights` and `bench/groups` has in common: keys, entries, and one list in the order of use, as a
 //! hashed map of keys to places and the places linked.
 
 use std::collections::HashMap;
 use std::sync::Arc;
-use std::time::Duration;
-
-extern "C" {
-    fn clock_gettime(id: i32, time: *mut [i64; 2]) -> i32;
-}
-
-/// The processor time of this thread.
-pub fn cpu() -> Duration {
-    let mut time = [0i64; 2];
-    unsafe { clock_gettime(3, &mut time) };
-    Duration::new(time[0] as u64, time[1] as u32)
-}
 
 #[derive(Clone, PartialEq, Eq, Hash)]
 pub struct Key {

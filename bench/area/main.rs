@@ -3,57 +3,17 @@
 //! 10,000 by 10,000, over the whole picture at once, with `larger` for gray ones that are scaled up, with `sixteen` of 16 bits a sample.
 //! With `columns` too, the way of the definition, place by place, is left out.
 
+#[path = "../clock.rs"]
+mod clock;
+#[path = "../samples.rs"]
+mod samples;
+
+use clock::cpu;
+use samples::{Sample, check_sum, pattern};
 use std::env;
 use std::hint::black_box;
-use std::time::Duration;
 
 const SIDE: u32 = 10_000;
-
-extern "C" {
-    fn clock_gettime(id: i32, time: *mut [i64; 2]) -> i32;
-}
-
-/// The processor time of this thread.
-fn cpu() -> Duration {
-    let mut time = [0i64; 2];
-    unsafe { clock_gettime(3, &mut time) };
-    Duration::new(time[0] as u64, time[1] as u32)
-}
-
-/// A sample of 8 or of 16 bits.
-trait Sample: Copy + Into<u64> {
-    const TOP: u64;
-
-    /// The high bits of a number.
-    fn high(number: u32) -> Self;
-
-    /// The low bits of a number.
-    fn low(number: u64) -> Self;
-}
-
-impl Sample for u8 {
-    const TOP: u64 = 255;
-
-    fn high(number: u32) -> u8 {
-        (number >> 24) as u8
-    }
-
-    fn low(number: u64) -> u8 {
-        number as u8
-    }
-}
-
-impl Sample for u16 {
-    const TOP: u64 = 65_535;
-
-    fn high(number: u32) -> u16 {
-        (number >> 16) as u16
-    }
-
-    fn low(number: u64) -> u16 {
-        number as u16
-    }
-}
 
 fn weight(i: u32, x: u32, a: u32, c: u32) -> u64 {
     let (i, x, a, c) = (u64::from(i), u64::from(x), u64::from(a), u64::from(c));
@@ -68,20 +28,25 @@ fn sources(i: u32, a: u32, c: u32) -> (u32, u32) {
     ((i * a / c) as u32, ((i + 1) * a).div_ceil(c) as u32)
 }
 
+/// The source rows of result row `j` added up, each with its weight.
+fn add_rows<T: Sample>(samples: &[T], side: u32, d: u32, j: u32, columns: &mut [u64]) {
+    columns.fill(0);
+    let (top, bottom) = sources(j, side, d);
+    for y in top..bottom {
+        let w = weight(j, y, side, d) as u32;
+        let row = &samples[y as usize * side as usize..(y as usize + 1) * side as usize];
+        for (column, sample) in columns.iter_mut().zip(row) {
+            *column += u64::from(w) * Into::<u64>::into(*sample);
+        }
+    }
+}
+
 /// The sums of the whole picture in one run, by columns that are added up for each result row.
 fn by_columns<T: Sample>(samples: &[T], side: u32, d: u32) -> Vec<u64> {
     let mut sums = Vec::with_capacity(d as usize * d as usize);
     let mut columns = vec![0u64; side as usize];
     for j in 0..d {
-        columns.fill(0);
-        let (top, bottom) = sources(j, side, d);
-        for y in top..bottom {
-            let w = weight(j, y, side, d) as u32;
-            let row = &samples[y as usize * side as usize..(y as usize + 1) * side as usize];
-            for (column, sample) in columns.iter_mut().zip(row) {
-                *column += u64::from(w) * Into::<u64>::into(*sample);
-            }
-        }
+        add_rows(samples, side, d, j, &mut columns);
         for i in 0..d {
             let (left, right) = sources(i, side, d);
             let mut sum = 0;
@@ -99,15 +64,7 @@ fn rows_alone<T: Sample>(samples: &[T], side: u32, d: u32) -> Vec<u64> {
     let mut sums = Vec::with_capacity(d as usize);
     let mut columns = vec![0u64; side as usize];
     for j in 0..d {
-        columns.fill(0);
-        let (top, bottom) = sources(j, side, d);
-        for y in top..bottom {
-            let w = weight(j, y, side, d) as u32;
-            let row = &samples[y as usize * side as usize..(y as usize + 1) * side as usize];
-            for (column, sample) in columns.iter_mut().zip(row) {
-                *column += u64::from(w) * Into::<u64>::into(*sample);
-            }
-        }
+        add_rows(samples, side, d, j, &mut columns);
         sums.push(columns[j as usize]);
     }
     sums
@@ -140,7 +97,8 @@ fn by_places<T: Sample>(samples: &[T], (a, b): (u32, u32), (c, d): (u32, u32), c
 /// What a row of samples gives to each result column, where none is wider than a source column: parts of two at most.
 fn stretched<T: Sample>(row: &[T], spans: &[(usize, usize, u64, u64)], to: &mut [u64]) {
     for (sum, &(left, right, first, last)) in to.iter_mut().zip(spans) {
-        *sum = first * row[left].into() + last * row[right].into();
+        let (near, far): (u64, u64) = (row[left].into(), row[right].into());
+        *sum = first * near + last * far;
     }
 }
 
@@ -201,28 +159,11 @@ fn finish<T: Sample>(sums: &[u64], area: u64) -> Vec<T> {
         .collect()
 }
 
-fn check_sum<T: Sample>(samples: &[T]) -> u64 {
-    samples.iter().fold(0, |sum, s| {
-        u64::wrapping_add(u64::wrapping_mul(sum, 31), (*s).into())
-    })
-}
-
 /// The milliseconds that a piece of work takes, and what it makes.
 fn timed<T>(work: impl FnOnce() -> T) -> (f64, T) {
     let start = cpu();
     let made = work();
     ((cpu() - start).as_secs_f64() * 1000.0, made)
-}
-
-/// Samples that look random, the same in each run.
-fn pattern<T: Sample>(count: usize) -> Vec<T> {
-    let mut state = 12345u32;
-    (0..count)
-        .map(|_| {
-            state = state.wrapping_mul(1_664_525).wrapping_add(1_013_904_223);
-            T::high(state)
-        })
-        .collect()
 }
 
 fn small<T: Sample>() {

@@ -1,10 +1,13 @@
 //! The same work as the program `cache_bench large`, in plain Rust, to compare times. Built by `rustc -O`.
 //! A cache of two lists with one limit in bytes: a hashed map of keys to places, and the places linked in the order of use.
 
+#[path = "../clock.rs"]
+mod clock;
 #[path = "../recent.rs"]
 mod recent;
 
-use recent::{Key, Recent, cpu};
+use clock::cpu;
+use recent::{Key, Recent};
 use std::sync::Arc;
 
 type Cell = Arc<(Arc<Key>, u64, Arc<u32>)>;

@@ -2,17 +2,22 @@
 //! A table of kept tiles, open flights and counts behind a lock, with a condition variable for those that wait; a tile stands in a
 //! cell that is set once, and is read from its file row by row while no lock is held.
 
+#[path = "../clock.rs"]
+mod clock;
 #[path = "../recent.rs"]
 mod recent;
+#[path = "../table.rs"]
+mod table;
 
-use recent::{Entry, Key, Recent, cpu};
-use std::collections::HashMap;
+use clock::cpu;
+use recent::Key;
 use std::fs::{self, File};
 use std::hint::black_box;
 use std::os::unix::fs::FileExt;
-use std::sync::{Arc, Condvar, Mutex, OnceLock};
+use std::sync::{Arc, Condvar, Mutex};
 use std::thread;
 use std::time::Instant;
+use table::{Cell, Entered, Table};
 
 const SIDE: u32 = 2_560;
 const EDGE: u32 = 256;
@@ -22,79 +27,14 @@ const ROUNDS: u32 = 2_000;
 const THREADS: usize = 8;
 
 type Tile = Arc<Vec<u8>>;
-type Cell = Arc<OnceLock<(Arc<Key>, u64, Tile)>>;
-
-#[derive(Clone)]
-struct Flight {
-    cell: Cell,
-    ticket: u64,
-}
-
-#[derive(Default)]
-struct Book {
-    gets: u64,
-    hits: u64,
-    joins: u64,
-    leads: u64,
-    loads: u64,
-    landed: u64,
-}
-
-struct Table {
-    main: Recent<Cell>,
-    hot: Recent<Cell>,
-    limit: u64,
-    open: HashMap<Arc<Key>, Flight>,
-    book: Book,
-}
-
-enum Entered {
-    Hit(Cell, u64),
-    Joined(Flight),
-    Lead(Flight),
-}
-
-impl Table {
-    fn enter(&mut self, gets: &mut u64, key: &Key) -> Entered {
-        self.book.gets += 1;
-        *gets += 1;
-        let found = match self.main.get(key) {
-            Some(entry) => Some(entry),
-            None => self.hot.get(key),
-        };
-        if let Some(entry) = found {
-            self.book.hits += 1;
-            return Entered::Hit(entry.cell.clone(), entry.ticket);
-        }
-        if let Some(flight) = self.open.get(key) {
-            self.book.joins += 1;
-            return Entered::Joined(flight.clone());
-        }
-        self.book.leads += 1;
-        let flight = Flight { cell: Arc::new(OnceLock::new()), ticket: self.book.leads };
-        self.open.insert(Arc::new(key.clone()), flight.clone());
-        Entered::Lead(flight)
-    }
-
-    fn land(&mut self, flight: Flight, key: &Key, tile: Tile) {
-        let key = Arc::new(key.clone());
-        let size = Arc::new(tile.len() as u32 + 15);
-        let _ = flight.cell.set((key.clone(), flight.ticket, tile));
-        self.open.remove(&key);
-        self.book.landed += 1;
-        self.book.loads += 1;
-        self.main.push(key, Entry { value: size, cell: flight.cell, ticket: flight.ticket });
-        while self.main.bytes + self.hot.bytes > self.limit && self.main.pop().is_some() {}
-    }
-}
 
 struct Group {
-    table: Mutex<Table>,
+    table: Mutex<Table<Tile>>,
     landed: Condvar,
     file: Mutex<File>,
 }
 
-fn tile_in(cell: &Cell) -> Tile {
+fn tile_in(cell: &Cell<Tile>) -> Tile {
     cell.get().unwrap().2.clone()
 }
 
@@ -108,8 +48,7 @@ impl Group {
         fs::write(path, bytes).unwrap();
         let file = Mutex::new(File::open(path).unwrap());
         fs::remove_file(path).unwrap();
-        let (main, hot) = (Recent::new(4096), Recent::new(4096));
-        let table = Mutex::new(Table { main, hot, limit, open: HashMap::new(), book: Book::default() });
+        let table = Mutex::new(Table::new(4096, limit));
         Group { table, landed: Condvar::new(), file }
     }
 
@@ -141,7 +80,8 @@ impl Group {
             Entered::Lead(flight) => {
                 let found = self.table.lock().unwrap().main.get(key).map(|entry| tile_in(&entry.cell));
                 let tile = found.unwrap_or_else(|| Arc::new(self.read(key)));
-                self.table.lock().unwrap().land(flight, key, tile.clone());
+                let size = Arc::new(tile.len() as u32 + 15);
+                self.table.lock().unwrap().land(flight, key, tile.clone(), size);
                 self.landed.notify_all();
                 tile
             }
@@ -217,9 +157,9 @@ fn main() {
         let start = Instant::now();
         black_box(group.calls(&keys, 1));
         let time = start.elapsed().as_micros();
-        println!("all tiles by one thread: {time} microseconds, {} loads", group.table.lock().unwrap().book.loads);
+        println!("all tiles by one thread: {time} microseconds, {} loads", group.table.lock().unwrap().book.landed);
         let group = Group::new(BYTES);
         let time = group.by_eight(&keys, 1) / 1000;
-        println!("all tiles by eight threads each: {time} microseconds, {} loads", group.table.lock().unwrap().book.loads);
+        println!("all tiles by eight threads each: {time} microseconds, {} loads", group.table.lock().unwrap().book.landed);
     }
 }

@@ -52,6 +52,15 @@ class Bytes:
         self.at = found.end()
         return found.group()
 
+    def token(self):
+        """A token, behind which something has to come."""
+        token = self.run(TOKEN)
+        if self.at == len(self.data):
+            raise Ends
+        if not token:
+            raise Never
+        return token
+
     def expect(self, text):
         for byte in text:
             if self.at == len(self.data):
@@ -81,11 +90,7 @@ def head(data):
     it = Bytes(data)
     while it.line_end():
         pass
-    method = it.run(TOKEN)
-    if it.at == len(data):
-        raise Ends
-    if not method:
-        raise Never
+    method = it.token()
     it.expect(b" ")
     target = it.run(URI)
     if it.at == len(data):
@@ -106,11 +111,7 @@ def head(data):
         try:
             if it.line_end():
                 return method, target, minor, fields, it.at
-            name = it.run(TOKEN)
-            if it.at == len(data):
-                raise Ends
-            if not name:
-                raise Never
+            name = it.token()
             it.expect(b":")
             value = it.run(VALUE)
             if not it.line_end():

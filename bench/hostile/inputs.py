@@ -113,7 +113,7 @@ def run(args, room):
     texts = limits() + each_cut(shown)
     chance.shuffle(texts)
     texts = texts[:args.inputs]
-    fixed, either, slow = len(texts), 0, 0
+    fixed, either = len(texts), 0
     with running.Server(args.program, names, ["--edge", args.edge, "--max", args.max]) as server:
         before, files = server.resident(), server.files()
         for n in range(args.inputs):
@@ -121,15 +121,7 @@ def run(args, room):
             allowed = heads.outputs(data, answers)
             either += len(allowed) - 1
             got, ended = running.exchanged(server, pieces_of(chance, data))
-            slow += not ended
             if not ended or got not in allowed:
                 found.append(f"{data[:300]!r} ({len(data)} bytes): wanted {[it[:200] for it in allowed]}, got {got[:200]!r} ({len(got)} bytes), {'' if ended else 'not '}closed")
-        if not server.alive():
-            found.append(f"the server ended: {server.process.returncode}, {server.line()}")
-            return f"{args.inputs} inputs", found
-        grown, left = server.peak() - before, server.files_left(files)
-        if grown > running.memory_bound(3, args.max, args.edge, 1024, 0, True) + running.caches_of(args):
-            found.append(f"resident memory grew by {grown}")
-        if left > 0:
-            found.append(f"{left} open files more than before")
-    return f"{args.inputs} inputs ({fixed} cuts and limits, {either} with two allowed answers), memory grew by {grown // 1024} KiB", found
+        grown = running.left_behind(args, server, before, files, found)
+    return f"{args.inputs} inputs ({fixed} cuts and limits, {either} with two allowed answers){running.grown_by(grown)}", found

@@ -1,6 +1,5 @@
 """Messages by chance to the port for other nodes, where the program has one: each reply compared whole with the evaluation of `wire`."""
 import random
-import socket
 
 import program as running
 import targets
@@ -67,16 +66,6 @@ def fixed_inputs(edge):
     return cuts + lengths + [b"IGA1\x03" + ask[5:], b"IGA3" + ask[4:], b"IGR1" + ask[4:], ask * 1001]
 
 
-def exchanged(port, data):
-    with socket.create_connection(("127.0.0.1", port), 20) as link:
-        try:
-            link.sendall(data)
-            link.shutdown(socket.SHUT_WR)
-        except OSError:
-            pass
-        return running.to_the_end(link)
-
-
 def run(args, room):
     """The fixed inputs first, then by chance up to the count."""
     if "--peer-listen" not in running.options_of(args.program):
@@ -92,15 +81,8 @@ def run(args, room):
         for n in range(args.messages):
             data = texts[n] if n < len(texts) else one_input(chance, shown, args.edge)
             allowed = wire.replies(data, values)
-            got, ended = exchanged(port, data)
+            got, ended = running.sent_to(port, [data])
             if not ended or got not in allowed:
                 found.append(f"{data[:200].hex()} ({len(data)} bytes): wanted {allowed[0][:200].hex()}, got {got[:200].hex()}, {'' if ended else 'not '}closed")
-        if not server.alive():
-            found.append(f"the server ended: {server.process.returncode}, {server.line()}")
-            return f"{args.messages} messages", found
-        grown, left = server.peak() - before, server.files_left(files)
-        if grown > running.memory_bound(3, args.max, args.edge, 1024, 0, True) + running.caches_of(args):
-            found.append(f"resident memory grew by {grown}")
-        if left > 0:
-            found.append(f"{left} open files more than before")
-    return f"{args.messages} messages, memory grew by {grown // 1024} KiB", found
+        grown = running.left_behind(args, server, before, files, found)
+    return f"{args.messages} messages ({len(texts)} cuts and limits){running.grown_by(grown)}", found

@@ -53,9 +53,7 @@ class Server:
         return self.said.read().decode(errors="replace").strip()
 
     def connect(self, timeout=30):
-        link = socket.create_connection(("127.0.0.1", self.port), timeout)
-        link.setsockopt(socket.IPPROTO_TCP, socket.TCP_NODELAY, 1)
-        return link
+        return connected(self.port, timeout)
 
     def alive(self):
         return self.process.poll() is None
@@ -123,9 +121,20 @@ def to_the_end(link):
         got += part
 
 
+def connected(port, timeout=30):
+    link = socket.create_connection(("127.0.0.1", port), timeout)
+    link.setsockopt(socket.IPPROTO_TCP, socket.TCP_NODELAY, 1)
+    return link
+
+
 def exchanged(server, pieces, timeout=20):
-    """What a connection is answered that sends these pieces and then ends its own side."""
-    with server.connect(timeout) as link:
+    """What a connection of a viewer is answered that sends these pieces and then ends its own side."""
+    return sent_to(server.port, pieces, timeout)
+
+
+def sent_to(port, pieces, timeout=20):
+    """What a connection to this port is answered that sends these pieces and then ends its own side."""
+    with connected(port, timeout) as link:
         try:
             for piece in pieces:
                 link.sendall(piece)
@@ -133,6 +142,24 @@ def exchanged(server, pieces, timeout=20):
         except (BrokenPipeError, ConnectionResetError, OSError):
             pass
         return to_the_end(link)
+
+
+def left_behind(args, server, before, files, found):
+    """What a server says or keeps after a run, noted where it disagrees with docs/OPERATING.md: that it ended, memory above the bound since
+    `before`, open files above `files`. Gives how far its memory grew, and nothing where it ended."""
+    if not server.alive():
+        found.append(f"the server ended: {server.process.returncode}, {server.line()}")
+        return None
+    grown, left = server.peak() - before, server.files_left(files)
+    if grown > memory_bound(3, args.max, args.edge, 1024, 0, True) + caches_of(args):
+        found.append(f"resident memory grew by {grown}")
+    if left > 0:
+        found.append(f"{left} open files more than before")
+    return grown
+
+
+def grown_by(grown):
+    return "" if grown is None else f", memory grew by {grown // 1024} KiB"
 
 
 def memory_bound(channels, limit, edge, name, pieces, deep=False, longer_side=None):

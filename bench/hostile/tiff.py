@@ -72,6 +72,15 @@ class File:
             raise Refusal(MISSING, tag)
         return field
 
+    def side(self, tag, most):
+        """A side that is neither 0 nor above the most."""
+        side = self.needed(tag).value(0)
+        if side == 0:
+            raise Refusal(BAD_FIELD, tag)
+        if side > most:
+            raise Refusal(TOO_LARGE)
+        return side
+
     def one(self, tag, default):
         field = self.field(tag, lambda count: count == 1)
         return default if field is None else field.value(0)
@@ -98,15 +107,7 @@ class Picture:
         self.pieces(file)
 
     def sides(self, file):
-        sides = []
-        for tag in (256, 257):
-            side = file.needed(tag).value(0)
-            if side == 0:
-                raise Refusal(BAD_FIELD, tag)
-            if side > SIDE:
-                raise Refusal(TOO_LARGE)
-            sides.append(side)
-        self.width, self.height = sides
+        self.width, self.height = (file.side(tag, SIDE) for tag in (256, 257))
         if self.width * self.height > AREA:
             raise Refusal(TOO_LARGE)
 
@@ -141,15 +142,7 @@ class Picture:
                 raise Refusal(BAD_FIELD, 278)
             self.piece_width, self.piece_height = self.width, rows
         else:
-            sides = []
-            for tag in (322, 323):
-                side = file.needed(tag).value(0)
-                if side == 0:
-                    raise Refusal(BAD_FIELD, tag)
-                if side > TILE_SIDE:
-                    raise Refusal(TOO_LARGE)
-                sides.append(side)
-            self.piece_width, self.piece_height = sides
+            self.piece_width, self.piece_height = (file.side(tag, TILE_SIDE) for tag in (322, 323))
         self.across = -(-self.width // self.piece_width)
         self.count = self.across * -(-self.height // self.piece_height)
         if self.tiled and self.count > TILES:

@@ -2,44 +2,16 @@
 //! With no argument the check sums of a small picture, with `large` the milliseconds for one of 4,000 by 4,000, with `sixteen` of
 //! 16 bits a sample.
 
+#[path = "../clock.rs"]
+mod clock;
+#[path = "../samples.rs"]
+mod samples;
+
+use clock::cpu;
+use samples::{Sample, check_sum};
 use std::env;
 
 const BLOCK: usize = 32;
-
-/// A sample of 8 or of 16 bits.
-trait Sample: Copy + Default + Into<u32> + Into<u64> {
-    const TOP: Self;
-
-    /// The high bits of a number.
-    fn high(number: u32) -> Self;
-
-    /// The low bits of a number.
-    fn low(number: u32) -> Self;
-}
-
-impl Sample for u8 {
-    const TOP: u8 = 255;
-
-    fn high(number: u32) -> u8 {
-        (number >> 24) as u8
-    }
-
-    fn low(number: u32) -> u8 {
-        number as u8
-    }
-}
-
-impl Sample for u16 {
-    const TOP: u16 = 65_535;
-
-    fn high(number: u32) -> u16 {
-        (number >> 16) as u16
-    }
-
-    fn low(number: u32) -> u16 {
-        number as u16
-    }
-}
 
 struct Picture<T> {
     w: usize,
@@ -48,22 +20,7 @@ struct Picture<T> {
 }
 
 fn pattern<T: Sample>(w: usize, h: usize) -> Picture<T> {
-    let mut state = 12345u32;
-    let samples = (0..w * h * 3)
-        .map(|_| {
-            state = state.wrapping_mul(1_664_525).wrapping_add(1_013_904_223);
-            T::high(state)
-        })
-        .collect();
-    Picture { w, h, samples }
-}
-
-fn check_sum<T: Sample>(samples: &[T]) -> u64 {
-    let mut sum = 0u64;
-    for s in samples {
-        sum = sum.wrapping_mul(31).wrapping_add((*s).into());
-    }
-    sum
+    Picture { w, h, samples: samples::pattern(w * h * 3) }
 }
 
 fn crop<T: Sample>(p: &Picture<T>, x: usize, y: usize, w: usize, h: usize) -> Vec<T> {
@@ -127,36 +84,19 @@ fn gray_of<T: Sample>(place: &[T]) -> u32 {
 }
 
 fn gray<T: Sample>(p: &Picture<T>) -> Vec<T> {
-    p.samples.chunks_exact(3).map(|place| T::low(gray_of(place))).collect()
+    p.samples.chunks_exact(3).map(|place| T::low(u64::from(gray_of(place)))).collect()
 }
 
 /// 0 and 255, of both depths.
 fn bitonal<T: Sample>(p: &Picture<T>) -> Vec<u8> {
-    let top: u32 = T::TOP.into();
-    p.samples.chunks_exact(3).map(|place| if gray_of(place) <= top / 2 { 0 } else { 255 }).collect()
-}
-
-#[repr(C)]
-struct Timespec {
-    seconds: i64,
-    nanos: i64,
-}
-
-unsafe extern "C" {
-    fn clock_gettime(clock: i32, time: *mut Timespec) -> i32;
-}
-
-/// Microseconds that this thread has run (CLOCK_THREAD_CPUTIME_ID of Linux).
-fn thread_micros() -> u64 {
-    let mut time = Timespec { seconds: 0, nanos: 0 };
-    unsafe { clock_gettime(3, &mut time) };
-    time.seconds as u64 * 1_000_000 + time.nanos as u64 / 1000
+    let half = (T::TOP / 2) as u32;
+    p.samples.chunks_exact(3).map(|place| if gray_of(place) <= half { 0 } else { 255 }).collect()
 }
 
 fn measure<T: Sample>(name: &str, large: bool, work: impl Fn() -> Vec<T>) {
-    let start = thread_micros();
+    let start = cpu();
     let made = work();
-    let time = thread_micros() - start;
+    let time = (cpu() - start).as_micros();
     let sum = check_sum(&made);
     if large {
         println!("{name}: {}.{} ms, sum {sum}", time / 1000, time / 100 % 10);

@@ -54,8 +54,19 @@ class Soak:
             self.known[key] = target, len(answer), hashlib.sha256(answer).digest()
         return self.known[key]
 
-    async def connected(self):
-        return await asyncio.open_connection("127.0.0.1", self.port)
+    async def links(self, rest, refused=lambda: None):
+        """One new connection after another; after one that couldn't be had it waits for `rest` seconds."""
+        while not self.over():
+            try:
+                link = await asyncio.open_connection("127.0.0.1", self.port)
+            except OSError:
+                refused()
+                await asyncio.sleep(rest)
+                continue
+            yield link
+
+    def turned_away(self):
+        self.away += 1
 
     def rejected(self, target, got, length, digest):
         """Whether what came is another answer than the right one or its front."""
@@ -67,13 +78,7 @@ class Soak:
     async def viewer(self, number):
         """Asks for one tile after another, some on each connection."""
         chance = random.Random(f"{self.args.seed} {number}")
-        while not self.over():
-            try:
-                reader, writer = await self.connected()
-            except OSError:
-                self.away += 1
-                await asyncio.sleep(0.05)
-                continue
+        async for reader, writer in self.links(0.05, self.turned_away):
             for n in range(chance.randint(1, 50)):
                 if self.over() or not await self.asked(chance, reader, writer, n):
                     break
@@ -124,12 +129,7 @@ class Soak:
     async def dripping(self, number):
         """Sends a head byte by byte."""
         chance = random.Random(f"{self.args.seed} d{number}")
-        while not self.over():
-            try:
-                reader, writer = await self.connected()
-            except OSError:
-                await asyncio.sleep(0.2)
-                continue
+        async for reader, writer in self.links(0.2):
             target, length, digest = self.call(chance)
             try:
                 for byte in f"GET {target} HTTP/1.1\r\n\r\n".encode():
@@ -151,14 +151,9 @@ class Soak:
     async def vanishing(self, number):
         """Asks, reads a part at most, and is gone without a word."""
         chance = random.Random(f"{self.args.seed} v{number}")
-        while not self.over():
+        async for reader, writer in self.links(0.2):
             try:
-                reader, writer = await self.connected()
                 writer.get_extra_info("socket").setsockopt(socket.SOL_SOCKET, socket.SO_LINGER, struct.pack("ii", 1, 0))
-            except OSError:
-                await asyncio.sleep(0.2)
-                continue
-            try:
                 writer.write(f"GET {self.call(chance)[0]} HTTP/1.1\r\n\r\n".encode() * chance.choice([1, 1, 5]))
                 await writer.drain()
                 if chance.random() < 0.7:

@@ -2,8 +2,16 @@
 //! With no argument the check sums of five small files, with `large` the milliseconds of processor time for pictures of
 //! 4,000 by 4,000, the least of five runs, and those of a plain copy of the samples.
 
+#[path = "../clock.rs"]
+mod clock;
+#[path = "../samples.rs"]
+mod samples;
+
+use clock::cpu;
+use samples::{check_sum, pattern};
 use std::env;
 use std::hint::black_box;
+use std::time::Duration;
 
 #[derive(Clone, Copy, PartialEq)]
 enum Kind {
@@ -28,15 +36,6 @@ impl Kind {
     }
 }
 
-/// The numbers that all samples are the high bits of.
-fn pattern(count: usize) -> impl Iterator<Item = u32> {
-    let mut state = 12345u32;
-    (0..count).map(move |_| {
-        state = state.wrapping_mul(1_664_525).wrapping_add(1_013_904_223);
-        state
-    })
-}
-
 /// The samples of a picture.
 enum Samples {
     Eight(Vec<u8>),
@@ -45,20 +44,12 @@ enum Samples {
 
 impl Samples {
     fn eight(count: usize) -> Samples {
-        Samples::Eight(pattern(count).map(|n| (n >> 24) as u8).collect())
+        Samples::Eight(pattern(count))
     }
 
     fn sixteen(count: usize) -> Samples {
-        Samples::Sixteen(pattern(count).map(|n| (n >> 16) as u16).collect())
+        Samples::Sixteen(pattern(count))
     }
-}
-
-fn check_sum(bytes: &[u8]) -> u64 {
-    let mut sum = 0u64;
-    for byte in bytes {
-        sum = sum.wrapping_mul(31).wrapping_add(u64::from(*byte));
-    }
-    sum
 }
 
 fn field(out: &mut Vec<u8>, tag: u16, kind: u16, count: u32, value: u32) {
@@ -121,35 +112,15 @@ fn write(kind: Kind, w: usize, h: usize, samples: &Samples, out: &mut Vec<u8>) {
     }
 }
 
-#[repr(C)]
-struct Timespec {
-    seconds: i64,
-    nanos: i64,
-}
-
-unsafe extern "C" {
-    fn clock_gettime(clock: i32, time: *mut Timespec) -> i32;
-}
-
-/// Microseconds that this thread has run (CLOCK_THREAD_CPUTIME_ID of Linux).
-fn thread_micros() -> u64 {
-    let mut time = Timespec {
-        seconds: 0,
-        nanos: 0,
-    };
-    unsafe { clock_gettime(3, &mut time) };
-    time.seconds as u64 * 1_000_000 + time.nanos as u64 / 1000
-}
-
 /// The least milliseconds of five runs.
 fn least_of_five(mut work: impl FnMut()) -> f64 {
-    let mut least = u64::MAX;
+    let mut least = Duration::MAX;
     for _ in 0..5 {
-        let start = thread_micros();
+        let start = cpu();
         work();
-        least = least.min(thread_micros() - start);
+        least = least.min(cpu() - start);
     }
-    least as f64 / 1000.0
+    least.as_secs_f64() * 1000.0
 }
 
 /// The milliseconds of a plain copy of the samples, and its check sum.
