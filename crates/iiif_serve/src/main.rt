@@ -1,19 +1,8 @@
 //! The program: an IIIF image server over TIFF files.
 #![tactic(auto)]
 
-mod hex;
-mod line;
-mod listen;
-mod program;
-mod sample;
-mod stored;
-#[cfg(test)]
-mod tests;
-#[cfg(test)]
-mod upscale_tests;
-mod workers;
-
-use crate::program::{ended, program};
+use iiif_program::program::program;
+use iiif_program::stop::ended;
 use std::alloc::Global;
 use std::io::ErrorKind;
 use std::process::ExitCode;

@@ -9,18 +9,74 @@ use std::alloc::Global;
 use std::convert::AsStr;
 use thiserror::Error;
 
-/// The edge of a tile where none is given, in pixels.
+/// The edge of a tile where none is given, in pixels, and the most that may be.
 const EDGE: u64 = 256;
-/// The greatest side of a result where none is given, in pixels.
+const MOST_EDGE: u64 = 1024;
+
+/// The greatest side of a result where none is given, in pixels, and the most that may be.
 const MAX: u64 = 4096;
+const MOST_MAX: u64 = 16_384;
+
 /// The bytes of each group's cache where none are given, and the most that may be.
 const CACHE_BYTES: u64 = 67_108_864;
-
 const MOST_CACHE_BYTES: u64 = 1 << 40;
-/// The rows of a band where none are given, and the workers of a request.
-const BAND: u64 = 64;
 
+/// The rows of a band where none are given, and the most that may be.
+const BAND: u64 = 64;
+const MOST_BAND: u64 = 16_384;
+
+/// The workers of a request where none are given, and the most that may be.
 const WORKERS: u64 = 2;
+const MOST_WORKERS: u64 = 16;
+
+/// The name of a node where none is given, and the most bytes of one.
+const OWN_NAME: &str = "self";
+const MOST_NAME: usize = 255;
+
+/// How many other nodes a node may have beside it: a ring has at most 64 names.
+const MOST_PEERS: usize = 63;
+
+/// The options that take one text each: the name, what the text is, and the help.
+const OPTIONS: [(&str, &str, &str); 10] = [
+    ("base", "URL", "the URL that begins each image's"),
+    ("edge", "PIXELS", "the edge of a tile, 256 if left out"),
+    (
+        "max",
+        "PIXELS",
+        "the greatest side of a result, 4096 if left out",
+    ),
+    (
+        "cache-bytes",
+        "BYTES",
+        "the bytes kept of tiles, and of sums, 67108864 each if left out",
+    ),
+    (
+        "band",
+        "ROWS",
+        "the rows that are made and sent at once, 64 if left out",
+    ),
+    (
+        "workers",
+        "COUNT",
+        "the threads that make an image, 2 if left out",
+    ),
+    (
+        "name",
+        "NAME",
+        "this node's name among others, self if left out",
+    ),
+    ("one", "TARGET", "answer this target and end"),
+    (
+        "listen",
+        "ADDR",
+        "answer the connections that come to this address and port",
+    ),
+    (
+        "peer-listen",
+        "ADDR",
+        "answer other nodes at this address and port",
+    ),
+];
 
 /// The first thing that is wrong with the words, in this order.
 #[derive(Clone, Copy, Debug, PartialEq, Eq, Error)]
@@ -39,6 +95,8 @@ pub enum LineFault {
     Workers,
     #[error("image")]
     Image,
+    #[error("peer")]
+    Peer,
     #[error("mode")]
     Mode,
     #[error("memory")]
@@ -46,11 +104,17 @@ pub enum LineFault {
 }
 
 /// How the program is run: for one target, whose answer it writes, perhaps as hexadecimal digits; or for the connections that
-/// come to an address.
+/// come to an address, perhaps with those of other nodes that come to another one.
 #[derive(Clone, Copy, Debug, PartialEq, Eq)]
 pub enum Mode<'a> {
-    One { target: &'a str, hex: bool },
-    Listen(&'a str),
+    One {
+        target: &'a str,
+        hex: bool,
+    },
+    Listen {
+        viewers: &'a str,
+        peers: Option<&'a str>,
+    },
 }
 
 /// What the words ask for.
@@ -68,82 +132,48 @@ pub struct Options<'a> {
     pub workers: u32,
     /// Each image's name and file.
     pub images: Vec<(&'a str, &'a str)>,
+    /// This node's name, and each other node's name and address.
+    pub name: &'a str,
+    pub peers: Vec<(&'a str, &'a str)>,
     pub mode: Mode<'a>,
-}
-
-/// An option that takes one text.
-fn option<'a>(alloc: Global, name: &'a str, value: &'a str, help: &'a str) -> Arg<'a> {
-    Arg::new(alloc, name)
-        .long(name)
-        .action(ArgAction::Set)
-        .value_name(value)
-        .help(help)
+    pub ghost within: { cache_bytes < 2 ^ 63 },
 }
 
 /// The command with its options.
 fn command<'a>(alloc: Global) -> Result<Command<'a>, clap::Error> {
-    let hex = Arg::new(alloc, "hex")
-        .long("hex")
-        .action(ArgAction::SetTrue)
-        .help("write the answer's bytes as hexadecimal digits");
+    let mut command = Command::new(alloc, "iiif_serve")
+        .version("0.1.0")
+        .about("Answers requests of the IIIF Image API 3.0 from uncompressed TIFF files")
+        .no_binary_name(true);
+    for (name, value, help) in OPTIONS {
+        let option = Arg::new(alloc, name).long(name).action(ArgAction::Set);
+        command = command.arg(option.value_name(value).help(help))?;
+    }
     let upscale = Arg::new(alloc, "upscale")
         .long("upscale")
         .action(ArgAction::SetTrue)
         .help("answer sizes with ^ above the region's");
+    let hex = Arg::new(alloc, "hex")
+        .long("hex")
+        .action(ArgAction::SetTrue)
+        .help("write the answer's bytes as hexadecimal digits");
+    let peers = Arg::new(alloc, "peer")
+        .long("peer")
+        .action(ArgAction::Append)
+        .value_name("NAME=ADDR")
+        .help("another node's name, and the address and port where it answers nodes");
     let images = Arg::new(alloc, "images")
         .num_args(0..)
         .value_name("NAME=FILE")
         .help("an image's name and its TIFF file, or :sample");
-    let command = Command::new(alloc, "iiif_serve")
-        .version("0.1.0")
-        .about("Answers requests of the IIIF Image API 3.0 from uncompressed TIFF files")
-        .no_binary_name(true)
-        .arg(option(alloc, "base", "URL", "the URL that begins each image's"))?
-        .arg(option(
-            alloc,
-            "edge",
-            "PIXELS",
-            "the edge of a tile, 256 if left out",
-        ))?
-        .arg(option(
-            alloc,
-            "max",
-            "PIXELS",
-            "the greatest side of a result, 4096 if left out",
-        ))?
-        .arg(upscale)?
-        .arg(option(
-            alloc,
-            "cache-bytes",
-            "BYTES",
-            "the bytes kept of tiles, and of sums, 67108864 each if left out",
-        ))?
-        .arg(option(
-            alloc,
-            "band",
-            "ROWS",
-            "the rows that are made and sent at once, 64 if left out",
-        ))?
-        .arg(option(
-            alloc,
-            "workers",
-            "COUNT",
-            "the threads that make an image, 2 if left out",
-        ))?
-        .arg(option(alloc, "one", "TARGET", "answer this target and end"))?
-        .arg(option(
-            alloc,
-            "listen",
-            "ADDR",
-            "answer the connections that come to this address and port",
-        ))?
-        .arg(hex)?
-        .arg(images)?;
-    Ok(command)
+    Ok(command.arg(upscale)?.arg(hex)?.arg(peers)?.arg(images)?)
 }
 
 /// What the words say, as the parser has it.
-pub fn matches<'a, S: AsStr>(alloc: Global, words: &'a [S]) -> Result<ArgMatches<'a>, clap::Error> {
+pub(crate) fn matches<'a, S: AsStr>(
+    alloc: Global,
+    words: &'a [S],
+) -> Result<ArgMatches<'a>, clap::Error> {
     command(alloc)?.try_get_matches_from(words)
 }
 
@@ -161,8 +191,8 @@ fn number(text: Option<&str>, default: u64, most: u64) -> Option<u32> {
 
 /// The edge and the greatest side. An edge is compared with the greatest side only where that is a number within its limits.
 fn sides(edge: Option<&str>, max: Option<&str>) -> Result<(u32, u32), LineFault> {
-    let max = number(max, MAX, 16384);
-    let Some(edge) = number(edge, EDGE, 1024) else {
+    let max = number(max, MAX, MOST_MAX);
+    let Some(edge) = number(edge, EDGE, MOST_EDGE) else {
         return Err(LineFault::Edge);
     };
     match max {
@@ -206,8 +236,41 @@ fn images<'a>(alloc: Global, words: &[&'a str]) -> Result<Vec<(&'a str, &'a str)
     Ok(images)
 }
 
+/// Whether a text may name a node.
+fn is_node_name(text: &str) -> bool {
+    !text.is_empty() && text.len() <= MOST_NAME
+}
+
+/// The names and addresses of other nodes: at most 63, each name of its own and within its limit, and none this node's. The
+/// addresses are taken as they are.
+fn peers<'a>(
+    alloc: Global,
+    own: &'a str,
+    words: &[&'a str],
+) -> Result<Vec<(&'a str, &'a str)>, LineFault> {
+    let mut peers: Vec<(&'a str, &'a str)> = Vec::new(alloc);
+    if !is_node_name(own) || words.len() > MOST_PEERS {
+        return Err(LineFault::Peer);
+    }
+    for word in words {
+        let Some((name, address)) = word.split_once('=') else {
+            return Err(LineFault::Peer);
+        };
+        if !is_node_name(name) || name == own || peers.iter().any(|peer| peer.0 == name) {
+            return Err(LineFault::Peer);
+        }
+        if peers.push((name, address)).is_err() {
+            return Err(LineFault::NoMemory);
+        }
+    }
+    Ok(peers)
+}
+
 /// What the words ask for, or the first thing that is wrong with them.
-pub fn options_in<'a>(alloc: Global, matches: &ArgMatches<'a>) -> Result<Options<'a>, LineFault> {
+pub(crate) fn options_in<'a>(
+    alloc: Global,
+    matches: &ArgMatches<'a>,
+) -> Result<Options<'a>, LineFault> {
     let base = match matches.get_str("base") {
         Some(base) if is_base_url(base) => base,
         _ => return Err(LineFault::Base),
@@ -216,16 +279,15 @@ pub fn options_in<'a>(alloc: Global, matches: &ArgMatches<'a>) -> Result<Options
     let Some(cache_bytes) = cache_bytes(matches.get_str("cache-bytes")) else {
         return Err(LineFault::Cache);
     };
-    let Some(band) = number(matches.get_str("band"), BAND, 16384) else {
+    let Some(band) = number(matches.get_str("band"), BAND, MOST_BAND) else {
         return Err(LineFault::Band);
     };
-    let Some(workers) = number(matches.get_str("workers"), WORKERS, 16) else {
+    let Some(workers) = number(matches.get_str("workers"), WORKERS, MOST_WORKERS) else {
         return Err(LineFault::Workers);
     };
-    let images = match matches.get_strs("images") {
-        Some(words) => images(alloc, words)?,
-        None => return Err(LineFault::Image),
-    };
+    let images = images(alloc, matches.get_strs("images").unwrap_or(&[]))?;
+    let name = matches.get_str("name").unwrap_or(OWN_NAME);
+    let peers = peers(alloc, name, matches.get_strs("peer").unwrap_or(&[]))?;
     Ok(Options {
         base,
         edge,
@@ -235,6 +297,8 @@ pub fn options_in<'a>(alloc: Global, matches: &ArgMatches<'a>) -> Result<Options
         band,
         workers,
         images,
+        name,
+        peers,
         mode: mode_in(matches)?,
     })
 }
@@ -242,9 +306,10 @@ pub fn options_in<'a>(alloc: Global, matches: &ArgMatches<'a>) -> Result<Options
 /// How the program is run: exactly one way.
 fn mode_in<'a>(matches: &ArgMatches<'a>) -> Result<Mode<'a>, LineFault> {
     let hex = matches.get_flag("hex");
+    let peers = matches.get_str("peer-listen");
     match (matches.get_str("one"), matches.get_str("listen")) {
-        (Some(target), None) => Ok(Mode::One { target, hex }),
-        (None, Some(address)) if !hex => Ok(Mode::Listen(address)),
+        (Some(target), None) if peers.is_none() => Ok(Mode::One { target, hex }),
+        (None, Some(viewers)) if !hex => Ok(Mode::Listen { viewers, peers }),
         _ => Err(LineFault::Mode),
     }
 }

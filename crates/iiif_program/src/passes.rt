@@ -9,10 +9,10 @@ use std::alloc::Global;
 use std::sync::Wait;
 
 /// As many passes as there are workers. None, and none is kept, where one of them is wanting.
-pub fn passes_of<R: Wait, J: System>(
+pub(crate) fn passes_of<R: Wait, J: System, N, T>(
     rt: &R,
     alloc: Global,
-    node: &Node<R, Stored, J>,
+    node: &Node<R, Stored, J, N, T>,
     workers: u32,
 ) -> Option<Vec<Passes<J>>>
     ensures { IfSome result (λ ps. 0 < length ps.items) }
@@ -37,7 +37,11 @@ pub fn passes_of<R: Wait, J: System>(
 }
 
 /// Gives passes back to the node that they are of.
-pub fn give_back<R: Wait, J: System>(rt: &R, node: &Node<R, Stored, J>, all: Vec<Passes<J>>) {
+pub(crate) fn give_back<R: Wait, J: System, N, T>(
+    rt: &R,
+    node: &Node<R, Stored, J, N, T>,
+    all: Vec<Passes<J>>,
+) {
     for passes in all {
         node.give_back(rt, passes);
     }

@@ -1,6 +1,6 @@
 //! The program on words that ask for results above their regions.
 
-use crate::program::program;
+use iiif_program::program::program;
 use std::fs::File;
 use std::net::{Net, TcpListener, TcpStream};
 use std::rt::{Clock, Files};

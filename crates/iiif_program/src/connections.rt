@@ -1,0 +1,32 @@
+//! The two ends of a connection.
+
+use crate::times::Times;
+use iiif_listener::{Pace, PacedReader, PacedWriter};
+use std::io;
+use std::net::TcpStream;
+use std::time::{Clock, Duration};
+
+/// What a connection sends and what it is sent, with their limits of time.
+pub(crate) fn ends<'a, R: Clock>(
+    rt: &'a R,
+    times: &Times,
+    pace: &'a Pace,
+    stream: TcpStream,
+) -> io::Result<(PacedReader<'a, R>, PacedWriter<'a, R>)> {
+    stream.set_nodelay(true)?;
+    stream.set_write_timeout(Some(Duration::from_millis(times.stalled)))?;
+    let copy = stream.try_clone()?;
+    let idle = Duration::from_millis(times.idle);
+    let reader = PacedReader {
+        stream,
+        rt,
+        pace,
+        idle,
+    };
+    let out = PacedWriter {
+        stream: copy,
+        rt,
+        pace,
+    };
+    Ok((reader, out))
+}

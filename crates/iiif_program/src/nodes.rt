@@ -1,0 +1,131 @@
+//! The program's node: one that asks no other, or one among others.
+
+ghost use Rattle.std.specs.Prelude.{◌≡◌, ◌<◌, ◌^◌, ℕ, List, Some, IfOk, length, false, vec_len};
+ghost use Rattle.iiif_source.specs.declared.ReadFault.{ReadFault};
+ghost use Rattle.iiif_images.specs.Collection.{Item, item_named};
+ghost use Rattle.iiif_images.specs.Named.{gave_of, pictures_of};
+ghost use Rattle.iiif_program.specs.Stored.{bytes_of, keeps_of, stored_gave};
+ghost use Rattle.iiif_server.specs.Stocks.{IsStock};
+
+use crate::stored::Stored;
+use iiif_group::NoGate;
+use iiif_keys::System;
+use iiif_peer_link::TcpLink;
+use iiif_pixel::NoMemory;
+use iiif_ring::Ring;
+use iiif_server::{Catalogue, Config, Node, Stock};
+use std::alloc::{AllocError, Global};
+use std::num::NonZeroUsize;
+use std::sync::Wait;
+use std::sync::ledger::Blank;
+use std::time::Duration;
+
+/// The most entries of a list of a cache.
+const ENTRIES: usize = 4096;
+
+/// The nodes of a ring, and how they are reached.
+#[derive(Clone, Copy, Debug)]
+pub struct Nodes<'a> {
+    /// This node's name.
+    pub own: &'a str,
+    /// The others' names and addresses.
+    pub peers: &'a [(&'a str, &'a str)],
+    /// How long an ask may take, in milliseconds.
+    pub ask: u64,
+}
+
+/// Names, and a link to each.
+#[derive(Drop)]
+struct Ways<J: System> {
+    names: Vec<String>,
+    links: Vec<TcpLink<J>>,
+    ghost one_each: { vec_len names ≡ vec_len links },
+}
+
+impl<J: System> Ways<J> {
+    /// None.
+    fn new(alloc: Global) -> Ways<J> {
+        Ways {
+            names: Vec::new(alloc),
+            links: Vec::new(alloc),
+        }
+    }
+
+    /// One more.
+    fn with(self, alloc: Global, name: &str, address: &str, ask: u64) -> Result<Ways<J>, NoMemory>
+        requires { J.honest ≡ false }
+    {
+        let Ways {
+            mut names,
+            mut links,
+        } = self;
+        let address = String::from_str(alloc, address)?;
+        let link = TcpLink::new(alloc, address, Duration::from_millis(ask));
+        names.push(String::from_str(alloc, name)?)?;
+        links.push(link)?;
+        Ok(Ways { names, links })
+    }
+}
+
+/// What a group of a node among others is made with, with room for so many bytes. This node stands first in the ring, and its own link is
+/// never asked. The only error is want of memory.
+fn stock<J: System>(
+    alloc: Global,
+    nodes: &Nodes<'_>,
+    bytes: u64,
+    blank: Blank,
+) -> Result<Stock<TcpLink<J>, NoGate>, NoMemory>
+    requires honest { J.honest ≡ false }
+    requires bytes { bytes < 2 ^ 63 }
+    ensures { (name parts : ℕ) → blank.name ≡ name → blank.parts ≡ parts → parts ≡ 65537 → IfOk result (IsStock name parts) }
+{
+    let Some(entries) = NonZeroUsize::new(ENTRIES) else {
+        return Err(AllocError);
+    };
+    let mut ways = Ways::new(alloc).with(alloc, nodes.own, "", nodes.ask)?;
+    for peer in nodes.peers {
+        let (name, address) = *peer;
+        ways = ways.with(alloc, name, address, nodes.ask)?;
+    }
+    let Ways { names, links } = ways;
+    let Ok(ring) = Ring::new(alloc, names) else {
+        return Err(AllocError);
+    };
+    Ok(Stock {
+        bytes,
+        entries,
+        gate: NoGate,
+        ring,
+        own: Some(0),
+        links,
+        blank,
+    })
+}
+
+/// A node that asks others for the values of the keys that they own, whose groups have room for so many bytes each. The names of the
+/// nodes are at most 64, and each stands once. The only error is want of memory.
+pub fn among<R: Wait, J: System>(
+    alloc: Global,
+    config: Config,
+    catalogue: Catalogue<R, Stored>,
+    nodes: &Nodes<'_>,
+    bytes: u64,
+    tiles: Blank,
+    sums: Blank,
+) -> Result<Node<R, Stored, J, TcpLink<J>>, NoMemory>
+    requires pictures { (name : List ℕ) → J.pictures name ≡ pictures_of bytes_of catalogue name }
+    requires gave { (name : List ℕ) (f : ReadFault) → J.gave name f ≡ gave_of stored_gave catalogue name f }
+    requires stable { (name : List ℕ) (item : Item Stored) → item_named catalogue name ≡ Some item → J.stable name → ∥ keeps_of item.source ∥₁ }
+    requires kept { (name : List ℕ) (item : Item Stored) → item_named catalogue name ≡ Some item → keeps_of item.source → J.stable name }
+    requires edge { config.edge ≡ J.edge }
+    requires honest { J.honest ≡ false }
+    requires bytes { bytes < 2 ^ 63 }
+    requires tiles { (tiles.name ≡ J.tiles_name) × (tiles.parts ≡ J.tiles_parts) × (J.tiles_parts ≡ 65537) }
+    requires sums { (sums.name ≡ J.sums_name) × (sums.parts ≡ J.sums_parts) × (J.sums_parts ≡ 65537) }
+    ensures settings { IfOk result (λ n. n.settings ≡ config) }
+    ensures items { IfOk result (λ n. n.items ≡ catalogue) }
+{
+    let tiles = stock(alloc, nodes, bytes, tiles)?;
+    let sums = stock(alloc, nodes, bytes, sums)?;
+    Node::new(alloc, config, catalogue, tiles, sums)
+}

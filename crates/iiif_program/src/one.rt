@@ -1,0 +1,68 @@
+//! The answer to one target.
+
+use crate::hex::write_hex;
+use crate::passes::{give_back, passes_of};
+use crate::stop::Stop;
+use crate::stored::Stored;
+use iiif_group::{Gate, Link};
+use iiif_io::Outlet;
+use iiif_keys::{SumKey, System, TileKey};
+use iiif_server::Node;
+use std::alloc::Global;
+use std::sync::Wait;
+use std::thread::Threads;
+
+/// Writes the body of the answer to a target.
+pub(crate) fn answer_one<'a, R, O, J, N, T>(
+    rt: &R,
+    alloc: Global,
+    node: &Node<R, Stored, J, N, T>,
+    workers: u32,
+    target: &str,
+    out: &mut O,
+) -> Result<(), Stop<'a>>
+where
+    R: Threads + Wait + Sync,
+    O: Outlet,
+    J: System + Send + Sync,
+    N: Link<TileKey, J, R> + Link<SumKey, J, R> + Sync,
+    T: Gate<R> + Sync,
+{
+    let Some(mut passes) = passes_of(rt, alloc, node, workers) else {
+        return Err(Stop::Memory);
+    };
+    let sent = node.body_one(rt, alloc, &mut passes, target.as_bytes(), out);
+    give_back(rt, node, passes);
+    match sent {
+        Ok(_) => Ok(()),
+        Err(cut) => Err(Stop::by(cut.cause)),
+    }
+}
+
+/// Writes the body of the answer to a target as hexadecimal digits.
+pub(crate) fn answer_in_hex<'a, R, O, J, N, T>(
+    rt: &R,
+    alloc: Global,
+    node: &Node<R, Stored, J, N, T>,
+    workers: u32,
+    target: &str,
+    out: &mut O,
+) -> Result<(), Stop<'a>>
+where
+    R: Threads + Wait + Sync,
+    O: Outlet,
+    J: System + Send + Sync,
+    N: Link<TileKey, J, R> + Link<SumKey, J, R> + Sync,
+    T: Gate<R> + Sync,
+{
+    let mut body = Vec::new(alloc);
+    match answer_one(rt, alloc, node, workers, target, &mut body) {
+        Ok(()) => {}
+        Err(Stop::Write) => return Err(Stop::Memory),
+        Err(stop) => return Err(stop),
+    }
+    match write_hex(out, &body) {
+        Ok(()) => Ok(()),
+        Err(_) => Err(Stop::Write),
+    }
+}

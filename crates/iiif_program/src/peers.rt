@@ -1,0 +1,59 @@
+//! Connections of other nodes.
+
+use crate::connections::ends;
+use crate::stored::Stored;
+use crate::times::Times;
+use iiif_group::{Gate, Link};
+use iiif_keys::{SumKey, System, TileKey};
+use iiif_listener::{Pace, PacedWriter, Serve, close};
+use iiif_peer_groups::Peers;
+use iiif_peer_server::serve_peer;
+use iiif_server::Node;
+use iiif_source::Source;
+use iiif_sum_group::SumCalls;
+use iiif_tile_group::TileCalls;
+use std::alloc::Global;
+use std::net::TcpStream;
+use std::sync::Wait;
+use std::sync::ledger::Ledger;
+use std::time::{Clock, Duration};
+
+/// A node as other nodes have it.
+#[derive(Drop)]
+pub struct PeerCalls<'a, R, J: System, N, T>
+where
+    Stored: Source<R>,
+    TileCalls<J>: Ledger,
+    SumCalls<J>: Ledger,
+{
+    pub node: &'a Node<R, Stored, J, N, T>,
+    pub times: Times,
+}
+
+impl<
+    'a,
+    R: Wait + Clock,
+    J: System,
+    N: Link<TileKey, J, R> + Link<SumKey, J, R>,
+    T: Gate<R>,
+> Serve<R> for PeerCalls<'a, R, J, N, T> {
+    /// Answers the asks of a connection in order, and closes it. Where a pass is wanting, it is closed unanswered.
+    fn serve(&self, rt: &R, alloc: Global, stream: TcpStream) {
+        let Ok(pace) = Pace::new(rt, Duration::from_millis(self.times.whole)) else {
+            return;
+        };
+        let Ok((mut reader, mut out)) = ends(rt, &self.times, &pace, stream) else {
+            return;
+        };
+        let Some(mut passes) = self.node.pass(rt) else {
+            return;
+        };
+        let peers = Peers {
+            groups: self.node.groups(),
+        };
+        serve_peer(rt, alloc, &peers, &mut passes, &mut reader, &mut out);
+        self.node.give_back(rt, passes);
+        let PacedWriter { stream, .. } = out;
+        close(stream);
+    }
+}

@@ -1,0 +1,228 @@
+//! The program's work: what its words ask for, done.
+
+ghost use Rattle.std.specs.Prelude.{◌≡◌, ℕ, List, Some, false};
+ghost use Rattle.iiif_source.specs.declared.ReadFault.{ReadFault};
+ghost use Rattle.iiif_images.specs.Collection.{Item, item_named};
+ghost use Rattle.iiif_images.specs.Named.{gave_of, pictures_of};
+ghost use Rattle.iiif_program.specs.Stored.{bytes_of, keeps_of, stored_gave};
+
+use crate::line::{LineFault, Mode, Options, matches, options_in};
+use crate::nodes::{Nodes, among};
+use crate::one::{answer_in_hex, answer_one};
+use crate::opening::{catalogue, config};
+use crate::serving::listen;
+use crate::stop::{Stop, ended};
+use crate::stored::Stored;
+use crate::times::USUAL;
+use clap::ArgMatches;
+use clap::error::ErrorKind;
+use iiif_group::{Gate, Link};
+use iiif_io::Outlet;
+use iiif_keys::{SumKey, System, TileKey};
+use iiif_server::{Catalogue, Config, Node};
+use std::alloc::Global;
+use std::convert::AsStr;
+use std::fs::File;
+use std::io::Write;
+use std::marker::Brand;
+use std::net::{Net, TcpListener, TcpStream};
+use std::rt::{Clock, Files};
+use std::sync::Wait;
+use std::sync::ledger::Blank;
+use std::thread::Threads;
+
+/// What the program is run for where it is given no words: the built-in sample, whole, as hexadecimal digits.
+const SAMPLE_WORDS: [&str; 8] = [
+    "--base",
+    "http://localhost/iiif",
+    "--edge",
+    "2",
+    "--one",
+    "/iiif/a/full/max/0/default.tif",
+    "--hex",
+    "a=:sample",
+];
+
+/// Answers what the words ask for. The status is 0 where it was answered, by a refusal too; 1 where it failed while running; 2
+/// where a word or an image is at fault, which standard error then names.
+pub fn program<R, S, O, E>(rt: &R, words: &[S], out: &mut O, err: &mut E) -> u8
+where
+    R: Files<File = File>
+        + Net<Listener = TcpListener, Stream = TcpStream>
+        + Threads
+        + Wait
+        + Clock
+        + Sync
+        + AllocGlobal,
+    S: AsStr,
+    O: Outlet,
+    E: Write,
+{
+    let alloc = rt.alloc();
+    let matches = if words.is_empty() {
+        matches(alloc, &SAMPLE_WORDS)
+    } else {
+        matches(alloc, words)
+    };
+    match matches {
+        Ok(matches) => with_matches(rt, alloc, &matches, out, err),
+        Err(error) if error.kind() == ErrorKind::OutOfMemory => ended(err, "run: memory", 1),
+        Err(error) if error.use_stderr() => {
+            let _ = write!(err, "line: {error}");
+            2
+        }
+        Err(text) => {
+            if write!(out, "{text}").is_err() {
+                return ended(err, "run: write", 1);
+            }
+            0
+        }
+    }
+}
+
+/// Answers what the parsed words ask for.
+fn with_matches<R, O, E>(
+    rt: &R,
+    alloc: Global,
+    matches: &ArgMatches<'_>,
+    out: &mut O,
+    err: &mut E,
+) -> u8
+where
+    R: Files<File = File>
+        + Net<Listener = TcpListener, Stream = TcpStream>
+        + Threads
+        + Wait
+        + Clock
+        + Sync
+        + AllocGlobal,
+    O: Outlet,
+    E: Write,
+{
+    let options = match options_in(alloc, matches) {
+        Ok(options) => options,
+        Err(LineFault::NoMemory) => return ended(err, "run: memory", 1),
+        Err(fault) => {
+            let _ = writeln!(err, "line: {fault}");
+            return 2;
+        }
+    };
+    match answer(rt, alloc, &options, out) {
+        Ok(()) => 0,
+        Err(stop) => stop.told(err),
+    }
+}
+
+/// Answers what the options ask for.
+fn answer<'a, R, O>(
+    rt: &R,
+    alloc: Global,
+    options: &Options<'a>,
+    out: &mut O,
+) -> Result<(), Stop<'a>>
+where
+    R: Files<File = File>
+        + Net<Listener = TcpListener, Stream = TcpStream>
+        + Threads
+        + Wait
+        + Clock
+        + Sync
+        + AllocGlobal,
+    O: Outlet,
+{
+    let config = config(alloc, options)?;
+    let catalogue = catalogue(rt, alloc, &options.images)?;
+    let (tiles, sums) = (Blank::new(65_537), Blank::new(65_537));
+    if options.peers.is_empty() {
+        answer_alone::<R, O, Brand>(rt, alloc, options, config, catalogue, tiles, sums, out)
+    } else {
+        answer_among::<R, O, Brand>(rt, alloc, options, config, catalogue, tiles, sums, out)
+    }
+}
+
+/// Answers by a node of these settings and images that asks no other.
+fn answer_alone<'a, R, O, J: System + Send + Sync>(
+    rt: &R,
+    alloc: Global,
+    options: &Options<'a>,
+    config: Config,
+    catalogue: Catalogue<R, Stored>,
+    tiles: Blank,
+    sums: Blank,
+    out: &mut O,
+) -> Result<(), Stop<'a>>
+where
+    R: Net<Listener = TcpListener, Stream = TcpStream> + Threads + Wait + Clock + Sync,
+    O: Outlet,
+    requires pictures { (name : List ℕ) → J.pictures name ≡ pictures_of bytes_of catalogue name }
+    requires gave { (name : List ℕ) (f : ReadFault) → J.gave name f ≡ gave_of stored_gave catalogue name f }
+    requires stable { (name : List ℕ) (item : Item Stored) → item_named catalogue name ≡ Some item → J.stable name → ∥ keeps_of item.source ∥₁ }
+    requires kept { (name : List ℕ) (item : Item Stored) → item_named catalogue name ≡ Some item → keeps_of item.source → J.stable name }
+    requires edge { config.edge ≡ J.edge }
+    requires tiles { (tiles.name ≡ J.tiles_name) × (tiles.parts ≡ J.tiles_parts) × (J.tiles_parts ≡ 65537) }
+    requires sums { (sums.name ≡ J.sums_name) × (sums.parts ≡ J.sums_parts) × (J.sums_parts ≡ 65537) }
+{
+    let bytes = options.cache_bytes;
+    let Ok(node) = Node::<R, Stored, J>::alone(alloc, config, catalogue, bytes, tiles, sums) else {
+        return Err(Stop::Memory);
+    };
+    answer_by(rt, alloc, options, &node, out)
+}
+
+/// Answers by a node of these settings and images among others.
+fn answer_among<'a, R, O, J: System + Send + Sync>(
+    rt: &R,
+    alloc: Global,
+    options: &Options<'a>,
+    config: Config,
+    catalogue: Catalogue<R, Stored>,
+    tiles: Blank,
+    sums: Blank,
+    out: &mut O,
+) -> Result<(), Stop<'a>>
+where
+    R: Net<Listener = TcpListener, Stream = TcpStream> + Threads + Wait + Clock + Sync,
+    O: Outlet,
+    requires pictures { (name : List ℕ) → J.pictures name ≡ pictures_of bytes_of catalogue name }
+    requires gave { (name : List ℕ) (f : ReadFault) → J.gave name f ≡ gave_of stored_gave catalogue name f }
+    requires stable { (name : List ℕ) (item : Item Stored) → item_named catalogue name ≡ Some item → J.stable name → ∥ keeps_of item.source ∥₁ }
+    requires kept { (name : List ℕ) (item : Item Stored) → item_named catalogue name ≡ Some item → keeps_of item.source → J.stable name }
+    requires edge { config.edge ≡ J.edge }
+    requires honest { J.honest ≡ false }
+    requires tiles { (tiles.name ≡ J.tiles_name) × (tiles.parts ≡ J.tiles_parts) × (J.tiles_parts ≡ 65537) }
+    requires sums { (sums.name ≡ J.sums_name) × (sums.parts ≡ J.sums_parts) × (J.sums_parts ≡ 65537) }
+{
+    let nodes = Nodes {
+        own: options.name,
+        peers: &options.peers,
+        ask: USUAL.ask,
+    };
+    let bytes = options.cache_bytes;
+    match among::<R, J>(alloc, config, catalogue, &nodes, bytes, tiles, sums) {
+        Ok(node) => answer_by(rt, alloc, options, &node, out),
+        Err(_) => Err(Stop::Memory),
+    }
+}
+
+/// Answers by a node what the options ask for.
+fn answer_by<'a, R, O, J, N, T>(
+    rt: &R,
+    alloc: Global,
+    options: &Options<'a>,
+    node: &Node<R, Stored, J, N, T>,
+    out: &mut O,
+) -> Result<(), Stop<'a>>
+where
+    R: Net<Listener = TcpListener, Stream = TcpStream> + Threads + Wait + Clock + Sync,
+    O: Outlet,
+    J: System + Send + Sync,
+    N: Link<TileKey, J, R> + Link<SumKey, J, R> + Sync,
+    T: Gate<R> + Sync,
+{
+    let workers = options.workers;
+    match options.mode {
+        Mode::One { target, hex: false } => answer_one(rt, alloc, node, workers, target, out),
+        Mode::One { target, hex: true } => answer_in_hex(rt, alloc, node, workers, target, out),
+        Mode::Listen { viewers, peers } => listen(rt, alloc, node, workers, (viewers, peers)),
+    }
+}

@@ -1,0 +1,48 @@
+//! Why the program ends without an answer.
+
+use iiif_server::{Cause, Fault};
+use std::io::Write;
+
+/// Why the program ends without an answer.
+#[derive(Clone, Copy, Debug, PartialEq, Eq)]
+pub enum Stop<'a> {
+    /// An image can't be opened: its name, and the number of the fault, 0 where there is no such file.
+    Image(&'a str, u8),
+    Memory,
+    Write,
+    Source,
+    Listen,
+}
+
+impl<'a> Stop<'a> {
+    /// Why an answer that was cut off ends the program.
+    pub(crate) fn by(cause: Cause) -> Stop<'a> {
+        match cause {
+            Cause::Writer => Stop::Write,
+            Cause::Load(Fault::NoMemory) => Stop::Memory,
+            Cause::Load(_) => Stop::Source,
+        }
+    }
+
+    /// Says it in a line, and gives the program's status: 2 where an image is at fault, else 1.
+    pub(crate) fn told<E: Write>(self, err: &mut E) -> u8 {
+        match self {
+            Stop::Image(name, number) => {
+                let _ = writeln!(err, "image {name}: {number}");
+                2
+            }
+            Stop::Memory => ended(err, "run: memory", 1),
+            Stop::Write => ended(err, "run: write", 1),
+            Stop::Source => ended(err, "run: source", 1),
+            Stop::Listen => ended(err, "run: listen", 1),
+        }
+    }
+}
+
+/// Says why the program ends, in a line, and gives its status back. Where the line can't be written, that is no fault.
+pub fn ended<E: Write>(err: &mut E, line: &str, status: u8) -> u8
+    ensures { result ≡ status }
+{
+    let _ = writeln!(err, "{line}");
+    status
+}

@@ -1,0 +1,59 @@
+//! Connections of viewers.
+
+use crate::connections::ends;
+use crate::passes::{give_back, passes_of};
+use crate::stored::Stored;
+use crate::times::Times;
+use iiif_group::{Gate, Link};
+use iiif_keys::{SumKey, System, TileKey};
+use iiif_listener::{Pace, PacedWriter, Serve, close};
+use iiif_server::Node;
+use iiif_source::Source;
+use iiif_sum_group::SumCalls;
+use iiif_tile_group::TileCalls;
+use std::alloc::Global;
+use std::net::TcpStream;
+use std::sync::Wait;
+use std::sync::ledger::Ledger;
+use std::thread::Threads;
+use std::time::{Clock, Duration};
+
+/// A node as its viewers have it.
+#[derive(Drop)]
+pub struct Viewers<'a, R, J: System, N, T>
+where
+    Stored: Source<R>,
+    TileCalls<J>: Ledger,
+    SumCalls<J>: Ledger,
+{
+    pub node: &'a Node<R, Stored, J, N, T>,
+    /// The threads that make an image.
+    pub workers: u32,
+    pub times: Times,
+}
+
+impl<
+    'a,
+    R: Threads + Wait + Clock + Sync,
+    J: System + Send + Sync,
+    N: Link<TileKey, J, R> + Link<SumKey, J, R> + Sync,
+    T: Gate<R> + Sync,
+> Serve<R> for Viewers<'a, R, J, N, T> {
+    /// Answers the calls of a connection in order, and closes it. Where passes for its workers are wanting, it is closed unanswered.
+    fn serve(&self, rt: &R, alloc: Global, stream: TcpStream) {
+        let Ok(pace) = Pace::new(rt, Duration::from_millis(self.times.whole)) else {
+            return;
+        };
+        let Ok((reader, mut out)) = ends(rt, &self.times, &pace, stream) else {
+            return;
+        };
+        let Some(mut passes) = passes_of(rt, alloc, self.node, self.workers) else {
+            return;
+        };
+        self.node
+            .serve_stream(rt, alloc, &mut passes, reader, &mut out);
+        give_back(rt, self.node, passes);
+        let PacedWriter { stream, .. } = out;
+        close(stream);
+    }
+}
