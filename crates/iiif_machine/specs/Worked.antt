@@ -230,9 +230,16 @@ FaultOfAPeerIsNotAnswered = answers_after tiny crossed fault_replied ≡ Some (i
 
 -- The stopped node: its request is gone; the reply to the flight that went is no one's, but may be taken by the next one.
 
+abbrev pub replied_late : List Event
+replied_late = Want 0 p_name all ∷ Enter 0 ∷ Again 0 ∷ AskPeer 0 ∷ Stop 0 ∷ Want 0 p_name all ∷ Enter 1 ∷ Again 1 ∷ AskPeer 1
+    ∷ Serve 0 ∷ Enter 2 ∷ Again 2 ∷ Load 2 ∷ Land 2 true ∷ event.Reply 2 ∷ []
+
 abbrev pub stopped_node : List Event
-stopped_node = Want 0 p_name all ∷ Enter 0 ∷ Again 0 ∷ AskPeer 0 ∷ Stop 0 ∷ Want 0 p_name all ∷ Enter 1 ∷ Again 1 ∷ AskPeer 1
-    ∷ Serve 0 ∷ Enter 2 ∷ Again 2 ∷ Load 2 ∷ Land 2 true ∷ event.Reply 2 ∷ Take 0 0 ∷ Take 1 0 ∷ Land 1 true ∷ []
+stopped_node = replied_late ++ Take 0 0 ∷ Take 1 0 ∷ Land 1 true ∷ []
+
+-- the flight that went may be sent the reply, and nothing changes
+abbrev pub ReplyToAStoppedFlightChangesNothing : Type 0
+ReplyToAStoppedFlightChangesNothing = (run (new_world tiny crossed) replied_late >>= (λ w. step w (Take 0 0))) ≡ run (new_world tiny crossed) replied_late
 
 abbrev pub StoppedNode : Type 0
 StoppedNode = answers_after tiny crossed stopped_node ≡ Some (None ∷ is_seven ∷ [])

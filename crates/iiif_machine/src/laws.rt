@@ -1,7 +1,7 @@
 //! What holds of every world. The functions compute nothing: their contracts are the laws.
 
 ghost use Rattle.iiif_machine.specs.Promises.{AllowedExactly, AnswersAreRight, CanonicalFormsAgree, EachRun, EachStep, FirstFaultCounts, NoFaultIsTaken, NoFaultNoFailure, NotKeptStays, OneOutcome, OnlySourcesGive, OwnerIsTheRings, RefusedAtOnce, StopTakesAll, ValuesAreMeanings, WaitsFall};
-ghost use Rattle.iiif_machine.specs.Worked.{AskIsServed, BothAreAnswered, BothStayAnswered, CutOutIs, DeepAskIsAnswered, DeepAskIsNotServed, DeepHalvedIs, DeepIsNotWanted, EnlargedIs, FailingRead, FaultIsNotKept, FaultOfAPeerIsNotAnswered, FirstFaultIsAnswered, FoundAgainIsAnswered, FoundAgainIsCounted, HalvedIs, KeptIsFound, LateRepeatChangesNothing, LostAskIsAnswered, NoneIsAnsweredYet, NotAgain, NotKeptIsNotFound, ReplyOfAnotherKeyIsNotTaken, SevenIsWanted, StoppedCallsAreGone, StoppedNode, TwoShareAFault, TwoShareAValue, WaitsForItsCalls};
+ghost use Rattle.iiif_machine.specs.Worked.{AskIsServed, BothAreAnswered, BothStayAnswered, CutOutIs, DeepAskIsAnswered, DeepAskIsNotServed, DeepHalvedIs, DeepIsNotWanted, EnlargedIs, FailingRead, FaultIsNotKept, FaultOfAPeerIsNotAnswered, FirstFaultIsAnswered, FoundAgainIsAnswered, FoundAgainIsCounted, HalvedIs, KeptIsFound, LateRepeatChangesNothing, LostAskIsAnswered, NoneIsAnsweredYet, NotAgain, NotKeptIsNotFound, ReplyOfAnotherKeyIsNotTaken, ReplyToAStoppedFlightChangesNothing, SevenIsWanted, StoppedCallsAreGone, StoppedNode, TwoShareAFault, TwoShareAValue, WaitsForItsCalls};
 
 /// After every list of events that is allowed, the world is sound; each event keeps it so, and takes back nothing that was given
 /// or answered.
@@ -66,6 +66,7 @@ pub fn worked_lists_compute()
     ensures lost_ask_is_answered { LostAskIsAnswered }
     ensures fault_of_a_peer_is_not_answered { FaultOfAPeerIsNotAnswered }
     ensures stopped_node { StoppedNode }
+    ensures reply_to_a_stopped_flight_changes_nothing { ReplyToAStoppedFlightChangesNothing }
     ensures stopped_calls_are_gone { StoppedCallsAreGone }
     ensures found_again_is_answered { FoundAgainIsAnswered }
     ensures found_again_is_counted { FoundAgainIsCounted }
