@@ -45,7 +45,7 @@ from model import Image  # noqa: E402
 
 SOURCE, EDGE, LIMIT = compare.SOURCES[0], 256, 4096
 OWN, BEFORE, PLAIN = "this program", "the build before", "libvips in C"
-# Of IIPImage's time: the greatest part that this program is to take, and of the 99th percentile at 64 viewers, in 50th ones.
+# Of IIPImage's time over the same file: the greatest part that this program is to take, and of the 99th percentile at 64 viewers, in 50th ones.
 LIMITS = {"native tiles, 1 viewer": 0.12, "zoom path": 0.2, "crowd": 0.3}
 SPREAD = ("viewers, 64", 10)
 
@@ -242,7 +242,7 @@ def limits(jobs, names, medians):
 
     def part(job, name):
         wall, used = (medians[job, OWN][at] / max(medians[job, name][at], 0.01) for at in (0, 1))
-        if name.startswith("IIPImage") and wall > LIMITS.get(job, wall):
+        if name.startswith("IIPImage over the same file") and wall > LIMITS.get(job, wall):
             passed.append(f"{job}: {wall:.2f} of the time of {name}, above {LIMITS[job]}")
         return f"{wall:.2f} ({used:.2f})"
 

@@ -7,7 +7,7 @@ convert. Six small pictures (gray and RGB of 8 and of 16 bits, bilevel, and gray
 no tile divides) are handed to each writer without loss, so that the samples that each file must show are known from the start; Pillow,
 or libvips where a sample has 16 bits, decodes each accepted file too. An accepted file is asked for the whole image, for a region, for
 a scaled image and for bits, and each answer is compared with the known samples, cut, averaged and packed by numpy over whole numbers.
-A refused file must end the program with status 2, nothing on standard output and the line `image a: N` on standard error. What must be
+A refused file must end the program with status 2, nothing on standard output and the line `image a: N` first on standard error. What must be
 refused, and by which number, stands in the tables below, by the reading rules of docs/OPERATING.md. Prints Markdown tables of what was
 right (all files by writer, and those of 16 bits by how their samples stand in them), names on standard error what wasn't, and ends
 with status 1 where there is any.
@@ -258,8 +258,9 @@ def judged(program, path, wanted, expected):
     """What happened, and whether it was right."""
     if expected is not None:
         status, out, err = ask(program, "full/max/0/default.tif", path)
-        right = (status, out, err) == (2, b"", f"image a: {expected}\n")
-        return f"`{err.strip()}`, status {status}" + (f", {len(out)} bytes" if out else ""), right
+        line, ends, _ = err.partition("\n")
+        right = (status, out, line, ends) == (2, b"", f"image a: {expected}", "\n")
+        return f"`{line}`, status {status}" + (f", {len(out)} bytes" if out else ""), right
     if not np.array_equal(decoded(path, wanted), wanted):
         return "another program decodes another picture than the writer was given", False
     cases = [("full/max/0/default.tif", wanted), ("37,29,101,90/max/0/default.tif", wanted[29:119, 37:138]),

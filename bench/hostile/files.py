@@ -142,11 +142,12 @@ def request(chance, picture):
 
 
 def refusal_said(program, path):
-    """The number that the program refuses a file by, or what it said and did else."""
+    """The number that the program refuses a file by, or what it said and did else. Behind the line another one may say what to do."""
     done = subprocess.run([program, "--base", running.BASE, "--one", "/iiif/a/0,0,1,1/max/0/default.tif", "a=" + path], capture_output=True, timeout=60)
     text = done.stderr.decode(errors="replace")
-    if done.returncode == 2 and done.stdout == b"" and text.startswith("image a: ") and text.endswith("\n"):
-        return text[len("image a: "):-1]
+    line, ends, more = text.partition("\n")
+    if done.returncode == 2 and done.stdout == b"" and line.startswith("image a: ") and ends and more.count("\n") == bool(more):
+        return line[len("image a: "):]
     return f"status {done.returncode}, {len(done.stdout)} bytes, {text.strip()!r}"
 
 

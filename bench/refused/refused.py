@@ -9,7 +9,7 @@ the program's own code asks for, until a run meets none.
 The program: each case below from its start by `--one`, and against a listening server, once on a new one for each refusal (its caches
 are empty) and once on one server for all of them. The answer has to be the case's own, `L2 memory`, a strict prefix of an answer behind
 which the connection closes, or `run: memory` or `image NAME: 8` where the program ends. Then the same is asked again with ample
-memory, on the same server, and has to be the case's own.
+memory, on the same server, and has to be the case's own. Where the program has peers, `peers` does the same with two nodes that ask each other.
 
 Tests: those whose name ends in `after_a_refused_growth` make the refused call again by themselves; each is run alone. It has to pass, or to end with a
 want of memory while it is being prepared. With --all the other tests run too: of them nothing is judged, as a test that compares with
@@ -18,45 +18,19 @@ its own answer stops where that is a want of memory.
 Prints a line for each case: how many refusals, and what came. The status is 1 where something else came.
 """
 import argparse
-import mmap
+import itertools
 import os
-import struct
 import subprocess
 import sys
 import tempfile
 
-HERE = os.path.dirname(os.path.abspath(__file__))
-sys.path.insert(0, os.path.join(HERE, "..", "hostile"))
-import files  # noqa: E402
-import images  # noqa: E402
-import program as running  # noqa: E402
-import tiff  # noqa: E402
+import peers
+import streams
+from streams import MOST, Control, count, files, running, said, tiff
 
-MOST = 20_000
 MARK = "after_a_refused_growth"
 # What a test ends with whose own preparation was refused.
 WANTS = ("error: AllocError", "error: AllocFailed", "error: NoMemory", "error: out of memory")
-
-
-class Control:
-    """The file by which a program is told which growth is refused."""
-
-    def __init__(self, room):
-        self.library = os.path.join(room, "refuse.so")
-        subprocess.run(["cc", "-O2", "-shared", "-fPIC", "-o", self.library, os.path.join(HERE, "refuse.c"), "-ldl"], check=True)
-        path = os.path.join(room, "control")
-        with open(path, "wb") as file:
-            file.write(bytes(24))
-        self.file = open(path, "r+b")
-        self.shared = mmap.mmap(self.file.fileno(), 24)
-        self.env = {"LD_PRELOAD": self.library, "REFUSE_CONTROL": path}
-
-    def refuse(self, n):
-        """The n-th growth from now on is refused; none with 0."""
-        self.shared[:24] = struct.pack("<3q", n, 0, 0)
-
-    def refused(self):
-        return struct.unpack_from("<q", self.shared, 8)[0] > 0
 
 
 def edited(at, new):
@@ -78,14 +52,6 @@ def odd_files():
 TARGETS = ["full/max/0/default.tif", "full/2,/0/default.tif", "full/3,3/!90/bitonal.tif", "0,0,2,2/max/0/default.tif", "info.json", "zz/0/0/x"]
 
 
-def count(kinds, what):
-    kinds[what] = kinds.get(what, 0) + 1
-
-
-def said(kinds):
-    return ", ".join(f"{number} {what}" for what, number in sorted(kinds.items()))
-
-
 def one(program, env, words, path):
     done = subprocess.run([program, "--base", running.BASE, "--edge", "2", "--one", words, "a=" + path], capture_output=True, env=env, timeout=60)
     return done.returncode, done.stdout, done.stderr
@@ -99,7 +65,7 @@ def start_kind(own, got):
         return "L2"
     if got == (1, b"", b"run: memory\n"):
         return "run: memory"
-    if got == (2, b"", b"image a: 8\n"):
+    if got[:2] == (2, b"") and got[2].split(b"\n")[0] == b"image a: 8":
         return "image a: 8"
     if got[0] == 1 and got[2] == b"run: memory\n" and own[1].startswith(got[1]):
         return "cut"
@@ -132,102 +98,12 @@ def starts(program, control, room):
             yield f"start, {name}, {target}", kinds, wrong
 
 
-THREE = [(b"GET", b"/iiif/a"), (b"POST", b"/iiif/a"), (b"HEAD", b"/iiif/a/full/max/0/default.tif")]
-STREAMS = {"three requests": THREE, "sample's image": [(b"GET", b"/iiif/a/full/max/0/default.tif")], "half width": [(b"GET", b"/iiif/a/full/2,/0/default.tif")],
-           "turned bits": [(b"GET", b"/iiif/a/full/3,3/!90/bitonal.tif")], "info.json": [(b"GET", b"/iiif/a/info.json")],
-           "a broken escape and an unknown name": [(b"GET", b"/iiif/a%2/full/max/0/default.tif"), (b"GET", b"/iiif/zz/bad/max/0/default.tif")],
-           "two images": [(b"GET", b"/iiif/a/full/2,/0/default.tif"), (b"GET", b"/iiif/a/full/max/0/gray.tif")]}
-
-
-def want_of_memory(method, close):
-    return images.whole(500, "text/plain", None, b"L2 memory\n", close, method != b"HEAD")
-
-
-def stream_kind(calls, own, got):
-    """What a connection with a refusal came to, or nothing where it isn't allowed."""
-    kinds, at = [], 0
-    for (method, _), answer in zip(calls, own):
-        rest = got[at:]
-        if not rest:
-            return "+".join(kinds + ["closed"])
-        if rest.startswith(answer):
-            at += len(answer)
-            kinds.append("own")
-            continue
-        if rest in (want_of_memory(method, True), want_of_memory(b"GET", True)):
-            # A head that no memory was left for is answered by L2 and its body, whatever its method would have been.
-            return "+".join(kinds + ["L2 closes"])
-        told = want_of_memory(method, False)
-        if not rest.startswith(told):
-            return "+".join(kinds + ["cut"]) if answer.startswith(rest) else None
-        at += len(told)
-        kinds.append("L2")
-    return "+".join(kinds) if at == len(got) else None
-
-
-class Node:
-    """A server over the sample, whose growths are refused by a control; its answers are compared with those of the evaluation."""
-
-    def __init__(self, program, control, path, options):
-        self.program, self.control, self.options, self.path = program, control, ["--edge", "2", *options], path
-        self.answers = images.Answers(running.BASE, {"a": tiff.judge(files.SAMPLE)}, 2, 4096, False)
-
-    def start(self):
-        self.control.refuse(0)
-        server = running.Server(self.program, ["a=" + self.path], self.options, self.control.env)
-        self.sent(server, [(b"GET", b"/")])
-        return server
-
-    def sent(self, server, calls):
-        return running.exchanged(server, [b"".join(b"%s %s HTTP/1.1\r\nHost: localhost\r\n\r\n" % call for call in calls)])
-
-    def tried(self, server, calls, n):
-        """The n-th growth refused, and then the same again: whether one was refused, what came, and what is wrong."""
-        own = [self.answers.answer(*call) for call in calls]
-        self.control.refuse(n)
-        got, ended = self.sent(server, calls)
-        met = self.control.refused()
-        self.control.refuse(0)
-        kind = stream_kind(calls, own, got) if ended else None
-        again, _ = self.sent(server, calls)
-        wrong = []
-        if kind is None:
-            wrong.append(f"growth {n}: {got[:200]!r}, {'' if ended else 'not '}closed")
-        if again != b"".join(own):
-            wrong.append(f"growth {n}, asked again: {again[:200]!r}")
-        if not server.alive():
-            wrong.append(f"growth {n}: the server ended, {server.line()!r}")
-        return met, kind or "OTHER", wrong
-
-    def cold(self, calls):
-        kinds, wrong = {}, []
-        for n in range(1, MOST):
-            with self.start() as server:
-                met, kind, faults = self.tried(server, calls, n)
-            wrong += faults
-            if not met:
-                return kinds, wrong
-            count(kinds, kind)
-        return kinds, wrong
-
-    def warm(self, calls):
-        kinds, wrong = {}, []
-        with self.start() as server:
-            for n in range(1, MOST):
-                met, kind, faults = self.tried(server, calls, n)
-                wrong += faults
-                if not met or not server.alive():
-                    break
-                count(kinds, kind)
-        return kinds, wrong
-
-
 def connections(program, control, room, options):
     path = os.path.join(room, "sample.tif")
     with open(path, "wb") as file:
         file.write(files.SAMPLE)
-    node = Node(program, control, path, options)
-    for name, calls in STREAMS.items():
+    node = streams.Node(program, control, path, options)
+    for name, calls in streams.STREAMS.items():
         yield f"new servers, {name}", *node.cold(calls)
         yield f"one server, {name}", *node.warm(calls)
 
@@ -272,14 +148,14 @@ def main():
         control = Control(room)
         runs = [tests(args.tests, control, args.all)]
         if args.program:
-            runs = [starts(args.program, control, room), connections(args.program, control, room, args.options.split())] + runs
-        for run in runs:
-            for name, kinds, wrong in run:
-                total += sum(kinds.values())
-                bad += len(wrong)
-                print(f"{name}: {sum(kinds.values())} refusals: {said(kinds)}", flush=True)
-                for line in wrong[:5]:
-                    print(f"wrong: {name}: {line}", file=sys.stderr)
+            options = args.options.split()
+            runs = [starts(args.program, control, room), connections(args.program, control, room, options), peers.runs(args.program, control, room, options)] + runs
+        for name, kinds, wrong in itertools.chain.from_iterable(runs):
+            total += sum(kinds.values())
+            bad += len(wrong)
+            print(f"{name}: {sum(kinds.values())} refusals: {said(kinds)}", flush=True)
+            for line in wrong[:5]:
+                print(f"wrong: {name}: {line}", file=sys.stderr)
     print(f"{total} refusals, {bad} wrong")
     return 1 if bad else 0
 

@@ -1,0 +1,136 @@
+"""A listening server whose growths of memory are refused one by one: the control, the streams of requests, and what may come of them."""
+import mmap
+import os
+import struct
+import subprocess
+import sys
+
+HERE = os.path.dirname(os.path.abspath(__file__))
+sys.path.insert(0, os.path.join(HERE, "..", "hostile"))
+import files  # noqa: E402
+import images  # noqa: E402
+import program as running  # noqa: E402
+import tiff  # noqa: E402
+
+MOST = 20_000
+
+
+class Control:
+    """The file by which a program is told which growth is refused."""
+
+    def __init__(self, room):
+        self.library = os.path.join(room, "refuse.so")
+        subprocess.run(["cc", "-O2", "-shared", "-fPIC", "-o", self.library, os.path.join(HERE, "refuse.c"), "-ldl"], check=True)
+        path = os.path.join(room, "control")
+        with open(path, "wb") as file:
+            file.write(bytes(24))
+        self.file = open(path, "r+b")
+        self.shared = mmap.mmap(self.file.fileno(), 24)
+        self.env = {"LD_PRELOAD": self.library, "REFUSE_CONTROL": path}
+
+    def refuse(self, n):
+        """The n-th growth from now on is refused; none with 0."""
+        self.shared[:24] = struct.pack("<3q", n, 0, 0)
+
+    def refused(self):
+        return struct.unpack_from("<q", self.shared, 8)[0] > 0
+
+
+def count(kinds, what):
+    kinds[what] = kinds.get(what, 0) + 1
+
+
+def said(kinds):
+    return ", ".join(f"{number} {what}" for what, number in sorted(kinds.items()))
+
+
+THREE = [(b"GET", b"/iiif/a"), (b"POST", b"/iiif/a"), (b"HEAD", b"/iiif/a/full/max/0/default.tif")]
+STREAMS = {"three requests": THREE, "sample's image": [(b"GET", b"/iiif/a/full/max/0/default.tif")], "half width": [(b"GET", b"/iiif/a/full/2,/0/default.tif")],
+           "turned bits": [(b"GET", b"/iiif/a/full/3,3/!90/bitonal.tif")], "info.json": [(b"GET", b"/iiif/a/info.json")],
+           "a broken escape and an unknown name": [(b"GET", b"/iiif/a%2/full/max/0/default.tif"), (b"GET", b"/iiif/zz/bad/max/0/default.tif")],
+           "plans of tiles, of blocks, and the same again": [(b"GET", b"/iiif/a/" + words + b"/0/default.tif") for words in
+                                                            (b"full/max", b"full/1,1", b"1,1,3,3/2,2", b"full/1,1", b"full/max")],
+           "two images": [(b"GET", b"/iiif/a/full/2,/0/default.tif"), (b"GET", b"/iiif/a/full/max/0/gray.tif")]}
+
+
+def want_of_memory(method, close):
+    return images.whole(500, "text/plain", None, b"L2 memory\n", close, method != b"HEAD")
+
+
+def stream_kind(calls, own, got):
+    """What a connection with a refusal came to, or nothing where it isn't allowed."""
+    kinds, at = [], 0
+    for (method, _), answer in zip(calls, own):
+        rest = got[at:]
+        if not rest:
+            return "+".join(kinds + ["closed"])
+        if rest.startswith(answer):
+            at += len(answer)
+            kinds.append("own")
+            continue
+        if rest in (want_of_memory(method, True), want_of_memory(b"GET", True)):
+            # A head that no memory was left for is answered by L2 and its body, whatever its method would have been.
+            return "+".join(kinds + ["L2 closes"])
+        told = want_of_memory(method, False)
+        if not rest.startswith(told):
+            return "+".join(kinds + ["cut"]) if answer.startswith(rest) else None
+        at += len(told)
+        kinds.append("L2")
+    return "+".join(kinds) if at == len(got) else None
+
+
+class Node:
+    """A server over the sample, whose growths are refused by a control; its answers are compared with those of the evaluation."""
+
+    def __init__(self, program, control, path, options):
+        self.program, self.control, self.options, self.path = program, control, ["--edge", "2", *options], path
+        self.answers = images.Answers(running.BASE, {"a": tiff.judge(files.SAMPLE)}, 2, 4096, False)
+
+    def start(self):
+        self.control.refuse(0)
+        server = running.Server(self.program, ["a=" + self.path], self.options, self.control.env)
+        self.sent(server, [(b"GET", b"/")])
+        return server
+
+    def sent(self, server, calls):
+        return running.exchanged(server, [b"".join(b"%s %s HTTP/1.1\r\nHost: localhost\r\n\r\n" % call for call in calls)])
+
+    def tried(self, server, calls, n):
+        """The n-th growth refused, and then the same again: whether one was refused, what came, and what is wrong."""
+        own = [self.answers.answer(*call) for call in calls]
+        self.control.refuse(n)
+        got, ended = self.sent(server, calls)
+        met = self.control.refused()
+        self.control.refuse(0)
+        kind = stream_kind(calls, own, got) if ended else None
+        again, _ = self.sent(server, calls)
+        wrong = []
+        if kind is None:
+            wrong.append(f"growth {n}: {got[:200]!r}, {'' if ended else 'not '}closed")
+        if again != b"".join(own):
+            wrong.append(f"growth {n}, asked again: {again[:200]!r}")
+        if not server.alive():
+            wrong.append(f"growth {n}: the server ended, {server.line()!r}")
+        return met, kind or "OTHER", wrong
+
+    def cold(self, calls):
+        kinds, wrong = {}, []
+        for n in range(1, MOST):
+            with self.start() as server:
+                met, kind, faults = self.tried(server, calls, n)
+            wrong += faults
+            if not met:
+                return kinds, wrong
+            count(kinds, kind)
+        return kinds, wrong
+
+    def warm(self, calls):
+        kinds, wrong = {}, []
+        with self.start() as server:
+            for n in range(1, MOST):
+                met, kind, faults = self.tried(server, calls, n)
+                wrong += faults
+                if not met or not server.alive():
+                    break
+                count(kinds, kind)
+        return kinds, wrong
