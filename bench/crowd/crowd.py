@@ -255,7 +255,7 @@ def limits(jobs, names, medians):
 
 def nodes(bench, counts, job="crowd"):
     """Loads, requests and wrong answers of one node and of several; the rows are printed."""
-    print(f"\n**The {job}'s viewers over several nodes**\n\n| nodes | wall time, s | processor time, s | loads of each node | requests to each node |\n|---|---|---|---|---|")
+    print(f"\n**The {job}'s viewers over several nodes**\n\n| nodes | wall time, s | processor time, s | each node's loads of tiles and of sums | requests to each node |\n|---|---|---|---|---|")
     wrong = []
     for count in counts:
         start = lambda: servers.Program(f"{OWN}, {count} nodes", bench.args.program, bench.source, bench.room, bench.args.options.split(), count)  # noqa: E731
@@ -267,7 +267,7 @@ def nodes(bench, counts, job="crowd"):
                 requests = [sum(int(row[0]) % count == n for row in rows) for n in range(count)]
                 runs.append((wall, used, server.loads(), requests))
         wall, used, loads, requests = sorted(runs, key=lambda run: run[0])[len(runs) // 2]
-        print(f"| {count} | {wall:.2f} | {used:.2f} | {', '.join(map(str, loads)) if loads else 'no counters'} | {', '.join(map(str, requests))} |")
+        print(f"| {count} | {wall:.2f} | {used:.2f} | {'; '.join(loads) if loads else 'no counters'} | {', '.join(map(str, requests))} |")
     return wrong
 
 

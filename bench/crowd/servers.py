@@ -5,7 +5,6 @@ import socket
 import subprocess
 import sys
 import time
-import urllib.request
 
 sys.path.insert(0, os.path.join(os.path.dirname(os.path.abspath(__file__)), "..", "hostile"))
 import program as running  # noqa: E402
@@ -107,15 +106,12 @@ class Program(Servers):
         super().__init__(column, commands, ports, room)
 
     def loads(self):
-        """The loads of each node by its counters, tiles and sums together; nothing where it has none."""
-        return [self.counted(port, "loads") for port in self.stats] if self.counts else None
-
-    @staticmethod
-    def counted(port, word):
-        """The sum of a node's counters that have a word in their name."""
-        with urllib.request.urlopen(f"http://127.0.0.1:{port}/metrics", timeout=10) as answer:
-            lines = answer.read().decode().splitlines()
-        return sum(int(float(line.split()[-1])) for line in lines if not line.startswith("#") and word in line.split("{")[0].split()[0].split("_"))
+        """Of each node the loads of tiles and of sums, and what came from other nodes, by its counters; nothing where it has none."""
+        if not self.counts:
+            return None
+        told = [running.counters(port) for port in self.stats]
+        return ["{} and {}, {} from others".format(it["iiif_tile_cache_loads_total"], it["iiif_sum_cache_loads_total"],
+                                                    it["iiif_tile_cache_peer_total"] + it["iiif_sum_cache_peer_total"]) for it in told]
 
 
 class Iip(Servers):

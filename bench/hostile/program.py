@@ -4,6 +4,7 @@ import socket
 import subprocess
 import tempfile
 import time
+import urllib.request
 
 BASE = "http://localhost/iiif"
 
@@ -18,6 +19,13 @@ def options_of(program):
     """The options that the program's help names."""
     text = subprocess.run([program, "--help"], capture_output=True, text=True).stdout
     return {word.strip(",") for word in text.split() if word.startswith("--")}
+
+
+def counters(port):
+    """The counters and gauges without labels that a program tells at this port, by name (Prometheus' text format, version 0.0.4)."""
+    with urllib.request.urlopen(f"http://127.0.0.1:{port}/metrics", timeout=10) as answer:
+        rows = [line.split() for line in answer.read().decode().splitlines() if line and line[0] != "#"]
+    return {row[0]: int(float(row[1])) for row in rows if "{" not in row[0]}
 
 
 def caches_of(args):

@@ -134,6 +134,7 @@ def asks_tried(crossed):
 def images_tried(crossed, calls, helper):
     """Images of node a while a growth is refused to it, or to the node that it asks, whose failure must not be seen."""
     node = Node(crossed.program, crossed.control, crossed.path, crossed.options)
+    node.stats = None  # the pair's own servers tell no counters
 
     def tried(servers, _, n):
         met, kind, wrong = node.tried(servers["a"], calls, n)

@@ -79,12 +79,26 @@ def stream_kind(calls, own, got):
     return "+".join(kinds) if at == len(got) else None
 
 
+def book_faults(port):
+    """What isn't as it has to be in a program's books once nothing is under way: each call met a value, joined a load or began one, and each
+    load that began has ended."""
+    told, found = running.counters(port), []
+    for front in ("iiif_tile_cache_", "iiif_sum_cache_"):
+        gets, hits, joins, leads, landed = (told[f"{front}{name}_total"] for name in ("gets", "hits", "joins", "leads", "landed"))
+        if gets != hits + joins + leads or leads != landed:
+            found.append(f"{front}: {gets} gets, {hits} hits, {joins} joins, {leads} leads, {landed} landed")
+    return found
+
+
 class Node:
     """A server over the sample, whose growths are refused by a control; its answers are compared with those of the evaluation."""
 
     def __init__(self, program, control, path, options):
         self.program, self.control, self.options, self.path = program, control, ["--edge", "2", *options], path
         self.answers = images.Answers(running.BASE, {"a": tiff.judge(files.SAMPLE)}, 2, 4096, False)
+        self.stats = running.free_port() if "--stats-listen" in running.options_of(program) else None
+        if self.stats:
+            self.options += ["--stats-listen", f"127.0.0.1:{self.stats}"]
 
     def start(self):
         self.control.refuse(0)
@@ -111,6 +125,8 @@ class Node:
             wrong.append(f"growth {n}, asked again: {again[:200]!r}")
         if not server.alive():
             wrong.append(f"growth {n}: the server ended, {server.line()!r}")
+        elif self.stats:
+            wrong += [f"growth {n}: {fault}" for fault in book_faults(self.stats)]
         return met, kind or "OTHER", wrong
 
     def cold(self, calls):
