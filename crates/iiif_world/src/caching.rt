@@ -23,7 +23,7 @@ pub struct PlainCache {
 
 impl PlainCache {
     /// The key's entry goes to the front of its list.
-    pub fn touch(&mut self, key: &Key)
+    pub(crate) fn touch(&mut self, key: &Key)
         ensures { cache_of self.new ≡ touched key_eq key.now (cache_of self.old) }
     {
         if touch_in(&mut self.main, key) {
@@ -33,7 +33,7 @@ impl PlainCache {
     }
 
     /// The key's entry goes.
-    pub fn without(&mut self, key: &Key)
+    pub(crate) fn without(&mut self, key: &Key)
         ensures { cache_of self.new ≡ lacking key_eq key.now (cache_of self.old) }
     {
         remove_in(&mut self.main, key);
@@ -41,7 +41,7 @@ impl PlainCache {
     }
 
     /// The keys' entries go.
-    pub fn without_all(&mut self, keys: &[Key])
+    pub(crate) fn without_all(&mut self, keys: &[Key])
         ensures { cache_of self.new ≡ fold (λ c k. lacking key_eq k c) (cache_of self.old) keys.now }
     {
         for key in keys {
@@ -50,7 +50,7 @@ impl PlainCache {
     }
 
     /// What is kept for a key. The only error is want of memory.
-    pub fn kept(&self, key: &Key) -> Result<Option<Found>, NoMemory>
+    pub(crate) fn kept(&self, key: &Key) -> Result<Option<Found>, NoMemory>
         ensures { IfOk result (λ r. option_map kept_of r ≡ kept_for key_eq key.now (cache_of self.now)) }
     {
         match find_in(&self.main, key)? {
@@ -60,7 +60,7 @@ impl PlainCache {
     }
 
     /// The entry that goes next goes.
-    pub fn evict(&mut self)
+    pub(crate) fn evict(&mut self)
         ensures { cache_of self.new ≡ evicted entry_size (cache_of self.old) }
     {
         if bytes(&self.hot) > bytes(&self.main) / 8 {
@@ -83,7 +83,7 @@ impl PlainCache {
     }
 
     /// One entry after another goes while the lists take too many bytes.
-    pub fn shrink(&mut self)
+    pub(crate) fn shrink(&mut self)
         ensures { cache_of self.new ≡ shrunk entry_size (cache_of self.old) }
     {
         let count = self.main.len() + self.hot.len();
@@ -116,7 +116,7 @@ impl PlainCache {
     }
 
     /// An entry is put. After an error all is as before.
-    pub fn put(&mut self, hot: bool, entry: Entry) -> Result<(), NoMemory>
+    pub(crate) fn put(&mut self, hot: bool, entry: Entry) -> Result<(), NoMemory>
         ensures ok { OnOk result (cache_of self.new ≡ with_entry entry_size key_eq (side hot) entry.key (entry_of entry).1 (cache_of self.old)) }
         ensures err { OnErr result (cache_of self.new ≡ cache_of self.old) }
     {
@@ -129,7 +129,7 @@ impl PlainCache {
     }
 
     /// A value that has landed is kept by its place, where it is to be kept; a fault isn't. After an error all is as before.
-    pub fn keep(
+    pub(crate) fn keep(
         &mut self,
         place: Place,
         peer: u64,

@@ -14,7 +14,7 @@ use std::alloc::Global;
 
 /// Whether two keys are one.
 #[tactic(auto, unfolding(iiif_scene::specs::Keys::key_eq))]
-pub fn same(a: &Key, b: &Key) -> bool
+pub(crate) fn same(a: &Key, b: &Key) -> bool
     ensures { result ≡ key_eq a.now b.now }
 {
     match (a, b) {
@@ -26,7 +26,7 @@ pub fn same(a: &Key, b: &Key) -> bool
 
 /// The name of the image.
 #[tactic(auto, unfolding(iiif_scene::specs::Keys::name_of))]
-pub fn name_of(key: &Key) -> &Name
+pub(crate) fn name_of(key: &Key) -> &Name
     ensures { result.now ≡ name_of key.now }
 {
     match key {
@@ -37,7 +37,7 @@ pub fn name_of(key: &Key) -> &Name
 
 /// The bytes by which a key is written. The only error is want of memory.
 #[tactic(auto, unfolding(iiif_scene::specs::Keys::key_bytes))]
-pub fn bytes_of(alloc: Global, key: &Key) -> Result<Vec<u8>, NoMemory>
+pub(crate) fn bytes_of(alloc: Global, key: &Key) -> Result<Vec<u8>, NoMemory>
     ensures { IfOk result (λ v. v.items ≡ key_bytes key.now) }
 {
     match key {
@@ -110,14 +110,14 @@ fn sum_val_len(value: &SumVal) -> u64
 }
 
 /// How many bytes a key and a value take together.
-pub fn size(key: &Key, value: &Value) -> u64
+pub(crate) fn size(key: &Key, value: &Value) -> u64
     ensures { result ≡ entry_size key.now value.now }
 {
     key_len(key) + value_len(value)
 }
 
 /// An equal value. The only error is want of memory.
-pub fn copied(alloc: Global, value: &Value) -> Result<Value, NoMemory>
+pub(crate) fn copied(alloc: Global, value: &Value) -> Result<Value, NoMemory>
     ensures { IfOk result (λ v. v ≡ value.now) }
 {
     match value {

@@ -82,7 +82,7 @@ impl World {
     }
 
     /// What a call knows. The only error is want of memory.
-    pub fn learned(&self, call: usize) -> Result<Option<Result<Value, ReadFault>>, NoMemory>
+    pub(crate) fn learned(&self, call: usize) -> Result<Option<Result<Value, ReadFault>>, NoMemory>
         ensures { IfOk result (λ o. o ≡ learned (world_of self.now) call) }
     {
         match self.calls.get(call) {
@@ -122,7 +122,7 @@ impl World {
     }
 
     /// What several calls know, but for the values. Of several faults it is the first.
-    pub fn gathered(&self, calls: &[usize]) -> Heard
+    pub(crate) fn gathered(&self, calls: &[usize]) -> Heard
         ensures { result ≡ heard_all (all_learned (world_of self.now) calls.now) }
     {
         let mut first = Heard::Value;

@@ -21,14 +21,14 @@ pub struct Entry {
 }
 
 /// The place of the key's entry.
-pub fn place_of(list: &[Entry], key: &Key) -> Option<usize>
+pub(crate) fn place_of(list: &[Entry], key: &Key) -> Option<usize>
     ensures { result ≡ position (λ e. key_eq key.now e.key) list.now }
 {
     list.iter().position(|e| same(key, &e.key))
 }
 
 /// The entry at a place goes to the front.
-pub fn to_front(list: &mut Vec<Entry>, place: usize)
+pub(crate) fn to_front(list: &mut Vec<Entry>, place: usize)
     requires { place < vec_len list.old }
     ensures { (e : Entry) → slice_get list.old.items place ≡ Some e → list.new.items ≡ e ∷ remove list.old.items place }
 {
@@ -54,7 +54,7 @@ fn renew(list: &mut Vec<Entry>, place: usize, entry: Entry)
 }
 
 /// The key's entry goes to the front; whether there is one.
-pub fn touch_in(list: &mut Vec<Entry>, key: &Key) -> bool
+pub(crate) fn touch_in(list: &mut Vec<Entry>, key: &Key) -> bool
     ensures was { result ≡ is_some (lookup (key_eq key.now) (rows list.old.items)) }
     ensures absent { result ≡ false → list.new.items ≡ list.old.items }
     ensures rows { rows list.new.items ≡ fronted key_eq key.now (rows list.old.items) }
@@ -69,7 +69,7 @@ pub fn touch_in(list: &mut Vec<Entry>, key: &Key) -> bool
 }
 
 /// The key's entry goes.
-pub fn remove_in(list: &mut Vec<Entry>, key: &Key)
+pub(crate) fn remove_in(list: &mut Vec<Entry>, key: &Key)
     ensures { rows list.new.items ≡ remove_entry (key_eq key.now) (rows list.old.items) }
 {
     match place_of(list, key) {
@@ -81,7 +81,7 @@ pub fn remove_in(list: &mut Vec<Entry>, key: &Key)
 }
 
 /// An entry takes the place of its key's entry and goes to the front, or comes back where there is none.
-pub fn replace_in(list: &mut Vec<Entry>, entry: Entry) -> Option<Entry>
+pub(crate) fn replace_in(list: &mut Vec<Entry>, entry: Entry) -> Option<Entry>
     ensures { MatchOption result
         ((is_some (lookup (key_eq entry.key) (rows list.old.items)) ≡ true) × (rows list.new.items ≡ replaced key_eq entry.key (entry_of entry).1 (rows list.old.items)))
         (λ e. (e ≡ entry) × (list.new.items ≡ list.old.items) × (is_some (lookup (key_eq entry.key) (rows list.old.items)) ≡ false)) }
@@ -96,7 +96,7 @@ pub fn replace_in(list: &mut Vec<Entry>, entry: Entry) -> Option<Entry>
 }
 
 /// An entry goes to the front, and the last one goes where there are too many.
-pub fn add_in(list: &mut Vec<Entry>, room: usize, entry: Entry) -> Result<(), NoMemory>
+pub(crate) fn add_in(list: &mut Vec<Entry>, room: usize, entry: Entry) -> Result<(), NoMemory>
     ensures ok { OnOk result (rows list.new.items ≡ added room (entry_of entry) (rows list.old.items)) }
     ensures err { OnErr result (list.new.items ≡ list.old.items) }
 {
@@ -106,7 +106,7 @@ pub fn add_in(list: &mut Vec<Entry>, room: usize, entry: Entry) -> Result<(), No
 }
 
 /// How many bytes the entries take.
-pub fn bytes(list: &[Entry]) -> u128
+pub(crate) fn bytes(list: &[Entry]) -> u128
     ensures sum { result ≡ bytes_of entry_size (rows list.now) }
 {
     let mut sum: u128 = 0;
@@ -124,7 +124,7 @@ pub struct Found {
 }
 
 /// What the key's entry has. The only error is want of memory.
-pub fn find_in(list: &Vec<Entry>, key: &Key) -> Result<Option<Found>, NoMemory>
+pub(crate) fn find_in(list: &Vec<Entry>, key: &Key) -> Result<Option<Found>, NoMemory>
     ensures { IfOk result (λ r. option_map kept_of r ≡ lookup (key_eq key.now) (rows list.now.items)) }
 {
     match place_of(list, key) {

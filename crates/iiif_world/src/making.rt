@@ -94,7 +94,7 @@ pub(crate) fn image(
 impl World {
     /// The value that a key names, made of the whole picture. The only error is want of memory.
     #[tactic(auto, unfolding(iiif_scene::specs::Keys::meaning))]
-    pub fn meaning(&self, key: &Key) -> Result<Value, NoMemory>
+    pub(crate) fn meaning(&self, key: &Key) -> Result<Value, NoMemory>
         requires proper { IsProper (world_of self.now).scene }
         requires fits { Fits (world_of self.now).scene key.now }
         ensures { IfOk result (λ v. v ≡ meaning (world_of self.now).scene key.now) }

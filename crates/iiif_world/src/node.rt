@@ -33,7 +33,7 @@ pub struct Node {
 
 impl Node {
     /// Whether the node speaks a version: its own, or one before it.
-    pub fn speaks(&self, version: u8) -> bool
+    pub(crate) fn speaks(&self, version: u8) -> bool
         ensures yes { IsTrue result → speaker (node_of self.now) version ≡ Some (node_of self.now) }
         ensures no { result ≡ false → speaker (node_of self.now) version ≡ None }
     {
@@ -41,7 +41,7 @@ impl Node {
     }
 
     /// The keys' entries go.
-    pub fn lose(&mut self, keys: &[Key])
+    pub(crate) fn lose(&mut self, keys: &[Key])
         ensures { node_of self.new ≡ node_without (node_of self.old) keys.now }
     {
         self.tiles.evict(keys);
@@ -49,7 +49,7 @@ impl Node {
     }
 
     /// The tables begin anew.
-    pub fn empty(&mut self)
+    pub(crate) fn empty(&mut self)
         ensures { node_of self.new ≡ record (node_of self.old) { tiles = emptied (node_of self.old).tiles; sums = emptied (node_of self.old).sums } }
     {
         self.tiles.empty();
@@ -58,7 +58,7 @@ impl Node {
 
     /// What is kept for a key. The only error is want of memory.
     #[tactic(auto, unfolding(iiif_scene::specs::Keys::is_tile))]
-    pub fn kept(&self, key: &Key) -> Result<Option<Found>, NoMemory>
+    pub(crate) fn kept(&self, key: &Key) -> Result<Option<Found>, NoMemory>
         ensures { IfOk result (λ r. option_map kept_of r ≡ kept_for key_eq key.now (table_at (node_of self.now) key.now).cache) }
     {
         match key {
@@ -69,7 +69,7 @@ impl Node {
 
     /// A call enters. After an error all is as before.
     #[tactic(auto, unfolding(iiif_scene::specs::Keys::is_tile))]
-    pub fn enter(&mut self, key: &Key, class: Class) -> Result<Entered, NoMemory>
+    pub(crate) fn enter(&mut self, key: &Key, class: Class) -> Result<Entered, NoMemory>
         ensures met { IfOk result (λ r. entered_of r ≡ (entering key_eq class key.now (table_at (node_of self.old) key.now)).0) }
         ensures node { OnOk result (node_of self.new ≡ put_table (node_of self.old) key.now (entering key_eq class key.now (table_at (node_of self.old) key.now)).1) }
         ensures err { OnErr result (node_of self.new ≡ node_of self.old) }
@@ -82,7 +82,12 @@ impl Node {
 
     /// The leader of a flight looks again. After an error all is as before.
     #[tactic(auto, unfolding(iiif_scene::specs::Keys::is_tile, iiif_machine::specs::Tables::again))]
-    pub fn again(&mut self, key: &Key, class: Class, ticket: u64) -> Result<Option<Value>, NoMemory>
+    pub(crate) fn again(
+        &mut self,
+        key: &Key,
+        class: Class,
+        ticket: u64,
+    ) -> Result<Option<Value>, NoMemory>
         ensures found { IfOk result (λ r. r ≡ (looked_again (table_at (node_of self.old) key.now) key.now class ticket).0) }
         ensures node { OnOk result (node_of self.new ≡ put_table (node_of self.old) key.now (looked_again (table_at (node_of self.old) key.now) key.now class ticket).1) }
         ensures err { OnErr result (node_of self.new ≡ node_of self.old) }
@@ -95,7 +100,7 @@ impl Node {
 
     /// A flight lands with a value, or with a fault. After an error all is as before.
     #[tactic(auto, unfolding(iiif_scene::specs::Keys::is_tile, iiif_machine::specs::Tables::land))]
-    pub fn land(
+    pub(crate) fn land(
         &mut self,
         key: &Key,
         class: Class,
@@ -116,7 +121,7 @@ impl Node {
 
     /// The name of the key's owner. The only error is want of memory.
     #[tactic(auto, unfolding(iiif_machine::specs::Worlds::owner_of))]
-    pub fn owner(&self, alloc: Global, key: &Key) -> Result<&str, NoMemory>
+    pub(crate) fn owner(&self, alloc: Global, key: &Key) -> Result<&str, NoMemory>
         ensures { IfOk result (λ name. name.now ≡ owner_of (node_of self.now) key.now) }
     {
         let bytes = bytes_of(alloc, key)?;
@@ -125,7 +130,7 @@ impl Node {
     }
 
     /// The class of a call for the key. The only error is want of memory.
-    pub fn class(&self, alloc: Global, key: &Key) -> Result<Class, NoMemory>
+    pub(crate) fn class(&self, alloc: Global, key: &Key) -> Result<Class, NoMemory>
         ensures { IfOk result (λ c. c ≡ class_at (node_of self.now) key.now) }
     {
         if self.owner(alloc, key)? == self.name.as_str() {

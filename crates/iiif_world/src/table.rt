@@ -33,7 +33,7 @@ const EMPTY: Book = Book {
 };
 
 /// Whether two classes are one.
-pub fn same_class(a: Class, b: Class) -> bool
+pub(crate) fn same_class(a: Class, b: Class) -> bool
     ensures { result ≡ class_eq a b }
 {
     match (a, b) {
@@ -111,7 +111,7 @@ fn open(flights: &mut Vec<OpenFlight>, key: Key, class: Class, ticket: u64) -> R
 
 impl PlainTable {
     /// A table with these limits in which nothing is kept, open or counted.
-    pub fn new(alloc: Global, limit: u64, room: usize) -> PlainTable
+    pub(crate) fn new(alloc: Global, limit: u64, room: usize) -> PlainTable
         ensures { table_of result ≡ empty_table limit room }
     {
         PlainTable {
@@ -128,7 +128,7 @@ impl PlainTable {
 
     /// The table begins anew, with its limits.
     #[tactic(auto, unfolding(iiif_machine::specs::Tables::emptied))]
-    pub fn empty(&mut self)
+    pub(crate) fn empty(&mut self)
         ensures { table_of self.new ≡ emptied (table_of self.old) }
     {
         self.cache.main.clear();
@@ -139,14 +139,14 @@ impl PlainTable {
 
     /// The keys' entries go.
     #[tactic(auto, unfolding(iiif_machine::specs::Tables::evicted))]
-    pub fn evict(&mut self, keys: &[Key])
+    pub(crate) fn evict(&mut self, keys: &[Key])
         ensures { table_of self.new ≡ evicted (table_of self.old) keys.now }
     {
         self.cache.without_all(keys);
     }
 
     /// A call enters. After an error all is as before.
-    pub fn enter(&mut self, key: &Key, class: Class) -> Result<Entered, NoMemory>
+    pub(crate) fn enter(&mut self, key: &Key, class: Class) -> Result<Entered, NoMemory>
         ensures ok { IfOk result (λ r. entering key_eq class key.now (table_of self.old) ≡ (entered_of r, table_of self.new)) }
         ensures err { OnErr result (table_of self.new ≡ table_of self.old) }
     {
@@ -191,7 +191,12 @@ impl PlainTable {
     }
 
     /// The leader of a flight looks again. After an error all is as before.
-    pub fn again(&mut self, key: &Key, class: Class, ticket: u64) -> Result<Option<Value>, NoMemory>
+    pub(crate) fn again(
+        &mut self,
+        key: &Key,
+        class: Class,
+        ticket: u64,
+    ) -> Result<Option<Value>, NoMemory>
         ensures ok { IfOk result (λ r. looking_again key_eq class key.now ticket (table_of self.old) ≡ (r, table_of self.new)) }
         ensures err { OnErr result (table_of self.new ≡ table_of self.old) }
     {
@@ -224,7 +229,7 @@ impl PlainTable {
 
     /// A flight lands with a value, or with a fault, and the value is kept by its place where it is to be kept. After an error all is
     /// as before.
-    pub fn land(
+    pub(crate) fn land(
         &mut self,
         key: &Key,
         class: Class,

@@ -58,7 +58,7 @@ fn place_of(items: &[Item], name: &Name) -> Option<usize>
 
 impl World {
     /// The picture of a name.
-    pub fn picture(&self, name: &Name) -> Option<&Raster>
+    pub(crate) fn picture(&self, name: &Name) -> Option<&Raster>
         ensures { MatchOption result ((world_of self.now).scene.shows name.now ≡ None) (λ r. (world_of self.now).scene.shows name.now ≡ Some r.now) }
     {
         match place_of(&self.catalogue, name) {
@@ -69,7 +69,7 @@ impl World {
 
     /// The version of the messages that carry a key.
     #[tactic(auto, unfolding(iiif_machine::specs::Worlds::version_at))]
-    pub fn version(&self, key: &Key) -> u8
+    pub(crate) fn version(&self, key: &Key) -> u8
         ensures { result ≡ version_at (world_of self.now).scene key.now }
     {
         match self.picture(name_of(key)) {
@@ -79,7 +79,7 @@ impl World {
     }
 
     /// The node of a number.
-    pub fn node_at(&self, node: usize) -> Option<&Node>
+    pub(crate) fn node_at(&self, node: usize) -> Option<&Node>
         ensures { MatchOption result (slice_get (world_of self.now).nodes node ≡ None) (λ n. slice_get (world_of self.now).nodes node ≡ Some (node_of n.now)) }
     {
         if node < self.nodes.len() {
@@ -90,7 +90,7 @@ impl World {
     }
 
     /// The flight of a number.
-    pub fn flight_at(&self, flight: usize) -> Option<&Flight>
+    pub(crate) fn flight_at(&self, flight: usize) -> Option<&Flight>
         ensures { MatchOption result (slice_get (world_of self.now).flights flight ≡ None) (λ f. slice_get (world_of self.now).flights flight ≡ Some f.now) }
     {
         self.flights.get(flight)
