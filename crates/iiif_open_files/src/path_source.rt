@@ -1,0 +1,109 @@
+//! A file as a source, opened when it is read.
+
+ghost use Rattle.std.specs.Prelude.{◌||◌, ◌==◌, ◌≡◌, ℕ, IfErr, IsTrue, replicate};
+ghost use Rattle.iiif_source.specs.Cause.{failed, ended};
+
+use crate::known::Known;
+use crate::open_files::OpenFiles;
+use iiif_source::{ReadFault, Source};
+use std::fs::File;
+use std::io::ErrorKind;
+use std::marker::Model;
+use std::os::unix::fs::FileExt;
+use std::rt::Files;
+use std::sync::{Arc, Wait};
+use std::{fs, io};
+
+/// A file by its path. It is seen as the length that it had when the source was made: nothing can be known of what a file holds,
+/// so its bytes stand for any, and that it keeps them is never promised.
+#[derive(Drop)]
+pub struct PathSource {
+    files: Arc<OpenFiles>,
+    number: u64,
+    path: String,
+    known: Known,
+}
+
+impl Model for PathSource {
+    ghost Value = { ℕ };
+
+    ghost view = { λ s. s.known.len };
+}
+
+impl PathSource {
+    /// The source of a file, which has to be there: it is opened, its length is taken, and it is kept open as those are that
+    /// were read.
+    pub fn open<R>(rt: &R, files: Arc<OpenFiles>, path: String) -> io::Result<PathSource>
+    where
+        R: Files<File = File> + Wait,
+    {
+        let file = fs::open(rt, path.as_str())?;
+        let known = Known::of(&file.metadata()?);
+        let number = files.number();
+        files.keep(rt, number, file);
+        Ok(PathSource {
+            files,
+            number,
+            path,
+            known,
+        })
+    }
+
+    /// The file, opened again, or the cause of the fault of a read: it is gone, it can't be opened, or it isn't what it was.
+    fn opened<R: Files<File = File>>(&self, rt: &R) -> Result<File, u8>
+        ensures { IfErr result (λ cause. IsTrue (cause == failed || cause == ended)) }
+    {
+        let Ok(file) = fs::open(rt, self.path.as_str()) else {
+            return Err(ReadFault::FAILED);
+        };
+        let Ok(now) = file.metadata() else {
+            return Err(ReadFault::FAILED);
+        };
+        match self.known.change(&Known::of(&now)) {
+            None => Ok(file),
+            Some(cause) => Err(cause),
+        }
+    }
+}
+
+impl<R: Files<File = File> + Wait> Source<R> for PathSource {
+    ghost bytes = { λ len. replicate len 0 };
+
+    ghost keeps = { λ _. ⊥ };
+
+    ghost gave = { λ _ f. f.cause == failed || f.cause == ended };
+
+    fn len(&self) -> u64 {
+        self.known.len
+    }
+
+    fn read_at(&self, rt: &R, at: u64, buffer: &mut [u8]) -> Result<(), ReadFault> {
+        if let Some(file) = self.files.find(rt, self.number) {
+            return filled(&file, at, buffer);
+        }
+        let file = match self.opened(rt) {
+            Ok(file) => file,
+            Err(cause) => return Err(ReadFault { place: at, cause }),
+        };
+        let read = filled(&file, at, buffer);
+        self.files.keep(rt, self.number, file);
+        read
+    }
+}
+
+/// Reads a file's bytes from a place on, as many as the buffer has room for.
+fn filled(file: &File, at: u64, buffer: &mut [u8]) -> Result<(), ReadFault>
+    ensures place { IfErr result (λ f. f.place ≡ at) }
+    ensures cause { IfErr result (λ f. IsTrue (f.cause == failed || f.cause == ended)) }
+{
+    match file.read_exact_at(buffer, at) {
+        Ok(()) => Ok(()),
+        Err(error) => Err(ReadFault {
+            place: at,
+            cause: match error.kind() {
+                ErrorKind::UnexpectedEof => ReadFault::ENDED,
+                _ => ReadFault::FAILED,
+            },
+        }),
+    }
+}

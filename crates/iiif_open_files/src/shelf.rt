@@ -1,0 +1,59 @@
+//! A bounded number of files that are kept open.
+
+ghost use Rattle.std.specs.Prelude.{◌≡◌, ◌≤◌, ◌⊎◌, [], length, nat_eq, IfOk, IfSome, IsSomeAnd};
+ghost use Rattle.std.specs.Arc.{arc_value};
+ghost use Rattle.std.specs.Map.{lookup};
+ghost use Rattle.std.specs.NonZero.{non_zero_usize_get};
+ghost use Rattle.lru.specs.LruCache.{lru_cache, promoted, put_entries};
+
+use lru::LruCache;
+use std::alloc::{AllocError, Global};
+use std::fs::File;
+use std::num::NonZeroUsize;
+use std::sync::Arc;
+
+/// Open files by their numbers, the one that was used last first. The one that was used longest ago is closed where there is no
+/// room for another, once no read holds it.
+#[derive(Drop)]
+pub struct Shelf {
+    files: LruCache<u64, Arc<File>>,
+}
+
+impl Shelf {
+    /// No file, and room for so many.
+    pub fn new(alloc: Global, most: NonZeroUsize) -> Result<Shelf, AllocError>
+        ensures { IfOk result (λ s. s.files ≡ lru_cache [] (non_zero_usize_get most)) }
+    {
+        Ok(Shelf {
+            files: LruCache::sparse(alloc, most)?,
+        })
+    }
+
+    /// How many files are kept.
+    pub fn len(&self) -> usize
+        ensures count { result ≡ length self.now.files.entries }
+        ensures within { result ≤ self.now.files.cap }
+    {
+        self.files.len()
+    }
+
+    /// The file of a number, which is then the one that was used last. The file stays open while it is held.
+    pub fn find(&mut self, number: u64) -> Option<Arc<File>>
+        ensures file { IfSome result (λ f. IsSomeAnd (lookup (nat_eq number) self.old.files.entries) (λ kept. arc_value f ≡ arc_value kept)) }
+        ensures used { self.new.files ≡ lru_cache (promoted (nat_eq number) self.old.files.entries) self.old.files.cap }
+    {
+        let file = match self.files.peek(&number) {
+            Some(file) => file.clone().ok(),
+            None => None,
+        };
+        self.files.promote(&number);
+        file
+    }
+
+    /// Keeps the file of a number. Where memory is wanting the shelf stays as it was, and the file is let go.
+    pub fn keep(&mut self, number: u64, file: Arc<File>)
+        ensures { (self.new.files ≡ lru_cache (put_entries nat_eq self.old.files number file) self.old.files.cap) ⊎ (self.new.files ≡ self.old.files) }
+    {
+        let _ = self.files.put(number, file);
+    }
+}
