@@ -1,0 +1,3 @@
+pub mod EscapeLemmas
+pub mod LineLemmas
+pub mod QueueLemmas

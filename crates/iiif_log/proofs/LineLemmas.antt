@@ -1,0 +1,157 @@
+-- Lines: their bytes, their words, and what they tell.
+use Rattle.std.proofs.Common.{◌≡◌, ℕ, zero, suc, ◌+◌, ◌/◌, ◌%◌, ◌<◌, ◌^◌, ◌==◌, Bool, true, false, List, [], ◌∷◌, ◌++◌, All, codes, decimal, Option, None, ℤ, pos, negsuc, append_assoc, arith, ap, sym, ◌∙◌, refl, subst, if◌then◌else◌}
+use Rattle.std.specs.List.{join_with_byte, slice_split, AllByRecursion}
+use Rattle.std.proofs.lemmas.Grind.{common_steps}
+use Rattle.std.proofs.lemmas.List.{append-nil, append_cancel_right}
+use Rattle.std.proofs.lemmas.List.Elements.{All-nil, All-cons, All-append, All-weaker}
+use Rattle.std.proofs.lemmas.List.Splits.{slice_split_at, slice_split_none}
+use Rattle.std.proofs.lemmas.Fmt.{decimal_by_steps, decimal_is_IsNumeral}
+use Rattle.std.specs.Str.Parse.{digits_value}
+use Rattle.jiff_core.specs.declared.civil.datetime.DateTime.{DateTime}
+use Rattle.jiff_fmt.specs.Text.{pad2, pad4, year_text, fraction_len, fraction_part}
+use Rattle.jiff_fmt.specs.Text.{places}
+use Rattle.jiff.specs.Names.{iso_datetime_text}
+use Rattle.iiif_log.specs.Escapes.{escaped}
+use Rattle.iiif_log.specs.Laws.{HasNumbers, LinesAreLines, LinesTellAnswers, last_words}
+use Rattle.iiif_log.specs.Lines.{IsLineOf, cut_word, outcome_word, words_of}
+use Rattle.iiif_log.specs.Moments.{IsMomentText, three_digits}
+use Rattle.iiif_log.specs.declared.answered.Answered.{Answered}
+use Rattle.iiif_log.specs.declared.answered.Outcome.{Outcome}
+use Rattle.iiif_log.specs.declared.answered.Outcome.TheVariants.{Whole, Cut}
+use Rattle.iiif_log.proofs.EscapeLemmas.{Seen, escaped_is_seen, escapes_differ}
+
+-- a word: each of its bytes is visible
+record Word (bs : List ℕ) : Type 0 where
+  seen : All Seen bs
+
+none_seen : Word []
+none_seen = record { seen = All-nil Seen }
+
+one_more : (b : ℕ) (bs : List ℕ) → 32 < b → Word bs → Word (b ∷ bs)
+one_more b bs above w = record { seen = All-cons Seen b bs above w.seen }
+
+both_seen : (a b : List ℕ) → Word a → Word b → Word (a ++ b)
+both_seen a b v w = record { seen = All-append Seen a b v.seen w.seen }
+
+decimal_seen : (n : ℕ) → n < 2 ^ 64 → Word (decimal n)
+decimal_seen n small =
+    decimal_by_steps (λ _ ds. Word ds) (λ m below. one_more (48 + m) [] (omega arith) none_seen)
+    (λ m ds above w. both_seen ds ((48 + m % 10) ∷ []) w (one_more (48 + m % 10) [] (omega arith) none_seen)) n small
+
+pad2_seen : (n : ℕ) → Word (pad2 n)
+pad2_seen n = one_more (48 + n / 10) ((48 + n % 10) ∷ []) (omega arith) (one_more (48 + n % 10) [] (omega arith) none_seen)
+
+pad4_seen : (n : ℕ) → Word (pad4 n)
+pad4_seen n = both_seen (pad2 (n / 100)) (pad2 (n % 100)) (pad2_seen (n / 100)) (pad2_seen (n % 100))
+
+dash_seen : (b : ℕ) → 32 < b → Word (b ∷ [])
+dash_seen b above = one_more b [] above none_seen
+
+year_seen : (y : ℤ) → Word (year_text y)
+year_seen (pos n) = pad4_seen n
+year_seen (negsuc n) = both_seen (codes "-00") (pad4 (suc n))
+    (one_more 45 (48 ∷ 48 ∷ []) (omega arith) (one_more 48 (48 ∷ []) (omega arith) (dash_seen 48 (omega arith)))) (pad4_seen (suc n))
+
+places_seen : (k whole n : ℕ) → Word (places k whole n)
+unfolding places
+places_seen zero whole n = none_seen
+places_seen (suc k) whole n = one_more (48 + n / (whole / 10)) (places k (whole / 10) (n % (whole / 10))) (omega arith) (places_seen k (whole / 10) (n % (whole / 10)))
+
+fraction_seen : (n : ℕ) → Word (fraction_part None n)
+fraction_seen n =
+    elim (n == 0) as (λ t. Word (if t then [] else 46 ∷ places (fraction_len None n) 1_000_000_000 n))
+    [ true ↦ none_seen | false ↦ one_more 46 (places (fraction_len None n) 1_000_000_000 n) (omega arith) (places_seen (fraction_len None n) 1_000_000_000 n) ]
+
+datetime_seen : (dt : DateTime) → Word (iso_datetime_text dt)
+datetime_seen dt =
+    let year = year_seen dt.date.year in
+    let year_month = both_seen _ _ (both_seen _ _ year (dash_seen 45 (omega arith))) (pad2_seen dt.date.month) in
+    let date = both_seen _ _ (both_seen _ _ year_month (dash_seen 45 (omega arith))) (pad2_seen dt.date.day) in
+    let minute = one_more 58 _ (omega arith) (pad2_seen dt.time.minute) in
+    let second = one_more 58 _ (omega arith) (pad2_seen dt.time.second) in
+    let time = both_seen _ _ (both_seen _ _ (both_seen _ _ (pad2_seen dt.time.hour) minute) second) (fraction_seen dt.time.subsec_nanosecond) in
+    both_seen _ _ date (one_more 84 _ (omega arith) time)
+
+three_seen : (n : ℕ) → n < 1000 → Word (three_digits n)
+three_seen n small =
+    both_seen _ _ (both_seen _ _ (decimal_seen (n / 100) (omega arith)) (decimal_seen (n / 10 % 10) (omega arith))) (decimal_seen (n % 10) (omega arith))
+
+moment_seen : (millis : ℕ) (text : List ℕ) → IsMomentText millis text → Word text
+moment_seen millis text (dt, at, is) =
+    subst Word (sym is) (both_seen _ _ (both_seen _ _ (datetime_seen dt) (one_more 46 _ (omega arith) (three_seen (millis % 1000) (omega arith)))) (dash_seen 90 (omega arith)))
+
+outcome_seen : (o : Outcome) → ((s : ℕ) → o ≡ Whole s → s < 2 ^ 16) → Word (outcome_word o)
+outcome_seen (Whole s) small = let below = small s refl in decimal_seen s (omega arith)
+outcome_seen Cut small = dash_seen 45 (omega arith)
+
+last_seen : (o : Outcome) → AllByRecursion Word (last_words o)
+last_seen (Whole s) = tt
+last_seen Cut = (one_more 99 (117 ∷ 116 ∷ []) (omega arith) (one_more 117 (116 ∷ []) (omega arith) (dash_seen 116 (omega arith))), tt)
+
+escaped_word : (bs : List ℕ) → Word (escaped bs)
+escaped_word bs = record { seen = escaped_is_seen bs }
+
+no_space : (w : List ℕ) → Word w → All (λ b. (b == 32) ≡ false) w
+no_space w v = All-weaker Seen (λ b. (b == 32) ≡ false) (λ b above. grind (arith, common_steps)) w v.seen
+
+-- words are found again in their join
+split_join : (w : List ℕ) (ws : List (List ℕ)) → Word w → AllByRecursion Word ws → slice_split (λ b. b == 32) (join_with_byte 32 (w ∷ ws)) ≡ w ∷ ws
+split_join w [] v vs = slice_split_none (λ b. b == 32) w (no_space w v)
+split_join w (x ∷ xs) v vs = slice_split_at (λ b. b == 32) w 32 (join_with_byte 32 (x ∷ xs)) (no_space w v) refl ∙ ap (λ r. w ∷ r) (split_join x xs vs.0 vs.1)
+
+-- no byte of a join is a control byte
+join_above : (w : List ℕ) (ws : List (List ℕ)) → Word w → AllByRecursion Word ws → All (λ b. 31 < b) (join_with_byte 32 (w ∷ ws))
+join_above w [] v vs = All-weaker Seen (λ b. 31 < b) (λ b above. omega arith) w v.seen
+join_above w (x ∷ xs) v vs =
+    All-append (λ b. 31 < b) w (32 ∷ join_with_byte 32 (x ∷ xs)) (All-weaker Seen (λ b. 31 < b) (λ b above. omega arith) w v.seen)
+    (All-cons (λ b. 31 < b) 32 (join_with_byte 32 (x ∷ xs)) (omega arith) (join_above x xs vs.0 vs.1))
+
+-- what stands before the line feed
+front_of : (t m o b n g : List ℕ) (end : Outcome)
+    → join_with_byte 32 (t ∷ m ∷ o ∷ b ∷ n ∷ g ∷ []) ++ cut_word end ≡ join_with_byte 32 (t ∷ m ∷ o ∷ b ∷ n ∷ g ∷ last_words end)
+front_of t m o b n g (Whole s) = append-nil (join_with_byte 32 (t ∷ m ∷ o ∷ b ∷ n ∷ g ∷ []))
+front_of t m o b n g Cut = simp append_assoc
+
+words_behind_seen : (a : Answered) → HasNumbers a
+    → AllByRecursion Word (escaped a.method.now ∷ outcome_word a.outcome ∷ decimal a.bytes ∷ decimal a.millis ∷ escaped a.target.now ∷ last_words a.outcome)
+words_behind_seen a h =
+    (escaped_word a.method.now, (outcome_seen a.outcome h.status, (decimal_seen a.bytes h.bytes, (decimal_seen a.millis h.millis, (escaped_word a.target.now, last_seen a.outcome)))))
+
+pub lines_are_lines : LinesAreLines
+lines_are_lines a text h (time, moment, is) =
+    let word = moment_seen a.at.millis time moment in
+    let behind = words_behind_seen a h in
+    let rest = escaped a.method.now ∷ outcome_word a.outcome ∷ decimal a.bytes ∷ decimal a.millis ∷ escaped a.target.now ∷ last_words a.outcome in
+    let front = front_of time (escaped a.method.now) (outcome_word a.outcome) (decimal a.bytes) (decimal a.millis) (escaped a.target.now) a.outcome in
+    (time, join_with_byte 32 (time ∷ rest), moment, is ∙ ap (λ f. f ++ 10 ∷ []) front, join_above time rest word behind, split_join time rest word behind)
+
+decimals_differ : (m n : ℕ) → m < 2 ^ 64 → n < 2 ^ 64 → decimal m ≡ decimal n → m ≡ n
+decimals_differ m n small little e = sym (decimal_is_IsNumeral m small).1 ∙ ap (digits_value 10) e ∙ (decimal_is_IsNumeral n little).1
+
+ends_differ : (o p : Outcome) → ((s : ℕ) → o ≡ Whole s → s < 2 ^ 16) → ((s : ℕ) → p ≡ Whole s → s < 2 ^ 16)
+    → outcome_word o ≡ outcome_word p → last_words o ≡ last_words p → o ≡ p
+ends_differ (Whole s) (Whole t) small little e last =
+    let below = small s refl in let under = little t refl in
+    ap Whole (decimals_differ s t (omega arith) (omega arith) e)
+ends_differ (Whole s) Cut small little e last = cc
+ends_differ Cut (Whole t) small little e last = cc
+ends_differ Cut Cut small little e last = refl
+
+pub lines_tell_answers : LinesTellAnswers
+lines_tell_answers a b text h k am bm at bt x y =
+    let p = lines_are_lines a text h x in
+    let q = lines_are_lines b text k y in
+    let fronts : p.1 ≡ q.1 = append_cancel_right p.1 q.1 (10 ∷ []) (sym p.3 ∙ q.3) in
+    let words : words_of p.0 a ++ last_words a.outcome ≡ words_of q.0 b ++ last_words b.outcome = sym p.5 ∙ ap (slice_split (λ c. c == 32)) fronts ∙ q.5 in
+    let methods : escaped a.method.now ≡ escaped b.method.now = cc in
+    let targets : escaped a.target.now ≡ escaped b.target.now = cc in
+    let ends : outcome_word a.outcome ≡ outcome_word b.outcome = cc in
+    let lasts : last_words a.outcome ≡ last_words b.outcome = cc in
+    let bytes : decimal a.bytes ≡ decimal b.bytes = cc in
+    let times : decimal a.millis ≡ decimal b.millis = cc in (
+      escapes_differ _ _ am bm methods,
+      escapes_differ _ _ at bt targets,
+      ends_differ a.outcome b.outcome h.status k.status ends lasts,
+      decimals_differ a.bytes b.bytes h.bytes k.bytes bytes,
+      decimals_differ a.millis b.millis h.millis k.millis times,
+    )

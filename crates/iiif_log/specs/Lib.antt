@@ -1,0 +1,5 @@
+pub mod Escapes
+pub mod Laws
+pub mod Lines
+pub mod Moments
+pub mod Waiting

@@ -1,0 +1,36 @@
+-- The line of an answer.
+use Rattle.std.specs.Prelude.{◌≡◌, ◌==◌, ℕ, List, [], ◌∷◌, ◌++◌, codes, decimal, if◌then◌else◌}
+use Rattle.std.specs.List.{join_with_byte}
+use Rattle.iiif_log.specs.Escapes.{escaped}
+use Rattle.iiif_log.specs.Moments.{IsMomentText}
+use Rattle.iiif_log.specs.declared.answered.Answered.{Answered}
+use Rattle.iiif_log.specs.declared.answered.Outcome.{Outcome}
+use Rattle.iiif_log.specs.declared.answered.Outcome.TheVariants.{Whole, Cut}
+
+-- the status, or that there is none to tell
+abbrev pub outcome_word : Outcome → List ℕ
+outcome_word (Whole status) = decimal status
+outcome_word Cut = codes "-"
+
+-- what stands behind the target of an answer that was cut off
+abbrev pub cut_word : Outcome → List ℕ
+cut_word (Whole status) = []
+cut_word Cut = codes " cut"
+
+-- The words of a line at this time: when, the method, the status, the bytes, the milliseconds, the target.
+abbrev pub words_of : List ℕ → Answered → List (List ℕ)
+words_of time a =
+    time ∷ escaped a.method.now ∷ outcome_word a.outcome ∷ decimal a.bytes ∷ decimal a.millis ∷ escaped a.target.now ∷ []
+
+-- the words with a space between two of them, and a line feed
+abbrev pub IsLineOf : Answered → List ℕ → Type 0
+IsLineOf a text = (time : List ℕ) × IsMomentText a.at.millis time
+    × (text ≡ join_with_byte 32 (words_of time a) ++ cut_word a.outcome ++ 10 ∷ [])
+
+-- the line that tells how many were lost
+abbrev pub lost_line : ℕ → List ℕ
+lost_line count = codes "lost " ++ decimal count ++ 10 ∷ []
+
+-- what is written where so many were lost
+abbrev pub lost_text : ℕ → List ℕ
+lost_text count = if count == 0 then [] else lost_line count

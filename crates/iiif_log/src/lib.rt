@@ -1,0 +1,17 @@
+//! A line for each answer, and the queue over which lines come to a thread of their own that writes them.
+#![tactic(auto)]
+
+pub use answered::{Answered, Outcome};
+pub use escape::push_escaped;
+pub use line::{line_bytes, lost_line_bytes};
+pub use log::{Log, write_lines};
+pub use moment::{Moment, NoMemory, push_moment};
+pub use queue::{Line, Queue, Taken};
+
+pub mod answered;
+pub mod escape;
+pub mod laws;
+pub mod line;
+pub mod log;
+pub mod moment;
+pub mod queue;

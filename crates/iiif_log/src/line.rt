@@ -1,0 +1,61 @@
+//! The line of an answer.
+
+ghost use Rattle.std.specs.Prelude.{◌≡◌, ◌++◌, ◌∷◌, [], IfOk, OnOk, string_bytes};
+ghost use Rattle.iiif_log.specs.Lines.{IsLineOf, outcome_word, cut_word, lost_line};
+
+use crate::answered::{Answered, Outcome};
+use crate::escape::push_escaped;
+use crate::moment::{NoMemory, push_moment};
+use std::alloc::Global;
+use std::fmt::Write;
+
+/// Room for a line of the usual length.
+const USUAL_LENGTH: usize = 128;
+
+/// Writes the status, or that there was none to tell.
+fn push_outcome(text: &mut String, outcome: Outcome) -> Result<(), NoMemory>
+    ensures { OnOk result (string_bytes text.new ≡ string_bytes text.old ++ outcome_word outcome) }
+{
+    match outcome {
+        Outcome::Whole(status) => write!(text, "{status}"),
+        Outcome::Cut => text.push_str("-"),
+    }
+}
+
+/// Writes that an answer was cut off, where it was, and the line's end.
+fn push_end(text: &mut String, outcome: Outcome) -> Result<(), NoMemory>
+    ensures { OnOk result (string_bytes text.new ≡ string_bytes text.old ++ (cut_word outcome ++ 10 ∷ [])) }
+{
+    match outcome {
+        Outcome::Whole(_) => text.push_str("\n"),
+        Outcome::Cut => text.push_str(" cut\n"),
+    }
+}
+
+/// The line of an answer, as `2026-11-23T11:42:05.123Z GET 200 65536 12 /iiif/a/full/max/0/default.tif`: when it was done with, the
+/// method, the status, the bytes that were written, the milliseconds that it took, the target; and `cut` where it was cut off, with
+/// `-` in the place of the status.
+pub fn line_bytes(alloc: Global, answered: &Answered<'_>) -> Result<Vec<u8>, NoMemory>
+    ensures { IfOk result (λ bytes. IsLineOf answered.now bytes.items) }
+{
+    let mut text = String::with_capacity(alloc, USUAL_LENGTH)?;
+    push_moment(&mut text, answered.at)?;
+    text.push_str(" ")?;
+    push_escaped(&mut text, answered.method)?;
+    text.push_str(" ")?;
+    push_outcome(&mut text, answered.outcome)?;
+    let bytes = answered.bytes;
+    let millis = answered.millis;
+    write!(text, " {bytes} {millis} ")?;
+    push_escaped(&mut text, answered.target)?;
+    push_end(&mut text, answered.outcome)?;
+    Ok(text.into_bytes())
+}
+
+/// The line that tells how many lines were lost, as `lost 12`.
+pub fn lost_line_bytes(alloc: Global, count: u64) -> Result<Vec<u8>, NoMemory>
+    ensures { IfOk result (λ bytes. bytes.items ≡ lost_line count) }
+{
+    let text = format!(in alloc; "lost {count}\n")?;
+    Ok(text.into_bytes())
+}

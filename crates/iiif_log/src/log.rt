@@ -1,0 +1,119 @@
+//! The queue that many threads put lines into, and the thread that writes them.
+
+ghost use Rattle.std.specs.Prelude.{◌≡◌, ◌+◌, ◌⊎◌, ◌++◌, ℕ, true, IfErr, IsTrue, OnOk};
+ghost use Rattle.std.specs.Io.KnownBytes.{Appends};
+ghost use Rattle.iiif_io.specs.Sending.{WasCut};
+ghost use Rattle.iiif_log.specs.Lines.{lost_text};
+ghost use Rattle.iiif_log.specs.Waiting.{capped, line_view, lines_in};
+
+use crate::answered::Answered;
+use crate::line::{line_bytes, lost_line_bytes};
+use crate::moment::NoMemory;
+use crate::queue::{Line, Queue, Taken};
+use iiif_io::{Outlet, send};
+use std::alloc::Global;
+use std::sync::{Condvar, Mutex, Wait};
+
+/// A log: a queue under a lock, as [`Queue`] says, and who waits for its next line. Whoever puts a line waits for that lock alone,
+/// which nobody holds while a line is written.
+#[derive(Drop)]
+pub struct Log {
+    alloc: Global,
+    queue: Mutex<Queue>,
+    more: Condvar,
+}
+
+impl Log {
+    /// A log without a line. The only error is want of memory.
+    pub fn new(alloc: Global) -> Result<Log, NoMemory> {
+        Ok(Log {
+            alloc,
+            queue: Mutex::new(Queue::new(alloc)?),
+            more: Condvar::new(),
+        })
+    }
+
+    /// Puts the line of an answer behind the others. Where there is no room or no memory for it, it is lost, which is counted.
+    pub fn tell<R: Wait>(&self, rt: &R, answered: &Answered<'_>) {
+        match line_bytes(self.alloc, answered) {
+            Ok(text) => self.queue.lock(rt).put(text),
+            Err(_) => self.queue.lock(rt).lose(),
+        }
+        self.more.notify_one();
+    }
+
+    /// The next line, for which it waits. None once the log is closed and all lines are taken.
+    pub fn next<R: Wait>(&self, rt: &R) -> Option<Line> {
+        let mut queue = self.queue.lock(rt);
+        for _ in rt.forever() {
+            match queue.take(self.alloc) {
+                Taken::Line(line) => return Some(line),
+                Taken::Closed => return None,
+                Taken::Nothing => queue = self.more.wait(rt, queue),
+            }
+        }
+        unreachable!()
+    }
+
+    /// Nothing more will be put: who writes the lines ends behind the last.
+    pub fn close<R: Wait>(&self, rt: &R) {
+        self.queue.lock(rt).close();
+        self.more.notify_all();
+    }
+}
+
+/// Writes how many lines were lost, where some were. It says whether that was written.
+fn write_lost<W: Outlet>(alloc: Global, out: &mut W, lost: u64) -> bool
+    ensures written { IsTrue result → Appends (W.contents out.old) (W.contents out.new) (lost_text lost) }
+    ensures none { lost ≡ 0 → (result ≡ true) × (out.new ≡ out.old) }
+{
+    if lost == 0 {
+        return true;
+    }
+    match lost_line_bytes(alloc, lost) {
+        Ok(text) => send(out, &text).is_ok(),
+        Err(_) => false,
+    }
+}
+
+/// Writes how many lines were lost, where some were, and then a line. `unsaid` are to be told of besides those that the line knows of.
+/// An `Err` says how many are still to be told of as lost: all of them and the line, or the line alone.
+pub fn write_line<W: Outlet>(
+    alloc: Global,
+    out: &mut W,
+    unsaid: u64,
+    line: &Line,
+) -> Result<(), u64>
+    ensures ok { OnOk result (Appends (W.contents out.old) (W.contents out.new) (lost_text (capped (unsaid + line.now.lost)) ++ line.now.text.items)) }
+    ensures err { IfErr result (λ n. (n ≡ capped (unsaid + lines_in (line_view line.now)))
+        ⊎ ((n ≡ 1) × (middle : W) × (sent : ℕ) × Appends (W.contents out.old) (W.contents middle) (lost_text (capped (unsaid + line.now.lost)))
+        × WasCut W.contents W.fails middle out.new line.now.text.items sent)) }
+
+    // Where none was lost before, the writer failed.
+    ensures alone { unsaid + line.now.lost ≡ 0 → IfErr result (λ _. (sent : ℕ) × WasCut W.contents W.fails out.old out.new line.now.text.items sent) }
+{
+    let lost = unsaid.saturating_add(line.lost);
+    if !write_lost(alloc, out, lost) {
+        let own = if line.text.is_empty() { 0 } else { 1 };
+        return Err(lost.saturating_add(own));
+    }
+    match send(out, &line.text) {
+        Ok(()) => Ok(()),
+        Err(_) => Err(1),
+    }
+}
+
+/// Writes the lines of a log as they come, until it is closed. Where the writer fails, the lines that it didn't take are lost, which the
+/// next that is written tells.
+pub fn write_lines<R: Wait, W: Outlet>(rt: &R, alloc: Global, log: &Log, out: &mut W) {
+    let mut unsaid = 0;
+    for _ in rt.forever() {
+        let Some(line) = log.next(rt) else {
+            return;
+        };
+        unsaid = match write_line(alloc, out, unsaid, &line) {
+            Ok(()) => 0,
+            Err(lost) => lost,
+        };
+    }
+}
