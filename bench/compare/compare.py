@@ -10,15 +10,15 @@ the plain one are compared with them byte for byte. The others scale in ways of 
 GDAL by `-r average`, which gives bits of bits): how far their samples are from the exact averages is printed, not judged. Each job is run
 by every program in turn, --rounds times (libvips three times), and the medians are printed: wall clock and processor time of all threads. A
 job that keeps its size, or whose larger result is 1,024 wide at most, is so short that the program, the build before and the plain program
-do it ten times a round. The peak of the resident memory is taken in seven runs of its own (of the others three). With --before, another
-build of the program runs beside it, on the jobs of 8 bits and of bits that aren't scaled up. With --reads, `strace` counts the reads of the
-source that a job takes, in a run of its own.
+do it ten times a round. An overview of 100 megapixels is made by one worker and by four, too. The peak of the resident memory is taken in
+seven runs of its own (of the others three). With --before, another build of the program runs beside it, on the jobs of 8 bits and of bits
+that aren't scaled up. With --reads, `strace` counts the reads of the source that a job takes, in a run of its own.
 
-The status is 1 where an answer of the program differs or a program fails, and with --strict also where a limit is passed. Memory: 9 bytes
-for each sample of a scaled result (its sum and itself), 2 for one of a result that isn't scaled (itself, and in the answer), a byte or two
-more where a sample has 16 bits, and 4 MiB. Processor time: on 8 bits and on bits 1.05 of the build before, on 16 bits 1.5 of plain Rust's
-and 1.0 of GDAL's average, and 1.5 of plain Rust's where a result is above its region. Peak memory: that of the build before, and 128 KiB by
-which equal runs differ.
+The status is 1 where an answer of the program differs or a program fails, and with --strict also where a limit is passed. Memory: what
+docs/OPERATING.md says, which is the caches and a band (`memory.py`), with the program's defaults, with no cache, and with a small one and a
+single worker. Wall clock: an overview of 100 megapixels from tiles 1.15 of the build before by one worker, and 0.6 by four; from strips
+GDAL's average, by two. Processor time: on 16 bits 1.5 of plain Rust's and 1.0 of GDAL's average, and 1.5 of plain Rust's where a result is
+above its region.
 """
 import argparse
 import concurrent.futures
@@ -30,6 +30,7 @@ import subprocess
 import sys
 import time
 
+import memory
 import numpy as np
 from PIL import Image
 
@@ -114,7 +115,14 @@ SOURCES = [
 ]
 
 # The programs whose answers are to be equal to the exact averages.
-OWN = ("this program", "the build before", "plain Rust")
+OWN = ("this program", "one worker", "four workers", "the build before", "plain Rust")
+
+# What the program is told beside its defaults where its memory is looked at, and what that means.
+MEMORY = {
+    "defaults": ([], {}),
+    "no cache": (["--cache-bytes", "0"], {"cache": 0}),
+    "8 MiB, one worker": (["--cache-bytes", str(8 << 20), "--workers", "1"], {"cache": 8 << 20, "workers": 1}),
+}
 
 # Name of the job, source, rectangle, sides of the result.
 JOBS = [
@@ -186,6 +194,17 @@ def answer_file(samples):
     return head + samples.tobytes()
 
 
+def own(args, target, path, larger, words):
+    """The program's command line for a target, with more words."""
+    return [args.program, "--base", "http://localhost/iiif", *["--upscale"] * larger, *words, "--one", target, "a=" + path]
+
+
+def is_overview(job):
+    """Whether a job is the overview of 100 megapixels, of 8 bits."""
+    _, number, rect, size = JOBS[job]
+    return rect[2] == 10_000 and size == 1024 and SOURCES[number].bits == 8
+
+
 def programs(args, job):
     """The command lines of a job, by the name of the program. One with several commands needs a file in between."""
     _, number, rect, size = JOBS[job]
@@ -197,12 +216,16 @@ def programs(args, job):
     target = f"/iiif/a/{region}/{'max' if native else f'^{size},' if larger else f'{size},'}/0/default.tif"
     factor = repr(rect[2] / size)
     lines = {
-        "this program": [[args.program, "--base", "http://localhost/iiif", *["--upscale"] * larger, "--one", target, "a=" + path]],
+        "this program": [own(args, target, path, larger, [])],
+        "one worker": [own(args, target, path, larger, ["--workers", "1"])],
+        "four workers": [own(args, target, path, larger, ["--workers", "4"])],
         "the build before": [[args.before, "--base", "http://localhost/iiif", "--one", target, "a=" + path]],
         "plain Rust": [[args.plain, path, x, y, w, h, str(size), str(size), answer_path(args, job, "plain Rust")]],
     }
     if not args.before or source.bits == 16 or larger:
         del lines["the build before"]
+    if not is_overview(job):
+        del lines["one worker"], lines["four workers"]
     out, between = answer_path(args, job, "libvips"), answer_path(args, job, "libvips") + ".v"
     if native:
         lines["libvips"] = [["vips", "crop", path, out, x, y, w, h]]
@@ -342,44 +365,72 @@ def measured(args, jobs, wanted):
                             print(f"{JOBS[job][0]}: {name} differs from the exact averages", file=sys.stderr)
     with concurrent.futures.ThreadPoolExecutor(os.cpu_count()) as pool:
         for job, name in times:
-            commands, out = programs(args, job)[name], answer_path(args, job, name)
-            runs = 7 if name in OWN else 3
-            peaks[job, name] = pool.submit(lambda runs, commands, out: [peak(commands, out) for _ in range(runs)], runs, commands, out)
-    return {key: [statistics.median(column) for column in zip(*runs)] + [statistics.median(peaks[key].result())]
-            for key, runs in times.items()}, wrong
+            peaks[job, name] = pool.submit(peaks_of, programs(args, job)[name], answer_path(args, job, name), 7 if name in OWN else 3)
+    return {key: [statistics.median(column) for column in zip(*runs)] + [peaks[key].result()] for key, runs in times.items()}, wrong
 
 
-def limits(jobs, medians, wanted):
-    """A table of the ratios of processor time and of peak memory that have limits; the names of those that pass them."""
+def peaks_of(commands, out, runs):
+    """The median of the peaks of so many runs."""
+    return statistics.median([peak(commands, out) for _ in range(runs)])
+
+
+def limits(args, jobs, medians):
+    """A table of the ratios of time that have limits, and one of memory; the names of those that pass them."""
     passed = []
 
-    def ratio(job, other, at, limit):
-        if (job, other) not in medians:
+    def ratio(job, name, other, at, limit):
+        if (job, other) not in medians or (job, name) not in medians:
             return ""
-        value = medians[job, "this program"][at] / medians[job, other][at]
+        value = medians[job, name][at] / medians[job, other][at]
         over = limit is not None and value > limit
         if over:
-            passed.append(f"{JOBS[job][0]}: {value:.2f} of {other}, above {limit:.2f}")
+            passed.append(f"{JOBS[job][0]}: {name} takes {value:.2f} of {other}, above {limit:.2f}")
         return f"{value:.2f}{' (!)' if over else ''}"
 
-    print("\n**Beside the limits: processor time, and peak memory**\n")
-    print("| Job | time beside the build before | beside plain Rust | beside GDAL | memory beside the build before |\n|---|---|---|---|---|")
+    print("\n**Beside the limits: wall clock**\n")
+    print("| Job | one worker beside the build before | four workers | two workers | two workers beside GDAL |\n|---|---|---|---|---|")
+    for job in filter(is_overview, jobs):
+        tiles = SOURCES[JOBS[job][1]].tile
+        cells = [ratio(job, "one worker", "the build before", 0, 1.15 if tiles else None),
+                 ratio(job, "four workers", "the build before", 0, 0.6 if tiles else None),
+                 ratio(job, "this program", "the build before", 0, None), ratio(job, "this program", "GDAL", 0, None if tiles else 1.0)]
+        print(f"| {JOBS[job][0]} | {' | '.join(cells)} |")
+    print("\n**Beside the limits: processor time of all threads**\n")
+    print("| Job | beside the build before | beside plain Rust | beside GDAL |\n|---|---|---|---|")
     for job in jobs:
         name, number, rect, size = JOBS[job]
         deep, larger = SOURCES[number].bits == 16, rect[2] < size
-        before = medians.get((job, "the build before"))
-        cells = [ratio(job, "the build before", 1, 1.05), ratio(job, "plain Rust", 1, 1.5 if deep or larger else None),
-                 ratio(job, "GDAL", 1, 1.0 if deep else None), ratio(job, "the build before", 2, 1 + 128 / before[2] if before else None)]
+        cells = [ratio(job, "this program", "the build before", 1, None),
+                 ratio(job, "this program", "plain Rust", 1, 1.5 if deep or larger else None),
+                 ratio(job, "this program", "GDAL", 1, 1.0 if deep else None)]
         print(f"| {name} | {' | '.join(cells)} |")
-    print("\n**Memory of this program, MiB**\n\n| Job | the region's samples | bytes a sample of the result | those of the result | peak |\n|---|---|---|---|---|")
+    return passed + limits_of_memory(args, jobs)
+
+
+def limits_of_memory(args, jobs):
+    """A table of the peak memory in the ways of MEMORY, each beside its bound; the names of those that pass it."""
+    passed = []
+
+    def ways(job):
+        out = answer_path(args, job, "memory")
+        for way, (words, _) in MEMORY.items():
+            command = programs(args, job)["this program"][0]
+            yield way, peaks_of([command[:1] + words + command[1:]], f"{out}-{len(words)}", 3) / 1024
+
+    with concurrent.futures.ThreadPoolExecutor(os.cpu_count()) as pool:
+        peaks = {job: pool.submit(lambda job: dict(ways(job)), job) for job in jobs}
+    print("\n**Memory of this program, MiB: the peak, and its bound**\n")
+    print(f"| Job | {' | '.join(f'{way} | bound' for way in MEMORY)} |\n|---|{'---|---|' * len(MEMORY)}")
     for job in jobs:
         name, number, rect, size = JOBS[job]
-        held, most = wanted[job].itemsize, medians[job, "this program"][2] / 1024
-        each = 2 * held if size == rect[2] else 8 + held
-        raster, result = rect[2] * rect[3] * SOURCES[number].channels * held / 2**20, each * wanted[job].size / 2**20
-        print(f"| {name} | {raster:.1f} | {each} | {result:.1f} | {most:.1f} |")
-        if most > result + 4:
-            passed.append(f"{name}: {most:.1f} MiB are more than the bound")
+        source, cells = SOURCES[number], []
+        for way, (_, settings) in MEMORY.items():
+            most = peaks[job].result()[way]
+            bound = memory.bound(source.channels, max(8, source.bits), (source.side, source.side), rect, (size, size), **settings) / memory.MIB
+            cells.append(f"{most:.1f}{' (!)' if most > bound else ''} | {bound:.1f}")
+            if most > bound:
+                passed.append(f"{name}, {way}: {most:.1f} MiB are more than the bound")
+        print(f"| {name} | {' | '.join(cells)} |")
     return passed
 
 
@@ -401,10 +452,10 @@ def compare(args):
         "equal" if name in OWN else difference(answer_path(args, job, name), wanted[job])))
     if args.reads:
         with concurrent.futures.ThreadPoolExecutor(os.cpu_count()) as pool:
-            keys = [key for key in medians if key[1] in OWN[:2]]
+            keys = [key for key in medians if key[1] in ("this program", "the build before")]
             counts = dict(zip(keys, pool.map(lambda key: reads(programs(args, key[0])[key[1]][0], answer_path(args, *key)), keys)))
         table("Reads of the source", jobs, counts, lambda job, name, count: f"{count:,}")
-    passed = limits(jobs, medians, wanted)
+    passed = limits(args, jobs, medians)
     for line in passed:
         print(line, file=sys.stderr)
     return 1 if failed or (args.strict and passed) else 0
