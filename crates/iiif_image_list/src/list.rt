@@ -1,6 +1,6 @@
 //! Images that are named one after another, each by a name of its own.
 
-ghost use Rattle.std.specs.Prelude.{◌≡◌, ◌++◌, ◌∷◌, [], is_some, ◌<◌, OnOk, OnErr, IfErr, length};
+ghost use Rattle.std.specs.Prelude.{◌≡◌, ◌++◌, ◌∷◌, [], is_some, ◌<◌, OnOk, OnErr, IfOk, IfErr, length};
 ghost use Rattle.std.specs.Str.{IsUtf8};
 ghost use Rattle.std.specs.Str.Lines.{lines};
 ghost use Rattle.iiif_image_list.specs.Lists.{image_of, images_of, has_name, line_at, refusal_of, refusal_of_line, shown, AreTaken, EndsAtByte, EndsAtLine, IsList, Takes};
@@ -9,7 +9,7 @@ use crate::fault::{Fault, LineFault};
 use iiif_keys::is_name;
 use indexmap::IndexMap;
 use indexmap::map::Iter;
-use std::alloc::Global;
+use std::alloc::{AllocError, Global};
 use std::marker::Model;
 use std::str;
 
@@ -117,6 +117,13 @@ impl<'a> ImageList<'a> {
         ensures { shown result ≡ self.now }
     {
         self.files.iter()
+    }
+
+    /// The images, in order, as pairs of a name and a file. The only error is want of memory.
+    pub fn into_pairs(self, alloc: Global) -> Result<Vec<(&'a str, &'a str)>, AllocError>
+        ensures { IfOk result (λ pairs. shown pairs.items ≡ self.entry) }
+    {
+        self.files.into_iter().collect(alloc)
     }
 }
 

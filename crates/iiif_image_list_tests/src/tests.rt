@@ -38,6 +38,8 @@ fn words_name_images_once(rt: HostRuntime) -> Result<(), Fail> {
     has_images(&rt, &list, &images);
     assert!(rt; list.has("a") && list.has("#"));
     assert!(rt; !list.has("c") && !list.has(""));
+    let pairs = list.into_pairs(rt.alloc())?;
+    assert_eq!(rt; pairs.as_slice(), images.as_slice());
     Ok(())
 }
 
