@@ -3,7 +3,8 @@
     /usr/bin/python3 bench/machine/lists.py crates/iiif_replay/out/iiif_replay [--count N] [--seed N] [--each N] [--jobs N]
 
 The outcome of each event, the answers, and at the end all rows of each world are compared; of each EACHth list all rows after each
-event too. Of a hundred lists one is long: its nodes ask one another again and again, so that tenth values of a peer are kept.
+event too. Of twenty lists one is long: its nodes ask one another again and again, so that tenth values of a peer are kept, and leaders
+look again late. Of those all rows are compared after each tenth event.
 
 It writes how often each event was done and refused, by what it found and what it left, and which answers there were. The status is 1
 where a line differs, or where an event was never done or never refused.
@@ -18,7 +19,7 @@ import sys
 from machine import LOCAL, WIDE, Node, Scene, World
 
 # How many events a list has, and a long one; and how many lists a process replays at once.
-LENGTH, LONG, BATCH = 45, 600, 100
+LENGTH, LONG, BATCH = 45, 500, 100
 
 
 # Rows, as the program writes them
@@ -131,17 +132,21 @@ def a_world(chance, is_long):
     limits = (side, side, chance.random() < 0.5)
     room = chance.choice((65536, 65536, 12, 0))
     names = chance.choice((["a", "b"], ["a", "b"], ["a", "b", "c"], ["a", "b", "c"], ["a", "b", "b"]))
-    nodes = [Node(name, chance.sample(names, chance.randint(1, len(names))), chance.choice((1, 2, 2)), chance.choice((60, 120, 1000)),
+    known = sorted(set(names))
+    nodes = [Node(name, chance.sample(known, chance.randint(1, len(known))), chance.choice((1, 2, 2)), chance.choice((25, 28, 60, 65, 120, 1000)),
                   chance.randint(0, 4)) for name in names]
     if is_long:
-        nodes = [Node("a", ["b"], 2, 1000, 4), Node("b", ["a"], 2, 1000, 4)]
+        nodes = [Node(name, [other], 2, chance.choice((60, 90, 140, 1000)), chance.randint(2, 8)) for name, other in (("a", "b"), ("b", "a"))]
     lines = ["edge %d" % edge, "limits %d %d%s" % (side, side, " upscale" if limits[2] else ""), "room %d" % room]
     lines += ["picture %s %s" % (name, picture_text(p)) for name, p in pictures.items()]
     lines += ["node %s %d %d %d %s" % (n.name, n.version, n.tiles.limit, n.tiles.room, " ".join(n.ring)) for n in nodes]
     return World(Scene(pictures, edge, limits, room), nodes), lines
 
 
-def a_request(chance, p):
+WHOLE, HALF = ("full", "max", "0", "default"), ("full", "2,", "0", "default")
+
+
+def a_request(chance):
     region = chance.choice(("full", "full", "square", "%d,%d,%d,%d" % tuple(chance.randint(0, 4) for _ in range(4))))
     size = chance.choice(("max", "max", "2,", ",1", "1,1", "!2,2", "^max", "^3,3", "^5,", "2,2"))
     rotation = chance.choice(("0", "0", "90", "180", "!270"))
@@ -190,7 +195,7 @@ def a_row(chance, rows):
 
 def a_want(chance, world):
     name = chance.choice(list(world.scene.pictures) + ["none"] * (chance.random() < 0.1))
-    return ("want", a_row(chance, world.nodes), name, a_request(chance, world.scene.pictures.get(name)))
+    return ("want", a_row(chance, world.nodes), name, a_request(chance))
 
 
 def with_words(chance, event):
@@ -227,6 +232,8 @@ def is_onward(chance, world, event):
     """Whether an event of a long list helps a wide flight to its value: no ask is lost or served twice, and replies fit."""
     if event[0] in ("lose", "source_fault"):
         return chance.random() < 0.02
+    if event[0] == "again":
+        return chance.random() < 0.3
     if event[0] == "serve":
         return all(call[3] != ("ask", event[1]) for call in world.calls)
     if event[0] == "reply":
@@ -242,7 +249,8 @@ def an_event_onward(chance, world):
     some = [event for event in allowed(world) if is_onward(chance, world, event)]
     draw = chance.random()
     if not some or draw < 0.02:
-        return a_want(chance, world)
+        name = chance.choice(list(world.scene.pictures))
+        return ("want", chance.randrange(2), name, chance.choice((a_request(chance), WHOLE, WHOLE, HALF)))
     if draw < 0.10:
         n = chance.randrange(len(world.nodes))
         kept = [entry[0] for table in (world.nodes[n].tiles, world.nodes[n].sums) for entry in table.main + table.hot]
@@ -364,14 +372,14 @@ def a_list(chance, number, each, is_long, tally):
     """The lines of a list, and what the program should write for it; `number` is that of its first line."""
     world, lines = a_world(chance, is_long)
     wanted = []
-    for _ in range(LONG if is_long else LENGTH):
+    for n in range(LONG if is_long else LENGTH):
         event = (an_event_onward if is_long else an_event)(chance, world)
         found = found_by(world, event)
         lines.append(event_text(event))
         done = world.step(event)
         tally.events[(event[0], found, left_by(world, event, found) if done else "not now")] += 1
         wanted.append("%d %s: %s" % (number + len(lines) - 1, lines[-1], "done" if done else "not now"))
-        if each:
+        if n % 10 == 9 if is_long else each:
             lines.append("rows")
             wanted += rows(world)
             tally.compared += 1
@@ -399,8 +407,8 @@ def a_batch(program, seed, first, end, each):
     """Lists from one number to another: the tally, what differs first, and the lines."""
     chance, tally, lines, wanted = random.Random("%d %d" % (seed, first)), Tally(), [], []
     for n in range(first, end):
-        is_long = n % 100 == 99
-        more, expected = a_list(chance, len(lines) + 1, n % each == 0 and not is_long, is_long, tally)
+        is_long = n % 20 == 19
+        more, expected = a_list(chance, len(lines) + 1, n % each == 0, is_long, tally)
         lines += more
         wanted += expected
     return tally, compare(program, lines, wanted), lines

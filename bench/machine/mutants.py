@@ -3,7 +3,7 @@
     /usr/bin/python3 bench/machine/mutants.py crates/iiif_replay/out/iiif_replay [--count N] [--jobs N]
 
 Each turned rule has to be reported: by a line that differs in one of N lists (seed 1, all rows after every event), the long ones
-too. Prints for each the list from which on it was. The status is 1 where one isn't, or where the turned evaluation can't go on.
+too. Prints for each in which lists it was. The status is 1 where one isn't, or where the turned evaluation can't go on.
 """
 import argparse
 import multiprocessing
@@ -13,13 +13,13 @@ import types
 
 HERE = os.path.dirname(os.path.abspath(__file__))
 
-# What is turned, and the text that stands once in machine.py, and what takes its place.
+# What is turned, and texts that stand once in machine.py, each with what takes its place.
 MUTANTS = [
     # Tables
     ("a value that is met stays where it is", "entries.insert(0, entries.pop(place))", "pass"),
     ("a met value isn't counted", 'self.book["hits"] += 1', 'self.book["hits"] += 0'),
     ("an open flight comes before a kept value", "        if entry:\n            self.touch(key)", "        if entry and not self.flight(key, kind):\n            self.touch(key)"),
-    ("a flight is joined in either class", "flight[:2] == [kind, key]", "flight[1] == key"),
+    ("a flight is joined in either class", "flight[:2] == [kind, key]", "flight[1] == key", "f[:3] == [node, key, kind]", "f[:2] == [node, key]"),
     ("a join counts as a lead", 'self.book["joins"] += 1', 'self.book["leads"] += 1'),
     ("a value found again stays where it is", "        self.touch(key)\n        flight[3] = True", "        flight[3] = True"),
     ("a flight that found its value isn't marked", "flight[3] = True", "flight[3] = False"),
@@ -30,14 +30,13 @@ MUTANTS = [
     ("a list has one entry more", "entries[:max(0, self.room - 1)]", "entries[:self.room]"),
     ("room for no entry keeps none", "entries[:] = [(key, value, ticket)] + entries[:max(0, self.room - 1)]", "entries[:] = ([(key, value, ticket)] + entries)[:self.room]"),
     ("just within the limit something goes", "<= self.limit:", "< self.limit:"),
-    ("hot may take a seventh", "self.size(self.main) // 8 <", "self.size(self.main) // 7 <"),
+    ("hot may take a third", "self.size(self.main) // 8 <", "self.size(self.main) // 3 <"),
     ("hot never goes", "goes = self.hot if", "goes = self.hot if False and"),
     ("the newest goes", "goes.pop()", "goes.pop(0)"),
     ("a value that was found again counts as loaded", "        if flight[3]:\n            book", "        if False:\n            book"),
     ("a fault isn't counted", 'book["faults"] += 1', 'book["faults"] += 0'),
     ("a value of a peer isn't counted", 'book["peer"] += 1', 'book["peer"] += 0'),
     ("a landing isn't counted", 'book["landed"] += 1', 'book["landed"] += 0'),
-    ("a flight that landed stays open", "self.open.remove(flight)", "pass"),
     ("a landing keeps where told not to", "if keep and value is not None:", "if value is not None:"),
     ("each ninth value of a peer is kept", '% 10 == 0', '% 9 == 0'),
     ("each value of a peer is kept", 'book["peer"] % 10 == 0', 'True'),
@@ -54,8 +53,8 @@ MUTANTS = [
     # Events
     ("a request comes to a node of any version", "if self.nodes[node].version < version_shown(p):", "if False:"),
     ("a request comes to a node of a later version alone", "if self.nodes[node].version < version_shown(p):", "if self.nodes[node].version <= version_shown(p):"),
-    ("a refused request waits", '("answered", ("refused", r))', '("waiting", None, [])'),
-    ("a request's calls have the next numbers", "list(range(first, first + len(keys))))])", "list(range(first + 1, first + len(keys) + 1)))])"),
+    ("a refused request goes", '("answered", ("refused", r))', '("dropped",)'),
+    ("a request has its calls the other way round", "list(range(first, first + len(keys))))])", "list(range(first, first + len(keys)))[::-1])])"),
     ("a request's calls are of the next request", '("request", len(self.requests) - 1)', '("request", len(self.requests))'),
     ("a call enters twice", '!= ("fresh",):', '== ("gone",):'),
     ("a call that finds a value tells no one", 'row[4] = ("hit", met[1])\n            self.settle()', 'row[4] = ("hit", met[1])'),
@@ -94,10 +93,10 @@ MUTANTS = [
     ("a landing forgets its outcome", '("ended", outcome)', '("ended", None)'),
     ("tiles don't go", "self.nodes[node].tiles.evict(keys)", "pass"),
     ("sums don't go", "self.nodes[node].sums.evict(keys)", "pass"),
-    ("a stopped node keeps its tiles", "n.tiles, n.sums = Table(n.tiles.limit, n.tiles.room), Table(n.sums.limit, n.sums.room)", "n.sums = Table(n.sums.limit, n.sums.room)"),
+    ("a stopped node keeps its tiles", "n.tiles, n.sums = Table(n.tiles.limit, n.tiles.room), Table(n.sums.limit, n.sums.room)", "n.tiles.open, n.sums = [], Table(n.sums.limit, n.sums.room)"),
     ("a stopped node's flights go on", 'if f[0] == node and f[4][0] != "ended":', "if False:"),
     ("a stop takes outcomes", 'if f[0] == node and f[4][0] != "ended":', "if f[0] == node:"),
-    ("a stop ends all flights", 'if f[0] == node and f[4][0] != "ended":', 'if f[4][0] != "ended":'),
+    ("a stop takes all calls", "if c[0] == node:", "if True:"),
     ("a stopped node's calls stay", "if c[0] == node:", "if False:"),
     ("a stopped node's requests wait", 'if r[0] == node and r[2][0] == "waiting":', "if False:"),
     ("a stop takes answers", 'if r[0] == node and r[2][0] == "waiting":', "if r[0] == node:"),
@@ -127,13 +126,15 @@ MUTANTS = [
 
 def turned(job):
     """What came of a turned rule: the list from which on it was reported, or words."""
-    program, count, (name, old, new) = job
+    program, count, (name, *texts) = job
     with open(os.path.join(HERE, "machine.py")) as file:
         text = file.read()
-    if text.count(old) != 1:
-        return name, "its text stands %d times" % text.count(old), False
+    for old, new in zip(texts[::2], texts[1::2]):
+        if text.count(old) != 1:
+            return name, "its text stands %d times" % text.count(old), False
+        text = text.replace(old, new)
     module = types.ModuleType("machine")
-    exec(compile(text.replace(old, new), "machine.py", "exec"), module.__dict__)
+    exec(compile(text, "machine.py", "exec"), module.__dict__)
     sys.path.insert(0, HERE)
     sys.modules["machine"] = module
     import lists
