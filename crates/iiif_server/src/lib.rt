@@ -11,6 +11,7 @@ pub use iiif_sum_group::Passes;
 pub use node::Node;
 pub use part::Part;
 pub use stock::Stock;
+pub use watch::Watch;
 
 mod accepted;
 pub mod answer;
@@ -26,3 +27,4 @@ pub mod part;
 mod sending;
 pub mod stock;
 pub mod stream;
+pub mod watch;

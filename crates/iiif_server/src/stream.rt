@@ -8,10 +8,12 @@ ghost use Rattle.iiif_server.specs.Streams.{IsCame, IsConnection, call_limit, te
 ghost use Rattle.iiif_server.specs.Responses.{refusal_response, want_of_memory};
 ghost use Rattle.iiif_request.specs.declared.request.Refusal.TheVariants as refusal;
 
+use crate::answer::{Cut, Sent};
 use crate::message::refusal_message;
 use crate::node::Node;
 use crate::part::Part;
 use crate::sending::send_message;
+use crate::watch::Watch;
 use iiif_group::{Gate, Link};
 use iiif_http_front::{Call, HeadFault, Heads};
 use iiif_io::{Inlet, Outlet};
@@ -27,21 +29,21 @@ use std::thread::Threads;
 pub const CALL_LIMIT: u32 = 1000;
 
 /// Sends the answer to want of memory, after which the connection closes.
-fn close_for_memory<W: Outlet>(out: &mut W)
+fn close_for_memory<W: Outlet>(out: &mut W) -> Result<Sent, Cut>
     ensures { (text : List ℕ) × Appends (W.contents out.old) (W.contents out.new) text
         × IsClosing ((before : W) × W.fails before out.new) want_of_memory text }
 {
-    let _ = send_message(out, Part::Whole(true), Err(AllocError));
+    send_message(out, Part::Whole(true), Err(AllocError))
 }
 
 /// Sends the answer to a head that is none, or to want of memory, after which the connection closes.
-fn close_for_head<W: Outlet>(alloc: Global, out: &mut W)
+fn close_for_head<W: Outlet>(alloc: Global, out: &mut W) -> Result<Sent, Cut>
     ensures { (text : List ℕ) × Appends (W.contents out.old) (W.contents out.new) text
         × CloseFor ((before : W) × W.fails before out.new) (refusal_response refusal.Head) text }
 {
     let part = Part::Whole(true);
     let message = refusal_message(alloc, part, Refusal::Head);
-    let _ = send_message(out, part, message);
+    send_message(out, part, message)
 }
 
 /// A call as the `n`-th of its connection: the last one that is answered closes it.
@@ -64,28 +66,32 @@ impl<
     N: Link<TileKey, J, R> + Link<SumKey, J, R> + Sync,
     T: Gate<R> + Sync,
 > Node<R, S, J, N, T> {
-    /// Answers a call, and says whether another may follow.
-    fn serve_call<W: Outlet>(
+    /// Answers a call, of which the watch is told, and says whether another may follow.
+    fn serve_call<W: Outlet, V: Watch<R>>(
         &self,
         rt: &R,
         alloc: Global,
         passes: &mut [Passes<J>],
         call: &Call,
         out: &mut W,
+        watch: &V,
     ) -> bool
         requires { 0 < length passes.old }
         ensures { (text : List ℕ) × Appends (W.contents out.old) (W.contents out.new) text
             × IsAnswered S.bytes S.keeps J.honest S.gave self.now.settings self.now.items ((before : W) × W.fails before out.new)
             call.now.method call.now.target.items call.now.close text result }
     {
-        match self.serve_one(rt, alloc, passes, call, out) {
+        let begun = watch.begin(rt);
+        let outcome = self.serve_one(rt, alloc, passes, call, out);
+        watch.answered(rt, begun, Some(call), &outcome);
+        match outcome {
             Ok(_) => !call.close,
             Err(_) => false,
         }
     }
 
     /// Answers the next call of a connection, which is its `n`-th, or what ended it. Says whether more may follow.
-    fn serve_next<I: Inlet + Drop, W: Outlet>(
+    fn serve_next<I: Inlet + Drop, W: Outlet, V: Watch<R>>(
         &self,
         rt: &R,
         alloc: Global,
@@ -93,6 +99,7 @@ impl<
         heads: &mut Heads<I>,
         n: u32,
         out: &mut W,
+        watch: &V,
     ) -> bool
         requires some { 0 < length passes.old }
         requires no_fault { heads.old.fault ≡ None }
@@ -110,21 +117,27 @@ impl<
             Ok(Some(call)) => closing_call(call, n),
             Ok(None) => return false,
             Err(HeadFault::Bad) => {
-                close_for_head(alloc, out);
+                let begun = watch.begin(rt);
+                let outcome = close_for_head(alloc, out);
+                watch.answered(rt, begun, None, &outcome);
                 return false;
             }
             Err(HeadFault::TooLong) => {
-                close_for_head(alloc, out);
+                let begun = watch.begin(rt);
+                let outcome = close_for_head(alloc, out);
+                watch.answered(rt, begun, None, &outcome);
                 return false;
             }
             Err(HeadFault::NoMemory) => {
-                close_for_memory(out);
+                let begun = watch.begin(rt);
+                let outcome = close_for_memory(out);
+                watch.answered(rt, begun, None, &outcome);
                 return false;
             }
             Err(HeadFault::Cut) => return false,
             Err(HeadFault::Io) => return false,
         };
-        self.serve_call(rt, alloc, passes, &call, out)
+        self.serve_call(rt, alloc, passes, &call, out, watch)
     }
 
     /// Answers the calls of a connection in order, until its input ends, a call closes it, its 1,000th call was answered, an
@@ -150,12 +163,40 @@ impl<
             × IsConnection (terms S.bytes S.keeps J.honest S.gave self.now.settings self.now.items ((before after : I) × I.fails before after) ((before : W) × W.fails before out.new))
             came output }
     {
+        self.serve_watched(rt, alloc, passes, reader, out, &())
+    }
+
+    /// Answers the calls of a connection as [`Node::serve_stream`] does, and tells the watch of each answer once it ended, in order.
+    pub fn serve_watched<I: Inlet + Drop, W: Outlet, V: Watch<R>>(
+        &self,
+        rt: &R,
+        alloc: Global,
+        passes: &mut [Passes<J>],
+        reader: I,
+        out: &mut W,
+        watch: &V,
+    )
+        requires { 0 < length passes.old }
+        // Where the bytes that the reader has left are known, the output is that for what came of them: all, or a first part where
+        // the reader failed.
+        ensures serves { IfSome (I.remaining reader) (λ input. (output : List ℕ) × Appends (W.contents out.old) (W.contents out.new) output
+            × ((came : List ℕ) × IsCame ((before after : I) × I.fails before after) input came
+            × IsConnection (terms S.bytes S.keeps J.honest S.gave self.now.settings self.now.items ((before after : I) × I.fails before after) ((before : W) × W.fails before out.new))
+            came output)) }
+
+        // Where they are not, as at a socket, it is that for the bytes that came.
+        ensures came { (came : List ℕ) × (output : List ℕ) × Appends (W.contents out.old) (W.contents out.new) output
+            × IsConnection (terms S.bytes S.keeps J.honest S.gave self.now.settings self.now.items ((before after : I) × I.fails before after) ((before : W) × W.fails before out.new))
+            came output }
+    {
         let Ok(mut heads) = Heads::new(alloc, reader) else {
-            close_for_memory(out);
+            let begun = watch.begin(rt);
+            let outcome = close_for_memory(out);
+            watch.answered(rt, begun, None, &outcome);
             return;
         };
         let mut n = 1;
-        while self.serve_next(rt, alloc, passes, &mut heads, n, out) {
+        while self.serve_next(rt, alloc, passes, &mut heads, n, out, watch) {
             n += 1;
         }
     }

@@ -12,21 +12,21 @@ returns-in-Ok-None-clause-serves g c =
 
 pub returns-in-Err-Bad-clause-serves : goal.returns-in-Err-Bad-clause-serves
 returns-in-Err-Bad-clause-serves g c =
-    next_bad (terms g.S.Source.bytes g.S.Source.keeps g.J.System.honest g.S.Source.gave c.args.self.now.settings c.args.self.now.items ((a b : g.row.I.Denot) × g.I.Inlet.fails a b) ((b : g.row.W.Denot) × g.W.Outlet.fails b c.close_for_head.new.out))
+    next_bad (terms g.S.Source.bytes g.S.Source.keeps g.J.System.honest g.S.Source.gave c.args.self.now.settings c.args.self.now.items ((a b : g.row.I.Denot) × g.I.Inlet.fails a b) ((b : g.row.W.Denot) × g.W.Outlet.fails b c.close_for_head-outcome.new.out))
     c.args.n (input_of g.I.Read.remaining c.args.heads.now) (input_of g.I.Read.remaining c.read_head.new.self) (g.W.Write.contents c.args.out.now)
-    (g.W.Write.contents c.close_for_head.new.out) (rw c.in-Err-Bad.field-0-is at c.in-Err-Bad.ensures.answers c.requires.no_fault) c.close_for_head.ensures
+    (g.W.Write.contents c.close_for_head-outcome.new.out) (rw c.in-Err-Bad.field-0-is at c.in-Err-Bad.ensures.answers c.requires.no_fault) c.close_for_head-outcome.ensures
 
 pub returns-in-Err-TooLong-clause-serves : goal.returns-in-Err-TooLong-clause-serves
 returns-in-Err-TooLong-clause-serves g c =
-    next_too_long (terms g.S.Source.bytes g.S.Source.keeps g.J.System.honest g.S.Source.gave c.args.self.now.settings c.args.self.now.items ((a b : g.row.I.Denot) × g.I.Inlet.fails a b) ((b : g.row.W.Denot) × g.W.Outlet.fails b c.close_for_head-in-Err-TooLong.new.out))
+    next_too_long (terms g.S.Source.bytes g.S.Source.keeps g.J.System.honest g.S.Source.gave c.args.self.now.settings c.args.self.now.items ((a b : g.row.I.Denot) × g.I.Inlet.fails a b) ((b : g.row.W.Denot) × g.W.Outlet.fails b c.close_for_head-outcome-in-Err-TooLong.new.out))
     c.args.n (input_of g.I.Read.remaining c.args.heads.now) (input_of g.I.Read.remaining c.read_head.new.self) (g.W.Write.contents c.args.out.now)
-    (g.W.Write.contents c.close_for_head-in-Err-TooLong.new.out) (rw c.in-Err-TooLong.field-0-is at c.in-Err-TooLong.ensures.answers c.requires.no_fault)
-    c.close_for_head-in-Err-TooLong.ensures
+    (g.W.Write.contents c.close_for_head-outcome-in-Err-TooLong.new.out) (rw c.in-Err-TooLong.field-0-is at c.in-Err-TooLong.ensures.answers c.requires.no_fault)
+    c.close_for_head-outcome-in-Err-TooLong.ensures
 
 pub returns-in-Err-NoMemory-clause-serves : goal.returns-in-Err-NoMemory-clause-serves
 returns-in-Err-NoMemory-clause-serves g c =
-    next_no_memory (terms g.S.Source.bytes g.S.Source.keeps g.J.System.honest g.S.Source.gave c.args.self.now.settings c.args.self.now.items ((a b : g.row.I.Denot) × g.I.Inlet.fails a b) ((b : g.row.W.Denot) × g.W.Outlet.fails b c.close_for_memory.new.out))
-    c.args.n (input_of g.I.Read.remaining c.args.heads.now) (g.W.Write.contents c.args.out.now) (g.W.Write.contents c.close_for_memory.new.out) c.close_for_memory.ensures
+    next_no_memory (terms g.S.Source.bytes g.S.Source.keeps g.J.System.honest g.S.Source.gave c.args.self.now.settings c.args.self.now.items ((a b : g.row.I.Denot) × g.I.Inlet.fails a b) ((b : g.row.W.Denot) × g.W.Outlet.fails b c.close_for_memory-outcome.new.out))
+    c.args.n (input_of g.I.Read.remaining c.args.heads.now) (g.W.Write.contents c.args.out.now) (g.W.Write.contents c.close_for_memory-outcome.new.out) c.close_for_memory-outcome.ensures
 
 pub returns-in-Err-Cut-clause-serves : goal.returns-in-Err-Cut-clause-serves
 returns-in-Err-Cut-clause-serves g c =
@@ -59,22 +59,22 @@ returns-in-Ok-None-clause-came g c =
 pub returns-in-Err-Bad-clause-came : goal.returns-in-Err-Bad-clause-came
 returns-in-Err-Bad-clause-came g c =
     let came = (rw c.in-Err-Bad.field-0-is at c.in-Err-Bad.ensures.came c.requires.no_fault) in
-    let sent = next_bad (terms g.S.Source.bytes g.S.Source.keeps g.J.System.honest g.S.Source.gave c.args.self.now.settings c.args.self.now.items ((a b : g.row.I.Denot) × g.I.Inlet.fails a b) ((b : g.row.W.Denot) × g.W.Outlet.fails b c.close_for_head.new.out))
-    c.args.n (Some (c.args.heads.now.unread ++ came.0)) (Some c.read_head.new.self.unread) (g.W.Write.contents c.args.out.now) (g.W.Write.contents c.close_for_head.new.out) came.1 c.close_for_head.ensures in
+    let sent = next_bad (terms g.S.Source.bytes g.S.Source.keeps g.J.System.honest g.S.Source.gave c.args.self.now.settings c.args.self.now.items ((a b : g.row.I.Denot) × g.I.Inlet.fails a b) ((b : g.row.W.Denot) × g.W.Outlet.fails b c.close_for_head-outcome.new.out))
+    c.args.n (Some (c.args.heads.now.unread ++ came.0)) (Some c.read_head.new.self.unread) (g.W.Write.contents c.args.out.now) (g.W.Write.contents c.close_for_head-outcome.new.out) came.1 c.close_for_head-outcome.ensures in
     (came.0, sent.0, sent.1, sent.2)
 
 pub returns-in-Err-TooLong-clause-came : goal.returns-in-Err-TooLong-clause-came
 returns-in-Err-TooLong-clause-came g c =
     let came = (rw c.in-Err-TooLong.field-0-is at c.in-Err-TooLong.ensures.came c.requires.no_fault) in
-    let sent = next_too_long (terms g.S.Source.bytes g.S.Source.keeps g.J.System.honest g.S.Source.gave c.args.self.now.settings c.args.self.now.items ((a b : g.row.I.Denot) × g.I.Inlet.fails a b) ((b : g.row.W.Denot) × g.W.Outlet.fails b c.close_for_head-in-Err-TooLong.new.out))
-    c.args.n (Some (c.args.heads.now.unread ++ came.0)) (Some c.read_head.new.self.unread) (g.W.Write.contents c.args.out.now) (g.W.Write.contents c.close_for_head-in-Err-TooLong.new.out) came.1
-    c.close_for_head-in-Err-TooLong.ensures in
+    let sent = next_too_long (terms g.S.Source.bytes g.S.Source.keeps g.J.System.honest g.S.Source.gave c.args.self.now.settings c.args.self.now.items ((a b : g.row.I.Denot) × g.I.Inlet.fails a b) ((b : g.row.W.Denot) × g.W.Outlet.fails b c.close_for_head-outcome-in-Err-TooLong.new.out))
+    c.args.n (Some (c.args.heads.now.unread ++ came.0)) (Some c.read_head.new.self.unread) (g.W.Write.contents c.args.out.now) (g.W.Write.contents c.close_for_head-outcome-in-Err-TooLong.new.out) came.1
+    c.close_for_head-outcome-in-Err-TooLong.ensures in
     (came.0, sent.0, sent.1, sent.2)
 
 pub returns-in-Err-NoMemory-clause-came : goal.returns-in-Err-NoMemory-clause-came
 returns-in-Err-NoMemory-clause-came g c =
-    let sent = next_no_memory (terms g.S.Source.bytes g.S.Source.keeps g.J.System.honest g.S.Source.gave c.args.self.now.settings c.args.self.now.items ((a b : g.row.I.Denot) × g.I.Inlet.fails a b) ((b : g.row.W.Denot) × g.W.Outlet.fails b c.close_for_memory.new.out))
-    c.args.n (Some (c.args.heads.now.unread ++ (c.in-Err-NoMemory.ensures.came c.requires.no_fault).0)) (g.W.Write.contents c.args.out.now) (g.W.Write.contents c.close_for_memory.new.out) c.close_for_memory.ensures in
+    let sent = next_no_memory (terms g.S.Source.bytes g.S.Source.keeps g.J.System.honest g.S.Source.gave c.args.self.now.settings c.args.self.now.items ((a b : g.row.I.Denot) × g.I.Inlet.fails a b) ((b : g.row.W.Denot) × g.W.Outlet.fails b c.close_for_memory-outcome.new.out))
+    c.args.n (Some (c.args.heads.now.unread ++ (c.in-Err-NoMemory.ensures.came c.requires.no_fault).0)) (g.W.Write.contents c.args.out.now) (g.W.Write.contents c.close_for_memory-outcome.new.out) c.close_for_memory-outcome.ensures in
     ((c.in-Err-NoMemory.ensures.came c.requires.no_fault).0, sent.0, sent.1, sent.2)
 
 pub returns-in-Err-Cut-clause-came : goal.returns-in-Err-Cut-clause-came
