@@ -4,8 +4,12 @@
 mod describing;
 mod fault;
 mod reading;
+#[cfg(test)]
+mod refused;
 mod replaying;
 mod rows;
+#[cfg(test)]
+mod running;
 mod state;
 #[cfg(test)]
 mod tests;

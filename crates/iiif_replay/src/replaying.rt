@@ -37,7 +37,7 @@ fn outcome(
 }
 
 /// The answers of a world, a line a request.
-fn answers(alloc: Global, world: &World) -> Result<String, NoMemory> {
+pub(crate) fn answers(alloc: Global, world: &World) -> Result<String, NoMemory> {
     let mut text = String::new(alloc);
     for request in 0..world.requests.len() {
         write!(text, "request {}: ", request)?;
@@ -51,7 +51,7 @@ fn answers(alloc: Global, world: &World) -> Result<String, NoMemory> {
 }
 
 /// All rows of a world, one a line.
-fn rows(alloc: Global, world: &World) -> Result<String, NoMemory> {
+pub(crate) fn rows(alloc: Global, world: &World) -> Result<String, NoMemory> {
     let mut text = String::new(alloc);
     put_rows(&mut text, world)?;
     Ok(text)

@@ -133,6 +133,12 @@ fn stopped_nodes(rt: HostRuntime) -> Result<(), Fail> {
         &[CROSSED, WANT, stopped],
         "request 0: none\nrequest 1: image gray 8 1 1 7\n",
     );
+    let replied =
+        "enter 0; again 0; ask_peer 0; stop 0; want 0 p full max 0 default; enter 1; again 1; ask_peer 1; serve 0; enter 2; again 2; load 2; land 2 kept; reply 2";
+    let before = replayed(rt.alloc(), &[CROSSED, WANT, replied, "rows"]).ok();
+    let after = replayed(rt.alloc(), &[CROSSED, WANT, replied, "take 0 0; rows"]).ok();
+    assert!(rt; before.is_some());
+    assert_eq!(rt; before, after);
     comes_to(
         &rt,
         rt.alloc(),

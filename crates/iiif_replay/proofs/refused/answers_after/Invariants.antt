@@ -1,0 +1,9 @@
+use Rattle.iiif_world.specs.Code.{world_of, IsSoundWorld}
+use Rattle.iiif_replay.proofs.refused.answers_after.Given as goal
+
+-- the world is sound
+abbrev pub invariant-loop-line : goal.invariant-loop-line
+invariant-loop-line g l =
+    (goal.iterator-loop-line g).can_next l.line-iterator
+    × (goal.iterator-loop-line g).is_finite l.line-iterator
+    × IsSoundWorld (world_of l.world)

@@ -1,0 +1,183 @@
+//! Lists of events run as one, and worlds that can't begin.
+
+ghost use Rattle.std.specs.Prelude.{All, IfOk};
+ghost use Rattle.iiif_world.specs.Stepping.{IsShortEvent};
+
+use crate::fault::LineFault;
+use crate::refused::{CROSSED, DEEP, begun, event_of};
+use crate::values::put_answer;
+use iiif_canonical::Limits;
+use iiif_keys::{Name, is_name};
+use iiif_machine::{Answer, Event, WorldFault};
+use iiif_pixel::{Dim, Kind, NoMemory, Raster, Samples};
+use iiif_ring::Ring;
+use iiif_world::starting::{Setup, SetupFault};
+use iiif_world::stepping::run;
+use iiif_world::world::{Item, World};
+use std::alloc::Global;
+use std::test::Fail;
+
+fn add(events: &mut Vec<Event>, event: Event) -> Result<(), NoMemory>
+    requires so_far { All IsShortEvent events.old.items }
+    requires short { IsShortEvent event }
+    ensures { All IsShortEvent events.new.items }
+{
+    events.push(event)?;
+    Ok(())
+}
+
+/// The events of lines.
+fn events_of(alloc: Global, lines: &str) -> Result<Vec<Event>, LineFault>
+    ensures { IfOk result (λ v. All IsShortEvent v.items) }
+{
+    let mut events = Vec::new(alloc);
+    for line in lines.split(';') {
+        add(&mut events, event_of(alloc, line)?)?;
+    }
+    Ok(events)
+}
+
+/// Answers, one after another.
+fn text_of(alloc: Global, answers: &[Option<Answer>]) -> Result<String, NoMemory> {
+    let mut text = String::new(alloc);
+    for answer in answers {
+        match answer {
+            Some(answer) => put_answer(&mut text, answer)?,
+            None => text.push_str("none")?,
+        }
+        text.push_str(";")?;
+    }
+    Ok(text)
+}
+
+/// The answers after a list of events, or the place of the first that isn't allowed.
+fn ran(
+    alloc: Global,
+    world: &str,
+    events: &str,
+) -> Result<Result<String, (usize, WorldFault)>, Fail> {
+    let world = begun(alloc, world)?;
+    let events = events_of(alloc, events)?;
+    match run(world, &events) {
+        Ok(world) => Ok(Ok(text_of(alloc, &world.answers()?)?)),
+        Err(stopped) => Ok(Err(stopped)),
+    }
+}
+
+#[test]
+fn lists_run_to_their_answers(rt: HostRuntime) -> Result<(), Fail> {
+    for (world, events, answers) in [
+        (
+            CROSSED,
+            "want 0 p full max 0 default; want 1 p full max 0 default; enter 0; enter 1; again 0; again 1; ask_peer 0; ask_peer 1; serve 0; serve 1; enter 2; enter 3; again 2; again 3; load 2; load 3; land 2 kept; land 3 kept; reply 2; reply 3; take 0 0; take 1 1; land 0 kept; land 1 kept; serve 0; enter 4; reply 4; take 0 2",
+            "image gray 8 1 1 7;image gray 8 1 1 7;",
+        ),
+        (
+            CROSSED,
+            "want 0 p full max 0 default; enter 0; again 0; ask_peer 0; stop 0; want 0 p full max 0 default; enter 1; again 1; ask_peer 1; serve 0; enter 2; again 2; load 2; land 2 kept; reply 2; take 0 0; take 1 0; land 1 kept",
+            "none;image gray 8 1 1 7;",
+        ),
+        (
+            DEEP,
+            "want 0 p full max 0 default; enter 0; again 0; ask_peer 0; lose 0; go_local 0; enter 1; again 1; load 1; land 1 kept; land 0 kept",
+            "image gray 16 1 1 700;",
+        ),
+        (CROSSED, "want 0 p 1,0,1,1 max 0 default", "refused Empty;"),
+    ] {
+        match ran(rt.alloc(), world, events)? {
+            Ok(text) => assert_eq!(rt; text.as_str(), answers),
+            Err(stopped) => assert_eq!(rt; Some(stopped), None),
+        }
+    }
+    Ok(())
+}
+
+#[test]
+fn first_event_that_is_not_allowed_is_named(rt: HostRuntime) -> Result<(), Fail> {
+    for (world, events, place) in [
+        (
+            CROSSED,
+            "want 0 p full max 0 default; enter 0; again 0; ask_peer 0; serve 0; enter 1; again 1; source_fault 1 8 3; land 1 kept; enter 1; load 1",
+            9usize,
+        ),
+        (
+            DEEP,
+            "want 0 p full max 0 default; enter 0; again 0; ask_peer 0; serve 0; serve 0",
+            4,
+        ),
+        (CROSSED, "stop 2", 0),
+    ] {
+        let stopped = ran(rt.alloc(), world, events)?.err();
+        assert_eq!(rt; stopped, Some((place, WorldFault::NotNow)));
+    }
+    Ok(())
+}
+
+/// A node that names itself on its ring, or another.
+fn setup(alloc: Global, other: bool) -> Result<Setup, Fail> {
+    let text = String::from_str(alloc, "a")?;
+    if !is_name(text.as_str()) {
+        return Err("no name".into());
+    }
+    let owner = if other { "b" } else { "a" };
+    let names = Vec::from_array(alloc, [String::from_str(alloc, owner)?])?;
+    Ok(Setup {
+        name: Name::new(text)?,
+        ring: Ring::new(alloc, names)?,
+        version: 2,
+        limit: 1000,
+        room: 8,
+    })
+}
+
+/// A picture without places, or one of a place, named p.
+fn item(alloc: Global, empty: bool) -> Result<Item, Fail> {
+    let text = String::from_str(alloc, "p")?;
+    if !is_name(text.as_str()) {
+        return Err("no name".into());
+    }
+    let name = Name::new(text)?;
+    let samples = Vec::new(alloc);
+    if empty {
+        let picture = Raster::from_samples(Dim { w: 0, h: 0 }, Kind::Gray, Samples::Eight(samples));
+        return Ok(Item { name, picture });
+    }
+    let mut samples = samples;
+    samples.push(7u8)?;
+    let picture = Raster::from_samples(Dim { w: 1, h: 1 }, Kind::Gray, Samples::Eight(samples));
+    Ok(Item { name, picture })
+}
+
+/// Why no world of one node and one picture begins so.
+fn fault_of(
+    alloc: Global,
+    edge: u32,
+    room: u64,
+    empty: bool,
+    other: bool,
+) -> Result<Option<SetupFault>, Fail> {
+    let items = Vec::from_array(alloc, [item(alloc, empty)?])?;
+    let setups = Vec::from_array(alloc, [setup(alloc, other)?])?;
+    let limits = Limits {
+        max_w: 4096,
+        max_h: 4096,
+        upscale: false,
+    };
+    Ok(World::new(alloc, items, edge, limits, room, setups).err())
+}
+
+#[test]
+fn worlds_that_can_not_begin_have_their_first_fault(rt: HostRuntime) -> Result<(), Fail> {
+    for (edge, room, empty, other, fault) in [
+        (1u32, 65_536u64, false, false, None),
+        (1024, 0, false, false, None),
+        (0, 65_537, true, true, Some(SetupFault::Edge)),
+        (1025, 65_536, false, false, Some(SetupFault::Edge)),
+        (1, 65_537, true, true, Some(SetupFault::Room)),
+        (1, 65_536, true, true, Some(SetupFault::Picture)),
+        (1, 65_536, false, true, Some(SetupFault::Ring)),
+    ] {
+        assert_eq!(rt; fault_of(rt.alloc(), edge, room, empty, other)?, fault);
+    }
+    Ok(())
+}
