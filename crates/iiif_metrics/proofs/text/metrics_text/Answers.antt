@@ -1,0 +1,15 @@
+use Rattle.std.proofs.Common.{codes}
+use Rattle.iiif_metrics.proofs.text.metrics_text.Goals as goal
+
+pub returns : goal.returns
+returns c = rw (
+  c.into_bytes.ensures.value,
+  c.in_ok-push_answers.ensures,
+  c.in_ok-push_rows-3.ensures,
+  c.server_rows.ensures (codes "iiif_"),
+  c.in_ok-push_rows-2.ensures,
+  c.cache_rows-2.ensures (codes "iiif_sum_cache_"),
+  c.in_ok-push_rows.ensures,
+  c.cache_rows.ensures (codes "iiif_tile_cache_"),
+  c.in_ok-text.ensures.bytes,
+)

@@ -1,0 +1,104 @@
+-- The text format of Prometheus, version 0.0.4: families of samples, each with a line of help, a line that says its type, and a line
+-- for each sample.
+use Rattle.std.specs.Prelude.{ℕ, List, [], ◌∷◌, ◌++◌, codes, decimal, slice_index}
+use Rattle.std.specs.List.{flat_map}
+use Rattle.iiif_metrics.specs.declared.counts.Counts.{Counts}
+use Rattle.iiif_metrics.specs.declared.metrics.CacheMetrics.{CacheMetrics}
+use Rattle.iiif_metrics.specs.declared.metrics.Metrics.{Metrics}
+use Rattle.iiif_metrics.specs.declared.text.Kind.{Kind}
+use Rattle.iiif_metrics.specs.declared.text.Kind.TheVariants.{Counter, Gauge}
+use Rattle.iiif_metrics.specs.declared.text.Row.{Row}
+use Rattle.iiif_metrics.specs.declared.text.Sample.{Sample}
+
+-- a family of samples: each has labels, which may be none, and a value
+pub record Family : Type 0 where
+  pub name : List ℕ
+  pub help : List ℕ
+  pub kind : Kind
+  pub samples : List (List ℕ × ℕ)
+
+-- the type of a family
+abbrev pub kind_word : Kind → List ℕ
+kind_word Counter = codes "counter"
+kind_word Gauge = codes "gauge"
+
+-- the line of help of a family of this name
+unfoldable pub help_line : List ℕ → List ℕ → List ℕ
+help_line name help = codes "# HELP " ++ name ++ codes " " ++ help ++ codes "\n"
+
+-- the line of type of a family of this name
+unfoldable pub type_line : List ℕ → Kind → List ℕ
+type_line name kind = codes "# TYPE " ++ name ++ codes " " ++ kind_word kind ++ codes "\n"
+
+-- the line of a sample of this name
+unfoldable pub sample_line : List ℕ → List ℕ × ℕ → List ℕ
+sample_line name s = name ++ s.0 ++ codes " " ++ decimal s.1 ++ codes "\n"
+
+-- the lines of a family
+abbrev pub family_text : Family → List ℕ
+family_text f = help_line f.name f.help ++ type_line f.name f.kind ++ flat_map (sample_line f.name) f.samples
+
+-- a family of one sample without labels
+abbrev pub single : List ℕ → List ℕ → Kind → ℕ → Family
+single name help kind value = record { name = name; help = help; kind = kind; samples = ([], value) ∷ [] }
+
+-- what a cache and its flights counted, and what is kept, under names with this front
+abbrev pub cache_families : List ℕ → CacheMetrics → List Family
+cache_families front c =
+    single (front ++ codes "gets_total") (codes "Calls that asked for a value.") Counter c.book.gets
+    ∷ single (front ++ codes "hits_total") (codes "Calls that met a kept value.") Counter c.book.hits
+    ∷ single (front ++ codes "joins_total") (codes "Calls that joined a load in flight.") Counter c.book.joins
+    ∷ single (front ++ codes "leads_total") (codes "Calls that began a load.") Counter c.book.leads
+    ∷ single (front ++ codes "again_hits_total") (codes "Loads whose leader found the value kept by then.") Counter c.book.again_hits
+    ∷ single (front ++ codes "loads_total") (codes "Loads that were made.") Counter c.book.loads
+    ∷ single (front ++ codes "peer_total") (codes "Loads whose value came from another node.") Counter c.book.peer
+    ∷ single (front ++ codes "landed_total") (codes "Loads that ended.") Counter c.book.landed
+    ∷ single (front ++ codes "faults_total") (codes "Loads that ended with a fault.") Counter c.book.faults
+    ∷ single (front ++ codes "bytes") (codes "Bytes of kept values and their keys.") Gauge c.bytes
+    ∷ single (front ++ codes "entries") (codes "Kept values.") Gauge c.entries
+    ∷ []
+
+-- what was counted of connections and answers, under names with this front
+abbrev pub server_families : List ℕ → Counts → List Family
+server_families front c =
+    single (front ++ codes "connections_open") (codes "Connections that are open.") Gauge c.open_now
+    ∷ single (front ++ codes "connections_refused_total") (codes "Connections that were closed unanswered.") Counter c.refused
+    ∷ single (front ++ codes "answers_cut_total") (codes "Answers that were cut off.") Counter c.cut
+    ∷ single (front ++ codes "answer_bytes_total") (codes "Bytes of answers and their heads.") Counter c.bytes
+    ∷ []
+
+-- the answers that were sent whole, by status
+abbrev pub status_samples : List ℕ → List (List ℕ × ℕ)
+status_samples whole =
+    (codes "{status=\"200\"}", slice_index whole 0)
+    ∷ (codes "{status=\"303\"}", slice_index whole 1)
+    ∷ (codes "{status=\"400\"}", slice_index whole 2)
+    ∷ (codes "{status=\"404\"}", slice_index whole 3)
+    ∷ (codes "{status=\"405\"}", slice_index whole 4)
+    ∷ (codes "{status=\"500\"}", slice_index whole 5)
+    ∷ (codes "{status=\"501\"}", slice_index whole 6)
+    ∷ (codes "{status=\"other\"}", slice_index whole 7)
+    ∷ []
+
+abbrev pub answer_family : List ℕ → Family
+answer_family whole = record { name = codes "iiif_answers_total"; help = codes "Answers that were sent whole."; kind = Counter; samples = status_samples whole }
+
+-- the lines of some families
+abbrev pub families_text : List Family → List ℕ
+families_text fs = flat_map family_text fs
+
+-- all that is told
+abbrev pub text_of : Metrics → List ℕ
+text_of m =
+    families_text (cache_families (codes "iiif_tile_cache_") m.tiles)
+    ++ families_text (cache_families (codes "iiif_sum_cache_") m.sums)
+    ++ families_text (server_families (codes "iiif_") m.counts)
+    ++ family_text (answer_family m.counts.whole)
+
+-- a row as a family, under a name with this front
+abbrev pub row_family : List ℕ → Row → Family
+row_family front r = single (front ++ r.name.now) r.help.now r.kind r.value
+
+-- labels and a value
+abbrev pub sample_view : Sample → List ℕ × ℕ
+sample_view s = (s.labels.now, s.value)

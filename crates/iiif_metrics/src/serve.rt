@@ -1,0 +1,163 @@
+//! The answer to who asks for the counters.
+
+ghost use Rattle.std.specs.Prelude.{◌≡◌, ◌∷◌, ◌++◌, [], ℕ, List, IfOk, IfSome, OnOk, bytes_eq, codes};
+ghost use Rattle.std.specs.Io.KnownBytes.{Appends};
+ghost use Rattle.iiif_metrics.specs.Serving.{IsExchange, Replies, Sends, answer_text, bad_text, metrics_answer, refusal_text};
+
+use crate::metrics::Metrics;
+use crate::text::{NoMemory, metrics_text};
+use http::StatusCode;
+use iiif_http_front::{Call, Field, HeadFault, Heads, head_bytes};
+use iiif_io::{Inlet, Outlet, send};
+use std::alloc::Global;
+
+const TEXT_FORMAT: Field<'static> = Field {
+    name: "Content-Type",
+    value: "text/plain; version=0.0.4",
+};
+
+const PLAIN: Field<'static> = Field {
+    name: "Content-Type",
+    value: "text/plain",
+};
+
+const ALLOW: Field<'static> = Field {
+    name: "Allow",
+    value: "GET",
+};
+
+/// Where the counters are read, as by a server of which they are told.
+pub trait Measure<R> {
+    /// What was counted so far.
+    fn measure(&self, rt: &R) -> Metrics;
+}
+
+/// A head and a body.
+fn joined(mut head: Vec<u8>, body: &[u8]) -> Result<Vec<u8>, NoMemory>
+    ensures { IfOk result (λ text. text.items ≡ head.items ++ body.now) }
+{
+    head.extend_from_slice(body)?;
+    Ok(head)
+}
+
+/// Whether a call is a GET.
+fn is_get(call: &Call) -> bool
+    ensures { result ≡ bytes_eq call.now.method (codes "GET") }
+{
+    call.method.as_str() == "GET"
+}
+
+/// Whether a target is that of the counters.
+fn is_metrics(target: &[u8]) -> bool
+    ensures { result ≡ bytes_eq target.now (codes "/metrics") }
+{
+    target == b"/metrics".as_slice()
+}
+
+/// An answer without a body to a call of another target.
+fn other_target(alloc: Global) -> Result<Vec<u8>, NoMemory>
+    ensures { IfOk result (λ text. text.items ≡ refusal_text 404 []) }
+{
+    head_bytes(alloc, StatusCode::NOT_FOUND, &[PLAIN], 0, true)
+}
+
+/// An answer without a body to a call of another method.
+fn other_method(alloc: Global) -> Result<Vec<u8>, NoMemory>
+    ensures { IfOk result (λ text. text.items ≡ refusal_text 405 ((codes "Allow", codes "GET") ∷ [])) }
+{
+    head_bytes(
+        alloc,
+        StatusCode::METHOD_NOT_ALLOWED,
+        &[PLAIN, ALLOW],
+        0,
+        true,
+    )
+}
+
+/// An answer without a body to what is no head.
+fn no_head(alloc: Global) -> Result<Vec<u8>, NoMemory>
+    ensures { IfOk result (λ text. text.items ≡ bad_text) }
+{
+    head_bytes(alloc, StatusCode::BAD_REQUEST, &[PLAIN], 0, true)
+}
+
+/// The answer that tells the counters.
+fn told(alloc: Global, metrics: &Metrics) -> Result<Vec<u8>, NoMemory>
+    ensures { IfOk result (λ text. text.items ≡ metrics_answer metrics.now) }
+{
+    let body = metrics_text(alloc, metrics)?;
+    let text = body.as_slice();
+    let head = head_bytes(
+        alloc,
+        StatusCode::OK,
+        &[TEXT_FORMAT],
+        text.len() as u64,
+        true,
+    )?;
+    joined(head, text)
+}
+
+/// The answer to a call: to GET of `/metrics` the counters, 404 to GET of another target, 405 to another method. The only error is
+/// want of memory.
+pub fn answer_bytes(alloc: Global, call: &Call, metrics: &Metrics) -> Result<Vec<u8>, NoMemory>
+    ensures { IfOk result (λ text. text.items ≡ answer_text call.now.method call.now.target.items metrics.now) }
+{
+    if !is_get(call) {
+        return other_method(alloc);
+    }
+    if !is_metrics(&call.target) {
+        return other_target(alloc);
+    }
+    told(alloc, metrics)
+}
+
+/// Sends a text.
+fn send_text<W: Outlet>(out: &mut W, text: &[u8])
+    ensures { (output : List ℕ) × Appends (W.contents out.old) (W.contents out.new) output × Sends ((before : W) × W.fails before out.new) text.now output }
+{
+    let _ = send(out, text);
+}
+
+/// Answers what was read at the front of a connection.
+fn reply<R, M: Measure<R>, W: Outlet>(
+    rt: &R,
+    alloc: Global,
+    source: &M,
+    read: &Result<Option<Call>, HeadFault>,
+    out: &mut W,
+) -> Result<(), NoMemory>
+    ensures { OnOk result ((output : List ℕ) × Appends (W.contents out.old) (W.contents out.new) output × Replies ((before : W) × W.fails before out.new) read.now output) }
+{
+    let text = match read {
+        Ok(None) => return Ok(()),
+        Err(HeadFault::Cut) => return Ok(()),
+        Err(HeadFault::Io) => return Ok(()),
+        Err(HeadFault::NoMemory) => return Err(NoMemory),
+        Err(HeadFault::Bad) => no_head(alloc)?,
+        Err(HeadFault::TooLong) => no_head(alloc)?,
+        Ok(Some(call)) => answer_bytes(alloc, call, &source.measure(rt))?,
+    };
+    send_text(out, &text);
+    Ok(())
+}
+
+/// Answers the one call of a connection, which closes behind it. A head that is none is answered by 400. Where memory is wanting, nothing
+/// is answered.
+pub fn serve_metrics<R, M: Measure<R>, I: Inlet + Drop, W: Outlet>(
+    rt: &R,
+    alloc: Global,
+    source: &M,
+    reader: I,
+    out: &mut W,
+) -> Result<(), NoMemory>
+    // Where the bytes that the reader has left are known, the answer is that to all of them; where they are not, as at a socket, to
+    // those that came.
+    ensures known { IfSome (I.remaining reader) (λ input. OnOk result ((output : List ℕ) × Appends (W.contents out.old) (W.contents out.new) output
+        × IsExchange ((before : W) × W.fails before out.new) input output)) }
+    ensures came { OnOk result ((came : List ℕ) × (output : List ℕ) × Appends (W.contents out.old) (W.contents out.new) output
+        × IsExchange ((before : W) × W.fails before out.new) came output) }
+{
+    let mut heads = Heads::new(alloc, reader)?;
+    let read = heads.read_head();
+    reply(rt, alloc, source, &read, out)
+}

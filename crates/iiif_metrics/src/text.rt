@@ -1,0 +1,278 @@
+//! The text format.
+
+ghost use Rattle.std.specs.Prelude.{◌≡◌, ◌++◌, ℕ, List, IfOk, OnOk, map, string_bytes};
+ghost use Rattle.std.specs.List.{flat_map};
+ghost use Rattle.iiif_metrics.specs.Exposition.{answer_family, cache_families, family_text, families_text, help_line, kind_word, row_family, sample_line, sample_view, server_families, single, status_samples, text_of, type_line};
+
+use crate::counts::Counts;
+use crate::metrics::{CacheMetrics, Metrics};
+pub use std::alloc::AllocError as NoMemory;
+use std::alloc::Global;
+use std::fmt::Write;
+
+/// Room for a text of the usual length.
+const USUAL_LENGTH: usize = 4096;
+
+/// The type of a family of samples.
+#[derive(Clone, Copy, Debug, PartialEq, Eq)]
+pub enum Kind {
+    /// It never falls while the server runs.
+    Counter,
+    Gauge,
+}
+
+/// A family of one sample.
+#[derive(Clone, Copy, Debug)]
+pub struct Row<'a> {
+    /// The name, without its front.
+    pub name: &'a str,
+    pub help: &'a str,
+    pub kind: Kind,
+    pub value: u64,
+}
+
+/// A sample of a family.
+#[derive(Clone, Copy, Debug)]
+pub struct Sample<'a> {
+    pub labels: &'a str,
+    pub value: u64,
+}
+
+/// A row of this type.
+fn row_of(kind: Kind, name: &'static str, help: &'static str, value: u64) -> Row<'static>
+    ensures { (front : List ℕ) → row_family front result ≡ single (front ++ name.now) help.now kind value }
+{
+    Row {
+        name,
+        help,
+        kind,
+        value,
+    }
+}
+
+/// The word for a type.
+fn kind_text(kind: Kind) -> &'static str
+    ensures { result.now ≡ kind_word kind }
+{
+    match kind {
+        Kind::Counter => "counter",
+        Kind::Gauge => "gauge",
+    }
+}
+
+/// Writes the line of help of a family of that name.
+#[tactic(auto, unfolding(crate::specs::Exposition::help_line))]
+fn push_help(text: &mut String, front: &str, name: &str, help: &str) -> Result<(), NoMemory>
+    ensures { OnOk result (string_bytes text.new ≡ string_bytes text.old ++ help_line (front.now ++ name.now) help.now) }
+{
+    write!(text, "# HELP {front}{name} {help}\n")
+}
+
+/// Writes the line of type of a family of that name.
+#[tactic(auto, unfolding(crate::specs::Exposition::type_line))]
+fn push_type(text: &mut String, front: &str, name: &str, kind: Kind) -> Result<(), NoMemory>
+    ensures { OnOk result (string_bytes text.new ≡ string_bytes text.old ++ type_line (front.now ++ name.now) kind) }
+{
+    let word = kind_text(kind);
+    write!(text, "# TYPE {front}{name} {word}\n")
+}
+
+/// Writes the line of a sample.
+#[tactic(auto, unfolding(crate::specs::Exposition::sample_line))]
+fn push_sample(
+    text: &mut String,
+    front: &str,
+    name: &str,
+    labels: &str,
+    value: u64,
+) -> Result<(), NoMemory>
+    ensures { OnOk result (string_bytes text.new ≡ string_bytes text.old ++ sample_line (front.now ++ name.now) (labels.now, value)) }
+{
+    write!(text, "{front}{name}{labels} {value}\n")
+}
+
+/// Writes the lines of a family of one sample.
+fn push_row(text: &mut String, front: &str, row: &Row<'_>) -> Result<(), NoMemory>
+    ensures { OnOk result (string_bytes text.new ≡ string_bytes text.old ++ family_text (row_family front.now row.now)) }
+{
+    push_help(text, front, row.name, row.help)?;
+    push_type(text, front, row.name, row.kind)?;
+    push_sample(text, front, row.name, "", row.value)
+}
+
+/// Writes the lines of families of one sample each.
+fn push_rows(text: &mut String, front: &str, rows: &[Row<'_>]) -> Result<(), NoMemory>
+    ensures { OnOk result (string_bytes text.new ≡ string_bytes text.old ++ families_text (map (row_family front.now) rows.now)) }
+{
+    for row in rows {
+        push_row(text, front, row)?;
+    }
+    Ok(())
+}
+
+/// What a cache and its flights counted, and what is kept.
+fn cache_rows(cache: &CacheMetrics) -> [Row<'static>; 11]
+    ensures { (front : List ℕ) → map (row_family front) result ≡ cache_families front cache.now }
+{
+    let book = cache.book;
+    [
+        row_of(
+            Kind::Counter,
+            "gets_total",
+            "Calls that asked for a value.",
+            book.gets,
+        ),
+        row_of(
+            Kind::Counter,
+            "hits_total",
+            "Calls that met a kept value.",
+            book.hits,
+        ),
+        row_of(
+            Kind::Counter,
+            "joins_total",
+            "Calls that joined a load in flight.",
+            book.joins,
+        ),
+        row_of(
+            Kind::Counter,
+            "leads_total",
+            "Calls that began a load.",
+            book.leads,
+        ),
+        row_of(
+            Kind::Counter,
+            "again_hits_total",
+            "Loads whose leader found the value kept by then.",
+            book.again_hits,
+        ),
+        row_of(
+            Kind::Counter,
+            "loads_total",
+            "Loads that were made.",
+            book.loads,
+        ),
+        row_of(
+            Kind::Counter,
+            "peer_total",
+            "Loads whose value came from another node.",
+            book.peer,
+        ),
+        row_of(
+            Kind::Counter,
+            "landed_total",
+            "Loads that ended.",
+            book.landed,
+        ),
+        row_of(
+            Kind::Counter,
+            "faults_total",
+            "Loads that ended with a fault.",
+            book.faults,
+        ),
+        row_of(
+            Kind::Gauge,
+            "bytes",
+            "Bytes of kept values and their keys.",
+            cache.bytes,
+        ),
+        row_of(Kind::Gauge, "entries", "Kept values.", cache.entries),
+    ]
+}
+
+/// What was counted of connections and answers.
+fn server_rows(counts: &Counts) -> [Row<'static>; 4]
+    ensures { (front : List ℕ) → map (row_family front) result ≡ server_families front counts.now }
+{
+    [
+        row_of(
+            Kind::Gauge,
+            "connections_open",
+            "Connections that are open.",
+            counts.open_now,
+        ),
+        row_of(
+            Kind::Counter,
+            "connections_refused_total",
+            "Connections that were closed unanswered.",
+            counts.refused,
+        ),
+        row_of(
+            Kind::Counter,
+            "answers_cut_total",
+            "Answers that were cut off.",
+            counts.cut,
+        ),
+        row_of(
+            Kind::Counter,
+            "answer_bytes_total",
+            "Bytes of answers and their heads.",
+            counts.bytes,
+        ),
+    ]
+}
+
+/// Writes the lines of samples of one family.
+fn push_samples(
+    text: &mut String,
+    front: &str,
+    name: &str,
+    samples: &[Sample<'_>],
+) -> Result<(), NoMemory>
+    ensures { OnOk result (string_bytes text.new ≡ string_bytes text.old ++ flat_map (sample_line (front.now ++ name.now)) (map sample_view samples.now)) }
+{
+    for sample in samples {
+        push_sample(text, front, name, sample.labels, sample.value)?;
+    }
+    Ok(())
+}
+
+/// A sample with these labels.
+fn sample_of(labels: &'static str, value: u64) -> Sample<'static>
+    ensures { sample_view result ≡ (labels.now, value) }
+{
+    Sample { labels, value }
+}
+
+/// The answers of each status.
+fn status_samples_in(whole: &[u64; 8]) -> [Sample<'static>; 8]
+    ensures { map sample_view result ≡ status_samples whole.now }
+{
+    [
+        sample_of("{status=\"200\"}", whole[0]),
+        sample_of("{status=\"303\"}", whole[1]),
+        sample_of("{status=\"400\"}", whole[2]),
+        sample_of("{status=\"404\"}", whole[3]),
+        sample_of("{status=\"405\"}", whole[4]),
+        sample_of("{status=\"500\"}", whole[5]),
+        sample_of("{status=\"501\"}", whole[6]),
+        sample_of("{status=\"other\"}", whole[7]),
+    ]
+}
+
+/// Writes the answers by status.
+fn push_answers(text: &mut String, whole: &[u64; 8]) -> Result<(), NoMemory>
+    ensures { OnOk result (string_bytes text.new ≡ string_bytes text.old ++ family_text (answer_family whole.now)) }
+{
+    push_help(
+        text,
+        "iiif_",
+        "answers_total",
+        "Answers that were sent whole.",
+    )?;
+    push_type(text, "iiif_", "answers_total", Kind::Counter)?;
+    push_samples(text, "iiif_", "answers_total", &status_samples_in(whole))?;
+    Ok(())
+}
+
+/// All that is told, in the text format of version 0.0.4. The only error is want of memory.
+pub fn metrics_text(alloc: Global, metrics: &Metrics) -> Result<Vec<u8>, NoMemory>
+    ensures { IfOk result (λ bytes. bytes.items ≡ text_of metrics.now) }
+{
+    let mut text = String::with_capacity(alloc, USUAL_LENGTH)?;
+    push_rows(&mut text, "iiif_tile_cache_", &cache_rows(&metrics.tiles))?;
+    push_rows(&mut text, "iiif_sum_cache_", &cache_rows(&metrics.sums))?;
+    push_rows(&mut text, "iiif_", &server_rows(&metrics.counts))?;
+    push_answers(&mut text, &metrics.counts.whole)?;
+    Ok(text.into_bytes())
+}

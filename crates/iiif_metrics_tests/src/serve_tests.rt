@@ -1,0 +1,146 @@
+//! The answers to who asks for the counters.
+
+use iiif_io::fakes::{FailingReader, FailingWriter};
+use iiif_metrics::{CacheMetrics, Counts, Measure, Metrics, metrics_text, serve_metrics};
+use iiif_tables::Book;
+use std::alloc::Global;
+use std::test::Fail;
+
+/// Counters of which each has another value.
+#[derive(Drop)]
+struct Fixed;
+
+/// A cache's counters, from a first value on.
+fn cache(first: u64) -> CacheMetrics
+    requires { first < 1000 }
+{
+    CacheMetrics {
+        book: Book {
+            gets: first,
+            hits: first + 1,
+            joins: first + 2,
+            leads: first + 3,
+            again_hits: first + 4,
+            loads: first + 5,
+            peer: first + 6,
+            landed: first + 7,
+            faults: first + 8,
+        },
+        bytes: first + 9,
+        entries: first + 10,
+    }
+}
+
+/// All counters.
+fn metrics() -> Metrics {
+    Metrics {
+        tiles: cache(100),
+        sums: cache(200),
+        counts: Counts {
+            whole: [1, 2, 3, 4, 5, 6, 7, 8],
+            cut: 9,
+            bytes: 10,
+            open_now: 11,
+            refused: 12,
+        },
+    }
+}
+
+impl<R> Measure<R> for Fixed {
+    fn measure(&self, _rt: &R) -> Metrics {
+        metrics()
+    }
+}
+
+/// The counters as text, written by hand from the format's description.
+const TEXT: &str = "# HELP iiif_tile_cache_gets_total Calls that asked for a value.
+# TYPE iiif_tile_cache_gets_total counter
+iiif_tile_cache_gets_total 100
+";
+
+/// The end of it.
+const END: &str = "# HELP iiif_connections_open Connections that are open.
+# TYPE iiif_connections_open gauge
+iiif_connections_open 11
+# HELP iiif_connections_refused_total Connections that were closed unanswered.
+# TYPE iiif_connections_refused_total counter
+iiif_connections_refused_total 12
+# HELP iiif_answers_cut_total Answers that were cut off.
+# TYPE iiif_answers_cut_total counter
+iiif_answers_cut_total 9
+# HELP iiif_answer_bytes_total Bytes of answers and their heads.
+# TYPE iiif_answer_bytes_total counter
+iiif_answer_bytes_total 10
+# HELP iiif_answers_total Answers that were sent whole.
+# TYPE iiif_answers_total counter
+iiif_answers_total{status=\"200\"} 1
+iiif_answers_total{status=\"303\"} 2
+iiif_answers_total{status=\"400\"} 3
+iiif_answers_total{status=\"404\"} 4
+iiif_answers_total{status=\"405\"} 5
+iiif_answers_total{status=\"500\"} 6
+iiif_answers_total{status=\"501\"} 7
+iiif_answers_total{status=\"other\"} 8
+";
+
+/// What is written for this input.
+fn answered<R>(rt: &R, alloc: Global, input: &[u8]) -> Vec<u8> {
+    let mut out = Vec::new(alloc);
+    let _ = serve_metrics(rt, alloc, &Fixed, input, &mut out);
+    out
+}
+
+#[test]
+fn the_text(rt: HostRuntime) -> Result<(), Fail> {
+    let text = metrics_text(rt.alloc(), &metrics())?;
+    assert!(rt; text.starts_with(TEXT.as_bytes()));
+    assert!(rt; text.ends_with(END.as_bytes()));
+    Ok(())
+}
+
+#[test]
+fn get_of_the_counters(rt: HostRuntime) -> Result<(), Fail> {
+    let out = answered(&rt, rt.alloc(), b"GET /metrics HTTP/1.1\r\nHost: a\r\n\r\n");
+    assert!(rt; out.starts_with(b"HTTP/1.1 200 OK\r\nContent-Type: text/plain; version=0.0.4\r\nContent-Length: "));
+    assert!(rt; out.ends_with(END.as_bytes()));
+    Ok(())
+}
+
+#[test]
+fn another_target_and_another_method(rt: HostRuntime) -> Result<(), Fail> {
+    let alloc = rt.alloc();
+    let out = answered(&rt, alloc, b"GET / HTTP/1.1\r\n\r\n");
+    let wanted = b"HTTP/1.1 404 Not Found\r\nContent-Type: text/plain\r\nContent-Length: 0\r\nConnection: close\r\n\r\n";
+    assert_eq!(rt; out.as_slice(), wanted.as_slice());
+    let out = answered(&rt, alloc, b"POST /metrics HTTP/1.1\r\n\r\n");
+    let wanted = b"HTTP/1.1 405 Method Not Allowed\r\nContent-Type: text/plain\r\nAllow: GET\r\nContent-Length: 0\r\nConnection: close\r\n\r\n";
+    assert_eq!(rt; out.as_slice(), wanted.as_slice());
+    let out = answered(&rt, alloc, b"hello\r\n\r\n");
+    let wanted = b"HTTP/1.1 400 Bad Request\r\nContent-Type: text/plain\r\nContent-Length: 0\r\nConnection: close\r\n\r\n";
+    assert_eq!(rt; out.as_slice(), wanted.as_slice());
+    Ok(())
+}
+
+#[test]
+fn no_call_and_devices_that_fail(rt: HostRuntime) -> Result<(), Fail> {
+    let alloc = rt.alloc();
+    assert!(rt; answered(&rt, alloc, b"").is_empty());
+    assert!(rt; answered(&rt, alloc, b"GET /metr").is_empty());
+    let reader = FailingReader {
+        left: b"GET /metrics HTTP/1.1\r\n\r\n",
+        piece: 5,
+        reads: 2,
+    };
+    let mut out = Vec::new(alloc);
+    serve_metrics(&rt, alloc, &Fixed, reader, &mut out)?;
+    assert!(rt; out.is_empty());
+    let mut shut = FailingWriter {
+        taken: Vec::new(alloc),
+        room: 20,
+        piece: 7,
+    };
+    let input = b"GET / HTTP/1.1\r\n\r\n".as_slice();
+    serve_metrics(&rt, alloc, &Fixed, input, &mut shut)?;
+    assert_eq!(rt; shut.taken.as_slice(), b"HTTP/1.1 404 Not Fou".as_slice());
+    Ok(())
+}
