@@ -384,7 +384,7 @@ def limits(args, jobs, medians):
         value = medians[job, name][at] / medians[job, other][at]
         over = limit is not None and value > limit
         if over:
-            passed.append(f"{JOBS[job][0]}: {name} takes {value:.2f} of {other}, above {limit:.2f}")
+            passed.append(f"{JOBS[job][0]}: {name}, {value:.2f} of {other}, above {limit:.2f}")
         return f"{value:.2f}{' (!)' if over else ''}"
 
     print("\n**Beside the limits: wall clock**\n")
