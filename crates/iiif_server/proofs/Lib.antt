@@ -10,3 +10,5 @@ mod MessageLemmas
 mod AllowedLemmas
 mod SendingLemmas
 mod PlainLemmas
+mod PeerLemmas
+mod DeviceLemmas

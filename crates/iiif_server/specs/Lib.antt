@@ -12,3 +12,5 @@ pub mod Streams
 pub mod Laws
 pub mod Outcomes
 pub mod Code
+pub mod Peers
+pub mod Devices

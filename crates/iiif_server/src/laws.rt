@@ -1,11 +1,13 @@
 //! What holds of connections and of answers. The functions compute nothing: their contracts are the laws, for those who read
 //! `serve_stream`'s and `serve_one`'s.
 
+ghost use Rattle.iiif_server.specs.Devices.{WholeOverHonestDevices};
 ghost use Rattle.iiif_server.specs.Laws.{FieldsArePlain, HeadsReadBack, NoSilence};
 
 use iiif_http_front::laws::written_head_reads_back;
 use iiif_io::{Inlet, Outlet};
 use iiif_keys::System;
+use iiif_request::laws::{asked_once, says_once};
 use iiif_source::Source;
 
 /// So `serve_stream` never lets a call go without a byte of an answer, where the writer doesn't fail.
@@ -23,4 +25,13 @@ pub fn heads_read_back<R, S: Source<R>>()
     ensures { HeadsReadBack S }
 {
     written_head_reads_back();
+}
+
+/// So over sources that never gave a fault and a writer that didn't fail, an accepted image is sent whole; or, for want of memory,
+/// that is answered or the image is cut off. Nothing else takes its place.
+pub fn whole_over_honest_devices<R, S: Source<R>, J: System, W: Outlet>()
+    ensures { (last : W) → WholeOverHonestDevices S.bytes S.keeps J.honest S.gave ((before : W) × W.fails before last) }
+{
+    asked_once();
+    says_once();
 }

@@ -24,6 +24,7 @@ mod message;
 pub mod node;
 mod outcome;
 pub mod part;
+pub mod peers;
 mod sending;
 pub mod stock;
 pub mod stream;

@@ -132,8 +132,10 @@ impl<R, S: Source<R> + Drop, J: System, N, T> Node<R, S, J, N, T> {
     }
 
     /// Its images.
-    fn images(&self) -> &Catalogue<R, S>
+    pub(crate) fn images(&self) -> &Catalogue<R, S>
         ensures items { result.now ≡ self.now.items }
+        ensures edge { self.now.settings.edge ≡ J.edge }
+        ensures kept { (name : List ℕ) (item : Item S) → item_named self.now.items name ≡ Some item → S.keeps item.source → J.stable name }
         ensures pictures { (name : List ℕ) → J.pictures name ≡ pictures_of S.bytes result.now name }
         ensures gave { (name : List ℕ) (f : ReadFault) → J.gave name f ≡ gave_of S.gave result.now name f }
         ensures stable { (name : List ℕ) (item : Item S) → item_named result.now name ≡ Some item → J.stable name → ∥ S.keeps item.source ∥₁ }

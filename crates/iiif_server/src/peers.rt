@@ -1,0 +1,66 @@
+//! Connections of other nodes.
+
+ghost use Rattle.std.specs.Prelude.{ℕ, List};
+ghost use Rattle.std.specs.Io.KnownBytes.{Appends};
+ghost use Rattle.iiif_peer_server.specs.Exchanges.{IsExchange};
+ghost use Rattle.iiif_peer_wire.specs.Faults.{LeftAt};
+ghost use Rattle.iiif_peer_wire.specs.Reading.{IsInput};
+ghost use Rattle.iiif_server.specs.Peers.{RepliesToAsk};
+
+use crate::node::Node;
+use iiif_group::{Gate, Link};
+use iiif_io::{Inlet, Outlet};
+use iiif_keys::{SumKey, System, TileKey};
+use iiif_peer_groups::Peers;
+use iiif_peer_server::{Answers, serve_peer};
+use iiif_peer_wire::Ask;
+use iiif_source::Source;
+use iiif_sum_group::Passes;
+use std::alloc::Global;
+use std::sync::Wait;
+
+impl<
+    R: Wait,
+    S: Source<R> + Drop,
+    J: System,
+    N: Link<TileKey, J, R> + Link<SumKey, J, R>,
+    T: Gate<R>,
+> Answers<R, Passes<J>> for Node<R, S, J, N, T> {
+    ghost answers = { λ node version group key status value. RepliesToAsk S.bytes S.gave S.keeps J.honest node version group key status value };
+
+    fn answer(&self, rt: &R, alloc: Global, passes: &mut Passes<J>, ask: &Ask) -> (u8, Vec<u8>) {
+        // Read, so that it is known what the names stand for.
+        let _images = self.images();
+        let peers = Peers {
+            groups: self.groups(),
+        };
+        peers.answer(rt, alloc, passes, ask)
+    }
+}
+
+impl<
+    R: Wait,
+    S: Source<R> + Drop,
+    J: System,
+    N: Link<TileKey, J, R> + Link<SumKey, J, R>,
+    T: Gate<R>,
+> Node<R, S, J, N, T> {
+    /// Answers the asks of another node's connection in order, each in its version with a reply of its key, until the input ends, an
+    /// ask is at fault, a reply is cut off, or the 1,000th ask was answered. Then the connection is to be closed. No other node is asked
+    /// for the key of an ask: its value is found or made here.
+    pub fn serve_peer<I: Inlet, W: Outlet>(
+        &self,
+        rt: &R,
+        alloc: Global,
+        passes: &mut Passes<J>,
+        reader: &mut I,
+        out: &mut W,
+    )
+        // What came is the input, where that is known. So it is one relation for memory and for sockets.
+        ensures { (came : List ℕ) × (output : List ℕ) × IsInput (I.remaining reader.old) came × Appends (W.contents out.old) (W.contents out.new) output
+            × IsExchange (RepliesToAsk S.bytes S.gave S.keeps J.honest self.now) (LeftAt I.fails reader.new) (LeftAt W.fails out.new)
+            (IsInput (I.remaining reader.new)) came output }
+    {
+        serve_peer(rt, alloc, self, passes, reader, out)
+    }
+}
