@@ -2,7 +2,7 @@
 #![tactic(auto)]
 
 pub use closing::close;
-pub use listen::{Serve, serve_listener, serve_listeners, stop};
+pub use listen::{Serve, serve_both, serve_each, serve_listener, serve_listeners, stop};
 pub use pace::{Pace, PacedReader, PacedWriter};
 pub use places::{Place, Places, Taken};
 pub use retry::{Retry, after_failure};

@@ -20,15 +20,16 @@ pub trait Serve<R> {
     fn serve(&self, rt: &R, alloc: Global, stream: TcpStream);
 }
 
-/// Serves each connection that a listener takes in a thread of its own, up to 64 at once. One more is closed unanswered, and so is
-/// one for which no thread can be started. Where none can be taken, as where files or memory are wanting, the listener waits and
-/// goes on. It ends where it is stopped or was wanting 1,000 times in a row, once the connections have ended.
-pub fn serve_listener<R: Threads + Wait + Clock + Sync, V: Serve<R> + Sync>(
+/// Serves each connection that a listener takes by a function, in a thread of its own, up to 64 at once. One more is closed unanswered,
+/// and so is one for which no thread can be started. Where none can be taken, as where files or memory are wanting, the listener waits
+/// and goes on. It ends where it is stopped or was wanting 1,000 times in a row, once the connections have ended.
+pub fn serve_each<R: Threads + Wait + Clock + Sync, F: Fn(TcpStream) + Sync>(
     rt: &R,
-    alloc: Global,
-    service: &V,
+    serve: &F,
     listener: &TcpListener,
-) -> io::Result<()> {
+) -> io::Result<()>
+    requires { F.IsAlwaysCallable serve.now }
+{
     let places = Places::new();
     let free = &places;
     thread::scope(thread::scope_env(), rt, |scope| {
@@ -42,7 +43,7 @@ pub fn serve_listener<R: Threads + Wait + Clock + Sync, V: Serve<R> + Sync>(
                     };
                     // Where no thread can be started, the closure is dropped: the stream is closed and the place free again.
                     let _ = scope.spawn(move || {
-                        service.serve(rt, alloc, stream);
+                        serve(stream);
                         drop(place);
                     });
                 }
@@ -60,6 +61,17 @@ pub fn serve_listener<R: Threads + Wait + Clock + Sync, V: Serve<R> + Sync>(
     })
 }
 
+/// The same by a service.
+pub fn serve_listener<R: Threads + Wait + Clock + Sync, V: Serve<R> + Sync>(
+    rt: &R,
+    alloc: Global,
+    service: &V,
+    listener: &TcpListener,
+) -> io::Result<()> {
+    let serve = |stream: TcpStream| service.serve(rt, alloc, stream);
+    serve_each(rt, &serve, listener)
+}
+
 /// Ends what a listener waits for, so that the one who serves it ends. Its connections go on.
 pub fn stop(listener: &TcpListener) {
     if let Ok(copy) = listener.try_clone() {
@@ -67,8 +79,47 @@ pub fn stop(listener: &TcpListener) {
     }
 }
 
-/// Serves two listeners at once, until one of them ends, which then stops the other; and answers once the connections of both have
-/// ended. Where no thread can be started for the second, none is served.
+/// Serves two listeners at once, each by a function, until one of them ends, which then stops the other; and answers once the
+/// connections of both have ended. Where no thread can be started for the second, none is served.
+pub fn serve_both<R, F, G>(
+    rt: &R,
+    viewers: (&F, &TcpListener),
+    peers: (&G, &TcpListener),
+) -> io::Result<()>
+where
+    R: Threads + Wait + Clock + Sync,
+    F: Fn(TcpStream) + Sync,
+    G: Fn(TcpStream) + Sync,
+    requires viewers { F.IsAlwaysCallable viewers.0.now }
+    requires peers { G.IsAlwaysCallable peers.0.now }
+{
+    let (serve_viewer, viewer_listener) = viewers;
+    let (serve_peer, peer_listener) = peers;
+    thread::scope(
+        thread::scope_env(),
+        rt,
+        |scope|
+            requires { F.IsAlwaysCallable serve_viewer.now × G.IsAlwaysCallable serve_peer.now }
+        {
+            let started = scope.spawn(
+                move ||
+                    requires { G.IsAlwaysCallable serve_peer.now }
+                {
+                    let _ = serve_each(rt, serve_peer, peer_listener);
+                    stop(viewer_listener);
+                },
+            );
+            if started.is_err() {
+                return Err(io::Error::from(ErrorKind::WouldBlock));
+            }
+            let ended = serve_each(rt, serve_viewer, viewer_listener);
+            stop(peer_listener);
+            ended
+        },
+    )
+}
+
+/// The same by services.
 pub fn serve_listeners<R: Threads + Wait + Clock + Sync, V: Serve<R> + Sync, P: Serve<R> + Sync>(
     rt: &R,
     alloc: Global,
@@ -77,16 +128,11 @@ pub fn serve_listeners<R: Threads + Wait + Clock + Sync, V: Serve<R> + Sync, P: 
 ) -> io::Result<()> {
     let (viewer_service, viewer_listener) = viewers;
     let (peer_service, peer_listener) = peers;
-    thread::scope(thread::scope_env(), rt, |scope| {
-        let started = scope.spawn(move || {
-            let _ = serve_listener(rt, alloc, peer_service, peer_listener);
-            stop(viewer_listener);
-        });
-        if started.is_err() {
-            return Err(io::Error::from(ErrorKind::WouldBlock));
-        }
-        let ended = serve_listener(rt, alloc, viewer_service, viewer_listener);
-        stop(peer_listener);
-        ended
-    })
+    let serve_viewer = |stream: TcpStream| viewer_service.serve(rt, alloc, stream);
+    let serve_peer = |stream: TcpStream| peer_service.serve(rt, alloc, stream);
+    serve_both(
+        rt,
+        (&serve_viewer, viewer_listener),
+        (&serve_peer, peer_listener),
+    )
 }

@@ -1,7 +1,6 @@
 //! The program as a library: what its words ask for, its images, its node, and the connections that it serves.
 #![tactic(auto)]
 
-pub use line::{LineFault, Mode, Options};
 pub use peers::PeerCalls;
 pub use stop::Stop;
 pub use stored::Stored;
@@ -10,7 +9,7 @@ pub use viewers::Viewers;
 
 mod connections;
 mod hex;
-pub mod line;
+mod line;
 pub mod nodes;
 mod one;
 pub mod opening;

@@ -11,26 +11,32 @@ use thiserror::Error;
 
 /// The edge of a tile where none is given, in pixels, and the most that may be.
 const EDGE: u64 = 256;
+
 const MOST_EDGE: u64 = 1024;
 
 /// The greatest side of a result where none is given, in pixels, and the most that may be.
 const MAX: u64 = 4096;
+
 const MOST_MAX: u64 = 16_384;
 
 /// The bytes of each group's cache where none are given, and the most that may be.
 const CACHE_BYTES: u64 = 67_108_864;
+
 const MOST_CACHE_BYTES: u64 = 1 << 40;
 
 /// The rows of a band where none are given, and the most that may be.
 const BAND: u64 = 64;
+
 const MOST_BAND: u64 = 16_384;
 
 /// The workers of a request where none are given, and the most that may be.
 const WORKERS: u64 = 2;
+
 const MOST_WORKERS: u64 = 16;
 
 /// The name of a node where none is given, and the most bytes of one.
 const OWN_NAME: &str = "self";
+
 const MOST_NAME: usize = 255;
 
 /// How many other nodes a node may have beside it: a ring has at most 64 names.

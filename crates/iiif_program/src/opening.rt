@@ -1,5 +1,8 @@
 //! The images and the settings that the words name.
 
+ghost use Rattle.std.specs.Prelude.{◌≡◌, IfOk, map};
+ghost use Rattle.iiif_program.specs.Lines.{settings_in};
+
 use crate::line::Options;
 use crate::sample::sample;
 use crate::stop::Stop;
@@ -42,6 +45,7 @@ pub fn catalogue<'a, R>(
 ) -> Result<Catalogue<R, Stored>, Stop<'a>>
 where
     R: Files<File = File> + Wait + AllocGlobal,
+    ensures names { IfOk result (λ c. map (λ i. i.name) c ≡ map (λ i. i.0.now) images.now) }
 {
     let mut catalogue = Catalogue::new(alloc);
     for image in images {
@@ -61,8 +65,10 @@ where
     Ok(catalogue)
 }
 
-/// The settings in the options.
-pub fn config<'a>(alloc: Global, options: &Options<'a>) -> Result<Config, Stop<'a>> {
+/// The settings in the options. Those of a line that isn't wrong are legal, so the only error is want of memory.
+pub(crate) fn config<'a>(alloc: Global, options: &Options<'a>) -> Result<Config, Stop<'a>>
+    ensures { IfOk result (λ c. c ≡ settings_in options.now) }
+{
     let limits = Limits {
         max_w: options.max,
         max_h: options.max,

@@ -5,7 +5,7 @@ use crate::stored::Stored;
 use crate::times::Times;
 use iiif_group::{Gate, Link};
 use iiif_keys::{SumKey, System, TileKey};
-use iiif_listener::{Pace, PacedWriter, Serve, close};
+use iiif_listener::{Pace, PacedWriter, close};
 use iiif_peer_groups::Peers;
 use iiif_peer_server::serve_peer;
 use iiif_server::Node;
@@ -36,9 +36,9 @@ impl<
     J: System,
     N: Link<TileKey, J, R> + Link<SumKey, J, R>,
     T: Gate<R>,
-> Serve<R> for PeerCalls<'a, R, J, N, T> {
+> PeerCalls<'a, R, J, N, T> {
     /// Answers the asks of a connection in order, and closes it. Where a pass is wanting, it is closed unanswered.
-    fn serve(&self, rt: &R, alloc: Global, stream: TcpStream) {
+    pub fn serve(&self, rt: &R, alloc: Global, stream: TcpStream) {
         let Ok(pace) = Pace::new(rt, Duration::from_millis(self.times.whole)) else {
             return;
         };

@@ -1,6 +1,6 @@
 //! The program's work: what its words ask for, done.
 
-ghost use Rattle.std.specs.Prelude.{◌≡◌, ℕ, List, Some, false};
+ghost use Rattle.std.specs.Prelude.{◌≡◌, ◌≤◌, ℕ, List, Some, false};
 ghost use Rattle.iiif_source.specs.declared.ReadFault.{ReadFault};
 ghost use Rattle.iiif_images.specs.Collection.{Item, item_named};
 ghost use Rattle.iiif_images.specs.Named.{gave_of, pictures_of};
@@ -57,6 +57,7 @@ where
     S: AsStr,
     O: Outlet,
     E: Write,
+    ensures { result ≤ 2 }
 {
     let alloc = rt.alloc();
     let matches = if words.is_empty() {
@@ -98,6 +99,7 @@ where
         + AllocGlobal,
     O: Outlet,
     E: Write,
+    ensures { result ≤ 2 }
 {
     let options = match options_in(alloc, matches) {
         Ok(options) => options,

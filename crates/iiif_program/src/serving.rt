@@ -7,10 +7,9 @@ use crate::times::USUAL;
 use crate::viewers::Viewers;
 use iiif_group::{Gate, Link};
 use iiif_keys::{SumKey, System, TileKey};
-use iiif_listener::{Serve, serve_listener, serve_listeners};
+use iiif_listener::{serve_both, serve_each};
 use iiif_server::Node;
 use std::alloc::Global;
-use std::io;
 use std::net::{Net, TcpListener, TcpStream};
 use std::sync::Wait;
 use std::thread::Threads;
@@ -38,30 +37,22 @@ where
         times: USUAL,
     };
     let peers = PeerCalls { node, times: USUAL };
-    match serve(rt, alloc, (&viewers, at_viewers), (&peers, at_peers)) {
+    let serve_viewer = |stream: TcpStream| viewers.serve(rt, alloc, stream);
+    let serve_peer = |stream: TcpStream| peers.serve(rt, alloc, stream);
+    let Ok(first) = TcpListener::bind(rt, at_viewers) else {
+        return Err(Stop::Listen);
+    };
+    let ended = match at_peers {
+        None => serve_each(rt, &serve_viewer, &first),
+        Some(address) => {
+            let Ok(second) = TcpListener::bind(rt, address) else {
+                return Err(Stop::Listen);
+            };
+            serve_both(rt, (&serve_viewer, &first), (&serve_peer, &second))
+        }
+    };
+    match ended {
         Ok(()) => Ok(()),
         Err(_) => Err(Stop::Listen),
-    }
-}
-
-/// Serves the connections that come to an address by one service, and those to another, where it is named, by another service.
-fn serve<R, V: Serve<R> + Sync, P: Serve<R> + Sync>(
-    rt: &R,
-    alloc: Global,
-    viewers: (&V, &str),
-    peers: (&P, Option<&str>),
-) -> io::Result<()>
-where
-    R: Net<Listener = TcpListener, Stream = TcpStream> + Threads + Wait + Clock + Sync,
-{
-    let (viewers, address) = viewers;
-    let first = TcpListener::bind(rt, address)?;
-    let (peers, address) = peers;
-    match address {
-        None => serve_listener(rt, alloc, viewers, &first),
-        Some(address) => {
-            let second = TcpListener::bind(rt, address)?;
-            serve_listeners(rt, alloc, (viewers, &first), (peers, &second))
-        }
     }
 }

@@ -1,5 +1,8 @@
 //! Why the program ends without an answer.
 
+ghost use Rattle.std.specs.Prelude.{◌≡◌};
+ghost use Rattle.iiif_program.specs.Statuses.{status_of};
+
 use iiif_server::{Cause, Fault};
 use std::io::Write;
 
@@ -25,7 +28,9 @@ impl<'a> Stop<'a> {
     }
 
     /// Says it in a line, and gives the program's status: 2 where an image is at fault, else 1.
-    pub(crate) fn told<E: Write>(self, err: &mut E) -> u8 {
+    pub(crate) fn told<E: Write>(self, err: &mut E) -> u8
+        ensures { result ≡ status_of self.entry }
+    {
         match self {
             Stop::Image(name, number) => {
                 let _ = writeln!(err, "image {name}: {number}");

@@ -6,7 +6,7 @@ use crate::stored::Stored;
 use crate::times::Times;
 use iiif_group::{Gate, Link};
 use iiif_keys::{SumKey, System, TileKey};
-use iiif_listener::{Pace, PacedWriter, Serve, close};
+use iiif_listener::{Pace, PacedWriter, close};
 use iiif_server::Node;
 use iiif_source::Source;
 use iiif_sum_group::SumCalls;
@@ -38,9 +38,9 @@ impl<
     J: System + Send + Sync,
     N: Link<TileKey, J, R> + Link<SumKey, J, R> + Sync,
     T: Gate<R> + Sync,
-> Serve<R> for Viewers<'a, R, J, N, T> {
+> Viewers<'a, R, J, N, T> {
     /// Answers the calls of a connection in order, and closes it. Where passes for its workers are wanting, it is closed unanswered.
-    fn serve(&self, rt: &R, alloc: Global, stream: TcpStream) {
+    pub fn serve(&self, rt: &R, alloc: Global, stream: TcpStream) {
         let Ok(pace) = Pace::new(rt, Duration::from_millis(self.times.whole)) else {
             return;
         };

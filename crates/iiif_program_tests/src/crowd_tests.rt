@@ -106,7 +106,8 @@ fn beside_a_stalled_one<R: Net<Stream = TcpStream> + Clock>(
     stalled.read_exact(&mut front).ok()?;
     let start = Instant::now(rt).ok()?;
     for _ in 0..4u32 {
-        let request = b"GET /iiif/a/0,0,1,1/max/0/default.tif HTTP/1.1\r\nConnection: close\r\n\r\n";
+        let request =
+            b"GET /iiif/a/0,0,1,1/max/0/default.tif HTTP/1.1\r\nConnection: close\r\n\r\n";
         let answer = asked(rt, alloc, listener, request)?;
         if !answer.starts_with(b"HTTP/1.1 200 OK\r\n") {
             return None;

@@ -105,8 +105,10 @@ const WHOLE_REQUEST: &[u8] =
 #[test]
 fn image_is_loaded_once_for_all_viewers(rt: HostRuntime) -> Result<(), Fail> {
     let alloc = rt.alloc();
-    let mut twice =
-        Vec::from_slice(alloc, b"GET /iiif/a/full/max/0/default.tif HTTP/1.1\r\n\r\n")?;
+    let mut twice = Vec::from_slice(
+        alloc,
+        b"GET /iiif/a/full/max/0/default.tif HTTP/1.1\r\n\r\n",
+    )?;
     twice.extend_from_slice(WHOLE_REQUEST)?;
     let (answers, counts) = answered(&rt, alloc, &SAMPLE, &twice, true)?;
     assert!(rt; answers.ends_with(&SAMPLE_FILE));

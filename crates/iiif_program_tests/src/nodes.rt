@@ -10,7 +10,7 @@ use crate::run::BASE;
 use iiif_canonical::Limits;
 use iiif_group::{Gate, Link};
 use iiif_keys::{SumKey, System, TileKey};
-use iiif_listener::serve_listeners;
+use iiif_listener::serve_both;
 use iiif_program::nodes::{Nodes, among};
 use iiif_program::opening::catalogue;
 use iiif_program::times::USUAL;
@@ -93,7 +93,9 @@ where
         times,
     };
     let peers = PeerCalls { node, times };
-    let _ = serve_listeners(rt, alloc, (&viewers, at_viewers), (&peers, at_peers));
+    let serve_viewer = |stream: TcpStream| viewers.serve(rt, alloc, stream);
+    let serve_peer = |stream: TcpStream| peers.serve(rt, alloc, stream);
+    let _ = serve_both(rt, (&serve_viewer, at_viewers), (&serve_peer, at_peers));
     counted(rt, node)
 }
 
@@ -177,9 +179,7 @@ where
     let (tiles, sums) = (Blank::new(65_537), Blank::new(65_537));
     let times = scene.times;
     if scene.peers.is_empty() {
-        return serve_alone::<R, Brand>(
-            rt, alloc, config, catalogue, tiles, sums, times, listeners,
-        );
+        return serve_alone::<R, Brand>(rt, alloc, config, catalogue, tiles, sums, times, listeners);
     }
     let nodes = Nodes {
         own: "self",

@@ -217,7 +217,11 @@ where
             )
         },
     );
-    Ok((answer.ok_or("no answer")?, counts.ok_or("no node")?, well_asked))
+    Ok((
+        answer.ok_or("no answer")?,
+        counts.ok_or("no node")?,
+        well_asked,
+    ))
 }
 
 /// The tile (1, 1) of the sample as an image.
@@ -239,8 +243,13 @@ const WAYS: [(Way, u64, u64); 7] = [
 #[test]
 fn peer_of_any_kind_leaves_the_answer_right(rt: HostRuntime) -> Result<(), Fail> {
     for (way, entered, taken) in WAYS {
-        let (answer, counts, well_asked) =
-            answered(&rt, rt.alloc(), way, ("a", ":sample"), CORNER)?;
+        let (answer, counts, well_asked) = answered(
+            &rt,
+            rt.alloc(),
+            way,
+            ("a", ":sample"),
+            CORNER,
+        )?;
         assert!(rt; answer.starts_with(b"HTTP/1.1 200 OK\r\n"), "{way:?}");
         assert!(rt; answer.ends_with(&[100, 110, 140, 150]), "{way:?}");
         assert_eq!(rt; (counts.gets, counts.peer), (entered, taken), "{way:?}");
@@ -256,8 +265,13 @@ fn peer_that_closes_on_the_second_version_leaves_the_answer_right(
     fs::write(&rt, "sixteen.tif", &DEEP)?;
     let request = b"GET /iiif/g/full/max/0/default.tif HTTP/1.1\r\nConnection: close\r\n\r\n";
     let image = ("g", "sixteen.tif");
-    let (answer, counts, well_asked) =
-        answered(&rt, rt.alloc(), Way::KnowsOneVersion, image, request)?;
+    let (answer, counts, well_asked) = answered(
+        &rt,
+        rt.alloc(),
+        Way::KnowsOneVersion,
+        image,
+        request,
+    )?;
     assert!(rt; answer.starts_with(b"HTTP/1.1 200 OK\r\n"));
     assert!(rt; answer.ends_with(&[0, 0, 0xff, 0xff]));
     assert_eq!(rt; (counts.gets, counts.peer), (2, 0));

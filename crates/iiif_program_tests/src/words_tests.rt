@@ -205,8 +205,10 @@ const PEERS: [(&[&str], &[u8]); 10] = [
 #[test]
 fn wrong_names_of_nodes_are_told(rt: HostRuntime) -> Result<(), Fail> {
     for (more, line) in PEERS {
-        let mut words =
-            Vec::from_slice(rt.alloc(), &["--base", BASE, "--one", WHOLE, "a=:sample"])?;
+        let mut words = Vec::from_slice(
+            rt.alloc(),
+            &["--base", BASE, "--one", WHOLE, "a=:sample"],
+        )?;
         words.extend_from_slice(more)?;
         let (status, out, err) = run(&rt, &words)?;
         assert_eq!(rt; err.as_slice(), line);
@@ -267,7 +269,11 @@ const IN_ORDER: [(&[u8], &[&str], &[&str]); 9] = [
         &["--cache-bytes", "9"],
     ),
     (b"line: band\n", &["--band", "0"], &["--band", "1"]),
-    (b"line: workers\n", &["--workers", "17"], &["--workers", "1"]),
+    (
+        b"line: workers\n",
+        &["--workers", "17"],
+        &["--workers", "1"],
+    ),
     (b"line: image\n", &["a"], &["a=:sample"]),
     (b"line: peer\n", &["--peer", "p"], &["--peer", "p=x"]),
     (b"line: mode\n", &["--hex"], &["--one", WHOLE]),

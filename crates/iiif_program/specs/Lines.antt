@@ -1,0 +1,15 @@
+-- What the options of a line say.
+use Rattle.iiif_server.specs.Settings.{Settings}
+use Rattle.iiif_program.specs.declared.line.Options.{Options}
+
+-- the settings of a server: both of the greatest sides are one number
+abbrev pub settings_in : Options → Settings
+settings_in o = record {
+  base = o.base.now;
+  edge = o.edge;
+  max_w = o.max;
+  max_h = o.max;
+  upscale = o.upscale;
+  band = o.band;
+  workers = o.workers;
+}
