@@ -65,21 +65,23 @@ fn name_has_up_to_1024_bytes(rt: HostRuntime) -> Result<(), Fail> {
     Ok(())
 }
 
+/// Texts, and the images that their lines name.
+const TEXTS: [(&str, &[(&str, &str)]); 7] = [
+    ("", &[]),
+    ("\n\r\n\n", &[]),
+    ("# a=b\n#", &[]),
+    ("a=b", &[("a", "b")]),
+    ("a=b\r\nc=d e\r\n", &[("a", "b"), ("c", "d e")]),
+    (
+        "# scans\n\nä=ü.tif\n#c=d\n c=d\r\n",
+        &[("ä", "ü.tif"), (" c", "d")],
+    ),
+    ("a=b\rc=d\r\n\re=f\r", &[("a", "b\rc=d"), ("\re", "f\r")]),
+];
+
 #[test]
 fn lines_of_a_text_name_images(rt: HostRuntime) -> Result<(), Fail> {
-    let cases: [(&str, &[(&str, &str)]); 7] = [
-        ("", &[]),
-        ("\n\r\n\n", &[]),
-        ("# a=b\n#", &[]),
-        ("a=b", &[("a", "b")]),
-        ("a=b\r\nc=d e\r\n", &[("a", "b"), ("c", "d e")]),
-        (
-            "# scans\n\nä=ü.tif\n#c=d\n c=d\r\n",
-            &[("ä", "ü.tif"), (" c", "d")],
-        ),
-        ("a=b\rc=d\r\n\re=f\r", &[("a", "b\rc=d"), ("\re", "f\r")]),
-    ];
-    for (text, images) in cases {
+    for (text, images) in TEXTS {
         let mut list = ImageList::new(rt.alloc());
         assert_eq!(rt; list.add_text(text.as_bytes()), Ok(()), "{text}");
         has_images(&rt, &list, images);
