@@ -27,12 +27,5 @@ impl<R> Watch<R> for () {
 
     fn begin(&self, _rt: &R) {}
 
-    fn answered(
-        &self,
-        _rt: &R,
-        _begun: (),
-        _call: Option<&Call>,
-        _outcome: &Result<Sent, Cut>,
-    ) {
-    }
+    fn answered(&self, _rt: &R, _begun: (), _call: Option<&Call>, _outcome: &Result<Sent, Cut>) {}
 }

@@ -1,0 +1,64 @@
+//! What to do about a file that the server can't serve, in plain words.
+#![tactic(auto)]
+
+ghost use Rattle.std.specs.Prelude.{◌≡◌, ◌<◌, true, length};
+ghost use Rattle.std.specs.List.{list_all};
+ghost use Rattle.iiif_advice.specs.Lines.{is_line_byte};
+
+use iiif_tiff::tag;
+use iiif_tiff_read::OpenFault;
+
+/// What to do about a file whose field of this tag has a value that isn't read.
+fn unsupported(tag: u16) -> &'static str
+    ensures one_line { list_all is_line_byte result.now ≡ true }
+    ensures some { 0 < length result.now }
+{
+    match tag {
+        tag::COMPRESSION => "its samples are compressed: tiffcp -c none IN.tif OUT.tif",
+        tag::BITS_PER_SAMPLE => {
+            "a sample has neither 1, 8 nor 16 bits: vips cast IN.tif OUT.tif uchar"
+        }
+        tag::SAMPLE_FORMAT => "its samples are signed or floats: vips cast IN.tif OUT.tif uchar",
+        tag::SAMPLES_PER_PIXEL => {
+            "it has alpha or is CMYK: vips flatten IN.tif OUT.tif, or vips colourspace IN.tif OUT.tif srgb"
+        }
+        tag::EXTRA_SAMPLES => "it has extra samples: vips extract_band IN.tif OUT.tif 0",
+        tag::PHOTOMETRIC_INTERPRETATION => {
+            "it is neither gray nor RGB, as a palette: vips colourspace IN.tif OUT.tif srgb"
+        }
+        tag::PLANAR_CONFIGURATION => {
+            "its channels stand in planes: tiffcp -c none -p contig IN.tif OUT.tif"
+        }
+        tag::FILL_ORDER => "its bits stand low first: tiffcp -c none -f msb2lsb IN.tif OUT.tif",
+        tag::ORIENTATION => "it is turned: vips autorot IN.tif OUT.tif",
+        _ => "a field has a value that isn't read: vips copy IN.tif OUT.tif",
+    }
+}
+
+/// What to do about a file that is refused: one line, without its end.
+pub fn advice(fault: &OpenFault) -> &'static str
+    ensures one_line { list_all is_line_byte result.now ≡ true }
+    ensures some { 0 < length result.now }
+{
+    match fault {
+        OpenFault::NotTiff => {
+            "it is no TIFF file of the classic kind: tiffcp -c none IN.tif OUT.tif for BigTIFF, vips copy IN OUT.tif for other formats"
+        }
+        OpenFault::Truncated => "it ends too early: fetch it again",
+        OpenFault::Missing(tag::PHOTOMETRIC_INTERPRETATION) => {
+            "it doesn't say whether 0 is black: tiffset -s 262 1 FILE.tif says so"
+        }
+        OpenFault::Missing(_) => {
+            "it lacks a field that it needs: tiffcp -c none IN.tif OUT.tif writes it anew"
+        }
+        OpenFault::Unsupported(tag) => unsupported(*tag),
+        OpenFault::BadField(_) => {
+            "a field is wrong, or the file is sparse: gdal_translate IN.tif OUT.tif"
+        }
+        OpenFault::TooLarge => {
+            "it is too large, or has too many tiles: cut it up, or tiffcp -c none -t -w 1024 -l 1024 IN.tif OUT.tif"
+        }
+        OpenFault::Source(_) => "a read failed: look at the disk, and whether it is a folder",
+        OpenFault::NoMemory => "memory was refused: give the process more",
+    }
+}
