@@ -49,8 +49,8 @@ module _ {S : Type 0} (gave : S → ReadFault → Bool) (writer : Type 0) (setti
   by_answer _ memory_wanted = inr refl
 
   whole : (a : Response) (text : List ℕ) (sent : Sent) → Answered a → text ≡ text_of (written part a) → sent.status ≡ a.status → IsWholeOrWanting settings part Reaches text (Ok sent)
-  whole a text sent (inl image) is status =
-      inl (image.0, image.1, is ∙ ap (λ (r : Response). text_of (written part r)) image.2, status ∙ ap (λ (r : Response). r.status) image.2)
+  whole a text sent (inl sent_image) is status =
+      inl (sent_image.0, sent_image.1, is ∙ ap (λ (r : Response). text_of (written part r)) sent_image.2, status ∙ ap (λ (r : Response). r.status) sent_image.2)
   whole a text sent (inr wanted) is status = inr (is ∙ ap (λ (r : Response). text_of (written part r)) wanted, status ∙ ap (λ (r : Response). r.status) wanted)
 
   by_cause : (text : List ℕ) (cause : Cause) → IsCut settings part gave Reaches writer text cause
@@ -94,7 +94,10 @@ one_some x y e = cc
 ok_err : {A : Type 0} (x : A) (e : Refusal) → Err e ≡ Ok x → ⊥
 ok_err x e same = cc
 
-one_ok : {A : Type 0} (x y : A) → Ok {E = Refusal} x ≡ Ok y → x ≡ y
+abbrev said : {A : Type 0} → A → Result A Refusal
+said x = Ok x
+
+one_ok : {A : Type 0} (x y : A) → said x ≡ said y → x ≡ y
 one_ok x y e = cc
 
 base_image : (id name : List ℕ) (w : Texts) → base id ≡ image name w → ⊥
@@ -160,7 +163,7 @@ module _ {S : Type 0} (bytes : S → List ℕ) (keeps : S → Type 0) (honest : 
   reached_by_call method _ g e (of_target r answered replies) = (answered, replies)
 
   answered_once : (method : List ℕ) → is_answered method ≡ false → is_answered method ≡ true → ⊥
-  answered_once method no yes = cc
+  answered_once method unanswered answered = cc
 
   pub call_alone : (method : List ℕ) (g : Given S) → RepliesToCall bytes keeps honest settings items method target (given g)
       → IsAlone (RepliesToCall bytes keeps honest settings items method target)
