@@ -10,6 +10,7 @@ use crate::entry::Entry;
 use iiif_keys::{Name, is_name};
 use iiif_source::Source;
 use iiif_tiff_read::Layout;
+use indexmap::IndexMap;
 use std::alloc::Global;
 use std::marker::{Model, PhantomData};
 use thiserror::Error;
@@ -41,18 +42,20 @@ impl AddFault {
 /// Images with names of their own. Clauses see them in the order in which they were taken in.
 #[derive(Drop)]
 pub struct Catalogue<R, S: Source<R>> {
-    entries: Vec<Entry<R, S>>,
+    entries: IndexMap<String, Entry<R, S>>,
 }
 
 impl<R, S: Source<R>> Model for Catalogue<R, S> {
-    ghost use Rattle.std.specs.Prelude.{List, map};
+    ghost use Rattle.std.specs.Prelude.{◌≡◌, List, map, string_bytes};
     ghost use Rattle.iiif_images.specs.Collection.{Item};
 
     ghost Value = { List (Item S) };
 
     ghost use Rattle.iiif_images.specs.Items.{item_of};
 
-    ghost view = { λ c. map item_of c.entries.items };
+    ghost view = { λ c. map (λ e. item_of e.1) c.entries.entries };
+
+    ghost invariant = { λ c. map (λ e. string_bytes e.0) c.entries.entries ≡ map (λ e. e.1.name) c.entries.entries };
 }
 
 impl<R, S: Source<R> + Drop> Catalogue<R, S> {
@@ -61,7 +64,7 @@ impl<R, S: Source<R> + Drop> Catalogue<R, S> {
         ensures { result ≡ [] }
     {
         Catalogue {
-            entries: Vec::new(alloc),
+            entries: IndexMap::new(alloc),
         }
     }
 
@@ -89,6 +92,9 @@ impl<R, S: Source<R> + Drop> Catalogue<R, S> {
         if self.has(name.as_str()) {
             return Err(AddFault::Twice);
         }
+        let Ok(key) = name.clone() else {
+            return Err(AddFault::NoMemory);
+        };
         let Ok(name) = Name::new(name) else {
             return Err(AddFault::NoMemory);
         };
@@ -98,18 +104,16 @@ impl<R, S: Source<R> + Drop> Catalogue<R, S> {
             layout,
             of: PhantomData,
         };
-        match self.entries.push(entry) {
-            Ok(()) => Ok(()),
+        match self.entries.insert(key, entry) {
+            Ok(_) => Ok(()),
             Err(_) => Err(AddFault::NoMemory),
         }
     }
 
-    /// The image of a name.
+    /// The image of a name. It takes the same time among many images as among few.
     pub fn find(&self, name: &str) -> Option<&Entry<R, S>>
         ensures { option_map (λ e. item_of e.now) result ≡ item_named self.now name.now }
     {
-        self.entries
-            .iter()
-            .find(|entry| entry.name.as_str() == name)
+        self.entries.get(name)
     }
 }

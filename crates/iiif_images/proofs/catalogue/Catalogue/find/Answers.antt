@@ -1,13 +1,13 @@
-use Rattle.std.proofs.Common.{rules, tests, bytes_eq}
-use Rattle.std.proofs.lemmas.Iterator.{YieldsList-from_slice}
-use Rattle.std.proofs.lemmas.Iterator.Search.{find_from_yields_List}
+use Rattle.std.proofs.Common.{◌∙◌, ap, option_map}
+use Rattle.std.specs.Prelude.{string_bytes}
+use Rattle.iiif_images.specs.Collection.{item_named}
 use Rattle.iiif_images.specs.Items.{item_of}
-use Rattle.iiif_images.proofs.ItemLemmas.{found_item}
+use Rattle.iiif_images.proofs.ItemLemmas.{looked_up, mapped_twice}
 use Rattle.iiif_images.proofs.catalogue.Catalogue.find.Goals as goal
 
 pub returns : goal.returns
 returns g c =
-    rw (← c.self.view_is)
-    (found_item (λ y. y.now) item_of (λ item. bytes_eq item.name c.args.name.now) c.self.inside.entries.items c.find.result
-    (find_from_yields_List (λ e. bytes_eq e.name c.args.name.now) _ _ c.find.result c.find.ensures.ran
-    (YieldsList-from_slice c.self.inside.entries.items cc) (λ x b q k. search (rules, tests))))
+    mapped_twice (λ y. y.now) item_of c.get.result
+    ∙ (ap (option_map item_of) c.get.ensures.value
+    ∙ (looked_up string_bytes item_of c.args.name.now c.self.inside.entries.entries c.self.invariant
+    ∙ ap (λ items. item_named items c.args.name.now) c.self.view_is))
