@@ -1,5 +1,5 @@
 -- What takes the place of an accepted image over devices that never fail: nothing but want of memory.
-use Rattle.std.proofs.Common.{◌≡◌, ◌⊎◌, inl, inr, ℕ, Bool, true, false, List, Option, Some, None, Result, Ok, Err, IsTrue, refl, sym, ap, ◌∙◌, subst}
+use Rattle.std.proofs.Common.{◌≡◌, ◌⊎◌, inl, inr, ℕ, Bool, true, false, List, Some, None, Result, Ok, Err, IsTrue, refl, sym, ap, ◌∙◌, subst}
 use Rattle.iiif_source.specs.declared.ReadFault.{ReadFault}
 use Rattle.iiif_pixel.specs.Operations.{crop, turn, quality}
 use Rattle.iiif_pixel.specs.Picture.{Picture, dim_of}
@@ -17,10 +17,10 @@ use Rattle.iiif_canonical.specs.declared.resolved.Limits.{Limits}
 use Rattle.iiif_images.specs.Collection.{Item, item_named}
 use Rattle.iiif_keys.specs.declared.fault.Fault.TheVariants.{Source, NoMemory, UnknownName, BadKey}
 use Rattle.iiif_server.specs.Allowed.{Allowed, EndsInBody, IsCut, MayAnswer, own, source_failed, memory_wanted}
-use Rattle.iiif_server.specs.Answers.{Given, IsGiven, IsPictureOf, Reply, Replies, given, identifier_of, refused, redirect, described, no_path, no_item, of_base, of_information, no_request, no_image, of_image}
+use Rattle.iiif_server.specs.Answers.{Given, IsGiven, Reply, Replies, given, identifier_of, refused, redirect, described, no_path, no_item, of_base, of_information, no_request, no_image, of_image}
 use Rattle.iiif_server.specs.BaseUrl.{path_of}
 use Rattle.iiif_server.specs.Calls.{RepliesToCall, no_method, of_target, is_answered}
-use Rattle.iiif_server.specs.Devices.{IsImageAlone, IsWholeOrWanting, WholeOverHonestDevices}
+use Rattle.iiif_server.specs.Devices.{IsWholeOrWanting, WholeOverHonestDevices}
 use Rattle.iiif_server.specs.Responses.{Response, response_of, want_of_memory, written}
 use Rattle.iiif_server.specs.Sent.{text_of}
 use Rattle.iiif_server.specs.Settings.{Settings, limits_of}

@@ -1,11 +1,11 @@
 -- What a node may reply to another one, in other words of the same node.
-use Rattle.std.proofs.Common.{◌≡◌, ◌⊎◌, inl, inr, ℕ, Bool, List, Option, Some, None, refl, sym, subst}
+use Rattle.std.proofs.Common.{◌≡◌, inl, inr, ℕ, Bool, List, Option, Some, None, refl, sym, subst}
 use Rattle.iiif_source.specs.declared.ReadFault.{ReadFault}
 use Rattle.iiif_keys.specs.Names.{Pictures}
 use Rattle.iiif_keys.specs.declared.fault.Fault.{Fault}
 use Rattle.iiif_keys.specs.declared.fault.Fault.TheVariants.{Source, NoMemory, UnknownName, BadKey}
 use Rattle.iiif_images.specs.Collection.{Item, item_named}
-use Rattle.iiif_peer_groups.specs.Kinds.{Kind, System, system, sum_kind, tile_kind}
+use Rattle.iiif_peer_groups.specs.Kinds.{Kind, system, sum_kind, tile_kind}
 use Rattle.iiif_peer_groups.specs.Replying.{HasFault, HasValue, IsReplyTo, MayReply}
 use Rattle.iiif_peer_wire.specs.declared.version.Version.{Version}
 use Rattle.iiif_server.specs.Nodes.{stable_by, stable_of}
