@@ -228,16 +228,16 @@ def an_event(chance, world):
     return with_words(chance, event)
 
 
-def is_onward(chance, world, event):
+def is_onward(chance, world, event, served, replied):
     """Whether an event of a long list helps a wide flight to its value: no ask is lost or served twice, and replies fit."""
     if event[0] in ("lose", "source_fault"):
         return chance.random() < 0.02
     if event[0] == "again":
         return chance.random() < 0.3
     if event[0] == "serve":
-        return all(call[3] != ("ask", event[1]) for call in world.calls)
+        return event[1] not in served
     if event[0] == "reply":
-        return all(key != world.calls[event[1]][1] for key, _ in world.replies)
+        return world.calls[event[1]][1] not in replied
     if event[0] == "take":
         key, outcome = world.replies[event[2]]
         return outcome[0] == "ok" and key == world.flights[event[1]][1]
@@ -246,7 +246,9 @@ def is_onward(chance, world, event):
 
 def an_event_onward(chance, world):
     """An event of a long list: values come from peers, and go again, so that they are fetched anew."""
-    some = [event for event in allowed(world) if is_onward(chance, world, event)]
+    served = {call[3][1] for call in world.calls if call[3][0] == "ask"}
+    replied = {key for key, _ in world.replies}
+    some = [event for event in allowed(world) if is_onward(chance, world, event, served, replied)]
     draw = chance.random()
     if not some or draw < 0.02:
         name = chance.choice(list(world.scene.pictures))
