@@ -30,7 +30,8 @@ fn an_answer_that_was_cut_off(rt: HostRuntime) -> Result<(), Fail> {
         millis: 18_446_744_073_709_551_615,
     };
     let line = line_bytes(rt.alloc(), &answered)?;
-    let wanted = b"2000-02-28T23:59:59.007Z GET - 0 18446744073709551615 /a\\x0A\\x20GET\\x20\\x22\\x27\\x5Cx0A\\x7F\\xC3\\xA9 cut\n";
+    let wanted =
+        b"2000-02-28T23:59:59.007Z GET - 0 18446744073709551615 /a\\x0A\\x20GET\\x20\\x22\\x27\\x5Cx0A\\x7F\\xC3\\xA9 cut\n";
     assert_eq!(rt; line.as_slice(), wanted.as_slice());
     Ok(())
 }

@@ -106,7 +106,8 @@ fn a_thread_writes_what_is_told(rt: HostRuntime) -> Result<(), Fail> {
             log.close(&rt);
         },
     );
-    let wanted = b"1970-01-01T00:00:00.000Z GET 200 3 1 /a\n1970-01-01T00:00:00.000Z GET 200 3 1 /b\n";
+    let wanted =
+        b"1970-01-01T00:00:00.000Z GET 200 3 1 /a\n1970-01-01T00:00:00.000Z GET 200 3 1 /b\n";
     assert_eq!(rt; written.as_slice(), wanted.as_slice());
     Ok(())
 }
