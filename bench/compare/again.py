@@ -40,6 +40,27 @@ def asked(link, target):
     return time.perf_counter() - start, body
 
 
+def processor_time(server):
+    """The seconds of processor time that a server has taken, to a hundredth."""
+    with open(f"/proc/{server.process.pid}/stat") as stat:
+        words = stat.read().rpartition(")")[2].split()
+    return (int(words[11]) + int(words[12])) / os.sysconf("SC_CLK_TCK")
+
+
+def both(args, source, wanted):
+    """Wall clock and processor time of the first answer and of the second, by a new server; none where one is wrong."""
+    image = "a=" + os.path.join(args.work, source.name + ".tif")
+    with running.Server(args.program, [image], ["--workers", args.workers]) as server, server.connect() as link:
+        times = []
+        for _ in range(2):
+            start = processor_time(server)
+            seconds, body = asked(link, TARGET)
+            if body != wanted:
+                return None
+            times += [seconds, processor_time(server) - start]
+    return times
+
+
 def main():
     parser = argparse.ArgumentParser(description=__doc__, formatter_class=argparse.RawDescriptionHelpFormatter)
     parser.add_argument("--program", required=True, help="the proved program")
@@ -51,21 +72,17 @@ def main():
     os.makedirs(args.work, exist_ok=True)
     jobs = [job for job in range(len(compare.JOBS)) if compare.is_overview(job)]
     wanted, missed = compare.prepared(args, jobs), False
-    print("| From | first, ms | again, ms | ratio |\n|---|---|---|---|")
+    print("| From | first, ms | again, ms | ratio | processor time, ms | again, ms |\n|---|---|---|---|---|---|")
     for job in jobs:
         source = compare.SOURCES[compare.JOBS[job][1]]
-        times = []
-        for _ in range(args.rounds):
-            image = "a=" + os.path.join(args.work, source.name + ".tif")
-            with running.Server(args.program, [image], ["--workers", args.workers]) as server, server.connect() as link:
-                answers = [asked(link, TARGET) for _ in range(2)]
-            if any(body != compare.answer_file(wanted[job]) for _, body in answers):
-                print(f"{source.name}: an answer differs from the exact averages", file=sys.stderr)
-                return 1
-            times.append([seconds for seconds, _ in answers])
-        first, again = (statistics.median(column) for column in zip(*times))
-        missed |= again > LIMIT * first
-        print(f"| {source.name} | {first * 1000:.1f} | {again * 1000:.1f} | {again / first:.2f}{' (!)' if again > LIMIT * first else ''} |")
+        rounds = [both(args, source, compare.answer_file(wanted[job])) for _ in range(args.rounds)]
+        if None in rounds:
+            print(f"{source.name}: an answer differs from the exact averages", file=sys.stderr)
+            return 1
+        first, cpu, again, cpu_again = (statistics.median(column) * 1000 for column in zip(*rounds))
+        over = again > LIMIT * first
+        missed |= over
+        print(f"| {source.name} | {first:.1f} | {again:.1f} | {again / first:.2f}{' (!)' if over else ''} | {cpu:.0f} | {cpu_again:.0f} |")
     return 1 if args.strict and missed else 0
 
 
