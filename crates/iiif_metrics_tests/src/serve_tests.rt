@@ -11,23 +11,21 @@ use std::test::Fail;
 struct Fixed;
 
 /// A cache's counters, from a first value on.
-fn cache(first: u64) -> CacheMetrics
-    requires { first < 1000 }
-{
+fn cache(first: u64) -> CacheMetrics {
     CacheMetrics {
         book: Book {
             gets: first,
-            hits: first + 1,
-            joins: first + 2,
-            leads: first + 3,
-            again_hits: first + 4,
-            loads: first + 5,
-            peer: first + 6,
-            landed: first + 7,
-            faults: first + 8,
+            hits: first.saturating_add(1),
+            joins: first.saturating_add(2),
+            leads: first.saturating_add(3),
+            again_hits: first.saturating_add(4),
+            loads: first.saturating_add(5),
+            peer: first.saturating_add(6),
+            landed: first.saturating_add(7),
+            faults: first.saturating_add(8),
         },
-        bytes: first + 9,
-        entries: first + 10,
+        bytes: first.saturating_add(9),
+        entries: first.saturating_add(10),
     }
 }
 
@@ -101,7 +99,11 @@ fn the_text(rt: HostRuntime) -> Result<(), Fail> {
 #[test]
 fn get_of_the_counters(rt: HostRuntime) -> Result<(), Fail> {
     let out = answered(&rt, rt.alloc(), b"GET /metrics HTTP/1.1\r\nHost: a\r\n\r\n");
-    assert!(rt; out.starts_with(b"HTTP/1.1 200 OK\r\nContent-Type: text/plain; version=0.0.4\r\nContent-Length: "));
+    assert!(rt;
+        out.starts_with(
+            b"HTTP/1.1 200 OK\r\nContent-Type: text/plain; version=0.0.4\r\nContent-Length: "
+        )
+    );
     assert!(rt; out.ends_with(END.as_bytes()));
     Ok(())
 }
@@ -110,13 +112,16 @@ fn get_of_the_counters(rt: HostRuntime) -> Result<(), Fail> {
 fn another_target_and_another_method(rt: HostRuntime) -> Result<(), Fail> {
     let alloc = rt.alloc();
     let out = answered(&rt, alloc, b"GET / HTTP/1.1\r\n\r\n");
-    let wanted = b"HTTP/1.1 404 Not Found\r\nContent-Type: text/plain\r\nContent-Length: 0\r\nConnection: close\r\n\r\n";
+    let wanted =
+        b"HTTP/1.1 404 Not Found\r\nContent-Type: text/plain\r\nContent-Length: 0\r\nConnection: close\r\n\r\n";
     assert_eq!(rt; out.as_slice(), wanted.as_slice());
     let out = answered(&rt, alloc, b"POST /metrics HTTP/1.1\r\n\r\n");
-    let wanted = b"HTTP/1.1 405 Method Not Allowed\r\nContent-Type: text/plain\r\nAllow: GET\r\nContent-Length: 0\r\nConnection: close\r\n\r\n";
+    let wanted =
+        b"HTTP/1.1 405 Method Not Allowed\r\nContent-Type: text/plain\r\nAllow: GET\r\nContent-Length: 0\r\nConnection: close\r\n\r\n";
     assert_eq!(rt; out.as_slice(), wanted.as_slice());
     let out = answered(&rt, alloc, b"hello\r\n\r\n");
-    let wanted = b"HTTP/1.1 400 Bad Request\r\nContent-Type: text/plain\r\nContent-Length: 0\r\nConnection: close\r\n\r\n";
+    let wanted =
+        b"HTTP/1.1 400 Bad Request\r\nContent-Type: text/plain\r\nContent-Length: 0\r\nConnection: close\r\n\r\n";
     assert_eq!(rt; out.as_slice(), wanted.as_slice());
     Ok(())
 }
