@@ -231,6 +231,8 @@ def measured(bench, jobs, columns):
 
 
 def table(title, jobs, names, cell):
+    if not names:
+        return
     print(f"\n**{title}**\n\n| | {' | '.join(names)} |\n|---|{'---|' * len(names)}")
     for job in jobs:
         print(f"| {job} | {' | '.join(cell(job, name) for name in names)} |")
