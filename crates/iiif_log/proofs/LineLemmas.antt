@@ -1,5 +1,5 @@
 -- Lines: their bytes, their words, and what they tell.
-use Rattle.std.proofs.Common.{◌≡◌, ℕ, zero, suc, ◌+◌, ◌/◌, ◌%◌, ◌<◌, ◌^◌, ◌==◌, Bool, true, false, List, [], ◌∷◌, ◌++◌, All, codes, decimal, Option, None, ℤ, pos, negsuc, append_assoc, arith, ap, sym, ◌∙◌, refl, subst, if◌then◌else◌}
+use Rattle.std.proofs.Common.{◌≡◌, ℕ, zero, suc, ◌+◌, ◌/◌, ◌%◌, ◌<◌, ◌^◌, ◌==◌, true, false, List, [], ◌∷◌, ◌++◌, All, codes, decimal, None, ℤ, pos, negsuc, append_assoc, arith, ap, sym, ◌∙◌, refl, subst, if◌then◌else◌}
 use Rattle.std.specs.List.{join_with_byte, slice_split, AllByRecursion}
 use Rattle.std.proofs.lemmas.Grind.{common_steps}
 use Rattle.std.proofs.lemmas.List.{append-nil, append_cancel_right}
@@ -13,7 +13,7 @@ use Rattle.jiff_fmt.specs.Text.{places}
 use Rattle.jiff.specs.Names.{iso_datetime_text}
 use Rattle.iiif_log.specs.Escapes.{escaped}
 use Rattle.iiif_log.specs.Laws.{HasNumbers, LinesAreLines, LinesTellAnswers, last_words}
-use Rattle.iiif_log.specs.Lines.{IsLineOf, cut_word, outcome_word, words_of}
+use Rattle.iiif_log.specs.Lines.{cut_word, outcome_word, words_of}
 use Rattle.iiif_log.specs.Moments.{IsMomentText, three_digits}
 use Rattle.iiif_log.specs.declared.answered.Answered.{Answered}
 use Rattle.iiif_log.specs.declared.answered.Outcome.{Outcome}

@@ -1,13 +1,12 @@
 -- Lines that are put and taken.
-use Rattle.std.proofs.Common.{◌≡◌, ℕ, zero, suc, ◌+◌, ◌^◌, ◌<◌, ◌-◌, ◌==◌, min, Bool, true, false, cond, nat_lt, List, [], ◌∷◌, ◌++◌, length, append_assoc, arith, subst, refl}
+use Rattle.std.proofs.Common.{◌≡◌, ℕ, zero, suc, ◌+◌, ◌^◌, ◌<◌, Bool, true, false, cond, nat_lt, List, [], ◌∷◌, ◌++◌, length, append_assoc, arith, subst, refl}
 use Rattle.std.proofs.Math.ListN.{length-append}
-use Rattle.std.specs.List.{sum_by}
 use Rattle.std.proofs.lemmas.Grind.{common_steps}
 use Rattle.std.proofs.lemmas.List.{append-nil}
 use Rattle.std.proofs.lemmas.List.Sums.{sum_by_push}
 use Rattle.iiif_log.specs.Laws.{Keeps, CountsAddUp}
 use Rattle.iiif_log.specs.Laws.Keeps.{none, kept, gone, said}
-use Rattle.iiif_log.specs.Waiting.{Told, Waiting, Next, line, nothing, closed, capped, lost_behind, next_of, left_of, lines_in, put_behind}
+use Rattle.iiif_log.specs.Waiting.{Told, Waiting, line, capped, lost_behind, next_of, left_of, lines_in, put_behind}
 
 -- a count that is not the greatest goes up
 capped_is : (n : ℕ) → n < 2 ^ 64 → capped n ≡ n

@@ -4,7 +4,7 @@ use Rattle.std.specs.List.{slice_split, sum_by}
 use Rattle.iiif_log.specs.Escapes.{escaped}
 use Rattle.iiif_log.specs.Lines.{IsLineOf, words_of}
 use Rattle.iiif_log.specs.Moments.{IsMomentText}
-use Rattle.iiif_log.specs.Waiting.{Next, Told, Waiting, line, left_behind, lines_in, put_behind, told_next}
+use Rattle.iiif_log.specs.Waiting.{Told, Waiting, line, left_behind, lines_in, put_behind, told_next}
 use Rattle.iiif_log.specs.declared.answered.Answered.{Answered}
 use Rattle.iiif_log.specs.declared.answered.Outcome.{Outcome}
 use Rattle.iiif_log.specs.declared.answered.Outcome.TheVariants.{Whole, Cut}

@@ -1,5 +1,5 @@
-use Rattle.std.proofs.Common.{◌≡◌, ℕ, ◌/◌, ◌%◌, ◌*◌, ◌<◌, ◌^◌, ◌++◌, ◌∷◌, [], List, pos, ◌*ℤ◌, arith, ap, append_assoc, string_bytes}
-use Rattle.std.proofs.lemmas.Int.{ints, to_z_pos}
+use Rattle.std.proofs.Common.{◌≡◌, ℕ, ◌/◌, ◌%◌, ◌*◌, ◌<◌, ◌^◌, ◌++◌, ◌∷◌, [], List, pos, ◌*ℤ◌, arith, append_assoc, string_bytes}
+use Rattle.std.proofs.lemmas.Int.{ints}
 use Rattle.std.proofs.lemmas.Result.{on_ok_weaker}
 use Rattle.jiff_core.specs.DateTime.{civil_nanos}
 use Rattle.jiff.specs.Names.{iso_datetime_text}
