@@ -14,7 +14,7 @@ The jobs, each on servers that are started anew for it, so that their caches are
   zoom path      200 requests of one viewer of demo/index.html who opens the picture, zooms in and moves, as bench/scale records it
   crowd          8 viewers, 100 different requests of such paths, each asked by two viewers at the same time
   viewers        1, 8 and 64 viewers, each somewhere else on such paths
-All servers run in turn, --rounds times, and medians are printed: wall time, processor time of all processes of a server, requests a second,
+All servers run in turn, --rounds times (the plain one once, as it takes minutes), and medians are printed: wall time, processor time of all processes of a server, requests a second,
 and the 50th and the 99th percentile of the time from a request's first byte to its answer's last. With --nodes, the crowd's viewers go to
 so many nodes that ask each other, one after another.
 
@@ -113,9 +113,9 @@ JOBS = {
     "native tiles, 64 viewers": lambda: native(64, 22),
     "zoom path": lambda: [path(1, 200)],
     "crowd": crowd,
-    "viewers, 1": lambda: [path(100, 400)],
-    "viewers, 8": lambda: spread(8, 100),
-    "viewers, 64": lambda: spread(64, 50),
+    "viewers, 1": lambda: [path(100, 200)],
+    "viewers, 8": lambda: spread(8, 40),
+    "viewers, 64": lambda: spread(64, 16),
 }
 
 
@@ -220,9 +220,11 @@ def percentile(rows, part):
 def measured(bench, jobs, columns):
     """The medians of each job and column: wall and processor seconds, requests a second, the two percentiles, connections closed unanswered."""
     found = {}
-    for _ in range(bench.args.rounds):
+    for turn in range(bench.args.rounds):
         for job in jobs:
             for column, start in columns.items():
+                if turn and column == PLAIN:
+                    continue
                 with start() as server:
                     wall, used, rows = bench.asked(server, job)
                 away = sum(int(row[5]) for row in rows)
