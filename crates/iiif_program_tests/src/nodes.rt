@@ -81,7 +81,7 @@ fn serve_by<R, J, N, T>(
     listeners: (&TcpListener, &TcpListener),
 ) -> Counts
 where
-    R: Threads + Wait + Clock + Sync,
+    R: Net<Listener = TcpListener, Stream = TcpStream> + Threads + Wait + Clock + Sync,
     J: System + Send + Sync,
     N: Link<TileKey, J, R> + Link<SumKey, J, R> + Sync,
     T: Gate<R> + Sync,
@@ -111,7 +111,7 @@ fn serve_alone<R, J>(
     listeners: (&TcpListener, &TcpListener),
 ) -> Option<Counts>
 where
-    R: Threads + Wait + Clock + Sync,
+    R: Net<Listener = TcpListener, Stream = TcpStream> + Threads + Wait + Clock + Sync,
     J: System + Send + Sync,
     requires pictures { (name : List ℕ) → J.pictures name ≡ pictures_of bytes_of catalogue name }
     requires gave { (name : List ℕ) (f : ReadFault) → J.gave name f ≡ gave_of stored_gave catalogue name f }
@@ -138,7 +138,7 @@ fn serve_among<R, J>(
     listeners: (&TcpListener, &TcpListener),
 ) -> Option<Counts>
 where
-    R: Net<Stream = TcpStream> + Threads + Wait + Clock + Sync,
+    R: Net<Listener = TcpListener, Stream = TcpStream> + Threads + Wait + Clock + Sync,
     J: System + Send + Sync,
     requires pictures { (name : List ℕ) → J.pictures name ≡ pictures_of bytes_of catalogue name }
     requires gave { (name : List ℕ) (f : ReadFault) → J.gave name f ≡ gave_of stored_gave catalogue name f }

@@ -173,7 +173,7 @@ fn answered<R>(
     rt: &R,
     alloc: Global,
     way: Way,
-    image: (&str, &str),
+    image: (&'static str, &'static str),
     request: &[u8],
 ) -> Result<(Vec<u8>, Counts, bool), Fail>
 where
