@@ -61,8 +61,9 @@ fn files_are_opened_again(rt: HostRuntime) -> Result<(), Fail> {
     for _ in 0..3 {
         for (number, (_, source)) in (0..5u8).zip(sources.iter()) {
             assert_eq!(rt; Source::<HostRuntime>::len(source), 3);
-            assert_eq!(rt; two_at(&rt, source, 1), Ok([10 + number, 20 + number]));
-            assert_eq!(rt; two_at(&rt, source, 0), Ok([number, 10 + number]));
+            let (ten, twenty) = (number.wrapping_add(10), number.wrapping_add(20));
+            assert_eq!(rt; two_at(&rt, source, 1), Ok([ten, twenty]));
+            assert_eq!(rt; two_at(&rt, source, 0), Ok([number, ten]));
             assert_eq!(rt; files.kept(&rt), 2);
         }
     }
