@@ -6,8 +6,6 @@ use crate::times::Times;
 use iiif_group::{Gate, Link};
 use iiif_keys::{SumKey, System, TileKey};
 use iiif_listener::{Pace, PacedWriter, close};
-use iiif_peer_groups::Peers;
-use iiif_peer_server::serve_peer;
 use iiif_server::Node;
 use iiif_source::Source;
 use iiif_sum_group::SumCalls;
@@ -48,10 +46,8 @@ impl<
         let Some(mut passes) = self.node.pass(rt) else {
             return;
         };
-        let peers = Peers {
-            groups: self.node.groups(),
-        };
-        serve_peer(rt, alloc, &peers, &mut passes, &mut reader, &mut out);
+        self.node
+            .serve_peer(rt, alloc, &mut passes, &mut reader, &mut out);
         self.node.give_back(rt, passes);
         let PacedWriter { stream, .. } = out;
         close(stream);
