@@ -93,9 +93,11 @@ pub(crate) fn groups<R, J: System, N: Drop>(
     let images = Images::new(alloc, catalogue, 2);
     let (near, far) = (ring(alloc)?, ring(alloc)?);
     let (to_tiles, to_sums) = links;
-    let link = Vec::from_array(alloc, [to_tiles])?;
+    let mut link = Vec::new(alloc);
+    link.push(to_tiles)?;
     let near = Group::new(alloc, 9999, entries, NoGate, near, None, link, tiles)?;
-    let link = Vec::from_array(alloc, [to_sums])?;
+    let mut link = Vec::new(alloc);
+    link.push(to_sums)?;
     let far = Group::new(alloc, 9999, entries, NoGate, far, None, link, sums)?;
     Ok(Groups::new(alloc, Tiles::new(alloc, images, near), far))
 }
