@@ -1,5 +1,6 @@
 """The program as a server: started, asked over connections, and looked at from outside."""
 import os
+import random
 import socket
 import subprocess
 import tempfile
@@ -10,9 +11,15 @@ BASE = "http://localhost/iiif"
 
 
 def free_port():
-    with socket.socket() as probe:
-        probe.bind(("127.0.0.1", 0))
-        return probe.getsockname()[1]
+    """A free port below those that the system gives to connections, so that none of these takes it before a server does."""
+    while True:
+        port = random.SystemRandom().randrange(20_000, 32_000)
+        with socket.socket() as probe:
+            try:
+                probe.bind(("127.0.0.1", port))
+                return port
+            except OSError:
+                continue
 
 
 def options_of(program):
