@@ -13,6 +13,9 @@ use rayon::prelude::*;
 use std::alloc::Global;
 use std::thread::Threads;
 
+/// The least sums that are worth a thread: starting one takes as long as rounding some ten thousand.
+const LEAST: usize = 65_536;
+
 /// `sum / area` to the nearest whole number, a half up, and `top` for any above it.
 fn rounded(sum: u64, area: u64, top: u16) -> u16
     requires { (0 < area) × (area ≤ 2 ^ 32) }
@@ -32,6 +35,7 @@ fn rounded_eight<R: Threads + Sync>(
     ensures { IfOk result (λ v. AllZip (λ s b. b ≡ rounded_sum area 255 s) sums.now v.items) }
 {
     sums.par_iter()
+        .with_min_len(LEAST)
         .map(
             |s: &u64| -> u8
                 requires { (0 < area) × (area ≤ 2 ^ 32) }
@@ -52,6 +56,7 @@ fn rounded_sixteen<R: Threads + Sync>(
     ensures { IfOk result (λ v. AllZip (λ s b. b ≡ rounded_sum area 65535 s) sums.now v.items) }
 {
     sums.par_iter()
+        .with_min_len(LEAST)
         .map(
             |s: &u64| -> u16
                 requires { (0 < area) × (area ≤ 2 ^ 32) }

@@ -10,13 +10,13 @@ use std::io;
 use std::io::ErrorKind;
 use std::marker::Model;
 use std::os::unix::fs::FileExt;
-use std::sync::{Mutex, Wait};
+use std::sync::{RwLock, Wait};
 
-/// A file behind a lock. Its length is taken once, when the source is made. It is seen as that length: nothing can be
-/// known of what a file holds, so its bytes stand for any, and that it keeps them is never promised.
+/// A file behind a lock that readers share. Its length is taken once, when the source is made. It is seen as that length: nothing
+/// can be known of what a file holds, so its bytes stand for any, and that it keeps them is never promised.
 #[derive(Drop)]
 pub struct FileSource {
-    file: Mutex<File>,
+    file: RwLock<File>,
     len: u64,
 }
 
@@ -31,7 +31,7 @@ impl FileSource {
     pub fn new(file: File) -> io::Result<FileSource> {
         let len = file.metadata()?.len();
         Ok(FileSource {
-            file: Mutex::new(file),
+            file: RwLock::new(file),
             len,
         })
     }
@@ -49,7 +49,7 @@ impl<R: Wait> Source<R> for FileSource {
     }
 
     fn read_at(&self, rt: &R, at: u64, buffer: &mut [u8]) -> Result<(), ReadFault> {
-        let file = self.file.lock(rt);
+        let file = self.file.read(rt);
         match file.read_exact_at(buffer, at) {
             Ok(()) => Ok(()),
             Err(e) => Err(ReadFault {
