@@ -7,7 +7,7 @@ ghost use Rattle.iiif_tables.specs.Flights.{IsBook};
 use iiif_keys::{CacheKey, System};
 use iiif_pixel::NoMemory;
 use iiif_ring::Ring;
-use iiif_singleflight::{Home, Pass, Table, Whole};
+use iiif_singleflight::{Home, Kept, Pass, Table, Whole};
 use iiif_tables::Book;
 use std::alloc::Global;
 use std::num::NonZeroUsize;
@@ -91,5 +91,12 @@ impl<K: CacheKey, J: System, L: Ledger, N, T> Group<K, J, L, N, T> {
         ensures { (aloft : ℕ) × IsBook aloft result }
     {
         self.home.lock(rt).table.book()
+    }
+
+    /// How much is kept now.
+    pub fn kept<R: Wait>(&self, rt: &R) -> Kept
+        ensures { result.bytes < 2 ^ 63 }
+    {
+        self.home.lock(rt).table.kept()
     }
 }

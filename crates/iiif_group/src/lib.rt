@@ -5,6 +5,7 @@
 pub use begun::{Begun, Completed, Open};
 pub use gate::{Gate, NoGate};
 pub use group::Group;
+pub use iiif_singleflight::Kept;
 pub use link::{Link, LinkFault, NoLink};
 pub use outcomes::{boxed, shared, taken};
 

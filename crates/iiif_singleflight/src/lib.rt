@@ -6,7 +6,7 @@ pub use entered::Entered;
 pub use home::Home;
 pub use landed::Landing;
 pub use pass::Pass;
-pub use table::Table;
+pub use table::{Kept, Table};
 pub use whole::Whole;
 
 pub mod entered;

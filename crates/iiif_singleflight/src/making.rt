@@ -1,13 +1,15 @@
-//! A table is made, and its book read.
+//! A table is made, its book read, and what it keeps counted.
 
-ghost use Rattle.std.specs.Prelude.{◌≡◌, ◌^◌, ◌<◌, IfOk, None};
+ghost use Rattle.std.specs.Prelude.{◌≡◌, ◌^◌, ◌<◌, ◌≤◌, ◌+◌, IfOk, None, length};
 ghost use Rattle.std.specs.NonZero.{non_zero_usize_get};
+ghost use Rattle.iiif_tables.specs.Cache.{bytes_in};
 ghost use Rattle.iiif_tables.specs.Flights.{empty_table, IsBook};
+ghost use Rattle.iiif_outcome.specs.Views.{entry_size};
 ghost use Rattle.iiif_singleflight.specs.View.{cells_of, table_of};
 
 use crate::opens::Opens;
 use crate::pass::Pass;
-use crate::table::Table;
+use crate::table::{Kept, Table};
 use iiif_byte_cache::ByteCache;
 use iiif_keys::{CacheKey, System};
 use iiif_pixel::NoMemory;
@@ -67,5 +69,18 @@ impl<K: CacheKey, J: System, L: Ledger> Table<K, J, L> {
         ensures sums { IsBook (table_of K.eq self.now).aloft result }
     {
         self.book
+    }
+
+    /// How much is kept. It takes no memory.
+    pub fn kept(&self) -> Kept
+        ensures bytes { result.bytes ≡ bytes_in (entry_size K.key_bytes K.val_bytes) (table_of K.eq self.now).cache }
+        ensures within { result.bytes ≤ (table_of K.eq self.now).cache.limit }
+        ensures small { result.bytes < 2 ^ 63 }
+        ensures entries { result.entries ≡ length (table_of K.eq self.now).cache.main + length (table_of K.eq self.now).cache.hot }
+    {
+        Kept {
+            bytes: self.cache.bytes(),
+            entries: self.cache.len(),
+        }
     }
 }

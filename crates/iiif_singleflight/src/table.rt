@@ -23,3 +23,11 @@ pub struct Table<K: CacheKey, J: System, L: Ledger> {
     pub ghost sums: { IsBook (aloft opens) book },
     pub ghost counted: { book.gets ≡ tally.total },
 }
+
+/// How much is kept.
+#[derive(Clone, Copy, Debug, PartialEq, Eq)]
+pub struct Kept {
+    /// What the entries take, with their keys.
+    pub bytes: u64,
+    pub entries: usize,
+}
