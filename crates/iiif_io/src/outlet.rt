@@ -7,7 +7,7 @@ ghost use Rattle.iiif_io.specs.Sending.{WasCut};
 
 use crate::inlet::TRIES;
 use std::io;
-use std::io::{ErrorKind, Stdout, Write};
+use std::io::{ErrorKind, Stderr, Stdout, Write};
 use std::net::TcpStream;
 
 /// A writer that says of a failed write that it failed.
@@ -86,6 +86,21 @@ impl Outlet for TcpStream {
 
 /// Of standard output nothing is known but that a write failed. A write that a signal breaks off is tried again.
 impl Outlet for Stdout {
+    ghost fails = { λ _ _. Unit {0} };
+
+    fn put(&mut self, bytes: &[u8]) -> io::Result<usize> {
+        for _ in 0..TRIES {
+            match self.write(bytes) {
+                Err(error) if error.kind() == ErrorKind::Interrupted => {}
+                other => return other,
+            }
+        }
+        self.write(bytes)
+    }
+}
+
+/// Of standard error nothing is known but that a write failed. A write that a signal breaks off is tried again.
+impl Outlet for Stderr {
     ghost fails = { λ _ _. Unit {0} };
 
     fn put(&mut self, bytes: &[u8]) -> io::Result<usize> {
