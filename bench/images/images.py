@@ -17,6 +17,9 @@ import sys
 import tempfile
 import time
 
+sys.path.insert(0, os.path.join(os.path.dirname(os.path.abspath(__file__)), "..", "hostile"))
+from program import free_port  # noqa: E402
+
 
 def tiff(sample):
     """A gray TIFF file of 4 by 4 places that have this sample."""
@@ -60,9 +63,7 @@ def main():
     words.add_argument("--images", type=int, default=10000)
     words.add_argument("--files", type=int, default=1024)
     options = words.parse_args()
-    with socket.socket() as free:
-        free.bind(("127.0.0.1", 0))
-        port = free.getsockname()[1]
+    port = free_port()
     with tempfile.TemporaryDirectory() as folder:
         with open(f"{folder}/list", "w") as listed:
             for number in range(options.images):
