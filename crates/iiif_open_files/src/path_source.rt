@@ -5,7 +5,7 @@ ghost use Rattle.iiif_source.specs.Cause.{failed, ended};
 
 use crate::known::Known;
 use crate::open_files::OpenFiles;
-use iiif_source::{ReadFault, Source};
+use iiif_source::{ReadFault, Runs, Source, fill, fill_runs};
 use std::fs::File;
 use std::io::ErrorKind;
 use std::marker::Model;
@@ -79,31 +79,30 @@ impl<R: Files<File = File> + Wait> Source<R> for PathSource {
 
     fn read_at(&self, rt: &R, at: u64, buffer: &mut [u8]) -> Result<(), ReadFault> {
         if let Some(file) = self.files.find(rt, self.number) {
-            return filled(&file, at, buffer);
+            return fill(&file, at, buffer);
         }
         let file = match self.opened(rt) {
             Ok(file) => file,
             Err(cause) => return Err(ReadFault { place: at, cause }),
         };
-        let read = filled(&file, at, buffer);
+        let read = fill(&file, at, buffer);
         self.files.keep(rt, self.number, file);
         read
     }
-}
 
-/// Reads a file's bytes from a place on, as many as the buffer has room for.
-fn filled(file: &File, at: u64, buffer: &mut [u8]) -> Result<(), ReadFault>
-    ensures place { IfErr result (λ f. f.place ≡ at) }
-    ensures cause { IfErr result (λ f. IsTrue (f.cause == failed || f.cause == ended)) }
-{
-    match file.read_exact_at(buffer, at) {
-        Ok(()) => Ok(()),
-        Err(error) => Err(ReadFault {
-            place: at,
-            cause: match error.kind() {
-                ErrorKind::UnexpectedEof => ReadFault::ENDED,
-                _ => ReadFault::FAILED,
-            },
-        }),
+    fn read_runs(&self, rt: &R, runs: Runs, buffer: &mut [u8]) -> Result<(), ReadFault> {
+        if let Some(file) = self.files.find(rt, self.number) {
+            return fill_runs(&file, runs, buffer);
+        }
+        let file = match self.opened(rt) {
+            Ok(file) => file,
+            Err(cause) => {
+                let place = runs.at;
+                return Err(ReadFault { place, cause });
+            }
+        };
+        let read = fill_runs(&file, runs, buffer);
+        self.files.keep(rt, self.number, file);
+        read
     }
 }

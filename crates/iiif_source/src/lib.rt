@@ -1,10 +1,11 @@
 //! The bytes of an image's source, read at any place: from memory, from a file, and from a device that fails when told.
 #![tactic(auto)]
 
-ghost use Rattle.std.specs.Prelude.{◌≡◌, ◌+◌, ◌≤◌, ℕ, List, All, length, take, drop, OnOk, IfErr, Bool, IsTrue};
+ghost use Rattle.std.specs.Prelude.{◌≡◌, ◌+◌, ◌*◌, ◌≤◌, ℕ, List, All, length, take, drop, OnOk, IfErr, Bool, IsTrue};
 ghost use Rattle.iiif_source.specs.declared.ReadFault.{ReadFault};
+ghost use Rattle.iiif_source.specs.Runs.{AreIn, HoldsRuns};
 
-pub use file::FileSource;
+pub use file::{FileSource, fill, fill_runs};
 pub use fuse::FuseSource;
 pub use memory::MemSource;
 
@@ -32,6 +33,15 @@ impl ReadFault {
     pub const FUSE: u8 = 3;
 }
 
+/// Runs of bytes in a source: where the first begins, how far apart they begin, how long each is, and how many they are.
+#[derive(Clone, Copy, Debug)]
+pub struct Runs {
+    pub at: u64,
+    pub stride: u64,
+    pub len: usize,
+    pub count: u32,
+}
+
 /// Bytes that are read at any place. R is the runtime that a read takes: a source in memory takes any, one behind a
 /// lock a runtime that may wait.
 pub trait Source<R> {
@@ -55,4 +65,25 @@ pub trait Source<R> {
         ensures bytes_there { keeps self.now → OnOk result (buffer.new ≡ take (length buffer.old) (drop at (bytes self.now))) }
         ensures place { IfErr result (λ f. f.place ≡ at) }
         ensures fault { IfErr result (λ f. IsTrue (gave self.now f)) };
+
+    /// Reads runs of bytes, one after another into the buffer: by one read where they lie together, else by one read a run. A device
+    /// that takes a lock, or looks for its file, does so once for all.
+    fn read_runs(&self, rt: &R, runs: Runs, buffer: &mut [u8]) -> Result<(), ReadFault>
+        requires runs { AreIn (length (bytes self.now)) runs }
+        requires length { length buffer.old ≡ runs.count * runs.len }
+        ensures length { length buffer.new ≡ length buffer.old }
+        ensures runs_there { keeps self.now → OnOk result (HoldsRuns (bytes self.now) runs runs.count buffer.new) }
+        ensures fault { IfErr result (λ f. IsTrue (gave self.now f)) }
+    {
+        if runs.len as u64 == runs.stride {
+            self.read_at(rt, runs.at, buffer)?;
+            return Ok(());
+        }
+        for j in 0..runs.count {
+            let start = j as usize * runs.len;
+            let run = &mut buffer[start..start + runs.len];
+            self.read_at(rt, runs.at + j as u64 * runs.stride, run)?;
+        }
+        Ok(())
+    }
 }

@@ -20,7 +20,6 @@ use Rattle.iiif_tiff_read.specs.declared.grid.Grid.{Grid}
 use Rattle.iiif_tiff_read.specs.declared.checks.Format.{Format}
 use Rattle.iiif_tiff_read.specs.declared.image.Image.{Image}
 use Rattle.iiif_tiff_read.specs.declared.rects.Part.{Part}
-use Rattle.iiif_tiff_read.specs.declared.rows.Runs.{Runs}
 use Rattle.iiif_tiff_read.specs.declared.rows.Span.{Span}
 use Rattle.iiif_tiff_read.specs.declared.rows.Window.{Window}
 use Rattle.iiif_tiff_read.specs.declared.fault.OpenFault.{OpenFault}
@@ -160,16 +159,6 @@ row_place s x y = slice_index s.offsets (y / s.piece_height * s.tiles_across + x
 -- the sample that is stored at a place of the image
 unfoldable pub stored_at : List ℕ → Scheme → ℕ → ℕ → ℕ → ℕ
 stored_at bytes s x y k = stored s.bits bytes (row_place s x y) (x % s.piece_width * s.channels + k)
-
--- The runs stand in a file of n bytes. (The bounds are those of every image that is read.)
-pub record AreIn (n : ℕ) (r : Runs) : Type 0 where
-  pub small : (r.at ≤ 2 ^ 61) × (r.stride ≤ 2 ^ 23) × (r.len ≤ r.stride)
-  pub some : 0 < r.count
-  pub within : r.at + (r.count - 1) * r.stride + r.len ≤ n
-
--- The first m runs stand one after another in the buffer.
-abbrev pub HoldsRuns : List ℕ → Runs → ℕ → List ℕ → Type 0
-HoldsRuns bytes r m buffer = (j i : ℕ) → j < m → i < r.len → slice_index buffer (j * r.len + i) ≡ slice_index bytes (r.at + j * r.stride + i)
 
 -- The span is of the bytes that n samples of a row need, from the first-th on, and of no others.
 pub record IsSpan (bits first n : ℕ) (span : Span) : Type 0 where

@@ -3,12 +3,13 @@
 ghost use Rattle.std.specs.Prelude.{◌≡◌, ◌≢◌, ◌+◌, ◌-◌, ◌*◌, ◌/◌, ◌%◌, ◌^◌, ◌<◌, ◌≤◌, ℕ, List, length, slice_index, take, drop, IsTrue, IfOk, IfErr, OnOk};
 ghost use Rattle.std.specs.Int.{div_ceil, w16};
 ghost use Rattle.iiif_tiff.specs.Tiff.{number, stored, sample_of};
-ghost use Rattle.iiif_tiff_read.specs.Code.{endian, AreIn, HoldsRuns, IsSpan, FitsWindow, HoldsRows, KeepsRest};
+ghost use Rattle.iiif_source.specs.Runs.{AreIn, HoldsRuns};
+ghost use Rattle.iiif_tiff_read.specs.Code.{endian, IsSpan, FitsWindow, HoldsRows, KeepsRest};
 ghost use Rattle.iiif_tiff_read.specs.Faults.{IsLoadFault};
 
 use crate::fault::LoadFault;
 use crate::number::ByteOrder;
-use iiif_source::{ReadFault, Source};
+use iiif_source::{Runs, Source};
 use std::alloc::{AllocError, Global};
 
 /// Turns white into black.
@@ -78,40 +79,6 @@ pub fn pairs_interpreted(
     Ok(samples)
 }
 
-/// Runs of bytes in a file: where the first begins, how far apart they begin, how long each is, and how many they are.
-#[derive(Clone, Copy, Debug)]
-struct Runs {
-    at: u64,
-    stride: u64,
-    len: usize,
-    count: u32,
-}
-
-/// Reads runs of bytes, one after another into the buffer: by one read where they lie together, else by one read a run.
-fn read_runs<R, S: Source<R>>(
-    rt: &R,
-    source: &S,
-    runs: Runs,
-    buffer: &mut [u8],
-) -> Result<(), ReadFault>
-    requires runs { AreIn (length (S.bytes source.now)) runs }
-    requires length { length buffer.old ≡ runs.count * runs.len }
-    ensures length { length buffer.new ≡ length buffer.old }
-    ensures bytes { OnOk result (S.keeps source.now → HoldsRuns (S.bytes source.now) runs runs.count buffer.new) }
-    ensures fault { IfErr result (λ f. IsTrue (S.gave source.now f)) }
-{
-    if runs.len as u64 == runs.stride {
-        source.read_at(rt, runs.at, buffer)?;
-        return Ok(());
-    }
-    for j in 0..runs.count {
-        let start = j as usize * runs.len;
-        let run = &mut buffer[start..start + runs.len];
-        source.read_at(rt, runs.at + j as u64 * runs.stride, run)?;
-    }
-    Ok(())
-}
-
 /// The bytes of the runs, one run after another.
 fn runs_at<R, S: Source<R>>(
     rt: &R,
@@ -125,7 +92,7 @@ fn runs_at<R, S: Source<R>>(
     ensures fault { IfErr result (IsLoadFault (S.gave source.now)) }
 {
     let mut bytes = vec![in alloc; 0u8; runs.count as usize * runs.len]?;
-    read_runs(rt, source, runs, &mut bytes)?;
+    source.read_runs(rt, runs, &mut bytes)?;
     Ok(bytes)
 }
 
@@ -266,7 +233,7 @@ pub fn read_window<R, S: Source<R>>(
     if rows.bits == 8 && window.columns == window.width {
         let start = window.top as usize * window.width;
         let end = start + window.rows as usize * window.width;
-        read_runs(rt, source, runs, &mut samples[start..end])?;
+        source.read_runs(rt, runs, &mut samples[start..end])?;
         return Ok(());
     }
     let read = runs_at(rt, alloc, source, runs)?;

@@ -10,7 +10,7 @@ returns-then-window-clause-held g c = λ keeps.
     let total : v.top * v.width + v.rows * v.width ≤ length c.args.samples.now = omega (arith, c.requires.fits.rows) in
     let size : length c.read_runs.new.buffer ≡ v.rows * v.width = c.read_runs.ensures.length ∙ length-mid (v.top * v.width) _ (v.rows * v.width) c.args.samples.now m-is total in
     whole_rows c.args.rows.bits c.args.rows.first c.args.rows.at c.args.rows.stride _ (length c.args.samples.now) c.span_of-span.result v (g.S.Source.bytes c.args.source.now) c.args.samples.now c.read_runs.new.buffer
-    c.if-rows-eq8.true c.span_of-span.ensures c.requires.fits refl c.if-window.true size (c.in_ok-read_runs.ensures.bytes keeps)
+    c.if-rows-eq8.true c.span_of-span.ensures c.requires.fits refl c.if-window.true size (c.in_ok-read_runs.ensures.runs_there keeps)
 
 pub returns-then-window-clause-rest : goal.returns-then-window-clause-rest
 returns-then-window-clause-rest g c =
