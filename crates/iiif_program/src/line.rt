@@ -3,10 +3,12 @@
 ghost use Rattle.std.specs.Prelude.{◌<◌, ◌^◌, IfSome};
 
 use clap::{Arg, ArgAction, ArgMatches, Command};
+use iiif_image_list::{Fault, ImageList, LineFault as ListFault};
 use iiif_request::numerals::numeral;
-use iiif_server::{is_base_url, is_name};
+use iiif_server::is_base_url;
 use std::alloc::Global;
 use std::convert::AsStr;
+use std::num::NonZeroUsize;
 use thiserror::Error;
 
 /// The edge of a tile where none is given, in pixels, and the most that may be.
@@ -34,6 +36,11 @@ const WORKERS: u64 = 2;
 
 const MOST_WORKERS: u64 = 16;
 
+/// The images' files that stay open where no number is given, and the most that may.
+const OPEN_FILES: u64 = 256;
+
+const MOST_OPEN_FILES: u64 = 65_536;
+
 /// The name of a node where none is given, and the most bytes of one.
 const OWN_NAME: &str = "self";
 
@@ -43,7 +50,7 @@ const MOST_NAME: usize = 255;
 const MOST_PEERS: usize = 63;
 
 /// The options that take one text each: the name, what the text is, and the help.
-const OPTIONS: [(&str, &str, &str); 10] = [
+const OPTIONS: [(&str, &str, &str); 12] = [
     ("base", "URL", "the URL that begins each image's"),
     ("edge", "PIXELS", "the edge of a tile, 256 if left out"),
     (
@@ -67,6 +74,11 @@ const OPTIONS: [(&str, &str, &str); 10] = [
         "the threads that make an image, 2 if left out",
     ),
     (
+        "open-files",
+        "COUNT",
+        "the images' files that stay open, 256 if left out",
+    ),
+    (
         "name",
         "NAME",
         "this node's name among others, self if left out",
@@ -82,6 +94,19 @@ const OPTIONS: [(&str, &str, &str); 10] = [
         "ADDR",
         "answer other nodes at this address and port",
     ),
+    (
+        "stats-listen",
+        "ADDR",
+        "answer GET /metrics at this address and port",
+    ),
+];
+
+/// The options that take nothing: the name, and the help.
+const FLAGS: [(&str, &str); 4] = [
+    ("upscale", "answer sizes with ^ above the region's"),
+    ("hex", "write the answer's bytes as hexadecimal digits"),
+    ("check", "open all images, write a line for each, and end"),
+    ("log", "write a line for each answer to standard error"),
 ];
 
 /// The first thing that is wrong with the words, in this order.
@@ -99,8 +124,16 @@ pub enum LineFault {
     Band,
     #[error("workers")]
     Workers,
+    #[error("open-files")]
+    OpenFiles,
     #[error("image")]
     Image,
+    /// The file of the list of images can't be read.
+    #[error("image")]
+    Unread,
+    /// A line of the list of images is at fault.
+    #[error("image")]
+    List(ListFault),
     #[error("peer")]
     Peer,
     #[error("mode")]
@@ -110,7 +143,7 @@ pub enum LineFault {
 }
 
 /// How the program is run: for one target, whose answer it writes, perhaps as hexadecimal digits; or for the connections that
-/// come to an address, perhaps with those of other nodes that come to another one.
+/// come to an address, perhaps with those of other nodes that come to another one; or to open all images, and say what they are.
 #[derive(Clone, Copy, Debug, PartialEq, Eq)]
 pub enum Mode<'a> {
     One {
@@ -120,7 +153,12 @@ pub enum Mode<'a> {
     Listen {
         viewers: &'a str,
         peers: Option<&'a str>,
+        /// Whether a line is written for each answer.
+        log: bool,
+        /// Where the numbers are asked for.
+        stats: Option<&'a str>,
     },
+    Check,
 }
 
 /// What the words ask for.
@@ -136,7 +174,9 @@ pub struct Options<'a> {
     pub band: u32,
     /// The workers of a request.
     pub workers: u32,
-    /// Each image's name and file.
+    /// How many of the images' files stay open.
+    pub open_files: NonZeroUsize,
+    /// Each image's name and file: those of the words, and behind them those of the list.
     pub images: Vec<(&'a str, &'a str)>,
     /// This node's name, and each other node's name and address.
     pub name: &'a str,
@@ -155,14 +195,15 @@ fn command<'a>(alloc: Global) -> Result<Command<'a>, clap::Error> {
         let option = Arg::new(alloc, name).long(name).action(ArgAction::Set);
         command = command.arg(option.value_name(value).help(help))?;
     }
-    let upscale = Arg::new(alloc, "upscale")
-        .long("upscale")
-        .action(ArgAction::SetTrue)
-        .help("answer sizes with ^ above the region's");
-    let hex = Arg::new(alloc, "hex")
-        .long("hex")
-        .action(ArgAction::SetTrue)
-        .help("write the answer's bytes as hexadecimal digits");
+    for (name, help) in FLAGS {
+        let flag = Arg::new(alloc, name).long(name);
+        command = command.arg(flag.action(ArgAction::SetTrue).help(help))?;
+    }
+    let list = Arg::new(alloc, "list")
+        .long("images")
+        .action(ArgAction::Set)
+        .value_name("FILE")
+        .help("a text with a line NAME=FILE for each of further images");
     let peers = Arg::new(alloc, "peer")
         .long("peer")
         .action(ArgAction::Append)
@@ -172,7 +213,7 @@ fn command<'a>(alloc: Global) -> Result<Command<'a>, clap::Error> {
         .num_args(0..)
         .value_name("NAME=FILE")
         .help("an image's name and its TIFF file, or :sample");
-    Ok(command.arg(upscale)?.arg(hex)?.arg(peers)?.arg(images)?)
+    Ok(command.arg(list)?.arg(peers)?.arg(images)?)
 }
 
 /// What the words say, as the parser has it.
@@ -222,24 +263,41 @@ fn cache_bytes(text: Option<&str>) -> Option<u64>
     Some(value)
 }
 
-/// The names and files of images: at least one, each name of its own and within its limit.
-fn images<'a>(alloc: Global, words: &[&'a str]) -> Result<Vec<(&'a str, &'a str)>, LineFault> {
-    let mut images: Vec<(&'a str, &'a str)> = Vec::new(alloc);
+/// How many files stay open: a whole number within its limits.
+fn open_files(text: Option<&str>) -> Option<NonZeroUsize> {
+    NonZeroUsize::new(number(text, OPEN_FILES, MOST_OPEN_FILES)? as usize)
+}
+
+/// The names and files of the images of the words and of the list behind them: at least one, each name of its own and within
+/// its limit.
+fn images<'a>(
+    alloc: Global,
+    words: &[&'a str],
+    text: &'a [u8],
+) -> Result<Vec<(&'a str, &'a str)>, LineFault> {
+    let mut list = ImageList::new(alloc);
     for word in words {
-        let Some((name, file)) = word.split_once('=') else {
-            return Err(LineFault::Image);
-        };
-        if !is_name(name) || images.iter().any(|image| image.0 == name) {
-            return Err(LineFault::Image);
-        }
-        if images.push((name, file)).is_err() {
-            return Err(LineFault::NoMemory);
+        match list.add(*word) {
+            Ok(()) => {}
+            Err(Fault::NoMemory) => return Err(LineFault::NoMemory),
+            Err(_) => return Err(LineFault::Image),
         }
     }
-    if images.is_empty() {
-        return Err(LineFault::Image);
+    match list.add_text(text) {
+        Ok(()) => {}
+        Err(
+            ListFault {
+                fault: Fault::NoMemory,
+                ..
+            },
+        ) => return Err(LineFault::NoMemory),
+        Err(fault) => return Err(LineFault::List(fault)),
     }
-    Ok(images)
+    match list.into_pairs(alloc) {
+        Ok(images) if images.is_empty() => Err(LineFault::Image),
+        Ok(images) => Ok(images),
+        Err(_) => Err(LineFault::NoMemory),
+    }
 }
 
 /// Whether a text may name a node.
@@ -272,10 +330,37 @@ fn peers<'a>(
     Ok(peers)
 }
 
-/// What the words ask for, or the first thing that is wrong with them.
+/// What a node may take of the machine: the rows of a band, the workers of a request, and the files that stay open.
+struct Shares {
+    band: u32,
+    workers: u32,
+    open_files: NonZeroUsize,
+}
+
+/// What a node may take of the machine, or the first of it that is wrong.
+fn shares_in(matches: &ArgMatches<'_>) -> Result<Shares, LineFault> {
+    let Some(band) = number(matches.get_str("band"), BAND, MOST_BAND) else {
+        return Err(LineFault::Band);
+    };
+    let Some(workers) = number(matches.get_str("workers"), WORKERS, MOST_WORKERS) else {
+        return Err(LineFault::Workers);
+    };
+    let Some(open_files) = open_files(matches.get_str("open-files")) else {
+        return Err(LineFault::OpenFiles);
+    };
+    Ok(Shares {
+        band,
+        workers,
+        open_files,
+    })
+}
+
+/// What the words and the text of the list ask for, or the first thing that is wrong with them. Where the list can't be read, that
+/// comes in its place, at the images.
 pub(crate) fn options_in<'a>(
     alloc: Global,
     matches: &ArgMatches<'a>,
+    list: Result<&'a [u8], LineFault>,
 ) -> Result<Options<'a>, LineFault> {
     let base = match matches.get_str("base") {
         Some(base) if is_base_url(base) => base,
@@ -285,13 +370,12 @@ pub(crate) fn options_in<'a>(
     let Some(cache_bytes) = cache_bytes(matches.get_str("cache-bytes")) else {
         return Err(LineFault::Cache);
     };
-    let Some(band) = number(matches.get_str("band"), BAND, MOST_BAND) else {
-        return Err(LineFault::Band);
-    };
-    let Some(workers) = number(matches.get_str("workers"), WORKERS, MOST_WORKERS) else {
-        return Err(LineFault::Workers);
-    };
-    let images = images(alloc, matches.get_strs("images").unwrap_or(&[]))?;
+    let Shares {
+        band,
+        workers,
+        open_files,
+    } = shares_in(matches)?;
+    let images = images(alloc, matches.get_strs("images").unwrap_or(&[]), list?)?;
     let name = matches.get_str("name").unwrap_or(OWN_NAME);
     let peers = peers(alloc, name, matches.get_strs("peer").unwrap_or(&[]))?;
     Ok(Options {
@@ -302,6 +386,7 @@ pub(crate) fn options_in<'a>(
         cache_bytes,
         band,
         workers,
+        open_files,
         images,
         name,
         peers,
@@ -309,13 +394,23 @@ pub(crate) fn options_in<'a>(
     })
 }
 
-/// How the program is run: exactly one way.
+/// How the program is run: exactly one way, with the options that go with it.
 fn mode_in<'a>(matches: &ArgMatches<'a>) -> Result<Mode<'a>, LineFault> {
     let hex = matches.get_flag("hex");
+    let log = matches.get_flag("log");
     let peers = matches.get_str("peer-listen");
+    let stats = matches.get_str("stats-listen");
+    let listens = log || peers.is_some() || stats.is_some();
+    let check = matches.get_flag("check");
     match (matches.get_str("one"), matches.get_str("listen")) {
-        (Some(target), None) if peers.is_none() => Ok(Mode::One { target, hex }),
-        (None, Some(viewers)) if !hex => Ok(Mode::Listen { viewers, peers }),
+        (Some(target), None) if !check && !listens => Ok(Mode::One { target, hex }),
+        (None, Some(viewers)) if !check && !hex => Ok(Mode::Listen {
+            viewers,
+            peers,
+            log,
+            stats,
+        }),
+        (None, None) if check && !hex && !listens => Ok(Mode::Check),
         _ => Err(LineFault::Mode),
     }
 }
