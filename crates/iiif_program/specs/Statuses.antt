@@ -1,12 +1,35 @@
 -- The program's statuses.
-use Rattle.std.specs.Prelude.{ℕ}
+use Rattle.std.specs.Prelude.{ℕ, Bool, List, Result, Ok, Err, if◌then◌else◌}
+use Rattle.std.specs.List.{list_any}
+use Rattle.std.specs.Result.{is_err}
+use Rattle.iiif_tiff_read.specs.Faults.{open_number}
+use Rattle.iiif_program.specs.declared.check.Checked.{Checked}
+use Rattle.iiif_program.specs.declared.line.LineFault.{LineFault}
+use Rattle.iiif_program.specs.declared.line.LineFault.TheVariants.{NoMemory}
 use Rattle.iiif_program.specs.declared.stop.Stop.{Stop}
-use Rattle.iiif_program.specs.declared.stop.Stop.TheVariants.{Image, Memory, Write, Source, Listen}
+use Rattle.iiif_program.specs.declared.stop.Stop.TheVariants.{Image, Faulty, Memory, Write, Source, Listen}
+use Rattle.iiif_program.specs.declared.unfit.Unfit.{Unfit}
+use Rattle.iiif_program.specs.declared.unfit.Unfit.TheVariants.{Closed, Refused}
 
 -- 2 where an image is at fault, and 1 where the program failed while running
 abbrev pub status_of : Stop → ℕ
-status_of (Image name number) = 2
+status_of (Image name fault) = 2
+status_of Faulty = 2
 status_of Memory = 1
 status_of Write = 1
 status_of Source = 1
 status_of Listen = 1
+
+-- of words that are at fault: 1 where memory is wanting, else 2
+abbrev pub status_of_words : LineFault → ℕ
+status_of_words NoMemory = 1
+status_of_words fault = 2
+
+-- the number of an image's fault: 0 where its file can't be opened, else the reader's
+abbrev pub unfit_number : Unfit → ℕ
+unfit_number Closed = 0
+unfit_number (Refused fault) = open_number fault
+
+-- how a check of images ends: well where each of them can be served
+abbrev pub end_of : List Checked → Result (Unit {0}) Stop
+end_of images = if list_any (λ c. is_err c.found) images then Err Faulty else Ok unit

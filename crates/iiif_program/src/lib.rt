@@ -5,8 +5,10 @@ pub use peers::PeerCalls;
 pub use stop::Stop;
 pub use stored::Stored;
 pub use times::Times;
+pub use unfit::Unfit;
 pub use viewers::Viewers;
 
+mod check;
 mod connections;
 mod hex;
 mod line;
@@ -21,4 +23,6 @@ mod serving;
 pub mod stop;
 pub mod stored;
 pub mod times;
+pub mod unfit;
 pub mod viewers;
+mod wrong;

@@ -15,7 +15,9 @@ use iiif_pixel::NoMemory;
 use iiif_ring::Ring;
 use iiif_server::{Catalogue, Config, Node, Stock};
 use std::alloc::{AllocError, Global};
+use std::fs::File;
 use std::num::NonZeroUsize;
+use std::rt::Files;
 use std::sync::Wait;
 use std::sync::ledger::Blank;
 use std::time::Duration;
@@ -104,7 +106,7 @@ fn stock<J: System>(
 
 /// A node that asks others for the values of the keys that they own, whose groups have room for so many bytes each. The names of the
 /// nodes are at most 64, and each stands once. The only error is want of memory.
-pub fn among<R: Wait, J: System>(
+pub fn among<R: Files<File = File> + Wait, J: System>(
     alloc: Global,
     config: Config,
     catalogue: Catalogue<R, Stored>,

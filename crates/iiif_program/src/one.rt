@@ -9,6 +9,8 @@ use iiif_io::Outlet;
 use iiif_keys::{SumKey, System, TileKey};
 use iiif_server::Node;
 use std::alloc::Global;
+use std::fs::File;
+use std::rt::Files;
 use std::sync::Wait;
 use std::thread::Threads;
 
@@ -22,7 +24,7 @@ pub(crate) fn answer_one<'a, R, O, J, N, T>(
     out: &mut O,
 ) -> Result<(), Stop<'a>>
 where
-    R: Threads + Wait + Sync,
+    R: Files<File = File> + Threads + Wait + Sync,
     O: Outlet,
     J: System + Send + Sync,
     N: Link<TileKey, J, R> + Link<SumKey, J, R> + Sync,
@@ -49,7 +51,7 @@ pub(crate) fn answer_in_hex<'a, R, O, J, N, T>(
     out: &mut O,
 ) -> Result<(), Stop<'a>>
 where
-    R: Threads + Wait + Sync,
+    R: Files<File = File> + Threads + Wait + Sync,
     O: Outlet,
     J: System + Send + Sync,
     N: Link<TileKey, J, R> + Link<SumKey, J, R> + Sync,

@@ -11,7 +11,9 @@ use iiif_source::Source;
 use iiif_sum_group::SumCalls;
 use iiif_tile_group::TileCalls;
 use std::alloc::Global;
+use std::fs::File;
 use std::net::TcpStream;
+use std::rt::Files;
 use std::sync::Wait;
 use std::sync::ledger::Ledger;
 use std::time::{Clock, Duration};
@@ -30,7 +32,7 @@ where
 
 impl<
     'a,
-    R: Wait + Clock,
+    R: Files<File = File> + Wait + Clock,
     J: System,
     N: Link<TileKey, J, R> + Link<SumKey, J, R>,
     T: Gate<R>,

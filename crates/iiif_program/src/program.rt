@@ -6,14 +6,16 @@ ghost use Rattle.iiif_images.specs.Collection.{Item, item_named};
 ghost use Rattle.iiif_images.specs.Named.{gave_of, pictures_of};
 ghost use Rattle.iiif_program.specs.Stored.{bytes_of, keeps_of, stored_gave};
 
-use crate::line::{LineFault, Mode, Options, matches, options_in};
+use crate::check::check;
+use crate::line::{Mode, Options, matches, options_in};
 use crate::nodes::{Nodes, among};
 use crate::one::{answer_in_hex, answer_one};
-use crate::opening::{catalogue, config};
+use crate::opening::{catalogue, config, list_of};
 use crate::serving::listen;
 use crate::stop::{Stop, ended};
 use crate::stored::Stored;
 use crate::times::USUAL;
+use crate::wrong::refused;
 use clap::ArgMatches;
 use clap::error::ErrorKind;
 use iiif_group::{Gate, Link};
@@ -101,13 +103,14 @@ where
     E: Write,
     ensures { result ≤ 2 }
 {
-    let options = match options_in(alloc, matches) {
+    let text = list_of(rt, alloc, matches);
+    let list = match &text {
+        Ok(text) => Ok(text.as_slice()),
+        Err(fault) => Err(*fault),
+    };
+    let options = match options_in(alloc, matches, list) {
         Ok(options) => options,
-        Err(LineFault::NoMemory) => return ended(err, "run: memory", 1),
-        Err(fault) => {
-            let _ = writeln!(err, "line: {fault}");
-            return 2;
-        }
+        Err(fault) => return refused(err, fault, matches.get_str("list")),
     };
     match answer(rt, alloc, &options, out) {
         Ok(()) => 0,
@@ -132,8 +135,11 @@ where
         + AllocGlobal,
     O: Outlet,
 {
+    if options.mode == Mode::Check {
+        return check(rt, alloc, options, out);
+    }
     let config = config(alloc, options)?;
-    let catalogue = catalogue(rt, alloc, &options.images)?;
+    let catalogue = catalogue(rt, alloc, &options.images, options.open_files)?;
     let (tiles, sums) = (Blank::new(65_537), Blank::new(65_537));
     if options.peers.is_empty() {
         answer_alone::<R, O, Brand>(rt, alloc, options, config, catalogue, tiles, sums, out)
@@ -154,7 +160,13 @@ fn answer_alone<'a, R, O, J: System + Send + Sync>(
     out: &mut O,
 ) -> Result<(), Stop<'a>>
 where
-    R: Net<Listener = TcpListener, Stream = TcpStream> + Threads + Wait + Clock + Sync,
+    R: Files<File = File>
+        + Net<Listener = TcpListener, Stream = TcpStream>
+        + Threads
+        + Wait
+        + Clock
+        + Sync
+        + AllocGlobal,
     O: Outlet,
     requires pictures { (name : List ℕ) → J.pictures name ≡ pictures_of bytes_of catalogue name }
     requires gave { (name : List ℕ) (f : ReadFault) → J.gave name f ≡ gave_of stored_gave catalogue name f }
@@ -183,7 +195,13 @@ fn answer_among<'a, R, O, J: System + Send + Sync>(
     out: &mut O,
 ) -> Result<(), Stop<'a>>
 where
-    R: Net<Listener = TcpListener, Stream = TcpStream> + Threads + Wait + Clock + Sync,
+    R: Files<File = File>
+        + Net<Listener = TcpListener, Stream = TcpStream>
+        + Threads
+        + Wait
+        + Clock
+        + Sync
+        + AllocGlobal,
     O: Outlet,
     requires pictures { (name : List ℕ) → J.pictures name ≡ pictures_of bytes_of catalogue name }
     requires gave { (name : List ℕ) (f : ReadFault) → J.gave name f ≡ gave_of stored_gave catalogue name f }
@@ -215,7 +233,13 @@ fn answer_by<'a, R, O, J, N, T>(
     out: &mut O,
 ) -> Result<(), Stop<'a>>
 where
-    R: Net<Listener = TcpListener, Stream = TcpStream> + Threads + Wait + Clock + Sync,
+    R: Files<File = File>
+        + Net<Listener = TcpListener, Stream = TcpStream>
+        + Threads
+        + Wait
+        + Clock
+        + Sync
+        + AllocGlobal,
     O: Outlet,
     J: System + Send + Sync,
     N: Link<TileKey, J, R> + Link<SumKey, J, R> + Sync,
@@ -225,6 +249,7 @@ where
     match options.mode {
         Mode::One { target, hex: false } => answer_one(rt, alloc, node, workers, target, out),
         Mode::One { target, hex: true } => answer_in_hex(rt, alloc, node, workers, target, out),
-        Mode::Listen { viewers, peers } => listen(rt, alloc, node, workers, (viewers, peers)),
+        Mode::Listen { viewers, peers, .. } => listen(rt, alloc, node, workers, (viewers, peers)),
+        Mode::Check => check(rt, alloc, options, out),
     }
 }

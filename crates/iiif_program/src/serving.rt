@@ -10,7 +10,9 @@ use iiif_keys::{SumKey, System, TileKey};
 use iiif_listener::{serve_both, serve_each};
 use iiif_server::Node;
 use std::alloc::Global;
+use std::fs::File;
 use std::net::{Net, TcpListener, TcpStream};
+use std::rt::Files;
 use std::sync::Wait;
 use std::thread::Threads;
 use std::time::Clock;
@@ -25,7 +27,12 @@ pub(crate) fn listen<'a, R, J, N, T>(
     addresses: (&str, Option<&str>),
 ) -> Result<(), Stop<'a>>
 where
-    R: Net<Listener = TcpListener, Stream = TcpStream> + Threads + Wait + Clock + Sync,
+    R: Files<File = File>
+        + Net<Listener = TcpListener, Stream = TcpStream>
+        + Threads
+        + Wait
+        + Clock
+        + Sync,
     J: System + Send + Sync,
     N: Link<TileKey, J, R> + Link<SumKey, J, R> + Sync,
     T: Gate<R> + Sync,

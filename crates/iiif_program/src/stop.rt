@@ -3,14 +3,17 @@
 ghost use Rattle.std.specs.Prelude.{◌≡◌};
 ghost use Rattle.iiif_program.specs.Statuses.{status_of};
 
+use crate::unfit::Unfit;
 use iiif_server::{Cause, Fault};
 use std::io::Write;
 
 /// Why the program ends without an answer.
 #[derive(Clone, Copy, Debug, PartialEq, Eq)]
 pub enum Stop<'a> {
-    /// An image can't be opened: its name, and the number of the fault, 0 where there is no such file.
-    Image(&'a str, u8),
+    /// An image can't be served: its name, and why.
+    Image(&'a str, Unfit),
+    /// Of the images that were checked one is at fault, which was said of it.
+    Faulty,
     Memory,
     Write,
     Source,
@@ -27,15 +30,17 @@ impl<'a> Stop<'a> {
         }
     }
 
-    /// Says it in a line, and gives the program's status: 2 where an image is at fault, else 1.
+    /// Says it in a line, of an image with a second one that says what to do, and gives the program's status: 2 where an image is
+    /// at fault, else 1.
     pub(crate) fn told<E: Write>(self, err: &mut E) -> u8
         ensures { result ≡ status_of self.entry }
     {
         match self {
-            Stop::Image(name, number) => {
-                let _ = writeln!(err, "image {name}: {number}");
+            Stop::Image(name, unfit) => {
+                let _ = unfit.told(err, name);
                 2
             }
+            Stop::Faulty => 2,
             Stop::Memory => ended(err, "run: memory", 1),
             Stop::Write => ended(err, "run: write", 1),
             Stop::Source => ended(err, "run: source", 1),

@@ -3,17 +3,20 @@
 ghost use Rattle.std.specs.Prelude.{ℕ, List, Bool};
 ghost use Rattle.iiif_program.specs.Stored.{bytes_of, keeps_of, stored_gave};
 
-use iiif_source::{FileSource, MemSource, ReadFault, Source};
+use iiif_open_files::PathSource;
+use iiif_source::{MemSource, ReadFault, Source};
+use std::fs::File;
+use std::rt::Files;
 use std::sync::Wait;
 
-/// A source in memory, or a file.
+/// A source in memory, or a file that is opened when it is read.
 #[derive(Drop)]
 pub enum Stored {
     Memory(MemSource),
-    File(FileSource),
+    File(PathSource),
 }
 
-impl<R: Wait> Source<R> for Stored {
+impl<R: Files<File = File> + Wait> Source<R> for Stored {
     ghost bytes = { bytes_of };
 
     ghost keeps = { keeps_of };

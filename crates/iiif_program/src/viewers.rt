@@ -12,7 +12,9 @@ use iiif_source::Source;
 use iiif_sum_group::SumCalls;
 use iiif_tile_group::TileCalls;
 use std::alloc::Global;
+use std::fs::File;
 use std::net::TcpStream;
+use std::rt::Files;
 use std::sync::Wait;
 use std::sync::ledger::Ledger;
 use std::thread::Threads;
@@ -34,7 +36,7 @@ where
 
 impl<
     'a,
-    R: Threads + Wait + Clock + Sync,
+    R: Files<File = File> + Threads + Wait + Clock + Sync,
     J: System + Send + Sync,
     N: Link<TileKey, J, R> + Link<SumKey, J, R> + Sync,
     T: Gate<R> + Sync,

@@ -1,0 +1,106 @@
+//! All images opened once, and what they are.
+
+ghost use Rattle.std.specs.Prelude.{◌≡◌, IfOk, map};
+ghost use Rattle.iiif_program.specs.Statuses.{end_of};
+
+use crate::line::Options;
+use crate::opening::{opened, shelf};
+use crate::stop::Stop;
+use crate::unfit::Unfit;
+use iiif_io::Outlet;
+use iiif_keys::Shape;
+use iiif_pixel::{Depth, Kind};
+use std::alloc::Global;
+use std::fs::File;
+use std::io;
+use std::rt::Files;
+use std::sync::Wait;
+
+/// An image that was opened once: its name, and what it is, or why it can't be served.
+#[derive(Clone, Copy, Debug)]
+pub struct Checked<'a> {
+    pub name: &'a str,
+    pub found: Result<Shape, Unfit>,
+}
+
+impl<'a> Checked<'a> {
+    /// Says in a line what the image is, or as at a start why it can't be served.
+    fn told<O: Outlet>(&self, out: &mut O) -> io::Result<()> {
+        let shape = match &self.found {
+            Ok(shape) => shape,
+            Err(unfit) => return unfit.told(out, self.name),
+        };
+        let kind = match shape.kind {
+            Kind::Gray => "gray",
+            Kind::Rgb => "RGB",
+        };
+        let bits = match shape.depth {
+            Depth::Eight => 8,
+            Depth::Sixteen => 16,
+        };
+        let (name, w, h) = (self.name, shape.dim.w, shape.dim.h);
+        writeln!(out, "{name}: {w} by {h}, {kind}, {bits} bits")
+    }
+}
+
+/// Opens the images, in order, and says of each what it is. The only errors are want of memory and a line that can't be written.
+fn looked_at<'a, R, O>(
+    rt: &R,
+    alloc: Global,
+    options: &Options<'a>,
+    out: &mut O,
+) -> Result<Vec<Checked<'a>>, Stop<'a>>
+where
+    R: Files<File = File> + Wait + AllocGlobal,
+    O: Outlet,
+    ensures names { IfOk result (λ all. map (λ c. c.name.now) all.items ≡ map (λ i. i.0.now) options.now.images.items) }
+{
+    let files = shelf(alloc, options.open_files)?;
+    let mut all = Vec::new(alloc);
+    for image in &options.images {
+        let (name, file) = *image;
+        let found = match opened(rt, alloc, &files, name, file) {
+            Ok((_, layout)) => Ok(Shape {
+                dim: layout.dim(),
+                kind: layout.kind(),
+                depth: layout.depth(),
+            }),
+            Err(Stop::Image(_, unfit)) => Err(unfit),
+            Err(stop) => return Err(stop),
+        };
+        let image = Checked { name, found };
+        if image.told(out).is_err() {
+            return Err(Stop::Write);
+        }
+        if all.push(image).is_err() {
+            return Err(Stop::Memory);
+        }
+    }
+    Ok(all)
+}
+
+/// How the program ends once these images were looked at.
+fn end_of<'a>(all: &[Checked<'a>]) -> Result<(), Stop<'a>>
+    ensures { result ≡ end_of all.now }
+{
+    if all.iter().any(|image| image.found.is_err()) {
+        Err(Stop::Faulty)
+    } else {
+        Ok(())
+    }
+}
+
+/// Opens all images, and says of each in a line what it is. It is at fault where one of them can't be served.
+pub(crate) fn check<'a, R, O>(
+    rt: &R,
+    alloc: Global,
+    options: &Options<'a>,
+    out: &mut O,
+) -> Result<(), Stop<'a>>
+where
+    R: Files<File = File> + Wait + AllocGlobal,
+    O: Outlet,
+{
+    let all = looked_at(rt, alloc, options, out)?;
+    end_of(&all)
+}

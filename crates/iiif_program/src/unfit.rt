@@ -1,0 +1,51 @@
+//! Why an image can't be served.
+
+ghost use Rattle.std.specs.Prelude.{◌≡◌, ◌<◌, true, length};
+ghost use Rattle.std.specs.List.{list_all};
+ghost use Rattle.iiif_advice.specs.Lines.{is_line_byte};
+ghost use Rattle.iiif_program.specs.Statuses.{unfit_number};
+
+use iiif_advice::advice;
+use iiif_tiff_read::OpenFault;
+use std::io;
+use std::io::Write;
+
+/// Why an image can't be served.
+#[derive(Clone, Copy, Debug, PartialEq, Eq)]
+pub enum Unfit {
+    /// Its file can't be opened.
+    Closed,
+    /// Its file isn't one that is read.
+    Refused(OpenFault),
+}
+
+impl Unfit {
+    /// The number of the fault.
+    pub fn number(&self) -> u8
+        ensures { result ≡ unfit_number self.now }
+    {
+        match self {
+            Unfit::Closed => 0,
+            Unfit::Refused(fault) => fault.number(),
+        }
+    }
+
+    /// What to do about it: one line, without its end.
+    pub fn remedy(&self) -> &'static str
+        ensures one_line { list_all is_line_byte result.now ≡ true }
+        ensures some { 0 < length result.now }
+    {
+        match self {
+            Unfit::Closed => {
+                "it can't be opened: look at the path and at the rights of the user that the server runs as"
+            }
+            Unfit::Refused(fault) => advice(fault),
+        }
+    }
+
+    /// Says of an image why it can't be served, and in a second line what to do.
+    pub(crate) fn told<W: Write>(&self, out: &mut W, name: &str) -> io::Result<()> {
+        writeln!(out, "image {name}: {}", self.number())?;
+        writeln!(out, "{}", self.remedy())
+    }
+}
