@@ -1,3 +1,4 @@
 pub mod Lines
 pub mod Statuses
 pub mod Stored
+pub mod Telling

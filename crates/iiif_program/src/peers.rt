@@ -6,6 +6,7 @@ use crate::times::Times;
 use iiif_group::{Gate, Link};
 use iiif_keys::{SumKey, System, TileKey};
 use iiif_listener::{Pace, PacedWriter, close};
+use iiif_metrics::Tally;
 use iiif_server::Node;
 use iiif_source::Source;
 use iiif_sum_group::SumCalls;
@@ -28,6 +29,8 @@ where
 {
     pub node: &'a Node<R, Stored, J, N, T>,
     pub times: Times,
+    /// Where the connections are counted.
+    pub tally: &'a Tally,
 }
 
 impl<
@@ -37,21 +40,32 @@ impl<
     N: Link<TileKey, J, R> + Link<SumKey, J, R>,
     T: Gate<R>,
 > PeerCalls<'a, R, J, N, T> {
-    /// Answers the asks of a connection in order, and closes it. Where a pass is wanting, it is closed unanswered.
+    /// Answers the asks of a connection in order, and closes it. Where a pass is wanting, it is closed unanswered. The connection is
+    /// counted.
     pub fn serve(&self, rt: &R, alloc: Global, stream: TcpStream) {
+        self.tally.opened(rt);
+        if !self.answer(rt, alloc, stream) {
+            self.tally.refused(rt);
+        }
+        self.tally.closed(rt);
+    }
+
+    /// The same, but for the count. It says whether the connection was served.
+    fn answer(&self, rt: &R, alloc: Global, stream: TcpStream) -> bool {
         let Ok(pace) = Pace::new(rt, Duration::from_millis(self.times.whole)) else {
-            return;
+            return false;
         };
         let Ok((mut reader, mut out)) = ends(rt, &self.times, &pace, stream) else {
-            return;
+            return false;
         };
         let Some(mut passes) = self.node.pass(rt) else {
-            return;
+            return false;
         };
         self.node
             .serve_peer(rt, alloc, &mut passes, &mut reader, &mut out);
         self.node.give_back(rt, passes);
         let PacedWriter { stream, .. } = out;
         close(stream);
+        true
     }
 }

@@ -8,6 +8,7 @@ ghost use Rattle.iiif_program.specs.Stored.{bytes_of, keeps_of, stored_gave};
 
 use crate::check::check;
 use crate::line::{Mode, Options, matches, options_in};
+use crate::listeners::Addresses;
 use crate::nodes::{Nodes, among};
 use crate::one::{answer_in_hex, answer_one};
 use crate::opening::{catalogue, config, list_of};
@@ -25,7 +26,6 @@ use iiif_server::{Catalogue, Config, Node};
 use std::alloc::Global;
 use std::convert::AsStr;
 use std::fs::File;
-use std::io::Write;
 use std::marker::Brand;
 use std::net::{Net, TcpListener, TcpStream};
 use std::rt::{Clock, Files};
@@ -58,7 +58,7 @@ where
         + AllocGlobal,
     S: AsStr,
     O: Outlet,
-    E: Write,
+    E: Outlet + Send,
     ensures { result ≤ 2 }
 {
     let alloc = rt.alloc();
@@ -100,7 +100,7 @@ where
         + Sync
         + AllocGlobal,
     O: Outlet,
-    E: Write,
+    E: Outlet + Send,
     ensures { result ≤ 2 }
 {
     let text = list_of(rt, alloc, matches);
@@ -112,18 +112,19 @@ where
         Ok(options) => options,
         Err(fault) => return refused(err, fault, matches.get_str("list")),
     };
-    match answer(rt, alloc, &options, out) {
+    match answer(rt, alloc, &options, out, err) {
         Ok(()) => 0,
         Err(stop) => stop.told(err),
     }
 }
 
 /// Answers what the options ask for.
-fn answer<'a, R, O>(
+fn answer<'a, R, O, E>(
     rt: &R,
     alloc: Global,
     options: &Options<'a>,
     out: &mut O,
+    err: &mut E,
 ) -> Result<(), Stop<'a>>
 where
     R: Files<File = File>
@@ -134,6 +135,7 @@ where
         + Sync
         + AllocGlobal,
     O: Outlet,
+    E: Outlet + Send,
 {
     if options.mode == Mode::Check {
         return check(rt, alloc, options, out);
@@ -142,14 +144,14 @@ where
     let catalogue = catalogue(rt, alloc, &options.images, options.open_files)?;
     let (tiles, sums) = (Blank::new(65_537), Blank::new(65_537));
     if options.peers.is_empty() {
-        answer_alone::<R, O, Brand>(rt, alloc, options, config, catalogue, tiles, sums, out)
+        answer_alone::<R, O, E, Brand>(rt, alloc, options, config, catalogue, tiles, sums, out, err)
     } else {
-        answer_among::<R, O, Brand>(rt, alloc, options, config, catalogue, tiles, sums, out)
+        answer_among::<R, O, E, Brand>(rt, alloc, options, config, catalogue, tiles, sums, out, err)
     }
 }
 
 /// Answers by a node of these settings and images that asks no other.
-fn answer_alone<'a, R, O, J: System + Send + Sync>(
+fn answer_alone<'a, R, O, E, J: System + Send + Sync>(
     rt: &R,
     alloc: Global,
     options: &Options<'a>,
@@ -158,6 +160,7 @@ fn answer_alone<'a, R, O, J: System + Send + Sync>(
     tiles: Blank,
     sums: Blank,
     out: &mut O,
+    err: &mut E,
 ) -> Result<(), Stop<'a>>
 where
     R: Files<File = File>
@@ -168,6 +171,7 @@ where
         + Sync
         + AllocGlobal,
     O: Outlet,
+    E: Outlet + Send,
     requires pictures { (name : List ℕ) → J.pictures name ≡ pictures_of bytes_of catalogue name }
     requires gave { (name : List ℕ) (f : ReadFault) → J.gave name f ≡ gave_of stored_gave catalogue name f }
     requires stable { (name : List ℕ) (item : Item Stored) → item_named catalogue name ≡ Some item → J.stable name → ∥ keeps_of item.source ∥₁ }
@@ -180,11 +184,11 @@ where
     let Ok(node) = Node::<R, Stored, J>::alone(alloc, config, catalogue, bytes, tiles, sums) else {
         return Err(Stop::Memory);
     };
-    answer_by(rt, alloc, options, &node, out)
+    answer_by(rt, alloc, options, &node, out, err)
 }
 
 /// Answers by a node of these settings and images among others.
-fn answer_among<'a, R, O, J: System + Send + Sync>(
+fn answer_among<'a, R, O, E, J: System + Send + Sync>(
     rt: &R,
     alloc: Global,
     options: &Options<'a>,
@@ -193,6 +197,7 @@ fn answer_among<'a, R, O, J: System + Send + Sync>(
     tiles: Blank,
     sums: Blank,
     out: &mut O,
+    err: &mut E,
 ) -> Result<(), Stop<'a>>
 where
     R: Files<File = File>
@@ -203,6 +208,7 @@ where
         + Sync
         + AllocGlobal,
     O: Outlet,
+    E: Outlet + Send,
     requires pictures { (name : List ℕ) → J.pictures name ≡ pictures_of bytes_of catalogue name }
     requires gave { (name : List ℕ) (f : ReadFault) → J.gave name f ≡ gave_of stored_gave catalogue name f }
     requires stable { (name : List ℕ) (item : Item Stored) → item_named catalogue name ≡ Some item → J.stable name → ∥ keeps_of item.source ∥₁ }
@@ -219,18 +225,19 @@ where
     };
     let bytes = options.cache_bytes;
     match among::<R, J>(alloc, config, catalogue, &nodes, bytes, tiles, sums) {
-        Ok(node) => answer_by(rt, alloc, options, &node, out),
+        Ok(node) => answer_by(rt, alloc, options, &node, out, err),
         Err(_) => Err(Stop::Memory),
     }
 }
 
 /// Answers by a node what the options ask for.
-fn answer_by<'a, R, O, J, N, T>(
+fn answer_by<'a, R, O, E, J, N, T>(
     rt: &R,
     alloc: Global,
     options: &Options<'a>,
     node: &Node<R, Stored, J, N, T>,
     out: &mut O,
+    err: &mut E,
 ) -> Result<(), Stop<'a>>
 where
     R: Files<File = File>
@@ -241,6 +248,7 @@ where
         + Sync
         + AllocGlobal,
     O: Outlet,
+    E: Outlet + Send,
     J: System + Send + Sync,
     N: Link<TileKey, J, R> + Link<SumKey, J, R> + Sync,
     T: Gate<R> + Sync,
@@ -249,7 +257,19 @@ where
     match options.mode {
         Mode::One { target, hex: false } => answer_one(rt, alloc, node, workers, target, out),
         Mode::One { target, hex: true } => answer_in_hex(rt, alloc, node, workers, target, out),
-        Mode::Listen { viewers, peers, .. } => listen(rt, alloc, node, workers, (viewers, peers)),
+        Mode::Listen {
+            viewers,
+            peers,
+            log,
+            stats,
+        } => {
+            let addresses = Addresses {
+                viewers,
+                peers,
+                statistics: stats,
+            };
+            listen(rt, alloc, node, workers, &addresses, log, err)
+        }
         Mode::Check => check(rt, alloc, options, out),
     }
 }

@@ -1,30 +1,84 @@
-//! Addresses that are listened on.
+//! A node that serves.
 
+use crate::listeners::{Addresses, Listeners, logged, serve_all};
 use crate::peers::PeerCalls;
+use crate::statistics::Statistics;
 use crate::stop::Stop;
 use crate::stored::Stored;
-use crate::times::USUAL;
+use crate::times::{Times, USUAL};
 use crate::viewers::Viewers;
+use crate::watcher::Watcher;
 use iiif_group::{Gate, Link};
+use iiif_io::Outlet;
 use iiif_keys::{SumKey, System, TileKey};
-use iiif_listener::{serve_both, serve_each};
 use iiif_server::Node;
 use std::alloc::Global;
 use std::fs::File;
+use std::io;
 use std::net::{Net, TcpListener, TcpStream};
 use std::rt::Files;
 use std::sync::Wait;
 use std::thread::Threads;
 use std::time::Clock;
 
-/// Serves the viewers of a node at an address, and at another one, where it is named, other nodes, which find what the viewers' calls
-/// left in the node's groups. It ends where a listener does: no address is one, or no connection could be taken for long.
-pub(crate) fn listen<'a, R, J, N, T>(
+/// Serves the viewers of a node, and other nodes and who asks for the statistics where there are listeners for them: these find what the
+/// viewers' calls left in the node's groups. The watcher is told of each connection of a viewer or another node, and of each answer to a
+/// viewer; what its log is told is written to the last writer. It ends where a listener does, once all connections have ended.
+pub fn serve<'x, R, J, N, T, E>(
+    rt: &R,
+    alloc: Global,
+    node: &'x Node<R, Stored, J, N, T>,
+    workers: u32,
+    times: Times,
+    watcher: &'x Watcher,
+    listeners: &Listeners,
+    err: &mut E,
+) -> io::Result<()>
+where
+    R: Files<File = File>
+        + Net<Listener = TcpListener, Stream = TcpStream>
+        + Threads
+        + Wait
+        + Clock
+        + Sync,
+    J: System + Send + Sync,
+    N: Link<TileKey, J, R> + Link<SumKey, J, R> + Sync,
+    T: Gate<R> + Sync,
+    E: Outlet + Send,
+{
+    let tally = &watcher.tally;
+    let viewers = Viewers {
+        node,
+        workers,
+        times,
+        watcher,
+    };
+    let peers = PeerCalls { node, times, tally };
+    let statistics = Statistics { node, times, tally };
+    let serve_viewer = |stream: TcpStream| viewers.serve(rt, alloc, stream);
+    let serve_peer = |stream: TcpStream| peers.serve(rt, alloc, stream);
+    let serve_reader = |stream: TcpStream| statistics.serve(rt, alloc, stream);
+    let refused = || tally.refused(rt);
+    let work = || {
+        let all = (&serve_viewer, &serve_peer, &serve_reader);
+        serve_all(rt, listeners, all, &refused)
+    };
+    match &watcher.log {
+        Some(log) => logged(rt, alloc, log, err, &work),
+        None => work(),
+    }
+}
+
+/// Serves at these addresses by a node, and writes a line for each answer to a viewer where it logs. It ends where a listener does: no
+/// address is one, or no connection could be taken for long.
+pub(crate) fn listen<'a, R, J, N, T, E>(
     rt: &R,
     alloc: Global,
     node: &Node<R, Stored, J, N, T>,
     workers: u32,
-    addresses: (&str, Option<&str>),
+    addresses: &Addresses<'_>,
+    logs: bool,
+    err: &mut E,
 ) -> Result<(), Stop<'a>>
 where
     R: Files<File = File>
@@ -36,29 +90,15 @@ where
     J: System + Send + Sync,
     N: Link<TileKey, J, R> + Link<SumKey, J, R> + Sync,
     T: Gate<R> + Sync,
+    E: Outlet + Send,
 {
-    let (at_viewers, at_peers) = addresses;
-    let viewers = Viewers {
-        node,
-        workers,
-        times: USUAL,
+    let Ok(watcher) = Watcher::new(alloc, logs) else {
+        return Err(Stop::Memory);
     };
-    let peers = PeerCalls { node, times: USUAL };
-    let serve_viewer = |stream: TcpStream| viewers.serve(rt, alloc, stream);
-    let serve_peer = |stream: TcpStream| peers.serve(rt, alloc, stream);
-    let Ok(first) = TcpListener::bind(rt, at_viewers) else {
+    let Ok(listeners) = Listeners::bind(rt, addresses) else {
         return Err(Stop::Listen);
     };
-    let ended = match at_peers {
-        None => serve_each(rt, &serve_viewer, &first),
-        Some(address) => {
-            let Ok(second) = TcpListener::bind(rt, address) else {
-                return Err(Stop::Listen);
-            };
-            serve_both(rt, (&serve_viewer, &first), (&serve_peer, &second))
-        }
-    };
-    match ended {
+    match serve(rt, alloc, node, workers, USUAL, &watcher, &listeners, err) {
         Ok(()) => Ok(()),
         Err(_) => Err(Stop::Listen),
     }

@@ -4,6 +4,7 @@ use crate::connections::ends;
 use crate::passes::{give_back, passes_of};
 use crate::stored::Stored;
 use crate::times::Times;
+use crate::watcher::Watcher;
 use iiif_group::{Gate, Link};
 use iiif_keys::{SumKey, System, TileKey};
 use iiif_listener::{Pace, PacedWriter, close};
@@ -32,6 +33,8 @@ where
     /// The threads that make an image.
     pub workers: u32,
     pub times: Times,
+    /// Who is told of the connections and their answers.
+    pub watcher: &'a Watcher,
 }
 
 impl<
@@ -41,21 +44,33 @@ impl<
     N: Link<TileKey, J, R> + Link<SumKey, J, R> + Sync,
     T: Gate<R> + Sync,
 > Viewers<'a, R, J, N, T> {
-    /// Answers the calls of a connection in order, and closes it. Where passes for its workers are wanting, it is closed unanswered.
+    /// Answers the calls of a connection in order, and closes it. Where passes for its workers are wanting, it is closed unanswered. The
+    /// watcher is told of it, and of each answer once it ended.
     pub fn serve(&self, rt: &R, alloc: Global, stream: TcpStream) {
+        let tally = &self.watcher.tally;
+        tally.opened(rt);
+        if !self.answer(rt, alloc, stream) {
+            tally.refused(rt);
+        }
+        tally.closed(rt);
+    }
+
+    /// The same, but for the connection's being told. It says whether the connection was served.
+    fn answer(&self, rt: &R, alloc: Global, stream: TcpStream) -> bool {
         let Ok(pace) = Pace::new(rt, Duration::from_millis(self.times.whole)) else {
-            return;
+            return false;
         };
         let Ok((reader, mut out)) = ends(rt, &self.times, &pace, stream) else {
-            return;
+            return false;
         };
         let Some(mut passes) = passes_of(rt, alloc, self.node, self.workers) else {
-            return;
+            return false;
         };
         self.node
-            .serve_stream(rt, alloc, &mut passes, reader, &mut out);
+            .serve_watched(rt, alloc, &mut passes, reader, &mut out, self.watcher);
         give_back(rt, self.node, passes);
         let PacedWriter { stream, .. } = out;
         close(stream);
+        true
     }
 }

@@ -1,0 +1,77 @@
+//! Connections of who asks for the statistics.
+
+ghost use Rattle.std.specs.Prelude.{◌≡◌};
+
+use crate::connections::ends;
+use crate::stored::Stored;
+use crate::times::Times;
+use iiif_group::Kept;
+use iiif_keys::System;
+use iiif_listener::{Pace, PacedWriter, close};
+use iiif_metrics::{CacheMetrics, Measure, Metrics, Tally, serve_metrics};
+use iiif_server::Node;
+use iiif_source::Source;
+use iiif_sum_group::SumCalls;
+use iiif_tables::Book;
+use iiif_tile_group::TileCalls;
+use std::alloc::Global;
+use std::fs::File;
+use std::net::TcpStream;
+use std::rt::Files;
+use std::sync::Wait;
+use std::sync::ledger::Ledger;
+use std::time::{Clock, Duration};
+
+/// A node, and what is counted of its connections and answers, as who asks for the statistics has them.
+#[derive(Drop)]
+pub struct Statistics<'a, R, J: System, N, T>
+where
+    Stored: Source<R>,
+    TileCalls<J>: Ledger,
+    SumCalls<J>: Ledger,
+{
+    pub node: &'a Node<R, Stored, J, N, T>,
+    pub times: Times,
+    pub tally: &'a Tally,
+}
+
+/// What a group counted, and how much it keeps.
+fn cache_metrics(book: Book, kept: Kept) -> CacheMetrics
+    ensures book { result.book ≡ book }
+    ensures bytes { result.bytes ≡ kept.bytes }
+    ensures entries { result.entries ≡ kept.entries }
+{
+    CacheMetrics {
+        book,
+        bytes: kept.bytes,
+        entries: kept.entries as u64,
+    }
+}
+
+impl<'a, R: Files<File = File> + Wait, J: System, N, T> Measure<R> for Statistics<'a, R, J, N, T> {
+    fn measure(&self, rt: &R) -> Metrics {
+        let tiles = self.node.groups().tiles().group();
+        let sums = self.node.groups().sums();
+        Metrics {
+            tiles: cache_metrics(tiles.book(rt), tiles.kept(rt)),
+            sums: cache_metrics(sums.book(rt), sums.kept(rt)),
+            counts: self.tally.counts(rt),
+        }
+    }
+}
+
+impl<'a, R: Files<File = File> + Wait + Clock, J: System, N, T> Statistics<'a, R, J, N, T> {
+    /// Answers the one call of a connection, and closes it.
+    pub fn serve(&self, rt: &R, alloc: Global, stream: TcpStream) {
+        let Ok(pace) = Pace::new(rt, Duration::from_millis(self.times.whole)) else {
+            return;
+        };
+        let Ok((reader, mut out)) = ends(rt, &self.times, &pace, stream) else {
+            return;
+        };
+        // Where memory is wanting, it is closed unanswered.
+        let _ = serve_metrics(rt, alloc, self, reader, &mut out);
+        let PacedWriter { stream, .. } = out;
+        close(stream);
+    }
+}
