@@ -32,4 +32,4 @@ unfit_number (Refused fault) = open_number fault
 
 -- how a check of images ends: well where each of them can be served
 abbrev pub end_of : List Checked → Result (Unit {0}) Stop
-end_of images = if list_any (λ c. is_err c.found) images then Err Faulty else Ok unit
+end_of images = if list_any (λ c. is_err c.found) images then Err Faulty else Ok tt

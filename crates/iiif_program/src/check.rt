@@ -60,12 +60,12 @@ where
     for image in &options.images {
         let (name, file) = *image;
         let found = match opened(rt, alloc, &files, name, file) {
-            Ok((_, layout)) => Ok(Shape {
+            Ok((_source, layout)) => Ok(Shape {
                 dim: layout.dim(),
                 kind: layout.kind(),
                 depth: layout.depth(),
             }),
-            Err(Stop::Image(_, unfit)) => Err(unfit),
+            Err(Stop::Image(_name, unfit)) => Err(unfit),
             Err(stop) => return Err(stop),
         };
         let image = Checked { name, found };

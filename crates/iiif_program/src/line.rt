@@ -270,11 +270,11 @@ fn open_files(text: Option<&str>) -> Option<NonZeroUsize> {
 
 /// The names and files of the images of the words and of the list behind them: at least one, each name of its own and within
 /// its limit.
-fn images<'a>(
+fn images<'t, 'a: 't>(
     alloc: Global,
     words: &[&'a str],
-    text: &'a [u8],
-) -> Result<Vec<(&'a str, &'a str)>, LineFault> {
+    text: &'t [u8],
+) -> Result<Vec<(&'t str, &'t str)>, LineFault> {
     let mut list = ImageList::new(alloc);
     for word in words {
         match list.add(*word) {
@@ -307,12 +307,12 @@ fn is_node_name(text: &str) -> bool {
 
 /// The names and addresses of other nodes: at most 63, each name of its own and within its limit, and none this node's. The
 /// addresses are taken as they are.
-fn peers<'a>(
+fn peers<'t, 'a: 't>(
     alloc: Global,
-    own: &'a str,
+    own: &str,
     words: &[&'a str],
-) -> Result<Vec<(&'a str, &'a str)>, LineFault> {
-    let mut peers: Vec<(&'a str, &'a str)> = Vec::new(alloc);
+) -> Result<Vec<(&'t str, &'t str)>, LineFault> {
+    let mut peers: Vec<(&'t str, &'t str)> = Vec::new(alloc);
     if !is_node_name(own) || words.len() > MOST_PEERS {
         return Err(LineFault::Peer);
     }
@@ -357,11 +357,11 @@ fn shares_in(matches: &ArgMatches<'_>) -> Result<Shares, LineFault> {
 
 /// What the words and the text of the list ask for, or the first thing that is wrong with them. Where the list can't be read, that
 /// comes in its place, at the images.
-pub(crate) fn options_in<'a>(
+pub(crate) fn options_in<'t, 'a: 't>(
     alloc: Global,
     matches: &ArgMatches<'a>,
-    list: Result<&'a [u8], LineFault>,
-) -> Result<Options<'a>, LineFault> {
+    list: Result<&'t [u8], LineFault>,
+) -> Result<Options<'t>, LineFault> {
     let base = match matches.get_str("base") {
         Some(base) if is_base_url(base) => base,
         _ => return Err(LineFault::Base),
@@ -376,7 +376,10 @@ pub(crate) fn options_in<'a>(
         open_files,
     } = shares_in(matches)?;
     let images = images(alloc, matches.get_strs("images").unwrap_or(&[]), list?)?;
-    let name = matches.get_str("name").unwrap_or(OWN_NAME);
+    let name = match matches.get_str("name") {
+        Some(name) => name,
+        None => OWN_NAME,
+    };
     let peers = peers(alloc, name, matches.get_strs("peer").unwrap_or(&[]))?;
     Ok(Options {
         base,
@@ -395,7 +398,7 @@ pub(crate) fn options_in<'a>(
 }
 
 /// How the program is run: exactly one way, with the options that go with it.
-fn mode_in<'a>(matches: &ArgMatches<'a>) -> Result<Mode<'a>, LineFault> {
+fn mode_in<'t, 'a: 't>(matches: &ArgMatches<'a>) -> Result<Mode<'t>, LineFault> {
     let hex = matches.get_flag("hex");
     let log = matches.get_flag("log");
     let peers = matches.get_str("peer-listen");
