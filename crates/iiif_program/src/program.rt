@@ -46,7 +46,7 @@ const SAMPLE_WORDS: [&str; 8] = [
 ];
 
 /// Answers what the words ask for. The status is 0 where it was answered, by a refusal too; 1 where it failed while running; 2
-/// where a word or an image is at fault, which standard error then names.
+/// where a word or an image is at fault, which standard error then names, and at a check of images standard output.
 pub fn program<R, S, O, E>(rt: &R, words: &[S], out: &mut O, err: &mut E) -> u8
 where
     R: Files<File = File>
@@ -137,6 +137,7 @@ where
     O: Outlet,
     E: Outlet + Send,
 {
+    // A check goes on where an image is at fault, and needs no node.
     if options.mode == Mode::Check {
         return check(rt, alloc, options, out);
     }
