@@ -4,10 +4,12 @@
 
 pub use known::Known;
 pub use open_files::OpenFiles;
+pub use opens::Opens;
 pub use path_source::PathSource;
 pub use shelf::Shelf;
 
 pub mod known;
 pub mod open_files;
+pub mod opens;
 pub mod path_source;
 pub mod shelf;

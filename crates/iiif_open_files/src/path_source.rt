@@ -5,14 +5,14 @@ ghost use Rattle.iiif_source.specs.Cause.{failed, ended};
 
 use crate::known::Known;
 use crate::open_files::OpenFiles;
+use crate::opens::Opens;
 use iiif_source::{ReadFault, Runs, Source, fill, fill_runs};
 use std::fs::File;
+use std::io;
 use std::io::ErrorKind;
 use std::marker::Model;
 use std::os::unix::fs::FileExt;
-use std::rt::Files;
 use std::sync::{Arc, Wait};
-use std::{fs, io};
 
 /// A file by its path. It is seen as the length that it had when the source was made: nothing can be known of what a file holds,
 /// so its bytes stand for any, and that it keeps them is never promised.
@@ -35,9 +35,9 @@ impl PathSource {
     /// were read.
     pub fn open<R>(rt: &R, files: Arc<OpenFiles>, path: String) -> io::Result<PathSource>
     where
-        R: Files<File = File> + Wait,
+        R: Opens + Wait,
     {
-        let file = fs::open(rt, path.as_str())?;
+        let file = rt.open(path.as_str())?;
         let known = Known::of(&file.metadata()?);
         let number = files.number();
         files.keep(rt, number, file);
@@ -50,10 +50,10 @@ impl PathSource {
     }
 
     /// The file, opened again, or the cause of the fault of a read: it is gone, it can't be opened, or it isn't what it was.
-    fn opened<R: Files<File = File>>(&self, rt: &R) -> Result<File, u8>
+    fn opened<R: Opens>(&self, rt: &R) -> Result<File, u8>
         ensures { IfErr result (λ cause. IsTrue (cause == failed || cause == ended)) }
     {
-        let Ok(file) = fs::open(rt, self.path.as_str()) else {
+        let Ok(file) = rt.open(self.path.as_str()) else {
             return Err(ReadFault::FAILED);
         };
         let Ok(now) = file.metadata() else {
@@ -66,7 +66,7 @@ impl PathSource {
     }
 }
 
-impl<R: Files<File = File> + Wait> Source<R> for PathSource {
+impl<R: Opens + Wait> Source<R> for PathSource {
     ghost bytes = { λ len. replicate len 0 };
 
     ghost keeps = { λ _. ⊥ };

@@ -9,11 +9,10 @@ use crate::stop::Stop;
 use crate::unfit::Unfit;
 use iiif_io::Outlet;
 use iiif_keys::Shape;
+use iiif_open_files::Opens;
 use iiif_pixel::{Depth, Kind};
 use std::alloc::Global;
-use std::fs::File;
 use std::io;
-use std::rt::Files;
 use std::sync::Wait;
 
 /// An image that was opened once: its name, and what it is, or why it can't be served.
@@ -51,7 +50,7 @@ fn looked_at<'a, R, O>(
     out: &mut O,
 ) -> Result<Vec<Checked<'a>>, Stop<'a>>
 where
-    R: Files<File = File> + Wait + AllocGlobal,
+    R: Opens + Wait + AllocGlobal,
     O: Outlet,
     ensures names { IfOk result (λ all. map (λ c. c.name.now) all.items ≡ map (λ i. i.0.now) options.now.images.items) }
 {
@@ -98,7 +97,7 @@ pub(crate) fn check<'a, R, O>(
     out: &mut O,
 ) -> Result<(), Stop<'a>>
 where
-    R: Files<File = File> + Wait + AllocGlobal,
+    R: Opens + Wait + AllocGlobal,
     O: Outlet,
 {
     let all = looked_at(rt, alloc, options, out)?;

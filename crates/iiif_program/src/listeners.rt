@@ -4,13 +4,12 @@ use iiif_io::Outlet;
 use iiif_listener::{serve_each, stop};
 use iiif_log::{Log, write_lines};
 use std::alloc::Global;
-use std::io;
 use std::io::ErrorKind;
 use std::net::{Net, TcpListener, TcpStream};
 use std::sync::Wait;
-use std::thread;
 use std::thread::Threads;
 use std::time::Clock;
+use std::{io, thread};
 
 /// Addresses and ports.
 #[derive(Clone, Copy, Debug)]

@@ -10,14 +10,13 @@ ghost use Rattle.iiif_server.specs.Stocks.{IsStock};
 use crate::stored::Stored;
 use iiif_group::NoGate;
 use iiif_keys::System;
+use iiif_open_files::Opens;
 use iiif_peer_link::TcpLink;
 use iiif_pixel::NoMemory;
 use iiif_ring::Ring;
 use iiif_server::{Catalogue, Config, Node, Stock};
 use std::alloc::{AllocError, Global};
-use std::fs::File;
 use std::num::NonZeroUsize;
-use std::rt::Files;
 use std::sync::Wait;
 use std::sync::ledger::Blank;
 use std::time::Duration;
@@ -106,7 +105,7 @@ fn stock<J: System>(
 
 /// A node that asks others for the values of the keys that they own, whose groups have room for so many bytes each. The names of the
 /// nodes are at most 64, and each stands once. The only error is want of memory.
-pub fn among<R: Files<File = File> + Wait, J: System>(
+pub fn among<R: Opens + Wait, J: System>(
     alloc: Global,
     config: Config,
     catalogue: Catalogue<R, Stored>,

@@ -7,10 +7,9 @@ use crate::stored::Stored;
 use iiif_group::{Gate, Link};
 use iiif_io::Outlet;
 use iiif_keys::{SumKey, System, TileKey};
+use iiif_open_files::Opens;
 use iiif_server::Node;
 use std::alloc::Global;
-use std::fs::File;
-use std::rt::Files;
 use std::sync::Wait;
 use std::thread::Threads;
 
@@ -24,7 +23,7 @@ pub(crate) fn answer_one<'a, R, O, J, N, T>(
     out: &mut O,
 ) -> Result<(), Stop<'a>>
 where
-    R: Files<File = File> + Threads + Wait + Sync,
+    R: Opens + Threads + Wait + Sync,
     O: Outlet,
     J: System + Send + Sync,
     N: Link<TileKey, J, R> + Link<SumKey, J, R> + Sync,
@@ -51,7 +50,7 @@ pub(crate) fn answer_in_hex<'a, R, O, J, N, T>(
     out: &mut O,
 ) -> Result<(), Stop<'a>>
 where
-    R: Files<File = File> + Threads + Wait + Sync,
+    R: Opens + Threads + Wait + Sync,
     O: Outlet,
     J: System + Send + Sync,
     N: Link<TileKey, J, R> + Link<SumKey, J, R> + Sync,

@@ -13,15 +13,13 @@ use crate::stored::Stored;
 use crate::unfit::Unfit;
 use clap::ArgMatches;
 use iiif_canonical::Limits;
-use iiif_open_files::{OpenFiles, PathSource};
+use iiif_open_files::{OpenFiles, Opens, PathSource};
 use iiif_server::{Catalogue, Config};
 use iiif_tiff_read::{Layout, open};
 use std::alloc::Global;
-use std::fs;
-use std::fs::File;
-use std::io::ErrorKind;
+use std::io;
+use std::io::{ErrorKind, Read};
 use std::num::NonZeroUsize;
-use std::rt::Files;
 use std::sync::{Arc, Wait};
 
 /// The text of the list of images, empty where none is named.
@@ -31,16 +29,23 @@ pub(crate) fn list_of<R>(
     matches: &ArgMatches<'_>,
 ) -> Result<Vec<u8>, LineFault>
 where
-    R: Files<File = File> + AllocGlobal,
+    R: Opens + AllocGlobal,
 {
     let Some(file) = matches.get_str("list") else {
         return Ok(Vec::new(alloc));
     };
-    match fs::read(rt, file) {
+    match text_of(rt, alloc, file) {
         Ok(text) => Ok(text),
         Err(error) if error.kind() == ErrorKind::OutOfMemory => Err(LineFault::NoMemory),
         Err(_) => Err(LineFault::Unread),
     }
+}
+
+/// All bytes of a file.
+fn text_of<R: Opens>(rt: &R, alloc: Global, file: &str) -> io::Result<Vec<u8>> {
+    let mut text = Vec::new(alloc);
+    rt.open(file)?.read_to_end(&mut text)?;
+    Ok(text)
 }
 
 /// Where the images' files stay open, so many of them.
@@ -63,7 +68,7 @@ fn stored<'a, R>(
     file: &str,
 ) -> Result<Stored, Stop<'a>>
 where
-    R: Files<File = File> + Wait + AllocGlobal,
+    R: Opens + Wait + AllocGlobal,
 {
     if file == ":sample" {
         return match sample(alloc) {
@@ -93,7 +98,7 @@ pub(crate) fn opened<'a, R>(
     file: &str,
 ) -> Result<(Stored, Layout), Stop<'a>>
 where
-    R: Files<File = File> + Wait + AllocGlobal,
+    R: Opens + Wait + AllocGlobal,
     ensures in_file { IfOk result (λ o. FitsIn o.1 (length (bytes_of o.0))) }
     ensures accepted { IfOk result (λ o. keeps_of o.0 → refusal_of (bytes_of o.0) ≡ None) }
     ensures shown { IfOk result (λ o. keeps_of o.0 → o.1 ≡ scheme (bytes_of o.0)) }
@@ -113,7 +118,7 @@ pub fn catalogue<'a, R>(
     open_files: NonZeroUsize,
 ) -> Result<Catalogue<R, Stored>, Stop<'a>>
 where
-    R: Files<File = File> + Wait + AllocGlobal,
+    R: Opens + Wait + AllocGlobal,
     ensures names { IfOk result (λ c. map (λ i. i.name) c ≡ map (λ i. i.0.now) images.now) }
 {
     let files = shelf(alloc, open_files)?;

@@ -4,14 +4,13 @@ ghost use Rattle.std.specs.Prelude.{◌<◌, length, IfSome};
 
 use crate::stored::Stored;
 use iiif_keys::System;
+use iiif_open_files::Opens;
 use iiif_server::{Node, Passes};
 use std::alloc::Global;
-use std::fs::File;
-use std::rt::Files;
 use std::sync::Wait;
 
 /// As many passes as there are workers. None, and none is kept, where one of them is wanting.
-pub(crate) fn passes_of<R: Files<File = File> + Wait, J: System, N, T>(
+pub(crate) fn passes_of<R: Opens + Wait, J: System, N, T>(
     rt: &R,
     alloc: Global,
     node: &Node<R, Stored, J, N, T>,
@@ -39,7 +38,7 @@ pub(crate) fn passes_of<R: Files<File = File> + Wait, J: System, N, T>(
 }
 
 /// Gives passes back to the node that they are of.
-pub(crate) fn give_back<R: Files<File = File> + Wait, J: System, N, T>(
+pub(crate) fn give_back<R: Opens + Wait, J: System, N, T>(
     rt: &R,
     node: &Node<R, Stored, J, N, T>,
     all: Vec<Passes<J>>,

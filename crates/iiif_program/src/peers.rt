@@ -7,14 +7,13 @@ use iiif_group::{Gate, Link};
 use iiif_keys::{SumKey, System, TileKey};
 use iiif_listener::{Pace, PacedWriter, close};
 use iiif_metrics::Tally;
+use iiif_open_files::Opens;
 use iiif_server::Node;
 use iiif_source::Source;
 use iiif_sum_group::SumCalls;
 use iiif_tile_group::TileCalls;
 use std::alloc::Global;
-use std::fs::File;
 use std::net::TcpStream;
-use std::rt::Files;
 use std::sync::Wait;
 use std::sync::ledger::Ledger;
 use std::time::{Clock, Duration};
@@ -35,7 +34,7 @@ where
 
 impl<
     'a,
-    R: Files<File = File> + Wait + Clock,
+    R: Opens + Wait + Clock,
     J: System,
     N: Link<TileKey, J, R> + Link<SumKey, J, R>,
     T: Gate<R>,

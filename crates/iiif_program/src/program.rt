@@ -22,13 +22,13 @@ use clap::error::ErrorKind;
 use iiif_group::{Gate, Link};
 use iiif_io::Outlet;
 use iiif_keys::{SumKey, System, TileKey};
+use iiif_open_files::Opens;
 use iiif_server::{Catalogue, Config, Node};
 use std::alloc::Global;
 use std::convert::AsStr;
-use std::fs::File;
 use std::marker::Brand;
 use std::net::{Net, TcpListener, TcpStream};
-use std::rt::{Clock, Files};
+use std::rt::Clock;
 use std::sync::Wait;
 use std::sync::ledger::Blank;
 use std::thread::Threads;
@@ -49,7 +49,7 @@ const SAMPLE_WORDS: [&str; 8] = [
 /// where a word or an image is at fault, which standard error then names, and at a check of images standard output.
 pub fn program<R, S, O, E>(rt: &R, words: &[S], out: &mut O, err: &mut E) -> u8
 where
-    R: Files<File = File>
+    R: Opens
         + Net<Listener = TcpListener, Stream = TcpStream>
         + Threads
         + Wait
@@ -92,7 +92,7 @@ fn with_matches<R, O, E>(
     err: &mut E,
 ) -> u8
 where
-    R: Files<File = File>
+    R: Opens
         + Net<Listener = TcpListener, Stream = TcpStream>
         + Threads
         + Wait
@@ -127,7 +127,7 @@ fn answer<'a, R, O, E>(
     err: &mut E,
 ) -> Result<(), Stop<'a>>
 where
-    R: Files<File = File>
+    R: Opens
         + Net<Listener = TcpListener, Stream = TcpStream>
         + Threads
         + Wait
@@ -164,7 +164,7 @@ fn answer_alone<'a, R, O, E, J: System + Send + Sync>(
     err: &mut E,
 ) -> Result<(), Stop<'a>>
 where
-    R: Files<File = File>
+    R: Opens
         + Net<Listener = TcpListener, Stream = TcpStream>
         + Threads
         + Wait
@@ -201,7 +201,7 @@ fn answer_among<'a, R, O, E, J: System + Send + Sync>(
     err: &mut E,
 ) -> Result<(), Stop<'a>>
 where
-    R: Files<File = File>
+    R: Opens
         + Net<Listener = TcpListener, Stream = TcpStream>
         + Threads
         + Wait
@@ -241,7 +241,7 @@ fn answer_by<'a, R, O, E, J, N, T>(
     err: &mut E,
 ) -> Result<(), Stop<'a>>
 where
-    R: Files<File = File>
+    R: Opens
         + Net<Listener = TcpListener, Stream = TcpStream>
         + Threads
         + Wait

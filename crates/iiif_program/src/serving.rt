@@ -11,12 +11,11 @@ use crate::watcher::Watcher;
 use iiif_group::{Gate, Link};
 use iiif_io::Outlet;
 use iiif_keys::{SumKey, System, TileKey};
+use iiif_open_files::Opens;
 use iiif_server::Node;
 use std::alloc::Global;
-use std::fs::File;
 use std::io;
 use std::net::{Net, TcpListener, TcpStream};
-use std::rt::Files;
 use std::sync::Wait;
 use std::thread::Threads;
 use std::time::Clock;
@@ -35,12 +34,7 @@ pub fn serve<'x, R, J, N, T, E>(
     err: &mut E,
 ) -> io::Result<()>
 where
-    R: Files<File = File>
-        + Net<Listener = TcpListener, Stream = TcpStream>
-        + Threads
-        + Wait
-        + Clock
-        + Sync,
+    R: Opens + Net<Listener = TcpListener, Stream = TcpStream> + Threads + Wait + Clock + Sync,
     J: System + Send + Sync,
     N: Link<TileKey, J, R> + Link<SumKey, J, R> + Sync,
     T: Gate<R> + Sync,
@@ -81,12 +75,7 @@ pub(crate) fn listen<'a, R, J, N, T, E>(
     err: &mut E,
 ) -> Result<(), Stop<'a>>
 where
-    R: Files<File = File>
-        + Net<Listener = TcpListener, Stream = TcpStream>
-        + Threads
-        + Wait
-        + Clock
-        + Sync,
+    R: Opens + Net<Listener = TcpListener, Stream = TcpStream> + Threads + Wait + Clock + Sync,
     J: System + Send + Sync,
     N: Link<TileKey, J, R> + Link<SumKey, J, R> + Sync,
     T: Gate<R> + Sync,

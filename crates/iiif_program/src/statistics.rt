@@ -9,15 +9,14 @@ use iiif_group::Kept;
 use iiif_keys::System;
 use iiif_listener::{Pace, PacedWriter, close};
 use iiif_metrics::{CacheMetrics, Measure, Metrics, Tally, serve_metrics};
+use iiif_open_files::Opens;
 use iiif_server::Node;
 use iiif_source::Source;
 use iiif_sum_group::SumCalls;
 use iiif_tables::Book;
 use iiif_tile_group::TileCalls;
 use std::alloc::Global;
-use std::fs::File;
 use std::net::TcpStream;
-use std::rt::Files;
 use std::sync::Wait;
 use std::sync::ledger::Ledger;
 use std::time::{Clock, Duration};
@@ -48,7 +47,7 @@ fn cache_metrics(book: Book, kept: Kept) -> CacheMetrics
     }
 }
 
-impl<'a, R: Files<File = File> + Wait, J: System, N, T> Measure<R> for Statistics<'a, R, J, N, T> {
+impl<'a, R: Opens + Wait, J: System, N, T> Measure<R> for Statistics<'a, R, J, N, T> {
     fn measure(&self, rt: &R) -> Metrics {
         let tiles = self.node.groups().tiles().group();
         let sums = self.node.groups().sums();
@@ -60,7 +59,7 @@ impl<'a, R: Files<File = File> + Wait, J: System, N, T> Measure<R> for Statistic
     }
 }
 
-impl<'a, R: Files<File = File> + Wait + Clock, J: System, N, T> Statistics<'a, R, J, N, T> {
+impl<'a, R: Opens + Wait + Clock, J: System, N, T> Statistics<'a, R, J, N, T> {
     /// Answers the one call of a connection, and closes it.
     pub fn serve(&self, rt: &R, alloc: Global, stream: TcpStream) {
         let Ok(pace) = Pace::new(rt, Duration::from_millis(self.times.whole)) else {

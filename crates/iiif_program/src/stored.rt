@@ -3,10 +3,8 @@
 ghost use Rattle.std.specs.Prelude.{ℕ, List, Bool};
 ghost use Rattle.iiif_program.specs.Stored.{bytes_of, keeps_of, stored_gave};
 
-use iiif_open_files::PathSource;
+use iiif_open_files::{Opens, PathSource};
 use iiif_source::{MemSource, ReadFault, Source};
-use std::fs::File;
-use std::rt::Files;
 use std::sync::Wait;
 
 /// A source in memory, or a file that is opened when it is read.
@@ -16,7 +14,7 @@ pub enum Stored {
     File(PathSource),
 }
 
-impl<R: Files<File = File> + Wait> Source<R> for Stored {
+impl<R: Opens + Wait> Source<R> for Stored {
     ghost bytes = { bytes_of };
 
     ghost keeps = { keeps_of };

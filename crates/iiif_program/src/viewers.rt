@@ -8,14 +8,13 @@ use crate::watcher::Watcher;
 use iiif_group::{Gate, Link};
 use iiif_keys::{SumKey, System, TileKey};
 use iiif_listener::{Pace, PacedWriter, close};
+use iiif_open_files::Opens;
 use iiif_server::Node;
 use iiif_source::Source;
 use iiif_sum_group::SumCalls;
 use iiif_tile_group::TileCalls;
 use std::alloc::Global;
-use std::fs::File;
 use std::net::TcpStream;
-use std::rt::Files;
 use std::sync::Wait;
 use std::sync::ledger::Ledger;
 use std::thread::Threads;
@@ -39,7 +38,7 @@ where
 
 impl<
     'a,
-    R: Files<File = File> + Threads + Wait + Clock + Sync,
+    R: Opens + Threads + Wait + Clock + Sync,
     J: System + Send + Sync,
     N: Link<TileKey, J, R> + Link<SumKey, J, R> + Sync,
     T: Gate<R> + Sync,

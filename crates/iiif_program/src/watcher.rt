@@ -32,8 +32,8 @@ impl Watcher {
 
 /// The method and the target of a call, both empty where there is none.
 fn words_in<'a>(call: Option<&'a Call>) -> (&'a [u8], &'a [u8])
-    ensures some { IfSome call (λ c. (result.0.now ≡ c.now.method) × (result.1.now ≡ c.now.target.items)) }
-    ensures none { IfNone call ((result.0.now ≡ []) × (result.1.now ≡ [])) }
+    ensures some { IfSome call.entry (λ c. (result.0.now ≡ c.now.method) × (result.1.now ≡ c.now.target.items)) }
+    ensures none { IfNone call.entry ((result.0.now ≡ []) × (result.1.now ≡ [])) }
 {
     match call {
         Some(call) => (call.method.as_str().as_bytes(), &call.target),
@@ -70,8 +70,8 @@ fn answered<'a>(
 ) -> Answered<'a>
     ensures at { result.at ≡ at }
     ensures millis { result.millis ≡ millis }
-    ensures call { IfSome call (λ c. (result.method.now ≡ c.now.method) × (result.target.now ≡ c.now.target.items)) }
-    ensures none { IfNone call ((result.method.now ≡ []) × (result.target.now ≡ [])) }
+    ensures call { IfSome call.entry (λ c. (result.method.now ≡ c.now.method) × (result.target.now ≡ c.now.target.items)) }
+    ensures none { IfNone call.entry ((result.method.now ≡ []) × (result.target.now ≡ [])) }
     ensures outcome { result.outcome ≡ outcome_of ended.now }
     ensures bytes { result.bytes ≡ bytes_of ended.now }
 {
