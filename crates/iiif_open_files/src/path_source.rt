@@ -9,9 +9,7 @@ use crate::opens::Opens;
 use iiif_source::{ReadFault, Runs, Source, fill, fill_runs};
 use std::fs::File;
 use std::io;
-use std::io::ErrorKind;
 use std::marker::Model;
-use std::os::unix::fs::FileExt;
 use std::sync::{Arc, Wait};
 
 /// A file by its path. It is seen as the length that it had when the source was made: nothing can be known of what a file holds,

@@ -30,6 +30,10 @@ abbrev pub unfit_number : Unfit → ℕ
 unfit_number Closed = 0
 unfit_number (Refused fault) = open_number fault
 
+-- whether one of the images that were looked at can't be served
+abbrev pub has_unfit : List Checked → Bool
+has_unfit images = list_any (λ c. is_err c.found) images
+
 -- how a check of images ends: well where each of them can be served
 abbrev pub end_of : List Checked → Result (Unit {0}) Stop
-end_of images = if list_any (λ c. is_err c.found) images then Err Faulty else Ok tt
+end_of images = if has_unfit images then Err Faulty else Ok tt

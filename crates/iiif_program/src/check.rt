@@ -1,7 +1,7 @@
 //! All images opened once, and what they are.
 
 ghost use Rattle.std.specs.Prelude.{◌≡◌, IfOk, map};
-ghost use Rattle.iiif_program.specs.Statuses.{end_of};
+ghost use Rattle.iiif_program.specs.Statuses.{end_of, has_unfit};
 
 use crate::line::Options;
 use crate::opening::{opened, shelf};
@@ -9,11 +9,11 @@ use crate::stop::Stop;
 use crate::unfit::Unfit;
 use iiif_io::Outlet;
 use iiif_keys::Shape;
-use iiif_open_files::Opens;
+use iiif_open_files::{OpenFiles, Opens};
 use iiif_pixel::{Depth, Kind};
 use std::alloc::Global;
 use std::io;
-use std::sync::Wait;
+use std::sync::{Arc, Wait};
 
 /// An image that was opened once: its name, and what it is, or why it can't be served.
 #[derive(Clone, Copy, Debug)]
@@ -42,32 +42,48 @@ impl<'a> Checked<'a> {
     }
 }
 
+/// Opens an image, and says what it is.
+fn look<'a, R>(
+    rt: &R,
+    alloc: Global,
+    files: &Arc<OpenFiles>,
+    name: &'a str,
+    file: &str,
+) -> Result<Checked<'a>, Stop<'a>>
+where
+    R: Opens + Wait + AllocGlobal,
+    ensures { IfOk result (λ c. c.name.now ≡ name.now) }
+{
+    let found = match opened(rt, alloc, files, name, file) {
+        Ok((_source, layout)) => Ok(Shape {
+            dim: layout.dim(),
+            kind: layout.kind(),
+            depth: layout.depth(),
+        }),
+        Err(Stop::Image(_name, unfit)) => Err(unfit),
+        Err(stop) => return Err(stop),
+    };
+    Ok(Checked { name, found })
+}
+
 /// Opens the images, in order, and says of each what it is. The only errors are want of memory and a line that can't be written.
+#[tactic(auto, using(crate::proofs::Names::names_more))]
 fn looked_at<'a, R, O>(
     rt: &R,
     alloc: Global,
-    options: &Options<'a>,
+    files: &Arc<OpenFiles>,
+    images: &[(&'a str, &'a str)],
     out: &mut O,
 ) -> Result<Vec<Checked<'a>>, Stop<'a>>
 where
     R: Opens + Wait + AllocGlobal,
     O: Outlet,
-    ensures names { IfOk result (λ all. map (λ c. c.name.now) all.items ≡ map (λ i. i.0.now) options.now.images.items) }
+    ensures names { IfOk result (λ all. map (λ c. c.name.now) all.items ≡ map (λ i. i.0.now) images.now) }
 {
-    let files = shelf(alloc, options.open_files)?;
     let mut all = Vec::new(alloc);
-    for image in &options.images {
+    for image in images {
         let (name, file) = *image;
-        let found = match opened(rt, alloc, &files, name, file) {
-            Ok((_source, layout)) => Ok(Shape {
-                dim: layout.dim(),
-                kind: layout.kind(),
-                depth: layout.depth(),
-            }),
-            Err(Stop::Image(_name, unfit)) => Err(unfit),
-            Err(stop) => return Err(stop),
-        };
-        let image = Checked { name, found };
+        let image = look(rt, alloc, files, name, file)?;
         if image.told(out).is_err() {
             return Err(Stop::Write);
         }
@@ -78,11 +94,18 @@ where
     Ok(all)
 }
 
+/// Whether one of these images can't be served.
+fn has_unfit(all: &[Checked<'_>]) -> bool
+    ensures { result ≡ has_unfit all.now }
+{
+    all.iter().any(|image| image.found.is_err())
+}
+
 /// How the program ends once these images were looked at.
 fn end_of<'a>(all: &[Checked<'a>]) -> Result<(), Stop<'a>>
     ensures { result ≡ end_of all.now }
 {
-    if all.iter().any(|image| image.found.is_err()) {
+    if has_unfit(all) {
         Err(Stop::Faulty)
     } else {
         Ok(())
@@ -100,6 +123,7 @@ where
     R: Opens + Wait + AllocGlobal,
     O: Outlet,
 {
-    let all = looked_at(rt, alloc, options, out)?;
+    let files = shelf(alloc, options.open_files)?;
+    let all = looked_at(rt, alloc, &files, &options.images, out)?;
     end_of(&all)
 }

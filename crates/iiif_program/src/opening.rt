@@ -111,6 +111,7 @@ where
 }
 
 /// The images, opened in the order given. So many of their files stay open.
+#[tactic(auto, using(crate::proofs::Names::names_more))]
 pub fn catalogue<'a, R>(
     rt: &R,
     alloc: Global,

@@ -1,0 +1,6 @@
+use Rattle.std.proofs.Common.{◌≡◌, map, take}
+use Rattle.iiif_program.proofs.check.looked_at.Given as goal
+
+-- the images that were looked at are the first ones
+abbrev pub invariant-loop-image : goal.invariant-loop-image
+invariant-loop-image g l = map (λ c. c.name.now) l.all.items ≡ map (λ i. i.0.now) (take l.image-index l.images)
