@@ -75,6 +75,32 @@ fn sums_are<R: Wait + Abort, J: System>(
     Ok(())
 }
 
+/// A tile and sums, and the passes given back.
+fn all_are<R: Wait + Abort, J: System>(
+    rt: &R,
+    alloc: Global,
+    groups: &Alone<R, Fused, J, NoGate>,
+) -> Result<(), Fail> {
+    let mut passes = passes(rt, groups).ok_or("no pass")?;
+    tiles_are(rt, alloc, groups, &mut passes)?;
+    sums_are(rt, alloc, groups, &mut passes)?;
+    let Passes { tile, sum } = passes;
+    groups.tiles().group().give_back(rt, tile);
+    groups.sums().give_back(rt, sum);
+    Ok(())
+}
+
+/// The books of the tiles and of the sums, and the shares that came home.
+fn home<R: Wait, J: System>(
+    rt: &R,
+    alloc: Global,
+    groups: &Alone<R, Fused, J, NoGate>,
+) -> Option<((Book, u64), (Book, u64))> {
+    let near = groups.tiles().group().gather(rt, Vec::new(alloc)).ok()?;
+    let far = groups.sums().gather(rt, Vec::new(alloc)).ok()?;
+    Some((near, far))
+}
+
 /// The books of the tiles and of the sums, and the shares that came home, after all of these calls.
 fn gathered<R: Wait + Abort, J: System>(
     rt: &R,
@@ -91,24 +117,13 @@ fn gathered<R: Wait + Abort, J: System>(
     requires sums { (sums.name ≡ J.sums_name) × (sums.parts ≡ J.sums_parts) × (J.sums_parts ≡ 65537) }
 {
     let groups: Alone<R, Fused, J, NoGate> = groups(alloc, catalogue, NoGate, tiles, sums)?;
-    let mut passes = passes(rt, &groups).ok_or("no pass")?;
-    tiles_are(rt, alloc, &groups, &mut passes)?;
-    sums_are(rt, alloc, &groups, &mut passes)?;
-    let Passes { tile, sum } = passes;
-    groups.tiles().group().give_back(rt, tile);
-    groups.sums().give_back(rt, sum);
-    let Ok(near) = groups.tiles().group().gather(rt, Vec::new(alloc)) else {
-        return Err("a pass of the tiles is out".into());
-    };
-    let Ok(far) = groups.sums().gather(rt, Vec::new(alloc)) else {
-        return Err("a pass of the sums is out".into());
-    };
-    Ok((near, far))
+    all_are(rt, alloc, &groups)?;
+    Ok(home(rt, alloc, &groups).ok_or("a pass is out")?)
 }
 
 #[test]
 fn each_call_gives_its_value_and_shares_come_home(rt: HostRuntime) -> Result<(), Fail> {
-    let catalogue = sample(&rt, rt.alloc(), 99)?;
+    let catalogue = sample(&rt, rt.alloc(), 99).ok_or("no catalogue")?;
     let (tiles, sums) = (Blank::new(65_537), Blank::new(65_537));
     let books = gathered::<_, Brand>(&rt, rt.alloc(), catalogue, tiles, sums)?;
     // A tile is got, and then the four below the sums, of which that is one.
@@ -123,6 +138,6 @@ fn each_call_gives_its_value_and_shares_come_home(rt: HostRuntime) -> Result<(),
         hits: 4,
         ..all_load(5, 0)
     };
-    assert_eq!(rt; books, ((near, 5), (far, 9)));
+    assert!(rt; books == ((near, 5), (far, 9)));
     Ok(())
 }

@@ -85,7 +85,56 @@ fn lift<R: Wait + Clock, J: System>(rt: &R, groups: &Held<'_, R, J>, gate: &Bar)
     false
 }
 
+/// What two calls that met end with, and a pass. None where they didn't meet.
+fn met<R: Threads + Wait + Clock + Send + Sync, J: System + Send + Sync>(
+    rt: &R,
+    alloc: Global,
+    groups: &Held<'_, R, J>,
+    gate: &Bar,
+) -> Option<(Receipt<TileKey, J>, Receipt<TileKey, J>, Pass<TileCalls<J>>)> {
+    let one = groups.tiles().group().pass(rt)?;
+    let two = groups.tiles().group().pass(rt)?;
+    let ((a, b), lifted) = thread::join(
+        rt,
+        || {
+            thread::join(
+                rt,
+                || asked(rt, alloc, groups, one),
+                || asked(rt, alloc, groups, two),
+            )
+        },
+        || lift(rt, groups, gate),
+    );
+    if !lifted {
+        return None;
+    }
+    let (one, pass) = a?;
+    let (two, _other) = b?;
+    Some((one, two, pass))
+}
+
 /// Two calls meet over the source as it is, and a third is made once it is mended. The tiles' books stand between and at the end.
+fn thrice<R: Threads + Wait + Clock + Abort + Send + Sync, J: System + Send + Sync>(
+    rt: &R,
+    alloc: Global,
+    groups: &Held<'_, R, J>,
+    gate: &Bar,
+    fault: Fault,
+) -> Result<(Book, Book), Fail> {
+    let (mut one, mut two, pass) = met(rt, alloc, groups, gate).ok_or("no answer")?;
+    assert!(rt; one.same(&two));
+    assert!(rt; seen(&mut one) == Some(Err(fault)) && seen(&mut two) == Some(Err(fault)));
+    let book = groups.tiles().group().book(rt);
+    if let Some(entry) = groups.tiles().images().catalogue().find("a") {
+        entry.source.mend();
+    }
+    let (mut third, _pass) = asked(rt, alloc, groups, pass).ok_or("no answer")?;
+    assert!(rt; !third.same(&one));
+    assert!(rt; seen(&mut third) == Some(Ok([0, 10, 40, 50])));
+    Ok((book, groups.tiles().group().book(rt)))
+}
+
+/// The same over the images of a catalogue.
 fn mended<R: Threads + Wait + Clock + Abort + Send + Sync, J: System + Send + Sync>(
     rt: &R,
     alloc: Global,
@@ -105,38 +154,12 @@ fn mended<R: Threads + Wait + Clock + Abort + Send + Sync, J: System + Send + Sy
         lifted: AtomicBool::new(false),
     };
     let groups: Held<'_, R, J> = groups(alloc, catalogue, &gate, tiles, sums)?;
-    let one = groups.tiles().group().pass(rt).ok_or("no pass")?;
-    let two = groups.tiles().group().pass(rt).ok_or("no pass")?;
-    let ((a, b), lifted) = thread::join(
-        rt,
-        || {
-            thread::join(
-                rt,
-                || asked(rt, alloc, &groups, one),
-                || asked(rt, alloc, &groups, two),
-            )
-        },
-        || lift(rt, &groups, &gate),
-    );
-    assert!(rt; lifted);
-    let (mut one, pass) = a.ok_or("no answer")?;
-    let (mut two, _other) = b.ok_or("no answer")?;
-    assert!(rt; one.same(&two));
-    assert_eq!(rt; seen(&mut one), Some(Err(fault)));
-    assert_eq!(rt; seen(&mut two), Some(Err(fault)));
-    let book = groups.tiles().group().book(rt);
-    if let Some(entry) = groups.tiles().images().catalogue().find("a") {
-        entry.source.mend();
-    }
-    let (mut third, _pass) = asked(rt, alloc, &groups, pass).ok_or("no answer")?;
-    assert!(rt; !third.same(&one));
-    assert_eq!(rt; seen(&mut third), Some(Ok([0, 10, 40, 50])));
-    Ok((book, groups.tiles().group().book(rt)))
+    thrice(rt, alloc, &groups, &gate, fault)
 }
 
 #[test]
 fn call_after_a_fault_loads_again(rt: HostRuntime) -> Result<(), Fail> {
-    let catalogue = sample(&rt, rt.alloc(), 1)?;
+    let catalogue = sample(&rt, rt.alloc(), 1).ok_or("no catalogue")?;
     let (tiles, sums) = (Blank::new(65_537), Blank::new(65_537));
     let fault = Fault::Source(ReadFault {
         place: 8,
@@ -153,6 +176,6 @@ fn call_after_a_fault_loads_again(rt: HostRuntime) -> Result<(), Fail> {
         joins: 1,
         ..all_load(2, 1)
     };
-    assert_eq!(rt; books, (failed, loaded));
+    assert!(rt; books == (failed, loaded));
     Ok(())
 }

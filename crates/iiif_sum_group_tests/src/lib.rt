@@ -1,5 +1,5 @@
 //! Tests of `iiif_tile_group` and `iiif_sum_group`, which call only what is public: what is counted where sums are made of their
-//! parts, a source that fails with two calls waiting, and loads that overlap.
+//! parts, a source that fails with two calls waiting, loads that overlap, and a growth of memory that is refused.
 #![tactic(auto)]
 
 #[cfg(test)]
@@ -8,6 +8,8 @@ mod each;
 mod joining;
 #[cfg(test)]
 mod meeting;
+#[cfg(test)]
+mod refused;
 #[cfg(test)]
 mod scene;
 #[cfg(test)]
