@@ -1,0 +1,11 @@
+//! Tests of `iiif_peer_groups`, which call only what is public: what a node replies, and nodes that ask each other over loopback.
+#![tactic(auto)]
+
+#[cfg(test)]
+mod crossed_tests;
+#[cfg(test)]
+mod messages;
+#[cfg(test)]
+mod reply_tests;
+#[cfg(test)]
+mod scene;
