@@ -126,7 +126,7 @@ fn viewer_that_stops_reading_holds_nobody(rt: HostRuntime) -> Result<(), Fail> {
     let viewers = TcpListener::bind(&rt, "127.0.0.1:0")?;
     let peers = TcpListener::bind(&rt, "127.0.0.1:0")?;
     let scene = Scene {
-        image: ("a", "black.tif"),
+        images: &[("a", "black.tif")],
         edge: 256,
         ..SAMPLE
     };

@@ -14,6 +14,8 @@ mod loopback_tests;
 #[cfg(test)]
 mod nodes;
 #[cfg(test)]
+mod options_tests;
+#[cfg(test)]
 mod peer_tests;
 #[cfg(test)]
 mod run;

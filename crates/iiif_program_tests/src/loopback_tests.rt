@@ -5,6 +5,7 @@ use crate::nodes::{Counts, SAMPLE, Scene, address_of, connected, serve};
 use crate::run::{BASE, run};
 use iiif_listener::stop;
 use iiif_open_files::Opens;
+use iiif_program::Times;
 use std::alloc::Global;
 use std::io::{Read, Write};
 use std::net::{Net, Shutdown, TcpListener, TcpStream};
@@ -147,19 +148,41 @@ fn addresses_that_are_none_end_the_program(rt: HostRuntime) -> Result<(), Fail> 
     Ok(())
 }
 
+/// The bytes of a row of the large image.
+const LARGE_ROW: usize = 6144;
+
+/// The file of a color image of 16 megabytes. Its samples count from 0 to 250 and begin anew; each row begins seven further on.
+fn large(alloc: Global) -> Result<Vec<u8>, Fail> {
+    let mut counted = Vec::new(alloc);
+    for place in 0..LARGE_ROW + 250 {
+        counted.push((place % 251) as u8)?;
+    }
+    let mut file = Vec::from_slice(alloc, &LARGE_HEAD)?;
+    for row in 0..2731usize {
+        let begin = row * 7 % 251;
+        let samples = counted.get(begin..begin + LARGE_ROW).ok_or("no such row")?;
+        file.extend_from_slice(samples)?;
+    }
+    Ok(file)
+}
+
+/// No limit that a busy machine passes before the test itself has to end, in milliseconds.
+const AMPLE: u64 = 600_000;
+
 #[test]
 fn sixteen_megabytes_over_loopback(rt: HostRuntime) -> Result<(), Fail> {
     let alloc = rt.alloc();
-    let mut file = Vec::from_slice(alloc, &LARGE_HEAD)?;
-    for row in 0..2731u32 {
-        for sample in 0..6144u32 {
-            file.push((row.wrapping_mul(7).wrapping_add(sample) % 251) as u8)?;
-        }
-    }
+    let file = large(alloc)?;
     fs::write(&rt, "large.tif", &file)?;
     let scene = Scene {
-        image: ("a", "large.tif"),
+        images: &[("a", "large.tif")],
         edge: 1024,
+        times: Times {
+            idle: AMPLE,
+            whole: AMPLE,
+            stalled: AMPLE,
+            ask: AMPLE,
+        },
         ..SAMPLE
     };
     let (answer, _) = answered(&rt, alloc, &scene, WHOLE_REQUEST, true)?;

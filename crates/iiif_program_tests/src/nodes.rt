@@ -30,11 +30,11 @@ use std::test::Fail;
 use std::thread::Threads;
 use std::time::{Clock, Duration};
 
-/// What a server is made of: an image's name and file, the side of its tiles, the other nodes' names and addresses, and its limits of
-/// time. Its own name is `self`.
+/// What a server is made of: each image's name and file, of which four stay open, the side of its tiles, the other nodes' names and
+/// addresses, and its limits of time. Its own name is `self`.
 #[derive(Clone, Copy)]
 pub(crate) struct Scene<'a> {
-    pub image: (&'a str, &'a str),
+    pub images: &'a [(&'a str, &'a str)],
     pub edge: u32,
     pub peers: &'a [(&'a str, &'a str)],
     pub times: Times,
@@ -42,7 +42,7 @@ pub(crate) struct Scene<'a> {
 
 /// The sample under the name `a`, and no other node.
 pub(crate) const SAMPLE: Scene<'static> = Scene {
-    image: ("a", ":sample"),
+    images: &[("a", ":sample")],
     edge: 2,
     peers: &[],
     times: USUAL,
@@ -182,8 +182,7 @@ where
         upscale: false,
     };
     let config = Config::new(alloc, BASE, scene.edge, limits, 64, 2).ok()?;
-    let open_files = NonZeroUsize::new(256)?;
-    let catalogue = catalogue(rt, alloc, &[scene.image], open_files).ok()?;
+    let catalogue = catalogue(rt, alloc, scene.images, NonZeroUsize::new(4)?).ok()?;
     let (tiles, sums) = (Blank::new(65_537), Blank::new(65_537));
     let way = Way {
         times: scene.times,

@@ -191,7 +191,7 @@ where
     let owner = TcpListener::bind(rt, "127.0.0.1:0")?;
     let address = address_of(alloc, &owner)?;
     let scene = Scene {
-        image,
+        images: &[image],
         edge: 2,
         peers: &[(OWNER, address.as_str())],
         times: Times {
