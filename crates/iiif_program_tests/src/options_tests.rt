@@ -5,11 +5,32 @@ use crate::nodes::{SAMPLE, Scene, asked, serve};
 use crate::run::{BASE, WHOLE, first_line, run};
 use iiif_io::fakes::FailingWriter;
 use iiif_listener::stop;
+use iiif_open_files::Opens;
 use iiif_program::program::program;
 use std::alloc::Global;
 use std::net::{Net, TcpListener, TcpStream};
+use std::sync::Wait;
 use std::test::Fail;
+use std::thread::Threads;
+use std::time::Clock;
 use std::{fs, thread};
+
+/// Whether the program ends on these words with this status, and wrote this to standard output and to standard error.
+fn says<R>(rt: &R, words: &[&str], wanted: u8, on_out: &[u8], on_err: &[u8]) -> bool
+where
+    R: Opens
+        + Net<Listener = TcpListener, Stream = TcpStream>
+        + Threads
+        + Wait
+        + Clock
+        + Sync
+        + AllocGlobal,
+{
+    let mut out = Vec::new(rt.alloc());
+    let mut err = Vec::new(rt.alloc());
+    let status = program(rt, words, &mut out, &mut err);
+    status == wanted && out.as_slice() == on_out && err.as_slice() == on_err
+}
 
 #[test]
 fn images_of_a_list_come_behind_those_of_the_words(rt: HostRuntime) -> Result<(), Fail> {
@@ -36,9 +57,7 @@ fn images_of_a_list_come_behind_those_of_the_words(rt: HostRuntime) -> Result<()
             target.as_str(),
             "a=:sample",
         ];
-        let (status, out, err) = run(&rt, &words)?;
-        assert_eq!(rt; out.as_slice(), answer);
-        assert_eq!(rt; (status, err.len()), (0, 0));
+        assert!(rt; says(&rt, &words, 0, answer, b""), "{name}");
     }
     // The words may name none.
     let words = [
@@ -49,41 +68,39 @@ fn images_of_a_list_come_behind_those_of_the_words(rt: HostRuntime) -> Result<()
         "--one",
         "/iiif/b/full/max/0/default.tif",
     ];
-    let (status, out, _) = run(&rt, &words)?;
-    assert_eq!(rt; out.as_slice(), RGB.as_slice());
-    assert_eq!(rt; status, 0);
+    assert!(rt; says(&rt, &words, 0, &RGB, b""));
     Ok(())
 }
 
 /// Lists, and what is said of each beside the word `a=:sample`.
-const BAD_LISTS: [(&[u8], &[u8]); 7] = [
+const BAD_LISTS: [(&[u8], &str); 7] = [
     (
         b"b=x\n\n# c\nd\n",
-        b"line: image\nline 4: there is no = between a name and a file\n",
+        "line: image\nline 4: there is no = between a name and a file\n",
     ),
     (
         b"b=x\r\n=y\r\n",
-        b"line: image\nline 2: a name has 1 to 1,024 bytes\n",
+        "line: image\nline 2: a name has 1 to 1,024 bytes\n",
     ),
     (
         b"b=x\nc=y\nb=z\n",
-        b"line: image\nline 3: there is an image of that name\n",
+        "line: image\nline 3: there is an image of that name\n",
     ),
     (
         b"\na=:sample\n",
-        b"line: image\nline 2: there is an image of that name\n",
+        "line: image\nline 2: there is an image of that name\n",
     ),
     (
         b"d\nb=x\n\xff=y\n",
-        b"line: image\nline 3: the text isn't UTF-8\n",
+        "line: image\nline 3: the text isn't UTF-8\n",
     ),
     (
         b"b=nowhere.tif\n",
-        b"image b: 0\nit can't be opened: look at the path and at the rights of the user that the server runs as\n",
+        "image b: 0\nit can't be opened: look at the path and at the rights of the user that the server runs as\n",
     ),
     (
         b"b=:sample\nc",
-        b"line: image\nline 2: there is no = between a name and a file\n",
+        "line: image\nline 2: there is no = between a name and a file\n",
     ),
 ];
 
@@ -100,23 +117,21 @@ fn line_of_a_list_is_named_by_its_number(rt: HostRuntime) -> Result<(), Fail> {
             WHOLE,
             "a=:sample",
         ];
-        let (status, out, err) = run(&rt, &words)?;
-        assert_eq!(rt; err.as_slice(), said);
-        assert_eq!(rt; (status, out.len()), (2, 0));
+        assert!(rt; says(&rt, &words, 2, b"", said.as_bytes()), "{said}");
     }
     Ok(())
 }
 
 #[test]
 fn list_that_cannot_be_read_is_told_where_images_are(rt: HostRuntime) -> Result<(), Fail> {
-    let cases: [(&[&str], &[u8]); 5] = [
+    let cases: [(&[&str], &str); 5] = [
         (
             &["--base", BASE, "--images", "option_nowhere", "--one", WHOLE],
-            b"line: image\noption_nowhere can't be read\n",
+            "line: image\noption_nowhere can't be read\n",
         ),
         (
             &["--base", BASE, "--images", "option_nowhere", "--hex"],
-            b"line: image\noption_nowhere can't be read\n",
+            "line: image\noption_nowhere can't be read\n",
         ),
         (
             &[
@@ -128,7 +143,7 @@ fn list_that_cannot_be_read_is_told_where_images_are(rt: HostRuntime) -> Result<
                 WHOLE,
                 "a=:sample",
             ],
-            b"line: image\noption_nowhere can't be read\n",
+            "line: image\noption_nowhere can't be read\n",
         ),
         (
             &[
@@ -139,7 +154,7 @@ fn list_that_cannot_be_read_is_told_where_images_are(rt: HostRuntime) -> Result<
                 "--open-files",
                 "0",
             ],
-            b"line: open-files\n--open-files is a number of files, 1 to 65536\n",
+            "line: open-files\n--open-files is a number of files, 1 to 65536\n",
         ),
         (
             &[
@@ -150,14 +165,12 @@ fn list_that_cannot_be_read_is_told_where_images_are(rt: HostRuntime) -> Result<
                 "--one",
                 WHOLE,
             ],
-            b"line: image\nat least one NAME=FILE, here or in the file of --images, with a name of 1 to 1024 bytes that stands once\n",
+            "line: image\nat least one NAME=FILE, here or in the file of --images, with a name of 1 to 1024 bytes that stands once\n",
         ),
     ];
     fs::write(&rt, "option_empty_list", b"# none\n")?;
     for (words, said) in cases {
-        let (status, out, err) = run(&rt, words)?;
-        assert_eq!(rt; err.as_slice(), said);
-        assert_eq!(rt; (status, out.len()), (2, 0));
+        assert!(rt; says(&rt, words, 2, b"", said.as_bytes()), "{said}");
     }
     Ok(())
 }
@@ -166,12 +179,26 @@ fn list_that_cannot_be_read_is_told_where_images_are(rt: HostRuntime) -> Result<
 const MANY: u16 = 300;
 
 /// The file of the image of a number: the sample, whose first two samples are the number.
-fn numbered(alloc: Global, number: u16) -> Result<Vec<u8>, Fail> {
-    let mut file = Vec::from_slice(alloc, &SAMPLE_FILE)?;
-    for (byte, at) in number.to_le_bytes().into_iter().zip(174usize..176) {
-        *file.get_mut(at).ok_or("no such place")? = byte;
-    }
-    Ok(file)
+fn numbered(number: u16) -> [u8; 190] {
+    let mut file = SAMPLE_FILE;
+    let [low, high] = number.to_le_bytes();
+    file[174] = low;
+    file[175] = high;
+    file
+}
+
+/// Whether the image of a number is answered as its own file.
+fn is_answered_rightly<R: Net<Stream = TcpStream>>(
+    rt: &R,
+    alloc: Global,
+    listener: &TcpListener,
+    number: u16,
+) -> Option<bool> {
+    let request = format!(in alloc;
+        "GET /iiif/n{number}/full/max/0/default.tif HTTP/1.1\r\nConnection: close\r\n\r\n"
+    ).ok()?;
+    let answer = asked(rt, alloc, listener, request.as_bytes())?;
+    Some(answer.starts_with(b"HTTP/1.1 200 OK\r\n") && answer.ends_with(&numbered(number)))
 }
 
 /// How many of the images are answered as their own files.
@@ -179,20 +206,41 @@ fn rightly_answered<R: Net<Stream = TcpStream>>(
     rt: &R,
     alloc: Global,
     listener: &TcpListener,
-) -> Result<u16, Fail> {
+) -> Option<u16> {
     let mut right = 0u16;
     for number in 0..MANY {
-        let request = format!(in alloc;
-            "GET /iiif/n{number}/full/max/0/default.tif HTTP/1.1\r\nConnection: close\r\n\r\n"
-        )?;
-        let answer = asked(rt, alloc, listener, request.as_bytes()).ok_or("no answer")?;
-        if answer.starts_with(b"HTTP/1.1 200 OK\r\n")
-            && answer.ends_with(&numbered(alloc, number)?)
-        {
+        if is_answered_rightly(rt, alloc, listener, number)? {
             right = right.saturating_add(1);
         }
     }
-    Ok(right)
+    Some(right)
+}
+
+/// How many of these images are answered as their own files by a node over loopback.
+fn rightly_served<R>(rt: &R, alloc: Global, images: &[(&str, &str)]) -> Option<u16>
+where
+    R: Opens
+        + Net<Listener = TcpListener, Stream = TcpStream>
+        + Threads
+        + Wait
+        + Clock
+        + Sync
+        + AllocGlobal,
+{
+    let viewers = TcpListener::bind(rt, "127.0.0.1:0").ok()?;
+    let peers = TcpListener::bind(rt, "127.0.0.1:0").ok()?;
+    let scene = Scene { images, ..SAMPLE };
+    let (counts, right) = thread::join(
+        rt,
+        || serve(rt, alloc, &scene, (&viewers, &peers)),
+        || {
+            let right = rightly_answered(rt, alloc, &viewers);
+            stop(&viewers);
+            right
+        },
+    );
+    counts?;
+    right
 }
 
 #[test]
@@ -201,30 +249,14 @@ fn three_hundred_images_under_four_open_files(rt: HostRuntime) -> Result<(), Fai
     let mut words = Vec::new(alloc);
     for number in 0..MANY {
         let path = format!(in alloc; "option_many_{number}.tif")?;
-        fs::write(&rt, path.as_str(), &numbered(alloc, number)?)?;
+        fs::write(&rt, path.as_str(), &numbered(number))?;
         words.push((format!(in alloc; "n{number}")?, path))?;
     }
     let mut images = Vec::new(alloc);
     for (name, path) in &words {
         images.push((name.as_str(), path.as_str()))?;
     }
-    let viewers = TcpListener::bind(&rt, "127.0.0.1:0")?;
-    let peers = TcpListener::bind(&rt, "127.0.0.1:0")?;
-    let scene = Scene {
-        images: &images,
-        ..SAMPLE
-    };
-    let (counts, right) = thread::join(
-        &rt,
-        || serve(&rt, alloc, &scene, (&viewers, &peers)),
-        || {
-            let right = rightly_answered(&rt, alloc, &viewers);
-            stop(&viewers);
-            right
-        },
-    );
-    assert_eq!(rt; right?, MANY);
-    counts.ok_or("no node")?;
+    assert_eq!(rt; rightly_served(&rt, alloc, &images), Some(MANY));
     Ok(())
 }
 
@@ -234,7 +266,7 @@ fn images_of_a_long_list_under_four_open_files(rt: HostRuntime) -> Result<(), Fa
     let mut list = String::new(alloc);
     for number in 0..MANY {
         let path = format!(in alloc; "option_long_{number}.tif")?;
-        fs::write(&rt, path.as_str(), &numbered(alloc, number)?)?;
+        fs::write(&rt, path.as_str(), &numbered(number))?;
         let line = format!(in alloc; "n{number}={path}\n")?;
         list.push_str(line.as_str())?;
     }
@@ -251,9 +283,7 @@ fn images_of_a_long_list_under_four_open_files(rt: HostRuntime) -> Result<(), Fa
             "--one",
             target.as_str(),
         ];
-        let (status, out, err) = run(&rt, &words)?;
-        assert_eq!(rt; out.as_slice(), numbered(alloc, number)?.as_slice());
-        assert_eq!(rt; (status, err.len()), (0, 0));
+        assert!(rt; says(&rt, &words, 0, &numbered(number), b""), "{number}");
     }
     Ok(())
 }
@@ -278,11 +308,9 @@ fn check_says_what_each_image_is(rt: HostRuntime) -> Result<(), Fail> {
         "a=:sample",
         "b=option_rgb.tif",
     ];
-    let (status, out, err) = run(&rt, &good)?;
     let said: &[u8] =
         b"a: 4 by 4, gray, 8 bits\nb: 2 by 1, RGB, 8 bits\nc: 2 by 1, gray, 16 bits\n";
-    assert_eq!(rt; out.as_slice(), said);
-    assert_eq!(rt; (status, err.len()), (0, 0));
+    assert!(rt; says(&rt, &good, 0, said, b""));
     let both = [
         "--base",
         BASE,
@@ -293,11 +321,9 @@ fn check_says_what_each_image_is(rt: HostRuntime) -> Result<(), Fail> {
         "option_both",
         "b=option_rgb.tif",
     ];
-    let (status, out, err) = run(&rt, &both)?;
     let said: &[u8] =
         b"b: 2 by 1, RGB, 8 bits\nimage d: 1\nit is no TIFF file of the classic kind: tiffcp -c none IN.tif OUT.tif for BigTIFF, vips copy IN OUT.tif for other formats\nimage e: 0\nit can't be opened: look at the path and at the rights of the user that the server runs as\nf: 4 by 4, gray, 8 bits\n";
-    assert_eq!(rt; out.as_slice(), said);
-    assert_eq!(rt; (status, err.len()), (2, 0));
+    assert!(rt; says(&rt, &both, 2, said, b""));
     Ok(())
 }
 
@@ -325,55 +351,53 @@ fn check_that_cannot_write_fails(rt: HostRuntime) -> Result<(), Fail> {
 }
 
 /// What is said of wrong words: the line, and what to do.
-const REMEDIES: [(&[&str], &[u8]); 10] = [
+const REMEDIES: [(&[&str], &str); 10] = [
     (
         &["--base", "localhost"],
-        b"line: base\n--base is http:// or https://, a host, and no / at the end, as --base http://localhost:8080/iiif\n",
+        "line: base\n--base is http:// or https://, a host, and no / at the end, as --base http://localhost:8080/iiif\n",
     ),
     (
         &["--base", BASE, "--edge", "1025"],
-        b"line: edge\n--edge is 1 to 1024, and at most --max\n",
+        "line: edge\n--edge is 1 to 1024, and at most --max\n",
     ),
     (
         &["--base", BASE, "--max", "16385"],
-        b"line: max\n--max is 1 to 16384\n",
+        "line: max\n--max is 1 to 16384\n",
     ),
     (
         &["--base", BASE, "--cache-bytes", "1099511627777"],
-        b"line: cache\n--cache-bytes is a number of bytes, 0 to 1099511627776\n",
+        "line: cache\n--cache-bytes is a number of bytes, 0 to 1099511627776\n",
     ),
     (
         &["--base", BASE, "--band", "16385"],
-        b"line: band\n--band is a number of rows, 1 to 16384\n",
+        "line: band\n--band is a number of rows, 1 to 16384\n",
     ),
     (
         &["--base", BASE, "--workers", "17"],
-        b"line: workers\n--workers is a number of threads, 1 to 16\n",
+        "line: workers\n--workers is a number of threads, 1 to 16\n",
     ),
     (
         &["--base", BASE, "--open-files", "65537"],
-        b"line: open-files\n--open-files is a number of files, 1 to 65536\n",
+        "line: open-files\n--open-files is a number of files, 1 to 65536\n",
     ),
     (
         &["--base", BASE, "b"],
-        b"line: image\nat least one NAME=FILE, here or in the file of --images, with a name of 1 to 1024 bytes that stands once\n",
+        "line: image\nat least one NAME=FILE, here or in the file of --images, with a name of 1 to 1024 bytes that stands once\n",
     ),
     (
         &["--base", BASE, "a=:sample", "--peer", "p"],
-        b"line: peer\n--peer is NAME=ADDR, at most 63 times; it and --name have names of 1 to 255 bytes that stand once\n",
+        "line: peer\n--peer is NAME=ADDR, at most 63 times; it and --name have names of 1 to 255 bytes that stand once\n",
     ),
     (
         &["--base", BASE, "a=:sample"],
-        b"line: mode\none of --listen ADDR, --one TARGET and --check; --hex only with --one; --peer-listen, --log and --stats-listen only with --listen\n",
+        "line: mode\none of --listen ADDR, --one TARGET and --check; --hex only with --one; --peer-listen, --log and --stats-listen only with --listen\n",
     ),
 ];
 
 #[test]
 fn second_line_says_what_to_do(rt: HostRuntime) -> Result<(), Fail> {
     for (words, said) in REMEDIES {
-        let (status, out, err) = run(&rt, words)?;
-        assert_eq!(rt; err.as_slice(), said);
-        assert_eq!(rt; (status, out.len()), (2, 0));
+        assert!(rt; says(&rt, words, 2, b"", said.as_bytes()), "{said}");
     }
     Ok(())
 }
