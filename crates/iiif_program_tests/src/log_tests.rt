@@ -120,13 +120,13 @@ struct Pipe {
 
 /// A writer whose first write waits until somebody reads.
 #[derive(Drop)]
-struct Unread<'a, R> {
-    rt: &'a R,
-    pipe: &'a Mutex<Pipe>,
-    more: &'a Condvar,
+struct Unread<'r, 'p, 'm, R> {
+    rt: &'r R,
+    pipe: &'p Mutex<Pipe>,
+    more: &'m Condvar,
 }
 
-impl<'a, R: Wait> Write for Unread<'a, R> {
+impl<'r, 'p, 'm, R: Wait> Write for Unread<'r, 'p, 'm, R> {
     fn write(&mut self, bytes: &[u8]) -> io::Result<usize> {
         let mut pipe = self.pipe.lock(self.rt);
         pipe.is_begun = true;
@@ -146,7 +146,7 @@ impl<'a, R: Wait> Write for Unread<'a, R> {
     }
 }
 
-impl<'a, R: Wait> Outlet for Unread<'a, R> {
+impl<'r, 'p, 'm, R: Wait> Outlet for Unread<'r, 'p, 'm, R> {
     ghost fails = { λ _ _. Unit {0} };
 
     fn put(&mut self, bytes: &[u8]) -> io::Result<usize> {

@@ -19,6 +19,29 @@ use std::{fs, thread};
 /// The sample at half its width.
 const HALVED: &[u8] = b"GET /iiif/a/full/2,/0/default.tif HTTP/1.1\r\nConnection: close\r\n\r\n";
 
+/// Serves the sample by a node that holds the one at this address for the owner of each key, and says what was counted.
+fn serve_beside<R>(
+    rt: &R,
+    alloc: Global,
+    owner: &str,
+    listeners: (&TcpListener, &TcpListener),
+) -> Option<Counts>
+where
+    R: Opens
+        + Net<Listener = TcpListener, Stream = TcpStream>
+        + Threads
+        + Wait
+        + Clock
+        + Sync
+        + AllocGlobal,
+{
+    let scene = Scene {
+        peers: &[(OWNER, owner)],
+        ..SAMPLE
+    };
+    serve(rt, alloc, &scene, listeners)
+}
+
 #[test]
 fn nodes_that_hold_each_other_for_the_owner_answer_rightly_at_once(
     rt: HostRuntime,
@@ -34,21 +57,13 @@ fn nodes_that_hold_each_other_for_the_owner_answer_rightly_at_once(
     );
     let to_second = address_of(alloc, &at_second)?;
     let to_first = address_of(alloc, &at_first)?;
-    let near = Scene {
-        peers: &[(OWNER, to_second.as_str())],
-        ..SAMPLE
-    };
-    let far = Scene {
-        peers: &[(OWNER, to_first.as_str())],
-        ..SAMPLE
-    };
     let (one, (two, answers)) = thread::join(
         &rt,
-        || serve(&rt, alloc, &near, (&first, &at_first)),
+        || serve_beside(&rt, alloc, &to_second, (&first, &at_first)),
         || {
             thread::join(
                 &rt,
-                || serve(&rt, alloc, &far, (&second, &at_second)),
+                || serve_beside(&rt, alloc, &to_first, (&second, &at_second)),
                 || {
                     let answers = thread::join(
                         &rt,
