@@ -5,13 +5,16 @@ use http::Method;
 use iiif_http_front::Call;
 use iiif_io::Outlet;
 use iiif_log::write_lines;
-use iiif_program::Watcher;
+use iiif_open_files::Opens;
+use iiif_program::{Listeners, Watcher};
 use iiif_server::{Cause, Cut, Sent, Watch};
 use std::alloc::Global;
 use std::io::{Read, Write};
 use std::net::{Net, TcpListener, TcpStream};
 use std::sync::{Condvar, Mutex, Wait};
 use std::test::Fail;
+use std::thread::Threads;
+use std::time::Clock;
 use std::{io, str, thread};
 
 /// A redirect, a method that isn't answered, a head alone, and what is no head.
@@ -54,14 +57,14 @@ fn each_answer_has_its_line(rt: HostRuntime) -> Result<(), Fail> {
         assert!(rt; words.next().is_some());
         assert_eq!(rt; words.next(), Some(target));
         assert_eq!(rt; words.next(), None);
-        sum += bytes;
+        sum = bytes.saturating_add(sum);
     }
     assert_eq!(rt; answers.ok_or("no answer")?.len(), sum);
     Ok(())
 }
 
 /// The log's lines behind their moments, once these answers to a call of this target ended.
-fn lines_of<R: Wait + std::time::Clock>(
+fn lines_of<R: Wait + Clock>(
     rt: &R,
     alloc: Global,
     target: &[u8],
@@ -112,31 +115,37 @@ fn odd_bytes_are_escaped_and_cuts_are_told(rt: HostRuntime) -> Result<(), Fail> 
 
 /// What a writer that nobody reads was given, and whether somebody reads it now.
 #[derive(Drop)]
-struct Pipe {
+struct Given {
     taken: Vec<u8>,
     is_begun: bool,
     is_read: bool,
 }
 
-/// A writer whose first write waits until somebody reads.
+/// That under its lock, and who waits for a change.
 #[derive(Drop)]
-struct Unread<'r, 'p, 'm, R> {
-    rt: &'r R,
-    pipe: &'p Mutex<Pipe>,
-    more: &'m Condvar,
+struct Pipe {
+    given: Mutex<Given>,
+    more: Condvar,
 }
 
-impl<'r, 'p, 'm, R: Wait> Write for Unread<'r, 'p, 'm, R> {
+/// A writer whose first write waits until somebody reads.
+#[derive(Drop)]
+struct Unread<'a, R> {
+    rt: &'a R,
+    pipe: &'a Pipe,
+}
+
+impl<'a, R: Wait> Write for Unread<'a, R> {
     fn write(&mut self, bytes: &[u8]) -> io::Result<usize> {
-        let mut pipe = self.pipe.lock(self.rt);
-        pipe.is_begun = true;
-        self.more.notify_all();
+        let mut given = self.pipe.given.lock(self.rt);
+        given.is_begun = true;
+        self.pipe.more.notify_all();
         for _ in self.rt.forever() {
-            if pipe.is_read {
-                pipe.taken.extend_from_slice(bytes)?;
+            if given.is_read {
+                given.taken.extend_from_slice(bytes)?;
                 return Ok(bytes.len());
             }
-            pipe = self.more.wait(self.rt, pipe);
+            given = self.pipe.more.wait(self.rt, given);
         }
         unreachable!()
     }
@@ -146,7 +155,7 @@ impl<'r, 'p, 'm, R: Wait> Write for Unread<'r, 'p, 'm, R> {
     }
 }
 
-impl<'r, 'p, 'm, R: Wait> Outlet for Unread<'r, 'p, 'm, R> {
+impl<'a, R: Wait> Outlet for Unread<'a, R> {
     ghost fails = { λ _ _. Unit {0} };
 
     fn put(&mut self, bytes: &[u8]) -> io::Result<usize> {
@@ -162,7 +171,7 @@ fn heads<R: Net<Stream = TcpStream>>(
     count: u32,
 ) -> Option<u32> {
     let mut viewer = connected(rt, listener)?;
-    let mut answered = 0;
+    let mut answered = 0u32;
     for _ in 1..count {
         viewer.write_all(b"HEAD /iiif/a HTTP/1.1\r\n\r\n").ok()?;
         let mut answer = [0u8; 122];
@@ -170,7 +179,7 @@ fn heads<R: Net<Stream = TcpStream>>(
         if !answer.starts_with(b"HTTP/1.1 303") {
             return None;
         }
-        answered += 1;
+        answered = answered.saturating_add(1);
     }
     viewer
         .write_all(b"HEAD /iiif/a HTTP/1.1\r\nConnection: close\r\n\r\n")
@@ -180,7 +189,58 @@ fn heads<R: Net<Stream = TcpStream>>(
     if !answer.starts_with(b"HTTP/1.1 303") {
         return None;
     }
-    Some(answered + 1)
+    Some(answered.saturating_add(1))
+}
+
+/// How many heads are answered before somebody reads the log. It is read once they are, and then the listeners are stopped.
+fn heads_before_a_reader<R: Net<Stream = TcpStream> + Wait>(
+    rt: &R,
+    alloc: Global,
+    listeners: &Listeners,
+    pipe: &Pipe,
+) -> Option<u32> {
+    let first = heads(rt, alloc, &listeners.viewers, 1);
+    // The first line is being written.
+    let mut given = pipe.given.lock(rt);
+    for _ in rt.forever() {
+        if given.is_begun {
+            break;
+        }
+        given = pipe.more.wait(rt, given);
+    }
+    drop(given);
+    let second = heads(rt, alloc, &listeners.viewers, 600);
+    let third = heads(rt, alloc, &listeners.viewers, 599);
+    pipe.given.lock(rt).is_read = true;
+    pipe.more.notify_all();
+    listeners.stop();
+    Some(first? + second? + third?)
+}
+
+/// The same, of a node whose log this pipe takes.
+fn served_before_a_reader<'a, R>(
+    rt: &'a R,
+    alloc: Global,
+    watcher: &Watcher,
+    listeners: &Listeners,
+    pipe: &'a Pipe,
+) -> Option<u32>
+where
+    R: Opens
+        + Net<Listener = TcpListener, Stream = TcpStream>
+        + Threads
+        + Wait
+        + Clock
+        + Sync
+        + AllocGlobal,
+{
+    let mut out = Unread { rt, pipe };
+    let (_, answered) = thread::join(
+        rt,
+        || serve_told(rt, alloc, &SAMPLE, watcher, listeners, &mut out),
+        || heads_before_a_reader(rt, alloc, listeners, pipe),
+    );
+    answered
 }
 
 #[test]
@@ -188,42 +248,19 @@ fn viewer_waits_for_no_reader_of_the_log(rt: HostRuntime) -> Result<(), Fail> {
     let alloc = rt.alloc();
     let watcher = Watcher::new(alloc, true)?;
     let listeners = listeners(&rt)?;
-    let pipe = Mutex::new(Pipe {
-        taken: Vec::new(alloc),
-        is_begun: false,
-        is_read: false,
-    });
-    let more = Condvar::new();
-    let mut out = Unread {
-        rt: &rt,
-        pipe: &pipe,
-        more: &more,
+    let pipe = Pipe {
+        given: Mutex::new(Given {
+            taken: Vec::new(alloc),
+            is_begun: false,
+            is_read: false,
+        }),
+        more: Condvar::new(),
     };
-    let (_, answered) = thread::join(
-        &rt,
-        || serve_told(&rt, alloc, &SAMPLE, &watcher, &listeners, &mut out),
-        || -> Option<u32> {
-            let first = heads(&rt, alloc, &listeners.viewers, 1);
-            // The first line is being written.
-            let mut lock = pipe.lock(&rt);
-            for _ in rt.forever() {
-                if lock.is_begun {
-                    break;
-                }
-                lock = more.wait(&rt, lock);
-            }
-            drop(lock);
-            let second = heads(&rt, alloc, &listeners.viewers, 600);
-            let third = heads(&rt, alloc, &listeners.viewers, 599);
-            pipe.lock(&rt).is_read = true;
-            more.notify_all();
-            listeners.stop();
-            Some(first? + second? + third?)
-        },
-    );
+    let answered = served_before_a_reader(&rt, alloc, &watcher, &listeners, &pipe);
     assert_eq!(rt; answered, Some(1200));
     // One line was being written, 1,024 waited, and the rest is counted.
-    let Pipe { taken, .. } = pipe.into_inner();
+    let Pipe { given, .. } = pipe;
+    let Given { taken, .. } = given.into_inner();
     let text = str::from_utf8(&taken)?;
     assert_eq!(rt; text.lines().count(), 1026);
     assert!(rt; text.ends_with(" /iiif/a\nlost 175\n"));

@@ -26,7 +26,7 @@ const ANSWERS: &str =
 fn answered<R>(
     rt: &R,
     alloc: Global,
-    scene: &Scene<'_>,
+    scene: &Scene<'_, '_>,
     request: &[u8],
     ends: bool,
 ) -> Result<(Vec<u8>, Counts), Fail>

@@ -30,27 +30,27 @@ use std::test::Fail;
 use std::thread::Threads;
 use std::time::{Clock, Duration};
 
-/// What a server is made of: each image's name and file, of which four stay open, the side of its tiles, the other nodes' names and
-/// addresses, and its limits of time. Its own name is `self`.
+/// What a server is made of: each image's name and file, of which four stay open, the side of its tiles, the address of the node that
+/// owns each key, where there is one, and its limits of time. Its own name is `self`.
 #[derive(Clone, Copy)]
-pub(crate) struct Scene<'a> {
-    pub images: &'a [(&'a str, &'a str)],
+pub(crate) struct Scene<'i, 'o> {
+    pub images: &'i [(&'i str, &'i str)],
     pub edge: u32,
-    pub peers: &'a [(&'a str, &'a str)],
+    pub owner: Option<&'o str>,
     pub times: Times,
 }
 
 /// The sample under the name `a`, and no other node.
-pub(crate) const SAMPLE: Scene<'static> = Scene {
+pub(crate) const SAMPLE: Scene<'static, 'static> = Scene {
     images: &[("a", ":sample")],
     edge: 2,
-    peers: &[],
+    owner: None,
     times: USUAL,
 };
 
 /// A node that owns each key of the sample, and of `g`, at tiles of 2 by 2, beside one of the name `self`: Python's `hashlib` worked
 /// it out.
-pub(crate) const OWNER: &str = "other85";
+const OWNER: &str = "other85";
 
 /// What the groups of a node counted together.
 #[derive(Clone, Copy, Debug, PartialEq, Eq)]
@@ -161,7 +161,7 @@ where
 pub(crate) fn serve_told<R, E>(
     rt: &R,
     alloc: Global,
-    scene: &Scene<'_>,
+    scene: &Scene<'_, '_>,
     watcher: &Watcher,
     listeners: &Listeners,
     err: &mut E,
@@ -189,12 +189,14 @@ where
         watcher,
         listeners,
     };
-    if scene.peers.is_empty() {
+    let Some(owner) = scene.owner else {
         return serve_alone::<R, Brand, E>(rt, alloc, config, catalogue, tiles, sums, &way, err);
-    }
+    };
+    let mut peers = Vec::new(alloc);
+    peers.push((OWNER, owner)).ok()?;
     let nodes = Nodes {
         own: "self",
-        peers: scene.peers,
+        peers: &peers,
         ask: scene.times.ask,
     };
     serve_among::<R, Brand, E>(rt, alloc, config, catalogue, &nodes, tiles, sums, &way, err)
@@ -204,7 +206,7 @@ where
 pub(crate) fn serve<R>(
     rt: &R,
     alloc: Global,
-    scene: &Scene<'_>,
+    scene: &Scene<'_, '_>,
     listeners: (&TcpListener, &TcpListener),
 ) -> Option<Counts>
 where

@@ -1,7 +1,7 @@
 //! Nodes that ask each other, and nodes whose peers lie, drip, are silent or gone.
 
 use crate::files::DEEP;
-use crate::nodes::{Counts, OWNER, SAMPLE, Scene, address_of, asked, connected, serve};
+use crate::nodes::{Counts, SAMPLE, Scene, address_of, asked, connected, serve};
 use iiif_listener::stop;
 use iiif_open_files::Opens;
 use iiif_peer_wire::{Version, read_ask};
@@ -36,7 +36,7 @@ where
         + AllocGlobal,
 {
     let scene = Scene {
-        peers: &[(OWNER, owner)],
+        owner: Some(owner),
         ..SAMPLE
     };
     serve(rt, alloc, &scene, listeners)
@@ -187,7 +187,7 @@ fn answered<R>(
     rt: &R,
     alloc: Global,
     way: Way,
-    image: (&'static str, &'static str),
+    images: &[(&str, &str)],
     request: &[u8],
 ) -> Result<(Vec<u8>, Counts, bool), Fail>
 where
@@ -206,9 +206,9 @@ where
     let owner = TcpListener::bind(rt, "127.0.0.1:0")?;
     let address = address_of(alloc, &owner)?;
     let scene = Scene {
-        images: &[image],
+        images,
         edge: 2,
-        peers: &[(OWNER, address.as_str())],
+        owner: Some(address.as_str()),
         times: Times {
             ask: LIMIT,
             ..USUAL
@@ -261,7 +261,7 @@ fn peer_of_any_kind_leaves_the_answer_right(rt: HostRuntime) -> Result<(), Fail>
             &rt,
             rt.alloc(),
             way,
-            ("a", ":sample"),
+            &[("a", ":sample")],
             CORNER,
         )?;
         assert!(rt; answer.starts_with(b"HTTP/1.1 200 OK\r\n"), "{way:?}");
@@ -278,12 +278,11 @@ fn peer_that_closes_on_the_second_version_leaves_the_answer_right(
 ) -> Result<(), Fail> {
     fs::write(&rt, "sixteen.tif", &DEEP)?;
     let request = b"GET /iiif/g/full/max/0/default.tif HTTP/1.1\r\nConnection: close\r\n\r\n";
-    let image = ("g", "sixteen.tif");
     let (answer, counts, well_asked) = answered(
         &rt,
         rt.alloc(),
         Way::KnowsOneVersion,
-        image,
+        &[("g", "sixteen.tif")],
         request,
     )?;
     assert!(rt; answer.starts_with(b"HTTP/1.1 200 OK\r\n"));
@@ -317,7 +316,7 @@ where
     let address = address_of(alloc, &gone)?;
     drop(gone);
     let scene = Scene {
-        peers: &[(OWNER, address.as_str())],
+        owner: Some(address.as_str()),
         ..SAMPLE
     };
     let (counts, (answer, reply)) = thread::join(
