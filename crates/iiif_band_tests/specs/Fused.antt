@@ -1,0 +1,15 @@
+-- A file in memory, whose reads fail from one on.
+use Rattle.std.specs.Prelude.{ℕ, Bool, false, ◌||◌, ◌==◌, List}
+use Rattle.iiif_source.specs.Cause.{fuse}
+use Rattle.iiif_source.specs.declared.ReadFault.{ReadFault}
+
+-- its bytes, which don't change
+abbrev pub bytes_of : List ℕ → List ℕ
+bytes_of s = s
+
+abbrev pub keeps_of : List ℕ → Type 0
+keeps_of s = Unit {0}
+
+-- it gives the faults of its fuse alone
+abbrev pub fused_gave : List ℕ → ReadFault → Bool
+fused_gave s f = false || f.cause == fuse

@@ -1,0 +1,83 @@
+//! A gate at which loads meet, and groups with that gate.
+
+ghost use Rattle.std.specs.Prelude.{◌≡◌, ℕ, IfOk};
+ghost use Rattle.iiif_server.specs.Stocks.{IsStock};
+
+use iiif_group::Gate;
+use iiif_ring::Ring;
+use iiif_server::{NoLink, Stock};
+use std::alloc::Global;
+use std::num::NonZeroUsize;
+use std::sync::atomic::{AtomicBool, Ordering};
+use std::sync::ledger::Blank;
+use std::test::Fail;
+use std::thread;
+use std::time::{Clock, Duration};
+
+/// A gate that holds the first load until another has come, for so many turns of 1 ms at most.
+#[derive(Drop)]
+pub struct Meeting {
+    turns: u32,
+    came: AtomicBool,
+    met: AtomicBool,
+    /// The first went on alone.
+    pub alone: AtomicBool,
+}
+
+impl Meeting {
+    /// A gate that no load has come to.
+    pub fn new(turns: u32) -> Meeting {
+        Meeting {
+            turns,
+            came: AtomicBool::new(false),
+            met: AtomicBool::new(false),
+            alone: AtomicBool::new(false),
+        }
+    }
+}
+
+impl<R: Clock> Gate<R> for Meeting {
+    ghost use Rattle.std.specs.Prelude.{⊤};
+
+    ghost passed = { λ _ _. ⊤ };
+
+    fn pass(&self, rt: &R, _key_bytes: &[u8]) {
+        if self.came.swap(true, Ordering::SeqCst) {
+            self.met.store(true, Ordering::SeqCst);
+            return;
+        }
+        for _ in 0..self.turns {
+            if self.met.load(Ordering::SeqCst) {
+                return;
+            }
+            thread::sleep(rt, Duration::from_millis(1));
+        }
+        self.alone.store(true, Ordering::SeqCst);
+    }
+}
+
+/// What a group is made with that has room for so many bytes, and whose loads pass this gate.
+pub fn stock<'a>(
+    alloc: Global,
+    bytes: u64,
+    gate: &'a Meeting,
+    blank: Blank,
+) -> Result<Stock<NoLink, &'a Meeting>, Fail>
+    ensures { (name parts : ℕ) → blank.name ≡ name → blank.parts ≡ parts → parts ≡ 65537 → IfOk result (IsStock name parts) }
+{
+    let entries = NonZeroUsize::new(1024).ok_or("no entry")?;
+    let mut names = Vec::new(alloc);
+    names.push(String::from_str(alloc, "n")?)?;
+    let ring = Ring::new(alloc, names)?;
+    let mut links = Vec::new(alloc);
+    links.push(NoLink)?;
+    Ok(Stock {
+        bytes: bytes.min(67_108_864),
+        entries,
+        gate,
+        ring,
+        own: Some(0),
+        links,
+        blank,
+    })
+}
