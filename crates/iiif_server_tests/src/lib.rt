@@ -14,3 +14,5 @@ mod reference;
 mod tests;
 #[cfg(test)]
 mod upscale_tests;
+#[cfg(test)]
+mod watch_tests;

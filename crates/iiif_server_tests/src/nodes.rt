@@ -11,7 +11,7 @@ use iiif_canonical::Limits;
 use iiif_http_front::Call;
 use iiif_io::{Inlet, Outlet};
 use iiif_keys::System;
-use iiif_server::{Catalogue, Config, Cut, Node, Sent};
+use iiif_server::{Catalogue, Config, Cut, Node, Sent, Watch};
 use iiif_source::{FuseSource, MemSource};
 use iiif_tiff_read::open;
 use std::alloc::Global;
@@ -252,7 +252,13 @@ pub(crate) fn answer<R: Threads + Wait + Sync + AllocGlobal>(
 }
 
 /// Answers a connection by a node of these images.
-fn stream_by<R: Threads + Wait + Sync, J: System + Send + Sync, I: Inlet + Drop, W: Outlet>(
+fn stream_by<
+    R: Threads + Wait + Sync,
+    J: System + Send + Sync,
+    I: Inlet + Drop,
+    W: Outlet,
+    V: Watch<R>,
+>(
     rt: &R,
     alloc: Global,
     config: Config,
@@ -262,6 +268,7 @@ fn stream_by<R: Threads + Wait + Sync, J: System + Send + Sync, I: Inlet + Drop,
     sums: Blank,
     reader: I,
     out: &mut W,
+    watch: &V,
 ) -> Result<(), Fail>
     requires pictures { (name : List ℕ) → J.pictures name ≡ pictures_of bytes_of images name }
     requires gave { (name : List ℕ) (f : ReadFault) → J.gave name f ≡ gave_of fused_gave images name f }
@@ -274,7 +281,7 @@ fn stream_by<R: Threads + Wait + Sync, J: System + Send + Sync, I: Inlet + Drop,
     let bytes = bytes.min(CACHE_BYTES);
     let node = Node::<R, MemFused, J>::alone(alloc, config, images, bytes, tiles, sums)?;
     let passes = node.pass(rt).ok_or("no pass")?;
-    node.serve_stream(rt, alloc, &mut [passes], reader, out);
+    node.serve_watched(rt, alloc, &mut [passes], reader, out, watch);
     Ok(())
 }
 
@@ -285,11 +292,21 @@ pub(crate) fn send_stream<R: Threads + Wait + Sync + AllocGlobal, I: Inlet + Dro
     reader: I,
     out: &mut W,
 ) -> Result<(), Fail> {
+    send_watched(rt, node, reader, out, &())
+}
+
+/// Answers a connection by a new node, and tells the watch.
+pub(crate) fn send_watched<
+    R: Threads + Wait + Sync + AllocGlobal,
+    I: Inlet + Drop,
+    W: Outlet,
+    V: Watch<R>,
+>(rt: &R, node: &MemNode, reader: I, out: &mut W, watch: &V) -> Result<(), Fail> {
     let (tiles, sums) = (Blank::new(65_537), Blank::new(65_537));
     let alloc = rt.alloc();
     let config = settings(alloc, node.edge, node.limits)?;
     let images = images(rt, alloc, node)?;
-    stream_by::<R, Brand, I, W>(
-        rt, alloc, config, images, node.bytes, tiles, sums, reader, out,
+    stream_by::<R, Brand, I, W, V>(
+        rt, alloc, config, images, node.bytes, tiles, sums, reader, out, watch,
     )
 }

@@ -2,7 +2,7 @@ use Rattle.std.specs.Prelude.{true}
 use Rattle.iiif_images.specs.Named.{gave_of, pictures_of}
 use Rattle.iiif_server.specs.Nodes.{stable_of}
 use Rattle.iiif_server_tests.specs.Fused.{bytes_of, keeps_of, fused_gave}
-use Rattle.iiif_server_tests.proofs.nodes.send_stream.Given as goal
+use Rattle.iiif_server_tests.proofs.nodes.send_watched.Given as goal
 
 -- what the catalogue shows, and the ledgers that were just made; no other node is asked
 abbrev pub ghosts-stream_by : goal.ghosts-stream_by
