@@ -214,7 +214,7 @@ fn heads_before_a_reader<R: Net<Stream = TcpStream> + Wait>(
     pipe.given.lock(rt).is_read = true;
     pipe.more.notify_all();
     listeners.stop();
-    Some(first? + second? + third?)
+    Some(first?.saturating_add(second?).saturating_add(third?))
 }
 
 /// The same, of a node whose log this pipe takes.
