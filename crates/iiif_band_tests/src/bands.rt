@@ -136,7 +136,7 @@ fn answered_by<R: Threads + Wait + Clock + Sync, J: System + Send + Sync>(
 }
 
 /// What a target is answered.
-pub fn body<R: Threads + Wait + Clock + Sync + AllocGlobal>(
+pub(crate) fn body<R: Threads + Wait + Clock + Sync + AllocGlobal>(
     rt: &R,
     way: Way,
     target: &[u8],

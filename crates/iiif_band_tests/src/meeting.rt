@@ -26,7 +26,7 @@ pub struct Meeting {
 
 impl Meeting {
     /// A gate that no load has come to.
-    pub fn new(turns: u32) -> Meeting {
+    pub(crate) fn new(turns: u32) -> Meeting {
         Meeting {
             turns,
             came: AtomicBool::new(false),
@@ -57,7 +57,7 @@ impl<R: Clock> Gate<R> for Meeting {
 }
 
 /// What a group is made with that has room for so many bytes, and whose loads pass this gate.
-pub fn stock<'a>(
+pub(crate) fn stock<'a>(
     alloc: Global,
     bytes: u64,
     gate: &'a Meeting,
