@@ -1,4 +1,5 @@
 """The program as a server: started, asked over connections, and looked at from outside."""
+import itertools
 import os
 import random
 import socket
@@ -10,10 +11,16 @@ import urllib.request
 BASE = "http://localhost/iiif"
 
 
+# Ports below those that the system gives to connections, so that none of these takes one before a server does; one after another from
+# a place by chance, so that no two of a program's listeners, which aren't bound yet, are given the same.
+PORTS = range(20_000, 32_000)
+ROUND = itertools.count(random.SystemRandom().randrange(len(PORTS)))
+
+
 def free_port():
-    """A free port below those that the system gives to connections, so that none of these takes it before a server does."""
-    while True:
-        port = random.SystemRandom().randrange(20_000, 32_000)
+    """A free port that wasn't given lately."""
+    for place in ROUND:
+        port = PORTS[place % len(PORTS)]
         with socket.socket() as probe:
             try:
                 probe.bind(("127.0.0.1", port))
