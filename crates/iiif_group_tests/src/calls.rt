@@ -89,15 +89,18 @@ pub(crate) fn call<L: Ledger, R: Wait + Clock>(
 }
 
 /// What the first load is held for.
-#[derive(Clone, Copy)]
+#[derive(Clone, Copy, PartialEq, Eq)]
 pub(crate) enum Until {
+    /// The other call has joined.
     Joined,
-    Landed,
+    /// The other call is answered.
+    Answered,
     /// It isn't held.
     Nothing,
 }
 
-/// Lifts the gate once the other call has joined, or its flight has landed. False where that doesn't come.
+/// Lifts the gate once the other call has joined, or at once. False where that doesn't come. Where it is held for an answer it is
+/// left to the thread that is answered.
 fn lift<L: Ledger, R: Wait + Clock>(
     rt: &R,
     group: &Tiles<'_, L>,
@@ -105,19 +108,36 @@ fn lift<L: Ledger, R: Wait + Clock>(
     until: Until,
 ) -> bool {
     for _ in 0..TURNS {
-        let book = group.book(rt);
         let seen = match until {
-            Until::Joined => book.joins,
-            Until::Landed => book.landed,
-            Until::Nothing => 1,
+            Until::Joined => group.book(rt).joins == 1,
+            Until::Answered => return true,
+            Until::Nothing => true,
         };
-        if seen == 1 {
+        if seen {
             gate.lift();
             return true;
         }
         thread::sleep(rt, Duration::from_millis(1));
     }
     false
+}
+
+/// One call by the key's owner. Where the gate is held for an answer, this thread lifts it behind its own call. The one that is held
+/// there can't, so it goes on only once the other has its answer.
+fn answered<L: Ledger, R: Wait + Clock>(
+    rt: &R,
+    alloc: Global,
+    group: &Tiles<'_, L>,
+    gate: &Bar,
+    pass: Pass<L>,
+    tx: u32,
+    until: Until,
+) -> Came<L> {
+    let came = call(rt, alloc, group, pass, Way::Owner, tx);
+    if until == Until::Answered {
+        gate.lift();
+    }
+    came
 }
 
 /// Two threads call for the tiles of these columns, and the first to load is held at the gate until the other is as far as told.
@@ -137,8 +157,8 @@ pub(crate) fn two_calls<L: Ledger + Send + Sync, R: Threads + Wait + Clock + Syn
         || {
             thread::join(
                 rt,
-                || call(rt, alloc, group, one, Way::Owner, columns.0),
-                || call(rt, alloc, group, two, Way::Owner, columns.1),
+                || answered(rt, alloc, group, gate, one, columns.0, until),
+                || answered(rt, alloc, group, gate, two, columns.1, until),
             )
         },
         || lift(rt, group, gate, until),

@@ -130,7 +130,7 @@ fn call_is_answered_while_another_is_held_at_the_gate(rt: HostRuntime) -> Result
         reply: Reply::Places(1),
         asks_meet: false,
         columns: (0, 1),
-        until: Until::Landed,
+        until: Until::Answered,
     };
     let mut met = meet::<Brand, _>(&rt, rt.alloc(), case, Blank::new(65_537))?;
     assert!(rt; !met.one.same(&met.two));

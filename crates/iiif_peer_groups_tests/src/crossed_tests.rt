@@ -7,14 +7,14 @@ ghost use Rattle.iiif_images.specs.Named.{gave_of, pictures_of};
 
 use crate::messages::{CHANGED, OTHER, RIGHT, WIDE};
 use crate::scene::{Fused, Node, catalogue, groups, passes};
+use crate::values::{HALVED, LAST, sums_of, tile_of};
 use iiif_images::Catalogue;
-use iiif_keys::{Name, SumKey, System, TileKey, is_name};
+use iiif_keys::System;
 use iiif_listener::{Serve, serve_listener, stop};
 use iiif_peer_groups::Peers;
 use iiif_peer_link::TcpLink;
 use iiif_peer_server::serve_peer;
 use iiif_peer_wire::read_ask;
-use iiif_pixel::{Dim, Rect, Span};
 use iiif_source::Source;
 use iiif_sum_group::{Passes, SumCalls};
 use iiif_tile_group::TileCalls;
@@ -61,70 +61,6 @@ impl<'a, R: Net<Stream = TcpStream> + Wait + Clock, J: System> Serve<R> for Door
         let Passes { tile, sum } = passes;
         self.groups.tiles().group().give_back(rt, tile);
         self.groups.sums().give_back(rt, sum);
-    }
-}
-
-/// The name `a`.
-fn name(alloc: Global) -> Option<Name> {
-    let text = String::from_str(alloc, "a").ok()?;
-    if !is_name(text.as_str()) {
-        return None;
-    }
-    Name::new(text).ok()
-}
-
-/// The sums of the whole of `a` at 2 by 2, of a node.
-fn sums_of<R: Net<Stream = TcpStream> + Wait + Clock, J: System>(
-    rt: &R,
-    alloc: Global,
-    groups: &Crossed<R, J>,
-) -> Option<[u64; 4]> {
-    let mut passes = passes(rt, groups)?;
-    let rect = Rect {
-        x: 0,
-        y: 0,
-        w: 4,
-        h: 4,
-    };
-    let key = SumKey {
-        name: name(alloc)?,
-        edge: 2,
-        rect,
-        size: Dim { w: 2, h: 2 },
-        level: 1,
-        bx: 0,
-        by: 0,
-    };
-    let mut receipt = groups.get(rt, &mut passes, &key).ok()?;
-    match receipt.outcome() {
-        Ok(value) => match value.sums.sums() {
-            [a, b, c, d] => Some([*a, *b, *c, *d]),
-            _ => None,
-        },
-        Err(_) => None,
-    }
-}
-
-/// The tile (1, 1) of `a`, of a node.
-fn tile_of<R: Net<Stream = TcpStream> + Wait + Clock, J: System>(
-    rt: &R,
-    alloc: Global,
-    groups: &Crossed<R, J>,
-) -> Option<[u8; 4]> {
-    let mut passes = passes(rt, groups)?;
-    let key = TileKey {
-        name: name(alloc)?,
-        edge: 2,
-        tx: 1,
-        ty: 1,
-    };
-    let mut receipt = groups.tiles().get(rt, &mut passes.tile, &key).ok()?;
-    match receipt.outcome() {
-        Ok(value) => match value.raster.samples() {
-            Span::Eight([a, b, c, d]) => Some([*a, *b, *c, *d]),
-            _ => None,
-        },
-        Err(_) => None,
     }
 }
 
@@ -195,9 +131,6 @@ where
         answers
     })
 }
-
-/// The sums of `a` whole at 2 by 2.
-const HALVED: [u64; 4] = [400, 720, 1680, 2000];
 
 /// How many values a node took from its peer.
 fn taken<R: Wait, J: System>(rt: &R, node: &Crossed<R, J>) -> u64 {
@@ -336,7 +269,7 @@ fn peer_that_lies_leads_to_the_local_load(rt: HostRuntime) -> Result<(), Fail> {
         let catalogue = catalogue(&rt, alloc).ok_or("no catalogue")?;
         let (tiles, sums) = (Blank::new(65_537), Blank::new(65_537));
         let (tile, peer) = replied::<_, Brand>(&rt, alloc, catalogue, tiles, sums, reply)?;
-        assert!(rt; tile == Some([100, 110, 140, 150]), "{taken}");
+        assert!(rt; tile == Some(LAST), "{taken}");
         assert!(rt; peer == taken);
     }
     Ok(())

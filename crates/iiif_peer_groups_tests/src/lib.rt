@@ -4,8 +4,12 @@
 #[cfg(test)]
 mod crossed_tests;
 #[cfg(test)]
+mod cut_tests;
+#[cfg(test)]
 mod messages;
 #[cfg(test)]
 mod reply_tests;
 #[cfg(test)]
 mod scene;
+#[cfg(test)]
+mod values;
