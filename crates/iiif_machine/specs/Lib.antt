@@ -4,6 +4,7 @@ pub mod Tables
 pub mod Rows
 pub mod Worlds
 pub mod Steps
+pub mod Faults
 pub mod Sound
 pub mod Promises
 pub mod Worked

@@ -5,6 +5,7 @@ use iiif_pixel::NoMemory;
 use iiif_request::Request;
 use iiif_scene::Key;
 use iiif_source::ReadFault;
+use thiserror::Error;
 
 /// What may happen to a world. Nodes, calls, flights, asks and replies are named by their numbers, each kind from 0 in the order in
 /// which they were made.
@@ -41,12 +42,29 @@ pub enum Event {
 }
 
 /// Why an event did nothing.
-#[derive(Clone, Copy, Debug, PartialEq, Eq)]
+#[derive(Clone, Copy, Debug, PartialEq, Eq, Error)]
 pub enum WorldFault {
     /// The event isn't allowed now, or names what isn't there.
+    #[error("not now")]
     NotNow,
     /// Memory was refused.
+    #[error("out of memory")]
     NoMemory,
+}
+
+impl WorldFault {
+    ghost use Rattle.std.specs.Prelude.{◌≡◌};
+    ghost use Rattle.iiif_machine.specs.Faults.{number_of};
+
+    /// The number by which the fault is known outside, 1 to 2.
+    pub const fn number(self) -> u8
+        ensures { result ≡ number_of self }
+    {
+        match self {
+            WorldFault::NotNow => 1,
+            WorldFault::NoMemory => 2,
+        }
+    }
 }
 
 impl From<NoMemory> for WorldFault {

@@ -1,6 +1,6 @@
 //! Each public function once.
 
-use crate::{Numbers, laws};
+use crate::{Numbers, WorldFault, laws};
 use std::test::Fail;
 
 #[test]
@@ -17,5 +17,17 @@ fn numbers_are_as_given(rt: HostRuntime) -> Result<(), Fail> {
     laws::events_change_no_more();
     laws::the_owner_is_asked();
     laws::worked_lists_compute();
+    Ok(())
+}
+
+#[test]
+fn numbers_and_texts_of_the_faults(rt: HostRuntime) -> Result<(), Fail> {
+    assert_eq!(rt; WorldFault::NotNow.number(), 1);
+    assert_eq!(rt; WorldFault::NoMemory.number(), 2);
+    let (not_now, memory) = (WorldFault::NotNow, WorldFault::NoMemory);
+    assert_eq!(rt;
+        format!(in rt.alloc(); "{not_now}, {memory}")?.as_str(),
+        "not now, out of memory"
+    );
     Ok(())
 }

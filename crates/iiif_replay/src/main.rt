@@ -22,13 +22,19 @@ use std::io::{BufRead, BufReader, BufWriter, ErrorKind, Read, Write};
 use std::process::ExitCode;
 use std::rt::Files;
 use std::{env, fs, io};
+use thiserror::Error;
 
 /// Why a replay ends early.
+#[derive(Clone, Copy, Debug, PartialEq, Eq, Error)]
 enum Stop {
     /// A line is no setting and no event, by its number.
+    #[error("line {0}")]
     Line(u64),
+    #[error("memory")]
     Memory,
+    #[error("read")]
     Read,
+    #[error("write")]
     Write,
 }
 
@@ -92,21 +98,12 @@ fn main(rt: HostRuntime) -> ExitCode {
     let mut err = rt.stderr();
     match run(&rt) {
         Ok(()) => ExitCode::from(0),
-        Err(Stop::Line(number)) => {
-            let _ = writeln!(err, "line {number}");
-            ExitCode::from(2)
-        }
-        Err(Stop::Memory) => {
-            let _ = writeln!(err, "memory");
-            ExitCode::from(1)
-        }
-        Err(Stop::Read) => {
-            let _ = writeln!(err, "read");
-            ExitCode::from(1)
-        }
-        Err(Stop::Write) => {
-            let _ = writeln!(err, "write");
-            ExitCode::from(1)
+        Err(stop) => {
+            let _ = writeln!(err, "{stop}");
+            match stop {
+                Stop::Line(_) => ExitCode::from(2),
+                Stop::Memory | Stop::Read | Stop::Write => ExitCode::from(1),
+            }
         }
     }
 }

@@ -2,6 +2,7 @@
 
 use crate::fault::LineFault;
 use crate::state::Replay;
+use crate::{Stop, replay};
 use std::alloc::Global;
 use std::process::Abort;
 use std::test::Fail;
@@ -338,5 +339,33 @@ fn bad_lines(rt: HostRuntime) -> Result<(), Fail> {
         Some(LineFault::Bad)
     );
     comes_to(&rt, rt.alloc(), &["; # nothing; world"], "");
+    Ok(())
+}
+
+/// Why the replay of a text ends early.
+fn stop_of(alloc: Global, text: &str) -> Option<Stop> {
+    let mut out = Vec::new(alloc);
+    replay(alloc, text.as_bytes(), &mut out).err()
+}
+
+#[test]
+fn bad_lines_are_named_by_their_numbers(rt: HostRuntime) -> Result<(), Fail> {
+    let cases = [
+        ("frob 0\nedge 1\n", 1),
+        ("edge 1\npicture p gray 8 1 1 7\nfrob 0\nroom 9\n", 3),
+        ("edge 1\nfrob 0\nroom 9\nfrob 1\n", 2),
+        ("\n# edge\n\nfrob 0\n", 4),
+        ("edge 1\r\nfrob 0\r\n", 2),
+        ("edge 1\nworld\nedge 1\nfrob 0", 4),
+    ];
+    for (text, line) in cases {
+        assert!(rt;
+            stop_of(rt.alloc(), text) == Some(Stop::Line(line)),
+            "{text}"
+        );
+    }
+    assert_eq!(rt; stop_of(rt.alloc(), "# edge\n\nedge 1\nroom 9\n"), None);
+    let stop = Stop::Line(3);
+    assert_eq!(rt; format!(in rt.alloc(); "{stop}")?.as_str(), "line 3");
     Ok(())
 }

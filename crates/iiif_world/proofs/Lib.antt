@@ -20,3 +20,4 @@ pub mod Loaded
 pub mod Wanted
 pub mod Started
 pub mod Tabled
+pub mod Allowing

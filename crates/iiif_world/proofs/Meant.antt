@@ -31,7 +31,7 @@ use Rattle.iiif_scene.proofs.Plans.{kind_is, image_from_resolved}
 use Rattle.iiif_machine.specs.Types.{Key, Value, Request, Refusal, Resolved, ReadFault}
 use Rattle.iiif_machine.specs.Tables.{Outcome}
 use Rattle.iiif_machine.specs.declared.rows.Wanted.{Wanted}
-use Rattle.iiif_machine.specs.declared.rows.Answer.TheVariants.{Image, Failed}
+use Rattle.iiif_machine.specs.declared.rows.Answer.TheVariants.{Image}
 use Rattle.iiif_machine.specs.declared.rows.Progress.TheVariants.{Waiting}
 use Rattle.iiif_machine.specs.Worlds.{World, all_learned, collected, answer_from}
 use Rattle.iiif_machine.specs.Sound.{Each, IsHonestWorld, ProgressIsHonest, facts, AreOf}

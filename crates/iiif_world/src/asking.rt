@@ -36,6 +36,7 @@ impl World {
     pub fn serve(&mut self, ask: usize) -> Result<(), WorldFault>
         ensures ok { OnOk result (step (world_of self.old) (Event.Serve ask) ≡ Some (world_of self.new)) }
         ensures not_now { IfErr result (λ f. f ≡ WorldFault.NotNow → step (world_of self.old) (Event.Serve ask) ≡ None) }
+        ensures no_memory { IfErr result (λ f. f ≡ WorldFault.NoMemory → ¬ (step (world_of self.old) (Event.Serve ask) ≡ None)) }
         ensures same { OnErr result (world_of self.new ≡ world_of self.old) }
     {
         let Some(asked) = self.asks.get(ask) else {
@@ -63,6 +64,7 @@ impl World {
     pub fn reply(&mut self, call: usize) -> Result<(), WorldFault>
         ensures ok { OnOk result (step (world_of self.old) (Event.Reply call) ≡ Some (world_of self.new)) }
         ensures not_now { IfErr result (λ f. f ≡ WorldFault.NotNow → step (world_of self.old) (Event.Reply call) ≡ None) }
+        ensures no_memory { IfErr result (λ f. f ≡ WorldFault.NoMemory → ¬ (step (world_of self.old) (Event.Reply call) ≡ None)) }
         ensures same { OnErr result (world_of self.new ≡ world_of self.old) }
     {
         let Some(row) = self.calls.get(call) else {
@@ -84,6 +86,7 @@ impl World {
     pub fn take(&mut self, flight: usize, reply: usize) -> Result<(), WorldFault>
         ensures ok { OnOk result (step (world_of self.old) (Event.Take flight reply) ≡ Some (world_of self.new)) }
         ensures not_now { IfErr result (λ f. f ≡ WorldFault.NotNow → step (world_of self.old) (Event.Take flight reply) ≡ None) }
+        ensures no_memory { IfErr result (λ f. f ≡ WorldFault.NoMemory → ¬ (step (world_of self.old) (Event.Take flight reply) ≡ None)) }
         ensures same { OnErr result (world_of self.new ≡ world_of self.old) }
     {
         let Some(row) = self.flights.get(flight) else {
@@ -107,6 +110,7 @@ impl World {
     pub fn lose(&mut self, flight: usize) -> Result<(), WorldFault>
         ensures ok { OnOk result (step (world_of self.old) (Event.Lose flight) ≡ Some (world_of self.new)) }
         ensures not_now { IfErr result (λ f. f ≡ WorldFault.NotNow → step (world_of self.old) (Event.Lose flight) ≡ None) }
+        ensures no_memory { IfErr result (λ f. f ≡ WorldFault.NoMemory → ¬ (step (world_of self.old) (Event.Lose flight) ≡ None)) }
         ensures same { OnErr result (world_of self.new ≡ world_of self.old) }
     {
         match self.flights.get(flight) {
@@ -127,6 +131,7 @@ impl World {
     pub fn go_local(&mut self, flight: usize) -> Result<(), WorldFault>
         ensures ok { OnOk result (step (world_of self.old) (Event.GoLocal flight) ≡ Some (world_of self.new)) }
         ensures not_now { IfErr result (λ f. f ≡ WorldFault.NotNow → step (world_of self.old) (Event.GoLocal flight) ≡ None) }
+        ensures no_memory { IfErr result (λ f. f ≡ WorldFault.NoMemory → ¬ (step (world_of self.old) (Event.GoLocal flight) ≡ None)) }
         ensures same { OnErr result (world_of self.new ≡ world_of self.old) }
     {
         let Some(

@@ -1,6 +1,6 @@
 //! What calls know.
 
-ghost use Rattle.std.specs.Prelude.{◌≡◌, IfOk};
+ghost use Rattle.std.specs.Prelude.{◌≡◌, None, IfOk, OnErr};
 ghost use Rattle.iiif_machine.specs.Worlds.{all_learned, known_by, learned};
 ghost use Rattle.iiif_world.specs.Code.{world_of};
 ghost use Rattle.iiif_world.specs.Heard.{heard, heard_all, heard_first};
@@ -60,9 +60,10 @@ fn first_of(first: Heard, next: Heard) -> Heard
 }
 
 impl World {
-    /// What a call in a state knows.
+    /// What a call in a state knows. The only error is want of memory, and only where it knows something.
     fn known(&self, state: &CallState) -> Result<Option<Result<Value, ReadFault>>, NoMemory>
-        ensures { IfOk result (λ o. o ≡ known_by (world_of self.now).flights state.now) }
+        ensures ok { IfOk result (λ o. o ≡ known_by (world_of self.now).flights state.now) }
+        ensures err { OnErr result (¬ (known_by (world_of self.now).flights state.now ≡ None)) }
     {
         let alloc = *self.calls.allocator();
         match state {
@@ -81,9 +82,10 @@ impl World {
         }
     }
 
-    /// What a call knows. The only error is want of memory.
+    /// What a call knows. The only error is want of memory, and only where the call knows something.
     pub(crate) fn learned(&self, call: usize) -> Result<Option<Result<Value, ReadFault>>, NoMemory>
-        ensures { IfOk result (λ o. o ≡ learned (world_of self.now) call) }
+        ensures ok { IfOk result (λ o. o ≡ learned (world_of self.now) call) }
+        ensures err { OnErr result (¬ (learned (world_of self.now) call ≡ None)) }
     {
         match self.calls.get(call) {
             None => Ok(None),

@@ -153,6 +153,7 @@ impl World {
         requires sound { IsSoundWorld (world_of self.old) }
         ensures ok { OnOk result (step (world_of self.old) (Event.Land flight keep) ≡ Some (world_of self.new)) }
         ensures not_now { IfErr result (λ f. f ≡ WorldFault.NotNow → step (world_of self.old) (Event.Land flight keep) ≡ None) }
+        ensures no_memory { IfErr result (λ f. f ≡ WorldFault.NoMemory → ¬ (step (world_of self.old) (Event.Land flight keep) ≡ None)) }
         ensures same { OnErr result (world_of self.new ≡ world_of self.old) }
     {
         let Some((lead, outcome, place)) = self.ready(flight) else {

@@ -44,6 +44,7 @@ impl World {
         requires short { IsShortEvent event.now }
         ensures ok { OnOk result (step (world_of self.old) event.now ≡ Some (world_of self.new)) }
         ensures not_now { IfErr result (λ f. f ≡ WorldFault.NotNow → step (world_of self.old) event.now ≡ None) }
+        ensures no_memory { IfErr result (λ f. f ≡ WorldFault.NoMemory → ¬ (step (world_of self.old) event.now ≡ None)) }
         ensures same { OnErr result (world_of self.new ≡ world_of self.old) }
     {
         match event {
@@ -68,12 +69,13 @@ impl World {
     ///
     /// # Errors
     ///
-    /// `NotNow` where it isn't allowed, and `NoMemory` where memory was refused. The world is as it was.
+    /// `NotNow` where it isn't allowed; and `NoMemory` where it is, and memory was refused. The world is as it was.
     pub fn step(&mut self, event: &Event) -> Result<(), WorldFault>
         requires sound { IsSoundWorld (world_of self.old) }
         requires short { IsShortEvent event.now }
         ensures ok { OnOk result (step (world_of self.old) event.now ≡ Some (world_of self.new)) }
         ensures not_now { IfErr result (λ f. f ≡ WorldFault.NotNow → step (world_of self.old) event.now ≡ None) }
+        ensures no_memory { IfErr result (λ f. f ≡ WorldFault.NoMemory → ¬ (step (world_of self.old) event.now ≡ None)) }
         ensures same { OnErr result (world_of self.new ≡ world_of self.old) }
         ensures follows { OnOk result (Follows (world_of self.old) (world_of self.new)) }
         ensures sound { IsSoundWorld (world_of self.new) }
@@ -115,13 +117,14 @@ impl World {
 ///
 /// # Errors
 ///
-/// The place of the first event that was not allowed, with `NotNow`; or of one for which memory was refused.
+/// The place of the first event that was not allowed, with `NotNow`; or of one that was, and for which memory was refused, with
+/// `NoMemory`.
 pub fn run(world: World, events: &[Event]) -> Result<World, (usize, WorldFault)>
     requires sound { IsSoundWorld (world_of world) }
     requires short { All IsShortEvent events.now }
     ensures ok { IfOk result (λ w. run (world_of world) events.now ≡ Some (world_of w)) }
     ensures err { IfErr result (λ e. (v : worlds.World) × (x : Event) × (run (world_of world) (take e.0 events.now) ≡ Some v)
-        × (slice_get events.now e.0 ≡ Some x) × (e.1 ≡ WorldFault.NotNow → step v x ≡ None)) }
+        × (slice_get events.now e.0 ≡ Some x) × (e.1 ≡ WorldFault.NotNow → step v x ≡ None) × (e.1 ≡ WorldFault.NoMemory → ¬ (step v x ≡ None))) }
     ensures sound { IfOk result (λ w. IsSoundWorld (world_of w)) }
 {
     let mut world = world;

@@ -11,7 +11,7 @@ ghost use Rattle.iiif_machine.specs.Rows as rows;
 ghost use Rattle.iiif_machine.specs.Tables.{again as looked_again};
 ghost use Rattle.iiif_machine.specs.Worlds.{put_table, table_at, with_node};
 ghost use Rattle.iiif_tables.specs.declared.table.Class.{Class};
-ghost use Rattle.iiif_world.specs.Code.{world_of};
+ghost use Rattle.iiif_world.specs.Code.{world_of, IsSoundWorld};
 ghost use Rattle.iiif_world.specs.Entering.{HasFlight};
 
 use crate::node::Node;
@@ -152,6 +152,7 @@ impl World {
     pub fn again(&mut self, flight: usize) -> Result<(), WorldFault>
         ensures ok { OnOk result (step (world_of self.old) (Event.Again flight) ≡ Some (world_of self.new)) }
         ensures not_now { IfErr result (λ f. f ≡ WorldFault.NotNow → step (world_of self.old) (Event.Again flight) ≡ None) }
+        ensures no_memory { IfErr result (λ f. f ≡ WorldFault.NoMemory → ¬ (step (world_of self.old) (Event.Again flight) ≡ None)) }
         ensures same { OnErr result (world_of self.new ≡ world_of self.old) }
     {
         let Some(lead) = self.new_lead(flight) else {
@@ -168,8 +169,10 @@ impl World {
     /// A wide flight asks the node that owns its key.
     #[tactic(auto, unfolding(iiif_machine::specs::Steps::step))]
     pub fn ask_peer(&mut self, flight: usize) -> Result<(), WorldFault>
+        requires sound { IsSoundWorld (world_of self.old) }
         ensures ok { OnOk result (step (world_of self.old) (Event.AskPeer flight) ≡ Some (world_of self.new)) }
         ensures not_now { IfErr result (λ f. f ≡ WorldFault.NotNow → step (world_of self.old) (Event.AskPeer flight) ≡ None) }
+        ensures no_memory { IfErr result (λ f. f ≡ WorldFault.NoMemory → ¬ (step (world_of self.old) (Event.AskPeer flight) ≡ None)) }
         ensures same { OnErr result (world_of self.new ≡ world_of self.old) }
     {
         let Some(lead) = self.wide_lead(flight) else {
@@ -199,6 +202,7 @@ impl World {
     pub fn evict(&mut self, node: usize, keys: &Vec<Key>) -> Result<(), WorldFault>
         ensures ok { OnOk result (step (world_of self.old) (Event.Evict node keys.now) ≡ Some (world_of self.new)) }
         ensures not_now { IfErr result (λ f. f ≡ WorldFault.NotNow → step (world_of self.old) (Event.Evict node keys.now) ≡ None) }
+        ensures no_memory { IfErr result (λ f. f ≡ WorldFault.NoMemory → ¬ (step (world_of self.old) (Event.Evict node keys.now) ≡ None)) }
         ensures same { OnErr result (world_of self.new ≡ world_of self.old) }
     {
         if node >= self.nodes.len() {
@@ -213,6 +217,7 @@ impl World {
     pub fn stop(&mut self, node: usize) -> Result<(), WorldFault>
         ensures ok { OnOk result (step (world_of self.old) (Event.Stop node) ≡ Some (world_of self.new)) }
         ensures not_now { IfErr result (λ f. f ≡ WorldFault.NotNow → step (world_of self.old) (Event.Stop node) ≡ None) }
+        ensures no_memory { IfErr result (λ f. f ≡ WorldFault.NoMemory → ¬ (step (world_of self.old) (Event.Stop node) ≡ None)) }
         ensures same { OnErr result (world_of self.new ≡ world_of self.old) }
     {
         if node >= self.nodes.len() {

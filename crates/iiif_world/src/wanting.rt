@@ -97,7 +97,8 @@ impl World {
         Ok((Wanted { wish, progress }, calls))
     }
 
-    /// What a request that comes to a node adds to the world, where it is allowed. The only error is want of memory.
+    /// What a request that comes to a node adds to the world, where it is allowed. The only error is want of memory, and only where it
+    /// is allowed.
     fn wanted(
         &self,
         node: usize,
@@ -106,9 +107,10 @@ impl World {
     ) -> Result<Option<(Wanted, Vec<Call>)>, NoMemory>
         requires proper { IsProper (world_of self.now).scene }
         requires short { HasShortDecimals request.now }
-        ensures { IfOk result (λ o. MatchOption o (step (world_of self.now) (Event.Want node name.now request.now) ≡ None)
+        ensures ok { IfOk result (λ o. MatchOption o (step (world_of self.now) (Event.Want node name.now request.now) ≡ None)
             (λ r. step (world_of self.now) (Event.Want node name.now request.now)
             ≡ Some (record (with_request (world_of self.now) r.0.wish r.0.progress) { calls = (world_of self.now).calls ++ r.1.items }))) }
+        ensures err { OnErr result (¬ (step (world_of self.now) (Event.Want node name.now request.now) ≡ None)) }
     {
         let Some(at) = self.node_at(node) else {
             return Ok(None);
@@ -140,6 +142,7 @@ impl World {
         requires short { HasShortDecimals request.now }
         ensures ok { OnOk result (step (world_of self.old) (Event.Want node name.now request.now) ≡ Some (world_of self.new)) }
         ensures not_now { IfErr result (λ f. f ≡ WorldFault.NotNow → step (world_of self.old) (Event.Want node name.now request.now) ≡ None) }
+        ensures no_memory { IfErr result (λ f. f ≡ WorldFault.NoMemory → ¬ (step (world_of self.old) (Event.Want node name.now request.now) ≡ None)) }
         ensures same { OnErr result (world_of self.new ≡ world_of self.old) }
     {
         let Some((wanted, calls)) = self.wanted(node, name, request)? else {

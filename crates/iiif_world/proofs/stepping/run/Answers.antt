@@ -17,6 +17,7 @@ returns-in-Err-clause-err c = (
   c.loop-place.invariant.0,
   slice_get-get_or c.args.events.now c.loop-place.place c.index-events-place.result c.loop-place-test.true ∙ ap (λ (e : Event). Some e) (sym c.index-events-place.is),
   c.in-Err.ensures.not_now,
+  c.in-Err.ensures.no_memory,
 )
 
 pub loop-place-preserved : goal.loop-place-preserved

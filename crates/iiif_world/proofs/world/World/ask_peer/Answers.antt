@@ -2,8 +2,10 @@ use Rattle.std.proofs.Common.{Some, None, sym, ap, ◌∙◌}
 use Rattle.std.specs.Prelude.{slice_get}
 use Rattle.std.proofs.lemmas.Option.{slice_get_within}
 use Rattle.iiif_machine.specs.Worlds.{World, owner_of}
+use Rattle.iiif_machine.specs.declared.events.Event.TheVariants.{AskPeer}
 use Rattle.iiif_machine.specs.declared.rows.Stage.TheVariants.{Looked}
 use Rattle.iiif_world.specs.Code.{world_of, node_of}
+use Rattle.iiif_world.proofs.Allowing.{wants_memory}
 use Rattle.iiif_world.proofs.Named.{placed_by}
 use Rattle.iiif_world.proofs.Stepped.{ask_done, ask_none}
 use Rattle.iiif_world.proofs.world.World.ask_peer.Goals as goal
@@ -28,3 +30,12 @@ returns-clause-ok c =
     (placed_by c.args.self.now.nodes.items c.deref.result.now (owner_of (node_of c.in-Some-node_at.node.now) l.key) c.in_ok-owner.owner.now (Some c.in-Some-place_of.asked)
     c.in_ok-owner.ensures c.deref.ensures.value (sym c.place_of.ensures ∙ c.in-Some-place_of.is))
     c.in_ok-key.ensures c.version-version.ensures c.in_ok-add_ask.ensures.ok (c.set_stage.ensures l Looked at)
+
+pub returns-in_err-owner-clause-no_memory : goal.returns-in_err-owner-clause-no_memory
+returns-in_err-owner-clause-no_memory c = wants_memory (world_of c.args.self.now) (AskPeer c.args.flight) c.from_residual.result c.requires.sound (c.in-Some.lead.now, c.in-Some.ensures.0, c.in-Some.ensures.1)
+
+pub returns-in_err-key-clause-no_memory : goal.returns-in_err-key-clause-no_memory
+returns-in_err-key-clause-no_memory c = wants_memory (world_of c.args.self.now) (AskPeer c.args.flight) c.from_residual-in_err-key.result c.requires.sound (c.in-Some.lead.now, c.in-Some.ensures.0, c.in-Some.ensures.1)
+
+pub returns-in_err-add_ask-clause-no_memory : goal.returns-in_err-add_ask-clause-no_memory
+returns-in_err-add_ask-clause-no_memory c = wants_memory (world_of c.args.self.now) (AskPeer c.args.flight) c.from_residual-in_err-add_ask.result c.requires.sound (c.in-Some.lead.now, c.in-Some.ensures.0, c.in-Some.ensures.1)

@@ -1,6 +1,8 @@
 use Rattle.std.proofs.Common.{sym, ap, ◌∙◌, option_map}
-use Rattle.iiif_world.specs.Code.{node_of}
+use Rattle.iiif_machine.specs.declared.events.Event.TheVariants.{Enter}
+use Rattle.iiif_world.specs.Code.{world_of, node_of}
 use Rattle.iiif_world.specs.Rows.{kept_of}
+use Rattle.iiif_world.proofs.Allowing.{wants_memory}
 use Rattle.iiif_world.proofs.world.World.enter.Goals as goal
 
 pub find-requires-clause-fresh : goal.find-requires-clause-fresh
@@ -20,3 +22,12 @@ fly-requires-clause-fresh c = record {
   there = c.in-Some-node_at.ensures;
   is_kept = sym c.in_ok-kept.ensures ∙ ap (option_map kept_of) c.in-None.is;
 }
+
+pub returns-in_err-kept-clause-no_memory : goal.returns-in_err-kept-clause-no_memory
+returns-in_err-kept-clause-no_memory c = wants_memory (world_of c.args.self.now) (Enter c.args.call) c.from_residual.result c.requires.sound (c.in-Some.caller.now, c.in-Some.ensures)
+
+pub returns-in-Some-kept-clause-no_memory : goal.returns-in-Some-kept-clause-no_memory
+returns-in-Some-kept-clause-no_memory c = wants_memory (world_of c.args.self.now) (Enter c.args.call) c.find.result c.requires.sound (c.in-Some.caller.now, c.in-Some.ensures)
+
+pub returns-in-None-clause-no_memory : goal.returns-in-None-clause-no_memory
+returns-in-None-clause-no_memory c = wants_memory (world_of c.args.self.now) (Enter c.args.call) c.fly.result c.requires.sound (c.in-Some.caller.now, c.in-Some.ensures)
