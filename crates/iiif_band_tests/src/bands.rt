@@ -10,7 +10,7 @@ ghost use Rattle.iiif_band_tests.specs.Fused.{bytes_of, fused_gave, keeps_of};
 use crate::meeting::{Meeting, stock};
 use iiif_canonical::Limits;
 use iiif_keys::System;
-use iiif_server::{Catalogue, Config, Cut, NoLink, Node, Sent, Stock};
+use iiif_server::{Catalogue, Config, Cut, NoLink, Node, Passes, Sent, Stock};
 use iiif_source::{FuseSource, MemSource};
 use iiif_tiff_read::open;
 use std::alloc::Global;
@@ -54,6 +54,8 @@ pub struct Answer {
     /// How it ended.
     pub end: Result<Sent, Cut>,
     pub body: Vec<u8>,
+    /// The body of the same call of the same node once the source was mended.
+    pub mended: Vec<u8>,
     /// The first load went on alone.
     pub alone: bool,
 }
@@ -92,24 +94,47 @@ fn images<R>(rt: &R, alloc: Global, k: u64) -> Option<Catalogue<R, MemFused>> {
     }
 }
 
-/// The body that a target is answered by so many workers of a node, and how it ended.
-fn answered<R: Threads + Wait + Clock + Sync, J: System + Send + Sync>(
+/// How the answer to a target by a node with these passes ended, and its body.
+fn asked<R: Threads + Wait + Clock + Sync, J: System + Send + Sync>(
     rt: &R,
     alloc: Global,
     node: &Node<R, MemFused, J, NoLink, &Meeting>,
-    workers: u32,
+    passes: &mut [Passes<J>],
     target: &[u8],
 ) -> Result<(Result<Sent, Cut>, Vec<u8>), Fail> {
-    let mut passes = Vec::new(alloc);
-    for _ in 0..workers {
-        passes.push(node.pass(rt).ok_or("no pass")?)?;
-    }
     if passes.is_empty() {
         return Err(Fail::from("no worker"));
     }
     let mut out = Vec::new(alloc);
-    let end = node.body_one(rt, alloc, &mut passes, target, &mut out);
+    let end = node.body_one(rt, alloc, passes, target, &mut out);
     Ok((end, out))
+}
+
+/// What a target is answered by so many workers of a node whose loads pass this gate, and what once the source is mended.
+fn answered<R: Threads + Wait + Clock + Sync, J: System + Send + Sync>(
+    rt: &R,
+    alloc: Global,
+    node: &Node<R, MemFused, J, NoLink, &Meeting>,
+    gate: &Meeting,
+    workers: u32,
+    target: &[u8],
+) -> Result<Answer, Fail> {
+    let mut passes = Vec::new(alloc);
+    for _ in 0..workers {
+        passes.push(node.pass(rt).ok_or("no pass")?)?;
+    }
+    let (end, body) = asked(rt, alloc, node, &mut passes, target)?;
+    let alone = gate.alone.load(Ordering::SeqCst);
+    if let Some(entry) = node.groups().tiles().images().catalogue().find("a") {
+        entry.source.mend();
+    }
+    let (_, mended) = asked(rt, alloc, node, &mut passes, target)?;
+    Ok(Answer {
+        end,
+        body,
+        mended,
+        alone,
+    })
 }
 
 /// The same by a new node of these images.
@@ -120,9 +145,10 @@ fn answered_by<R: Threads + Wait + Clock + Sync, J: System + Send + Sync>(
     images: Catalogue<R, MemFused>,
     tiles: Stock<NoLink, &Meeting>,
     sums: Stock<NoLink, &Meeting>,
+    gate: &Meeting,
     workers: u32,
     target: &[u8],
-) -> Result<(Result<Sent, Cut>, Vec<u8>), Fail>
+) -> Result<Answer, Fail>
     requires pictures { (name : List ℕ) → J.pictures name ≡ pictures_of bytes_of images name }
     requires gave { (name : List ℕ) (f : ReadFault) → J.gave name f ≡ gave_of fused_gave images name f }
     requires stable { (name : List ℕ) (item : Item (List ℕ)) → item_named images name ≡ Some item → J.stable name → ∥ keeps_of item.source ∥₁ }
@@ -132,7 +158,7 @@ fn answered_by<R: Threads + Wait + Clock + Sync, J: System + Send + Sync>(
     requires sums { IsStock J.sums_name J.sums_parts sums }
 {
     let node = Node::<R, MemFused, J, NoLink, &Meeting>::new(alloc, config, images, tiles, sums)?;
-    answered(rt, alloc, &node, workers, target)
+    answered(rt, alloc, &node, gate, workers, target)
 }
 
 /// What a target is answered.
@@ -147,16 +173,15 @@ pub(crate) fn body<R: Threads + Wait + Clock + Sync + AllocGlobal>(
     let images = images(rt, alloc, way.k).ok_or("no images")?;
     let tiles = stock(alloc, way.bytes, &gate, Blank::new(65_537))?;
     let sums = stock(alloc, way.bytes, &gate, Blank::new(65_537))?;
-    let (end, body) = answered_by::<R, Brand>(
+    answered_by::<R, Brand>(
         rt,
         alloc,
         config,
         images,
         tiles,
         sums,
+        &gate,
         way.workers,
         target,
-    )?;
-    let alone = gate.alone.load(Ordering::SeqCst);
-    Ok(Answer { end, body, alone })
+    )
 }

@@ -121,7 +121,7 @@ enum End {
     Other,
 }
 
-/// How an answer ends whose body is this one where no read fails.
+/// How an answer ends whose body is this one where no read fails. In no such way where it isn't this one once the source is mended.
 fn end_of(answer: &Answer, whole: &[u8]) -> End {
     let body = answer.body.as_slice();
     let (end, is) = match &answer.end {
@@ -136,7 +136,11 @@ fn end_of(answer: &Answer, whole: &[u8]) -> End {
             (End::Front, by_source && counted && is_front(body, whole))
         }
     };
-    if is { end } else { End::Other }
+    if is && answer.mended.as_slice() == whole {
+        end
+    } else {
+        End::Other
+    }
 }
 
 /// Whether bytes are a front of a body, with a sample and not whole.
@@ -145,7 +149,9 @@ fn is_front(out: &[u8], whole: &[u8]) -> bool {
 }
 
 #[test]
-fn first_fault_is_answered_and_a_later_one_cuts(rt: HostRuntime) -> Result<(), Fail> {
+fn first_fault_is_answered_and_a_later_one_cuts_until_the_source_is_mended(
+    rt: HostRuntime,
+) -> Result<(), Fail> {
     let target = b"/iiif/a/full/max/0/default.tif";
     let whole = body(&rt, SLOWLY, target)?.body;
     let (mut ended, mut answered, mut cut_off) = (false, false, false);
