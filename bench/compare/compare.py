@@ -10,7 +10,8 @@ the plain one are compared with them byte for byte. The others scale in ways of 
 GDAL by `-r average`, which gives bits of bits): how far their samples are from the exact averages is printed, not judged. Each job is run
 by every program in turn, --rounds times (libvips three times), and the medians are printed: wall clock and processor time of all threads. A
 job that keeps its size, or whose larger result is 1,024 wide at most, is so short that the program, the build before and the plain program
-do it ten times a round. An overview of 100 megapixels is made by one worker and by four, too. The peak of the resident memory is taken in
+do it ten times a round. An overview of 100 megapixels is made by one worker and by four, too, and an overview from strips with tiles of
+1,024. The peak of the resident memory is taken in
 seven runs of its own (of the others three). With --before, another build of the program runs beside it, on the jobs of 8 bits and of bits
 that aren't scaled up. With --reads, `strace` counts the reads of the source that a job takes, in a run of its own.
 
@@ -115,7 +116,7 @@ SOURCES = [
 ]
 
 # The programs whose answers are to be equal to the exact averages.
-OWN = ("this program", "one worker", "four workers", "the build before", "plain Rust")
+OWN = ("this program", "one worker", "four workers", "--edge 1024", "the build before", "plain Rust")
 
 # What the program is told beside its defaults where its memory is looked at, and what that means.
 MEMORY = {
@@ -219,6 +220,7 @@ def programs(args, job):
         "this program": [own(args, target, path, larger, [])],
         "one worker": [own(args, target, path, larger, ["--workers", "1"])],
         "four workers": [own(args, target, path, larger, ["--workers", "4"])],
+        "--edge 1024": [own(args, target, path, larger, ["--edge", "1024"])],
         "the build before": [[args.before, "--base", "http://localhost/iiif", "--one", target, "a=" + path]],
         "plain Rust": [[args.plain, path, x, y, w, h, str(size), str(size), answer_path(args, job, "plain Rust")]],
     }
@@ -226,6 +228,8 @@ def programs(args, job):
         del lines["the build before"]
     if not is_overview(job):
         del lines["one worker"], lines["four workers"]
+    if rect[2] != source.side or source.tile:
+        del lines["--edge 1024"]
     out, between = answer_path(args, job, "libvips"), answer_path(args, job, "libvips") + ".v"
     if native:
         lines["libvips"] = [["vips", "crop", path, out, x, y, w, h]]
@@ -388,12 +392,14 @@ def limits(args, jobs, medians):
         return f"{value:.2f}{' (!)' if over else ''}"
 
     print("\n**Beside the limits: wall clock**\n")
-    print("| Job | one worker beside the build before | four workers | two workers | two workers beside GDAL |\n|---|---|---|---|---|")
+    print("| Job | one worker beside the build before | four workers | two workers | two workers beside GDAL | the same, `--edge 1024` |")
+    print("|---|---|---|---|---|---|")
     for job in filter(is_overview, jobs):
         tiles = SOURCES[JOBS[job][1]].tile
         cells = [ratio(job, "one worker", "the build before", 0, 1.15 if tiles else None),
                  ratio(job, "four workers", "the build before", 0, 0.6 if tiles else None),
-                 ratio(job, "this program", "the build before", 0, None), ratio(job, "this program", "GDAL", 0, None if tiles else 1.0)]
+                 ratio(job, "this program", "the build before", 0, None), ratio(job, "this program", "GDAL", 0, None if tiles else 1.0),
+                 ratio(job, "--edge 1024", "GDAL", 0, 1.0)]
         print(f"| {JOBS[job][0]} | {' | '.join(cells)} |")
     print("\n**Beside the limits: processor time of all threads**\n")
     print("| Job | beside the build before | beside plain Rust | beside GDAL |\n|---|---|---|---|")

@@ -3,8 +3,8 @@
     /usr/bin/python3 bench/found/requests.py crates/iiif_serve/out/iiif_serve [COUNT] [SEED]
 
 Pictures of up to 70 by 70 (gray and RGB of 8 and 16 bits, bits), in both byte orders, gray ones also counted down from white, in strips
-and tiles, some with samples about the half at which bits become white; edges from 1 to 64, regions, sizes, turns and qualities by
-chance. The averages are exact fractions over the whole region, place by place, so nothing here knows of tiles or blocks. The status is
+and tiles, some with samples about the half at which bits become white; edges from 1 to 64, regions, sizes up to twice the region's, turns
+and qualities by chance, in bands of 1, 3 or 64 rows, by 1, 2 or 5 workers, with caches of 0, 100 or 67,108,864 bytes. The averages are exact fractions over the whole region, place by place, so nothing here knows of tiles or blocks. The status is
 1 where an answer differs. With `sixteen` as a fourth word all pictures have 16 bits.
 """
 import os
@@ -110,7 +110,8 @@ def main():
         path = os.path.join(room, "a.tif")
         while asked < count:
             channels, bits = random.choice(kinds)
-            width, height = random.randint(1, 70), random.randint(1, 70)
+            most = random.choice([5, 70])
+            width, height = random.randint(1, most), random.randint(1, most)
             top = 2 ** bits - 1
             near_half = bits > 1 and random.random() < 0.3
             low, high = (top // 2 - 1, top // 2 + 2) if near_half else (0, top)
@@ -123,18 +124,21 @@ def main():
             for _ in range(20):
                 x, y = random.randrange(width), random.randrange(height)
                 w, h = random.randint(1, width - x), random.randint(1, height - y)
-                c, d = random.choice([(w, h), (random.randint(1, w), random.randint(1, h))])
+                c, d = random.choice([(w, h), (random.randint(1, w), random.randint(1, h)), (random.randint(1, 2 * w), random.randint(1, 2 * h))])
+                larger = c > w or d > h
                 mirror, quarters = random.random() < 0.3, random.choice([0, 0, 0, 1, 2, 3])
                 quality = random.choice(["default", "color", "gray", "bitonal"])
-                edge = random.randint(1, 64)
-                target = f"/iiif/a/{x},{y},{w},{h}/{c},{d}/{'!' * mirror}{90 * quarters}/{quality}.tif"
-                got = subprocess.run([program, "--base", "http://localhost/iiif", "--edge", str(edge), "--one", target, "a=" + path], capture_output=True).stdout
+                words = ["--edge", random.randint(1, 64), "--band", random.choice([1, 3, 64]), "--workers", random.choice([1, 2, 5]),
+                         "--cache-bytes", random.choice([0, 100, 67_108_864]), *["--upscale"] * larger]
+                target = f"/iiif/a/{x},{y},{w},{h}/{'^' * larger}{c},{d}/{'!' * mirror}{90 * quarters}/{quality}.tif"
+                command = [program, "--base", "http://localhost/iiif", *map(str, words), "--one", target, "a=" + path]
+                got = subprocess.run(command, capture_output=True).stdout
                 region = [row[x:x + w] for row in rows[y:y + h]]
                 strip = strip_of(turned(scaled(region, c, d, channels), mirror, quarters), quality, bits)
                 asked += 1
                 if not got.endswith(strip) or len(got) - len(strip) not in (174, 180):
                     wrong += 1
-                    print("wrong:", target, "edge", edge, "tile", tile, (width, height), channels, bits)
+                    print("wrong:", target, *words, "tile", tile, (width, height), channels, bits)
     print(f"{asked} requests, {wrong} wrong")
     return 1 if wrong else 0
 
