@@ -196,7 +196,12 @@ class Bench:
     def checked(self, column, start, job):
         """The answers of a run that are wrong."""
         with tempfile.TemporaryDirectory(dir=self.room) as kept, start() as server:
-            _, _, rows = self.asked(server, job, kept)
+            try:
+                _, _, rows = self.asked(server, job, kept)
+            except servers.Failed:
+                if column == PLAIN:
+                    return []
+                raise
             targets = dict.fromkeys(row[7] for row in rows)
             found = []
             for number, target in enumerate(targets):
@@ -226,18 +231,24 @@ def measured(bench, jobs, columns):
                 if turn and column == PLAIN:
                     continue
                 with start() as server:
-                    wall, used, rows = bench.asked(server, job)
+                    try:
+                        wall, used, rows = bench.asked(server, job)
+                    except servers.Failed:
+                        if column == PLAIN:
+                            continue
+                        raise
                 away = sum(int(row[5]) for row in rows)
                 found.setdefault((job, column), []).append((wall, used, len(rows) / wall, percentile(rows, 0.5), percentile(rows, 0.99), away))
     return {key: [statistics.median(column) for column in zip(*runs)] for key, runs in found.items()}
 
 
-def table(title, jobs, names, cell):
+def table(title, jobs, names, medians, cell):
+    """A row for each job, a column for each server; a server that kept a viewer waiting until it gave up has no figure there."""
     if not names:
         return
     print(f"\n**{title}**\n\n| | {' | '.join(names)} |\n|---|{'---|' * len(names)}")
     for job in jobs:
-        print(f"| {job} | {' | '.join(cell(job, name) for name in names)} |")
+        print(f"| {job} | {' | '.join(cell(job, name) if (job, name) in medians else 'gave up' for name in names)} |")
 
 
 def limits(jobs, names, medians):
@@ -250,7 +261,7 @@ def limits(jobs, names, medians):
             passed.append(f"{job}: {wall:.2f} of the time of {name}, above {LIMITS[job]}")
         return f"{wall:.2f} ({used:.2f})"
 
-    table("This program's wall time as a part of each other's (and processor time)", jobs, [name for name in names if name != OWN], part)
+    table("This program's wall time as a part of each other's (and processor time)", jobs, [name for name in names if name != OWN], medians, part)
     job, most = SPREAD
     if job in jobs and (value := medians[job, OWN][4] / medians[job, OWN][3]) > most:
         passed.append(f"{job}: the 99th percentile is {value:.1f} of the 50th, above {most}")
@@ -300,10 +311,10 @@ def main():
         print(f"{len(wrong)} wrong answers" if not args.unchecked else "answers not compared", flush=True)
         medians, names = measured(bench, jobs, columns), list(columns)
         print(f"load after: {compare.load()}")
-        table("Wall time, s (and processor time)", jobs, names, lambda job, name: "{:.2f} ({:.2f})".format(*medians[job, name][:2]))
-        table("Requests a second", jobs, names, lambda job, name: f"{medians[job, name][2]:,.0f}")
-        table("50th and 99th percentile, ms", jobs, names, lambda job, name: "{:.1f}, {:.1f}".format(*medians[job, name][3:5]))
-        table("Connections closed unanswered", jobs, names, lambda job, name: f"{medians[job, name][5]:.0f}")
+        table("Wall time, s (and processor time)", jobs, names, medians, lambda job, name: "{:.2f} ({:.2f})".format(*medians[job, name][:2]))
+        table("Requests a second", jobs, names, medians, lambda job, name: f"{medians[job, name][2]:,.0f}")
+        table("50th and 99th percentile, ms", jobs, names, medians, lambda job, name: "{:.1f}, {:.1f}".format(*medians[job, name][3:5]))
+        table("Connections closed unanswered", jobs, names, medians, lambda job, name: f"{medians[job, name][5]:.0f}")
         passed = limits(jobs, names, medians)
         if args.nodes:
             wrong += nodes(bench, [1, *args.nodes])
