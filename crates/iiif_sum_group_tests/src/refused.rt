@@ -86,7 +86,7 @@ fn key_twice(alloc: Global) -> Option<SumKey> {
     }
 }
 
-/// The sums of a key are right, and once more as they are kept. Whether memory was wanted the first time.
+/// The sums of a key are right, and once more as they are kept. Whether memory was wanted for one of them.
 fn right_twice<R: Wait + Abort, J: System>(
     rt: &R,
     groups: &Alone<R, Fused, J, NoGate>,
@@ -95,10 +95,10 @@ fn right_twice<R: Wait + Abort, J: System>(
     let mut passes = passes_twice(rt, groups).ok_or("no pass")?;
     let (refused, first) = asked_twice(rt, groups, &mut passes, key)?;
     let before = groups.sums().book(rt).hits;
-    let (_, second) = asked_twice(rt, groups, &mut passes, key)?;
+    let (again, second) = asked_twice(rt, groups, &mut passes, key)?;
     assert!(rt; first == HALVED && second == HALVED);
     assert!(rt; before < groups.sums().book(rt).hits);
-    Ok(refused)
+    Ok(refused || again)
 }
 
 /// The whole picture's sums, once more where memory was wanted, and then as they are kept. Whether it was, and the books of the tiles
