@@ -142,12 +142,23 @@ fn are_whole(near: Book, far: Book) -> bool {
     near == all_load(4, 0) && far == hit
 }
 
+/// Whether these are the books where the cache wanted memory for the picture's sums, which were answered all the same: the second call
+/// makes them anew of its parts, which are kept.
+fn are_made_anew(near: Book, far: Book) -> bool {
+    let anew = Book {
+        gets: 10,
+        hits: 4,
+        ..all_load(6, 0)
+    };
+    near == all_load(4, 0) && far == anew
+}
+
 #[test]
 fn sums_and_books_are_right_after_a_refused_growth(rt: HostRuntime) -> Result<(), Fail> {
     let catalogue = sample_twice(&rt, rt.alloc()).ok_or("no catalogue")?;
     let (tiles, sums) = (Blank::new(65_537), Blank::new(65_537));
     let (refused, near, far) = called::<_, Brand>(&rt, rt.alloc(), catalogue, tiles, sums)?;
     assert!(rt; is_settled(&near) && is_settled(&far));
-    assert!(rt; refused || are_whole(near, far));
+    assert!(rt; refused || are_whole(near, far) || are_made_anew(near, far));
     Ok(())
 }
