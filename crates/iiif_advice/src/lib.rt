@@ -14,23 +14,31 @@ fn unsupported(tag: u16) -> &'static str
     ensures some { 0 < length result.now }
 {
     match tag {
-        tag::COMPRESSION => "its samples are compressed: tiffcp -c none IN.tif OUT.tif",
+        tag::COMPRESSION => {
+            "Compression (259): its samples are compressed: tiffcp -c none IN.tif OUT.tif"
+        }
         tag::BITS_PER_SAMPLE => {
-            "a sample has neither 1, 8 nor 16 bits: vips cast IN.tif OUT.tif uchar"
+            "BitsPerSample (258): a sample has neither 1, 8 nor 16 bits: vips cast IN.tif OUT.tif uchar"
         }
-        tag::SAMPLE_FORMAT => "its samples are signed or floats: vips cast IN.tif OUT.tif uchar",
+        tag::SAMPLE_FORMAT => {
+            "SampleFormat (339): its samples are signed or floats: vips cast IN.tif OUT.tif uchar"
+        }
         tag::SAMPLES_PER_PIXEL => {
-            "it has alpha or is CMYK: vips flatten IN.tif OUT.tif, or vips colourspace IN.tif OUT.tif srgb"
+            "SamplesPerPixel (277): it has alpha or is CMYK: vips flatten IN.tif OUT.tif, or vips colourspace IN.tif OUT.tif srgb"
         }
-        tag::EXTRA_SAMPLES => "it has extra samples: vips extract_band IN.tif OUT.tif 0",
+        tag::EXTRA_SAMPLES => {
+            "ExtraSamples (338): it has extra samples: vips extract_band IN.tif OUT.tif 0"
+        }
         tag::PHOTOMETRIC_INTERPRETATION => {
-            "it is neither gray nor RGB, as a palette: vips colourspace IN.tif OUT.tif srgb"
+            "PhotometricInterpretation (262): it is neither gray nor RGB, as a palette: vips colourspace IN.tif OUT.tif srgb"
         }
         tag::PLANAR_CONFIGURATION => {
-            "its channels stand in planes: tiffcp -c none -p contig IN.tif OUT.tif"
+            "PlanarConfiguration (284): its channels stand in planes: tiffcp -c none -p contig IN.tif OUT.tif"
         }
-        tag::FILL_ORDER => "its bits stand low first: tiffcp -c none -f msb2lsb IN.tif OUT.tif",
-        tag::ORIENTATION => "it is turned: vips autorot IN.tif OUT.tif",
+        tag::FILL_ORDER => {
+            "FillOrder (266): its bits stand low first: tiffcp -c none -f msb2lsb IN.tif OUT.tif"
+        }
+        tag::ORIENTATION => "Orientation (274): it is turned: vips autorot IN.tif OUT.tif",
         _ => "a field has a value that isn't read: vips copy IN.tif OUT.tif",
     }
 }
@@ -46,7 +54,7 @@ pub fn advice(fault: &OpenFault) -> &'static str
         }
         OpenFault::Truncated => "it ends too early: fetch it again",
         OpenFault::Missing(tag::PHOTOMETRIC_INTERPRETATION) => {
-            "it doesn't say whether 0 is black: tiffset -s 262 1 FILE.tif says so"
+            "PhotometricInterpretation (262): it doesn't say whether 0 is black: tiffset -s 262 1 FILE.tif says so"
         }
         OpenFault::Missing(_) => {
             "it lacks a field that it needs: tiffcp -c none IN.tif OUT.tif writes it anew"

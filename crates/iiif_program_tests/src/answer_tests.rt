@@ -71,7 +71,8 @@ fn files_that_are_no_images_are_named(rt: HostRuntime) -> Result<(), Fail> {
     }
     fs::write(&rt, "packed.tif", &packed)?;
     let (status, out, err) = run(&rt, &["--base", BASE, "--one", WHOLE, "a=packed.tif"])?;
-    let lines: &[u8] = b"image a: 4\nits samples are compressed: tiffcp -c none IN.tif OUT.tif\n";
+    let lines: &[u8] =
+        b"image a: 4\nCompression (259): its samples are compressed: tiffcp -c none IN.tif OUT.tif\n";
     assert_eq!(rt; err.as_slice(), lines);
     assert_eq!(rt; (status, out.len()), (2, 0));
     // BitsPerSample, the third entry, is 16 in place of 8: the strip's 16 bytes are half of the need.

@@ -128,17 +128,19 @@ fn addresses_that_are_none_end_the_program(rt: HostRuntime) -> Result<(), Fail> 
     let alloc = rt.alloc();
     let listener = TcpListener::bind(&rt, "127.0.0.1:0")?;
     let taken = address_of(alloc, &listener)?;
-    let cases: [(&str, Option<&str>); 4] = [
-        (taken.as_str(), None),
-        ("nowhere", None),
-        ("127.0.0.1:0", Some(taken.as_str())),
-        ("127.0.0.1:0", Some("127.0.0.1")),
+    let cases: [(&str, &str, &str); 6] = [
+        (taken.as_str(), "", ""),
+        ("nowhere", "", ""),
+        ("127.0.0.1:0", "--peer-listen", taken.as_str()),
+        ("127.0.0.1:0", "--peer-listen", "127.0.0.1"),
+        ("127.0.0.1:0", "--stats-listen", taken.as_str()),
+        ("127.0.0.1:0", "--stats-listen", "nowhere"),
     ];
-    for (viewers, peers) in cases {
+    for (viewers, option, address) in cases {
         let mut words = Vec::from_slice(alloc, &["--base", BASE, "--listen", viewers])?;
-        if let Some(peers) = peers {
-            words.push("--peer-listen")?;
-            words.push(peers)?;
+        if !option.is_empty() {
+            words.push(option)?;
+            words.push(address)?;
         }
         words.push("a=:sample")?;
         let (status, out, err) = run(&rt, &words)?;

@@ -3,6 +3,7 @@
 use crate::files::{DEEP, RGB, SAMPLE_FILE, WHITE};
 use crate::nodes::{SAMPLE, Scene, asked, serve};
 use crate::run::{BASE, WHOLE, first_line, run};
+use iiif_image_list::ImageList;
 use iiif_io::fakes::FailingWriter;
 use iiif_listener::stop;
 use iiif_open_files::Opens;
@@ -243,21 +244,21 @@ where
     right
 }
 
-#[test]
-fn three_hundred_images_under_four_open_files(rt: HostRuntime) -> Result<(), Fail> {
-    let alloc = rt.alloc();
-    let mut words = Vec::new(alloc);
-    for number in 0..MANY {
-        let path = format!(in alloc; "option_many_{number}.tif")?;
-        fs::write(&rt, path.as_str(), &numbered(number))?;
-        words.push((format!(in alloc; "n{number}")?, path))?;
-    }
-    let mut images = Vec::new(alloc);
-    for (name, path) in &words {
-        images.push((name.as_str(), path.as_str()))?;
-    }
-    assert_eq!(rt; rightly_served(&rt, alloc, &images), Some(MANY));
-    Ok(())
+/// How many images of a list are answered as their own files by a node over loopback.
+fn rightly_served_of<R>(rt: &R, alloc: Global, list: &[u8]) -> Option<u16>
+where
+    R: Opens
+        + Net<Listener = TcpListener, Stream = TcpStream>
+        + Threads
+        + Wait
+        + Clock
+        + Sync
+        + AllocGlobal,
+{
+    let mut images = ImageList::new(alloc);
+    images.add_text(list).ok()?;
+    let images = images.into_pairs(alloc).ok()?;
+    rightly_served(rt, alloc, &images)
 }
 
 #[test]
@@ -270,6 +271,7 @@ fn images_of_a_long_list_under_four_open_files(rt: HostRuntime) -> Result<(), Fa
         let line = format!(in alloc; "n{number}={path}\n")?;
         list.push_str(line.as_str())?;
     }
+    assert_eq!(rt; rightly_served_of(&rt, alloc, list.as_bytes()), Some(MANY));
     fs::write(&rt, "option_long", list.as_bytes())?;
     for number in [0u16, 150, 299] {
         let target = format!(in alloc; "/iiif/n{number}/full/max/0/default.tif")?;
