@@ -1,9 +1,9 @@
 //! What to do about a file that the server can't serve, in plain words.
 #![tactic(auto)]
 
-ghost use Rattle.std.specs.Prelude.{◌≡◌, ◌<◌, true, length};
-ghost use Rattle.std.specs.List.{list_all};
-ghost use Rattle.iiif_advice.specs.Lines.{is_line_byte};
+ghost use Rattle.std.specs.Prelude.{◌≡◌, true, nat_eq};
+ghost use Rattle.std.specs.List.{list_all, starts_with};
+ghost use Rattle.iiif_advice.specs.Lines.{is_line_byte, field_of, cause_of};
 
 use iiif_tiff::tag;
 use iiif_tiff_read::OpenFault;
@@ -11,7 +11,7 @@ use iiif_tiff_read::OpenFault;
 /// What to do about a file whose field of this tag has a value that isn't read.
 fn unsupported(tag: u16) -> &'static str
     ensures one_line { list_all is_line_byte result.now ≡ true }
-    ensures some { 0 < length result.now }
+    ensures named { starts_with nat_eq result.now (field_of tag) ≡ true }
 {
     match tag {
         tag::COMPRESSION => {
@@ -24,7 +24,7 @@ fn unsupported(tag: u16) -> &'static str
             "SampleFormat (339): its samples are signed or floats: vips cast IN.tif OUT.tif uchar"
         }
         tag::SAMPLES_PER_PIXEL => {
-            "SamplesPerPixel (277): it has alpha or is CMYK: vips flatten IN.tif OUT.tif, or vips colourspace IN.tif OUT.tif srgb"
+            "SamplesPerPixel (277): with alpha: vips flatten IN.tif OUT.tif; in CMYK: vips colourspace IN.tif OUT.tif srgb"
         }
         tag::EXTRA_SAMPLES => {
             "ExtraSamples (338): it has extra samples: vips extract_band IN.tif OUT.tif 0"
@@ -46,7 +46,7 @@ fn unsupported(tag: u16) -> &'static str
 /// What to do about a file that is refused: one line, without its end.
 pub fn advice(fault: &OpenFault) -> &'static str
     ensures one_line { list_all is_line_byte result.now ≡ true }
-    ensures some { 0 < length result.now }
+    ensures named { starts_with nat_eq result.now (cause_of fault.now) ≡ true }
 {
     match fault {
         OpenFault::NotTiff => {
