@@ -2,8 +2,8 @@
 
     /usr/bin/python3 bench/compare/figures.py --before /work/before [--rounds 7] [--jobs ..] > figures.md
 
---before is the top of another checkout of the repository. In both the programs of the crates NAME_bench and iiif_serve stand in
-crates/NAME/out, as `rt run` leaves them; a benchmark that isn't built before has no column of it. The plain programs are built by `rustc
+The benchmarks are built first, by `bench/build` (--benches tells where), and iiif_serve by `rt run`. --before is the top of another checkout
+with the programs of both in crates/NAME/out; a benchmark that isn't built before has no column of it. The plain programs are built by `rustc
 -O` first. Then every benchmark is run in turn, --rounds times: this build, the build before, plain Rust, and the two that there are with
 samples of 16 bits; the medians are printed. At last come the whole answers of compare.py. The processor should have nothing else to do.
 
@@ -35,7 +35,7 @@ class Bench:
 
     def commands(self, args):
         """The command of each program, by the name of its column."""
-        lines = {"this build": [self.program(TOP), *self.words]}
+        lines = {"this build": [self.program(args.benches), *self.words]}
         if self.before and args.before and os.path.exists(self.program(args.before)):
             lines["before"] = [self.program(args.before), *self.words]
         if self.plain:
@@ -136,6 +136,7 @@ def table(title, bench, medians):
 def main():
     parser = argparse.ArgumentParser(description=__doc__, formatter_class=argparse.RawDescriptionHelpFormatter)
     parser.add_argument("--before", help="the top of another checkout, whose programs are built")
+    parser.add_argument("--benches", default="/tmp/lifthorg-bench", help="where bench/build built them")
     parser.add_argument("--rounds", type=int, default=7)
     parser.add_argument("--only", default="", help="only benchmarks whose title has this pattern; whole answers are 'Whole answers'")
     parser.add_argument("--jobs", default="", help="only jobs of whole answers whose name has this pattern")

@@ -3,7 +3,7 @@
 ghost use Rattle.std.specs.Prelude.{◌≡◌, ◌<◌};
 ghost use Rattle.iiif_group.specs.Beginning.{open_key};
 
-use crate::scene::{Bar, Pair, TURNS, Tiles, loaded, shape_for, tile};
+use crate::pairs::{Bar, Pair, TURNS, Tiles, loaded, shape_for, tile};
 use iiif_group::{Begun, Open};
 use iiif_keys::{CacheKey, TileKey};
 use iiif_outcome::Receipt;

@@ -1,10 +1,41 @@
-//! Tests of `iiif_group`, which call only what is public: calls of two threads that share a load, that overlap at the gate and at
-//! the owner, and what comes of an owner's replies.
+//! Tests of groups, which call only what is public: calls that share a load, are held at a gate or asked of the key's owner
+//! (`iiif_group`); sums made of their parts (`iiif_sum_group`); what a node replies to others, crossed nodes, cut replies and peers that
+//! lie (`iiif_peer_groups`); and links over TCP and over memory (`iiif_peer_link`).
 #![tactic(auto)]
 
 #[cfg(test)]
+mod alone;
+#[cfg(test)]
+mod call_tests;
+#[cfg(test)]
 mod calls;
 #[cfg(test)]
-mod scene;
+mod crossed_tests;
 #[cfg(test)]
-mod tests;
+mod cut_tests;
+#[cfg(test)]
+mod each_tests;
+#[cfg(test)]
+mod joining_tests;
+#[cfg(test)]
+mod link_keys;
+#[cfg(test)]
+mod link_memory_tests;
+#[cfg(test)]
+mod link_tcp_tests;
+#[cfg(test)]
+mod meeting_tests;
+#[cfg(test)]
+mod messages;
+#[cfg(test)]
+mod pairs;
+#[cfg(test)]
+mod peers;
+#[cfg(test)]
+mod refused_tests;
+#[cfg(test)]
+mod reply_tests;
+#[cfg(test)]
+mod sums_tests;
+#[cfg(test)]
+mod values;

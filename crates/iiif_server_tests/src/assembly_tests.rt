@@ -1,8 +1,8 @@
 //! Images that are made of tiles and blocks, beside those of whole regions; and what their reads do.
 
+use crate::answer_tests::{SAMPLE, WHOLE};
 use crate::nodes::{bodies, body, node_of};
 use crate::reference::plain_render;
-use crate::tests::{SAMPLE, WHOLE};
 use iiif_area::is_scalable;
 use iiif_canonical::Resolved;
 use iiif_pixel::{Depth, Dim, Kind, NoMemory, Quality, Raster, Rect, Span, Turn};

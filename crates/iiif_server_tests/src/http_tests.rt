@@ -1,9 +1,9 @@
 //! Answers to calls and connections, of a node over sources in memory.
 
+use crate::answer_tests::{SAMPLE, WHOLE};
 use crate::nodes::{
     Ask, MemNode, NEVER, answer, answers_of, body, call, ends_of, forgetful, node_of, send_stream,
 };
-use crate::tests::{SAMPLE, WHOLE};
 use http::Method;
 use iiif_http_front::Call;
 use iiif_io::Inlet;

@@ -1,7 +1,7 @@
 //! Answers of a node that scales up.
 
+use crate::answer_tests::SAMPLE;
 use crate::nodes::{MemNode, NEVER, answer, body, larger, node_of};
-use crate::tests::SAMPLE;
 use http::Method;
 use std::sync::Wait;
 use std::test::Fail;

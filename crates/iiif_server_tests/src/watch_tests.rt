@@ -1,7 +1,7 @@
 //! What a watch is told of a connection's answers.
 
+use crate::answer_tests::SAMPLE;
 use crate::nodes::{NEVER, node_of, send_watched};
-use crate::tests::SAMPLE;
 use iiif_http_front::Call;
 use iiif_io::fakes::FailingWriter;
 use iiif_server::{Cut, Sent, Watch};

@@ -1,0 +1,19 @@
+use Rattle.std.specs.Prelude.{true}
+use Rattle.iiif_images.specs.Named.{gave_of, pictures_of}
+use Rattle.iiif_server.specs.Nodes.{stable_of}
+use Rattle.iiif_server_tests.specs.Fused.{bytes_of, keeps_of, fused_gave}
+use Rattle.iiif_server_tests.proofs.bands.body.Given as goal
+
+-- what the catalogue shows, and the ledgers that were just made; no other node is asked
+abbrev pub ghosts-answered_by : goal.ghosts-answered_by
+ghosts-answered_by g a = record {
+  pictures = pictures_of bytes_of a.images;
+  edge = a.config.edge;
+  gave = gave_of fused_gave a.images;
+  stable = stable_of keeps_of a.images;
+  honest = true;
+  tiles_name = a.tiles.blank.name;
+  tiles_parts = a.tiles.blank.parts;
+  sums_name = a.sums.blank.name;
+  sums_parts = a.sums.blank.parts;
+}
