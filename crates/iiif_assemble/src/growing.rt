@@ -105,8 +105,7 @@ pub(crate) fn grown<T: Items<TileKey, TileVal, P, R> + Sync, P: Send, R: Threads
 {
     merging_adds();
     whole_stays_whole();
-    let run = items.len().div_ceil(passes.len());
-    let values = gathered(rt, alloc, group, passes, keys, items, run)?;
+    let values = gathered(rt, alloc, group, passes, keys, items)?;
     let Ok(mut total) = Sums::zero(alloc, from, job.shape.kind) else {
         return Err(Fault::NoMemory);
     };

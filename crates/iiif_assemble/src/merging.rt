@@ -84,8 +84,7 @@ pub(crate) fn summed<S: Items<SumKey, SumVal, P, R> + Sync, P: Send, R: Threads 
 {
     merging_adds();
     whole_stays_whole();
-    let run = items.len().div_ceil(passes.len());
-    let values = gathered(rt, alloc, group, passes, keys, items, run)?;
+    let values = gathered(rt, alloc, group, passes, keys, items)?;
     let Ok(mut total) = Sums::zero(alloc, from, job.shape.kind) else {
         return Err(Fault::NoMemory);
     };

@@ -120,8 +120,7 @@ pub(crate) fn pasted<T: Items<TileKey, TileVal, P, R> + Sync, P: Send, R: Thread
 {
     whole_stays_whole();
     crop_of_crop();
-    let run = items.len().div_ceil(passes.len());
-    let values = gathered(rt, alloc, group, passes, keys, items, run)?;
+    let values = gathered(rt, alloc, group, passes, keys, items)?;
     let Ok(mut raster) = Raster::new(alloc, from.dim(), job.shape.kind, job.shape.depth) else {
         return Err(Fault::NoMemory);
     };

@@ -102,11 +102,15 @@ pub fn send_image<
     };
     let mut sent = 0u64;
     let mut held = 0u64;
+    let mut before: &[usize] = &[];
     for band in &bands {
-        match put_band(rt, alloc, tiles, sums, passes, job, kind, band, &mut text) {
+        match put_band(
+            rt, alloc, tiles, sums, passes, job, kind, band, before, &mut text,
+        ) {
             Ok(most) => held = held.max(most),
             Err(fault) => return Err(Stopped::Load(sent, fault)),
         }
+        before = band.items.as_slice();
         match send(out, &text) {
             Ok(()) => sent += text.len() as u64,
             Err(more) => return Err(Stopped::Writer(sent + more)),

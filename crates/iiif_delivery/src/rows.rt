@@ -29,7 +29,8 @@ pub(crate) fn laws_of_bands()
 }
 
 /// Makes a band of the image of a job, and appends its rows to a text; says how many samples and sums were held at once. The band
-/// is gone then, but for its rows.
+/// is gone then, but for its rows. Where it is made of the items of the band `before`, which are at hand then, one worker asks for them,
+/// so that no thread is started for what is found at once.
 pub(crate) fn put_band<
     T: Items<TileKey, TileVal, P, R> + Sync,
     S: Items<SumKey, SumVal, P, R> + Sync,
@@ -44,6 +45,7 @@ pub(crate) fn put_band<
     job: &Job,
     kind: OutKind,
     band: &Band,
+    before: &[usize],
     text: &mut Vec<u8>,
 ) -> Result<u64, Fault>
     requires some { 0 < length passes.old }
@@ -59,7 +61,12 @@ pub(crate) fn put_band<
     ensures fault { IfErr result (λ f. (f ≡ Fault.NoMemory)
         ⊎ IsBandFault (T.means tiles.now) (T.failed tiles.now) (S.means sums.now) (S.failed sums.now) job.now.plan band.now.items.items f) }
 {
-    match assemble_band(rt, alloc, tiles, sums, passes, job, band) {
+    let workers = if band.items.as_slice() == before {
+        1
+    } else {
+        passes.len()
+    };
+    match assemble_band(rt, alloc, tiles, sums, &mut passes[..workers], job, band) {
         Ok(made) => {
             made.raster.is_whole();
             match put_rows(&made.raster, kind, text) {

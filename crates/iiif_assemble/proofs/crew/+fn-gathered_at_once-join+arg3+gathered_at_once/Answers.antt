@@ -2,7 +2,7 @@ use Rattle.std.proofs.Common.{map}
 use Rattle.std.specs.Arc.{arc_value}
 use Rattle.std.proofs.lemmas.Result.{IfOk-weaker}
 use Rattle.iiif_assemble.proofs.ZipLemmas.{runs_joined, second_failed}
-use Rattle.iiif_assemble.proofs.crew.+fn-gathered-join+arg3+gathered.Goals as goal
+use Rattle.iiif_assemble.proofs.crew.+fn-gathered_at_once-join+arg3+gathered_at_once.Goals as goal
 
 pub returns-in-Ok-rest-clause-values : goal.returns-in-Ok-rest-clause-values
 returns-in-Ok-rest-clause-values g t c =
