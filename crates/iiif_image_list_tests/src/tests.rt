@@ -5,41 +5,113 @@ use std::alloc::Global;
 use std::process::Abort;
 use std::test::Fail;
 
-/// That a list has these images, in this order.
-fn has_images(rt: &impl Abort, list: &ImageList<'_>, images: &[(&str, &str)]) {
+/// A call of a list, and what is to come of it.
+#[derive(Clone, Copy)]
+enum Step {
+    /// A word names an image.
+    Word(&'static str),
+    /// A word is refused.
+    Refused(&'static str, Fault),
+    /// A word names an image, once more where memory was wanting.
+    WordAgain(&'static str),
+    /// The lines of a text name images, once more where memory was wanting, which is told of the first line.
+    TextAgain(&'static [u8]),
+    /// Whether there is an image of a name.
+    Has(&'static str, bool),
+    /// The images, in order.
+    Images(&'static [(&'static str, &'static str)]),
+}
+
+/// Whether a list has just these images, in this order.
+fn has_images(list: &ImageList<'_>, images: &[(&str, &str)]) -> bool {
     let mut rest = images.iter();
     for (name, file) in list.iter() {
-        assert_eq!(rt; rest.next(), Some(&(*name, *file)));
+        if rest.next() != Some(&(*name, *file)) {
+            return false;
+        }
     }
-    assert!(rt; rest.next().is_none());
+    rest.next().is_none()
+}
+
+/// Whether a word names an image, once more where memory was wanting.
+fn is_named_again(list: &mut ImageList<'static>, word: &'static str) -> bool {
+    match list.add(word) {
+        Ok(()) => true,
+        Err(fault) => fault == Fault::NoMemory && list.add(word) == Ok(()),
+    }
+}
+
+/// Whether the lines of a text name images, once more where memory was wanting: that is told of the first line, and nothing is
+/// named then.
+fn goes_on(list: &mut ImageList<'static>, text: &'static [u8]) -> bool {
+    match list.add_text(text) {
+        Ok(()) => true,
+        Err(stop) => {
+            let told = stop.fault == Fault::NoMemory && stop.line == 1;
+            told && has_images(list, &[]) && list.add_text(text) == Ok(())
+        }
+    }
+}
+
+/// Whether a step comes to what it is to.
+fn is_right(list: &mut ImageList<'static>, step: Step) -> bool {
+    match step {
+        Step::Word(word) => list.add(word) == Ok(()),
+        Step::Refused(word, fault) => list.add(word) == Err(fault),
+        Step::WordAgain(word) => is_named_again(list, word),
+        Step::TextAgain(text) => goes_on(list, text),
+        Step::Has(name, has) => list.has(name) == has,
+        Step::Images(images) => has_images(list, images),
+    }
+}
+
+/// Each step of an empty list comes to what it is to.
+fn run(rt: &impl Abort, alloc: Global, steps: &[Step]) {
+    let mut list = ImageList::new(alloc);
+    for (place, step) in steps.iter().enumerate() {
+        assert!(rt; is_right(&mut list, *step), "step {place}");
+    }
+}
+
+const WORDS: [Step; 13] = [
+    Step::Word("a=one.tif"),
+    Step::Refused("b", Fault::Parts),
+    Step::Refused("", Fault::Parts),
+    Step::Refused("=one.tif", Fault::Name),
+    Step::Refused("a=two.tif", Fault::Twice),
+    Step::Word("b==two=.tif"),
+    Step::Word(" a="),
+    Step::Word("#=:sample"),
+    Step::Images(&IMAGES),
+    Step::Has("a", true),
+    Step::Has("#", true),
+    Step::Has("c", false),
+    Step::Has("", false),
+];
+
+/// The images of these words.
+const IMAGES: [(&str, &str); 4] = [
+    ("a", "one.tif"),
+    ("b", "=two=.tif"),
+    (" a", ""),
+    ("#", ":sample"),
+];
+
+/// Whether those steps, one after another, make the pairs of these images.
+fn make_pairs(alloc: Global, steps: &[Step], images: &[(&str, &str)]) -> Result<bool, Fail> {
+    let mut list = ImageList::new(alloc);
+    for step in steps {
+        if !is_right(&mut list, *step) {
+            return Ok(false);
+        }
+    }
+    Ok(list.into_pairs(alloc)?.as_slice() == images)
 }
 
 #[test]
 fn words_name_images_once(rt: HostRuntime) -> Result<(), Fail> {
-    let mut list = ImageList::new(rt.alloc());
-    for (word, answer) in [
-        ("a=one.tif", Ok(())),
-        ("b", Err(Fault::Parts)),
-        ("", Err(Fault::Parts)),
-        ("=one.tif", Err(Fault::Name)),
-        ("a=two.tif", Err(Fault::Twice)),
-        ("b==two=.tif", Ok(())),
-        (" a=", Ok(())),
-        ("#=:sample", Ok(())),
-    ] {
-        assert_eq!(rt; list.add(word), answer, "{word}");
-    }
-    let images = [
-        ("a", "one.tif"),
-        ("b", "=two=.tif"),
-        (" a", ""),
-        ("#", ":sample"),
-    ];
-    has_images(&rt, &list, &images);
-    assert!(rt; list.has("a") && list.has("#"));
-    assert!(rt; !list.has("c") && !list.has(""));
-    let pairs = list.into_pairs(rt.alloc())?;
-    assert_eq!(rt; pairs.as_slice(), images.as_slice());
+    run(&rt, rt.alloc(), &WORDS);
+    assert!(rt; make_pairs(rt.alloc(), &WORDS, &IMAGES)?);
     Ok(())
 }
 
@@ -53,15 +125,17 @@ fn word_with_name_of(alloc: Global, bytes: u32) -> Result<String, Fail> {
     Ok(word)
 }
 
+/// Whether a word is refused for its name, and another is taken after it.
+fn is_longer(alloc: Global, longer: &str, longest: &str) -> bool {
+    let mut list = ImageList::new(alloc);
+    list.add(longer) == Err(Fault::Name) && list.add(longest) == Ok(())
+}
+
 #[test]
 fn name_has_up_to_1024_bytes(rt: HostRuntime) -> Result<(), Fail> {
-    let (longest, longer) = (
-        word_with_name_of(rt.alloc(), 1024)?,
-        word_with_name_of(rt.alloc(), 1025)?,
-    );
-    let mut list = ImageList::new(rt.alloc());
-    assert_eq!(rt; list.add(longer.as_str()), Err(Fault::Name));
-    assert_eq!(rt; list.add(longest.as_str()), Ok(()));
+    let longest = word_with_name_of(rt.alloc(), 1024)?;
+    let longer = word_with_name_of(rt.alloc(), 1025)?;
+    assert!(rt; is_longer(rt.alloc(), longer.as_str(), longest.as_str()));
     Ok(())
 }
 
@@ -79,37 +153,47 @@ const TEXTS: [(&str, &[(&str, &str)]); 7] = [
     ("a=b\rc=d\r\n\re=f\r", &[("a", "b\rc=d"), ("\re", "f\r")]),
 ];
 
-#[test]
-fn lines_of_a_text_name_images(rt: HostRuntime) -> Result<(), Fail> {
-    for (text, images) in TEXTS {
-        let mut list = ImageList::new(rt.alloc());
-        assert_eq!(rt; list.add_text(text.as_bytes()), Ok(()), "{text}");
-        has_images(&rt, &list, images);
-    }
-    Ok(())
+/// Whether the lines of a text name just these images.
+fn names(alloc: Global, text: &str, images: &[(&str, &str)]) -> bool {
+    let mut list = ImageList::new(alloc);
+    list.add_text(text.as_bytes()) == Ok(()) && has_images(&list, images)
 }
 
 #[test]
-fn first_line_at_fault_is_told(rt: HostRuntime) -> Result<(), Fail> {
-    let cases: [(&[u8], u64, Fault); 9] = [
-        (b"first=x\n", 1, Fault::Twice),
-        (b"a", 1, Fault::Parts),
-        (b"a=b\n\n \nc=d", 3, Fault::Parts),
-        (b"a=b\r\n=c\r\n", 2, Fault::Name),
-        (b"a=b\n# a\na=c\nd\n", 3, Fault::Twice),
-        (b"a=b\nfirst=c", 2, Fault::Twice),
-        (b"\xff", 1, Fault::Encoding),
-        (b"d\nd\n# \xc3\n", 3, Fault::Encoding),
-        (b"a=b\n\xc3", 2, Fault::Encoding),
-    ];
-    for (text, line, fault) in cases {
-        let mut list = ImageList::new(rt.alloc());
-        assert_eq!(rt; list.add("first=one.tif"), Ok(()));
-        assert_eq!(rt; list.add_text(text), Err(LineFault { line, fault }));
-        assert_eq!(rt; list.has("a"), line > 1 && fault != Fault::Encoding);
-        assert!(rt; list.has("first"));
+fn lines_of_a_text_name_images(rt: HostRuntime) {
+    for (text, images) in TEXTS {
+        assert!(rt; names(rt.alloc(), text, images), "{text}");
     }
-    Ok(())
+}
+
+/// Texts, their first line at fault, and why it is, where there is an image named `first`.
+const FAULTS: [(&[u8], u64, Fault); 9] = [
+    (b"first=x\n", 1, Fault::Twice),
+    (b"a", 1, Fault::Parts),
+    (b"a=b\n\n \nc=d", 3, Fault::Parts),
+    (b"a=b\r\n=c\r\n", 2, Fault::Name),
+    (b"a=b\n# a\na=c\nd\n", 3, Fault::Twice),
+    (b"a=b\nfirst=c", 2, Fault::Twice),
+    (b"\xff", 1, Fault::Encoding),
+    (b"d\nd\n# \xc3\n", 3, Fault::Encoding),
+    (b"a=b\n\xc3", 2, Fault::Encoding),
+];
+
+/// Whether a text's line is refused so behind an image named `first`, which stays. The lines before it name images, of a text that is
+/// UTF-8.
+fn is_refused(alloc: Global, text: &[u8], line: u64, fault: Fault) -> bool {
+    let mut list = ImageList::new(alloc);
+    list.add("first=one.tif") == Ok(())
+        && list.add_text(text) == Err(LineFault { line, fault })
+        && list.has("a") == (line > 1 && fault != Fault::Encoding)
+        && list.has("first")
+}
+
+#[test]
+fn first_line_at_fault_is_told(rt: HostRuntime) {
+    for (place, (text, line, fault)) in FAULTS.iter().enumerate() {
+        assert!(rt; is_refused(rt.alloc(), text, *line, *fault), "text {place}");
+    }
 }
 
 #[test]
@@ -119,45 +203,52 @@ fn faults_are_said_in_words(rt: HostRuntime) -> Result<(), Fail> {
         fault: Fault::Twice,
     };
     let text = format!(in rt.alloc(); "{fault}")?;
-    assert_eq!(rt; text.as_str(), "line 12: there is an image of that name");
+    assert!(rt; text.as_str() == "line 12: there is an image of that name");
     Ok(())
 }
 
 #[test]
-fn image_is_named_after_a_refused_growth(rt: HostRuntime) -> Result<(), Fail> {
-    let mut list = ImageList::new(rt.alloc());
-    for word in ["a=b", "c=d", "e=f"] {
-        if list.add(word) == Err(Fault::NoMemory) {
-            assert_eq!(rt; list.add(word), Ok(()), "{word}");
-        }
-    }
-    has_images(&rt, &list, &[("a", "b"), ("c", "d"), ("e", "f")]);
-    Ok(())
+fn image_is_named_after_a_refused_growth(rt: HostRuntime) {
+    let steps = [
+        Step::WordAgain("a=b"),
+        Step::WordAgain("c=d"),
+        Step::WordAgain("e=f"),
+        Step::Images(&[("a", "b"), ("c", "d"), ("e", "f")]),
+    ];
+    run(&rt, rt.alloc(), &steps);
 }
 
 #[test]
-fn text_goes_on_after_a_refused_growth(rt: HostRuntime) -> Result<(), Fail> {
-    let mut list = ImageList::new(rt.alloc());
-    if let Err(stop) = list.add_text(b"a=b\nc=d\n") {
-        assert_eq!(rt; stop.fault, Fault::NoMemory);
-        assert_eq!(rt; stop.line, 1);
-        has_images(&rt, &list, &[]);
-        assert_eq!(rt; list.add_text(b"a=b\nc=d\n"), Ok(()));
+fn text_goes_on_after_a_refused_growth(rt: HostRuntime) {
+    let steps = [
+        Step::TextAgain(b"a=b\nc=d\n"),
+        Step::Images(&[("a", "b"), ("c", "d")]),
+    ];
+    run(&rt, rt.alloc(), &steps);
+}
+
+/// A text that names the images `scan-0` to `scan-19999`.
+fn twenty_thousand_lines(alloc: Global) -> Result<String, Fail> {
+    let mut text = String::new(alloc);
+    for number in 0..20_000u32 {
+        text.push_str(format!(in alloc; "scan-{number}=/scans/{number}.tif\n")?.as_str())?;
     }
-    has_images(&rt, &list, &[("a", "b"), ("c", "d")]);
-    Ok(())
+    Ok(text)
+}
+
+/// Whether all images of that text are named, and no word names one of them again.
+fn tells_them_apart(alloc: Global, text: &str) -> bool {
+    let mut list = ImageList::new(alloc);
+    list.add_text(text.as_bytes()) == Ok(())
+        && list.has("scan-0")
+        && list.has("scan-19999")
+        && list.add("scan-7=x") == Err(Fault::Twice)
+        && list.add("scan-20000=x") == Ok(())
 }
 
 #[test]
 fn twenty_thousand_names_are_told_apart(rt: HostRuntime) -> Result<(), Fail> {
-    let mut text = String::new(rt.alloc());
-    for number in 0..20_000u32 {
-        text.push_str(format!(in rt.alloc(); "scan-{number}=/scans/{number}.tif\n")?.as_str())?;
-    }
-    let mut list = ImageList::new(rt.alloc());
-    assert_eq!(rt; list.add_text(text.as_bytes()), Ok(()));
-    assert!(rt; list.has("scan-0") && list.has("scan-19999"));
-    assert_eq!(rt; list.add("scan-7=x"), Err(Fault::Twice));
-    assert_eq!(rt; list.add("scan-20000=x"), Ok(()));
+    let text = twenty_thousand_lines(rt.alloc())?;
+    assert!(rt; tells_them_apart(rt.alloc(), text.as_str()));
     Ok(())
 }

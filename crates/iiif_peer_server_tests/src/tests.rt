@@ -37,18 +37,32 @@ fn reader(bytes: &[u8], piece: usize, reads: usize) -> FailingReader<'_> {
 }
 
 /// What is written for such an input, and how many asks were answered.
-fn served(
+fn served(rt: &HostRuntime, input: &[u8], piece: usize, reads: usize) -> (Vec<u8>, u32) {
+    let alloc = rt.alloc();
+    let mut out = Vec::new(alloc);
+    let mut count = 0u32;
+    serve_peer(
+        rt,
+        alloc,
+        &Own,
+        &mut count,
+        &mut reader(input, piece, reads),
+        &mut out,
+    );
+    (out, count)
+}
+
+/// Whether just this is written for such an input, and so many asks are answered.
+fn is_served(
     rt: &HostRuntime,
     input: &[u8],
     piece: usize,
     reads: usize,
-) -> Result<(Vec<u8>, u32), Fail> {
-    let alloc = rt.alloc();
-    let mut out: Vec<u8> = Vec::new(alloc);
-    let mut count = 0u32;
-    let mut asked = reader(input, piece, reads);
-    serve_peer(rt, alloc, &Own, &mut count, &mut asked, &mut out);
-    Ok((out, count))
+    written: &[u8],
+    count: u32,
+) -> bool {
+    let (out, seen) = served(rt, input, piece, reads);
+    seen == count && out.as_slice() == written
 }
 
 /// The version of the ask of a number: the odd ones are of the second.
@@ -84,23 +98,29 @@ fn right_replies(alloc: Global, output: &[u8], most: u32) -> (u32, bool) {
     (right, back.left.is_empty())
 }
 
+/// Whether so many of these asks are answered, in order, and nothing more is written.
+fn is_answered(rt: &HostRuntime, count: u32, piece: usize, answered: u32) -> Result<bool, Fail> {
+    let input = asks(rt.alloc(), count)?;
+    let (out, seen) = served(rt, input.as_slice(), piece, 1_000_000);
+    Ok(seen == answered && right_replies(rt.alloc(), out.as_slice(), 1001) == (answered, true))
+}
+
+/// Counts of asks, in how large pieces they come, and how many are answered.
+const COUNTS: [(u32, usize, u32); 6] = [
+    (0, 1, 0),
+    (3, 1, 3),
+    (3, 7, 3),
+    (3, 4096, 3),
+    (1000, 4096, 1000),
+    (1001, 4096, 1000),
+];
+
 #[test]
 fn thousand_asks_are_answered_in_order_and_no_more(rt: HostRuntime) -> Result<(), Fail> {
-    let alloc = rt.alloc();
-    for (count, piece, answered) in [
-        (0, 1, 0u32),
-        (3, 1, 3),
-        (3, 7, 3),
-        (3, 4096, 3),
-        (1000, 4096, 1000),
-        (1001, 4096, 1000),
-    ] {
-        let (output, seen) = served(&rt, asks(alloc, count)?.as_slice(), piece, 1_000_000)?;
-        assert_eq!(rt; seen, answered, "{count} asks");
-        assert_eq!(rt;
-            right_replies(alloc, output.as_slice(), 1001),
-            (answered, true),
-            "{count} asks"
+    for (count, piece, answered) in COUNTS {
+        assert!(rt;
+            is_answered(&rt, count, piece, answered)?,
+            "{count} asks by {piece}"
         );
     }
     Ok(())
@@ -121,11 +141,8 @@ const TWO_REPLIES: [u8; 97] = [
 ];
 
 #[test]
-fn each_ask_is_answered_in_its_version(rt: HostRuntime) -> Result<(), Fail> {
-    let (output, count) = served(&rt, TWO, 4096, 1_000_000)?;
-    assert_eq!(rt; output.as_slice(), TWO_REPLIES.as_slice());
-    assert_eq!(rt; count, 2);
-    Ok(())
+fn each_ask_is_answered_in_its_version(rt: HostRuntime) {
+    assert!(rt; is_served(&rt, TWO, 4096, 1_000_000, &TWO_REPLIES, 2));
 }
 
 /// What is written, and how many asks are answered, where so many bytes came: the asks end after 11 and 23.
@@ -140,44 +157,52 @@ fn whole_before(came: usize) -> (&'static [u8], u32) {
 }
 
 #[test]
-fn asks_cut_after_each_byte(rt: HostRuntime) -> Result<(), Fail> {
+fn asks_cut_after_each_byte(rt: HostRuntime) {
     for cut in 0..=TWO.len() {
-        let (front, _) = TWO.split_at(cut.min(TWO.len()));
         let (written, count) = whole_before(cut);
-        let (output, seen) = served(&rt, front, 3, 1_000_000)?;
-        assert_eq!(rt; output.as_slice(), written, "at {cut}");
-        assert_eq!(rt; seen, count, "at {cut}");
+        assert!(rt;
+            is_served(&rt, &TWO[..cut], 3, 1_000_000, written, count),
+            "at {cut}"
+        );
     }
-    Ok(())
 }
 
 /// What came whole before a read failed is answered.
 #[test]
-fn reader_that_fails_loses_no_ask(rt: HostRuntime) -> Result<(), Fail> {
+fn reader_that_fails_loses_no_ask(rt: HostRuntime) {
     for reads in 0..=TWO.len() {
         let (written, count) = whole_before(reads);
-        let (output, seen) = served(&rt, TWO, 1, reads)?;
-        assert_eq!(rt; output.as_slice(), written, "after {reads}");
-        assert_eq!(rt; seen, count, "after {reads}");
+        assert!(rt;
+            is_served(&rt, TWO, 1, reads, written, count),
+            "after {reads}"
+        );
     }
-    Ok(())
+}
+
+/// Whether a writer with so much room gets just what there is room for.
+fn gets_its_room(rt: &HostRuntime, room: usize) -> bool {
+    let mut out = FailingWriter {
+        taken: Vec::new(rt.alloc()),
+        room,
+        piece: 9,
+    };
+    let mut count = 0u32;
+    serve_peer(
+        rt,
+        rt.alloc(),
+        &Own,
+        &mut count,
+        &mut reader(TWO, 5, 1_000_000),
+        &mut out,
+    );
+    TWO_REPLIES.get(..room) == Some(out.taken.as_slice())
 }
 
 #[test]
-fn writer_that_fails_gets_a_prefix(rt: HostRuntime) -> Result<(), Fail> {
-    let alloc = rt.alloc();
+fn writer_that_fails_gets_a_prefix(rt: HostRuntime) {
     for room in 0..TWO_REPLIES.len() {
-        let mut out = FailingWriter {
-            taken: Vec::new(alloc),
-            room,
-            piece: 9,
-        };
-        let mut count = 0u32;
-        let mut asked = reader(TWO, 5, 1_000_000);
-        serve_peer(&rt, alloc, &Own, &mut count, &mut asked, &mut out);
-        assert_eq!(rt; out.taken.as_slice(), TWO_REPLIES.split_at(room).0);
+        assert!(rt; gets_its_room(&rt, room), "with room for {room}");
     }
-    Ok(())
 }
 
 /// Asks at fault: another magic, a version 3, a group 3, a key of 4,097 bytes. What stands behind them isn't answered.
@@ -190,10 +215,11 @@ const REFUSED: [&[u8]; 5] = [
 ];
 
 #[test]
-fn nothing_follows_an_ask_at_fault(rt: HostRuntime) -> Result<(), Fail> {
-    for input in REFUSED {
-        let (output, count) = served(&rt, input, 4096, 1_000_000)?;
-        assert_eq!(rt; (output.len(), count), (0, 0));
+fn nothing_follows_an_ask_at_fault(rt: HostRuntime) {
+    for (place, input) in REFUSED.iter().enumerate() {
+        assert!(rt;
+            is_served(&rt, input, 4096, 1_000_000, &[], 0),
+            "ask {place}"
+        );
     }
-    Ok(())
 }
