@@ -44,59 +44,40 @@ fn said(alloc: Global, text: &str) -> Result<Result<Request, Refusal>, AllocErro
     Ok(parse(&words))
 }
 
-/// That five words spell a request.
-fn spell(rt: &impl Abort, alloc: Global, text: &str, want: Request) -> Result<(), Fail> {
-    assert_eq!(rt; said(alloc, text)?, Ok(want), "{text}");
-    Ok(())
+/// Whether five words spell a request.
+fn spells(alloc: Global, text: &str, want: Request) -> Result<bool, Fail> {
+    Ok(said(alloc, text)? == Ok(want))
 }
 
-fn spell_region(rt: &impl Abort, alloc: Global, text: &str, region: Region) -> Result<(), Fail> {
+/// Whether a word spells a region.
+fn spells_region(alloc: Global, text: &str, region: Region) -> Result<bool, Fail> {
     let whole = format!(in alloc; "{text}/max/0/default.tif")?;
-    let want = Request { region, ..plain() };
-    spell(rt, alloc, whole.as_str(), want)
+    spells(alloc, whole.as_str(), Request { region, ..plain() })
 }
 
-/// That a form is spelled with and without `^`.
-fn spell_size(rt: &impl Abort, alloc: Global, text: &str, form: Form) -> Result<(), Fail> {
-    let whole = format!(in alloc; "full/{text}/0/default.tif")?;
-    let size = Size { up: false, form };
-    spell(rt, alloc, whole.as_str(), Request { size, ..plain() })?;
-    let whole = format!(in alloc; "full/^{text}/0/default.tif")?;
-    let size = Size { up: true, form };
-    spell(rt, alloc, whole.as_str(), Request { size, ..plain() })
+/// Whether a word, behind `^` where it may scale up, spells a size.
+fn spells_size(alloc: Global, text: &str, up: bool, form: Form) -> Result<bool, Fail> {
+    let caret = if up { "^" } else { "" };
+    let whole = format!(in alloc; "full/{caret}{text}/0/default.tif")?;
+    let size = Size { up, form };
+    spells(alloc, whole.as_str(), Request { size, ..plain() })
 }
 
-/// That degrees are spelled with and without `!`.
-fn spell_rotation(
-    rt: &impl Abort,
+/// Whether a word, behind `!` where it mirrors, spells a rotation.
+fn spells_rotation(
     alloc: Global,
     text: &str,
+    mirror: bool,
     degrees: Decimal,
-) -> Result<(), Fail> {
-    let whole = format!(in alloc; "full/max/{text}/default.tif")?;
-    let mirror = false;
+) -> Result<bool, Fail> {
+    let mark = if mirror { "!" } else { "" };
+    let whole = format!(in alloc; "full/max/{mark}{text}/default.tif")?;
     let rotation = Rotation { mirror, degrees };
-    spell(
-        rt,
-        alloc,
-        whole.as_str(),
-        Request {
-            rotation,
-            ..plain()
-        },
-    )?;
-    let whole = format!(in alloc; "full/max/!{text}/default.tif")?;
-    let mirror = true;
-    let rotation = Rotation { mirror, degrees };
-    spell(
-        rt,
-        alloc,
-        whole.as_str(),
-        Request {
-            rotation,
-            ..plain()
-        },
-    )
+    let want = Request {
+        rotation,
+        ..plain()
+    };
+    spells(alloc, whole.as_str(), want)
 }
 
 /// The texts that a target asks for at the prefix `/iiif`, with a space between each two.
@@ -111,150 +92,171 @@ fn asked(alloc: Global, target: &[u8]) -> Result<String, Fail> {
     }
 }
 
-/// That each of the texts, which stand with a `|` between, spells no region.
-fn refuse_regions(rt: &impl Abort, alloc: Global, texts: &str) -> Result<(), Fail> {
+/// Whether a target asks for this at the prefix `/iiif`, in the words of `asked`.
+fn asks(alloc: Global, target: &[u8], want: &str) -> Result<bool, Fail> {
+    Ok(asked(alloc, target)?.as_str() == want)
+}
+
+/// Whether five words are refused so.
+fn is_refused(alloc: Global, text: &str, refusal: Refusal) -> Result<bool, Fail> {
+    Ok(said(alloc, text)? == Err(refusal))
+}
+
+/// That each of the texts, which stand with a `|` between, is refused so between what stands before and behind it.
+fn refuse(
+    rt: &impl Abort,
+    alloc: Global,
+    (before, texts, behind): (&str, &str, &str),
+    refusal: Refusal,
+) -> Result<(), Fail> {
     for text in texts.split('|') {
-        let whole = format!(in alloc; "{text}/max/0/default.tif")?;
-        assert_eq!(rt;
-            said(alloc, whole.as_str())?,
-            Err(Refusal::Region),
-            "{text}"
-        );
+        let whole = format!(in alloc; "{before}{text}{behind}")?;
+        assert!(rt; is_refused(alloc, whole.as_str(), refusal)?, "{text}");
     }
     Ok(())
+}
+
+/// That each of the texts, which stand with a `|` between, spells no region.
+fn refuse_regions(rt: &impl Abort, alloc: Global, texts: &str) -> Result<(), Fail> {
+    refuse(
+        rt,
+        alloc,
+        ("", texts, "/max/0/default.tif"),
+        Refusal::Region,
+    )
 }
 
 /// The same for sizes.
 fn refuse_sizes(rt: &impl Abort, alloc: Global, texts: &str) -> Result<(), Fail> {
-    for text in texts.split('|') {
-        let whole = format!(in alloc; "full/{text}/0/default.tif")?;
-        assert_eq!(rt; said(alloc, whole.as_str())?, Err(Refusal::Size), "{text}");
-    }
-    Ok(())
+    refuse(rt, alloc, ("full/", texts, "/0/default.tif"), Refusal::Size)
 }
 
 /// The same for rotations.
 fn refuse_rotations(rt: &impl Abort, alloc: Global, texts: &str) -> Result<(), Fail> {
-    for text in texts.split('|') {
-        let whole = format!(in alloc; "full/max/{text}/default.tif")?;
-        assert_eq!(rt;
-            said(alloc, whole.as_str())?,
-            Err(Refusal::Rotation),
-            "{text}"
-        );
-    }
-    Ok(())
+    refuse(
+        rt,
+        alloc,
+        ("full/max/", texts, "/default.tif"),
+        Refusal::Rotation,
+    )
+}
+
+/// Why a target asks for nothing at a prefix; none where it asks for something.
+fn fault(alloc: Global, prefix: &[u8], target: &[u8]) -> Option<SplitFault> {
+    split(alloc, prefix, target).err()
 }
 
 /// That each of the targets, which stand with a space between, asks for nothing at `/iiif`.
 fn refuse_targets(rt: &impl Abort, alloc: Global, targets: &str) {
     for target in targets.split(' ') {
-        let answer = split(alloc, b"/iiif", target.as_bytes());
-        assert_eq!(rt; answer, Err(SplitFault::Path), "{target}");
+        let path = fault(alloc, b"/iiif", target.as_bytes()) == Some(SplitFault::Path);
+        assert!(rt; path, "{target}");
     }
+}
+
+/// That each target asks for what stands beside it.
+fn ask(rt: &impl Abort, alloc: Global, cases: &[(&[u8], &str)]) -> Result<(), Fail> {
+    for (target, want) in cases.iter() {
+        assert!(rt; asks(alloc, target, want)?, "{want}");
+    }
+    Ok(())
 }
 
 #[test]
 fn one_two_and_five_segments_ask_for_something(rt: HostRuntime) -> Result<(), Fail> {
-    let alloc = rt.alloc();
-    assert_eq!(rt; asked(alloc, b"/iiif/a")?.as_str(), "base a");
-    assert_eq!(rt; asked(alloc, b"/iiif/a/info.json")?.as_str(), "info a");
-    let image = asked(alloc, b"/iiif/a/full/max/0/default.tif")?;
-    assert_eq!(rt; image.as_str(), "image a full max 0 default tif");
-    Ok(())
+    let cases: [(&[u8], &str); 3] = [
+        (b"/iiif/a", "base a"),
+        (b"/iiif/a/info.json", "info a"),
+        (
+            b"/iiif/a/full/max/0/default.tif",
+            "image a full max 0 default tif",
+        ),
+    ];
+    ask(&rt, rt.alloc(), &cases)
 }
 
 #[test]
 fn segments_are_decoded_once(rt: HostRuntime) -> Result<(), Fail> {
-    let alloc = rt.alloc();
-    let slash = asked(alloc, b"/iiif/a%2Fb/0%2c0,1%2C1/%5E2,/%210/gr%61y%2Etif")?;
-    assert_eq!(rt; slash.as_str(), "image a/b 0,0,1,1 ^2, !0 gray tif");
-    let raw_caret = asked(alloc, b"/iiif/a%252Fb/0,0,1,1/^2,/!0/gray.tif")?;
-    assert_eq!(rt; raw_caret.as_str(), "image a%2Fb 0,0,1,1 ^2, !0 gray tif");
-    let umlaut = asked(alloc, b"/iiif/%C3%A4%3f/info%2ejson")?;
-    assert_eq!(rt; umlaut.as_str(), "info \u{e4}?");
-    Ok(())
+    let cases: [(&[u8], &str); 3] = [
+        (
+            b"/iiif/a%2Fb/0%2c0,1%2C1/%5E2,/%210/gr%61y%2Etif",
+            "image a/b 0,0,1,1 ^2, !0 gray tif",
+        ),
+        (
+            b"/iiif/a%252Fb/0,0,1,1/^2,/!0/gray.tif",
+            "image a%2Fb 0,0,1,1 ^2, !0 gray tif",
+        ),
+        (b"/iiif/%C3%A4%3f/info%2ejson", "info \u{e4}?"),
+    ];
+    ask(&rt, rt.alloc(), &cases)
 }
 
 #[test]
 fn a_query_is_left_unread(rt: HostRuntime) -> Result<(), Fail> {
-    let alloc = rt.alloc();
-    let image = asked(alloc, b"/iiif/a/full/max/0/default.tif?b/c?d.e%")?;
-    assert_eq!(rt; image.as_str(), "image a full max 0 default tif");
-    assert_eq!(rt; asked(alloc, b"/iiif/a?/info.json")?.as_str(), "base a");
-    Ok(())
+    let cases: [(&[u8], &str); 2] = [
+        (
+            b"/iiif/a/full/max/0/default.tif?b/c?d.e%",
+            "image a full max 0 default tif",
+        ),
+        (b"/iiif/a?/info.json", "base a"),
+    ];
+    ask(&rt, rt.alloc(), &cases)
 }
 
 #[test]
 fn the_last_segment_is_parted_at_its_first_dot(rt: HostRuntime) -> Result<(), Fail> {
-    let alloc = rt.alloc();
-    let twice = asked(alloc, b"/iiif/a/full/max/0/default.tif.tif")?;
-    assert_eq!(rt; twice.as_str(), "image a full max 0 default tif.tif");
-    let none = asked(alloc, b"/iiif/a/full/max/0/default")?;
-    assert_eq!(rt; none.as_str(), "image a full max 0 default ");
-    let empty = asked(alloc, b"/iiif/a////.")?;
-    assert_eq!(rt; empty.as_str(), "image a     ");
-    Ok(())
+    let cases: [(&[u8], &str); 3] = [
+        (
+            b"/iiif/a/full/max/0/default.tif.tif",
+            "image a full max 0 default tif.tif",
+        ),
+        (b"/iiif/a/full/max/0/default", "image a full max 0 default "),
+        (b"/iiif/a////.", "image a     "),
+    ];
+    ask(&rt, rt.alloc(), &cases)
+}
+
+/// Whether a target is the base URI of this identifier at an empty prefix.
+fn is_base(alloc: Global, target: &[u8], want: &str) -> Result<bool, Fail> {
+    match split(alloc, b"", target)? {
+        Target::Base(id) => Ok(id.as_str() == want),
+        _ => Ok(false),
+    }
 }
 
 #[test]
 fn a_prefix_may_be_empty(rt: HostRuntime) -> Result<(), Fail> {
-    let Target::Base(id) = split(rt.alloc(), b"", b"/a")? else {
-        return Err("no base URI")?;
-    };
-    assert_eq!(rt; id.as_str(), "a");
-    assert_eq!(rt; split(rt.alloc(), b"", b"a"), Err(SplitFault::Path));
+    assert!(rt; is_base(rt.alloc(), b"/a", "a")?);
+    assert!(rt; fault(rt.alloc(), b"", b"a") == Some(SplitFault::Path));
     Ok(())
 }
 
 #[test]
 fn other_counts_of_segments_ask_for_nothing(rt: HostRuntime) {
-    let alloc = rt.alloc();
-    refuse_targets(
-        &rt,
-        alloc,
+    for targets in [
         " * / /iiif /iiif?a /iiif/ /iiifa /IIIF/a /other/a /iiif/a/",
-    );
-    refuse_targets(
-        &rt,
-        alloc,
         "/iiif/a/INFO.JSON /iiif/a/info.json/ /iiif/a/full/max",
-    );
-    refuse_targets(
-        &rt,
-        alloc,
         "/iiif/a/full/max/0 /iiif/a/full/max/0/default.tif/",
-    );
-    refuse_targets(
-        &rt,
-        alloc,
         "/iiif/a/b/full/max/0/default.tif /iiif//info.json",
-    );
+    ] {
+        refuse_targets(&rt, rt.alloc(), targets);
+    }
 }
 
 #[test]
 fn broken_escapes_ask_for_nothing(rt: HostRuntime) {
-    let alloc = rt.alloc();
-    refuse_targets(
-        &rt,
-        alloc,
+    for targets in [
         "/iiif/a%2/full/max/0/default.tif /iiif/a% /iiif/a%zz",
-    );
-    refuse_targets(&rt, alloc, "/iiif/a%2gb /iiif/a%%41 /iiif/a%FF /iiif/%C3");
-    refuse_targets(
-        &rt,
-        alloc,
+        "/iiif/a%2gb /iiif/a%%41 /iiif/a%FF /iiif/%C3",
         "/iiif/%C3/%A4/max/0/default.tif /iiif//full/max/0/default.tif",
-    );
-    assert_eq!(rt;
-        split(alloc, b"/iiif", b"/iiif/\xff"),
-        Err(SplitFault::Path)
-    );
+    ] {
+        refuse_targets(&rt, rt.alloc(), targets);
+    }
+    assert!(rt; fault(rt.alloc(), b"/iiif", b"/iiif/\xff") == Some(SplitFault::Path));
 }
 
-#[test]
-fn a_megabyte_is_split(rt: HostRuntime) -> Result<(), Fail> {
-    let alloc = rt.alloc();
+/// A target whose identifier is 349,526 slashes and whose region is a megabyte.
+fn megabyte(alloc: Global) -> Result<Vec<u8>, Fail> {
     let mut target = Vec::from_slice(alloc, b"/iiif/")?;
     for _ in 0..349_526 {
         target.extend_from_slice(b"%2F")?;
@@ -264,12 +266,23 @@ fn a_megabyte_is_split(rt: HostRuntime) -> Result<(), Fail> {
         target.extend_from_slice(b"full")?;
     }
     target.extend_from_slice(b"/max/0/default.tif")?;
-    let Target::Image(id, words) = split(alloc, b"/iiif", &target)? else {
-        return Err("no image")?;
-    };
-    assert_eq!(rt; id.len(), 349_526);
-    assert_eq!(rt; words.region.len(), 1_048_576);
-    assert_eq!(rt; parse(&words), Err(Refusal::Region));
+    Ok(target)
+}
+
+/// How long an image's identifier and region are, and what its words say.
+fn image(alloc: Global, target: &[u8]) -> Result<(usize, usize, Result<Request, Refusal>), Fail> {
+    match split(alloc, b"/iiif", target)? {
+        Target::Image(id, words) => Ok((id.len(), words.region.len(), parse(&words))),
+        _ => Err("no image".into()),
+    }
+}
+
+#[test]
+fn a_megabyte_is_split(rt: HostRuntime) -> Result<(), Fail> {
+    let target = megabyte(rt.alloc())?;
+    let (id, region, request) = image(rt.alloc(), &target)?;
+    assert!(rt; id == 349_526 && region == 1_048_576, "{id} {region}");
+    assert!(rt; request == Err(Refusal::Region));
     Ok(())
 }
 
@@ -279,36 +292,36 @@ fn a_megabyte_of_slashes_is_refused(rt: HostRuntime) -> Result<(), Fail> {
     for _ in 0..1_048_576 {
         slashes.push(b'/')?;
     }
-    assert_eq!(rt;
-        split(rt.alloc(), b"/iiif", &slashes),
-        Err(SplitFault::Path)
-    );
+    assert!(rt; fault(rt.alloc(), b"/iiif", &slashes) == Some(SplitFault::Path));
     Ok(())
 }
 
-#[test]
-fn want_of_memory_is_told_or_the_answer_is_the_same(rt: HostRuntime) {
-    match split(
-        rt.alloc(),
-        b"/iiif",
-        b"/iiif/a%2Fb/full/%5E2,/0/default.tif",
-    ) {
-        Ok(Target::Image(id, words)) => {
-            assert_eq!(rt; id.as_str(), "a/b");
-            assert_eq!(rt; words.size.as_str(), "^2,");
-            assert_eq!(rt; words.quality.as_str(), "default");
-            assert_eq!(rt; words.format.as_str(), "tif");
+/// Whether a target is the image `a/b` in the size `^2,`.
+fn is_image(target: &Target) -> bool {
+    match target {
+        Target::Image(id, words) => {
+            id.as_str() == "a/b"
+                && words.size.as_str() == "^2,"
+                && words.quality.as_str() == "default"
+                && words.format.as_str() == "tif"
         }
-        Ok(_) => panic!(rt; "no image"),
-        Err(fault) => assert_eq!(rt; fault, SplitFault::NoMemory),
+        _ => false,
     }
 }
 
 #[test]
+fn want_of_memory_is_told_or_the_answer_is_the_same(rt: HostRuntime) {
+    let target = b"/iiif/a%2Fb/full/%5E2,/0/default.tif";
+    let right = match split(rt.alloc(), b"/iiif", target) {
+        Ok(target) => is_image(&target),
+        Err(fault) => fault == SplitFault::NoMemory,
+    };
+    assert!(rt; right);
+}
+
+#[test]
 fn words_spell_a_request(rt: HostRuntime) -> Result<(), Fail> {
-    let alloc = rt.alloc();
-    spell(&rt, alloc, "full/max/0/default.tif", plain())?;
-    let want = Request {
+    let other = Request {
         region: Region::Percents(
             decimal(25, 0),
             decimal(0, 0),
@@ -325,184 +338,166 @@ fn words_spell_a_request(rt: HostRuntime) -> Result<(), Fail> {
         },
         quality: Quality::Bitonal,
     };
-    spell(
-        &rt,
-        alloc,
-        "pct:25,0,50.5,0.0000000001/^!2,9/!270.00/bitonal.tif",
-        want,
-    )
+    for (text, want) in [
+        ("full/max/0/default.tif", plain()),
+        (
+            "pct:25,0,50.5,0.0000000001/^!2,9/!270.00/bitonal.tif",
+            other,
+        ),
+    ] {
+        assert!(rt; spells(rt.alloc(), text, want)?, "{text}");
+    }
+    Ok(())
 }
 
 #[test]
 fn regions(rt: HostRuntime) -> Result<(), Fail> {
-    let alloc = rt.alloc();
     let top = 999_999_999;
-    spell_region(&rt, alloc, "square", Region::Square)?;
-    spell_region(&rt, alloc, "0,0,9,9", Region::Pixels(0, 0, 9, 9))?;
-    spell_region(&rt, alloc, "007,08,1,000000000", Region::Pixels(7, 8, 1, 0))?;
-    spell_region(&rt, alloc, "999999999,0,2,3", Region::Pixels(top, 0, 2, 3))?;
     let most = decimal(9_999_999_999_999_999_999, 10);
     let percents = Region::Percents(decimal(1, 0), decimal(25, 1), decimal(3, 0), most);
-    spell_region(&rt, alloc, "pct:1,2.5,03,999999999.9999999999", percents)
+    for (text, region) in [
+        ("square", Region::Square),
+        ("0,0,9,9", Region::Pixels(0, 0, 9, 9)),
+        ("007,08,1,000000000", Region::Pixels(7, 8, 1, 0)),
+        ("999999999,0,2,3", Region::Pixels(top, 0, 2, 3)),
+        ("pct:1,2.5,03,999999999.9999999999", percents),
+    ] {
+        assert!(rt; spells_region(rt.alloc(), text, region)?, "{text}");
+    }
+    Ok(())
 }
 
 #[test]
 fn other_regions_are_refused(rt: HostRuntime) -> Result<(), Fail> {
-    let alloc = rt.alloc();
-    refuse_regions(
-        &rt,
-        alloc,
+    for texts in [
         "|Full|full |max|1,1,1|1,1,1,|,1,1,1|1,,1,1|1,1,1,1,1",
-    )?;
-    refuse_regions(
-        &rt,
-        alloc,
         "1,1,1,1,|1 ,1,1,1|+1,1,1,1|-1,1,1,1|1.0,1,1,1|square,",
-    )?;
-    refuse_regions(
-        &rt,
-        alloc,
         "1e1,1,1,1|1000000000,1,1,1|0000000001,1,1,1|\u{661},1,1,1",
-    )
+    ] {
+        refuse_regions(&rt, rt.alloc(), texts)?;
+    }
+    Ok(())
 }
 
 #[test]
 fn other_percents_are_refused(rt: HostRuntime) -> Result<(), Fail> {
-    let alloc = rt.alloc();
-    refuse_regions(
-        &rt,
-        alloc,
+    for texts in [
         "pct:|pct:1,1,1|pct:1,1,1,|pct:,1,1,1|pct:1,1,1,1,1",
-    )?;
-    refuse_regions(
-        &rt,
-        alloc,
         "pct:1.,1,1,1|pct:.5,1,1,1|pct:+1,1,1,1|pct:-1,1,1,1",
-    )?;
-    refuse_regions(
-        &rt,
-        alloc,
         "pct:1, 1,1,1|pct:1,1,1,1000000000|pct:1.2.3,1,1,1",
-    )?;
-    refuse_regions(&rt, alloc, "pct:1,1,1,0.00000000001|PCT:1,1,1,1")
+        "pct:1,1,1,0.00000000001|PCT:1,1,1,1",
+    ] {
+        refuse_regions(&rt, rt.alloc(), texts)?;
+    }
+    Ok(())
 }
 
 #[test]
 fn sizes(rt: HostRuntime) -> Result<(), Fail> {
-    let alloc = rt.alloc();
-    spell_size(&rt, alloc, "max", Form::Max)?;
-    spell_size(&rt, alloc, "2,", Form::Width(2))?;
-    spell_size(&rt, alloc, ",3", Form::Height(3))?;
-    spell_size(&rt, alloc, "pct:100.1", Form::Percent(decimal(1001, 1)))?;
-    spell_size(&rt, alloc, "pct:050", Form::Percent(decimal(50, 0)))?;
-    spell_size(&rt, alloc, "3,4", Form::Both(3, 4))?;
-    spell_size(&rt, alloc, "!100,9", Form::Within(100, 9))?;
-    spell_size(&rt, alloc, "0,00", Form::Both(0, 0))
+    for (text, form) in [
+        ("max", Form::Max),
+        ("2,", Form::Width(2)),
+        (",3", Form::Height(3)),
+        ("pct:100.1", Form::Percent(decimal(1001, 1))),
+        ("pct:050", Form::Percent(decimal(50, 0))),
+        ("3,4", Form::Both(3, 4)),
+        ("!100,9", Form::Within(100, 9)),
+        ("0,00", Form::Both(0, 0)),
+    ] {
+        for up in [false, true] {
+            assert!(rt; spells_size(rt.alloc(), text, up, form)?, "{text} {up}");
+        }
+    }
+    Ok(())
 }
 
 #[test]
 fn other_sizes_are_refused(rt: HostRuntime) -> Result<(), Fail> {
-    let alloc = rt.alloc();
-    refuse_sizes(
-        &rt,
-        alloc,
+    for texts in [
         "|full|Max|max |,|^|!|^!|!,|^,|^^max|^^2,|!^2,3|!w,|!2,|!,3",
-    )?;
-    refuse_sizes(
-        &rt,
-        alloc,
         "^!,h|^!2,|^!,3|!!2,3|!max|!pct:5|2|^2|2,3,|2,3,4|,2,|1.5,",
-    )?;
-    refuse_sizes(
-        &rt,
-        alloc,
         ",1.5|2 ,|+2,|-2,|1000000000,|,1000000000|pct:|^pct:|pct:1.",
-    )?;
-    refuse_sizes(
-        &rt,
-        alloc,
         "pct:.5|pct:+1|pct:-1|pct:1,|pct:1000000000|%5E2,",
-    )?;
-    refuse_sizes(&rt, alloc, "pct:1.00000000001")
+        "pct:1.00000000001",
+    ] {
+        refuse_sizes(&rt, rt.alloc(), texts)?;
+    }
+    Ok(())
 }
 
 #[test]
 fn rotations_keep_their_decimals(rt: HostRuntime) -> Result<(), Fail> {
-    let alloc = rt.alloc();
-    spell_rotation(&rt, alloc, "0", decimal(0, 0))?;
-    spell_rotation(&rt, alloc, "90", decimal(90, 0))?;
-    spell_rotation(&rt, alloc, "180", decimal(180, 0))?;
-    spell_rotation(&rt, alloc, "270", decimal(270, 0))?;
-    spell_rotation(&rt, alloc, "360", decimal(360, 0))?;
-    spell_rotation(&rt, alloc, "0.0", decimal(0, 1))?;
-    spell_rotation(&rt, alloc, "090", decimal(90, 0))?;
-    spell_rotation(&rt, alloc, "360.0000000000", decimal(3_600_000_000_000, 10))
+    for (text, digits, places) in [
+        ("0", 0, 0),
+        ("90", 90, 0),
+        ("180", 180, 0),
+        ("270", 270, 0),
+        ("360", 360, 0),
+        ("0.0", 0, 1),
+        ("090", 90, 0),
+        ("360.0000000000", 3_600_000_000_000, 10),
+    ] {
+        let degrees = decimal(digits, places);
+        for mirror in [false, true] {
+            let spells = spells_rotation(rt.alloc(), text, mirror, degrees)?;
+            assert!(rt; spells, "{text} {mirror}");
+        }
+    }
+    Ok(())
 }
 
 #[test]
 fn other_rotations_are_refused(rt: HostRuntime) -> Result<(), Fail> {
-    let alloc = rt.alloc();
-    refuse_rotations(
-        &rt,
-        alloc,
+    for texts in [
         "|!|45|361|450|720|-90|+90|90.5|90.|.0|!!90|90!| 90|90 ",
-    )?;
-    refuse_rotations(&rt, alloc, "0.00000000001|0000000090.0|360.0000000001|1e2")
+        "0.00000000001|0000000090.0|360.0000000001|1e2",
+    ] {
+        refuse_rotations(&rt, rt.alloc(), texts)?;
+    }
+    Ok(())
 }
 
 #[test]
 fn qualities_and_the_format(rt: HostRuntime) -> Result<(), Fail> {
-    let alloc = rt.alloc();
-    let quality = Quality::Color;
-    spell(
-        &rt,
-        alloc,
-        "full/max/0/color.tif",
-        Request { quality, ..plain() },
-    )?;
-    let quality = Quality::Gray;
-    spell(
-        &rt,
-        alloc,
-        "full/max/0/gray.tif",
-        Request { quality, ..plain() },
-    )?;
-    for text in "|best|native|Color|grey|colour|default ".split('|') {
-        let whole = format!(in alloc; "full/max/0/{text}.tif")?;
-        assert_eq!(rt;
-            said(alloc, whole.as_str())?,
-            Err(Refusal::Quality),
-            "{text}"
-        );
+    for (text, quality) in [
+        ("full/max/0/color.tif", Quality::Color),
+        ("full/max/0/gray.tif", Quality::Gray),
+    ] {
+        let want = Request { quality, ..plain() };
+        assert!(rt; spells(rt.alloc(), text, want)?, "{text}");
     }
-    for text in "|jpg|TIF|tiff|tif.tif|tif ".split('|') {
-        let whole = format!(in alloc; "full/max/0/default.{text}")?;
-        assert_eq!(rt;
-            said(alloc, whole.as_str())?,
-            Err(Refusal::Format),
-            "{text}"
-        );
+    let qualities = "|best|native|Color|grey|colour|default ";
+    let formats = "|jpg|TIF|tiff|tif.tif|tif ";
+    for (texts, refusal) in [
+        (("full/max/0/", qualities, ".tif"), Refusal::Quality),
+        (("full/max/0/default.", formats, ""), Refusal::Format),
+    ] {
+        refuse(&rt, rt.alloc(), texts, refusal)?;
     }
     Ok(())
 }
 
 #[test]
 fn the_first_word_that_spells_nothing_is_named(rt: HostRuntime) -> Result<(), Fail> {
-    let alloc = rt.alloc();
-    assert_eq!(rt; said(alloc, "x/x/x/x.x")?, Err(Refusal::Region));
-    assert_eq!(rt; said(alloc, "full/x/x/x.x")?, Err(Refusal::Size));
-    assert_eq!(rt; said(alloc, "full/max/x/x.x")?, Err(Refusal::Rotation));
-    assert_eq!(rt; said(alloc, "full/max/0/best.jpg")?, Err(Refusal::Quality));
-    assert_eq!(rt; said(alloc, "full/max/0/gray.jpg")?, Err(Refusal::Format));
+    for (text, refusal) in [
+        ("x/x/x/x.x", Refusal::Region),
+        ("full/x/x/x.x", Refusal::Size),
+        ("full/max/x/x.x", Refusal::Rotation),
+        ("full/max/0/best.jpg", Refusal::Quality),
+        ("full/max/0/gray.jpg", Refusal::Format),
+    ] {
+        assert!(rt; is_refused(rt.alloc(), text, refusal)?, "{text}");
+    }
     Ok(())
 }
 
 #[test]
 fn refusals_and_faults_are_numbered(rt: HostRuntime) {
-    assert_eq!(rt; Refusal::Identifier.status(), 404);
-    assert_eq!(rt; Refusal::Upscale.line(), "Q13 upscale");
-    assert_eq!(rt; SplitFault::Path.number(), 1);
-    assert_eq!(rt; SplitFault::NoMemory.number(), 2);
+    assert!(rt; Refusal::Identifier.status() == 404);
+    assert!(rt; Refusal::Upscale.line() == "Q13 upscale");
+    for (fault, number) in [(SplitFault::Path, 1), (SplitFault::NoMemory, 2)] {
+        assert!(rt; fault.number() == number, "{fault:?}");
+    }
 }
 
 #[test]
@@ -514,15 +509,16 @@ fn the_laws_hold() {
 
 #[test]
 fn numerals_to_so_many_digits(rt: HostRuntime) -> Result<(), Fail> {
-    assert_eq!(rt; numeral(b"0042", 4), Some(42));
-    assert_eq!(rt;
-        numeral(b"9999999999999999999", 19),
-        Some(9_999_999_999_999_999_999)
-    );
-    assert_eq!(rt; numeral(b"12345", 4), None);
-    assert_eq!(rt; numeral(b"", 4), None);
-    assert_eq!(rt; numeral(b"1 2", 4), None);
-    assert!(rt; is_numeral(b"007", 3));
-    assert!(rt; !is_numeral(b"-7", 3));
+    let cases: [(&[u8], usize, Option<u64>); 5] = [
+        (b"0042", 4, Some(42)),
+        (b"9999999999999999999", 19, Some(9_999_999_999_999_999_999)),
+        (b"12345", 4, None),
+        (b"", 4, None),
+        (b"1 2", 4, None),
+    ];
+    for (text, most, want) in cases {
+        assert!(rt; most <= 19 && numeral(text, most) == want, "{text:?}");
+    }
+    assert!(rt; is_numeral(b"007", 3) && !is_numeral(b"-7", 3));
     Ok(())
 }
