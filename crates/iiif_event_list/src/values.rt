@@ -89,7 +89,8 @@ pub(crate) fn put_outcome(
     }
 }
 
-pub(crate) fn put_answer(text: &mut String, answer: &Answer) -> Result<(), NoMemory> {
+/// Adds an answer: `refused` and why, `image` and the picture in the words of a setting, or `fault`, its place and its cause.
+pub fn put_answer(text: &mut String, answer: &Answer) -> Result<(), NoMemory> {
     match answer {
         Answer::Refused(refusal) => write!(text, "refused {:?}", refusal),
         Answer::Image(raster) => {

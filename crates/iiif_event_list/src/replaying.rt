@@ -1,6 +1,6 @@
 //! Worlds and their events, line by line.
 
-ghost use Rattle.iiif_replay.specs.Replays.{IsSoundReplay};
+ghost use Rattle.iiif_event_list.specs.Replays.{IsSoundReplay};
 ghost use Rattle.iiif_world.specs.Code.{world_of, IsSoundWorld};
 ghost use Rattle.iiif_world.specs.Stepping.{IsShortEvent};
 
@@ -36,8 +36,8 @@ fn outcome(
     }
 }
 
-/// The answers of a world, a line a request.
-pub(crate) fn answers(alloc: Global, world: &World) -> Result<String, NoMemory> {
+/// The answers of a world, a line a request, in the order of their numbers: `none`, where it has no answer.
+pub fn answers(alloc: Global, world: &World) -> Result<String, NoMemory> {
     let mut text = String::new(alloc);
     for request in 0..world.requests.len() {
         write!(text, "request {}: ", request)?;
@@ -50,8 +50,8 @@ pub(crate) fn answers(alloc: Global, world: &World) -> Result<String, NoMemory> 
     Ok(text)
 }
 
-/// All rows of a world, one a line.
-pub(crate) fn rows(alloc: Global, world: &World) -> Result<String, NoMemory> {
+/// All rows of a world, one a line: nodes, faults given, requests, calls, flights, asks, replies.
+pub fn rows(alloc: Global, world: &World) -> Result<String, NoMemory> {
     let mut text = String::new(alloc);
     put_rows(&mut text, world)?;
     Ok(text)
@@ -59,7 +59,7 @@ pub(crate) fn rows(alloc: Global, world: &World) -> Result<String, NoMemory> {
 
 impl Replay {
     /// Nothing was read.
-    pub(crate) fn new(alloc: Global) -> Replay
+    pub fn new(alloc: Global) -> Replay
         ensures { IsSoundReplay result }
     {
         Replay {
@@ -85,8 +85,8 @@ impl Replay {
         }
     }
 
-    /// The answers of the world that has begun, if one has.
-    pub(crate) fn ended(&self, alloc: Global) -> Result<String, LineFault> {
+    /// The answers of the world that has begun, a line a request; nothing, if none has.
+    pub fn ended(&self, alloc: Global) -> Result<String, LineFault> {
         match &self.state {
             State::Begun(world) => Ok(answers(alloc, world)?),
             _ => Ok(String::new(alloc)),
@@ -145,13 +145,10 @@ impl Replay {
         }
     }
 
-    /// What a line, of a number, comes to.
-    pub(crate) fn line(
-        &mut self,
-        alloc: Global,
-        number: u64,
-        line: &str,
-    ) -> Result<String, LineFault>
+    /// What a line, of a number, comes to: an event's outcome, behind the number and the words; at `world` the answers of the last one; at
+    /// `rows` all rows; else nothing. `Bad`, where it is no setting and no event, sets something of a world that has begun, or comes where
+    /// the world can't begin: then each further event is `Bad` until `world`. After `NoMemory` an event may be done, or the world lost.
+    pub fn line(&mut self, alloc: Global, number: u64, line: &str) -> Result<String, LineFault>
         requires { IsSoundReplay self.old }
         ensures { IsSoundReplay self.new }
     {

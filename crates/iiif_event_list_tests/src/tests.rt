@@ -1,8 +1,8 @@
 //! Lists of events, whose outcomes were computed by hand and beside it by `bench/machine`.
 
-use crate::fault::LineFault;
-use crate::state::Replay;
-use crate::{Stop, replay};
+use iiif_event_list::fault::LineFault;
+use iiif_event_list::state::Replay;
+use iiif_event_list::{Stop, replay};
 use std::alloc::Global;
 use std::process::Abort;
 use std::test::Fail;

@@ -4,10 +4,10 @@ ghost use Rattle.std.specs.Prelude.{IfOk};
 ghost use Rattle.iiif_world.specs.Code.{world_of, IsSoundWorld};
 ghost use Rattle.iiif_world.specs.Stepping.{IsShortEvent};
 
-use crate::describing::Description;
-use crate::fault::LineFault;
-use crate::reading::event;
-use crate::replaying::{answers, rows};
+use iiif_event_list::describing::Description;
+use iiif_event_list::fault::LineFault;
+use iiif_event_list::reading::event;
+use iiif_event_list::replaying::{answers, rows};
 use iiif_machine::{Event, WorldFault};
 use iiif_pixel::NoMemory;
 use iiif_world::world::World;

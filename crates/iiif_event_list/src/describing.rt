@@ -159,8 +159,9 @@ fn limits(words: &[&str]) -> Result<Limits, LineFault> {
 }
 
 impl Description {
-    /// A world without pictures and nodes.
-    pub(crate) fn new(alloc: Global) -> Description {
+    /// A world without pictures and nodes: tiles of 256 places a side, images of at most 4096 by 4096 that aren't scaled up, and a room of
+    /// 65,536 sums for a plan.
+    pub fn new(alloc: Global) -> Description {
         Description {
             edge: 256,
             limits: Limits {
@@ -184,8 +185,9 @@ impl Description {
         Ok(())
     }
 
-    /// What a line sets; whether it is a setting.
-    pub(crate) fn set(&mut self, alloc: Global, words: &[&str]) -> Result<bool, LineFault> {
+    /// What the words of a line set; `false`, where they are no setting, and `Bad`, where they are one that can't be read. It is as it was
+    /// after `false` and after an `Err`.
+    pub fn set(&mut self, alloc: Global, words: &[&str]) -> Result<bool, LineFault> {
         match word(words, 0)? {
             "edge" if words.len() == 2 => self.edge = side(words, 1)?,
             "room" if words.len() == 2 => self.room = number(words, 1)?,
@@ -197,8 +199,8 @@ impl Description {
         Ok(true)
     }
 
-    /// The world that was described, in which nothing has happened.
-    pub(crate) fn begin(self, alloc: Global) -> Result<World, LineFault>
+    /// The world that was described, in which nothing has happened. `Bad`, where no world can begin so.
+    pub fn begin(self, alloc: Global) -> Result<World, LineFault>
         ensures { IfOk result (λ w. IsSoundWorld (world_of w)) }
     {
         let Description {

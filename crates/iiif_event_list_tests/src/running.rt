@@ -3,10 +3,10 @@
 ghost use Rattle.std.specs.Prelude.{All, IfOk};
 ghost use Rattle.iiif_world.specs.Stepping.{IsShortEvent};
 
-use crate::fault::LineFault;
 use crate::refused::{CROSSED, DEEP, begun, event_of};
-use crate::values::put_answer;
 use iiif_canonical::Limits;
+use iiif_event_list::fault::LineFault;
+use iiif_event_list::values::put_answer;
 use iiif_keys::{Name, is_name};
 use iiif_machine::{Answer, Event, WorldFault};
 use iiif_pixel::{Dim, Kind, NoMemory, Raster, Samples};

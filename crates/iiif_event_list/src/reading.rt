@@ -206,8 +206,9 @@ fn land(words: &[&str]) -> Result<Event, LineFault>
     }
 }
 
-/// The event of a line's words.
-pub(crate) fn event(alloc: Global, words: &[&str]) -> Result<Event, LineFault>
+/// The event of a line's words, in the numbers of the world that it is meant for. `Bad`, where they are no event; whether the world allows
+/// it is not asked.
+pub fn event(alloc: Global, words: &[&str]) -> Result<Event, LineFault>
     ensures { IfOk result IsShortEvent }
 {
     match word(words, 0)? {

@@ -1,0 +1,73 @@
+//! Lists of events as text: what describes a world, events, their outcomes and answers.
+#![tactic(auto)]
+
+pub mod describing;
+pub mod fault;
+pub mod reading;
+pub mod replaying;
+mod rows;
+pub mod state;
+pub mod values;
+
+use crate::fault::LineFault;
+use crate::state::Replay;
+use std::alloc::Global;
+use std::io;
+use std::io::{BufRead, ErrorKind, Write};
+use thiserror::Error;
+
+/// Why a replay ends early.
+#[derive(Clone, Copy, Debug, PartialEq, Eq, Error)]
+pub enum Stop {
+    /// A line is no setting and no event, by its number: the first such line, where blank lines and comments count, from 1 on.
+    #[error("line {0}")]
+    Line(u64),
+    /// Memory was refused.
+    #[error("memory")]
+    Memory,
+    /// A line could not be read.
+    #[error("read")]
+    Read,
+    /// What came of a line could not be written.
+    #[error("write")]
+    Write,
+}
+
+impl From<io::Error> for Stop {
+    fn from(error: io::Error) -> Stop {
+        if error.kind() == ErrorKind::OutOfMemory {
+            Stop::Memory
+        } else {
+            Stop::Write
+        }
+    }
+}
+
+/// Replays the lines of a reader: writes what each line comes to before it reads the next, at the end the answers of the last world, and
+/// flushes. Where it stops at a line, what came of those before it was written, but not flushed.
+pub fn replay<R, W>(alloc: Global, reader: R, out: &mut W) -> Result<(), Stop>
+where
+    R: BufRead + Drop,
+    W: Write,
+{
+    let mut replay = Replay::new(alloc);
+    let mut number = 0u64;
+    for line in reader.lines(alloc) {
+        let Ok(line) = line else {
+            return Err(Stop::Read);
+        };
+        number = number.saturating_add(1);
+        match replay.line(alloc, number, line.as_str()) {
+            Ok(text) => out.write_all(text.as_bytes())?,
+            Err(LineFault::Bad) => return Err(Stop::Line(number)),
+            Err(LineFault::NoMemory) => return Err(Stop::Memory),
+        }
+    }
+    match replay.ended(alloc) {
+        Ok(text) => out.write_all(text.as_bytes())?,
+        Err(LineFault::Bad) => return Err(Stop::Line(number)),
+        Err(LineFault::NoMemory) => return Err(Stop::Memory),
+    }
+    out.flush()?;
+    Ok(())
+}
