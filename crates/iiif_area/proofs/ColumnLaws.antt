@@ -1,16 +1,18 @@
 -- What columns of a tile come to.
-use Rattle.std.proofs.Common.{⊎_elim, List, get_or, ◌≡◌, ℕ, ◌+◌, ◌-◌, ◌*◌, ◌^◌, ◌<◌, ◌≤◌, sym, ap, ◌∙◌, refl, arith}
+use Rattle.std.proofs.Common.{⊎_elim, List, get_or, length, ◌≡◌, ℕ, ◌+◌, ◌-◌, ◌*◌, ◌/◌, ◌%◌, ◌^◌, ◌<◌, ◌≤◌, sym, ap, ◌∙◌, refl, arith}
 use Rattle.std.proofs.lemmas.Bool.{cases_lt}
 use Rattle.iiif_pixel.specs.Picture.{Picture, sample_at, span_of}
 use Rattle.iiif_pixel.proofs.Reading.{get_or-span_of}
+use Rattle.iiif_pixel.proofs.SampleLists.{length-row_of}
 use Rattle.iiif_pixel.specs.Scaling.{sum_from, weight_of, area_sum}
 use Rattle.iiif_pixel.specs.declared.geometry.Dim.{Dim}
 use Rattle.iiif_pixel.specs.declared.geometry.Rect.{Rect}
 use Rattle.iiif_area.specs.declared.columns.Span.{Span}
 use Rattle.iiif_area.specs.Code.{column_sum, span_total, tile_sample, IsSpan}
 use Rattle.iiif_area.proofs.AreaLaws.{area_from_corner, area-fits}
-use Rattle.iiif_area.proofs.SumLaws.{sum_from-zero, sum_from-same, sum_from-one, sum_from-narrow, sum_from-step, same_product, three_parts}
-use Rattle.iiif_area.proofs.WeightLaws.{weighted_before}
+use Rattle.iiif_area.proofs.GridLaws.{index_parts}
+use Rattle.iiif_area.proofs.SumLaws.{sum_from-zero, sum_from-same, sum_from-one, sum_from-narrow, sum_from-step, sum_from-end, same_product, three_parts}
+use Rattle.iiif_area.proofs.WeightLaws.{weighted-le_from, weighted_before}
 
 no_terms : (u n : ℕ) (f : ℕ → ℕ) → n ≡ 0 → sum_from u n f ≡ 0
 no_terms u n f e = sum_from-zero u n f (λ k l m. absurd (omega arith))
@@ -76,15 +78,56 @@ area_from_columns region size part tile corner i j k columns h =
     ap (λ u. weight_of j (part.y + s) region.h size.h * u) (ap (λ u. sample_at tile u (corner.1 + s) k) x ∙ ap (λ u. sample_at tile (corner.0 + (part.x + t - part.x)) u k) y))))
     ∙ sym (area_from_corner region size part (tile_sample tile corner part k) i j)
 
--- one row more of the sum at column t and channel k, where a row of the tile is added to the columns
-pub next_row : (p : Picture) (cx cy from j b d start s w t k weight : ℕ) (columns row : List ℕ) →
+-- one row more of the sum at column t and channel k, which is v so far, where a row of the tile is added
+pub next_row : (p : Picture) (cx cy from j b d start s w t k weight v : ℕ) (row : List ℕ) →
     start ≤ s → row ≡ span_of p cx (cy + s) w → weight ≡ weight_of j (from + s) b d → t < w → k < p.channels →
-    get_or columns (t * p.channels + k) 0 ≡ sum_from start (s - start) (λ s. weight_of j (from + s) b d * sample_at p (cx + t) (cy + s) k) →
-    get_or columns (t * p.channels + k) 0 + weight * get_or row (t * p.channels + k) 0
+    v ≡ sum_from start (s - start) (λ s. weight_of j (from + s) b d * sample_at p (cx + t) (cy + s) k) →
+    v + weight * get_or row (t * p.channels + k) 0
     ≡ sum_from start (s + 1 - start) (λ s. weight_of j (from + s) b d * sample_at p (cx + t) (cy + s) k)
-next_row p cx cy from j b d start s w t k weight columns row l e h lt lk so_far =
+next_row p cx cy from j b d start s w t k weight v row l e h lt lk so_far =
     let sample = ap (λ u. get_or u (t * p.channels + k) 0) e ∙ get_or-span_of p cx (cy + s) w t k 0 lt lk in
     sum_from-step start s (λ s. weight_of j (from + s) b d * sample_at p (cx + t) (cy + s) k) _ _ l so_far (same_product h sample)
+
+-- the sum so far, of which d times a number is held apart: of nothing, where a row's sample is added to what is held, and where it
+-- is added with its weight
+pub held-none : {a h : ℕ} (d : ℕ) → a ≡ 0 → h ≡ 0 → a + d * h ≡ 0
+held-none d e f = omega (arith, e, ap (λ u. d * u) f)
+
+pub held-more : {b i : ℕ} (a h v d w : ℕ) → b ≡ a → i ≡ h + v → w ≡ d → b + d * i ≡ a + d * h + w * v
+held-more a h v d w e f s = omega (arith, e, ap (λ u. d * u) f, ap (λ u. u * v) s)
+
+pub held-added : {b i : ℕ} (a h v d w : ℕ) → b ≡ a + w * v → i ≡ h → b + d * i ≡ a + d * h + w * v
+held-added a h v d w e f = omega (arith, e, ap (λ u. d * u) f)
+
+-- a row of the tile: its length, its samples by index, and a bound on them
+pub row-length : (p : Picture) (x y w : ℕ) (row : List ℕ) → row ≡ span_of p x y w → length row ≡ w * p.channels
+row-length p x y w row e = ap length e ∙ length-row_of w p.channels (λ i k. sample_at p (x + i) y k)
+
+pub row-le : (p : Picture) (x y w i m : ℕ) (row : List ℕ) → row ≡ span_of p x y w → ((x y k : ℕ) → sample_at p x y k ≤ m) →
+    i < w * p.channels → get_or row i 0 ≤ m
+row-le p x y w i m row e h l =
+    let n = p.channels in
+    let q = index_parts n w i l in
+    let at = ap (λ u. get_or row u 0) q.2 in
+    let s = ap (λ u. get_or u (i / n * n + i % n) 0) e ∙ get_or-span_of p x y w (i / n) (i % n) 0 q.0 q.1 in
+    omega (arith, h (x + i / n) y (i % n))
+
+-- what a result row takes of some rows fits
+pub column_fits : (p : Picture) (cx cy from j b d start n t k : ℕ) → ((x y k : ℕ) → sample_at p x y k ≤ 65535) →
+    sum_from start n (λ s. weight_of j (from + s) b d * sample_at p (cx + t) (cy + s) k) ≤ b * 65535
+column_fits p cx cy from j b d start n t k h = weighted-le_from j b d from start n 65535 (λ s. sample_at p (cx + t) (cy + s) k) (λ s _ _. h (cx + t) (cy + s) k)
+
+-- a row takes nothing of the rows before its first and from past its last on
+pub column_sum-is : (p : Picture) (corner : ℕ × ℕ) (part : Rect) (b d j t k start end at v : ℕ) → start ≤ end → end ≤ part.h → at ≡ end →
+    ((s : ℕ) → s < start → weight_of j (part.y + s) b d ≡ 0) → ((s : ℕ) → end ≤ s → s < part.h → weight_of j (part.y + s) b d ≡ 0) →
+    v ≡ sum_from start (at - start) (λ s. weight_of j (part.y + s) b d * sample_at p (corner.0 + t) (corner.1 + s) k) → v ≡ column_sum p corner part b d j t k
+unfolding column_sum
+column_sum-is p corner part b d j t k start end at v ordered within done below above so_far =
+    let f : ℕ → ℕ = λ s. sample_at p (corner.0 + t) (corner.1 + s) k in
+    sum_from-end _ _ _ _ _ so_far done
+    ∙ sym (sum_from-narrow 0 part.h start end (λ s. weight_of j (part.y + s) b d * f s) (omega arith) ordered (omega (arith, within))
+    (λ s _ m. weighted_before j (part.y + s) b d (f s) (below s m))
+    (λ s l m. weighted_before j (part.y + s) b d (f s) (above s l (omega arith))))
 
 -- so what a result place takes of its span is the part's sum
 pub span_total-area : (region size : Dim) (part : Rect) (tile : Picture) (corner : ℕ × ℕ) (i j k n c : ℕ) (columns : List ℕ) (s : Span) →

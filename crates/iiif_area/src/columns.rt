@@ -1,16 +1,22 @@
 //! The sums over a tile: each result row adds up the tile's columns, and each result place takes its part of them.
 
-ghost use Rattle.std.specs.Prelude.{◌≡◌, ℕ, ◌+◌, ◌*◌, ◌<◌, ◌≤◌, ◌^◌, length, slice_index, slice_index_or, vec_len, IfOk};
+ghost use Rattle.std.specs.Prelude.{◌≡◌, ℕ, ◌+◌, ◌*◌, ◌<◌, ◌≤◌, ◌^◌, length, slice_index, slice_index_or, vec_len, EachIndex, IfOk};
 ghost use Rattle.iiif_pixel.specs.Geometry.{LiesIn};
 ghost use Rattle.iiif_pixel.specs.Picture.{samples_of, sample_at};
 ghost use Rattle.iiif_pixel.specs.Scaling.{area_sum};
 ghost use Rattle.iiif_area.specs.Places.{places_of, IsScalable};
 ghost use Rattle.iiif_area.specs.Code.{column_sum, span_total, tile_sample, IsSpan};
 
-use crate::rows::add_row;
+use crate::rows::{add_row, add_sums, sum_row};
 use crate::weights::{sources, weight};
 use iiif_pixel::{Dim, NoMemory, Raster, Rect};
 use std::alloc::{AllocError, Global};
+
+/// Of so few source rows each is added with its weight.
+const FEW: u32 = 3;
+
+/// The sums of so many samples, each of at most 65,535, fit in 32 bits. Rows past them are added with their weight.
+const RUN: u32 = 65_536;
 
 /// The columns of a part that a result column takes something of, counted from the part's first, and what it takes of the
 /// first and of the last. Of a single one it takes all as the first.
@@ -45,13 +51,16 @@ pub(crate) fn tile_sums(
     let channels = tile.kind().channels();
     let mut cells = vec![in alloc; 0u64; part.w as usize * channels]?;
     let columns = cells.as_mut_slice();
+    let mut scratch = vec![in alloc; 0u32; part.w as usize * channels]?;
+    let inner = scratch.as_mut_slice();
     let spans = spans(alloc, rect.x, rect.w, region.w, size.w, part.x, part.w)?;
     let Some(count) = tile.kind().count(rect.dim()) else {
         return Err(AllocError);
     };
     let mut sums = Vec::with_capacity(alloc, count)?;
     for j in 0..rect.h {
-        fill_columns(columns, tile, corner, part, region.h, size.h, rect.y + j);
+        let row = rect.y + j;
+        fill_columns(columns, inner, tile, corner, part, region.h, size.h, row);
         for i in 0..rect.w {
             for k in 0..channels {
                 let span = spans[i as usize];
@@ -111,9 +120,11 @@ fn span_of(i: u32, a: u32, c: u32, from: u32, count: u32) -> Span
 }
 
 /// What result row `j` takes of each column of the part that a tile holds from its place `corner` on, where `b` rows are
-/// scaled to `d`.
+/// scaled to `d`. Rows of weight `d`, which all between the first and the last have, are added up without it in `inner`, since
+/// numbers of 32 bits take less than half of the time. `inner` is 0 before and after.
 fn fill_columns(
     columns: &mut [u64],
+    inner: &mut [u32],
     tile: &Raster,
     corner: (u32, u32),
     part: Rect,
@@ -127,14 +138,27 @@ fn fill_columns(
     requires held { (corner.0 + part.w ≤ tile.now.width) × (corner.1 + part.h ≤ tile.now.height) }
     requires corner { corner.1 + part.h < 2 ^ 32 }
     requires room { length columns.old ≡ part.w * tile.now.channels }
-    ensures { (t k : ℕ) → t < part.w → k < tile.now.channels →
+    requires inner { length inner.old ≡ length columns.old }
+    requires clear { EachIndex inner.old (λ t. slice_index inner.old t ≡ 0) }
+    ensures clear { EachIndex inner.new (λ t. slice_index inner.new t ≡ 0) }
+    ensures sums { (t k : ℕ) → t < part.w → k < tile.now.channels →
         slice_index columns.new (t * tile.now.channels + k) ≡ column_sum tile.now corner part b d j t k }
 {
     columns.fill(0);
     let (start, end) = sources(j, b, d, part.y, part.h);
+    let many = end - start > FEW;
     for s in start..end {
         let row = tile.span(corner.0, corner.1 + s, part.w);
-        add_row(columns, row, weight(j, part.y + s, b, d) as u32);
+        let rows = weight(j, part.y + s, b, d);
+        if many && rows == u64::from(d) && s - start < RUN {
+            sum_row(inner, row);
+        } else {
+            add_row(columns, row, rows as u32);
+        }
+    }
+    if many {
+        add_sums(columns, inner, d);
+        inner.fill(0);
     }
 }
 

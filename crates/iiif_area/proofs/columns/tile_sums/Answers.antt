@@ -29,7 +29,7 @@ span_sum-sum-requires-clause-fits c =
     let k = c.loop-k.k in
     let ch : c.channels-channels.result ≡ c.args.tile.now.channels = c.channels-channels.ensures ∙ c.kind.ensures in
     let sum = span_total-area c.args.region c.args.size c.args.part c.args.tile.now c.args.corner i j k c.channels-channels.result c.from.result c.fill_columns.new.columns c.index-span.result.now
-    ch c.from.ensures span (λ t l. c.fill_columns.ensures t k l (omega arith)) in
+    ch c.from.ensures span (λ t l. c.fill_columns.ensures.sums t k l (omega arith)) in
     let fits = tile_area-fits c.args.region c.args.size c.args.part c.args.tile.now c.args.corner i j k c.requires.limits.area
     (λ x y k. omega (arith, sample_at-le c.args.tile.now c.is_whole.ensures.whole x y k, top-le c.args.tile.now c.is_whole.ensures.whole)) in
     omega arith
@@ -41,7 +41,7 @@ loop-k-preserved c =
     let k = c.loop-k.k in
     let ch : c.channels-channels.result ≡ c.args.tile.now.channels = c.channels-channels.ensures ∙ c.kind.ensures in
     let sum = span_total-area c.args.region c.args.size c.args.part c.args.tile.now c.args.corner (c.args.rect.x + c.loop-i.i) (c.args.rect.y + c.loop-j.j) k c.channels-channels.result c.from.result
-    c.fill_columns.new.columns c.index-span.result.now ch c.from.ensures span (λ t l. c.fill_columns.ensures t k l (omega arith)) in
+    c.fill_columns.new.columns c.index-span.result.now ch c.from.ensures span (λ t l. c.fill_columns.ensures.sums t k l (omega arith)) in
     record {
       capacity = omega arith;
       count = omega arith;
@@ -70,6 +70,8 @@ loop-j-preserved c =
     let d : c.loop-i.i * n ≡ c.args.rect.w * n = ap (λ x. x * n) e in
     record {
       room = omega (arith, c.fill_columns.auto.columns, c.loop-j.invariant.room);
+      inner = omega (arith, c.fill_columns.auto.inner, c.loop-j.invariant.inner);
+      clear = c.fill_columns.ensures.clear;
       capacity = omega arith;
       count = omega arith;
       filled = c.loop-i.invariant.filled;

@@ -1,4 +1,4 @@
-use Rattle.std.proofs.Common.{◌≡◌, ◌+◌, ◌*◌, vec_capacity, vec_len, length}
+use Rattle.std.proofs.Common.{◌≡◌, ℕ, ◌+◌, ◌*◌, ◌<◌, get_or, vec_capacity, vec_len, length}
 use Rattle.iiif_pixel.specs.Scaling.{area_sum}
 use Rattle.iiif_area.specs.Code.{tile_sample}
 use Rattle.iiif_area.proofs.GridLaws.{place_index, FilledTo}
@@ -21,6 +21,8 @@ invariant-loop-i l = record {
 abbrev pub invariant-loop-j : goal.invariant-loop-j
 invariant-loop-j l = record {
   room : length l.columns ≡ l.part.w * l.channels;
+  inner : length l.inner ≡ l.part.w * l.channels;
+  clear : (i : ℕ) → i < length l.inner → get_or l.inner i 0 ≡ 0;
   capacity : vec_capacity l.sums ≡ l.rect.w * l.rect.h * l.channels;
   count : vec_len l.sums ≡ place_index l.rect.w l.channels 0 l.j 0;
   filled : FilledTo l.rect.w l.channels (λ i j k. area_sum l.region l.size l.part (tile_sample l.tile l.corner l.part k) (l.rect.x + i) (l.rect.y + j)) l.sums.items;
