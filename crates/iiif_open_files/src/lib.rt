@@ -1,15 +1,23 @@
 //! Files as sources that are opened when they are read. Those that were read last are kept open, so many and no more: how many
-//! files there are doesn't count against the system's limit on open ones.
+//! files there are doesn't count against the system's limit on open ones. Where rows of bytes are asked for that lie apart, more of
+//! each row is read at once and kept for what is asked for beside them.
 #![tactic(auto)]
 
 pub use known::Known;
 pub use open_files::OpenFiles;
 pub use opens::Opens;
 pub use path_source::PathSource;
+pub use row_shelf::RowShelf;
 pub use shelf::Shelf;
+pub use wide_rows::WideRows;
+pub use widening::wider;
 
 pub mod known;
 pub mod open_files;
+mod opened;
 pub mod opens;
 pub mod path_source;
+pub mod row_shelf;
 pub mod shelf;
+pub mod wide_rows;
+pub mod widening;

@@ -1,6 +1,14 @@
-//! The open files of many sources.
+//! The open files of many sources, and what was read ahead of them.
 
+ghost use Rattle.std.specs.Prelude.{◌≡◌, ◌*◌, length, IfSome};
+ghost use Rattle.std.specs.Arc.{arc_value};
+ghost use Rattle.iiif_source.specs.Runs.{AreIn};
+ghost use Rattle.iiif_open_files.specs.Rows.{AreAmong};
+
+use crate::row_shelf::RowShelf;
 use crate::shelf::Shelf;
+use crate::wide_rows::WideRows;
+use iiif_source::{Runs, Source};
 use std::alloc::{AllocError, Global};
 use std::fs::File;
 use std::num::NonZeroUsize;
@@ -9,9 +17,11 @@ use std::sync::{Arc, Mutex, Wait};
 
 /// The files that the sources of one program keep open between their reads, as many as a [`Shelf`] has room for. No lock is held
 /// while a file is opened or read. So the files that are open at once are those that are kept, and one for each read that goes on.
+/// Beside them stand the rows that were read ahead, as many as a [`RowShelf`] has room for.
 #[derive(Drop)]
 pub struct OpenFiles {
     shelf: Mutex<Shelf>,
+    rows: Mutex<RowShelf>,
     sources: AtomicU64,
     alloc: Global,
 }
@@ -21,6 +31,7 @@ impl OpenFiles {
     pub fn new(alloc: Global, most: NonZeroUsize) -> Result<OpenFiles, AllocError> {
         Ok(OpenFiles {
             shelf: Mutex::new(Shelf::new(alloc, most)?),
+            rows: Mutex::new(RowShelf::new(alloc)),
             sources: AtomicU64::new(0),
             alloc,
         })
@@ -46,5 +57,50 @@ impl OpenFiles {
         if let Ok(file) = Arc::new(self.alloc, file) {
             self.shelf.lock(rt).keep(number, file);
         }
+    }
+
+    /// Reads runs of the source of a number from rows that were read ahead, or reads ahead and keeps what it read. Where it
+    /// doesn't, the buffer's bytes are of no use.
+    pub(crate) fn read_ahead<R: Wait, S: Source<R>>(
+        &self,
+        rt: &R,
+        source: &S,
+        number: u64,
+        runs: Runs,
+        buffer: &mut [u8],
+    ) -> bool
+        requires runs { AreIn (length (S.bytes source.now)) runs }
+        requires length { length buffer.old ≡ runs.count * runs.len }
+        ensures { length buffer.new ≡ length buffer.old }
+    {
+        if let Some(rows) = self.find_rows(rt, number, runs) {
+            rows.copy(rt, runs, buffer);
+            return true;
+        }
+        let Some(rows) = WideRows::ahead(rt, self.alloc, source, number, runs) else {
+            return false;
+        };
+        rows.copy(rt, runs, buffer);
+        self.keep_rows(rt, rows);
+        true
+    }
+
+    /// Rows that are kept of the source of a number and have these runs.
+    fn find_rows<R: Wait>(&self, rt: &R, number: u64, runs: Runs) -> Option<Arc<WideRows>>
+        ensures { IfSome result (λ w. AreAmong (arc_value w).runs runs) }
+    {
+        self.rows.lock(rt).find(number, runs)
+    }
+
+    /// Keeps rows that were read ahead. They are let go where memory is wanting.
+    fn keep_rows<R: Wait>(&self, rt: &R, rows: WideRows) {
+        if let Ok(rows) = Arc::new(self.alloc, rows) {
+            self.rows.lock(rt).keep(rows);
+        }
+    }
+
+    /// Lets go what was read ahead of the source of a number.
+    pub(crate) fn forget_rows<R: Wait>(&self, rt: &R, number: u64) {
+        self.rows.lock(rt).forget(number);
     }
 }

@@ -1,10 +1,12 @@
 //! A file as a source, opened when it is read.
 
-ghost use Rattle.std.specs.Prelude.{◌||◌, ◌==◌, ◌≡◌, ℕ, IfErr, IsTrue, replicate};
+ghost use Rattle.std.specs.Prelude.{◌||◌, ◌==◌, ◌≡◌, ◌*◌, ℕ, IfErr, IsTrue, length, replicate};
 ghost use Rattle.iiif_source.specs.Cause.{failed, ended};
+ghost use Rattle.iiif_source.specs.Runs.{AreIn};
 
 use crate::known::Known;
 use crate::open_files::OpenFiles;
+use crate::opened::Opened;
 use crate::opens::Opens;
 use iiif_source::{ReadFault, Runs, Source, fill, fill_runs};
 use std::fs::File;
@@ -47,10 +49,12 @@ impl PathSource {
         })
     }
 
-    /// The file, opened again, or the cause of the fault of a read: it is gone, it can't be opened, or it isn't what it was.
-    fn opened<R: Opens>(&self, rt: &R) -> Result<File, u8>
+    /// The file, opened again, or the cause of the fault of a read: it is gone, it can't be opened, or it isn't what it was. What
+    /// was read ahead of it before is let go first.
+    fn opened<R: Opens + Wait>(&self, rt: &R) -> Result<File, u8>
         ensures { IfErr result (λ cause. IsTrue (cause == failed || cause == ended)) }
     {
+        self.files.forget_rows(rt, self.number);
         let Ok(file) = rt.open(self.path.as_str()) else {
             return Err(ReadFault::FAILED);
         };
@@ -61,6 +65,45 @@ impl PathSource {
             None => Ok(file),
             Some(cause) => Err(cause),
         }
+    }
+
+    /// Whether an open file is what it was.
+    fn is_unchanged(&self, file: &File) -> bool {
+        match file.metadata() {
+            Ok(now) => self.known.change(&Known::of(&now)).is_none(),
+            Err(_) => false,
+        }
+    }
+
+    /// Reads runs of the open file. Where they lie apart, and the file is what it was, they are taken from rows that were read ahead,
+    /// or their rows are read ahead. Where nothing can be read ahead they are read alone: so a fault is one of these runs' own.
+    fn runs_of<R: Wait>(
+        &self,
+        rt: &R,
+        file: &File,
+        runs: Runs,
+        buffer: &mut [u8],
+    ) -> Result<(), ReadFault>
+        requires runs { AreIn self.now runs }
+        requires length { length buffer.old ≡ runs.count * runs.len }
+        ensures length { length buffer.new ≡ length buffer.old }
+        ensures cause { IfErr result (λ f. IsTrue (f.cause == failed || f.cause == ended)) }
+    {
+        if runs.count > 1 && (runs.len as u64) < runs.stride {
+            let source = Opened {
+                file,
+                len: self.known.len,
+            };
+            if !self.is_unchanged(file) {
+                self.files.forget_rows(rt, self.number);
+            } else if self
+                .files
+                .read_ahead(rt, &source, self.number, runs, buffer)
+            {
+                return Ok(());
+            }
+        }
+        fill_runs(file, runs, buffer)
     }
 }
 
@@ -90,7 +133,7 @@ impl<R: Opens + Wait> Source<R> for PathSource {
 
     fn read_runs(&self, rt: &R, runs: Runs, buffer: &mut [u8]) -> Result<(), ReadFault> {
         if let Some(file) = self.files.find(rt, self.number) {
-            return fill_runs(&file, runs, buffer);
+            return self.runs_of(rt, &file, runs, buffer);
         }
         let file = match self.opened(rt) {
             Ok(file) => file,
@@ -99,7 +142,7 @@ impl<R: Opens + Wait> Source<R> for PathSource {
                 return Err(ReadFault { place, cause });
             }
         };
-        let read = fill_runs(&file, runs, buffer);
+        let read = self.runs_of(rt, &file, runs, buffer);
         self.files.keep(rt, self.number, file);
         read
     }

@@ -1,0 +1,101 @@
+//! A bounded number of rows that were read ahead.
+
+ghost use Rattle.std.specs.Prelude.{◌≡◌, ◌==◌, ◌<◌, ◌≤◌, ◌⊎◌, ◌++◌, ◌∷◌, [], if◌then◌else◌, filter, not, IfSome};
+ghost use Rattle.std.specs.Arc.{arc_value};
+ghost use Rattle.std.specs.Vec.{vec_len};
+ghost use Rattle.std.specs.List.{remove};
+ghost use Rattle.iiif_open_files.specs.declared.wide_rows.WideRows.{WideRows};
+ghost use Rattle.iiif_open_files.specs.Rows.{AreAmong};
+
+use crate::wide_rows::WideRows;
+use iiif_source::Runs;
+use std::alloc::Global;
+use std::sync::Arc;
+
+/// Rows that were read ahead, at most 16, the ones that were used last behind all others.
+#[derive(Drop)]
+pub struct RowShelf {
+    rows: Vec<Arc<WideRows>>,
+    ghost few: { vec_len rows ≤ 16 },
+}
+
+impl RowShelf {
+    /// So many are kept at most.
+    pub const MOST: usize = 16;
+
+    /// No rows yet.
+    pub fn new(alloc: Global) -> RowShelf
+        ensures { result.rows.items ≡ [] }
+    {
+        RowShelf {
+            rows: Vec::new(alloc),
+        }
+    }
+
+    /// How many are kept.
+    pub fn len(&self) -> usize
+        ensures count { result ≡ vec_len self.now.rows }
+        ensures within { result ≤ 16 }
+    {
+        self.rows.len()
+    }
+
+    /// Rows of the source of a number that have these runs, and their place.
+    fn placed(&self, number: u64, runs: Runs) -> Option<(usize, Arc<WideRows>)>
+        ensures place { IfSome result (λ p. p.0 < vec_len self.now.rows) }
+        ensures number { IfSome result (λ p. (arc_value p.1).number ≡ number) }
+        ensures among { IfSome result (λ p. AreAmong (arc_value p.1).runs runs) }
+    {
+        for place in 0..self.rows.len() {
+            let rows = &self.rows[place];
+            if rows.have(number, runs) {
+                return match rows.clone() {
+                    Ok(rows) => Some((place, rows)),
+                    Err(_) => None,
+                };
+            }
+        }
+        None
+    }
+
+    /// Rows of the source of a number that have these runs; they are then the ones that were used last.
+    pub fn find(&mut self, number: u64, runs: Runs) -> Option<Arc<WideRows>>
+        ensures number { IfSome result (λ w. (arc_value w).number ≡ number) }
+        ensures among { IfSome result (λ w. AreAmong (arc_value w).runs runs) }
+    {
+        match self.placed(number, runs) {
+            Some((place, found)) => {
+                let rows = self.rows.remove(place);
+                let _ = self.rows.push(rows);
+                Some(found)
+            }
+            None => None,
+        }
+    }
+
+    /// Lets go the rows that were used longest ago, where there is no room for others.
+    fn make_room(&mut self)
+        ensures rows { self.new.rows.items ≡ (if vec_len self.old.rows == 16 then remove self.old.rows.items 0 else self.old.rows.items) }
+        ensures room { vec_len self.new.rows < 16 }
+    {
+        if self.rows.len() == RowShelf::MOST {
+            let _oldest = self.rows.remove(0);
+        }
+    }
+
+    /// Keeps rows, and lets go the ones that were used longest ago where there is no room. Where memory is wanting these are let go
+    /// too.
+    pub fn keep(&mut self, rows: Arc<WideRows>)
+        ensures { let rest = (if vec_len self.old.rows == 16 then remove self.old.rows.items 0 else self.old.rows.items) in (self.new.rows.items ≡ rest ++ (rows ∷ [])) ⊎ (self.new.rows.items ≡ rest) }
+    {
+        self.make_room();
+        let _ = self.rows.push(rows);
+    }
+
+    /// Lets go all rows of the source of a number.
+    pub fn forget(&mut self, number: u64)
+        ensures { self.new.rows.items ≡ filter (λ w. not ((arc_value {X = WideRows} w).number == number)) self.old.rows.items }
+    {
+        self.rows.retain(|rows| rows.number != number);
+    }
+}
