@@ -1,5 +1,5 @@
 -- Rows of bytes that are read ahead of what was asked for, so that what is asked for next is there.
-use Rattle.std.specs.Prelude.{◌≡◌, ℕ, ◌+◌, ◌*◌, ◌^◌, ◌<◌, ◌≤◌}
+use Rattle.std.specs.Prelude.{◌≡◌, ℕ, ◌+◌, ◌*◌, ◌^◌, ◌<◌, ◌≤◌, nat_lt, if◌then◌else◌}
 use Rattle.iiif_source.specs.declared.Runs.{Runs}
 use Rattle.iiif_source.specs.Runs.{AreIn}
 
@@ -10,11 +10,15 @@ pub record AreAmong (rows runs : Runs) : Type 0 where
   pub from : rows.at ≤ runs.at
   pub to : runs.at + runs.len ≤ rows.at + rows.len
 
--- The rows begin where the runs do and are longer, and they stand in a source of n bytes. Together they have at most 1 MiB.
+-- How many bytes so many rows have together at most: 1 MiB, of up to 16 rows 32 KiB.
+abbrev pub room_of : ℕ → ℕ
+room_of count = if nat_lt 16 count then 2 ^ 20 else 2 ^ 15
+
+-- The rows begin where the runs do and are longer, they stand in a source of n bytes, and together they have room.
 pub record AreWider (n : ℕ) (runs rows : Runs) : Type 0 where
   pub begin : rows.at ≡ runs.at
   pub stride : rows.stride ≡ runs.stride
   pub count : rows.count ≡ runs.count
   pub longer : runs.len < rows.len
-  pub room : rows.count * rows.len ≤ 2 ^ 20
+  pub room : rows.count * rows.len ≤ room_of rows.count
   pub within : AreIn n rows

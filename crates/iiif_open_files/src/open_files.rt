@@ -8,6 +8,7 @@ ghost use Rattle.iiif_open_files.specs.Rows.{AreAmong};
 use crate::row_shelf::RowShelf;
 use crate::shelf::Shelf;
 use crate::wide_rows::WideRows;
+use crate::widening::FEW;
 use iiif_source::{Runs, Source};
 use std::alloc::{AllocError, Global};
 use std::fs::File;
@@ -17,11 +18,12 @@ use std::sync::{Arc, Mutex, Wait};
 
 /// The files that the sources of one program keep open between their reads, as many as a [`Shelf`] has room for. No lock is held
 /// while a file is opened or read. So the files that are open at once are those that are kept, and one for each read that goes on.
-/// Beside them stand the rows that were read ahead, as many as a [`RowShelf`] has room for.
+/// Beside them stand the rows that were read ahead: at most 16 times many rows, and 128 times few.
 #[derive(Drop)]
 pub struct OpenFiles {
     shelf: Mutex<Shelf>,
-    rows: Mutex<RowShelf>,
+    many: Mutex<RowShelf>,
+    few: Mutex<RowShelf>,
     sources: AtomicU64,
     alloc: Global,
 }
@@ -31,7 +33,8 @@ impl OpenFiles {
     pub fn new(alloc: Global, most: NonZeroUsize) -> Result<OpenFiles, AllocError> {
         Ok(OpenFiles {
             shelf: Mutex::new(Shelf::new(alloc, most)?),
-            rows: Mutex::new(RowShelf::new(alloc)),
+            many: Mutex::new(RowShelf::new(alloc, 16)),
+            few: Mutex::new(RowShelf::new(alloc, 128)),
             sources: AtomicU64::new(0),
             alloc,
         })
@@ -85,22 +88,28 @@ impl OpenFiles {
         true
     }
 
+    /// Where so many rows are kept.
+    fn shelf_of(&self, count: u32) -> &Mutex<RowShelf> {
+        if count > FEW { &self.many } else { &self.few }
+    }
+
     /// Rows that are kept of the source of a number and have these runs.
     fn find_rows<R: Wait>(&self, rt: &R, number: u64, runs: Runs) -> Option<Arc<WideRows>>
         ensures { IfSome result (λ w. AreAmong (arc_value w).runs runs) }
     {
-        self.rows.lock(rt).find(number, runs)
+        self.shelf_of(runs.count).lock(rt).find(number, runs)
     }
 
     /// Keeps rows that were read ahead. They are let go where memory is wanting.
     fn keep_rows<R: Wait>(&self, rt: &R, rows: WideRows) {
         if let Ok(rows) = Arc::new(self.alloc, rows) {
-            self.rows.lock(rt).keep(rows);
+            self.shelf_of(rows.runs.count).lock(rt).keep(rows);
         }
     }
 
     /// Lets go what was read ahead of the source of a number.
     pub(crate) fn forget_rows<R: Wait>(&self, rt: &R, number: u64) {
-        self.rows.lock(rt).forget(number);
+        self.many.lock(rt).forget(number);
+        self.few.lock(rt).forget(number);
     }
 }

@@ -12,30 +12,32 @@ use iiif_source::Runs;
 use std::alloc::Global;
 use std::sync::Arc;
 
-/// Rows that were read ahead, at most 16, the ones that were used last behind all others.
+/// Rows that were read ahead, so many at most, the ones that were used last behind all others.
 #[derive(Drop)]
 pub struct RowShelf {
     rows: Vec<Arc<WideRows>>,
-    ghost few: { vec_len rows ≤ 16 },
+    most: usize,
+    ghost some: { 0 < most },
+    ghost few: { vec_len rows ≤ most },
 }
 
 impl RowShelf {
-    /// So many are kept at most.
-    pub const MOST: usize = 16;
-
-    /// No rows yet.
-    pub fn new(alloc: Global) -> RowShelf
-        ensures { result.rows.items ≡ [] }
+    /// No rows, and room for so many.
+    pub fn new(alloc: Global, most: usize) -> RowShelf
+        requires { 0 < most }
+        ensures rows { result.rows.items ≡ [] }
+        ensures most { result.most ≡ most }
     {
         RowShelf {
             rows: Vec::new(alloc),
+            most,
         }
     }
 
     /// How many are kept.
     pub fn len(&self) -> usize
         ensures count { result ≡ vec_len self.now.rows }
-        ensures within { result ≤ 16 }
+        ensures within { result ≤ self.now.most }
     {
         self.rows.len()
     }
@@ -75,10 +77,11 @@ impl RowShelf {
 
     /// Lets go the rows that were used longest ago, where there is no room for others.
     fn make_room(&mut self)
-        ensures rows { self.new.rows.items ≡ (if vec_len self.old.rows == 16 then remove self.old.rows.items 0 else self.old.rows.items) }
-        ensures room { vec_len self.new.rows < 16 }
+        ensures rows { self.new.rows.items ≡ (if vec_len self.old.rows == self.old.most then remove self.old.rows.items 0 else self.old.rows.items) }
+        ensures room { vec_len self.new.rows < self.old.most }
+        ensures most { self.new.most ≡ self.old.most }
     {
-        if self.rows.len() == RowShelf::MOST {
+        if self.rows.len() == self.most {
             let _oldest = self.rows.remove(0);
         }
     }
@@ -86,7 +89,7 @@ impl RowShelf {
     /// Keeps rows, and lets go the ones that were used longest ago where there is no room. Where memory is wanting these are let go
     /// too.
     pub fn keep(&mut self, rows: Arc<WideRows>)
-        ensures { let rest = (if vec_len self.old.rows == 16 then remove self.old.rows.items 0 else self.old.rows.items) in (self.new.rows.items ≡ rest ++ (rows ∷ [])) ⊎ (self.new.rows.items ≡ rest) }
+        ensures { let rest = (if vec_len self.old.rows == self.old.most then remove self.old.rows.items 0 else self.old.rows.items) in (self.new.rows.items ≡ rest ++ (rows ∷ [])) ⊎ (self.new.rows.items ≡ rest) }
     {
         self.make_room();
         let _ = self.rows.push(rows);

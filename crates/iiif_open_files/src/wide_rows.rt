@@ -2,7 +2,7 @@
 
 ghost use Rattle.std.specs.Prelude.{◌≡◌, ◌+◌, ◌*◌, ◌^◌, ◌<◌, ◌≤◌, ℕ, List, length, IfSome, IsTrue};
 ghost use Rattle.iiif_source.specs.Runs.{AreIn, HoldsRuns};
-ghost use Rattle.iiif_open_files.specs.Rows.{AreAmong};
+ghost use Rattle.iiif_open_files.specs.Rows.{AreAmong, room_of};
 
 use crate::widening::wider;
 use iiif_source::{MemSource, Runs, Source};
@@ -58,7 +58,7 @@ impl WideRows {
         requires { AreIn (length (S.bytes source.now)) runs }
         ensures number { IfSome result (λ w. w.number ≡ number) }
         ensures among { IfSome result (λ w. AreAmong w.runs runs) }
-        ensures room { IfSome result (λ w. length w.bytes ≤ 2 ^ 20) }
+        ensures room { IfSome result (λ w. length w.bytes ≤ room_of w.runs.count) }
         ensures bytes { IfSome result (λ w. S.keeps source.now → HoldsRuns (S.bytes source.now) w.runs w.runs.count w.bytes) }
     {
         match wider(runs, source.len()) {
@@ -69,7 +69,8 @@ impl WideRows {
 
     /// Whether these are rows of the source of a number, and have these runs of it.
     pub fn have(&self, number: u64, runs: Runs) -> bool
-        ensures { IsTrue result → (self.now.number ≡ number) × AreAmong self.now.runs runs }
+        ensures right { IsTrue result → (self.now.number ≡ number) × AreAmong self.now.runs runs }
+        ensures all { self.now.number ≡ number → AreAmong self.now.runs runs → IsTrue result }
     {
         let rows = self.runs;
         if self.number != number || rows.stride != runs.stride || rows.count != runs.count {

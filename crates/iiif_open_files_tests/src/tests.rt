@@ -14,7 +14,7 @@ use std::{fs, thread};
 
 /// What is done to a file behind its sources.
 #[derive(Clone, Copy)]
-enum Change {
+pub(crate) enum Change {
     Removed,
     /// It has so many bytes from now on.
     Resized(u64),
@@ -43,7 +43,7 @@ enum Step {
 }
 
 /// So many open files, of no source yet.
-fn open_files(alloc: Global, most: usize) -> Result<Arc<OpenFiles>, Fail> {
+pub(crate) fn open_files(alloc: Global, most: usize) -> Result<Arc<OpenFiles>, Fail> {
     let room = NonZeroUsize::new(most).ok_or("no room")?;
     Ok(Arc::new(alloc, OpenFiles::new(alloc, room)?)?)
 }
@@ -78,7 +78,7 @@ where
 }
 
 /// A source of a file of these bytes.
-fn source_of<R>(
+pub(crate) fn source_of<R>(
     rt: &R,
     files: &Arc<OpenFiles>,
     path: &str,
@@ -105,7 +105,7 @@ where
 }
 
 /// Changes a file.
-fn change_file<R>(rt: &R, path: &str, how: Change) -> Result<(), Fail>
+pub(crate) fn change_file<R>(rt: &R, path: &str, how: Change) -> Result<(), Fail>
 where
     R: Files<File = File>,
 {
