@@ -5,10 +5,10 @@ use crate::values::{
 };
 use iiif_machine::{Ask, Call, CallState, Flight, Given, Progress, Purpose, Reply, Stage, Wanted};
 use iiif_pixel::NoMemory;
+use iiif_plain_tables::listing::Entry;
+use iiif_plain_tables::node::Node;
+use iiif_plain_tables::plain::{OpenFlight, PlainTable};
 use iiif_tables::Place;
-use iiif_world::listing::Entry;
-use iiif_world::node::Node;
-use iiif_world::plain::{OpenFlight, PlainTable};
 use iiif_world::world::World;
 
 /// The entries of a list, the one used last first.

@@ -22,9 +22,9 @@ use Rattle.iiif_machine.specs.declared.rows.Stage.TheVariants.{Looked, Parts, Re
 use Rattle.iiif_machine.proofs.Learning.{gathered, AreGathered}
 use Rattle.iiif_machine.proofs.Lists.{some_same, each_of_all}
 use Rattle.iiif_machine.proofs.Subjects.{subject_laws}
-use Rattle.iiif_world.specs.Heard.{heard_all}
+use Rattle.iiif_plain_tables.specs.Heard.{heard_all}
 use Rattle.iiif_world.specs.Loads.{IsLocalAt}
-use Rattle.iiif_world.specs.declared.knowing.Heard.TheVariants as code
+use Rattle.iiif_plain_tables.specs.declared.hearing.Heard.TheVariants as code
 use Rattle.iiif_world.proofs.Meant.{heard_value, heard_fault, heard_nothing}
 use Rattle.iiif_world.proofs.Stepped.{begin_is, merge_is, merge_none}
 

@@ -1,10 +1,7 @@
 -- What keys and requests of sound worlds come to.
-use Rattle.std.proofs.Common.{◌≡◌, ℕ, ◌<◌, ◌≤◌, ◌*◌, List, [], ◌∷◌, map, Option, Some, None, Result, Ok, Err, refl, sym, ap, subst, ◌∙◌, arith}
+use Rattle.std.proofs.Common.{◌≡◌, ℕ, ◌≤◌, ◌*◌, List, map, Option, Some, None, Result, Ok, Err, refl, sym, ap, subst, ◌∙◌, arith}
 use Rattle.std.proofs.Math.Nat.{mul-le-mul}
-use Rattle.std.specs.Prelude.{slice_get, Bool, if◌then◌else◌}
-use Rattle.std.proofs.Common.{eq-eqb}
-use Rattle.std.proofs.lemmas.Bool.{ne_eqb}
-use Rattle.iiif_keys.specs.Meaning.{sums_below, tile_below}
+use Rattle.std.specs.Prelude.{slice_get}
 use Rattle.std.proofs.lemmas.Option.{none-some}
 use Rattle.iiif_pixel.specs.Geometry.{channels_of, sides_of}
 use Rattle.iiif_pixel.specs.Picture.{Picture, dim_of}
@@ -23,7 +20,7 @@ use Rattle.iiif_keys.proofs.PartLaws.{fitting_has_parts}
 use Rattle.iiif_keys.specs.declared.keys.TileKey.{TileKey}
 use Rattle.iiif_keys.specs.declared.keys.SumKey.{SumKey}
 use Rattle.iiif_scene.specs.Scenes.{Scene, IsProper}
-use Rattle.iiif_scene.specs.Keys.{Fits, name_of, meaning, parts_of}
+use Rattle.iiif_scene.specs.Keys.{Fits, name_of, meaning}
 use Rattle.iiif_scene.specs.Plans.{kind_of, resolved, items}
 use Rattle.iiif_scene.specs.Images.{image, assembled}
 use Rattle.iiif_scene.specs.declared.keys.Key.TheVariants as key
@@ -38,8 +35,8 @@ use Rattle.iiif_machine.specs.Sound.{Each, IsHonestWorld, ProgressIsHonest, fact
 use Rattle.iiif_machine.proofs.Lists.{some_same, each_of_all}
 use Rattle.iiif_machine.proofs.Learning.{gathered, AreGathered}
 use Rattle.iiif_machine.proofs.Subjects.{subject_laws}
-use Rattle.iiif_world.specs.Heard.{Heard, heard_all, heard_from}
-use Rattle.iiif_world.specs.declared.knowing.Heard.TheVariants as code
+use Rattle.iiif_plain_tables.specs.Heard.{Heard, heard_all, heard_from}
+use Rattle.iiif_plain_tables.specs.declared.hearing.Heard.TheVariants as code
 use Rattle.iiif_world.specs.Settling.{answer_at, answer_due, answer_with}
 
 -- a kind has its channels
@@ -174,12 +171,3 @@ due_value w q r cs p h ready waits shown is value =
     let v = heard_value (all_learned w cs) (sym is ∙ value) in
     due_by w q r cs p (Some v.0) waits shown v.2 ∙ ap (λ (x : Result (List Value) ReadFault). Some (answer_from w.scene p r x)) v.3
     ∙ ap (λ (x : Picture). Some (Image x)) (ready.made v.0 v.1 v.2 v.3)
-
--- the parts of a sum
-pub parts_tile : (k : SumKey) → k.level ≡ 0 → parts_of (key.Sum k) ≡ Some (key.Tile (tile_below k) ∷ [])
-unfolding parts_of
-parts_tile k none = ap (λ (b : Bool). Some (if b then key.Tile (tile_below k) ∷ [] else map key.Sum (sums_below k))) (eq-eqb k.level 0 none)
-
-pub parts_sums : (k : SumKey) → 0 < k.level → parts_of (key.Sum k) ≡ Some (map key.Sum (sums_below k))
-unfolding parts_of
-parts_sums k some = ap (λ (b : Bool). Some (if b then key.Tile (tile_below k) ∷ [] else map key.Sum (sums_below k))) (ne_eqb k.level 0 (λ e. omega (arith, e, some)))

@@ -22,7 +22,7 @@ use Rattle.iiif_machine.specs.Worlds.{World, ◌>>=◌, version_shown, version_a
 use Rattle.iiif_machine.specs.Steps.{is_open_for, lead_of, after_want, after_look, after_begin, after_stop, flight_stopped, call_stopped, request_stopped, after_ask_peer, after_load, after_meeting, node_without, stage_found, step}
 use Rattle.iiif_machine.specs.declared.events.Event.TheVariants.{Want, Enter, Again, AskPeer, Serve, Load, Land, Stop}
 use Rattle.iiif_machine.specs.declared.rows.Purpose.TheVariants.{ForAsk}
-use Rattle.iiif_world.proofs.Opening.{enter_met}
+use Rattle.iiif_plain_tables.proofs.Opening.{enter_met}
 
 pub bind_by : {A B : Type 0} (x : Option A) (f : A → Option B) (a : A) {y : Option B} → x ≡ Some a → f a ≡ y → (x >>= f) ≡ y
 bind_by x f a h e = ap (λ (o : Option _). o >>= f) h ∙ e

@@ -8,8 +8,8 @@ use Rattle.iiif_machine.specs.Rows as rows
 use Rattle.iiif_machine.specs.Worlds.{World, with_node}
 use Rattle.iiif_machine.proofs.Learning.{get_mapped}
 use Rattle.iiif_machine.proofs.Lists.{map_set}
-use Rattle.iiif_world.specs.declared.node.Node.{Node}
-use Rattle.iiif_world.specs.Code.{node_of}
+use Rattle.iiif_plain_tables.specs.declared.node.Node.{Node}
+use Rattle.iiif_plain_tables.specs.Nodes.{node_of}
 use Rattle.iiif_world.specs.Settling.{due, answer_due}
 use Rattle.iiif_world.proofs.Changed.{map-set}
 

@@ -1,7 +1,4 @@
-pub mod Rows
-pub mod Open
 pub mod Code
-pub mod Heard
 pub mod Settling
 pub mod Entering
 pub mod Stepping

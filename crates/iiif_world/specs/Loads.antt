@@ -11,7 +11,7 @@ use Rattle.iiif_machine.specs.declared.events.Event.TheVariants.{Load}
 use Rattle.iiif_machine.specs.declared.rows.Lead.{Lead}
 use Rattle.iiif_machine.specs.declared.rows.Stage.{Stage}
 use Rattle.iiif_machine.specs.declared.rows.Stage.TheVariants.{Looked, Parts}
-use Rattle.iiif_world.specs.Heard.{heard_all}
+use Rattle.iiif_plain_tables.specs.Heard.{heard_all}
 use Rattle.iiif_world.specs.declared.loading.Loading.{Loading}
 use Rattle.iiif_world.specs.declared.loading.Loading.TheVariants as loading
 

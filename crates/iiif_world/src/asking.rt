@@ -6,10 +6,10 @@ ghost use Rattle.iiif_machine.specs.declared.events.Event.{Event};
 ghost use Rattle.iiif_machine.specs.declared.events.WorldFault.{WorldFault};
 ghost use Rattle.iiif_world.specs.Code.{world_of};
 
-use crate::keys::{copied, same};
 use crate::world::World;
 use iiif_machine::{Caller, Flight, Purpose, Reply, Stage, WorldFault};
 use iiif_pixel::NoMemory;
+use iiif_plain_tables::keys::{copied, same};
 use iiif_scene::Key;
 use iiif_tables::{Class, Place};
 use std::alloc::Global;

@@ -5,55 +5,23 @@ ghost use Rattle.iiif_tables.specs.Flights.{enter as entering};
 ghost use Rattle.iiif_scene.specs.Keys.{key_eq};
 ghost use Rattle.iiif_scene.specs.Scenes.{IsProper};
 ghost use Rattle.iiif_machine.specs.Sound.{IsHonestWorld};
-ghost use Rattle.iiif_machine.specs.Steps.{is_open, is_open_for, step};
+ghost use Rattle.iiif_machine.specs.Steps.{step};
 ghost use Rattle.iiif_machine.specs.Rows.{Node};
 ghost use Rattle.iiif_machine.specs.Worlds.{put_table, settled, table_at, with_flight, with_node, with_state};
 ghost use Rattle.iiif_machine.specs.declared.events.Event.{Event};
 ghost use Rattle.iiif_machine.specs.declared.events.WorldFault.{WorldFault};
 ghost use Rattle.iiif_machine.specs.declared.rows.Caller.{Caller};
 ghost use Rattle.iiif_machine.specs.declared.rows.CallState.{CallState};
-ghost use Rattle.iiif_world.specs.Code.{entered_of, world_of, IsSoundWorld};
+ghost use Rattle.iiif_plain_tables.specs.Nodes.{entered_of};
+ghost use Rattle.iiif_world.specs.Code.{world_of, IsSoundWorld};
 ghost use Rattle.iiif_world.specs.Entering.{HasCall, IsFresh};
 
-use crate::keys::same;
-use crate::table::{Entered, same_class};
 use crate::world::World;
 use iiif_machine::{Call, CallState, Caller, Flight, Lead, Stage, WorldFault};
 use iiif_pixel::NoMemory;
+use iiif_plain_tables::flights::open_for;
+use iiif_plain_tables::table::Entered;
 use iiif_scene::Value;
-
-/// Whether a flight is open.
-fn is_open(stage: &Stage) -> bool
-    ensures { result ≡ is_open stage.now }
-{
-    match stage {
-        Stage::Ended(_) => false,
-        Stage::New
-        | Stage::Looked
-        | Stage::Asking
-        | Stage::Fallback(_)
-        | Stage::Parts(_)
-        | Stage::Ready(_, _) => true,
-    }
-}
-
-/// Whether a flight is an open one of a call's node, key and class.
-fn is_open_for(caller: &Caller, flight: &Flight) -> bool
-    ensures { result ≡ is_open_for caller.now flight.now }
-{
-    let lead = &flight.lead;
-    is_open(&flight.stage)
-        && lead.node == caller.node
-        && same(&lead.key, &caller.key)
-        && same_class(lead.class, caller.class)
-}
-
-/// The place of the first open flight of a call's node, key and class.
-fn open_for(flights: &[Flight], caller: &Caller) -> Option<usize>
-    ensures { result ≡ position (is_open_for caller.now) flights.now }
-{
-    flights.iter().position(|f| is_open_for(caller, f))
-}
 
 impl World {
     /// A call enters the table of its node. After an error all is as before.

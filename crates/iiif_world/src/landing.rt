@@ -15,61 +15,13 @@ ghost use Rattle.iiif_tables.specs.declared.table.Place.{Place};
 ghost use Rattle.iiif_world.specs.Code.{world_of, IsSoundWorld};
 ghost use Rattle.iiif_world.specs.Entering.{HasFlight};
 
-use crate::keys::copied;
 use crate::world::World;
 use iiif_machine::{Flight, Lead, Stage, WorldFault};
 use iiif_pixel::NoMemory;
+use iiif_plain_tables::flights::{end_flight, reopen_flight, value_in};
 use iiif_scene::Value;
 use iiif_source::ReadFault;
 use iiif_tables::Place;
-use std::alloc::Global;
-use std::mem::replace;
-
-/// A copy of an outcome's value. The only error is want of memory.
-fn value_in(alloc: Global, outcome: &Result<Value, ReadFault>) -> Result<Option<Value>, NoMemory>
-    ensures { IfOk result (λ v. v ≡ value_of outcome.now) }
-{
-    match outcome {
-        Ok(value) => Ok(Some(copied(alloc, value)?)),
-        Err(_) => Ok(None),
-    }
-}
-
-/// A stage that is ready ends; any other stays.
-fn ended(stage: Stage) -> Stage
-    ensures { (o : Outcome) (p : Place) → stage ≡ Stage.Ready o p → result ≡ Stage.Ended (Some o) }
-{
-    match stage {
-        Stage::Ready(outcome, _) => Stage::Ended(Some(outcome)),
-        stage => stage,
-    }
-}
-
-/// A stage that ended with an outcome is ready; any other stays.
-fn reopened(stage: Stage, place: Place) -> Stage
-    ensures { (o : Outcome) → stage ≡ Stage.Ended (Some o) → result ≡ Stage.Ready o place }
-{
-    match stage {
-        Stage::Ended(Some(outcome)) => Stage::Ready(outcome, place),
-        stage => stage,
-    }
-}
-
-/// A flight that is ready ends.
-fn end_flight(flight: &mut Flight)
-    ensures { (l : Lead) (o : Outcome) (p : Place) → flight.old ≡ record { lead = l; stage = Stage.Ready o p } → flight.new ≡ record { lead = l; stage = Stage.Ended (Some o) } }
-{
-    let stage = replace(&mut flight.stage, Stage::New);
-    flight.stage = ended(stage);
-}
-
-/// A flight that ended with an outcome is ready again.
-fn reopen_flight(flight: &mut Flight, place: Place)
-    ensures { (l : Lead) (o : Outcome) → flight.old ≡ record { lead = l; stage = Stage.Ended (Some o) } → flight.new ≡ record { lead = l; stage = Stage.Ready o place } }
-{
-    let stage = replace(&mut flight.stage, Stage::New);
-    flight.stage = reopened(stage, place);
-}
 
 impl World {
     /// What a flight has that is ready.

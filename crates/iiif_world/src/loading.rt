@@ -14,14 +14,14 @@ ghost use Rattle.iiif_machine.specs.declared.rows.Purpose.{Purpose};
 ghost use Rattle.iiif_machine.specs.declared.rows.Stage.{Stage};
 ghost use Rattle.iiif_world.specs.Code.{world_of, IsSoundWorld};
 ghost use Rattle.iiif_world.specs.Loads.{IsLoading, IsLocalAt};
-ghost use Rattle.iiif_world.specs.declared.knowing.Heard.{Heard};
+ghost use Rattle.iiif_plain_tables.specs.declared.hearing.Heard.{Heard};
 
-use crate::calling::{calls_of, numbers_of, parts_in};
-use crate::keys::name_of;
-use crate::knowing::Heard;
 use crate::world::World;
 use iiif_machine::{Call, Flight, Given, Numbers, Purpose, Stage, WorldFault};
 use iiif_pixel::NoMemory;
+use iiif_plain_tables::calling::{calls_of, numbers_of, parts_in};
+use iiif_plain_tables::hearing::Heard;
+use iiif_plain_tables::keys::name_of;
 use iiif_scene::{Key, Value};
 use iiif_source::ReadFault;
 use iiif_tables::{Class, Place};

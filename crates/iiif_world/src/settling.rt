@@ -7,11 +7,11 @@ ghost use Rattle.iiif_machine.specs.Worlds.{settled};
 ghost use Rattle.iiif_world.specs.Code.{world_of};
 ghost use Rattle.iiif_world.specs.Settling.{answer_due, answered_if, due, joined, ready_if};
 
-use crate::knowing::Heard;
-use crate::making::image;
 use crate::world::World;
 use iiif_machine::{Answer, Flight, Progress, Stage, Wanted};
 use iiif_pixel::NoMemory;
+use iiif_plain_tables::hearing::Heard;
+use iiif_plain_tables::making::image;
 use iiif_scene::Value;
 use iiif_source::ReadFault;
 use iiif_tables::Place;

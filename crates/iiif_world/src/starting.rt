@@ -5,15 +5,16 @@ ghost use Rattle.iiif_keys.specs.Names.{IsSource};
 ghost use Rattle.iiif_machine.specs.Worlds.{new_world};
 ghost use Rattle.iiif_machine.specs.Sound.{Each};
 ghost use Rattle.iiif_ring.specs.Names.{names_of};
-ghost use Rattle.iiif_world.specs.Code.{node_of, scene_of, world_of, IsSoundWorld};
+ghost use Rattle.iiif_plain_tables.specs.Nodes.{node_of};
+ghost use Rattle.iiif_world.specs.Code.{scene_of, world_of, IsSoundWorld};
 ghost use Rattle.iiif_world.specs.Starting.{node_for, AreSources, IsNamed, IsSetupFault, NamesNodes};
 
-use crate::node::Node;
-use crate::plain::PlainTable;
 use crate::world::{Item, World};
 use iiif_canonical::Limits;
 use iiif_keys::Name;
 use iiif_pixel::{NoMemory, Raster};
+use iiif_plain_tables::node::Node;
+use iiif_plain_tables::plain::PlainTable;
 use iiif_ring::Ring;
 use std::alloc::Global;
 

@@ -2,7 +2,7 @@
 
 ghost use Rattle.std.specs.Prelude.{◌≡◌, map, position, slice_get, Some, None, IfErr, IfOk, MatchOption, OnErr, OnOk};
 ghost use Rattle.std.specs.Str.{bytes_eq};
-ghost use Rattle.iiif_machine.specs.Steps.{call_stopped, flight_stopped, request_stopped, stage_found, step};
+ghost use Rattle.iiif_machine.specs.Steps.{stage_found, step};
 ghost use Rattle.iiif_machine.specs.declared.events.Event.{Event};
 ghost use Rattle.iiif_machine.specs.declared.events.WorldFault.{WorldFault};
 ghost use Rattle.iiif_machine.specs.declared.rows.Lead.{Lead};
@@ -14,69 +14,13 @@ ghost use Rattle.iiif_tables.specs.declared.table.Class.{Class};
 ghost use Rattle.iiif_world.specs.Code.{world_of, IsSoundWorld};
 ghost use Rattle.iiif_world.specs.Entering.{HasFlight};
 
-use crate::node::Node;
 use crate::world::World;
-use iiif_machine::{Ask, Call, CallState, Flight, Lead, Progress, Stage, Wanted, WorldFault};
+use iiif_machine::{Ask, Flight, Lead, Stage, WorldFault};
 use iiif_pixel::NoMemory;
+use iiif_plain_tables::node::Node;
+use iiif_plain_tables::stopping::{stop_calls, stop_flights, stop_requests};
 use iiif_scene::{Key, Value};
 use iiif_tables::{Class, Place};
-
-/// A flight of the node, if it is open, ends without an outcome.
-fn stop_flight(flight: &mut Flight, node: usize)
-    ensures { flight.new ≡ flight_stopped node flight.old }
-{
-    if flight.lead.node == node {
-        match flight.stage {
-            Stage::Ended(_) => {}
-            _ => flight.stage = Stage::Ended(None),
-        }
-    }
-}
-
-/// A call of the node goes.
-fn stop_call(call: &mut Call, node: usize)
-    ensures { call.new ≡ call_stopped node call.old }
-{
-    if call.caller.node == node {
-        call.state = CallState::Gone;
-    }
-}
-
-/// A request of the node, if it waits, goes.
-fn stop_request(request: &mut Wanted, node: usize)
-    ensures { request.new ≡ request_stopped node request.old }
-{
-    if request.wish.node == node {
-        match request.progress {
-            Progress::Waiting(_, _) => request.progress = Progress::Dropped,
-            _ => {}
-        }
-    }
-}
-
-fn stop_flights(flights: &mut [Flight], node: usize)
-    ensures { flights.new ≡ map (flight_stopped node) flights.old }
-{
-    for flight in flights.iter_mut() {
-        stop_flight(flight, node);
-    }
-}
-
-fn stop_calls(calls: &mut [Call], node: usize)
-    ensures { calls.new ≡ map (call_stopped node) calls.old }
-{
-    for call in calls.iter_mut() {
-        stop_call(call, node);
-    }
-}
-
-fn stop_requests(requests: &mut [Wanted], node: usize)
-    ensures { requests.new ≡ map (request_stopped node) requests.old }
-{
-    for request in requests.iter_mut() {
-        stop_request(request, node);
-    }
-}
 
 /// The place of the first node with a name.
 fn place_of(nodes: &[Node], name: &str) -> Option<usize>

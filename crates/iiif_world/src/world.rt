@@ -1,19 +1,20 @@
 //! The world, in code.
 
-ghost use Rattle.std.specs.Prelude.{[], ◌∷◌, ◌≡◌, ◌<◌, length, slice_get, Some, None, OnErr, OnOk, MatchOption, position};
+ghost use Rattle.std.specs.Prelude.{[], ◌∷◌, ◌++◌, ◌≡◌, ◌<◌, length, slice_get, Some, None, OnErr, OnOk, MatchOption, position};
 ghost use Rattle.iiif_machine.specs.declared.rows.Lead.{Lead};
 ghost use Rattle.iiif_machine.specs.declared.rows.Caller.{Caller};
 ghost use Rattle.iiif_machine.specs.declared.rows.CallState.{CallState};
 ghost use Rattle.iiif_machine.specs.declared.rows.Stage.{Stage};
 ghost use Rattle.iiif_machine.specs.Worlds.{version_at, version_shown, with_ask, with_calls, with_given, with_reply, with_stage, with_state};
-ghost use Rattle.iiif_world.specs.Code.{has_name, node_of, world_of};
+ghost use Rattle.iiif_plain_tables.specs.Nodes.{node_of};
+ghost use Rattle.iiif_world.specs.Code.{has_name, world_of};
 
-use crate::keys::name_of;
-use crate::node::Node;
 use iiif_canonical::Limits;
 use iiif_keys::Name;
 use iiif_machine::{Ask, Call, CallState, Caller, Flight, Given, Reply, Stage, Wanted};
 use iiif_pixel::{Depth, NoMemory, Raster};
+use iiif_plain_tables::keys::name_of;
+use iiif_plain_tables::node::Node;
 use iiif_scene::Key;
 
 /// An image of the catalogue.
@@ -124,6 +125,15 @@ impl World {
             state: CallState::Fresh,
         })?;
         Ok(())
+    }
+
+    /// Calls more. After an error all is as before.
+    pub(crate) fn add_calls(&mut self, calls: Vec<Call>) -> Result<(), NoMemory>
+        ensures ok { OnOk result (world_of self.new ≡ record (world_of self.old) { calls = (world_of self.old).calls ++ calls.items }) }
+        ensures err { OnErr result (world_of self.new ≡ world_of self.old) }
+    {
+        let mut calls = calls;
+        self.calls.append(&mut calls)
     }
 
     /// An ask that is made.

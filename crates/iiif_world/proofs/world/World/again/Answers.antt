@@ -4,7 +4,8 @@ use Rattle.std.proofs.lemmas.Option.{slice_get_within}
 use Rattle.iiif_machine.specs.Steps.{stage_found}
 use Rattle.iiif_machine.specs.Worlds.{World}
 use Rattle.iiif_machine.specs.declared.rows.Stage.TheVariants.{New}
-use Rattle.iiif_world.specs.Code.{world_of, node_of}
+use Rattle.iiif_plain_tables.specs.Nodes.{node_of}
+use Rattle.iiif_world.specs.Code.{world_of}
 use Rattle.iiif_world.specs.Entering.{HasFlight}
 use Rattle.iiif_world.proofs.Stepped.{again_done}
 use Rattle.iiif_world.proofs.world.World.again.Goals as goal

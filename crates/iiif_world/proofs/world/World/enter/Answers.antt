@@ -1,7 +1,8 @@
 use Rattle.std.proofs.Common.{sym, ap, ◌∙◌, option_map}
 use Rattle.iiif_machine.specs.declared.events.Event.TheVariants.{Enter}
-use Rattle.iiif_world.specs.Code.{world_of, node_of}
-use Rattle.iiif_world.specs.Rows.{kept_of}
+use Rattle.iiif_plain_tables.specs.Nodes.{node_of}
+use Rattle.iiif_world.specs.Code.{world_of}
+use Rattle.iiif_plain_tables.specs.Rows.{kept_of}
 use Rattle.iiif_world.proofs.Allowing.{wants_memory}
 use Rattle.iiif_world.proofs.world.World.enter.Goals as goal
 

@@ -9,7 +9,8 @@ use Rattle.iiif_machine.specs.declared.rows.Call.{Call}
 use Rattle.iiif_machine.specs.declared.rows.CallState.TheVariants.{Fresh}
 use Rattle.iiif_machine.specs.declared.rows.Flight.{Flight}
 use Rattle.iiif_machine.proofs.Allowed.{allowed_exactly}
-use Rattle.iiif_world.specs.Code.{world_of, entered_of}
+use Rattle.iiif_plain_tables.specs.Nodes.{entered_of}
+use Rattle.iiif_world.specs.Code.{world_of}
 use Rattle.iiif_world.specs.Entering.{HasCall}
 use Rattle.iiif_world.proofs.Tabled.{row_at}
 use Rattle.iiif_world.proofs.Stepped.{entering, lead_by, join_by, join_none}

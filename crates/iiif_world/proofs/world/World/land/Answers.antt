@@ -5,7 +5,8 @@ use Rattle.iiif_scene.specs.Scenes.{IsProper}
 use Rattle.iiif_machine.specs.Sound.{IsHonestWorld}
 use Rattle.iiif_machine.specs.Worlds.{World, with_stage}
 use Rattle.iiif_machine.specs.declared.rows.Stage.TheVariants.{Ready, Ended}
-use Rattle.iiif_world.specs.Code.{world_of, node_of}
+use Rattle.iiif_plain_tables.specs.Nodes.{node_of}
+use Rattle.iiif_world.specs.Code.{world_of}
 use Rattle.iiif_world.specs.Entering.{HasFlight}
 use Rattle.iiif_world.proofs.Changed.{get_set, length_set}
 use Rattle.iiif_world.proofs.Found.{ended_honest, stage_back}

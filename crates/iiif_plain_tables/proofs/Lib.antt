@@ -1,0 +1,11 @@
+pub mod Placed
+pub mod Opening
+pub mod Closing
+pub mod Marking
+pub mod Landed
+pub mod ScalingLemmas
+pub mod Imaged
+pub mod Owned
+pub mod Numbered
+pub mod Parts
+pub mod Mixed

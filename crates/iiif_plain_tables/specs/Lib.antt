@@ -1,0 +1,4 @@
+pub mod Rows
+pub mod Open
+pub mod Nodes
+pub mod Heard

@@ -1,7 +1,0 @@
-use Rattle.iiif_world.proofs.Imaged.{image_is}
-use Rattle.iiif_world.proofs.making.image.Goals as goal
-
-pub returns : goal.returns
-returns c =
-    image_is c.args.picture.now c.in_ok-region.region c.in_ok-scaled.scaled c.in_ok-turned.turned c.in_ok-image.image c.args.resolved.now
-    c.in_ok-region.ensures c.in_ok-scaled.ensures c.in_ok-turned.ensures c.in_ok-image.ensures
