@@ -12,8 +12,8 @@ use crate::weights::{sources, weight};
 use iiif_pixel::{Dim, NoMemory, Raster, Rect};
 use std::alloc::{AllocError, Global};
 
-/// Of so few source rows each is added with its weight.
-const FEW: u32 = 3;
+/// Of so few source rows each is added with its weight: adding them up apart costs a pass over all columns.
+const FEW: u32 = 6;
 
 /// The sums of so many samples, each of at most 65,535, fit in 32 bits. Rows past them are added with their weight.
 const RUN: u32 = 65_536;
@@ -122,6 +122,7 @@ fn span_of(i: u32, a: u32, c: u32, from: u32, count: u32) -> Span
 /// What result row `j` takes of each column of the part that a tile holds from its place `corner` on, where `b` rows are
 /// scaled to `d`. Rows of weight `d`, which all between the first and the last have, are added up without it in `inner`, since
 /// numbers of 32 bits take less than half of the time. `inner` is 0 before and after.
+#[inline(never)]
 fn fill_columns(
     columns: &mut [u64],
     inner: &mut [u32],

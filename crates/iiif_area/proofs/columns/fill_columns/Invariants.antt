@@ -1,6 +1,7 @@
 use Rattle.std.proofs.Common.{◌≡◌, ℕ, ◌+◌, ◌-◌, ◌*◌, ◌<◌, ◌≤◌, get_or, length}
 use Rattle.iiif_pixel.specs.Picture.{sample_at}
 use Rattle.iiif_pixel.specs.Scaling.{sum_from, weight_of}
+use Rattle.iiif_area.specs.declared.columns.TheConstants.{FEW}
 use Rattle.iiif_area.proofs.columns.fill_columns.Given as goal
 
 abbrev pub invariant-loop-s : goal.invariant-loop-s
@@ -8,5 +9,5 @@ invariant-loop-s l = record {
   total : (t k : ℕ) → t < l.part.w → k < l.tile.channels → get_or l.columns (t * l.tile.channels + k) 0 + l.d * get_or l.inner (t * l.tile.channels + k) 0
       ≡ sum_from l.start (l.s - l.start) (λ s. weight_of l.j (l.part.y + s) l.b l.d * sample_at l.tile (l.corner.0 + t) (l.corner.1 + s) k);
   bound : (i : ℕ) → i < length l.inner → get_or l.inner i 0 ≤ (l.s - l.start) * 65535;
-  clear : l.end ≤ l.start + 3 → (i : ℕ) → i < length l.inner → get_or l.inner i 0 ≡ 0;
+  clear : l.end ≤ l.start + FEW → (i : ℕ) → i < length l.inner → get_or l.inner i 0 ≡ 0;
 }
