@@ -1,4 +1,4 @@
 pub mod Lines
-pub mod Statuses
-pub mod Stored
 pub mod Telling
+pub use Rattle.iiif_start.specs.Statuses
+pub use Rattle.iiif_start.specs.Stored

@@ -1,6 +1,6 @@
 -- What the options of a line say.
 use Rattle.iiif_server.specs.Settings.{Settings}
-use Rattle.iiif_program.specs.declared.line.Options.{Options}
+use Rattle.iiif_command_line.specs.declared.line.Options.{Options}
 
 -- the settings of a server: both of the greatest sides are one number
 abbrev pub settings_in : Options → Settings

@@ -4,10 +4,9 @@ ghost use Rattle.std.specs.Prelude.{◌≡◌, ◌<◌, ◌^◌, ℕ, List, Some
 ghost use Rattle.iiif_source.specs.declared.ReadFault.{ReadFault};
 ghost use Rattle.iiif_images.specs.Collection.{Item, item_named};
 ghost use Rattle.iiif_images.specs.Named.{gave_of, pictures_of};
-ghost use Rattle.iiif_program.specs.Stored.{bytes_of, keeps_of, stored_gave};
+ghost use Rattle.iiif_start.specs.Stored.{bytes_of, keeps_of, stored_gave};
 ghost use Rattle.iiif_server.specs.Stocks.{IsStock};
 
-use crate::stored::Stored;
 use iiif_group::NoGate;
 use iiif_keys::System;
 use iiif_open_files::Opens;
@@ -15,6 +14,7 @@ use iiif_peer_link::TcpLink;
 use iiif_pixel::NoMemory;
 use iiif_ring::Ring;
 use iiif_server::{Catalogue, Config, Node, Stock};
+use iiif_start::Stored;
 use std::alloc::{AllocError, Global};
 use std::num::NonZeroUsize;
 use std::sync::Wait;

@@ -2,16 +2,24 @@
 
 use crate::hex::write_hex;
 use crate::passes::{give_back, passes_of};
-use crate::stop::Stop;
-use crate::stored::Stored;
 use iiif_group::{Gate, Link};
 use iiif_io::Outlet;
-use iiif_keys::{SumKey, System, TileKey};
+use iiif_keys::{Fault, SumKey, System, TileKey};
 use iiif_open_files::Opens;
-use iiif_server::Node;
+use iiif_server::{Cause, Node};
+use iiif_start::{Stop, Stored};
 use std::alloc::Global;
 use std::sync::Wait;
 use std::thread::Threads;
+
+/// Why an answer that was cut off ends the program.
+fn stop_by<'a>(cause: Cause) -> Stop<'a> {
+    match cause {
+        Cause::Writer => Stop::Write,
+        Cause::Load(Fault::NoMemory) => Stop::Memory,
+        Cause::Load(_) => Stop::Source,
+    }
+}
 
 /// Writes the body of the answer to a target.
 pub(crate) fn answer_one<'a, R, O, J, N, T>(
@@ -36,7 +44,7 @@ where
     give_back(rt, node, passes);
     match sent {
         Ok(_) => Ok(()),
-        Err(cut) => Err(Stop::by(cut.cause)),
+        Err(cut) => Err(stop_by(cut.cause)),
     }
 }
 

@@ -2,10 +2,10 @@
 
 ghost use Rattle.std.specs.Prelude.{◌<◌, length, IfSome};
 
-use crate::stored::Stored;
 use iiif_keys::System;
 use iiif_open_files::Opens;
 use iiif_server::{Node, Passes};
+use iiif_start::Stored;
 use std::alloc::Global;
 use std::sync::Wait;
 

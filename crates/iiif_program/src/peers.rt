@@ -1,7 +1,6 @@
 //! Connections of other nodes.
 
 use crate::connections::ends;
-use crate::stored::Stored;
 use crate::times::Times;
 use iiif_group::{Gate, Link};
 use iiif_keys::{SumKey, System, TileKey};
@@ -10,6 +9,7 @@ use iiif_metrics::Tally;
 use iiif_open_files::Opens;
 use iiif_server::Node;
 use iiif_source::Source;
+use iiif_start::Stored;
 use iiif_sum_group::SumCalls;
 use iiif_tile_group::TileCalls;
 use std::alloc::Global;

@@ -4,26 +4,24 @@ ghost use Rattle.std.specs.Prelude.{◌≡◌, ◌≤◌, ℕ, List, Some, false
 ghost use Rattle.iiif_source.specs.declared.ReadFault.{ReadFault};
 ghost use Rattle.iiif_images.specs.Collection.{Item, item_named};
 ghost use Rattle.iiif_images.specs.Named.{gave_of, pictures_of};
-ghost use Rattle.iiif_program.specs.Stored.{bytes_of, keeps_of, stored_gave};
+ghost use Rattle.iiif_start.specs.Stored.{bytes_of, keeps_of, stored_gave};
 
-use crate::check::check;
-use crate::line::{Mode, Options, matches, options_in};
 use crate::listeners::Addresses;
 use crate::nodes::{Nodes, among};
 use crate::one::{answer_in_hex, answer_one};
-use crate::opening::{catalogue, config, list_of};
 use crate::serving::listen;
-use crate::stop::{Stop, ended};
-use crate::stored::Stored;
+use crate::settings::{config, options_of};
 use crate::times::USUAL;
-use crate::wrong::refused;
 use clap::ArgMatches;
 use clap::error::ErrorKind;
+use iiif_command_line::{Mode, Options, matches};
 use iiif_group::{Gate, Link};
 use iiif_io::Outlet;
 use iiif_keys::{SumKey, System, TileKey};
 use iiif_open_files::Opens;
 use iiif_server::{Catalogue, Config, Node};
+use iiif_start::check::check;
+use iiif_start::{Stop, Stored, catalogue, ended, list_of, refused};
 use std::alloc::Global;
 use std::convert::AsStr;
 use std::marker::Brand;
@@ -108,7 +106,7 @@ where
         Ok(text) => Ok(text.as_slice()),
         Err(fault) => Err(*fault),
     };
-    let options = match options_in(alloc, matches, list) {
+    let options = match options_of(alloc, matches, list) {
         Ok(options) => options,
         Err(fault) => return refused(err, fault, matches.get_str("list")),
     };

@@ -3,8 +3,6 @@
 use crate::listeners::{Addresses, Listeners, logged, serve_all};
 use crate::peers::PeerCalls;
 use crate::statistics::Statistics;
-use crate::stop::Stop;
-use crate::stored::Stored;
 use crate::times::{Times, USUAL};
 use crate::viewers::Viewers;
 use crate::watcher::Watcher;
@@ -13,6 +11,7 @@ use iiif_io::Outlet;
 use iiif_keys::{SumKey, System, TileKey};
 use iiif_open_files::Opens;
 use iiif_server::Node;
+use iiif_start::{Stop, Stored};
 use std::alloc::Global;
 use std::io;
 use std::net::{Net, TcpListener, TcpStream};

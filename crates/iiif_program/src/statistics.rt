@@ -3,7 +3,6 @@
 ghost use Rattle.std.specs.Prelude.{◌≡◌};
 
 use crate::connections::ends;
-use crate::stored::Stored;
 use crate::times::Times;
 use iiif_group::Kept;
 use iiif_keys::System;
@@ -12,6 +11,7 @@ use iiif_metrics::{CacheMetrics, Measure, Metrics, Tally, serve_metrics};
 use iiif_open_files::Opens;
 use iiif_server::Node;
 use iiif_source::Source;
+use iiif_start::Stored;
 use iiif_sum_group::SumCalls;
 use iiif_tables::Book;
 use iiif_tile_group::TileCalls;

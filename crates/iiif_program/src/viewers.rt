@@ -2,7 +2,6 @@
 
 use crate::connections::ends;
 use crate::passes::{give_back, passes_of};
-use crate::stored::Stored;
 use crate::times::Times;
 use crate::watcher::Watcher;
 use iiif_group::{Gate, Link};
@@ -11,6 +10,7 @@ use iiif_listener::{Pace, PacedWriter, close};
 use iiif_open_files::Opens;
 use iiif_server::Node;
 use iiif_source::Source;
+use iiif_start::Stored;
 use iiif_sum_group::SumCalls;
 use iiif_tile_group::TileCalls;
 use std::alloc::Global;

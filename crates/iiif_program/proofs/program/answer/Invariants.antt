@@ -1,7 +1,7 @@
 use Rattle.std.specs.Prelude.{true, false}
 use Rattle.iiif_images.specs.Named.{gave_of, pictures_of}
 use Rattle.iiif_server.specs.Nodes.{stable_of}
-use Rattle.iiif_program.specs.Stored.{bytes_of, keeps_of, stored_gave}
+use Rattle.iiif_start.specs.Stored.{bytes_of, keeps_of, stored_gave}
 use Rattle.iiif_program.proofs.program.answer.Given as goal
 
 -- what the catalogue shows, and the ledgers that were just made; no other node is asked

@@ -1,10 +1,9 @@
 //! Why the program ends without an answer.
 
 ghost use Rattle.std.specs.Prelude.{◌≡◌};
-ghost use Rattle.iiif_program.specs.Statuses.{status_of};
+ghost use Rattle.iiif_start.specs.Statuses.{status_of};
 
 use crate::unfit::Unfit;
-use iiif_server::{Cause, Fault};
 use std::io::Write;
 
 /// Why the program ends without an answer.
@@ -21,18 +20,9 @@ pub enum Stop<'a> {
 }
 
 impl<'a> Stop<'a> {
-    /// Why an answer that was cut off ends the program.
-    pub(crate) fn by(cause: Cause) -> Stop<'a> {
-        match cause {
-            Cause::Writer => Stop::Write,
-            Cause::Load(Fault::NoMemory) => Stop::Memory,
-            Cause::Load(_) => Stop::Source,
-        }
-    }
-
     /// Says it in a line, of an image with a second one that says what to do, and gives the program's status: 2 where an image is
     /// at fault, else 1.
-    pub(crate) fn told<E: Write>(self, err: &mut E) -> u8
+    pub fn told<E: Write>(self, err: &mut E) -> u8
         ensures { result ≡ status_of self.entry }
     {
         match self {

@@ -1,7 +1,7 @@
 //! Where an image's bytes are.
 
 ghost use Rattle.std.specs.Prelude.{ℕ, List, Bool};
-ghost use Rattle.iiif_program.specs.Stored.{bytes_of, keeps_of, stored_gave};
+ghost use Rattle.iiif_start.specs.Stored.{bytes_of, keeps_of, stored_gave};
 
 use iiif_open_files::{Opens, PathSource};
 use iiif_source::{MemSource, ReadFault, Source};

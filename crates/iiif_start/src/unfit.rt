@@ -3,7 +3,7 @@
 ghost use Rattle.std.specs.Prelude.{◌≡◌, ◌<◌, true, length};
 ghost use Rattle.std.specs.List.{list_all};
 ghost use Rattle.iiif_advice.specs.Lines.{is_line_byte};
-ghost use Rattle.iiif_program.specs.Statuses.{unfit_number};
+ghost use Rattle.iiif_start.specs.Statuses.{unfit_number};
 
 use iiif_advice::advice;
 use iiif_tiff_read::OpenFault;

@@ -1,5 +1,5 @@
 use Rattle.std.proofs.Common.{◌≡◌, map, take}
-use Rattle.iiif_program.proofs.opening.catalogue.Given as goal
+use Rattle.iiif_start.proofs.opening.catalogue.Given as goal
 
 -- the images so far have the first names
 abbrev pub invariant-loop-image : goal.invariant-loop-image

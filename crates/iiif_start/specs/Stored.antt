@@ -2,8 +2,8 @@
 use Rattle.std.specs.Prelude.{ℕ, Bool, false, ◌||◌, ◌==◌, List, replicate}
 use Rattle.iiif_source.specs.Cause.{failed, ended}
 use Rattle.iiif_source.specs.declared.ReadFault.{ReadFault}
-use Rattle.iiif_program.specs.declared.stored.Stored.{Stored}
-use Rattle.iiif_program.specs.declared.stored.Stored.TheVariants.{Memory, File}
+use Rattle.iiif_start.specs.declared.stored.Stored.{Stored}
+use Rattle.iiif_start.specs.declared.stored.Stored.TheVariants.{Memory, File}
 
 -- those in memory; of a file nothing is known but its length
 abbrev pub bytes_of : Stored → List ℕ

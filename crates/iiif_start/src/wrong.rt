@@ -3,10 +3,10 @@
 ghost use Rattle.std.specs.Prelude.{◌≡◌, ◌<◌, true, length};
 ghost use Rattle.std.specs.List.{list_all};
 ghost use Rattle.iiif_advice.specs.Lines.{is_line_byte};
-ghost use Rattle.iiif_program.specs.Statuses.{status_of_words};
+ghost use Rattle.iiif_start.specs.Statuses.{status_of_words};
 
-use crate::line::LineFault;
 use crate::stop::ended;
+use iiif_command_line::LineFault;
 use std::io;
 use std::io::Write;
 
@@ -53,7 +53,7 @@ fn say<E: Write>(err: &mut E, fault: LineFault, list: Option<&str>) -> io::Resul
 
 /// Says what is wrong with the words, where the list of images is in this file, and gives the program's status: 1 where memory is
 /// wanting, else 2.
-pub(crate) fn refused<E: Write>(err: &mut E, fault: LineFault, list: Option<&str>) -> u8
+pub fn refused<E: Write>(err: &mut E, fault: LineFault, list: Option<&str>) -> u8
     ensures { result ≡ status_of_words fault }
 {
     match fault {

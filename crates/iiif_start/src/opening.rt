@@ -1,20 +1,18 @@
-//! The images and the settings that the words name.
+//! The images that the words name.
 
 ghost use Rattle.std.specs.Prelude.{◌≡◌, IfOk, None, length, map};
 ghost use Rattle.iiif_tiff.specs.Tiff.{refusal_of, scheme};
 ghost use Rattle.iiif_tiff_read.specs.Layouts.{FitsIn};
-ghost use Rattle.iiif_program.specs.Lines.{settings_in};
-ghost use Rattle.iiif_program.specs.Stored.{bytes_of, keeps_of};
+ghost use Rattle.iiif_start.specs.Stored.{bytes_of, keeps_of};
 
-use crate::line::{LineFault, Options};
 use crate::sample::sample;
 use crate::stop::Stop;
 use crate::stored::Stored;
 use crate::unfit::Unfit;
 use clap::ArgMatches;
-use iiif_canonical::Limits;
+use iiif_command_line::LineFault;
+use iiif_images::Catalogue;
 use iiif_open_files::{OpenFiles, Opens, PathSource};
-use iiif_server::{Catalogue, Config};
 use iiif_tiff_read::{Layout, open};
 use std::alloc::Global;
 use std::io;
@@ -23,11 +21,7 @@ use std::num::NonZeroUsize;
 use std::sync::{Arc, Wait};
 
 /// The text of the list of images, empty where none is named.
-pub(crate) fn list_of<R>(
-    rt: &R,
-    alloc: Global,
-    matches: &ArgMatches<'_>,
-) -> Result<Vec<u8>, LineFault>
+pub fn list_of<R>(rt: &R, alloc: Global, matches: &ArgMatches<'_>) -> Result<Vec<u8>, LineFault>
 where
     R: Opens + AllocGlobal,
 {
@@ -59,6 +53,38 @@ pub(crate) fn shelf<'a>(alloc: Global, most: NonZeroUsize) -> Result<Arc<OpenFil
     }
 }
 
+/// The built-in source.
+fn sampled<'a>(alloc: Global) -> Result<Stored, Stop<'a>> {
+    match sample(alloc) {
+        Ok(source) => Ok(Stored::Memory(source)),
+        Err(_) => Err(Stop::Memory),
+    }
+}
+
+/// A file as the source of an image of this name.
+fn filed<'a, R>(
+    rt: &R,
+    alloc: Global,
+    files: &Arc<OpenFiles>,
+    name: &'a str,
+    file: &str,
+) -> Result<Stored, Stop<'a>>
+where
+    R: Opens + Wait + AllocGlobal,
+{
+    let Ok(path) = String::from_str(alloc, file) else {
+        return Err(Stop::Memory);
+    };
+    let Ok(files) = files.clone() else {
+        return Err(Stop::Memory);
+    };
+    match PathSource::open(rt, files, path) {
+        Ok(source) => Ok(Stored::File(source)),
+        Err(error) if error.kind() == ErrorKind::OutOfMemory => Err(Stop::Memory),
+        Err(_) => Err(Stop::Image(name, Unfit::Closed)),
+    }
+}
+
 /// The source of a file's name.
 fn stored<'a, R>(
     rt: &R,
@@ -71,21 +97,9 @@ where
     R: Opens + Wait + AllocGlobal,
 {
     if file == ":sample" {
-        return match sample(alloc) {
-            Ok(source) => Ok(Stored::Memory(source)),
-            Err(_) => Err(Stop::Memory),
-        };
-    }
-    let Ok(path) = String::from_str(alloc, file) else {
-        return Err(Stop::Memory);
-    };
-    let Ok(files) = files.clone() else {
-        return Err(Stop::Memory);
-    };
-    match PathSource::open(rt, files, path) {
-        Ok(source) => Ok(Stored::File(source)),
-        Err(error) if error.kind() == ErrorKind::OutOfMemory => Err(Stop::Memory),
-        Err(_) => Err(Stop::Image(name, Unfit::Closed)),
+        sampled(alloc)
+    } else {
+        filed(rt, alloc, files, name, file)
     }
 }
 
@@ -135,20 +149,4 @@ where
         }
     }
     Ok(catalogue)
-}
-
-/// The settings in the options. Those of a line that isn't wrong are legal, so the only error is want of memory.
-pub(crate) fn config<'a>(alloc: Global, options: &Options<'a>) -> Result<Config, Stop<'a>>
-    ensures { IfOk result (λ c. c ≡ settings_in options.now) }
-{
-    let limits = Limits {
-        max_w: options.max,
-        max_h: options.max,
-        upscale: options.upscale,
-    };
-    let (edge, band, workers) = (options.edge, options.band, options.workers);
-    match Config::new(alloc, options.base, edge, limits, band, workers) {
-        Ok(config) => Ok(config),
-        Err(_) => Err(Stop::Memory),
-    }
 }

@@ -5,7 +5,6 @@ ghost use Rattle.std.specs.Prelude.{◌<◌, ◌^◌, IfSome};
 use clap::{Arg, ArgAction, ArgMatches, Command};
 use iiif_image_list::{Fault, ImageList, LineFault as ListFault};
 use iiif_request::numerals::numeral;
-use iiif_server::is_base_url;
 use std::alloc::Global;
 use std::convert::AsStr;
 use std::num::NonZeroUsize;
@@ -185,42 +184,80 @@ pub struct Options<'a> {
     pub ghost within: { cache_bytes < 2 ^ 63 },
 }
 
-/// The command with its options.
-fn command<'a>(alloc: Global) -> Result<Command<'a>, clap::Error> {
-    let mut command = Command::new(alloc, "iiif_serve")
-        .version("0.1.0")
-        .about("Answers requests of the IIIF Image API 3.0 from uncompressed TIFF files")
-        .no_binary_name(true);
-    for (name, value, help) in OPTIONS {
-        let option = Arg::new(alloc, name).long(name).action(ArgAction::Set);
-        command = command.arg(option.value_name(value).help(help))?;
-    }
-    for (name, help) in FLAGS {
-        let flag = Arg::new(alloc, name).long(name);
-        command = command.arg(flag.action(ArgAction::SetTrue).help(help))?;
-    }
-    let list = Arg::new(alloc, "list")
+/// An option that takes one text.
+fn text_option<'a>(alloc: Global, name: &'a str, value: &'a str, help: &'a str) -> Arg<'a> {
+    let option = Arg::new(alloc, name).long(name).action(ArgAction::Set);
+    option.value_name(value).help(help)
+}
+
+/// An option that takes nothing.
+fn flag<'a>(alloc: Global, name: &'a str, help: &'a str) -> Arg<'a> {
+    let option = Arg::new(alloc, name).long(name);
+    option.action(ArgAction::SetTrue).help(help)
+}
+
+/// The option of the list of images.
+fn list_option<'a>(alloc: Global) -> Arg<'a> {
+    Arg::new(alloc, "list")
         .long("images")
         .action(ArgAction::Set)
         .value_name("FILE")
-        .help("a text with a line NAME=FILE for each of further images");
-    let peers = Arg::new(alloc, "peer")
+        .help("a text with a line NAME=FILE for each of further images")
+}
+
+/// The option of other nodes.
+fn peer_option<'a>(alloc: Global) -> Arg<'a> {
+    Arg::new(alloc, "peer")
         .long("peer")
         .action(ArgAction::Append)
         .value_name("NAME=ADDR")
-        .help("another node's name, and the address and port where it answers nodes");
-    let images = Arg::new(alloc, "images")
+        .help("another node's name, and the address and port where it answers nodes")
+}
+
+/// The words that are no option.
+fn image_words<'a>(alloc: Global) -> Arg<'a> {
+    Arg::new(alloc, "images")
         .num_args(0..)
         .value_name("NAME=FILE")
-        .help("an image's name and its TIFF file, or :sample");
-    Ok(command.arg(list)?.arg(peers)?.arg(images)?)
+        .help("an image's name and its TIFF file, or :sample")
+}
+
+/// The command without options.
+fn bare_command<'a>(alloc: Global) -> Command<'a> {
+    Command::new(alloc, "iiif_serve")
+        .version("0.1.0")
+        .about("Answers requests of the IIIF Image API 3.0 from uncompressed TIFF files")
+        .no_binary_name(true)
+}
+
+/// The command with the options that take one text each.
+fn command_of_texts<'a>(alloc: Global) -> Result<Command<'a>, clap::Error> {
+    let mut command = bare_command(alloc);
+    for (name, value, help) in OPTIONS {
+        command = command.arg(text_option(alloc, name, value, help))?;
+    }
+    Ok(command)
+}
+
+/// The same, with the options that take nothing.
+fn command_of_flags<'a>(alloc: Global) -> Result<Command<'a>, clap::Error> {
+    let mut command = command_of_texts(alloc)?;
+    for (name, help) in FLAGS {
+        command = command.arg(flag(alloc, name, help))?;
+    }
+    Ok(command)
+}
+
+/// The command with its options.
+fn command<'a>(alloc: Global) -> Result<Command<'a>, clap::Error> {
+    let command = command_of_flags(alloc)?;
+    let command = command.arg(list_option(alloc))?;
+    let command = command.arg(peer_option(alloc))?;
+    Ok(command.arg(image_words(alloc))?)
 }
 
 /// What the words say, as the parser has it.
-pub(crate) fn matches<'a, S: AsStr>(
-    alloc: Global,
-    words: &'a [S],
-) -> Result<ArgMatches<'a>, clap::Error> {
+pub fn matches<'a, S: AsStr>(alloc: Global, words: &'a [S]) -> Result<ArgMatches<'a>, clap::Error> {
     command(alloc)?.try_get_matches_from(words)
 }
 
@@ -355,17 +392,40 @@ fn shares_in(matches: &ArgMatches<'_>) -> Result<Shares, LineFault> {
     })
 }
 
-/// What the words and the text of the list ask for, or the first thing that is wrong with them. Where the list can't be read, that
-/// comes in its place, at the images.
-pub(crate) fn options_in<'t, 'a: 't>(
+/// The names and files of the images of the words, and of the list behind them.
+fn images_in<'t, 'a: 't>(
     alloc: Global,
     matches: &ArgMatches<'a>,
     list: Result<&'t [u8], LineFault>,
+) -> Result<Vec<(&'t str, &'t str)>, LineFault> {
+    images(alloc, matches.get_strs("images").unwrap_or(&[]), list?)
+}
+
+/// This node's name.
+fn name_in<'a>(matches: &ArgMatches<'a>) -> &'a str {
+    match matches.get_str("name") {
+        Some(name) => name,
+        None => OWN_NAME,
+    }
+}
+
+/// The names and addresses of the nodes beside the one of this name.
+fn peers_in<'t, 'a: 't>(
+    alloc: Global,
+    matches: &ArgMatches<'a>,
+    own: &str,
+) -> Result<Vec<(&'t str, &'t str)>, LineFault> {
+    peers(alloc, own, matches.get_strs("peer").unwrap_or(&[]))
+}
+
+/// What the words and the text of the list ask for beside this base URL of theirs, or the first thing that is wrong with them. Where
+/// the list can't be read, that comes in its place, at the images.
+pub fn options_in<'t, 'a: 't>(
+    alloc: Global,
+    matches: &ArgMatches<'a>,
+    base: &'t str,
+    list: Result<&'t [u8], LineFault>,
 ) -> Result<Options<'t>, LineFault> {
-    let base = match matches.get_str("base") {
-        Some(base) if is_base_url(base) => base,
-        _ => return Err(LineFault::Base),
-    };
     let (edge, max) = sides(matches.get_str("edge"), matches.get_str("max"))?;
     let Some(cache_bytes) = cache_bytes(matches.get_str("cache-bytes")) else {
         return Err(LineFault::Cache);
@@ -375,12 +435,9 @@ pub(crate) fn options_in<'t, 'a: 't>(
         workers,
         open_files,
     } = shares_in(matches)?;
-    let images = images(alloc, matches.get_strs("images").unwrap_or(&[]), list?)?;
-    let name = match matches.get_str("name") {
-        Some(name) => name,
-        None => OWN_NAME,
-    };
-    let peers = peers(alloc, name, matches.get_strs("peer").unwrap_or(&[]))?;
+    let images = images_in(alloc, matches, list)?;
+    let name = name_in(matches);
+    let peers = peers_in(alloc, matches, name)?;
     Ok(Options {
         base,
         edge,

@@ -1,12 +1,12 @@
 //! All images opened once, and what they are.
 
 ghost use Rattle.std.specs.Prelude.{◌≡◌, IfOk, map};
-ghost use Rattle.iiif_program.specs.Statuses.{end_of, has_unfit};
+ghost use Rattle.iiif_start.specs.Statuses.{end_of, has_unfit};
 
-use crate::line::Options;
 use crate::opening::{opened, shelf};
 use crate::stop::Stop;
 use crate::unfit::Unfit;
+use iiif_command_line::Options;
 use iiif_io::Outlet;
 use iiif_keys::Shape;
 use iiif_open_files::{OpenFiles, Opens};
@@ -113,7 +113,7 @@ fn end_of<'a>(all: &[Checked<'a>]) -> Result<(), Stop<'a>>
 }
 
 /// Opens all images, and says of each in a line what it is. It is at fault where one of them can't be served.
-pub(crate) fn check<'a, R, O>(
+pub fn check<'a, R, O>(
     rt: &R,
     alloc: Global,
     options: &Options<'a>,

@@ -3,13 +3,13 @@ use Rattle.std.specs.Prelude.{ℕ, Bool, List, Result, Ok, Err, if◌then◌else
 use Rattle.std.specs.List.{list_any}
 use Rattle.std.specs.Result.{is_err}
 use Rattle.iiif_tiff_read.specs.Faults.{open_number}
-use Rattle.iiif_program.specs.declared.check.Checked.{Checked}
-use Rattle.iiif_program.specs.declared.line.LineFault.{LineFault}
-use Rattle.iiif_program.specs.declared.line.LineFault.TheVariants.{NoMemory}
-use Rattle.iiif_program.specs.declared.stop.Stop.{Stop}
-use Rattle.iiif_program.specs.declared.stop.Stop.TheVariants.{Image, Faulty, Memory, Write, Source, Listen}
-use Rattle.iiif_program.specs.declared.unfit.Unfit.{Unfit}
-use Rattle.iiif_program.specs.declared.unfit.Unfit.TheVariants.{Closed, Refused}
+use Rattle.iiif_start.specs.declared.check.Checked.{Checked}
+use Rattle.iiif_command_line.specs.declared.line.LineFault.{LineFault}
+use Rattle.iiif_command_line.specs.declared.line.LineFault.TheVariants.{NoMemory}
+use Rattle.iiif_start.specs.declared.stop.Stop.{Stop}
+use Rattle.iiif_start.specs.declared.stop.Stop.TheVariants.{Image, Faulty, Memory, Write, Source, Listen}
+use Rattle.iiif_start.specs.declared.unfit.Unfit.{Unfit}
+use Rattle.iiif_start.specs.declared.unfit.Unfit.TheVariants.{Closed, Refused}
 
 -- 2 where an image is at fault, and 1 where the program failed while running
 abbrev pub status_of : Stop → ℕ

@@ -1,0 +1,46 @@
+//! The settings of the server that the words name.
+
+ghost use Rattle.std.specs.Prelude.{◌≡◌, IfOk};
+ghost use Rattle.iiif_program.specs.Lines.{settings_in};
+
+use clap::ArgMatches;
+use iiif_canonical::Limits;
+use iiif_command_line::{LineFault, Options, options_in};
+use iiif_server::{Config, is_base_url};
+use iiif_start::Stop;
+use std::alloc::Global;
+
+/// The base URL of the words.
+fn base_in<'a>(matches: &ArgMatches<'a>) -> Result<&'a str, LineFault> {
+    match matches.get_str("base") {
+        Some(base) if is_base_url(base) => Ok(base),
+        _ => Err(LineFault::Base),
+    }
+}
+
+/// What the words and the text of the list ask for, or the first thing that is wrong with them. Where the list can't be read, that
+/// comes in its place, at the images.
+pub(crate) fn options_of<'t, 'a: 't>(
+    alloc: Global,
+    matches: &ArgMatches<'a>,
+    list: Result<&'t [u8], LineFault>,
+) -> Result<Options<'t>, LineFault> {
+    let base = base_in(matches)?;
+    options_in(alloc, matches, base, list)
+}
+
+/// The settings in the options. Those of a line that isn't wrong are legal, so the only error is want of memory.
+pub(crate) fn config<'a>(alloc: Global, options: &Options<'a>) -> Result<Config, Stop<'a>>
+    ensures { IfOk result (λ c. c ≡ settings_in options.now) }
+{
+    let limits = Limits {
+        max_w: options.max,
+        max_h: options.max,
+        upscale: options.upscale,
+    };
+    let (edge, band, workers) = (options.edge, options.band, options.workers);
+    match Config::new(alloc, options.base, edge, limits, band, workers) {
+        Ok(config) => Ok(config),
+        Err(_) => Err(Stop::Memory),
+    }
+}

@@ -1,0 +1,18 @@
+//! What a start of the program comes to: the images that its words name, opened or checked, and what is said where words or an image
+//! are at fault.
+#![tactic(auto)]
+
+pub use check::Checked;
+pub use opening::{catalogue, list_of};
+pub use stop::{Stop, ended};
+pub use stored::Stored;
+pub use unfit::Unfit;
+pub use wrong::refused;
+
+pub mod check;
+pub mod opening;
+mod sample;
+pub mod stop;
+pub mod stored;
+pub mod unfit;
+pub mod wrong;
