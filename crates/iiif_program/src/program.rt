@@ -6,7 +6,6 @@ ghost use Rattle.iiif_images.specs.Collection.{Item, item_named};
 ghost use Rattle.iiif_images.specs.Named.{gave_of, pictures_of};
 ghost use Rattle.iiif_start.specs.Stored.{bytes_of, keeps_of, stored_gave};
 
-use crate::listeners::Addresses;
 use crate::nodes::{Nodes, among};
 use crate::one::{answer_in_hex, answer_one};
 use crate::serving::listen;
@@ -20,6 +19,7 @@ use iiif_io::Outlet;
 use iiif_keys::{SumKey, System, TileKey};
 use iiif_open_files::Opens;
 use iiif_server::{Catalogue, Config, Node};
+use iiif_services::Addresses;
 use iiif_start::check::check;
 use iiif_start::{Stop, Stored, catalogue, ended, list_of, refused};
 use std::alloc::Global;

@@ -1,6 +1,5 @@
 //! A node that serves.
 
-use crate::listeners::{Addresses, Listeners, logged, serve_all};
 use crate::peers::PeerCalls;
 use crate::statistics::Statistics;
 use crate::times::{Times, USUAL};
@@ -11,6 +10,7 @@ use iiif_io::Outlet;
 use iiif_keys::{SumKey, System, TileKey};
 use iiif_open_files::Opens;
 use iiif_server::Node;
+use iiif_services::{Addresses, Listeners, logged, serve_all};
 use iiif_start::{Stop, Stored};
 use std::alloc::Global;
 use std::io;

@@ -84,7 +84,7 @@ fn no_thread() -> io::Error {
 /// Serves viewers, other nodes and who asks for the statistics by a function each, where they have listeners, until a listener ends,
 /// which then stops the others; and answers once all connections have ended. Where a thread is wanting for one of the listeners, it
 /// ends at once. The last function is told of each connection of a viewer or another node that was closed unanswered.
-pub(crate) fn serve_all<R, F, G, H, K>(
+pub fn serve_all<R, F, G, H, K>(
     rt: &R,
     listeners: &Listeners,
     serve: (&F, &G, &H),
@@ -139,13 +139,7 @@ where
 
 /// Does some work while a thread of its own writes the lines of a log, and answers once the work ended and the last line is written.
 /// Where no thread can be started, the lines are written behind the work.
-pub(crate) fn logged<R, E, W>(
-    rt: &R,
-    alloc: Global,
-    log: &Log,
-    err: &mut E,
-    work: &W,
-) -> io::Result<()>
+pub fn logged<R, E, W>(rt: &R, alloc: Global, log: &Log, err: &mut E, work: &W) -> io::Result<()>
 where
     R: Threads + Wait + Sync,
     E: Outlet + Send,
