@@ -1,5 +1,8 @@
 //! Which keys fit an image, and every block of small pictures beside the plain way.
 
+ghost use Rattle.std.specs.Prelude.{◌≡◌};
+ghost use Rattle.iiif_keys.specs.Meaning.{tile_below};
+
 use crate::plain;
 use crate::tests::name;
 use iiif_area::Sums;
@@ -199,15 +202,36 @@ fn tile_value(
     })
 }
 
-/// A value with the sums of these keys, which the plain way gives.
-fn with_sums(
+/// The value of a key of level 0, by that of its tile in the picture.
+fn of_tile(
     rt: &impl Abort,
     alloc: Global,
     picture: &Raster,
     shape: &Shape,
-    mut value: SumVal,
+    key: &SumKey,
+    tile: &TileKey,
+) -> Result<SumVal, Fail>
+    requires level { key.now.level ≡ 0 }
+    requires below { tile.now ≡ tile_below key.now }
+{
+    let value = tile_value(rt, picture, shape, tile)?;
+    let area = u64::from(shape.dim.w) * u64::from(shape.dim.h);
+    assert!(rt; area <= 1 << 32 && key.fits(key.edge, shape));
+    assert!(rt; tile.fits(key.edge, shape) && tile.shaped(shape, &value));
+    Ok(SumVal::of_tile(alloc, key, shape, &value)?)
+}
+
+/// The value of a key with the sums of these keys, which the plain way gives.
+fn of_sums(
+    rt: &impl Abort,
+    alloc: Global,
+    picture: &Raster,
+    shape: &Shape,
+    key: &SumKey,
     keys: &[SumKey],
 ) -> Result<SumVal, Fail> {
+    assert!(rt; key.fits(key.edge, shape));
+    let mut value = SumVal::zero(alloc, key, shape)?;
     for key in keys {
         let more = plain_value(alloc, picture, shape, key)?;
         assert!(rt; more.sums.kind() == value.sums.kind());
@@ -226,17 +250,8 @@ fn derived(
 ) -> Result<SumVal, Fail> {
     assert!(rt; key.has_parts() && key.fits(key.edge, shape));
     match parts(alloc, key)? {
-        Parts::Tile(tile) => {
-            let value = tile_value(rt, picture, shape, &tile)?;
-            let area = u64::from(shape.dim.w) * u64::from(shape.dim.h);
-            assert!(rt; area <= 1 << 32 && tile.fits(key.edge, shape));
-            assert!(rt; tile.shaped(shape, &value));
-            Ok(SumVal::of_tile(alloc, key, shape, &value)?)
-        }
-        Parts::Sums(keys) => {
-            let value = SumVal::zero(alloc, key, shape)?;
-            with_sums(rt, alloc, picture, shape, value, &keys)
-        }
+        Parts::Tile(tile) => of_tile(rt, alloc, picture, shape, key, &tile),
+        Parts::Sums(keys) => of_sums(rt, alloc, picture, shape, key, &keys),
     }
 }
 
@@ -302,12 +317,24 @@ fn compare_all(
     let shape = Shape { dim, kind, depth };
     let picture = pattern(alloc, shape)?;
     let mut key = whole(alloc, 0, 0, 0)?;
-    for y in 0..dim.h {
-        for x in 0..dim.w {
-            for h in 1..=dim.h - y {
-                for w in 1..=dim.w - x {
+    compare_rects(rt, alloc, &picture, &shape, &mut key, edges)
+}
+
+/// Every block of every rectangle of a picture.
+fn compare_rects(
+    rt: &impl Abort,
+    alloc: Global,
+    picture: &Raster,
+    shape: &Shape,
+    key: &mut SumKey,
+    edges: (u32, u32),
+) -> Result<(), Fail> {
+    for y in 0..shape.dim.h {
+        for x in 0..shape.dim.w {
+            for h in 1..=shape.dim.h - y {
+                for w in 1..=shape.dim.w - x {
                     key.rect = Rect { x, y, w, h };
-                    compare_sizes(rt, alloc, &picture, &shape, &mut key, edges)?;
+                    compare_sizes(rt, alloc, picture, shape, key, edges)?;
                 }
             }
         }
