@@ -5,7 +5,7 @@ ghost use Rattle.std.specs.Result.{ForErr};
 ghost use Rattle.iiif_outcome.specs.Outcomes.{is_given};
 
 use iiif_keys::{Fault, Name, is_name};
-use iiif_outcome::{Lead, Receipt, learned_apart};
+use iiif_outcome::{Flight, Lead, Receipt, learned_apart};
 use iiif_sample_keys::{Lax, Sample};
 use iiif_singleflight::entered::Entered;
 use iiif_singleflight::home::Home;
@@ -46,19 +46,11 @@ fn sample(alloc: Global) -> Option<Sample> {
     Some(Sample::new(Name::new(text).ok()?, 7))
 }
 
-/// The value of a receipt. None for a fault.
-fn value_of(receipt: &mut Receipt<Sample, Lax>) -> Option<u16> {
+/// What a flight ended with, by its receipt.
+fn told(receipt: &mut Receipt<Sample, Lax>) -> Result<u16, Fault> {
     match receipt.outcome() {
-        Ok(value) => Some(**value),
-        Err(_) => None,
-    }
-}
-
-/// The fault of a receipt. None for a value.
-fn fault_of(receipt: &mut Receipt<Sample, Lax>) -> Option<Fault> {
-    match receipt.outcome() {
-        Ok(_) => None,
-        Err(fault) => Some(*fault),
+        Ok(value) => Ok(**value),
+        Err(fault) => Err(*fault),
     }
 }
 
@@ -82,45 +74,63 @@ fn landing_of(alloc: Global, lands: Outcome) -> Result<Arc<u16>, Fault>
     }
 }
 
+/// Learns what is landed.
+fn learned<R: Wait + Clock>(
+    rt: &R,
+    mut flight: Flight<Sample, Lax>,
+) -> Option<Receipt<Sample, Lax>> {
+    for _ in 0..10_000u32 {
+        match flight.learn() {
+            Ok(receipt) => return Some(receipt),
+            Err(back) => flight = back,
+        }
+        thread::sleep(rt, Duration::from_millis(1));
+    }
+    None
+}
+
+/// Waits until so many have joined.
+fn wait<L: Ledger, R: Wait + Clock>(rt: &R, home: &Mutex<Shared<L>>, joins: u64) {
+    for _ in 0..10_000u32 {
+        if home.lock(rt).table.book().joins == joins {
+            break;
+        }
+        thread::sleep(rt, Duration::from_millis(1));
+    }
+}
+
 /// Enters; where it leads, waits until so many have joined and lands; where it joined, learns what was landed.
 fn ask<L: Ledger, R: Wait + Clock>(
     rt: &R,
     alloc: Global,
     home: &Mutex<Shared<L>>,
-    mut pass: Pass<L>,
+    pass: &mut Pass<L>,
     joins: u64,
     lands: Outcome,
-) -> Option<(Receipt<Sample, Lax>, Pass<L>)> {
+) -> Option<Receipt<Sample, Lax>> {
     let key = sample(alloc)?;
-    let entered = home
-        .lock(rt)
-        .table
-        .enter(&mut pass, &key, Class::Wide)
-        .ok()?;
+    let entered = home.lock(rt).table.enter(pass, &key, Class::Wide).ok()?;
     match entered {
-        Entered::Hit(receipt) => Some((receipt, pass)),
-        Entered::Joined(mut flight) => {
-            for _ in 0..10_000u32 {
-                match flight.learn() {
-                    Ok(receipt) => return Some((receipt, pass)),
-                    Err(back) => flight = back,
-                }
-                thread::sleep(rt, Duration::from_millis(1));
-            }
-            None
-        }
+        Entered::Hit(receipt) => Some(receipt),
+        Entered::Joined(flight) => learned(rt, flight),
         Entered::Lead(lead) => {
-            for _ in 0..10_000u32 {
-                if home.lock(rt).table.book().joins == joins {
-                    break;
-                }
-                thread::sleep(rt, Duration::from_millis(1));
-            }
+            wait(rt, home, joins);
             let outcome = landing_of(alloc, lands);
-            let landing = home.lock(rt).table.land(lead, outcome, Place::Main);
-            Some((landing.receipt, pass))
+            Some(home.lock(rt).table.land(lead, outcome, Place::Main).receipt)
         }
     }
+}
+
+/// The same with a pass of its own, which comes back.
+fn ask_with<L: Ledger, R: Wait + Clock>(
+    rt: &R,
+    alloc: Global,
+    home: &Mutex<Shared<L>>,
+    mut pass: Pass<L>,
+    lands: Outcome,
+) -> Option<(Receipt<Sample, Lax>, Pass<L>)> {
+    let receipt = ask(rt, alloc, home, &mut pass, 1, lands)?;
+    Some((receipt, pass))
 }
 
 fn no_counts() -> Book {
@@ -137,17 +147,61 @@ fn no_counts() -> Book {
     }
 }
 
-/// What came of two calls that met, and of a third.
-#[derive(Drop)]
+/// What came of two calls that met, and of a third: what each was told, whether the third learned of the same flight as the first,
+/// and the counts before the third and behind it.
+#[derive(Clone, Copy)]
 struct Met {
-    leads: Receipt<Sample, Lax>,
-    joins: Receipt<Sample, Lax>,
+    leads: Result<u16, Fault>,
+    joins: Result<u16, Fault>,
+    third: Result<u16, Fault>,
+    is_third_same: bool,
     book: Book,
-    third: Receipt<Sample, Lax>,
     book_then: Book,
 }
 
+/// A third call, after two that met.
+fn third<L: Ledger, R: Wait + Clock + Abort>(
+    rt: &R,
+    alloc: Global,
+    home: &Mutex<Shared<L>>,
+    pass: &mut Pass<L>,
+    mut leads: Receipt<Sample, Lax>,
+    mut joins: Receipt<Sample, Lax>,
+) -> Option<Met> {
+    assert!(rt; leads.same(&joins));
+    let book = home.lock(rt).table.book();
+    let mut third = ask(rt, alloc, home, pass, 1, Outcome::Value)?;
+    let book_then = home.lock(rt).table.book();
+    Some(Met {
+        leads: told(&mut leads),
+        joins: told(&mut joins),
+        third: told(&mut third),
+        is_third_same: third.same(&leads),
+        book,
+        book_then,
+    })
+}
+
 /// Two threads ask for one key, and the leader lands once the other has joined; then a third call is made.
+fn meet<L: Ledger + Send + Sync, R: Threads + Wait + Clock + Abort + Sync>(
+    rt: &R,
+    alloc: Global,
+    home: &Mutex<Shared<L>>,
+    one: Pass<L>,
+    two: Pass<L>,
+    lands: Outcome,
+) -> Option<Met> {
+    let (a, b) = thread::join(
+        rt,
+        || ask_with(rt, alloc, home, one, lands),
+        || ask_with(rt, alloc, home, two, lands),
+    );
+    let (leads, mut pass) = a?;
+    let (joins, _other) = b?;
+    third(rt, alloc, home, &mut pass, leads, joins)
+}
+
+/// The same at a home for so many bytes.
 fn two_meet<L: Ledger + Send + Sync, R: Threads + Wait + Clock + Abort + Sync>(
     rt: &R,
     alloc: Global,
@@ -163,30 +217,12 @@ fn two_meet<L: Ledger + Send + Sync, R: Threads + Wait + Clock + Abort + Sync>(
     let mut home: Shared<L> = made(alloc, bytes, blank)?;
     let one = home.pass().ok_or("no pass")?;
     let two = home.pass().ok_or("no pass")?;
-    let home = Mutex::new(home);
-    let (a, b) = thread::join(
-        rt,
-        || ask(rt, alloc, &home, one, 1, lands),
-        || ask(rt, alloc, &home, two, 1, lands),
-    );
-    let (leads, pass) = a.ok_or("no answer")?;
-    let (joins, _other) = b.ok_or("no answer")?;
-    assert!(rt; leads.same(&joins));
-    let book = home.lock(rt).table.book();
-    let (third, _pass) = ask(rt, alloc, &home, pass, 1, Outcome::Value).ok_or("no answer")?;
-    let book_then = home.lock(rt).table.book();
-    Ok(Met {
-        leads,
-        joins,
-        book,
-        third,
-        book_then,
-    })
+    Ok(meet(rt, alloc, &Mutex::new(home), one, two, lands).ok_or("no answer")?)
 }
 
 #[test]
 fn two_threads_share_one_load(rt: HostRuntime) -> Result<(), Fail> {
-    let mut met = two_meet::<Brand, _>(&rt, rt.alloc(), 1000, Outcome::Value, Blank::new(65_537))?;
+    let met = two_meet::<Brand, _>(&rt, rt.alloc(), 1000, Outcome::Value, Blank::new(65_537))?;
     let book = Book {
         gets: 2,
         joins: 1,
@@ -195,25 +231,21 @@ fn two_threads_share_one_load(rt: HostRuntime) -> Result<(), Fail> {
         landed: 1,
         ..no_counts()
     };
-    assert_eq!(rt; met.book, book);
-    assert_eq!(rt;
-        met.book_then,
-        Book {
-            gets: 3,
-            hits: 1,
-            ..book
-        }
-    );
-    assert_eq!(rt; value_of(&mut met.leads), Some(42));
-    assert_eq!(rt; value_of(&mut met.joins), Some(42));
-    assert_eq!(rt; value_of(&mut met.third), Some(42));
-    assert!(rt; met.third.same(&met.leads));
+    let book_then = Book {
+        gets: 3,
+        hits: 1,
+        ..book
+    };
+    assert!(rt; met.book == book);
+    assert!(rt; met.book_then == book_then);
+    assert!(rt; met.leads == Ok(42) && met.joins == Ok(42) && met.third == Ok(42));
+    assert!(rt; met.is_third_same);
     Ok(())
 }
 
 #[test]
 fn third_call_leads_where_nothing_is_kept(rt: HostRuntime) -> Result<(), Fail> {
-    let mut met = two_meet::<Brand, _>(&rt, rt.alloc(), 1, Outcome::Value, Blank::new(65_537))?;
+    let met = two_meet::<Brand, _>(&rt, rt.alloc(), 1, Outcome::Value, Blank::new(65_537))?;
     let loaded_twice = Book {
         gets: 3,
         joins: 1,
@@ -222,26 +254,21 @@ fn third_call_leads_where_nothing_is_kept(rt: HostRuntime) -> Result<(), Fail> {
         landed: 2,
         ..no_counts()
     };
-    assert_eq!(rt; met.book_then, loaded_twice);
-    assert_eq!(rt; value_of(&mut met.third), Some(42));
+    assert!(rt; met.book_then == loaded_twice);
+    assert!(rt; met.third == Ok(42));
     Ok(())
 }
 
+/// The fault of a read at place 3.
+const FAULT: ReadFault = ReadFault {
+    place: 3,
+    cause: ReadFault::FAILED,
+};
+
 #[test]
 fn call_after_a_fault_loads_again(rt: HostRuntime) -> Result<(), Fail> {
-    let fault = ReadFault {
-        place: 3,
-        cause: ReadFault::FAILED,
-    };
-    let mut met = two_meet::<Brand, _>(
-        &rt,
-        rt.alloc(),
-        1000,
-        Outcome::Fault(fault),
-        Blank::new(65_537),
-    )?;
-    assert_eq!(rt; fault_of(&mut met.leads), Some(Fault::Source(fault)));
-    assert_eq!(rt; fault_of(&mut met.joins), Some(Fault::Source(fault)));
+    let lands = Outcome::Fault(FAULT);
+    let met = two_meet::<Brand, _>(&rt, rt.alloc(), 1000, lands, Blank::new(65_537))?;
     let failed = Book {
         gets: 2,
         joins: 1,
@@ -251,7 +278,6 @@ fn call_after_a_fault_loads_again(rt: HostRuntime) -> Result<(), Fail> {
         faults: 1,
         ..no_counts()
     };
-    assert_eq!(rt; met.book, failed);
     let loaded = Book {
         gets: 3,
         leads: 2,
@@ -259,29 +285,43 @@ fn call_after_a_fault_loads_again(rt: HostRuntime) -> Result<(), Fail> {
         landed: 2,
         ..failed
     };
-    assert_eq!(rt; met.book_then, loaded);
-    assert_eq!(rt; value_of(&mut met.third), Some(42));
-    assert!(rt; !met.third.same(&met.leads));
+    let fault = Err(Fault::Source(FAULT));
+    assert!(rt; met.leads == fault && met.joins == fault && met.third == Ok(42));
+    assert!(rt; met.book == failed);
+    assert!(rt; met.book_then == loaded);
+    assert!(rt; !met.is_third_same);
     Ok(())
+}
+
+/// The ticket of a receipt, and what it tells.
+fn ticket_of(receipt: &mut Receipt<Sample, Lax>) -> (u64, Result<u16, Fault>) {
+    (receipt.ticket(), told(receipt))
+}
+
+/// What two threads learn of one flight.
+fn both_learn<R: Threads + Sync>(
+    rt: &R,
+    mut one: Flight<Sample, Lax>,
+) -> Result<[(u64, Result<u16, Fault>); 2], Fail> {
+    let other = one.join()?;
+    let (mut a, mut b) = learned_apart(rt, one, other).ok_or("nothing learned")?;
+    Ok([ticket_of(&mut a), ticket_of(&mut b)])
+}
+
+/// A flight with the ticket 5, which ended with that fault, and whether this was taken.
+fn ended(alloc: Global) -> Result<(Flight<Sample, Lax>, bool), Fail> {
+    let key = sample(alloc).ok_or("no key")?;
+    let (lead, flight) = Lead::open(alloc, &key, Class::Wide, 5)?;
+    let ended = lead.set(landing_of(alloc, Outcome::Fault(FAULT)));
+    Ok((flight, ended.taken))
 }
 
 #[test]
 fn two_threads_learn_of_one_flight(rt: HostRuntime) -> Result<(), Fail> {
-    let alloc = rt.alloc();
-    let fault = ReadFault {
-        place: 3,
-        cause: ReadFault::FAILED,
-    };
-    let key = sample(alloc).ok_or("no key")?;
-    let (lead, mut one) = Lead::open(alloc, &key, Class::Wide, 5)?;
-    let outcome = landing_of(alloc, Outcome::Fault(fault));
-    let ended = lead.set(outcome);
-    assert!(rt; ended.taken);
-    let other = one.join()?;
-    let (mut a, mut b) = learned_apart(&rt, one, other).ok_or("nothing learned")?;
-    assert_eq!(rt; a.ticket(), 5);
-    assert_eq!(rt; b.ticket(), 5);
-    assert_eq!(rt; fault_of(&mut a), Some(Fault::Source(fault)));
-    assert_eq!(rt; fault_of(&mut b), Some(Fault::Source(fault)));
+    let (flight, is_taken) = ended(rt.alloc())?;
+    assert!(rt; is_taken);
+    for (ticket, told) in both_learn(&rt, flight)? {
+        assert!(rt; ticket == 5 && told == Err(Fault::Source(FAULT)));
+    }
     Ok(())
 }
