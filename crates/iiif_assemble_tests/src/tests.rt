@@ -193,89 +193,168 @@ fn rows<R: Threads + Sync>(
     assemble_band(rt, alloc, shown, shown, &mut passes, job, band)
 }
 
-#[test]
-fn quarter_turn_in_bands_of_a_row(rt: HostRuntime) -> Result<(), Fail> {
-    let wanted: [[u8; 4]; 4] = [
-        [120, 80, 40, 0],
-        [130, 90, 50, 10],
-        [140, 100, 60, 20],
-        [150, 110, 70, 30],
-    ];
-    let shown = sample(rt.alloc(), false)?;
-    let job = job(rt.alloc(), shown.shape, 2, shown.shape.dim, QUARTER)?;
-    let all = job.bands(rt.alloc(), 1)?;
-    assert_eq!(rt; all.len(), 4);
-    for (y, band) in all.iter().enumerate() {
-        // Two of the four tiles meet each row.
-        assert_eq!(rt; band.items.len(), 2);
-        let Ok(made) = rows(&rt, rt.alloc(), &shown, &job, band) else {
-            return Err(Fail::from("no band"));
-        };
+/// What an image or its fault is to be.
+#[derive(Clone, Copy)]
+enum Wanted {
+    /// It has 8 bits, and its first samples are these.
+    Begins(&'static [u8]),
+    /// Its samples are these.
+    All(Span<'static>),
+    Fault(Fault),
+}
+
+/// Whether a raster has the samples that it is to have.
+fn is_wanted(raster: &Raster, wanted: Wanted) -> bool {
+    match wanted {
+        Wanted::Begins(first) => bytes(raster).starts_with(first),
+        Wanted::All(samples) => raster.samples() == samples,
+        Wanted::Fault(_) => false,
+    }
+}
+
+/// Whether the image of a job, by so many workers, or its fault is what it is to be.
+fn is_made<R: Threads + Sync>(
+    rt: &R,
+    alloc: Global,
+    shown: &Shown,
+    job: &Job,
+    workers: usize,
+    wanted: Wanted,
+) -> bool
+    requires job { IsJob job.now }
+    requires shape { job.now.shape ≡ shown.now.shape }
+{
+    match (image(rt, alloc, shown, job, workers), wanted) {
+        (Ok(made), _) => is_wanted(&made.raster, wanted),
+        (Err(fault), Wanted::Fault(other)) => fault == other,
+        _ => false,
+    }
+}
+
+/// One, two and five workers make of what is shown, in tiles with this edge, scaled and turned, what they are to make.
+fn compare_workers<R: Threads + Sync + Abort>(
+    rt: &R,
+    alloc: Global,
+    shown: &Shown,
+    edge: u32,
+    image: (Dim, Turn, Wanted),
+) -> Result<(), Fail> {
+    let (size, turn, wanted) = image;
+    let job = job(alloc, shown.shape, edge, size, turn)?;
+    for workers in [1, 2, 5] {
         assert!(rt;
-            wanted
-                .get(y)
-                .is_some_and(|row| bytes(&made.raster) == row.as_slice())
+            is_made(rt, alloc, shown, &job, workers, wanted),
+            "{workers} workers"
         );
-        assert!(rt; 4 <= made.held && made.held <= 8);
     }
     Ok(())
 }
+
+/// The rows of the sample that is turned by a quarter.
+const ROWS: [[u8; 4]; 4] = [
+    [120, 80, 40, 0],
+    [130, 90, 50, 10],
+    [140, 100, 60, 20],
+    [150, 110, 70, 30],
+];
+
+/// Whether a band of a job's image is a row of those, of two of the four tiles, and 4 to 8 samples were held for it.
+fn is_row<R: Threads + Sync>(
+    rt: &R,
+    alloc: Global,
+    shown: &Shown,
+    job: &Job,
+    band: &Band,
+    y: usize,
+) -> bool
+    requires job { IsJob job.now }
+    requires shape { job.now.shape ≡ shown.now.shape }
+    requires band { IsBandOf job.now band.now }
+{
+    let Some(row) = ROWS.get(y) else {
+        return false;
+    };
+    match rows(rt, alloc, shown, job, band) {
+        Ok(made) => {
+            let held = 4 <= made.held && made.held <= 8;
+            held && band.items.len() == 2 && bytes(&made.raster) == row.as_slice()
+        }
+        Err(_) => false,
+    }
+}
+
+#[test]
+fn quarter_turn_in_bands_of_a_row(rt: HostRuntime) -> Result<(), Fail> {
+    let shown = sample(rt.alloc(), false)?;
+    let job = job(rt.alloc(), shown.shape, 2, shown.shape.dim, QUARTER)?;
+    let all = job.bands(rt.alloc(), 1)?;
+    assert!(rt; all.len() == 4);
+    for (y, band) in all.iter().enumerate() {
+        assert!(rt; is_row(&rt, rt.alloc(), &shown, &job, band, y), "row {y}");
+    }
+    Ok(())
+}
+
+/// The sample turned by a quarter, halved and doubled. The averages of four: 0, 10, 40 and 50 come to 25. Where it is doubled, each
+/// place is there four times.
+const IMAGES: [(Dim, Turn, Wanted); 3] = [
+    (
+        Dim { w: 4, h: 4 },
+        QUARTER,
+        Wanted::Begins(&[120, 80, 40, 0, 130, 90, 50, 10, 140, 100, 60, 20]),
+    ),
+    (
+        Dim { w: 2, h: 2 },
+        UPRIGHT,
+        Wanted::All(Span::Eight(&[25, 45, 105, 125])),
+    ),
+    (
+        Dim { w: 8, h: 8 },
+        UPRIGHT,
+        Wanted::Begins(&[
+            0, 0, 10, 10, 20, 20, 30, 30, 0, 0, 10, 10, 20, 20, 30, 30, 40,
+        ]),
+    ),
+];
 
 #[test]
 fn any_number_of_workers_makes_one_image(rt: HostRuntime) -> Result<(), Fail> {
     let shown = sample(rt.alloc(), false)?;
-    let turned = job(rt.alloc(), shown.shape, 1, shown.shape.dim, QUARTER)?;
-    let halved = job(rt.alloc(), shown.shape, 1, Dim { w: 2, h: 2 }, UPRIGHT)?;
-    let grown = job(rt.alloc(), shown.shape, 1, Dim { w: 8, h: 8 }, UPRIGHT)?;
-    for workers in [1, 2, 5] {
-        let Ok(made) = image(&rt, rt.alloc(), &shown, &turned, workers) else {
-            return Err(Fail::from("no turned image"));
-        };
-        assert!(rt;
-            bytes(&made.raster).starts_with(&[120, 80, 40, 0, 130, 90, 50, 10, 140, 100, 60, 20])
-        );
-        let Ok(made) = image(&rt, rt.alloc(), &shown, &halved, workers) else {
-            return Err(Fail::from("no scaled image"));
-        };
-        // The averages of four: 0, 10, 40 and 50 come to 25.
-        assert_eq!(rt; bytes(&made.raster), [25, 45, 105, 125].as_slice());
-        let Ok(made) = image(&rt, rt.alloc(), &shown, &grown, workers) else {
-            return Err(Fail::from("no larger image"));
-        };
-        // Each place is there four times.
-        assert!(rt;
-            bytes(&made.raster).starts_with(&[
-                0, 0, 10, 10, 20, 20, 30, 30, 0, 0, 10, 10, 20, 20, 30, 30, 40
-            ])
-        );
+    for image in IMAGES {
+        compare_workers(&rt, rt.alloc(), &shown, 1, image)?;
     }
     Ok(())
 }
 
+/// The edges of tiles, and the sample of 16 bits turned by a quarter and halved. 0, 4,001, 16,004 and 20,005 come to 10,002.5, and a
+/// half goes up.
+const DEEP_IMAGES: [(u32, (Dim, Turn, Wanted)); 2] = [
+    (
+        2,
+        (
+            Dim { w: 4, h: 4 },
+            QUARTER,
+            Wanted::All(Span::Sixteen(&[
+                48_012, 32_008, 16_004, 0, 52_013, 36_009, 20_005, 4_001, 56_014, 40_010, 24_006,
+                8_002, 60_015, 44_011, 28_007, 12_003,
+            ])),
+        ),
+    ),
+    (
+        1,
+        (
+            Dim { w: 2, h: 2 },
+            UPRIGHT,
+            Wanted::All(Span::Sixteen(&[10_003, 18_005, 42_011, 50_013])),
+        ),
+    ),
+];
+
 #[test]
 fn sixteen_bits_are_turned_and_averaged(rt: HostRuntime) -> Result<(), Fail> {
     let shown = deep(rt.alloc())?;
-    let turned = job(rt.alloc(), shown.shape, 2, shown.shape.dim, QUARTER)?;
-    let halved = job(rt.alloc(), shown.shape, 1, Dim { w: 2, h: 2 }, UPRIGHT)?;
-    for workers in [1, 2, 5] {
-        let Ok(made) = image(&rt, rt.alloc(), &shown, &turned, workers) else {
-            return Err(Fail::from("no turned image"));
-        };
-        assert_eq!(rt;
-            made.raster.samples(),
-            Span::Sixteen(&[
-                48_012, 32_008, 16_004, 0, 52_013, 36_009, 20_005, 4_001, 56_014, 40_010, 24_006,
-                8_002, 60_015, 44_011, 28_007, 12_003,
-            ])
-        );
-        let Ok(made) = image(&rt, rt.alloc(), &shown, &halved, workers) else {
-            return Err(Fail::from("no scaled image"));
-        };
-        // 0, 4,001, 16,004 and 20,005 come to 10,002.5, and a half goes up.
-        assert_eq!(rt;
-            made.raster.samples(),
-            Span::Sixteen(&[10_003, 18_005, 42_011, 50_013])
-        );
+    for (edge, image) in DEEP_IMAGES {
+        compare_workers(&rt, rt.alloc(), &shown, edge, image)?;
     }
     Ok(())
 }
@@ -283,10 +362,6 @@ fn sixteen_bits_are_turned_and_averaged(rt: HostRuntime) -> Result<(), Fail> {
 #[test]
 fn fault_is_that_of_the_first_item(rt: HostRuntime) -> Result<(), Fail> {
     let shown = sample(rt.alloc(), true)?;
-    let job = job(rt.alloc(), shown.shape, 2, shown.shape.dim, UPRIGHT)?;
-    for workers in [1, 2, 5] {
-        let made = image(&rt, rt.alloc(), &shown, &job, workers);
-        assert!(rt; matches!(made, Err(Fault::BadKey)));
-    }
-    Ok(())
+    let image = (shown.shape.dim, UPRIGHT, Wanted::Fault(Fault::BadKey));
+    compare_workers(&rt, rt.alloc(), &shown, 2, image)
 }
