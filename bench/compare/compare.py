@@ -432,7 +432,7 @@ def limits_of_memory(args, jobs):
         source, cells = SOURCES[number], []
         for way, (_, settings) in MEMORY.items():
             most = peaks[job].result()[way]
-            bound = memory.bound(source.channels, max(8, source.bits), (source.side, source.side), rect, (size, size), **settings) / memory.MIB
+            bound = memory.bound(source.channels, max(8, source.bits), (source.side, source.side), rect, (size, size), strips=not source.tile, **settings) / memory.MIB
             cells.append(f"{most:.1f}{' (!)' if most > bound else ''} | {bound:.1f}")
             if most > bound:
                 passed.append(f"{name}, {way}: {most:.1f} MiB are more than the bound")

@@ -9,6 +9,8 @@ ENTRIES = 4 * 4096
 PROGRAM = 4 * MIB
 # What the C library keeps for each thread of the memory that was given back.
 KEPT = 8 * MIB
+# What is read ahead of a file at most: 16 times many rows, 128 times few.
+ROWS, AHEAD = MIB, 16 * MIB + 128 * 32 * 2 ** 10
 
 
 def levels(channels, image, rect, size, edge):
@@ -28,9 +30,9 @@ def met(start, length, side):
     return (start + length - 1) // side - start // side + 1
 
 
-def bound(channels, depth, image, rect, size, edge=256, cache=64 * MIB, band=64, workers=2):
+def bound(channels, depth, image, rect, size, edge=256, cache=64 * MIB, band=64, workers=2, strips=False):
     """The bytes that `--one` takes at most for a region `rect` of an image with the sides `image`, scaled to `size` and not turned, of
-    samples of 8 or 16 bits (`depth`)."""
+    samples of 8 or 16 bits (`depth`), of a file in strips or in tiles."""
     sample, rows = depth // 8, min(band, size[1])
     tile = channels * sample * edge ** 2
     lines = -(-rows * rect[3] // size[1])
@@ -52,4 +54,6 @@ def bound(channels, depth, image, rect, size, edge=256, cache=64 * MIB, band=64,
         sums, values = sum(count * most for count, most in zip(counts, blocks)), tiles + sum(counts)
         tile += sum(blocks)
     caches = min(cache, tiles * channels * sample * edge ** 2) + min(cache, sums) + (ENTRY * min(values, ENTRIES) if cache else 0)
-    return caches + made * channels * size[0] * rows + items + workers * (tile + KEPT) + PROGRAM
+    ahead = ROWS if strips else min(ROWS, channels * sample * edge ** 2)
+    kept = AHEAD if strips else 16 * ahead
+    return caches + made * channels * size[0] * rows + items + kept + workers * (tile + KEPT + ahead) + PROGRAM
