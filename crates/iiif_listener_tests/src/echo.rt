@@ -3,8 +3,9 @@
 use iiif_listener::Serve;
 use std::alloc::Global;
 use std::io::{Read, Write};
-use std::net::TcpStream;
+use std::net::{TcpListener, TcpStream};
 use std::sync::atomic::{AtomicU64, Ordering};
+use std::test::Fail;
 use std::time::Duration;
 
 /// How long a viewer may send or take nothing, in milliseconds.
@@ -74,4 +75,12 @@ pub(crate) fn greeted(stream: &mut TcpStream) -> bool {
         Ok(1) => byte[0] == b'+',
         _ => false,
     }
+}
+
+/// Both ends of a connection, first the one that connected.
+pub(crate) fn connected(rt: &HostRuntime) -> Result<(TcpStream, TcpStream), Fail> {
+    let listener = TcpListener::bind(rt, "127.0.0.1:0")?;
+    let viewer = TcpStream::connect(rt, listener.local_addr()?)?;
+    let (stream, _) = listener.accept()?;
+    Ok((viewer, stream))
 }

@@ -55,36 +55,57 @@ fn sixty_four_are_served_and_one_more_is_closed(rt: HostRuntime) -> Result<(), F
             seen
         },
     );
-    assert_eq!(rt; kind_of(&ended), Some(ErrorKind::InvalidInput));
-    assert_eq!(rt; seen, Some((64, true, true)));
-    assert_eq!(rt; echo.count(), 65);
+    let ended = kind_of(&ended) == Some(ErrorKind::InvalidInput);
+    assert!(rt;
+        ended && seen == Some((64, true, true)) && echo.count() == 65,
+        "{seen:?}"
+    );
     Ok(())
 }
 
-/// One viewer asks for much and reads nothing of it, another asks for a byte: what the latter gets, and whether a peer is greeted.
+/// A connection that was greeted.
+fn visit<R: Net<Listener = TcpListener, Stream = TcpStream>>(
+    rt: &R,
+    listener: &TcpListener,
+) -> Option<TcpStream> {
+    let mut stream = TcpStream::connect(rt, listener.local_addr().ok()?).ok()?;
+    if greeted(&mut stream) {
+        Some(stream)
+    } else {
+        None
+    }
+}
+
+/// What a viewer gets that asks for a byte.
+fn answer_to(viewer: &mut TcpStream) -> Option<u8> {
+    viewer.write_all(b"v").ok()?;
+    let mut byte = [0u8; 1];
+    viewer.read_exact(&mut byte).ok()?;
+    Some(byte[0])
+}
+
+/// What a viewer gets that asks for a byte, and whether a peer is greeted meanwhile.
+fn beside<R: Net<Listener = TcpListener, Stream = TcpStream>>(
+    rt: &R,
+    viewers: &TcpListener,
+    peers: &TcpListener,
+) -> Option<(u8, bool)> {
+    let mut viewer = visit(rt, viewers)?;
+    let byte = answer_to(&mut viewer)?;
+    Some((byte, visit(rt, peers).is_some()))
+}
+
+/// One viewer asks for much and reads nothing of it, one is silent, another asks for a byte: what the latter gets, and whether a
+/// peer is greeted.
 fn beside_a_stalled_one<R: Net<Listener = TcpListener, Stream = TcpStream>>(
     rt: &R,
     viewers: &TcpListener,
     peers: &TcpListener,
 ) -> Option<(u8, bool)> {
-    let mut stalled = TcpStream::connect(rt, viewers.local_addr().ok()?).ok()?;
-    if !greeted(&mut stalled) {
-        return None;
-    }
+    let mut stalled = visit(rt, viewers)?;
     stalled.write_all(b"L").ok()?;
-    let mut silent = TcpStream::connect(rt, viewers.local_addr().ok()?).ok()?;
-    if !greeted(&mut silent) {
-        return None;
-    }
-    let mut viewer = TcpStream::connect(rt, viewers.local_addr().ok()?).ok()?;
-    if !greeted(&mut viewer) {
-        return None;
-    }
-    viewer.write_all(b"v").ok()?;
-    let mut byte = [0u8; 1];
-    viewer.read_exact(&mut byte).ok()?;
-    let mut peer = TcpStream::connect(rt, peers.local_addr().ok()?).ok()?;
-    Some((byte[0], greeted(&mut peer)))
+    let _silent = visit(rt, viewers)?;
+    beside(rt, viewers, peers)
 }
 
 #[test]
@@ -102,8 +123,8 @@ fn viewer_that_stops_reading_holds_nobody(rt: HostRuntime) -> Result<(), Fail> {
             seen
         },
     );
-    assert_eq!(rt; kind_of(&ended), Some(ErrorKind::InvalidInput));
-    assert_eq!(rt; seen, Some((b'v', true)));
+    let ended = kind_of(&ended) == Some(ErrorKind::InvalidInput);
+    assert!(rt; ended && seen == Some((b'v', true)), "{seen:?}");
     Ok(())
 }
 
@@ -119,8 +140,8 @@ fn each_listener_stops_the_other(rt: HostRuntime) -> Result<(), Fail> {
             || serve_listeners(&rt, alloc, (&echo, &first), (&echo, &second)),
             || stop(if stops_first { &first } else { &second }),
         );
-        assert_eq!(rt; kind_of(&ended), Some(ErrorKind::InvalidInput));
-        assert_eq!(rt; echo.count(), 0);
+        let ended = kind_of(&ended) == Some(ErrorKind::InvalidInput);
+        assert!(rt; ended && echo.count() == 0);
     }
     Ok(())
 }

@@ -1,9 +1,10 @@
 //! A viewer that drips, one that is silent, one that asks again and again, and one that sends more than is read.
 
+use crate::echo::connected;
 use iiif_io::Inlet;
 use iiif_listener::{Pace, PacedReader, PacedWriter, close};
 use std::io::{Read, Write};
-use std::net::{Net, TcpListener, TcpStream};
+use std::net::TcpStream;
 use std::test::Fail;
 use std::thread;
 use std::time::{Clock, Duration};
@@ -22,18 +23,23 @@ fn read_drops<R: Clock>(rt: &R, stream: TcpStream, answers: bool) -> Option<u32>
         pace: &pace,
         idle: Duration::from_millis(400),
     };
+    Some(count_drops(&mut reader, &mut out, answers))
+}
+
+/// The same of a reader and a writer that are there.
+fn count_drops<I: Inlet, W: Write>(reader: &mut I, out: &mut W, answers: bool) -> u32 {
     let mut byte = [0u8; 1];
     let mut drops = 0u32;
     for _ in 0..20u32 {
         match reader.pull(&mut byte) {
             Ok(1) => drops = drops.saturating_add(1),
-            _ => return Some(drops),
+            _ => return drops,
         }
         if answers && out.write(b"+").is_err() {
-            return Some(drops);
+            return drops;
         }
     }
-    Some(drops)
+    drops
 }
 
 /// Sends twenty bytes, one each `pause` milliseconds.
@@ -58,9 +64,7 @@ fn dripping_and_silent_viewers_are_left_and_an_asking_one_is_not(
     rt: HostRuntime,
 ) -> Result<(), Fail> {
     for (pause, answers, least, most) in VIEWERS {
-        let listener = TcpListener::bind(&rt, "127.0.0.1:0")?;
-        let mut viewer = TcpStream::connect(&rt, listener.local_addr()?)?;
-        let (stream, _) = listener.accept()?;
+        let (mut viewer, stream) = connected(&rt)?;
         let (drops, ()) = thread::join(
             &rt,
             || read_drops(&rt, stream, answers),
@@ -99,10 +103,8 @@ fn ask_much(viewer: &mut TcpStream) -> Option<(usize, [u8; 8])> {
 
 #[test]
 fn answer_arrives_though_input_was_left(rt: HostRuntime) -> Result<(), Fail> {
-    let listener = TcpListener::bind(&rt, "127.0.0.1:0")?;
-    let mut viewer = TcpStream::connect(&rt, listener.local_addr()?)?;
-    let (stream, _) = listener.accept()?;
+    let (mut viewer, stream) = connected(&rt)?;
     let ((), seen) = thread::join(&rt, || answer_unread(stream), || ask_much(&mut viewer));
-    assert_eq!(rt; seen, Some((6, *b"answer\0\0")));
+    assert!(rt; seen == Some((6, *b"answer\0\0")), "{seen:?}");
     Ok(())
 }

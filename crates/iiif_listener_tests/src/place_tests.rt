@@ -1,8 +1,9 @@
 //! Places, and what a listener does that failed.
 
+use crate::echo::connected;
 use iiif_listener::{Places, Retry, Taken, after_failure};
 use std::io::{ErrorKind, Read};
-use std::net::{TcpListener, TcpStream};
+use std::net::TcpStream;
 use std::sync::Wait;
 use std::test::Fail;
 use std::thread;
@@ -18,25 +19,29 @@ fn sixty_four_places(rt: HostRuntime) -> Result<(), Fail> {
             free = free.saturating_add(1);
         }
     }
-    assert_eq!(rt; (free, taken.count()), (64, 64));
+    assert!(rt; free == 64 && taken.count() == 64, "{free}");
     taken.give_back();
-    assert_eq!(rt; taken.count(), 63);
-    assert!(rt; taken.take());
-    assert!(rt; !taken.take());
+    assert!(rt; taken.count() == 63);
+    assert!(rt; taken.take() && !taken.take());
     Ok(())
+}
+
+/// Whether two places are taken, and how many are before and after each of them is dropped.
+fn taken_by_two<R: Wait>(rt: &R) -> (bool, [u32; 3]) {
+    let places = Places::new();
+    let first = places.take(rt);
+    let second = places.take(rt);
+    let both = first.is_some() && second.is_some();
+    let two = places.taken(rt);
+    drop(first);
+    let one = places.taken(rt);
+    drop(second);
+    (both, [two, one, places.taken(rt)])
 }
 
 #[test]
 fn dropped_place_is_free_again(rt: HostRuntime) -> Result<(), Fail> {
-    let places = Places::new();
-    let first = places.take(&rt);
-    let second = places.take(&rt);
-    assert!(rt; first.is_some() && second.is_some());
-    assert_eq!(rt; places.taken(&rt), 2);
-    drop(first);
-    assert_eq!(rt; places.taken(&rt), 1);
-    drop(second);
-    assert_eq!(rt; places.taken(&rt), 0);
+    assert!(rt; taken_by_two(&rt) == (true, [2, 1, 0]));
     Ok(())
 }
 
@@ -56,11 +61,8 @@ const FAILURES: [(ErrorKind, u32, Retry); 9] = [
 #[test]
 fn listener_that_failed_goes_on(rt: HostRuntime) -> Result<(), Fail> {
     for (kind, failures, retry) in FAILURES {
-        assert_eq!(rt;
-            after_failure(kind, failures),
-            retry,
-            "{kind:?} after {failures}"
-        );
+        let right = after_failure(kind, failures) == retry;
+        assert!(rt; right, "{kind:?} after {failures}");
     }
     Ok(())
 }
@@ -82,15 +84,18 @@ fn refused<R: Threads + Wait + Sync>(rt: &R, places: &Places, stream: TcpStream)
     (started, places.taken(rt))
 }
 
-#[test]
-fn connection_without_a_thread_is_closed(rt: HostRuntime) -> Result<(), Fail> {
-    let listener = TcpListener::bind(&rt, "127.0.0.1:0")?;
-    let mut viewer = TcpStream::connect(&rt, listener.local_addr()?)?;
-    let (stream, _) = listener.accept()?;
-    let places = Places::new();
-    assert_eq!(rt; refused(&rt, &places, stream), (false, 0));
+/// Whether the other end is closed.
+fn is_closed(viewer: &mut TcpStream) -> Result<bool, Fail> {
     viewer.set_read_timeout(Some(Duration::from_millis(2000)))?;
     let mut byte = [0u8; 1];
-    assert_eq!(rt; viewer.read(&mut byte)?, 0);
+    Ok(viewer.read(&mut byte)? == 0)
+}
+
+#[test]
+fn connection_without_a_thread_is_closed(rt: HostRuntime) -> Result<(), Fail> {
+    let (mut viewer, stream) = connected(&rt)?;
+    let places = Places::new();
+    let refused = refused(&rt, &places, stream) == (false, 0);
+    assert!(rt; refused && is_closed(&mut viewer)?);
     Ok(())
 }
