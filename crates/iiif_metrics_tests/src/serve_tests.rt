@@ -108,44 +108,62 @@ fn get_of_the_counters(rt: HostRuntime) -> Result<(), Fail> {
     Ok(())
 }
 
-#[test]
-fn another_target_and_another_method(rt: HostRuntime) -> Result<(), Fail> {
-    let alloc = rt.alloc();
-    let out = answered(&rt, alloc, b"GET / HTTP/1.1\r\n\r\n");
-    let wanted =
-        b"HTTP/1.1 404 Not Found\r\nContent-Type: text/plain\r\nContent-Length: 0\r\nConnection: close\r\n\r\n";
-    assert_eq!(rt; out.as_slice(), wanted.as_slice());
-    let out = answered(&rt, alloc, b"POST /metrics HTTP/1.1\r\n\r\n");
-    let wanted =
-        b"HTTP/1.1 405 Method Not Allowed\r\nContent-Type: text/plain\r\nAllow: GET\r\nContent-Length: 0\r\nConnection: close\r\n\r\n";
-    assert_eq!(rt; out.as_slice(), wanted.as_slice());
-    let out = answered(&rt, alloc, b"hello\r\n\r\n");
-    let wanted =
-        b"HTTP/1.1 400 Bad Request\r\nContent-Type: text/plain\r\nContent-Length: 0\r\nConnection: close\r\n\r\n";
-    assert_eq!(rt; out.as_slice(), wanted.as_slice());
-    Ok(())
-}
+/// Calls of another target, by another method and of no HTTP, and what is written for each.
+const REFUSED: [(&[u8], &[u8]); 3] = [
+    (
+        b"GET / HTTP/1.1\r\n\r\n",
+        b"HTTP/1.1 404 Not Found\r\nContent-Type: text/plain\r\nContent-Length: 0\r\nConnection: close\r\n\r\n",
+    ),
+    (
+        b"POST /metrics HTTP/1.1\r\n\r\n",
+        b"HTTP/1.1 405 Method Not Allowed\r\nContent-Type: text/plain\r\nAllow: GET\r\nContent-Length: 0\r\nConnection: close\r\n\r\n",
+    ),
+    (
+        b"hello\r\n\r\n",
+        b"HTTP/1.1 400 Bad Request\r\nContent-Type: text/plain\r\nContent-Length: 0\r\nConnection: close\r\n\r\n",
+    ),
+];
 
 #[test]
-fn no_call_and_devices_that_fail(rt: HostRuntime) -> Result<(), Fail> {
-    let alloc = rt.alloc();
-    assert!(rt; answered(&rt, alloc, b"").is_empty());
-    assert!(rt; answered(&rt, alloc, b"GET /metr").is_empty());
+fn another_target_and_another_method(rt: HostRuntime) {
+    for (place, (input, wanted)) in REFUSED.iter().enumerate() {
+        assert!(rt;
+            answered(&rt, rt.alloc(), input).as_slice() == *wanted,
+            "call {place}"
+        );
+    }
+}
+
+/// Whether nothing is written where the third read of a call fails.
+fn is_unanswered<R>(rt: &R, alloc: Global) -> Result<bool, Fail> {
     let reader = FailingReader {
         left: b"GET /metrics HTTP/1.1\r\n\r\n",
         piece: 5,
         reads: 2,
     };
     let mut out = Vec::new(alloc);
-    serve_metrics(&rt, alloc, &Fixed, reader, &mut out)?;
-    assert!(rt; out.is_empty());
-    let mut shut = FailingWriter {
+    serve_metrics(rt, alloc, &Fixed, reader, &mut out)?;
+    Ok(out.is_empty())
+}
+
+/// Whether a device with room for 20 bytes takes the first 20 of an answer.
+fn is_cut<R>(rt: &R, alloc: Global) -> Result<bool, Fail> {
+    let mut out = FailingWriter {
         taken: Vec::new(alloc),
         room: 20,
         piece: 7,
     };
     let input = b"GET / HTTP/1.1\r\n\r\n".as_slice();
-    serve_metrics(&rt, alloc, &Fixed, input, &mut shut)?;
-    assert_eq!(rt; shut.taken.as_slice(), b"HTTP/1.1 404 Not Fou".as_slice());
+    serve_metrics(rt, alloc, &Fixed, input, &mut out)?;
+    Ok(out.taken.as_slice() == b"HTTP/1.1 404 Not Fou".as_slice())
+}
+
+#[test]
+fn no_call_and_devices_that_fail(rt: HostRuntime) -> Result<(), Fail> {
+    for input in [b"".as_slice(), b"GET /metr"] {
+        assert!(rt; answered(&rt, rt.alloc(), input).is_empty());
+    }
+    assert!(rt; is_unanswered(&rt, rt.alloc())?);
+    assert!(rt; is_cut(&rt, rt.alloc())?);
     Ok(())
 }
