@@ -3,7 +3,7 @@
 use iiif_listener::Serve;
 use std::alloc::Global;
 use std::io::{Read, Write};
-use std::net::{TcpListener, TcpStream};
+use std::net::{Net, TcpListener, TcpStream};
 use std::sync::atomic::{AtomicU64, Ordering};
 use std::test::Fail;
 use std::time::Duration;
@@ -78,7 +78,9 @@ pub(crate) fn greeted(stream: &mut TcpStream) -> bool {
 }
 
 /// Both ends of a connection, first the one that connected.
-pub(crate) fn connected(rt: &HostRuntime) -> Result<(TcpStream, TcpStream), Fail> {
+pub(crate) fn connected<R: Net<Listener = TcpListener, Stream = TcpStream>>(
+    rt: &R,
+) -> Result<(TcpStream, TcpStream), Fail> {
     let listener = TcpListener::bind(rt, "127.0.0.1:0")?;
     let viewer = TcpStream::connect(rt, listener.local_addr()?)?;
     let (stream, _) = listener.accept()?;

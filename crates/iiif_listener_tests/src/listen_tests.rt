@@ -5,15 +5,20 @@ use iiif_listener::{serve_listener, serve_listeners, stop};
 use std::alloc::Global;
 use std::io::{ErrorKind, Read, Write};
 use std::net::{Net, TcpListener, TcpStream};
+use std::sync::Wait;
 use std::test::Fail;
+use std::thread::Threads;
 use std::time::{Clock, Duration};
 use std::{io, thread};
 
-/// What a server ended with.
-fn kind_of(ended: &io::Result<()>) -> Option<ErrorKind> {
+/// What a viewer got, and whether a peer was greeted.
+type Seen = Option<(u8, bool)>;
+
+/// Whether a server ended as one does whose listener was stopped.
+fn was_stopped(ended: &io::Result<()>) -> bool {
     match ended {
-        Ok(()) => None,
-        Err(error) => Some(error.kind()),
+        Ok(()) => false,
+        Err(error) => error.kind() == ErrorKind::InvalidInput,
     }
 }
 
@@ -55,9 +60,9 @@ fn sixty_four_are_served_and_one_more_is_closed(rt: HostRuntime) -> Result<(), F
             seen
         },
     );
-    let ended = kind_of(&ended) == Some(ErrorKind::InvalidInput);
+    let stopped = was_stopped(&ended);
     assert!(rt;
-        ended && seen == Some((64, true, true)) && echo.count() == 65,
+        stopped && seen == Some((64, true, true)) && echo.count() == 65,
         "{seen:?}"
     );
     Ok(())
@@ -89,7 +94,7 @@ fn beside<R: Net<Listener = TcpListener, Stream = TcpStream>>(
     rt: &R,
     viewers: &TcpListener,
     peers: &TcpListener,
-) -> Option<(u8, bool)> {
+) -> Seen {
     let mut viewer = visit(rt, viewers)?;
     let byte = answer_to(&mut viewer)?;
     Some((byte, visit(rt, peers).is_some()))
@@ -101,47 +106,70 @@ fn beside_a_stalled_one<R: Net<Listener = TcpListener, Stream = TcpStream>>(
     rt: &R,
     viewers: &TcpListener,
     peers: &TcpListener,
-) -> Option<(u8, bool)> {
+) -> Seen {
     let mut stalled = visit(rt, viewers)?;
     stalled.write_all(b"L").ok()?;
     let _silent = visit(rt, viewers)?;
     beside(rt, viewers, peers)
 }
 
+/// What happens while two listeners are served.
+#[derive(Clone, Copy)]
+enum Scene {
+    /// The first is stopped.
+    First,
+    /// The second is stopped.
+    Second,
+    /// Viewers come, one of whom stops reading, and then the first is stopped.
+    Stalled,
+}
+
+/// What is seen of a scene. At its end a listener is stopped.
+fn play<R: Net<Listener = TcpListener, Stream = TcpStream>>(
+    rt: &R,
+    scene: Scene,
+    viewers: &TcpListener,
+    peers: &TcpListener,
+) -> Seen {
+    let seen = match scene {
+        Scene::Stalled => beside_a_stalled_one(rt, viewers, peers),
+        _ => None,
+    };
+    match scene {
+        Scene::Second => stop(peers),
+        _ => stop(viewers),
+    }
+    seen
+}
+
+/// Whether two listeners that are served during a scene end as stopped ones, what is seen of it, and how many connections were
+/// served.
+fn served_during<
+    R: Net<Listener = TcpListener, Stream = TcpStream> + Threads + Wait + Clock + Sync,
+>(rt: &R, alloc: Global, scene: Scene) -> Result<(bool, Seen, u64), Fail> {
+    let echo = Echo::new();
+    let first = TcpListener::bind(rt, "127.0.0.1:0")?;
+    let second = TcpListener::bind(rt, "127.0.0.1:0")?;
+    let (ended, seen) = thread::join(
+        rt,
+        || serve_listeners(rt, alloc, (&echo, &first), (&echo, &second)),
+        || play(rt, scene, &first, &second),
+    );
+    Ok((was_stopped(&ended), seen, echo.count()))
+}
+
 #[test]
 fn viewer_that_stops_reading_holds_nobody(rt: HostRuntime) -> Result<(), Fail> {
-    let alloc = rt.alloc();
-    let echo = Echo::new();
-    let first = TcpListener::bind(&rt, "127.0.0.1:0")?;
-    let second = TcpListener::bind(&rt, "127.0.0.1:0")?;
-    let (ended, seen) = thread::join(
-        &rt,
-        || serve_listeners(&rt, alloc, (&echo, &first), (&echo, &second)),
-        || {
-            let seen = beside_a_stalled_one(&rt, &first, &second);
-            stop(&first);
-            seen
-        },
-    );
-    let ended = kind_of(&ended) == Some(ErrorKind::InvalidInput);
-    assert!(rt; ended && seen == Some((b'v', true)), "{seen:?}");
+    let (stopped, seen, _) = served_during(&rt, rt.alloc(), Scene::Stalled)?;
+    assert!(rt; stopped && seen == Some((b'v', true)), "{seen:?}");
     Ok(())
 }
 
 #[test]
 fn each_listener_stops_the_other(rt: HostRuntime) -> Result<(), Fail> {
-    let alloc = rt.alloc();
-    for stops_first in [true, false] {
-        let echo = Echo::new();
-        let first = TcpListener::bind(&rt, "127.0.0.1:0")?;
-        let second = TcpListener::bind(&rt, "127.0.0.1:0")?;
-        let (ended, ()) = thread::join(
-            &rt,
-            || serve_listeners(&rt, alloc, (&echo, &first), (&echo, &second)),
-            || stop(if stops_first { &first } else { &second }),
-        );
-        let ended = kind_of(&ended) == Some(ErrorKind::InvalidInput);
-        assert!(rt; ended && echo.count() == 0);
+    for scene in [Scene::First, Scene::Second] {
+        let (stopped, _, count) = served_during(&rt, rt.alloc(), scene)?;
+        assert!(rt; stopped && count == 0);
     }
     Ok(())
 }

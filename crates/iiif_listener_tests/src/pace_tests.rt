@@ -4,9 +4,11 @@ use crate::echo::connected;
 use iiif_io::Inlet;
 use iiif_listener::{Pace, PacedReader, PacedWriter, close};
 use std::io::{Read, Write};
-use std::net::TcpStream;
+use std::net::{Net, TcpListener, TcpStream};
+use std::sync::Wait;
 use std::test::Fail;
 use std::thread;
+use std::thread::Threads;
 use std::time::{Clock, Duration};
 
 /// How many single bytes are read before the time is over, each answered where `answers` is set.
@@ -52,6 +54,21 @@ fn drip<R: Clock>(rt: &R, viewer: &mut TcpStream, pause: u64) {
     }
 }
 
+/// How many bytes are read of a viewer that pauses so long between them.
+fn drops_of<R: Net<Listener = TcpListener, Stream = TcpStream> + Threads + Wait + Clock + Sync>(
+    rt: &R,
+    pause: u64,
+    answers: bool,
+) -> Result<u32, Fail> {
+    let (mut viewer, stream) = connected(rt)?;
+    let (drops, ()) = thread::join(
+        rt,
+        || read_drops(rt, stream, answers),
+        || drip(rt, &mut viewer, pause),
+    );
+    Ok(drops.ok_or("no clock")?)
+}
+
 /// The pause between bytes, whether each is answered, and at least and at most how many are read.
 const VIEWERS: [(u64, bool, u32, u32); 3] = [
     (100, false, 1, 8),
@@ -64,13 +81,7 @@ fn dripping_and_silent_viewers_are_left_and_an_asking_one_is_not(
     rt: HostRuntime,
 ) -> Result<(), Fail> {
     for (pause, answers, least, most) in VIEWERS {
-        let (mut viewer, stream) = connected(&rt)?;
-        let (drops, ()) = thread::join(
-            &rt,
-            || read_drops(&rt, stream, answers),
-            || drip(&rt, &mut viewer, pause),
-        );
-        let drops = drops.ok_or("no clock")?;
+        let drops = drops_of(&rt, pause, answers)?;
         assert!(rt; least <= drops && drops <= most, "{drops} at {pause}");
     }
     Ok(())
