@@ -1,10 +1,11 @@
 //! Many viewers at once.
 
 use crate::files::SAMPLE_FILE;
-use crate::nodes::{SAMPLE, Scene, asked, connected, serve};
-use iiif_listener::stop;
-use iiif_program::Times;
+use crate::nodes::{Counts, SAMPLE, Scene};
+use crate::run::Text;
+use crate::visits::{Visit, connected, is_full, is_let_in, is_sent, served};
 use iiif_program::times::USUAL;
+use iiif_program::{Listeners, Times};
 use std::alloc::Global;
 use std::io::{Read, Write};
 use std::net::{Net, TcpListener, TcpStream};
@@ -12,64 +13,37 @@ use std::test::Fail;
 use std::time::{Clock, Duration, Instant};
 use std::{fs, thread};
 
-/// A head, on a connection that stays.
-const HEAD_REQUEST: &[u8] = b"HEAD /iiif/a HTTP/1.1\r\n\r\n";
+/// Sixty-four viewers who stay, one more, who isn't answered, and one who is, once they have gone.
+#[derive(Clone, Copy)]
+struct Crowd;
 
-/// Whether a viewer is answered.
-fn is_answered(viewer: &mut TcpStream) -> bool {
-    if viewer.write_all(HEAD_REQUEST).is_err() {
-        return false;
+impl<R: Net<Stream = TcpStream> + Clock> Visit<R> for Crowd {
+    fn is_right(&self, rt: &R, alloc: Global, listeners: &Listeners) -> bool {
+        let mut open = Vec::new(alloc);
+        let is_full = is_full(rt, &listeners.viewers, &mut open);
+        drop(open);
+        thread::sleep(rt, Duration::from_millis(1000));
+        is_full && is_let_in(rt, &listeners.viewers) == Some(true)
     }
-    let mut front = [0u8; 12];
-    viewer.read_exact(&mut front).is_ok() && &front == b"HTTP/1.1 303"
 }
 
-/// Of 64 viewers how many are answered that stay; whether one more isn't; whether one is again, once they have gone.
-fn crowd<R: Net<Stream = TcpStream> + Clock>(
-    rt: &R,
-    alloc: Global,
-    listener: &TcpListener,
-) -> Option<(u32, bool, bool)> {
-    let mut open = Vec::new(alloc);
-    let mut served = 0u32;
-    for _ in 0..64u32 {
-        let mut viewer = connected(rt, listener)?;
-        if is_answered(&mut viewer) {
-            served = served.saturating_add(1);
-        }
-        open.push(viewer).ok()?;
-    }
-    let refused = !is_answered(&mut connected(rt, listener)?);
-    drop(open);
-    thread::sleep(rt, Duration::from_millis(1000));
-    Some((served, refused, is_answered(&mut connected(rt, listener)?)))
-}
+/// The sample on connections that may stay for half a minute.
+const LASTING: Scene<'static, 'static> = Scene {
+    times: Times {
+        idle: 30_000,
+        whole: 30_000,
+        ..USUAL
+    },
+    ..SAMPLE
+};
 
 #[test]
-fn sixty_four_viewers_are_served_and_one_more_is_closed(rt: HostRuntime) -> Result<(), Fail> {
-    let alloc = rt.alloc();
-    let viewers = TcpListener::bind(&rt, "127.0.0.1:0")?;
-    let peers = TcpListener::bind(&rt, "127.0.0.1:0")?;
-    let scene = Scene {
-        times: Times {
-            idle: 30_000,
-            whole: 30_000,
-            ..USUAL
-        },
-        ..SAMPLE
-    };
-    let (counts, seen) = thread::join(
-        &rt,
-        || serve(&rt, alloc, &scene, (&viewers, &peers)),
-        || {
-            let seen = crowd(&rt, alloc, &viewers);
-            stop(&viewers);
-            seen
-        },
+fn sixty_four_viewers_are_served_and_one_more_is_closed(rt: HostRuntime) {
+    let counts = served(&rt, &LASTING, &Crowd);
+    assert!(rt;
+        matches!(counts, Some(Counts { gets: 0, .. })),
+        "{counts:?}"
     );
-    assert_eq!(rt; seen, Some((64, true, true)));
-    assert_eq!(rt; counts.ok_or("no node")?.gets, 0);
-    Ok(())
 }
 
 /// The side of a gray image, in samples.
@@ -89,58 +63,75 @@ fn black(alloc: Global) -> Result<Vec<u8>, Fail> {
     Ok(file)
 }
 
-/// How long a viewer takes to be answered while another one asks for 24 megabytes and takes none of them, in milliseconds.
-fn beside_a_stalled_one<R: Net<Stream = TcpStream> + Clock>(
-    rt: &R,
-    alloc: Global,
-    listener: &TcpListener,
-) -> Option<u128> {
+/// A viewer who has asked for 24 megabytes, took the first bytes and takes no more.
+fn stalled<R: Net<Stream = TcpStream>>(rt: &R, listener: &TcpListener) -> Option<TcpStream> {
     let mut stalled = connected(rt, listener)?;
     for _ in 0..24u32 {
         stalled
             .write_all(b"GET /iiif/a/full/max/0/default.tif HTTP/1.1\r\n\r\n")
             .ok()?;
     }
-    // The answers have begun.
     let mut front = [0u8; 12];
     stalled.read_exact(&mut front).ok()?;
-    let start = Instant::now(rt).ok()?;
+    Some(stalled)
+}
+
+/// Whether four viewers are answered, a tenth of a second apart.
+fn are_answered<R: Net<Stream = TcpStream> + Clock>(
+    rt: &R,
+    alloc: Global,
+    listener: &TcpListener,
+) -> bool {
+    let request = b"GET /iiif/a/0,0,1,1/max/0/default.tif HTTP/1.1\r\nConnection: close\r\n\r\n";
+    let wanted = Text::Framed(b"HTTP/1.1 200 OK\r\n", b"");
     for _ in 0..4u32 {
-        let request =
-            b"GET /iiif/a/0,0,1,1/max/0/default.tif HTTP/1.1\r\nConnection: close\r\n\r\n";
-        let answer = asked(rt, alloc, listener, request)?;
-        if !answer.starts_with(b"HTTP/1.1 200 OK\r\n") {
-            return None;
+        if !is_sent(rt, alloc, listener, request, false, wanted) {
+            return false;
         }
         thread::sleep(rt, Duration::from_millis(100));
     }
-    let passed = start.elapsed(rt).ok()?;
-    drop(stalled);
-    Some(passed.as_millis())
+    true
 }
+
+/// How long that takes, in milliseconds, where they are.
+fn millis_of_four<R: Net<Stream = TcpStream> + Clock>(
+    rt: &R,
+    alloc: Global,
+    listener: &TcpListener,
+) -> Option<u128> {
+    let start = Instant::now(rt).ok()?;
+    if !are_answered(rt, alloc, listener) {
+        return None;
+    }
+    Some(start.elapsed(rt).ok()?.as_millis())
+}
+
+/// Viewers beside one who takes nothing. A server of one connection at a time would wait until that one counts as gone.
+#[derive(Clone, Copy)]
+struct BesideStalled;
+
+impl<R: Net<Stream = TcpStream> + Clock> Visit<R> for BesideStalled {
+    fn is_right(&self, rt: &R, alloc: Global, listeners: &Listeners) -> bool {
+        let Some(_stalled) = stalled(rt, &listeners.viewers) else {
+            return false;
+        };
+        match millis_of_four(rt, alloc, &listeners.viewers) {
+            Some(passed) => passed < u128::from(USUAL.stalled),
+            None => false,
+        }
+    }
+}
+
+/// The black image.
+const BLACK: Scene<'static, 'static> = Scene {
+    images: &[("a", "black.tif")],
+    edge: 256,
+    ..SAMPLE
+};
 
 #[test]
 fn viewer_that_stops_reading_holds_nobody(rt: HostRuntime) -> Result<(), Fail> {
-    let alloc = rt.alloc();
-    fs::write(&rt, "black.tif", &black(alloc)?)?;
-    let viewers = TcpListener::bind(&rt, "127.0.0.1:0")?;
-    let peers = TcpListener::bind(&rt, "127.0.0.1:0")?;
-    let scene = Scene {
-        images: &[("a", "black.tif")],
-        edge: 256,
-        ..SAMPLE
-    };
-    let (counts, passed) = thread::join(
-        &rt,
-        || serve(&rt, alloc, &scene, (&viewers, &peers)),
-        || {
-            let passed = beside_a_stalled_one(&rt, alloc, &viewers);
-            stop(&viewers);
-            passed
-        },
-    );
-    counts.ok_or("no node")?;
-    // A server of one connection at a time would wait until the other one counts as gone.
-    assert!(rt; passed.ok_or("no answer")? < u128::from(USUAL.stalled));
+    fs::write(&rt, "black.tif", &black(rt.alloc())?)?;
+    assert!(rt; served(&rt, &BLACK, &BesideStalled).is_some());
     Ok(())
 }

@@ -24,4 +24,6 @@ mod stats_tests;
 #[cfg(test)]
 mod upscale_tests;
 #[cfg(test)]
+mod visits;
+#[cfg(test)]
 mod words_tests;

@@ -16,28 +16,28 @@ use iiif_program::nodes::{Nodes, among};
 use iiif_program::opening::catalogue;
 use iiif_program::serving::serve as serve_node;
 use iiif_program::times::USUAL;
-use iiif_program::{Addresses, Listeners, Stored, Times, Watcher};
+use iiif_program::{Listeners, Stored, Times, Watcher};
 use iiif_server::{Catalogue, Config, Node};
 use std::alloc::Global;
-use std::fmt::Write as _;
-use std::io::{Read, Write};
 use std::marker::Brand;
 use std::net::{Net, TcpListener, TcpStream};
 use std::num::NonZeroUsize;
 use std::sync::Wait;
 use std::sync::ledger::Blank;
-use std::test::Fail;
 use std::thread::Threads;
-use std::time::{Clock, Duration};
+use std::time::Clock;
 
 /// What a server is made of: each image's name and file, of which four stay open, the side of its tiles, the address of the node that
-/// owns each key, where there is one, and its limits of time. Its own name is `self`.
+/// owns each key, where there is one, and its limits of time; where its statistics are asked for, and whether it logs. Its own name is
+/// `self`.
 #[derive(Clone, Copy)]
 pub(crate) struct Scene<'i, 'o> {
     pub images: &'i [(&'i str, &'i str)],
     pub edge: u32,
     pub owner: Option<&'o str>,
     pub times: Times,
+    pub statistics: Option<&'static str>,
+    pub logs: bool,
 }
 
 /// The sample under the name `a`, and no other node.
@@ -46,6 +46,8 @@ pub(crate) const SAMPLE: Scene<'static, 'static> = Scene {
     edge: 2,
     owner: None,
     times: USUAL,
+    statistics: None,
+    logs: false,
 };
 
 /// A node that owns each key of the sample, and of `g`, at tiles of 2 by 2, beside one of the name `self`: Python's `hashlib` worked
@@ -200,79 +202,4 @@ where
         ask: scene.times.ask,
     };
     serve_among::<R, Brand, E>(rt, alloc, config, catalogue, &nodes, tiles, sums, &way, err)
-}
-
-/// Serves the viewers of a scene's node and other nodes, until a listener is stopped, and says what was counted.
-pub(crate) fn serve<R>(
-    rt: &R,
-    alloc: Global,
-    scene: &Scene<'_, '_>,
-    listeners: (&TcpListener, &TcpListener),
-) -> Option<Counts>
-where
-    R: Opens
-        + Net<Listener = TcpListener, Stream = TcpStream>
-        + Threads
-        + Wait
-        + Clock
-        + Sync
-        + AllocGlobal,
-{
-    let (viewers, peers) = listeners;
-    let watcher = Watcher::new(alloc, false).ok()?;
-    let listeners = Listeners {
-        viewers: viewers.try_clone().ok()?,
-        peers: Some(peers.try_clone().ok()?),
-        statistics: None,
-    };
-    let mut unread = Vec::new(alloc);
-    serve_told(rt, alloc, scene, &watcher, &listeners, &mut unread)
-}
-
-/// A listener's address and port.
-pub(crate) fn address_of(alloc: Global, listener: &TcpListener) -> Result<String, Fail> {
-    let mut address = String::new(alloc);
-    write!(address, "{}", listener.local_addr()?)?;
-    Ok(address)
-}
-
-/// How long a test waits for an answer, in milliseconds.
-const PATIENCE: u64 = 40_000;
-
-/// A connection to a listener, on which a test waits no longer than its patience.
-pub(crate) fn connected<R: Net<Stream = TcpStream>>(
-    rt: &R,
-    listener: &TcpListener,
-) -> Option<TcpStream> {
-    let stream = TcpStream::connect(rt, listener.local_addr().ok()?).ok()?;
-    stream
-        .set_read_timeout(Some(Duration::from_millis(PATIENCE)))
-        .ok()?;
-    Some(stream)
-}
-
-/// All that is sent back to who sends these bytes.
-pub(crate) fn asked<R: Net<Stream = TcpStream>>(
-    rt: &R,
-    alloc: Global,
-    listener: &TcpListener,
-    request: &[u8],
-) -> Option<Vec<u8>> {
-    let mut viewer = connected(rt, listener)?;
-    viewer.write_all(request).ok()?;
-    let mut answer = Vec::new(alloc);
-    viewer.read_to_end(&mut answer).ok()?;
-    Some(answer)
-}
-
-/// Listeners for viewers, other nodes and who asks for the statistics.
-pub(crate) fn listeners<R: Net<Listener = TcpListener, Stream = TcpStream>>(
-    rt: &R,
-) -> Result<Listeners, Fail> {
-    let addresses = Addresses {
-        viewers: "127.0.0.1:0",
-        peers: Some("127.0.0.1:0"),
-        statistics: Some("127.0.0.1:0"),
-    };
-    Ok(Listeners::bind(rt, &addresses)?)
 }

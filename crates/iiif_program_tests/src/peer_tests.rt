@@ -1,12 +1,14 @@
 //! Nodes that ask each other, and nodes whose peers lie, drip, are silent or gone.
 
 use crate::files::DEEP;
-use crate::nodes::{Counts, SAMPLE, Scene, address_of, asked, connected, serve};
+use crate::nodes::{Counts, SAMPLE, Scene};
+use crate::run::Text;
+use crate::visits::{ANY, Visit, address_of, connected, is_sent, serve, served};
 use iiif_listener::stop;
 use iiif_open_files::Opens;
 use iiif_peer_wire::{Version, read_ask};
-use iiif_program::Times;
 use iiif_program::times::USUAL;
+use iiif_program::{Addresses, Listeners, Times};
 use std::alloc::Global;
 use std::io::{Read, Write};
 use std::net::{Net, TcpListener, TcpStream};
@@ -19,13 +21,36 @@ use std::{fs, thread};
 /// The sample at half its width.
 const HALVED: &[u8] = b"GET /iiif/a/full/2,/0/default.tif HTTP/1.1\r\nConnection: close\r\n\r\n";
 
-/// Serves the sample by a node that holds the one at this address for the owner of each key, and says what was counted.
-fn serve_beside<R>(
+/// Whether this is what the sample at half its width is answered.
+fn is_halved<R: Net<Stream = TcpStream>>(rt: &R, alloc: Global, listener: &TcpListener) -> bool {
+    let wanted = Text::Framed(b"HTTP/1.1 200 OK\r\n", &[25, 45, 105, 125]);
+    is_sent(rt, alloc, listener, HALVED, false, wanted)
+}
+
+/// Whether two nodes answer that rightly at once. Then both are stopped.
+fn both_answer<R>(rt: &R, alloc: Global, first: &Listeners, second: &Listeners) -> bool
+where
+    R: Net<Stream = TcpStream> + Threads + Sync,
+{
+    let (one, two) = thread::join(
+        rt,
+        || is_halved(rt, alloc, &first.viewers),
+        || is_halved(rt, alloc, &second.viewers),
+    );
+    first.stop();
+    second.stop();
+    one && two
+}
+
+/// Serves by the second of them, for which the first owns each key, while both are asked: how many values of the first it took, and
+/// whether both answered.
+fn second_served<R>(
     rt: &R,
     alloc: Global,
-    owner: &str,
-    listeners: (&TcpListener, &TcpListener),
-) -> Option<Counts>
+    to_first: &str,
+    first: &Listeners,
+    second: &Listeners,
+) -> (Option<Counts>, bool)
 where
     R: Opens
         + Net<Listener = TcpListener, Stream = TcpStream>
@@ -36,56 +61,92 @@ where
         + AllocGlobal,
 {
     let scene = Scene {
-        owner: Some(owner),
+        owner: Some(to_first),
         ..SAMPLE
     };
-    serve(rt, alloc, &scene, listeners)
+    thread::join(
+        rt,
+        || serve(rt, alloc, &scene, second),
+        || both_answer(rt, alloc, first, second),
+    )
+}
+
+/// The same, by the first too, for which the second owns each key.
+fn both_served<R>(
+    rt: &R,
+    alloc: Global,
+    to_first: &str,
+    to_second: &str,
+    first: &Listeners,
+    second: &Listeners,
+) -> (Option<Counts>, (Option<Counts>, bool))
+where
+    R: Opens
+        + Net<Listener = TcpListener, Stream = TcpStream>
+        + Threads
+        + Wait
+        + Clock
+        + Sync
+        + AllocGlobal,
+{
+    let scene = Scene {
+        owner: Some(to_second),
+        ..SAMPLE
+    };
+    thread::join(
+        rt,
+        || serve(rt, alloc, &scene, first),
+        || second_served(rt, alloc, to_first, first, second),
+    )
+}
+
+/// Listeners for viewers and for other nodes.
+fn two_listeners<R>(rt: &R) -> Result<Listeners, Fail>
+where
+    R: Net<Listener = TcpListener, Stream = TcpStream>,
+{
+    let addresses = Addresses {
+        viewers: ANY,
+        peers: Some(ANY),
+        statistics: None,
+    };
+    Ok(Listeners::bind(rt, &addresses)?)
+}
+
+/// The address at which other nodes ask.
+fn peer_address(alloc: Global, listeners: &Listeners) -> Result<String, Fail> {
+    match &listeners.peers {
+        Some(peers) => address_of(alloc, peers),
+        None => Err(Fail::from("no listener")),
+    }
+}
+
+/// How many values two nodes took from each other that hold each other for the owner of each key, where both answer rightly at once.
+fn taken_by_both<R>(rt: &R) -> Result<u64, Fail>
+where
+    R: Opens
+        + Net<Listener = TcpListener, Stream = TcpStream>
+        + Threads
+        + Wait
+        + Clock
+        + Sync
+        + AllocGlobal,
+{
+    let alloc = rt.alloc();
+    let (first, second) = (two_listeners(rt)?, two_listeners(rt)?);
+    let to_first = peer_address(alloc, &first)?;
+    let to_second = peer_address(alloc, &second)?;
+    match both_served(rt, alloc, &to_first, &to_second, &first, &second) {
+        (Some(one), (Some(two), true)) => Ok(one.peer.saturating_add(two.peer)),
+        _ => Err(Fail::from("no node, or no right answer")),
+    }
 }
 
 #[test]
 fn nodes_that_hold_each_other_for_the_owner_answer_rightly_at_once(
     rt: HostRuntime,
 ) -> Result<(), Fail> {
-    let alloc = rt.alloc();
-    let (first, at_first) = (
-        TcpListener::bind(&rt, "127.0.0.1:0")?,
-        TcpListener::bind(&rt, "127.0.0.1:0")?,
-    );
-    let (second, at_second) = (
-        TcpListener::bind(&rt, "127.0.0.1:0")?,
-        TcpListener::bind(&rt, "127.0.0.1:0")?,
-    );
-    let to_second = address_of(alloc, &at_second)?;
-    let to_first = address_of(alloc, &at_first)?;
-    let (one, (two, answers)) = thread::join(
-        &rt,
-        || serve_beside(&rt, alloc, &to_second, (&first, &at_first)),
-        || {
-            thread::join(
-                &rt,
-                || serve_beside(&rt, alloc, &to_first, (&second, &at_second)),
-                || {
-                    let answers = thread::join(
-                        &rt,
-                        || asked(&rt, alloc, &first, HALVED),
-                        || asked(&rt, alloc, &second, HALVED),
-                    );
-                    stop(&first);
-                    stop(&second);
-                    answers
-                },
-            )
-        },
-    );
-    let (near_answer, far_answer) = answers;
-    let near_counts = one.ok_or("no node")?;
-    let far_counts = two.ok_or("no node")?;
-    for answer in [near_answer, far_answer] {
-        let answer = answer.ok_or("no answer")?;
-        assert!(rt; answer.starts_with(b"HTTP/1.1 200 OK\r\n"));
-        assert!(rt; answer.ends_with(&[25, 45, 105, 125]));
-    }
-    assert!(rt; near_counts.peer > 0 || far_counts.peer > 0);
+    assert!(rt; taken_by_both(&rt)? > 0);
     Ok(())
 }
 
@@ -182,14 +243,58 @@ fn take_one<R: Clock>(rt: &R, alloc: Global, listener: &TcpListener, way: Way) -
     ask.version == Version::One && ask.group == 1
 }
 
-/// The answer of a node whose peer owns every key and does so with the only ask, what it counted, and whether it asked well.
-fn answered<R>(
+/// A viewer of a node whose peer owns every key and does so with the only ask. The peer is asked well, and the viewer is answered what
+/// is wanted.
+#[derive(Clone, Copy)]
+struct BesideOwner<'a> {
+    owner: &'a TcpListener,
+    way: Way,
+    request: &'a [u8],
+    wanted: Text<'a>,
+}
+
+/// Whether the owner is asked well, and whether the viewer is answered what is wanted.
+fn asked_and_answered<R>(
     rt: &R,
     alloc: Global,
+    visit: BesideOwner<'_>,
+    viewers: &TcpListener,
+) -> (bool, bool)
+where
+    R: Net<Stream = TcpStream> + Threads + Clock + Sync,
+{
+    let BesideOwner {
+        owner,
+        way,
+        request,
+        wanted,
+    } = visit;
+    thread::join(
+        rt,
+        || take_one(rt, alloc, owner, way),
+        || {
+            let is_answered = is_sent(rt, alloc, viewers, request, false, wanted);
+            // So that the owner doesn't wait for an ask that never came.
+            stop(owner);
+            is_answered
+        },
+    )
+}
+
+impl<'a, R: Net<Stream = TcpStream> + Threads + Clock + Sync> Visit<R> for BesideOwner<'a> {
+    fn is_right(&self, rt: &R, alloc: Global, listeners: &Listeners) -> bool {
+        asked_and_answered(rt, alloc, *self, &listeners.viewers) == (true, true)
+    }
+}
+
+/// What a node counted whose peer owns every key and does so with the only ask, where it asked well and answered what is wanted.
+fn beside_owner<R>(
+    rt: &R,
     way: Way,
     images: &[(&str, &str)],
     request: &[u8],
-) -> Result<(Vec<u8>, Counts, bool), Fail>
+    wanted: Text<'_>,
+) -> Result<Option<Counts>, Fail>
 where
     R: Opens
         + Net<Listener = TcpListener, Stream = TcpStream>
@@ -199,48 +304,32 @@ where
         + Sync
         + AllocGlobal,
 {
-    let (viewers, peers) = (
-        TcpListener::bind(rt, "127.0.0.1:0")?,
-        TcpListener::bind(rt, "127.0.0.1:0")?,
-    );
-    let owner = TcpListener::bind(rt, "127.0.0.1:0")?;
-    let address = address_of(alloc, &owner)?;
+    let owner = TcpListener::bind(rt, ANY)?;
+    let address = address_of(rt.alloc(), &owner)?;
     let scene = Scene {
         images,
-        edge: 2,
         owner: Some(address.as_str()),
         times: Times {
             ask: LIMIT,
             ..USUAL
         },
+        ..SAMPLE
     };
-    let (counts, (well_asked, answer)) = thread::join(
-        rt,
-        || serve(rt, alloc, &scene, (&viewers, &peers)),
-        || {
-            thread::join(
-                rt,
-                || take_one(rt, alloc, &owner, way),
-                || {
-                    let answer = asked(rt, alloc, &viewers, request);
-                    stop(&viewers);
-                    // So that the owner doesn't wait for an ask that never came.
-                    stop(&owner);
-                    answer
-                },
-            )
-        },
-    );
-    Ok((
-        answer.ok_or("no answer")?,
-        counts.ok_or("no node")?,
-        well_asked,
-    ))
+    let visit = BesideOwner {
+        owner: &owner,
+        way,
+        request,
+        wanted,
+    };
+    Ok(served(rt, &scene, &visit))
 }
 
 /// The tile (1, 1) of the sample as an image.
 const CORNER: &[u8] =
     b"GET /iiif/a/2,2,2,2/max/0/default.tif HTTP/1.1\r\nConnection: close\r\n\r\n";
+
+/// What it is answered.
+const CORNER_ANSWER: Text<'static> = Text::Framed(b"HTTP/1.1 200 OK\r\n", &[100, 110, 140, 150]);
 
 /// What a peer does, how many calls enter, and how many of the peer's values are taken. Where none is, the call enters once more, to
 /// load by itself.
@@ -254,20 +343,19 @@ const WAYS: [(Way, u64, u64); 7] = [
     (Way::Sends(RIGHT), 1, 1),
 ];
 
+/// Whether so many calls entered, and so many of a peer's values were taken.
+fn is_counted(counts: Option<Counts>, entered: u64, taken: u64) -> bool {
+    match counts {
+        Some(counts) => counts.gets == entered && counts.peer == taken,
+        None => false,
+    }
+}
+
 #[test]
 fn peer_of_any_kind_leaves_the_answer_right(rt: HostRuntime) -> Result<(), Fail> {
     for (way, entered, taken) in WAYS {
-        let (answer, counts, well_asked) = answered(
-            &rt,
-            rt.alloc(),
-            way,
-            &[("a", ":sample")],
-            CORNER,
-        )?;
-        assert!(rt; answer.starts_with(b"HTTP/1.1 200 OK\r\n"), "{way:?}");
-        assert!(rt; answer.ends_with(&[100, 110, 140, 150]), "{way:?}");
-        assert_eq!(rt; (counts.gets, counts.peer), (entered, taken), "{way:?}");
-        assert!(rt; well_asked, "{way:?}");
+        let counts = beside_owner(&rt, way, SAMPLE.images, CORNER, CORNER_ANSWER)?;
+        assert!(rt; is_counted(counts, entered, taken), "{way:?} {counts:?}");
     }
     Ok(())
 }
@@ -277,28 +365,52 @@ fn peer_that_closes_on_the_second_version_leaves_the_answer_right(
     rt: HostRuntime,
 ) -> Result<(), Fail> {
     fs::write(&rt, "sixteen.tif", &DEEP)?;
+    let images = [("g", "sixteen.tif")];
     let request = b"GET /iiif/g/full/max/0/default.tif HTTP/1.1\r\nConnection: close\r\n\r\n";
-    let (answer, counts, well_asked) = answered(
-        &rt,
-        rt.alloc(),
-        Way::KnowsOneVersion,
-        &[("g", "sixteen.tif")],
-        request,
-    )?;
-    assert!(rt; answer.starts_with(b"HTTP/1.1 200 OK\r\n"));
-    assert!(rt; answer.ends_with(&[0, 0, 0xff, 0xff]));
-    assert_eq!(rt; (counts.gets, counts.peer), (2, 0));
-    assert!(rt; well_asked);
+    let wanted = Text::Framed(b"HTTP/1.1 200 OK\r\n", &[0, 0, 0xff, 0xff]);
+    let counts = beside_owner(&rt, Way::KnowsOneVersion, &images, request, wanted)?;
+    assert!(rt; is_counted(counts, 2, 0), "{counts:?}");
     Ok(())
 }
 
-/// What is answered beside a node that is gone to who asks a listener of viewers, or one of nodes; and what was counted.
-fn beside_a_dead_one<R>(
-    rt: &R,
-    alloc: Global,
-    viewed: &[u8],
-    ask: &[u8],
-) -> Result<(Vec<u8>, Vec<u8>, Counts), Fail>
+/// Whether the reply to the ask for the tile (1, 1) is the right one.
+fn is_replied<R: Net<Stream = TcpStream>>(rt: &R, listener: &TcpListener) -> Option<bool> {
+    let mut stream = connected(rt, listener)?;
+    stream.write_all(ASK).ok()?;
+    let mut reply = [0u8; 73];
+    stream.read_exact(&mut reply).ok()?;
+    Some(reply.as_slice() == RIGHT)
+}
+
+/// A node that asks for that tile and is replied to rightly, and behind it a viewer who is answered what is wanted.
+#[derive(Clone, Copy)]
+struct NodeAndViewer<'a> {
+    request: &'a [u8],
+    wanted: Text<'a>,
+}
+
+impl<'a, R: Net<Stream = TcpStream>> Visit<R> for NodeAndViewer<'a> {
+    fn is_right(&self, rt: &R, alloc: Global, listeners: &Listeners) -> bool {
+        let is_replied = match &listeners.peers {
+            Some(peers) => is_replied(rt, peers) == Some(true),
+            None => false,
+        };
+        let viewers = &listeners.viewers;
+        is_sent(rt, alloc, viewers, self.request, false, self.wanted) && is_replied
+    }
+}
+
+/// An address at which nobody is.
+fn dead_address<R>(rt: &R) -> Result<String, Fail>
+where
+    R: Net<Listener = TcpListener, Stream = TcpStream> + AllocGlobal,
+{
+    let gone = TcpListener::bind(rt, ANY)?;
+    address_of(rt.alloc(), &gone)
+}
+
+/// What a node counted during such a visit beside a node that is gone and owns every key.
+fn beside_a_dead_one<R>(rt: &R, request: &[u8], last: &[u8]) -> Result<Option<Counts>, Fail>
 where
     R: Opens
         + Net<Listener = TcpListener, Stream = TcpStream>
@@ -308,53 +420,20 @@ where
         + Sync
         + AllocGlobal,
 {
-    let (viewers, peers) = (
-        TcpListener::bind(rt, "127.0.0.1:0")?,
-        TcpListener::bind(rt, "127.0.0.1:0")?,
-    );
-    let gone = TcpListener::bind(rt, "127.0.0.1:0")?;
-    let address = address_of(alloc, &gone)?;
-    drop(gone);
+    let address = dead_address(rt)?;
     let scene = Scene {
         owner: Some(address.as_str()),
         ..SAMPLE
     };
-    let (counts, (answer, reply)) = thread::join(
-        rt,
-        || serve(rt, alloc, &scene, (&viewers, &peers)),
-        || {
-            let reply = replied(rt, alloc, &peers, ask);
-            let answer = asked(rt, alloc, &viewers, viewed);
-            stop(&viewers);
-            (answer, reply)
-        },
-    );
-    Ok((
-        answer.ok_or("no answer")?,
-        reply.ok_or("no reply")?,
-        counts.ok_or("no node")?,
-    ))
-}
-
-/// The reply to an ask, of as many bytes as the right one for the tile has.
-fn replied<R: Net<Stream = TcpStream>>(
-    rt: &R,
-    alloc: Global,
-    listener: &TcpListener,
-    ask: &[u8],
-) -> Option<Vec<u8>> {
-    let mut stream = connected(rt, listener)?;
-    stream.write_all(ask).ok()?;
-    let mut reply = [0u8; 73];
-    stream.read_exact(&mut reply).ok()?;
-    Vec::from_slice(alloc, &reply).ok()
+    let visit = NodeAndViewer {
+        request,
+        wanted: Text::Framed(b"", last),
+    };
+    Ok(served(rt, &scene, &visit))
 }
 
 #[test]
 fn viewers_and_nodes_share_what_is_loaded(rt: HostRuntime) -> Result<(), Fail> {
-    let (answer, reply, counts) = beside_a_dead_one(&rt, rt.alloc(), CORNER, ASK)?;
-    assert_eq!(rt; reply.as_slice(), RIGHT);
-    assert!(rt; answer.ends_with(&[100, 110, 140, 150]));
     // The owner is gone, and wasn't asked for the node's ask; for the viewer the tile was there already.
     let expected = Counts {
         gets: 2,
@@ -362,8 +441,8 @@ fn viewers_and_nodes_share_what_is_loaded(rt: HostRuntime) -> Result<(), Fail> {
         loads: 1,
         peer: 0,
     };
-    assert_eq!(rt; counts, expected);
-    let (answer, _, _) = beside_a_dead_one(&rt, rt.alloc(), HALVED, ASK)?;
-    assert!(rt; answer.ends_with(&[25, 45, 105, 125]));
+    let counts = beside_a_dead_one(&rt, CORNER, &[100, 110, 140, 150])?;
+    assert!(rt; counts == Some(expected), "{counts:?}");
+    assert!(rt; beside_a_dead_one(&rt, HALVED, &[25, 45, 105, 125])?.is_some());
     Ok(())
 }

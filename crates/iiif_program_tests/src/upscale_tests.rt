@@ -1,59 +1,56 @@
 //! The program on words that ask for results above their regions.
 
-use iiif_open_files::Opens;
-use iiif_program::program::program;
-use std::net::{Net, TcpListener, TcpStream};
-use std::rt::Clock;
-use std::sync::Wait;
+use crate::run::{BASE, Text, each_answers};
 use std::test::Fail;
-use std::thread::Threads;
 
-/// The program's status, and the last so many bytes of what it writes where the sample is asked for at a size.
-fn answered<R>(rt: &R, words: &[&str], size: &str, count: usize) -> Result<(u8, Vec<u8>), Fail>
-where
-    R: Opens
-        + Net<Listener = TcpListener, Stream = TcpStream>
-        + Threads
-        + Wait
-        + Clock
-        + Sync
-        + AllocGlobal,
-{
-    let alloc = rt.alloc();
-    let mut all = Vec::new(alloc);
-    for word in words {
-        all.push(String::from_str(alloc, word)?)?;
-    }
-    for word in ["--base", "http://localhost/iiif", "--one"] {
-        all.push(String::from_str(alloc, word)?)?;
-    }
-    all.push(format!(in alloc; "/iiif/a/full/{size}/0/default.tif")?)?;
-    all.push(String::from_str(alloc, "a=:sample")?)?;
-    let (mut out, mut err) = (Vec::new(alloc), Vec::new(alloc));
-    let status = program(rt, &all, &mut out, &mut err);
-    let (_, last) = out.split_at(out.len() - count.min(out.len()));
-    Ok((status, Vec::from_slice(alloc, last)?))
-}
+/// The last samples of the sample at twice its sides.
+const LAST: &[u8] = &[120, 120, 130, 130, 140, 140, 150, 150];
+
+/// Options, sizes, and how the answers end.
+const CASES: [(&[&str], Text<'_>); 6] = [
+    (
+        &["--upscale", "--one", "/iiif/a/full/^8,/0/default.tif"],
+        Text::Framed(b"", LAST),
+    ),
+    (
+        &[
+            "--max",
+            "8",
+            "--edge",
+            "2",
+            "--upscale",
+            "--one",
+            "/iiif/a/full/^max/0/default.tif",
+        ],
+        Text::Framed(b"", LAST),
+    ),
+    (
+        &["--upscale", "--one", "/iiif/a/full/8,/0/default.tif"],
+        Text::Framed(b"", b"Q12 larger\n"),
+    ),
+    (
+        &["--upscale", "--one", "/iiif/a/full/^5000,/0/default.tif"],
+        Text::Framed(b"", b"Q14 limit\n"),
+    ),
+    (
+        &[
+            "--upscale",
+            "--max",
+            "4",
+            "--edge",
+            "4",
+            "--one",
+            "/iiif/a/full/^5,/0/default.tif",
+        ],
+        Text::Framed(b"", b"Q14 limit\n"),
+    ),
+    (
+        &["--one", "/iiif/a/full/^8,/0/default.tif"],
+        Text::Framed(b"", b"Q13 upscale\n"),
+    ),
+];
 
 #[test]
 fn sizes_above_the_region_are_an_option(rt: HostRuntime) -> Result<(), Fail> {
-    let last: &[u8] = &[120, 120, 130, 130, 140, 140, 150, 150];
-    let cases: [(&[&str], &str, &[u8]); 6] = [
-        (&["--upscale"], "^8,", last),
-        (&["--max", "8", "--edge", "2", "--upscale"], "^max", last),
-        (&["--upscale"], "8,", b"Q12 larger\n"),
-        (&["--upscale"], "^5000,", b"Q14 limit\n"),
-        (
-            &["--upscale", "--max", "4", "--edge", "4"],
-            "^5,",
-            b"Q14 limit\n",
-        ),
-        (&[], "^8,", b"Q13 upscale\n"),
-    ];
-    for (words, size, end) in cases {
-        let (status, written) = answered(&rt, words, size, end.len())?;
-        assert_eq!(rt; written.as_slice(), end);
-        assert_eq!(rt; status, 0);
-    }
-    Ok(())
+    each_answers(&rt, &["--base", BASE, "a=:sample"], &CASES)
 }
