@@ -75,13 +75,16 @@ const UNREAD: [(&[&str], &str); 2] = [
     ),
 ];
 
+/// One of whose rows there are half, and the first line that is said of it.
+const HALF: [(&[&str], &str); 1] = [(&["a=short.tif"], "image a: 5\n")];
+
 #[test]
 fn files_that_are_no_images_are_named(rt: HostRuntime) -> Result<(), Fail> {
     written(&rt, &FILES)?;
     let words = ["--base", BASE, "--one", WHOLE];
     each_answers(&rt, &words, &READ)?;
     each_is_told(&rt, &words, &UNREAD)?;
-    each_is_at_fault(&rt, &words, &[(&["a=short.tif"], "image a: 5\n")])
+    each_is_at_fault(&rt, &words, &HALF)
 }
 
 #[test]

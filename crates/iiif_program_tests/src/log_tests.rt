@@ -277,7 +277,7 @@ fn was_given(pipe: Pipe, count: usize, last: &str) -> bool {
 }
 
 /// Whether 1,200 heads are answered by a node whose log goes into this pipe, before somebody reads it.
-fn is_served_before_a_reader<R>(rt: &R, pipe: &Pipe) -> bool
+fn is_served_before_a_reader<'a, R>(rt: &'a R, pipe: &'a Pipe) -> bool
 where
     R: Opens
         + Net<Listener = TcpListener, Stream = TcpStream>

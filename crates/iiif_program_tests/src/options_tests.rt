@@ -268,7 +268,8 @@ where
         "--one",
         target.as_str(),
     ];
-    Ok(says(rt, &words, answer(Text::Is(&numbered(number)))))
+    let file = numbered(number);
+    Ok(says(rt, &words, answer(Text::Is(&file))))
 }
 
 #[test]

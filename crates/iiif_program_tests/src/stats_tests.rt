@@ -6,7 +6,7 @@ use crate::visits::{ANY, Visit, is_full, is_sent, sent, served, unlogged_report}
 use iiif_listener::stop;
 use iiif_program::Listeners;
 use std::alloc::Global;
-use std::net::{Net, TcpListener, TcpStream};
+use std::net::{Net, TcpStream};
 use std::time::{Clock, Duration};
 use std::{str, thread};
 
