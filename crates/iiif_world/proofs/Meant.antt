@@ -35,7 +35,8 @@ use Rattle.iiif_machine.specs.Sound.{Each, IsHonestWorld, ProgressIsHonest, fact
 use Rattle.iiif_machine.proofs.Lists.{some_same, each_of_all}
 use Rattle.iiif_machine.proofs.Learning.{gathered, AreGathered}
 use Rattle.iiif_machine.proofs.Subjects.{subject_laws}
-use Rattle.iiif_plain_tables.specs.Heard.{Heard, heard_all, heard_from}
+use Rattle.iiif_plain_tables.specs.Heard.{heard_all, heard_from}
+use Rattle.iiif_plain_tables.specs.declared.hearing.Heard.{Heard}
 use Rattle.iiif_plain_tables.specs.declared.hearing.Heard.TheVariants as code
 use Rattle.iiif_world.specs.Settling.{answer_at, answer_due, answer_with}
 
