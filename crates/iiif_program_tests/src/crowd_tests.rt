@@ -112,10 +112,12 @@ struct BesideStalled;
 
 impl<R: Net<Stream = TcpStream> + Clock> Visit<R> for BesideStalled {
     fn is_right(&self, rt: &R, alloc: Global, listeners: &Listeners) -> bool {
-        let Some(_stalled) = stalled(rt, &listeners.viewers) else {
+        let Some(stalled) = stalled(rt, &listeners.viewers) else {
             return false;
         };
-        match millis_of_four(rt, alloc, &listeners.viewers) {
+        let passed = millis_of_four(rt, alloc, &listeners.viewers);
+        drop(stalled);
+        match passed {
             Some(passed) => passed < u128::from(USUAL.stalled),
             None => false,
         }

@@ -245,7 +245,9 @@ struct BeforeReader<'a> {
 impl<'a, R: Net<Stream = TcpStream> + Wait> Visit<R> for BeforeReader<'a> {
     fn is_right(&self, rt: &R, alloc: Global, listeners: &Listeners) -> bool {
         let first = are_redirected(rt, alloc, &listeners.viewers, 1);
-        wait_for_line(rt, self.pipe);
+        if first {
+            wait_for_line(rt, self.pipe);
+        }
         let second = are_redirected(rt, alloc, &listeners.viewers, 600);
         let third = are_redirected(rt, alloc, &listeners.viewers, 599);
         self.pipe.given.lock(rt).is_read = true;

@@ -274,6 +274,8 @@ where
         || take_one(rt, alloc, owner, way),
         || {
             let is_answered = is_sent(rt, alloc, viewers, request, false, wanted);
+            // So that the node ends, and leaves the owner.
+            stop(viewers);
             // So that the owner doesn't wait for an ask that never came.
             stop(owner);
             is_answered

@@ -171,12 +171,14 @@ fn other_targets_and_methods_are_refused(rt: HostRuntime) {
     }
 }
 
-/// What is told of 64 viewers who are connected, and one more who was closed. An answer is counted behind its last byte.
-const CROWD: [&str; 3] = [
+/// What is told once 64 viewers are connected and were answered. An answer is counted behind its last byte.
+const CROWD: [&str; 2] = [
     "\niiif_connections_open 64\n",
-    "\niiif_connections_refused_total 1\n",
     "\niiif_answers_total{status=\"303\"} 64\n",
 ];
+
+/// What is told with it of one more who was closed: that is counted before it is closed, so nobody waits for it.
+const REFUSED: [&str; 1] = ["\niiif_connections_refused_total 1\n"];
 
 /// Those, and who asks for the statistics meanwhile.
 #[derive(Clone, Copy)]
@@ -185,7 +187,13 @@ struct Crowded;
 impl<R: Net<Stream = TcpStream> + Clock> Visit<R> for Crowded {
     fn is_right(&self, rt: &R, alloc: Global, listeners: &Listeners) -> bool {
         let mut open = Vec::new(alloc);
-        is_full(rt, &listeners.viewers, &mut open) && told(rt, alloc, listeners, &CROWD).is_some()
+        if !is_full(rt, &listeners.viewers, &mut open) {
+            return false;
+        }
+        match told(rt, alloc, listeners, &CROWD) {
+            Some(answer) => has_all(&answer, &REFUSED),
+            None => false,
+        }
     }
 }
 

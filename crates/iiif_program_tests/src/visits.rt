@@ -97,9 +97,10 @@ fn answered_of_64<R: Net<Stream = TcpStream>>(
     let mut served = 0u32;
     for _ in 0..64u32 {
         let mut viewer = connected(rt, listener)?;
-        if is_answered(&mut viewer) {
-            served = served.saturating_add(1);
+        if !is_answered(&mut viewer) {
+            return Some(served);
         }
+        served = served.saturating_add(1);
         open.push(viewer).ok()?;
     }
     Some(served)
