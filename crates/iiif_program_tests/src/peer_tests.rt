@@ -30,7 +30,7 @@ fn is_halved<R: Net<Stream = TcpStream>>(rt: &R, alloc: Global, listener: &TcpLi
 /// Whether two nodes answer that rightly at once. Then both are stopped.
 fn both_answer<R>(rt: &R, alloc: Global, first: &Listeners, second: &Listeners) -> bool
 where
-    R: Net<Stream = TcpStream> + Threads + Sync,
+    R: Net<Listener = TcpListener, Stream = TcpStream> + Threads + Sync,
 {
     let (one, two) = thread::join(
         rt,
@@ -261,7 +261,7 @@ fn asked_and_answered<R>(
     viewers: &TcpListener,
 ) -> (bool, bool)
 where
-    R: Net<Stream = TcpStream> + Threads + Clock + Sync,
+    R: Net<Listener = TcpListener, Stream = TcpStream> + Threads + Clock + Sync,
 {
     let BesideOwner {
         owner,
@@ -283,10 +283,32 @@ where
     )
 }
 
-impl<'a, R: Net<Stream = TcpStream> + Threads + Clock + Sync> Visit<R> for BesideOwner<'a> {
-    fn is_right(&self, rt: &R, alloc: Global, listeners: &Listeners) -> bool {
-        asked_and_answered(rt, alloc, *self, &listeners.viewers) == (true, true)
-    }
+/// Serves by a node meanwhile: what it counted, and what of that is so.
+fn served_beside<R>(
+    rt: &R,
+    alloc: Global,
+    scene: &Scene<'_, '_>,
+    listeners: &Listeners,
+    visit: BesideOwner<'_>,
+) -> (Option<Counts>, (bool, bool))
+where
+    R: Opens
+        + Net<Listener = TcpListener, Stream = TcpStream>
+        + Threads
+        + Wait
+        + Clock
+        + Sync
+        + AllocGlobal,
+{
+    thread::join(
+        rt,
+        || serve(rt, alloc, scene, listeners),
+        || {
+            let seen = asked_and_answered(rt, alloc, visit, &listeners.viewers);
+            listeners.stop();
+            seen
+        },
+    )
 }
 
 /// What a node counted whose peer owns every key and does so with the only ask, where it asked well and answered what is wanted.
@@ -323,7 +345,11 @@ where
         request,
         wanted,
     };
-    Ok(served(rt, &scene, &visit))
+    let listeners = two_listeners(rt)?;
+    match served_beside(rt, rt.alloc(), &scene, &listeners, visit) {
+        (counts, (true, true)) => Ok(counts),
+        _ => Ok(None),
+    }
 }
 
 /// The tile (1, 1) of the sample as an image.

@@ -96,7 +96,12 @@ where
 }
 
 /// The same, on these words and more behind them.
-fn says_behind<R>(rt: &R, front: &[&str], more: &[&str], said: Said<'_>) -> Result<bool, Fail>
+fn says_behind<'w, R>(
+    rt: &R,
+    front: &[&'w str],
+    more: &[&'w str],
+    said: Said<'_>,
+) -> Result<bool, Fail>
 where
     R: Opens
         + Net<Listener = TcpListener, Stream = TcpStream>

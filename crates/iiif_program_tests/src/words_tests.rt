@@ -257,7 +257,7 @@ const IN_ORDER: [(&str, &[&str], &[&str]); 10] = [
 ];
 
 /// The words of that list, of which so many are mended.
-fn mended<'a>(alloc: Global, count: usize) -> Result<Vec<&'a str>, Fail> {
+fn mended(alloc: Global, count: usize) -> Result<Vec<&'static str>, Fail> {
     let mut words = Vec::new(alloc);
     for (place, (_, wrong, right)) in IN_ORDER.iter().enumerate() {
         words.extend_from_slice(if place < count { *right } else { *wrong })?;
