@@ -10,7 +10,7 @@ PROGRAM = 4 * MIB
 # What the C library keeps for each thread of the memory that was given back.
 KEPT = 8 * MIB
 # What is read ahead of a file at most: 16 times many rows, 128 times few.
-ROWS, AHEAD = MIB, 16 * MIB + 128 * 32 * 2 ** 10
+ROWS, AHEAD = MIB, 16 * MIB + 128 * 64 * 2 ** 10
 
 
 def levels(channels, image, rect, size, edge):

@@ -10,9 +10,9 @@ pub record AreAmong (rows runs : Runs) : Type 0 where
   pub from : rows.at ≤ runs.at
   pub to : runs.at + runs.len ≤ rows.at + rows.len
 
--- How many bytes so many rows have together at most: 1 MiB, of up to 16 rows 32 KiB.
+-- How many bytes so many rows have together at most: 1 MiB, of up to 16 rows 64 KiB.
 abbrev pub room_of : ℕ → ℕ
-room_of count = if nat_lt 16 count then 2 ^ 20 else 2 ^ 15
+room_of count = if nat_lt 16 count then 2 ^ 20 else 2 ^ 16
 
 -- The rows begin where the runs do and are longer, they stand in a source of n bytes, and together they have room.
 pub record AreWider (n : ℕ) (runs rows : Runs) : Type 0 where

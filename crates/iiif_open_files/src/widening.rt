@@ -13,7 +13,7 @@ pub const FEW: u32 = 16;
 const ROOM: u64 = 1_048_576;
 
 /// So many bytes of few rows.
-const ROOM_OF_FEW: u64 = 32_768;
+const ROOM_OF_FEW: u64 = 65_536;
 
 /// So many runs beside one another are read at once.
 const BESIDE: u64 = 8;

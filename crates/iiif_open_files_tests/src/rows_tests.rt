@@ -288,16 +288,16 @@ fn threads_share_the_rows(rt: HostRuntime) -> Result<(), Fail> {
 }
 
 /// Runs, the length of their source, and how long the wider ones are: eight times as long; less where a row or the source ends, or
-/// 1 MiB, of up to 16 rows 32 KiB; whole rows where these are short; none where there is no room, for one run, for runs that lie
+/// 1 MiB, of up to 16 rows 64 KiB; whole rows where these are short; none where there is no room, for one run, for runs that lie
 /// together or have no byte.
 const WIDER: [(Place, u64, Option<usize>); 18] = [
     ((0, 10_000, 256, 256), 100_000_000, Some(2048)),
     ((9_984, 10_000, 16, 256), 100_000_000, Some(128)),
     ((0, 10_000, 1024, 256), 100_000_000, Some(4096)),
     ((0, 10_000, 256, 17), 100_000_000, Some(2048)),
-    ((0, 10_000, 512, 16), 100_000_000, Some(2048)),
-    ((0, 10_000, 512, 15), 100_000_000, Some(2048)),
-    ((0, 10_000, 512, 8), 100_000_000, Some(4096)),
+    ((0, 10_000, 1024, 16), 100_000_000, Some(4096)),
+    ((0, 10_000, 1024, 15), 100_000_000, Some(4096)),
+    ((0, 10_000, 1024, 8), 100_000_000, Some(8192)),
     ((0, 2_000, 256, 256), 512_000, Some(2000)),
     ((256, 2_000, 256, 256), 512_000, Some(1536)),
     ((1_744, 2_000, 256, 256), 512_000, None),
