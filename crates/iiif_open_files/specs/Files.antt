@@ -3,9 +3,9 @@ use Rattle.std.specs.Prelude.{ℕ, ◌==◌, ◌&&◌, Bool, nat_lt, Option, Som
 use Rattle.iiif_source.specs.Cause.{failed, ended}
 use Rattle.iiif_open_files.specs.declared.known.Known.{Known}
 
--- the same node of the same device
+-- the same node of the same device, made at the same time
 abbrev pub is_same_file : Known → Known → Bool
-is_same_file was now = now.device == was.device && now.node == was.node
+is_same_file was now = now.device == was.device && now.node == was.node && now.born == was.born
 
 -- Why a file isn't read: under its name there is another one, or it became longer; or it became shorter, so that it ends too early.
 abbrev pub change_of : Known → Known → Option ℕ

@@ -6,13 +6,28 @@ ghost use Rattle.iiif_open_files.specs.Files.{change_of};
 use iiif_source::ReadFault;
 use std::fs::Metadata;
 use std::os::unix::fs::MetadataExt;
+use std::time::UNIX_EPOCH;
 
-/// What is remembered of a file: the device and the node that it is, and its length in bytes.
+/// What is remembered of a file: the device and the node that it is, when it was made, and its length in bytes. A system may give the
+/// node of a file that was removed to the next one that is made, so the node alone doesn't tell them apart.
 #[derive(Clone, Copy, Debug, PartialEq, Eq)]
 pub struct Known {
     pub device: u64,
     pub node: u64,
+    /// When it was made, in nanoseconds since the beginning of 1970; 0 where the file system doesn't say.
+    pub born: u64,
     pub len: u64,
+}
+
+/// When a file was made, in nanoseconds since the beginning of 1970; 0 where the file system doesn't say.
+fn born(file: &Metadata) -> u64 {
+    let Ok(made) = file.created() else {
+        return 0;
+    };
+    match made.duration_since(UNIX_EPOCH) {
+        Ok(since) => u64::try_from(since.as_nanos()).unwrap_or(0),
+        Err(_) => 0,
+    }
 }
 
 impl Known {
@@ -21,6 +36,7 @@ impl Known {
         Known {
             device: file.dev(),
             node: file.ino(),
+            born: born(file),
             len: file.len(),
         }
     }
@@ -29,7 +45,7 @@ impl Known {
     pub fn change(&self, now: &Known) -> Option<u8>
         ensures { result ≡ change_of self.now now.now }
     {
-        let same = now.device == self.device && now.node == self.node;
+        let same = now.device == self.device && now.node == self.node && now.born == self.born;
         if same && now.len == self.len {
             None
         } else if same && now.len < self.len {

@@ -8,7 +8,7 @@ pub use open_files::OpenFiles;
 pub use opens::Opens;
 pub use path_source::PathSource;
 pub use row_shelf::RowShelf;
-pub use shelf::Shelf;
+pub use shelf::{Opening, Shelf};
 pub use wide_rows::WideRows;
 pub use widening::wider;
 

@@ -6,12 +6,11 @@ ghost use Rattle.iiif_source.specs.Runs.{AreIn};
 ghost use Rattle.iiif_open_files.specs.Rows.{AreAmong};
 
 use crate::row_shelf::RowShelf;
-use crate::shelf::Shelf;
+use crate::shelf::{Opening, Shelf};
 use crate::wide_rows::WideRows;
 use crate::widening::FEW;
 use iiif_source::{Runs, Source};
 use std::alloc::{AllocError, Global};
-use std::fs::File;
 use std::num::NonZeroUsize;
 use std::sync::atomic::{AtomicU64, Ordering};
 use std::sync::{Arc, Mutex, Wait};
@@ -24,7 +23,7 @@ pub struct OpenFiles {
     shelf: Mutex<Shelf>,
     many: Mutex<RowShelf>,
     few: Mutex<RowShelf>,
-    sources: AtomicU64,
+    numbers: AtomicU64,
     alloc: Global,
 }
 
@@ -35,7 +34,7 @@ impl OpenFiles {
             shelf: Mutex::new(Shelf::new(alloc, most)?),
             many: Mutex::new(RowShelf::new(alloc, 16)),
             few: Mutex::new(RowShelf::new(alloc, 128)),
-            sources: AtomicU64::new(0),
+            numbers: AtomicU64::new(0),
             alloc,
         })
     }
@@ -45,25 +44,25 @@ impl OpenFiles {
         self.shelf.lock(rt).len()
     }
 
-    /// A number that no earlier source has.
+    /// A number that no earlier source and no earlier opening has.
     pub(crate) fn number(&self) -> u64 {
-        self.sources.fetch_add(1, Ordering::SeqCst)
+        self.numbers.fetch_add(1, Ordering::SeqCst)
     }
 
     /// The open file of a source's number, where it is kept.
-    pub(crate) fn find<R: Wait>(&self, rt: &R, number: u64) -> Option<Arc<File>> {
+    pub(crate) fn find<R: Wait>(&self, rt: &R, number: u64) -> Option<Arc<Opening>> {
         self.shelf.lock(rt).find(number)
     }
 
     /// Keeps the open file of a source's number. It is closed where memory is wanting.
-    pub(crate) fn keep<R: Wait>(&self, rt: &R, number: u64, file: File) {
+    pub(crate) fn keep<R: Wait>(&self, rt: &R, number: u64, file: Opening) {
         if let Ok(file) = Arc::new(self.alloc, file) {
             self.shelf.lock(rt).keep(number, file);
         }
     }
 
-    /// Reads runs of the source of a number from rows that were read ahead, or reads ahead and keeps what it read. Where it
-    /// doesn't, the buffer's bytes are of no use.
+    /// Reads runs of a source, an opening of a number, from rows that were read ahead of it, or reads ahead and keeps what it read.
+    /// Where it doesn't, the buffer's bytes are of no use.
     pub(crate) fn read_ahead<R: Wait, S: Source<R>>(
         &self,
         rt: &R,
@@ -93,9 +92,10 @@ impl OpenFiles {
         if count > FEW { &self.many } else { &self.few }
     }
 
-    /// Rows that are kept of the source of a number and have these runs.
+    /// Rows that are kept of the opening of a number and have these runs.
     fn find_rows<R: Wait>(&self, rt: &R, number: u64, runs: Runs) -> Option<Arc<WideRows>>
-        ensures { IfSome result (λ w. AreAmong (arc_value w).runs runs) }
+        ensures number { IfSome result (λ w. (arc_value w).number ≡ number) }
+        ensures among { IfSome result (λ w. AreAmong (arc_value w).runs runs) }
     {
         self.shelf_of(runs.count).lock(rt).find(number, runs)
     }
@@ -107,7 +107,7 @@ impl OpenFiles {
         }
     }
 
-    /// Lets go what was read ahead of the source of a number.
+    /// Lets go what was read ahead of the opening of a number.
     pub(crate) fn forget_rows<R: Wait>(&self, rt: &R, number: u64) {
         self.many.lock(rt).forget(number);
         self.few.lock(rt).forget(number);

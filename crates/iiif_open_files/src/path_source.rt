@@ -8,6 +8,7 @@ use crate::known::Known;
 use crate::open_files::OpenFiles;
 use crate::opened::Opened;
 use crate::opens::Opens;
+use crate::shelf::Opening;
 use iiif_source::{ReadFault, Runs, Source, fill, fill_runs};
 use std::fs::File;
 use std::io;
@@ -39,8 +40,12 @@ impl PathSource {
     {
         let file = rt.open(path.as_str())?;
         let known = Known::of(&file.metadata()?);
+        let opening = Opening {
+            number: files.number(),
+            file,
+        };
         let number = files.number();
-        files.keep(rt, number, file);
+        files.keep(rt, number, opening);
         Ok(PathSource {
             files,
             number,
@@ -49,12 +54,11 @@ impl PathSource {
         })
     }
 
-    /// The file, opened again, or the cause of the fault of a read: it is gone, it can't be opened, or it isn't what it was. What
-    /// was read ahead of it before is let go first.
-    fn opened<R: Opens + Wait>(&self, rt: &R) -> Result<File, u8>
+    /// The file, opened again, or the cause of the fault of a read: it is gone, it can't be opened, or it isn't what it was. The
+    /// opening has a number of its own, so nothing that was read ahead of an earlier one is used for it.
+    fn opened<R: Opens>(&self, rt: &R) -> Result<Opening, u8>
         ensures { IfErr result (λ cause. IsTrue (cause == failed || cause == ended)) }
     {
-        self.files.forget_rows(rt, self.number);
         let Ok(file) = rt.open(self.path.as_str()) else {
             return Err(ReadFault::FAILED);
         };
@@ -62,7 +66,10 @@ impl PathSource {
             return Err(ReadFault::FAILED);
         };
         match self.known.change(&Known::of(&now)) {
-            None => Ok(file),
+            None => Ok(Opening {
+                number: self.files.number(),
+                file,
+            }),
             Some(cause) => Err(cause),
         }
     }
@@ -75,12 +82,13 @@ impl PathSource {
         }
     }
 
-    /// Reads runs of the open file. Where they lie apart, and the file is what it was, they are taken from rows that were read ahead,
-    /// or their rows are read ahead. Where nothing can be read ahead they are read alone: so a fault is one of these runs' own.
+    /// Reads runs of the open file. Where they lie apart, and the file is what it was, they are taken from rows that were read ahead
+    /// of this opening, or their rows are read ahead. Where nothing can be read ahead they are read alone: so a fault is one of these
+    /// runs' own.
     fn runs_of<R: Wait>(
         &self,
         rt: &R,
-        file: &File,
+        opening: &Opening,
         runs: Runs,
         buffer: &mut [u8],
     ) -> Result<(), ReadFault>
@@ -91,19 +99,19 @@ impl PathSource {
     {
         if runs.count > 1 && (runs.len as u64) < runs.stride {
             let source = Opened {
-                file,
+                file: &opening.file,
                 len: self.known.len,
             };
-            if !self.is_unchanged(file) {
-                self.files.forget_rows(rt, self.number);
+            if !self.is_unchanged(&opening.file) {
+                self.files.forget_rows(rt, opening.number);
             } else if self
                 .files
-                .read_ahead(rt, &source, self.number, runs, buffer)
+                .read_ahead(rt, &source, opening.number, runs, buffer)
             {
                 return Ok(());
             }
         }
-        fill_runs(file, runs, buffer)
+        fill_runs(&opening.file, runs, buffer)
     }
 }
 
@@ -119,31 +127,31 @@ impl<R: Opens + Wait> Source<R> for PathSource {
     }
 
     fn read_at(&self, rt: &R, at: u64, buffer: &mut [u8]) -> Result<(), ReadFault> {
-        if let Some(file) = self.files.find(rt, self.number) {
-            return fill(&file, at, buffer);
+        if let Some(opening) = self.files.find(rt, self.number) {
+            return fill(&opening.file, at, buffer);
         }
-        let file = match self.opened(rt) {
-            Ok(file) => file,
+        let opening = match self.opened(rt) {
+            Ok(opening) => opening,
             Err(cause) => return Err(ReadFault { place: at, cause }),
         };
-        let read = fill(&file, at, buffer);
-        self.files.keep(rt, self.number, file);
+        let read = fill(&opening.file, at, buffer);
+        self.files.keep(rt, self.number, opening);
         read
     }
 
     fn read_runs(&self, rt: &R, runs: Runs, buffer: &mut [u8]) -> Result<(), ReadFault> {
-        if let Some(file) = self.files.find(rt, self.number) {
-            return self.runs_of(rt, &file, runs, buffer);
+        if let Some(opening) = self.files.find(rt, self.number) {
+            return self.runs_of(rt, &opening, runs, buffer);
         }
-        let file = match self.opened(rt) {
-            Ok(file) => file,
+        let opening = match self.opened(rt) {
+            Ok(opening) => opening,
             Err(cause) => {
                 let place = runs.at;
                 return Err(ReadFault { place, cause });
             }
         };
-        let read = self.runs_of(rt, &file, runs, buffer);
-        self.files.keep(rt, self.number, file);
+        let read = self.runs_of(rt, &opening, runs, buffer);
+        self.files.keep(rt, self.number, opening);
         read
     }
 }

@@ -64,6 +64,7 @@ impl RowShelf {
     pub fn find(&mut self, number: u64, runs: Runs) -> Option<Arc<WideRows>>
         ensures number { IfSome result (λ w. (arc_value w).number ≡ number) }
         ensures among { IfSome result (λ w. AreAmong (arc_value w).runs runs) }
+        ensures most { self.new.most ≡ self.old.most }
     {
         match self.placed(number, runs) {
             Some((place, found)) => {
@@ -89,7 +90,8 @@ impl RowShelf {
     /// Keeps rows, and lets go the ones that were used longest ago where there is no room. Where memory is wanting these are let go
     /// too.
     pub fn keep(&mut self, rows: Arc<WideRows>)
-        ensures { let rest = (if vec_len self.old.rows == self.old.most then remove self.old.rows.items 0 else self.old.rows.items) in (self.new.rows.items ≡ rest ++ (rows ∷ [])) ⊎ (self.new.rows.items ≡ rest) }
+        ensures most { self.new.most ≡ self.old.most }
+        ensures rows { let rest = (if vec_len self.old.rows == self.old.most then remove self.old.rows.items 0 else self.old.rows.items) in (self.new.rows.items ≡ rest ++ (rows ∷ [])) ⊎ (self.new.rows.items ≡ rest) }
     {
         self.make_room();
         let _ = self.rows.push(rows);
@@ -97,7 +99,8 @@ impl RowShelf {
 
     /// Lets go all rows of the source of a number.
     pub fn forget(&mut self, number: u64)
-        ensures { self.new.rows.items ≡ filter (λ w. not ((arc_value {X = WideRows} w).number == number)) self.old.rows.items }
+        ensures most { self.new.most ≡ self.old.most }
+        ensures rows { self.new.rows.items ≡ filter (λ w. not ((arc_value {X = WideRows} w).number == number)) self.old.rows.items }
     {
         self.rows.retain(|rows| rows.number != number);
     }

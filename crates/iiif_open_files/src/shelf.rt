@@ -12,11 +12,18 @@ use std::fs::File;
 use std::num::NonZeroUsize;
 use std::sync::Arc;
 
-/// Open files by their numbers, the one that was used last first. The one that was used longest ago is closed where there is no
-/// room for another, once no read holds it.
+/// A file that was opened, and the number of that opening, which no other one has: what is read ahead is of one opening.
+#[derive(Drop)]
+pub struct Opening {
+    pub number: u64,
+    pub file: File,
+}
+
+/// Open files by the numbers of their sources, the one that was used last first. The one that was used longest ago is closed where
+/// there is no room for another, once no read holds it.
 #[derive(Drop)]
 pub struct Shelf {
-    files: LruCache<u64, Arc<File>>,
+    files: LruCache<u64, Arc<Opening>>,
 }
 
 impl Shelf {
@@ -38,7 +45,7 @@ impl Shelf {
     }
 
     /// The file of a number, which is then the one that was used last. The file stays open while it is held.
-    pub fn find(&mut self, number: u64) -> Option<Arc<File>>
+    pub fn find(&mut self, number: u64) -> Option<Arc<Opening>>
         ensures file { IfSome result (λ f. IsSomeAnd (lookup (nat_eq number) self.old.files.entries) (λ kept. arc_value f ≡ arc_value kept)) }
         ensures used { self.new.files ≡ lru_cache (promoted (nat_eq number) self.old.files.entries) self.old.files.cap }
     {
@@ -51,7 +58,7 @@ impl Shelf {
     }
 
     /// Keeps the file of a number. Where memory is wanting the shelf stays as it was, and the file is let go.
-    pub fn keep(&mut self, number: u64, file: Arc<File>)
+    pub fn keep(&mut self, number: u64, file: Arc<Opening>)
         ensures { (self.new.files ≡ lru_cache (put_entries nat_eq self.old.files number file) self.old.files.cap) ⊎ (self.new.files ≡ self.old.files) }
     {
         let _ = self.files.put(number, file);

@@ -212,23 +212,27 @@ const TWO: [Step; 9] = [
 ];
 
 /// A file that is cut while it is open has ended, though its rows were read ahead; as long again it holds what it holds now.
-const CUT: [Step; 7] = [
+const CUT: [Step; 9] = [
     Step::Open("rows_cut", 7, 4000),
     Step::Read(0, 7, (0, 100, 4, 8), Outcome::Right),
+    Step::Read(0, 7, (0, 100, 4, 20), Outcome::Right),
     Step::Change("rows_cut", Change::Resized(650)),
     Step::Read(0, 7, (4, 100, 4, 8), Outcome::Fault(ReadFault::ENDED)),
     Step::Change("rows_cut", Change::Resized(4000)),
     Step::Read(0, 7, (4, 100, 4, 8), Outcome::Wrong),
+    Step::Read(0, 7, (4, 100, 4, 20), Outcome::Wrong),
     Step::Change("rows_cut", Change::Removed),
 ];
 
 /// A file that is written over while it isn't open is read anew, and one that is another then isn't read.
-const ANEW: [Step; 10] = [
+const ANEW: [Step; 12] = [
     Step::Open("rows_anew", 1, 4000),
     Step::Read(0, 1, (0, 100, 4, 8), Outcome::Right),
+    Step::Read(0, 1, (0, 100, 4, 20), Outcome::Right),
     Step::Open("rows_beside", 2, 4000),
     Step::Write("rows_anew", 3, 4000),
     Step::Read(0, 3, (4, 100, 4, 8), Outcome::Right),
+    Step::Read(0, 3, (4, 100, 4, 20), Outcome::Right),
     Step::Read(1, 2, (4, 100, 4, 8), Outcome::Right),
     Step::Change("rows_anew", Change::Replaced(&[1, 2, 3])),
     Step::Read(0, 3, (4, 100, 4, 8), Outcome::Fault(ReadFault::FAILED)),

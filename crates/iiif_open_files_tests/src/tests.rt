@@ -20,6 +20,8 @@ pub(crate) enum Change {
     Resized(u64),
     /// Another file, of these bytes, takes its name.
     Replaced(&'static [u8]),
+    /// It is removed, and a file of these bytes is made in its place.
+    MadeAgain(&'static [u8]),
 }
 
 /// A call of a source or of a file, and what is to come of it. Sources have numbers from 0 on, as they are opened.
@@ -107,14 +109,19 @@ where
 /// Changes a file.
 pub(crate) fn change_file<R>(rt: &R, path: &str, how: Change) -> Result<(), Fail>
 where
-    R: Files<File = File>,
+    R: Files<File = File> + AllocGlobal,
 {
     match how {
         Change::Removed => fs::remove_file(rt, path)?,
         Change::Resized(len) => File::options().write(true).open(rt, path)?.set_len(len)?,
         Change::Replaced(bytes) => {
-            fs::write(rt, "open_files_new", bytes)?;
-            fs::rename(rt, "open_files_new", path)?;
+            let new = format!(in rt.alloc(); "{path}_new")?;
+            fs::write(rt, new.as_str(), bytes)?;
+            fs::rename(rt, new.as_str(), path)?;
+        }
+        Change::MadeAgain(bytes) => {
+            fs::remove_file(rt, path)?;
+            fs::write(rt, path, bytes)?;
         }
     }
     Ok(())
@@ -234,39 +241,46 @@ fn file_that_is_not_there_is_no_source(rt: HostRuntime) -> Result<(), Fail> {
     run(&rt, 1, &[(1, &NOWHERE)])
 }
 
-/// Files that are gone, shorter, longer and another after they were opened, and one that is the same.
-const CHANGED: [Step; 9] = [
+/// Files that are gone, shorter, longer, another, and made again after they were opened, and one that is the same. The node of the one
+/// that was removed may be that of the one that is made in its place.
+const CHANGED: [Step; 11] = [
     Step::Open("open_files_gone", &[1, 2, 3]),
     Step::Open("open_files_shorter", &[1, 2, 3]),
     Step::Open("open_files_longer", &[1, 2, 3]),
     Step::Open("open_files_another", &[1, 2, 3]),
+    Step::Open("open_files_made_again", &[1, 2, 3]),
     Step::Open("open_files_same", &[7, 8, 9]),
     Step::Change("open_files_gone", Change::Removed),
     Step::Change("open_files_shorter", Change::Resized(2)),
     Step::Change("open_files_longer", Change::Resized(4)),
     Step::Change("open_files_another", Change::Replaced(&[1, 2, 3])),
+    Step::Change("open_files_made_again", Change::MadeAgain(&[4, 5, 6])),
 ];
 
 /// What is read of them, and then of the one that is the same.
-const CHANGED_ARE_READ: [Step; 12] = [
+const CHANGED_ARE_READ: [Step; 15] = [
     Step::Fault(0, 1, ReadFault::FAILED),
     Step::Len(0, 3),
-    Step::Read(4, 1, [8, 9]),
+    Step::Read(5, 1, [8, 9]),
     Step::Fault(1, 1, ReadFault::ENDED),
     Step::Len(1, 3),
-    Step::Read(4, 1, [8, 9]),
+    Step::Read(5, 1, [8, 9]),
     Step::Fault(2, 1, ReadFault::FAILED),
     Step::Len(2, 3),
-    Step::Read(4, 1, [8, 9]),
+    Step::Read(5, 1, [8, 9]),
     Step::Fault(3, 1, ReadFault::FAILED),
     Step::Len(3, 3),
-    Step::Read(4, 1, [8, 9]),
+    Step::Read(5, 1, [8, 9]),
+    Step::Fault(4, 1, ReadFault::FAILED),
+    Step::Len(4, 3),
+    Step::Read(5, 1, [8, 9]),
 ];
 
-const CHANGED_ARE_REMOVED: [Step; 4] = [
+const CHANGED_ARE_REMOVED: [Step; 5] = [
     Step::Change("open_files_shorter", Change::Removed),
     Step::Change("open_files_longer", Change::Removed),
     Step::Change("open_files_another", Change::Removed),
+    Step::Change("open_files_made_again", Change::Removed),
     Step::Change("open_files_same", Change::Removed),
 ];
 
@@ -390,32 +404,34 @@ fn threads_share_the_open_files(rt: HostRuntime) -> Result<(), Fail> {
     remove_eight(&rt)
 }
 
-/// The device, the node and the length of a file that was known as (1, 2, 3), and the cause of the fault that comes of it.
-const KNOWN: [(u64, u64, u64, Option<u8>); 6] = [
-    (1, 2, 3, None),
-    (1, 2, 2, Some(2)),
-    (1, 2, 4, Some(1)),
-    (2, 2, 3, Some(1)),
-    (1, 3, 3, Some(1)),
-    (1, 3, 2, Some(1)),
+/// What is found of a file that was known as [1, 2, 4, 3] (the device, the node, the moment when it was made, the length), and the
+/// cause of the fault that comes of it.
+const KNOWN: [([u64; 4], Option<u8>); 8] = [
+    ([1, 2, 4, 3], None),
+    ([1, 2, 4, 2], Some(2)),
+    ([1, 2, 4, 4], Some(1)),
+    ([2, 2, 4, 3], Some(1)),
+    ([1, 3, 4, 3], Some(1)),
+    ([1, 3, 4, 2], Some(1)),
+    ([1, 2, 5, 3], Some(1)),
+    ([1, 2, 5, 2], Some(1)),
 ];
 
-/// Why a file that was known as (1, 2, 3) is no more what it was.
-fn change_to(device: u64, node: u64, len: u64) -> Option<u8> {
-    let was = Known {
-        device: 1,
-        node: 2,
-        len: 3,
-    };
-    was.change(&Known { device, node, len })
+/// What is known of a file.
+fn known(numbers: [u64; 4]) -> Known {
+    let [device, node, born, len] = numbers;
+    Known {
+        device,
+        node,
+        born,
+        len,
+    }
 }
 
 #[test]
 fn change_of_a_file_has_its_cause(rt: HostRuntime) {
-    for (device, node, len, cause) in KNOWN {
-        assert!(rt;
-            change_to(device, node, len) == cause,
-            "{device} {node} {len}"
-        );
+    let was = known([1, 2, 4, 3]);
+    for (case, (now, cause)) in KNOWN.iter().enumerate() {
+        assert!(rt; was.change(&known(*now)) == *cause, "case {case}");
     }
 }
