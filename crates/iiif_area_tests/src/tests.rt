@@ -295,6 +295,55 @@ fn compare_added(
     Ok(())
 }
 
+/// The rows from a first one on, scaled to one column of so many rows, from tiles of an edge.
+fn compare_tall(
+    rt: &impl Abort,
+    alloc: Global,
+    picture: &Raster,
+    tall: Tall,
+) -> Result<(), NoMemory> {
+    let Tall { first, rows, edge } = tall;
+    let dim = picture.dim();
+    let region = rect(0, first, dim.w, dim.h.saturating_sub(first));
+    let size = Dim { w: 1, h: rows };
+    let sums = scaled(rt, alloc, picture, region, size, edge)?;
+    let made = finish(rt, alloc, &sums, region, sums.rect(), picture.depth())?;
+    compare_samples(rt, picture, region, size, sums.rect(), &made);
+    Ok(())
+}
+
+/// A region's first row, the rows of its result, and the edge of its tiles.
+#[derive(Clone, Copy)]
+struct Tall {
+    first: u32,
+    rows: u32,
+    edge: u32,
+}
+
+/// Tall pictures.
+const TALL: [(Dim, Kind, Depth); 4] = [
+    (Dim { w: 2, h: 17 }, Kind::Gray, Depth::Eight),
+    (Dim { w: 1, h: 16 }, Kind::Rgb, Depth::Eight),
+    (Dim { w: 2, h: 17 }, Kind::Gray, Depth::Sixteen),
+    (Dim { w: 1, h: 9 }, Kind::Rgb, Depth::Sixteen),
+];
+
+/// A result row takes more than six rows of a tile: those that it takes whole are added up apart.
+#[test]
+fn many_rows_of_a_tile_agree(rt: HostRuntime) -> Result<(), Fail> {
+    for (dim, kind, depth) in TALL {
+        let picture = pattern(rt.alloc(), dim, kind, depth)?;
+        for first in 0..2 {
+            for rows in 1..4 {
+                for edge in [6, 7, 8, 17] {
+                    compare_tall(&rt, rt.alloc(), &picture, Tall { first, rows, edge })?;
+                }
+            }
+        }
+    }
+    Ok(())
+}
+
 #[test]
 fn all_tiles_added_to_gray_pictures_agree(rt: HostRuntime) -> Result<(), Fail> {
     let alloc = rt.alloc();
