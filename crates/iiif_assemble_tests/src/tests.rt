@@ -20,12 +20,31 @@ use std::sync::Arc;
 use std::test::Fail;
 use std::thread::Threads;
 
-/// A picture that is held whole, of which each value is made anew. Where told, two of its four tiles fail, the second otherwise.
+/// Which of a picture's four tiles fail: two, of which the second fails otherwise. In a row they are asked for in one turn of two workers.
+#[derive(Clone, Copy)]
+enum Failing {
+    Nothing,
+    SecondColumn,
+    FirstRow,
+}
+
+impl Failing {
+    /// Whether a tile is the first or the second of them, if any.
+    fn place(self, key: &TileKey) -> Option<bool> {
+        match self {
+            Failing::SecondColumn if key.tx == 1 => Some(key.ty == 0),
+            Failing::FirstRow if key.ty == 0 => Some(key.tx == 0),
+            _ => None,
+        }
+    }
+}
+
+/// A picture that is held whole, of which each value is made anew, but for the tiles that fail.
 #[derive(Drop)]
 struct Shown {
     raster: Raster,
     shape: Shape,
-    fails: bool,
+    fails: Failing,
     alloc: Global,
     ghost sides: { dim_of raster ≡ shape.dim },
     ghost samples_a_place: { raster.channels ≡ channels_of shape.kind },
@@ -41,8 +60,8 @@ impl<R> Items<TileKey, TileVal, u64, R> for Shown {
 
     fn get(&self, _rt: &R, pass: &mut u64, key: &TileKey) -> Result<Arc<TileVal>, Fault> {
         *pass = pass.wrapping_add(1);
-        if self.fails && key.tx == 1 {
-            return Err(if key.ty == 0 {
+        if let Some(is_first) = self.fails.place(key) {
+            return Err(if is_first {
                 Fault::BadKey
             } else {
                 Fault::UnknownName
@@ -80,7 +99,7 @@ impl<R> Items<SumKey, SumVal, u64, R> for Shown {
 }
 
 /// A raster that is shown.
-fn of_raster(alloc: Global, raster: Raster, fails: bool) -> Shown {
+fn of_raster(alloc: Global, raster: Raster, fails: Failing) -> Shown {
     let shape = Shape {
         dim: raster.dim(),
         kind: raster.kind(),
@@ -95,7 +114,7 @@ fn of_raster(alloc: Global, raster: Raster, fails: bool) -> Shown {
 }
 
 /// The gray picture of 4 by 4 places, whose samples are 0, 10, 20 and so on up to 150.
-fn sample(alloc: Global, fails: bool) -> Result<Shown, Fail> {
+fn sample(alloc: Global, fails: Failing) -> Result<Shown, Fail> {
     let samples = vec![in alloc;
         0, 10, 20, 30, 40, 50, 60, 70, 80, 90, 100, 110, 120, 130, 140, 150,
     ]?;
@@ -110,7 +129,7 @@ fn deep(alloc: Global) -> Result<Shown, Fail> {
         48_012, 52_013, 56_014, 60_015,
     ]?;
     let raster = Raster::from_samples(Dim { w: 4, h: 4 }, Kind::Gray, Samples::Sixteen(samples));
-    Ok(of_raster(alloc, raster, false))
+    Ok(of_raster(alloc, raster, Failing::Nothing))
 }
 
 /// The samples of a raster of 8 bits; none of another.
@@ -285,7 +304,7 @@ fn is_row<R: Threads + Sync>(
 
 #[test]
 fn quarter_turn_in_bands_of_a_row(rt: HostRuntime) -> Result<(), Fail> {
-    let shown = sample(rt.alloc(), false)?;
+    let shown = sample(rt.alloc(), Failing::Nothing)?;
     let job = job(rt.alloc(), shown.shape, 2, shown.shape.dim, QUARTER)?;
     let all = job.bands(rt.alloc(), 1)?;
     assert!(rt; all.len() == 4);
@@ -319,7 +338,7 @@ const IMAGES: [(Dim, Turn, Wanted); 3] = [
 
 #[test]
 fn any_number_of_workers_makes_one_image(rt: HostRuntime) -> Result<(), Fail> {
-    let shown = sample(rt.alloc(), false)?;
+    let shown = sample(rt.alloc(), Failing::Nothing)?;
     for image in IMAGES {
         compare_workers(&rt, rt.alloc(), &shown, 1, image)?;
     }
@@ -361,7 +380,10 @@ fn sixteen_bits_are_turned_and_averaged(rt: HostRuntime) -> Result<(), Fail> {
 
 #[test]
 fn fault_is_that_of_the_first_item(rt: HostRuntime) -> Result<(), Fail> {
-    let shown = sample(rt.alloc(), true)?;
-    let image = (shown.shape.dim, UPRIGHT, Wanted::Fault(Fault::BadKey));
-    compare_workers(&rt, rt.alloc(), &shown, 2, image)
+    for fails in [Failing::SecondColumn, Failing::FirstRow] {
+        let shown = sample(rt.alloc(), fails)?;
+        let image = (shown.shape.dim, UPRIGHT, Wanted::Fault(Fault::BadKey));
+        compare_workers(&rt, rt.alloc(), &shown, 2, image)?;
+    }
+    Ok(())
 }
