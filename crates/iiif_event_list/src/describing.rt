@@ -1,8 +1,10 @@
 //! Worlds, as the lines before their first event describe them.
 
-ghost use Rattle.std.specs.Prelude.{◌≡◌, length, IfOk};
+ghost use Rattle.std.specs.Prelude.{◌≡◌, length, map, IfOk};
+ghost use Rattle.iiif_machine.specs.Worlds.{new_world};
 ghost use Rattle.iiif_pixel.specs.Depths.{values_of};
-ghost use Rattle.iiif_world.specs.Code.{world_of, IsSoundWorld};
+ghost use Rattle.iiif_world.specs.Code.{scene_of, world_of, IsSoundWorld};
+ghost use Rattle.iiif_world.specs.Starting.{node_for};
 
 use crate::fault::LineFault;
 use crate::reading::{count, name, number, side, word};
@@ -201,7 +203,8 @@ impl Description {
 
     /// The world that was described, in which nothing has happened. `Bad`, where no world can begin so.
     pub fn begin(self, alloc: Global) -> Result<World, LineFault>
-        ensures { IfOk result (λ w. IsSoundWorld (world_of w)) }
+        ensures new { IfOk result (λ w. world_of w ≡ new_world (scene_of self.items.items self.edge self.limits self.room) (map node_for self.setups.items)) }
+        ensures sound { IfOk result (λ w. IsSoundWorld (world_of w)) }
     {
         let Description {
             edge,

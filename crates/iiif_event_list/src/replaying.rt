@@ -1,6 +1,7 @@
 //! Worlds and their events, line by line.
 
-ghost use Rattle.iiif_event_list.specs.Replays.{IsSoundReplay};
+ghost use Rattle.std.specs.Prelude.{OnOk};
+ghost use Rattle.iiif_event_list.specs.Replays.{IsSoundReplay, IsOutcome};
 ghost use Rattle.iiif_world.specs.Code.{world_of, IsSoundWorld};
 ghost use Rattle.iiif_world.specs.Stepping.{IsShortEvent};
 
@@ -26,7 +27,8 @@ fn outcome(
 ) -> Result<String, LineFault>
     requires sound { IsSoundWorld (world_of world.old) }
     requires short { IsShortEvent event.now }
-    ensures { IsSoundWorld (world_of world.new) }
+    ensures sound { IsSoundWorld (world_of world.new) }
+    ensures done { OnOk result (IsOutcome (world_of world.old) event.now (world_of world.new)) }
 {
     let words = line.trim();
     match world.step(event) {
