@@ -1,6 +1,6 @@
 //! The command line.
 
-ghost use Rattle.std.specs.Prelude.{◌<◌, ◌^◌, IfSome};
+ghost use Rattle.std.specs.Prelude.{◌≡◌, ◌<◌, ◌≤◌, ◌^◌, IfOk, IfSome};
 
 use clap::{Arg, ArgAction, ArgMatches, Command};
 use iiif_image_list::{Fault, ImageList, LineFault as ListFault};
@@ -44,6 +44,9 @@ const MOST_OPEN_FILES: u64 = 65_536;
 const OWN_NAME: &str = "self";
 
 const MOST_NAME: usize = 255;
+
+/// The greatest port.
+const MOST_PORT: u64 = 65_535;
 
 /// How many other nodes a node may have beside it: a ring has at most 64 names.
 const MOST_PEERS: usize = 63;
@@ -182,6 +185,8 @@ pub struct Options<'a> {
     pub peers: Vec<(&'a str, &'a str)>,
     pub mode: Mode<'a>,
     pub ghost within: { cache_bytes < 2 ^ 63 },
+    pub ghost sides: { (1 ≤ edge) × (edge ≤ 1024) × (edge ≤ max) × (max ≤ 16384) },
+    pub ghost shares: { (1 ≤ band) × (band ≤ 16384) × (1 ≤ workers) × (workers ≤ 16) },
 }
 
 /// An option that takes one text.
@@ -262,7 +267,9 @@ pub fn matches<'a, S: AsStr>(alloc: Global, words: &'a [S]) -> Result<ArgMatches
 }
 
 /// A whole number of up to thirteen digits, from 1 to a greatest one.
-fn number(text: Option<&str>, default: u64, most: u64) -> Option<u32> {
+fn number(text: Option<&str>, default: u64, most: u64) -> Option<u32>
+    ensures { IfSome result (λ n. (1 ≤ n) × (n ≤ most)) }
+{
     let value = match text {
         Some(text) => numeral(text.as_bytes(), 13)?,
         None => default,
@@ -274,7 +281,9 @@ fn number(text: Option<&str>, default: u64, most: u64) -> Option<u32> {
 }
 
 /// The edge and the greatest side. An edge is compared with the greatest side only where that is a number within its limits.
-fn sides(edge: Option<&str>, max: Option<&str>) -> Result<(u32, u32), LineFault> {
+fn sides(edge: Option<&str>, max: Option<&str>) -> Result<(u32, u32), LineFault>
+    ensures { IfOk result (λ s. (1 ≤ s.0) × (s.0 ≤ 1024) × (s.0 ≤ s.1) × (s.1 ≤ 16384)) }
+{
     let max = number(max, MAX, MOST_MAX);
     let Some(edge) = number(edge, EDGE, MOST_EDGE) else {
         return Err(LineFault::Edge);
@@ -342,8 +351,19 @@ fn is_node_name(text: &str) -> bool {
     !text.is_empty() && text.len() <= MOST_NAME
 }
 
-/// The names and addresses of other nodes: at most 63, each name of its own and within its limit, and none this node's. The
-/// addresses are taken as they are.
+/// Whether a text ends in `:` and a port of 1 to 65,535. What stands before them is for the system to find.
+fn has_port(address: &str) -> bool {
+    let Some((_, port)) = address.rsplit_once(':') else {
+        return false;
+    };
+    match numeral(port.as_bytes(), 5) {
+        Some(port) => port >= 1 && port <= MOST_PORT,
+        None => false,
+    }
+}
+
+/// The names and addresses of other nodes: at most 63, each name of its own and within its limit, and none this node's, and each
+/// address with a port.
 fn peers<'t, 'a: 't>(
     alloc: Global,
     own: &str,
@@ -360,6 +380,9 @@ fn peers<'t, 'a: 't>(
         if !is_node_name(name) || name == own || peers.iter().any(|peer| peer.0 == name) {
             return Err(LineFault::Peer);
         }
+        if !has_port(address) {
+            return Err(LineFault::Peer);
+        }
         if peers.push((name, address)).is_err() {
             return Err(LineFault::NoMemory);
         }
@@ -372,6 +395,7 @@ struct Shares {
     band: u32,
     workers: u32,
     open_files: NonZeroUsize,
+    ghost within: { (1 ≤ band) × (band ≤ 16384) × (1 ≤ workers) × (workers ≤ 16) },
 }
 
 /// What a node may take of the machine, or the first of it that is wrong.
@@ -425,7 +449,9 @@ pub fn options_in<'t, 'a: 't>(
     matches: &ArgMatches<'a>,
     base: &'t str,
     list: Result<&'t [u8], LineFault>,
-) -> Result<Options<'t>, LineFault> {
+) -> Result<Options<'t>, LineFault>
+    ensures { IfOk result (λ o. o.base.now ≡ base.now) }
+{
     let (edge, max) = sides(matches.get_str("edge"), matches.get_str("max"))?;
     let Some(cache_bytes) = cache_bytes(matches.get_str("cache-bytes")) else {
         return Err(LineFault::Cache);

@@ -1,10 +1,12 @@
 //! The program's work: what its words ask for, done.
 
-ghost use Rattle.std.specs.Prelude.{◌≡◌, ◌≤◌, ℕ, List, Some, false};
+ghost use Rattle.std.specs.Prelude.{◌≡◌, ◌≤◌, ℕ, List, Some, None, false};
 ghost use Rattle.iiif_source.specs.declared.ReadFault.{ReadFault};
 ghost use Rattle.iiif_images.specs.Collection.{Item, item_named};
 ghost use Rattle.iiif_images.specs.Named.{gave_of, pictures_of};
 ghost use Rattle.iiif_start.specs.Stored.{bytes_of, keeps_of, stored_gave};
+ghost use Rattle.iiif_server.specs.Settings.{refusal_of};
+ghost use Rattle.iiif_program.specs.Lines.{settings_in};
 
 use crate::nodes::{Nodes, among};
 use crate::one::{answer_in_hex, answer_one};
@@ -134,6 +136,7 @@ where
         + AllocGlobal,
     O: Outlet,
     E: Outlet + Send,
+    requires { refusal_of (settings_in options.now) ≡ None }
 {
     // A check goes on where an image is at fault, and needs no node.
     if options.mode == Mode::Check {

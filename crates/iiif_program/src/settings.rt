@@ -1,17 +1,21 @@
 //! The settings of the server that the words name.
 
-ghost use Rattle.std.specs.Prelude.{◌≡◌, IfOk};
+ghost use Rattle.std.specs.Prelude.{◌≡◌, true, None, IfOk};
+ghost use Rattle.iiif_server.specs.BaseUrl.{is_base_url};
+ghost use Rattle.iiif_server.specs.Settings.{refusal_of};
 ghost use Rattle.iiif_program.specs.Lines.{settings_in};
 
 use clap::ArgMatches;
 use iiif_canonical::Limits;
 use iiif_command_line::{LineFault, Options, options_in};
-use iiif_server::{Config, is_base_url};
+use iiif_server::{Config, ConfigFault, is_base_url};
 use iiif_start::Stop;
 use std::alloc::Global;
 
 /// The base URL of the words.
-fn base_in<'a>(matches: &ArgMatches<'a>) -> Result<&'a str, LineFault> {
+fn base_in<'a>(matches: &ArgMatches<'a>) -> Result<&'a str, LineFault>
+    ensures { IfOk result (λ b. is_base_url b.now ≡ true) }
+{
     match matches.get_str("base") {
         Some(base) if is_base_url(base) => Ok(base),
         _ => Err(LineFault::Base),
@@ -20,17 +24,21 @@ fn base_in<'a>(matches: &ArgMatches<'a>) -> Result<&'a str, LineFault> {
 
 /// What the words and the text of the list ask for, or the first thing that is wrong with them. Where the list can't be read, that
 /// comes in its place, at the images.
+#[tactic(auto, unfolding(iiif_server::specs::Settings::refusal_of))]
 pub(crate) fn options_of<'t, 'a: 't>(
     alloc: Global,
     matches: &ArgMatches<'a>,
     list: Result<&'t [u8], LineFault>,
-) -> Result<Options<'t>, LineFault> {
+) -> Result<Options<'t>, LineFault>
+    ensures { IfOk result (λ o. refusal_of (settings_in o) ≡ None) }
+{
     let base = base_in(matches)?;
     options_in(alloc, matches, base, list)
 }
 
 /// The settings in the options. Those of a line that isn't wrong are legal, so the only error is want of memory.
 pub(crate) fn config<'a>(alloc: Global, options: &Options<'a>) -> Result<Config, Stop<'a>>
+    requires { refusal_of (settings_in options.now) ≡ None }
     ensures { IfOk result (λ c. c ≡ settings_in options.now) }
 {
     let limits = Limits {
@@ -41,6 +49,7 @@ pub(crate) fn config<'a>(alloc: Global, options: &Options<'a>) -> Result<Config,
     let (edge, band, workers) = (options.edge, options.band, options.workers);
     match Config::new(alloc, options.base, edge, limits, band, workers) {
         Ok(config) => Ok(config),
-        Err(_) => Err(Stop::Memory),
+        Err(ConfigFault::NoMemory) => Err(Stop::Memory),
+        Err(_) => unreachable!(),
     }
 }

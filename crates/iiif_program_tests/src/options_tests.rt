@@ -402,7 +402,7 @@ const REMEDIES: [(&[&str], &str); 10] = [
     ),
     (
         &["--base", BASE, "a=:sample", "--peer", "p"],
-        "line: peer\n--peer is NAME=ADDR, at most 63 times; it and --name have names of 1 to 255 bytes that stand once\n",
+        "line: peer\n--peer is NAME=ADDR with a port at its end, at most 63 times; it and --name have names of 1 to 255 bytes that stand once\n",
     ),
     (
         &["--base", BASE, "a=:sample"],

@@ -428,13 +428,14 @@ impl<'a, R: Net<Stream = TcpStream>> Visit<R> for NodeAndViewer<'a> {
     }
 }
 
-/// An address at which nobody is.
-fn dead_address<R>(rt: &R) -> Result<String, Fail>
+/// A listener that listens no more: nobody is at its address, and nobody else gets it meanwhile.
+fn stopped<R>(rt: &R) -> Result<TcpListener, Fail>
 where
-    R: Net<Listener = TcpListener, Stream = TcpStream> + AllocGlobal,
+    R: Net<Listener = TcpListener, Stream = TcpStream>,
 {
     let gone = TcpListener::bind(rt, ANY)?;
-    address_of(rt.alloc(), &gone)
+    stop(&gone);
+    Ok(gone)
 }
 
 /// What a node counted during such a visit beside a node that is gone and owns every key.
@@ -448,7 +449,8 @@ where
         + Sync
         + AllocGlobal,
 {
-    let address = dead_address(rt)?;
+    let gone = stopped(rt)?;
+    let address = address_of(rt.alloc(), &gone)?;
     let scene = Scene {
         owner: Some(address.as_str()),
         ..SAMPLE
@@ -457,7 +459,9 @@ where
         request,
         wanted: Text::Framed(b"", last),
     };
-    Ok(served(rt, &scene, &visit))
+    let counts = served(rt, &scene, &visit);
+    drop(gone);
+    Ok(counts)
 }
 
 #[test]

@@ -224,13 +224,23 @@ impl<R> Visit<R> for Ends {
     }
 }
 
+/// Where the statistics can be asked for, if anywhere, and which listener ends.
+const ENDS: [(Option<&str>, Ends); 5] = [
+    (Some(ANY), Ends::Viewers),
+    (Some(ANY), Ends::Peers),
+    (Some(ANY), Ends::Statistics),
+    (None, Ends::Viewers),
+    (None, Ends::Peers),
+];
+
 #[test]
 fn end_of_one_listener_ends_all(rt: HostRuntime) {
-    let scene = Scene {
-        logs: true,
-        ..WATCHED
-    };
-    for one in [Ends::Viewers, Ends::Peers, Ends::Statistics] {
+    for (statistics, one) in ENDS {
+        let scene = Scene {
+            statistics,
+            logs: true,
+            ..WATCHED
+        };
         assert!(rt; served(&rt, &scene, &one).is_some());
     }
 }

@@ -160,9 +160,16 @@ fn help_and_version_are_answers(rt: HostRuntime) -> Result<(), Fail> {
 }
 
 /// Words that name other nodes wrongly, or listen to them without viewers.
-const PEERS: [(&[&str], &str); 10] = [
+const PEERS: [(&[&str], &str); 17] = [
     (&["--peer", "p"], "line: peer\n"),
     (&["--peer", "=127.0.0.1:1"], "line: peer\n"),
+    (&["--peer", "p="], "line: peer\n"),
+    (&["--peer", "p=127.0.0.1"], "line: peer\n"),
+    (&["--peer", "p=127.0.0.1:"], "line: peer\n"),
+    (&["--peer", "p=127.0.0.1:0"], "line: peer\n"),
+    (&["--peer", "p=127.0.0.1:65536"], "line: peer\n"),
+    (&["--peer", "p=127.0.0.1:1x"], "line: peer\n"),
+    (&["--peer", "p=:1:"], "line: peer\n"),
     (&["--peer", "self=127.0.0.1:1"], "line: peer\n"),
     (&["--name", "n", "--peer", "n=127.0.0.1:1"], "line: peer\n"),
     (
@@ -252,7 +259,7 @@ const IN_ORDER: [(&str, &[&str], &[&str]); 10] = [
         &["--open-files", "1"],
     ),
     ("line: image\n", &["a"], &["a=:sample"]),
-    ("line: peer\n", &["--peer", "p"], &["--peer", "p=x"]),
+    ("line: peer\n", &["--peer", "p=x"], &["--peer", "p=x:65535"]),
     ("line: mode\n", &["--hex"], &["--one", WHOLE]),
 ];
 

@@ -31,7 +31,7 @@ fn remedy(fault: LineFault) -> &'static str
         LineFault::Unread => "the file of --images can't be read",
         LineFault::List(_) => "the file of --images has lines NAME=FILE",
         LineFault::Peer => {
-            "--peer is NAME=ADDR, at most 63 times; it and --name have names of 1 to 255 bytes that stand once"
+            "--peer is NAME=ADDR with a port at its end, at most 63 times; it and --name have names of 1 to 255 bytes that stand once"
         }
         LineFault::Mode => {
             "one of --listen ADDR, --one TARGET and --check; --hex only with --one; --peer-listen, --log and --stats-listen only with --listen"
