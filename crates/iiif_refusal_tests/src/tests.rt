@@ -195,17 +195,17 @@ fn information_is_written_after_a_refused_growth(rt: HostRuntime) -> Result<(), 
     Ok(())
 }
 
-/// The plan of the whole sample at half its width or as it is, edge 2, where memory is not wanted.
-fn planned(alloc: Global, name: &Name, side: u32) -> Option<Plan> {
-    if side == 0 {
+/// The plan of a square of the sample's last samples, at edge 2, where memory is not wanted.
+fn planned(alloc: Global, name: &Name, from: u32, side: u32) -> Option<Plan> {
+    if from >= 4 || side == 0 {
         return None;
     }
     let resolved = Resolved {
         rect: Rect {
-            x: 0,
-            y: 0,
-            w: 4,
-            h: 4,
+            x: from,
+            y: from,
+            w: 4 - from,
+            h: 4 - from,
         },
         size: Dim { w: side, h: side },
         turn: Turn {
@@ -226,6 +226,21 @@ fn planned(alloc: Global, name: &Name, side: u32) -> Option<Plan> {
     .ok()
 }
 
+/// A plan as numbers: how many tiles it copies, how many blocks it takes, and the columns and rows of the first, as they stand.
+fn numbers(plan: &Plan) -> Option<(usize, usize, u32, u32)> {
+    match plan {
+        Plan::Copy(keys) => {
+            let first = keys.first()?;
+            Some((keys.len(), 0, first.tx, first.ty))
+        }
+        Plan::Sum(keys) => {
+            let first = keys.first()?;
+            Some((0, keys.len(), first.bx, first.by))
+        }
+        Plan::Grow(_) => None,
+    }
+}
+
 #[test]
 fn plan_is_made_after_a_refused_growth(rt: HostRuntime) -> Result<(), Fail> {
     let text = String::from_str(rt.alloc(), "a")?;
@@ -233,16 +248,19 @@ fn plan_is_made_after_a_refused_growth(rt: HostRuntime) -> Result<(), Fail> {
         return Err("no name".into());
     }
     let name = Name::new(text)?;
-    for (side, tiles, blocks) in [(4u32, 4usize, 0usize), (2, 0, 1)] {
-        let plan = match planned(rt.alloc(), &name, side) {
+    // The whole sample as it is, and at half its width; and its last tile, which stands alone.
+    for (from, side, wanted) in [
+        (0u32, 4u32, (4usize, 0usize, 0u32, 0u32)),
+        (0, 2, (0, 1, 0, 0)),
+        (2, 2, (1, 0, 1, 1)),
+    ] {
+        let plan = match planned(rt.alloc(), &name, from, side) {
             Some(plan) => plan,
-            None => planned(rt.alloc(), &name, side).ok_or("no plan, though memory was ample")?,
+            None => {
+                planned(rt.alloc(), &name, from, side).ok_or("no plan, though memory was ample")?
+            }
         };
-        match plan {
-            Plan::Copy(keys) => assert_eq!(rt; (keys.len(), 0), (tiles, blocks)),
-            Plan::Sum(keys) => assert_eq!(rt; (0, keys.len()), (tiles, blocks)),
-            Plan::Grow(_) => return Err("another plan".into()),
-        }
+        assert!(rt; numbers(&plan) == Some(wanted), "from {from}, {side} wide");
     }
     Ok(())
 }
