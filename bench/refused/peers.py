@@ -3,14 +3,20 @@
 A node's ring has its own name and seven others at the other node's address, and the names are searched for so that none of the keys of the
 cases is its own. So each tile and each sum is asked for at the other node, which answers by itself.
 
-Three kinds of runs, each on new servers and on one: the growths are refused to the node that is asked for images; to the node that it asks,
+Four kinds of runs, each on new servers and on one: the growths are refused to the node that is asked for images; to the node that it asks,
 and then the answer has to be the case's own; and to the node whose port for peers is asked, and then each reply has to be its own or that
-of a want of memory, or the connection closes behind whole replies or a strict prefix of one.
+of a want of memory, or the connection closes behind whole replies or a strict prefix of one. The fourth has one node alone, all of whose
+keys are owned by a node that lies: its reply has one byte changed, or is for another key and has another value. What comes has to be
+what a node without others may answer, the same again the case's own, and no value that is kept may be counted as another node's. That
+is tried at a start by `--one` too.
 """
 import itertools
 import os
+import socketserver
 import sys
+import threading
 
+import starts
 from streams import HERE, MOST, STREAMS, Node, count, files, images, running, tiff
 
 sys.path.insert(0, os.path.join(HERE, "..", "scale"))
@@ -145,6 +151,100 @@ def images_tried(crossed, calls, helper):
     return tried
 
 
+def changed(values, n, version, group, key):
+    """The right reply with one byte changed: another one at each ask."""
+    text = bytearray(values.replied(version, group, key)[0])
+    text[n % len(text)] ^= 1 + n % 255
+    return bytes(text)
+
+
+def of_another_key(values, _, version, group, key):
+    """A whole reply for another key, whose value has the shape of the right one, and another last byte."""
+    right = (values.tile if group == 1 else values.sums)(key, version)
+    return wire.reply(version, flipped(key), 0, flipped(right))
+
+
+def flipped(text):
+    return text[:-1] + bytes([text[-1] ^ 1])
+
+
+LIES = {"a byte changed": changed, "a reply for another key": of_another_key}
+
+
+class Lie(socketserver.BaseRequestHandler):
+    """A connection of a node that lies: one ask, one false reply, and the end."""
+
+    def handle(self):
+        head = running.exactly(self.request, 9)
+        key = running.exactly(self.request, int.from_bytes(head[5:9], "big")) if len(head) == 9 else b""
+        if not key:
+            return
+        try:
+            self.request.sendall(self.server.told(head[3] - 48, head[4], key))
+        except OSError:
+            pass  # who asked was refused memory, and is gone
+
+
+class Liar(socketserver.ThreadingTCPServer):
+    """A node that lies in one way, and counts how often it did."""
+    allow_reuse_address = daemon_threads = True
+
+    def __init__(self, values, lie):
+        super().__init__(("127.0.0.1", running.free_port()), Lie)
+        self.values, self.lie, self.asked, self.known = values, lie, 0, 0
+        threading.Thread(target=self.serve_forever, daemon=True).start()
+
+    def told(self, version, group, key):
+        self.asked += 1
+        return self.lie(self.values, self.asked, version, group, key)
+
+    def lately(self):
+        """How often it was asked since it was last looked."""
+        known, self.known = self.known, self.asked
+        return self.asked - known
+
+    def __exit__(self, *_):
+        self.shutdown()
+        self.server_close()
+
+
+class Misled(Node):
+    """A node of which every key is owned by a liar: nothing that it keeps may be counted as another node's."""
+
+    def tried(self, server, calls, n):
+        met, kind, wrong = super().tried(server, calls, n)
+        if self.stats and server.alive():
+            told = running.counters(self.stats)
+            wrong += [f"growth {n}: {told[name]} {name}" for name in ("iiif_tile_cache_peer_total", "iiif_sum_cache_peer_total") if told[name]]
+        return met, kind, wrong
+
+
+def lied_to(program, control, path, options):
+    """Each growth refused to a node that asks a liar: at a listening server, and at a start by `--one`."""
+    values = wire.Values({"a": tiff.judge(files.SAMPLE)}, EDGE)
+    own, others = names_without(set().union(*(keys_of(STREAMS[case]) for case in CASES)), b"a")
+    for what, lie in LIES.items():
+        with Liar(values, lie) as liar:
+            asks = [*options, "--name", own] + [word for name in others for word in ("--peer", f"{name}=127.0.0.1:{liar.server_address[1]}")]
+            node = Misled(program, control, path, asks)
+            for case in CASES:
+                for where, tried in (("new servers", node.cold), ("one server", node.warm)):
+                    yield f"{where}, {what}, {case}", *seen(liar, *tried(STREAMS[case]))
+            for _, target in STREAMS["two images"]:
+                control.refuse(0)
+                right = starts.one(program, control.env, target.decode(), path, options)
+                kinds, wrong = starts.each(program, control, target.decode(), path, right, asks)
+                with_all = starts.one(program, control.env, target.decode(), path, asks)
+                if with_all != right:
+                    wrong.append(f"with ample memory: status {with_all[0]}, {with_all[1][:40]!r}, {with_all[2][:80]!r}")
+                yield f"start, {what}, {target.decode()}", *seen(liar, kinds, wrong)
+
+
+def seen(liar, kinds, wrong):
+    """The same, and wrong besides where the liar wasn't asked: then a run shows nothing."""
+    return kinds, wrong if liar.lately() else wrong + ["the node that lies wasn't asked"]
+
+
 def runs(program, control, room, options):
     """All runs, where the program has peers."""
     if "--peer-listen" not in running.options_of(program):
@@ -158,3 +258,4 @@ def runs(program, control, room, options):
             for refusing, what in (("a", "crossed rings"), ("b", "crossed rings, refused to the node that is asked")):
                 yield f"{where}, {what}, {case}", *crossed.run(refusing, once, images_tried(crossed, STREAMS[case], refusing == "b"))
         yield f"{where}, asks of another node", *crossed.run("a", once, asks_tried(crossed))
+    yield from lied_to(program, control, path, options)

@@ -9,7 +9,8 @@ the program's own code asks for, until a run meets none.
 The program: each case below from its start by `--one`, and against a listening server, once on a new one for each refusal (its caches
 are empty) and once on one server for all of them. The answer has to be the case's own, `L2 memory`, a strict prefix of an answer behind
 which the connection closes, or `run: memory` or `image NAME: 8` where the program ends. Then the same is asked again with ample
-memory, on the same server, and has to be the case's own. Where the program has peers, `peers` does the same with two nodes that ask each other.
+memory, on the same server, and has to be the case's own. Where the program has peers, `peers` does the same with two nodes that ask each other,
+and with one that asks a node which lies.
 
 Tests: those whose name ends in `after_a_refused_growth` make the refused call again by themselves; each is run alone. It has to pass, or to end with a
 want of memory while it is being prepared. With --all the other tests run too: of them nothing is judged, as a test that compares with
@@ -25,8 +26,9 @@ import sys
 import tempfile
 
 import peers
+import starts as begun
 import streams
-from streams import MOST, Control, count, files, running, said, tiff
+from streams import MOST, Control, count, files, said, tiff
 
 MARK = "after_a_refused_growth"
 # What a test ends with whose own preparation was refused.
@@ -52,26 +54,6 @@ def odd_files():
 TARGETS = ["full/max/0/default.tif", "full/2,/0/default.tif", "full/3,3/!90/bitonal.tif", "0,0,2,2/max/0/default.tif", "info.json", "zz/0/0/x"]
 
 
-def one(program, env, words, path):
-    done = subprocess.run([program, "--base", running.BASE, "--edge", "2", "--one", words, "a=" + path], capture_output=True, env=env, timeout=60)
-    return done.returncode, done.stdout, done.stderr
-
-
-def start_kind(own, got):
-    """What a refused start came to, or nothing where it isn't allowed."""
-    if got == own:
-        return "own"
-    if got == (0, b"L2 memory\n", b"") and own[0] == 0:
-        return "L2"
-    if got == (1, b"", b"run: memory\n"):
-        return "run: memory"
-    if got[:2] == (2, b"") and got[2].split(b"\n")[0] == b"image a: 8":
-        return "image a: 8"
-    if got[0] == 1 and got[2] == b"run: memory\n" and own[1].startswith(got[1]):
-        return "cut"
-    return None
-
-
 def starts(program, control, room):
     """Each refusal of a start with `--one`."""
     for name, data in odd_files().items():
@@ -80,21 +62,12 @@ def starts(program, control, room):
             file.write(data)
         accepted = isinstance(tiff.judge(data), tiff.Picture)
         for target in TARGETS if name == "sample" else TARGETS[:1]:
-            words, kinds, wrong = "/iiif/a/" + target, {}, []
+            words = "/iiif/a/" + target
             control.refuse(0)
-            own = one(program, control.env, words, path)
+            own = begun.one(program, control.env, words, path)
+            kinds, wrong = begun.each(program, control, words, path, own)
             if (own[0] == 0) != accepted:
                 wrong.append(f"with ample memory: {own}")
-            for n in range(1, MOST):
-                control.refuse(n)
-                got = one(program, control.env, words, path)
-                if not control.refused():
-                    break
-                kind = start_kind(own, got)
-                count(kinds, kind or "OTHER")
-                if kind is None:
-                    wrong.append(f"growth {n}: status {got[0]}, {got[1][:40]!r}, {got[2][:80]!r}")
-            control.refuse(0)
             yield f"start, {name}, {target}", kinds, wrong
 
 
