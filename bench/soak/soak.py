@@ -2,14 +2,16 @@
 
     /usr/bin/python3 bench/soak/soak.py --program crates/iiif_serve/out/iiif_serve --viewers 64 --seconds 600
 
-Each whole answer of an honest viewer is compared by SHA-256 with one that `pictures` works out without the program. Where the program
+First the caches are filled: eight viewers ask for twice as many tiles, and for twice as many overviews, as they hold. Then the --seconds
+begin. Each whole answer of an honest viewer is compared by SHA-256 with one that `pictures` works out without the program. Where the program
 has peers, a second node is started with the same file, killed every --every seconds and started again 5 seconds later. An answer that
 ends early is counted, and wrong where it isn't the front of the right one while the server stayed alive; a connection that is closed
 before its first answer is counted as turned away, and tried again.
 
 Prints how many answers there were, the honest viewers' latency (median, 99 in 100, the longest), what became of the others, and resident
-memory and open files before, at the greatest and afterwards. The status is 1 where an answer was wrong, the server ended, open files
-stayed, or the memory that stayed is above --memory MiB.
+memory and open files before, with full caches, at the greatest and afterwards. The status is 1 where an answer was wrong, the server ended,
+open files stayed, or more memory stayed than docs/OPERATING.md, Memory, has of a program that nobody asks: that is of MALLOC_ARENA_MAX=2 in
+the environment, as the package's unit sets it.
 """
 import argparse
 import asyncio
@@ -45,10 +47,13 @@ class Soak:
         self.others[what] = self.others.get(what, 0) + 1
 
     def call(self, chance):
-        """A target by chance, the length and the digest of its answer."""
+        """A call by chance."""
         step = min(self.picture.across, chance.choices([1, 2, 4, 8, 16, 32, 64], [50, 20, 12, 8, 5, 3, 2])[0])
         many = self.picture.across // step
-        key = (step, chance.randrange(many), chance.randrange(many), chance.choice([0, 0, 0, 0, 1, 2, 3]), chance.random() < 0.1)
+        return self.told(step, chance.randrange(many), chance.randrange(many), chance.choice([0, 0, 0, 0, 1, 2, 3]), chance.random() < 0.1)
+
+    def told(self, *key):
+        """A call's target, and the length and the digest of its answer."""
         if key not in self.known:
             target, answer = self.picture.answer("big", *key)
             self.known[key] = target, len(answer), hashlib.sha256(answer).digest()
@@ -80,13 +85,24 @@ class Soak:
         chance = random.Random(f"{self.args.seed} {number}")
         async for reader, writer in self.links(0.05, self.turned_away):
             for n in range(chance.randint(1, 50)):
-                if self.over() or not await self.asked(chance, reader, writer, n):
+                if self.over() or not await self.asked(self.call(chance), reader, writer, n):
                     break
             writer.close()
 
-    async def asked(self, chance, reader, writer, n):
+    async def each(self, keys):
+        """Asks for these one after another, on a new connection where one has ended."""
+        link = None
+        for key in keys:
+            link = link or await asyncio.open_connection("127.0.0.1", self.port)
+            if not await self.asked(self.told(*key), *link, 1):
+                link[1].close()
+                link = None
+        if link:
+            link[1].close()
+
+    async def asked(self, call, reader, writer, n):
         """One call; whether another one may follow."""
-        target, length, digest = self.call(chance)
+        target, length, digest = call
         start, got = time.monotonic(), b""
         try:
             writer.write(f"GET {target} HTTP/1.1\r\nHost: localhost\r\n\r\n".encode())
@@ -191,6 +207,29 @@ def node_options(args, own, other, ports):
     return [*args.options.split(), "--name", own, "--peer", f"{other}=127.0.0.1:{ports[other]}", "--peer-listen", f"127.0.0.1:{ports[own]}"]
 
 
+def option(args, name, default):
+    """The number behind an option of the program."""
+    words = args.options.split()
+    return int(words[words.index(name) + 1]) if name in words else default
+
+
+def stays_at_most(args, picture):
+    """The bytes that may be resident where nobody asks, by docs/OPERATING.md, Memory: the caches and their entries, what was read ahead, what
+    the C library keeps of what the workers gave back, the program, and its list of the picture's tiles."""
+    caches, workers = option(args, "--cache-bytes", 2 ** 26), option(args, "--workers", 2)
+    return 2 * caches + 512 * 16_384 + (24 + 8 * workers + 4) * 2 ** 20 + 4 * picture.across ** 2
+
+
+async def filled(soak):
+    """Asks for tiles and for overviews at half the scale, twice as much of each as its cache holds, or all that there is."""
+    picture, caches = soak.picture, option(soak.args, "--cache-bytes", 2 ** 26)
+    keys = []
+    for step, size in ((1, pictures.EDGE ** 2), (2, 8 * pictures.EDGE ** 2)):
+        many = picture.across // step
+        keys += [(step, n % many, n // many, 0, False) for n in range(min(many ** 2, 2 * caches // size))]
+    await asyncio.gather(*(soak.each(keys[n::8]) for n in range(8)))
+
+
 async def watched(soak):
     """The greatest resident memory and number of open files, once a second."""
     memory = files = 0
@@ -220,14 +259,14 @@ def mib(count):
     return f"{count / 2 ** 20:.1f} MiB"
 
 
-def report(soak, before, greatest, after, peer):
+def report(soak, before, full, greatest, after, most, peer):
     times = sorted(soak.latencies) or [0]
     print(f"{soak.right} whole answers right, {len(soak.wrong)} wrong, {soak.cut} ended early, {soak.away} turned away, in {soak.args.seconds} s")
     print("latency of whole answers: median {:.1f} ms, 99 in 100 {:.1f} ms, longest {:.1f} ms".format(
         *(1000 * times[min(len(times) - 1, int(len(times) * part))] for part in (0.5, 0.99, 1))))
     print("others: " + (", ".join(f"{what} {count}" for what, count in sorted(soak.others.items())) or "none"))
-    print(f"resident memory: {mib(before[0])} before, {mib(greatest[0])} at the greatest, {mib(after[0])} afterwards; "
-          f"open files: {before[1]}, {greatest[1]}, {after[1]}")
+    print(f"resident memory: {mib(before[0])} before, {mib(full[0])} with full caches, {mib(greatest[0])} at the greatest, {mib(after[0])} afterwards, "
+          f"where {mib(most)} may stay; open files: {before[1]}, {full[1]}, {greatest[1]}, {after[1]}")
     print(f"second node killed {peer.kills} times" if peer else "left out: the program has no --peer-listen")
 
 
@@ -238,7 +277,7 @@ def main():
     for name, count, what in [("viewers", 64, "honest viewers"), ("stalled", 8, "clients that stop reading"), ("dripping", 8, "clients that send byte by byte"),
                               ("vanishing", 8, "clients that vanish"), ("seconds", 600, ""), ("every", 30, "seconds between two kills of the second node"),
                               ("patience", 60, "seconds that a viewer waits"), ("across", 64, "tiles of the picture along a side, a power of two; 64 make 256 MiB"),
-                              ("memory", 300, "MiB that may stay: the caches, and what an answer takes"), ("seed", 1, "")]:
+                              ("seed", 1, "")]:
         parser.add_argument("--" + name, type=int, default=count, help=what)
     parser.add_argument("--drip", type=float, default=0.5, help="seconds between two bytes")
     args = parser.parse_args()
@@ -254,7 +293,11 @@ def main():
             with running.Server(args.program, words, options) as server:
                 time.sleep(0.5)
                 before = server.resident(), server.files()
+                filling = Soak(args, picture, server)
+                asyncio.run(filled(filling))
+                full = (server.resident(), server.files()) if server.alive() else (0, 0)
                 soak = Soak(args, picture, server)
+                soak.wrong, soak.known = filling.wrong, filling.known
                 greatest = asyncio.run(clients(soak, peer))
                 left = server.files_left(before[1], 60) if server.alive() else 0
                 after = (server.resident(), server.files()) if server.alive() else (0, 0)
@@ -263,11 +306,11 @@ def main():
         finally:
             if peer:
                 peer.server.stop()
-        report(soak, before, greatest, after, peer)
+        most = stays_at_most(args, picture)
+        report(soak, before, full, greatest, after, most, peer)
     for line in soak.wrong[:20]:
         print(f"wrong: {line}", file=sys.stderr)
-    stayed = after[0] - before[0] > args.memory * 2 ** 20
-    return 1 if soak.wrong or left > 0 or stayed else 0
+    return 1 if soak.wrong or left > 0 or after[0] > most else 0
 
 
 if __name__ == "__main__":
