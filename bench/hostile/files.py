@@ -196,7 +196,7 @@ def asked_batch(args, room, chance, batch, found):
             found.append(f"the server ended: {server.process.returncode}, {server.line()}")
             return 0
         pieces = sum(len(picture.offsets) for _, picture in batch)
-        return server.peak() - before - running.memory_bound(3, args.max, args.edge, 4, pieces, True) - running.caches_of(args)
+        return server.peak() - before - running.memory_bound(3, args.max, args.edge, pieces, True) - running.caches_of(args)
 
 
 def run(args, room):

@@ -173,7 +173,7 @@ def left_behind(args, server, before, files, found):
         found.append(f"the server ended: {server.process.returncode}, {server.line()}")
         return None
     grown, left = server.peak() - before, server.files_left(files)
-    if grown > memory_bound(3, args.max, args.edge, 1024, 0, True) + caches_of(args):
+    if grown > memory_bound(3, args.max, args.edge, 0, True) + caches_of(args):
         found.append(f"resident memory grew by {grown}")
     if left > 0:
         found.append(f"{left} open files more than before")
@@ -184,10 +184,10 @@ def grown_by(grown):
     return "" if grown is None else f", memory grew by {grown // 1024} KiB"
 
 
-def memory_bound(channels, limit, edge, name, pieces, deep=False, longer_side=None):
+def memory_bound(channels, limit, edge, pieces, deep=False, longer_side=None):
     """The bytes that one request can take, by docs/OPERATING.md, with 4 for each strip or tile of the files, a connection's buffer, and what is
     read ahead of files: 24 MiB, and 1 for each of two workers."""
     per = 10 if deep else 9
     across = limit // edge + 2
     down = across if longer_side is None else max(across, longer_side // edge + 2)
-    return per * channels * limit ** 2 + per * channels * (edge + 1) ** 2 + (100 + name) * across * down + 30 * 2 ** 20 + 4 * pieces + 8192
+    return per * channels * limit ** 2 + per * channels * (edge + 1) ** 2 + 160 * across * down + 30 * 2 ** 20 + 4 * pieces + 8192

@@ -185,7 +185,7 @@ def run(args, room):
             grown = server.peak() - before
             growth = max(growth, grown)
             longer = 1000 if upscale else None
-            above = max(above, grown - running.memory_bound(3, args.max, edge, 1024, 0, True, longer) - running.caches_of(args))
+            above = max(above, grown - running.memory_bound(3, args.max, edge, 0, True, longer) - running.caches_of(args))
     if above > 0:
         found.append(f"resident memory grew {above} bytes above the bound")
     said = ", ".join(f"{status} {count}" for status, count in sorted(counts.items(), key=str))
