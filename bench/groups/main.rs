@@ -1,16 +1,21 @@
 //! The same work as the program `groups_bench large`, in plain Rust, to compare times. Built by `rustc -O`.
-//! A table of kept tiles, open flights and counts behind a lock, with a condition variable for those that wait; a tile stands in a
-//! cell that is set once, and is read from its file row by row while no lock is held.
+//! Each call finds its image by name, and who owns its key on a ring of one node. A table of kept tiles, open flights and counts stands behind
+//! a lock, with a condition variable for those that wait; a tile stands in a cell that is set once, and is read from its file row by row
+//! while no lock is held.
 
 #[path = "../clock.rs"]
 mod clock;
 #[path = "../recent.rs"]
 mod recent;
+#[path = "../ring.rs"]
+mod ring;
 #[path = "../table.rs"]
 mod table;
 
 use clock::cpu;
 use recent::Key;
+use ring::{Ring, key_bytes};
+use std::collections::HashMap;
 use std::fs::{self, File};
 use std::hint::black_box;
 use std::os::unix::fs::FileExt;
@@ -29,6 +34,8 @@ const THREADS: usize = 8;
 type Tile = Arc<Vec<u8>>;
 
 struct Group {
+    images: HashMap<Arc<str>, u32>,
+    ring: Ring,
     table: Mutex<Table<Tile>>,
     landed: Condvar,
     file: Mutex<File>,
@@ -49,7 +56,7 @@ impl Group {
         let file = Mutex::new(File::open(path).unwrap());
         fs::remove_file(path).unwrap();
         let table = Mutex::new(Table::new(4096, limit));
-        Group { table, landed: Condvar::new(), file }
+        Group { images: HashMap::from([("a".into(), SIDE)]), ring: Ring::new(&["n"]), table, landed: Condvar::new(), file }
     }
 
     fn read(&self, key: &Key) -> Vec<u8> {
@@ -62,7 +69,26 @@ impl Group {
         tile
     }
 
+    /// By its owner, which the ring tells.
     fn get(&self, gets: &mut u64, key: &Key) -> Tile {
+        self.find(key);
+        assert_eq!(self.ring.owner(&key_bytes(key)), 0);
+        self.enter(gets, key)
+    }
+
+    /// By this node alone, which takes the bytes of the key all the same.
+    fn get_local(&self, gets: &mut u64, key: &Key) -> Tile {
+        self.find(key);
+        black_box(key_bytes(key));
+        self.enter(gets, key)
+    }
+
+    fn find(&self, key: &Key) {
+        let side = self.images[&key.name];
+        assert!(key.edge == EDGE && key.tx < side.div_ceil(EDGE) && key.ty < side.div_ceil(EDGE));
+    }
+
+    fn enter(&self, gets: &mut u64, key: &Key) -> Tile {
         let entered = self.table.lock().unwrap().enter(gets, key);
         match entered {
             Entered::Hit(cell, ticket) => {
@@ -88,11 +114,11 @@ impl Group {
         }
     }
 
-    fn calls(&self, keys: &[Key], rounds: u32) -> u64 {
+    fn calls(&self, keys: &[Key], rounds: u32, way: fn(&Group, &mut u64, &Key) -> Tile) -> u64 {
         let (mut gets, mut sum) = (0, 0);
         for _ in 0..rounds {
             for key in keys {
-                sum += u64::from(self.get(&mut gets, key)[0]);
+                sum += u64::from(way(self, &mut gets, key)[0]);
             }
         }
         sum
@@ -102,7 +128,7 @@ impl Group {
         let start = Instant::now();
         thread::scope(|scope| {
             for _ in 0..THREADS {
-                scope.spawn(|| black_box(self.calls(keys, rounds)));
+                scope.spawn(|| black_box(self.calls(keys, rounds, Group::get)));
             }
         });
         start.elapsed().as_nanos()
@@ -111,12 +137,15 @@ impl Group {
 
 fn hits(keys: &[Key]) {
     let group = Group::new(BYTES);
-    group.calls(keys, 1);
-    let (mut one, mut eight, mut copied) = (u128::MAX, u128::MAX, u128::MAX);
+    group.calls(keys, 1, Group::get);
+    let (mut one, mut local, mut eight, mut copied) = (u128::MAX, u128::MAX, u128::MAX, u128::MAX);
     let tile = group.read(&keys[0]);
     for _ in 0..5 {
         let start = cpu();
-        black_box(group.calls(keys, ROUNDS));
+        black_box(group.calls(keys, ROUNDS, Group::get_local));
+        local = local.min((cpu() - start).as_nanos());
+        let start = cpu();
+        black_box(group.calls(keys, ROUNDS, Group::get));
         let middle = cpu();
         for _ in 0..ROUNDS {
             black_box(tile.clone());
@@ -127,8 +156,9 @@ fn hits(keys: &[Key]) {
         eight = eight.min(group.by_eight(keys, ROUNDS));
     }
     let rounds = u128::from(ROUNDS);
-    let (one, eight, copied) = (one / (rounds * 100), eight / (rounds * 800), copied / rounds);
-    println!("a hit: one thread {one} ns, eight threads {eight} ns; a copy of a tile: {copied} ns");
+    let (one, local) = (one / (rounds * 100), local / (rounds * 100));
+    let (eight, copied) = (eight / (rounds * 800), copied / rounds);
+    println!("a hit: one thread {one} ns, by this node alone {local} ns, eight threads {eight} ns; a copy of a tile: {copied} ns");
 }
 
 fn loads(keys: &[Key]) {
@@ -136,7 +166,7 @@ fn loads(keys: &[Key]) {
     let (mut shared, mut plain) = (u128::MAX, u128::MAX);
     for _ in 0..5 {
         let start = cpu();
-        black_box(group.calls(keys, 1));
+        black_box(group.calls(keys, 1, Group::get));
         let middle = cpu();
         black_box(keys.iter().map(|key| u64::from(group.read(key)[0])).sum::<u64>());
         let end = cpu();
@@ -155,7 +185,7 @@ fn main() {
     for _ in 0..5 {
         let group = Group::new(BYTES);
         let start = Instant::now();
-        black_box(group.calls(&keys, 1));
+        black_box(group.calls(&keys, 1, Group::get));
         let time = start.elapsed().as_micros();
         println!("all tiles by one thread: {time} microseconds, {} loads", group.table.lock().unwrap().book.landed);
         let group = Group::new(BYTES);
