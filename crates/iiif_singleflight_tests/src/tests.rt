@@ -293,6 +293,102 @@ fn call_after_a_fault_loads_again(rt: HostRuntime) -> Result<(), Fail> {
     Ok(())
 }
 
+/// A call of the local class, which lands where it leads.
+fn land_beside<L: Ledger>(
+    alloc: Global,
+    home: &mut Shared<L>,
+    pass: &mut Pass<L>,
+    key: &Sample,
+    lands: Outcome,
+) {
+    match home.table.enter(pass, key, Class::Local) {
+        Ok(Entered::Lead(lead)) => {
+            let outcome = landing_of(alloc, lands);
+            let _ = home.table.land(lead, outcome, Place::Main);
+        }
+        Ok(Entered::Hit(_)) => {}
+        Ok(Entered::Joined(_)) => {}
+        Err(_) => {}
+    }
+}
+
+/// A leader looks again, and lands what it finds, or else a fault: what its receipt tells, and the counts.
+fn look_and_land<L: Ledger>(
+    alloc: Global,
+    home: &mut Shared<L>,
+    lead: Lead<Sample, Lax>,
+) -> (Result<u16, Fault>, Book) {
+    let outcome = match home.table.again(&lead) {
+        Ok(Some(value)) => Ok(value),
+        _ => landing_of(alloc, Outcome::Fault(FAULT)),
+    };
+    let mut receipt = home.table.land(lead, outcome, Place::Nowhere).receipt;
+    (told(&mut receipt), home.table.book())
+}
+
+/// A call of the wide class leads, one of the local class lands meanwhile, and then the leader looks again.
+fn look_again<L: Ledger>(
+    alloc: Global,
+    home: &mut Shared<L>,
+    lands: Outcome,
+) -> Option<(Result<u16, Fault>, Book)> {
+    let key = sample(alloc)?;
+    let mut pass = home.pass()?;
+    match home.table.enter(&mut pass, &key, Class::Wide).ok()? {
+        Entered::Hit(_) => None,
+        Entered::Joined(_) => None,
+        Entered::Lead(lead) => {
+            land_beside(alloc, home, &mut pass, &key, lands);
+            Some(look_and_land(alloc, home, lead))
+        }
+    }
+}
+
+/// The same at a new home.
+fn looked<L: Ledger>(
+    alloc: Global,
+    lands: Outcome,
+    blank: Blank,
+) -> Result<(Result<u16, Fault>, Book), Fail>
+    requires name { blank.name ≡ L.name }
+    requires parts { blank.parts ≡ L.parts }
+    requires all { L.parts ≡ 65537 }
+{
+    let mut home: Shared<L> = made(alloc, 1000, blank)?;
+    Ok(look_again(alloc, &mut home, lands).ok_or("no lead")?)
+}
+
+#[test]
+fn leader_that_looks_again_finds_what_landed_meanwhile(rt: HostRuntime) -> Result<(), Fail> {
+    let (tells, book) = looked::<Brand>(rt.alloc(), Outcome::Value, Blank::new(65_537))?;
+    let found = Book {
+        gets: 2,
+        leads: 2,
+        again_hits: 1,
+        loads: 1,
+        landed: 2,
+        ..no_counts()
+    };
+    assert!(rt; tells == Ok(42) && book == found);
+    Ok(())
+}
+
+#[test]
+fn leader_that_looks_again_finds_no_fault(rt: HostRuntime) -> Result<(), Fail> {
+    let lands = Outcome::Fault(FAULT);
+    let (tells, book) = looked::<Brand>(rt.alloc(), lands, Blank::new(65_537))?;
+    let failed = Book {
+        gets: 2,
+        leads: 2,
+        loads: 2,
+        landed: 2,
+        faults: 2,
+        ..no_counts()
+    };
+    assert!(rt; tells == Err(Fault::Source(FAULT)) && book == failed);
+    Ok(())
+}
+
 /// The ticket of a receipt, and what it tells.
 fn ticket_of(receipt: &mut Receipt<Sample, Lax>) -> (u64, Result<u16, Fault>) {
     (receipt.ticket(), told(receipt))

@@ -1,0 +1,5 @@
+use Rattle.iiif_singleflight_tests.proofs.tests.leader_that_looks_again_finds_what_landed_meanwhile.Given as goal
+
+-- the ledger that is opened
+abbrev pub ghosts-looked : goal.ghosts-looked
+ghosts-looked g a = record { name = a.blank.name; parts = a.blank.parts }
