@@ -26,7 +26,7 @@ div_lt_ceil y h r pos lt =
     ]
 
 across_one : (s : Scheme) → IsSound s → s.tiled ≡ false → s.tiles_across ≡ 1
-across_one s sound strips = sound.across ∙ rw (sound.strip strips) (one_piece s.width sound.width.0)
+across_one s sound strips = sound.across ∙ rw (sound.strip strips) (one_piece s.width sound.sides.width_some)
 
 -- the piece of a place is one of the pieces
 pub piece_index : (s : Scheme) (x y : ℕ) → IsSound s → x < s.width → y < s.height → y / s.piece_height * s.tiles_across + x / s.piece_width < length s.offsets

@@ -7,7 +7,7 @@ use Rattle.iiif_pixel.specs.declared.geometry.Dim.{Dim}
 use Rattle.iiif_pixel.specs.declared.geometry.Rect.{Rect}
 use Rattle.iiif_source.specs.declared.ReadFault.{ReadFault}
 use Rattle.iiif_tiff.specs.Tiff as tiff
-use Rattle.iiif_tiff.specs.Tiff.{Order, Little, Big, Refusal, Scheme, row_bytes, stored, shown}
+use Rattle.iiif_tiff.specs.Tiff.{IsReadable, Order, Little, Big, Refusal, Scheme, row_bytes, stored, shown}
 use Rattle.iiif_tiff_read.specs.Layouts.{dim_of}
 use Rattle.iiif_tiff_read.specs.Faults.{Answers}
 use Rattle.iiif_tiff_read.specs.declared.number.ByteOrder.{ByteOrder}
@@ -100,9 +100,7 @@ scheme_of d f g offsets = record {
 
 -- The sides are within their limits, a sample has 8 bits or one, and there is an offset for each piece.
 pub record IsSound (s : Scheme) : Type 0 where
-  pub width : (0 < s.width) × (s.width ≤ 1000000)
-  pub height : (0 < s.height) × (s.height ≤ 1000000)
-  pub area : s.width * s.height ≤ 2 ^ 32
+  pub sides : IsReadable (dim_of s)
   pub bits : (s.bits ≤ 8) × (s.bits ≢ 8 → s.bits ≡ 1)
   pub piece_width : (0 < s.piece_width) × (s.piece_width ≤ 2 ^ 20)
   pub piece_height : (0 < s.piece_height) × (s.piece_height < 2 ^ 32)

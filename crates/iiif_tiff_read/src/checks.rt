@@ -4,7 +4,7 @@ ghost use Rattle.std.specs.Prelude.{◌≡◌, ◌≢◌, ◌+◌, ◌*◌, ◌^
 ghost use Rattle.std.specs.List.{list_all};
 ghost use Rattle.iiif_pixel.specs.Geometry.{channels_of, top_of};
 ghost use Rattle.iiif_tiff.specs.Tiff as tiff;
-ghost use Rattle.iiif_tiff.specs.Tiff.{sides, samples, samples_per_pixel, bits_per_sample, photometric, planar_configuration, extra_samples, sample_format, tile_side, value_or, width, height, channels, bits, white_is_zero, white_of};
+ghost use Rattle.iiif_tiff.specs.Tiff.{IsReadable, sides, samples, samples_per_pixel, bits_per_sample, photometric, planar_configuration, extra_samples, sample_format, tile_side, value_or, width, height, channels, bits, white_is_zero, white_of};
 ghost use Rattle.iiif_tiff_read.specs.Code.{AreBits, endian, unit_bits, units_of, HasSides, IsNotMemory, Tells, TellsWhere};
 
 use crate::fault::OpenFault;
@@ -87,7 +87,7 @@ impl<'a, R, S: Source<R>> Fields<'a, R, S> {
     #[tactic(auto, unfolding(iiif_tiff::specs::Tiff::sides))]
     pub fn sides(&self) -> Result<Dim, OpenFault>
         ensures sides { Tells S.bytes S.gave self.now sides HasSides result }
-        ensures bounds { IfOk result (λ d. (0 < d.w) × (d.w ≤ 1000000) × (0 < d.h) × (d.h ≤ 1000000) × (d.w * d.h ≤ 2 ^ 32)) }
+        ensures bounds { IfOk result IsReadable }
         ensures memory { IfErr result IsNotMemory }
     {
         let w = self.needed(tag::IMAGE_WIDTH)?;

@@ -4,6 +4,7 @@ ghost use Rattle.std.specs.Prelude.{◌≡◌, true, false, ◌+◌, ◌*◌, �
 ghost use Rattle.std.specs.Int.{div_ceil};
 ghost use Rattle.iiif_pixel.specs.Geometry.{channels_of};
 ghost use Rattle.iiif_tiff.specs.Tiff as tiff;
+ghost use Rattle.iiif_tiff.specs.Tiff.{IsReadable};
 ghost use Rattle.iiif_tiff_read.specs.Code.{HasSides, IsGrid, IsNotMemory, TellsWhere};
 
 use crate::checks::Format;
@@ -55,7 +56,7 @@ impl<'a, R, S: Source<R>> Fields<'a, R, S> {
     /// The grid of an image in tiles.
     #[tactic(auto, unfolding(iiif_tiff::specs::Tiff::tile_grid))]
     fn tiles(&self, dim: Dim) -> Result<Grid, OpenFault>
-        requires { (0 < dim.w) × (dim.w ≤ 1000000) × (0 < dim.h) × (dim.h ≤ 1000000) }
+        requires { IsReadable dim }
         ensures grid { TellsWhere S.bytes S.gave self.now (λ file. HasSides file dim × (tiff.is_tiled file ≡ true)) tiff.tile_grid
             IsGrid result }
         ensures bounds { IfOk result (λ g. (0 < g.width) × (g.width ≤ 2 ^ 20) × (0 < g.height) × (g.height ≤ 2 ^ 20) × (g.count ≤ 2 ^ 20)) }
@@ -81,7 +82,7 @@ impl<'a, R, S: Source<R>> Fields<'a, R, S> {
     /// The grid of an image in strips, each as wide as the image.
     #[tactic(auto, unfolding(iiif_tiff::specs::Tiff::strip_grid), using(iiif_tiff::proofs::Numbers::one_piece))]
     fn strips(&self, dim: Dim) -> Result<Grid, OpenFault>
-        requires { (0 < dim.w) × (dim.w ≤ 1000000) × (0 < dim.h) × (dim.h ≤ 1000000) }
+        requires { IsReadable dim }
         ensures grid { TellsWhere S.bytes S.gave self.now (λ file. HasSides file dim × (tiff.is_tiled file ≡ false)) tiff.strip_grid
             IsGrid result }
         ensures bounds { IfOk result (λ g. (0 < g.width) × (g.width ≤ 2 ^ 20) × (0 < g.height) × (g.count ≤ 2 ^ 20)) }
@@ -104,7 +105,7 @@ impl<'a, R, S: Source<R>> Fields<'a, R, S> {
     /// How the image is cut into pieces.
     #[tactic(auto, unfolding(iiif_tiff::specs::Tiff::grid))]
     pub fn grid(&self, dim: Dim) -> Result<Grid, OpenFault>
-        requires { (0 < dim.w) × (dim.w ≤ 1000000) × (0 < dim.h) × (dim.h ≤ 1000000) }
+        requires { IsReadable dim }
         ensures grid { TellsWhere S.bytes S.gave self.now (λ file. HasSides file dim) tiff.grid
             IsGrid result }
         ensures bounds { IfOk result (λ g. (0 < g.width) × (g.width ≤ 2 ^ 20) × (0 < g.height) × (g.count ≤ 2 ^ 20)) }
