@@ -79,7 +79,7 @@ pub record Lists (bytes : List ℕ) (g : Grid) (counts_tag : ℕ) (offsets count
   pub counts_are : counts ≡ map (tiff.piece_byte_count bytes) (range_with_len 0 g.count)
 
 pub lists_are : (bytes : List ℕ) (d : Dim) (f : Format) (g : Grid) (ot ct : ℕ) (offsets counts : List ℕ) → IsKnown bytes d f g
-    → ot ≡ (if g.tiled then 324 else 273) → ct ≡ (if g.tiled then 325 else 279)
+    → ot ≡ (if g.tiled then tiff.TileOffsets else tiff.StripOffsets) → ct ≡ (if g.tiled then tiff.TileByteCounts else tiff.StripByteCounts)
     → (tiff.needed bytes ot (leb g.count) ≡ None) × (offsets ≡ first_values bytes ot g.count)
     → (tiff.needed bytes ct (leb g.count) ≡ None) × (counts ≡ first_values bytes ct g.count) → Lists bytes g ct offsets counts
 unfolding first_values

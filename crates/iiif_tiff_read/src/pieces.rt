@@ -2,7 +2,7 @@
 
 ghost use Rattle.std.specs.Prelude.{◌≡◌, ◌+◌, ◌*◌, ◌^◌, ◌<◌, ◌≤◌, ℕ, List, length, map, nat_le, IfOk, IfErr, OnOk, if◌then◌else◌};
 ghost use Rattle.std.specs.List.{range_with_len};
-ghost use Rattle.iiif_tiff.specs.Tiff.{needed, piece, pieces, piece_offset, piece_byte_count, piece_bytes, offsets_tag, counts_tag, first, pieces_fit};
+ghost use Rattle.iiif_tiff.specs.Tiff.{StripOffsets, StripByteCounts, TileOffsets, TileByteCounts, needed, piece, pieces, piece_offset, piece_byte_count, piece_bytes, offsets_tag, counts_tag, first, pieces_fit};
 ghost use Rattle.iiif_tiff.specs.Tiff as tiff;
 ghost use Rattle.iiif_tiff_read.specs.Code.{IsKnown, IsNotMemory, TellsWhere};
 ghost use Rattle.iiif_tiff_read.specs.Layouts.{FitsIn};
@@ -27,8 +27,8 @@ struct Tags {
 
 impl Tags {
     fn of(tiled: bool) -> Tags
-        ensures offsets { result.offsets ≡ (if tiled then 324 else 273) }
-        ensures counts { result.counts ≡ (if tiled then 325 else 279) }
+        ensures offsets { result.offsets ≡ (if tiled then TileOffsets else StripOffsets) }
+        ensures counts { result.counts ≡ (if tiled then TileByteCounts else StripByteCounts) }
     {
         if tiled {
             Tags {
