@@ -1,5 +1,5 @@
 -- The pieces of a part, merged.
-use Rattle.std.proofs.Common.{◌≡◌, ℕ, ◌+◌, ◌*◌, ◌^◌, ◌<◌, ◌≤◌, List, [], ◌∷◌, Bool, true, false, not, All, map, fold, filter, sum_by, refl, sym, ap, ◌∙◌, arith, ⊎_elim}
+use Rattle.std.proofs.Common.{◌≡◌, ℕ, ◌+◌, ◌*◌, ◌^◌, ◌<◌, ◌≤◌, List, [], ◌∷◌, Bool, true, false, not, All, map, fold, filter, sum_by, refl, sym, ap, ◌∙◌, arith}
 use Rattle.std.proofs.lemmas.Bool.{false≢true}
 use Rattle.std.proofs.lemmas.List.Elements.{All-head, All-tail, filter_passes}
 use Rattle.std.proofs.lemmas.List.Filters.{sum_by-filter_both}
@@ -9,7 +9,7 @@ use Rattle.iiif_pixel.specs.Scaling.{whole_of}
 use Rattle.iiif_pixel.specs.Picture.{Picture, dim_of, sample_at, IsWhole}
 use Rattle.iiif_pixel.specs.declared.geometry.Dim.{Dim}
 use Rattle.iiif_pixel.specs.declared.geometry.Rect.{Rect}
-use Rattle.iiif_pixel.proofs.Whole.{sample_at-le}
+use Rattle.iiif_pixel.proofs.Whole.{sample_at-le, top-le}
 use Rattle.iiif_area.specs.Grid.{Grid, finished, grid_of, merged, part_sum, sums_of}
 use Rattle.iiif_area.specs.Laws.{PiecesMerge, PassesMet, OthersAddNothing, BandsAreCut}
 use Rattle.iiif_area.proofs.AreaLaws.{area-fits, area_elsewhere}
@@ -21,9 +21,6 @@ use Rattle.iiif_area.proofs.MergeLaws.{merging_lem}
 -- what some rectangles come to at a place
 abbrev pub pieces_sum : Picture → Dim → List Rect → ℕ → ℕ → ℕ → ℕ
 pieces_sum p size rects i j k = sum_by (λ r. part_sum p size r i j k) rects
-
-top-le : (p : Picture) → IsWhole p → p.top ≤ 65535
-top-le p whole = ⊎_elim (λ (e : p.top ≡ 255). omega arith) (λ (e : p.top ≡ 65535). omega arith) whole.top
 
 -- the sums of a whole picture's part fit
 pub part_sum-fits : (p : Picture) (size : Dim) (part : Rect) (i j k : ℕ) → IsWhole p → p.width * p.height ≤ 2 ^ 32 → part_sum p size part i j k < 2 ^ 64
