@@ -1,18 +1,17 @@
 -- What is known of the meanings of keys that fit, and of values of their shape.
-use Rattle.std.proofs.Common.{◌≡◌, ℕ, zero, suc, ◌+◌, ◌*◌, ◌/◌, ◌^◌, ◌<◌, ◌≤◌, ◌⊎◌, List, [], length, All, refl, sym, ap, subst, ◌∙◌, arith, ⊎_elim}
+use Rattle.std.proofs.Common.{◌≡◌, ℕ, ◌+◌, ◌*◌, ◌/◌, ◌^◌, ◌<◌, ◌≤◌, ◌⊎◌, length, refl, sym, ap, subst, ◌∙◌, arith, ⊎_elim}
 use Rattle.std.specs.Int.{div_ceil}
 use Rattle.std.proofs.Math.Nat.{mul-le-mul, mul-le-mul_left, mul-le-mul_right}
 use Rattle.std.proofs.lemmas.Bool.{cases_lt}
 use Rattle.std.proofs.lemmas.Nat.{pow_pos}
-use Rattle.std.proofs.lemmas.List.Elements.{All-append, All-cons, All-nil}
-use Rattle.iiif_pixel.specs.Picture.{dim_of, IsWhole, joined, row_of, samples_of}
+use Rattle.iiif_pixel.specs.Picture.{dim_of, IsWhole}
 use Rattle.iiif_pixel.specs.Geometry.{channels_of}
 use Rattle.iiif_pixel.specs.Operations.{crop}
 use Rattle.iiif_pixel.specs.declared.geometry.Dim.{Dim}
 use Rattle.iiif_pixel.specs.declared.geometry.Rect.{Rect}
 use Rattle.iiif_pixel.proofs.SampleLists.{length-samples_of}
 use Rattle.iiif_pixel.proofs.Seen.{one_or_three}
-use Rattle.iiif_pixel.proofs.Whole.{whole_crop}
+use Rattle.iiif_pixel.proofs.Whole.{All-samples_of, whole_crop}
 use Rattle.iiif_area.specs.Grid.{part_sum, IsGrid}
 use Rattle.iiif_area.proofs.PieceLaws.{part_sum-fits}
 use Rattle.iiif_area.proofs.PlaceLaws.{places_below}
@@ -107,14 +106,6 @@ tile_meant shows s k has source fits =
     let shape : TileHasShape s k v = subst (λ (u : Shape). TileHasShape u k v) has.shape own in
     (shape, tile_val_known s k v fits shape (whole_crop p (tile_of (dim_of p) k) source.whole))
 
-All-joined : (P : ℕ → Type 0) (n : ℕ) (g : ℕ → List ℕ) → ((i : ℕ) → All P (g i)) → All P (joined n g)
-All-joined P zero g e = All-nil P
-All-joined P (suc n) g e = All-append P (joined n g) (g n) (All-joined P n g e) (e n)
-
-All-sampled : (P : ℕ → Type 0) (w h c : ℕ) (f : ℕ → ℕ → ℕ → ℕ) → ((x y k : ℕ) → P (f x y k)) → All P (samples_of w h c f)
-unfolding samples_of row_of
-All-sampled P w h c f e = All-joined P h _ (λ y. All-joined P w _ (λ x. All-joined P c _ (λ k. All-cons P (f x y k) [] (e x y k) (All-nil P))))
-
 pub sum_meant : (shows : Pictures) (s : Shape) (k : SumKey) → HasPicture shows k.name s → IsSource (named shows k.name) → SumFitsIn s.dim (channels_of s.kind) k
     → SumHasShape s k (sum_meaning shows k) × IsSumVal (sum_meaning shows k)
 sum_meant shows s k has source whole_fits =
@@ -134,8 +125,8 @@ sum_meant shows s k has source whole_fits =
     let shape : SumHasShape s k v = subst (λ (x : Shape). SumHasShape x k v) has.shape own in
     let grid : IsGrid v.sums = record {
       count = length-samples_of places.w places.h p.channels (λ i j n. f (places.x + i) (places.y + j) n);
-      bound = All-sampled (λ n. n < 2 ^ 64) places.w places.h p.channels (λ i j n. f (places.x + i) (places.y + j) n)
-          (λ i j n. part_sum-fits (crop p k.rect) k.size (part_in (dim_of p) k) (places.x + i) (places.y + j) n whole (omega arith));
+      bound = All-samples_of (λ n. n < 2 ^ 64) places.w places.h p.channels (λ i j n. f (places.x + i) (places.y + j) n)
+          (λ i j n li lj ln. part_sum-fits (crop p k.rect) k.size (part_in (dim_of p) k) (places.x + i) (places.y + j) n whole (omega arith));
     } in
     (shape, sum_val_known s k v whole_fits shape grid (omega arith) (omega arith))
 
