@@ -1,5 +1,6 @@
 -- The level of a plan is the greatest that passes a test.
-use Rattle.std.proofs.Common.{◌≡◌, ℕ, zero, suc, ◌-◌, ◌*◌, ◌^◌, ◌<◌, ◌≤◌, ◌⊎◌, inl, inr, Bool, true, false, ◌&&◌, refl, sym, subst, ◌∙◌, arith, ⊎_elim, max}
+use Rattle.std.proofs.Common.{◌≡◌, ℕ, zero, suc, ◌-◌, ◌*◌, ◌^◌, ◌<◌, ◌≤◌, ◌⊎◌, inl, inr, Bool, true, false, refl, sym, subst, ◌∙◌, arith, ⊎_elim, max}
+use Rattle.std.specs.Cmp.Derive.{both_true}
 use Rattle.std.specs.Prelude.{◌↔◌, ◌||◌, ◌==◌, not, nat_le, if◌then◌else◌}
 use Rattle.std.proofs.lemmas.Bool.{cases_lt, eqb-true, false≢true, leb-true, le-leb}
 use Rattle.iiif_keys.proofs.Names.{both}
@@ -67,14 +68,10 @@ usable edge image region size channels room level few h =
     let t = both (level == 0 || not (nat_le (max image.w image.h) (2 ^ (level - 1) * edge))) (nat_le (sums_at_most edge level region size channels) room) h in
     record { few = few; needed = needed_from_below edge image level (needed_true edge image level t.0); within = leb-true _ _ t.1 }
 
-joined : (a b : Bool) → a ≡ true → b ≡ true → (a && b) ≡ true
-joined a b e f = cc
-
 tested : (edge : ℕ) (image region size : Dim) (channels room level : ℕ) → IsUsable edge image region size channels room level →
     is_usable edge image region size channels room level ≡ true
 tested edge image region size channels room level u =
-    joined (level == 0 || not (nat_le (max image.w image.h) (2 ^ (level - 1) * edge))) (nat_le (sums_at_most edge level region size channels) room)
-    (true_needed edge image level u.needed) (le-leb _ _ u.within)
+    both_true (true_needed edge image level u.needed) (le-leb _ _ u.within)
 
 -- for any test that says which levels up to 20 may be planned with
 greatest_is : (U : ℕ → Type 0) (test : ℕ → Bool) → ((l : ℕ) → l ≤ 20 → test l ≡ true → U l) → ((l : ℕ) → U l → test l ≡ true) → ((l : ℕ) → U l → l ≤ 20) → (level : ℕ) →

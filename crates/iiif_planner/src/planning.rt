@@ -36,10 +36,7 @@ pub fn plan(
     ensures exact { IfOk result (HasItems name.now edge dim (channels_of kind) room resolved.now) }
 {
     let (rect, size) = (resolved.rect, resolved.size);
-    let region = Dim {
-        w: rect.w,
-        h: rect.h,
-    };
+    let region = rect.dim();
     if size == region {
         return Ok(Plan::Copy(tiles(alloc, name, edge, rect)?));
     }
