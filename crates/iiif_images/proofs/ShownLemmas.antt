@@ -1,11 +1,7 @@
 -- The picture that a layout shows in bytes.
-use Rattle.std.proofs.Common.{◌≡◌, ℕ, ◌+◌, ◌*◌, ◌≤◌, ◌⊎◌, ◌∙◌, Bool, true, false, List, All, Some, Option, length, drop, refl, sym, ap, subst, inl, inr, arith, ◌==◌, if◌then◌else◌}
-use Rattle.std.specs.Prelude.{slice_index, unwrap_or}
-use Rattle.std.specs.Int.{w16}
+use Rattle.std.proofs.Common.{◌≡◌, ℕ, ◌≤◌, ◌⊎◌, ◌∙◌, List, All, Some, Option, refl, sym, ap, subst}
+use Rattle.std.specs.Prelude.{unwrap_or}
 use Rattle.std.proofs.Props.{props}
-use Rattle.std.proofs.lemmas.Bool.{cases_lt}
-use Rattle.std.proofs.lemmas.List.{get_or_past, get_or-drop}
-use Rattle.std.proofs.lemmas.List.Elements.{All-get_or}
 use Rattle.iiif_pixel.specs.Geometry.{channels_of, top_of}
 use Rattle.iiif_pixel.specs.Operations.{crop}
 use Rattle.iiif_pixel.specs.Picture.{Picture, dim_of, picture_of}
@@ -14,8 +10,8 @@ use Rattle.iiif_pixel.specs.declared.geometry.Kind.{Kind}
 use Rattle.iiif_pixel.proofs.SampleLists.{sample_at-picture_of}
 use Rattle.iiif_pixel.proofs.Seen.{one_or_three}
 use Rattle.iiif_pixel.proofs.Whole.{whole_picture_of}
-use Rattle.iiif_tiff.specs.Tiff.{Order, Little, Big, IsReadable, Scheme, Shows, scheme, number, stored, stored_sample, sample_of, shown, white_of}
-use Rattle.iiif_tiff.proofs.OnePicture.{stored-le}
+use Rattle.iiif_tiff.specs.Tiff.{IsReadable, Scheme, Shows, scheme, shown, white_of}
+use Rattle.iiif_tiff.proofs.OnePicture.{shown-le, white_is}
 use Rattle.iiif_tiff_read.specs.Layouts as layouts
 use Rattle.iiif_keys.specs.Names.{Pictures, named, no_picture, IsSource}
 use Rattle.iiif_keys.specs.Blocks.{tile_of}
@@ -27,44 +23,6 @@ use Rattle.iiif_keys.specs.declared.values.TileVal.{TileVal}
 use Rattle.iiif_keys.proofs.Shaped.{depth_with_top, kind_with_channels, shape_is}
 use Rattle.iiif_images.specs.Collection.{Item}
 use Rattle.iiif_images.specs.Named.{picture_in}
-
--- ---- Samples are not above white, whatever the bytes are
-
-byte_at : (bytes : List ℕ) → All (λ b. b ≤ 255) bytes → (i : ℕ) → slice_index bytes i ≤ 255
-byte_at bytes all i = elim (cases_lt i (length bytes)) [
-  | inl inside ↦ All-get_or (λ b. b ≤ 255) bytes i 0 inside all
-  | inr past ↦ rw (get_or_past bytes i 0 past) (omega arith)
-]
-
-byte_behind : (bytes : List ℕ) (at i : ℕ) → All (λ b. b ≤ 255) bytes → slice_index (drop at bytes) i ≤ 255
-byte_behind bytes at i all = rw (get_or-drop at bytes i 0) (byte_at bytes all (at + i))
-
-number-le : (o : Order) (bytes : List ℕ) (at : ℕ) → All (λ b. b ≤ 255) bytes → number o w16 bytes at ≤ 65535
-number-le Little bytes at all = omega (arith, byte_behind bytes at 0 all, byte_behind bytes at 1 all)
-number-le Big bytes at all = omega (arith, byte_behind bytes at 0 all, byte_behind bytes at 1 all)
-
-stored_sample-le : (o : Order) (bits : ℕ) (bytes : List ℕ) (row n : ℕ) → All (λ b. b ≤ 255) bytes → stored_sample o bits bytes row n ≤ white_of bits
-stored_sample-le o bits bytes row n all = elim (bits == 16) as (λ b. (if b then number o w16 bytes (row + 2 * n) else stored bits bytes row n) ≤ (if b then 65535 else 255)) [
-  | true ↦ number-le o bytes (row + 2 * n) all
-  | false ↦ stored-le bits bytes row n all
-]
-
-sample_of-le : (white_is_zero : Bool) (white v : ℕ) → v ≤ white → sample_of white_is_zero white v ≤ white
-sample_of-le true white v le = omega arith
-sample_of-le false white v le = le
-
-shown-le : (bytes : List ℕ) (s : Scheme) (x y k : ℕ) → All (λ b. b ≤ 255) bytes → shown bytes s x y k ≤ white_of s.bits
-unfolding shown
-shown-le bytes s x y k all = sample_of-le s.white_is_zero (white_of s.bits) _ (stored_sample-le s.order s.bits bytes _ _ all)
-
-one_of : (b : Bool) (m n : ℕ) → ((if b then m else n) ≡ n) ⊎ ((if b then m else n) ≡ m)
-one_of true m n = inr refl
-one_of false m n = inl refl
-
-white_is : (bits : ℕ) → (white_of bits ≡ 255) ⊎ (white_of bits ≡ 65535)
-white_is bits = one_of (bits == 16) 65535 255
-
--- ---- The picture that is seen in bytes
 
 abbrev seen : List ℕ → Scheme → Picture
 seen bytes s = picture_of s.width s.height s.channels (white_of s.bits) (shown bytes s)

@@ -42,14 +42,16 @@ one_of : (b : Bool) (m n : ℕ) → ((if b then m else n) ≡ n) ⊎ ((if b then
 one_of true m n = inr refl
 one_of false m n = inl refl
 
-white_is : (bits : ℕ) → (white_of bits ≡ 255) ⊎ (white_of bits ≡ 65535)
+-- white is the greatest sample of 8 bits or of 16
+pub white_is : (bits : ℕ) → (white_of bits ≡ 255) ⊎ (white_of bits ≡ 65535)
 white_is bits = one_of (bits == 16) 65535 255
 
 sample_of-le : (white_is_zero : Bool) (white v : ℕ) → v ≤ white → sample_of white_is_zero white v ≤ white
 sample_of-le true white v le = omega arith
 sample_of-le false white v le = le
 
-shown-le : (bytes : List ℕ) (s : Scheme) (x y k : ℕ) → All (λ b. b ≤ 255) bytes → shown bytes s x y k ≤ white_of s.bits
+-- no sample that is shown is above white, whatever the bytes are
+pub shown-le : (bytes : List ℕ) (s : Scheme) (x y k : ℕ) → All (λ b. b ≤ 255) bytes → shown bytes s x y k ≤ white_of s.bits
 unfolding shown
 shown-le bytes s x y k all = sample_of-le s.white_is_zero (white_of s.bits) _ (stored_sample-le s.order s.bits bytes _ _ all)
 
