@@ -64,12 +64,8 @@ fn plain_image(alloc: Global, source: &MemSource, resolved: &Resolved) -> Result
     let Ok(layout) = open(&(), alloc, source) else {
         return Err(Fail::from("the file is refused"));
     };
-    let sides = Dim {
-        w: resolved.rect.w,
-        h: resolved.rect.h,
-    };
     if !resolved.rect.lies_in(layout.dim())
-        || !is_scalable(sides, resolved.size)
+        || !is_scalable(resolved.rect.dim(), resolved.size)
         || resolved.turn.quarters >= 4
     {
         return Err(Fail::from("no such request"));
