@@ -11,14 +11,14 @@ use Rattle.iiif_machine.specs.Types.{Key, Request, Refusal, Resolved, Picture}
 use Rattle.iiif_machine.specs.Tables.{Class, Table, Holds, IsOpen, Lists}
 use Rattle.iiif_machine.specs.Rows.{Node, Wish, Refused, Answered}
 use Rattle.iiif_machine.specs.Worlds.{World, ◌>>=◌, table_at}
-use Rattle.iiif_machine.specs.Steps.{Event, after_want, step, run}
+use Rattle.iiif_machine.specs.Steps.{after_want, step, run}
 use Rattle.iiif_machine.specs.Sound.{IsApart, IsListed, NodeIsHonest, TableIsHonest, caller_of}
 use Rattle.iiif_machine.specs.Promises.{Follows, After}
 use Rattle.iiif_machine.proofs.Words.{SubjectLaws, Next, Stays}
 use Rattle.iiif_machine.specs.Worlds.{new_world, version_shown, speaker}
 use Rattle.iiif_scene.specs.Scenes.{IsProper}
 use Rattle.iiif_machine.specs.Sound.{IsSound}
-use Rattle.iiif_machine.specs.Promises.{IsNew, RefusedAtOnce, EachStep, EachRun, AnswersAreRight, ValuesAreMeanings, NoFaultNoFailure, CanonicalFormsAgree}
+use Rattle.iiif_machine.specs.Promises.{IsNew, RefusedAtOnce, EachStep, EachRun, EachRunFollows, AnswersAreRight, ValuesAreMeanings, NoFaultNoFailure, CanonicalFormsAgree}
 use Rattle.iiif_canonical.specs.Images as images
 use Rattle.iiif_canonical.proofs.SameImages.{means_the_same}
 use Rattle.iiif_scene.proofs.Plans.{kind_is}
@@ -31,7 +31,10 @@ use Rattle.iiif_machine.proofs.Listed.{step_listed}
 use Rattle.iiif_machine.proofs.Subjects.{subject_laws}
 use Rattle.iiif_machine.proofs.Opened.{table_laws}
 
-join : (w : World) (x : Option World) → After (Next w) x → After IsApart x → After IsListed x → After (Stays w) x → After (λ v. Follows w v × IsSound v) x
+abbrev Goes : World → World → Type 0
+Goes w v = Follows w v × IsSound v
+
+join : (w : World) (x : Option World) → After (Next w) x → After IsApart x → After IsListed x → After (Stays w) x → After (Goes w) x
 join w None a b c d = tt
 join w (Some v) a b c d = (
   record { scene = a.follows.scene; cards = d.cards; given = a.follows.given; answers = a.follows.answers; ended = d.ended },
@@ -42,15 +45,37 @@ pub each_step : EachStep
 each_step w e proper h = join w (step w e) (step_kept w e (subject_laws w.scene proper) table_laws h.honest) (step_apart w e (subject_laws w.scene proper) table_laws h.apart)
     (step_listed w e h.apart h.listed) (step_placed w e h.placed)
 
-after_step : (w : World) (x : Option World) (f : World → Option World) → After (λ v. Follows w v × IsSound v) x →
-    ((v : World) → Follows w v → IsSound v → After IsSound (f v)) → After IsSound (x >>= f)
+pub follows_itself : (w : World) → Follows w w
+follows_itself w = record { scene = refl; cards = refl; given = λ i g at. at; answers = λ i q a at. at; ended = λ f l o at. at }
+
+pub follows_further : (w v u : World) → Follows w v → Follows v u → Follows w u
+follows_further w v u first second = record {
+  scene = second.scene ∙ first.scene;
+  cards = second.cards ∙ first.cards;
+  given = λ i g at. second.given i g (first.given i g at);
+  answers = λ i q a at. second.answers i q a (first.answers i q a at);
+  ended = λ f l o at. second.ended f l o (first.ended f l o at);
+}
+
+after_step : (w : World) (x : Option World) (f : World → Option World) → After (Goes w) x →
+    ((v : World) → Follows w v → IsSound v → After (Goes w) (f v)) → After (Goes w) (x >>= f)
 after_step w None f h g = tt
 after_step w (Some v) f h g = g v h.0 h.1
 
-runs : (w : World) (es : List Event) → IsProper w.scene → IsSound w → After IsSound (run w es)
+-- what goes on from a world that went on
+further : (w v : World) (x : Option World) → Follows w v → After (Goes v) x → After (Goes w) x
+further w v None first h = tt
+further w v (Some u) first h = (follows_further w v u first h.0, h.1)
+
+pub each_run_follows : EachRunFollows
 unfolding run
-runs w [] proper h = h
-runs w (e ∷ es) proper h = after_step w (step w e) (λ v. run v es) (each_step w e proper h) (λ v next is. runs v es (subst IsProper (sym next.scene) proper) is)
+each_run_follows w [] proper h = (follows_itself w, h)
+each_run_follows w (e ∷ es) proper h = after_step w (step w e) (λ v. run v es) (each_step w e proper h)
+    (λ v next is. further w v (run v es) next (each_run_follows v es (subst IsProper (sym next.scene) proper) is))
+
+sound_after : (w : World) (x : Option World) → After (Goes w) x → After IsSound x
+sound_after w None h = tt
+sound_after w (Some v) h = h.1
 
 empty_holds : (s : Scene) (t : Table) (l r : ℕ) → t ≡ tables.empty_table l r → TableIsHonest s t
 unfolding Holds
@@ -75,7 +100,7 @@ new_open n k c m h o = open_by n (is_tile k) k c m h o
 pub each_run : EachRun
 each_run s nodes es proper new named =
     let w = new_world s nodes in
-    runs w es proper (record {
+    sound_after w (run w es) (each_run_follows w es proper (record {
       honest = record {
         nodes = λ i n at. new_node s n (new i n at);
         flights = each_nil _;
@@ -87,7 +112,7 @@ each_run s nodes es proper new named =
       apart = record { registered = λ f x at o. absurd (none-some x at); apart = λ f g x y at there o p same. absurd (none-some x at) };
       listed = record { all = λ i n k c m at o. absurd (new_open n k c m (new i n at) o) };
       placed = record { rings = named; callers = each_nil _; leads = each_nil _; asks = each_nil _ };
-    })
+    }))
 
 pub answers_are_right : AnswersAreRight
 answers_are_right w i q a h at = h.honest.requests i _ at

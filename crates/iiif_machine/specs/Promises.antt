@@ -51,6 +51,10 @@ pub record Follows (w v : World) : Type 0 where
 abbrev pub EachStep : Type 0
 EachStep = (w : World) (e : Event) → IsProper w.scene → IsSound w → After (λ v. Follows w v × IsSound v) (step w e)
 
+-- So does each list of events that is allowed: what was given or answered, or has ended, is the same after all of it.
+abbrev pub EachRunFollows : Type 0
+EachRunFollows = (w : World) (es : List Event) → IsProper w.scene → IsSound w → After (λ v. Follows w v × IsSound v) (run w es)
+
 -- After every list of events that is allowed it holds.
 abbrev pub EachRun : Type 0
 EachRun = (s : Scene) (nodes : List Node) (es : List Event) → IsProper s → Each IsNew nodes → Each (NamesNodes (map card_of nodes)) (map card_of nodes) →

@@ -1,12 +1,13 @@
 //! What holds of every world. The functions compute nothing: their contracts are the laws.
 
-ghost use Rattle.iiif_machine.specs.Promises.{AllowedExactly, AnswersAreRight, CanonicalFormsAgree, EachRun, EachStep, FirstFaultCounts, NoFaultIsTaken, NoFaultNoFailure, NotKeptStays, OneOutcome, OnlySourcesGive, OwnerIsTheRings, RefusedAtOnce, StopTakesAll, ValuesAreMeanings, WaitsFall};
+ghost use Rattle.iiif_machine.specs.Promises.{AllowedExactly, AnswersAreRight, CanonicalFormsAgree, EachRun, EachRunFollows, EachStep, FirstFaultCounts, NoFaultIsTaken, NoFaultNoFailure, NotKeptStays, OneOutcome, OnlySourcesGive, OwnerIsTheRings, RefusedAtOnce, StopTakesAll, ValuesAreMeanings, WaitsFall};
 ghost use Rattle.iiif_machine.specs.Worked.{AskIsServed, BothAreAnswered, BothStayAnswered, CutOutIs, DeepAskIsAnswered, DeepAskIsNotServed, DeepHalvedIs, DeepIsNotWanted, EnlargedIs, FailingRead, FaultIsNotKept, FaultOfAPeerIsNotAnswered, FirstFaultIsAnswered, FoundAgainIsAnswered, FoundAgainIsCounted, HalvedIs, KeptIsFound, LateRepeatChangesNothing, LostAskIsAnswered, NoneIsAnsweredYet, NotAgain, NotKeptIsNotFound, ReplyOfAnotherKeyIsNotTaken, ReplyToAStoppedFlightChangesNothing, SevenIsWanted, StoppedCallsAreGone, StoppedNode, TwoShareAFault, TwoShareAValue, WaitsForItsCalls};
 
-/// After every list of events that is allowed, the world is sound; each event keeps it so, and takes back nothing that was given
-/// or answered.
+/// After every list of events that is allowed, the world is sound; each event, and each list of events, keeps it so, and takes
+/// back nothing that was given or answered.
 pub fn worlds_are_sound()
     ensures step { EachStep }
+    ensures after { EachRunFollows }
     ensures run { EachRun }
 {}
 
