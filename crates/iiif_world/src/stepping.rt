@@ -125,6 +125,7 @@ pub fn run(world: World, events: &[Event]) -> Result<World, (usize, WorldFault)>
     ensures ok { IfOk result (λ w. run (world_of world) events.now ≡ Some (world_of w)) }
     ensures err { IfErr result (λ e. (v : worlds.World) × (x : Event) × (run (world_of world) (take e.0 events.now) ≡ Some v)
         × (slice_get events.now e.0 ≡ Some x) × (e.1 ≡ WorldFault.NotNow → step v x ≡ None) × (e.1 ≡ WorldFault.NoMemory → ¬ (step v x ≡ None))) }
+    ensures follows { IfOk result (λ w. Follows (world_of world) (world_of w)) }
     ensures sound { IfOk result (λ w. IsSoundWorld (world_of w)) }
 {
     let mut world = world;

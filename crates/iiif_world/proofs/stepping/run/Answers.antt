@@ -2,13 +2,14 @@ use Rattle.std.proofs.Common.{Some, refl, sym, ap, ◌∙◌}
 use Rattle.std.proofs.lemmas.Option.{slice_get-get_or}
 use Rattle.iiif_machine.specs.Steps.{run}
 use Rattle.iiif_machine.specs.declared.events.Event.{Event}
+use Rattle.iiif_machine.proofs.Promised.{follows_itself, follows_further}
 use Rattle.iiif_world.specs.Code.{world_of}
 use Rattle.iiif_world.proofs.Run.{run_next}
 use Rattle.iiif_world.proofs.stepping.run.Goals as goal
 
 pub loop-place-init : goal.loop-place-init
 unfolding run
-loop-place-init c = (refl, c.requires.sound)
+loop-place-init c = (refl, c.requires.sound, follows_itself (world_of c.args.world))
 
 pub returns-in-Err-clause-err : goal.returns-in-Err-clause-err
 returns-in-Err-clause-err c = (
@@ -25,4 +26,5 @@ loop-place-preserved c = (
   run_next (world_of c.args.world) (world_of c.loop-place.world) (world_of c.step.new.self) c.args.events.now c.loop-place.place c.index-events-place.result c.loop-place-test.true
       c.index-events-place.is c.loop-place.invariant.0 c.in-Ok.ensures.ok,
   c.in-Ok.ensures.sound,
+  follows_further (world_of c.args.world) (world_of c.loop-place.world) (world_of c.step.new.self) c.loop-place.invariant.2 c.in-Ok.ensures.follows,
 )
