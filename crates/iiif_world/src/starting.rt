@@ -1,6 +1,7 @@
 //! Worlds in which nothing has happened.
 
 ghost use Rattle.std.specs.Prelude.{◌≡◌, ◌<◌, false, length, map, IfErr, IfOk, IsTrue};
+ghost use Rattle.iiif_tiff.specs.Tiff.{IsReadable};
 ghost use Rattle.iiif_keys.specs.Names.{IsSource};
 ghost use Rattle.iiif_machine.specs.Worlds.{new_world};
 ghost use Rattle.iiif_machine.specs.Sound.{Each};
@@ -12,7 +13,7 @@ ghost use Rattle.iiif_world.specs.Starting.{node_for, AreSources, IsNamed, IsSet
 use crate::world::{Item, World};
 use iiif_canonical::Limits;
 use iiif_keys::Name;
-use iiif_pixel::{NoMemory, Raster};
+use iiif_pixel::{Dim, NoMemory, Raster};
 use iiif_plain_tables::node::Node;
 use iiif_plain_tables::plain::PlainTable;
 use iiif_ring::Ring;
@@ -44,19 +45,26 @@ pub enum SetupFault {
     NoMemory,
 }
 
-/// Whether a picture is within the limits on an image's sides.
-fn is_source(picture: &Raster) -> bool
-    ensures yes { IsTrue result → IsSource picture.now }
-    ensures no { result ≡ false → ¬ IsSource picture.now }
+/// Whether these are sides of an image that is read.
+fn is_readable(dim: Dim) -> bool
+    ensures yes { IsTrue result → IsReadable dim }
+    ensures no { result ≡ false → ¬ IsReadable dim }
 {
-    picture.is_whole();
-    let dim = picture.dim();
     let limit = 1_000_000;
     0 < dim.w
         && dim.w <= limit
         && 0 < dim.h
         && dim.h <= limit
         && u64::from(dim.w) * u64::from(dim.h) <= 1 << 32
+}
+
+/// Whether a picture is within the limits on an image's sides.
+fn is_source(picture: &Raster) -> bool
+    ensures yes { IsTrue result → IsSource picture.now }
+    ensures no { result ≡ false → ¬ IsSource picture.now }
+{
+    picture.is_whole();
+    is_readable(picture.dim())
 }
 
 fn are_sources(items: &[Item]) -> bool
