@@ -5,6 +5,7 @@ use Rattle.std.specs.Str.{bytes_eq}
 use Rattle.std.proofs.lemmas.Option.{none-some}
 use Rattle.std.proofs.lemmas.Bool.{ltb-false, le-ltb}
 use Rattle.iiif_scene.specs.Keys.{parts_of}
+use Rattle.iiif_scene.proofs.Lists.{get_map}
 use Rattle.iiif_machine.specs.Types.{Key, ReadFault}
 use Rattle.iiif_machine.specs.Tables.{Class, Wide, Local, Outcome, Place, enter}
 use Rattle.iiif_machine.specs.Rows.{Node, Purpose, ForRequest, ForPart, ForFallback, ForAsk, Caller, CallState, Fresh, Hit, In, Gone, Call, Lead, Stage, New, Looked, Asking, Fallback, Parts, Ready, Ended, Flight, Reply}
@@ -13,7 +14,6 @@ use Rattle.iiif_machine.specs.Steps.{Event, Want, Enter, Again, AskPeer, Serve, 
 use Rattle.iiif_machine.specs.declared.events.Event.TheVariants as event
 use Rattle.iiif_machine.specs.Sound.{caller_of, lead_in, card_of, cards, IsThere, IsSound}
 use Rattle.iiif_machine.specs.Promises.{IsAt, IsOfClassAt, IsAllowed, AllowedExactly}
-use Rattle.iiif_machine.proofs.Lists.{get_map}
 use Rattle.iiif_machine.proofs.Learning.{bind_inv, get_mapped}
 use Rattle.iiif_machine.proofs.Listed.{entered_there}
 use Rattle.iiif_machine.proofs.RingOwners.{owner_there}

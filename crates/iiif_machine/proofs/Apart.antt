@@ -1,7 +1,7 @@
 -- No two open flights are of one node, key and class.
 use Rattle.std.proofs.Common.{◌≡◌, ℕ, zero, suc, List, [], ◌∷◌, map, length, Bool, true, false, Option, Some, None, Result, Ok, Err, refl, sym, ap, subst, ◌∙◌, ⊎_elim, if◌then◌else◌}
 use Rattle.std.specs.Prelude.{slice_get, slice_set, position, ◌==◌}
-use Rattle.std.proofs.lemmas.Option.{none-some}
+use Rattle.std.proofs.lemmas.Option.{none-some, same_Some}
 use Rattle.std.proofs.lemmas.Bool.{eqb-false}
 use Rattle.iiif_scene.specs.Keys.{is_tile, parts_of}
 use Rattle.iiif_scene.specs.Plans.{resolved}
@@ -18,7 +18,6 @@ use Rattle.iiif_machine.specs.Sound.{IsRegistered, IsSameCall, IsApart}
 use Rattle.iiif_machine.specs.Promises.{After}
 use Rattle.iiif_machine.specs.Promises.{OneOutcome}
 use Rattle.iiif_machine.proofs.Words.{StepsStayApart}
-use Rattle.iiif_machine.proofs.Lists.{some_same}
 use Rattle.iiif_machine.proofs.Learning.{get_mapped}
 use Rattle.iiif_machine.proofs.Registers.{set_found, end_cases, OpenFrom, from_same, from_set, from_resumed, apart_by, registered_put}
 
@@ -121,7 +120,7 @@ entered_apart w c who n x t tables h there e = go x e
         ) in
         let new = λ (g : ℕ) (y : Flight) (at : slice_get w.flights g ≡ Some y) (o : is_open y.stage ≡ true) (same : IsSameCall y.lead l).
         (let r = h.registered g y at o in
-        let node : r.0 ≡ n = some_same r.0 n (sym r.1 ∙ ap (slice_get w.nodes) same.node ∙ there) in
+        let node : r.0 ≡ n = same_Some r.0 n (sym r.1 ∙ ap (slice_get w.nodes) same.node ∙ there) in
         let in_n : IsOpen (table_at n y.lead.key) y.lead.key y.lead.class y.lead.ticket =
         subst (λ (m : Node). IsOpen (table_at m y.lead.key) y.lead.key y.lead.class y.lead.ticket) node r.2 in
         let by_key : IsOpen (table_at n who.key) who.key y.lead.class y.lead.ticket = subst (λ q. IsOpen (table_at n q) q y.lead.class y.lead.ticket) same.key in_n in
@@ -251,7 +250,7 @@ landing_apart w f l n kept (Ready o p) tables h at there =
     not_open xs f g l o y {old} at e there is =
         let made : Flight = record { lead = l; stage = Ended (Some o) } in
         let here = set_there xs f old made at in
-        let same : made ≡ y = some_same made y (sym here ∙ ap (slice_get (slice_set xs f made)) (sym e) ∙ there) in
+        let same : made ≡ y = same_Some made y (sym here ∙ ap (slice_get (slice_set xs f made)) (sym e) ∙ there) in
         let closed : is_open y.stage ≡ false = ap (λ (z : Flight). is_open z.stage) (sym same) in
         cc
 landing_apart w f l n kept New tables h at there = tt
@@ -268,7 +267,7 @@ evicted_apart w i n ks tables h there =
     apart_by w (with_node w i (node_without n ks)) (from_same w.flights) (λ g y at o reg.
     ⊎_elim
     (λ (e : (y.lead.node ≡ i) × (slice_get (slice_set w.nodes i (node_without n ks)) y.lead.node ≡ Some (node_without n ks))).
-    let same : reg.0 ≡ n = some_same reg.0 n (sym reg.1 ∙ ap (slice_get w.nodes) e.0 ∙ there) in
+    let same : reg.0 ≡ n = same_Some reg.0 n (sym reg.1 ∙ ap (slice_get w.nodes) e.0 ∙ there) in
     let open_in : IsOpen (table_at n y.lead.key) y.lead.key y.lead.class y.lead.ticket =
     subst (λ (m : Node). IsOpen (table_at m y.lead.key) y.lead.key y.lead.class y.lead.ticket) same reg.2 in
     (node_without n ks, e.1, lost_by n ks (is_tile y.lead.key) y.lead tables open_in))

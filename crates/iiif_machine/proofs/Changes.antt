@@ -2,12 +2,13 @@
 use Rattle.std.proofs.Common.{◌≡◌, ℕ, suc, List, [], ◌∷◌, ◌++◌, map, length, append_assoc, Some, refl, sym, ap, subst, ◌∙◌}
 use Rattle.std.specs.Prelude.{slice_get}
 use Rattle.iiif_scene.specs.Keys.{Fits}
+use Rattle.iiif_scene.proofs.Lists.{get_left}
 use Rattle.iiif_machine.specs.Types.{Key}
 use Rattle.iiif_machine.specs.Rows.{Node, Given, Purpose, Caller, CallState, Lead, Stage, New, Ask, Reply, Wish, Progress, Wanted}
 use Rattle.iiif_machine.specs.Worlds.{World, with_node, with_stage, with_state, with_calls, with_flight, with_ask, with_reply, with_given, with_request, fresh, call_for, numbers}
 use Rattle.iiif_machine.specs.Sound.{Each, facts, caller_of, lead_in, AreOf, StageIsHonest, FlightIsHonest, StateIsHonest, CallIsHonest, CallerIsRight, ProgressIsHonest, IsHonestWorld, NodeIsHonest, AskIsHonest, ReplyIsHonest}
 use Rattle.iiif_machine.proofs.Words.{Later}
-use Rattle.iiif_machine.proofs.Lists.{get_left, get_end, each_one, each_append, each_set, each_map, map_set, map_more, kept_same, kept_more}
+use Rattle.iiif_machine.proofs.Lists.{get_end, each_one, each_append, each_set, each_map, map_set, map_more, kept_same, kept_more}
 use Rattle.iiif_machine.proofs.Growth.{flights_later, calls_later, requests_later, asks_later, stage_later, state_later, caller_later}
 
 pub node_set : (w : World) (i : ℕ) (n : Node) → IsHonestWorld w → NodeIsHonest w.scene n → IsHonestWorld (with_node w i n)

@@ -1,7 +1,7 @@
 -- What single events change, and what they leave.
 use Rattle.std.proofs.Common.{◌≡◌, ℕ, List, [], ◌∷◌, ◌++◌, map, Bool, true, false, Some, None, Ok, Err, refl, sym, ap, subst, ◌∙◌, ⊎_elim, if◌then◌else◌}
 use Rattle.std.specs.Prelude.{slice_get, slice_set, ◌==◌}
-use Rattle.std.proofs.lemmas.Option.{none-some}
+use Rattle.std.proofs.lemmas.Option.{none-some, same_Some}
 use Rattle.std.proofs.lemmas.Bool.{eqb-false}
 use Rattle.iiif_tables.specs.Cache.{Cache}
 use Rattle.iiif_tables.specs.Flights as tables
@@ -12,7 +12,7 @@ use Rattle.iiif_machine.specs.Rows.{Node, Call, Lead, Stage, New, Looked, Asking
 use Rattle.iiif_machine.specs.Worlds.{World, table_at, put_table, or_fault, collected}
 use Rattle.iiif_machine.specs.Steps.{is_open, stage_taken, after_take, after_land, stage_stopped, flight_stopped, call_stopped, progress_stopped, request_stopped, after_stop, step}
 use Rattle.iiif_machine.specs.Promises.{FirstFaultCounts, NotKeptStays, NoFaultIsTaken, HasStopped, StopTakesAll, caches}
-use Rattle.iiif_machine.proofs.Lists.{some_same, map_set}
+use Rattle.iiif_machine.proofs.Lists.{map_set}
 use Rattle.iiif_machine.proofs.Learning.{bind_inv, get_mapped}
 use Rattle.iiif_machine.proofs.Registers.{set_cases}
 use Rattle.iiif_machine.proofs.Apart.{set_there}
@@ -50,7 +50,7 @@ put_leaves n t false e = ap (λ (c : Cache Key Value). (n.tiles.cache, c)) e
 landing_leaves : (w v : World) (f : ℕ) (l : Lead) (n : Node) (s : Stage) → slice_get w.nodes l.node ≡ Some n → after_land w f l n false s ≡ Some v → caches v ≡ caches w
 landing_leaves w v f l n (Ready o p) at h =
     let t = land (table_at n l.key) l.key l.class l.ticket o p false in
-    ap caches (sym (some_same _ v h))
+    ap caches (sym (same_Some _ v h))
     ∙ map_set caches_of w.nodes l.node n (put_table n l.key t) at (put_leaves n t (is_tile l.key) (land_leaves (table_at n l.key) l.key l.class l.ticket o p))
 landing_leaves w v f l n New at h = absurd (none-some v h)
 landing_leaves w v f l n Looked at h = absurd (none-some v h)
@@ -83,12 +83,12 @@ taking_gives : (w v : World) (f g : ℕ) (m : Lead) (r : Reply) (s : Stage) (l :
     slice_get v.flights g ≡ Some (failed l e p) → slice_get w.flights g ≡ Some (failed l e p)
 taking_gives w v f g m r Asking l e p h at =
     let new : Flight = record { lead = m; stage = stage_taken m.key r.key r.outcome } in
-    let there : slice_get (slice_set w.flights f new) g ≡ Some (failed l e p) = ap (λ (x : World). slice_get x.flights g) (some_same _ v h) ∙ at in
+    let there : slice_get (slice_set w.flights f new) g ≡ Some (failed l e p) = ap (λ (x : World). slice_get x.flights g) (same_Some _ v h) ∙ at in
     ⊎_elim
     (λ (x : (g ≡ f) × (failed l e p ≡ new)). absurd (no_fault m.key r.key r.outcome e p (ap (λ (z : Flight). z.stage) (sym x.1))))
     (λ (x : slice_get w.flights g ≡ Some (failed l e p)). x)
     (set_cases w.flights f g (failed l e p) new there)
-taking_gives w v f g m r (Ended o) l e p h at = ap (λ (x : World). slice_get x.flights g) (some_same w v h) ∙ at
+taking_gives w v f g m r (Ended o) l e p h at = ap (λ (x : World). slice_get x.flights g) (same_Some w v h) ∙ at
 taking_gives w v f g m r New l e p h at = absurd (none-some v h)
 taking_gives w v f g m r Looked l e p h at = absurd (none-some v h)
 taking_gives w v f g m r (Fallback c) l e p h at = absurd (none-some v h)
@@ -136,7 +136,7 @@ request_by i q true r cs e own h = not_waiting q.progress r cs h
 request_by i q false r cs e own h = absurd (eqb-false q.wish.node i e own)
 
 here : {A : Type 0} (xs : List A) (i : ℕ) (x y n : A) → slice_get xs i ≡ Some x → slice_get (slice_set xs i y) i ≡ Some n → y ≡ n
-here xs i x y n at h = some_same y n (sym (set_there xs i x y at) ∙ h)
+here xs i x y n at h = same_Some y n (sym (set_there xs i x y at) ∙ h)
 
 has_stopped : (w : World) (i : ℕ) (n : Node) → slice_get w.nodes i ≡ Some n → HasStopped i (after_stop w i n)
 has_stopped w i n at = record {
@@ -163,4 +163,4 @@ pub stop_takes_all : StopTakesAll
 unfolding step
 stop_takes_all w v i h =
     let n = bind_inv (slice_get w.nodes i) _ v h in
-    subst (HasStopped i) (some_same _ v n.2) (has_stopped w i n.0 n.1)
+    subst (HasStopped i) (same_Some _ v n.2) (has_stopped w i n.0 n.1)

@@ -1,7 +1,7 @@
 -- What calls know is honest, and what is made of it.
 use Rattle.std.proofs.Common.{◌≡◌, ℕ, zero, suc, List, [], ◌∷◌, map, Option, Some, None, Result, Ok, Err, refl, sym, ap, subst, ◌∙◌}
 use Rattle.std.specs.Prelude.{slice_get}
-use Rattle.std.proofs.lemmas.Option.{none-some}
+use Rattle.std.proofs.lemmas.Option.{none-some, same_Some}
 use Rattle.iiif_scene.specs.Scenes.{Scene}
 use Rattle.iiif_scene.specs.Keys.{name_of, meaning, derived}
 use Rattle.iiif_scene.specs.Plans.{items}
@@ -11,7 +11,6 @@ use Rattle.iiif_machine.specs.Tables.{Outcome}
 use Rattle.iiif_machine.specs.Rows.{Given, Caller, CallState, Fresh, Hit, In, Gone, Call, Lead, Stage, New, Looked, Asking, Fallback, Parts, Ready, Ended, Flight, Wish}
 use Rattle.iiif_machine.specs.Worlds.{World, ◌>>=◌, outcome_of, known_by, learned, all_learned, or_fault, collected, outcome_from, answer_from}
 use Rattle.iiif_machine.specs.Sound.{Each, Facts, facts, caller_of, lead_in, IsHonest, AreOf, StageIsHonest, StateIsHonest, AnswerIsRight, IsHonestWorld}
-use Rattle.iiif_machine.proofs.Lists.{some_same}
 
 pub bind_inv : {A B : Type 0} (x : Option A) (f : A → Option B) (y : B) → (x >>= f) ≡ Some y → (a : A) × (x ≡ Some a) × (f a ≡ Some y)
 bind_inv None f y h = absurd (none-some y h)
@@ -19,7 +18,7 @@ bind_inv (Some a) f y h = (a, refl, h)
 
 pub get_mapped : {A B : Type 0} (g : A → B) (xs : List A) (i : ℕ) (y : B) → slice_get (map g xs) i ≡ Some y → (x : A) × (slice_get xs i ≡ Some x) × (g x ≡ y)
 get_mapped g [] i y h = absurd (none-some y h)
-get_mapped g (x ∷ xs) zero y h = (x, refl, some_same (g x) y h)
+get_mapped g (x ∷ xs) zero y h = (x, refl, same_Some (g x) y h)
 get_mapped g (x ∷ xs) (suc i) y h = get_mapped g xs i y h
 
 ended_honest : (s : Scene) (a : Facts) (l : Lead) (x : Stage) (o : Outcome) → StageIsHonest s a l x → outcome_of x ≡ Some o → IsHonest s a.given l.node l.key o
@@ -30,18 +29,18 @@ ended_honest s a l (Fallback c) o h e = absurd (none-some o e)
 ended_honest s a l (Parts cs) o h e = absurd (none-some o e)
 ended_honest s a l (Ready r p) o h e = absurd (none-some o e)
 ended_honest s a l (Ended None) o h e = absurd (none-some o e)
-ended_honest s a l (Ended (Some r)) o h e = subst (IsHonest s a.given l.node l.key) (some_same r o e) h
+ended_honest s a l (Ended (Some r)) o h e = subst (IsHonest s a.given l.node l.key) (same_Some r o e) h
 
 known_honest : (w : World) (who : Caller) (x : CallState) (o : Outcome) → IsHonestWorld w → StateIsHonest w.scene (facts w) who x →
     known_by w.flights x ≡ Some o → IsHonest w.scene w.given who.node who.key o
 known_honest w who Fresh o h is e = absurd (none-some o e)
-known_honest w who (Hit v) o h is e = subst (IsHonest w.scene w.given who.node who.key) (some_same (Ok v) o e) is
+known_honest w who (Hit v) o h is e = subst (IsHonest w.scene w.given who.node who.key) (same_Some (Ok v) o e) is
 known_honest w who (In f) o h is e =
     let l = is.0 in
     let at = get_mapped lead_in w.flights f l is.1 in
     let fl = at.0 in
     let known = bind_inv (slice_get w.flights f) (λ (x : Flight). outcome_of x.stage) o e in
-    let same : known.0 ≡ fl = some_same known.0 fl (sym known.1 ∙ at.1) in
+    let same : known.0 ≡ fl = same_Some known.0 fl (sym known.1 ∙ at.1) in
     let done : outcome_of fl.stage ≡ Some o = subst (λ (x : Flight). outcome_of x.stage ≡ Some o) same known.2 in
     let there : IsHonest w.scene w.given fl.lead.node fl.lead.key o = ended_honest w.scene (facts w) fl.lead fl.stage o (h.flights f fl at.1).stage done in
     let here : IsHonest w.scene w.given l.node l.key o = subst (λ (x : Lead). IsHonest w.scene w.given x.node x.key o) at.2 there in
@@ -54,7 +53,7 @@ learned_honest w c who o h at e =
     let row = get_mapped caller_of w.calls c who at in
     let call = row.0 in
     let known = bind_inv (slice_get w.calls c) (λ (x : Call). known_by w.flights x.state) o e in
-    let same : known.0 ≡ call = some_same known.0 call (sym known.1 ∙ row.1) in
+    let same : known.0 ≡ call = same_Some known.0 call (sym known.1 ∙ row.1) in
     let knows : known_by w.flights call.state ≡ Some o = subst (λ (x : Call). known_by w.flights x.state ≡ Some o) same known.2 in
     let is = known_honest w call.caller call.state o h (h.calls c call row.1).state knows in
     subst (λ (x : Caller). IsHonest w.scene w.given x.node x.key o) row.2 is
@@ -73,7 +72,7 @@ gathered_more s given node name k ks (Ok v) (Ok vs) named is rest = ap (λ x. x 
 pub gathered : (w : World) (node : ℕ) (name : List ℕ) (cs : List ℕ) (ks : List Key) (os : List Outcome) → IsHonestWorld w →
     AreOf (facts w).callers node cs ks → Each (λ k. name_of k ≡ name) ks → all_learned w cs ≡ Some os → AreGathered w.scene w.given node name ks (collected os)
 gathered w node name [] [] os h are named e =
-    subst (λ xs. AreGathered w.scene w.given node name [] (collected xs)) (some_same {A = List Outcome} [] os e) refl
+    subst (λ xs. AreGathered w.scene w.given node name [] (collected xs)) (same_Some {A = List Outcome} [] os e) refl
 gathered w node name [] (k ∷ ks) os h are named e = absurd are
 gathered w node name (c ∷ cs) [] os h are named e = absurd are
 gathered w node name (c ∷ cs) (k ∷ ks) os h are named e =
@@ -85,7 +84,7 @@ gathered w node name (c ∷ cs) (k ∷ ks) os h are named e =
     let here : IsHonest w.scene w.given node k o =
     subst (λ q. IsHonest w.scene w.given node q o) are.0.3 (subst (λ n. IsHonest w.scene w.given n who.key o) are.0.2 known) in
     let more = gathered w node name cs ks rest.0 h are.1 (λ i x at. named (suc i) x at) rest.1 in
-    subst (λ xs. AreGathered w.scene w.given node name (k ∷ ks) (collected xs)) (some_same (o ∷ rest.0) os rest.2)
+    subst (λ xs. AreGathered w.scene w.given node name (k ∷ ks) (collected xs)) (same_Some (o ∷ rest.0) os rest.2)
     (gathered_more w.scene w.given node name k ks o (collected rest.0) (named 0 k refl) here more)
 
 pub merged_honest : (s : Scene) (given : List Given) (node : ℕ) (k : Key) (ks : List Key) (r : Result (List Value) ReadFault) →

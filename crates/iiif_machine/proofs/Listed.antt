@@ -2,11 +2,13 @@
 use Rattle.std.proofs.Common.{◌≡◌, ℕ, zero, suc, ◌+◌, ◌<◌, ◌≤◌, List, [], ◌∷◌, ◌++◌, map, length, Bool, true, false, Option, Some, None, Result, Ok, Err, ◌⊎◌, inl, inr, refl, sym, ap, subst, ◌∙◌, ⊎_elim, if◌then◌else◌, arith}
 use Rattle.std.specs.Prelude.{slice_get, slice_set, position, cond, ◌==◌, ◌&&◌, nat_eq}
 use Rattle.std.specs.List.{position_or_len}
-use Rattle.std.proofs.lemmas.Option.{none-some, slice_get_within, get_or_from_slice_get}
+use Rattle.std.proofs.lemmas.Option.{none-some, slice_get_within, get_or_from_slice_get, same_Some}
 use Rattle.std.proofs.lemmas.Bool.{cases_lt, lt-ltb, ne_eqb}
 use Rattle.std.proofs.lemmas.List.Sums.{fails_before_first}
 use Rattle.iiif_scene.specs.Keys.{is_tile, key_eq, parts_of}
 use Rattle.iiif_scene.specs.Plans.{resolved}
+use Rattle.iiif_scene.proofs.Lists.{get_left, get_map}
+use Rattle.iiif_scene.proofs.KeyParts.{eq_same, key_same}
 use Rattle.iiif_machine.specs.Types.{Key, Value, Resolved, Refusal, Picture, ReadFault}
 use Rattle.iiif_machine.specs.Worlds.{owner_of}
 use Rattle.std.specs.Str.{bytes_eq}
@@ -18,15 +20,15 @@ use Rattle.iiif_machine.specs.declared.events.Event.TheVariants as event
 use Rattle.iiif_tables.specs.Flights.{same_class}
 use Rattle.iiif_machine.specs.Sound.{IsApart, IsLed, IsListed}
 use Rattle.iiif_machine.specs.Promises.{After}
-use Rattle.iiif_machine.proofs.Lists.{some_same, get_left, get_end, get_map}
+use Rattle.iiif_machine.proofs.Lists.{get_end}
 use Rattle.iiif_machine.proofs.Registers.{set_found}
-use Rattle.iiif_machine.proofs.Opened.{enter_only, joins_open, again_only, land_only, evicted_only, emptied_only, eq_same, key_same}
+use Rattle.iiif_machine.proofs.Opened.{enter_only, joins_open, again_only, land_only, evicted_only, emptied_only}
 
 -- lists
 
 set_apart : {A : Type 0} (xs : List A) (i j : ℕ) (x y : A) → slice_get (slice_set xs i y) j ≡ Some x → ((j ≡ i) × (x ≡ y)) ⊎ ((j ≡ i → ⊥) × (slice_get xs j ≡ Some x))
 set_apart [] i j x y h = absurd (none-some x h)
-set_apart (z ∷ xs) zero zero x y h = inl (refl, sym (some_same y x h))
+set_apart (z ∷ xs) zero zero x y h = inl (refl, sym (same_Some y x h))
 set_apart (z ∷ xs) zero (suc j) x y h = inr (λ e. omega arith, h)
 set_apart (z ∷ xs) (suc i) zero x y h = inr (λ e. omega arith, h)
 set_apart (z ∷ xs) (suc i) (suc j) x y h = ⊎_elim
@@ -61,7 +63,7 @@ to_set xs f l old new there will g x at o =
     let made : Flight = record { lead = l; stage = new } in
     ⊎_elim
     (λ (e : (g ≡ f) × (slice_get (slice_set xs f made) g ≡ Some made)).
-    let same : x ≡ record { lead = l; stage = old } = some_same x (record { lead = l; stage = old }) (sym at ∙ ap (slice_get xs) e.0 ∙ there) in
+    let same : x ≡ record { lead = l; stage = old } = same_Some x (record { lead = l; stage = old }) (sym at ∙ ap (slice_get xs) e.0 ∙ there) in
     (made, e.1, will, sym (ap (λ (z : Flight). z.lead) same)))
     (λ (e : slice_get (slice_set xs f made) g ≡ Some x). (x, e, o, refl))
     (set_found xs f g x made at)
@@ -300,7 +302,7 @@ still_led w f l old new i q d at apart r =
     let made : Flight = record { lead = l; stage = new } in
     ⊎_elim
     (λ (e : (r.0 ≡ f) × (slice_get (slice_set w.flights f made) r.0 ≡ Some made)).
-    let same : r.1 ≡ record { lead = l; stage = old } = some_same r.1 (record { lead = l; stage = old }) (sym r.2 ∙ ap (slice_get w.flights) e.0 ∙ at) in
+    let same : r.1 ≡ record { lead = l; stage = old } = same_Some r.1 (record { lead = l; stage = old }) (sym r.2 ∙ ap (slice_get w.flights) e.0 ∙ at) in
     let lead : l ≡ r.1.lead = sym (ap (λ (z : Flight). z.lead) same) in
     absurd (apart (ap (λ (z : Lead). z.node) lead ∙ r.4) (ap (λ (z : Lead). z.key) lead ∙ r.5) (ap (λ (z : Lead). z.class) lead ∙ r.6)))
     (λ (e : slice_get (slice_set w.flights f made) r.0 ≡ Some r.1). (r.0, r.1, e, r.3, r.4, r.5, r.6))
@@ -313,7 +315,7 @@ landing_listed w f l n kept (Ready o p) a h at there =
     let u = land t l.key l.class l.ticket o p kept in
     let v = with_stage (with_node w l.node (put_table n l.key u)) f l (Ended (Some o)) in
     let reg = a.registered f (record { lead = l; stage = Ready o p }) at refl in
-    let node : reg.0 ≡ n = some_same reg.0 n (sym reg.1 ∙ there) in
+    let node : reg.0 ≡ n = same_Some reg.0 n (sym reg.1 ∙ there) in
     let lead : IsOpen t l.key l.class l.ticket = subst (λ (z : Node). IsOpen (table_at z l.key) l.key l.class l.ticket) node reg.2 in
     let h1 : IsListed v = record {
       all = λ j z q d m place is. ⊎_elim

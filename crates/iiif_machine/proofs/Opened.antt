@@ -1,34 +1,16 @@
 -- Which flights are open in a table, after each change.
 use Rattle.std.proofs.Common.{◌≡◌, ℕ, ◌+◌, List, Bool, true, false, Option, Some, None, ◌⊎◌, inl, inr, refl, sym, ap, subst, ◌∙◌, ⊎_elim, if◌then◌else◌}
-use Rattle.std.specs.Prelude.{cond, ◌&&◌, nat_eq}
-use Rattle.std.proofs.lemmas.Option.{none-some}
+use Rattle.std.specs.Prelude.{cond, nat_eq}
+use Rattle.std.proofs.lemmas.Option.{none-some, same_Some}
 use Rattle.std.proofs.lemmas.Bool.{eqb-true}
-use Rattle.std.proofs.lemmas.Bool.Decides.{eqb_tells}
-use Rattle.std.proofs.lemmas.Slice.Eq.{bytes_eq-Decides}
 use Rattle.iiif_tables.specs.Cache.{Kept, kept_for}
 use Rattle.iiif_tables.specs.Flights as tables
-use Rattle.iiif_scene.specs.declared.keys.Key.TheVariants as key
 use Rattle.iiif_scene.specs.Keys.{key_eq, entry_size}
 use Rattle.iiif_machine.specs.Types.{Key, Value}
 use Rattle.iiif_machine.specs.Tables.{Class, Wide, Local, Place, Outcome, Table, Entered, joins, leads, met, value_of, enter, again, land, evicted, emptied, IsOpen}
 use Rattle.iiif_machine.proofs.Words.{TableLaws}
-use Rattle.iiif_machine.proofs.Lists.{some_same}
-use Rattle.iiif_scene.proofs.KeyParts.{same_key}
+use Rattle.iiif_scene.proofs.KeyParts.{same_key, eq_same, key_same}
 use Rattle.iiif_machine.proofs.Tabled.{enter_found, enter_holds, again_found, again_holds, land_holds, evicted_holds, emptied_holds}
-
-and_true : (a b : Bool) → a ≡ true → b ≡ true → (a && b) ≡ true
-and_true a b p q = ap (λ x. x && b) p ∙ q
-
-pub eq_same : (n : ℕ) → nat_eq n n ≡ true
-eq_same n = ⊎_elim (λ (h : (nat_eq n n ≡ true) × (n ≡ n)). h.0) (λ (h : (nat_eq n n ≡ false) × ¬ (n ≡ n)). absurd (h.1 refl)) (eqb_tells n n)
-
-pub key_same : (k : Key) → key_eq k k ≡ true
-unfolding key_eq
-key_same (key.Tile k) = and_true _ _ ((bytes_eq-Decides k.name k.name).1 refl) (and_true _ _ (eq_same k.edge) (and_true _ _ (eq_same k.tx) (eq_same k.ty)))
-key_same (key.Sum k) =
-    and_true _ _ ((bytes_eq-Decides k.name k.name).1 refl) (and_true _ _ (eq_same k.edge)
-    (and_true _ _ (and_true _ _ (eq_same k.rect.x) (and_true _ _ (eq_same k.rect.y) (and_true _ _ (eq_same k.rect.w) (eq_same k.rect.h))))
-    (and_true _ _ (and_true _ _ (eq_same k.size.w) (eq_same k.size.h)) (and_true _ _ (eq_same k.level) (and_true _ _ (eq_same k.bx) (eq_same k.by))))))
 
 abbrev Flights : Type 0
 Flights = Class → Key → Option tables.Flight
@@ -98,7 +80,7 @@ enter_open t k q c d n o = stay_by t k q c d (t.book.leads + 1) n (kept_for key_
 
 ticket_is : (n : ℕ) (f : tables.Flight) (x : Option tables.Flight) → x ≡ Some f → tables.has_ticket n x ≡ true → f.ticket ≡ n
 ticket_is n f None e h = absurd (none-some f e)
-ticket_is n f (Some g) e h = ap (λ (z : tables.Flight). z.ticket) (some_same f g (sym e)) ∙ eqb-true g.ticket n h
+ticket_is n f (Some g) e h = ap (λ (z : tables.Flight). z.ticket) (same_Some f g (sym e)) ∙ eqb-true g.ticket n h
 
 same_or_not : (c d : Class) (k q : Key) → ((k ≡ q) × (c ≡ d)) ⊎ (k ≡ q → c ≡ d → ⊥)
 same_or_not c d k q = (elim (key_eq k q) as (λ b. key_eq k q ≡ b → ((k ≡ q) × (c ≡ d)) ⊎ (k ≡ q → c ≡ d → ⊥)) [
@@ -216,7 +198,7 @@ looking_was t k q c d m n (Some e) g at has o =
     let now : tables.with_flight key_eq c k (Some f) t.flights d q ≡ Some f =
     subst (λ x. tables.with_flight key_eq c k (Some f) t.flights d x ≡ Some f) s.0
     (subst (λ x. tables.with_flight key_eq c k (Some f) t.flights x k ≡ Some f) s.1 (here c k (Some f) t.flights)) in
-    let same : f ≡ o.0 = some_same f o.0 (sym now ∙ o.1) in
+    let same : f ≡ o.0 = same_Some f o.0 (sym now ∙ o.1) in
     (g, ap (λ x. t.flights x q) (sym s.1) ∙ ap (λ x. t.flights c x) (sym s.0) ∙ at, has ∙ ap (λ (z : tables.Flight). z.ticket) same ∙ o.2))
     (λ (s : k ≡ q → c ≡ d → ⊥). (o.0, sym (away c d k q (Some f) t.flights s) ∙ o.1, o.2))
     (same_or_not c d k q)
@@ -235,7 +217,7 @@ again_only t k q c d m n o = (elim (tables.has_ticket m (t.flights c k)) as
 
 has_it : (n : ℕ) (x : Option tables.Flight) (g : tables.Flight) → x ≡ Some g → g.ticket ≡ n → tables.has_ticket n x ≡ true
 has_it n None g e h = absurd (none-some g e)
-has_it n (Some f) g e h = subst (λ m. nat_eq m n ≡ true) (sym (ap (λ (z : tables.Flight). z.ticket) (some_same f g e) ∙ h)) (eq_same n)
+has_it n (Some f) g e h = subst (λ m. nat_eq m n ≡ true) (sym (ap (λ (z : tables.Flight). z.ticket) (same_Some f g e) ∙ h)) (eq_same n)
 
 -- the flight that lands is closed, and the others that are open were
 pub land_only : (t : Table) (k q : Key) (c d : Class) (m n : ℕ) (o : Outcome) (p : Place) (kept : Bool) → IsOpen t k c m → IsOpen (land t k c m o p kept) q d n →

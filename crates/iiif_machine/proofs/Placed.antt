@@ -2,8 +2,10 @@
 use Rattle.std.proofs.Common.{◌≡◌, ℕ, List, [], ◌∷◌, ◌++◌, map, length, Bool, true, false, Option, Some, None, Result, Ok, Err, refl, sym, ap, subst, ◌∙◌, ⊎_elim, if◌then◌else◌}
 use Rattle.std.specs.Prelude.{slice_get, slice_set, position, ◌==◌}
 use Rattle.std.specs.Str.{bytes_eq}
+use Rattle.std.proofs.lemmas.Option.{same_Some}
 use Rattle.iiif_scene.specs.Keys.{is_tile, parts_of}
 use Rattle.iiif_scene.specs.Plans.{resolved, items}
+use Rattle.iiif_scene.proofs.Lists.{get_left, get_map}
 use Rattle.iiif_machine.specs.Types.{Key, ReadFault, Picture, Resolved, Refusal}
 use Rattle.iiif_machine.specs.Tables.{Class, Wide, Local, Table, Outcome, Entered, finds, joins, leads, enter, again}
 use Rattle.iiif_machine.specs.Rows.{Node, Purpose, ForRequest, ForPart, ForFallback, ForAsk, Caller, CallState, Fresh, Hit, In, Gone, Lead, Stage, New, Looked, Asking, Fallback, Parts, Ready, Ended, Flight, Ask, Reply, Wish}
@@ -13,7 +15,7 @@ use Rattle.iiif_machine.specs.declared.events.Event.TheVariants as event
 use Rattle.iiif_machine.specs.Sound.{Each, facts, caller_of, lead_in, Card, card_of, cards, IsThere, NamesNodes, IsPlaced}
 use Rattle.iiif_machine.specs.Promises.{EndedStay, After}
 use Rattle.iiif_machine.proofs.Words.{Stays, StepsStayPlaced}
-use Rattle.iiif_machine.proofs.Lists.{some_same, get_left, get_map, each_append, each_map, each_one, map_set, map_same, map_more, position_found}
+use Rattle.iiif_machine.proofs.Lists.{each_append, each_map, each_one, map_set, map_same, map_more, position_found}
 use Rattle.iiif_machine.proofs.Changes.{callers_more}
 use Rattle.iiif_machine.proofs.Registers.{set_found}
 use Rattle.iiif_machine.proofs.Stopping.{lead_by, caller_by}
@@ -73,7 +75,7 @@ ended_set xs g m old new at is f l o there =
     let row : Flight = record { lead = l; stage = Ended o } in
     ⊎_elim
     (λ (e : (f ≡ g) × (slice_get (slice_set xs g (record { lead = m; stage = new })) f ≡ Some (record { lead = m; stage = new }))).
-    let same : was ≡ row = some_same was row (sym at ∙ ap (slice_get xs) (sym e.0) ∙ there) in
+    let same : was ≡ row = same_Some was row (sym at ∙ ap (slice_get xs) (sym e.0) ∙ there) in
     let closed : is_open old ≡ false = ap (λ (z : Flight). is_open z.stage) same in
     absurd cc)
     (λ (e : slice_get (slice_set xs g (record { lead = m; stage = new })) f ≡ Some row). e)

@@ -1,9 +1,10 @@
 -- Each event keeps what holds of the world.
 use Rattle.std.proofs.Common.{◌≡◌, ℕ, List, [], ◌∷◌, map, length, Bool, true, false, Option, Some, None, Result, Ok, Err, refl, sym, ap, subst, ◌∙◌, if◌then◌else◌}
-use Rattle.std.specs.Prelude.{slice_get, position, ◌&&◌, ◌==◌, ◌<◌}
-use Rattle.std.proofs.lemmas.Bool.{eqb-true}
+use Rattle.std.specs.Prelude.{slice_get, position, ◌==◌, ◌<◌}
+use Rattle.std.proofs.lemmas.Bool.{eqb-true, and_parts}
 use Rattle.iiif_scene.specs.Keys.{name_of, rank_of, Fits, meaning, parts_of, key_eq}
 use Rattle.iiif_scene.specs.Plans.{items, resolved}
+use Rattle.iiif_scene.proofs.Lists.{get_left, each_of_all, get_map}
 use Rattle.iiif_machine.specs.Types.{Key, Value, Resolved, Refusal, Picture, ReadFault}
 use Rattle.iiif_machine.specs.Worlds.{owner_of}
 use Rattle.std.specs.Str.{bytes_eq}
@@ -17,7 +18,7 @@ use Rattle.iiif_tables.specs.Flights.{same_class}
 use Rattle.iiif_machine.specs.Sound.{CallerIsRight, facts, lead_in, IsHonest, StageIsHonest, ReplyIsHonest, NodeIsHonest, IsHonestWorld}
 use Rattle.iiif_machine.specs.Promises.{After}
 use Rattle.iiif_machine.proofs.Words.{Next}
-use Rattle.iiif_machine.proofs.Lists.{kept_same, get_left, each_map, each_one, each_of_all, get_end, get_map, position_found}
+use Rattle.iiif_machine.proofs.Lists.{kept_same, each_map, each_one, get_end, position_found}
 use Rattle.iiif_machine.proofs.Changes.{later_stage, node_set, stage_set, state_set, calls_add, flight_add, ask_add, reply_add, given_add, request_add, new_calls, new_call, new_lead}
 use Rattle.iiif_machine.proofs.Learning.{learned_honest, gathered, merged_honest}
 use Rattle.iiif_machine.proofs.Nodes.{put_honest, table_honest, enter_honest, again_honest, land_honest, value_honest}
@@ -58,10 +59,6 @@ wanted_kept w n p q (Ok r) laws h shown is =
 
 -- Enter
 
-both : (a b : Bool) → (a && b) ≡ true → (a ≡ true) × (b ≡ true)
-both true b h = (refl, h)
-both false b h = absurd cc
-
 classes_same : (a b : Class) → same_class a b ≡ true → a ≡ b
 classes_same Wide Wide h = refl
 classes_same Local Local h = refl
@@ -86,9 +83,9 @@ entered_kept w c who n joins t laws tables h at node e =
     after_bind (Next w) (position (is_open_for who) w.flights) (λ f. Some (with_state v1 c who (In f))) (λ f at_f.
     let there = position_found (is_open_for who) w.flights f at_f in
     let fl = there.0 in
-    let first = both (is_open fl.stage) _ there.2 in
-    let second = both (fl.lead.node == who.node) _ first.1 in
-    let third = both (key_eq fl.lead.key who.key) _ second.1 in
+    let first = and_parts (is_open fl.stage) _ there.2 in
+    let second = and_parts (fl.lead.node == who.node) _ first.1 in
+    let third = and_parts (key_eq fl.lead.key who.key) _ second.1 in
     next_by w {v = with_state v1 c who (In f)} refl refl refl (state_set v1 c who Fresh (In f) at h1
     (fl.lead, get_map lead_in w.flights f fl there.1, eqb-true fl.lead.node who.node second.0, laws.same_key fl.lead.key who.key third.0, classes_same fl.lead.class who.class third.1)))
 entered_kept w c who n (leads m) t laws tables h at node e =

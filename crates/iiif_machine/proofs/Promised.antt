@@ -1,7 +1,7 @@
 -- The promises.
 use Rattle.std.proofs.Common.{◌≡◌, ℕ, Bool, true, false, if◌then◌else◌, List, [], ◌∷◌, ◌++◌, Option, Some, None, Result, Ok, Err, refl, sym, ap, subst, ◌∙◌, ⊎_elim}
 use Rattle.std.specs.Prelude.{slice_get, length}
-use Rattle.std.proofs.lemmas.Option.{none-some}
+use Rattle.std.proofs.lemmas.Option.{none-some, same_Some}
 use Rattle.iiif_tables.specs.Flights as tables
 use Rattle.iiif_scene.specs.Scenes.{Scene}
 use Rattle.iiif_scene.specs.Keys.{is_tile}
@@ -22,7 +22,8 @@ use Rattle.iiif_machine.specs.Promises.{IsNew, RefusedAtOnce, EachStep, EachRun,
 use Rattle.iiif_canonical.specs.Images as images
 use Rattle.iiif_canonical.proofs.SameImages.{means_the_same}
 use Rattle.iiif_scene.proofs.Plans.{kind_is}
-use Rattle.iiif_machine.proofs.Lists.{some_same, each_nil, get_map, get_end}
+use Rattle.iiif_scene.proofs.Lists.{get_map}
+use Rattle.iiif_machine.proofs.Lists.{each_nil, get_end}
 use Rattle.iiif_machine.proofs.Learning.{bind_inv, learned_honest}
 use Rattle.iiif_machine.proofs.Steps.{step_kept}
 use Rattle.iiif_machine.proofs.Apart.{step_apart}
@@ -134,7 +135,7 @@ ok_same x a b e f = cc
 
 image_of : (s : Scene) (p o : Picture) (q : Request) (a : Picture) (name : List ℕ) → s.shows name ≡ Some o → s.shows name ≡ Some p → image s o q ≡ Ok a → images.image p q s.limits ≡ Ok a
 unfolding image
-image_of s p o q a name at there is = subst (λ x. images.image x q s.limits ≡ Ok a) (some_same o p (sym at ∙ there)) is
+image_of s p o q a name at there is = subst (λ x. images.image x q s.limits ≡ Ok a) (same_Some o p (sym at ∙ there)) is
 
 pub canonical_forms_agree : CanonicalFormsAgree
 canonical_forms_agree w i j q r a b p proper h at there name shown form =
@@ -166,8 +167,8 @@ refused_at_once w v i name q p e proper shown h stepped =
     let n = bind_inv (slice_get w.nodes i) _ v stepped in
     let o = bind_inv (w.scene.shows name) _ v n.2 in
     let m = bind_inv (speaker n.0 (version_shown o.0)) _ v o.2 in
-    let same : o.0 ≡ p = some_same o.0 p (sym o.1 ∙ shown) in
+    let same : o.0 ≡ p = same_Some o.0 p (sym o.1 ∙ shown) in
     let wish : Wish = record { node = i; name = name; request = q } in
-    let there : after_want w n.0 p wish (resolved w.scene p q) ≡ v = ap (λ x. after_want w n.0 x wish (resolved w.scene x q)) (sym same) ∙ some_same _ v m.2 in
+    let there : after_want w n.0 p wish (resolved w.scene p q) ≡ v = ap (λ x. after_want w n.0 x wish (resolved w.scene x q)) (sym same) ∙ same_Some _ v m.2 in
     subst (λ (x : World). slice_get x.requests (length w.requests) ≡ Some (record { wish = wish; progress = Answered (Refused e) })) there
     (refused_by w n.0 p wish (resolved w.scene p q) e (subject_laws w.scene proper) shown refl h)

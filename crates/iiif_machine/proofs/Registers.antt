@@ -1,7 +1,7 @@
 -- Which flights stand in the tables of nodes.
 use Rattle.std.proofs.Common.{◌≡◌, ℕ, zero, suc, List, [], ◌∷◌, ◌++◌, map, length, Bool, true, false, Some, ◌⊎◌, inl, inr, refl, sym, ap, subst, ◌∙◌, ⊎_elim, if◌then◌else◌}
 use Rattle.std.specs.Prelude.{slice_get, slice_set}
-use Rattle.std.proofs.lemmas.Option.{none-some}
+use Rattle.std.proofs.lemmas.Option.{none-some, same_Some}
 use Rattle.iiif_scene.specs.Keys.{is_tile}
 use Rattle.iiif_machine.specs.Types.{Key}
 use Rattle.iiif_machine.specs.Tables.{Table, IsOpen}
@@ -9,13 +9,12 @@ use Rattle.iiif_machine.specs.Rows.{Node, Lead, Flight, Stage, New, Looked, Aski
 use Rattle.iiif_machine.specs.Worlds.{World, table_at, put_table, resumed, resumed_stage}
 use Rattle.iiif_machine.specs.Steps.{is_open}
 use Rattle.iiif_machine.specs.Sound.{IsRegistered, IsSameCall, IsApart}
-use Rattle.iiif_machine.proofs.Lists.{some_same}
 use Rattle.iiif_machine.proofs.Learning.{get_mapped}
 
 -- what stands in a list after one is replaced
 pub set_cases : {A : Type 0} (xs : List A) (i j : ℕ) (x y : A) → slice_get (slice_set xs i y) j ≡ Some x → ((j ≡ i) × (x ≡ y)) ⊎ (slice_get xs j ≡ Some x)
 set_cases [] i j x y h = absurd (none-some x h)
-set_cases (z ∷ xs) zero zero x y h = inl (refl, sym (some_same y x h))
+set_cases (z ∷ xs) zero zero x y h = inl (refl, sym (same_Some y x h))
 set_cases (z ∷ xs) zero (suc j) x y h = inr h
 set_cases (z ∷ xs) (suc i) zero x y h = inr h
 set_cases (z ∷ xs) (suc i) (suc j) x y h = ⊎_elim (λ (e : (j ≡ i) × (x ≡ y)). inl (ap suc e.0, e.1)) (λ (e : slice_get xs j ≡ Some x). inr e) (set_cases xs i j x y h)
@@ -30,7 +29,7 @@ set_found (z ∷ xs) (suc i) (suc j) x y h =
     ⊎_elim (λ (e : (j ≡ i) × (slice_get (slice_set xs i y) j ≡ Some y)). inl (ap suc e.0, e.1)) (λ (e : slice_get (slice_set xs i y) j ≡ Some x). inr e) (set_found xs i j x y h)
 
 pub end_cases : {A : Type 0} (xs : List A) (j : ℕ) (x y : A) → slice_get (xs ++ y ∷ []) j ≡ Some x → ((j ≡ length xs) × (x ≡ y)) ⊎ (slice_get xs j ≡ Some x)
-end_cases [] zero x y h = inl (refl, sym (some_same y x h))
+end_cases [] zero x y h = inl (refl, sym (same_Some y x h))
 end_cases [] (suc j) x y h = absurd (none-some x h)
 end_cases (z ∷ xs) zero x y h = inr h
 end_cases (z ∷ xs) (suc j) x y h = ⊎_elim (λ (e : (j ≡ length xs) × (x ≡ y)). inl (ap suc e.0, e.1)) (λ (e : slice_get xs j ≡ Some x). inr e) (end_cases xs j x y h)
@@ -102,7 +101,7 @@ pub registered_put : (nodes : List Node) (i : ℕ) (n : Node) (k : Key) (t : Tab
 registered_put nodes i n k t l there keeps reg =
     ⊎_elim
     (λ (e : (l.node ≡ i) × (slice_get (slice_set nodes i (put_table n k t)) l.node ≡ Some (put_table n k t))).
-    let same : reg.0 ≡ n = some_same reg.0 n (sym reg.1 ∙ ap (slice_get nodes) e.0 ∙ there) in
+    let same : reg.0 ≡ n = same_Some reg.0 n (sym reg.1 ∙ ap (slice_get nodes) e.0 ∙ there) in
     let open_in : IsOpen (table_at n l.key) l.key l.class l.ticket = subst (λ (m : Node). IsOpen (table_at m l.key) l.key l.class l.ticket) same reg.2 in
     (put_table n k t, e.1, put_at n t (is_tile k) (is_tile l.key) (λ u. IsOpen u l.key l.class l.ticket) (keeps e.0) open_in))
     (λ (e : slice_get (slice_set nodes i (put_table n k t)) l.node ≡ Some reg.0). (reg.0, e, reg.2))

@@ -1,23 +1,24 @@
 -- The owner as a function is the ring's owner, and it is a node's name.
 use Rattle.std.proofs.Common.{◌≡◌, ℕ, zero, suc, ◌-◌, ◌<◌, ◌≤◌, ◌⊎◌, inl, inr, List, [], ◌∷◌, length, min, fold, Bool, true, false, Some, refl, sym, ap, subst, ◌∙◌, ⊎_elim, arith, if◌then◌else◌}
-use Rattle.std.specs.Prelude.{slice_get, position, ◌==◌, ◌&&◌, ◌||◌, nat_lt}
+use Rattle.std.specs.Prelude.{slice_get, position, ◌==◌, ◌&&◌, nat_lt}
 use Rattle.std.specs.Str.{bytes_eq}
 use Rattle.std.specs.Ordering.{is_gt, nat_cmp}
 use Rattle.std.specs.Cmp.Lexicographic.{slice_cmp}
 use Rattle.std.proofs.Math.Nat.{min-le_left, min-le_right}
-use Rattle.std.proofs.lemmas.Bool.{cases_lt, ltb-true, lt-ltb, eqb-true, eqb-false}
+use Rattle.std.proofs.lemmas.Bool.{cases_lt, ltb-true, lt-ltb, eqb-true, eqb-false, and_parts, or_cases, or_parts}
 use Rattle.std.proofs.lemmas.Slice.Eq.{bytes_eq-Decides}
-use Rattle.std.proofs.lemmas.Option.{slice_get_within, get_or_from_slice_get, slice_get-get_or}
+use Rattle.std.proofs.lemmas.Option.{slice_get_within, get_or_from_slice_get, slice_get-get_or, same_Some}
 use Rattle.iiif_ring.specs.Owner.{replicas, distance_from, IsUpTo}
 use Rattle.iiif_ring.proofs.Names.{IsUpTo-refl, IsUpTo-trans, IsUpTo-other}
 use Rattle.iiif_scene.specs.Keys.{key_bytes}
+use Rattle.iiif_scene.proofs.Lists.{get_map}
 use Rattle.iiif_machine.specs.Types.{Key}
 use Rattle.iiif_machine.specs.Owners.{least, nearest, is_before, first_of, owner}
 use Rattle.iiif_machine.specs.Rows.{Node}
 use Rattle.iiif_machine.specs.Worlds.{World, owner_of}
 use Rattle.iiif_machine.specs.Sound.{Each, card_of, IsPlaced}
 use Rattle.iiif_machine.specs.Promises.{OwnerIsTheRings}
-use Rattle.iiif_machine.proofs.Lists.{each_nil, each_cons, some_same, get_map}
+use Rattle.iiif_machine.proofs.Lists.{each_nil, each_cons}
 use Rattle.iiif_machine.proofs.Learning.{get_mapped}
 use Rattle.iiif_machine.proofs.Listed.{position_there}
 
@@ -60,18 +61,6 @@ before_trans key a b c p q =
     (λ (y : nearest key b < nearest key c). inl (omega arith))
     (λ (y : (nearest key b ≡ nearest key c) × IsUpTo b c). inr (d ∙ y.0, IsUpTo-trans a b c x.1 y.1)) q) p
 
-or_cases : (a b : Bool) → (a || b) ≡ true → (a ≡ true) ⊎ (b ≡ true)
-or_cases true b h = inl refl
-or_cases false b h = inr h
-
-or_not : (a b : Bool) → (a || b) ≡ false → (a ≡ false) × (b ≡ false)
-or_not true b h = absurd cc
-or_not false b h = (refl, h)
-
-and_both : (a b : Bool) → (a && b) ≡ true → (a ≡ true) × (b ≡ true)
-and_both true b h = (refl, h)
-and_both false b h = absurd cc
-
 not_both : (a b : Bool) → (a && b) ≡ false → a ≡ true → b ≡ false
 not_both true b h e = h
 not_both false b h e = absurd cc
@@ -81,13 +70,13 @@ is_before_is key a b h =
     ⊎_elim
     (λ (nearer : nat_lt (nearest key a) (nearest key b) ≡ true). inl (ltb-true (nearest key a) (nearest key b) nearer))
     (λ (level : ((nearest key a == nearest key b) && is_gt (slice_cmp nat_cmp b a)) ≡ true).
-    let both = and_both (nearest key a == nearest key b) (is_gt (slice_cmp nat_cmp b a)) level in
+    let both = and_parts (nearest key a == nearest key b) (is_gt (slice_cmp nat_cmp b a)) level in
     inr (eqb-true (nearest key a) (nearest key b) both.0, IsUpTo-other b a both.1))
     (or_cases (nat_lt (nearest key a) (nearest key b)) _ h)
 
 not_before_is : (key a b : List ℕ) → is_before key a b ≡ false → Before key b a
 not_before_is key a b h =
-    let nots = or_not (nat_lt (nearest key a) (nearest key b)) _ h in
+    let nots = or_parts (nat_lt (nearest key a) (nearest key b)) _ h in
     ⊎_elim
     (λ (nearer : nearest key a < nearest key b). (let yes = lt-ltb (nearest key a) (nearest key b) nearer in let no = nots.0 in absurd cc))
     (λ (far : nearest key b ≤ nearest key a). ⊎_elim
@@ -138,7 +127,7 @@ fold_leads key name (next ∷ names) =
     place : (key name next : List ℕ) (names : List (List ℕ)) (r : List ℕ) → (first_of key name next ≡ name) ⊎ (first_of key name next ≡ next) → (i : ℕ) →
         slice_get (first_of key name next ∷ names) i ≡ Some r → (j : ℕ) × (slice_get (name ∷ next ∷ names) j ≡ Some r)
     place key name next names r one zero h =
-        let same = some_same (first_of key name next) r h in
+        let same = same_Some (first_of key name next) r h in
         ⊎_elim
         (λ (e : first_of key name next ≡ name). (0, ap Some (sym e ∙ same)))
         (λ (e : first_of key name next ≡ next). (1, ap Some (sym e ∙ same))) one

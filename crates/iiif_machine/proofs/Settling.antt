@@ -1,8 +1,10 @@
 -- After some call has learned, what holds goes on to hold.
 use Rattle.std.proofs.Common.{◌≡◌, ℕ, List, [], ◌∷◌, Option, Some, None, Ok, refl, sym, subst, ◌∙◌}
 use Rattle.std.specs.Prelude.{slice_get}
+use Rattle.std.proofs.lemmas.Option.{same_Some}
 use Rattle.iiif_scene.specs.Keys.{name_of}
 use Rattle.iiif_scene.specs.Plans.{items, resolved}
+use Rattle.iiif_scene.proofs.Lists.{each_of_all, get_map}
 use Rattle.iiif_machine.specs.Types.{Resolved, Picture}
 use Rattle.iiif_machine.proofs.Words.{SubjectLaws}
 use Rattle.iiif_machine.specs.Tables.{Wide, Outcome}
@@ -11,7 +13,7 @@ use Rattle.iiif_machine.specs.Worlds.{World, learned, all_learned, collected, re
 use Rattle.iiif_machine.specs.Sound.{facts, lead_in, IsHonest, AreOf, StageIsHonest, FlightIsHonest, ProgressIsHonest, IsHonestWorld}
 use Rattle.iiif_machine.proofs.Words.{Goes}
 use Rattle.iiif_machine.proofs.Words.{Next, Later}
-use Rattle.iiif_machine.proofs.Lists.{some_same, each_map, each_of_all, map_same, kept_same, get_map}
+use Rattle.iiif_machine.proofs.Lists.{each_map, map_same, kept_same}
 use Rattle.iiif_machine.proofs.Growth.{flights_later, calls_later, requests_later, asks_later}
 use Rattle.iiif_machine.proofs.Learning.{learned_honest, gathered, answer_right}
 
@@ -38,7 +40,7 @@ answered_honest : (w : World) (q : Wish) (r : Resolved) (cs : List ℕ) (x : Opt
     ProgressIsHonest w.scene (facts w) q (answered_with w q r cs x y)
 answered_honest w q r cs (Some p) (Some os) laws h shown e is =
     let s = w.scene in
-    let same : is.0 ≡ p = some_same is.0 p (sym is.1 ∙ shown) in
+    let same : is.0 ≡ p = same_Some is.0 p (sym is.1 ∙ shown) in
     let solved : resolved s p q.request ≡ Ok r = subst (λ x. resolved s x q.request ≡ Ok r) same is.2 in
     let are : AreOf (facts w).callers q.node cs (items s q.name p r) = subst (λ x. AreOf (facts w).callers q.node cs (items s q.name x r)) same is.3 in
     let named = each_of_all (λ k. name_of k ≡ q.name) (items s q.name p r) (laws.items_named q.name p q.request r shown solved) in

@@ -3,13 +3,14 @@ use Rattle.std.proofs.Common.{[], ◌∷◌, refl}
 use Rattle.std.specs.Prelude.{slice_get}
 use Rattle.iiif_scene.specs.Keys.{parts_of}
 use Rattle.iiif_scene.specs.Plans.{resolved}
+use Rattle.iiif_scene.proofs.Lists.{get_map}
 use Rattle.iiif_machine.specs.Worlds.{version_shown, speaker, with_node, with_calls}
 use Rattle.iiif_machine.specs.Steps.{Want, Enter, Again, AskPeer, Serve, Take, Lose, GoLocal, Load, SourceFault, Land, Evict, Stop, caller_serving, node_without, step}
 use Rattle.iiif_machine.specs.declared.events.Event.TheVariants as event
 use Rattle.iiif_machine.specs.Sound.{CallerIsRight, facts, caller_of}
 use Rattle.iiif_machine.proofs.Words.{Next}
 use Rattle.iiif_machine.proofs.Words.{StepsStayHonest}
-use Rattle.iiif_machine.proofs.Lists.{each_one, get_map}
+use Rattle.iiif_machine.proofs.Lists.{each_one}
 use Rattle.iiif_machine.proofs.Settling.{next_by}
 use Rattle.iiif_machine.proofs.Changes.{node_set, calls_add}
 use Rattle.iiif_machine.proofs.Nodes.{lost_honest}

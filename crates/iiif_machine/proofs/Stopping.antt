@@ -2,6 +2,7 @@
 use Rattle.std.proofs.Common.{◌≡◌, ℕ, Bool, true, false, Some, refl, ap, ◌∙◌, if◌then◌else◌}
 use Rattle.std.specs.Prelude.{◌==◌}
 use Rattle.iiif_scene.specs.Scenes.{Scene}
+use Rattle.iiif_scene.proofs.Lists.{get_map}
 use Rattle.iiif_machine.proofs.Words.{TableLaws}
 use Rattle.iiif_machine.specs.Rows.{Node, Gone, Call, Lead, Stage, New, Looked, Asking, Fallback, Parts, Ready, Ended, Flight, Wish, Answer, Progress, Waiting, Answered, Dropped, Wanted}
 use Rattle.iiif_machine.specs.Worlds.{World}
@@ -9,7 +10,7 @@ use Rattle.iiif_machine.specs.Steps.{stage_stopped, flight_stopped, call_stopped
 use Rattle.iiif_machine.specs.Sound.{Facts, facts, caller_of, lead_in, StageIsHonest, FlightIsHonest, CallIsHonest, ProgressIsHonest, IsHonestWorld}
 use Rattle.iiif_machine.proofs.Words.{Goes}
 use Rattle.iiif_machine.proofs.Words.{Later}
-use Rattle.iiif_machine.proofs.Lists.{each_map, each_set, map_same, kept_same, get_map}
+use Rattle.iiif_machine.proofs.Lists.{each_map, each_set, map_same, kept_same}
 use Rattle.iiif_machine.proofs.Growth.{flights_later, calls_later, requests_later, asks_later}
 use Rattle.iiif_machine.proofs.Nodes.{emptied_honest}
 

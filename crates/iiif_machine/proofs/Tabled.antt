@@ -3,15 +3,16 @@ use Rattle.std.proofs.Common.{◌≡◌, ℕ, zero, suc, ◌+◌, ◌-◌, List,
 use Rattle.std.specs.Prelude.{cond, ◌==◌, ◌%◌, nat_lt}
 use Rattle.std.specs.Option.{option_map_or, option_or}
 use Rattle.std.specs.Map.{lookup, lookup_entry, remove_entry}
-use Rattle.std.proofs.lemmas.Option.{none-some}
+use Rattle.std.proofs.lemmas.Option.{none-some, same_Some}
 use Rattle.iiif_tables.specs.Cache.{Kept, Cache, Side, main_side, hot_side, kept_for, touch, to_front, without, placed, replaced, added_to, but_oldest, hot_is_large, evict, evict_at_most, shrink, is_too_big, put}
 use Rattle.iiif_tables.specs.Flights as tables
 use Rattle.iiif_scene.specs.Keys.{key_eq, entry_size}
 use Rattle.iiif_machine.specs.Types.{Key, Value}
 use Rattle.iiif_machine.specs.Tables.{Class, Place, Nowhere, Main, Peer, Outcome, Table, Entered, finds, met, value_of, enter, again, land, evicted, emptied, Lists, Holds}
 use Rattle.iiif_machine.specs.Sound.{Each}
-use Rattle.iiif_machine.proofs.Lists.{some_same, each_nil, each_cons, each_tail}
+use Rattle.iiif_machine.proofs.Lists.{each_nil, each_cons}
 use Rattle.iiif_scene.proofs.KeyParts.{same_key}
+use Rattle.iiif_scene.proofs.Lists.{each_tail}
 
 abbrev Row : Type 0
 Row = Key × Kept Value
@@ -36,7 +37,7 @@ each_take P (suc n) (e ∷ es) h = each_cons P e (take n es) (h zero e refl) (ea
 entry_is : (P : Row → Type 0) (test : Key → Bool) (es : List Row) (e : Row) → Each P es → lookup_entry test es ≡ Some e → P e
 entry_is P test [] e h found = absurd (none-some e found)
 entry_is P test (x ∷ es) e h found = (elim (test x.0) as (λ b. cond b (Some x) (lookup_entry test es) ≡ Some e → P e) [
-  | true ↦ λ f. subst P (some_same x e f) (h zero x refl)
+  | true ↦ λ f. subst P (same_Some x e f) (h zero x refl)
   | false ↦ λ f. entry_is P test es e (each_tail P x es h) f
 ]) found
 
@@ -129,7 +130,7 @@ all_held t = (λ i x at. inl (i, x.1.ticket, at), λ i x at. inr (i, x.1.ticket,
 lookup_is : (Q : Key → Value → Type 0) (k : Key) (es : List Row) (e : Kept Value) → Each (λ x. Q x.0 x.1.value) es → lookup (key_eq k) es ≡ Some e → Q k e.value
 lookup_is Q k [] e h found = absurd (none-some e found)
 lookup_is Q k (x ∷ es) e h found = (elim (key_eq k x.0) as (λ b. key_eq k x.0 ≡ b → cond b (Some x.1) (lookup (key_eq k) es) ≡ Some e → Q k e.value) [
-  | true ↦ λ same f. subst (λ (y : Kept Value). Q k y.value) (some_same x.1 e f) (subst (λ q. Q q x.1.value) (sym (same_key k x.0 same)) (h zero x refl))
+  | true ↦ λ same f. subst (λ (y : Kept Value). Q k y.value) (same_Some x.1 e f) (subst (λ q. Q q x.1.value) (sym (same_key k x.0 same)) (h zero x refl))
   | false ↦ λ same f. lookup_is Q k es e (each_tail _ x es h) f
 ]) refl found
 
@@ -183,7 +184,7 @@ again_holds t k q c n v has = rows_of (Holds t) (again t k c n).1 (again_kept (�
 
 looking_found : (t : Table) (k : Key) (c : Class) (n : ℕ) (v : Value) (x : Option (Kept Value)) → kept_for key_eq k t.cache ≡ x → (tables.looking key_eq c k n x t).0 ≡ Some v → Holds t k v
 looking_found t k c n v None is h = absurd (none-some v h)
-looking_found t k c n v (Some e) is h = subst (Holds t k) (some_same e.value v h) (kept_is t k e is)
+looking_found t k c n v (Some e) is h = subst (Holds t k) (same_Some e.value v h) (kept_is t k e is)
 
 pub again_found : (t t' : Table) (k : Key) (c : Class) (n : ℕ) (v : Value) → again t k c n ≡ (Some v, t') → Holds t k v
 unfolding again tables.again
@@ -196,7 +197,7 @@ again_found t t' k c n v h = (elim (tables.has_ticket n (t.flights c k)) as
 -- Land
 
 valued : (o : Outcome) (v : Value) → value_of o ≡ Some v → o ≡ Ok v
-valued (Ok u) v h = ap Ok (some_same u v h)
+valued (Ok u) v h = ap Ok (same_Some u v h)
 valued (Err f) v h = absurd (none-some v h)
 
 pub land_holds : (t : Table) (k q : Key) (c : Class) (n : ℕ) (o : Outcome) (p : Place) (kept : Bool) (v : Value) → Holds (land t k c n o p kept) q v → Holds t q v ⊎ ((q ≡ k) × (o ≡ Ok v))

@@ -4,6 +4,7 @@ use Rattle.std.specs.Prelude.{position, not, ◌&&◌, if◌then◌else◌}
 use Rattle.std.specs.List.{remove}
 use Rattle.std.proofs.lemmas.Option.{none-some}
 use Rattle.std.proofs.lemmas.List.Quantifiers.{position-Some}
+use Rattle.std.proofs.lemmas.Bool.{and_parts}
 use mathlib.Core.Path.{fun_ext}
 use Rattle.iiif_tables.specs.Flights as tables
 use Rattle.iiif_tables.specs.declared.table.Class.{Class}
@@ -14,7 +15,7 @@ use Rattle.iiif_scene.proofs.KeyParts.{same_key}
 use Rattle.iiif_scene.proofs.KeyParts.{key_same}
 use Rattle.iiif_plain_tables.specs.declared.plain.OpenFlight.{OpenFlight}
 use Rattle.iiif_plain_tables.specs.Open.{is_named, seen, flight_in, are_once}
-use Rattle.iiif_plain_tables.proofs.Opening.{both_true, is_none}
+use Rattle.iiif_plain_tables.proofs.Opening.{is_none}
 
 pub same_one : (a b : Class) → tables.same_class a b ≡ true → a ≡ b
 same_one Wide Wide h = refl
@@ -24,16 +25,16 @@ same_one Local Wide h = absurd cc
 
 -- a flight that is named so has this class and key
 named : (c : Class) (k : Key) (f : OpenFlight) → is_named c k f ≡ true → (f.class ≡ c) × (f.key ≡ k)
-named c k f h = let p = both_true (tables.same_class f.class c) (key_eq f.key k) h in (same_one f.class c p.0, same_key f.key k p.1)
+named c k f h = let p = and_parts (tables.same_class f.class c) (key_eq f.key k) h in (same_one f.class c p.0, same_key f.key k p.1)
 
 none_under : (g : OpenFlight) (fs : List OpenFlight) (c : Class) (k : Key) → are_once (g ∷ fs) ≡ true → is_named c k g ≡ true → flight_in fs c k ≡ None
 none_under g fs c k once pass =
-    let p = both_true (not (is_some (flight_in fs g.class g.key))) (are_once fs) once in
+    let p = and_parts (not (is_some (flight_in fs g.class g.key))) (are_once fs) once in
     let n = named c k g pass in
     subst (λ x. flight_in fs x k ≡ None) n.0 (subst (λ x. flight_in fs g.class x ≡ None) n.1 (is_none (flight_in fs g.class g.key) p.0))
 
 under : (g : OpenFlight) (fs : List OpenFlight) → are_once (g ∷ fs) ≡ true → are_once fs ≡ true
-under g fs once = (both_true (not (is_some (flight_in fs g.class g.key))) (are_once fs) once).1
+under g fs once = (and_parts (not (is_some (flight_in fs g.class g.key))) (are_once fs) once).1
 
 -- the first flight of a class and a key stands at this place
 pub record First (c : Class) (k : Key) (fs : List OpenFlight) (i : ℕ) : Type 0 where
@@ -91,7 +92,7 @@ at_each : (c d : Class) (k q : Key) (fs : List OpenFlight) (i : ℕ) → First c
     flight_in (remove fs i) d q ≡ cond b None (flight_in fs d q)
 at_each c d k q fs i p once false e = others_stay c d k q fs i p e
 at_each c d k q fs i p once true e =
-    let s = both_true (tables.same_class c d) (key_eq k q) e in
+    let s = and_parts (tables.same_class c d) (key_eq k q) e in
     subst (λ x. flight_in (remove fs i) x q ≡ None) (same_one c d s.0) (subst (λ x. flight_in (remove fs i) c x ≡ None) (same_key k q s.1) (none_left c k fs i p once))
 
 pub closed : (c : Class) (k : Key) (fs : List OpenFlight) (i : ℕ) → position (is_named c k) fs ≡ Some i → are_once fs ≡ true →
@@ -116,7 +117,7 @@ once_less [] zero h = refl
 once_less [] (suc i) h = refl
 once_less (g ∷ fs) zero h = under g fs h
 once_less (g ∷ fs) (suc i) h =
-    let p = both_true (not (is_some (flight_in fs g.class g.key))) (are_once fs) h in
+    let p = and_parts (not (is_some (flight_in fs g.class g.key))) (are_once fs) h in
     ap (λ (y : Option tables.Flight). not (is_some y) && are_once (remove fs i)) (still_none g.class g.key fs i (is_none (flight_in fs g.class g.key) p.0))
     ∙ once_less fs i p.1
 

@@ -1,7 +1,8 @@
 -- The open flights of a table, after the leader of one of them has found its value.
 use Rattle.std.proofs.Common.{◌≡◌, ℕ, zero, suc, Bool, true, false, cond, List, [], ◌∷◌, Option, Some, None, refl, sym, ap, subst, ◌∙◌, is_some, arith}
 use Rattle.std.specs.Prelude.{slice_get, slice_set, position, not, ◌&&◌, ◌==◌, if◌then◌else◌}
-use Rattle.std.proofs.lemmas.Option.{none-some}
+use Rattle.std.proofs.lemmas.Option.{none-some, same_Some}
+use Rattle.std.proofs.lemmas.Bool.{and_parts}
 use mathlib.Core.Path.{fun_ext}
 use Rattle.iiif_tables.specs.Cache.{Cache, Kept, kept_for}
 use Rattle.iiif_tables.specs.Flights as tables
@@ -13,10 +14,8 @@ use Rattle.iiif_scene.specs.declared.keys.Value.{Value}
 use Rattle.iiif_scene.specs.Keys.{key_eq}
 use Rattle.iiif_scene.proofs.KeyParts.{same_key}
 use Rattle.iiif_machine.specs.Tables.{Table}
-use Rattle.iiif_machine.proofs.Lists.{some_same}
 use Rattle.iiif_plain_tables.specs.declared.plain.OpenFlight.{OpenFlight}
 use Rattle.iiif_plain_tables.specs.Open.{is_named, seen, flight_in, are_once}
-use Rattle.iiif_plain_tables.proofs.Opening.{both_true}
 use Rattle.iiif_plain_tables.proofs.Closing.{same_one, First, first_under, first_is, Apart, not_both}
 
 abbrev pub as_found : OpenFlight → OpenFlight
@@ -26,7 +25,7 @@ mark_here : (c : Class) (k : Key) (fs : List OpenFlight) (i : ℕ) (f : OpenFlig
     flight_in (slice_set fs i (as_found f)) c k ≡ Some (seen (as_found f))
 mark_here c k [] i f p at = absurd (none-some f at)
 mark_here c k (g ∷ fs) zero f p at =
-    let same = some_same g f at in
+    let same = same_Some g f at in
     ap (λ b. if b then Some (seen (as_found f)) else flight_in fs c k) (ap (is_named c k) (sym same) ∙ p.pass g)
 mark_here c k (g ∷ fs) (suc i) f p at =
     ap (λ b. if b then Some (seen g) else flight_in (slice_set fs i (as_found f)) c k) (p.before g zero (omega arith))
@@ -36,7 +35,7 @@ others_kept : (c d : Class) (k q : Key) (fs : List OpenFlight) (i : ℕ) (f : Op
     flight_in (slice_set fs i (as_found f)) d q ≡ flight_in fs d q
 others_kept c d k q [] i f p at apart = absurd (none-some f at)
 others_kept c d k q (g ∷ fs) zero f p at apart =
-    let same = some_same g f at in
+    let same = same_Some g f at in
     let far = not_both c d k q g apart (p.pass g) (is_named d q g) refl in
     ap (λ b. if b then Some (seen (as_found f)) else flight_in fs d q) (ap (is_named d q) (sym same) ∙ far)
     ∙ sym (ap (λ b. if b then Some (seen g) else flight_in fs d q) far)
@@ -54,7 +53,7 @@ at_each : (c d : Class) (k q : Key) (fs : List OpenFlight) (i : ℕ) (f : OpenFl
     (b : Bool) → (tables.same_class c d && key_eq k q) ≡ b → flight_in (slice_set fs i (as_found f)) d q ≡ cond b (Some (seen (as_found f))) (flight_in fs d q)
 at_each c d k q fs i f p at false e = others_kept c d k q fs i f p at e
 at_each c d k q fs i f p at true e =
-    let s = both_true (tables.same_class c d) (key_eq k q) e in
+    let s = and_parts (tables.same_class c d) (key_eq k q) e in
     let new = slice_set fs i (as_found f) in
     subst (λ x. flight_in new x q ≡ Some (seen (as_found f))) (same_one c d s.0)
     (subst (λ x. flight_in new c x ≡ Some (seen (as_found f))) (same_key k q s.1) (mark_here c k fs i f p at))
@@ -68,7 +67,7 @@ there_too : (d : Class) (q : Key) (fs : List OpenFlight) (i : ℕ) (f : OpenFlig
     is_some (flight_in (slice_set fs i (as_found f)) d q) ≡ is_some (flight_in fs d q)
 there_too d q [] i f at = absurd (none-some f at)
 there_too d q (g ∷ fs) zero f at =
-    let same = some_same g f at in
+    let same = same_Some g f at in
     subst (λ x. is_some (if is_named d q x then Some (seen (as_found x)) else flight_in fs d q) ≡ is_some (if is_named d q g then Some (seen g) else flight_in fs d q)) same
     (elim (is_named d q g) as (λ b. is_some (if b then Some (seen (as_found g)) else flight_in fs d q) ≡ is_some (if b then Some (seen g) else flight_in fs d q)) [
       | true ↦ refl
@@ -83,7 +82,7 @@ there_too d q (g ∷ fs) (suc i) f at = elim (is_named d q g)
 pub once_marked : (fs : List OpenFlight) (i : ℕ) (f : OpenFlight) → slice_get fs i ≡ Some f → are_once (slice_set fs i (as_found f)) ≡ are_once fs
 once_marked [] i f at = absurd (none-some f at)
 once_marked (g ∷ fs) zero f at =
-    let same = some_same g f at in
+    let same = same_Some g f at in
     subst (λ x. (not (is_some (flight_in fs x.class x.key)) && are_once fs) ≡ (not (is_some (flight_in fs g.class g.key)) && are_once fs)) same refl
 once_marked (g ∷ fs) (suc i) f at =
     ap (λ b. not b && are_once (slice_set fs i (as_found f))) (there_too g.class g.key fs i f at)

@@ -1,8 +1,7 @@
 -- Lists of which the first so many elements are changed.
 use Rattle.std.proofs.Common.{◌≡◌, ℕ, zero, suc, ◌+◌, ◌≤◌, ◌<◌, List, [], ◌∷◌, map, length, Some, refl, sym, ap, ◌∙◌, arith, get_or}
 use Rattle.std.specs.Prelude.{slice_get, slice_set}
-use Rattle.std.proofs.lemmas.Option.{none-some, get_or_from_slice_get}
-use Rattle.iiif_machine.proofs.Lists.{some_same}
+use Rattle.std.proofs.lemmas.Option.{none-some, get_or_from_slice_get, same_Some}
 
 -- the first so many changed
 abbrev pub mixed : {A : Type 0} → (A → A) → ℕ → List A → List A
@@ -12,7 +11,7 @@ mixed g (suc i) (x ∷ xs) = g x ∷ mixed g i xs
 
 pub mixed_more : {A : Type 0} (g : A → A) (i : ℕ) (xs : List A) (x : A) → slice_get xs i ≡ Some x → slice_set (mixed g i xs) i (g x) ≡ mixed g (suc i) xs
 mixed_more g zero [] x h = absurd (none-some x h)
-mixed_more g zero (y ∷ xs) x h = ap (λ z. g z ∷ xs) (sym (some_same y x h))
+mixed_more g zero (y ∷ xs) x h = ap (λ z. g z ∷ xs) (sym (same_Some y x h))
 mixed_more g (suc i) [] x h = absurd (none-some x h)
 mixed_more g (suc i) (y ∷ xs) x h = ap (λ l. g y ∷ l) (mixed_more g i xs x h)
 

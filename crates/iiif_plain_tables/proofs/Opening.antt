@@ -3,10 +3,10 @@ use Rattle.std.proofs.Common.{◌≡◌, ℕ, zero, suc, ◌+◌, ◌<◌, ◌�
 use Rattle.std.specs.Prelude.{slice_get, position, not, ◌&&◌, if◌then◌else◌}
 use Rattle.std.specs.List.{position_or_len}
 use Rattle.std.specs.Option.{option_or}
-use Rattle.std.proofs.lemmas.Option.{none-some, get_or_from_slice_get, slice_get-get_or}
+use Rattle.std.proofs.lemmas.Option.{none-some, get_or_from_slice_get, slice_get-get_or, same_Some}
 use Rattle.std.proofs.lemmas.List.Quantifiers.{position-Some}
 use Rattle.std.proofs.lemmas.List.Sums.{fails_before_first}
-use Rattle.std.proofs.lemmas.Bool.{ltb-false}
+use Rattle.std.proofs.lemmas.Bool.{ltb-false, and_parts}
 use mathlib.Core.Path.{fun_ext}
 use Rattle.iiif_tables.specs.Cache.{Cache, Kept, kept_for}
 use Rattle.iiif_tables.specs.Flights as tables
@@ -17,7 +17,6 @@ use Rattle.iiif_scene.specs.declared.keys.Key.{Key}
 use Rattle.iiif_scene.specs.declared.keys.Value.{Value}
 use Rattle.iiif_scene.specs.Keys.{key_eq}
 use Rattle.iiif_machine.specs.Tables.{Table}
-use Rattle.iiif_machine.proofs.Lists.{some_same}
 use Rattle.iiif_scene.proofs.KeyParts.{same_key}
 use Rattle.iiif_scene.proofs.KeyParts.{key_same}
 use Rattle.iiif_plain_tables.specs.declared.plain.OpenFlight.{OpenFlight}
@@ -73,10 +72,6 @@ named_sym f g = by f.class g.class
     by Wide Local = refl
     by Local Wide = refl
 
-pub both_true : (a b : Bool) → (a && b) ≡ true → (a ≡ true) × (b ≡ true)
-both_true true b h = (refl, h)
-both_true false b h = absurd cc
-
 pub is_none : (x : Maybe) → not (is_some x) ≡ true → x ≡ None
 is_none None h = refl
 is_none (Some f) h = absurd cc
@@ -88,7 +83,7 @@ not_named false x y h = (refl, h)
 pub once_more : (fs : List OpenFlight) (f : OpenFlight) → are_once fs ≡ true → flight_in fs f.class f.key ≡ None → are_once (fs ++ f ∷ []) ≡ true
 once_more [] f h none = refl
 once_more (g ∷ fs) f h none =
-    let p = both_true (not (is_some (flight_in fs g.class g.key))) (are_once fs) h in
+    let p = and_parts (not (is_some (flight_in fs g.class g.key))) (are_once fs) h in
     let q = not_named (is_named f.class f.key g) (seen g) (flight_in fs f.class f.key) none in
     let away : is_named g.class g.key f ≡ false = sym (named_sym f g) ∙ q.0 in
     let gone : flight_in (fs ++ f ∷ []) g.class g.key ≡ None =
@@ -101,7 +96,7 @@ flight_at : (c : Class) (k : Key) (fs : List OpenFlight) (i : ℕ) (f : OpenFlig
     ((j : ℕ) → j < i → is_named c k (get_or fs j f) ≡ false) → flight_in fs c k ≡ Some (seen f)
 flight_at c k [] i f at pass h = absurd (none-some f at)
 flight_at c k (g ∷ fs) zero f at pass h =
-    let same : g ≡ f = some_same g f at in
+    let same : g ≡ f = same_Some g f at in
     ap (λ (x : OpenFlight). if is_named c k x then Some (seen x) else flight_in fs c k) same ∙ ap (λ b. if b then Some (seen f) else flight_in fs c k) pass
 flight_at c k (g ∷ fs) (suc i) f at pass h =
     ap (λ b. if b then Some (seen g) else flight_in fs c k) (h zero (omega arith))

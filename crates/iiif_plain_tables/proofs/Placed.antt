@@ -4,7 +4,7 @@ use Rattle.std.specs.Prelude.{slice_get, position}
 use Rattle.std.specs.List.{insert, remove, position_or_len}
 use Rattle.std.specs.Map.{lookup, lookup_entry, remove_entry}
 use Rattle.std.specs.Option.{option_map_or}
-use Rattle.std.proofs.lemmas.Option.{none-some, get_or_from_slice_get, slice_get_within, slice_get-get_or}
+use Rattle.std.proofs.lemmas.Option.{none-some, get_or_from_slice_get, slice_get_within, slice_get-get_or, same_Some}
 use Rattle.std.proofs.lemmas.List.Quantifiers.{position-Some}
 use Rattle.std.proofs.lemmas.List.Sums.{fails_before_first}
 use Rattle.std.proofs.lemmas.Bool.{ltb-false, lt-ltb, le-ltb}
@@ -13,7 +13,6 @@ use Rattle.iiif_scene.specs.declared.keys.Key.{Key}
 use Rattle.iiif_scene.specs.declared.keys.Value.{Value}
 use Rattle.iiif_scene.specs.Keys.{key_eq, entry_size}
 use Rattle.iiif_tables.proofs.CacheLaws.{same_cache}
-use Rattle.iiif_machine.proofs.Lists.{some_same}
 use Rattle.iiif_plain_tables.specs.declared.listing.Entry.{Entry}
 use Rattle.iiif_plain_tables.specs.Rows.{entry_of, rows}
 
@@ -31,7 +30,7 @@ module _ (p : Key → Bool) where
   pub entry_at : (es : List Entry) (i : ℕ) (e : Entry) → slice_get es i ≡ Some e → is_for e ≡ true → Before es i e → lookup_entry p (rows es) ≡ Some (entry_of e)
   entry_at [] i e at pass h = absurd (none-some e at)
   entry_at (x ∷ es) zero e at pass h =
-      let same : x ≡ e = some_same x e at in
+      let same : x ≡ e = same_Some x e at in
       let test : p x.key ≡ true = subst (λ (y : Entry). p y.key ≡ true) (sym same) pass in
       ap (λ b. cond b (Some (entry_of x)) (lookup_entry p (rows es))) test ∙ ap (λ (y : Entry). Some (entry_of y)) same
   entry_at (x ∷ es) (suc i) e at pass h =
@@ -41,7 +40,7 @@ module _ (p : Key → Bool) where
   pub value_at : (es : List Entry) (i : ℕ) (e : Entry) → slice_get es i ≡ Some e → is_for e ≡ true → Before es i e → lookup p (rows es) ≡ Some (entry_of e).1
   value_at [] i e at pass h = absurd (none-some e at)
   value_at (x ∷ es) zero e at pass h =
-      let same : x ≡ e = some_same x e at in
+      let same : x ≡ e = same_Some x e at in
       let test : p x.key ≡ true = subst (λ (y : Entry). p y.key ≡ true) (sym same) pass in
       ap (λ b. cond b (Some (entry_of x).1) (lookup p (rows es))) test ∙ ap (λ (y : Entry). Some (entry_of y).1) same
   value_at (x ∷ es) (suc i) e at pass h =
@@ -51,7 +50,7 @@ module _ (p : Key → Bool) where
   pub others_at : (es : List Entry) (i : ℕ) (e : Entry) → slice_get es i ≡ Some e → is_for e ≡ true → Before es i e → remove_entry p (rows es) ≡ rows (remove es i)
   others_at [] i e at pass h = absurd (none-some e at)
   others_at (x ∷ es) zero e at pass h =
-      let same : x ≡ e = some_same x e at in
+      let same : x ≡ e = same_Some x e at in
       let test : p x.key ≡ true = subst (λ (y : Entry). p y.key ≡ true) (sym same) pass in
       ap (λ b. cond b (rows es) (entry_of x ∷ remove_entry p (rows es))) test
   others_at (x ∷ es) (suc i) e at pass h =

@@ -2,7 +2,7 @@
 use Rattle.std.proofs.Common.{◌≡◌, ℕ, zero, suc, ◌*◌, ◌^◌, ◌<◌, ◌≤◌, ◌⊎◌, inl, inr, List, [], ◌∷◌, Bool, true, false, Some, Ok, All, map, fold, refl, sym, ap, subst, ◌∙◌, arith, ⊎_elim, if◌then◌else◌}
 use Rattle.std.specs.Prelude.{◌==◌, ◌&&◌, nat_le}
 use Rattle.std.proofs.Math.Nat.{mul-le-mul}
-use Rattle.std.proofs.lemmas.Bool.{eqb-true, leb-true}
+use Rattle.std.proofs.lemmas.Bool.{eqb-true, leb-true, and_parts}
 use Rattle.std.proofs.lemmas.List.Elements.{All-map}
 use Rattle.iiif_pixel.specs.Geometry.{channels_of, LiesIn, sides_of}
 use Rattle.iiif_pixel.specs.Picture.{dim_of}
@@ -112,10 +112,6 @@ lowest_few s p r edge some few columns rows =
     level_limits s.edge (dim_of p) (sides_of r.rect) r.size p.channels 0 0 edge (omega arith) few columns rows
     (inr (refl, λ other u. (let one = some_sums s.edge other (sides_of r.rect) r.size p.channels some in let none = u.within in absurd (omega arith))))
 
-both : (a b : Bool) → (a && b) ≡ true → (a ≡ true) × (b ≡ true)
-both true b h = (refl, h)
-both false b h = absurd cc
-
 -- the test of a level, for a picture of a scene
 abbrev usable_for : Scene → Picture → Resolved → ℕ → Bool
 usable_for s p r = is_usable s.edge (dim_of p) (sides_of r.rect) r.size p.channels s.room
@@ -127,7 +123,7 @@ level_few s p r edge room some few columns rows =
     let level = level_of s p r in
     ⊎_elim
     (λ (h : usable_for s p r level ≡ true).
-    let small = both _ (nat_le (sums_at_most s.edge level (sides_of r.rect) r.size p.channels) s.room) h in
+    let small = and_parts _ (nat_le (sums_at_most s.edge level (sides_of r.rect) r.size p.channels) s.room) h in
     let within : sums_at_most s.edge level (sides_of r.rect) r.size p.channels ≤ s.room = leb-true _ _ small.1 in
     omega arith)
     (λ (h : level ≡ 0). subst (λ l. sums_at_most s.edge l (sides_of r.rect) r.size p.channels ≤ most_sums) (sym h) (lowest_few s p r edge some few columns rows))
@@ -200,7 +196,7 @@ fit_by s name p r false false e a = All-map (IsItem s name) key.Sum (blocks_for 
 
 dim_same : (a b : Dim) → (a.w == b.w && a.h == b.h) ≡ true → a ≡ b
 dim_same a b h =
-    let p = both (a.w == b.w) (a.h == b.h) h in
+    let p = and_parts (a.w == b.w) (a.h == b.h) h in
     same_dim a b (eqb-true a.w b.w p.0) (eqb-true a.h b.h p.1)
   where
     same_dim : (a b : Dim) → a.w ≡ b.w → a.h ≡ b.h → a ≡ b
@@ -237,8 +233,8 @@ refused_has_no_image s name p q e proper shown h = refused s p q e (kind_is p (p
 -- a region that keeps its size isn't scaled up
 keeps_not_up : (r : Resolved) → keeps_size r ≡ true → is_scaled_up r ≡ true → ⊥
 keeps_not_up r keeps up = ⊎_elim
-    (λ (h : r.rect.w < r.size.w). (let same = eqb-true r.size.w r.rect.w (both _ (r.size.h == r.rect.h) keeps).0 in omega arith))
-    (λ (h : r.rect.h < r.size.h). (let same = eqb-true r.size.h r.rect.h (both (r.size.w == r.rect.w) _ keeps).1 in omega arith))
+    (λ (h : r.rect.w < r.size.w). (let same = eqb-true r.size.w r.rect.w (and_parts _ (r.size.h == r.rect.h) keeps).0 in omega arith))
+    (λ (h : r.rect.h < r.size.h). (let same = eqb-true r.size.h r.rect.h (and_parts (r.size.w == r.rect.w) _ keeps).1 in omega arith))
     (up_tested r up)
 
 plan_by : (s : Scene) (name : List ℕ) (p : Picture) (r : Resolved) (b up : Bool) (plan : Plan) → keeps_size r ≡ b → is_scaled_up r ≡ up → HasItems name s.edge (dim_of p) p.channels s.room r plan →

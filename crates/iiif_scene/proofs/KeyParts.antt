@@ -1,9 +1,8 @@
 -- The laws of keys of both groups.
-use Rattle.std.proofs.Common.{◌≡◌, ℕ, ⊎_elim, ◌<◌, List, [], ◌∷◌, Bool, true, false, Some, All, map, fold, refl, sym, ap, subst, ◌∙◌, arith, if◌then◌else◌}
-use Rattle.std.specs.Prelude.{slice_get, slice_index_or, ◌==◌, ◌&&◌, nat_eq}
-use Rattle.std.proofs.lemmas.Option.{none-some}
-use Rattle.std.proofs.lemmas.Bool.{eqb-true, eqb-false}
-use Rattle.std.proofs.lemmas.Bool.Decides.{eqb_tells}
+use Rattle.std.proofs.Common.{◌≡◌, ℕ, ◌<◌, List, [], ◌∷◌, Bool, true, false, Some, All, map, fold, refl, sym, ap, subst, ◌∙◌, arith, if◌then◌else◌}
+use Rattle.std.specs.Prelude.{slice_get, slice_index_or, ◌==◌, nat_eq}
+use Rattle.std.proofs.lemmas.Option.{none-some, same_Some}
+use Rattle.std.proofs.lemmas.Bool.{eqb-true, eqb-false, and_from, eq-eqb}
 use Rattle.std.proofs.lemmas.Slice.Eq.{bytes_eq-Decides}
 use Rattle.std.proofs.lemmas.List.Elements.{All-map, All-cons, All-nil}
 use Rattle.iiif_pixel.specs.Geometry.{channels_of}
@@ -22,7 +21,6 @@ use Rattle.iiif_scene.specs.declared.keys.Value.TheVariants as value
 use Rattle.iiif_scene.specs.Scenes.{Scene, IsProper}
 use Rattle.iiif_scene.specs.Keys.{Key, name_of, rank_of, key_eq, Fits, meaning, parts_of, picture_in, grid_in, derived}
 use Rattle.iiif_scene.specs.Laws.{KeysAreTold, PartsFit, PartsAreBelow, PartsMakeMeaning}
-use Rattle.iiif_scene.proofs.Lists.{some_same}
 
 pub same_key : (a b : Key) → key_eq a b ≡ true → a ≡ b
 unfolding key_eq
@@ -48,7 +46,7 @@ unfolding parts_of
 parts_all P (key.Tile k) ks e h = absurd (none-some ks e)
 parts_all P (key.Sum k) ks e h =
     let is = h k refl in
-    subst (All P) (some_same (parts_by k (k.level == 0)) ks e) (all_parts P k (k.level == 0) refl is.0 is.1)
+    subst (All P) (same_Some (parts_by k (k.level == 0)) ks e) (all_parts P k (k.level == 0) refl is.0 is.1)
 
 tile_part_fits : (s : Scene) (k : SumKey) → Fits s (key.Sum k) → k.level ≡ 0 → Fits s (key.Tile (tile_below k))
 unfolding Fits
@@ -112,21 +110,18 @@ pub parts_make_meaning : PartsMakeMeaning
 unfolding parts_of
 parts_make_meaning s (key.Tile k) ks proper e h = absurd (none-some ks e)
 parts_make_meaning s (key.Sum k) ks proper e h =
-    subst (λ (xs : List Key). derived s (key.Sum k) (map (meaning s) xs) ≡ meaning s (key.Sum k)) (some_same (parts_by k (k.level == 0)) ks e) (derived_sum s k proper h)
+    subst (λ (xs : List Key). derived s (key.Sum k) (map (meaning s) xs) ≡ meaning s (key.Sum k)) (same_Some (parts_by k (k.level == 0)) ks e) (derived_sum s k proper h)
 
-and_true : (a b : Bool) → a ≡ true → b ≡ true → (a && b) ≡ true
-and_true a b p q = ap (λ x. x && b) p ∙ q
-
-eq_same : (n : ℕ) → nat_eq n n ≡ true
-eq_same n = ⊎_elim (λ (h : (nat_eq n n ≡ true) × (n ≡ n)). h.0) (λ (h : (nat_eq n n ≡ false) × ¬ (n ≡ n)). absurd (h.1 refl)) (eqb_tells n n)
+pub eq_same : (n : ℕ) → nat_eq n n ≡ true
+eq_same n = eq-eqb n n refl
 
 pub key_same : (k : Key) → key_eq k k ≡ true
 unfolding key_eq
-key_same (key.Tile k) = and_true _ _ ((bytes_eq-Decides k.name k.name).1 refl) (and_true _ _ (eq_same k.edge) (and_true _ _ (eq_same k.tx) (eq_same k.ty)))
+key_same (key.Tile k) = and_from _ _ ((bytes_eq-Decides k.name k.name).1 refl) (and_from _ _ (eq_same k.edge) (and_from _ _ (eq_same k.tx) (eq_same k.ty)))
 key_same (key.Sum k) =
-    and_true _ _ ((bytes_eq-Decides k.name k.name).1 refl) (and_true _ _ (eq_same k.edge)
-    (and_true _ _ (and_true _ _ (eq_same k.rect.x) (and_true _ _ (eq_same k.rect.y) (and_true _ _ (eq_same k.rect.w) (eq_same k.rect.h))))
-    (and_true _ _ (and_true _ _ (eq_same k.size.w) (eq_same k.size.h)) (and_true _ _ (eq_same k.level) (and_true _ _ (eq_same k.bx) (eq_same k.by))))))
+    and_from _ _ ((bytes_eq-Decides k.name k.name).1 refl) (and_from _ _ (eq_same k.edge)
+    (and_from _ _ (and_from _ _ (eq_same k.rect.x) (and_from _ _ (eq_same k.rect.y) (and_from _ _ (eq_same k.rect.w) (eq_same k.rect.h))))
+    (and_from _ _ (and_from _ _ (eq_same k.size.w) (eq_same k.size.h)) (and_from _ _ (eq_same k.level) (and_from _ _ (eq_same k.bx) (eq_same k.by))))))
 
 pub keys_are_told : KeysAreTold
 keys_are_told a b = (same_key a b, λ e. subst (λ x. key_eq a x ≡ true) e (key_same a))

@@ -1,17 +1,17 @@
 -- Lists of which elements are changed.
 use Rattle.std.proofs.Common.{Vec, true, false, ◌≡◌, ℕ, zero, suc, ◌+◌, ◌≤◌, ◌<◌, List, [], ◌∷◌, ◌++◌, map, length, Some, None, refl, sym, ap, ◌∙◌, arith, get_or, take, subst, length-append}
 use Rattle.std.specs.Prelude.{slice_get, slice_set}
-use Rattle.std.proofs.lemmas.Option.{none-some, get_or_from_slice_get}
+use Rattle.std.proofs.lemmas.Option.{none-some, get_or_from_slice_get, same_Some}
 use Rattle.std.proofs.lemmas.List.{take_all, with_items_is}
 use Rattle.std.specs.Vec.{with_items}
 use Rattle.iiif_machine.specs.Sound.{Each}
-use Rattle.iiif_machine.proofs.Lists.{some_same, each_one, each_cons}
+use Rattle.iiif_machine.proofs.Lists.{each_one, each_cons}
 use Rattle.iiif_plain_tables.proofs.Mixed.{get_there}
 use Rattle.iiif_world.specs.Settling.{joined}
 
 pub set_same : {A : Type 0} (xs : List A) (i : ℕ) (x : A) → slice_get xs i ≡ Some x → slice_set xs i x ≡ xs
 set_same [] i x h = refl
-set_same (y ∷ xs) zero x h = ap (λ z. z ∷ xs) (sym (some_same y x h))
+set_same (y ∷ xs) zero x h = ap (λ z. z ∷ xs) (sym (same_Some y x h))
 set_same (y ∷ xs) (suc i) x h = ap (λ l. y ∷ l) (set_same xs i x h)
 
 pub set_twice : {A : Type 0} (xs : List A) (i : ℕ) (x y : A) → slice_set (slice_set xs i x) i y ≡ slice_set xs i y
@@ -43,8 +43,8 @@ missing_map g (x ∷ xs) (suc i) h = missing_map g xs i h
 pub joined_last : {A B : Type 0} (g : A → B → A) (xs : List A) (ys : List B) (x : A) (y : B) → slice_get xs (length ys) ≡ Some x →
     joined g (slice_set xs (length ys) (g x y)) ys ≡ joined g xs (ys ++ y ∷ [])
 joined_last g [] ys x y h = absurd (none-some x h)
-joined_last g (z ∷ []) [] x y h = ap (λ v. g v y ∷ []) (sym (some_same z x h))
-joined_last g (z ∷ v ∷ xs) [] x y h = ap (λ u. g u y ∷ v ∷ xs) (sym (some_same z x h))
+joined_last g (z ∷ []) [] x y h = ap (λ v. g v y ∷ []) (sym (same_Some z x h))
+joined_last g (z ∷ v ∷ xs) [] x y h = ap (λ u. g u y ∷ v ∷ xs) (sym (same_Some z x h))
 joined_last g (z ∷ xs) (v ∷ ys) x y h = ap (λ l. g z v ∷ l) (joined_last g xs ys x y h)
 
 pub joined_nil : {A B : Type 0} (g : A → B → A) (xs : List A) → joined g xs [] ≡ xs

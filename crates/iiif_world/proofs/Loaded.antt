@@ -1,9 +1,11 @@
 -- What a load comes to, from what a flight does next.
 use Rattle.std.proofs.Common.{◌≡◌, ℕ, List, ◌++◌, map, length, Option, Some, None, Result, Ok, Err, sym, ap, subst, ◌∙◌}
 use Rattle.std.specs.Prelude.{slice_get}
+use Rattle.std.proofs.lemmas.Option.{same_Some}
 use Rattle.iiif_scene.specs.Keys.{meaning, parts_of, derived, name_of}
 use Rattle.iiif_scene.specs.Scenes.{IsProper}
 use Rattle.iiif_scene.specs.declared.keys.Key.TheVariants as key
+use Rattle.iiif_scene.proofs.Lists.{each_of_all}
 use Rattle.iiif_machine.specs.Types.{Key, Value, ReadFault}
 use Rattle.iiif_machine.specs.Tables.{Main}
 use Rattle.iiif_machine.specs.Rows.{Node}
@@ -20,7 +22,6 @@ use Rattle.iiif_machine.specs.declared.rows.Purpose.TheVariants.{ForPart}
 use Rattle.iiif_machine.specs.declared.rows.Stage.{Stage}
 use Rattle.iiif_machine.specs.declared.rows.Stage.TheVariants.{Looked, Parts, Ready}
 use Rattle.iiif_machine.proofs.Learning.{gathered, AreGathered}
-use Rattle.iiif_machine.proofs.Lists.{some_same, each_of_all}
 use Rattle.iiif_machine.proofs.Subjects.{subject_laws}
 use Rattle.iiif_plain_tables.specs.Heard.{heard_all}
 use Rattle.iiif_world.specs.Loads.{IsLocalAt}
@@ -102,7 +103,7 @@ pub calls_done : (w : World) (f : ℕ) (x : Flight) (n : Node) (k : SumKey) (ks 
 calls_done w f x n k ks cs ns a is sum there parts hc hn =
     let same : x.lead ≡ a.lead = ap (λ (z : Flight). z.lead) is in
     let place : slice_get w.nodes a.lead.node ≡ Some n = ap (λ (l : Lead). slice_get w.nodes l.node) (sym same) ∙ there in
-    let node : n ≡ a.node = some_same n a.node (sym place ∙ a.there) in (
+    let node : n ≡ a.node = same_Some n a.node (sym place ∙ a.there) in (
       ks,
       ap (λ (l : Lead). parts_of l.key) (sym same) ∙ ap parts_of sum ∙ parts,
       hc ∙ ap (λ (l : Lead). map fresh (map (call_for l.node n (ForPart f)) ks)) same ∙ ap (λ (m : Node). map fresh (map (call_for a.lead.node m (ForPart f)) ks)) node,

@@ -2,7 +2,7 @@
 use Rattle.std.proofs.Common.{◌≡◌, ℕ, ◌≤◌, ◌*◌, List, map, Option, Some, None, Result, Ok, Err, refl, sym, ap, subst, ◌∙◌, arith}
 use Rattle.std.proofs.Math.Nat.{mul-le-mul}
 use Rattle.std.specs.Prelude.{slice_get}
-use Rattle.std.proofs.lemmas.Option.{none-some}
+use Rattle.std.proofs.lemmas.Option.{none-some, same_Some}
 use Rattle.iiif_pixel.specs.Geometry.{channels_of, sides_of}
 use Rattle.iiif_pixel.specs.Picture.{Picture, dim_of}
 use Rattle.iiif_pixel.specs.declared.geometry.Dim.{Dim}
@@ -25,6 +25,7 @@ use Rattle.iiif_scene.specs.Plans.{kind_of, resolved, items}
 use Rattle.iiif_scene.specs.Images.{image, assembled}
 use Rattle.iiif_scene.specs.declared.keys.Key.TheVariants as key
 use Rattle.iiif_scene.proofs.Plans.{kind_is, image_from_resolved}
+use Rattle.iiif_scene.proofs.Lists.{each_of_all}
 use Rattle.iiif_machine.specs.Types.{Key, Value, Request, Refusal, Resolved, ReadFault}
 use Rattle.iiif_machine.specs.Tables.{Outcome}
 use Rattle.iiif_machine.specs.declared.rows.Wanted.{Wanted}
@@ -32,7 +33,6 @@ use Rattle.iiif_machine.specs.declared.rows.Answer.TheVariants.{Image}
 use Rattle.iiif_machine.specs.declared.rows.Progress.TheVariants.{Waiting}
 use Rattle.iiif_machine.specs.Worlds.{World, all_learned, collected, answer_from}
 use Rattle.iiif_machine.specs.Sound.{Each, IsHonestWorld, ProgressIsHonest, facts, AreOf}
-use Rattle.iiif_machine.proofs.Lists.{some_same, each_of_all}
 use Rattle.iiif_machine.proofs.Learning.{gathered, AreGathered}
 use Rattle.iiif_machine.proofs.Subjects.{subject_laws}
 use Rattle.iiif_plain_tables.specs.Heard.{heard_all, heard_from}
@@ -52,7 +52,7 @@ kind_same k p e = kind_back k ∙ ap kind_with e
 pub tile_fits : (s : Scene) (k : TileKey) (p : Picture) → s.shows k.name ≡ Some p → Fits s (key.Tile k) → TileFitsIn (dim_of p) p.channels k
 unfolding Fits
 tile_fits s k p shown fits =
-    let same : fits.picture ≡ p = some_same fits.picture p (sym fits.known ∙ shown) in
+    let same : fits.picture ≡ p = same_Some fits.picture p (sym fits.known ∙ shown) in
     let f : TileFitsIn (dim_of p) (channels_of (kind_of p)) k = subst (λ (x : Picture). TileFitsIn (dim_of x) (channels_of (kind_of x)) k) same fits.fits in
     record { edge = f.edge; column = f.column; row = f.row }
 
@@ -63,7 +63,7 @@ tile_known s k none fits = none-some fits.picture (sym none ∙ fits.known)
 pub sum_fits : (s : Scene) (k : SumKey) (p : Picture) → IsProper s → s.shows k.name ≡ Some p → Fits s (key.Sum k) → SumFitsIn (dim_of p) p.channels k
 unfolding Fits
 sum_fits s k p proper shown fits =
-    let same : fits.picture ≡ p = some_same fits.picture p (sym fits.known ∙ shown) in
+    let same : fits.picture ≡ p = same_Some fits.picture p (sym fits.known ∙ shown) in
     let f : SumFitsIn (dim_of p) (channels_of (kind_of p)) k = subst (λ (x : Picture). SumFitsIn (dim_of x) (channels_of (kind_of x)) k) same fits.fits in
     subst (λ n. SumFitsIn (dim_of p) n k) (sym (kind_is p (proper.sources k.name p shown).whole)) f
 
@@ -118,7 +118,7 @@ pub is_ready : (w : World) (i : ℕ) (q : Wanted) (r : Resolved) (cs : List ℕ)
 is_ready w i q r cs p proper honest at waits shown =
     let s = w.scene in
     let h : ProgressIsHonest s (facts w) q.wish (Waiting r cs) = subst (ProgressIsHonest s (facts w) q.wish) waits (honest.requests i q at) in
-    let same : h.0 ≡ p = some_same h.0 p (sym h.1 ∙ shown) in
+    let same : h.0 ≡ p = same_Some h.0 p (sym h.1 ∙ shown) in
     let solved : resolved s p q.wish.request ≡ Ok r = subst (λ (x : Picture). resolved s x q.wish.request ≡ Ok r) same h.2 in
     let are : AreOf (facts w).callers q.wish.node cs (items s q.wish.name p r) = subst (λ (x : Picture). AreOf (facts w).callers q.wish.node cs (items s q.wish.name x r)) same h.3 in
     let laws = subject_laws s proper in

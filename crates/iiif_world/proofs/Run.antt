@@ -1,7 +1,7 @@
 -- What an event leaves sound.
 use Rattle.std.proofs.Common.{◌≡◌, ◌<◌, ◌+◌, ◌++◌, ℕ, List, [], ◌∷◌, length, get_or, take, Option, Some, None, refl, sym, ap, subst, ◌∙◌}
 use Rattle.std.proofs.lemmas.List.{take_more}
-use Rattle.std.proofs.lemmas.Option.{none-some}
+use Rattle.std.proofs.lemmas.Option.{none-some, same_Some}
 use Rattle.iiif_scene.specs.Scenes.{IsProper}
 use Rattle.iiif_machine.specs.Sound.{IsSound}
 use Rattle.iiif_machine.specs.Worlds.{World, ◌>>=◌}
@@ -9,7 +9,6 @@ use Rattle.iiif_machine.specs.Steps.{step, run}
 use Rattle.iiif_machine.specs.Promises.{After, Follows}
 use Rattle.iiif_machine.specs.declared.events.Event.{Event}
 use Rattle.iiif_machine.proofs.Promised.{each_step}
-use Rattle.iiif_machine.proofs.Lists.{some_same}
 use Rattle.iiif_world.specs.Code.{IsSoundWorld}
 use Rattle.iiif_world.proofs.Stepped.{bind_by}
 
@@ -34,7 +33,7 @@ more_by (Some z) v u f g h is = h z is
 
 run_more : (w v u : World) (es : List Event) (e : Event) → run w es ≡ Some v → step v e ≡ Some u → run w (es ++ e ∷ []) ≡ Some u
 unfolding run
-run_more w v u [] e is next = bind_by (step w e) (λ z. run z []) u (ap (λ (z : World). step z e) (some_same w v is) ∙ next) refl
+run_more w v u [] e is next = bind_by (step w e) (λ z. run z []) u (ap (λ (z : World). step z e) (same_Some w v is) ∙ next) refl
 run_more w v u (x ∷ es) e is next = more_by (step w x) v u (λ z. run z es) (λ z. run z (es ++ e ∷ [])) (λ z h. run_more z v u es e h next) is
 
 pub run_next : (w v u : World) (es : List Event) (i : ℕ) (e : Event) → i < length es → e ≡ get_or es i e → run w (take i es) ≡ Some v → step v e ≡ Some u →

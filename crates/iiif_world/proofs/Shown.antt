@@ -2,11 +2,10 @@
 use Rattle.std.proofs.Common.{◌≡◌, ℕ, zero, suc, ◌<◌, ◌≤◌, Bool, true, false, cond, List, [], ◌∷◌, length, Some, None, refl, sym, ap, ◌∙◌, get_or, arith}
 use Rattle.std.specs.Prelude.{slice_get, position, if◌then◌else◌}
 use Rattle.std.specs.List.{position_or_len}
-use Rattle.std.proofs.lemmas.Option.{none-some, get_or_from_slice_get, slice_get-get_or}
+use Rattle.std.proofs.lemmas.Option.{none-some, get_or_from_slice_get, slice_get-get_or, same_Some}
 use Rattle.std.proofs.lemmas.List.Quantifiers.{position-Some}
 use Rattle.std.proofs.lemmas.List.Sums.{fails_before_first}
 use Rattle.std.proofs.lemmas.Bool.{ltb-false}
-use Rattle.iiif_machine.proofs.Lists.{some_same}
 use Rattle.iiif_world.specs.declared.world.Item.{Item}
 use Rattle.iiif_world.specs.Code.{has_name, shown_in}
 
@@ -14,7 +13,7 @@ shown_at : (name : List ℕ) (is : List Item) (n : ℕ) (e : Item) → slice_get
     → ((k : ℕ) → k < n → has_name name (get_or is k e) ≡ false) → shown_in is name ≡ Some e.picture
 shown_at name [] n e at named before = absurd (none-some e at)
 shown_at name (g ∷ is) zero e at named before =
-    let same : g ≡ e = some_same g e at in
+    let same : g ≡ e = same_Some g e at in
     ap (λ (x : Item). if has_name name x then Some x.picture else shown_in is name) same
     ∙ ap (λ (b : Bool). if b then Some e.picture else shown_in is name) named
 shown_at name (g ∷ is) (suc n) e at named before =

@@ -2,18 +2,19 @@
 use Rattle.std.proofs.Common.{◌≡◌, ℕ, suc, ◌<◌, ◌≤◌, List, [], ◌∷◌, map, length, Bool, true, false, if◌then◌else◌, Option, Some, refl, subst}
 use Rattle.std.specs.Prelude.{slice_get}
 use Rattle.std.specs.Str.{bytes_eq}
-use Rattle.std.proofs.lemmas.Option.{none-some}
+use Rattle.std.proofs.lemmas.Option.{none-some, same_Some}
 use Rattle.iiif_canonical.specs.declared.resolved.Limits.{Limits}
 use Rattle.iiif_keys.specs.Names.{IsSource}
 use Rattle.iiif_keys.specs.Blocks.{IsEdge}
 use Rattle.iiif_scene.specs.Scenes.{IsProper}
+use Rattle.iiif_scene.proofs.Lists.{get_map}
 use Rattle.iiif_machine.specs.Types.{Picture}
 use Rattle.iiif_machine.specs.Rows.{Node}
 use Rattle.iiif_machine.specs.Promises.{IsNew}
 use Rattle.iiif_machine.specs.Sound.{Each, Card, card_of, NamesNodes}
 use Rattle.iiif_machine.specs.Steps.{run}
 use Rattle.iiif_machine.specs.Worlds.{new_world}
-use Rattle.iiif_machine.proofs.Lists.{some_same, each_map, each_as, get_map}
+use Rattle.iiif_machine.proofs.Lists.{each_map, each_as}
 use Rattle.iiif_machine.proofs.Promised.{each_run}
 use Rattle.iiif_world.specs.declared.starting.Setup.{Setup}
 use Rattle.iiif_world.specs.declared.world.Item.{Item}
@@ -21,7 +22,7 @@ use Rattle.iiif_world.specs.Code.{IsSoundWorld, scene_of, shown_in}
 use Rattle.iiif_world.specs.Starting.{IsNamed, node_for}
 
 shown_by : (b : Bool) (i : Item) (rest : Option Picture) (p : Picture) → IsSource i.picture → (rest ≡ Some p → IsSource p) → (if b then Some i.picture else rest) ≡ Some p → IsSource p
-shown_by true i rest p is f h = subst IsSource (some_same i.picture p h) is
+shown_by true i rest p is f h = subst IsSource (same_Some i.picture p h) is
 shown_by false i rest p is f h = f h
 
 pub shown_source : (items : List Item) (name : List ℕ) (p : Picture) → Each (λ i. IsSource i.picture) items → shown_in items name ≡ Some p → IsSource p

@@ -2,7 +2,7 @@ use Rattle.std.proofs.Common.{ap, sym, ◌∙◌, String, Global, Some, ◌≡�
 use Rattle.std.specs.String.{string_bytes}
 use Rattle.std.proofs.lemmas.Bool.Decides.{nat_tests}
 use Rattle.std.proofs.lemmas.Option.{slice_get-get_or}
-use Rattle.iiif_machine.proofs.Lists.{get_map}
+use Rattle.iiif_scene.proofs.Lists.{get_map}
 use Rattle.iiif_ring.specs.Names.{names_of}
 use Rattle.iiif_world.specs.Starting.{IsNamed}
 use Rattle.iiif_world.proofs.Changed.{each_more_made, each_all, map_length}

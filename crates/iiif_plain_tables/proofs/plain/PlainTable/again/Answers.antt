@@ -4,7 +4,7 @@ use Rattle.std.proofs.lemmas.Bool.{ne_eqb}
 use Rattle.std.proofs.lemmas.Option.{slice_get-get_or}
 use Rattle.iiif_tables.specs.Flights as tables
 use Rattle.iiif_scene.specs.Keys.{key_eq}
-use Rattle.iiif_machine.proofs.Opened.{eq_same}
+use Rattle.iiif_scene.proofs.KeyParts.{eq_same}
 use Rattle.iiif_plain_tables.specs.Nodes.{table_of}
 use Rattle.iiif_plain_tables.specs.Open.{is_named, seen, flight_in}
 use Rattle.iiif_plain_tables.specs.Rows.{kept_of}

@@ -3,11 +3,10 @@ use Rattle.std.specs.Prelude.{◌==◌}
 use Rattle.std.proofs.lemmas.Bool.{ne_eqb}
 use Rattle.iiif_tables.specs.Flights as tables
 use Rattle.iiif_scene.specs.Keys.{entry_size, key_eq}
-use Rattle.iiif_machine.proofs.Opened.{eq_same}
-use Rattle.std.proofs.lemmas.Option.{slice_get-get_or}
+use Rattle.iiif_scene.proofs.KeyParts.{eq_same}
+use Rattle.std.proofs.lemmas.Option.{slice_get-get_or, same_Some}
 use Rattle.iiif_tables.specs.declared.table.Book.{Book}
 use Rattle.iiif_machine.specs.Tables.{Table}
-use Rattle.iiif_machine.proofs.Lists.{some_same}
 use Rattle.iiif_plain_tables.specs.declared.plain.OpenFlight.{OpenFlight}
 use Rattle.iiif_plain_tables.proofs.Closing.{there}
 use Rattle.iiif_plain_tables.specs.Nodes.{table_of}
@@ -43,7 +42,7 @@ returns-clause-ok c =
     (subst (λ n. (e.ticket == n) ≡ true) c.if-index-ticket.false (eq_same e.ticket)) in
     let less = there c.args.class k fs c.in-Some.at at in
     let other = c.index-2.result.now in
-    let same : other ≡ e = some_same other e (sym (slice_get-get_or fs c.in-Some.at other less ∙ ap Some (sym c.index-2.ensures)) ∙ slice_get-get_or fs c.in-Some.at e less ∙ ap Some (sym c.index.ensures)) in
+    let same : other ≡ e = same_Some other e (sym (slice_get-get_or fs c.in-Some.at other less ∙ ap Some (sym c.index-2.ensures)) ∙ slice_get-get_or fs c.in-Some.at e less ∙ ap Some (sym c.index.ensures)) in
     let counts : c.in-Some-counted.book ≡ tables.counting e.found c.args.value c.args.place t.book =
     c.in-Some-counted.ensures ∙ ap (λ (f : OpenFlight). tables.counting f.found c.args.value c.args.place t.book) same in
     let u : Table = record (table_of c.close.new.self) { book = c.in-Some-counted.book } in

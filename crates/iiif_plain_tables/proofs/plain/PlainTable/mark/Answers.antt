@@ -1,9 +1,8 @@
 use Rattle.std.proofs.Common.{◌≡◌, true, Some, sym, ap, ◌∙◌}
 use Rattle.std.specs.Prelude.{slice_get}
-use Rattle.std.proofs.lemmas.Option.{slice_get-get_or}
+use Rattle.std.proofs.lemmas.Option.{slice_get-get_or, same_Some}
 use Rattle.iiif_tables.specs.Flights.{with_flight}
 use Rattle.iiif_scene.specs.Keys.{key_eq}
-use Rattle.iiif_machine.proofs.Lists.{some_same}
 use Rattle.iiif_plain_tables.specs.Open.{flight_in}
 use Rattle.iiif_plain_tables.specs.declared.plain.OpenFlight.{OpenFlight}
 use Rattle.iiif_plain_tables.proofs.Closing.{there}
@@ -24,6 +23,6 @@ returns-clause-flights c f found =
     let e = c.index_mut.result.now in
     let at : slice_get fs c.args.place ≡ Some e =
     slice_get-get_or fs c.args.place e (there c.args.class c.args.key.now fs c.args.place c.requires) ∙ ap Some (sym c.index_mut.ensures.value) in
-    let same : e ≡ f = some_same e f (sym at ∙ found) in
+    let same : e ≡ f = same_Some e f (sym at ∙ found) in
     marked c.args.class c.args.key.now fs c.args.place e c.requires at
     ∙ ap (λ (x : OpenFlight). with_flight key_eq c.args.class c.args.key.now (Some (record { ticket = x.ticket; found = true })) (flight_in fs)) same

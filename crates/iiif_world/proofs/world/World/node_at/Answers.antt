@@ -1,6 +1,6 @@
 use Rattle.std.proofs.Common.{Some, sym, ap, ◌∙◌, arith}
 use Rattle.std.proofs.lemmas.Option.{slice_get-get_or}
-use Rattle.iiif_machine.proofs.Lists.{get_map}
+use Rattle.iiif_scene.proofs.Lists.{get_map}
 use Rattle.iiif_plain_tables.specs.Nodes.{node_of}
 use Rattle.iiif_world.proofs.Changed.{get_missing, missing_map}
 use Rattle.iiif_world.proofs.world.World.node_at.Goals as goal
