@@ -1,5 +1,5 @@
 -- What a listener does that could not take a connection: accept(2) of POSIX names the causes.
-use Rattle.std.specs.Prelude.{ℕ, Bool, true, false, nat_lt, if◌then◌else◌}
+use Rattle.std.specs.Prelude.{Bool, true, false, if◌then◌else◌}
 use Rattle.std.specs.declared.io.ErrorKind.{ErrorKind}
 use Rattle.std.specs.declared.io.ErrorKind.TheVariants as kinds
 use Rattle.iiif_listener.specs.declared.retry.Retry.{Retry}
@@ -17,13 +17,9 @@ is_passing kinds.ConnectionReset = true
 is_passing kinds.Interrupted = true
 is_passing _ = false
 
--- how many failures in a row that don't pass by themselves, as want of files or memory, are waited for
-abbrev pub patience : ℕ
-patience = 1000
-
--- what is done after such failures in a row, of which the last is of this kind
-abbrev pub retry_after : ErrorKind → ℕ → Retry
-retry_after kind failures =
+-- what is done after a failure of this kind, however many came before it: where files, memory or the like are wanting, the listener
+-- waits, and tries again
+abbrev pub retry_after : ErrorKind → Retry
+retry_after kind =
     if is_passing kind then AtOnce else (
-    if is_lasting kind then Never else (
-    if nat_lt failures patience then Later else Never))
+    if is_lasting kind then Never else Later)

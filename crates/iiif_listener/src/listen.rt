@@ -25,7 +25,7 @@ pub trait Serve<R> {
 
 /// Serves each connection that a listener takes by a function, in a thread of its own, up to 64 at once. One more is closed unanswered,
 /// and so is one for which no thread can be started; each of these is told by the second function. Where none can be taken, as where
-/// files or memory are wanting, the listener waits and goes on. It ends where it is stopped or was wanting 1,000 times in a row, once the
+/// files or memory are wanting, the listener waits and goes on, however long that lasts. It ends where it is stopped, once the
 /// connections have ended.
 pub fn serve_each<R, F, G>(rt: &R, serve: &F, refused: &G, listener: &TcpListener) -> io::Result<()>
 where
@@ -38,11 +38,9 @@ where
     let places = Places::new();
     let free = &places;
     thread::scope(thread::scope_env(), rt, |scope| {
-        let mut failures = 0u32;
         for stream in listener.incoming() {
             match stream {
                 Ok(stream) => {
-                    failures = 0;
                     let Some(place) = free.take(rt) else {
                         refused();
                         continue;
@@ -56,13 +54,10 @@ where
                         refused();
                     }
                 }
-                Err(error) => match after_failure(error.kind(), failures) {
+                Err(error) => match after_failure(error.kind()) {
                     Retry::AtOnce => {}
                     Retry::Never => return Err(error),
-                    Retry::Later => {
-                        failures = failures.saturating_add(1);
-                        thread::sleep(rt, Duration::from_millis(PAUSE));
-                    }
+                    Retry::Later => thread::sleep(rt, Duration::from_millis(PAUSE)),
                 },
             }
         }

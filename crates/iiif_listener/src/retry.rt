@@ -5,9 +5,6 @@ ghost use Rattle.iiif_listener.specs.Failures.{is_lasting as lasts, is_passing a
 
 use std::io::ErrorKind;
 
-/// How many failures in a row are waited for.
-pub const TRIES: u32 = 1000;
-
 /// When a listener that could not take a connection tries again.
 #[derive(Clone, Copy, Debug, PartialEq, Eq)]
 pub enum Retry {
@@ -15,7 +12,7 @@ pub enum Retry {
     AtOnce,
     /// Files, memory or the like are wanting: in a while.
     Later,
-    /// The listener is stopped, or was wanting for too long.
+    /// The listener is stopped, or is none.
     Never,
 }
 
@@ -41,13 +38,13 @@ fn is_passing(kind: ErrorKind) -> bool
     }
 }
 
-/// What is done after so many failures in a row and one more of this kind.
-pub fn after_failure(kind: ErrorKind, failures: u32) -> Retry
-    ensures { result ≡ retry_after kind failures }
+/// What is done after a failure of this kind, however many came before it.
+pub fn after_failure(kind: ErrorKind) -> Retry
+    ensures { result ≡ retry_after kind }
 {
     if is_passing(kind) {
         Retry::AtOnce
-    } else if is_lasting(kind) || failures >= TRIES {
+    } else if is_lasting(kind) {
         Retry::Never
     } else {
         Retry::Later

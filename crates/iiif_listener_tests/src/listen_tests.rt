@@ -81,6 +81,27 @@ fn visit<R: Net<Listener = TcpListener, Stream = TcpStream>>(
     }
 }
 
+/// A listener that waits for nobody fails each time that nobody has come.
+#[test]
+fn listener_that_failed_again_and_again_takes_the_next(rt: HostRuntime) -> Result<(), Fail> {
+    let alloc = rt.alloc();
+    let echo = Echo::new();
+    let listener = TcpListener::bind(&rt, "127.0.0.1:0")?;
+    listener.set_nonblocking(true)?;
+    let (ended, came) = thread::join(
+        &rt,
+        || serve_listener(&rt, alloc, &echo, &listener),
+        || {
+            thread::sleep(&rt, Duration::from_millis(300));
+            let came = visit(&rt, &listener).is_some();
+            stop(&listener);
+            came
+        },
+    );
+    assert!(rt; was_stopped(&ended) && came && echo.count() == 1);
+    Ok(())
+}
+
 /// What a viewer gets that asks for a byte.
 fn answer_to(viewer: &mut TcpStream) -> Option<u8> {
     viewer.write_all(b"v").ok()?;

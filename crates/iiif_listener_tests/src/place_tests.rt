@@ -45,24 +45,22 @@ fn dropped_place_is_free_again(rt: HostRuntime) -> Result<(), Fail> {
     Ok(())
 }
 
-/// A failure's kind, how many came before it in a row, and what is done.
-const FAILURES: [(ErrorKind, u32, Retry); 9] = [
-    (ErrorKind::ConnectionAborted, 0, Retry::AtOnce),
-    (ErrorKind::ConnectionReset, 999, Retry::AtOnce),
-    (ErrorKind::Interrupted, 1000, Retry::AtOnce),
-    (ErrorKind::InvalidInput, 0, Retry::Never),
-    (ErrorKind::OutOfMemory, 0, Retry::Later),
-    (ErrorKind::OutOfMemory, 999, Retry::Later),
-    (ErrorKind::OutOfMemory, 1000, Retry::Never),
-    (ErrorKind::Uncategorized, 0, Retry::Later),
-    (ErrorKind::Uncategorized, u32::MAX, Retry::Never),
+/// A failure's kind, and what is done.
+const FAILURES: [(ErrorKind, Retry); 7] = [
+    (ErrorKind::ConnectionAborted, Retry::AtOnce),
+    (ErrorKind::ConnectionReset, Retry::AtOnce),
+    (ErrorKind::Interrupted, Retry::AtOnce),
+    (ErrorKind::InvalidInput, Retry::Never),
+    (ErrorKind::OutOfMemory, Retry::Later),
+    (ErrorKind::Uncategorized, Retry::Later),
+    (ErrorKind::WouldBlock, Retry::Later),
 ];
 
 #[test]
-fn listener_that_failed_goes_on(rt: HostRuntime) -> Result<(), Fail> {
-    for (kind, failures, retry) in FAILURES {
-        let right = after_failure(kind, failures) == retry;
-        assert!(rt; right, "{kind:?} after {failures}");
+fn listener_that_failed_goes_on_unless_it_is_stopped(rt: HostRuntime) -> Result<(), Fail> {
+    for (kind, retry) in FAILURES {
+        let right = after_failure(kind) == retry;
+        assert!(rt; right, "{kind:?}");
     }
     Ok(())
 }
