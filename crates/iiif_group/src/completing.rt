@@ -1,6 +1,6 @@
 //! How a load ends.
 
-ghost use Rattle.std.specs.Prelude.{◌≡◌, Err, IfSome, IsFalse, IsTrue, MatchOption};
+ghost use Rattle.std.specs.Prelude.{◌≡◌, Err, IfSome, IsFalse, IsTrue, MatchOption, OnErr};
 ghost use Rattle.std.specs.Result.{ForErr, ForOk};
 ghost use Rattle.std.specs.Arc.{arc_value};
 ghost use Rattle.iiif_outcome.specs.Outcomes.{is_given};
@@ -18,7 +18,7 @@ use std::sync::{Arc, Wait};
 impl<K: CacheKey, J: System, L: Ledger, N, T> Group<K, J, L, N, T> {
     /// Ends a load with a value that is its key's meaning, or with a fault that its source gave or want of memory, and tells those
     /// that wait. The local flight has that outcome. So has the wide one, if the call leads one; but it has want of memory where the
-    /// value refuses it a share.
+    /// value refuses it a share. A fault needs none, so both have it.
     pub fn complete<R: Wait>(
         &self,
         rt: &R,
@@ -34,6 +34,7 @@ impl<K: CacheKey, J: System, L: Ledger, N, T> Group<K, J, L, N, T> {
         ensures exact { IsTrue result.exact → IfSome (receipt_known result.receipt) (λ x. outcome_of x.outcome ≡ outcome_of outcome) }
         ensures loaded { MatchOption result.loaded (IsFalse (was_asked load)) (λ r. IfSome (receipt_known r) (λ x. (arc_value x.key ≡ key.now) × (x.outcome ≡ outcome))) }
         ensures wanting { IsFalse result.exact → IsTrue (was_asked load) × IfSome (receipt_known result.receipt) (λ x. outcome_of x.outcome ≡ Err Fault.NoMemory) }
+        ensures fault { OnErr outcome (IsTrue result.exact) }
     {
         let Open { local, wide } = load;
         match wide {

@@ -37,7 +37,7 @@ impl<K: CacheKey, J: System, L: Ledger, N, T> Group<K, J, L, N, T> {
     }
 
     /// A flight ends with the outcome of another of its key, and whether it has that: want of memory where the value refuses it a
-    /// share.
+    /// share. A fault is always told as it is.
     fn relay<R: Wait>(
         &self,
         rt: &R,
@@ -48,6 +48,7 @@ impl<K: CacheKey, J: System, L: Ledger, N, T> Group<K, J, L, N, T> {
         ensures key { IfSome (receipt_known result.0) (λ x. arc_value x.key ≡ lead_key lead) }
         ensures exact { IsTrue result.1 → IfSome (receipt_known receipt) (λ x. IfSome (receipt_known result.0) (λ y. outcome_of y.outcome ≡ outcome_of x.outcome)) }
         ensures wanting { IsFalse result.1 → IfSome (receipt_known result.0) (λ x. outcome_of x.outcome ≡ Err Fault.NoMemory) }
+        ensures fault { IfSome (receipt_known receipt) (λ x. OnErr x.outcome (IsTrue result.1)) }
     {
         let (outcome, exact) = shared(receipt.outcome());
         let receipt = self.finish(rt, lead, outcome, Origin::Flight);

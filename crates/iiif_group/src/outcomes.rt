@@ -1,6 +1,6 @@
 //! Outcomes that are shared.
 
-ghost use Rattle.std.specs.Prelude.{◌≡◌, Bool, Err, IfSome, IsFalse, IsTrue, Some};
+ghost use Rattle.std.specs.Prelude.{◌≡◌, Bool, Err, IfSome, IsFalse, IsTrue, OnErr, Some};
 ghost use Rattle.std.specs.Result.{ForErr, ForOk};
 ghost use Rattle.std.specs.Arc.{arc_value};
 ghost use Rattle.iiif_source.specs.declared.ReadFault.{ReadFault};
@@ -14,12 +14,13 @@ use iiif_outcome::Receipt;
 use std::alloc::Global;
 use std::sync::Arc;
 
-/// A share of an outcome, and whether it is that: want of memory where the value refuses another share.
+/// A share of an outcome, and whether it is that: want of memory where the value refuses another share. A fault is always told as it is.
 pub fn shared<V: Drop>(outcome: &Result<Arc<V>, Fault>) -> (Result<Arc<V>, Fault>, bool)
     ensures ok { ForOk result.0 (λ v. value_of outcome.now ≡ Some (arc_value v)) }
     ensures err { (gave : ReadFault → Bool) → ForErr outcome.now (λ f. IsTrue (is_given gave f)) → ForErr result.0 (λ f. IsTrue (is_given gave f)) }
     ensures same { IsTrue result.1 → outcome_of result.0 ≡ outcome_of outcome.now }
     ensures wanting { IsFalse result.1 → outcome_of result.0 ≡ Err Fault.NoMemory }
+    ensures fault { OnErr outcome.now (IsTrue result.1) }
 {
     match outcome {
         Ok(value) => match Arc::try_clone(value) {
