@@ -11,10 +11,12 @@ use Rattle.iiif_pixel.specs.Geometry.{channels_of, top_of}
 use Rattle.iiif_pixel.specs.Picture.{Picture, dim_of}
 use Rattle.iiif_pixel.specs.TurnPlaces.{turned_dim}
 use Rattle.iiif_pixel.specs.declared.geometry.Dim.{Dim}
-use Rattle.iiif_tiff_write.specs.File.{file}
+use Rattle.iiif_tiff_write.specs.File.{file, head_of}
+use Rattle.iiif_tiff_write.proofs.Lengths.{length-head_of}
 use Rattle.iiif_tiff.specs.Tiff.{white_of}
 use Rattle.iiif_tiff_write.specs.OutKind.{out_depth, out_kind_of, samples_per_pixel}
 use Rattle.iiif_tiff_write.specs.declared.kind.OutKind.{OutKind}
+use Rattle.iiif_tiff_write.specs.declared.kind.OutKind.TheVariants.{Gray, Rgb, Bitonal, Gray16, Rgb16}
 use Rattle.iiif_request.specs.declared.request.Request.{Request}
 use Rattle.iiif_canonical.specs.Images.{resolved_image}
 use Rattle.iiif_canonical.specs.declared.resolved.Resolved.{Resolved}
@@ -141,6 +143,14 @@ loaded_held s Body item q a p image held loaded is = is
 loaded_held s (Whole close) item q a p image held loaded is = is
 loaded_held s (Head close) item q a p image held loaded is = absurd cc
 
+-- what stands before a file's rows is not empty
+pub file_head_some : (k : OutKind) (d : Dim) → 0 < length (head_of k d)
+file_head_some Gray d = omega (arith, length-head_of Gray d)
+file_head_some Rgb d = omega (arith, length-head_of Rgb d)
+file_head_some Bitonal d = omega (arith, length-head_of Bitonal d)
+file_head_some Gray16 d = omega (arith, length-head_of Gray16 d)
+file_head_some Rgb16 d = omega (arith, length-head_of Rgb16 d)
+
 -- ---- Answers
 
 module _ {S W : Type 0} (s : Settings) (part : Part) (gave : S → ReadFault → Bool) (kept : Type 0) (item : Item S) (q : Request) (a : Accepted) (p : Picture) (head : List ℕ)
@@ -206,7 +216,7 @@ module _ {S W : Type 0} (s : Settings) (part : Part) (gave : S → ReadFault →
 
   -- a later band failed
   pub load_allowed : (image : Picture) (old new : W) (n front : ℕ) (f : Fault) → IsSentFor kept (resolved_image p a.resolved) image → n < length (head ++ file image a.kind) →
-      Appends (contents old) (contents new) (take n (head ++ file image a.kind)) → 0 < n → length head ≤ front → (n ≡ 0) ⊎ (front ≤ n) → MayFail gave item.source f →
+      Appends (contents old) (contents new) (take n (head ++ file image a.kind)) → 0 < n → length head < front → (n ≡ 0) ⊎ (front ≤ n) → MayFail gave item.source f →
       (text : List ℕ) × Appends (contents old) (contents new) text
       × Allowed s part gave (ReachesImageOf kept item q a p) ((before : W) × fails before new) text (Err (record { sent = n; cause = Load f }))
   load_allowed image old new n front f sent within appended some longer (inl none) failed = absurd (omega (arith, some, none))
@@ -223,7 +233,7 @@ module _ {S W : Type 0} (s : Settings) (part : Part) (gave : S → ReadFault →
             g,
             (image, sent, refl),
             failed,
-            record { prefix = prefix_is image n sent within; head = omega (arith, same, longer, past, count); some = omega (arith, count, some) },
+            record { prefix = prefix_is image n sent within; past = omega (arith, same, longer, past, count) },
           ),
         ),
       )

@@ -52,7 +52,7 @@ not_whole s method close gave Reaches writer text none allowed =
 cut_by_writer : {S : Type 0} (s : Settings) (method : List ℕ) (close : Bool) (gave : S → ReadFault → Bool) (Reaches : Reply S → Type 0) (writer : Type 0) (text : List ℕ) (cause : Cause)
     → text ≡ [] → IsCut s (part_of method close) gave Reaches writer text cause → writer
 cut_by_writer s method close gave Reaches writer text Writer none is = is.0
-cut_by_writer s method close gave Reaches writer text (Load f) none is = absurd (omega (arith, ap length none, is.3.some))
+cut_by_writer s method close gave Reaches writer text (Load f) none is = absurd (omega (arith, ap length none, is.3.past))
 
 -- the end of the input, or a fault, is not answered where a call stands at its front
 other_answer : (r : Result (Option Call) HeadFault) (P : Call → Type 0) (Q : Type 0) → ((call : Call) → r ≡ Ok (Some call) → ⊥) → (r ≡ Err fault.Io → ⊥)

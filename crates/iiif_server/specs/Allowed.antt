@@ -1,5 +1,5 @@
 -- Which text may be sent for a call, and with which result.
-use Rattle.std.specs.Prelude.{◌≡◌, ℕ, ◌≤◌, Bool, true, List, length, IsTrue, Result, Ok, Err}
+use Rattle.std.specs.Prelude.{◌≡◌, ℕ, ◌<◌, Bool, true, List, length, IsTrue, Result, Ok, Err}
 use Rattle.iiif_source.specs.declared.ReadFault.{ReadFault}
 use Rattle.iiif_pixel.specs.Picture.{Picture, dim_of}
 use Rattle.iiif_tiff_read.specs.Layouts as layouts
@@ -56,11 +56,10 @@ MayFail gave source (Source f) = IsTrue (gave source f)
 MayFail gave source NoMemory = Unit {0}
 MayFail gave source _ = ⊥
 
--- the text is a strict prefix of that part of an image's answer: its whole head, and not nothing
+-- the text is a strict prefix of that part of an image's answer: its whole head, and something of its body
 pub record EndsInBody {S : Type 0} (settings : Settings) (part : Part) (g : Given S) (text : List ℕ) : Type 0 where
   pub prefix : IsStrictPrefix text (text_of (written part (response_of settings (given g))))
-  pub head : length (written part (response_of settings (given g))).head ≤ length text
-  pub some : 1 ≤ length text
+  pub past : length (written part (response_of settings (given g))).head < length text
 
 -- What was sent before a call was cut off: a strict prefix of an answer where the writer failed during this call (writer);
 -- of the image's own, from somewhere in its body on, where the rest of the image could not be loaded.

@@ -12,7 +12,7 @@ use iiif_source::Source;
 
 /// So `serve_stream` never lets a call go without a byte of an answer, where the writer doesn't fail.
 pub fn calls_are_not_passed_over<R, S: Source<R>, J: System, I: Inlet, W: Outlet>()
-    ensures { NoSilence S.bytes S.keeps J.honest S.gave ((before after : I) × I.fails before after) ((before after : W) × W.fails before after) }
+    ensures { (last : W) → NoSilence S.bytes S.keeps J.honest S.gave ((before after : I) × I.fails before after) ((before : W) × W.fails before last) }
 {}
 
 /// So no field of an answer is split, and no body is taken for a field.

@@ -2,5 +2,5 @@ use Rattle.iiif_server.proofs.SilenceLemmas.{silent}
 use Rattle.iiif_server.proofs.laws.calls_are_not_passed_over.Goals as goal
 
 pub returns : goal.returns
-returns g c =
-    silent g.S.Source.bytes g.S.Source.keeps g.J.System.honest g.S.Source.gave ((a b : g.row.I.Denot) × g.I.Inlet.fails a b) ((a b : g.row.W.Denot) × g.W.Outlet.fails a b)
+returns g c last =
+    silent g.S.Source.bytes g.S.Source.keeps g.J.System.honest g.S.Source.gave ((a b : g.row.I.Denot) × g.I.Inlet.fails a b) ((before : g.row.W.Denot) × g.W.Outlet.fails before last)

@@ -10,7 +10,7 @@ use Rattle.iiif_server.specs.Code.{ReachesImageOf}
 use Rattle.iiif_server.specs.Nodes.{Service}
 use Rattle.iiif_server.specs.Responses.{image_response, written}
 use Rattle.iiif_server.proofs.AllowedLemmas.{memory_allowed}
-use Rattle.iiif_server.proofs.SendingLemmas.{fails, fits_channels, fits_depth, held_for, load_allowed, none_allowed, sent_for, whole_allowed, writer_allowed}
+use Rattle.iiif_server.proofs.SendingLemmas.{fails, file_head_some, fits_channels, fits_depth, held_for, load_allowed, none_allowed, sent_for, whole_allowed, writer_allowed}
 use Rattle.iiif_server.proofs.node.Node.send_loaded.Goals as goal
 
 pub returns-in_default : goal.returns-in_default
@@ -110,4 +110,4 @@ returns g c q p is kind =
     load_allowed s c.args.part g.S.Source.gave (g.S.Source.keeps c.args.entry.now.source × IsTrue g.J.System.honest) item q a p c.deref.result.now
     g.W.Write.contents g.W.Outlet.fails c.requires.loaded c.requires.ready.quarters kind is_head
     made.0 c.args.out.now c.send_image.new.out c.in-Err-Load.sent front c.in-Err-Load.fault sent made.2.0 made.2.1 (omega (arith, c.if-sent-eq0.false))
-    (omega (arith, length-append c.deref.result.now (head_of a.kind (result_dim c.in-Ok-job.job)))) made.2.2 failed
+    (omega (arith, length-append c.deref.result.now (head_of a.kind (result_dim c.in-Ok-job.job)), file_head_some a.kind (result_dim c.in-Ok-job.job))) made.2.2 failed
