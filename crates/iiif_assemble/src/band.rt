@@ -59,6 +59,7 @@ fn scaled_part<
     ensures held { IfOk result (λ m. IsWithin (count_of m.raster) m.held) }
     ensures fault { IfErr result (IsBandFault (T.means tiles.now) (T.failed tiles.now) (S.means sums.now) (S.failed sums.now) job.now.plan items.now) }
 {
+    // Laws of scaling and of pictures.
     same_sides_change_nothing();
     whole_stays_whole();
     match &job.plan {
@@ -140,6 +141,7 @@ pub fn assemble_band<
     ensures fault { IfErr result (IsBandFault (T.means tiles.now) (T.failed tiles.now) (S.means sums.now) (S.failed sums.now)
         job.now.plan band.now.items.items) }
 {
+    // A law of qualities.
     quality_of_crop();
     let resolved = &job.resolved;
     let from = unturn_rect(resolved.turn, resolved.size, band.rect);
@@ -175,6 +177,7 @@ pub fn assemble<
     ensures held { IfOk result (λ m. IsHeldFor (turned_dim job.now.resolved.turn job.now.resolved.size) (channels_of job.now.shape.kind) m.held) }
     ensures fault { IfErr result (IsPlanFault (T.means tiles.now) (T.failed tiles.now) (S.means sums.now) (S.failed sums.now) job.now.plan) }
 {
+    // Laws of pictures and of bands.
     whole_stays_whole();
     bands_follow();
     match job.whole(alloc) {

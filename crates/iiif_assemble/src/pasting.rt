@@ -118,6 +118,7 @@ pub(crate) fn pasted<T: Items<TileKey, TileVal, P, R> + Sync, P: Send, R: Thread
     ensures held { IfOk result (λ m. IsWithin (count_of m.raster) m.held) }
     ensures fault { IfErr result (IsItemFault (T.means group.now) (T.failed group.now) keys.now items.now) }
 {
+    // Laws of pictures and of crops.
     whole_stays_whole();
     crop_of_crop();
     let values = gathered(rt, alloc, group, passes, keys, items)?;

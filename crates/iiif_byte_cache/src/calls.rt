@@ -96,7 +96,7 @@ impl<K: CacheKey, J: System> ByteCache<K, J> {
         self.put(true, key, entry)
     }
 
-    // Into the hot list, or into main.
+    /// Into the hot list, or into main.
     fn put(&mut self, hot: bool, key: K, entry: Entry<K, J>) -> Result<(), PutFault<K, Entry<K, J>>>
         requires { IsTrue (is_of K.eq key entry) }
         ensures ok { OnOk result (cache_of self.new ≡ with_entry (entry_size K.key_bytes K.val_bytes) K.eq (side hot) key (kept_of entry) (cache_of self.old)) }

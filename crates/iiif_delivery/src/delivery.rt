@@ -91,6 +91,7 @@ pub fn send_image<
     ensures fault { IfErr result (FailsFor job.now (T.means tiles.now) (T.failed tiles.now) (S.means sums.now) (S.failed sums.now) kind
         (length (start.now ++ head_of kind (result_dim job.now)))) }
 {
+    // Laws of bands.
     bands_cut_results();
     laws_of_bands();
     let dim = job.resolved.size.turned(job.resolved.turn);

@@ -23,6 +23,7 @@ use std::thread::Threads;
 pub(crate) fn laws_of_bands()
     ensures { Laws }
 {
+    // Laws of bands, of pictures and of files.
     bands_follow();
     whole_stays_whole();
     bands_join();

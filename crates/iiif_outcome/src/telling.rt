@@ -66,7 +66,7 @@ impl<K: CacheKey, J: System> Receipt<K, J> {
     }
 }
 
-// The outcome in a cell of which something is known.
+/// The outcome in a cell of which something is known.
 fn seen<'a, K: CacheKey, J: System>(
     cell: &'a Arc<OnceBox<Landed<K, J>>>,
     note: &mut Note<Landed<K, J>>,

@@ -60,6 +60,7 @@ fn scaled(alloc: Global, region: &Raster, size: Dim) -> Result<Raster, NoMemory>
     ensures { IfOk result (λ r. r ≡ scale region.now size) }
 {
     let sides = region.dim();
+    // Laws of pictures and of bands.
     region.is_whole();
     bands_follow();
     whole_stays_whole();

@@ -265,6 +265,7 @@ impl<
         let Ok(job) = self.job(alloc, entry, accepted) else {
             return send_message(out, part, Err(AllocError));
         };
+        // Laws of images and of groups.
         picture_is_shown(entry);
         groups_serve_jobs::<J>(&job);
         let items = GroupItems(&self.groups);

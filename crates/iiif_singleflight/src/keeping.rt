@@ -55,7 +55,7 @@ pub(crate) fn count(book: &mut Book, found: bool, fault: bool, place: Place)
     }
 }
 
-// Puts an entry into one of the lists. False where it isn't put.
+/// Puts an entry into one of the lists. False where it isn't put.
 fn put<K: CacheKey, J: System>(
     cache: &mut ByteCache<K, J>,
     hot: bool,
@@ -71,7 +71,7 @@ fn put<K: CacheKey, J: System>(
     cache.put_main(key, entry).is_ok()
 }
 
-// Puts a value with the receipt of its flight. False where memory is wanting.
+/// Puts a value with the receipt of its flight. False where memory is wanting.
 fn keep<K: CacheKey, J: System>(
     cache: &mut ByteCache<K, J>,
     hot: bool,
@@ -94,7 +94,7 @@ fn keep<K: CacheKey, J: System>(
     put(cache, hot, key, entry)
 }
 
-// Keeps a value by its place: each tenth that came from a peer, and of those no other. False where nothing is put.
+/// Keeps a value by its place: each tenth that came from a peer, and of those no other. False where nothing is put.
 fn store<K: CacheKey, J: System>(
     cache: &mut ByteCache<K, J>,
     place: Place,

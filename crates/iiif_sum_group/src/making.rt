@@ -121,6 +121,7 @@ impl<
         ensures counted { (passes.old.tile.gets ≤ passes.new.tile.gets) × (passes.old.sum.gets ≤ passes.new.sum.gets) }
         ensures parts { (passes.new.tile.parts ≡ passes.old.tile.parts) × (passes.new.sum.parts ≡ passes.old.sum.parts) }
     {
+        // Laws of parts and of keys.
         parts_are_exact();
         parts_make_the_meaning();
         fitting_keys_have_parts();
