@@ -59,19 +59,41 @@ fn added(
     Ok(catalogue.add(String::from_str(alloc, name)?, source, layout))
 }
 
+/// Images that are taken in one after another: a name, one that was taken before it, and what taking it in answers.
+const TAKEN: [(&str, &str, Result<(), AddFault>); 7] = [
+    ("a", "a", Ok(())),
+    ("a", "a", Err(AddFault::Twice)),
+    ("", "a", Err(AddFault::Name)),
+    ("b", "a", Ok(())),
+    ("c", "b", Ok(())),
+    ("b", "c", Err(AddFault::Twice)),
+    ("", "c", Err(AddFault::Name)),
+];
+
+/// What taking it in answers, once more where memory was wanted, which has to leave this name and the one before as they were.
+fn added_again(
+    alloc: Global,
+    catalogue: &mut Catalogue<(), Fused>,
+    name: &str,
+    before: &str,
+) -> Result<Result<(), AddFault>, Fail> {
+    let had = (catalogue.has(name), catalogue.has(before));
+    let first = added(alloc, catalogue, name, &SAMPLE, 99)?;
+    if first != Err(AddFault::NoMemory) {
+        return Ok(first);
+    }
+    if had != (catalogue.has(name), catalogue.has(before)) {
+        return Err(Fail::from("another catalogue after want of memory"));
+    }
+    added(alloc, catalogue, name, &SAMPLE, 99)
+}
+
 #[test]
 fn name_is_taken_after_a_refused_growth(rt: HostRuntime) -> Result<(), Fail> {
     let mut catalogue = Catalogue::new(rt.alloc());
-    for (name, before) in [("a", "a"), ("b", "a"), ("c", "b")] {
-        let first = added(rt.alloc(), &mut catalogue, name, &SAMPLE, 99)?;
-        if first == Err(AddFault::NoMemory) {
-            assert!(rt; !catalogue.has(name));
-            assert!(rt; name == before || catalogue.has(before));
-            let second = added(rt.alloc(), &mut catalogue, name, &SAMPLE, 99)?;
-            assert_eq!(rt; second, Ok(()), "at {name}");
-        } else {
-            assert_eq!(rt; first, Ok(()), "at {name}");
-        }
+    for (name, before, answer) in TAKEN {
+        let taken = added_again(rt.alloc(), &mut catalogue, name, before)?;
+        assert!(rt; taken == answer && catalogue.has(before));
     }
     assert!(rt; catalogue.has("a") && catalogue.has("b") && catalogue.has("c"));
     Ok(())
