@@ -11,6 +11,14 @@ import program as running  # noqa: E402
 
 BASE, NAME, IIPSRV = running.BASE, "gray", "/usr/lib/iipimage-server/iipsrv.fcgi"
 TICKS = os.sysconf("SC_CLK_TCK")
+UNIT = os.path.join(os.path.dirname(os.path.abspath(__file__)), "..", "..", "packaging", "iiif-serve.service")
+
+
+def unit_environment():
+    """What the package's unit adds to the environment of the program."""
+    with open(UNIT) as unit:
+        words = [line.strip().removeprefix("Environment=") for line in unit if line.startswith("Environment=")]
+    return dict(word.split("=", 1) for word in words)
 
 
 class Failed(Exception):
@@ -23,11 +31,11 @@ class Servers:
     # What stands at the end of a target.
     last = "default.tif"
 
-    def __init__(self, column, commands, ports, room, said=None):
+    def __init__(self, column, commands, ports, room, added=None):
         self.column, self.addresses, self.processes = column, [f"127.0.0.1:{port}" for port in ports], []
         self.said = open(os.path.join(room, "said"), "w+b")
         for command in commands:
-            self.processes.append(subprocess.Popen(command, stdin=subprocess.DEVNULL, stdout=self.said, stderr=self.said, start_new_session=True))
+            self.processes.append(subprocess.Popen(command, stdin=subprocess.DEVNULL, stdout=self.said, stderr=self.said, start_new_session=True, env={**os.environ, **(added or {})}))
         for port in ports:
             self.wait_for(port)
 
@@ -88,7 +96,7 @@ class Servers:
 
 
 class Program(Servers):
-    """A build of the program: one node, or several that ask each other."""
+    """A build of the program: one node, or several that ask each other. Each is started in the environment of the package's unit."""
 
     def __init__(self, column, path, source, room, options=(), nodes=1):
         known = running.options_of(path)
@@ -103,7 +111,7 @@ class Program(Servers):
             if self.counts:
                 words += ["--stats-listen", f"127.0.0.1:{self.stats[n]}"]
             commands.append(words + [f"{NAME}={source}"])
-        super().__init__(column, commands, ports, room)
+        super().__init__(column, commands, ports, room, unit_environment())
 
     def loads(self):
         """Of each node the loads of tiles and of sums, and what came from other nodes, by its counters; nothing where it has none."""

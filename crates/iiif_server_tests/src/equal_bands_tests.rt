@@ -33,62 +33,57 @@ fn banded<R: Threads + Wait + Sync>(
     Ok(answers)
 }
 
-/// A picture of 3 by 2 of 8 bits.
-fn rgb(alloc: Global) -> Result<Raster, Fail> {
-    let samples = [
+/// A small picture, and the kind of its file: gray, RGB and bits, and gray and RGB of 16 bits.
+fn picture(alloc: Global, number: usize) -> Result<(Raster, OutKind), Fail> {
+    let reds = [
         2, 0, 0, 0, 255, 7, 128, 127, 126, 255, 255, 255, 13, 77, 201, 90, 14, 3,
     ];
-    bytes(alloc, [3, 2], Kind::Rgb, &samples)
+    let deep_reds = [
+        2, 0, 0, 0, 65_535, 7, 32_768, 32_767, 32_766, 65_535, 65_535, 65_535, 513, 19_712, 51_456,
+        23_040, 3_584, 770,
+    ];
+    let grays = [0, 10, 255, 40, 128, 127];
+    let bits = [0, 255, 255, 255, 0, 255];
+    let deep_grays = [0, 65_535, 32_768, 257, 255, 40_000];
+    match number {
+        0 => Ok((bytes(alloc, [3, 2], Kind::Gray, &grays)?, OutKind::Gray)),
+        1 => Ok((bytes(alloc, [3, 2], Kind::Rgb, &reds)?, OutKind::Rgb)),
+        2 => Ok((bytes(alloc, [2, 3], Kind::Gray, &bits)?, OutKind::Bitonal)),
+        3 => Ok((
+            shorts(alloc, [2, 3], Kind::Gray, &deep_grays)?,
+            OutKind::Gray16,
+        )),
+        _ => Ok((
+            shorts(alloc, [3, 2], Kind::Rgb, &deep_reds)?,
+            OutKind::Rgb16,
+        )),
+    }
 }
 
-/// A picture of 2 by 3 of 16 bits.
-fn gray(alloc: Global) -> Result<Raster, Fail> {
-    shorts(
-        alloc,
-        [2, 3],
-        Kind::Gray,
-        &[0, 65_535, 32_768, 257, 255, 40_000],
-    )
+/// The answers of all pictures that are compared, by so many workers.
+fn all<R: Threads + Wait + Sync>(rt: &R, alloc: Global, workers: u32) -> Result<u64, Fail> {
+    let mut answers = 0u64;
+    for number in 0..5 {
+        let (raster, out) = picture(alloc, number)?;
+        answers = answers.wrapping_add(banded(rt, alloc, &raster, out, workers)?);
+    }
+    Ok(answers)
 }
 
 #[test]
-fn rgb_picture_of_3_by_2_by_one_worker(rt: HostRuntime) -> Result<(), Fail> {
-    let answers = banded(&rt, rt.alloc(), &rgb(rt.alloc())?, OutKind::Rgb, 1)?;
-    assert_eq!(rt; answers, 9 * 10 * 4 * 4 * 36);
+fn small_pictures_by_one_worker(rt: HostRuntime) -> Result<(), Fail> {
+    assert_eq!(rt; all(&rt, rt.alloc(), 1)?, 5 * 9 * 10 * 4 * 4 * 36);
     Ok(())
 }
 
 #[test]
-fn gray_picture_of_16_bits_by_one_worker(rt: HostRuntime) -> Result<(), Fail> {
-    let answers = banded(&rt, rt.alloc(), &gray(rt.alloc())?, OutKind::Gray16, 1)?;
-    assert_eq!(rt; answers, 9 * 4 * 10 * 4 * 36);
+fn small_pictures_by_two_workers(rt: HostRuntime) -> Result<(), Fail> {
+    assert_eq!(rt; all(&rt, rt.alloc(), 2)?, 5 * 9 * 10 * 4 * 4 * 36);
     Ok(())
 }
 
 #[test]
-fn rgb_picture_of_3_by_2_by_two_workers(rt: HostRuntime) -> Result<(), Fail> {
-    let answers = banded(&rt, rt.alloc(), &rgb(rt.alloc())?, OutKind::Rgb, 2)?;
-    assert_eq!(rt; answers, 9 * 10 * 4 * 4 * 36);
-    Ok(())
-}
-
-#[test]
-fn gray_picture_of_16_bits_by_two_workers(rt: HostRuntime) -> Result<(), Fail> {
-    let answers = banded(&rt, rt.alloc(), &gray(rt.alloc())?, OutKind::Gray16, 2)?;
-    assert_eq!(rt; answers, 9 * 4 * 10 * 4 * 36);
-    Ok(())
-}
-
-#[test]
-fn rgb_picture_of_3_by_2_by_five_workers(rt: HostRuntime) -> Result<(), Fail> {
-    let answers = banded(&rt, rt.alloc(), &rgb(rt.alloc())?, OutKind::Rgb, 5)?;
-    assert_eq!(rt; answers, 9 * 10 * 4 * 4 * 36);
-    Ok(())
-}
-
-#[test]
-fn gray_picture_of_16_bits_by_five_workers(rt: HostRuntime) -> Result<(), Fail> {
-    let answers = banded(&rt, rt.alloc(), &gray(rt.alloc())?, OutKind::Gray16, 5)?;
-    assert_eq!(rt; answers, 9 * 4 * 10 * 4 * 36);
+fn small_pictures_by_five_workers(rt: HostRuntime) -> Result<(), Fail> {
+    assert_eq!(rt; all(&rt, rt.alloc(), 5)?, 5 * 9 * 10 * 4 * 4 * 36);
     Ok(())
 }
