@@ -90,26 +90,77 @@ fn key_twice(alloc: Global) -> Option<SumKey> {
 fn right_twice<R: Wait + Abort, J: System>(
     rt: &R,
     groups: &Alone<R, Fused, J, NoGate>,
+    passes: &mut Passes<J>,
     key: &SumKey,
 ) -> Result<bool, Fail> {
-    let mut passes = passes_twice(rt, groups).ok_or("no pass")?;
-    let (refused, first) = asked_twice(rt, groups, &mut passes, key)?;
+    let (refused, first) = asked_twice(rt, groups, passes, key)?;
     let before = groups.sums().book(rt).hits;
-    let (again, second) = asked_twice(rt, groups, &mut passes, key)?;
+    let (again, second) = asked_twice(rt, groups, passes, key)?;
     assert!(rt; first == HALVED && second == HALVED);
     assert!(rt; before < groups.sums().book(rt).hits);
     Ok(refused || again)
 }
 
-/// The whole picture's sums, once more where memory was wanted, and then as they are kept. Whether it was, and the books of the tiles
-/// and of the sums.
+/// The book of the sums and the share at home, gathered in vain with the calls' pass kept back, and then with both.
+fn gathered<R: Wait, J: System>(
+    rt: &R,
+    alloc: Global,
+    groups: &Alone<R, Fused, J, NoGate>,
+    kept: Passes<J>,
+) -> Result<(Book, u64), Fail> {
+    let Passes { tile, sum } = kept;
+    groups.tiles().group().give_back(rt, tile);
+    let pass = groups.sums().pass(rt).ok_or("no pass")?;
+    let mut passes = Vec::new(alloc);
+    passes.push(pass)?;
+    match groups.sums().gather(rt, passes) {
+        Ok(_) => Err("a pass was out".into()),
+        Err(mut back) => {
+            back.push(sum)?;
+            match groups.sums().gather(rt, back) {
+                Ok(all) => Ok(all),
+                Err(_) => Err("no pass was out".into()),
+            }
+        }
+    }
+}
+
+/// What calls came to: whether memory was wanted, the books of the tiles and of the sums, and what was gathered of the sums.
+#[derive(Clone, Copy)]
+struct Met {
+    refused: bool,
+    near: Book,
+    far: Book,
+    home: (Book, u64),
+}
+
+/// The whole picture's sums, once more where memory was wanted, and then as they are kept.
+fn seen<R: Wait + Abort, J: System>(
+    rt: &R,
+    alloc: Global,
+    groups: &Alone<R, Fused, J, NoGate>,
+) -> Result<Met, Fail> {
+    let key = key_twice(alloc).ok_or("no key")?;
+    let mut passes = passes_twice(rt, groups).ok_or("no pass")?;
+    let refused = right_twice(rt, groups, &mut passes, &key)?;
+    let (near, far) = (groups.tiles().group().book(rt), groups.sums().book(rt));
+    let home = gathered(rt, alloc, groups, passes)?;
+    Ok(Met {
+        refused,
+        near,
+        far,
+        home,
+    })
+}
+
+/// The same over groups of their own.
 fn called<R: Wait + Abort, J: System>(
     rt: &R,
     alloc: Global,
     catalogue: Catalogue<R, Fused>,
     tiles: Blank,
     sums: Blank,
-) -> Result<(bool, Book, Book), Fail>
+) -> Result<Met, Fail>
     requires pictures { (name : List ℕ) → J.pictures name ≡ pictures_of ⟦<Fused as Source<R>>⟧.bytes catalogue name }
     requires gave { (name : List ℕ) (f : ReadFault) → J.gave name f ≡ gave_of ⟦<Fused as Source<R>>⟧.gave catalogue name f }
     requires stable { (name : List ℕ) (item : Item _) → item_named catalogue name ≡ Some item → J.stable name → ∥ ⟦<Fused as Source<R>>⟧.keeps item.source ∥₁ }
@@ -118,10 +169,7 @@ fn called<R: Wait + Abort, J: System>(
     requires sums { (sums.name ≡ J.sums_name) × (sums.parts ≡ J.sums_parts) × (J.sums_parts ≡ 65537) }
 {
     let groups: Alone<R, Fused, J, NoGate> = groups(alloc, catalogue, NoGate, tiles, sums)?;
-    let key = key_twice(alloc).ok_or("no key")?;
-    let refused = right_twice(rt, &groups, &key)?;
-    let (near, far) = (groups.tiles().group().book(rt), groups.sums().book(rt));
-    Ok((refused, near, far))
+    seen(rt, alloc, &groups)
 }
 
 /// The sample's catalogue, made once more where memory was wanted.
@@ -157,8 +205,10 @@ fn are_made_anew(near: Book, far: Book) -> bool {
 fn sums_and_books_are_right_after_a_refused_growth(rt: HostRuntime) -> Result<(), Fail> {
     let catalogue = sample_twice(&rt, rt.alloc()).ok_or("no catalogue")?;
     let (tiles, sums) = (Blank::new(65_537), Blank::new(65_537));
-    let (refused, near, far) = called::<_, Brand>(&rt, rt.alloc(), catalogue, tiles, sums)?;
-    assert!(rt; is_settled(&near) && is_settled(&far));
-    assert!(rt; refused || are_whole(near, far) || are_made_anew(near, far));
+    let met = called::<_, Brand>(&rt, rt.alloc(), catalogue, tiles, sums)?;
+    assert!(rt; is_settled(&met.near) && is_settled(&met.far));
+    assert!(rt; met.refused || are_whole(met.near, met.far) || are_made_anew(met.near, met.far));
+    // The calls' pass had its share when both were handed in, and none had come home before.
+    assert!(rt; met.home == (met.far, 0));
     Ok(())
 }
