@@ -230,6 +230,40 @@ fn settings_are_refused_in_order(rt: HostRuntime) -> Result<(), Fail> {
     Ok(())
 }
 
+/// Settings, once more where memory was wanted.
+fn configured_again(
+    alloc: Global,
+    base: &str,
+    edge: u32,
+    workers: u32,
+) -> Result<Config, ConfigFault> {
+    match Config::new(alloc, base, edge, limits(4), 64, workers) {
+        Err(ConfigFault::NoMemory) => Config::new(alloc, base, edge, limits(4), 64, workers),
+        answer => answer,
+    }
+}
+
+/// Whether settings are as they were given, or why they are refused.
+fn are_taken(alloc: Global, base: &str, edge: u32, workers: u32) -> Result<bool, ConfigFault> {
+    let config = configured_again(alloc, base, edge, workers)?;
+    Ok(config.base() == base && config.edge() == edge && config.workers() == workers)
+}
+
+#[test]
+fn settings_are_taken_after_a_refused_growth(rt: HostRuntime) -> Result<(), Fail> {
+    for (base, edge, workers, answer) in [
+        ("http://localhost/iiif", 2u32, 2u32, Ok(true)),
+        ("http://localhost/iiif", 5, 2, Err(ConfigFault::Edge)),
+        ("http://localhost/iiif", 2, 17, Err(ConfigFault::Workers)),
+        ("http:/localhost", 5, 2, Err(ConfigFault::Base)),
+        ("https://a-b.example:8080/x/~y", 1, 1, Ok(true)),
+    ] {
+        let taken = are_taken(rt.alloc(), base, edge, workers);
+        assert!(rt; taken == answer, "edge {edge}, {workers} workers");
+    }
+    Ok(())
+}
+
 /// Takes the sample into a catalogue.
 fn add(
     alloc: Global,
