@@ -13,3 +13,4 @@ pub mod SumLaws
 pub mod SumsSeen
 pub mod TileLaws
 pub mod WeightLaws
+pub mod WholeTile

@@ -2,7 +2,7 @@ use Rattle.std.proofs.Common.{◌≡◌, ◌∙◌, sym, ap}
 use Rattle.iiif_pixel.specs.Picture.{Picture, dim_of}
 use Rattle.iiif_pixel.specs.Operations.{crop}
 use Rattle.iiif_pixel.specs.Scaling.{scale}
-use Rattle.iiif_plain_tables.proofs.ScalingLemmas.{tile_from, all_lies, inside_itself, finished_whole, dim_is}
+use Rattle.iiif_area.proofs.WholeTile.{tile_from, all_lies, inside_itself, finished_whole, dim_is}
 use Rattle.iiif_plain_tables.proofs.making.scaled.Goals as goal
 
 pub finish-requires-clause-inside : goal.finish-requires-clause-inside

@@ -1,5 +1,5 @@
 use Rattle.iiif_pixel.specs.Picture.{dim_of}
-use Rattle.iiif_plain_tables.proofs.ScalingLemmas.{dim_is}
+use Rattle.iiif_area.proofs.WholeTile.{dim_is}
 use Rattle.iiif_world.proofs.wanting.dim_of.Goals as goal
 
 pub returns : goal.returns
