@@ -80,6 +80,7 @@ impl Job {
         ensures bands { IfOk result (λ bs. AreBands self.now.resolved self.now.plan rows bs.items) }
         ensures each { IfOk result (λ bs. All (IsBandOf self.now) bs.items) }
     {
+        // A law of bands.
         bands_cut_results();
         // Read, so that the image's sides are known to fit.
         let (_w, _h) = (self.shape.dim.w, self.shape.dim.h);

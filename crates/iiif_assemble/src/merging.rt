@@ -82,6 +82,7 @@ pub(crate) fn summed<S: Items<SumKey, SumVal, P, R> + Sync, P: Send, R: Threads 
     ensures held { IfOk result (λ m. IsWithin (count_of m.raster) m.held) }
     ensures fault { IfErr result (IsItemFault (S.means group.now) (S.failed group.now) keys.now items.now) }
 {
+    // Laws of sums and of pictures.
     merging_adds();
     whole_stays_whole();
     let values = gathered(rt, alloc, group, passes, keys, items)?;

@@ -15,5 +15,6 @@ pub fn bands_cut_results()
     ensures cut { BandsCutPictures }
     ensures low { BandsAreLow }
 {
+    // A law of pictures.
     bands_follow();
 }

@@ -66,6 +66,7 @@ impl<K: CacheKey, J: System> Recent<K, J> {
         ensures back { IfErr result (λ p. p ≡ (key, entry)) }
         ensures absent { OnErr result (is_some (lookup (K.eq key) (rows kept_of self.old.list.entries)) ≡ false) }
     {
+        // Read, so that the list is known to be within its room.
         let _valid = self.list.len();
         match self.list.push(key, entry) {
             Ok(Some((old_key, old))) => {

@@ -20,6 +20,7 @@ pub fn groups_serve_jobs<J: System>(job: &Job)
     ensures shown { IsSource (named J.pictures job.now.name) → J.stable job.now.name → IsTrue J.honest
         → IsShown J.pictures job.now (TileMayBe J.pictures J.stable J.honest) (SumMayBe J.pictures J.stable J.honest) }
 {
+    // Laws of keys.
     TileKey::laws();
     SumKey::laws();
 }

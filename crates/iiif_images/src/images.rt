@@ -137,6 +137,7 @@ impl<R, S: Source<R> + Drop, J: System> Images<R, S, J> {
         ensures shaped { IfOk result (λ v. IsTrue (tile_is_shaped J.pictures key.now v)) }
         ensures given { IfErr result (λ f. IsTrue (is_given (J.gave key.now.name) f)) }
     {
+        // Laws of keys.
         TileKey::laws();
         self.read(rt, entry, shape, key)
     }

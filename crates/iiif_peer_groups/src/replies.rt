@@ -38,6 +38,7 @@ pub(crate) fn value_bytes<K: CacheKey, J: System>(
     ensures within { IfOk result (λ bytes. length bytes.items ≤ value_limit) }
     ensures given { IfErr result (λ f. IsTrue (is_given (J.gave (K.name_of key.now)) f)) }
 {
+    // Laws of keys.
     K::laws();
     let value = taken(receipt, key)?;
     // Compared, so that the value is known to be one that can be sent.

@@ -32,6 +32,7 @@ fn value_over<K: CacheKey, I: Inlet, W: Outlet>(
     ensures value { IfOk result (λ v. Replied (terms W.contents W.fails I.remaining I.fails out.old out.new reader.old reader.new (wire_version shape.now.depth) group (K.key_bytes key.now)) 0 (K.val_bytes v)) }
     ensures fault { IfErr result (FailedFor K.val_refusal (terms W.contents W.fails I.remaining I.fails out.old out.new reader.old reader.new (wire_version shape.now.depth) group (K.key_bytes key.now))) }
 {
+    // Laws of keys.
     K::laws();
     // Read, so that they are known to be a name and two numbers of 32 bits.
     let _name = key.name();

@@ -32,6 +32,7 @@ pub(crate) fn to_front(list: &mut Vec<Entry>, place: usize)
     requires { place < vec_len list.old }
     ensures { (e : Entry) → slice_get list.old.items place ≡ Some e → list.new.items ≡ e ∷ remove list.old.items place }
 {
+    // Read, so that one entry less is known to leave room for one.
     let _count = list.len();
     let entry = list.remove(place);
     match list.insert(0, entry) {
@@ -45,6 +46,7 @@ fn renew(list: &mut Vec<Entry>, place: usize, entry: Entry)
     requires { place < vec_len list.old }
     ensures { list.new.items ≡ entry ∷ remove list.old.items place }
 {
+    // Read, so that one entry less is known to leave room for one.
     let _count = list.len();
     let _gone = list.remove(place);
     match list.insert(0, entry) {

@@ -146,6 +146,7 @@ pub fn job_of<R, S: Source<R>>(
 pub fn picture_is_shown<R, S: Source<R>>(entry: &Entry<R, S>)
     ensures { (p : Picture) → S.keeps entry.now.source → IsPictureOf S.bytes S.keeps (item_of entry.now) p → picture_in S.bytes (item_of entry.now) ≡ p }
 {
+    // A law of files.
     shows_one_picture();
     // Read, so that the source's bytes are known to be bytes.
     let _len = entry.source.len();

@@ -24,6 +24,7 @@ pub fn fields_are_plain<R, S: Source<R>>()
 pub fn heads_read_back<R, S: Source<R>>()
     ensures { HeadsReadBack S }
 {
+    // A law of heads.
     written_head_reads_back();
 }
 
@@ -32,6 +33,7 @@ pub fn heads_read_back<R, S: Source<R>>()
 pub fn whole_over_honest_devices<R, S: Source<R>, J: System, W: Outlet>()
     ensures { (last : W) → WholeOverHonestDevices S.bytes S.keeps J.honest S.gave ((before : W) × W.fails before last) }
 {
+    // Laws of requests: each text is asked, and says, one thing.
     asked_once();
     says_once();
 }

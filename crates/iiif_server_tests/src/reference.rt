@@ -39,6 +39,7 @@ fn scaled(alloc: Global, region: &Raster, size: Dim) -> Result<Raster, NoMemory>
 {
     let sides = region.dim();
     region.is_whole();
+    // Laws of pictures.
     bands_follow();
     whole_stays_whole();
     let sums = Sums::of_tile(alloc, region, whole(sides), whole(sides), size)?;

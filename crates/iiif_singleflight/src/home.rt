@@ -85,6 +85,7 @@ impl<K: CacheKey, J: System, L: Ledger> Home<K, J, L> {
         let Pass { share, parts, gets } = pass;
         self.share.merge(share);
         self.table.tally.audit(&mut self.share);
+        // Read, so that it is known to be a number of 64 bits.
         let _all = self.table.book.gets;
         self.parts += parts;
         self.gets += gets;

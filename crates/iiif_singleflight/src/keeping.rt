@@ -37,6 +37,7 @@ pub(crate) fn count(book: &mut Book, found: bool, fault: bool, place: Place)
     requires room { book.old.landed < book.old.leads }
     ensures { book.new ≡ counted_as found fault place book.old }
 {
+    // Read, so that it is known to be a number of 64 bits, and what is counted below it too.
     let _leads = book.leads;
     book.landed += 1;
     if found {

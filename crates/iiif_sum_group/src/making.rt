@@ -35,6 +35,7 @@ fn add_part<J: System>(
     ensures merged { J.stable part.now.name → IsTrue J.honest → OnOk result (total.new.sums ≡ merged total.old.sums (sum_meaning J.pictures part.now).sums) }
     ensures given { IfErr result (λ f. IsTrue (is_given (J.gave part.now.name) f)) }
 {
+    // Laws of keys.
     SumKey::laws();
     let sums = taken(receipt, part)?;
     total.merge(&*sums);
@@ -68,6 +69,7 @@ impl<
         ensures counted { (passes.old.tile.gets ≤ passes.new.tile.gets) × (passes.old.sum.gets ≤ passes.new.sum.gets) }
         ensures parts { (passes.new.tile.parts ≡ passes.old.tile.parts) × (passes.new.sum.parts ≡ passes.old.sum.parts) }
     {
+        // Laws of keys.
         TileKey::laws();
         SumKey::laws();
         let Ok(receipt) = self.tiles.get(rt, &mut passes.tile, tile) else {
