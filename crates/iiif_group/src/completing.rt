@@ -18,7 +18,7 @@ use std::sync::{Arc, Wait};
 impl<K: CacheKey, J: System, L: Ledger, N, T> Group<K, J, L, N, T> {
     /// Ends a load with a value that is its key's meaning, or with a fault that its source gave or want of memory, and tells those
     /// that wait. The local flight has that outcome. So has the wide one, if the call leads one; but it has want of memory where the
-    /// value refuses it a share. A fault needs none, so both have it.
+    /// value refuses it a share. A fault needs no share, so both have it.
     pub fn complete<R: Wait>(
         &self,
         rt: &R,

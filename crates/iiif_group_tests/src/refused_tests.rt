@@ -129,8 +129,8 @@ fn gathered<R: Wait, J: System>(
 #[derive(Clone, Copy)]
 struct Met {
     refused: bool,
-    near: Book,
-    far: Book,
+    tiles: Book,
+    sums: Book,
     home: (Book, u64),
 }
 
@@ -143,12 +143,12 @@ fn seen<R: Wait + Abort, J: System>(
     let key = key_twice(alloc).ok_or("no key")?;
     let mut passes = passes_twice(rt, groups).ok_or("no pass")?;
     let refused = right_twice(rt, groups, &mut passes, &key)?;
-    let (near, far) = (groups.tiles().group().book(rt), groups.sums().book(rt));
+    let (tiles, sums) = (groups.tiles().group().book(rt), groups.sums().book(rt));
     let home = gathered(rt, alloc, groups, passes)?;
     Ok(Met {
         refused,
-        near,
-        far,
+        tiles,
+        sums,
         home,
     })
 }
@@ -181,24 +181,24 @@ fn sample_twice<R>(rt: &R, alloc: Global) -> Option<Catalogue<R, Fused>> {
 }
 
 /// Whether these are the books of the tiles and the sums where no growth was refused: the second call is a hit.
-fn are_whole(near: Book, far: Book) -> bool {
+fn are_whole(tiles: Book, sums: Book) -> bool {
     let hit = Book {
         gets: 6,
         hits: 1,
         ..all_load(5, 0)
     };
-    near == all_load(4, 0) && far == hit
+    tiles == all_load(4, 0) && sums == hit
 }
 
 /// Whether these are the books where the cache wanted memory for the picture's sums, which were answered all the same: the second call
 /// makes them anew of its parts, which are kept.
-fn are_made_anew(near: Book, far: Book) -> bool {
+fn are_made_anew(tiles: Book, sums: Book) -> bool {
     let anew = Book {
         gets: 10,
         hits: 4,
         ..all_load(6, 0)
     };
-    near == all_load(4, 0) && far == anew
+    tiles == all_load(4, 0) && sums == anew
 }
 
 #[test]
@@ -206,9 +206,11 @@ fn sums_and_books_are_right_after_a_refused_growth(rt: HostRuntime) -> Result<()
     let catalogue = sample_twice(&rt, rt.alloc()).ok_or("no catalogue")?;
     let (tiles, sums) = (Blank::new(65_537), Blank::new(65_537));
     let met = called::<_, Brand>(&rt, rt.alloc(), catalogue, tiles, sums)?;
-    assert!(rt; is_settled(&met.near) && is_settled(&met.far));
-    assert!(rt; met.refused || are_whole(met.near, met.far) || are_made_anew(met.near, met.far));
+    assert!(rt; is_settled(&met.tiles) && is_settled(&met.sums));
+    assert!(rt;
+        met.refused || are_whole(met.tiles, met.sums) || are_made_anew(met.tiles, met.sums)
+    );
     // The calls' pass had its share when both were handed in, and none had come home before.
-    assert!(rt; met.home == (met.far, 0));
+    assert!(rt; met.home == (met.sums, 0));
     Ok(())
 }

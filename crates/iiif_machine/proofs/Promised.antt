@@ -32,10 +32,10 @@ use Rattle.iiif_machine.proofs.Listed.{step_listed}
 use Rattle.iiif_machine.proofs.Subjects.{subject_laws}
 use Rattle.iiif_machine.proofs.Opened.{table_laws}
 
-abbrev Goes : World → World → Type 0
-Goes w v = Follows w v × IsSound v
+abbrev KeepsOn : World → World → Type 0
+KeepsOn w v = Follows w v × IsSound v
 
-join : (w : World) (x : Option World) → After (Next w) x → After IsApart x → After IsListed x → After (Stays w) x → After (Goes w) x
+join : (w : World) (x : Option World) → After (Next w) x → After IsApart x → After IsListed x → After (Stays w) x → After (KeepsOn w) x
 join w None a b c d = tt
 join w (Some v) a b c d = (
   record { scene = a.follows.scene; cards = d.cards; given = a.follows.given; answers = a.follows.answers; ended = d.ended },
@@ -58,13 +58,13 @@ follows_further w v u first second = record {
   ended = λ f l o at. second.ended f l o (first.ended f l o at);
 }
 
-after_step : (w : World) (x : Option World) (f : World → Option World) → After (Goes w) x →
-    ((v : World) → Follows w v → IsSound v → After (Goes w) (f v)) → After (Goes w) (x >>= f)
+after_step : (w : World) (x : Option World) (f : World → Option World) → After (KeepsOn w) x →
+    ((v : World) → Follows w v → IsSound v → After (KeepsOn w) (f v)) → After (KeepsOn w) (x >>= f)
 after_step w None f h g = tt
 after_step w (Some v) f h g = g v h.0 h.1
 
 -- what goes on from a world that went on
-further : (w v : World) (x : Option World) → Follows w v → After (Goes v) x → After (Goes w) x
+further : (w v : World) (x : Option World) → Follows w v → After (KeepsOn v) x → After (KeepsOn w) x
 further w v None first h = tt
 further w v (Some u) first h = (follows_further w v u first h.0, h.1)
 
@@ -74,7 +74,7 @@ each_run_follows w [] proper h = (follows_itself w, h)
 each_run_follows w (e ∷ es) proper h = after_step w (step w e) (λ v. run v es) (each_step w e proper h)
     (λ v next is. further w v (run v es) next (each_run_follows v es (subst IsProper (sym next.scene) proper) is))
 
-sound_after : (w : World) (x : Option World) → After (Goes w) x → After IsSound x
+sound_after : (w : World) (x : Option World) → After (KeepsOn w) x → After IsSound x
 sound_after w None h = tt
 sound_after w (Some v) h = h.1
 

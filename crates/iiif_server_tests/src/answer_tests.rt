@@ -246,7 +246,8 @@ fn configured_again(
 /// Whether settings are as they were given, or why they are refused.
 fn are_taken(alloc: Global, base: &str, edge: u32, workers: u32) -> Result<bool, ConfigFault> {
     let config = configured_again(alloc, base, edge, workers)?;
-    Ok(config.base() == base && config.edge() == edge && config.workers() == workers)
+    let sides = config.edge() == edge && config.limits() == limits(4);
+    Ok(config.base() == base && sides && config.band() == 64 && config.workers() == workers)
 }
 
 #[test]

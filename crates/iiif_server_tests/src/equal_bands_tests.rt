@@ -33,8 +33,8 @@ fn banded<R: Threads + Wait + Sync>(
     Ok(answers)
 }
 
-/// A small picture, and the kind of its file: gray, RGB and bits, and gray and RGB of 16 bits.
-fn picture(alloc: Global, number: usize) -> Result<(Raster, OutKind), Fail> {
+/// A small picture for a file of a kind.
+fn picture(alloc: Global, out: OutKind) -> Result<Raster, Fail> {
     let reds = [
         2, 0, 0, 0, 255, 7, 128, 127, 126, 255, 255, 255, 13, 77, 201, 90, 14, 3,
     ];
@@ -45,26 +45,26 @@ fn picture(alloc: Global, number: usize) -> Result<(Raster, OutKind), Fail> {
     let grays = [0, 10, 255, 40, 128, 127];
     let bits = [0, 255, 255, 255, 0, 255];
     let deep_grays = [0, 65_535, 32_768, 257, 255, 40_000];
-    match number {
-        0 => Ok((bytes(alloc, [3, 2], Kind::Gray, &grays)?, OutKind::Gray)),
-        1 => Ok((bytes(alloc, [3, 2], Kind::Rgb, &reds)?, OutKind::Rgb)),
-        2 => Ok((bytes(alloc, [2, 3], Kind::Gray, &bits)?, OutKind::Bitonal)),
-        3 => Ok((
-            shorts(alloc, [2, 3], Kind::Gray, &deep_grays)?,
-            OutKind::Gray16,
-        )),
-        _ => Ok((
-            shorts(alloc, [3, 2], Kind::Rgb, &deep_reds)?,
-            OutKind::Rgb16,
-        )),
+    match out {
+        OutKind::Gray => bytes(alloc, [3, 2], Kind::Gray, &grays),
+        OutKind::Rgb => bytes(alloc, [3, 2], Kind::Rgb, &reds),
+        OutKind::Bitonal => bytes(alloc, [2, 3], Kind::Gray, &bits),
+        OutKind::Gray16 => shorts(alloc, [2, 3], Kind::Gray, &deep_grays),
+        OutKind::Rgb16 => shorts(alloc, [3, 2], Kind::Rgb, &deep_reds),
     }
 }
 
 /// The answers of all pictures that are compared, by so many workers.
 fn all<R: Threads + Wait + Sync>(rt: &R, alloc: Global, workers: u32) -> Result<u64, Fail> {
     let mut answers = 0u64;
-    for number in 0..5 {
-        let (raster, out) = picture(alloc, number)?;
+    for out in [
+        OutKind::Gray,
+        OutKind::Rgb,
+        OutKind::Bitonal,
+        OutKind::Gray16,
+        OutKind::Rgb16,
+    ] {
+        let raster = picture(alloc, out)?;
         answers = answers.wrapping_add(banded(rt, alloc, &raster, out, workers)?);
     }
     Ok(answers)
