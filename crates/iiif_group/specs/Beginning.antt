@@ -1,12 +1,12 @@
 -- What a call of a group is told, and how a load ends.
-use Rattle.std.specs.Prelude.{◌≡◌, Bool, IfSome, IsTrue, Result, Ok, Err, is_some}
+use Rattle.std.specs.Prelude.{◌≡◌, ℕ, Bool, IfSome, IsTrue, MatchOption, Result, Ok, Err, is_some}
 use Rattle.std.specs.Result.{ForOk, ForErr}
 use Rattle.std.specs.Arc.{arc_value}
 use Rattle.std.specs.declared.sync.Arc.{Arc}
 use Rattle.iiif_source.specs.declared.ReadFault.{ReadFault}
 use Rattle.iiif_keys.specs.declared.fault.Fault.{Fault}
 use Rattle.iiif_outcome.specs.Outcomes.{is_given}
-use Rattle.iiif_outcome.specs.Views.{lead_key, receipt_known}
+use Rattle.iiif_outcome.specs.Views.{lead_cell, lead_key, receipt_known}
 use Rattle.iiif_group.specs.declared.begun.Begun.{Begun}
 use Rattle.iiif_group.specs.declared.begun.Begun.TheVariants.{Known, Load}
 use Rattle.iiif_group.specs.declared.begun.Open.{Open}
@@ -31,6 +31,15 @@ module _ {K J V : Type 0} {a b c d : _} where
   -- the key's owner was asked in vain
   abbrev pub was_asked : Open K J V a b c d → Bool
   was_asked o = is_some o.wide
+
+  -- The cell of the flight that the call entered first, by which all who joined it learn its outcome: of the wide one where the key's
+  -- owner was asked in vain, else of the local one.
+  abbrev pub IsFirstFlight : Open K J V a b c d → ℕ → Type 0
+  IsFirstFlight o cell = MatchOption o.wide (cell ≡ lead_cell o.local) (λ w. cell ≡ lead_cell w)
+
+  -- the cell of the local flight
+  abbrev pub IsLocalFlight : Open K J V a b c d → ℕ → Type 0
+  IsLocalFlight o cell = cell ≡ lead_cell o.local
 
   -- the outcome of a flight of this key, or the duty to load its value
   abbrev pub BegunFor : K → Type 0 → Bool → V → (V → Bool) → (ReadFault → Bool) → Begun K J V a b c d → Type 0

@@ -4,8 +4,8 @@ ghost use Rattle.std.specs.Prelude.{◌≡◌, Err, IfSome, IsFalse, IsTrue, Mat
 ghost use Rattle.std.specs.Result.{ForErr, ForOk};
 ghost use Rattle.std.specs.Arc.{arc_value};
 ghost use Rattle.iiif_outcome.specs.Outcomes.{is_given};
-ghost use Rattle.iiif_outcome.specs.Views.{receipt_known};
-ghost use Rattle.iiif_group.specs.Beginning.{open_key, outcome_of, OutcomeIs, was_asked};
+ghost use Rattle.iiif_outcome.specs.Views.{receipt_cell, receipt_known};
+ghost use Rattle.iiif_group.specs.Beginning.{open_key, outcome_of, was_asked, IsFirstFlight, IsLocalFlight, OutcomeIs};
 
 use crate::begun::{Completed, Open};
 use crate::group::Group;
@@ -18,7 +18,8 @@ use std::sync::{Arc, Wait};
 impl<K: CacheKey, J: System, L: Ledger, N, T> Group<K, J, L, N, T> {
     /// Ends a load with a value that is its key's meaning, or with a fault that its source gave or want of memory, and tells those
     /// that wait. The local flight has that outcome. So has the wide one, if the call leads one; but it has want of memory where the
-    /// value refuses it a share. A fault needs no share, so both have it.
+    /// value refuses it a share. A fault needs no share, so both have it. Each receipt is that of its flight's own cell, by which all
+    /// who joined it learn the same.
     pub fn complete<R: Wait>(
         &self,
         rt: &R,
@@ -35,6 +36,8 @@ impl<K: CacheKey, J: System, L: Ledger, N, T> Group<K, J, L, N, T> {
         ensures loaded { MatchOption result.loaded (IsFalse (was_asked load)) (λ r. IfSome (receipt_known r) (λ x. (arc_value x.key ≡ key.now) × (x.outcome ≡ outcome))) }
         ensures wanting { IsFalse result.exact → IsTrue (was_asked load) × IfSome (receipt_known result.receipt) (λ x. outcome_of x.outcome ≡ Err Fault.NoMemory) }
         ensures fault { OnErr outcome (IsTrue result.exact) }
+        ensures flight { IsFirstFlight load (receipt_cell result.receipt) }
+        ensures local { IfSome result.loaded (λ r. IsLocalFlight load (receipt_cell r)) }
     {
         let Open { local, wide } = load;
         match wide {

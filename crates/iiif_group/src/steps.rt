@@ -5,7 +5,7 @@ ghost use Rattle.std.specs.Result.{ForErr, ForOk};
 ghost use Rattle.std.specs.Arc.{arc_value};
 ghost use Rattle.iiif_tables.specs.Flights.{land as landed};
 ghost use Rattle.iiif_outcome.specs.Outcomes.{is_given, value_of};
-ghost use Rattle.iiif_outcome.specs.Views.{entry_size, lead_class, lead_key, lead_ticket, receipt_known};
+ghost use Rattle.iiif_outcome.specs.Views.{entry_size, lead_cell, lead_class, lead_key, lead_ticket, receipt_cell, receipt_known};
 ghost use Rattle.iiif_singleflight.specs.View.{table_of};
 ghost use Rattle.iiif_group.specs.Code.{EntersFor, place_of};
 
@@ -41,6 +41,7 @@ pub fn land<K: CacheKey, J: System, L: Ledger>(
     requires given { ForErr outcome (λ f. IsTrue (is_given (J.gave (K.name_of (lead_key lead))) f)) }
     ensures table { table_of K.eq home.new.table ≡ landed K.eq (entry_size K.key_bytes K.val_bytes) result.kept (lead_class lead) (lead_key lead) (lead_ticket lead) (value_of outcome) (place_of origin) (table_of K.eq home.old.table) }
     ensures taken { IsTrue result.taken → IfSome (receipt_known result.receipt) (λ x. (x.outcome ≡ outcome) × (arc_value x.key ≡ lead_key lead)) }
+    ensures cell { receipt_cell result.receipt ≡ lead_cell lead }
 {
     let place = match origin {
         Origin::Peer => Place::Peer,

@@ -4,7 +4,7 @@ ghost use Rattle.std.specs.Prelude.{◌≡◌, ◌+◌, IfErr, IfOk, IfSome, IsT
 ghost use Rattle.std.specs.Result.{ForErr, ForOk};
 ghost use Rattle.std.specs.Arc.{arc_value};
 ghost use Rattle.iiif_outcome.specs.Outcomes.{is_given};
-ghost use Rattle.iiif_outcome.specs.Views.{flight_key, lead_class, lead_key, receipt_known};
+ghost use Rattle.iiif_outcome.specs.Views.{flight_key, lead_cell, lead_class, lead_key, receipt_cell, receipt_known};
 ghost use Rattle.iiif_group.specs.Code.{EntersFor};
 
 use crate::group::Group;
@@ -61,7 +61,8 @@ impl<K: CacheKey, J: System, L: Ledger, N, T> Group<K, J, L, N, T> {
     /// Tells those that wait, and gives the receipt of a flight that landed with its leader's outcome. A cell that refuses the
     /// outcome of its only lead, which no run meets, has none of this flight: the leader then waits for good, as those do who joined.
     fn tell<R: Wait>(&self, rt: &R, landing: Landing<K, J>) -> Receipt<K, J>
-        ensures { IsTrue landing.taken × (receipt_known result ≡ receipt_known landing.receipt) }
+        ensures taken { IsTrue landing.taken × (receipt_known result ≡ receipt_known landing.receipt) }
+        ensures cell { receipt_cell result ≡ receipt_cell landing.receipt }
     {
         self.landed.notify_all();
         if landing.taken {
@@ -85,7 +86,8 @@ impl<K: CacheKey, J: System, L: Ledger, N, T> Group<K, J, L, N, T> {
         requires meant { J.stable (K.name_of (lead_key lead)) → IsTrue J.honest → ForOk outcome (λ v. arc_value v ≡ K.meaning J.pictures (lead_key lead)) }
         requires shaped { ForOk outcome (λ v. IsTrue (K.is_shaped J.pictures (lead_key lead) (arc_value v))) }
         requires given { ForErr outcome (λ f. IsTrue (is_given (J.gave (K.name_of (lead_key lead))) f)) }
-        ensures { IfSome (receipt_known result) (λ x. (x.outcome ≡ outcome) × (arc_value x.key ≡ lead_key lead)) }
+        ensures ended { IfSome (receipt_known result) (λ x. (x.outcome ≡ outcome) × (arc_value x.key ≡ lead_key lead)) }
+        ensures cell { receipt_cell result ≡ lead_cell lead }
     {
         let mut home = self.home.lock(rt);
         let landing = land(&mut *home, lead, outcome, origin);
