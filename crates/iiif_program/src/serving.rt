@@ -62,8 +62,8 @@ where
     }
 }
 
-/// Serves at these addresses by a node, and writes a line for each answer to a viewer where it logs. It ends where a listener does: no
-/// address is one, or no connection could be taken for long.
+/// Serves at these addresses by a node, and writes a line for each answer to a viewer where it logs. It ends where a listener does: an
+/// address is none, or the listener was stopped.
 pub(crate) fn listen<'a, R, J, N, T, E>(
     rt: &R,
     alloc: Global,
