@@ -3,7 +3,7 @@
 use iiif_canonical::{Limits, Resolved};
 use iiif_info::info;
 use iiif_io::fakes::FailingReader;
-use iiif_keys::{Name, is_name};
+use iiif_keys::{Name, Parts, SumKey, TileKey, is_name, parts};
 use iiif_peer_wire::{Ask, Version, WireFault, read_ask, read_reply};
 use iiif_pixel::{Dim, Kind, Quality, Raster, Rect, Span, Turn};
 use iiif_planner::{Plan, plan};
@@ -226,18 +226,95 @@ fn planned(alloc: Global, name: &Name, from: u32, side: u32) -> Option<Plan> {
     .ok()
 }
 
-/// A plan as numbers: how many tiles it copies, how many blocks it takes, and the columns and rows of the first, as they stand.
-fn numbers(plan: &Plan) -> Option<(usize, usize, u32, u32)> {
+/// The columns and rows of the sample's tiles, which are its blocks of level 0 too, row by row.
+const FOUR: [(u32, u32); 4] = [(0, 0), (1, 0), (0, 1), (1, 1)];
+
+/// Whether keys are those of the tiles of `a` at edge 2 in these columns and rows, in this order.
+fn are_tiles(keys: &[TileKey], places: &[(u32, u32)]) -> bool {
+    for (key, place) in keys.iter().zip(places) {
+        let is_of_sample = key.name.as_str() == "a" && key.edge == 2;
+        if !is_of_sample || (key.tx, key.ty) != *place {
+            return false;
+        }
+    }
+    keys.len() == places.len()
+}
+
+/// Whether keys are those of the blocks of this level in these columns and rows, in this order, for the whole of `a` at half its width.
+fn are_blocks(keys: &[SumKey], level: u8, places: &[(u32, u32)]) -> bool {
+    let whole = Rect {
+        x: 0,
+        y: 0,
+        w: 4,
+        h: 4,
+    };
+    for (key, place) in keys.iter().zip(places) {
+        let is_of_sample = key.name.as_str() == "a" && key.edge == 2;
+        let is_halved = key.rect == whole && key.size == Dim { w: 2, h: 2 };
+        if !is_of_sample || !is_halved || key.level != level || (key.bx, key.by) != *place {
+            return false;
+        }
+    }
+    keys.len() == places.len()
+}
+
+/// The parts of a block, once more where memory was wanted.
+fn split_again(alloc: Global, key: &SumKey) -> Result<Parts, Fail> {
+    if !key.has_parts() {
+        return Err("a block has no parts".into());
+    }
+    match parts(alloc, key) {
+        Ok(parts) => Ok(parts),
+        Err(_) => Ok(parts(alloc, key)?),
+    }
+}
+
+/// Whether a block has one part, the tile in this column and row.
+fn is_tile(alloc: Global, key: &SumKey, place: (u32, u32)) -> Result<bool, Fail> {
+    match split_again(alloc, key)? {
+        Parts::Tile(tile) => Ok(are_tiles(&[tile], &[place])),
+        Parts::Sums(_) => Ok(false),
+    }
+}
+
+/// Whether a block's parts are the four blocks of level 0, and the part of each is its tile.
+fn is_split(alloc: Global, key: &SumKey) -> Result<bool, Fail> {
+    let Parts::Sums(sums) = split_again(alloc, key)? else {
+        return Ok(false);
+    };
+    for (sum, place) in sums.iter().zip(FOUR) {
+        if !is_tile(alloc, sum, place)? {
+            return Ok(false);
+        }
+    }
+    Ok(are_blocks(&sums, 0, &FOUR))
+}
+
+/// Whether blocks are the one that holds the sample, and it is made of the others.
+fn is_one_block(alloc: Global, keys: &[SumKey]) -> Result<bool, Fail> {
+    let Some(key) = keys.first() else {
+        return Ok(false);
+    };
+    // A block of level 1 is 2^1 * 2 = 4 long, as the sample is; its quarter (i, j) is the block (2 * 0 + i, 2 * 0 + j) of level 0.
+    Ok(are_blocks(keys, 1, &[(0, 0)]) && is_split(alloc, key)?)
+}
+
+/// Whether the plan of such a square copies these tiles, or is of one block where there are none.
+fn is_planned(
+    alloc: Global,
+    name: &Name,
+    from: u32,
+    side: u32,
+    tiles: &[(u32, u32)],
+) -> Result<bool, Fail> {
+    let plan = match planned(alloc, name, from, side) {
+        Some(plan) => plan,
+        None => planned(alloc, name, from, side).ok_or("no plan, though memory was ample")?,
+    };
     match plan {
-        Plan::Copy(keys) => {
-            let first = keys.first()?;
-            Some((keys.len(), 0, first.tx, first.ty))
-        }
-        Plan::Sum(keys) => {
-            let first = keys.first()?;
-            Some((0, keys.len(), first.bx, first.by))
-        }
-        Plan::Grow(_) => None,
+        Plan::Copy(keys) => Ok(are_tiles(&keys, tiles)),
+        Plan::Sum(keys) => Ok(tiles.is_empty() && is_one_block(alloc, &keys)?),
+        Plan::Grow(_) => Ok(false),
     }
 }
 
@@ -249,18 +326,12 @@ fn plan_is_made_after_a_refused_growth(rt: HostRuntime) -> Result<(), Fail> {
     }
     let name = Name::new(text)?;
     // The whole sample as it is, and at half its width; and its last tile, which stands alone.
-    for (from, side, wanted) in [
-        (0u32, 4u32, (4usize, 0usize, 0u32, 0u32)),
-        (0, 2, (0, 1, 0, 0)),
-        (2, 2, (1, 0, 1, 1)),
-    ] {
-        let plan = match planned(rt.alloc(), &name, from, side) {
-            Some(plan) => plan,
-            None => {
-                planned(rt.alloc(), &name, from, side).ok_or("no plan, though memory was ample")?
-            }
-        };
-        assert!(rt; numbers(&plan) == Some(wanted), "from {from}, {side} wide");
+    let plans: [(u32, u32, &[(u32, u32)]); 3] = [(0, 4, &FOUR), (0, 2, &[]), (2, 2, &[(1, 1)])];
+    for (from, side, tiles) in plans {
+        assert!(rt;
+            is_planned(rt.alloc(), &name, from, side, tiles)?,
+            "from {from}, {side} wide"
+        );
     }
     Ok(())
 }

@@ -59,6 +59,7 @@ fn told(receipt: &mut Receipt<Sample, Lax>) -> Result<u16, Fault> {
 enum Outcome {
     Value,
     Fault(ReadFault),
+    NoMemory,
 }
 
 /// Each source may have given any fault.
@@ -71,6 +72,7 @@ fn landing_of(alloc: Global, lands: Outcome) -> Result<Arc<u16>, Fault>
             Err(_) => Err(Fault::NoMemory),
         },
         Outcome::Fault(fault) => Err(Fault::Source(fault)),
+        Outcome::NoMemory => Err(Fault::NoMemory),
     }
 }
 
@@ -148,7 +150,7 @@ fn no_counts() -> Book {
 }
 
 /// What came of two calls that met, and of a third: what each was told, whether the third learned of the same flight as the first,
-/// and the counts before the third and behind it.
+/// the counts before the third and behind it, and how many entries were kept before it.
 #[derive(Clone, Copy)]
 struct Met {
     leads: Result<u16, Fault>,
@@ -157,6 +159,13 @@ struct Met {
     is_third_same: bool,
     book: Book,
     book_then: Book,
+    entries: usize,
+}
+
+/// What was counted, and how many entries are kept.
+fn counted<L: Ledger, R: Wait>(rt: &R, home: &Mutex<Shared<L>>) -> (Book, usize) {
+    let home = home.lock(rt);
+    (home.table.book(), home.table.kept().entries)
 }
 
 /// A third call, after two that met.
@@ -169,7 +178,7 @@ fn third<L: Ledger, R: Wait + Clock + Abort>(
     mut joins: Receipt<Sample, Lax>,
 ) -> Option<Met> {
     assert!(rt; leads.same(&joins));
-    let book = home.lock(rt).table.book();
+    let (book, entries) = counted(rt, home);
     let mut third = ask(rt, alloc, home, pass, 1, Outcome::Value)?;
     let book_then = home.lock(rt).table.book();
     Some(Met {
@@ -179,6 +188,7 @@ fn third<L: Ledger, R: Wait + Clock + Abort>(
         is_third_same: third.same(&leads),
         book,
         book_then,
+        entries,
     })
 }
 
@@ -239,7 +249,7 @@ fn two_threads_share_one_load(rt: HostRuntime) -> Result<(), Fail> {
     assert!(rt; met.book == book);
     assert!(rt; met.book_then == book_then);
     assert!(rt; met.leads == Ok(42) && met.joins == Ok(42) && met.third == Ok(42));
-    assert!(rt; met.is_third_same);
+    assert!(rt; met.is_third_same && met.entries == 1);
     Ok(())
 }
 
@@ -267,8 +277,6 @@ const FAULT: ReadFault = ReadFault {
 
 #[test]
 fn call_after_a_fault_loads_again(rt: HostRuntime) -> Result<(), Fail> {
-    let lands = Outcome::Fault(FAULT);
-    let met = two_meet::<Brand, _>(&rt, rt.alloc(), 1000, lands, Blank::new(65_537))?;
     let failed = Book {
         gets: 2,
         joins: 1,
@@ -285,11 +293,16 @@ fn call_after_a_fault_loads_again(rt: HostRuntime) -> Result<(), Fail> {
         landed: 2,
         ..failed
     };
-    let fault = Err(Fault::Source(FAULT));
-    assert!(rt; met.leads == fault && met.joins == fault && met.third == Ok(42));
-    assert!(rt; met.book == failed);
-    assert!(rt; met.book_then == loaded);
-    assert!(rt; !met.is_third_same);
+    for (lands, fault) in [
+        (Outcome::Fault(FAULT), Fault::Source(FAULT)),
+        (Outcome::NoMemory, Fault::NoMemory),
+    ] {
+        let met = two_meet::<Brand, _>(&rt, rt.alloc(), 1000, lands, Blank::new(65_537))?;
+        let told = [met.leads, met.joins, met.third];
+        assert!(rt; told == [Err(fault), Err(fault), Ok(42)], "{fault:?}");
+        assert!(rt; met.book == failed && met.entries == 0, "{fault:?}");
+        assert!(rt; met.book_then == loaded && !met.is_third_same, "{fault:?}");
+    }
     Ok(())
 }
 
