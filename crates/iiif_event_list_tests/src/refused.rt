@@ -29,6 +29,17 @@ pub(crate) fn begun(alloc: Global, lines: &str) -> Result<World, LineFault>
     description.begin(alloc)
 }
 
+/// The same, once more where memory was refused.
+fn begun_again(alloc: Global, lines: &str) -> Result<World, LineFault>
+    ensures { IfOk result (λ w. IsSoundWorld (world_of w)) }
+{
+    match begun(alloc, lines) {
+        Ok(world) => Ok(world),
+        Err(LineFault::Bad) => Err(LineFault::Bad),
+        Err(LineFault::NoMemory) => begun(alloc, lines),
+    }
+}
+
 /// The event of a line.
 pub(crate) fn event_of(alloc: Global, line: &str) -> Result<Event, LineFault>
     ensures { IfOk result IsShortEvent }
@@ -72,7 +83,7 @@ fn answers_after(
     world: &str,
     events: &str,
 ) -> Result<String, Fail> {
-    let mut world = begun(alloc, world)?;
+    let mut world = begun_again(alloc, world)?;
     for line in events.split(';') {
         let event = event_of(alloc, line)?;
         step_again(rt, alloc, &mut world, &event)?;
