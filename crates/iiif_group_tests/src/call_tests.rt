@@ -3,9 +3,9 @@
 ghost use Rattle.std.specs.Prelude.{◌≡◌};
 
 use crate::calls::{Until, Way, call, gathered, sample_of, two_calls};
-use crate::pairs::{Bar, LOADED, Owner, Pair, REPLIED, Reply, Tiles, made};
-use iiif_group::LinkFault;
-use iiif_keys::TileKey;
+use crate::pairs::{Bar, LOADED, Owner, Pair, REPLIED, Reply, Tiles, made, shape_for, tile};
+use iiif_group::{Link, LinkFault, NoLink};
+use iiif_keys::{CacheKey, TileKey};
 use iiif_outcome::Receipt;
 use iiif_tables::Book;
 use std::alloc::Global;
@@ -265,5 +265,17 @@ fn gives_out<L: Ledger, R: Wait>(
 #[test]
 fn passes_are_65536(rt: HostRuntime) -> Result<(), Fail> {
     assert!(rt; gives_out::<Brand, _>(&rt, rt.alloc(), 65_536, Blank::new(65_537))?);
+    Ok(())
+}
+
+#[test]
+fn no_link_refuses_with_status_3(rt: HostRuntime) -> Result<(), Fail> {
+    let key = tile(rt.alloc(), 0).ok_or("no key")?;
+    let shape = shape_for(&key);
+    if !key.fits(1, &shape) {
+        return Err("the key doesn't fit".into());
+    }
+    let answer = Link::<TileKey, Pair, ()>::ask(&NoLink, &(), &key, &shape);
+    assert!(rt; answer.err() == Some(LinkFault::Refused(3)));
     Ok(())
 }
