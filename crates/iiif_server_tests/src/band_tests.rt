@@ -17,6 +17,15 @@ const SLOWLY: Way = Way {
     turns: 0,
 };
 
+/// One worker, a band of all rows, and a cache that keeps all.
+const AT_ONCE: Way = Way {
+    rows: 64,
+    workers: 1,
+    bytes: 67_108_864,
+    k: NEVER,
+    turns: 0,
+};
+
 /// Targets, and the last samples or bits of their bodies, by hand.
 const CASES: [(&[u8], &[u8]); 9] = [
     (
@@ -154,21 +163,34 @@ const FAILING: [&[u8]; 2] = [
     b"/iiif/a/full/2,/0/default.tif",
 ];
 
+/// Whether an answer made this way ends whole, with the fault, and with a front, each where some read is the first to fail. It ends
+/// in no other way, whichever is.
+fn ends<R: Threads + Wait + Clock + Abort + Sync + AllocGlobal>(
+    rt: &R,
+    way: Way,
+    target: &[u8],
+) -> Result<(bool, bool, bool), Fail> {
+    let whole = body(rt, SLOWLY, target)?.body;
+    let (mut ended, mut answered, mut cut_off) = (false, false, false);
+    for k in 1..64u64 {
+        let end = end_of(&body(rt, Way { k, ..way }, target)?, &whole);
+        assert!(rt; end != End::Other, "{way:?} {k}");
+        ended = ended || end == End::Whole;
+        answered = answered || end == End::Fault;
+        cut_off = cut_off || end == End::Front;
+    }
+    Ok((ended, answered, cut_off))
+}
+
 #[test]
 fn first_fault_is_answered_and_a_later_one_cuts_until_the_source_is_mended(
     rt: HostRuntime,
 ) -> Result<(), Fail> {
-    for target in FAILING {
-        let whole = body(&rt, SLOWLY, target)?.body;
-        let (mut ended, mut answered, mut cut_off) = (false, false, false);
-        for k in 1..64u64 {
-            let end = end_of(&body(&rt, Way { k, ..SLOWLY }, target)?, &whole);
-            assert!(rt; end != End::Other, "{k}");
-            ended = ended || end == End::Whole;
-            answered = answered || end == End::Fault;
-            cut_off = cut_off || end == End::Front;
+    // All reads of one band come before its first byte is sent: none of them cuts.
+    for (way, cuts) in [(SLOWLY, true), (AT_ONCE, false)] {
+        for target in FAILING {
+            assert!(rt; ends(&rt, way, target)? == (true, true, cuts), "{way:?}");
         }
-        assert!(rt; ended && answered && cut_off);
     }
     Ok(())
 }
