@@ -163,8 +163,8 @@ const FAILING: [&[u8]; 2] = [
     b"/iiif/a/full/2,/0/default.tif",
 ];
 
-/// Whether an answer made this way ends whole, with the fault, and with a front, each where some read is the first to fail. It ends
-/// in no other way, whichever is.
+/// Whether answers made this way end whole, with the fault and with a front, each for some read that is the first to fail. They end
+/// in no other way.
 fn ends<R: Threads + Wait + Clock + Abort + Sync + AllocGlobal>(
     rt: &R,
     way: Way,
