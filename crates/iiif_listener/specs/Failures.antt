@@ -5,7 +5,7 @@ use Rattle.std.specs.declared.io.ErrorKind.TheVariants as kinds
 use Rattle.iiif_listener.specs.declared.retry.Retry.{Retry}
 use Rattle.iiif_listener.specs.declared.retry.Retry.TheVariants.{AtOnce, Later, Never}
 
--- the listener is none, and stays so: it is stopped, or was never one
+-- the socket doesn't listen, and won't: it is stopped, or never did
 abbrev pub is_lasting : ErrorKind → Bool
 is_lasting kinds.InvalidInput = true
 is_lasting _ = false

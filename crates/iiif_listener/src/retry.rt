@@ -12,11 +12,11 @@ pub enum Retry {
     AtOnce,
     /// Files, memory or the like are wanting: in a while.
     Later,
-    /// The listener is stopped, or is none.
+    /// The socket is stopped, or was never one that listens.
     Never,
 }
 
-/// Whether a listener that failed so is none, and stays so.
+/// Whether a socket that failed so doesn't listen, and won't.
 fn is_lasting(kind: ErrorKind) -> bool
     ensures { result ≡ lasts kind }
 {

@@ -88,7 +88,7 @@ impl Raster {
     pub fn is_whole(&self)
         ensures whole { IsWhole self.now }
     {
-        // The samples are lent and not looked at: what is behind a reference is known to be in its range only once it is read.
+        // The samples are lent and not looked at: that what stands behind a reference is in its range is known only of what is read.
         let _samples = self.samples();
     }
 
