@@ -10,8 +10,7 @@ use Rattle.iiif_pixel.proofs.SampleLists.{map-row_of, row_of-reads, row_of-same}
 use Rattle.iiif_pixel.proofs.ScaleLemmas.{scaled_at-le}
 use Rattle.iiif_pixel.proofs.CropLaws.{same_built, crop-scale}
 use Rattle.iiif_area.specs.Places.{IsInside}
-use Rattle.iiif_area.specs.Code.{average_within}
-use Rattle.iiif_area.specs.Grid.{Grid, finished, part_sum, sum_at, sums_at}
+use Rattle.iiif_area.specs.Grid.{Grid, average_within, finished, part_sum, sum_at, sums_at}
 use Rattle.iiif_area.proofs.GridLaws.{run-le, sum_at-grid_of}
 
 -- the sample that sums make in column x, row y and channel k of a rectangle

@@ -1,5 +1,6 @@
 pub mod AddingLaws
 pub mod AreaLaws
+pub mod AverageLaws
 pub mod ColumnLaws
 pub mod CutLaws
 pub mod FinishLaws

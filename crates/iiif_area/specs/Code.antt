@@ -1,5 +1,5 @@
 -- Words on the private functions: how the sums over a tile are added up column by column.
-use Rattle.std.specs.Prelude.{◌≡◌, ℕ, ◌+◌, ◌-◌, ◌*◌, ◌/◌, ◌<◌, ◌≤◌, min, List, slice_index}
+use Rattle.std.specs.Prelude.{◌≡◌, ℕ, ◌+◌, ◌-◌, ◌*◌, ◌<◌, ◌≤◌, List, slice_index}
 use Rattle.iiif_pixel.specs.Picture.{Picture, sample_at}
 use Rattle.iiif_pixel.specs.Scaling.{sum_from, weight_of}
 use Rattle.iiif_pixel.specs.declared.geometry.Rect.{Rect}
@@ -13,10 +13,6 @@ tile_sample tile corner part k x y = sample_at tile (corner.0 + (x - part.x)) (c
 unfoldable pub column_sum : Picture → ℕ × ℕ → Rect → ℕ → ℕ → ℕ → ℕ → ℕ → ℕ
 column_sum tile corner part b d j t k =
     sum_from 0 part.h (λ s. weight_of j (part.y + s) b d * sample_at tile (corner.0 + t) (corner.1 + s) k)
-
--- a sum divided by so many places, to the nearest whole number, a half up, and top for any above it
-abbrev pub average_within : ℕ → ℕ → ℕ → ℕ
-average_within area top s = min top ((2 * s + area) / (2 * area))
 
 -- Of the n source columns from `from` on, result column i takes something of s.start up to s.end, counted from there: all
 -- of each but the first and the last.

@@ -1,7 +1,7 @@
 -- Sums at a rectangle of result places.
-use Rattle.std.specs.Prelude.{◌≡◌, ℕ, ◌+◌, ◌-◌, ◌*◌, ◌^◌, ◌<◌, List, Bool, All, length, slice_index, min, nat_lt, nat_le, ◌&&◌, if◌then◌else◌}
+use Rattle.std.specs.Prelude.{◌≡◌, ℕ, ◌+◌, ◌-◌, ◌*◌, ◌/◌, ◌^◌, ◌<◌, List, Bool, All, length, slice_index, min, nat_lt, nat_le, ◌&&◌, if◌then◌else◌}
 use Rattle.iiif_pixel.specs.Picture.{Picture, dim_of, picture_of, samples_of, sample_at}
-use Rattle.iiif_pixel.specs.Scaling.{area_sum, average}
+use Rattle.iiif_pixel.specs.Scaling.{area_sum}
 use Rattle.iiif_pixel.specs.declared.geometry.Dim.{Dim}
 use Rattle.iiif_pixel.specs.declared.geometry.Rect.{Rect}
 use Rattle.iiif_area.specs.Places.{places_of}
@@ -46,10 +46,14 @@ sums_at rect p size part = grid_of rect p.channels (part_sum p size part)
 abbrev pub sums_of : Picture → Dim → Rect → Grid
 sums_of p size part = sums_at (places_of (dim_of p) size part) p size part
 
+-- the average that a sum over so many places stands for, to the nearest whole number, a half up, and top for any above it
+abbrev pub average_within : ℕ → ℕ → ℕ → ℕ
+average_within area top s = min top ((2 * s + area) / (2 * area))
+
 -- The picture that sums over a whole region make in a rectangle: their averages, and `top` for any above it.
 abbrev pub finished : Grid → Dim → ℕ → Rect → Picture
 finished g region top rect =
-    picture_of rect.w rect.h g.channels top (λ x y k. min top (average region (sum_at g (rect.x + x) (rect.y + y) k)))
+    picture_of rect.w rect.h g.channels top (λ x y k. average_within (region.w * region.h) top (sum_at g (rect.x + x) (rect.y + y) k))
 
 -- a sum for each place and channel, each of 64 bits
 pub record IsGrid (g : Grid) : Type 0 where

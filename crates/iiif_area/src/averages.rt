@@ -3,9 +3,62 @@
 ghost use Rattle.std.specs.Prelude.{◌≡◌, ◌+◌, ◌*◌, ◌/◌, ◌<◌, ◌≤◌, ◌^◌, ◌++◌, map, min, length, vec_len, vec_capacity};
 ghost use Rattle.iiif_pixel.specs.Geometry.{top_of};
 ghost use Rattle.iiif_pixel.specs.Depths.{values_of, depth_of, capacity_of};
-ghost use Rattle.iiif_area.specs.Code.{average_within};
+ghost use Rattle.iiif_area.specs.Grid.{average_within};
 
 use iiif_pixel::Samples;
+use std::marker::Model;
+
+/// Makes sums over regions of so many places into averages, each by the reciprocal of that number, without a division.
+#[derive(Drop)]
+pub struct Averager {
+    area: u64,
+    reciprocal: u64,
+}
+
+impl Model for Averager {
+    ghost use Rattle.std.specs.Prelude.{◌≡◌, ℕ, ◌/◌, ◌<◌, ◌≤◌, ◌^◌};
+
+    ghost Value = { ℕ };
+
+    ghost view = { λ a. a.area };
+
+    ghost invariant = { λ a. (0 < a.area) × (a.area ≤ 2 ^ 32) × (a.reciprocal ≡ 2 ^ 48 / a.area) };
+}
+
+impl Averager {
+    /// For regions of so many places.
+    #[inline]
+    pub fn new(area: u64) -> Averager
+        requires { (0 < area) × (area ≤ 2 ^ 32) }
+        ensures { result ≡ area }
+    {
+        Averager {
+            area,
+            reciprocal: (1 << 48) / area,
+        }
+    }
+
+    /// The average that a sum stands for, to the nearest whole number, a half up, and `top` for any above it.
+    #[inline]
+    pub fn average(&self, sum: u64, top: u16) -> u16
+        ensures { result ≡ average_within self.now top sum }
+    {
+        let above = (u64::from(top) + 1) * self.area;
+        let parts = sum.saturating_add(self.area / 2).min(above - 1);
+        self.quotient(parts) as u16
+    }
+
+    /// `parts` divided by the area. What the reciprocal was rounded down by takes at most one from the quotient.
+    #[inline]
+    fn quotient(&self, parts: u64) -> u64
+        requires { parts < 65536 * self.now }
+        ensures { result ≡ parts / self.now }
+    {
+        let low = (parts * self.reciprocal) >> 48;
+        let rest = parts - low * self.area;
+        if rest < self.area { low } else { low + 1 }
+    }
+}
 
 /// Appends the averages of sums over a region of so many places, as deep as the samples are.
 pub(crate) fn push_averages(samples: &mut Samples, sums: &[u64], area: u64)
@@ -27,8 +80,9 @@ fn push_eight(samples: &mut Vec<u8>, sums: &[u64], area: u64)
     ensures values { samples.new.items ≡ samples.old.items ++ map (average_within area 255) sums.now }
     ensures capacity { vec_capacity samples.new ≡ vec_capacity samples.old }
 {
+    let averager = Averager::new(area);
     for sum in sums {
-        samples.push_reserved(rounded(*sum, area, 255) as u8);
+        samples.push_reserved(averager.average(*sum, 255) as u8);
     }
 }
 
@@ -38,15 +92,8 @@ fn push_sixteen(samples: &mut Vec<u16>, sums: &[u64], area: u64)
     ensures values { samples.new.items ≡ samples.old.items ++ map (average_within area 65535) sums.now }
     ensures capacity { vec_capacity samples.new ≡ vec_capacity samples.old }
 {
+    let averager = Averager::new(area);
     for sum in sums {
-        samples.push_reserved(rounded(*sum, area, 65_535));
+        samples.push_reserved(averager.average(*sum, 65_535));
     }
-}
-
-/// `sum / area` to the nearest whole number, a half up, and `top` for any above it.
-fn rounded(sum: u64, area: u64, top: u16) -> u16
-    requires { (0 < area) × (area ≤ 2 ^ 32) }
-    ensures { result ≡ average_within area top sum }
-{
-    (sum.saturating_add(area / 2) / area).min(u64::from(top)) as u16
 }

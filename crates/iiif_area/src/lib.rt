@@ -2,7 +2,7 @@
 #![tactic(auto)]
 
 mod adding;
-mod averages;
+pub mod averages;
 mod columns;
 pub mod laws;
 mod merging;
@@ -11,6 +11,7 @@ mod rows;
 pub mod sums;
 pub mod weights;
 
+pub use averages::Averager;
 pub use places::{corner_of, is_inside, is_scalable, meets, part_of, places_of};
 pub use sums::Sums;
 pub use weights::weight;

@@ -1,5 +1,5 @@
 use Rattle.std.proofs.Common.{◌≡◌, ◌+◌, ◌++◌, map, take, vec_capacity, vec_len}
-use Rattle.iiif_area.specs.Code.{average_within}
+use Rattle.iiif_area.specs.Grid.{average_within}
 use Rattle.iiif_area.proofs.averages.push_sixteen.Given as goal
 
 abbrev pub invariant-loop-sum : goal.invariant-loop-sum

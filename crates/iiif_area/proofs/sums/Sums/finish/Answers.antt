@@ -6,8 +6,7 @@ use Rattle.iiif_pixel.specs.Picture.{dim_of, row_of}
 use Rattle.iiif_pixel.specs.Scaling.{whole_of}
 use Rattle.iiif_pixel.specs.declared.geometry.Dim.{Dim}
 use Rattle.iiif_pixel.proofs.SampleLists.{samples_of_none, samples_of_more, length-samples_of}
-use Rattle.iiif_area.specs.Code.{average_within}
-use Rattle.iiif_area.specs.Grid.{Grid, finished, sums_at}
+use Rattle.iiif_area.specs.Grid.{Grid, average_within, finished, sums_at}
 use Rattle.iiif_area.proofs.FinishLaws.{made_at, made_row, finished-scaled}
 use Rattle.iiif_area.proofs.SumsSeen.{seen, row_fits_in, rows_fit_in}
 use Rattle.iiif_area.proofs.sums.Sums.finish.Goals as goal

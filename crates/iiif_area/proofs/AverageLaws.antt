@@ -1,0 +1,73 @@
+-- Averages by the reciprocal of the area, counted in parts of `one`.
+use Rattle.std.proofs.Common.{◌≡◌, ℕ, ◌+◌, ◌-◌, ◌*◌, ◌/◌, ◌<◌, ◌≤◌, min, sym, ap, ◌∙◌, arith, ⊎_elim}
+use Rattle.std.proofs.Math.Nat.{div-div-eq-div-mul, div-mul-le_self, lt-div-mul-add, lt_of_mul-lt-mul_left, le_of_mul-le-mul_left, mul-le-mul_left}
+use Rattle.std.proofs.lemmas.Nat.{div_below, le-div}
+use Rattle.std.proofs.lemmas.Bool.{cases_lt}
+use Rattle.iiif_area.specs.Grid.{average_within}
+
+-- the one quotient
+pub quotient_is : (n k q : ℕ) → 0 < k → q * k ≤ n → n < (q + 1) * k → n / k ≡ q
+quotient_is n k q some low high =
+    let least : q ≤ n / k = le-div q n k some low in
+    let most : n / k < q + 1 = div_below n k (q + 1) some high in
+    omega arith
+
+-- The reciprocal is rounded down. So n times it is as many ones as fit n at most ..
+pub low_below : (n area reciprocal one : ℕ) → 0 < one → reciprocal ≡ one / area → n * reciprocal / one * area ≤ n
+low_below n area m one some is =
+    let q = n * m / one in
+    let part : m * area ≤ one = rw is (div-mul-le_self one area) in
+    let e : n * (m * area) ≤ n * one = mul-le-mul_left n part in
+    let d : area * (q * one) ≤ area * (n * m) = mul-le-mul_left area (div-mul-le_self (n * m) one) in
+    le_of_mul-le-mul_left {k = one} (omega arith) some
+
+-- .. and one less at least.
+pub low_near : (n area reciprocal one : ℕ) → 0 < area → n < one → reciprocal ≡ one / area → n < (n * reciprocal / one + 2) * area
+low_near n area m one some below is =
+    let q = n * m / one in
+    let part : one < m * area + area = rw is (lt-div-mul-add some) in
+    let near : n * m < q * one + one = lt-div-mul-add (omega arith) in
+    let e : n * one ≤ n * (m * area + area) = mul-le-mul_left n (omega arith) in
+    let d : area * (n * m + 1) ≤ area * (q * one + one) = mul-le-mul_left area (omega arith) in
+    let f : area * (n + 1) ≤ area * one = mul-le-mul_left area (omega arith) in
+    lt_of_mul-lt-mul_left one (omega arith)
+
+-- a reciprocal of no more than one is some
+pub reciprocal_some : (area reciprocal one : ℕ) → 0 < area → area ≤ one → reciprocal ≡ one / area → 0 < reciprocal
+reciprocal_some area m one some fits is = let least : 1 ≤ one / area = le-div 1 one area some (omega arith) in omega arith
+
+-- what is below k areas, times the reciprocal, is below k ones
+pub product_below : (n area reciprocal one k : ℕ) → 0 < reciprocal → reciprocal ≡ one / area → n < k * area → n * reciprocal < k * one
+product_below n area m one k some is below =
+    let part : m * area ≤ one = rw is (div-mul-le_self one area) in
+    let e : m * (n + 1) ≤ m * (k * area) = mul-le-mul_left m (omega arith) in
+    let d : k * (m * area) ≤ k * one = mul-le-mul_left k part in
+    omega arith
+
+-- the nearest whole number, a half up
+pub half_up : (s area : ℕ) → (2 * s + area) / (2 * area) ≡ (s + area / 2) / area
+half_up s area = sym (div-div-eq-div-mul (2 * s + area) 2 area) ∙ ap (λ u. u / area) (omega arith)
+
+-- what is above the top is capped before it is divided
+pub capped : (n area top : ℕ) → 0 < area → min n ((top + 1) * area - 1) / area ≡ min top (n / area)
+capped n area top some =
+    let more : area ≤ (top + 1) * area = omega arith in
+    ⊎_elim
+    (λ (h : n < (top + 1) * area).
+    let same : min n ((top + 1) * area - 1) ≡ n = omega arith in
+    let low : n / area < top + 1 = div_below n area (top + 1) some h in
+    ap (λ u. u / area) same ∙ omega arith)
+    (λ (h : (top + 1) * area ≤ n).
+    let least : top + 1 ≤ n / area = le-div (top + 1) n area some h in
+    let same : min n ((top + 1) * area - 1) ≡ (top + 1) * area - 1 = omega arith in
+    let is : ((top + 1) * area - 1) / area ≡ top = quotient_is ((top + 1) * area - 1) area top some (omega arith) (omega arith) in
+    ap (λ u. u / area) same ∙ is ∙ omega arith)
+    (cases_lt n ((top + 1) * area))
+
+-- The average of a sum, of which no more than a word counts.
+pub average_is : (s area top word sum most parts q : ℕ) → 0 < area → (top + 1) * area ≤ word → sum ≡ min (s + area / 2) (word - 1) → most ≡ top →
+    parts ≡ min sum ((most + 1) * area - 1) → q ≡ parts / area → q ≡ average_within area top s
+average_is s area top word sum most parts q some fits sum_is most_is parts_are is =
+    let above : (most + 1) * area ≡ (top + 1) * area = ap (λ u. (u + 1) * area) most_is in
+    let same : parts ≡ min (s + area / 2) ((top + 1) * area - 1) = omega arith in
+    is ∙ ap (λ u. u / area) same ∙ capped (s + area / 2) area top some ∙ ap (λ u. min top u) (sym (half_up s area))
