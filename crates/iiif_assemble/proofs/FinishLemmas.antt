@@ -4,25 +4,24 @@ use Rattle.std.specs.List.{AllZip}
 use Rattle.iiif_pixel.specs.Scaling.{average}
 use Rattle.iiif_pixel.specs.declared.geometry.Dim.{Dim}
 use Rattle.iiif_pixel.proofs.SampleLists.{index_below, samples_from_places}
-use Rattle.iiif_area.specs.Grid.{Grid, finished, sum_at}
+use Rattle.iiif_area.specs.Grid.{Grid, average_within, finished, sum_at}
 use Rattle.iiif_area.specs.Places.{IsInside}
 use Rattle.iiif_pixel.specs.declared.geometry.Rect.{Rect}
-use Rattle.iiif_assemble.specs.Code.{rounded_sum}
 
-pub zipped_len : (a t : ℕ) (sums xs : List ℕ) → AllZip (λ s b. b ≡ rounded_sum a t s) sums xs → length xs ≡ length sums
+pub zipped_len : (a t : ℕ) (sums xs : List ℕ) → AllZip (λ s b. b ≡ average_within a t s) sums xs → length xs ≡ length sums
 zipped_len a t [] [] h = refl
 zipped_len a t [] (x ∷ xs) h = absurd h
 zipped_len a t (s ∷ ss) [] h = absurd h
 zipped_len a t (s ∷ ss) (x ∷ xs) h = let e = zipped_len a t ss xs h.1 in omega arith
 
-zipped_at : (a t : ℕ) (sums xs : List ℕ) (i : ℕ) → AllZip (λ s b. b ≡ rounded_sum a t s) sums xs → i < length sums → get_or xs i 0 ≡ rounded_sum a t (get_or sums i 0)
+zipped_at : (a t : ℕ) (sums xs : List ℕ) (i : ℕ) → AllZip (λ s b. b ≡ average_within a t s) sums xs → i < length sums → get_or xs i 0 ≡ average_within a t (get_or sums i 0)
 zipped_at a t [] xs i h within = absurd (omega arith)
 zipped_at a t (s ∷ ss) [] i h within = absurd h
 zipped_at a t (s ∷ ss) (x ∷ xs) zero h within = h.0
 zipped_at a t (s ∷ ss) (x ∷ xs) (suc i) h within = zipped_at a t ss xs i h.1 (omega arith)
 
 pub all_finished : (g : Grid) (region : Dim) (a t : ℕ) (xs : List ℕ) → a ≡ region.w * region.h → length g.sums ≡ g.rect.w * g.rect.h * g.channels →
-    AllZip (λ s b. b ≡ rounded_sum a t s) g.sums xs → xs ≡ (finished g region t g.rect).samples
+    AllZip (λ s b. b ≡ average_within a t s) g.sums xs → xs ≡ (finished g region t g.rect).samples
 unfolding sum_at
 all_finished g region a t xs area count zipped =
     let n = g.channels in

@@ -1,5 +1,5 @@
 -- Words of private functions.
-use Rattle.std.specs.Prelude.{◌≡◌, ℕ, ◌+◌, ◌*◌, ◌/◌, ◌<◌, ◌≤◌, min, List, true, Bool, count_by, Some}
+use Rattle.std.specs.Prelude.{◌≡◌, ℕ, ◌+◌, ◌*◌, ◌<◌, ◌≤◌, List, true, Bool, count_by, Some}
 use Rattle.iiif_pixel.specs.Geometry.{channels_of, top_of, HasPlace}
 use Rattle.iiif_pixel.specs.Picture.{Picture, IsWhole, dim_of, sample_at}
 use Rattle.iiif_pixel.specs.Operations.{crop}
@@ -84,7 +84,3 @@ pub record TileHasPart (s : Shape) (region : Rect) (k : TileKey) : Type 0 where
 -- what a tile of a picture adds to the sums of a region that is scaled to a size
 abbrev pub tile_adds : Picture → Dim → Rect → Dim → TileKey → Grid
 tile_adds p image region size k = sums_of (crop p region) size (part_of (tile_of image k) region)
-
--- a sum over an area as a sample: the average, a half up, and top for any above it
-abbrev pub rounded_sum : ℕ → ℕ → ℕ → ℕ
-rounded_sum area top s = min top ((2 * s + area) / (2 * area))

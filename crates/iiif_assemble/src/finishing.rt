@@ -4,10 +4,10 @@ ghost use Rattle.std.specs.Prelude.{◌≡◌, ◌*◌, ◌<◌, ◌≤◌, ◌^
 ghost use Rattle.std.specs.List.{AllZip};
 ghost use Rattle.iiif_pixel.specs.Depths.{values_of, depth_of};
 ghost use Rattle.iiif_pixel.specs.Geometry.{top_of};
-ghost use Rattle.iiif_area.specs.Grid.{finished};
-ghost use Rattle.iiif_assemble.specs.Code.{count_of, rounded_sum};
+ghost use Rattle.iiif_area.specs.Grid.{average_within, finished};
+ghost use Rattle.iiif_assemble.specs.Code.{count_of};
 
-use iiif_area::Sums;
+use iiif_area::{Averager, Sums};
 use iiif_pixel::{Depth, Dim, NoMemory, Raster, Samples, Span};
 use rayon::prelude::*;
 use std::alloc::Global;
@@ -15,14 +15,6 @@ use std::thread::Threads;
 
 /// The least sums that are worth a thread: starting one takes as long as rounding some ten thousand.
 const LEAST: usize = 65_536;
-
-/// `sum / area` to the nearest whole number, a half up, and `top` for any above it.
-fn rounded(sum: u64, area: u64, top: u16) -> u16
-    requires { (0 < area) × (area ≤ 2 ^ 32) }
-    ensures { result ≡ rounded_sum area top sum }
-{
-    (sum.saturating_add(area / 2) / area).min(u64::from(top)) as u16
-}
 
 /// The samples of 8 bits of sums, in their order, whoever makes them.
 fn rounded_eight<R: Threads + Sync>(
@@ -32,15 +24,15 @@ fn rounded_eight<R: Threads + Sync>(
     area: u64,
 ) -> Result<Vec<u8>, NoMemory>
     requires { (0 < area) × (area ≤ 2 ^ 32) }
-    ensures { IfOk result (λ v. AllZip (λ s b. b ≡ rounded_sum area 255 s) sums.now v.items) }
+    ensures { IfOk result (λ v. AllZip (λ s b. b ≡ average_within area 255 s) sums.now v.items) }
 {
+    let averager = Averager::new(area);
     sums.par_iter()
         .with_min_len(LEAST)
         .map(
             |s: &u64| -> u8
-                requires { (0 < area) × (area ≤ 2 ^ 32) }
-                ensures { result ≡ rounded_sum area 255 s.now }
-            { rounded(*s, area, 255) as u8 },
+                ensures { result ≡ average_within averager 255 s.now }
+            { averager.average(*s, 255) as u8 },
         )
         .collect(rt, alloc)
 }
@@ -53,15 +45,15 @@ fn rounded_sixteen<R: Threads + Sync>(
     area: u64,
 ) -> Result<Vec<u16>, NoMemory>
     requires { (0 < area) × (area ≤ 2 ^ 32) }
-    ensures { IfOk result (λ v. AllZip (λ s b. b ≡ rounded_sum area 65535 s) sums.now v.items) }
+    ensures { IfOk result (λ v. AllZip (λ s b. b ≡ average_within area 65535 s) sums.now v.items) }
 {
+    let averager = Averager::new(area);
     sums.par_iter()
         .with_min_len(LEAST)
         .map(
             |s: &u64| -> u16
-                requires { (0 < area) × (area ≤ 2 ^ 32) }
-                ensures { result ≡ rounded_sum area 65535 s.now }
-            { rounded(*s, area, 65_535) },
+                ensures { result ≡ average_within averager 65535 s.now }
+            { averager.average(*s, 65_535) },
         )
         .collect(rt, alloc)
 }
@@ -75,7 +67,7 @@ fn rounded_all<R: Threads + Sync>(
     depth: Depth,
 ) -> Result<Samples, NoMemory>
     requires { (0 < area) × (area ≤ 2 ^ 32) }
-    ensures values { IfOk result (λ s. AllZip (λ n b. b ≡ rounded_sum area (top_of depth) n) sums.now (values_of s)) }
+    ensures values { IfOk result (λ s. AllZip (λ n b. b ≡ average_within area (top_of depth) n) sums.now (values_of s)) }
     ensures depth { IfOk result (λ s. depth_of s ≡ depth) }
 {
     match depth {
