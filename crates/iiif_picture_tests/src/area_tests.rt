@@ -2,7 +2,7 @@
 
 ghost use Rattle.std.specs.Prelude.{◌≡◌, ◌*◌, IfOk, length};
 
-use crate::plain;
+use crate::area_plain;
 use iiif_area::places::{is_inside, is_scalable, meets};
 use iiif_area::sums::Sums;
 use iiif_area::weights::weight;
@@ -169,7 +169,7 @@ fn compare_sums(rt: &impl Abort, picture: &Raster, at: Rect, region: Rect, size:
         for i in 0..places.w {
             for channel in 0..picture.kind().channels() {
                 let (x, y) = (places.x.wrapping_add(i), places.y.wrapping_add(j));
-                let plain = plain::sum_at(picture, at, region, size, x, y, channel);
+                let plain = area_plain::sum_at(picture, at, region, size, x, y, channel);
                 assert_eq!(rt; values.next().copied(), Some(plain));
             }
         }
@@ -192,9 +192,9 @@ fn compare_samples(
         for i in 0..part.w {
             for channel in 0..picture.kind().channels() {
                 let (x, y) = (part.x.wrapping_add(i), part.y.wrapping_add(j));
-                let sum = plain::sum_at(picture, region, region, size, x, y, channel);
-                let plain = plain::average(region, sum);
-                assert_eq!(rt; plain::sample(made, i, j, channel), plain);
+                let sum = area_plain::sum_at(picture, region, region, size, x, y, channel);
+                let plain = area_plain::average(region, sum);
+                assert_eq!(rt; area_plain::sample(made, i, j, channel), plain);
             }
         }
     }
