@@ -12,8 +12,6 @@ pub use memory::MemSource;
 mod file;
 mod fuse;
 mod memory;
-#[cfg(test)]
-mod tests;
 
 /// Why a read failed: the place in the source, in bytes, where the read began, and one of the causes below.
 #[derive(Clone, Copy, Debug, PartialEq, Eq)]

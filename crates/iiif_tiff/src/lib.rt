@@ -26,6 +26,3 @@ pub fn white_is_zero_inverts()
 pub fn samples_are_shown()
     ensures { SampleIsShown }
 {}
-
-#[cfg(test)]
-mod tests;

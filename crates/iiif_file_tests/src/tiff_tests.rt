@@ -1,4 +1,8 @@
-use super::*;
+//! Each law once.
+
+use iiif_tiff::{
+    accepted_is_readable, samples_are_shown, shows_one_picture, white_is_zero_inverts,
+};
 
 #[test]
 fn laws_can_be_called() {

@@ -1,4 +1,6 @@
-use super::*;
+//! Sources in memory, of files, and those that fail when told.
+
+use iiif_source::{FileSource, FuseSource, MemSource, ReadFault, Source};
 use std::alloc::Global;
 use std::fs;
 use std::fs::File;

@@ -3,7 +3,7 @@
 ghost use Rattle.std.specs.Prelude.{◌*◌, ◌≤◌, IsTrue};
 ghost use Rattle.iiif_source.specs.Runs.{AreIn};
 
-use crate::tests::{Change, change_file, open_files, source_of};
+use crate::open_files_tests::{Change, change_file, open_files, source_of};
 use iiif_open_files::{OpenFiles, PathSource, RowShelf, WideRows, wider};
 use iiif_source::{MemSource, ReadFault, Runs, Source};
 use std::alloc::Global;
