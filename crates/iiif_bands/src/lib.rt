@@ -3,7 +3,5 @@
 
 pub mod banding;
 pub mod laws;
-#[cfg(test)]
-mod tests;
 
 pub use banding::{Band, band_in, bands};

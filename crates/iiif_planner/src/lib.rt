@@ -9,5 +9,3 @@ mod levels;
 pub mod planning;
 pub mod plans;
 mod squares;
-#[cfg(test)]
-mod tests;

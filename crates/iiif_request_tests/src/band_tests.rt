@@ -1,6 +1,6 @@
 //! Bands by hand.
 
-use crate::{Band, bands, laws};
+use iiif_bands::{Band, bands, laws};
 use iiif_canonical::Resolved;
 use iiif_keys::{Name, is_name};
 use iiif_pixel::{Dim, Kind, Quality, Rect, Turn};

@@ -1,5 +1,5 @@
 use Rattle.std.proofs.Common.{arith}
-use Rattle.iiif_bands.proofs.tests.of_three_rows.Goals as goal
+use Rattle.iiif_request_tests.proofs.band_tests.of_three_rows.Goals as goal
 
 pub bands-requires-clause-plan : goal.bands-requires-clause-plan
 bands-requires-clause-plan c = record {

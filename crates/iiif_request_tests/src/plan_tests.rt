@@ -1,9 +1,9 @@
 //! Plans by hand.
 
-use crate::{Plan, laws, plan};
 use iiif_canonical::Resolved;
 use iiif_keys::{Name, Parts, SumKey, TileKey, is_name, parts};
 use iiif_pixel::{Dim, Kind, NoMemory, Quality, Rect, Turn};
+use iiif_planner::{Plan, laws, plan};
 use std::alloc::Global;
 use std::process::Abort;
 use std::test::Fail;
