@@ -2,9 +2,9 @@
 
     /usr/bin/python3 bench/scale/check.py
 
-Owners and the bytes of keys are read out of the crates' own tests; plans, bands, caches and counts are listed here as those tests and the
-definitions have them. The cache is also compared, call by call, with the evaluation of its definition in bench/cache/lists.py. The
-status is 1 where anything differs.
+Owners and the bytes of keys are read out of the files of `iiif_flight_tests`; plans, bands, caches and counts are listed here as the
+tests and the definitions have them. The cache is also compared, call by call, with the evaluation of its definition in
+bench/cache/lists.py. The status is 1 where anything differs.
 """
 import ast
 import random
@@ -23,17 +23,17 @@ def same(what, found, wanted):
         failures.append(f"{what}: {found}, and should be {wanted}")
 
 
-def tests_of(crate):
-    return (ROOT / "crates" / crate / "src" / "tests.rt").read_text()
+def tests_of(module):
+    return (ROOT / "crates" / "iiif_flight_tests" / "src" / f"{module}.rt").read_text()
 
 
-def bytes_in(crate, name):
-    """The bytes of a constant of a crate's tests."""
-    return bytes(map(int, re.findall(r"\d+", re.search(rf"const {name}: [^=]*= \[([^\]]*)\]", tests_of(crate)).group(1))))
+def bytes_in(module, name):
+    """The bytes of a constant of a module of tests."""
+    return bytes(map(int, re.findall(r"\d+", re.search(rf"const {name}: [^=]*= \[([^\]]*)\]", tests_of(module)).group(1))))
 
 
 def owners():
-    body = tests_of("iiif_ring").split("fn owners_as_computed_outside")[1].split("\n}\n")[0]
+    body = tests_of("ring_tests").split("fn owners_as_computed_outside")[1].split("\n}\n")[0]
     names = [name.encode() for name in re.findall(r'"([^"]+)"', body.split("];", 1)[0])]
     ring = Ring(names)
     pairs = re.findall(r"\((\d+)(?:u32)?, (\d+)(?:usize)?\)", body)
@@ -41,7 +41,7 @@ def owners():
     for number, place in pairs:
         same(f"owner of key-{number}", ring.owner(b"key-" + number.encode()), int(place))
     same("owner behind the last point", Ring([b"n", b"m"]).owner(b"wrap-80"), 1)
-    tied = bytes_in("iiif_ring", "TIED")
+    tied = bytes_in("ring_tests", "TIED")
     same("owner at a shared point", Ring([b"x", b"1x"]).owner(tied), 1)
     same("owner at a shared point, the other order", Ring([b"1x", b"x"]).owner(tied), 0)
     same("the parts of a ring make the whole", round(sum(Ring(names).shares(len(names))), 12), 1.0)
@@ -49,7 +49,7 @@ def owners():
 
 def keys():
     def wanted(name):
-        return bytes_in("iiif_keys_tests", name)
+        return bytes_in("key_tests", name)
 
     picture = Image(b"a", 4, 6, 1)
     request = Request(picture, 2, Rect(1, 2, 3, 4), (2, 1))

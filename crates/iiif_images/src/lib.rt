@@ -8,5 +8,3 @@ pub use images::Images;
 pub mod catalogue;
 pub mod entry;
 pub mod images;
-#[cfg(test)]
-mod tests;

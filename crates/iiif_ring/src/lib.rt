@@ -7,5 +7,3 @@ pub use ring::Ring;
 pub mod fault;
 mod hash;
 pub mod ring;
-#[cfg(test)]
-mod tests;

@@ -1,4 +1,4 @@
-use Rattle.iiif_singleflight_tests.proofs.tests.leader_that_looks_again_finds_what_landed_meanwhile.Given as goal
+use Rattle.iiif_flight_tests.proofs.flight_tests.leader_that_looks_again_finds_no_fault.Given as goal
 
 -- the ledger that is opened
 abbrev pub ghosts-looked : goal.ghosts-looked

@@ -1,6 +1,6 @@
 //! Owners that were computed outside, by Python's `hashlib`, and the order of names.
 
-use crate::{Ring, RingFault};
+use iiif_ring::{Ring, RingFault};
 use std::alloc::{AllocError, Global};
 use std::test::Fail;
 

@@ -1,4 +1,4 @@
-use Rattle.iiif_singleflight_tests.proofs.tests.two_threads_share_one_load.Given as goal
+use Rattle.iiif_flight_tests.proofs.flight_tests.third_call_leads_where_nothing_is_kept.Given as goal
 
 -- the ledger that is opened
 abbrev pub ghosts-two_meet : goal.ghosts-two_meet

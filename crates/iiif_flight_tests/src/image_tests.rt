@@ -5,7 +5,7 @@ ghost use Rattle.iiif_source.specs.declared.ReadFault.{ReadFault};
 ghost use Rattle.iiif_images.specs.Collection.{Item, item_named};
 ghost use Rattle.iiif_images.specs.Named.{gave_of, pictures_of};
 
-use crate::{AddFault, Catalogue, Images};
+use iiif_images::{AddFault, Catalogue, Images};
 use iiif_keys::{Name, System, TileKey, is_name};
 use iiif_pixel::Span;
 use iiif_source::{FuseSource, MemSource, Source};

@@ -3,8 +3,8 @@
 ghost use Rattle.std.specs.Prelude.{◌≡◌};
 ghost use Rattle.iiif_keys.specs.Meaning.{tile_below};
 
-use crate::plain;
-use crate::tests::name;
+use crate::block_plain;
+use crate::key_tests::name;
 use iiif_area::Sums;
 use iiif_keys::{CacheKey, Parts, Shape, SumKey, SumVal, TileKey, TileVal, parts};
 use iiif_pixel::{Depth, Dim, Kind, Raster, Rect};
@@ -180,7 +180,7 @@ fn plain_value(
         for i in 0..places.w {
             for channel in 0..shape.kind.channels() {
                 let (i, j) = (places.x.wrapping_add(i), places.y.wrapping_add(j));
-                sums.push(plain::sum_at(picture, at, key.rect, key.size, i, j, channel))?;
+                sums.push(block_plain::sum_at(picture, at, key.rect, key.size, i, j, channel))?;
             }
         }
     }
@@ -259,7 +259,7 @@ fn derived(
 fn has_any(dim: Dim, at: Rect, rect: Rect) -> bool {
     for y in 0..dim.h {
         for x in 0..dim.w {
-            if plain::has(at, x, y) && plain::has(rect, x, y) {
+            if block_plain::has(at, x, y) && block_plain::has(rect, x, y) {
                 return true;
             }
         }
@@ -273,8 +273,8 @@ fn compare_sums(rt: &impl Abort, picture: &Raster, at: Rect, key: &SumKey, value
     for j in 0..key.size.h {
         for i in 0..key.size.w {
             for channel in 0..picture.kind().channels() {
-                let plain = plain::sum_at(picture, at, key.rect, key.size, i, j, channel);
-                let inside = plain::has(value.sums.rect(), i, j);
+                let plain = block_plain::sum_at(picture, at, key.rect, key.size, i, j, channel);
+                let inside = block_plain::has(value.sums.rect(), i, j);
                 assert!(rt; (plain > 0) == inside);
                 if inside {
                     assert!(rt; sums.next().copied() == Some(plain));

@@ -2,7 +2,7 @@ use Rattle.std.proofs.Common.{◌==◌}
 use Rattle.std.specs.Prelude.{false, ◌||◌}
 use Rattle.iiif_source.specs.Cause.{fuse}
 use Rattle.iiif_images.specs.Named.{gave_of, pictures_of}
-use Rattle.iiif_images.proofs.tests.tiles_are_of_the_named_image.Given as goal
+use Rattle.iiif_flight_tests.proofs.image_tests.tiles_are_of_the_named_image.Given as goal
 
 -- what the catalogue shows
 abbrev pub ghosts-tiles_are : goal.ghosts-tiles_are

@@ -1,4 +1,4 @@
-use Rattle.iiif_singleflight_tests.proofs.tests.call_after_a_fault_loads_again.Given as goal
+use Rattle.iiif_flight_tests.proofs.flight_tests.call_after_a_fault_loads_again.Given as goal
 
 -- the ledger that is opened
 abbrev pub ghosts-two_meet : goal.ghosts-two_meet
