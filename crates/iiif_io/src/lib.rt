@@ -9,5 +9,3 @@ pub mod fakes;
 pub mod inlet;
 pub mod memory;
 pub mod outlet;
-#[cfg(test)]
-mod tests;

@@ -1,7 +1,7 @@
 //! What reaches a writer that fails.
 
-use crate::fakes::{FailingReader, FailingWriter};
-use crate::{CountingSink, FixedBuffer, Inlet, send, send_both};
+use iiif_io::fakes::{FailingReader, FailingWriter};
+use iiif_io::{CountingSink, FixedBuffer, Inlet, send, send_both};
 use std::test::Fail;
 
 fn writer(rt: &HostRuntime, room: usize, piece: usize) -> FailingWriter {

@@ -1,0 +1,21 @@
+//! Tests of what goes over wires, which call only what is public: devices that fail (`iiif_io`); heads as they come and as they are written
+//! (`iiif_http_front`); messages between nodes, whole and cut (`iiif_peer_wire`), and asks in one stream (`iiif_peer_server`); many
+//! connections at once, and slow ones, over loopback (`iiif_listener`).
+#![tactic(auto)]
+
+#[cfg(test)]
+mod echo;
+#[cfg(test)]
+mod head_tests;
+#[cfg(test)]
+mod io_tests;
+#[cfg(test)]
+mod listen_tests;
+#[cfg(test)]
+mod message_tests;
+#[cfg(test)]
+mod pace_tests;
+#[cfg(test)]
+mod peer_tests;
+#[cfg(test)]
+mod place_tests;
