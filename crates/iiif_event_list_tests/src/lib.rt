@@ -1,10 +1,15 @@
-//! Tests of `iiif_event_list`, which call only what is public: lists of events and what they come to, line by line and run as one; lines
-//! that are none; worlds that can't begin; and lists of which a growth of memory is refused.
+//! Tests of the machine over events and of its lists, which call only what is public: keys and laws (`iiif_scene`); numbers, faults and
+//! laws (`iiif_machine`); lists of events and what they come to, line by line and run as one, lines that are none, worlds that can't
+//! begin, and lists of which a growth of memory is refused (`iiif_event_list`).
 #![tactic(auto)]
 
 #[cfg(test)]
-mod refused;
+mod list_tests;
 #[cfg(test)]
-mod running;
+mod machine_tests;
 #[cfg(test)]
-mod tests;
+mod refused_tests;
+#[cfg(test)]
+mod running_tests;
+#[cfg(test)]
+mod scene_tests;

@@ -1,4 +1,4 @@
-//! Each law once.
+//! Each law of `iiif_tiff` once.
 
 use iiif_tiff::{
     accepted_is_readable, samples_are_shown, shows_one_picture, white_is_zero_inverts,

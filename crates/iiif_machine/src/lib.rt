@@ -13,5 +13,3 @@ pub mod events;
 pub mod laws;
 pub mod numbers;
 pub mod rows;
-#[cfg(test)]
-mod tests;

@@ -6,5 +6,3 @@ pub use keys::{Key, Value};
 
 pub mod keys;
 pub mod laws;
-#[cfg(test)]
-mod tests;

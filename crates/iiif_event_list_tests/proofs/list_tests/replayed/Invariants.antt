@@ -1,5 +1,5 @@
 use Rattle.iiif_event_list.specs.Replays.{IsSoundReplay}
-use Rattle.iiif_event_list_tests.proofs.tests.replayed.Given as goal
+use Rattle.iiif_event_list_tests.proofs.list_tests.replayed.Given as goal
 
 -- what was read so far is sound
 abbrev pub invariant-loop-line : goal.invariant-loop-line

@@ -1,6 +1,6 @@
-//! Each public function once.
+//! Each public function of `iiif_machine` once.
 
-use crate::{Numbers, WorldFault, laws};
+use iiif_machine::{Numbers, WorldFault, laws};
 use std::test::Fail;
 
 #[test]

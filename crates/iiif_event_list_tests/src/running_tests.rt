@@ -3,7 +3,7 @@
 ghost use Rattle.std.specs.Prelude.{All, IfOk};
 ghost use Rattle.iiif_world.specs.Stepping.{IsShortEvent};
 
-use crate::refused::{CROSSED, DEEP, begun, event_of};
+use crate::refused_tests::{CROSSED, DEEP, begun, event_of};
 use iiif_canonical::Limits;
 use iiif_event_list::fault::LineFault;
 use iiif_event_list::values::put_answer;

@@ -1,8 +1,8 @@
-//! Each public function once.
+//! Each public function of `iiif_scene` once.
 
-use crate::{Key, laws};
 use iiif_keys::{Name, SumKey, TileKey, is_name};
 use iiif_pixel::{Dim, Rect};
+use iiif_scene::{Key, laws};
 use std::test::Fail;
 
 #[test]

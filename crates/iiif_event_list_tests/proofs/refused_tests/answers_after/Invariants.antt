@@ -1,5 +1,5 @@
 use Rattle.iiif_world.specs.Code.{world_of, IsSoundWorld}
-use Rattle.iiif_event_list_tests.proofs.refused.answers_after.Given as goal
+use Rattle.iiif_event_list_tests.proofs.refused_tests.answers_after.Given as goal
 
 -- the world is sound
 abbrev pub invariant-loop-line : goal.invariant-loop-line
