@@ -28,12 +28,12 @@ PAGE = os.sysconf("SC_PAGE_SIZE")
 
 
 def kind_of(pid, words):
-    """The crate and the lane that a process works for. What a crate of tests costs counts to the tests of the crate below."""
+    """The crate and the lane that a process works for. All that a crate of tests costs counts to its own tests."""
     if "--crate-name" not in words:
         return None
     crate = words[words.index("--crate-name") + 1]
     if crate.endswith("_tests"):
-        return crate.removesuffix("_tests"), "tests"
+        return crate, "tests"
     if os.readlink(f"/proc/{pid}/cwd").startswith("/tmp/rt-edit-"):
         return crate, "edits"
     return crate, "tests" if "--test" in words else "proof"
