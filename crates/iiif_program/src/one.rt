@@ -1,7 +1,7 @@
 //! The answer to one target.
 
 use crate::hex::write_hex;
-use crate::passes::{give_back, passes_of};
+use iiif_connections::passes::{give_back, passes_of};
 use iiif_group::{Gate, Link};
 use iiif_io::Outlet;
 use iiif_keys::{Fault, SumKey, System, TileKey};

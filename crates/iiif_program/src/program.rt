@@ -10,12 +10,12 @@ ghost use Rattle.iiif_program.specs.Lines.{settings_in};
 
 use crate::nodes::{Nodes, among};
 use crate::one::{answer_in_hex, answer_one};
-use crate::serving::listen;
 use crate::settings::{config, options_of};
-use crate::times::USUAL;
 use clap::ArgMatches;
 use clap::error::ErrorKind;
 use iiif_command_line::{Mode, Options, matches};
+use iiif_connections::serving::listen;
+use iiif_connections::times::USUAL;
 use iiif_group::{Gate, Link};
 use iiif_io::Outlet;
 use iiif_keys::{SumKey, System, TileKey};

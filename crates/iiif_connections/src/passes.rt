@@ -9,8 +9,9 @@ use iiif_start::Stored;
 use std::alloc::Global;
 use std::sync::Wait;
 
-/// As many passes as there are workers. None, and none is kept, where one of them is wanting.
-pub(crate) fn passes_of<R: Opens + Wait, J: System, N, T>(
+/// As many passes as there are workers. None, and none is kept, where one of them or memory for them is wanting, and where there is no
+/// worker. Whoever has them gives them back to the node once nothing more is made with them.
+pub fn passes_of<R: Opens + Wait, J: System, N, T>(
     rt: &R,
     alloc: Global,
     node: &Node<R, Stored, J, N, T>,
@@ -38,7 +39,7 @@ pub(crate) fn passes_of<R: Opens + Wait, J: System, N, T>(
 }
 
 /// Gives passes back to the node that they are of.
-pub(crate) fn give_back<R: Opens + Wait, J: System, N, T>(
+pub fn give_back<R: Opens + Wait, J: System, N, T>(
     rt: &R,
     node: &Node<R, Stored, J, N, T>,
     all: Vec<Passes<J>>,

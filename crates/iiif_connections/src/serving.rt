@@ -62,9 +62,10 @@ where
     }
 }
 
-/// Serves at these addresses by a node, and writes a line for each answer to a viewer where it logs. It ends where a listener does: an
-/// address is none, or the listener was stopped.
-pub(crate) fn listen<'a, R, J, N, T, E>(
+/// Serves at these addresses by a node, within the usual limits of time, with so many workers for each viewer's connection, and writes a
+/// line for each answer to a viewer where it logs. It ends where a listener does: an address is none, or the listener was stopped. Where
+/// memory is wanting before it listens, the error is `Stop::Memory`, else `Stop::Listen`.
+pub fn listen<'a, R, J, N, T, E>(
     rt: &R,
     alloc: Global,
     node: &Node<R, Stored, J, N, T>,

@@ -1,7 +1,7 @@
 //! Who is told of each answer of a viewer's connection: the log, and what is counted.
 
 ghost use Rattle.std.specs.Prelude.{◌≡◌, [], IfNone, IfSome};
-ghost use Rattle.iiif_program.specs.Telling.{bytes_of, outcome_of};
+ghost use Rattle.iiif_connections.specs.Telling.{bytes_of, outcome_of};
 
 use iiif_http_front::Call;
 use iiif_log::{Answered, Log, Moment, Outcome};
