@@ -9,7 +9,7 @@ ghost use Rattle.iiif_area.specs.Code.{column_sum, span_total, tile_sample, IsSp
 
 use crate::rows::{add_row, add_sums, sum_row};
 use crate::weights::{sources, weight};
-use iiif_pixel::{Dim, NoMemory, Raster, Rect};
+use iiif_pixel::{Dim, Kind, NoMemory, Raster, Rect};
 use std::alloc::{AllocError, Global};
 
 /// Of so few source rows each is added with its weight: adding them up apart costs a pass over all columns.
@@ -46,9 +46,36 @@ pub(crate) fn tile_sums(
     ensures { IfOk result (λ v. v.items ≡ samples_of rect.w rect.h tile.now.channels
         (λ i j k. area_sum region size part (tile_sample tile.now corner part k) (rect.x + i) (rect.y + j))) }
 {
+    match tile.kind() {
+        Kind::Gray => sums_by(alloc, tile, 1, corner, part, region, size, rect),
+        Kind::Rgb => sums_by(alloc, tile, 3, corner, part, region, size, rect),
+    }
+}
+
+/// The same of a tile with so many channels. It is made anew for each number that is passed, so that no place costs a loop over
+/// channels.
+#[inline(always)]
+fn sums_by(
+    alloc: Global,
+    tile: &Raster,
+    channels: usize,
+    corner: (u32, u32),
+    part: Rect,
+    region: Dim,
+    size: Dim,
+    rect: Rect,
+) -> Result<Vec<u64>, NoMemory>
+    requires channels { channels ≡ tile.now.channels }
+    requires limits { IsScalable region size }
+    requires inside { LiesIn part region }
+    requires held { (corner.0 + part.w ≤ tile.now.width) × (corner.1 + part.h ≤ tile.now.height) }
+    requires corner { corner.1 + part.h < 2 ^ 32 }
+    requires rect { LiesIn rect size }
+    ensures { IfOk result (λ v. v.items ≡ samples_of rect.w rect.h tile.now.channels
+        (λ i j k. area_sum region size part (tile_sample tile.now corner part k) (rect.x + i) (rect.y + j))) }
+{
     // No sample is above 65,535, so the sums fit.
     tile.is_whole();
-    let channels = tile.kind().channels();
     let mut cells = vec![in alloc; 0u64; part.w as usize * channels]?;
     let columns = cells.as_mut_slice();
     let mut scratch = vec![in alloc; 0u32; part.w as usize * channels]?;

@@ -7,14 +7,14 @@ use Rattle.iiif_pixel.proofs.Whole.{sample_at-le, top-le}
 use Rattle.iiif_area.specs.Code.{tile_sample, IsSpan}
 use Rattle.iiif_area.proofs.ColumnLaws.{span_total-area, tile_area-fits}
 use Rattle.iiif_area.proofs.GridLaws.{FilledTo-push, filled_is}
-use Rattle.iiif_area.proofs.columns.tile_sums.Goals as goal
+use Rattle.iiif_area.proofs.columns.sums_by.Goals as goal
 
 pub fill_columns-requires-clause-samples : goal.fill_columns-requires-clause-samples
 fill_columns-requires-clause-samples c = λ x y k. omega (arith, sample_at-le c.args.tile.now c.is_whole.ensures.whole x y k, top-le c.args.tile.now c.is_whole.ensures.whole)
 
 pub span_sum-sum-requires-clause-within : goal.span_sum-sum-requires-clause-within
 span_sum-sum-requires-clause-within c =
-    let n = c.channels-channels.result in
+    let n = c.args.channels in
     let span : IsSpan c.args.region.w c.args.size.w c.args.part.x c.args.part.w (c.args.rect.x + c.loop-i.i) c.index-span.result.now =
     rw c.index-span.ensures (c.in_ok-spans.ensures.each c.loop-i.i c.index-span.result.now (omega arith)) in
     let e : c.index-span.result.now.end * n ≤ c.args.part.w * n = mul-le-mul_right n span.within in
@@ -27,8 +27,8 @@ span_sum-sum-requires-clause-fits c =
     let i = c.args.rect.x + c.loop-i.i in
     let j = c.args.rect.y + c.loop-j.j in
     let k = c.loop-k.k in
-    let ch : c.channels-channels.result ≡ c.args.tile.now.channels = c.channels-channels.ensures ∙ c.kind.ensures in
-    let sum = span_total-area c.args.region c.args.size c.args.part c.args.tile.now c.args.corner i j k c.channels-channels.result c.from.result c.fill_columns.new.columns c.index-span.result.now
+    let ch : c.args.channels ≡ c.args.tile.now.channels = c.requires.channels in
+    let sum = span_total-area c.args.region c.args.size c.args.part c.args.tile.now c.args.corner i j k c.args.channels c.from.result c.fill_columns.new.columns c.index-span.result.now
     ch c.from.ensures span (λ t l. c.fill_columns.ensures.sums t k l (omega arith)) in
     let fits = tile_area-fits c.args.region c.args.size c.args.part c.args.tile.now c.args.corner i j k c.requires.limits.area
     (λ x y k. omega (arith, sample_at-le c.args.tile.now c.is_whole.ensures.whole x y k, top-le c.args.tile.now c.is_whole.ensures.whole)) in
@@ -39,8 +39,8 @@ loop-k-preserved c =
     let span : IsSpan c.args.region.w c.args.size.w c.args.part.x c.args.part.w (c.args.rect.x + c.loop-i.i) c.index-span.result.now =
     rw c.index-span.ensures (c.in_ok-spans.ensures.each c.loop-i.i c.index-span.result.now (omega arith)) in
     let k = c.loop-k.k in
-    let ch : c.channels-channels.result ≡ c.args.tile.now.channels = c.channels-channels.ensures ∙ c.kind.ensures in
-    let sum = span_total-area c.args.region c.args.size c.args.part c.args.tile.now c.args.corner (c.args.rect.x + c.loop-i.i) (c.args.rect.y + c.loop-j.j) k c.channels-channels.result c.from.result
+    let ch : c.args.channels ≡ c.args.tile.now.channels = c.requires.channels in
+    let sum = span_total-area c.args.region c.args.size c.args.part c.args.tile.now c.args.corner (c.args.rect.x + c.loop-i.i) (c.args.rect.y + c.loop-j.j) k c.args.channels c.from.result
     c.fill_columns.new.columns c.index-span.result.now ch c.from.ensures span (λ t l. c.fill_columns.ensures.sums t k l (omega arith)) in
     record {
       capacity = omega arith;
@@ -51,8 +51,8 @@ loop-k-preserved c =
 pub returns : goal.returns
 returns c =
     let r = c.args.rect in
-    let n = c.channels-channels.result in
-    let ch : n ≡ c.args.tile.now.channels = c.channels-channels.ensures ∙ c.kind.ensures in
+    let n = c.args.channels in
+    let ch : n ≡ c.args.tile.now.channels = c.requires.channels in
     let f : ℕ → ℕ → ℕ → ℕ = λ i j k. area_sum c.args.region c.args.size c.args.part (tile_sample c.args.tile.now c.args.corner c.args.part k) (r.x + i) (r.y + j) in
     let rows : c.loop-j.j ≡ r.h = omega arith in
     let count : r.w * n * c.loop-j.j ≡ r.w * n * r.h = ap (λ y. r.w * n * y) rows in
@@ -61,11 +61,11 @@ returns c =
 pub push_reserved-requires : goal.push_reserved-requires
 push_reserved-requires c =
     let r = c.args.rect in
-    omega (arith, index_below r.w r.h c.channels-channels.result c.loop-i.i c.loop-j.j c.loop-k.k (omega arith) (omega arith) (omega arith))
+    omega (arith, index_below r.w r.h c.args.channels c.loop-i.i c.loop-j.j c.loop-k.k (omega arith) (omega arith) (omega arith))
 
 pub loop-j-preserved : goal.loop-j-preserved
 loop-j-preserved c =
-    let n = c.channels-channels.result in
+    let n = c.args.channels in
     let e : c.loop-i.i ≡ c.args.rect.w = omega arith in
     let d : c.loop-i.i * n ≡ c.args.rect.w * n = ap (λ x. x * n) e in
     record {

@@ -2,7 +2,7 @@ use Rattle.std.proofs.Common.{◌≡◌, ℕ, ◌+◌, ◌*◌, ◌<◌, get_or,
 use Rattle.iiif_pixel.specs.Scaling.{area_sum}
 use Rattle.iiif_area.specs.Code.{tile_sample}
 use Rattle.iiif_area.proofs.GridLaws.{place_index, FilledTo}
-use Rattle.iiif_area.proofs.columns.tile_sums.Given as goal
+use Rattle.iiif_area.proofs.columns.sums_by.Given as goal
 
 abbrev pub invariant-loop-k : goal.invariant-loop-k
 invariant-loop-k l = record {
