@@ -3,6 +3,7 @@
 ghost use Rattle.std.specs.Prelude.{◌≡◌, ◌*◌, IfOk, length};
 
 use crate::area_plain;
+use iiif_area::averages::Averager;
 use iiif_area::places::{is_inside, is_scalable, meets};
 use iiif_area::sums::Sums;
 use iiif_area::weights::weight;
@@ -606,6 +607,24 @@ fn weights_are_overlaps(rt: HostRuntime) {
         weight(u32::MAX, u32::MAX, u32::MAX, u32::MAX),
         4_294_967_295
     );
+}
+
+#[test]
+fn averages_are_the_nearest_whole_numbers(rt: HostRuntime) {
+    // 5 and 6 over 4 places: 1.25 and 1.5; 10 and 11 over 7: 1.43 and 1.57
+    let four = Averager::new(4);
+    assert_eq!(rt; four.average(5, 255), 1);
+    assert_eq!(rt; four.average(6, 255), 2);
+    assert_eq!(rt; four.average(1024, 255), 255);
+    assert_eq!(rt; four.average(1024, 65_535), 256);
+    let seven = Averager::new(7);
+    assert_eq!(rt; seven.average(10, 255), 1);
+    assert_eq!(rt; seven.average(11, 255), 2);
+    // 65,534.5 over the most places, and a part less; the greatest sum
+    let most = Averager::new(1 << 32);
+    assert_eq!(rt; most.average(281_468_534_259_712, 65_535), 65_535);
+    assert_eq!(rt; most.average(281_468_534_259_711, 65_535), 65_534);
+    assert_eq!(rt; Averager::new(1).average(u64::MAX, 65_535), 65_535);
 }
 
 #[test]
