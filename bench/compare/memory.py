@@ -9,6 +9,8 @@ ENTRIES = 4 * 4096
 PROGRAM = 4 * MIB
 # What the C library keeps for each thread of the memory that was given back.
 KEPT = 8 * MIB
+# So many blocks are asked ahead for each worker, where there are several: those of bands that follow.
+FOR_EACH = 8
 # What is read ahead of a file at most: 16 times many rows, 128 times few.
 ROWS, AHEAD = MIB, 16 * MIB + 128 * 64 * 2 ** 10
 
@@ -50,7 +52,10 @@ def bound(channels, depth, image, rect, size, edge=256, cache=64 * MIB, band=64,
     else:
         blocks = [8 * most for most in levels(channels, image, rect, size, edge)]
         counts = [squares(edge << level)[0] for level in range(len(blocks))]
-        made, items = 2 * sample + 8, squares(edge << len(blocks) - 1)[1] * blocks[-1]
+        all_blocks, of_band = squares(edge << len(blocks) - 1)
+        enough = workers * FOR_EACH if workers > 1 else 0
+        held = of_band if of_band >= enough else min(all_blocks, enough + of_band)
+        made, items = 2 * sample + 8, held * blocks[-1]
         sums, values = sum(count * most for count, most in zip(counts, blocks)), tiles + sum(counts)
         tile += sum(blocks)
     caches = min(cache, tiles * channels * sample * edge ** 2) + min(cache, sums) + (ENTRY * min(values, ENTRIES) if cache else 0)

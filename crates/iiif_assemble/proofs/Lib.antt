@@ -8,3 +8,4 @@ pub mod HeldLemmas
 pub mod WholeLemmas
 pub mod JobLemmas
 pub mod GrowLemmas
+pub mod AheadLemmas

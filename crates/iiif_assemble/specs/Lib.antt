@@ -2,3 +2,4 @@ pub mod Gathering
 pub mod Jobs
 pub mod Faults
 pub mod Code
+pub mod Ahead

@@ -1,6 +1,7 @@
 //! Images made of their plans, band by band, by several workers.
 #![tactic(auto)]
 
+pub mod ahead;
 pub mod band;
 mod crew;
 mod finishing;
@@ -10,6 +11,7 @@ pub mod job;
 mod merging;
 mod pasting;
 
+pub use ahead::{KeptSum, SumsAhead, keep_ahead};
 pub use band::{assemble, assemble_band};
 pub use items::Items;
 pub use job::{Job, Made};

@@ -52,6 +52,10 @@ fn front(alloc: Global, start: &[u8], kind: OutKind, dim: Dim) -> Result<Vec<u8>
 /// Sends the image of a job behind a text, in bands of `rows`: each is made, written and dropped before the next is made, and the
 /// text goes out with the first. There is a worker for each pass, and which of them asks for an item changes nothing.
 ///
+/// Of an image that is made of blocks, the sums of those of a band are held while it is made. With several workers blocks of the bands
+/// that follow are asked in the same turns, and their sums are held until their bands are made: up to 8 blocks for each worker, or those
+/// of one band where these are more, plus those of the last band that was taken in.
+///
 /// # Errors
 ///
 /// The first fault of a band, the writer's, or `NoMemory`.
@@ -104,14 +108,17 @@ pub fn send_image<
     let mut sent = 0u64;
     let mut held = 0u64;
     let mut before: &[usize] = &[];
+    let mut left = bands.as_slice();
+    let mut kept = Vec::new(alloc);
     for band in &bands {
         match put_band(
-            rt, alloc, tiles, sums, passes, job, kind, band, before, &mut text,
+            rt, alloc, tiles, sums, passes, job, kind, band, left, before, &mut kept, &mut text,
         ) {
             Ok(most) => held = held.max(most),
             Err(fault) => return Err(Stopped::Load(sent, fault)),
         }
         before = band.items.as_slice();
+        left = left.get(1..).unwrap_or(&[]);
         match send(out, &text) {
             Ok(()) => sent += text.len() as u64,
             Err(more) => return Err(Stopped::Writer(sent + more)),

@@ -4,13 +4,14 @@ ghost use Rattle.std.specs.Prelude.{◌≡◌, ◌<◌, ◌⊎◌, ◌++◌, IfO
 ghost use Rattle.iiif_pixel.specs.Geometry.{channels_of, sides_of, top_of};
 ghost use Rattle.iiif_pixel.specs.Picture.{Picture};
 ghost use Rattle.iiif_keys.specs.declared.fault.Fault.TheVariants as Fault;
+ghost use Rattle.iiif_assemble.specs.Ahead.{AreKept};
 ghost use Rattle.iiif_assemble.specs.Faults.{IsBandFault};
 ghost use Rattle.iiif_assemble.specs.Jobs.{channels_in, top_in, IsBandOf, IsHeldFor, IsJob, SumsServe, TilesServe};
 ghost use Rattle.iiif_tiff_write.specs.File.{strip};
 ghost use Rattle.iiif_tiff_write.specs.OutKind.{out_depth, samples_per_pixel};
 ghost use Rattle.iiif_delivery.specs.Code.{IsBandFor, Laws};
 
-use iiif_assemble::{Items, Job, assemble_band};
+use iiif_assemble::{Items, Job, KeptSum, SumsAhead, assemble_band, keep_ahead};
 use iiif_bands::Band;
 use iiif_keys::{Fault, SumKey, SumVal, TileKey, TileVal};
 use iiif_pixel::laws::{bands_follow, whole_stays_whole};
@@ -29,9 +30,10 @@ pub(crate) fn laws_of_bands()
     bands_join();
 }
 
-/// Makes a band of the image of a job, and appends its rows to a text; says how many samples and sums were held at once. The band
-/// is gone then, but for its rows. Where it is made of the items of the band `before`, which are at hand then, one worker asks for them,
-/// so that no thread is started for what is found at once.
+/// Makes a band of the image of a job, the first of these that are left, and appends its rows to a text; says how many samples and sums
+/// were held at once. The band is gone then, but for its rows. Sums of the bands behind it may be kept for them. Where it is made of what
+/// is kept, or of the items of the band `before`, which are at hand then, one worker asks for them, so that no thread is started for what
+/// is found at once.
 pub(crate) fn put_band<
     T: Items<TileKey, TileVal, P, R> + Sync,
     S: Items<SumKey, SumVal, P, R> + Sync,
@@ -46,7 +48,9 @@ pub(crate) fn put_band<
     job: &Job,
     kind: OutKind,
     band: &Band,
+    left: &[Band],
     before: &[usize],
+    kept: &mut Vec<KeptSum>,
     text: &mut Vec<u8>,
 ) -> Result<u64, Fault>
     requires some { 0 < length passes.old }
@@ -56,18 +60,29 @@ pub(crate) fn put_band<
     requires sums { SumsServe job.now (S.fits sums.now) (S.means sums.now) }
     requires channels { channels_in job.now.resolved.quality (channels_of job.now.shape.kind) ≡ samples_per_pixel kind }
     requires depth { top_in job.now.resolved.quality (top_of job.now.shape.depth) ≡ top_of (out_depth kind) }
+    requires kept { AreKept (S.means sums.now) kept.old.items }
+    ensures kept { AreKept (S.means sums.now) kept.new.items }
     ensures rows { IfOk result (λ held. (b : Picture) × IsBandFor job.now (T.means tiles.now) (S.means sums.now) band.now.rect b
         × (text.new.items ≡ text.old.items ++ strip kind b)) }
     ensures held { IfOk result (λ held. IsHeldFor (sides_of band.now.rect) (channels_of job.now.shape.kind) held) }
     ensures fault { IfErr result (λ f. (f ≡ Fault.NoMemory)
         ⊎ IsBandFault (T.means tiles.now) (T.failed tiles.now) (S.means sums.now) (S.failed sums.now) job.now.plan band.now.items.items f) }
 {
-    let workers = if band.items.as_slice() == before {
+    let is_kept = match keep_ahead(rt, alloc, sums, passes, job, left, before, kept) {
+        Ok(is_kept) => is_kept,
+        // The band that the fault is for fails, once it is made.
+        Err(_) => false,
+    };
+    let workers = if is_kept || band.items.as_slice() == before {
         1
     } else {
         passes.len()
     };
-    match assemble_band(rt, alloc, tiles, sums, &mut passes[..workers], job, band) {
+    let ahead = SumsAhead {
+        sums,
+        kept: kept.as_slice(),
+    };
+    match assemble_band(rt, alloc, tiles, &ahead, &mut passes[..workers], job, band) {
         Ok(made) => {
             made.raster.is_whole();
             match put_rows(&made.raster, kind, text) {

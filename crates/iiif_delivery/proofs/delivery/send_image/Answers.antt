@@ -1,4 +1,4 @@
-use Rattle.std.proofs.Common.{◌≡◌, ℕ, ◌+◌, ◌-◌, ◌*◌, ◌<◌, min, List, All, length, sym, ap, subst, ◌∙◌, arith, inl, inr, ⊎_elim, length-append}
+use Rattle.std.proofs.Common.{◌≡◌, ℕ, ◌+◌, ◌-◌, ◌*◌, ◌<◌, min, List, All, length, sym, ap, subst, ◌∙◌, arith, inl, inr, ⊎_elim, length-append, rules}
 use Rattle.std.specs.Prelude.{◌++◌}
 use Rattle.std.specs.Io.KnownBytes.{Appends}
 use Rattle.iiif_io.specs.Sending.{WasCut}
@@ -34,6 +34,7 @@ loop-band-init g c =
       rows = first_rows c.laws_of_bands.ensures j (g.T.Items.means c.args.tiles.now) (g.S.Items.means c.args.sums.now) c.args.kind c.args.start.now c.requires.job.quarters
           c.requires.channels (g.W.Write.contents c.args.out.now) c.in-Ok.text.items (min (0 * c.args.rows) d.h) is none;
       counted = counted_first j c.args.kind (length (c.args.start.now ++ head_of c.args.kind d)) c.args.rows (min (0 * c.args.rows) d.h) c.in-Ok.text.items (ap length is) none;
+      kept = search rules;
     }
 
 pub returns-in-Err-clause-stopped : goal.returns-in-Err-clause-stopped
@@ -184,6 +185,7 @@ loop-band-preserved g c =
       counted = counted_more j c.args.kind (length (c.args.start.now ++ head_of c.args.kind d)) c.args.rows c.loop-band.text.items (strip c.args.kind made.0) c.clear.new.self.items
           c.loop-band.sent (c.loop-band.sent + c.len.result) c.loop-band.held c.in-Ok-put_band.most y n y2 c.max-held.result c.loop-band.invariant.counted len is_held (omega (arith, above))
           (omega (arith, above, c.requires.rows)) (omega (arith, c.max-held.ensures)) next count c.clear.ensures.items;
+      kept = c.put_band.ensures.kept;
     }
 
 pub returns-clause-whole : goal.returns-clause-whole

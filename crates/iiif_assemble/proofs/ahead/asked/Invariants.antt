@@ -1,0 +1,6 @@
+use Rattle.iiif_assemble.specs.Ahead.{AreKept}
+use Rattle.iiif_assemble.proofs.ahead.asked.Given as goal
+
+-- those so far
+abbrev pub invariant-loop-n : goal.invariant-loop-n
+invariant-loop-n g l = AreKept (g.S.Items.means l.sums) l.asked.items

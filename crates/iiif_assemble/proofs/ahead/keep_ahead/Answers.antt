@@ -1,0 +1,17 @@
+use Rattle.std.proofs.Common.{List, All, subst, sym}
+use Rattle.std.proofs.lemmas.List.Elements.{All-weaker}
+use Rattle.iiif_pixel.specs.Geometry.{channels_of}
+use Rattle.iiif_keys.specs.declared.keys.SumKey.{SumKey}
+use Rattle.iiif_planner.specs.Plans.{IsBlockFor, IsPlan}
+use Rattle.iiif_planner.specs.declared.plans.Plan.{Plan}
+use Rattle.iiif_assemble.proofs.ahead.keep_ahead.Goals as goal
+
+pub asked-requires-clause-fits : goal.asked-requires-clause-fits
+asked-requires-clause-fits g c κs within =
+    let j = c.args.job.now in
+    let fits = g.S.Items.fits c.args.sums.now in
+    let of_plan = subst (λ (p : Plan). IsPlan j.name j.edge j.shape.dim (channels_of j.shape.kind) c.requires.job.room j.resolved p) c.in-Sum.is c.requires.job.is_plan in
+    let level = of_plan.1 in
+    let planned = IsBlockFor j.name j.edge j.shape.dim (channels_of j.shape.kind) j.resolved.rect j.resolved.size level in
+    subst (λ (ks : List SumKey). All fits ks) (sym c.deref-4.ensures.value)
+    (All-weaker planned fits (λ k b. (c.requires.sums level).asked k b) c.in-Sum.keys.items of_plan.3.blocks)
