@@ -260,6 +260,13 @@ def programs(args, job):
     return {name: line for name, line in lines.items() if name.split(" ")[0] not in args.without}
 
 
+def touch(mebibytes):
+    """Takes so much memory, writes to all of it and gives it back. A virtual machine then has it at hand for a while, and whoever takes new
+    pages next doesn't wait until its host finds them."""
+    if mebibytes:
+        subprocess.run([sys.executable, "-c", f"b'x' * ({mebibytes} << 20)"], check=True)
+
+
 def run(commands, out, repeat=1):
     """Runs the commands one after the other, and all so often: wall clock and processor time in seconds of each time."""
     times = []
@@ -366,6 +373,7 @@ def measured(args, jobs, wanted):
                 if turn >= 3 and name.startswith("libvips"):
                     continue
                 out = answer_path(args, job, name)
+                touch(args.warm)
                 short = name in OWN and JOBS[job][2][2] <= JOBS[job][3] <= 1024
                 times.setdefault((job, name), []).extend(run(commands, out, 10 if short else 1))
                 if turn == 0 and name in OWN:
@@ -485,6 +493,7 @@ def main():
     parser.add_argument("--jobs", default="", help="only jobs whose name has this pattern")
     parser.add_argument("--without", nargs="*", default=[], help="libvips, GDAL, plain: programs to leave out")
     parser.add_argument("--reads", action="store_true", help="count the reads of the source")
+    parser.add_argument("--warm", type=int, default=0, help="touch so many MiB of memory right before each program is run, whichever it is")
     parser.add_argument("--strict", action="store_true", help="status 1 where a limit is passed")
     return compare(parser.parse_args())
 

@@ -299,9 +299,11 @@ def main():
     parser.add_argument("--jobs", default="", help="only jobs whose name has this pattern")
     parser.add_argument("--nodes", type=int, nargs="*", default=[], help="so many nodes beside one")
     parser.add_argument("--unchecked", action="store_true", help="leave out the run in which answers are compared")
+    parser.add_argument("--warm", type=int, default=0, help="touch so many MiB of memory right before each server is started, whichever it is")
     parser.add_argument("--strict", action="store_true", help="status 1 where a limit is passed")
     args = parser.parse_args()
     args.work = os.path.abspath(args.work)
+    servers.Servers.warm = args.warm
     with tempfile.TemporaryDirectory() as room:
         bench = Bench(args, room)
         jobs, columns = [job for job in JOBS if re.search(args.jobs, job)], bench.columns()

@@ -21,6 +21,13 @@ def unit_environment():
     return dict(word.split("=", 1) for word in words)
 
 
+def touch(mebibytes):
+    """Takes so much memory, writes to all of it and gives it back. A virtual machine then has it at hand for a while, and whoever takes new
+    pages next doesn't wait until its host finds them."""
+    if mebibytes:
+        subprocess.run([sys.executable, "-c", f"b'x' * ({mebibytes} << 20)"], check=True)
+
+
 class Failed(Exception):
     """A server that doesn't listen: its column, its status, and what it wrote."""
 
@@ -30,10 +37,13 @@ class Servers:
 
     # What stands at the end of a target.
     last = "default.tif"
+    # So many MiB are touched right before a server is started.
+    warm = 0
 
     def __init__(self, column, commands, ports, room, added=None):
         self.column, self.addresses, self.processes = column, [f"127.0.0.1:{port}" for port in ports], []
         self.said = open(os.path.join(room, "said"), "w+b")
+        touch(self.warm)
         for command in commands:
             self.processes.append(subprocess.Popen(command, stdin=subprocess.DEVNULL, stdout=self.said, stderr=self.said, start_new_session=True, env={**os.environ, **(added or {})}))
         for port in ports:
