@@ -364,12 +364,18 @@ def prepared(args, jobs):
     return wanted
 
 
+def turned(programs, turn):
+    """The programs, another one of them first in each round: who runs behind another finds the memory that it gave back."""
+    first = turn % len(programs)
+    return programs[first:] + programs[:first]
+
+
 def measured(args, jobs, wanted):
     """The medians of each job and program (wall clock, processor time, peak memory), and whether an answer was wrong."""
     times, peaks, wrong = {}, {}, False
     for turn in range(args.rounds):
         for job in jobs:
-            for name, commands in programs(args, job).items():
+            for name, commands in turned(list(programs(args, job).items()), turn):
                 if turn >= 3 and name.startswith("libvips"):
                     continue
                 out = answer_path(args, job, name)

@@ -93,9 +93,9 @@ def build(args):
 def measured(args, titles):
     """The medians of each benchmark, program and row, and the check sums that differ."""
     figures, sums, wrong = {}, {}, []
-    for _ in range(args.rounds):
+    for turn in range(args.rounds):
         for title in titles:
-            for column, command in BENCHES[title].commands(args).items():
+            for column, command in compare.turned(list(BENCHES[title].commands(args).items()), turn):
                 text = subprocess.run(command, capture_output=True, text=True, check=True, cwd=args.work).stdout
                 found, checked = rows(text)
                 for row, value in found.items():

@@ -227,7 +227,7 @@ def measured(bench, jobs, columns):
     found = {}
     for turn in range(bench.args.rounds):
         for job in jobs:
-            for column, start in columns.items():
+            for column, start in compare.turned(list(columns.items()), turn):
                 if turn and column == PLAIN:
                     continue
                 with start() as server:
