@@ -17,7 +17,7 @@ that aren't scaled up. With --reads, `strace` counts the reads of the source tha
 
 The status is 1 where an answer of the program differs or a program fails, and with --strict also where a limit is passed. Memory: what
 docs/OPERATING.md says, which is the caches and a band (`memory.py`), with the program's defaults, with no cache, and with a small one and a
-single worker. Wall clock: an overview of 100 megapixels from tiles 1.15 of the build before by one worker, and 0.6 by four, both as SMALL says;
+single worker. Wall clock: an overview of 100 megapixels from tiles 1.15 of the build before by one worker, and 0.6 by four, by the defaults;
 from strips GDAL's average, by two. Processor time: on 16 bits 1.5 of plain Rust's and 1.0 of GDAL's average, and 1.5 of plain Rust's where a result is
 above its region.
 """
@@ -416,10 +416,10 @@ def limits(args, jobs, medians):
     print("|---|---|---|---|---|---|---|---|")
     for job in filter(is_overview, jobs):
         tiles = SOURCES[JOBS[job][1]].tile
-        cells = [ratio(job, "one worker", "the build before", 0, None),
-                 ratio(job, "one worker, small", "the build before", 0, 1.15 if tiles else None),
-                 ratio(job, "four workers", "the build before", 0, None),
-                 ratio(job, "four workers, small", "the build before", 0, 0.6 if tiles else None),
+        cells = [ratio(job, "one worker", "the build before", 0, 1.15 if tiles else None),
+                 ratio(job, "one worker, small", "the build before", 0, None),
+                 ratio(job, "four workers", "the build before", 0, 0.6 if tiles else None),
+                 ratio(job, "four workers, small", "the build before", 0, None),
                  ratio(job, "this program", "the build before", 0, None), ratio(job, "this program", "GDAL", 0, None if tiles else 1.0),
                  ratio(job, "--edge 1024", "GDAL", 0, 1.0)]
         print(f"| {JOBS[job][0]} | {' | '.join(cells)} |")
