@@ -1,18 +1,11 @@
 -- Sums that are kept.
-use Rattle.std.proofs.Common.{◌≡◌, ℕ, ◌<◌, List, [], ◌∷◌, ◌++◌, All, get_or, length, sym, subst}
-use Rattle.std.specs.Prelude.{Contains}
+use Rattle.std.proofs.Common.{List, [], ◌∷◌, ◌++◌, sym, subst}
 use Rattle.std.specs.Arc.{arc_value}
-use Rattle.std.proofs.lemmas.List.Elements.{All-contains, All-push, All-same}
+use Rattle.std.proofs.lemmas.List.Elements.{All-push, All-same}
 use Rattle.iiif_keys.specs.declared.keys.SumKey.{SumKey}
 use Rattle.iiif_keys.specs.declared.values.SumVal.{SumVal}
 use Rattle.iiif_assemble.specs.Ahead.{AreKept, IsKeptToo}
 use Rattle.iiif_assemble.specs.declared.ahead.KeptSum.{KeptSum}
-
--- the one that is found for a key
-pub kept_for_key : (means : SumKey → SumVal → Type 0) (kept : List KeptSum) (s : KeptSum) (k : SumKey) → AreKept means kept → Contains kept s → s.key ≡ k → means k (arc_value s.value)
-kept_for_key means kept s k all among same =
-    let P : KeptSum → Type 0 = λ t. means t.key (arc_value t.value) in
-    subst (λ (q : SumKey). means q (arc_value s.value)) same (All-contains P kept s all among)
 
 -- one more
 pub kept_more : (means : SumKey → SumVal → Type 0) (old new : List KeptSum) (k : SumKey) (v : SumVal) → AreKept means old → means k v → IsKeptToo k v old new → AreKept means new

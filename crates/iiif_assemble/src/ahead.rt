@@ -221,16 +221,17 @@ pub fn keep_ahead<S: Items<SumKey, SumVal, P, R> + Sync, P: Send, R: Threads + S
     if has_all(kept, keys, items) {
         return Ok(true);
     }
+    let enough = passes.len().saturating_mul(FOR_EACH);
+    if passes.len() < 2 || items.len() >= enough || items == before {
+        kept.clear();
+        return Ok(false);
+    }
     let ahead = SumsAhead {
         sums,
         kept: kept.as_slice(),
     };
     let own = ahead.kept_of::<P, R>(alloc, keys, items);
     kept.clear();
-    let enough = passes.len().saturating_mul(FOR_EACH);
-    if passes.len() < 2 || items.len() >= enough || items == before {
-        return Ok(false);
-    }
     let own = own?;
     let list = items_ahead(alloc, bands, keys.len(), enough)?;
     *kept = asked(rt, alloc, sums, passes, keys, &list, &own)?;
