@@ -50,6 +50,13 @@ impl<K: CacheKey, J: System> ByteCache<K, J> {
         self.main.list.len() + self.hot.list.len()
     }
 
+    /// Whether something is kept for the key. Nothing changes, and it takes no memory.
+    pub fn holds(&self, key: &K) -> bool
+        ensures { result ≡ is_some (kept_for K.eq key.now (cache_of self.now)) }
+    {
+        self.main.contains(key) || self.hot.contains(key)
+    }
+
     /// The keys of the main list, in order, as for tests and measurements. The only error is want of memory.
     pub fn main_keys(&self, alloc: Global) -> Result<Vec<K>, NoMemory>
         ensures { IfOk result (λ v. v.items ≡ map (λ e. e.0) (cache_of self.now).main) }

@@ -93,6 +93,19 @@ impl<K: CacheKey, J: System, L: Ledger, N, T> Group<K, J, L, N, T> {
         self.home.lock(rt).table.book()
     }
 
+    /// Whether a value is kept for the key now. It counts as no call.
+    pub fn holds<R: Wait>(&self, rt: &R, key: &K) -> bool {
+        self.home.lock(rt).table.holds(key)
+    }
+
+    /// Whether this node owns the key, so that no other is asked for it. False where memory is wanting.
+    pub fn owns(&self, key: &K) -> bool {
+        match key.bytes(self.alloc) {
+            Ok(bytes) => self.peer(&bytes).is_none(),
+            Err(_) => false,
+        }
+    }
+
     /// How much is kept now.
     pub fn kept<R: Wait>(&self, rt: &R) -> Kept
         ensures { result.bytes < 2 ^ 63 }

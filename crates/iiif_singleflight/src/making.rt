@@ -1,8 +1,8 @@
 //! A table is made, its book read, and what it keeps counted.
 
-ghost use Rattle.std.specs.Prelude.{◌≡◌, ◌^◌, ◌<◌, ◌≤◌, ◌+◌, IfOk, None, length};
+ghost use Rattle.std.specs.Prelude.{◌≡◌, ◌^◌, ◌<◌, ◌≤◌, ◌+◌, IfOk, None, is_some, length};
 ghost use Rattle.std.specs.NonZero.{non_zero_usize_get};
-ghost use Rattle.iiif_tables.specs.Cache.{bytes_in};
+ghost use Rattle.iiif_tables.specs.Cache.{bytes_in, kept_for};
 ghost use Rattle.iiif_tables.specs.Flights.{empty_table, IsBook};
 ghost use Rattle.iiif_outcome.specs.Views.{entry_size};
 ghost use Rattle.iiif_singleflight.specs.View.{cells_of, table_of};
@@ -69,6 +69,13 @@ impl<K: CacheKey, J: System, L: Ledger> Table<K, J, L> {
         ensures sums { IsBook (table_of K.eq self.now).aloft result }
     {
         self.book
+    }
+
+    /// Whether a value is kept for the key. Nothing changes and nothing is counted, and it takes no memory.
+    pub fn holds(&self, key: &K) -> bool
+        ensures { result ≡ is_some (kept_for K.eq key.now (table_of K.eq self.now).cache) }
+    {
+        self.cache.holds(key)
     }
 
     /// How much is kept. It takes no memory.
