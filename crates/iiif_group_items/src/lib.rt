@@ -3,5 +3,6 @@
 
 pub use items::GroupItems;
 
+mod early;
 pub mod items;
 pub mod laws;

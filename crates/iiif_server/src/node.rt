@@ -45,6 +45,7 @@ use iiif_tile_group::{TileCalls, Tiles};
 use std::alloc::{AllocError, Global};
 use std::marker::Model;
 use std::sync::Wait;
+use std::sync::atomic::{AtomicUsize, Ordering};
 use std::sync::ledger::{Blank, Ledger};
 use std::thread::Threads;
 
@@ -58,6 +59,8 @@ where
 {
     config: Config,
     groups: Groups<R, S, J, N, T>,
+    /// How many images were asked for.
+    turns: AtomicUsize,
 }
 
 impl<R, S: Source<R>, J: System, N, T> Model for Node<R, S, J, N, T>
@@ -123,7 +126,11 @@ impl<R, S: Source<R> + Drop, J: System, N, T> Node<R, S, J, N, T> {
             sums.blank,
         )?;
         let groups = Groups::new(alloc, tiles, group);
-        Ok(Node { config, groups })
+        Ok(Node {
+            config,
+            groups,
+            turns: AtomicUsize::new(0),
+        })
     }
 
     /// Its groups of tiles and sums.
@@ -233,6 +240,11 @@ impl<
     N: Link<TileKey, J, R> + Link<SumKey, J, R> + Sync,
     T: Gate<R> + Sync,
 > Node<R, S, J, N, T> {
+    /// Another number for each image.
+    fn next_turn(&self) -> usize {
+        self.turns.fetch_add(1, Ordering::SeqCst)
+    }
+
     /// Sends an image for an accepted request, band by band.
     fn send_loaded<W: Outlet>(
         &self,
@@ -269,6 +281,7 @@ impl<
         picture_is_shown(entry);
         groups_serve_jobs::<J>(&job);
         let items = GroupItems(&self.groups);
+        items.ask_parts(rt, alloc, passes, &job, self.next_turn());
         let rows = self.config.band();
         match send_image(
             rt,
