@@ -1,6 +1,5 @@
 -- What is added to sums in place.
-use Rattle.std.proofs.Common.{◌≡◌, ℕ, ◌+◌, ◌-◌, ◌*◌, ◌/◌, ◌%◌, ◌^◌, ◌<◌, ◌≤◌, ◌⊎◌, List, min, max, get_or, length, take, drop, sym, ap, ◌∙◌, refl, subst, arith, ⊎_elim}
-use Rattle.std.proofs.lemmas.Bool.{cases_lt}
+use Rattle.std.proofs.Common.{◌≡◌, ℕ, ◌+◌, ◌-◌, ◌*◌, ◌/◌, ◌%◌, ◌^◌, ◌<◌, ◌≤◌, List, min, max, get_or, take, drop, sym, ap, ◌∙◌, refl, arith}
 use Rattle.std.proofs.Math.Nat.{mul-le-mul_right}
 use Rattle.iiif_pixel.specs.Geometry.{sides_of}
 use Rattle.iiif_pixel.specs.Operations.{crop}
@@ -14,8 +13,8 @@ use Rattle.iiif_area.specs.Code.{row_sum, tile_sample}
 use Rattle.iiif_area.specs.Grid.{Grid, grid_of, merged, sums_of}
 use Rattle.iiif_area.specs.Places.{corner_of, part_of, places_of}
 use Rattle.iiif_area.proofs.AreaLaws.{area_from_rows}
-use Rattle.iiif_area.proofs.GridLaws.{index_parts, part_at, entry-lt}
-use Rattle.iiif_area.proofs.SumLaws.{sum_from-same, sum_from-more, sum_from-none, sum_from-start, sum_from-step, sum_from-end, sum_from-narrow, same_product}
+use Rattle.iiif_area.proofs.GridLaws.{index_parts, part_at}
+use Rattle.iiif_area.proofs.SumLaws.{sum_from-same, sum_from-more, sum_from-none, sum_from-start, sum_from-step, sum_from-narrow, same_product}
 use Rattle.iiif_area.proofs.TileLaws.{tile_grid-is}
 use Rattle.iiif_area.proofs.WeightLaws.{weight_after, weight_before, weighted_before}
 

@@ -5,9 +5,10 @@ use Rattle.std.proofs.lemmas.Bool.{cases_lt}
 use Rattle.iiif_pixel.specs.Scaling.{sum_from, weight_of, area_sum}
 use Rattle.iiif_pixel.specs.declared.geometry.Dim.{Dim}
 use Rattle.iiif_pixel.specs.declared.geometry.Rect.{Rect}
+use Rattle.iiif_pixel.proofs.ScaleLemmas.{sum_from-mul}
 use Rattle.iiif_area.specs.Laws.{SplitsAtColumn, SplitsAtRow, IsZeroElsewhere, IsOfPart, IsBounded, SumsFit}
 use Rattle.iiif_area.specs.Places.{places_of}
-use Rattle.iiif_area.proofs.SumLaws.{sum_from-zero, sum_from-same, sum_from-mul, sum_from-split, sum_from-add, sum_from_swap, sum_from-shift}
+use Rattle.iiif_area.proofs.SumLaws.{sum_from-zero, sum_from-same, sum_from-split, sum_from-add, sum_from_swap, sum_from-shift}
 use Rattle.iiif_area.proofs.WeightLaws.{weighted-le, weighted_before, weight_below_places, weight_above_places}
 
 pub area_split_columns : SplitsAtColumn

@@ -11,14 +11,11 @@ use Rattle.iiif_area.specs.declared.columns.Span.{Span}
 use Rattle.iiif_area.specs.Code.{column_sum, span_total, tile_sample, IsSpan}
 use Rattle.iiif_area.proofs.AreaLaws.{area_from_corner, area-fits}
 use Rattle.iiif_area.proofs.GridLaws.{index_parts}
-use Rattle.iiif_area.proofs.SumLaws.{sum_from-zero, sum_from-same, sum_from-one, sum_from-narrow, sum_from-step, sum_from-end, same_product, three_parts}
+use Rattle.iiif_area.proofs.SumLaws.{sum_from-zero, sum_from-same, sum_from-one, sum_from-narrow, sum_from-step, sum_from-end, same_product, three_parts, none_times}
 use Rattle.iiif_area.proofs.WeightLaws.{weighted-le_from, weighted_before}
 
 no_terms : (u n : ℕ) (f : ℕ → ℕ) → n ≡ 0 → sum_from u n f ≡ 0
 no_terms u n f e = sum_from-zero u n f (λ k l m. absurd (omega arith))
-
-times_zero : {m : ℕ} (n : ℕ) → m ≡ 0 → m * n ≡ 0
-times_zero n e = ap (λ u. u * n) e ∙ omega arith
 
 zero_times : {m : ℕ} (n : ℕ) → m ≡ 0 → n * m ≡ 0
 zero_times n e = ap (λ u. n * u) e ∙ omega arith
@@ -27,9 +24,9 @@ zero_times n e = ap (λ u. n * u) e ∙ omega arith
 pub span_total-none : (columns : List ℕ) (n k c : ℕ) (s : Span) → s.start ≡ s.end → s.first ≡ 0 → s.last ≡ 0 → span_total columns n k c s ≡ 0
 unfolding span_total
 span_total-none columns n k c s e first last =
-    let a = times_zero (get_or columns (s.start * n + k) 0) first in
+    let a = none_times (get_or columns (s.start * n + k) 0) first in
     let b = zero_times c (no_terms (s.start + 1) (s.end - 1 - (s.start + 1)) (λ t. get_or columns (t * n + k) 0) (omega arith)) in
-    let d = times_zero (get_or columns ((s.end - 1) * n + k) 0) last in
+    let d = none_times (get_or columns ((s.end - 1) * n + k) 0) last in
     omega arith
 
 -- what a result column takes of all the columns is what it takes of its span
@@ -54,7 +51,7 @@ span_total-is a c from m i n k columns s h =
     let d = ap (λ u. sum_from s.start u g) e ∙ sum_from-one s.start g in
     let p1 = same_product (h.first some) (let e : f s.start ≡ f s.start = refl in e) in
     let b = zero_times c (no_terms (s.start + 1) (s.end - 1 - (s.start + 1)) f (omega arith)) in
-    let z = times_zero (f (s.end - 1)) (h.single one) in
+    let z = none_times (f (s.end - 1)) (h.single one) in
     omega arith)
     (cases_lt (s.start + 1) s.end))
     (λ (none : s.end ≤ s.start).

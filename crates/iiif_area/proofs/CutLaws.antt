@@ -8,7 +8,7 @@ use Rattle.iiif_pixel.specs.declared.geometry.Rect.{Rect}
 use Rattle.iiif_area.specs.Grid.{has_place}
 use Rattle.iiif_area.specs.Laws.{CutsAddUp}
 use Rattle.iiif_area.proofs.GridLaws.{has_place-yes, has_place-no}
-use Rattle.iiif_area.proofs.SumLaws.{sum_from-same, sum_from-zero, sum_from-add, sum_from-narrow}
+use Rattle.iiif_area.proofs.SumLaws.{sum_from-same, sum_from-zero, sum_from-add, sum_from-narrow, none_times}
 
 -- the sum over the first n columns and rows
 abbrev pub window_sum : ℕ → (ℕ → ℕ → ℕ) → ℕ
@@ -31,9 +31,6 @@ window_sum-add : (n : ℕ) (g h : ℕ → ℕ → ℕ) → window_sum n (λ x y.
 window_sum-add n g h =
     sum_from-same 0 n _ _ (λ y _ _. sum_from-add 0 n (λ x. g x y) (λ x. h x y))
     ∙ sum_from-add 0 n (λ y. sum_from 0 n (λ x. g x y)) (λ y. sum_from 0 n (λ x. h x y))
-
-none_times : {m : ℕ} (v : ℕ) → m ≡ 0 → m * v ≡ 0
-none_times v e = ap (λ u. u * v) e ∙ omega arith
 
 one_times : {m : ℕ} (v : ℕ) → m ≡ 1 → m * v ≡ v
 one_times v e = ap (λ u. u * v) e ∙ omega arith

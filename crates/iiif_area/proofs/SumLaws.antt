@@ -4,6 +4,7 @@ use Rattle.std.specs.List.{range_with_len}
 use Rattle.std.proofs.lemmas.List.FromFn.{sum_by-map-range_with_len_more}
 use Rattle.std.proofs.Math.Nat.{mul-le-mul_left}
 use Rattle.iiif_pixel.specs.Scaling.{sum_from}
+use Rattle.iiif_pixel.proofs.ScaleLemmas.{sum_from-mul}
 
 pub sum_from-none : (u : ℕ) (f : ℕ → ℕ) → sum_from u 0 f ≡ 0
 unfolding sum_from
@@ -51,16 +52,6 @@ pub sum_from-add : (u n : ℕ) (f g : ℕ → ℕ) → sum_from u n (λ k. f k +
 unfolding sum_from
 sum_from-add u zero f g = refl
 sum_from-add u (suc n) f g = omega (arith, sum_from-add u n f g)
-
-pub sum_from-mul : (u n c : ℕ) (f : ℕ → ℕ) → sum_from u n (λ k. c * f k) ≡ c * sum_from u n f
-unfolding sum_from
-sum_from-mul u zero c f = omega arith
-sum_from-mul u (suc n) c f = omega (arith, sum_from-mul u n c f)
-
-pub sum_from-const : (u n c : ℕ) → sum_from u n (λ k. c) ≡ n * c
-unfolding sum_from
-sum_from-const u zero c = omega arith
-sum_from-const u (suc n) c = omega (arith, sum_from-const u n c)
 
 pub sum_from-le : (u n : ℕ) (f g : ℕ → ℕ) → ((k : ℕ) → u ≤ k → k < u + n → f k ≤ g k) → sum_from u n f ≤ sum_from u n g
 unfolding sum_from
@@ -112,6 +103,9 @@ sum_from-step u x f s t l a b =
 -- and at its end
 pub sum_from-end : (u x v : ℕ) (f : ℕ → ℕ) (s : ℕ) → s ≡ sum_from u (x - u) f → x ≡ v → s ≡ sum_from u (v - u) f
 sum_from-end u x v f s h e = h ∙ ap (λ w. sum_from u (w - u) f) e
+
+pub none_times : {m : ℕ} (n : ℕ) → m ≡ 0 → m * n ≡ 0
+none_times n e = ap (λ u. u * n) e ∙ omega arith
 
 pub same_product : {m n p q : ℕ} → m ≡ n → p ≡ q → m * p ≡ n * q
 same_product a b = cc

@@ -14,7 +14,7 @@ use Rattle.iiif_area.proofs.AreaLaws.{area_same}
 use Rattle.iiif_area.proofs.GridLaws.{grid_of-same}
 
 -- the same place, by the tile and by the region
-same_place_of_image : (t r x : ℕ) → max t r - r ≤ x → t + (max t r - t + (x - (max t r - r))) ≡ r + x
+pub same_place_of_image : (t r x : ℕ) → max t r - r ≤ x → t + (max t r - t + (x - (max t r - r))) ≡ r + x
 same_place_of_image t r x h = omega arith
 
 -- the part's sum by the tile's samples is that by the region's

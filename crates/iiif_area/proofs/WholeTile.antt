@@ -1,5 +1,5 @@
 -- A region taken as one tile, and the result that its sums make.
-use Rattle.std.proofs.Common.{◌≡◌, ℕ, ◌+◌, ◌*◌, ◌/◌, ◌%◌, ◌<◌, refl, sym, subst, ap, ◌∙◌, arith}
+use Rattle.std.proofs.Common.{◌≡◌, ℕ, ◌+◌, ◌*◌, ◌/◌, ◌%◌, ◌<◌, sym, subst, ap, ◌∙◌, arith}
 use Rattle.std.proofs.Math.Nat.{zero-div, mul-div_cancel_left, mul-mod_right}
 use Rattle.std.specs.Int.{div_ceil}
 use Rattle.iiif_pixel.specs.Geometry.{LiesIn}
@@ -9,15 +9,13 @@ use Rattle.iiif_pixel.specs.Scaling.{scale, whole_of}
 use Rattle.iiif_pixel.specs.Laws.{AllRows}
 use Rattle.iiif_pixel.specs.declared.geometry.Dim.{Dim}
 use Rattle.iiif_pixel.specs.declared.geometry.Rect.{Rect}
+use Rattle.iiif_pixel.proofs.Parts.{same_rect}
 use Rattle.iiif_area.specs.Grid.{Grid, sums_at, sums_of}
 use Rattle.iiif_area.specs.Places.{part_of, places_of, IsInside}
 
-rect_is : (r : Rect) (x y w h : ℕ) → r.x ≡ x → r.y ≡ y → r.w ≡ w → r.h ≡ h → r ≡ record { x = x; y = y; w = w; h = h }
-rect_is r x y w h ex ey ew eh = rw (← ex, ← ey, ← ew, ← eh) refl
-
 -- the part of a region that the whole of it has
 pub whole_part : (d : Dim) → part_of (whole_of d) (whole_of d) ≡ whole_of d
-whole_part d = rect_is (part_of (whole_of d) (whole_of d)) 0 0 d.w d.h (omega arith) (omega arith) (omega arith) (omega arith)
+whole_part d = same_rect (part_of (whole_of d) (whole_of d)) (whole_of d) (omega arith) (omega arith) (omega arith) (omega arith)
 
 div_ceil_whole : (a c : ℕ) → 0 < a → div_ceil ((0 + a) * c) a ≡ c
 div_ceil_whole a c some =
@@ -34,7 +32,7 @@ whole_places d s columns rows =
     let top = none s.h d.h in
     let width = div_ceil_whole d.w s.w columns in
     let height = div_ceil_whole d.h s.h rows in
-    rect_is (places_of d s (whole_of d)) 0 0 s.w s.h left top (omega (arith, left, width)) (omega (arith, top, height))
+    same_rect (places_of d s (whole_of d)) (whole_of s) left top (omega (arith, left, width)) (omega (arith, top, height))
 
 -- the whole of a picture, cropped
 pub whole_crop : AllRows → (p : Picture) → IsWhole p → crop p (whole_of (dim_of p)) ≡ p
@@ -66,11 +64,6 @@ inside_itself r s e = record {
   upper = omega (arith, ap (λ (t : Rect). t.y) e);
   lower = omega (arith, ap (λ (t : Rect). t.y) e, ap (λ (t : Rect). t.h) e);
 }
-
-pub dim_is : (a b : Dim) → a.w ≡ b.w → a.h ≡ b.h → a ≡ b
-dim_is a b w h =
-    let first : a ≡ record { w = b.w; h = b.h } = rw (← w, ← h) refl in
-    first
 
 -- a whole scaled picture, cropped
 pub finished_whole : AllRows → (p : Picture) (size : Dim) → IsWhole (scale p size) → crop (scale p size) (whole_of size) ≡ scale p size

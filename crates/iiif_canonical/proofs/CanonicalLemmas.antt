@@ -8,6 +8,7 @@ use Rattle.iiif_pixel.specs.Geometry.{LiesIn}
 use Rattle.iiif_pixel.specs.declared.geometry.Dim.{Dim}
 use Rattle.iiif_pixel.specs.declared.geometry.Kind.{Kind}
 use Rattle.iiif_pixel.specs.declared.geometry.Rect.{Rect}
+use Rattle.iiif_pixel.proofs.Parts.{same_rect}
 use Rattle.iiif_request.specs.Requests.{IsShortRegion, IsShortForm, HasShortDecimals}
 use Rattle.iiif_request.specs.declared.request.Region.TheVariants.{Full, Pixels}
 use Rattle.iiif_request.specs.declared.request.Form.TheVariants.{Max, Both}
@@ -31,9 +32,6 @@ clipped_part d r part =
     let n : min r.h (d.h - r.y) ≡ r.h = min-eq_left (omega (arith, part.inside.rows)) in
     rw (a, b, e, f, m, n) refl
 
-same_rect : (r : Rect) (x y w h : ℕ) → r.x ≡ x → r.y ≡ y → r.w ≡ w → r.h ≡ h → r ≡ record { x = x; y = y; w = w; h = h }
-same_rect r x y w h ex ey ew eh = λ i. record { x = ex i; y = ey i; w = ew i; h = eh i }
-
 -- the region that is written for a rectangle is that rectangle
 region_by : (d : Dim) (r : Rect) (t : Bool) → IsPart d r → r.x == 0 && r.y == 0 && r.w == d.w && r.h == d.h ≡ t → region_of (if t then Full else Pixels r.x r.y r.w r.h) d ≡ Ok r
 unfolding region_of
@@ -43,7 +41,7 @@ region_by d r true part e =
     let w : r.w ≡ d.w = grind (arith, nat_tests) in
     let h : r.h ≡ d.h = grind (arith, nat_tests) in
     let whole : Rect = record { x = 0; y = 0; w = d.w; h = d.h } in
-    let same : whole ≡ r = sym (same_rect r 0 0 d.w d.h x y w h) in
+    let same : whole ≡ r = sym (same_rect r whole x y w h) in
     let inside : LiesIn whole d = record { columns = omega arith; rows = omega arith } in
     clipped_part d whole (record { inside = inside; not_empty = (omega (arith, part.not_empty, w), omega (arith, part.not_empty, h)) }) ∙ ap Ok same
 region_by d r false part e = clipped_part d r part

@@ -2,6 +2,7 @@ pub mod Powers
 pub mod ResolutionLemmas
 pub mod CanonicalLemmas
 pub mod ImageLemmas
+pub mod Imaged
 pub mod SameImages
 pub mod NumeralTexts
 pub mod EscapeLemmas

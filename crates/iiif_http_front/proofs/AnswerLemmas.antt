@@ -1,7 +1,7 @@
 -- What is known of the bytes that came is known of the whole input.
 use Rattle.std.proofs.Common.{◌≡◌, ℕ, ◌+◌, ◌-◌, ◌≤◌, List, [], ◌++◌, length, take, drop, sym, ap, ◌∙◌, subst, arith, refl, append_assoc, append-nil, Option, Some, None, Result, Ok, Err}
 use Rattle.std.specs.Prelude.{IfSome}
-use Rattle.std.specs.Io.KnownBytes.{prepend_known, Consumes, IsAtEnd}
+use Rattle.std.specs.Io.KnownBytes.{prepend_known, Consumes}
 use Rattle.std.proofs.Math.Seq.{take-append-add, take-append_seam}
 use Rattle.std.proofs.Math.ListN.{length-append}
 use Rattle.httparse.specs.Grammar.{RequestHead, HasNoRequest, MayBecomeRequest}
@@ -23,18 +23,6 @@ answers_known (Some xs) None old came now left r is took right = absurd took
 answers_known (Some xs) (Some ys) old came now left r is took right =
     let whole : now ++ ys ≡ old ++ xs = ap (λ (t : List ℕ). t ++ ys) is ∙ append_assoc old came ys ∙ ap (λ (t : List ℕ). old ++ t) (sym took) in
     subst (λ (t : List ℕ). Answers t (Some (left ++ ys)) r) whole (right ys)
-
--- the same at the end of the input, where nothing follows
-pub answers_at_end : (a b : Option (List ℕ)) (old came now left : List ℕ) (r : Result (Option Call) HeadFault) → now ≡ old ++ came → Consumes a b came → IsAtEnd b
-    → Answers now (Some left) r
-    → IfSome (prepend_known old a) (λ input. Answers input (prepend_known left b) r)
-answers_at_end None b old came now left r is took end right = tt
-answers_at_end (Some xs) None old came now left r is took end right = absurd took
-answers_at_end (Some xs) (Some ys) old came now left r is took end right =
-    let all : now ≡ old ++ xs = is ∙ ap (λ (t : List ℕ). old ++ t) (sym (took ∙ ap (λ (t : List ℕ). came ++ t) end ∙ append-nil came)) in
-    let same : left ≡ left ++ ys = sym (append-nil left) ∙ ap (λ (t : List ℕ). left ++ t) (sym end) in
-    let here : Answers now (Some (left ++ ys)) r = subst (λ (t : List ℕ). Answers now (Some t) r) same right in
-    subst (λ (t : List ℕ). Answers t (Some (left ++ ys)) r) all here
 
 pub answers_came : (old came now left : List ℕ) (r : Result (Option Call) HeadFault) → now ≡ old ++ came → Answers now (Some left) r
     → (more : List ℕ) × Answers (old ++ more) (Some left) r

@@ -1,6 +1,6 @@
 -- Images in a map from names to files.
 use Rattle.std.proofs.Common.{◌≡◌, ℕ, ◌+◌, ◌-◌, ◌<◌, Bool, true, false, List, [], ◌∷◌, ◌++◌, map, not, filter, length, take, get_or, refl, sym, ap, subst, ◌∙◌, arith, Option, Some, None, is_some, cond, ◌||◌, bytes_eq, true≢false, below_more}
-use Rattle.std.proofs.lemmas.List.{append-nil, append_assoc, get_or_default, map-append, take_all, take_more}
+use Rattle.std.proofs.lemmas.List.{append_assoc, get_or_default, map-append, take_all, take_more}
 use Rattle.std.proofs.lemmas.List.Elements.{filter-append}
 use Rattle.std.specs.Map.{lookup}
 use denote.Ref.{Bor}
@@ -39,9 +39,6 @@ one_more p q = cc
 pub record Front (images : List Image) (ls : List (List ℕ)) (n : ℕ) (now : List Image) : Type 0 where
   pub each : AreTaken images ls n
   pub taken : now ≡ images_above images ls n
-
-pub no_line : (images : List Image) (ls : List (List ℕ)) → Front images ls 0 images
-no_line images ls = record { each = λ k lt. absurd (omega arith); taken = sym (append-nil images) }
 
 abbrev names_one : List ℕ → Bool
 names_one line = not (is_silent line)

@@ -5,8 +5,7 @@ use Rattle.std.proofs.lemmas.Grind.{common_steps}
 use Rattle.std.proofs.lemmas.List.{append-nil, append_cancel_right}
 use Rattle.std.proofs.lemmas.List.Elements.{All-nil, All-cons, All-append, All-weaker}
 use Rattle.std.proofs.lemmas.List.Splits.{slice_split_at, slice_split_none}
-use Rattle.std.proofs.lemmas.Fmt.{decimal_by_steps, decimal_is_IsNumeral}
-use Rattle.std.specs.Str.Parse.{digits_value}
+use Rattle.std.proofs.lemmas.Fmt.{decimal_by_steps, decimal_injective}
 use Rattle.jiff_core.specs.declared.civil.datetime.DateTime.{DateTime}
 use Rattle.jiff_fmt.specs.Text.{pad2, pad4, year_text, fraction_len, fraction_part}
 use Rattle.jiff_fmt.specs.Text.{places}
@@ -125,14 +124,11 @@ lines_are_lines a text h (time, moment, is) =
     let front = front_of time (escaped a.method.now) (outcome_word a.outcome) (decimal a.bytes) (decimal a.millis) (escaped a.target.now) a.outcome in
     (time, join_with_byte 32 (time ∷ rest), moment, is ∙ ap (λ f. f ++ 10 ∷ []) front, join_above time rest word behind, split_join time rest word behind)
 
-decimals_differ : (m n : ℕ) → m < 2 ^ 64 → n < 2 ^ 64 → decimal m ≡ decimal n → m ≡ n
-decimals_differ m n small little e = sym (decimal_is_IsNumeral m small).1 ∙ ap (digits_value 10) e ∙ (decimal_is_IsNumeral n little).1
-
 ends_differ : (o p : Outcome) → ((s : ℕ) → o ≡ Whole s → s < 2 ^ 16) → ((s : ℕ) → p ≡ Whole s → s < 2 ^ 16)
     → outcome_word o ≡ outcome_word p → last_words o ≡ last_words p → o ≡ p
 ends_differ (Whole s) (Whole t) small little e last =
     let below = small s refl in let under = little t refl in
-    ap Whole (decimals_differ s t (omega arith) (omega arith) e)
+    ap Whole (decimal_injective s t (omega arith) (omega arith) e)
 ends_differ (Whole s) Cut small little e last = cc
 ends_differ Cut (Whole t) small little e last = cc
 ends_differ Cut Cut small little e last = refl
@@ -152,6 +148,6 @@ lines_tell_answers a b text h k am bm at bt x y =
       escapes_differ _ _ am bm methods,
       escapes_differ _ _ at bt targets,
       ends_differ a.outcome b.outcome h.status k.status ends lasts,
-      decimals_differ a.bytes b.bytes h.bytes k.bytes bytes,
-      decimals_differ a.millis b.millis h.millis k.millis times,
+      decimal_injective a.bytes b.bytes h.bytes k.bytes bytes,
+      decimal_injective a.millis b.millis h.millis k.millis times,
     )

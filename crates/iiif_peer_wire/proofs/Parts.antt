@@ -1,10 +1,11 @@
 -- What reading a part of a message gives.
 use Rattle.std.proofs.Common.{◌≡◌, ◌≢◌, ℕ, ◌<◌, ◌≤◌, ◌^◌, ◌==◌, ◌||◌, Bool, true, false, List, [], ◌∷◌, ◌++◌, length, Some, None, if◌then◌else◌, Result, Ok, Err, nat_le, zero, suc, inl, inr, ⊎_elim, refl, sym, ap, ◌∙◌, append_assoc, arith, take_at, drop_at, length-append}
-use Rattle.std.proofs.lemmas.Bool.{lt-ltb, le-ltb, le-leb, lt-leb, eq-eqb, ne_eqb, or_left, or_right}
+use Rattle.std.proofs.lemmas.Bool.{lt-ltb, le-ltb, le-leb, lt-leb, eq-eqb, ne_eqb, or_left, or_right, or_from}
 use Rattle.std.proofs.lemmas.Nat.{from_be_bytes-to_be_bytes_4}
 use Rattle.std.specs.Int.{w32, to_be_bytes, from_be_bytes}
 use Rattle.std.specs.Str.{bytes_eq}
 use Rattle.std.specs.Cmp.Lexicographic.{bytes_decides}
+use Rattle.std.proofs.lemmas.Option.{same_Some, none-some}
 use Rattle.sha2.specs.Sha256.{sha256}
 use Rattle.sha2.proofs.Facts256.{length-sha256}
 use Rattle.iiif_peer_wire.specs.declared.fault.WireFault.{WireFault}
@@ -13,10 +14,6 @@ use Rattle.iiif_peer_wire.specs.declared.version.Version.{Version}
 use Rattle.iiif_peer_wire.specs.declared.version.Version.TheVariants.{One, Two}
 use Rattle.iiif_peer_wire.specs.Messages.{ask_magic, field, IsGroup}
 use Rattle.iiif_peer_wire.specs.Reading.{◌>>=◌, checked, ask_fields_at, ask_magic_at, ask_version_of, versioned, bytes_at, byte_at, length_at, magic_at, key_at, value_at, digest_at}
-
-neither : (x y : Bool) → x ≡ false → y ≡ false → (x || y) ≡ false
-neither true y p q = cc
-neither false y p q = q
 
 pub bytes_at-short : (count : ℕ) (input : List ℕ) → length input < count → bytes_at count input ≡ Err Short
 unfolding bytes_at
@@ -81,21 +78,15 @@ version_named : (version : Version) → ask_version_of (ask_magic version) ≡ S
 version_named One = refl
 version_named Two = refl
 
-some_same : (v w : Version) → Some v ≡ Some w → v ≡ w
-some_same v w e = cc
-
-never_some : (v : Version) → None ≡ Some v → ⊥
-never_some v e = cc
-
 -- the bytes that name a version are its magic
 pub version_spelled : (bytes : List ℕ) (version : Version) → ask_version_of bytes ≡ Some version → bytes ≡ ask_magic version
 version_spelled bytes version e = by_tests (bytes_eq bytes (ask_magic One)) (bytes_eq bytes (ask_magic Two)) refl refl e
   where
     by_tests : (s t : Bool) → bytes_eq bytes (ask_magic One) ≡ s → bytes_eq bytes (ask_magic Two) ≡ t
         → (if s then Some One else (if t then Some Two else None)) ≡ Some version → bytes ≡ ask_magic version
-    by_tests true t p q found = (bytes_decides bytes (ask_magic One)).0 p ∙ ap ask_magic (some_same One version found)
-    by_tests false true p q found = (bytes_decides bytes (ask_magic Two)).0 q ∙ ap ask_magic (some_same Two version found)
-    by_tests false false p q found = absurd (never_some version found)
+    by_tests true t p q found = (bytes_decides bytes (ask_magic One)).0 p ∙ ap ask_magic (same_Some One version found)
+    by_tests false true p q found = (bytes_decides bytes (ask_magic Two)).0 q ∙ ap ask_magic (same_Some Two version found)
+    by_tests false false p q found = absurd (none-some version found)
 
 ask_magic_at-bytes : (bytes rest : List ℕ) → length bytes ≡ 4 → ask_magic_at (bytes ++ rest) ≡ versioned (ask_version_of bytes) rest
 unfolding ask_magic_at
@@ -213,7 +204,7 @@ value_at-no_size status rest fault known e = value_at-known status rest known �
 pub value_at-fault_with_value : (status n : ℕ) (rest : List ℕ) → status ≤ 4 → n ≤ 67108864 → status ≢ 0 → n ≢ 0 → value_at ((status ∷ to_be_bytes w32 n) ++ rest) ≡ Err Status
 value_at-fault_with_value status n rest known h some more = value_at-sized status n rest known h
     ∙ bound_err (checked (status == 0 || n == 0) Status rest) _ Status
-    (checked-false (status == 0 || n == 0) Status rest (neither (status == 0) (n == 0) (ne_eqb status 0 some) (ne_eqb n 0 more)))
+    (checked-false (status == 0 || n == 0) Status rest (or_from (status == 0) (n == 0) (ne_eqb status 0 some) (ne_eqb n 0 more)))
 
 pub value_at-no_value : (status n : ℕ) (rest : List ℕ) (fault : WireFault) → status ≤ 4 → n ≤ 67108864 → (0 < status → n ≡ 0) → bytes_at n rest ≡ Err fault
     → value_at ((status ∷ to_be_bytes w32 n) ++ rest) ≡ Err fault
@@ -225,7 +216,7 @@ group_yes : (group : ℕ) → IsGroup group → (group == 1 || group == 2) ≡ t
 group_yes group h = ⊎_elim (λ e. or_left (group == 1) (group == 2) (eq-eqb group 1 e)) (λ e. or_right (group == 1) (group == 2) (eq-eqb group 2 e)) h
 
 group_no : (group : ℕ) → (IsGroup group → ⊥) → (group == 1 || group == 2) ≡ false
-group_no group h = neither (group == 1) (group == 2) (ne_eqb group 1 (λ e. h (inl e))) (ne_eqb group 2 (λ e. h (inr e)))
+group_no group h = or_from (group == 1) (group == 2) (ne_eqb group 1 (λ e. h (inl e))) (ne_eqb group 2 (λ e. h (inr e)))
 
 ask_fields_at-known : (group : ℕ) (rest : List ℕ) → IsGroup group
     → ask_fields_at (group ∷ rest) ≡ (length_at 4096 rest >>= λ size. bytes_at size.0 size.1 >>= λ key. Ok ((group, key.0), key.1))

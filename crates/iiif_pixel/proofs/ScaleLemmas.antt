@@ -12,7 +12,7 @@ unfolding sum_from
 sum_from-le u zero f g h = omega arith
 sum_from-le u (suc n) f g h = omega (arith, sum_from-le u n f g h, h (u + n))
 
-sum_from-mul : (u n c : ℕ) (f : ℕ → ℕ) → sum_from u n (λ x. c * f x) ≡ c * sum_from u n f
+pub sum_from-mul : (u n c : ℕ) (f : ℕ → ℕ) → sum_from u n (λ x. c * f x) ≡ c * sum_from u n f
 unfolding sum_from
 sum_from-mul u zero c f = omega arith
 sum_from-mul u (suc n) c f = omega (arith, sum_from-mul u n c f)

@@ -3,7 +3,6 @@ pub mod Opening
 pub mod Closing
 pub mod Marking
 pub mod Landed
-pub mod Imaged
 pub mod Owned
 pub mod Numbered
 pub mod Parts

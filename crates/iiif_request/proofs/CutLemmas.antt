@@ -8,8 +8,8 @@ use Rattle.std.proofs.lemmas.List.{length-append, get_or-take, length-take, drop
 use Rattle.std.proofs.lemmas.List.Elements.{All-tail, All-head}
 use Rattle.std.proofs.lemmas.List.Sums.{split_at_first, passes_at_first, fails_before_first, prefix_len-le-length}
 use Rattle.std.proofs.Math.Seq.{take-append_seam, take-length, drop-append-add, get_or-append_seam}
+use Rattle.std.proofs.lemmas.Option.{same_Some, none-some}
 use Rattle.iiif_request.specs.Code.{cut_of}
-use Rattle.iiif_request.proofs.OptionLemmas.{never_some, some_same}
 use Rattle.iiif_request.specs.Targets.{Lacks}
 
 pub eqb-false : (a b : ℕ) → eqb a b ≡ false → a ≢ b
@@ -70,9 +70,9 @@ cut_none byte text lacks =
 -- the same for a text that is cut, as a value
 pub cut_some : (byte : ℕ) (text : List ℕ) (p : List ℕ × List ℕ) → cut_of byte text ≡ Some p → (text ≡ p.0 ++ byte ∷ p.1) × Lacks byte p.0
 cut_some byte text p h =
-    ⊎_elim (λ w. absurd (never_some p (sym w.0 ∙ h)))
+    ⊎_elim (λ w. absurd (none-some p (sym w.0 ∙ h)))
     (λ s.
-    let same : (s.0, s.1) ≡ p = some_same (s.0, s.1) p (sym s.2 ∙ h) in
+    let same : (s.0, s.1) ≡ p = same_Some (s.0, s.1) p (sym s.2 ∙ h) in
     (s.3 ∙ ap (λ (q : List ℕ × List ℕ). q.0 ++ byte ∷ q.1) same, subst (λ (q : List ℕ × List ℕ). Lacks byte q.0) same s.4))
     (cut_cases byte text)
 

@@ -8,11 +8,11 @@ use Rattle.std.proofs.lemmas.Bool.{both_ways, and_from, le-leb, and_parts}
 use Rattle.std.proofs.lemmas.Bool.Decides.{eqb_tells, nat_tests}
 use Rattle.std.proofs.lemmas.List.Splits.{slice_split-cons_yes, slice_split-cons_no}
 use Rattle.std.proofs.lemmas.Str.{IsUtf8-from_is_utf8, is_utf8-from_IsUtf8}
+use Rattle.std.proofs.lemmas.Option.{cond_some}
 use Rattle.percent_encoding.specs.Percent.{percent_decode}
 use Rattle.percent_encoding.proofs.PercentLemmas.{percent_decode-nil, percent_decode_escape, KeepsFirst_from_no_escape}
 use Rattle.iiif_request.specs.Code.{begins_with_digits, has_whole_escapes, text_of}
 use Rattle.iiif_request.specs.Targets.{StandsFor, Decodes, IsSegmentOf}
-use Rattle.iiif_request.proofs.OptionLemmas.{cond_some}
 use Rattle.iiif_request.proofs.CutLemmas.{ne-eqb}
 
 abbrev is_percent : ℕ → Bool

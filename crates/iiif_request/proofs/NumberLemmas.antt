@@ -6,12 +6,13 @@ use Rattle.std.specs.Str.Parse.{digits_value}
 use Rattle.std.proofs.lemmas.Bool.{both_ways, lt-ltb, le-leb, and_from, and_parts}
 use Rattle.std.proofs.lemmas.List.Elements.{All-append, All-cons, All-nil, All-same}
 use Rattle.std.proofs.lemmas.List.Sums.{AllPass-from_list_all}
+use Rattle.std.proofs.lemmas.Option.{cond_some}
 use Rattle.iiif_request.specs.declared.request.Decimal.{Decimal}
 use Rattle.iiif_request.specs.Code.{whole_of, cut_of, pointed_of, parted_decimal_of, decimal_of}
 use Rattle.iiif_request.specs.Numerals.{is_numeral}
 use Rattle.iiif_request.specs.Spells.{IsDigits, IsWhole, IsDecimal}
 use Rattle.iiif_request.specs.Targets.{Lacks}
-use Rattle.iiif_request.proofs.OptionLemmas.{cond_some, map_some}
+use Rattle.iiif_request.proofs.OptionLemmas.{map_some}
 use Rattle.iiif_request.proofs.NumeralLemmas.{numeral_len}
 use Rattle.iiif_request.proofs.CutLemmas.{cut_at, cut_cases, cut_none}
 

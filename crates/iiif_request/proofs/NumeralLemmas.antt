@@ -10,9 +10,9 @@ use Rattle.std.specs.Str.Parse.{AllDigits, digits_value, digits_value_after}
 use Rattle.std.proofs.lemmas.Str.Parse.{IsNumeralModel, numerals_by_value, digit_at, digits_value_short}
 use Rattle.std.proofs.lemmas.List.{drop_more}
 use Rattle.std.proofs.Math.ListN.{length-append}
+use Rattle.std.proofs.lemmas.Option.{cond_some}
 use Rattle.iiif_request.specs.Code.{pointed_of}
 use Rattle.iiif_request.specs.Numerals.{is_numeral, numeral_of}
-use Rattle.iiif_request.proofs.OptionLemmas.{cond_some}
 
 pub own : IsNumeralModel (λ ds. list_all is_ascii_digit ds ≡ true) (digits_value 10)
 own = numerals_by_value _ (search rules)

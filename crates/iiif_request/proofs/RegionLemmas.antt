@@ -6,13 +6,14 @@ use Rattle.std.specs.List.{list_all, starts_with}
 use Rattle.std.proofs.lemmas.Bool.{both_ways, and_parts}
 use Rattle.std.proofs.lemmas.Slice.Eq.{bytes_eq-Decides, starts_is}
 use Rattle.std.proofs.lemmas.Bool.Decides.{Decides-eqb}
+use Rattle.std.proofs.lemmas.Option.{same_Some, none-some}
 use Rattle.iiif_request.specs.declared.request.Decimal.{Decimal}
 use Rattle.iiif_request.specs.declared.request.Region.{Region}
 use Rattle.iiif_request.specs.declared.request.Region.TheVariants.{Full, Square, Pixels, Percents}
 use Rattle.iiif_request.specs.Code.{whole_of, decimal_of, cut_of, Parts, third_cut_of, second_cut_of, first_cut_of, parts_of, four_of, pixels_of, percents_of, region_of}
 use Rattle.iiif_request.specs.Spells.{IsDigits, IsWhole, IsDecimal, SpellsRegion}
 use Rattle.iiif_request.specs.Targets.{Lacks}
-use Rattle.iiif_request.proofs.OptionLemmas.{some_same, never_some, cond_cases}
+use Rattle.iiif_request.proofs.OptionLemmas.{cond_cases}
 use Rattle.iiif_request.proofs.NumberLemmas.{digits_lack, decimal_lacks, whole_is, whole_to, decimal_is, decimal_to}
 use Rattle.iiif_request.proofs.CutLemmas.{cut_at, cut_some, ne-eqb}
 
@@ -38,9 +39,9 @@ head_of most (c ∷ rest) d = (c, rest, refl, (and_parts (is_ascii_digit c) (lis
 -- four parts and the text that they were cut from
 third_is : (a b text : List ℕ) (p : Parts) → third_cut_of a b (cut_of 44 text) ≡ Some p
     → (o : Option (List ℕ × List ℕ)) → cut_of 44 text ≡ o → (p.first ≡ a) × (p.second ≡ b) × (text ≡ p.third ++ 44 ∷ p.fourth)
-third_is a b text p h None e = absurd (never_some p (ap (third_cut_of a b) (sym e) ∙ h))
+third_is a b text p h None e = absurd (none-some p (ap (third_cut_of a b) (sym e) ∙ h))
 third_is a b text p h (Some c) e =
-    let same : record { first = a; second = b; third = c.0; fourth = c.1 } ≡ p = some_same _ p (ap (third_cut_of a b) (sym e) ∙ h) in (
+    let same : record { first = a; second = b; third = c.0; fourth = c.1 } ≡ p = same_Some _ p (ap (third_cut_of a b) (sym e) ∙ h) in (
       sym (ap (λ (q : Parts). q.first) same),
       sym (ap (λ (q : Parts). q.second) same),
       (cut_some 44 text c e).0 ∙ ap (λ (q : Parts). q.third ++ 44 ∷ q.fourth) same,
@@ -48,7 +49,7 @@ third_is a b text p h (Some c) e =
 
 second_is : (a text : List ℕ) (p : Parts) → second_cut_of a (cut_of 44 text) ≡ Some p
     → (o : Option (List ℕ × List ℕ)) → cut_of 44 text ≡ o → (p.first ≡ a) × (text ≡ p.second ++ 44 ∷ (p.third ++ 44 ∷ p.fourth))
-second_is a text p h None e = absurd (never_some p (ap (second_cut_of a) (sym e) ∙ h))
+second_is a text p h None e = absurd (none-some p (ap (second_cut_of a) (sym e) ∙ h))
 second_is a text p h (Some c) e =
     let rest = third_is a c.0 c.1 p (ap (second_cut_of a) (sym e) ∙ h) (cut_of 44 c.1) refl in
     (rest.0, (cut_some 44 text c e).0 ∙ ap (λ (x : List ℕ). x ++ 44 ∷ c.1) (sym rest.1) ∙ ap (λ (x : List ℕ). p.second ++ 44 ∷ x) rest.2)
@@ -56,7 +57,7 @@ second_is a text p h (Some c) e =
 parts_join : (text : List ℕ) (p : Parts) → parts_of text ≡ Some p
     → (o : Option (List ℕ × List ℕ)) → cut_of 44 text ≡ o → text ≡ p.first ++ 44 ∷ (p.second ++ 44 ∷ (p.third ++ 44 ∷ p.fourth))
 unfolding parts_of
-parts_join text p h None e = absurd (never_some p (ap first_cut_of (sym e) ∙ h))
+parts_join text p h None e = absurd (none-some p (ap first_cut_of (sym e) ∙ h))
 parts_join text p h (Some c) e =
     let rest = second_is c.0 c.1 p (ap first_cut_of (sym e) ∙ h) (cut_of 44 c.1) refl in
     (cut_some 44 text c e).0 ∙ ap (λ (x : List ℕ). x ++ 44 ∷ c.1) (sym rest.0) ∙ ap (λ (x : List ℕ). p.first ++ 44 ∷ x) rest.1
@@ -82,21 +83,21 @@ parts_to a b c d first second third =
 -- four numbers
 four_is : {X : Type 0} (form : X → X → X → X → Region) (x y w h : Option X) (r : Region) → four_of form x y w h ≡ Some r
     → (a b c d : X) × (x ≡ Some a) × (y ≡ Some b) × (w ≡ Some c) × (h ≡ Some d) × (form a b c d ≡ r)
-four_is form None y w h r e = absurd (never_some r e)
-four_is form (Some a) None w h r e = absurd (never_some r e)
-four_is form (Some a) (Some b) None h r e = absurd (never_some r e)
-four_is form (Some a) (Some b) (Some c) None r e = absurd (never_some r e)
-four_is form (Some a) (Some b) (Some c) (Some d) r e = (a, b, c, d, refl, refl, refl, refl, some_same (form a b c d) r e)
+four_is form None y w h r e = absurd (none-some r e)
+four_is form (Some a) None w h r e = absurd (none-some r e)
+four_is form (Some a) (Some b) None h r e = absurd (none-some r e)
+four_is form (Some a) (Some b) (Some c) None r e = absurd (none-some r e)
+four_is form (Some a) (Some b) (Some c) (Some d) r e = (a, b, c, d, refl, refl, refl, refl, same_Some (form a b c d) r e)
 
 pixels_is : (text : List ℕ) (r : Region) (o : Option Parts) → parts_of text ≡ o → pixels_of o ≡ Some r → SpellsRegion text r
-pixels_is text r None e h = absurd (never_some r h)
+pixels_is text r None e h = absurd (none-some r h)
 pixels_is text r (Some p) e h =
     let n = four_is Pixels (whole_of p.first) (whole_of p.second) (whole_of p.third) (whole_of p.fourth) r h in
     subst (SpellsRegion text) n.8
     (p.first, p.second, p.third, p.fourth, whole_is p.first n.0 n.4, whole_is p.second n.1 n.5, whole_is p.third n.2 n.6, whole_is p.fourth n.3 n.7, parts_is text p e)
 
 percents_is : (text rest : List ℕ) (r : Region) (o : Option Parts) → text ≡ codes "pct:" ++ rest → parts_of rest ≡ o → percents_of o ≡ Some r → SpellsRegion text r
-percents_is text rest r None front e h = absurd (never_some r h)
+percents_is text rest r None front e h = absurd (none-some r h)
 percents_is text rest r (Some p) front e h =
     let n = four_is Percents (decimal_of p.first) (decimal_of p.second) (decimal_of p.third) (decimal_of p.fourth) r h in
     let whole : text ≡ codes "pct:" ++ p.first ++ codes "," ++ p.second ++ codes "," ++ p.third ++ codes "," ++ p.fourth =
@@ -108,9 +109,9 @@ percents_is text rest r (Some p) front e h =
 pub region_is : (text : List ℕ) (r : Region) → region_of text ≡ Some r → SpellsRegion text r
 unfolding region_of
 region_is text r h = ⊎_elim
-    (λ full. subst (SpellsRegion text) (some_same Full r full.1) (text_is text (codes "full") full.0))
+    (λ full. subst (SpellsRegion text) (same_Some Full r full.1) (text_is text (codes "full") full.0))
     (λ other. ⊎_elim
-    (λ square. subst (SpellsRegion text) (some_same Square r square.1) (text_is text (codes "square") square.0))
+    (λ square. subst (SpellsRegion text) (same_Some Square r square.1) (text_is text (codes "square") square.0))
     (λ number. ⊎_elim
     (λ percents. percents_is text (drop 4 text) r (parts_of (drop 4 text)) (front_is text (codes "pct:") percents.0) refl percents.1)
     (λ pixels. pixels_is text r (parts_of text) refl pixels.1)

@@ -8,6 +8,7 @@ use Rattle.std.proofs.lemmas.List.{length-append}
 use Rattle.std.proofs.lemmas.List.Folds.{list_all-append}
 use Rattle.std.proofs.lemmas.Str.Parse.{digits_value_short}
 use Rattle.std.proofs.lemmas.Slice.Eq.{bytes_eq-Decides}
+use Rattle.std.proofs.lemmas.Option.{same_Some, none-some}
 use Rattle.iiif_pixel.specs.declared.geometry.Quality.{Quality}
 use Rattle.iiif_pixel.specs.declared.geometry.Quality.TheVariants.{Default, Color, Gray, Bitonal}
 use Rattle.iiif_request.specs.declared.request.Decimal.{Decimal}
@@ -23,7 +24,7 @@ use Rattle.iiif_request.specs.declared.request.Refusal.TheVariants as refusal
 use Rattle.iiif_request.specs.Code.{region_of, size_of, rotation_of, quality_of, first_missing, request_of}
 use Rattle.iiif_request.specs.Requests.{IsShortRegion, IsShortForm, IsSmallRegion, IsSmallForm, HasShortDecimals, HasSmallNumbers}
 use Rattle.iiif_request.specs.Spells.{IsWhole, IsDecimal, SpellsRegion, SpellsForm, SpellsSize, SpellsRotation, SpellsQuality, SpellsFormat, Texts, SpellsRequest, IsSpelled, Says}
-use Rattle.iiif_request.proofs.OptionLemmas.{some_same, never_some, cond_cases}
+use Rattle.iiif_request.proofs.OptionLemmas.{cond_cases}
 use Rattle.iiif_request.proofs.NumeralLemmas.{own}
 use Rattle.iiif_request.proofs.RegionLemmas.{text_is, region_is, region_to}
 use Rattle.iiif_request.proofs.SizeLemmas.{size_is, size_to}
@@ -31,14 +32,14 @@ use Rattle.iiif_request.proofs.RotationLemmas.{rotation_is, rotation_to}
 
 pub quality_is : (text : List ℕ) (q : Quality) → quality_of text ≡ Some q → SpellsQuality text q
 quality_is text q h = ⊎_elim
-    (λ color. subst (SpellsQuality text) (some_same Color q color.1) (text_is text (codes "color") color.0))
+    (λ color. subst (SpellsQuality text) (same_Some Color q color.1) (text_is text (codes "color") color.0))
     (λ other. ⊎_elim
-    (λ gray. subst (SpellsQuality text) (some_same Gray q gray.1) (text_is text (codes "gray") gray.0))
+    (λ gray. subst (SpellsQuality text) (same_Some Gray q gray.1) (text_is text (codes "gray") gray.0))
     (λ third. ⊎_elim
-    (λ bitonal. subst (SpellsQuality text) (some_same Bitonal q bitonal.1) (text_is text (codes "bitonal") bitonal.0))
+    (λ bitonal. subst (SpellsQuality text) (same_Some Bitonal q bitonal.1) (text_is text (codes "bitonal") bitonal.0))
     (λ fourth. ⊎_elim
-    (λ default. subst (SpellsQuality text) (some_same Default q default.1) (text_is text (codes "default") default.0))
-    (λ none. absurd (never_some q none.1))
+    (λ default. subst (SpellsQuality text) (same_Some Default q default.1) (text_is text (codes "default") default.0))
+    (λ none. absurd (none-some q none.1))
     (cond_cases (bytes_eq text (codes "default")) (Some Default) None q fourth.1))
     (cond_cases (bytes_eq text (codes "bitonal")) (Some Bitonal) _ q third.1))
     (cond_cases (bytes_eq text (codes "gray")) (Some Gray) _ q other.1))
@@ -53,7 +54,7 @@ quality_to text Bitonal s = ap quality_of s
 -- nothing is spelled where nothing is read
 unread : {X : Type 0} (spells : List ℕ → X → Type 0) (read : List ℕ → Option X) → ((text : List ℕ) (x : X) → spells text x → read text ≡ Some x)
     → (text : List ℕ) → read text ≡ None → ¬ (IsSpelled spells text)
-unread spells read to text none s = never_some s.0 (sym none ∙ to text s.0 s.1)
+unread spells read to text none s = none-some s.0 (sym none ∙ to text s.0 s.1)
 
 format_not : (text : List ℕ) → bytes_eq text (codes "tif") ≡ false → ¬ (SpellsFormat text)
 format_not text h s = both_ways (bytes_eq text (codes "tif")) h ((bytes_eq-Decides text (codes "tif")).1 s)
@@ -86,10 +87,10 @@ says w a e = subst (Says w) (sym e)
 -- words spell at most one request
 pub once : (w : Texts) (q r : Request) → SpellsRequest w q → SpellsRequest w r → q ≡ r
 once w q r a b =
-    let region : q.region ≡ r.region = some_same _ _ (sym (region_to w.region q.region a.region) ∙ region_to w.region r.region b.region) in
-    let size : q.size ≡ r.size = some_same _ _ (sym (size_to w.size q.size a.size) ∙ size_to w.size r.size b.size) in
-    let rotation : q.rotation ≡ r.rotation = some_same _ _ (sym (rotation_to w.rotation q.rotation a.rotation) ∙ rotation_to w.rotation r.rotation b.rotation) in
-    let quality : q.quality ≡ r.quality = some_same _ _ (sym (quality_to w.quality q.quality a.quality) ∙ quality_to w.quality r.quality b.quality) in
+    let region : q.region ≡ r.region = same_Some _ _ (sym (region_to w.region q.region a.region) ∙ region_to w.region r.region b.region) in
+    let size : q.size ≡ r.size = same_Some _ _ (sym (size_to w.size q.size a.size) ∙ size_to w.size r.size b.size) in
+    let rotation : q.rotation ≡ r.rotation = same_Some _ _ (sym (rotation_to w.rotation q.rotation a.rotation) ∙ rotation_to w.rotation r.rotation b.rotation) in
+    let quality : q.quality ≡ r.quality = same_Some _ _ (sym (quality_to w.quality q.quality a.quality) ∙ quality_to w.quality r.quality b.quality) in
     ap (λ (x : Region). record { region = x; size = q.size; rotation = q.rotation; quality = q.quality }) region
     ∙ ap (λ (x : Size). record { region = r.region; size = x; rotation = q.rotation; quality = q.quality }) size
     ∙ ap (λ (x : Rotation). record { region = r.region; size = r.size; rotation = x; quality = q.quality }) rotation

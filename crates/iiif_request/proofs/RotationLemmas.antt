@@ -2,26 +2,15 @@
 use Rattle.std.proofs.Common.{◌≡◌, ℕ, ◌*◌, ◌≤◌, ◌⊎◌, Bool, true, false, List, [], ◌∷◌, ◌++◌, drop, refl, sym, ap, ◌∙◌, subst, arith, Some, None, Option, inl, inr, ⊎_elim, append_assoc, append-nil, codes, ◌||◌}
 use Rattle.std.specs.Prelude.{nat_eq}
 use Rattle.std.specs.List.{starts_with}
-use Rattle.std.proofs.lemmas.Bool.{eqb-true, eq-eqb}
+use Rattle.std.proofs.lemmas.Bool.{eqb-true, eq-eqb, or_cases, or_left, or_right}
+use Rattle.std.proofs.lemmas.Option.{none-some, cond_some}
 use Rattle.iiif_request.specs.declared.request.Decimal.{Decimal}
 use Rattle.iiif_request.specs.declared.request.Rotation.{Rotation}
 use Rattle.iiif_request.specs.Code.{decimal_of, is_value, is_quarters, turned_of, rotation_of}
 use Rattle.iiif_request.specs.Spells.{IsDigits, IsDecimal, IsQuarters, SpellsRotation, mark}
-use Rattle.iiif_request.proofs.OptionLemmas.{never_some, cond_some, cond_cases}
+use Rattle.iiif_request.proofs.OptionLemmas.{cond_cases}
 use Rattle.iiif_request.proofs.NumberLemmas.{decimal_is, decimal_to}
 use Rattle.iiif_request.proofs.RegionLemmas.{front_is, differs_digit, head_of}
-
-or_cases : (a b : Bool) → a || b ≡ true → (a ≡ true) ⊎ (b ≡ true)
-or_cases true b h = inl refl
-or_cases false b h = inr h
-
-or_left : (a b : Bool) → a ≡ true → a || b ≡ true
-or_left true b h = refl
-or_left false b h = cc
-
-or_right : (a b : Bool) → b ≡ true → a || b ≡ true
-or_right true b h = refl
-or_right false b h = h
 
 quarters_at : (k : ℕ) (d : Decimal) → k ≤ 4 → is_value d (90 * k) ≡ true → IsQuarters d
 quarters_at k d few h = (k, few, eqb-true _ _ h)
@@ -58,7 +47,7 @@ quarters_to d q = is_quarters_at d q.0 (five_cases q.0 q.1) (eq-eqb _ _ q.2)
 
 turned_is : (mirror : Bool) (text degrees : List ℕ) (t : Rotation) (o : Option Decimal) → decimal_of degrees ≡ o → text ≡ mark mirror (codes "!") ++ degrees
     → turned_of mirror o ≡ Some t → SpellsRotation text t
-turned_is mirror text degrees t None e front h = absurd (never_some t h)
+turned_is mirror text degrees t None e front h = absurd (none-some t h)
 turned_is mirror text degrees t (Some d) e front h =
     let n = cond_some (is_quarters d) (record { mirror = mirror; degrees = d }) t h in
     subst (SpellsRotation text) n.1 (degrees, decimal_is degrees d e, quarters_is d n.0, front)

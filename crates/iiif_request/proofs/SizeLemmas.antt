@@ -9,16 +9,17 @@ use Rattle.iiif_request.specs.declared.request.Size.{Size}
 use Rattle.iiif_request.specs.Code.{whole_of, decimal_of, cut_of, two_of, sides_of, bounds_of, pair_of, form_of, size_of}
 use Rattle.iiif_request.specs.Spells.{IsWhole, SpellsForm, SpellsSize, mark}
 use Rattle.iiif_request.specs.Targets.{Lacks}
-use Rattle.iiif_request.proofs.OptionLemmas.{some_same, never_some, cond_cases, map_some}
+use Rattle.iiif_request.proofs.OptionLemmas.{cond_cases, map_some}
 use Rattle.iiif_request.proofs.NumberLemmas.{digits_lack, whole_is, whole_to, decimal_is, decimal_to, one_lacks}
 use Rattle.iiif_request.proofs.CutLemmas.{cut_at, cut_some}
 use Rattle.iiif_request.proofs.RegionLemmas.{text_is, front_is, digit_differs, differs_digit, head_of}
 use Rattle.std.proofs.lemmas.List.Elements.{All-append, All-nil}
+use Rattle.std.proofs.lemmas.Option.{same_Some, none-some}
 
 two_is : (form : ℕ → ℕ → Form) (w h : Option ℕ) (f : Form) → two_of form w h ≡ Some f → (a b : ℕ) × (w ≡ Some a) × (h ≡ Some b) × (form a b ≡ f)
-two_is form None h f e = absurd (never_some f e)
-two_is form (Some a) None f e = absurd (never_some f e)
-two_is form (Some a) (Some b) f e = (a, b, refl, refl, some_same (form a b) f e)
+two_is form None h f e = absurd (none-some f e)
+two_is form (Some a) None f e = absurd (none-some f e)
+two_is form (Some a) (Some b) f e = (a, b, refl, refl, same_Some (form a b) f e)
 
 within_is : (text w h : List ℕ) (f : Form) → text ≡ w ++ 44 ∷ h → w ≡ codes "!" ++ drop 1 w → two_of Within (whole_of (drop 1 w)) (whole_of h) ≡ Some f → SpellsForm text f
 within_is text w h f cut front e =
@@ -49,13 +50,13 @@ bounds_is text w h f cut e = ⊎_elim
     (cond_cases (starts_with nat_eq w (codes "!")) (two_of Within (whole_of (drop 1 w)) (whole_of h)) (sides_of w h) f e)
 
 pair_is : (text : List ℕ) (f : Form) (o : Option (List ℕ × List ℕ)) → cut_of 44 text ≡ o → pair_of o ≡ Some f → SpellsForm text f
-pair_is text f None e h = absurd (never_some f h)
+pair_is text f None e h = absurd (none-some f h)
 pair_is text f (Some p) e h = bounds_is text p.0 p.1 f (cut_some 44 text p e).0 h
 
 pub form_is : (text : List ℕ) (f : Form) → form_of text ≡ Some f → SpellsForm text f
 unfolding form_of
 form_is text f h = ⊎_elim
-    (λ most. subst (SpellsForm text) (some_same Max f most.1) (text_is text (codes "max") most.0))
+    (λ most. subst (SpellsForm text) (same_Some Max f most.1) (text_is text (codes "max") most.0))
     (λ other. ⊎_elim
     (λ percent.
     let n = map_some Percent (decimal_of (drop 4 text)) f percent.1 in

@@ -10,13 +10,14 @@ use Rattle.std.proofs.lemmas.List.Sums.{fails_before_first}
 use Rattle.std.proofs.lemmas.List.Splits.{slice_split-cons_yes, slice_split-cons_no, slice_split_at, slice_split_none, slice_split_first, join_with_byte-slice_split, length-slice_split}
 use Rattle.std.proofs.lemmas.Slice.Eq.{bytes_eq-Decides}
 use Rattle.std.proofs.Math.Seq.{take-append_seam, drop-append_seam}
+use Rattle.std.proofs.lemmas.Option.{same_Some, none-some, cond_some}
 use Rattle.iiif_request.specs.Spells.{Texts}
 use Rattle.iiif_request.specs.declared.target.Target.{Target}
 use Rattle.iiif_request.specs.declared.target.SplitFault.{SplitFault}
 use Rattle.iiif_request.specs.declared.target.SplitFault.TheVariants.{Path, NoMemory}
 use Rattle.iiif_request.specs.Code.{Gives, text_of, identifier_of, base_of, information_of, words_of, image_of, asked_by, path_of, behind, asked_behind, asked_within, asked_of}
 use Rattle.iiif_request.specs.Targets.{Lacks, IsSegmentOf, IsCut, Resource, base, information, image, IsQualityAndFormat, AreSegmentsOf, AsksFor, resource_of}
-use Rattle.iiif_request.proofs.OptionLemmas.{some_same, never_some, cond_some, cond_cases}
+use Rattle.iiif_request.proofs.OptionLemmas.{cond_cases}
 use Rattle.iiif_request.proofs.RegionLemmas.{text_is}
 use Rattle.iiif_request.proofs.CutLemmas.{ne-eqb, eqb-false, before_lacks, before_behind, uncut_parts, cut_parts}
 use Rattle.iiif_request.proofs.EscapeLemmas.{segment_is, segment_to}
@@ -31,7 +32,7 @@ split_uncut path e = by_test (ltb (position_or_len is_slash path) (length path))
     by_test : (t : Bool) → ltb (position_or_len is_slash path) (length path) ≡ t → slice_split is_slash path ≡ path ∷ []
     by_test true h =
         let found : position is_slash path ≡ Some (position_or_len is_slash path) = rw h refl in
-        absurd (never_some (position_or_len is_slash path) (e ∙ found))
+        absurd (none-some (position_or_len is_slash path) (e ∙ found))
     by_test false h =
         let past : length path ≤ position_or_len is_slash path = ltb-false _ _ h in
         slice_split_none is_slash path (λ k d below. fails_before_first is_slash path k d (omega arith))
@@ -129,11 +130,11 @@ quality_to text quality format s = ⊎_elim
 
 -- the identifier
 identifier_is : (raw id : List ℕ) (o : Option (List ℕ)) → text_of raw ≡ o → identifier_of o ≡ Some id → IsSegmentOf raw id × (id ≢ [])
-identifier_is raw id None e h = absurd (never_some id h)
+identifier_is raw id None e h = absurd (none-some id h)
 identifier_is raw id (Some t) e h = ⊎_elim
-    (λ none. absurd (never_some id none.1))
+    (λ none. absurd (none-some id none.1))
     (λ some.
-    let same : t ≡ id = some_same t id some.1 in
+    let same : t ≡ id = same_Some t id some.1 in
     (segment_is raw id (e ∙ ap (λ (x : List ℕ). Some x) same), λ empty. eqb-false (length t) 0 some.0 (ap length (same ∙ empty))))
     (cond_cases (eqb (length t) 0) None (Some t) id h)
 
@@ -149,14 +150,14 @@ abbrev IsAsked : List (List ℕ) → Resource → Type 0
 IsAsked raw r = (segments : List (List ℕ)) × AllZip IsSegmentOf raw segments × AreSegmentsOf segments r
 
 base_is : (i : List ℕ) (r : Resource) (o : Option (List ℕ)) → identifier_of (text_of i) ≡ o → base_of o ≡ Some r → IsAsked (i ∷ []) r
-base_is i r None e h = absurd (never_some r h)
+base_is i r None e h = absurd (none-some r h)
 base_is i r (Some id) e h =
     let named = identifier_is i id (text_of i) refl e in
-    subst (IsAsked (i ∷ [])) (some_same (base id) r h) (id ∷ [], (named.0, tt), (refl, named.1))
+    subst (IsAsked (i ∷ [])) (same_Some (base id) r h) (id ∷ [], (named.0, tt), (refl, named.1))
 
 information_is : (i n : List ℕ) (r : Resource) (o p : Option (List ℕ)) → identifier_of (text_of i) ≡ o → text_of n ≡ p → information_of o p ≡ Some r → IsAsked (i ∷ n ∷ []) r
-information_is i n r None p e f h = absurd (never_some r h)
-information_is i n r (Some id) None e f h = absurd (never_some r h)
+information_is i n r None p e f h = absurd (none-some r h)
+information_is i n r (Some id) None e f h = absurd (none-some r h)
 information_is i n r (Some id) (Some name) e f h =
     let named = identifier_is i id (text_of i) refl e in
     let known = cond_some (bytes_eq name (codes "info.json")) (information id) r h in
@@ -166,16 +167,16 @@ information_is i n r (Some id) (Some name) e f h =
 words_is : (r s t l : Option (List ℕ)) (w : Texts) → words_of r s t l ≡ Some w
     → (a b c d : List ℕ) × (r ≡ Some a) × (s ≡ Some b) × (t ≡ Some c) × (l ≡ Some d)
     × (record { region = a; size = b; rotation = c; quality = before_first (λ x. x == 46) d; format = after_first (λ x. x == 46) d } ≡ w)
-words_is None s t l w h = absurd (never_some w h)
-words_is (Some a) None t l w h = absurd (never_some w h)
-words_is (Some a) (Some b) None l w h = absurd (never_some w h)
-words_is (Some a) (Some b) (Some c) None w h = absurd (never_some w h)
-words_is (Some a) (Some b) (Some c) (Some d) w h = (a, b, c, d, refl, refl, refl, refl, some_same _ w h)
+words_is None s t l w h = absurd (none-some w h)
+words_is (Some a) None t l w h = absurd (none-some w h)
+words_is (Some a) (Some b) None l w h = absurd (none-some w h)
+words_is (Some a) (Some b) (Some c) None w h = absurd (none-some w h)
+words_is (Some a) (Some b) (Some c) (Some d) w h = (a, b, c, d, refl, refl, refl, refl, same_Some _ w h)
 
 image_is : (i r s t l : List ℕ) (q : Resource) (o : Option (List ℕ)) (p : Option Texts) → identifier_of (text_of i) ≡ o
     → words_of (text_of r) (text_of s) (text_of t) (text_of l) ≡ p → image_of o p ≡ Some q → IsAsked (i ∷ r ∷ s ∷ t ∷ l ∷ []) q
-image_is i r s t l q None p e f h = absurd (never_some q h)
-image_is i r s t l q (Some id) None e f h = absurd (never_some q h)
+image_is i r s t l q None p e f h = absurd (none-some q h)
+image_is i r s t l q (Some id) None e f h = absurd (none-some q h)
 image_is i r s t l q (Some id) (Some w) e f h =
     let named = identifier_is i id (text_of i) refl e in
     let n = words_is (text_of r) (text_of s) (text_of t) (text_of l) w f in
@@ -184,16 +185,16 @@ image_is i r s t l q (Some id) (Some w) e f h =
       (named.0, (segment_is r n.0 n.4, (segment_is s n.1 n.5, (segment_is t n.2 n.6, (segment_is l n.3 n.7, tt))))),
       (n.3, quality_is n.3, refl, named.1),
     ) in
-    subst (IsAsked (i ∷ r ∷ s ∷ t ∷ l ∷ [])) (some_same (image id w) q h) (subst (λ (x : Texts). IsAsked (i ∷ r ∷ s ∷ t ∷ l ∷ []) (image id x)) n.8 found)
+    subst (IsAsked (i ∷ r ∷ s ∷ t ∷ l ∷ [])) (same_Some (image id w) q h) (subst (λ (x : Texts). IsAsked (i ∷ r ∷ s ∷ t ∷ l ∷ []) (image id x)) n.8 found)
 
 asked_is : (raw : List (List ℕ)) (r : Resource) → asked_by raw ≡ Some r → IsAsked raw r
-asked_is [] r h = absurd (never_some r h)
+asked_is [] r h = absurd (none-some r h)
 asked_is (i ∷ []) r h = base_is i r (identifier_of (text_of i)) refl h
 asked_is (i ∷ n ∷ []) r h = information_is i n r (identifier_of (text_of i)) (text_of n) refl refl h
-asked_is (a ∷ b ∷ c ∷ []) r h = absurd (never_some r h)
-asked_is (a ∷ b ∷ c ∷ d ∷ []) r h = absurd (never_some r h)
+asked_is (a ∷ b ∷ c ∷ []) r h = absurd (none-some r h)
+asked_is (a ∷ b ∷ c ∷ d ∷ []) r h = absurd (none-some r h)
 asked_is (a ∷ b ∷ c ∷ d ∷ e ∷ []) r h = image_is a b c d e r (identifier_of (text_of a)) (words_of (text_of b) (text_of c) (text_of d) (text_of e)) refl refl h
-asked_is (a ∷ b ∷ c ∷ d ∷ e ∷ f ∷ more) r h = absurd (never_some r h)
+asked_is (a ∷ b ∷ c ∷ d ∷ e ∷ f ∷ more) r h = absurd (none-some r h)
 
 -- what is asked for so is found
 base_to : (raw : List (List ℕ)) (id : List ℕ) → AllZip IsSegmentOf raw (id ∷ []) → id ≢ [] → asked_by raw ≡ Some (base id)
@@ -264,13 +265,13 @@ cut_is prefix target rooted path first second =
 
 within_is : (prefix target rooted : List ℕ) (r : Resource) (o : Option (List ℕ)) → behind prefix (path_of target) ≡ Some rooted → behind (codes "/") rooted ≡ o
     → asked_behind o ≡ Some r → AsksFor prefix target r
-within_is prefix target rooted r None e f h = absurd (never_some r h)
+within_is prefix target rooted r None e f h = absurd (none-some r h)
 within_is prefix target rooted r (Some path) e f h =
     let found = asked_is (slice_split is_slash path) r h in
     record { raw = slice_split is_slash path; segments = found.0; cut = cut_is prefix target rooted path e f; decoded = found.1; asked = found.2 }
 
 rooted_is : (prefix target : List ℕ) (r : Resource) (o : Option (List ℕ)) → behind prefix (path_of target) ≡ o → asked_within o ≡ Some r → AsksFor prefix target r
-rooted_is prefix target r None e h = absurd (never_some r h)
+rooted_is prefix target r None e h = absurd (none-some r h)
 rooted_is prefix target r (Some rooted) e h = within_is prefix target rooted r (behind (codes "/") rooted) e refl h
 
 pub asks_is : (prefix target : List ℕ) (r : Resource) → asked_of prefix target ≡ Some r → AsksFor prefix target r
@@ -288,7 +289,7 @@ asks_to prefix target r a =
 
 -- a target asks for at most one resource
 pub asks_once : (prefix target : List ℕ) (r s : Resource) → AsksFor prefix target r → AsksFor prefix target s → r ≡ s
-asks_once prefix target r s a b = some_same r s (sym (asks_to prefix target r a) ∙ asks_to prefix target s b)
+asks_once prefix target r s a b = same_Some r s (sym (asks_to prefix target r a) ∙ asks_to prefix target s b)
 
 -- what `split` answers
 pub found : (prefix target : List ℕ) (a : Result Target SplitFault) → Gives resource_of a (asked_of prefix target) → IfOk a (λ t. AsksFor prefix target (resource_of t))
@@ -297,5 +298,5 @@ found prefix target (Err e) h = tt
 
 pub refused : (prefix target : List ℕ) (a : Result Target SplitFault) → Gives resource_of a (asked_of prefix target) → a ≡ Err Path → ¬ ((r : Resource) × AsksFor prefix target r)
 refused prefix target (Ok t) h e asked = cc
-refused prefix target (Err Path) h e asked = never_some asked.0 (sym h ∙ asks_to prefix target asked.0 asked.1)
+refused prefix target (Err Path) h e asked = none-some asked.0 (sym h ∙ asks_to prefix target asked.0 asked.1)
 refused prefix target (Err NoMemory) h e asked = cc

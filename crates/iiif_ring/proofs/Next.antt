@@ -1,12 +1,12 @@
 -- The first point of the table from a place on.
-use Rattle.std.proofs.Common.{◌≡◌, ℕ, ◌+◌, ◌<◌, ◌≤◌, ◌^◌, List, [], ◌∷◌, length, Bool, true, false, Option, Some, None, is_some, refl, ap, subst, ⊎_elim, arith}
+use Rattle.std.proofs.Common.{◌≡◌, ℕ, ◌+◌, ◌<◌, ◌≤◌, ◌^◌, List, [], ◌∷◌, true, false, Option, Some, None, is_some, ap, subst, ⊎_elim, arith}
 use Rattle.std.proofs.lemmas.Bool.{cases_lt}
 use Rattle.std.proofs.lemmas.Bool.Decides.{nat_tests}
 use Rattle.std.specs.declared.ops.Bound.TheVariants.{Included, Unbounded}
-use Rattle.std.specs.BTreeMap.{BTreeMap, get, is_at, IsLowerBound}
+use Rattle.std.specs.BTreeMap.{BTreeMap, get, IsLowerBound}
 use Rattle.std.specs.BTreeMap.Range.{IsRangeOf}
-use Rattle.std.specs.Map.{lookup}
 use Rattle.std.specs.Ordering.{nat_cmp, is_gt}
+use Rattle.std.proofs.lemmas.Map.Keys.{le_from_not_gt}
 use Rattle.iiif_ring.specs.Code.{EachFits, IsNext}
 use Rattle.iiif_ring.specs.Owner.{distance}
 
@@ -23,9 +23,6 @@ distance_behind place from h k = omega arith
 not_gt : (a b : ℕ) → a ≤ b → is_gt (nat_cmp a b) ≡ false
 not_gt a b h = grind (arith, nat_tests)
 
-up_to : (a b : ℕ) → is_gt (nat_cmp a b) ≡ false → a ≤ b
-up_to a b h = grind (arith, nat_tests)
-
 not_there : (o : Option ℕ) → is_some o ≡ true → o ≡ None → ⊥
 not_there None h e = cc
 not_there (Some x) h e = cc
@@ -36,14 +33,14 @@ module _ (points : BTreeMap ℕ ℕ) (from here place : ℕ) (fits : EachFits po
   next_ahead es rest range is =
       let P : List (ℕ × ℕ) → Type 0 = λ xs. IsRangeOf nat_cmp (Included from) Unbounded points xs in
       let r = subst P is range in
-      let ahead : from ≤ here = up_to from here r.1.0.0 in
+      let ahead : from ≤ here = le_from_not_gt from here r.1.0.0 in
       let below : here < 2 ^ 64 = fits here place r.1.1 in
       record {
         here = here;
         found = r.1.1;
         least = λ other within there. ⊎_elim
             (λ before. omega (arith, distance_ahead here from ahead below, distance_behind other from before small))
-            (λ behind. let least : here ≤ other = up_to here other (r.2 other (not_gt from other behind, tt) there) in
+            (λ behind. let least : here ≤ other = le_from_not_gt here other (r.2 other (not_gt from other behind, tt) there) in
             omega (arith, distance_ahead here from ahead below, distance_ahead other from behind within))
             (cases_lt other from);
       }
@@ -58,14 +55,6 @@ module _ (points : BTreeMap ℕ ℕ) (from here place : ℕ) (fits : EachFits po
       record {
         here = here;
         found = is;
-        least = λ other within there. let least : here ≤ other = up_to here other (lower other there) in
+        least = λ other within there. let least : here ≤ other = le_from_not_gt here other (lower other there) in
             omega (arith, distance_behind here from own small, distance_behind other from (before other there) small);
       }
-
-nothing_in : (test : ℕ → Bool) (es : List (ℕ × ℕ)) → (0 < length es → ⊥) → lookup test es ≡ None
-nothing_in test [] h = refl
-nothing_in test (e ∷ es) h = absurd (h (omega arith))
-
--- an empty table finds nothing
-pub none_found : (points : BTreeMap ℕ ℕ) → (0 < length points.entries → ⊥) → (here : ℕ) → get nat_cmp points here ≡ None
-none_found points h here = nothing_in (is_at (nat_cmp here)) points.entries h

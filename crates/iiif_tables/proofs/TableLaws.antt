@@ -3,7 +3,7 @@ use Rattle.std.proofs.Common.{◌≡◌, ℕ, ◌+◌, ◌<◌, ◌≤◌, ◌%�
 use Rattle.std.specs.Prelude.{◌&&◌, if◌then◌else◌, ◌==◌}
 use Rattle.std.specs.Cmp.{IsEquivalence}
 use Rattle.std.specs.Map.{update}
-use Rattle.std.proofs.lemmas.Bool.{eqb-true}
+use Rattle.std.proofs.lemmas.Bool.{eqb-true, and_parts, false≢true}
 use Rattle.iiif_tables.specs.Cache.{Kept, Cache, main_side, hot_side, kept_for, put}
 use Rattle.iiif_tables.specs.Flights.{Flight, Table, Entered, hit, joined, led, meets, met, entering, enter, looking, again, counting, storing, keeping, landing, land, has_ticket, is_found, with_flight, same_class}
 use Rattle.iiif_tables.specs.Laws.{StaysCache, opened, marked, OthersStay, TicketsAreCounted, TicketsDiffer, EmptyIsBook}
@@ -235,9 +235,12 @@ module _ {K V : Type 0} (eq : K → K → Bool) where
         | false ↦ refl
       ]
 
-both_true : (a b : Bool) → (a && b) ≡ true → (a ≡ true) × (b ≡ true)
-both_true true b h = (refl, h)
-both_true false b h = cc
+-- the classes are the same where the test says so
+pub class_is : (a b : Class) → same_class a b ≡ true → a ≡ b
+class_is Wide Wide h = refl
+class_is Wide Local h = absurd (false≢true h)
+class_is Local Wide h = absurd (false≢true h)
+class_is Local Local h = refl
 
 class_congr : (a b c : Class) → same_class a b ≡ true → same_class a c ≡ same_class b c
 class_congr Wide Wide c h = refl
@@ -253,14 +256,14 @@ with_ticket n (Some f) h = (f, refl, eqb-true f.ticket n h)
 module _ {K : Type 0} (eq : K → K → Bool) (laws : IsEquivalence eq) where
   flight_here : (class : Class) (k : K) (f : Option Flight) (flights : Class → K → Option Flight) (c : Class) (q : K)
       → (same_class class c && eq k q) ≡ true → with_flight eq class k f flights c q ≡ f
-  flight_here class k f flights c q h = let both = both_true (same_class class c) (eq k q) h in rw (both.0) (rw (both.1) refl)
+  flight_here class k f flights c q h = let both = and_parts (same_class class c) (eq k q) h in rw (both.0) (rw (both.1) refl)
 
   -- what is at one place with a third is at one place with each other
   places_meet : (class : Class) (k : K) (c d : Class) (p q : K) → (same_class class c && eq k p) ≡ true → (same_class class d && eq k q) ≡ true
       → (same_class c d && eq p q) ≡ true
   places_meet class k c d p q x y =
-      let a = both_true (same_class class c) (eq k p) x in
-      let b = both_true (same_class class d) (eq k q) y in
+      let a = and_parts (same_class class c) (eq k p) x in
+      let b = and_parts (same_class class d) (eq k q) y in
       let classes : same_class c d ≡ true = sym (class_congr class c d a.0) ∙ b.0 in
       let keys : eq p q ≡ true = sym (laws.congr k p q a.1) ∙ b.1 in
       rw (classes, keys) refl

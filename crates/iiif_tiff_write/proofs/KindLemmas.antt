@@ -1,5 +1,6 @@
 -- A picture in a quality is one that a file of that quality's kind holds.
-use Rattle.std.proofs.Common.{◌≡◌, ℕ, ◌+◌, ◌/◌, ◌⊎◌, refl, inl, inr, Bool, true, false, if◌then◌else◌, nat_lt}
+use Rattle.std.proofs.Common.{◌≡◌, ◌+◌, ◌/◌, ◌⊎◌, refl, nat_lt}
+use Rattle.std.proofs.lemmas.Bool.{cases_cond}
 use Rattle.iiif_pixel.specs.Picture.{Picture, IsWhole}
 use Rattle.iiif_pixel.specs.Operations.{gray, bitonal, gray_at, quality}
 use Rattle.iiif_pixel.proofs.Whole.{All-samples_of, whole_gray, whole_bitonal}
@@ -14,16 +15,12 @@ use Rattle.iiif_tiff_write.specs.declared.kind.OutKind.TheVariants.{Bitonal}
 use Rattle.iiif_tiff_write.specs.OutKind.{kind_of, out_kind_of}
 use Rattle.iiif_tiff_write.specs.Reading.{Holds}
 
-one_of : (b : Bool) (m n : ℕ) → ((if b then m else n) ≡ m) ⊎ ((if b then m else n) ≡ n)
-one_of true m n = inl refl
-one_of false m n = inr refl
-
 pub bits_held : (p : Picture) → Holds Bitonal (bitonal p)
 bits_held p = record {
   whole = whole_bitonal p;
   top = refl;
   channels = refl;
-  samples = All-samples_of (λ v. (v ≡ 0) ⊎ (v ≡ 255)) p.width p.height 1 _ (λ x y k lx ly lk. one_of (nat_lt (gray_at p x y k) ((p.top + 1) / 2)) 0 255);
+  samples = All-samples_of (λ v. (v ≡ 0) ⊎ (v ≡ 255)) p.width p.height 1 _ (λ x y k lx ly lk. cases_cond (nat_lt (gray_at p x y k) ((p.top + 1) / 2)) 0 255 _ refl);
 }
 
 own_held : (k : Kind) (d : Depth) (p : Picture) → IsWhole p → p.top ≡ top_of d → p.channels ≡ channels_of k → Holds (kind_of k d) p

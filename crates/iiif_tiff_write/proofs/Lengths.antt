@@ -10,9 +10,6 @@ use Rattle.iiif_tiff_write.specs.declared.kind.OutKind.{OutKind}
 use Rattle.iiif_tiff_write.specs.declared.kind.OutKind.TheVariants.{Gray, Rgb, Bitonal, Gray16, Rgb16}
 use Rattle.iiif_tiff_write.specs.File.{head_of, file, file_len, row, strip, row_len, strip_len, strip_offset, packed, bit_at, shorts_of}
 
-pub dim_is : (p : Picture) (d : Dim) → p.width ≡ d.w → p.height ≡ d.h → dim_of p ≡ d
-dim_is p d w h = rw (w, h) refl
-
 -- the strip begins where its offset says
 pub length-head_of : (k : OutKind) (d : Dim) → length (head_of k d) ≡ strip_offset k
 unfolding head_of

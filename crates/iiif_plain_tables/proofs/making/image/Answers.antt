@@ -1,4 +1,4 @@
-use Rattle.iiif_plain_tables.proofs.Imaged.{image_is}
+use Rattle.iiif_canonical.proofs.Imaged.{image_is}
 use Rattle.iiif_plain_tables.proofs.making.image.Goals as goal
 
 pub returns : goal.returns

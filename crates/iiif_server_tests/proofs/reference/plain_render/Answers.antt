@@ -1,4 +1,4 @@
-use Rattle.iiif_server_tests.proofs.Steps.{image_is}
+use Rattle.iiif_canonical.proofs.Imaged.{image_is}
 use Rattle.iiif_server_tests.proofs.reference.plain_render.Goals as goal
 
 pub returns-clause-image : goal.returns-clause-image
