@@ -1,7 +1,7 @@
 -- The tiles that have a place of a part of a region cut it.
 use Rattle.std.proofs.Common.{◌≡◌, ℕ, ◌+◌, List, [], ◌∷◌, Bool, true, false, cond, All, get_or, map, refl, sym, subst, ap, ◌∙◌, arith, ⊎_elim, if◌then◌else◌}
 use Rattle.std.specs.List.{filter, count_by}
-use Rattle.std.proofs.lemmas.Bool.{false≢true}
+use Rattle.std.proofs.lemmas.Bool.{false≢true, false_from_ne_true}
 use Rattle.std.proofs.lemmas.List.Elements.{All-head, All-tail, All-weaker}
 use Rattle.iiif_pixel.specs.Geometry.{HasPlace, LiesIn, nested, sides_of}
 use Rattle.iiif_pixel.specs.Scaling.{whole_of}
@@ -12,26 +12,15 @@ use Rattle.iiif_area.specs.Laws.{IsCutInto}
 use Rattle.iiif_area.specs.Places.{part_of}
 use Rattle.iiif_area.proofs.GridLaws.{has_place-tested, has_place-yes, has_place-no, place_cases}
 use Rattle.iiif_area.proofs.PlaceLaws.{part_is_common}
-use Rattle.iiif_keys.proofs.Cuts.{alike, clipped_part, is_false, counted}
+use Rattle.iiif_keys.proofs.Cuts.{alike, clipped_part, counted}
 use Rattle.iiif_keys.specs.Blocks.{square, tile_of}
 use Rattle.iiif_keys.specs.declared.keys.TileKey.{TileKey}
+use Rattle.iiif_planner.proofs.Counts.{count_mapped}
+use Rattle.iiif_planner.proofs.Once.{count_same, count_none}
 use Rattle.iiif_bands.specs.Bands.{tile_places}
 use Rattle.iiif_bands.specs.Laws.{PlacesAreThose}
 use Rattle.iiif_assemble.specs.Code.{ListsMet}
 use Rattle.iiif_assemble.proofs.SumLemmas.{map_twice}
-
-pub count_mapped : {X Y : Type 0} (p : Y → Bool) (f : X → Y) (xs : List X) → count_by p (map f xs) ≡ count_by (λ x. p (f x)) xs
-count_mapped p f [] = refl
-count_mapped p f (x ∷ xs) = counted p (f x) (map f xs) ∙ ap (λ n. cond (p (f x)) 1 0 + n) (count_mapped p f xs) ∙ sym (counted (λ y. p (f y)) x xs)
-
-pub count_same : {X : Type 0} (p q : X → Bool) (xs : List X) → ((x : X) → p x ≡ q x) → count_by p xs ≡ count_by q xs
-count_same p q [] e = refl
-count_same p q (x ∷ xs) e =
-    counted p x xs ∙ ap (λ (b : Bool). cond b 1 0 + count_by p xs) (e x) ∙ ap (λ n. cond (q x) 1 0 + n) (count_same p q xs e) ∙ sym (counted q x xs)
-
-pub count_none : {X : Type 0} (p : X → Bool) (xs : List X) → ((x : X) → p x ≡ false) → count_by p xs ≡ 0
-count_none p [] e = refl
-count_none p (x ∷ xs) e = counted p x xs ∙ ap (λ (b : Bool). cond b 1 0 + count_by p xs) (e x) ∙ (let r = count_none p xs e in omega arith)
 
 abbrev one_zero : Bool → ℕ
 one_zero b = cond b 1 0
@@ -75,13 +64,13 @@ cut_part {K} f region from keys lies cut x y =
     let at = q.2 in
     (has_place-tested (part_of (f k) part) x y).1
     ((part_is_common (f k) part x y).1 (omega arith, omega arith, (omega arith, omega arith, omega arith, omega arith)))) in
-    here ∙ count_same (λ k. has_place (part_of (f k) part) x y) (λ k. has_place (part_of (f k) region) (from.x + x) (from.y + y)) keys same
+    here ∙ count_same (λ k. has_place (part_of (f k) part) x y) (λ k. has_place (part_of (f k) region) (from.x + x) (from.y + y)) keys (λ i k _. same (get_or keys i k))
     ∙ sym (count_mapped (λ r. has_place r (from.x + x) (from.y + y)) (λ k. part_of (f k) region) keys)
     ∙ cut (from.x + x) (from.y + y) ∙ ap one_if (has_place-yes whole (from.x + x) (from.y + y) yes') ∙ sym (ap one_if (has_place-yes all x y yes)))
     (λ (no : ¬ (HasPlace all x y)).
     let none : (k : K) → has_place (part_of (f k) part) x y ≡ false = λ k.
-    is_false _ (λ h. let q = (part_is_common (f k) part x y).0 ((has_place-tested (part_of (f k) part) x y).0 h) in no (omega arith, omega arith, omega arith, omega arith)) in
-    here ∙ count_none (λ k. has_place (part_of (f k) part) x y) keys none ∙ sym (ap one_if (has_place-no all x y no)))
+    false_from_ne_true _ (λ h. let q = (part_is_common (f k) part x y).0 ((has_place-tested (part_of (f k) part) x y).0 h) in no (omega arith, omega arith, omega arith, omega arith)) in
+    here ∙ count_none (λ k. has_place (part_of (f k) part) x y) keys (λ i k _. none (get_or keys i k)) ∙ sym (ap one_if (has_place-no all x y no)))
     (place_cases all x y)
 
 -- and so do those that pass a test, where the others have no place of it

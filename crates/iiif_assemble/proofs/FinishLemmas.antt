@@ -5,8 +5,6 @@ use Rattle.iiif_pixel.specs.Scaling.{average}
 use Rattle.iiif_pixel.specs.declared.geometry.Dim.{Dim}
 use Rattle.iiif_pixel.proofs.SampleLists.{index_below, samples_from_places}
 use Rattle.iiif_area.specs.Grid.{Grid, average_within, finished, sum_at}
-use Rattle.iiif_area.specs.Places.{IsInside}
-use Rattle.iiif_pixel.specs.declared.geometry.Rect.{Rect}
 
 pub zipped_len : (a t : ℕ) (sums xs : List ℕ) → AllZip (λ s b. b ≡ average_within a t s) sums xs → length xs ≡ length sums
 zipped_len a t [] [] h = refl
@@ -34,9 +32,3 @@ all_finished g region a t xs area count zipped =
     ∙ ap (λ u. min t ((2 * get_or g.sums ((y * w + x) * n + k) 0 + u) / (2 * u))) area
     ∙ ap (λ u. min t (average region (get_or g.sums ((u * w + x) * n + k) 0))) down
     ∙ ap (λ u. min t (average region (get_or g.sums (((g.rect.y + y - g.rect.y) * w + u) * n + k) 0))) right)
-
-pub product_is : (m n p q : ℕ) → m ≡ p → n ≡ q → m * n ≡ p * q
-product_is m n p q a b = ap (λ u. u * n) a ∙ ap (λ u. p * u) b
-
-pub inside_itself : (r : Rect) → IsInside r r
-inside_itself r = record { left = omega arith; right = omega arith; upper = omega arith; lower = omega arith }

@@ -1,7 +1,7 @@
 -- The sums of a part of a result, of the tiles that have samples for a place of it.
-use Rattle.std.proofs.Common.{◌≡◌, ℕ, ◌+◌, ◌<◌, List, Bool, true, false, All, length, get_or, map, fold, refl, sym, subst, ap, ◌∙◌}
+use Rattle.std.proofs.Common.{◌≡◌, ℕ, List, false, All, get_or, map, fold, sym, subst, ap, ◌∙◌}
 use Rattle.std.specs.List.{filter}
-use Rattle.std.proofs.lemmas.Bool.{false≢true}
+use Rattle.std.proofs.lemmas.Bool.{both_ways}
 use Rattle.iiif_pixel.specs.Geometry.{HasPlace, LiesIn, sides_of}
 use Rattle.iiif_pixel.specs.Picture.{Picture, IsWhole, dim_of}
 use Rattle.iiif_pixel.specs.Scaling.{whole_of}
@@ -25,9 +25,6 @@ places_same image region q size k lies sides =
     ap (places_of (sides_of region) size) (sym (clipped_part image (square k.edge k.tx k.ty) region lies))
     ∙ ap (λ (d : Dim). places_of d size (part_of (tile_of image k) region)) (sym sides)
 
-false_is : (b : Bool) → b ≡ true → b ≡ false → ⊥
-false_is b t f = let e : false ≡ true = sym f ∙ t in absurd (false≢true e)
-
 -- The sums of the tiles that have samples for a place of a part of a result are, merged, those of the region there.
 pub grown_total : PiecesMerge → PlacesAreThose TileKey → (image : Dim) (region : Rect) (q : Picture) (size : Dim) (from : Rect) (keys : List TileKey) (items : List ℕ) (x : TileKey) → IsWhole q →
     IsScalable (dim_of q) size → dim_of q ≡ sides_of region → LiesIn region image → IsCutInto (whole_of (dim_of q)) (map (λ k. part_of (tile_of image k) region) keys) →
@@ -41,7 +38,7 @@ grown_total merge those image region q size from keys items x whole limits sides
     let Off : TileKey → Type 0 = λ k. test k ≡ false → (i j : ℕ) → HasPlace from i j → ¬ (HasPlace (g k).rect i j) in
     let each : (k : TileKey) → Off k = λ k f i j here there.
     (let at : HasPlace (grown_places region size k) i j = subst (λ (r : Rect). HasPlace r i j) (sym (places_same image region q size k lies sides)) there in
-    false_is (test k) (lists.1 k i j at here) f) in
+    both_ways (test k) f (lists.1 k i j at here)) in
     let off : All Off keys = λ i d h. each (get_or keys i d) in
     let chosen : map (λ i. get_or keys i x) items ≡ filter test keys = ap (map (λ i. get_or keys i x)) lists.2 ∙ those test keys x in
     ap (λ (gs : List Grid). fold merged start gs) (sym (map_twice g (λ i. get_or keys i x) items) ∙ ap (map g) chosen)

@@ -79,6 +79,13 @@ quality_sides p q.Color = refl
 quality_sides p q.Gray = refl
 quality_sides p q.Bitonal = refl
 
+-- the sides of the image that a request comes to
+pub resolved_sides : (p : Picture) (r : Resolved) → r.turn.quarters < 4 → dim_of (resolved_image p r) ≡ turned_dim r.turn r.size
+unfolding resolved_image
+resolved_sides p r few =
+    let s = scale (crop p r.rect) r.size in
+    quality_sides (turn s r.turn) r.quality ∙ (prepared_sides r.turn.quarters r.turn.mirror s few).0
+
 -- the band of all rows is the image
 pub all_rows : AllRows → CropIsWhole → ScaleIsWhole → TurnIsWhole → QualityIsWhole → (p : Picture) (r : Resolved) (rect : Rect) → IsWhole p → r.turn.quarters < 4 →
     rect ≡ whole_of (turned_dim r.turn r.size) → crop (resolved_image p r) rect ≡ resolved_image p r
@@ -87,8 +94,7 @@ all_rows law crops scales turns qualities p r rect whole few is =
     let s = scale (crop p r.rect) r.size in
     let image = quality (turn s r.turn) r.quality in
     let w : IsWhole image = qualities (turn s r.turn) r.quality (turns s r.turn (scales (crop p r.rect) r.size (crops p r.rect whole))) in
-    let sides = (prepared_sides r.turn.quarters r.turn.mirror s few).0 in
-    let same : dim_of image ≡ turned_dim r.turn r.size = quality_sides (turn s r.turn) r.quality ∙ sides in
+    let same : dim_of image ≡ turned_dim r.turn r.size = resolved_sides p r few in
     ap (crop image) (is ∙ ap whole_of (sym same)) ∙ law image w
 
 pub quality_channels : (p : Picture) (to : Quality) → (quality p to).channels ≡ channels_in to p.channels

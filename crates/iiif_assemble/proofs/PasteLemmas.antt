@@ -1,5 +1,5 @@
 -- Spans written into pictures, and parts of tiles copied into the picture of a region.
-use Rattle.std.proofs.Common.{◌≡◌, ℕ, ◌+◌, ◌-◌, ◌*◌, ◌<◌, ◌≤◌, List, [], ◌∷◌, ◌++◌, Bool, length, get_or, take, drop, count_by, map, max, append_assoc, refl, sym, subst, ap, ◌∙◌, arith, ⊎_elim, if◌then◌else◌}
+use Rattle.std.proofs.Common.{◌≡◌, ℕ, ◌+◌, ◌-◌, ◌*◌, ◌<◌, ◌≤◌, List, [], ◌∷◌, ◌++◌, Bool, length, get_or, take, drop, count_by, map, append_assoc, sym, subst, ap, ◌∙◌, arith, ⊎_elim, if◌then◌else◌}
 use borrow.Rule.Slice.PartMut.{put_mid}
 use Rattle.std.proofs.lemmas.Bool.{cases_lt}
 use Rattle.std.proofs.lemmas.List.{drop-drop, map-append}
@@ -16,6 +16,7 @@ use Rattle.iiif_area.specs.Laws.{IsCutInto}
 use Rattle.iiif_area.specs.Places.{part_of, corner_of}
 use Rattle.iiif_area.proofs.CutLaws.{mark}
 use Rattle.iiif_area.proofs.GridLaws.{get_or-row_written, get_or-row_kept, place_cases, has_place-yes, has_place-no}
+use Rattle.iiif_area.proofs.TileLaws.{same_place_of_image}
 use Rattle.iiif_assemble.specs.Code.{Copies, HasCopied}
 
 pub length-span_of : (p : Picture) (x y w : ℕ) → length (span_of p x y w) ≡ w * p.channels
@@ -51,16 +52,6 @@ first_rows part n = record { x = part.x; y = part.y; w = part.w; h = n }
 -- the samples that a tile has for a part, from its place `corner` on
 abbrev pub from_tile : Picture → ℕ × ℕ → Rect → ℕ → ℕ → ℕ → ℕ
 from_tile tile corner part x y k = sample_at tile (corner.0 + (x - part.x)) (corner.1 + (y - part.y)) k
-
-pub copies_none : (part : Rect) (f : ℕ → ℕ → ℕ → ℕ) (p : Picture) → Copies (first_rows part 0) f p p
-copies_none part f p = record {
-  width = refl;
-  height = refl;
-  channels = refl;
-  top = refl;
-  copied = λ x y k h _. absurd (omega arith);
-  kept = λ x y k _ _ _ _. refl;
-}
 
 -- one row more
 pub copies_row : (part : Rect) (corner : ℕ × ℕ) (tile old mid new : Picture) (n : ℕ) → Copies (first_rows part n) (from_tile tile corner part) old mid →
@@ -108,17 +99,14 @@ copies_as part f g old new same c = record {
   kept = c.kept;
 }
 
-place_in_image : (t r x : ℕ) → max t r - r ≤ x → t + (max t r - t + (x - (max t r - r))) ≡ r + x
-place_in_image t r x h = omega arith
-
 -- a tile's samples are the region's at the part's places
 pub tile_has : (p : Picture) (at region : Rect) (x y k : ℕ) → HasPlace (part_of at region) x y → k < p.channels →
     from_tile (crop p at) (corner_of at region) (part_of at region) x y k ≡ sample_at (crop p region) x y k
 tile_has p at region x y k h lk =
     let part = part_of at region in
     let corner = corner_of at region in
-    let column = place_in_image at.x region.x x h.0 in
-    let row = place_in_image at.y region.y y h.2 in
+    let column = same_place_of_image at.x region.x x h.0 in
+    let row = same_place_of_image at.y region.y y h.2 in
     sample_at-crop p at (corner.0 + (x - part.x)) (corner.1 + (y - part.y)) k (omega arith) (omega arith) lk
     ∙ ap (λ u. sample_at p u (at.y + (corner.1 + (y - part.y))) k) column ∙ ap (λ u. sample_at p (region.x + x) u k) row
     ∙ sym (sample_at-crop p region x y k (omega arith) (omega arith) lk)
@@ -133,10 +121,6 @@ copies_tile p tile old new at place region part corner is is_part is_corner is_t
     let second = subst (λ (k : ℕ × ℕ). Copies same (from_tile tile k same) old new) (is_corner ∙ ap (λ (r : Rect). corner_of r region) is) first in
     let third = subst (λ (t : Picture). Copies same (from_tile t (corner_of place region) same) old new) is_tile second in
     copies_as same _ (λ x y k. sample_at (crop p region) x y k) old new (λ x y k h lk. tile_has p place region x y k h (omega (arith, channels))) third
-
--- nothing is copied yet
-pub copied_none : (from p : Picture) → HasCopied from [] p
-copied_none from p = λ x y k lx ly lk some. absurd (omega arith)
 
 abbrev one_if : Bool → ℕ
 one_if b = if b then 1 else 0

@@ -1,11 +1,10 @@
 -- The sums of a part of a result, of the blocks that have a place of it.
-use Rattle.std.proofs.Common.{◌≡◌, ℕ, ◌+◌, ◌-◌, ◌*◌, ◌^◌, ◌<◌, ◌≤◌, min, List, [], ◌∷◌, ◌++◌, Bool, true, false, cond, All, length, get_or, map, fold, take, Option, Some, refl, sym, subst, ap, ◌∙◌, if◌then◌else◌}
+use Rattle.std.proofs.Common.{◌≡◌, ℕ, ◌+◌, ◌-◌, ◌*◌, ◌^◌, ◌<◌, ◌≤◌, min, List, [], ◌∷◌, ◌++◌, Bool, true, false, cond, All, length, get_or, map, fold, take, Some, refl, sym, subst, ap, ◌∙◌, if◌then◌else◌}
 use Rattle.std.specs.List.{filter}
-use Rattle.std.proofs.lemmas.Bool.{false≢true}
+use Rattle.std.proofs.lemmas.Bool.{both_ways}
 use Rattle.std.proofs.lemmas.List.Elements.{All-head, All-tail, All-weaker}
 use Rattle.std.proofs.lemmas.List.{get_or_default, map-append, take_more, take_all}
 use Rattle.std.proofs.lemmas.List.Sums.{fold-append}
-use Rattle.std.specs.Prelude.{unwrap_or}
 use Rattle.iiif_pixel.specs.Geometry.{HasPlace, LiesIn, sides_of}
 use Rattle.iiif_pixel.specs.Picture.{Picture, IsWhole, dim_of}
 use Rattle.iiif_pixel.specs.Operations.{crop}
@@ -20,10 +19,11 @@ use Rattle.iiif_keys.specs.Blocks.{square, part_in, tile_of}
 use Rattle.iiif_keys.specs.declared.keys.TileKey.{TileKey}
 use Rattle.iiif_keys.specs.declared.values.TileVal.{TileVal}
 use Rattle.iiif_keys.specs.Meaning.{sum_meaning, tile_meaning}
-use Rattle.iiif_keys.specs.Names.{Pictures, named, no_picture}
+use Rattle.iiif_keys.specs.Names.{Pictures, named}
 use Rattle.iiif_keys.specs.declared.keys.SumKey.{SumKey}
 use Rattle.iiif_keys.specs.declared.values.SumVal.{SumVal}
 use Rattle.iiif_keys.proofs.Cuts.{clipped_part}
+use Rattle.iiif_keys.proofs.Derived.{picture_is}
 use Rattle.iiif_bands.specs.Bands.{block_places}
 use Rattle.iiif_bands.specs.Laws.{PlacesAreThose}
 use Rattle.iiif_assemble.specs.Gathering.{AreValues}
@@ -94,9 +94,6 @@ places_same image region q size k b lies sides =
     ∙ ap (λ (r : Rect). places_of (sides_of r) size (part_in image k)) b.rect
     ∙ ap (λ (d : Dim). places_of d size (part_in image k)) (sym sides)
 
-false_is : (b : Bool) → b ≡ true → b ≡ false → ⊥
-false_is b t f = let e : false ≡ true = sym f ∙ t in absurd (false≢true e)
-
 -- The sums of the blocks that have a place of a part of a result are, merged, those of the region there.
 pub band_total : PiecesMerge → PlacesAreThose SumKey → (image : Dim) (region : Rect) (q : Picture) (size : Dim) (from : Rect) (keys : List SumKey) (items : List ℕ) (values : List SumVal)
     (means : SumKey → SumVal → Type 0) → IsWhole q → IsScalable (dim_of q) size → dim_of q ≡ sides_of region → LiesIn region image → All (IsFor region size) keys →
@@ -112,21 +109,18 @@ band_total merge those image region q size from keys items values means whole li
     All-weaker (IsFor region size) (λ k. test k ≡ false → (i j : ℕ) → HasPlace from i j → ¬ (HasPlace (g k).rect i j))
     (λ k b f i j here there.
     let at : HasPlace (block_places k) i j = subst (λ (r : Rect). HasPlace r i j) (sym (places_same image region q size k b lies sides)) there in
-    false_is (test k) (lists.1 k i j at here) f) keys each in
+    both_ways (test k) f (lists.1 k i j at here)) keys each in
     let chosen : map (λ i. get_or keys i x) items ≡ filter test keys = ap (map (λ i. get_or keys i x)) lists.2 ∙ those test keys x in
     ap (λ (gs : List Grid). fold merged start gs) (values_are sums_in g means keys x items values are meant ∙ ap (map g) chosen)
     ∙ only_those test g from q.channels keys (λ i j k. 0) off
     ∙ ap (λ (gs : List Grid). fold merged start gs) (sym (map_twice (λ r. sums_of q size r) (part_in image) keys))
     ∙ merge q size (whole_of (dim_of q)) from (map (part_in image) keys) whole limits.columns limits.rows limits.area cut
 
-pub named_is : (shows : Pictures) (name : List ℕ) (p : Picture) → shows name ≡ Some p → named shows name ≡ p
-named_is shows name p known = ap (λ (o : Option Picture). unwrap_or o no_picture) known
-
 -- what a block's value has where it is meant
 pub block_meant : (shows : Pictures) (name : List ℕ) (p : Picture) (image : Dim) (region : Rect) (size : Dim) (k : SumKey) (v : SumVal) → shows name ≡ Some p → dim_of p ≡ image →
     k.name ≡ name → IsFor region size k → v ≡ sum_meaning shows k → sums_in v ≡ sums_of (crop p region) size (part_in image k)
 block_meant shows name p image region size k v known sides same b made =
-    let of_name : named shows k.name ≡ p = ap (named shows) same ∙ named_is shows name p known in
+    let of_name : named shows k.name ≡ p = ap (named shows) same ∙ picture_is shows name p known in
     ap sums_in made
     ∙ ap (λ (r : Picture). sums_of (crop r k.rect) k.size (part_in (dim_of r) k)) of_name
     ∙ ap (λ (d : Dim). sums_of (crop p k.rect) k.size (part_in d k)) sides
@@ -164,5 +158,5 @@ total_is {A} value from n q size xs ys none new is_none channels same made place
 pub tile_meant : (shows : Pictures) (name : List ℕ) (p : Picture) (image : Dim) (k : TileKey) (v : TileVal) → shows name ≡ Some p → dim_of p ≡ image → k.name ≡ name →
     v ≡ tile_meaning shows k → tile_in v ≡ crop p (tile_of image k)
 tile_meant shows name p image k v known sides same made =
-    let of_name : named shows k.name ≡ p = ap (named shows) same ∙ named_is shows name p known in
+    let of_name : named shows k.name ≡ p = ap (named shows) same ∙ picture_is shows name p known in
     ap tile_in made ∙ ap (λ (r : Picture). crop r (tile_of (dim_of r) k)) of_name ∙ ap (λ (d : Dim). crop p (tile_of d k)) sides

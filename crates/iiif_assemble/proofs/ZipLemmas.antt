@@ -52,19 +52,6 @@ failed_here means failed keys items values i k fault within before inside is f =
   fault_of = (k, inside, is, f);
 }
 
--- the fault of the first run is that of all
-pub fault_left : {K V : Type 0} (means : K → V → Type 0) (failed : K → Fault → Type 0) (keys : List K) (left right : List ℕ) (fault : Fault) →
-    IsItemFault means failed keys left fault → IsItemFault means failed keys (left ++ right) fault
-fault_left means failed keys left right fault h =
-    ⊎_elim (λ e. inl e) (λ (f : FailedFirst means failed keys left fault). inr (record {
-      before = f.before;
-      item = f.item;
-      after = f.after ++ right;
-      are = ap (λ xs. xs ++ right) f.are ∙ append_assoc f.before (f.item ∷ f.after) right;
-      gave = f.gave;
-      fault_of = f.fault_of;
-    })) h
-
 -- and that of the other is, where the first run has values
 pub fault_right : {K V : Type 0} (means : K → V → Type 0) (failed : K → Fault → Type 0) (keys : List K) (left right : List ℕ) (values : List V) (fault : Fault) →
     AreValues means keys left values → IsItemFault means failed keys right fault → IsItemFault means failed keys (left ++ right) fault
@@ -130,10 +117,6 @@ each_value {K} {V} P means keys (i ∷ is) (v ∷ vs) h each =
 pub all_mapped : {A V : Type 0} (f : A → V) (P : V → Type 0) (xs : List A) → All P (map f xs) → All (λ x. P (f x)) xs
 all_mapped f P [] h = All-nil (λ x. P (f x))
 all_mapped f P (x ∷ xs) h = All-cons (λ y. P (f y)) x xs (All-head P (f x) (map f xs) h) (all_mapped f P xs (All-tail P (f x) (map f xs) h))
-
--- what holds of each element holds of the one that is read
-pub element : {X : Type 0} (P : X → Type 0) (xs : List X) (i : ℕ) (x : X) → All P xs → i < length xs → get_or xs i x ≡ x → P x
-element P xs i x each within is = subst P is (each i x within)
 
 -- the places of a band's items are places of the plan
 pub lists_within : {K : Type 0} (places : K → Rect) (rect : Rect) (keys : List K) (items : List ℕ) → ListsMet places rect keys items → All (λ i. i < length keys) items

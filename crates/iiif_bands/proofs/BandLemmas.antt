@@ -1,7 +1,7 @@
 -- The items of a band.
 use Rattle.std.proofs.Common.{◌≡◌, ℕ, ◌+◌, ◌*◌, ◌^◌, ◌<◌, ◌↔◌, List, [], ◌∷◌, ◌++◌, Bool, true, false, All, length, get_or, take, max, refl, sym, subst, ap, ◌∙◌, arith, if◌then◌else◌, IsTrue}
 use Rattle.std.specs.Prelude.{nat_lt}
-use Rattle.std.proofs.lemmas.Bool.{and_from, lt-ltb, ltb-true}
+use Rattle.std.proofs.lemmas.Bool.{and_from, lt-ltb, ltb-true, and_parts}
 use Rattle.std.proofs.lemmas.List.{take_more, length-take-le}
 use Rattle.iiif_pixel.specs.Geometry.{HasPlace, LiesIn, sides_of}
 use Rattle.iiif_pixel.specs.TurnPlaces.{turned_place}
@@ -15,7 +15,6 @@ use Rattle.iiif_keys.specs.declared.keys.TileKey.{TileKey}
 use Rattle.iiif_keys.specs.declared.keys.SumKey.{SumKey}
 use Rattle.iiif_planner.specs.Plans.{IsTileFor, IsBlockFor, TilesCover, BlocksCover}
 use Rattle.std.proofs.lemmas.List.Elements.{All-weaker}
-use Rattle.iiif_keys.proofs.Names.{both}
 use Rattle.iiif_bands.specs.Bands.{places_from, ListsThose, ReachesInto}
 use Rattle.iiif_bands.specs.Code.{have_common, one_if, BlockIsSmall, TileIsSmall, TileReaches}
 
@@ -49,7 +48,7 @@ pub common_meets : (a b : Rect) → have_common a b ≡ true → Meets a b
 unfolding have_common
 common_meets a b h =
     let p = part_of a b in
-    let t = both (nat_lt 0 p.w) (nat_lt 0 p.h) h in
+    let t = and_parts (nat_lt 0 p.w) (nat_lt 0 p.h) h in
     record { columns = ltb-true 0 p.w t.0; rows = ltb-true 0 p.h t.1 }
 
 pub meets_common : (a b : Rect) → Meets a b → have_common a b ≡ true

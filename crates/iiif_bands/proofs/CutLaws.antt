@@ -1,35 +1,23 @@
 -- Bands cut a picture.
-use Rattle.std.proofs.Common.{◌≡◌, ℕ, zero, suc, ◌+◌, ◌-◌, ◌*◌, ◌/◌, ◌%◌, ◌<◌, ◌≤◌, min, List, [], ◌∷◌, ◌++◌, All, map, refl, sym, subst, ap, ◌∙◌, arith}
+use Rattle.std.proofs.Common.{◌≡◌, ℕ, zero, suc, ◌+◌, ◌-◌, ◌*◌, ◌<◌, ◌≤◌, min, List, [], ◌∷◌, ◌++◌, All, map, refl, sym, subst, ap, ◌∙◌, arith}
 use Rattle.std.specs.Int.{div_ceil}
 use Rattle.std.specs.List.{range_with_len, flat_map}
-use Rattle.std.proofs.lemmas.Grind.{flat_map-append, div_ceil_times}
+use Rattle.std.proofs.lemmas.Grind.{flat_map-append}
 use Rattle.std.proofs.lemmas.List.{append-nil}
 use Rattle.std.proofs.lemmas.List.Elements.{All-nil, All-cons, All-head, All-tail, All-push}
 use Rattle.std.proofs.lemmas.List.Folds.{flat_map-map}
 use Rattle.std.proofs.lemmas.List.FromFn.{map-range_with_len_more}
-use Rattle.std.proofs.Math.Nat.{mul-le-mul_right}
 use Rattle.iiif_pixel.specs.Laws.{rows_from, AllRows, RowsAfterRows}
 use Rattle.iiif_pixel.specs.Operations.{crop}
 use Rattle.iiif_pixel.specs.Picture.{Picture, IsWhole, dim_of, samples_of}
 use Rattle.iiif_pixel.specs.TurnPlaces.{turned_dim}
 use Rattle.iiif_pixel.specs.declared.geometry.Dim.{Dim}
 use Rattle.iiif_pixel.specs.declared.geometry.Rect.{Rect}
+use Rattle.iiif_area.proofs.WeightLaws.{div_ceil-times}
+use Rattle.iiif_planner.proofs.Meeting.{last_met}
 use Rattle.iiif_bands.specs.Bands.{band_rect}
 use Rattle.iiif_bands.specs.Laws.{BandsAreLow, BandsCutPictures, IsLow}
 use Rattle.iiif_bands.specs.declared.banding.Band.{Band}
-
--- a band that is counted begins above the end
-begins_above : (h rows m : ℕ) → 0 < rows → m < div_ceil h rows → m * rows < h
-begins_above h rows m some counted =
-    let q = h / rows + min 1 (h % rows) in
-    let bound = div_ceil_times h rows some in
-    let last : (m + 1) * rows ≤ q * rows = mul-le-mul_right rows (omega arith) in
-    let sum : (m + 1) * rows ≡ m * rows + rows = omega arith in
-    omega (arith, bound.1, last, sum)
-
--- and those that are counted reach it
-reaches_end : (h rows : ℕ) → 0 < rows → h ≤ div_ceil h rows * rows
-reaches_end h rows some = (div_ceil_times h rows some).0
 
 -- the first m bands have the first rows
 module _ (after : RowsAfterRows) (p : Picture) (d : Dim) (rows : ℕ) (some : 0 < rows) (same : dim_of p ≡ d) where
@@ -60,7 +48,7 @@ module _ (after : RowsAfterRows) (p : Picture) (d : Dim) (rows : ℕ) (some : 0 
       none_cut ∙ ap (λ n. piece (rows_from p 0 n)) none
   first_bands (suc m) within =
       let f = band_rect d rows in
-      let above = begins_above d.h rows m some (omega arith) in
+      let above = last_met rows d.h m some (omega arith) in
       let whole : min (m * rows) d.h ≡ m * rows = omega arith in
       let more : suc m ≡ m + 1 = omega arith in
       ap (λ n. flat_map piece (map f (range_with_len 0 n))) more
@@ -75,7 +63,7 @@ module _ (after : RowsAfterRows) (p : Picture) (d : Dim) (rows : ℕ) (some : 0 
   all_bands : AllRows → IsWhole p → flat_map piece (map (band_rect d rows) (range_with_len 0 (div_ceil d.h rows))) ≡ p.samples
   all_bands all whole =
       let n = div_ceil d.h rows in
-      let end : min (n * rows) d.h ≡ p.height = let e = reaches_end d.h rows some in let h : d.h ≡ p.height = sym (ap (λ (e : Dim). e.h) same) in omega (arith, e, h) in
+      let end : min (n * rows) d.h ≡ p.height = let e = div_ceil-times d.h rows some in let h : d.h ≡ p.height = sym (ap (λ (e : Dim). e.h) same) in omega (arith, e, h) in
       first_bands n (omega arith) ∙ ap (λ m. piece (rows_from p 0 m)) end ∙ ap (λ (q : Picture). q.samples) (all p whole)
 
 pub bands_cut : RowsAfterRows → AllRows → BandsCutPictures
@@ -90,7 +78,7 @@ low d rows zero n some is within = All-nil (IsLow d rows)
 low d rows (suc m) n some is within =
     let f = band_rect d rows in
     let more : suc m ≡ m + 1 = omega arith in
-    let above = begins_above d.h rows m some (omega arith) in
+    let above = last_met rows d.h m some (omega arith) in
     let here : IsLow d rows (f m) = record { inside = record { columns = omega arith; rows = omega arith }; columns = refl; some = omega arith; few = omega arith } in
     subst (λ (rs : List Rect). All (IsLow d rows) rs) (sym (map-range_with_len_more f 0 m m (omega arith)) ∙ ap (λ k. map f (range_with_len 0 k)) (sym more))
     (All-push (IsLow d rows) (map f (range_with_len 0 m)) (f m) (low d rows m n some is (omega arith)) here)

@@ -1,5 +1,5 @@
 -- The steps of an image that is sent band by band.
-use Rattle.std.proofs.Common.{◌≡◌, ℕ, ◌+◌, ◌*◌, ◌/◌, ◌%◌, ◌<◌, ◌≤◌, ◌⊎◌, ◌==◌, eqb, min, max, Bool, true, false, List, [], ◌++◌, length, get_or, take, inl, inr, refl, sym, ap, subst, ◌∙◌, arith, append_assoc, length-append, Option}
+use Rattle.std.proofs.Common.{◌≡◌, ℕ, ◌+◌, ◌*◌, ◌%◌, ◌<◌, ◌≤◌, ◌⊎◌, ◌==◌, eqb, min, max, Bool, true, false, List, [], ◌++◌, length, get_or, take, inl, inr, refl, sym, ap, subst, ◌∙◌, arith, append_assoc, length-append, Option}
 use Rattle.std.specs.Prelude.{if◌then◌else◌}
 use Rattle.std.specs.Int.{div_ceil}
 use Rattle.std.specs.Io.KnownBytes.{Appends}
@@ -26,6 +26,7 @@ use Rattle.iiif_keys.specs.declared.keys.TileKey.{TileKey}
 use Rattle.iiif_keys.specs.declared.values.SumVal.{SumVal}
 use Rattle.iiif_keys.specs.declared.values.TileVal.{TileVal}
 use Rattle.iiif_planner.specs.declared.plans.Plan.{Plan}
+use Rattle.iiif_planner.proofs.Meeting.{last_met}
 use Rattle.iiif_bands.specs.Bands.{band_rect, AreBands}
 use Rattle.iiif_bands.specs.declared.banding.Band.{Band}
 use Rattle.iiif_assemble.specs.Jobs.{channels_in, top_in, IsHeldFor}
@@ -67,14 +68,6 @@ asked_top p r =
 
 -- ---- Bands in their order
 
-begins_above : (h rows m : ℕ) → 0 < rows → m < div_ceil h rows → m * rows < h
-begins_above h rows m some counted =
-    let q = h / rows + min 1 (h % rows) in
-    let bound = div_ceil_times h rows some in
-    let last : (m + 1) * rows ≤ q * rows = mul-le-mul_right rows (omega arith) in
-    let sum : (m + 1) * rows ≡ m * rows + rows = omega arith in
-    omega (arith, bound.1, last, sum)
-
 -- how many there are
 count_of_bands : (r : Resolved) (plan : Plan) (rows : ℕ) (bs : List Band) → AreBands r plan rows bs → length bs ≡ div_ceil (turned_dim r.turn r.size).h rows
 count_of_bands r plan rows bs are =
@@ -95,7 +88,7 @@ band_at r plan rows bs i b are within is =
 
 pub band_above : (r : Resolved) (plan : Plan) (rows : ℕ) (bs : List Band) (i : ℕ) → 0 < rows → AreBands r plan rows bs → i < length bs → i * rows < (turned_dim r.turn r.size).h
 band_above r plan rows bs i some are within =
-    begins_above (turned_dim r.turn r.size).h rows i some (omega (arith, count_of_bands r plan rows bs are))
+    last_met rows (turned_dim r.turn r.size).h i some (omega (arith, count_of_bands r plan rows bs are))
 
 pub bands_end : (r : Resolved) (plan : Plan) (rows : ℕ) (bs : List Band) (i : ℕ) → 0 < rows → AreBands r plan rows bs → length bs ≤ i →
     min (i * rows) (turned_dim r.turn r.size).h ≡ (turned_dim r.turn r.size).h
@@ -339,9 +332,6 @@ module _ (laws : Laws) (j : Job) (tile_means : TileKey → TileVal → Type 0) (
       (image, is_for, subst (Appends old new) full so_far.appended, so_far.count ∙ ap length full)
 
 -- ---- Sides
-
-pub same_dim : (d e : Dim) → d.w ≡ e.w → d.h ≡ e.h → d ≡ e
-same_dim d e w h = rw (w, h) refl
 
 either_some : (b : Bool) (m n : ℕ) → 0 < m → 0 < n → 0 < (if b then m else n)
 either_some true m n p q = p

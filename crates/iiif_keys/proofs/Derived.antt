@@ -86,9 +86,9 @@ tile_meant shows p k known level =
     ∙ (ap (λ (r : Rect). sums_of (crop p k.rect) k.size (part_of r k.rect)) block
     ∙ ap (λ (u : Picture). sums_of (crop u k.rect) k.size (part_in (dim_of u) k)) (sym name))))
 
-above : (l : ℕ) → (l == 0) ≡ false → 0 < l
-above zero e = absurd cc
-above (suc l) e = omega arith
+pub above_zero : (l : ℕ) → (l == 0) ≡ false → 0 < l
+above_zero zero e = absurd cc
+above_zero (suc l) e = omega arith
 
 chosen : (b : Bool) (x y z : Grid) → (b ≡ true → x ≡ z) → (b ≡ false → y ≡ z) → cond b x y ≡ z
 chosen true x y z f g = f refl
@@ -102,4 +102,4 @@ derived_is shows s k has source fits =
     ap (λ (g : Grid). record { sums = g })
     (chosen (k.level == 0) _ _ _
     (λ e. tile_meant shows p k has.known (eqb-true k.level 0 e))
-    (λ e. merged_meaning shows p k has.known source.whole source.readable.area own (above k.level e)))
+    (λ e. merged_meaning shows p k has.known source.whole source.readable.area own (above_zero k.level e)))

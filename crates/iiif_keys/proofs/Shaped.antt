@@ -10,6 +10,7 @@ use Rattle.iiif_pixel.specs.declared.geometry.Kind.{Kind}
 use Rattle.iiif_pixel.specs.declared.geometry.Kind.TheVariants.{Gray, Rgb}
 use Rattle.iiif_pixel.specs.declared.geometry.Depth.{Depth}
 use Rattle.iiif_pixel.specs.declared.geometry.Depth.TheVariants.{Eight, Sixteen}
+use Rattle.iiif_pixel.proofs.Parts.{same_rect}
 use Rattle.iiif_keys.specs.declared.keys.Shape.{Shape}
 use Rattle.iiif_keys.specs.declared.keys.TileKey.{TileKey}
 use Rattle.iiif_keys.specs.declared.keys.SumKey.{SumKey}
@@ -66,15 +67,6 @@ both false b P Q f g = (λ h. absurd cc, λ h. absurd (let t = f.1 h.0 in cc))
 
 same : (a b : ℕ) → IsTrue (a == b) ↔ (a ≡ b)
 same a b = Decides-eqb a b
-
-abbrev rect_made : ℕ → ℕ → ℕ → ℕ → Rect
-rect_made x y w h = record { x = x; y = y; w = w; h = h }
-
-same_parts : (a b c d e f g h : ℕ) → a ≡ b → c ≡ d → e ≡ f → g ≡ h → rect_made a c e g ≡ rect_made b d f h
-same_parts a b c d e f g h p q r s = cc
-
-same_rect : (r s : Rect) → r.x ≡ s.x → r.y ≡ s.y → r.w ≡ s.w → r.h ≡ s.h → r ≡ s
-same_rect r s p q t u = same_parts _ _ _ _ _ _ _ _ p q t u
 
 tile_test : (shows : Pictures) (k : TileKey) (v : TileVal) → IsTrue (tile_is_shaped shows k v) ↔ TileHasShape (shape_of (named shows k.name)) k v
 unfolding tile_is_shaped

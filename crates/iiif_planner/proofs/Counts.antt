@@ -1,15 +1,13 @@
 -- What holds of each of some squares listed row by row, of each two of them, and how many of them pass a test.
-use Rattle.std.proofs.Common.{◌≡◌, ℕ, zero, suc, ◌+◌, ◌-◌, ◌<◌, ◌≤◌, Bool, true, false, List, [], ◌∷◌, ◌++◌, map, refl, sym, ap, ◌∙◌, inl, inr, arith, ⊎_elim}
-use Rattle.std.specs.Prelude.{nat_lt, nat_le, ◌&&◌, ◌==◌}
+use Rattle.std.proofs.Common.{◌≡◌, ℕ, zero, suc, ◌+◌, ◌-◌, ◌<◌, ◌≤◌, Bool, false, List, [], ◌∷◌, ◌++◌, map, refl, sym, ap, ◌∙◌, inl, inr, arith, ⊎_elim}
+use Rattle.std.specs.Prelude.{◌&&◌, ◌==◌}
 use Rattle.std.specs.List.{All, AllPairs, count_by}
-use Rattle.std.proofs.lemmas.Bool.{cases_lt, and_from, le-leb, lt-ltb, leb-true, ltb-true, eqb-true}
-use Rattle.std.proofs.lemmas.Bool.Decides.{Decides-eqb}
+use Rattle.std.proofs.lemmas.Bool.{cases_lt, eq-eqb, ne_eqb, and_right}
 use Rattle.std.proofs.lemmas.List.{append-nil, append_assoc}
 use Rattle.std.proofs.lemmas.List.Elements.{All-nil, All-push, All-append}
 use Rattle.std.proofs.lemmas.List.Quantifiers.{all_pairs_push}
 use Rattle.std.proofs.lemmas.List.Sums.{sum_by-append, sum_by_push}
-use Rattle.iiif_keys.proofs.Names.{both}
-use Rattle.iiif_keys.proofs.Cuts.{is_false, counted, one_if, Halves, First, Second, Neither}
+use Rattle.iiif_keys.proofs.Cuts.{counted, one_if, Halves, First, Second, Neither, within, within_yes, within_below, within_above}
 use Rattle.iiif_planner.specs.declared.squares.Squares.{Squares}
 use Rattle.iiif_planner.specs.Plans.{StandsBefore}
 use Rattle.iiif_planner.specs.Items.{row_from, rows_from, each_square}
@@ -53,35 +51,16 @@ rows_pairs f R left columns top h (suc n) =
 pub each_pair : {K : Type 0} (f : ℕ → ℕ → K) (R : K → K → Type 0) (s : Squares) → ((i j k l : ℕ) → StandsBefore i j k l → R (f i j) (f k l)) → AllPairs R (each_square f s)
 each_pair f R s h = rows_pairs f R s.left (s.right - s.left) s.top h (s.bottom - s.top)
 
--- x is one of the n numbers from `from` on
-abbrev pub within : ℕ → ℕ → ℕ → Bool
-within from n x = nat_le from x && nat_lt x (from + n)
-
-pub within_yes : (from n x : ℕ) → from ≤ x → x < from + n → within from n x ≡ true
-within_yes from n x a b = and_from _ _ (le-leb from x a) (lt-ltb x (from + n) b)
-
-within_below : (from n x : ℕ) → x < from → within from n x ≡ false
-within_below from n x a = is_false (within from n x) (λ h. let q = both (nat_le from x) (nat_lt x (from + n)) h in absurd (omega (arith, leb-true from x q.0)))
-
-within_above : (from n x : ℕ) → from + n ≤ x → within from n x ≡ false
-within_above from n x a = is_false (within from n x) (λ h. let q = both (nat_le from x) (nat_lt x (from + n)) h in absurd (omega (arith, ltb-true x (from + n) q.1)))
-
-pub equal : (a b : ℕ) → a ≡ b → (a == b) ≡ true
-equal a b e = (Decides-eqb a b).1 e
-
-unequal : (a b : ℕ) → (a ≡ b → ⊥) → (a == b) ≡ false
-unequal a b f = is_false (a == b) (λ h. f (eqb-true a b h))
-
 -- one number more
 within_next : (from n x : ℕ) → Halves (within from n x) (from + n == x) (within from (suc n) x)
 within_next from n x =
     ⊎_elim
-    (λ (a : x < from). Neither (within_below from n x a) (unequal _ _ (λ e. absurd (omega arith))) (within_below from (suc n) x a))
+    (λ (a : x < from). Neither (within_below from n x a) (ne_eqb _ _ (λ e. absurd (omega arith))) (within_below from (suc n) x a))
     (λ (a : from ≤ x). ⊎_elim
-    (λ (b : x < from + n). First (within_yes from n x a b) (unequal _ _ (λ e. absurd (omega arith))) (within_yes from (suc n) x a (omega arith)))
+    (λ (b : x < from + n). First (within_yes from n x a b) (ne_eqb _ _ (λ e. absurd (omega arith))) (within_yes from (suc n) x a (omega arith)))
     (λ (b : from + n ≤ x). ⊎_elim
-    (λ (c : x < from + suc n). Second (within_above from n x b) (equal _ _ (omega arith)) (within_yes from (suc n) x a c))
-    (λ (c : from + suc n ≤ x). Neither (within_above from n x b) (unequal _ _ (λ e. absurd (omega arith))) (within_above from (suc n) x c))
+    (λ (c : x < from + suc n). Second (within_above from n x b) (eq-eqb _ _ (omega arith)) (within_yes from (suc n) x a c))
+    (λ (c : from + suc n ≤ x). Neither (within_above from n x b) (ne_eqb _ _ (λ e. absurd (omega arith))) (within_above from (suc n) x c))
     (cases_lt x (from + suc n)))
     (cases_lt x (from + n)))
     (cases_lt x from)
@@ -90,10 +69,6 @@ halves_count : (h : Bool → Bool) → h false ≡ false → (a b w : Bool) → 
 halves_count h z a b w (First p q r) = rw (p, q, r, z) (omega arith)
 halves_count h z a b w (Second p q r) = rw (p, q, r, z) (omega arith)
 halves_count h z a b w (Neither p q r) = rw (p, q, r, z) (omega arith)
-
-none_of : (g : Bool) → (g && false) ≡ false
-none_of true = refl
-none_of false = refl
 
 none_within : (from x : ℕ) → within from zero x ≡ false
 none_within from x =
@@ -118,14 +93,14 @@ pub rows_count : {K : Type 0} (f : ℕ → ℕ → K) (p : K → Bool) (g : Bool
     count_by p (rows_from f left columns top n) ≡ one_if (g && (within left columns u && within top n v))
 unfolding rows_from
 rows_count f p g u v left columns top e zero =
-    sym (ap (λ (b : Bool). one_if (g && (within left columns u && b))) (none_within top v) ∙ (ap (λ (b : Bool). one_if (g && b)) (none_of (within left columns u)) ∙ ap one_if (none_of g)))
+    sym (ap (λ (b : Bool). one_if (g && (within left columns u && b))) (none_within top v) ∙ (ap (λ (b : Bool). one_if (g && b)) (and_right (within left columns u) false refl) ∙ ap one_if (and_right g false refl)))
 rows_count f p g u v left columns top e (suc n) =
     let j = top + n in
     let w = within left columns u in
     let rest = rows_count f p g u v left columns top e n in
-    let row = row_count f p (λ t. g && (t && j == v)) left j u (none_of g) (λ i. e i j) columns in
+    let row = row_count f p (λ t. g && (t && j == v)) left j u (and_right g false refl) (λ i. e i j) columns in
     let sums = sum_by-append (λ k. one_if (p k)) (rows_from f left columns top n) (row_from f left j columns) in
-    let joined = halves_count (λ t. g && (w && t)) (ap (λ (b : Bool). g && b) (none_of w) ∙ none_of g) _ _ _ (within_next top n v) in
+    let joined = halves_count (λ t. g && (w && t)) (ap (λ (b : Bool). g && b) (and_right w false refl) ∙ and_right g false refl) _ _ _ (within_next top n v) in
     sums ∙ (ap (λ (m : ℕ). m + count_by p (row_from f left j columns)) rest ∙ (ap (λ (m : ℕ). one_if (g && (w && within top n v)) + m) row ∙ joined))
 
 pub each_count : {K : Type 0} (f : ℕ → ℕ → K) (p : K → Bool) (g : Bool) (u v : ℕ) (s : Squares) → ((i j : ℕ) → p (f i j) ≡ (g && (i == u && j == v))) →

@@ -2,28 +2,28 @@
 use Rattle.std.proofs.Common.{◌≡◌, ℕ, zero, suc, ◌-◌, ◌*◌, ◌^◌, ◌<◌, ◌≤◌, ◌⊎◌, inl, inr, Bool, true, false, refl, sym, subst, ◌∙◌, arith, ⊎_elim, max}
 use Rattle.std.specs.Cmp.Derive.{both_true}
 use Rattle.std.specs.Prelude.{◌↔◌, ◌||◌, ◌==◌, not, nat_le, if◌then◌else◌}
-use Rattle.std.proofs.lemmas.Bool.{cases_lt, eqb-true, false≢true, leb-true, le-leb}
-use Rattle.iiif_keys.proofs.Names.{both}
+use Rattle.std.proofs.lemmas.Bool.{cases_lt, eqb-true, false≢true, leb-true, le-leb, and_parts}
 use Rattle.iiif_pixel.specs.declared.geometry.Dim.{Dim}
+use Rattle.iiif_keys.proofs.Derived.{above_zero}
 use Rattle.iiif_planner.specs.Levels.{sums_at_most, HoldsImage, IsLevel, IsUsable}
 use Rattle.iiif_planner.specs.Items.{greatest, is_usable}
 use Rattle.iiif_planner.proofs.LevelLaws.{needed_from_below}
 
 -- the greatest that passes passes, or is 0, and is within the bound; and none that passes is above it
-passes : (test : ℕ → Bool) (n : ℕ) → (test (greatest test n) ≡ true) ⊎ (greatest test n ≡ 0)
+pub greatest_cases : (test : ℕ → Bool) (n : ℕ) → (test (greatest test n) ≡ true) ⊎ (greatest test n ≡ 0)
 unfolding greatest
-passes test zero = inr refl
-passes test (suc n) = (elim (test (suc n)) as (λ b. test (suc n) ≡ b → (test (if b then suc n else greatest test n) ≡ true) ⊎ ((if b then suc n else greatest test n) ≡ 0)) [
+greatest_cases test zero = inr refl
+greatest_cases test (suc n) = (elim (test (suc n)) as (λ b. test (suc n) ≡ b → (test (if b then suc n else greatest test n) ≡ true) ⊎ ((if b then suc n else greatest test n) ≡ 0)) [
   | true ↦ λ e. inl e
-  | false ↦ λ e. passes test n
+  | false ↦ λ e. greatest_cases test n
 ]) refl
 
-within : (test : ℕ → Bool) (n : ℕ) → greatest test n ≤ n
+pub greatest_within : (test : ℕ → Bool) (n : ℕ) → greatest test n ≤ n
 unfolding greatest
-within test zero = omega arith
-within test (suc n) = elim (test (suc n)) as (λ b. (if b then suc n else greatest test n) ≤ suc n) [
+greatest_within test zero = omega arith
+greatest_within test (suc n) = elim (test (suc n)) as (λ b. (if b then suc n else greatest test n) ≤ suc n) [
   | true ↦ omega arith
-  | false ↦ let h = within test n in omega arith
+  | false ↦ let h = greatest_within test n in omega arith
 ]
 
 same_or_below : (m n : ℕ) → m ≤ suc n → (m ≡ suc n) ⊎ (m ≤ n)
@@ -48,16 +48,12 @@ needed_true edge image level h = (elim (level == 0) as (λ b. (level == 0) ≡ b
   | false ↦ λ e t. inr (λ held. let holds = le-leb (max image.w image.h) (2 ^ (level - 1) * edge) held in cc)
 ]) refl h
 
-some : (l : ℕ) → (l == 0) ≡ false → 0 < l
-some zero e = absurd cc
-some (suc l) e = omega arith
-
 true_needed : (edge : ℕ) (image : Dim) (level : ℕ) → ((lower : ℕ) → HoldsImage edge image lower → level ≤ lower) →
     (level == 0 || not (nat_le (max image.w image.h) (2 ^ (level - 1) * edge))) ≡ true
 true_needed edge image level needed = (elim (level == 0) as (λ b. (level == 0) ≡ b → (b || not (nat_le (max image.w image.h) (2 ^ (level - 1) * edge))) ≡ true) [
   | true ↦ λ e. refl
   | false ↦ λ e. (elim (nat_le (max image.w image.h) (2 ^ (level - 1) * edge)) as (λ c. nat_le (max image.w image.h) (2 ^ (level - 1) * edge) ≡ c → (false || not c) ≡ true) [
-    | true ↦ λ h. let above = some level e in let low : level ≤ level - 1 = needed (level - 1) (leb-true _ _ h) in absurd (omega arith)
+    | true ↦ λ h. let above = above_zero level e in let low : level ≤ level - 1 = needed (level - 1) (leb-true _ _ h) in absurd (omega arith)
     | false ↦ λ h. refl
   ]) refl
 ]) refl
@@ -65,7 +61,7 @@ true_needed edge image level needed = (elim (level == 0) as (λ b. (level == 0) 
 usable : (edge : ℕ) (image region size : Dim) (channels room level : ℕ) → level ≤ 20 → is_usable edge image region size channels room level ≡ true →
     IsUsable edge image region size channels room level
 usable edge image region size channels room level few h =
-    let t = both (level == 0 || not (nat_le (max image.w image.h) (2 ^ (level - 1) * edge))) (nat_le (sums_at_most edge level region size channels) room) h in
+    let t = and_parts (level == 0 || not (nat_le (max image.w image.h) (2 ^ (level - 1) * edge))) (nat_le (sums_at_most edge level region size channels) room) h in
     record { few = few; needed = needed_from_below edge image level (needed_true edge image level t.0); within = leb-true _ _ t.1 }
 
 tested : (edge : ℕ) (image region size : Dim) (channels room level : ℕ) → IsUsable edge image region size channels room level →
@@ -78,7 +74,7 @@ greatest_is : (U : ℕ → Type 0) (test : ℕ → Bool) → ((l : ℕ) → l �
     ((U level × ((other : ℕ) → U other → other ≤ level)) ⊎ ((level ≡ 0) × ((other : ℕ) → ¬ (U other)))) ↔ (level ≡ greatest test 20)
 greatest_is U test from_test to_test few level =
     let g = greatest test 20 in
-    let top : g ≤ 20 = within test 20 in
+    let top : g ≤ 20 = greatest_within test 20 in
     let above : (l : ℕ) → U l → l ≤ g = λ l u. none_above test 20 l (few l u) (to_test l u) in (
       λ is. ⊎_elim
           (λ (is_greatest : U level × ((other : ℕ) → U other → other ≤ level)).
@@ -86,17 +82,17 @@ greatest_is U test from_test to_test few level =
           ⊎_elim
           (λ (t : test g ≡ true). let high : g ≤ level = is_greatest.1 g (from_test g top t) in omega arith)
           (λ (z : g ≡ 0). omega arith)
-          (passes test 20))
+          (greatest_cases test 20))
           (λ (none : (level ≡ 0) × ((other : ℕ) → ¬ (U other))). ⊎_elim
           (λ (t : test g ≡ true). absurd (none.1 g (from_test g top t)))
           (λ (z : g ≡ 0). none.0 ∙ sym z)
-          (passes test 20))
+          (greatest_cases test 20))
           is,
       λ e. subst (λ (n : ℕ). (U n × ((other : ℕ) → U other → other ≤ n)) ⊎ ((n ≡ 0) × ((other : ℕ) → ¬ (U other)))) (sym e)
           ((elim (test g) as (λ b. test g ≡ b → (U g × ((other : ℕ) → U other → other ≤ g)) ⊎ ((g ≡ 0) × ((other : ℕ) → ¬ (U other)))) [
             | true ↦ λ t. inl (from_test g top t, above)
             | false ↦ λ t.
-                let z : g ≡ 0 = ⊎_elim (λ (p : test g ≡ true). absurd (false≢true (sym t ∙ p))) (λ (p : g ≡ 0). p) (passes test 20) in
+                let z : g ≡ 0 = ⊎_elim (λ (p : test g ≡ true). absurd (false≢true (sym t ∙ p))) (λ (p : g ≡ 0). p) (greatest_cases test 20) in
                 inr (
                   z,
                   λ other u.

@@ -6,10 +6,7 @@ use Rattle.std.proofs.Math.Nat.{mul-le-mul, mul-le-mul_right, le_trans}
 use Rattle.std.proofs.lemmas.Nat.{div-add-mod', mod_below}
 use Rattle.std.proofs.Math.Pow.{pow_mono}
 use Rattle.std.proofs.lemmas.Bool.{cases_lt, le-leb, leb-true}
-use Rattle.iiif_pixel.specs.Geometry.{channels_of}
 use Rattle.iiif_pixel.specs.declared.geometry.Dim.{Dim}
-use Rattle.iiif_pixel.specs.declared.geometry.Kind.{Kind}
-use Rattle.iiif_pixel.specs.declared.geometry.Kind.TheVariants.{Gray, Rgb}
 use Rattle.iiif_area.proofs.PlaceLaws.{div_ceil-le}
 use Rattle.iiif_area.proofs.WeightLaws.{div_ceil-times}
 use Rattle.iiif_keys.specs.Blocks.{IsEdge}
@@ -79,7 +76,3 @@ level_limits edge image region size channels room level e small few columns rows
     let all : sums_at_most edge 0 region size channels ≤ most_sums = mul-le-mul (mul-le-mul w h) few in
     subst (λ (l : ℕ). sums_at_most edge l region size channels ≤ most_sums) (sym n.0) all)
     is
-
-pub channels_few : (kind : Kind) → channels_of kind ≤ 3
-channels_few Gray = omega arith
-channels_few Rgb = omega arith

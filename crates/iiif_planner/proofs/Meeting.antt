@@ -4,7 +4,7 @@ use Rattle.std.specs.Prelude.{nat_lt, ◌&&◌, ◌==◌}
 use Rattle.std.specs.Int.{div_ceil}
 use Rattle.std.proofs.Math.Nat.{mul-le-mul_right}
 use Rattle.std.proofs.lemmas.Nat.{div-add-mod', div-mul-add, div_below, mod_below}
-use Rattle.std.proofs.lemmas.Bool.{cases_lt, and_from, lt-ltb, ltb-true, eqb-true}
+use Rattle.std.proofs.lemmas.Bool.{cases_lt, and_from, lt-ltb, ltb-true, eqb-true, and_parts, eq-eqb}
 use Rattle.iiif_pixel.specs.Geometry.{sides_of}
 use Rattle.iiif_pixel.specs.Scaling.{whole_of}
 use Rattle.iiif_pixel.specs.declared.geometry.Rect.{Rect}
@@ -15,10 +15,9 @@ use Rattle.iiif_area.proofs.GridLaws.{has_place-tested}
 use Rattle.iiif_area.proofs.PlaceLaws.{div_ceil-le, part_is_common}
 use Rattle.iiif_area.proofs.WeightLaws.{div_ceil-times}
 use Rattle.iiif_keys.specs.Blocks.{square}
-use Rattle.iiif_keys.proofs.Names.{both}
-use Rattle.iiif_keys.proofs.Cuts.{alike, one_if}
+use Rattle.iiif_keys.proofs.Cuts.{alike, one_if, within, within_yes}
 use Rattle.iiif_planner.specs.Items.{each_square, squares_met}
-use Rattle.iiif_planner.proofs.Counts.{each_count, count_mapped, equal, within, within_yes}
+use Rattle.iiif_planner.proofs.Counts.{each_count, count_mapped}
 
 -- the column of squares that has a column
 pub column_is : (s i x : ℕ) → i * s ≤ x → x < i * s + s → x / s ≡ i
@@ -78,10 +77,10 @@ place_in s g i j x y p =
     alike _ _
     (λ h. let q = (part_is_common t g x y).0 ((has_place-tested (part_of t g) x y).0 h) in
     and_from _ _ (and_from _ _ (lt-ltb x g.w q.0) (lt-ltb y g.h q.1))
-    (and_from _ _ (equal i _ (sym (column_is s i (g.x + x) q.2.0 q.2.1))) (equal j _ (sym (column_is s j (g.y + y) q.2.2 q.2.3)))))
-    (λ h. let q = both (nat_lt x g.w && nat_lt y g.h) (i == (g.x + x) / s && j == (g.y + y) / s) h in
-    let inside = both (nat_lt x g.w) (nat_lt y g.h) q.0 in
-    let at = both (i == (g.x + x) / s) (j == (g.y + y) / s) q.1 in
+    (and_from _ _ (eq-eqb i _ (sym (column_is s i (g.x + x) q.2.0 q.2.1))) (eq-eqb j _ (sym (column_is s j (g.y + y) q.2.2 q.2.3)))))
+    (λ h. let q = and_parts (nat_lt x g.w && nat_lt y g.h) (i == (g.x + x) / s && j == (g.y + y) / s) h in
+    let inside = and_parts (nat_lt x g.w) (nat_lt y g.h) q.0 in
+    let at = and_parts (i == (g.x + x) / s) (j == (g.y + y) / s) q.1 in
     let column : i * s ≡ (g.x + x) / s * s = ap (λ (n : ℕ). n * s) (eqb-true i _ at.0) in
     let row : j * s ≡ (g.y + y) / s * s = ap (λ (n : ℕ). n * s) (eqb-true j _ at.1) in
     let a = column_has s (g.x + x) p in
@@ -103,8 +102,8 @@ place_met : (s : ℕ) (g : Rect) (x y : ℕ) → 0 < s →
     ≡ has_place (whole_of (sides_of g)) x y
 place_met s g x y p =
     alike _ _
-    (λ h. let q = both (nat_lt x g.w && nat_lt y g.h) _ h in
-    let inside = both (nat_lt x g.w) (nat_lt y g.h) q.0 in
+    (λ h. let q = and_parts (nat_lt x g.w && nat_lt y g.h) _ h in
+    let inside = and_parts (nat_lt x g.w) (nat_lt y g.h) q.0 in
     let a = ltb-true x g.w inside.0 in
     let b = ltb-true y g.h inside.1 in
     (has_place-tested (whole_of (sides_of g)) x y).1 (omega arith, omega arith, omega arith, omega arith))

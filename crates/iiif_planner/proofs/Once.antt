@@ -2,7 +2,7 @@
 use Rattle.std.proofs.Common.{◌≡◌, ℕ, ◌+◌, ◌-◌, ◌*◌, ◌/◌, ◌^◌, ◌<◌, Bool, true, false, List, [], ◌∷◌, max, map, refl, sym, ap, subst, ◌∙◌, arith}
 use Rattle.std.specs.Prelude.{nat_lt, ◌&&◌, ◌==◌}
 use Rattle.std.specs.List.{All, count_by}
-use Rattle.std.proofs.lemmas.Bool.{and_from, lt-ltb, ltb-true, eqb-true, false≢true}
+use Rattle.std.proofs.lemmas.Bool.{and_from, lt-ltb, ltb-true, eqb-true, false≢true, and_parts, false_from_ne_true}
 use Rattle.std.proofs.lemmas.List.Elements.{All-head, All-tail, All-weaker}
 use Rattle.iiif_pixel.specs.Geometry.{sides_of}
 use Rattle.iiif_pixel.specs.Scaling.{whole_of}
@@ -13,22 +13,21 @@ use Rattle.iiif_area.specs.Grid.{has_place}
 use Rattle.iiif_area.specs.Laws.{IsCutInto}
 use Rattle.iiif_area.proofs.GridLaws.{has_place-tested}
 use Rattle.iiif_keys.specs.Blocks.{square, clipped, tile_of, part_in}
-use Rattle.iiif_keys.proofs.Names.{both}
-use Rattle.iiif_keys.proofs.Cuts.{clipped_part, counted, is_false, one_if}
+use Rattle.iiif_keys.proofs.Cuts.{clipped_part, counted, one_if}
 use Rattle.iiif_planner.specs.Laws.{is_met, EachTileOnce, EachBlockOnce}
 use Rattle.iiif_planner.specs.Plans.{IsTileFor, IsBlockFor}
 use Rattle.iiif_planner.proofs.Counts.{count_mapped}
 use Rattle.iiif_planner.proofs.Meeting.{column_is, place_in}
 
 -- tests that agree on each element count alike
-count_same : {K : Type 0} (p q : K → Bool) (ks : List K) → All (λ k. p k ≡ q k) ks → count_by p ks ≡ count_by q ks
+pub count_same : {K : Type 0} (p q : K → Bool) (ks : List K) → All (λ k. p k ≡ q k) ks → count_by p ks ≡ count_by q ks
 count_same p q [] h = refl
 count_same p q (k ∷ ks) h =
     let first : p k ≡ q k = All-head (λ x. p x ≡ q x) k ks h in
     let rest = count_same p q ks (All-tail (λ x. p x ≡ q x) k ks h) in
     counted p k ks ∙ (ap (λ (b : Bool). one_if b + count_by p ks) first ∙ (ap (λ (n : ℕ). one_if (q k) + n) rest ∙ sym (counted q k ks)))
 
-count_none : {K : Type 0} (p : K → Bool) (ks : List K) → All (λ k. p k ≡ false) ks → count_by p ks ≡ 0
+pub count_none : {K : Type 0} (p : K → Bool) (ks : List K) → All (λ k. p k ≡ false) ks → count_by p ks ≡ 0
 count_none p [] h = refl
 count_none p (k ∷ ks) h =
     let first : p k ≡ false = All-head (λ x. p x ≡ false) k ks h in
@@ -68,8 +67,8 @@ not_listed : {K : Type 0} (ks : List K) (column row : K → ℕ) (part : K → R
     All (λ k. IsOfSquare s g (column k) (row k) (part k)) ks → meets s g i j ≡ false → count_by (λ k. column k == i && row k == j) ks ≡ 0
 not_listed {K} ks column row part s g i j of off =
     count_none _ ks (All-weaker (λ k. IsOfSquare s g (column k) (row k) (part k)) (λ k. (column k == i && row k == j) ≡ false)
-    (λ k h. is_false (column k == i && row k == j) (λ t.
-    let q = both (column k == i) (row k == j) t in
+    (λ k h. false_from_ne_true (column k == i && row k == j) (λ t.
+    let q = and_parts (column k == i) (row k == j) t in
     let m = subst (λ (y : ℕ). Meets (square s i y) g) (eqb-true (row k) j q.1) (subst (λ (x : ℕ). Meets (square s x (row k)) g) (eqb-true (column k) i q.0) h.met) in
     let yes : meets s g i j ≡ true = and_from _ _ (lt-ltb 0 _ m.columns) (lt-ltb 0 _ m.rows) in
     absurd (false≢true (sym off ∙ yes)))) ks of)
@@ -78,7 +77,7 @@ listed_once : {K : Type 0} (ks : List K) (column row : K → ℕ) (part : K → 
     IsCutInto (whole_of (sides_of g)) (map part ks) → All (λ k. IsOfSquare s g (column k) (row k) (part k)) ks →
     count_by (λ k. column k == i && row k == j) ks ≡ one_if b
 listed_once ks column row part s g i j true e cut of =
-    let q = both (nat_lt 0 (part_of (square s i j) g).w) (nat_lt 0 (part_of (square s i j) g).h) e in
+    let q = and_parts (nat_lt 0 (part_of (square s i j) g).w) (nat_lt 0 (part_of (square s i j) g).h) e in
     first_place ks column row part s g i j cut of (record { columns = ltb-true 0 _ q.0; rows = ltb-true 0 _ q.1 })
 listed_once ks column row part s g i j false e cut of = not_listed ks column row part s g i j of e
 

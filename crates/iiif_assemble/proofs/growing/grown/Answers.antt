@@ -9,6 +9,7 @@ use Rattle.iiif_pixel.specs.declared.geometry.Dim.{Dim}
 use Rattle.iiif_pixel.specs.declared.geometry.Rect.{Rect}
 use Rattle.iiif_area.specs.Grid.{Grid, finished, sums_at}
 use Rattle.iiif_area.proofs.FinishLaws.{finished-scaled}
+use Rattle.iiif_area.proofs.WholeTile.{inside_itself}
 use Rattle.iiif_keys.specs.Blocks.{tile_of}
 use Rattle.iiif_keys.specs.Meaning.{TileHasShape}
 use Rattle.iiif_keys.specs.declared.keys.TileKey.{TileKey}
@@ -17,7 +18,6 @@ use Rattle.iiif_planner.specs.Plans.{IsTileFor}
 use Rattle.iiif_bands.specs.Bands.{grown_places}
 use Rattle.iiif_bands.proofs.ItemLaws.{places_are}
 use Rattle.iiif_assemble.specs.Code.{tile_adds, tile_in, TileHasPart}
-use Rattle.iiif_assemble.proofs.FinishLemmas.{inside_itself}
 use Rattle.iiif_assemble.proofs.GrowLemmas.{grown_total, grown_is}
 use Rattle.iiif_assemble.proofs.SumLemmas.{tile_meant}
 use Rattle.iiif_assemble.proofs.ZipLemmas.{lists_within, values_weaker}
@@ -80,5 +80,5 @@ returns-in-Ok-finish_all-clause-image g c shows p shown are_meant =
     ∙ ap (λ (d : Dim). finished new d top new.rect) c.dim.ensures
     ∙ ap (λ (t : Grid). finished t (dim_of q) top new.rect) total
     ∙ ap (λ (n : ℕ). finished sums (dim_of q) n new.rect) (sym shown.depth)
-    ∙ finished-scaled new.rect new.rect q size whole (inside_itself new.rect) inside
+    ∙ finished-scaled new.rect new.rect q size whole (inside_itself new.rect new.rect refl) inside
     ∙ ap (λ (r : Rect). crop (scale q size) r) rect

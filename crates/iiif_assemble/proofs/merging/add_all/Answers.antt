@@ -1,15 +1,14 @@
-use Rattle.std.proofs.Common.{◌≡◌, ◌∙◌, ap, sym, arith}
+use Rattle.std.proofs.Common.{◌≡◌, ◌∙◌, ap, sym, arith, subst}
 use Rattle.std.specs.Arc.{arc_value}
 use Rattle.iiif_area.specs.Grid.{Grid}
 use Rattle.iiif_assemble.specs.Code.{sums_in}
-use Rattle.iiif_assemble.proofs.ZipLemmas.{element}
 use Rattle.iiif_assemble.proofs.SumLemmas.{merged_more, merged_all}
 use Rattle.iiif_assemble.proofs.merging.add_all.Goals as goal
 
 pub add-requires : goal.add-requires
 add-requires c =
-    element (λ v. (sums_in (arc_value v)).channels ≡ c.args.total.now.channels) c.args.values.now c.loop-value.value-index c.value-item.result c.requires c.loop-value-test.true
-    (sym c.value-item.is) ∙ sym c.loop-value.invariant.channels
+    subst (λ v. (sums_in (arc_value v)).channels ≡ c.args.total.now.channels) (sym c.value-item.is) (c.requires c.loop-value.value-index c.value-item.result c.loop-value-test.true)
+    ∙ sym c.loop-value.invariant.channels
 
 pub loop-value-preserved : goal.loop-value-preserved
 loop-value-preserved c =

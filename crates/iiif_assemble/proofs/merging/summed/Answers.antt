@@ -10,7 +10,7 @@ use Rattle.iiif_pixel.specs.declared.geometry.Dim.{Dim}
 use Rattle.iiif_pixel.specs.declared.geometry.Rect.{Rect}
 use Rattle.iiif_area.specs.Grid.{Grid, finished, sums_at, sums_of}
 use Rattle.iiif_area.proofs.FinishLaws.{finished-scaled}
-use Rattle.iiif_assemble.proofs.FinishLemmas.{inside_itself}
+use Rattle.iiif_area.proofs.WholeTile.{inside_itself}
 use Rattle.iiif_keys.specs.Blocks.{part_in}
 use Rattle.iiif_keys.specs.declared.keys.SumKey.{SumKey}
 use Rattle.iiif_keys.specs.declared.values.SumVal.{SumVal}
@@ -70,5 +70,5 @@ returns-in-Ok-finish_all-clause-image g c shows p shown are_meant =
     ∙ ap (λ (d : Dim). finished new d top new.rect) c.dim.ensures
     ∙ ap (λ (t : Grid). finished t (dim_of q) top new.rect) total
     ∙ ap (λ (n : ℕ). finished sums (dim_of q) n new.rect) (sym shown.depth)
-    ∙ finished-scaled new.rect new.rect q size whole (inside_itself new.rect) inside
+    ∙ finished-scaled new.rect new.rect q size whole (inside_itself new.rect new.rect refl) inside
     ∙ ap (λ (r : Rect). crop (scale q size) r) rect

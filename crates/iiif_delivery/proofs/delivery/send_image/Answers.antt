@@ -5,12 +5,13 @@ use Rattle.iiif_io.specs.Sending.{WasCut}
 use Rattle.iiif_pixel.specs.Geometry.{channels_of, sides_of}
 use Rattle.iiif_pixel.specs.declared.geometry.Dim.{Dim}
 use Rattle.iiif_pixel.specs.declared.geometry.Rect.{Rect}
+use Rattle.iiif_pixel.proofs.Parts.{same_dim}
 use Rattle.iiif_bands.specs.Bands.{AreBands}
 use Rattle.iiif_assemble.specs.Jobs.{IsBandOf, IsHeldFor}
 use Rattle.iiif_tiff_write.specs.File.{head_of, strip}
 use Rattle.iiif_delivery.specs.Delivery.{result_dim}
 use Rattle.iiif_delivery.specs.Code.{IsBandFor}
-use Rattle.iiif_delivery.proofs.StepLemmas.{first_rows, none_sent, load_stopped, writer_stopped, next_rows, all_sent, counted_first, counted_more, counted_len, band_at, band_above, bands_end, same_dim, result_some, more_len, sent_within, counted_done}
+use Rattle.iiif_delivery.proofs.StepLemmas.{first_rows, none_sent, load_stopped, writer_stopped, next_rows, all_sent, counted_first, counted_more, counted_len, band_at, band_above, bands_end, result_some, more_len, sent_within, counted_done}
 use Rattle.iiif_delivery.proofs.delivery.send_image.Goals as goal
 
 pub returns-in_default-clause-stopped : goal.returns-in_default-clause-stopped

@@ -1,33 +1,32 @@
 use Rattle.std.proofs.Common.{◌≡◌, ℕ, ◌<◌, ◌≤◌, true, false, List, sym, ap, subst, ◌∙◌, refl}
 use Rattle.std.specs.Prelude.{nat_eq, ◌&&◌}
-use Rattle.std.proofs.lemmas.Bool.{eqb-true, false≢true}
+use Rattle.std.proofs.lemmas.Bool.{eqb-true, false≢true, and_parts, eq-eqb}
 use Rattle.iiif_keys.specs.declared.keys.SumKey.{SumKey}
 use Rattle.iiif_keys.specs.declared.keys.TileKey.{TileKey}
-use Rattle.iiif_keys.proofs.Names.{both}
+use Rattle.iiif_keys.proofs.Shaped.{three_at_most}
 use Rattle.iiif_pixel.specs.Geometry.{channels_of, sides_of}
 use Rattle.iiif_pixel.specs.declared.geometry.Dim.{Dim}
 use Rattle.iiif_planner.specs.Levels.{IsLevel}
 use Rattle.iiif_planner.specs.Plans.{TilesCover, BlocksCover}
-use Rattle.iiif_planner.proofs.Counts.{equal}
 use Rattle.iiif_planner.proofs.Sides.{up_tested, down_tested}
 use Rattle.iiif_planner.proofs.Covers.{tiles_cover, blocks_cover}
 use Rattle.iiif_planner.specs.Items.{blocks_for, is_scaled_up}
 use Rattle.iiif_planner.proofs.Greatest.{level_greatest}
-use Rattle.iiif_planner.proofs.LevelLaws.{level_limits, channels_few}
+use Rattle.iiif_planner.proofs.LevelLaws.{level_limits}
 use Rattle.iiif_planner.proofs.planning.plan.Goals as goal
 
 -- sides that are tested equal are, and others are not
 same_sides : (a b : Dim) → true ≡ (nat_eq a.w b.w && nat_eq a.h b.h) → a ≡ b
 same_sides a b e =
-    let t = both (nat_eq a.w b.w) (nat_eq a.h b.h) (sym e) in
+    let t = and_parts (nat_eq a.w b.w) (nat_eq a.h b.h) (sym e) in
     let w = eqb-true a.w b.w t.0 in
     let h = eqb-true a.h b.h t.1 in
     ap (λ (n : ℕ). let d : Dim = record { w = n; h = a.h } in d) w ∙ ap (λ (n : ℕ). let d : Dim = record { w = b.w; h = n } in d) h
 
 other_sides : (a b : Dim) → false ≡ (nat_eq a.w b.w && nat_eq a.h b.h) → a ≡ b → ⊥
 other_sides a b e same =
-    let w = equal a.w b.w (ap (λ (d : Dim). d.w) same) in
-    let h = equal a.h b.h (ap (λ (d : Dim). d.h) same) in
+    let w = eq-eqb a.w b.w (ap (λ (d : Dim). d.w) same) in
+    let h = eq-eqb a.h b.h (ap (λ (d : Dim). d.h) same) in
     false≢true (e ∙ rw (w, h) refl)
 
 pub returns-then-eq : goal.returns-then-eq
@@ -71,7 +70,7 @@ returns c =
     subst (λ (d : Dim). false ≡ (nat_eq size.w d.w && nat_eq size.h d.h)) c.dim-region.ensures c.if-eq.ensures in
     let level_of = subst (λ (d : Dim). IsLevel c.args.edge c.args.dim d size c.channels.result c.args.room c.level.result) c.dim-region.ensures c.level.ensures.level in
     let level = subst (λ (m : ℕ). IsLevel c.args.edge c.args.dim (sides_of r) size m c.args.room c.level.result) c.channels.ensures level_of in
-    let most = level_limits c.args.edge c.args.dim (sides_of r) size n c.args.room c.level.result c.requires.edge c.requires.room (channels_few c.args.kind) columns rows level in
+    let most = level_limits c.args.edge c.args.dim (sides_of r) size n c.args.room c.level.result c.requires.edge c.requires.room (three_at_most c.args.kind) columns rows level in
     let cover = blocks_cover c.args.name.now c.args.edge c.args.dim n r size c.level.result c.requires.edge c.level.ensures.within c.requires.inside columns rows most in
     record {
       plan = (
