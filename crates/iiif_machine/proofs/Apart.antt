@@ -18,12 +18,8 @@ use Rattle.iiif_machine.specs.Sound.{IsRegistered, IsSameCall, IsApart}
 use Rattle.iiif_machine.specs.Promises.{After}
 use Rattle.iiif_machine.specs.Promises.{OneOutcome}
 use Rattle.iiif_machine.proofs.Words.{StepsStayApart}
-use Rattle.iiif_machine.proofs.Learning.{get_mapped}
+use Rattle.iiif_machine.proofs.Learning.{get_mapped, after_bind}
 use Rattle.iiif_machine.proofs.Registers.{set_found, end_cases, OpenFrom, from_same, from_set, from_resumed, apart_by, registered_put}
-
-bind : {A : Type 0} (x : Option A) (f : A → Option World) → ((a : A) → x ≡ Some a → After IsApart (f a)) → After IsApart (x >>= f)
-bind None f h = tt
-bind (Some a) f h = h a refl
 
 -- the same flights and nodes
 apart_same : (w v : World) → v.flights ≡ w.flights → v.nodes ≡ w.nodes → IsApart w → IsApart v
@@ -82,12 +78,9 @@ put_registers s n t k h = put_by n t (is_tile k) h
     put_by n t false h = h
 
 pub set_there : {A : Type 0} (xs : List A) (i : ℕ) (x y : A) → slice_get xs i ≡ Some x → slice_get (slice_set xs i y) i ≡ Some y
-set_there xs i x y h = ⊎_elim (λ (e : (i ≡ i) × (slice_get (slice_set xs i y) i ≡ Some y)). e.1) (λ (e : slice_get (slice_set xs i y) i ≡ Some x). again_there xs i x y h) (set_found xs i i x y h)
-  where
-    again_there : {A : Type 0} (xs : List A) (i : ℕ) (x y : A) → slice_get xs i ≡ Some x → slice_get (slice_set xs i y) i ≡ Some y
-    again_there [] i x y h = absurd (none-some x h)
-    again_there (z ∷ xs) zero x y h = refl
-    again_there (z ∷ xs) (suc i) x y h = again_there xs i x y h
+set_there [] i x y h = absurd (none-some x h)
+set_there (z ∷ xs) zero x y h = refl
+set_there (z ∷ xs) (suc i) x y h = set_there xs i x y h
 
 entered_apart : (w : World) (c : ℕ) (who : Caller) (n : Node) (x : Entered) (t : Table) → TableLaws → IsApart w →
     slice_get w.nodes who.node ≡ Some n → enter (table_at n who.key) who.key who.class ≡ (x, t) → After IsApart (after_meeting w c who n (x, t))
@@ -108,7 +101,7 @@ entered_apart w c who n x t tables h there e = go x e
         apart_settled (with_state v1 c who (Hit v)) (apart_same v1 (with_state v1 c who (Hit v)) refl refl (h1 (finds v) e))
     go joins e =
         let v1 = with_node w who.node (put_table n who.key t) in
-        bind (position (is_open_for who) w.flights) (λ f. Some (with_state v1 c who (In f)))
+        after_bind IsApart (position (is_open_for who) w.flights) (λ f. Some (with_state v1 c who (In f)))
         (λ f _. apart_same v1 (with_state v1 c who (In f)) refl refl (h1 joins e))
     go (leads m) e =
         let v1 = with_node w who.node (put_table n who.key t) in
@@ -157,7 +150,7 @@ looking_apart w f l n (Ended o) tables h at there = tt
 
 asking_apart : (w : World) (f : ℕ) (l : Lead) (n : Node) (c : Class) (x : Stage) → IsApart w → slice_get w.flights f ≡ Some (record { lead = l; stage = x }) → After IsApart (after_ask_peer w f l n c x)
 asking_apart w f l n Wide Looked h at =
-    bind (position (λ m. bytes_eq m.name (owner_of n l.key)) w.nodes) (λ o. Some (with_ask (with_stage w f l Asking) (record { node = o; key = l.key; flight = f; version = version_at w.scene l.key })))
+    after_bind IsApart (position (λ m. bytes_eq m.name (owner_of n l.key)) w.nodes) (λ o. Some (with_ask (with_stage w f l Asking) (record { node = o; key = l.key; flight = f; version = version_at w.scene l.key })))
     (λ o _. apart_stage w _ f l Looked Asking at refl refl refl h)
 asking_apart w f l n Local x h at = tt
 asking_apart w f l n Wide New h at = tt
@@ -168,7 +161,7 @@ asking_apart w f l n Wide (Ready o p) h at = tt
 asking_apart w f l n Wide (Ended o) h at = tt
 
 replying_apart : (w : World) (c : ℕ) (who : Caller) (x : Purpose) → IsApart w → After IsApart (after_reply w c who x)
-replying_apart w c who (ForAsk a) h = bind (learned w c) (λ o. Some (with_reply w (record { key = who.key; outcome = o }))) (λ o _. apart_same w _ refl refl h)
+replying_apart w c who (ForAsk a) h = after_bind IsApart (learned w c) (λ o. Some (with_reply w (record { key = who.key; outcome = o }))) (λ o _. apart_same w _ refl refl h)
 replying_apart w c who (ForRequest r) h = tt
 replying_apart w c who (ForPart f) h = tt
 replying_apart w c who (ForFallback f) h = tt
@@ -203,7 +196,7 @@ begun_apart w f l n (Some ks) h at = apart_stage w (after_begin w f l n (Some ks
 loading_apart : (w : World) (f : ℕ) (l : Lead) (n : Node) (c : Class) (x : Stage) → IsApart w → slice_get w.flights f ≡ Some (record { lead = l; stage = x }) → After IsApart (after_load w f l n c x)
 loading_apart w f l n Local Looked h at = begun_apart w f l n (parts_of l.key) h at
 loading_apart w f l n Local (Parts cs) h at =
-    bind (all_learned w cs) (λ os. Some (with_stage w f l (Ready (outcome_from w.scene l.key (collected os)) _))) (λ os _. apart_stage w _ f l (Parts cs) _ at refl refl refl h)
+    after_bind IsApart (all_learned w cs) (λ os. Some (with_stage w f l (Ready (outcome_from w.scene l.key (collected os)) _))) (λ os _. apart_stage w _ f l (Parts cs) _ at refl refl refl h)
 loading_apart w f l n Wide x h at = tt
 loading_apart w f l n Local New h at = tt
 loading_apart w f l n Local Asking h at = tt
@@ -323,28 +316,28 @@ wanted_apart w n p q (Ok r) h = apart_same w _ refl refl h
 pub step_apart : StepsStayApart
 unfolding step
 step_apart w (Want node name request) laws tables h =
-    bind (slice_get w.nodes node) _ (λ n at. bind (w.scene.shows name) _ (λ p shown. bind (speaker n (version_shown p)) _ (λ m speaks.
+    after_bind IsApart (slice_get w.nodes node) _ (λ n at. after_bind IsApart (w.scene.shows name) _ (λ p shown. after_bind IsApart (speaker n (version_shown p)) _ (λ m speaks.
     wanted_apart w n p (record { node = node; name = name; request = request }) (resolved w.scene p request) h)))
 step_apart w (Enter c) laws tables h =
-    bind (slice_get w.calls c) _ (λ call at. bind (slice_get w.nodes call.caller.node) _ (λ n there. entering_apart w c call.caller n call.state tables h there))
+    after_bind IsApart (slice_get w.calls c) _ (λ call at. after_bind IsApart (slice_get w.nodes call.caller.node) _ (λ n there. entering_apart w c call.caller n call.state tables h there))
 step_apart w (Again f) laws tables h =
-    bind (slice_get w.flights f) _ (λ fl at. bind (slice_get w.nodes fl.lead.node) _ (λ n there. looking_apart w f fl.lead n fl.stage tables h at there))
+    after_bind IsApart (slice_get w.flights f) _ (λ fl at. after_bind IsApart (slice_get w.nodes fl.lead.node) _ (λ n there. looking_apart w f fl.lead n fl.stage tables h at there))
 step_apart w (AskPeer f) laws tables h =
-    bind (slice_get w.flights f) _ (λ fl at. bind (slice_get w.nodes fl.lead.node) _ (λ n there. asking_apart w f fl.lead n fl.lead.class fl.stage h at))
-step_apart w (Serve a) laws tables h = bind (slice_get w.asks a) _ (λ q at. bind (slice_get w.nodes q.node) _ (λ n there. bind (speaker n q.version) _ (λ m speaks. apart_same w _ refl refl h)))
-step_apart w (event.Reply c) laws tables h = bind (slice_get w.calls c) _ (λ call at. replying_apart w c call.caller call.caller.purpose h)
+    after_bind IsApart (slice_get w.flights f) _ (λ fl at. after_bind IsApart (slice_get w.nodes fl.lead.node) _ (λ n there. asking_apart w f fl.lead n fl.lead.class fl.stage h at))
+step_apart w (Serve a) laws tables h = after_bind IsApart (slice_get w.asks a) _ (λ q at. after_bind IsApart (slice_get w.nodes q.node) _ (λ n there. after_bind IsApart (speaker n q.version) _ (λ m speaks. apart_same w _ refl refl h)))
+step_apart w (event.Reply c) laws tables h = after_bind IsApart (slice_get w.calls c) _ (λ call at. replying_apart w c call.caller call.caller.purpose h)
 step_apart w (Take f r) laws tables h =
-    bind (slice_get w.flights f) _ (λ fl at. bind (slice_get w.replies r) _ (λ reply there. taking_apart w f fl.lead reply fl.stage h at))
-step_apart w (Lose f) laws tables h = bind (slice_get w.flights f) _ (λ fl at. losing_apart w f fl.lead fl.stage h at)
-step_apart w (GoLocal f) laws tables h = bind (slice_get w.flights f) _ (λ fl at. going_local_apart w f fl.lead fl.stage h at)
+    after_bind IsApart (slice_get w.flights f) _ (λ fl at. after_bind IsApart (slice_get w.replies r) _ (λ reply there. taking_apart w f fl.lead reply fl.stage h at))
+step_apart w (Lose f) laws tables h = after_bind IsApart (slice_get w.flights f) _ (λ fl at. losing_apart w f fl.lead fl.stage h at)
+step_apart w (GoLocal f) laws tables h = after_bind IsApart (slice_get w.flights f) _ (λ fl at. going_local_apart w f fl.lead fl.stage h at)
 step_apart w (Load f) laws tables h =
-    bind (slice_get w.flights f) _ (λ fl at. bind (slice_get w.nodes fl.lead.node) _ (λ n there. loading_apart w f fl.lead n fl.lead.class fl.stage h at))
+    after_bind IsApart (slice_get w.flights f) _ (λ fl at. after_bind IsApart (slice_get w.nodes fl.lead.node) _ (λ n there. loading_apart w f fl.lead n fl.lead.class fl.stage h at))
 step_apart w (SourceFault f e) laws tables h =
-    bind (slice_get w.flights f) _ (λ fl at. failing_apart w f fl.lead e fl.lead.class (parts_of fl.lead.key) fl.stage h at)
+    after_bind IsApart (slice_get w.flights f) _ (λ fl at. failing_apart w f fl.lead e fl.lead.class (parts_of fl.lead.key) fl.stage h at)
 step_apart w (Land f kept) laws tables h =
-    bind (slice_get w.flights f) _ (λ fl at. bind (slice_get w.nodes fl.lead.node) _ (λ n there. landing_apart w f fl.lead n kept fl.stage tables h at there))
-step_apart w (Evict node keys) laws tables h = bind (slice_get w.nodes node) _ (λ n at. evicted_apart w node n keys.items tables h at)
-step_apart w (Stop node) laws tables h = bind (slice_get w.nodes node) _ (λ n at. stopped_apart w node n h)
+    after_bind IsApart (slice_get w.flights f) _ (λ fl at. after_bind IsApart (slice_get w.nodes fl.lead.node) _ (λ n there. landing_apart w f fl.lead n kept fl.stage tables h at there))
+step_apart w (Evict node keys) laws tables h = after_bind IsApart (slice_get w.nodes node) _ (λ n at. evicted_apart w node n keys.items tables h at)
+step_apart w (Stop node) laws tables h = after_bind IsApart (slice_get w.nodes node) _ (λ n at. stopped_apart w node n h)
 
 pub one_outcome : OneOutcome
 one_outcome w c d f who that at there =

@@ -1,6 +1,7 @@
 -- Each small change keeps what holds of the world.
 use Rattle.std.proofs.Common.{◌≡◌, ℕ, suc, List, [], ◌∷◌, ◌++◌, map, length, append_assoc, Some, refl, sym, ap, subst, ◌∙◌}
 use Rattle.std.specs.Prelude.{slice_get}
+use Rattle.std.proofs.lemmas.List.{length-map, map-append}
 use Rattle.iiif_scene.specs.Keys.{Fits}
 use Rattle.iiif_scene.proofs.Lists.{get_left}
 use Rattle.iiif_machine.specs.Types.{Key}
@@ -8,7 +9,7 @@ use Rattle.iiif_machine.specs.Rows.{Node, Given, Purpose, Caller, CallState, Lea
 use Rattle.iiif_machine.specs.Worlds.{World, with_node, with_stage, with_state, with_calls, with_flight, with_ask, with_reply, with_given, with_request, fresh, call_for, numbers}
 use Rattle.iiif_machine.specs.Sound.{Each, facts, caller_of, lead_in, AreOf, StageIsHonest, FlightIsHonest, StateIsHonest, CallIsHonest, CallerIsRight, ProgressIsHonest, IsHonestWorld, NodeIsHonest, AskIsHonest, ReplyIsHonest}
 use Rattle.iiif_machine.proofs.Words.{Later}
-use Rattle.iiif_machine.proofs.Lists.{get_end, each_one, each_append, each_set, each_map, map_set, map_more, kept_same, kept_more}
+use Rattle.iiif_machine.proofs.Lists.{get_end, each_one, each_append, each_set, each_map, map_set, kept_same, kept_more}
 use Rattle.iiif_machine.proofs.Growth.{flights_later, calls_later, requests_later, asks_later, stage_later, state_later, caller_later}
 
 pub node_set : (w : World) (i : ℕ) (n : Node) → IsHonestWorld w → NodeIsHonest w.scene n → IsHonestWorld (with_node w i n)
@@ -152,10 +153,6 @@ request_add w q p h is =
 
 -- calls that are made one after another are of their keys
 
-length_map : {A B : Type 0} (g : A → B) (xs : List A) → length (map g xs) ≡ length xs
-length_map g [] = refl
-length_map g (x ∷ xs) = ap suc (length_map g xs)
-
 length_more : {A : Type 0} (xs : List A) (y : A) → length (xs ++ y ∷ []) ≡ suc (length xs)
 length_more [] y = refl
 length_more (x ∷ xs) y = ap suc (length_more xs y)
@@ -176,7 +173,7 @@ map_fresh [] = refl
 map_fresh (who ∷ whos) = ap (λ vs. who ∷ vs) (map_fresh whos)
 
 pub callers_more : (w : World) (whos : List Caller) → (facts (with_calls w whos)).callers ≡ (facts w).callers ++ whos
-callers_more w whos = map_more caller_of w.calls (map fresh whos) ∙ ap (λ vs. map caller_of w.calls ++ vs) (map_fresh whos)
+callers_more w whos = map-append caller_of w.calls (map fresh whos) ∙ ap (λ vs. map caller_of w.calls ++ vs) (map_fresh whos)
 
 pub new_calls : (w : World) (node : ℕ) (n : Node) (p : Purpose) (ks : List Key) →
     AreOf (facts (with_calls w (map (call_for node n p) ks))).callers node (numbers (length w.calls) ks) ks
@@ -184,15 +181,15 @@ new_calls w node n p ks =
     let whos = map (call_for node n p) ks in
     let all : AreOf ((facts w).callers ++ whos) node (numbers (length (facts w).callers) ks) ks = are_of_new (facts w).callers node n p ks in
     let numbered : AreOf ((facts w).callers ++ whos) node (numbers (length w.calls) ks) ks =
-    subst (λ m. AreOf ((facts w).callers ++ whos) node (numbers m ks) ks) (length_map caller_of w.calls) all in
+    subst (λ m. AreOf ((facts w).callers ++ whos) node (numbers m ks) ks) (length-map w.calls caller_of) all in
     subst (λ cs. AreOf cs node (numbers (length w.calls) ks) ks) (sym (callers_more w whos)) numbered
 
 pub new_call : (w : World) (who : Caller) → slice_get (facts (with_calls w (who ∷ []))).callers (length w.calls) ≡ Some who
 new_call w who =
     subst (λ cs. slice_get cs (length w.calls) ≡ Some who) (sym (callers_more w (who ∷ [])))
-    (subst (λ m. slice_get ((facts w).callers ++ who ∷ []) m ≡ Some who) (length_map caller_of w.calls) (get_end (facts w).callers who []))
+    (subst (λ m. slice_get ((facts w).callers ++ who ∷ []) m ≡ Some who) (length-map w.calls caller_of) (get_end (facts w).callers who []))
 
 pub new_lead : (w : World) (l : Lead) → slice_get (facts (with_flight w l)).leads (length w.flights) ≡ Some l
 new_lead w l =
-    subst (λ cs. slice_get cs (length w.flights) ≡ Some l) (sym (map_more lead_in w.flights (record { lead = l; stage = New } ∷ [])))
-    (subst (λ m. slice_get ((facts w).leads ++ l ∷ []) m ≡ Some l) (length_map lead_in w.flights) (get_end (facts w).leads l []))
+    subst (λ cs. slice_get cs (length w.flights) ≡ Some l) (sym (map-append lead_in w.flights (record { lead = l; stage = New } ∷ [])))
+    (subst (λ m. slice_get ((facts w).leads ++ l ∷ []) m ≡ Some l) (length-map w.flights lead_in) (get_end (facts w).leads l []))

@@ -9,9 +9,6 @@ use Rattle.iiif_machine.specs.Sound.{Each, Kept, Facts, IsHonest, AreOf, StageIs
 use Rattle.iiif_machine.proofs.Words.{Later}
 use Rattle.iiif_machine.proofs.Lists.{each_as}
 
-pub later_same : (a : Facts) → Later a a
-later_same a = record { callers = λ i x h. h; leads = λ i x h. h; asks = λ i x h. h; given = λ i x h. h }
-
 pub honest_later : (s : Scene) (old new : List Given) (node : ℕ) (k : Key) (o : Outcome) → Kept old new → IsHonest s old node k o → IsHonest s new node k o
 honest_later s old new node k (Ok v) kept h = h
 honest_later s old new node k (Err f) kept h = (h.0, kept h.0 _ h.1)

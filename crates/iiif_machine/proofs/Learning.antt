@@ -11,10 +11,16 @@ use Rattle.iiif_machine.specs.Tables.{Outcome}
 use Rattle.iiif_machine.specs.Rows.{Given, Caller, CallState, Fresh, Hit, In, Gone, Call, Lead, Stage, New, Looked, Asking, Fallback, Parts, Ready, Ended, Flight, Wish}
 use Rattle.iiif_machine.specs.Worlds.{World, ◌>>=◌, outcome_of, known_by, learned, all_learned, or_fault, collected, outcome_from, answer_from}
 use Rattle.iiif_machine.specs.Sound.{Each, Facts, facts, caller_of, lead_in, IsHonest, AreOf, StageIsHonest, StateIsHonest, AnswerIsRight, IsHonestWorld}
+use Rattle.iiif_machine.specs.Promises.{After}
 
 pub bind_inv : {A B : Type 0} (x : Option A) (f : A → Option B) (y : B) → (x >>= f) ≡ Some y → (a : A) × (x ≡ Some a) × (f a ≡ Some y)
 bind_inv None f y h = absurd (none-some y h)
 bind_inv (Some a) f y h = (a, refl, h)
+
+-- what is made of each value that may be there
+pub after_bind : {A : Type 0} (P : World → Type 0) (x : Option A) (f : A → Option World) → ((a : A) → x ≡ Some a → After P (f a)) → After P (x >>= f)
+after_bind P None f h = tt
+after_bind P (Some a) f h = h a refl
 
 pub get_mapped : {A B : Type 0} (g : A → B) (xs : List A) (i : ℕ) (y : B) → slice_get (map g xs) i ≡ Some y → (x : A) × (slice_get xs i ≡ Some x) × (g x ≡ y)
 get_mapped g [] i y h = absurd (none-some y h)
@@ -65,7 +71,9 @@ AreGathered s given node name ks (Err f) = (i : ℕ) × (slice_get given i ≡ S
 
 gathered_more : (s : Scene) (given : List Given) (node : ℕ) (name : List ℕ) (k : Key) (ks : List Key) (o : Outcome) (r : Result (List Value) ReadFault) →
     name_of k ≡ name → IsHonest s given node k o → AreGathered s given node name ks r → AreGathered s given node name (k ∷ ks) (or_fault o r)
-gathered_more s given node name k ks (Err f) r named is rest = (is.0, subst (λ n. slice_get given is.0 ≡ Some (record { node = node; name = n; fault = f })) named is.1)
+gathered_more s given node name k ks (Err f) r named is rest =
+    let first : AreGathered s given node name (k ∷ ks) (Err f) = (is.0, subst (λ n. slice_get given is.0 ≡ Some (record { node = node; name = n; fault = f })) named is.1) in
+    first
 gathered_more s given node name k ks (Ok v) (Err f) named is rest = rest
 gathered_more s given node name k ks (Ok v) (Ok vs) named is rest = ap (λ x. x ∷ vs) is ∙ ap (λ xs. meaning s k ∷ xs) rest
 

@@ -18,11 +18,13 @@ use Rattle.iiif_machine.specs.Worlds.{World, ◌>>=◌, version_shown, version_a
 use Rattle.iiif_machine.specs.Steps.{Event, Want, Enter, Again, AskPeer, Serve, Take, Lose, GoLocal, Load, SourceFault, Land, Evict, Stop, after_want, is_open, is_open_for, lead_of, after_meeting, after_enter, stage_found, after_again, after_ask_peer, after_reply, stage_taken, after_take, after_lose, after_go_local, after_begin, after_load, after_fault, after_land, node_without, stage_stopped, flight_stopped, after_stop, step}
 use Rattle.iiif_machine.specs.declared.events.Event.TheVariants as event
 use Rattle.iiif_tables.specs.Flights.{same_class}
+use Rattle.iiif_tables.proofs.FlightLaws.{same_class_refl}
 use Rattle.iiif_machine.specs.Sound.{IsApart, IsLed, IsListed}
 use Rattle.iiif_machine.specs.Promises.{After}
 use Rattle.iiif_machine.proofs.Lists.{get_end}
 use Rattle.iiif_machine.proofs.Registers.{set_found}
 use Rattle.iiif_machine.proofs.Opened.{enter_only, joins_open, again_only, land_only, evicted_only, emptied_only}
+use Rattle.iiif_machine.proofs.Learning.{after_bind}
 
 -- lists
 
@@ -144,10 +146,6 @@ listed_table w i n k t there back h = record {
       (put_cases w.nodes i n k t j u q d m there at o);
 }
 
-bind : {A : Type 0} (x : Option A) (f : A → Option World) → ((a : A) → x ≡ Some a → After IsListed (f a)) → After IsListed (x >>= f)
-bind None f h = tt
-bind (Some a) f h = h a refl
-
 -- Enter
 
 entered_listed : (w : World) (c : ℕ) (who : Caller) (n : Node) (x : Entered) (t : Table) → IsListed w → slice_get w.nodes who.node ≡ Some n →
@@ -168,7 +166,7 @@ entered_listed w c who n joins t h there e =
     (λ (s : IsOpen (table_at n who.key) q d m). s)
     (λ (s : (who.key ≡ q) × (who.class ≡ d) × (joins ≡ leads ((table_at n who.key).book.leads + 1))). absurd (not_joined _ s.2))
     (enter_only (table_at n who.key) t who.key q who.class d m joins e o)) h in
-    bind (position (is_open_for who) w.flights) (λ f. Some (with_state v1 c who (In f))) (λ f _. listed_same v1 (with_state v1 c who (In f)) refl refl h1)
+    after_bind IsListed (position (is_open_for who) w.flights) (λ f. Some (with_state v1 c who (In f))) (λ f _. listed_same v1 (with_state v1 c who (In f)) refl refl h1)
   where
     not_joined : (n : ℕ) → joins ≡ leads n → ⊥
     not_joined n e = cc
@@ -223,7 +221,7 @@ looking_listed w f l n (Ended o) h at there = tt
 
 asking_listed : (w : World) (f : ℕ) (l : Lead) (n : Node) (c : Class) (x : Stage) → IsListed w → slice_get w.flights f ≡ Some (record { lead = l; stage = x }) → After IsListed (after_ask_peer w f l n c x)
 asking_listed w f l n Wide Looked h at =
-    bind (position (λ m. bytes_eq m.name (owner_of n l.key)) w.nodes) (λ o. Some (with_ask (with_stage w f l Asking) (record { node = o; key = l.key; flight = f; version = version_at w.scene l.key })))
+    after_bind IsListed (position (λ m. bytes_eq m.name (owner_of n l.key)) w.nodes) (λ o. Some (with_ask (with_stage w f l Asking) (record { node = o; key = l.key; flight = f; version = version_at w.scene l.key })))
     (λ o _. listed_stage w _ f l Looked Asking at refl refl refl h)
 asking_listed w f l n Local x h at = tt
 asking_listed w f l n Wide New h at = tt
@@ -234,7 +232,7 @@ asking_listed w f l n Wide (Ready o p) h at = tt
 asking_listed w f l n Wide (Ended o) h at = tt
 
 replying_listed : (w : World) (c : ℕ) (who : Caller) (x : Purpose) → IsListed w → After IsListed (after_reply w c who x)
-replying_listed w c who (ForAsk a) h = bind (learned w c) (λ o. Some (with_reply w (record { key = who.key; outcome = o }))) (λ o _. listed_same w _ refl refl h)
+replying_listed w c who (ForAsk a) h = after_bind IsListed (learned w c) (λ o. Some (with_reply w (record { key = who.key; outcome = o }))) (λ o _. listed_same w _ refl refl h)
 replying_listed w c who (ForRequest r) h = tt
 replying_listed w c who (ForPart f) h = tt
 replying_listed w c who (ForFallback f) h = tt
@@ -273,7 +271,7 @@ begun_listed w f l n (Some ks) h at = listed_stage w (after_begin w f l n (Some 
 loading_listed : (w : World) (f : ℕ) (l : Lead) (n : Node) (c : Class) (x : Stage) → IsListed w → slice_get w.flights f ≡ Some (record { lead = l; stage = x }) → After IsListed (after_load w f l n c x)
 loading_listed w f l n Local Looked h at = begun_listed w f l n (parts_of l.key) h at
 loading_listed w f l n Local (Parts cs) h at =
-    bind (all_learned w cs) (λ os. Some (with_stage w f l (Ready (outcome_from w.scene l.key (collected os)) _))) (λ os _. listed_stage w _ f l (Parts cs) _ at refl refl refl h)
+    after_bind IsListed (all_learned w cs) (λ os. Some (with_stage w f l (Ready (outcome_from w.scene l.key (collected os)) _))) (λ os _. listed_stage w _ f l (Parts cs) _ at refl refl refl h)
 loading_listed w f l n Wide x h at = tt
 loading_listed w f l n Local New h at = tt
 loading_listed w f l n Local Asking h at = tt
@@ -381,28 +379,28 @@ wanted_listed w n p q (Ok r) h = listed_same w (after_want w n p q (Ok r)) refl 
 pub step_listed : (w : World) (e : Event) → IsApart w → IsListed w → After IsListed (step w e)
 unfolding step
 step_listed w (Want node name request) a h =
-    bind (slice_get w.nodes node) _ (λ n at. bind (w.scene.shows name) _ (λ p shown. bind (speaker n (version_shown p)) _ (λ m speaks.
+    after_bind IsListed (slice_get w.nodes node) _ (λ n at. after_bind IsListed (w.scene.shows name) _ (λ p shown. after_bind IsListed (speaker n (version_shown p)) _ (λ m speaks.
     wanted_listed w n p (record { node = node; name = name; request = request }) (resolved w.scene p request) h)))
 step_listed w (Enter c) a h =
-    bind (slice_get w.calls c) _ (λ call at. bind (slice_get w.nodes call.caller.node) _ (λ n there. entering_listed w c call.caller n call.state h there))
+    after_bind IsListed (slice_get w.calls c) _ (λ call at. after_bind IsListed (slice_get w.nodes call.caller.node) _ (λ n there. entering_listed w c call.caller n call.state h there))
 step_listed w (Again f) a h =
-    bind (slice_get w.flights f) _ (λ fl at. bind (slice_get w.nodes fl.lead.node) _ (λ n there. looking_listed w f fl.lead n fl.stage h at there))
+    after_bind IsListed (slice_get w.flights f) _ (λ fl at. after_bind IsListed (slice_get w.nodes fl.lead.node) _ (λ n there. looking_listed w f fl.lead n fl.stage h at there))
 step_listed w (AskPeer f) a h =
-    bind (slice_get w.flights f) _ (λ fl at. bind (slice_get w.nodes fl.lead.node) _ (λ n there. asking_listed w f fl.lead n fl.lead.class fl.stage h at))
-step_listed w (Serve k) a h = bind (slice_get w.asks k) _ (λ q at. bind (slice_get w.nodes q.node) _ (λ n there. bind (speaker n q.version) _ (λ m speaks. listed_same w _ refl refl h)))
-step_listed w (event.Reply c) a h = bind (slice_get w.calls c) _ (λ call at. replying_listed w c call.caller call.caller.purpose h)
+    after_bind IsListed (slice_get w.flights f) _ (λ fl at. after_bind IsListed (slice_get w.nodes fl.lead.node) _ (λ n there. asking_listed w f fl.lead n fl.lead.class fl.stage h at))
+step_listed w (Serve k) a h = after_bind IsListed (slice_get w.asks k) _ (λ q at. after_bind IsListed (slice_get w.nodes q.node) _ (λ n there. after_bind IsListed (speaker n q.version) _ (λ m speaks. listed_same w _ refl refl h)))
+step_listed w (event.Reply c) a h = after_bind IsListed (slice_get w.calls c) _ (λ call at. replying_listed w c call.caller call.caller.purpose h)
 step_listed w (Take f r) a h =
-    bind (slice_get w.flights f) _ (λ fl at. bind (slice_get w.replies r) _ (λ reply there. taking_listed w f fl.lead reply fl.stage h at))
-step_listed w (Lose f) a h = bind (slice_get w.flights f) _ (λ fl at. losing_listed w f fl.lead fl.stage h at)
-step_listed w (GoLocal f) a h = bind (slice_get w.flights f) _ (λ fl at. going_local_listed w f fl.lead fl.stage h at)
+    after_bind IsListed (slice_get w.flights f) _ (λ fl at. after_bind IsListed (slice_get w.replies r) _ (λ reply there. taking_listed w f fl.lead reply fl.stage h at))
+step_listed w (Lose f) a h = after_bind IsListed (slice_get w.flights f) _ (λ fl at. losing_listed w f fl.lead fl.stage h at)
+step_listed w (GoLocal f) a h = after_bind IsListed (slice_get w.flights f) _ (λ fl at. going_local_listed w f fl.lead fl.stage h at)
 step_listed w (Load f) a h =
-    bind (slice_get w.flights f) _ (λ fl at. bind (slice_get w.nodes fl.lead.node) _ (λ n there. loading_listed w f fl.lead n fl.lead.class fl.stage h at))
+    after_bind IsListed (slice_get w.flights f) _ (λ fl at. after_bind IsListed (slice_get w.nodes fl.lead.node) _ (λ n there. loading_listed w f fl.lead n fl.lead.class fl.stage h at))
 step_listed w (SourceFault f e) a h =
-    bind (slice_get w.flights f) _ (λ fl at. failing_listed w f fl.lead e fl.lead.class (parts_of fl.lead.key) fl.stage h at)
+    after_bind IsListed (slice_get w.flights f) _ (λ fl at. failing_listed w f fl.lead e fl.lead.class (parts_of fl.lead.key) fl.stage h at)
 step_listed w (Land f kept) a h =
-    bind (slice_get w.flights f) _ (λ fl at. bind (slice_get w.nodes fl.lead.node) _ (λ n there. landing_listed w f fl.lead n kept fl.stage a h at there))
-step_listed w (Evict node keys) a h = bind (slice_get w.nodes node) _ (λ n at. evicted_listed w node n keys.items h at)
-step_listed w (Stop node) a h = bind (slice_get w.nodes node) _ (λ n at. stopped_listed w node n h)
+    after_bind IsListed (slice_get w.flights f) _ (λ fl at. after_bind IsListed (slice_get w.nodes fl.lead.node) _ (λ n there. landing_listed w f fl.lead n kept fl.stage a h at there))
+step_listed w (Evict node keys) a h = after_bind IsListed (slice_get w.nodes node) _ (λ n at. evicted_listed w node n keys.items h at)
+step_listed w (Stop node) a h = after_bind IsListed (slice_get w.nodes node) _ (λ n at. stopped_listed w node n h)
 
 -- so a call that has not entered may enter
 
@@ -411,14 +409,10 @@ is_for who x o node k c =
     all_true (is_open x.stage) (x.lead.node == who.node) (key_eq x.lead.key who.key) (same_class x.lead.class who.class) o
     (subst (λ n. nat_eq n who.node ≡ true) (sym node) (eq_same who.node))
     (subst (λ q. key_eq q who.key ≡ true) (sym k) (key_same who.key))
-    (subst (λ d. same_class d who.class ≡ true) (sym c) (class_same who.class))
+    (subst (λ d. same_class d who.class ≡ true) (sym c) (same_class_refl who.class))
   where
     all_true : (a b c d : Bool) → a ≡ true → b ≡ true → c ≡ true → d ≡ true → (a && (b && (c && d))) ≡ true
     all_true a b c d p q r s = ap (λ x. x && (b && (c && d))) p ∙ ap (λ x. x && (c && d)) q ∙ ap (λ x. x && d) r ∙ s
-
-    class_same : (c : Class) → same_class c c ≡ true
-    class_same Wide = refl
-    class_same Local = refl
 
 pub entered_there : (w : World) (c : ℕ) (who : Caller) (n : Node) (x : Entered) (t : Table) → IsListed w → slice_get w.nodes who.node ≡ Some n →
     enter (table_at n who.key) who.key who.class ≡ (x, t) → (v : World) × (after_meeting w c who n (x, t) ≡ Some v)

@@ -3,6 +3,7 @@ use Rattle.std.proofs.Common.{◌≡◌, ℕ, zero, suc, List, [], ◌∷◌, �
 use Rattle.std.specs.Prelude.{slice_get, slice_set, position}
 use Rattle.std.proofs.lemmas.Option.{none-some, slice_get-get_or, same_Some}
 use Rattle.std.proofs.lemmas.List.Quantifiers.{position-Some}
+use Rattle.std.proofs.lemmas.List.{map-append}
 use Rattle.iiif_scene.proofs.Lists.{get_left, each_tail}
 use Rattle.iiif_machine.specs.Sound.{Each, Kept}
 
@@ -45,15 +46,11 @@ pub map_same : {A B : Type 0} (g : A → B) (f : A → A) (xs : List A) → ((x 
 map_same g f [] e = refl
 map_same g f (x ∷ xs) e = ap (λ v. v ∷ map g (map f xs)) (e x) ∙ ap (λ vs. g x ∷ vs) (map_same g f xs e)
 
-pub map_more : {A B : Type 0} (g : A → B) (xs ys : List A) → map g (xs ++ ys) ≡ map g xs ++ map g ys
-map_more g [] ys = refl
-map_more g (x ∷ xs) ys = ap (λ vs. g x ∷ vs) (map_more g xs ys)
-
 pub kept_same : {A : Type 0} (xs ys : List A) → ys ≡ xs → Kept xs ys
 kept_same xs ys e = subst (λ zs. Kept xs zs) (sym e) (λ i x h. h)
 
 pub kept_more : {A B : Type 0} (g : A → B) (xs ys : List A) → Kept (map g xs) (map g (xs ++ ys))
-kept_more g xs ys = subst (λ zs. Kept (map g xs) zs) (sym (map_more g xs ys)) (get_left (map g xs) (map g ys))
+kept_more g xs ys = subst (λ zs. Kept (map g xs) zs) (sym (map-append g xs ys)) (get_left (map g xs) (map g ys))
 
 -- what `position` finds is there, and passes
 pub position_found : {A : Type 0} (p : A → Bool) (xs : List A) (i : ℕ) → position p xs ≡ Some i → (x : A) × (slice_get xs i ≡ Some x) × (p x ≡ true)

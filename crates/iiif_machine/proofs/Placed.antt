@@ -3,26 +3,24 @@ use Rattle.std.proofs.Common.{◌≡◌, ℕ, List, [], ◌∷◌, ◌++◌, map
 use Rattle.std.specs.Prelude.{slice_get, slice_set, position, ◌==◌}
 use Rattle.std.specs.Str.{bytes_eq}
 use Rattle.std.proofs.lemmas.Option.{same_Some}
+use Rattle.std.proofs.lemmas.List.{map-append}
 use Rattle.iiif_scene.specs.Keys.{is_tile, parts_of}
 use Rattle.iiif_scene.specs.Plans.{resolved, items}
 use Rattle.iiif_scene.proofs.Lists.{get_left, get_map}
 use Rattle.iiif_machine.specs.Types.{Key, ReadFault, Picture, Resolved, Refusal}
 use Rattle.iiif_machine.specs.Tables.{Class, Wide, Local, Table, Outcome, Entered, finds, joins, leads, enter, again}
 use Rattle.iiif_machine.specs.Rows.{Node, Purpose, ForRequest, ForPart, ForFallback, ForAsk, Caller, CallState, Fresh, Hit, In, Gone, Lead, Stage, New, Looked, Asking, Fallback, Parts, Ready, Ended, Flight, Ask, Reply, Wish}
-use Rattle.iiif_machine.specs.Worlds.{World, ◌>>=◌, version_shown, version_at, speaker, owner_of, table_at, put_table, with_node, with_stage, with_state, with_calls, with_flight, with_ask, with_reply, call_for, learned, all_learned, collected, outcome_from, resumed, settled}
+use Rattle.iiif_machine.specs.Worlds.{World, version_shown, version_at, speaker, owner_of, table_at, put_table, with_node, with_stage, with_state, with_calls, with_flight, with_ask, with_reply, call_for, learned, all_learned, collected, outcome_from, resumed, settled}
 use Rattle.iiif_machine.specs.Steps.{Want, Enter, Again, AskPeer, Serve, Take, Lose, GoLocal, Load, SourceFault, Land, Evict, Stop, after_want, is_open, is_open_for, lead_of, after_meeting, after_enter, stage_found, after_again, after_ask_peer, caller_serving, after_reply, stage_taken, after_take, after_lose, after_go_local, after_begin, after_load, after_fault, after_land, node_without, flight_stopped, call_stopped, after_stop, step}
 use Rattle.iiif_machine.specs.declared.events.Event.TheVariants as event
 use Rattle.iiif_machine.specs.Sound.{Each, facts, caller_of, lead_in, Card, card_of, cards, IsThere, NamesNodes, IsPlaced}
 use Rattle.iiif_machine.specs.Promises.{EndedStay, After}
 use Rattle.iiif_machine.proofs.Words.{Stays, StepsStayPlaced}
-use Rattle.iiif_machine.proofs.Lists.{each_append, each_map, each_one, map_set, map_same, map_more, position_found}
+use Rattle.iiif_machine.proofs.Lists.{each_append, each_map, each_one, map_set, map_same, position_found}
 use Rattle.iiif_machine.proofs.Changes.{callers_more}
 use Rattle.iiif_machine.proofs.Registers.{set_found}
 use Rattle.iiif_machine.proofs.Stopping.{lead_by, caller_by}
-
-bind : (w : World) {A : Type 0} (x : Option A) (f : A → Option World) → ((a : A) → x ≡ Some a → After (Stays w) (f a)) → After (Stays w) (x >>= f)
-bind w None f h = tt
-bind w (Some a) f h = h a refl
+use Rattle.iiif_machine.proofs.Learning.{after_bind}
 
 abbrev CallersThere : World → List Caller → Type 0
 CallersThere w = Each (λ who. IsThere (cards w) who.node)
@@ -136,7 +134,7 @@ entered_stays w c who n (finds v) t at is h =
     (callers_set w c who Fresh (Hit v) at h)
     (each_kept (λ l. IsThere (cards w) l.node) (facts w).leads (facts (settled u)).leads (map_same lead_in (resumed u) w.flights (λ f. refl)) h.leads) h.asks h
 entered_stays w c who n joins t at is h =
-    bind w (position (is_open_for who) w.flights) (λ f. Some (with_state (with_node w who.node (put_table n who.key t)) c who (In f))) (λ f at_f.
+    after_bind (Stays w) (position (is_open_for who) w.flights) (λ f. Some (with_state (with_node w who.node (put_table n who.key t)) c who (In f))) (λ f at_f.
     flights_stay w (with_state (with_node w who.node (put_table n who.key t)) c who (In f)) refl (cards_put w who.node n who.key t is)
     (callers_set w c who Fresh (In f) at h) refl h)
 entered_stays w c who n (leads m) t at is h =
@@ -145,7 +143,7 @@ entered_stays w c who n (leads m) t at is h =
     let v = with_state (with_flight (with_node w who.node (put_table n who.key t)) l) c who (In (length w.flights)) in
     stays_by w v (cards_put w who.node n who.key t is) (λ f k o there. get_left w.flights (row ∷ []) f (record { lead = k; stage = Ended o }) there)
     (callers_set w c who Fresh (In (length w.flights)) at h)
-    (each_kept (λ l. IsThere (cards w) l.node) ((facts w).leads ++ l ∷ []) (facts v).leads (map_more lead_in w.flights (row ∷ []))
+    (each_kept (λ l. IsThere (cards w) l.node) ((facts w).leads ++ l ∷ []) (facts v).leads (map-append lead_in w.flights (row ∷ []))
     (each_append (λ l. IsThere (cards w) l.node) (facts w).leads (l ∷ []) h.leads (each_one (λ l. IsThere (cards w) l.node) l (there w who.node n is)))) h.asks h
 
 entering_stays : (w : World) (c : ℕ) (who : Caller) (n : Node) (x : CallState) → slice_get w.calls c ≡ Some (record { caller = who; state = x }) →
@@ -176,7 +174,7 @@ looking_stays w f l n (Ended o) at is h = tt
 asking_stays : (w : World) (f : ℕ) (l : Lead) (n : Node) (c : Class) (x : Stage) → slice_get w.flights f ≡ Some (record { lead = l; stage = x }) → IsPlaced w →
     After (Stays w) (after_ask_peer w f l n c x)
 asking_stays w f l n Wide Looked at h =
-    bind w (position (λ m. bytes_eq m.name (owner_of n l.key)) w.nodes) (λ o. Some (with_ask (with_stage w f l Asking) (record { node = o; key = l.key; flight = f; version = version_at w.scene l.key })))
+    after_bind (Stays w) (position (λ m. bytes_eq m.name (owner_of n l.key)) w.nodes) (λ o. Some (with_ask (with_stage w f l Asking) (record { node = o; key = l.key; flight = f; version = version_at w.scene l.key })))
     (λ o found.
     let q : Ask = record { node = o; key = l.key; flight = f; version = version_at w.scene l.key } in
     let m = position_found (λ m. bytes_eq m.name (owner_of n l.key)) w.nodes o found in
@@ -195,7 +193,7 @@ asking_stays w f l n Wide (Ended o) at h = tt
 
 replying_stays : (w : World) (c : ℕ) (who : Caller) (x : Purpose) → IsPlaced w → After (Stays w) (after_reply w c who x)
 replying_stays w c who (ForAsk a) h =
-    bind w (learned w c) (λ o. Some (with_reply w (record { key = who.key; outcome = o }))) (λ o knows. flights_stay w _ refl refl h.callers refl h)
+    after_bind (Stays w) (learned w c) (λ o. Some (with_reply w (record { key = who.key; outcome = o }))) (λ o knows. flights_stay w _ refl refl h.callers refl h)
 replying_stays w c who (ForRequest r) h = tt
 replying_stays w c who (ForPart f) h = tt
 replying_stays w c who (ForFallback f) h = tt
@@ -246,7 +244,7 @@ loading_stays : (w : World) (f : ℕ) (l : Lead) (n : Node) (c : Class) (x : Sta
     After (Stays w) (after_load w f l n c x)
 loading_stays w f l n Local Looked at h = begun_stays w f l n (parts_of l.key) at h
 loading_stays w f l n Local (Parts cs) at h =
-    bind w (all_learned w cs) (λ os. Some (with_stage w f l (Ready (outcome_from w.scene l.key (collected os)) _)))
+    after_bind (Stays w) (all_learned w cs) (λ os. Some (with_stage w f l (Ready (outcome_from w.scene l.key (collected os)) _)))
     (λ os _. stage_stays w _ f l (Parts cs) _ at refl refl refl h.callers refl h)
 loading_stays w f l n Wide x at h = tt
 loading_stays w f l n Local New at h = tt
@@ -308,27 +306,27 @@ stopped_stays w i n at h =
 pub step_placed : StepsStayPlaced
 unfolding step
 step_placed w (Want node name request) h =
-    bind w (slice_get w.nodes node) _ (λ n at. bind w (w.scene.shows name) _ (λ p shown. bind w (speaker n (version_shown p)) _ (λ m speaks.
+    after_bind (Stays w) (slice_get w.nodes node) _ (λ n at. after_bind (Stays w) (w.scene.shows name) _ (λ p shown. after_bind (Stays w) (speaker n (version_shown p)) _ (λ m speaks.
     wanted_stays w n p (record { node = node; name = name; request = request }) (resolved w.scene p request) at h)))
 step_placed w (Enter c) h =
-    bind w (slice_get w.calls c) _ (λ call at. bind w (slice_get w.nodes call.caller.node) _ (λ n is. entering_stays w c call.caller n call.state at is h))
+    after_bind (Stays w) (slice_get w.calls c) _ (λ call at. after_bind (Stays w) (slice_get w.nodes call.caller.node) _ (λ n is. entering_stays w c call.caller n call.state at is h))
 step_placed w (Again f) h =
-    bind w (slice_get w.flights f) _ (λ fl at. bind w (slice_get w.nodes fl.lead.node) _ (λ n is. looking_stays w f fl.lead n fl.stage at is h))
+    after_bind (Stays w) (slice_get w.flights f) _ (λ fl at. after_bind (Stays w) (slice_get w.nodes fl.lead.node) _ (λ n is. looking_stays w f fl.lead n fl.stage at is h))
 step_placed w (AskPeer f) h =
-    bind w (slice_get w.flights f) _ (λ fl at. bind w (slice_get w.nodes fl.lead.node) _ (λ n is. asking_stays w f fl.lead n fl.lead.class fl.stage at h))
+    after_bind (Stays w) (slice_get w.flights f) _ (λ fl at. after_bind (Stays w) (slice_get w.nodes fl.lead.node) _ (λ n is. asking_stays w f fl.lead n fl.lead.class fl.stage at h))
 step_placed w (Serve a) h =
-    bind w (slice_get w.asks a) _ (λ q at. bind w (slice_get w.nodes q.node) _ (λ n is. bind w (speaker n q.version) _ (λ m speaks. flights_stay w _ refl refl
+    after_bind (Stays w) (slice_get w.asks a) _ (λ q at. after_bind (Stays w) (slice_get w.nodes q.node) _ (λ n is. after_bind (Stays w) (speaker n q.version) _ (λ m speaks. flights_stay w _ refl refl
     (calls_there w w (caller_serving a q ∷ []) refl (each_one (λ z. IsThere (cards w) z.node) (caller_serving a q) (h.asks a q at)) h) refl h)))
-step_placed w (event.Reply c) h = bind w (slice_get w.calls c) _ (λ call at. replying_stays w c call.caller call.caller.purpose h)
+step_placed w (event.Reply c) h = after_bind (Stays w) (slice_get w.calls c) _ (λ call at. replying_stays w c call.caller call.caller.purpose h)
 step_placed w (Take f r) h =
-    bind w (slice_get w.flights f) _ (λ fl at. bind w (slice_get w.replies r) _ (λ reply is. taking_stays w f fl.lead reply fl.stage at h))
-step_placed w (Lose f) h = bind w (slice_get w.flights f) _ (λ fl at. losing_stays w f fl.lead fl.stage at h)
-step_placed w (GoLocal f) h = bind w (slice_get w.flights f) _ (λ fl at. going_local_stays w f fl.lead fl.stage at h)
+    after_bind (Stays w) (slice_get w.flights f) _ (λ fl at. after_bind (Stays w) (slice_get w.replies r) _ (λ reply is. taking_stays w f fl.lead reply fl.stage at h))
+step_placed w (Lose f) h = after_bind (Stays w) (slice_get w.flights f) _ (λ fl at. losing_stays w f fl.lead fl.stage at h)
+step_placed w (GoLocal f) h = after_bind (Stays w) (slice_get w.flights f) _ (λ fl at. going_local_stays w f fl.lead fl.stage at h)
 step_placed w (Load f) h =
-    bind w (slice_get w.flights f) _ (λ fl at. bind w (slice_get w.nodes fl.lead.node) _ (λ n is. loading_stays w f fl.lead n fl.lead.class fl.stage at h))
+    after_bind (Stays w) (slice_get w.flights f) _ (λ fl at. after_bind (Stays w) (slice_get w.nodes fl.lead.node) _ (λ n is. loading_stays w f fl.lead n fl.lead.class fl.stage at h))
 step_placed w (SourceFault f e) h =
-    bind w (slice_get w.flights f) _ (λ fl at. failing_stays w f fl.lead e fl.lead.class (parts_of fl.lead.key) fl.stage at h)
+    after_bind (Stays w) (slice_get w.flights f) _ (λ fl at. failing_stays w f fl.lead e fl.lead.class (parts_of fl.lead.key) fl.stage at h)
 step_placed w (Land f kept) h =
-    bind w (slice_get w.flights f) _ (λ fl at. bind w (slice_get w.nodes fl.lead.node) _ (λ n is. landing_stays w f fl.lead n kept fl.stage at is h))
-step_placed w (Evict node keys) h = bind w (slice_get w.nodes node) _ (λ n at. node_stays w node n (node_without n keys.items) at refl h)
-step_placed w (Stop node) h = bind w (slice_get w.nodes node) _ (λ n at. stopped_stays w node n at h)
+    after_bind (Stays w) (slice_get w.flights f) _ (λ fl at. after_bind (Stays w) (slice_get w.nodes fl.lead.node) _ (λ n is. landing_stays w f fl.lead n kept fl.stage at is h))
+step_placed w (Evict node keys) h = after_bind (Stays w) (slice_get w.nodes node) _ (λ n at. node_stays w node n (node_without n keys.items) at refl h)
+step_placed w (Stop node) h = after_bind (Stays w) (slice_get w.nodes node) _ (λ n at. stopped_stays w node n at h)

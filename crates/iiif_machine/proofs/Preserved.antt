@@ -12,21 +12,17 @@ use Rattle.iiif_machine.proofs.Words.{SubjectLaws}
 use Rattle.iiif_machine.specs.Tables.{Class, Wide, Local, Table, Outcome, Main, Peer, Entered, finds, joins, leads, enter, again, land}
 use Rattle.iiif_machine.proofs.Words.{TableLaws}
 use Rattle.iiif_machine.specs.Rows.{Node, Given, Purpose, ForRequest, ForPart, ForFallback, ForAsk, Caller, CallState, Fresh, Hit, In, Gone, Lead, Stage, New, Looked, Asking, Fallback, Parts, Ready, Ended, Ask, Reply, Wish, Refused, Progress, Waiting, Answered}
-use Rattle.iiif_machine.specs.Worlds.{World, ◌>>=◌, version_at, table_at, put_table, with_node, with_stage, with_state, with_calls, with_flight, with_ask, with_reply, with_given, with_request, call_for, numbers, learned, all_learned, collected, outcome_from}
+use Rattle.iiif_machine.specs.Worlds.{World, version_at, table_at, put_table, with_node, with_stage, with_state, with_calls, with_flight, with_ask, with_reply, with_given, with_request, call_for, numbers, learned, all_learned, collected, outcome_from}
 use Rattle.iiif_machine.specs.Steps.{after_want, is_open, is_open_for, lead_of, after_meeting, after_enter, stage_found, after_again, after_ask_peer, after_reply, stage_taken, after_take, after_lose, after_go_local, after_begin, after_load, after_fault, after_land}
-use Rattle.iiif_tables.specs.Flights.{same_class}
+use Rattle.iiif_tables.proofs.TableLaws.{class_is}
 use Rattle.iiif_machine.specs.Sound.{CallerIsRight, facts, lead_in, IsHonest, StageIsHonest, ReplyIsHonest, NodeIsHonest, IsHonestWorld}
 use Rattle.iiif_machine.specs.Promises.{After}
 use Rattle.iiif_machine.proofs.Words.{Next}
 use Rattle.iiif_machine.proofs.Lists.{kept_same, each_map, each_one, get_end, position_found}
 use Rattle.iiif_machine.proofs.Changes.{later_stage, node_set, stage_set, state_set, calls_add, flight_add, ask_add, reply_add, given_add, request_add, new_calls, new_call, new_lead}
-use Rattle.iiif_machine.proofs.Learning.{learned_honest, gathered, merged_honest}
+use Rattle.iiif_machine.proofs.Learning.{learned_honest, gathered, merged_honest, after_bind}
 use Rattle.iiif_machine.proofs.Nodes.{put_honest, table_honest, enter_honest, again_honest, land_honest, value_honest}
 use Rattle.iiif_machine.proofs.Settling.{settled_honest, next_by, next_settled}
-
-pub after_bind : {A : Type 0} (P : World → Type 0) (x : Option A) (f : A → Option World) → ((a : A) → x ≡ Some a → After P (f a)) → After P (x >>= f)
-after_bind P None f h = tt
-after_bind P (Some a) f h = h a refl
 
 abbrev Kept_by : World → Option World → Type 0
 Kept_by w x = After (Next w) x
@@ -59,12 +55,6 @@ wanted_kept w n p q (Ok r) laws h shown is =
 
 -- Enter
 
-classes_same : (a b : Class) → same_class a b ≡ true → a ≡ b
-classes_same Wide Wide h = refl
-classes_same Local Local h = refl
-classes_same Wide Local h = absurd cc
-classes_same Local Wide h = absurd cc
-
 pub entered_kept : (w : World) (c : ℕ) (who : Caller) (n : Node) (x : Entered) (t : Table) → SubjectLaws w.scene → TableLaws → IsHonestWorld w →
     slice_get w.calls c ≡ Some (record { caller = who; state = Fresh }) → NodeIsHonest w.scene n → enter (table_at n who.key) who.key who.class ≡ (x, t) →
     Kept_by w (after_meeting w c who n (x, t))
@@ -87,7 +77,7 @@ entered_kept w c who n joins t laws tables h at node e =
     let second = and_parts (fl.lead.node == who.node) _ first.1 in
     let third = and_parts (key_eq fl.lead.key who.key) _ second.1 in
     next_by w {v = with_state v1 c who (In f)} refl refl refl (state_set v1 c who Fresh (In f) at h1
-    (fl.lead, get_map lead_in w.flights f fl there.1, eqb-true fl.lead.node who.node second.0, laws.same_key fl.lead.key who.key third.0, classes_same fl.lead.class who.class third.1)))
+    (fl.lead, get_map lead_in w.flights f fl there.1, eqb-true fl.lead.node who.node second.0, laws.same_key fl.lead.key who.key third.0, class_is fl.lead.class who.class third.1)))
 entered_kept w c who n (leads m) t laws tables h at node e =
     let s = w.scene in
     let before = table_honest s n who.key node in
@@ -175,7 +165,9 @@ taken_by w l q v false wide same is = wide
 
 taken_honest : (w : World) (l : Lead) (q : Key) (o : Outcome) → l.class ≡ Wide → SubjectLaws w.scene → ((v : Value) → o ≡ Ok v → v ≡ meaning w.scene q) →
     StageIsHonest w.scene (facts w) l (stage_taken l.key q o)
-taken_honest w l q (Err f) wide laws is = wide
+taken_honest w l q (Err f) wide laws is =
+    let alone : StageIsHonest w.scene (facts w) l (Fallback None) = wide in
+    alone
 taken_honest w l q (Ok v) wide laws is = taken_by w l q v (key_eq q l.key) wide (laws.same_key q l.key) (is v refl)
 
 pub taking_kept : (w : World) (f : ℕ) (l : Lead) (r : Reply) (x : Stage) → SubjectLaws w.scene → IsHonestWorld w → slice_get w.flights f ≡ Some (record { lead = l; stage = x }) →

@@ -130,7 +130,7 @@ no_fault_no_failure w i q f h none at =
     let is = h.honest.requests i _ at in
     none-some _ (subst (λ gs. slice_get gs is.0 ≡ Some (record { node = q.node; name = q.name; fault = f })) none is.1)
 
-ok_same : (x : Result Picture Refusal) (a b : Picture) → x ≡ Ok a → x ≡ Ok b → a ≡ b
+pub ok_same : (x : Result Picture Refusal) (a b : Picture) → x ≡ Ok a → x ≡ Ok b → a ≡ b
 ok_same x a b e f = cc
 
 image_of : (s : Scene) (p o : Picture) (q : Request) (a : Picture) (name : List ℕ) → s.shows name ≡ Some o → s.shows name ≡ Some p → image s o q ≡ Ok a → images.image p q s.limits ≡ Ok a

@@ -51,12 +51,6 @@ from_set xs f l old new there was g y at o =
     (λ (e : slice_get xs g ≡ Some y). (y, e, o, refl))
     (set_cases xs f g y (record { lead = l; stage = new }) at)
 
-pub from_from : (xs ys zs : List Flight) → OpenFrom xs ys → OpenFrom ys zs → OpenFrom xs zs
-from_from xs ys zs a b g z at o =
-    let y = b g z at o in
-    let x = a g y.0 y.1 y.2 in
-    (x.0, x.1, x.2, x.3 ∙ y.3)
-
 was_open : (w : World) (x : Stage) → is_open (resumed_stage w x) ≡ true → is_open x ≡ true
 was_open w New o = refl
 was_open w Looked o = refl

@@ -15,7 +15,8 @@ use Rattle.iiif_machine.proofs.Settling.{next_by}
 use Rattle.iiif_machine.proofs.Changes.{node_set, calls_add}
 use Rattle.iiif_machine.proofs.Nodes.{lost_honest}
 use Rattle.iiif_machine.proofs.Stopping.{stopped_honest, stopped_follows}
-use Rattle.iiif_machine.proofs.Preserved.{after_bind, wanted_kept, entering_kept, looking_kept, asking_kept, replying_kept, taking_kept, losing_kept, going_local_kept, loading_kept, failing_kept, landing_kept}
+use Rattle.iiif_machine.proofs.Preserved.{wanted_kept, entering_kept, looking_kept, asking_kept, replying_kept, taking_kept, losing_kept, going_local_kept, loading_kept, failing_kept, landing_kept}
+use Rattle.iiif_machine.proofs.Learning.{after_bind}
 
 pub step_kept : StepsStayHonest
 unfolding step

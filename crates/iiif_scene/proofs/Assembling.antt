@@ -1,5 +1,5 @@
 -- What the meanings of a plan's items make is the image.
-use Rattle.std.proofs.Common.{◌≡◌, ℕ, zero, suc, ◌*◌, ◌^◌, ◌<◌, ◌≤◌, ◌⊎◌, inl, inr, List, [], ◌∷◌, Bool, true, false, Some, Ok, All, map, fold, refl, sym, ap, subst, ◌∙◌, arith, ⊎_elim, if◌then◌else◌}
+use Rattle.std.proofs.Common.{◌≡◌, ℕ, ◌*◌, ◌^◌, ◌<◌, ◌≤◌, ◌⊎◌, inr, List, [], ◌∷◌, Bool, true, false, Some, Ok, All, map, fold, refl, sym, ap, subst, ◌∙◌, arith, ⊎_elim, if◌then◌else◌}
 use Rattle.std.specs.Prelude.{◌==◌, ◌&&◌, nat_le}
 use Rattle.std.proofs.Math.Nat.{mul-le-mul}
 use Rattle.std.proofs.lemmas.Bool.{eqb-true, leb-true, and_parts}
@@ -13,6 +13,7 @@ use Rattle.iiif_pixel.specs.declared.geometry.Rect.{Rect}
 use Rattle.iiif_pixel.proofs.Whole.{whole_crop}
 use Rattle.iiif_pixel.proofs.ScaleLemmas.{whole_scale}
 use Rattle.iiif_pixel.proofs.CropLaws.{crop-all}
+use Rattle.iiif_pixel.proofs.Parts.{same_dim}
 use Rattle.iiif_area.specs.Grid.{Grid, grid_of, merged, finished, sums_of}
 use Rattle.iiif_area.proofs.PieceLaws.{pieces_merge}
 use Rattle.iiif_area.proofs.FinishLaws.{finished-scaled}
@@ -25,12 +26,13 @@ use Rattle.iiif_keys.specs.declared.keys.SumKey.{SumKey}
 use Rattle.iiif_keys.proofs.Derived.{picture_is}
 use Rattle.iiif_planner.specs.Plans.{IsTileFor, IsBlockFor, TilesCover, BlocksCover}
 use Rattle.iiif_planner.specs.Levels.{met_at_most, sums_at_most}
-use Rattle.iiif_planner.specs.Items.{keeps_size, is_scaled_up, is_usable, greatest, tiles_for, blocks_for, HasItems}
+use Rattle.iiif_planner.specs.Items.{keeps_size, is_scaled_up, is_usable, tiles_for, blocks_for, HasItems}
 use Rattle.iiif_planner.specs.declared.plans.Plan.{Plan}
 use Rattle.iiif_planner.specs.declared.plans.Plan.TheVariants.{Copy, Grow, Sum}
 use Rattle.iiif_planner.proofs.Covers.{tiles_cover, blocks_cover}
 use Rattle.iiif_planner.proofs.LevelLaws.{most_sums, level_limits}
 use Rattle.iiif_planner.proofs.Sides.{up_tested, down_tested}
+use Rattle.iiif_planner.proofs.Greatest.{greatest_cases, greatest_within}
 use Rattle.iiif_canonical.specs.Resolution.{IsResolved}
 use Rattle.iiif_canonical.specs.Images as images
 use Rattle.iiif_canonical.proofs.ResolutionLemmas.{resolved_is}
@@ -81,22 +83,6 @@ averaged_is s name p r level keys shown source inside w h cover =
     ∙ ap (λ (g : Grid). finished g (sides_of r.rect) p.top all) sums
     ∙ finished-scaled all all q size whole (record { left = omega arith; right = omega arith; upper = omega arith; lower = omega arith }) (record { columns = omega arith; rows = omega arith })
     ∙ crop-all (scale q size) (whole_scale q size whole)
-
-greatest_cases : (test : ℕ → Bool) (n : ℕ) → (test (greatest test n) ≡ true) ⊎ (greatest test n ≡ 0)
-unfolding greatest
-greatest_cases test zero = inr refl
-greatest_cases test (suc n) = (elim (test (suc n)) as (λ b. test (suc n) ≡ b → (test (if b then suc n else greatest test n) ≡ true) ⊎ ((if b then suc n else greatest test n) ≡ 0)) [
-  | true ↦ λ e. inl e
-  | false ↦ λ e. greatest_cases test n
-]) refl
-
-greatest_within : (test : ℕ → Bool) (n : ℕ) → greatest test n ≤ n
-unfolding greatest
-greatest_within test zero = omega arith
-greatest_within test (suc n) = elim (test (suc n)) as (λ b. (if b then suc n else greatest test n) ≤ suc n) [
-  | true ↦ omega arith
-  | false ↦ let h = greatest_within test n in omega arith
-]
 
 some_sums : (edge level : ℕ) (region size : Dim) (channels : ℕ) → 0 < channels → 0 < sums_at_most edge level region size channels
 some_sums edge level region size channels some =
@@ -198,11 +184,6 @@ dim_same : (a b : Dim) → (a.w == b.w && a.h == b.h) ≡ true → a ≡ b
 dim_same a b h =
     let p = and_parts (a.w == b.w) (a.h == b.h) h in
     same_dim a b (eqb-true a.w b.w p.0) (eqb-true a.h b.h p.1)
-  where
-    same_dim : (a b : Dim) → a.w ≡ b.w → a.h ≡ b.h → a ≡ b
-    same_dim a b e f =
-        let first : a ≡ record { w = b.w; h = b.h } = rw (← e, ← f) refl in
-        first
 
 scaled_by : (s : Scene) (name : List ℕ) (p : Picture) (r : Resolved) (b up : Bool) → keeps_size r ≡ b → is_scaled_up r ≡ up → Accepted s name p r →
     made s p r (map (meaning s) (keys_met s name r (way_by s p r b up))) (way_by s p r b up) ≡ scale (crop p r.rect) r.size

@@ -1,5 +1,5 @@
 -- Tiles of a plan by their place in it, and the region that is put together of them.
-use Rattle.std.proofs.Common.{◌≡◌, ℕ, zero, suc, ◌+◌, ◌-◌, ◌*◌, ◌/◌, ◌%◌, ◌<◌, ◌≤◌, List, [], ◌∷◌, ◌++◌, Some, length, map, min, refl, sym, ap, subst, ◌∙◌, arith, ⊎_elim}
+use Rattle.std.proofs.Common.{◌≡◌, ℕ, zero, suc, ◌+◌, ◌-◌, ◌*◌, ◌/◌, ◌%◌, ◌<◌, ◌≤◌, List, [], ◌∷◌, ◌++◌, Some, length, map, min, refl, sym, ap, subst, ◌∙◌, arith, ⊎_elim, length-append}
 use Rattle.std.specs.Prelude.{slice_get}
 use Rattle.std.specs.Int.{div_ceil}
 use Rattle.std.proofs.lemmas.Bool.{cases_lt}
@@ -28,14 +28,10 @@ get_right [] ys i m x e h = let same : m ≡ i = omega arith in subst (λ n. sli
 get_right (z ∷ xs) ys i zero x e h = absurd (omega arith)
 get_right (z ∷ xs) ys i (suc m) x e h = get_right xs ys i m x (omega arith) h
 
-length_end : {A : Type 0} (xs ys : List A) → length (xs ++ ys) ≡ length xs + length ys
-length_end [] ys = omega arith
-length_end (x ∷ xs) ys = let h = length_end xs ys in omega arith
-
 row_length : {K : Type 0} (f : ℕ → ℕ → K) (left j n : ℕ) → length (row_from f left j n) ≡ n
 unfolding row_from
 row_length f left j zero = refl
-row_length f left j (suc n) = let h = row_length f left j n in omega (arith, length_end (row_from f left j n) (f (left + n) j ∷ []))
+row_length f left j (suc n) = let h = row_length f left j n in omega (arith, length-append (row_from f left j n) (f (left + n) j ∷ []))
 
 row_get : {K : Type 0} (f : ℕ → ℕ → K) (left j n i : ℕ) → i < n → slice_get (row_from f left j n) i ≡ Some (f (left + i) j)
 unfolding row_from
@@ -54,7 +50,7 @@ rows_length f left c top zero = omega arith
 rows_length f left c top (suc n) =
     let h = rows_length f left c top n in
     let r = row_length f left (top + n) c in
-    omega (arith, length_end (rows_from f left c top n) (row_from f left (top + n) c))
+    omega (arith, length-append (rows_from f left c top n) (row_from f left (top + n) c))
 
 rows_get : {K : Type 0} (f : ℕ → ℕ → K) (left c top n i j : ℕ) → i < c → j < n → slice_get (rows_from f left c top n) (j * c + i) ≡ Some (f (left + i) (top + j))
 unfolding rows_from
