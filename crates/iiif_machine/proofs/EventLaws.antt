@@ -71,13 +71,17 @@ not_kept_stays w v f h =
 abbrev failed : Lead → ReadFault → Place → Flight
 failed l e p = record { lead = l; stage = Ready (Err e) p }
 
+-- a flight that goes on alone has no fault yet
+alone_has_none : (e : ReadFault) (p : Place) → Fallback None ≡ Ready (Err e) p → ⊥
+alone_has_none e p h = cc
+
 no_fault : (k q : Key) (o : Outcome) (e : ReadFault) (p : Place) → stage_taken k q o ≡ Ready (Err e) p → ⊥
-no_fault k q (Err f) e p h = cc
+no_fault k q (Err f) e p h = alone_has_none e p h
 no_fault k q (Ok v) e p h = by (key_eq q k) h
   where
     by : (b : Bool) → (if b then Ready (Ok v) Peer else Fallback None) ≡ Ready (Err e) p → ⊥
     by true h = cc
-    by false h = cc
+    by false h = alone_has_none e p h
 
 taking_gives : (w v : World) (f g : ℕ) (m : Lead) (r : Reply) (s : Stage) (l : Lead) (e : ReadFault) (p : Place) → after_take w f m r s ≡ Some v →
     slice_get v.flights g ≡ Some (failed l e p) → slice_get w.flights g ≡ Some (failed l e p)
