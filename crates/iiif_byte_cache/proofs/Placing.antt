@@ -1,11 +1,9 @@
 -- Which list a put goes to.
 use Rattle.std.proofs.Common.{◌≡◌, Bool, true, false, not, ◌&&◌, ◌||◌, Option, Some, None, refl, sym, ap, ◌∙◌, is_some, option_map}
 use Rattle.std.specs.Option.{IfNone}
-use Rattle.std.specs.Prelude.{OnOk, Result, Ok, Err}
 use Rattle.std.specs.Prelude.{if◌then◌else◌}
 use Rattle.std.specs.Map.{lookup}
-use Rattle.std.specs.Option.{option_or}
-use Rattle.iiif_tables.specs.Cache.{Kept, Cache, added, replaced, added_to, placed, kept_for}
+use Rattle.iiif_tables.specs.Cache.{Kept, Cache, added, replaced, added_to, placed}
 use Rattle.iiif_byte_cache.specs.Rows.{pushed}
 use Rattle.iiif_byte_cache.specs.View.{side}
 
@@ -34,28 +32,10 @@ module _ {K V : Type 0} (eq : K → K → Bool) (k : K) (e : Kept V) (c : Cache 
   pub goes_to_main : (h : Bool) → (not (is_some (lookup (eq k) c.main)) && (h || is_some (lookup (eq k) c.hot))) ≡ false → placed eq k (side h) e c ≡ record c { main = pushed eq c.room k e c.main }
   goes_to_main h is = goes h ∙ rw is refl
 
--- nothing is kept for a key that neither list has
-absent : {X : Type 0} (a b : Option X) → is_some a ≡ false → is_some b ≡ false → is_some (option_or a b) ≡ false
-absent None b h i = i
-absent (Some x) b h i = cc
-
-pub neither : {K V : Type 0} (eq : K → K → Bool) (k : K) (c : Cache K V) → is_some (lookup (eq k) c.main) ≡ false → is_some (lookup (eq k) c.hot) ≡ false → is_some (kept_for eq k c) ≡ false
-neither eq k c h i = absent (lookup (eq k) c.main) (lookup (eq k) c.hot) h i
-
 -- a test that would make something false true is false
 pub not_there : (b : Bool) → (b ≡ true → false ≡ true) → b ≡ false
 not_there true h = sym (h refl)
 not_there false h = refl
-
--- main hasn't the key, nor has hot, where a put that is for main goes to main
-pub not_in_hot : (a h b : Bool) → (not a && (h || b)) ≡ false → a ≡ false → b ≡ false
-not_in_hot true h b p q = cc
-not_in_hot false true b p q = cc
-not_in_hot false false b p q = p
-
-pub not_in_main : (a h b : Bool) → (not a && (h || b)) ≡ true → a ≡ false
-not_in_main true h b p = cc
-not_in_main false h b p = refl
 
 -- the same test, by what its parts are
 pub test_is : (a b c d h r : Bool) → a ≡ b → c ≡ d → (not a && (h || c)) ≡ r → (not b && (h || d)) ≡ r
@@ -67,8 +47,3 @@ if_none (Some x) h = tt
 
 pub none_of : {X Y : Type 0} (f : X → Y) (o : Option X) → o ≡ None → option_map f o ≡ None
 none_of f o h = ap (option_map f) h
-
--- what follows from the fact of a result with a value
-pub on_ok : {T E P Q : Type 0} (r : Result T E) → (P → Q) → OnOk r P → OnOk r Q
-on_ok (Ok x) f p = f p
-on_ok (Err e) f p = p

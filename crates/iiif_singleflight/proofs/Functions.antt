@@ -4,7 +4,7 @@ use mathlib.Core.Path.{fun_ext}
 use Rattle.std.specs.Map.{update}
 use Rattle.iiif_tables.specs.Flights.{same_class}
 use Rattle.iiif_tables.specs.declared.table.Class.{Class}
-use Rattle.iiif_tables.specs.declared.table.Class.TheVariants.{Wide, Local}
+use Rattle.iiif_tables.proofs.TableLaws.{class_is}
 use Rattle.iiif_singleflight.specs.Seen.{with_at, each_of}
 
 module _ {K X Y : Type 0} (eq : K → K → Bool) (class : Class) (k : K) where
@@ -13,12 +13,6 @@ module _ {K X Y : Type 0} (eq : K → K → Bool) (class : Class) (k : K) where
     | true ↦ elim (eq k q) as (λ z. option_map f (cond z x (m c q)) ≡ cond z (option_map f x) (option_map f (m c q))) [ true ↦ refl | false ↦ refl ]
     | false ↦ refl
   ]))
-
-class_is : (a b : Class) → same_class a b ≡ true → a ≡ b
-class_is Wide Wide h = refl
-class_is Wide Local h = cc
-class_is Local Wide h = cc
-class_is Local Local h = refl
 
 -- what stands at a place already
 pub with-same : {K X : Type 0} (eq : K → K → Bool) (ident : (a b : K) → eq a b ≡ true → a ≡ b) (class : Class) (k : K) (x : Option X) (m : Class → K → Option X)

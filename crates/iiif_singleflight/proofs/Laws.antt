@@ -1,5 +1,5 @@
 -- The definitions' functions, case by case.
-use Rattle.std.proofs.Common.{◌≡◌, ℕ, ◌+◌, Bool, true, false, Option, Some, None, IfSome, IsSomeAnd, Result, Ok, IfOk, option_map, refl, subst, arith}
+use Rattle.std.proofs.Common.{◌≡◌, ℕ, ◌+◌, Bool, true, false, Option, Some, None, IfSome, IsSomeAnd, option_map, refl, subst, arith}
 use Rattle.std.specs.Option.{ForSome, is_some}
 use Rattle.std.proofs.lemmas.Bool.Decides.{nat_tests}
 use Rattle.iiif_singleflight.specs.Seen.{Seen, the_flight}
@@ -57,9 +57,6 @@ same_table b p q r = cc
 pub ticket_of : (n : ℕ) (o : Option Seen) → has_ticket n (option_map the_flight o) ≡ true → (s : Seen) × (o ≡ Some s) × (s.flight.ticket ≡ n)
 ticket_of n None h = cc
 ticket_of n (Some s) h = let e : s.flight.ticket ≡ n = grind (arith, nat_tests) in (s, refl, e)
-
-pub at_ok : {X E : Type 0} (r : Result X E) (x : X) (P : X → Type 0) → r ≡ Ok x → IfOk r P → P x
-at_ok r x P e h = let Q : Result _ _ → Type 0 = λ r. IfOk r P in subst Q e h
 
 pub at_some : {X : Type 0} (o : Option X) (x : X) (P : X → Type 0) → o ≡ Some x → IfSome o P → P x
 at_some o x P e h = let Q : Option _ → Type 0 = λ o. IfSome o P in subst Q e h

@@ -7,9 +7,10 @@ use Rattle.iiif_singleflight.proofs.Functions.{each-with}
 use Rattle.iiif_outcome.specs.Outcomes.{value_of}
 use Rattle.iiif_outcome.specs.Views.{kept_of, is_of, is_known_for, receipt_known, flight_key, flight_ticket, flight_cell, lead_cell}
 use Rattle.std.specs.Result.{ForOk}
+use Rattle.std.proofs.lemmas.Result.{IfOk-at_ok}
 use Rattle.iiif_byte_cache.specs.View.{cache_of}
 use Rattle.iiif_singleflight.specs.View.{table_of}
-use Rattle.iiif_singleflight.proofs.Laws.{enter-hit, enter-joined, enter-led, if_some, some_of, same_table, at_ok, at_some}
+use Rattle.iiif_singleflight.proofs.Laws.{enter-hit, enter-joined, enter-led, if_some, some_of, same_table, at_some}
 use Rattle.iiif_singleflight.proofs.Known.{known_key, value_meant}
 use Rattle.iiif_singleflight.proofs.table.Table.enter.Goals as goal
 
@@ -57,10 +58,10 @@ returns-in-Some-join-clause-met g c =
     let s = some_of (open_at eq t.opens c.args.class k) c.in-Some-join.ensures.none in
     let flights : plain.flights c.args.class k ≡ Some (the_flight s.0) = ap (option_map the_flight) s.1 in
     let met = enter-joined eq c.args.class k plain (the_flight s.0) none flights in
-    let told = at_ok c.in-Some-join.flight c.in_ok-flight.flight (λ f. IfSome (open_at eq t.opens c.args.class k) (λ s. (flight_ticket f ≡ s.flight.ticket) × (flight_cell f ≡ s.cell))) c.in_ok-flight.was c.in-Some-join.ensures.joined in
+    let told = IfOk-at_ok (λ f. IfSome (open_at eq t.opens c.args.class k) (λ s. (flight_ticket f ≡ s.flight.ticket) × (flight_cell f ≡ s.cell))) c.in_ok-flight.was c.in-Some-join.ensures.joined in
     let both = at_some (open_at eq t.opens c.args.class k) s.0 (λ s. (flight_ticket c.in_ok-flight.flight ≡ s.flight.ticket) × (flight_cell c.in_ok-flight.flight ≡ s.cell)) s.1 told in
     let ticket : flight_ticket c.in_ok-flight.flight ≡ s.0.flight.ticket = both.0 in
-    let key = at_ok c.in-Some-join.flight c.in_ok-flight.flight (λ f. flight_key f ≡ k) c.in_ok-flight.was c.in-Some-join.ensures.key in
+    let key = IfOk-at_ok (λ f. flight_key f ≡ k) c.in_ok-flight.was c.in-Some-join.ensures.key in
     (rw (met, ticket) refl, key)
 
 pub open-requires : goal.open-requires
