@@ -1,5 +1,5 @@
 -- Names of a catalogue, and what they stand for.
-use Rattle.std.proofs.Common.{◌≡◌, ℕ, Bool, List, Option, None, Some, option_map, sym, ap, subst, ◌∙◌}
+use Rattle.std.proofs.Common.{◌≡◌, ℕ, Bool, List, Option, Some, option_map, sym, ap, subst, ◌∙◌}
 use Rattle.std.specs.Prelude.{unwrap_or}
 use Rattle.iiif_pixel.specs.Picture.{Picture}
 use Rattle.iiif_source.specs.declared.ReadFault.{ReadFault}
@@ -8,11 +8,6 @@ use Rattle.iiif_keys.specs.Shapes.{shape_of, HasPicture}
 use Rattle.iiif_keys.specs.declared.keys.Shape.{Shape}
 use Rattle.iiif_images.specs.Collection.{Item, item_named}
 use Rattle.iiif_images.specs.Named.{gave_of, given_by, picture_in, pictures_of, IsImageOf}
-
--- a name that isn't there has no picture
-pub no_picture_there : {S : Type 0} (shows : Pictures) (bytes : S → List ℕ) (items : List (Item S)) (name : List ℕ)
-    → shows name ≡ pictures_of bytes items name → item_named items name ≡ None → shows name ≡ None
-no_picture_there shows bytes items name e f = e ∙ ap (option_map (picture_in bytes)) f
 
 gave_there : {S : Type 0} (gave : S → ReadFault → Bool) (items : List (Item S)) (name : List ℕ) (item : Item S) (f : ReadFault)
     → item_named items name ≡ Some item → gave_of gave items name f ≡ gave item.source f

@@ -10,6 +10,7 @@ use Rattle.iiif_pixel.specs.declared.geometry.Kind.{Kind}
 use Rattle.iiif_pixel.proofs.SampleLists.{sample_at-picture_of}
 use Rattle.iiif_pixel.proofs.Seen.{one_or_three}
 use Rattle.iiif_pixel.proofs.Whole.{whole_picture_of}
+use Rattle.iiif_pixel.proofs.Parts.{same_dim}
 use Rattle.iiif_tiff.specs.Tiff.{IsReadable, Scheme, Shows, scheme, shown, white_of}
 use Rattle.iiif_tiff.proofs.OnePicture.{shown-le, white_is}
 use Rattle.iiif_tiff_read.specs.Layouts as layouts
@@ -29,12 +30,6 @@ seen bytes s = picture_of s.width s.height s.channels (white_of s.bits) (shown b
 
 abbrev dim_made : ℕ → ℕ → Dim
 dim_made w h = record { w = w; h = h }
-
-same_made : (a b c d : ℕ) → a ≡ b → c ≡ d → dim_made a c ≡ dim_made b d
-same_made a b c d p q = cc
-
-same_dim : (d e : Dim) → d.w ≡ e.w → d.h ≡ e.h → d ≡ e
-same_dim d e p q = same_made _ _ _ _ p q
 
 -- it is one that a source holds
 seen_source : (bytes : List ℕ) (s : Scheme) (d : Dim) → All (λ b. b ≤ 255) bytes → (s.channels ≡ 1) ⊎ (s.channels ≡ 3) → d.w ≡ s.width → d.h ≡ s.height → IsReadable d → IsSource (seen bytes s)
