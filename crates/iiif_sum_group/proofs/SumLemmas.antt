@@ -1,13 +1,11 @@
 -- Sums merged one after another.
-use Rattle.std.proofs.Common.{◌≡◌, ℕ, zero, suc, ◌+◌, ◌<◌, ◌≤◌, Bool, false, List, [], ◌∷◌, ◌++◌, All, length, get_or, take, map, fold, sym, ap, subst, ◌∙◌, arith}
+use Rattle.std.proofs.Common.{◌≡◌, ℕ, zero, suc, ◌+◌, ◌<◌, ◌≤◌, Bool, false, List, [], ◌∷◌, ◌++◌, length, get_or, take, map, fold, sym, ap, ◌∙◌, arith}
 use Rattle.std.specs.Prelude.{if◌then◌else◌, ◌==◌}
 use Rattle.std.proofs.Math.Dec.{eqb-suc-zero}
 use Rattle.std.proofs.lemmas.List.{map-append, take_all, take_more}
-use Rattle.std.proofs.lemmas.List.Elements.{All-get_or}
 use Rattle.std.proofs.lemmas.List.Sums.{fold-append}
 use Rattle.iiif_pixel.specs.Geometry.{channels_of}
 use Rattle.iiif_pixel.specs.Picture.{dim_of}
-use Rattle.iiif_pixel.specs.declared.geometry.Dim.{Dim}
 use Rattle.iiif_area.specs.Grid.{Grid, merged}
 use Rattle.iiif_keys.specs.Blocks.{SumFitsIn}
 use Rattle.iiif_keys.specs.Laws.{PartsMakeMeaning}
@@ -63,7 +61,3 @@ all_parts makes shows k s v has source fits above made =
 pub all_taken : (shows : Pictures) (start sums : Grid) (keys below : List SumKey) (i : ℕ) → keys ≡ below → length keys ≤ i
     → sums ≡ fold merged start (sums_of_parts shows (take i keys)) → sums ≡ fold merged start (sums_of_parts shows below)
 all_taken shows start sums keys below i are past e = e ∙ ap (λ ks. fold merged start (sums_of_parts shows ks)) (take_all i keys past ∙ are)
-
--- what holds of each element holds of the one that is read
-pub element : {X : Type 0} (P : X → Type 0) (xs : List X) (i : ℕ) (x : X) → All P xs → i < length xs → get_or xs i x ≡ x → P x
-element P xs i x each within is = subst P is (All-get_or P xs i x within each)

@@ -1,4 +1,5 @@
 use Rattle.std.proofs.Common.{arith, ◌≡◌, ◌∙◌, ◌+◌, ◌*◌, ◌<◌, ℕ, List, All, sym, subst, get_or}
+use Rattle.std.proofs.lemmas.List.Elements.{All-get_or}
 use Rattle.iiif_pixel.specs.Geometry.{channels_of}
 use Rattle.iiif_keys.specs.Blocks.{SumFitsIn}
 use Rattle.iiif_keys.specs.Laws.{IsBelow}
@@ -7,7 +8,7 @@ use Rattle.iiif_keys.specs.Names.{named, IsSource}
 use Rattle.iiif_keys.specs.Shapes.{HasPicture}
 use Rattle.iiif_keys.specs.declared.keys.Parts.{Parts}
 use Rattle.iiif_keys.specs.declared.keys.SumKey.{SumKey}
-use Rattle.iiif_sum_group.proofs.SumLemmas.{all_parts, all_taken, element, parts_more}
+use Rattle.iiif_sum_group.proofs.SumLemmas.{all_parts, all_taken, parts_more}
 use Rattle.iiif_sum_group.proofs.groups.Groups.+sums.Goals as goal
 
 pub made-part-requires : goal.made-part-requires
@@ -23,7 +24,7 @@ made-part-requires g t c κs within =
     let k = c.quarter-item.result in
     let item : get_or quarters i k ≡ k = sym c.quarter-item.is in
     let here : (P : SumKey → Type 0) → All P (sums_below key) → P k =
-    λ P each. element P quarters i k (subst (All P) (sym are) each) c.loop-quarter-test.true item in
+    λ P each. subst P item (All-get_or P quarters i k c.loop-quarter-test.true (subst (All P) (sym are) each)) in
     let below = here (IsBelow key) (c.parts_are_exact.ensures.below key of_key.0) in
     let fits = here (SumFitsIn s.dim channels) (c.parts_are_exact.ensures.fit s.dim channels key of_key.0 c.requires.fits) in
     let known = subst (λ (n : List ℕ). HasPicture shows n s) (sym below.name) c.requires.known in
@@ -38,7 +39,7 @@ made-add_part-requires-clause-known g t c =
     let quarters = c.deref-quarter-items.result.now in
     let are : quarters ≡ sums_below key = c.deref-quarter-items.ensures.value ∙ of_key.1 in
     let k = c.quarter-item.result in
-    let below = element (IsBelow key) quarters c.loop-quarter.quarter-index k (subst (All (IsBelow key)) (sym are) (c.parts_are_exact.ensures.below key of_key.0)) c.loop-quarter-test.true (sym c.quarter-item.is) in
+    let below = subst (IsBelow key) (sym c.quarter-item.is) (All-get_or (IsBelow key) quarters c.loop-quarter.quarter-index k c.loop-quarter-test.true (subst (All (IsBelow key)) (sym are) (c.parts_are_exact.ensures.below key of_key.0))) in
     subst (λ (n : List ℕ). HasPicture g.J.System.pictures n c.args.shape.now) (sym below.name) c.requires.known
 
 pub made-loop-quarter-preserved : goal.made-loop-quarter-preserved
@@ -52,7 +53,7 @@ made-loop-quarter-preserved g t c =
     let i = c.loop-quarter.quarter-index in
     let k = c.quarter-item.result in
     let item : get_or quarters i k ≡ k = sym c.quarter-item.is in
-    let below = element (IsBelow key) quarters i k (subst (All (IsBelow key)) (sym are) (c.parts_are_exact.ensures.below key of_key.0)) c.loop-quarter-test.true item in
+    let below = subst (IsBelow key) item (All-get_or (IsBelow key) quarters i k c.loop-quarter-test.true (subst (All (IsBelow key)) (sym are) (c.parts_are_exact.ensures.below key of_key.0))) in
     let before = c.loop-quarter.invariant in
     let added = c.in_ok-add_part-in-Ok-Sums.ensures in
     let asked = c.in_ok-receipt-in-Ok-Sums.ensures in
