@@ -1,5 +1,5 @@
 -- Lists of which the first so many elements are changed.
-use Rattle.std.proofs.Common.{◌≡◌, ℕ, zero, suc, ◌+◌, ◌≤◌, ◌<◌, List, [], ◌∷◌, map, length, Some, refl, sym, ap, ◌∙◌, arith, get_or}
+use Rattle.std.proofs.Common.{◌≡◌, ℕ, zero, suc, ◌+◌, ◌≤◌, ◌<◌, List, [], ◌∷◌, map, length, Some, refl, sym, ap, ◌∙◌, arith, get_or, Bool, true, false, cond, None}
 use Rattle.std.specs.Prelude.{slice_get, slice_set}
 use Rattle.std.proofs.lemmas.Option.{none-some, get_or_from_slice_get, same_Some}
 
@@ -35,6 +35,11 @@ pub get_there : {A : Type 0} (xs : List A) (i : ℕ) → i < length xs → (x : 
 get_there [] i h = absurd (omega (arith, h))
 get_there (x ∷ xs) zero h = (x, refl)
 get_there (x ∷ xs) (suc i) h = get_there xs i (omega (arith, h))
+
+-- a test that keeps nothing is false
+pub past : (b : Bool) (n : ℕ) → cond b (Some n) None ≡ None → b ≡ false
+past true n h = absurd (none-some n (sym h))
+past false n h = refl
 
 -- one element more
 pub mixed_step : {A : Type 0} (g : A → A) (old now : List A) (i : ℕ) (y z : A) → now ≡ mixed g i old → i < length now → y ≡ get_or now i y → z ≡ g y →

@@ -21,6 +21,7 @@ use Rattle.iiif_scene.proofs.KeyParts.{same_key}
 use Rattle.iiif_scene.proofs.KeyParts.{key_same}
 use Rattle.iiif_plain_tables.specs.declared.plain.OpenFlight.{OpenFlight}
 use Rattle.iiif_plain_tables.specs.Open.{is_named, seen, flight_in, are_once}
+use Rattle.iiif_plain_tables.proofs.Mixed.{past}
 
 abbrev Maybe : Type 0
 Maybe = Option tables.Flight
@@ -115,10 +116,6 @@ all_fail : (c : Class) (k : Key) (fs : List OpenFlight) → ((j : ℕ) (d : Open
 all_fail c k [] h = refl
 all_fail c k (g ∷ fs) h =
     ap (λ b. if b then Some (seen g) else flight_in fs c k) (h zero g (omega arith)) ∙ all_fail c k fs (λ j d less. h (suc j) d (omega arith))
-
-past : (b : Bool) (n : ℕ) → cond b (Some n) None ≡ None → b ≡ false
-past true n h = absurd (none-some n (sym h))
-past false n h = refl
 
 pub flight_missing : (c : Class) (k : Key) (fs : List OpenFlight) → position (is_named c k) fs ≡ None → flight_in fs c k ≡ None
 flight_missing c k fs h =

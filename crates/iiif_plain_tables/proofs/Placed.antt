@@ -1,10 +1,10 @@
 -- The entry at the first place of a key.
-use Rattle.std.proofs.Common.{◌≡◌, ℕ, zero, suc, ◌-◌, ◌<◌, ◌≤◌, max, Bool, true, false, cond, List, [], ◌∷◌, take, length, Some, None, refl, sym, ap, subst, ◌∙◌, get_or, is_some, arith, Result, Ok, Err, OnOk}
+use Rattle.std.proofs.Common.{◌≡◌, ℕ, zero, suc, ◌-◌, ◌<◌, ◌≤◌, max, Bool, true, false, cond, List, [], ◌∷◌, take, length, Some, None, refl, sym, ap, subst, ◌∙◌, get_or, is_some, arith}
 use Rattle.std.specs.Prelude.{slice_get, position}
 use Rattle.std.specs.List.{insert, remove, position_or_len}
 use Rattle.std.specs.Map.{lookup, lookup_entry, remove_entry}
 use Rattle.std.specs.Option.{option_map_or}
-use Rattle.std.proofs.lemmas.Option.{none-some, get_or_from_slice_get, slice_get_within, slice_get-get_or, same_Some}
+use Rattle.std.proofs.lemmas.Option.{none-some, get_or_from_slice_get, slice_get-get_or, same_Some}
 use Rattle.std.proofs.lemmas.List.Quantifiers.{position-Some}
 use Rattle.std.proofs.lemmas.List.Sums.{fails_before_first}
 use Rattle.std.proofs.lemmas.Bool.{ltb-false, lt-ltb, le-ltb}
@@ -15,6 +15,7 @@ use Rattle.iiif_scene.specs.Keys.{key_eq, entry_size}
 use Rattle.iiif_tables.proofs.CacheLaws.{same_cache}
 use Rattle.iiif_plain_tables.specs.declared.listing.Entry.{Entry}
 use Rattle.iiif_plain_tables.specs.Rows.{entry_of, rows}
+use Rattle.iiif_plain_tables.proofs.Mixed.{past}
 
 module _ (p : Key → Bool) where
   abbrev pub is_for : Entry → Bool
@@ -82,17 +83,10 @@ module _ (p : Key → Bool) where
         ap (λ b. cond b (rows es) (entry_of x ∷ remove_entry p (rows es))) no ∙ ap (λ es. entry_of x ∷ es) more.2,
       )
 
-  past : (b : Bool) (n : ℕ) → cond b (Some n) None ≡ None → b ≡ false
-  past true n h = absurd (none-some n (sym h))
-  past false n h = refl
-
   pub missing : (es : List Entry) → position is_for es ≡ None → (lookup_entry p (rows es) ≡ None) × (lookup p (rows es) ≡ None) × (remove_entry p (rows es) ≡ rows es)
   missing es h =
       let out : length es ≤ position_or_len is_for es = ltb-false _ _ (past _ _ h) in
       all_fail es (λ k d less. fails_before_first is_for es k d (omega arith))
-
-pub within : (k : Key) (es : List Entry) (i : ℕ) → position (λ (e : Entry). key_eq k e.key) es ≡ Some i → i < length es
-within k es i h = let f = found (key_eq k) es i h in slice_get_within es i f.0 f.1.at
 
 pub touched_some : (k : Key) (es new : List Entry) (i : ℕ) → position (λ (e : Entry). key_eq k e.key) es ≡ Some i → ((e : Entry) → slice_get es i ≡ Some e → new ≡ e ∷ remove es i) →
     (true ≡ is_some (lookup (key_eq k) (rows es))) × (rows new ≡ to_front key_eq k (rows es))
@@ -153,10 +147,6 @@ evict_zero c = refl
 
 abbrev made : List Entry → List Entry → ℕ → ℕ → Cache Key Value
 made m h l r = record { main = rows m; hot = rows h; limit = l; room = r }
-
-pub on_ok : {T E P Q : Type 0} (r : Result T E) → (P → Q) → OnOk r P → OnOk r Q
-on_ok (Ok x) f h = f h
-on_ok (Err e) f h = h
 
 placed_main : (s : Side) (k : Key) (e : Kept Value) (c : Cache Key Value) → is_some (lookup (key_eq k) c.main) ≡ true → placed key_eq k s e c ≡ record c { main = replaced key_eq k e c.main }
 unfolding placed
