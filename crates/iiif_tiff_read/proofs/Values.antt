@@ -5,7 +5,7 @@ use Rattle.std.specs.List.{range_with_len}
 use Rattle.std.specs.Prelude.{option_map, if◌then◌else◌}
 use Rattle.std.proofs.lemmas.Bool.{le-leb, lt-leb, le-ltb}
 use Rattle.std.proofs.lemmas.Nat.{row_fits}
-use Rattle.std.proofs.lemmas.List.{get_or-drop, get_or-take, take_rest, take-append-le, take-take, length-take, length-take-le, length-drop}
+use Rattle.std.proofs.lemmas.List.{get_or-drop, get_or-take, take_rest, take-append-le, take-take, length-take, length-take-le, length-drop, length-append}
 use Rattle.std.proofs.lemmas.List.FromFn.{map-range_with_len_more, length-map-range_with_len, get_or-map-range_with_len, fill_by_all}
 use Rattle.iiif_tiff.specs.Tiff.{Order, Little, Big, number, is_unsigned, size, width_of, values, offset, entry_fits}
 use Rattle.iiif_tiff.specs.Tiff as tiff
@@ -83,6 +83,13 @@ few_bytes buffer new file off n new-is room fits =
     let len : length new ≡ n = ap length read ∙ omega (arith, length-take n (drop off file), length-drop off file) in
     let le : n ≤ length new = omega (arith, len) in
     take-append-le n new (drop n buffer) le ∙ ap (take n) read ∙ take-take n n (drop off file) (omega arith)
+
+pub few_room : (buffer : List ℕ) (off n m : ℕ) → n ≤ length buffer → off + n ≤ m → off + length (take n buffer) ≤ m
+few_room buffer off n m room fits = rw (length-take-le n buffer room) fits
+
+-- the bytes that were read, and the rest of the buffer, are enough
+pub few_kept : (buffer new : List ℕ) (n : ℕ) → length new ≡ length (take n buffer) → n ≤ length buffer → n ≤ length (new ++ drop n buffer)
+few_kept buffer new n len-is room = omega (arith, length-append new (drop n buffer), length-take-le n buffer room, len-is)
 
 pub few_fit : (t : FieldType) (n : ℕ) → n ≤ 3 → n * size (code t) ≤ 12
 few_fit types.Byte n le = omega arith
