@@ -21,7 +21,7 @@ const MAX_AREA: u64 = 1 << 32;
 const MAX_TILE_SIDE: u32 = 1 << 20;
 
 /// How samples are stored.
-#[derive(Clone, Copy, Debug)]
+#[derive(Clone, Copy)]
 pub struct Format {
     pub kind: Kind,
     pub bits: u32,

@@ -15,7 +15,7 @@ use iiif_source::{ReadFault, Source};
 use std::alloc::{AllocError, Global};
 
 /// An entry of the directory: its values stand in its last four bytes, or at the offset that stands there.
-#[derive(Clone, Copy, Debug)]
+#[derive(Clone, Copy)]
 pub struct Entry {
     pub tag: u16,
     pub kind: u16,
@@ -76,7 +76,7 @@ pub fn bytes_at<R, S: Source<R>>(
 }
 
 /// What the first eight bytes say.
-#[derive(Clone, Copy, Debug)]
+#[derive(Clone, Copy)]
 struct Header {
     order: ByteOrder,
     directory: u32,

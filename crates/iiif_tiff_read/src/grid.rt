@@ -17,7 +17,7 @@ use iiif_tiff::tag;
 const MAX_PIECES: u64 = 1 << 20;
 
 /// How an image is cut: into tiles or strips, of these sides, so many across and in all.
-#[derive(Clone, Copy, Debug)]
+#[derive(Clone, Copy)]
 pub struct Grid {
     pub tiled: bool,
     pub width: u32,

@@ -5,7 +5,7 @@ use crate::grid::Grid;
 use iiif_pixel::Dim;
 
 /// The sides of an image, how its samples are stored, how it is cut into pieces, and where in the file each piece begins.
-#[derive(Debug, Drop)]
+#[derive(Drop)]
 pub struct Image {
     pub dim: Dim,
     pub format: Format,

@@ -18,7 +18,7 @@ use std::alloc::Global;
 use std::marker::Model;
 
 /// Where the samples of an image stand in its file: a few numbers, and four bytes for each strip or tile.
-#[derive(Debug, Drop)]
+#[derive(Drop)]
 pub struct Layout {
     image: Image,
 }

@@ -19,7 +19,7 @@ use iiif_tiff::tag;
 use std::alloc::Global;
 
 /// The tags of the pieces' offsets and byte counts.
-#[derive(Clone, Copy, Debug)]
+#[derive(Clone, Copy)]
 struct Tags {
     offsets: u16,
     counts: u16,
@@ -45,7 +45,7 @@ impl Tags {
 }
 
 /// A piece as the file's lists say.
-#[derive(Clone, Copy, Debug)]
+#[derive(Clone, Copy)]
 struct Piece {
     offset: u32,
     count: u32,

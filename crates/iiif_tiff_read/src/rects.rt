@@ -17,7 +17,7 @@ use iiif_source::Source;
 use std::alloc::Global;
 
 /// A part of a rectangle that stands in one piece: its corner in the rectangle, and its sides.
-#[derive(Clone, Copy, Debug)]
+#[derive(Clone, Copy)]
 pub struct Part {
     pub left: u32,
     pub top: u32,

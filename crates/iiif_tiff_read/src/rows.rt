@@ -97,7 +97,7 @@ fn runs_at<R, S: Source<R>>(
 }
 
 /// The bytes of a row that hold some samples: so many from a byte of the row on, and the samples to skip in the first.
-#[derive(Clone, Copy, Debug)]
+#[derive(Clone, Copy)]
 struct Span {
     pub start: usize,
     pub len: usize,
@@ -165,7 +165,7 @@ fn put_row(bits: u32, bytes: &[u8], skip: usize, samples: &mut [u8])
 
 /// Where rows of samples stand among those of a rectangle, all counted in samples: a rectangle's row takes `width`, and
 /// the rows from `top` on have `columns` from `left` on.
-#[derive(Clone, Copy, Debug)]
+#[derive(Clone, Copy)]
 pub struct Window {
     pub width: usize,
     pub left: usize,
@@ -195,7 +195,7 @@ fn put_rows(bits: u32, bytes: &[u8], span: Span, window: Window, samples: &mut [
 
 /// Rows of samples in a file: how many bits a sample has, where the first row begins and how many bytes each row takes,
 /// and which of its samples is the first that is wanted.
-#[derive(Clone, Copy, Debug)]
+#[derive(Clone, Copy)]
 pub struct Rows {
     pub bits: u32,
     pub at: u64,
