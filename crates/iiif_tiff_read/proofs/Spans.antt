@@ -5,6 +5,7 @@ use Rattle.std.proofs.lemmas.Bool.{cases_Bool, eqb-true, eqb-false}
 use Rattle.std.proofs.lemmas.Nat.{row_fits, mul-le}
 use Rattle.std.proofs.lemmas.List.{get_or-take, get_or-drop}
 use borrow.Rule.Slice.PartMut.{put_mid}
+use Rattle.iiif_source.specs.Runs.{AreIn}
 use Rattle.iiif_tiff.specs.Tiff.{stored}
 use Rattle.iiif_tiff_read.specs.declared.rows.Window.{Window}
 use Rattle.iiif_tiff_read.specs.declared.rows.Span.{Span}
@@ -44,6 +45,13 @@ span_room bits first n span h is = elim (eight_or_one bits h) [
       let packed = is.packed one in
       rw (one, packed.1, packed.2) (omega arith)
 ]
+
+-- a span of each row is a run of bytes in the file
+pub runs_in : (at stride count n : ℕ) (span : Span) → at ≤ 2 ^ 60 → stride ≤ 2 ^ 23 → 0 < count → span.start + span.len ≤ stride → at + count * stride ≤ n
+    → AreIn n (record { at = at + span.start; stride = stride; len = span.len; count = count })
+runs_in at stride count n span at-le stride-le some in-row fits =
+    let last : (count - 1) * stride + stride ≤ count * stride = row_fits (count - 1) stride count stride (omega arith) (omega arith) in
+    record { small = (omega arith, stride-le, omega arith); some = some; within = omega arith }
 
 -- a sample of a row that was read is that of the row in the file
 pub row_read : (bits first n j i row stride : ℕ) (span : Span) (bytes read : List ℕ) → (bits ≢ 8 → bits ≡ 1) → IsSpan bits first n span → i < n

@@ -6,6 +6,30 @@ use Rattle.iiif_tiff_read.proofs.Runs.{length-mid}
 use Rattle.iiif_tiff_read.proofs.Windows.{row_held, row_rest}
 use Rattle.iiif_tiff_read.proofs.rows.put_rows.Goals as goal
 
+pub put_row-requires-clause-room : goal.put_row-requires-clause-room
+put_row-requires-clause-room c =
+    let start = (c.args.window.top + c.loop-j.j) * c.args.window.width + c.args.window.left in
+    let m = start + c.args.window.columns - start in
+    let next : (c.args.window.top + c.loop-j.j) * c.args.window.width + c.args.window.width ≤ (c.args.window.top + c.args.window.rows) * c.args.window.width = row_fits (c.args.window.top + c.loop-j.j) c.args.window.width (c.args.window.top + c.args.window.rows) c.args.window.width (omega arith) (omega arith) in
+    let len : length c.loop-j.samples ≡ length c.args.samples.now = search arith in
+    let row : length (take m (drop start c.loop-j.samples)) ≡ c.args.window.columns = length-mid start m c.args.window.columns c.loop-j.samples (omega arith) (omega (arith, len, next, c.requires.fits.rows, c.requires.fits.columns)) in
+    let from = c.loop-j.j * c.args.span.len in
+    let k = from + c.args.span.len - from in
+    let read : length (take k (drop from c.args.bytes.now)) ≡ c.args.span.len = length-mid from k c.args.span.len c.args.bytes.now (omega arith) (omega (arith, c.requires.bytes, row_fits c.loop-j.j c.args.span.len c.args.window.rows c.args.span.len c.loop-j-test.true (omega arith))) in
+    rw (row, read) c.requires.room
+
+pub put_row-requires-clause-whole : goal.put_row-requires-clause-whole
+put_row-requires-clause-whole c = λ eight.
+    let start = (c.args.window.top + c.loop-j.j) * c.args.window.width + c.args.window.left in
+    let m = start + c.args.window.columns - start in
+    let next : (c.args.window.top + c.loop-j.j) * c.args.window.width + c.args.window.width ≤ (c.args.window.top + c.args.window.rows) * c.args.window.width = row_fits (c.args.window.top + c.loop-j.j) c.args.window.width (c.args.window.top + c.args.window.rows) c.args.window.width (omega arith) (omega arith) in
+    let len : length c.loop-j.samples ≡ length c.args.samples.now = search arith in
+    let row : length (take m (drop start c.loop-j.samples)) ≡ c.args.window.columns = length-mid start m c.args.window.columns c.loop-j.samples (omega arith) (omega (arith, len, next, c.requires.fits.rows, c.requires.fits.columns)) in
+    let from = c.loop-j.j * c.args.span.len in
+    let k = from + c.args.span.len - from in
+    let read : length (take k (drop from c.args.bytes.now)) ≡ c.args.span.len = length-mid from k c.args.span.len c.args.bytes.now (omega arith) (omega (arith, c.requires.bytes, row_fits c.loop-j.j c.args.span.len c.args.window.rows c.args.span.len c.loop-j-test.true (omega arith))) in
+    rw (row, read) (c.requires.whole eight)
+
 pub loop-j-preserved : goal.loop-j-preserved
 loop-j-preserved c =
     let start = (c.args.window.top + c.loop-j.j) * c.args.window.width + c.args.window.left in

@@ -5,6 +5,21 @@ use Rattle.iiif_tiff_read.specs.Code.{image_units, IsPart}
 use Rattle.iiif_tiff_read.proofs.Places.{filled_part}
 use Rattle.iiif_tiff_read.proofs.image.Image.fill.Goals as goal
 
+pub read_part-requires-clause-part : goal.read_part-requires-clause-part
+read_part-requires-clause-part g c =
+    let s = image_units c.args.self.now in
+    let x-below : (c.args.rect.x + c.loop-left.left) % s.piece_width < s.piece_width = mod_below (c.args.rect.x + c.loop-left.left) s.piece_width c.requires.sound.piece_width.0 in
+    let y-below : (c.args.rect.y + c.loop-top.top) % s.piece_height < s.piece_height = mod_below (c.args.rect.y + c.loop-top.top) s.piece_height c.requires.sound.piece_height.0 in
+    record {
+      inside = c.requires.inside;
+      columns = omega (arith, c.min-columns.ensures, c.loop-left-test.true);
+      rows = omega (arith, c.min-rows.ensures, c.loop-top-test.true);
+      columns_some = omega (arith, c.min-columns.ensures, c.loop-left-test.true, x-below);
+      rows_some = omega (arith, c.min-rows.ensures, c.loop-top-test.true, y-below);
+      piece_columns = omega (arith, c.min-columns.ensures, x-below);
+      piece_rows = omega (arith, c.min-rows.ensures, y-below);
+    }
+
 pub loop-left-preserved : goal.loop-left-preserved
 loop-left-preserved g c =
     let s = image_units c.args.self.now in
