@@ -1,4 +1,4 @@
-//! Sums made into samples, place by place, by as many threads as there are processors.
+//! Sums made into samples, place by place: few by the calling thread, many by as many threads as there are processors.
 
 ghost use Rattle.std.specs.Prelude.{◌≡◌, ◌*◌, ◌<◌, ◌≤◌, ◌^◌, IfOk};
 ghost use Rattle.std.specs.List.{AllZip};
@@ -12,6 +12,9 @@ use iiif_pixel::{Depth, Dim, NoMemory, Raster, Samples, Span};
 use rayon::prelude::*;
 use std::alloc::Global;
 use std::thread::Threads;
+
+/// So many sums are rounded by the calling thread alone, in a loop that takes an eighth of what each takes among several.
+const FEW: usize = 1_048_576;
 
 /// The least sums that are worth a thread: starting one takes as long as rounding some ten thousand.
 const LEAST: usize = 65_536;
@@ -93,8 +96,8 @@ pub(crate) fn count_of(raster: &Raster) -> u64
     }
 }
 
-/// The samples of a depth that sums over the whole of a region make, at all their places.
-pub(crate) fn finish_all<R: Threads + Sync>(
+/// The samples of a depth that sums over the whole of a region make, at all their places, by several threads.
+fn finish_many<R: Threads + Sync>(
     rt: &R,
     alloc: Global,
     total: &Sums,
@@ -109,4 +112,23 @@ pub(crate) fn finish_all<R: Threads + Sync>(
     let area = u64::from(region.w) * u64::from(region.h);
     let samples = rounded_all(rt, alloc, total.sums(), area, depth)?;
     Ok(Raster::from_samples(total.rect().dim(), total.kind(), samples))
+}
+
+/// The samples of a depth that sums over the whole of a region make, at all their places.
+pub(crate) fn finish_all<R: Threads + Sync>(
+    rt: &R,
+    alloc: Global,
+    total: &Sums,
+    region: Dim,
+    depth: Depth,
+) -> Result<Raster, NoMemory>
+    requires columns { 0 < region.w }
+    requires rows { 0 < region.h }
+    requires area { region.w * region.h ≤ 2 ^ 32 }
+    ensures { IfOk result (λ r. r ≡ finished total.now region (top_of depth) total.now.rect) }
+{
+    if total.sums().len() > FEW {
+        return finish_many(rt, alloc, total, region, depth);
+    }
+    total.finish(alloc, region, total.rect(), depth)
 }

@@ -8,7 +8,7 @@ use Rattle.iiif_pixel.specs.declared.geometry.Dim.{Dim}
 use Rattle.iiif_area.specs.Grid.{average_within}
 use Rattle.iiif_area.proofs.SumLaws.{same_product}
 use Rattle.iiif_assemble.proofs.FinishLemmas.{all_finished}
-use Rattle.iiif_assemble.proofs.finishing.finish_all.Goals as goal
+use Rattle.iiif_assemble.proofs.finishing.finish_many.Goals as goal
 
 pub returns : goal.returns
 returns g c =
