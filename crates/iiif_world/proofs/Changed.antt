@@ -2,7 +2,7 @@
 use Rattle.std.proofs.Common.{Vec, true, false, ◌≡◌, ℕ, zero, suc, ◌+◌, ◌≤◌, ◌<◌, List, [], ◌∷◌, ◌++◌, map, length, Some, None, refl, sym, ap, ◌∙◌, arith, get_or, take, subst, length-append}
 use Rattle.std.specs.Prelude.{slice_get, slice_set}
 use Rattle.std.proofs.lemmas.Option.{none-some, get_or_from_slice_get, same_Some}
-use Rattle.std.proofs.lemmas.List.{take_all, with_items_is}
+use Rattle.std.proofs.lemmas.List.{take_all, with_items_is, length-map}
 use Rattle.std.specs.Vec.{with_items}
 use Rattle.iiif_machine.specs.Sound.{Each}
 use Rattle.iiif_machine.proofs.Lists.{each_one, each_cons}
@@ -19,20 +19,10 @@ set_twice [] i x y = refl
 set_twice (z ∷ xs) zero x y = refl
 set_twice (z ∷ xs) (suc i) x y = ap (λ l. z ∷ l) (set_twice xs i x y)
 
-pub get_set : {A : Type 0} (xs : List A) (i : ℕ) (x y : A) → slice_get xs i ≡ Some x → slice_get (slice_set xs i y) i ≡ Some y
-get_set [] i x y h = absurd (none-some x h)
-get_set (z ∷ xs) zero x y h = refl
-get_set (z ∷ xs) (suc i) x y h = get_set xs i x y h
-
 pub map-set : {A B : Type 0} (g : A → B) (xs : List A) (i : ℕ) (x : A) → map g (slice_set xs i x) ≡ slice_set (map g xs) i (g x)
 map-set g [] i x = refl
 map-set g (y ∷ xs) zero x = refl
 map-set g (y ∷ xs) (suc i) x = ap (λ l. g y ∷ l) (map-set g xs i x)
-
-pub get_missing : {A : Type 0} (xs : List A) (i : ℕ) → length xs ≤ i → slice_get xs i ≡ None
-get_missing [] i h = refl
-get_missing (x ∷ xs) zero h = absurd (omega (arith, h))
-get_missing (x ∷ xs) (suc i) h = get_missing xs i (omega (arith, h))
 
 pub missing_map : {A B : Type 0} (g : A → B) (xs : List A) (i : ℕ) → slice_get xs i ≡ None → slice_get (map g xs) i ≡ None
 missing_map g [] i h = refl
@@ -90,11 +80,6 @@ each_more P xs i x e less is p = let next : suc i ≡ i + 1 = omega arith in sub
 pub each_all : {A : Type 0} (P : A → Type 0) (xs : List A) (i : ℕ) → Each P (take i xs) → length xs ≤ i → Each P xs
 each_all P xs i e out = subst (Each P) (take_all i xs out) e
 
--- the same of what is made of them
-pub map_length : {A B : Type 0} (f : A → B) (xs : List A) → length (map f xs) ≡ length xs
-map_length f [] = refl
-map_length f (x ∷ xs) = ap suc (map_length f xs)
-
 each_suc_made : {A B : Type 0} (P : B → Type 0) (f : A → B) (xs : List A) (i : ℕ) (x : A) → Each P (take i (map f xs)) → i < length xs → x ≡ get_or xs i x → P (f x) →
     Each P (take (suc i) (map f xs))
 each_suc_made P f [] i x e less is p = absurd (omega (arith, less))
@@ -109,7 +94,7 @@ each_more_made P f xs i x e less is p = let next : suc i ≡ i + 1 = omega arith
 -- a list whose elements are all made anew
 pub made_is : {A Z : Type 0} (v : Vec A Z) (ws : List A) (f : A → A) → ws ≡ map f v.items → (with_items v ws).items ≡ map f v.items
 made_is v ws f is =
-    let len : length ws ≡ v.len = omega (arith, ap length is, map_length f v.items, v.ok.0) in
+    let len : length ws ≡ v.len = omega (arith, ap length is, length-map v.items f, v.ok.0) in
     with_items_is v ws len ∙ is
 
 pub true-false : true ≡ false → ⊥

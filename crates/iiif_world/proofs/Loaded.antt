@@ -1,5 +1,5 @@
 -- What a load comes to, from what a flight does next.
-use Rattle.std.proofs.Common.{◌≡◌, ℕ, List, ◌++◌, map, length, Option, Some, None, Result, Ok, Err, sym, ap, subst, ◌∙◌}
+use Rattle.std.proofs.Common.{◌≡◌, ℕ, List, ◌++◌, map, length, Option, Some, None, Result, Ok, Err, sym, ap, ◌∙◌}
 use Rattle.std.specs.Prelude.{slice_get}
 use Rattle.std.proofs.lemmas.Option.{same_Some}
 use Rattle.iiif_scene.specs.Keys.{meaning, parts_of, derived, name_of}
@@ -21,12 +21,12 @@ use Rattle.iiif_tables.specs.declared.table.Class.TheVariants.{Local}
 use Rattle.iiif_machine.specs.declared.rows.Purpose.TheVariants.{ForPart}
 use Rattle.iiif_machine.specs.declared.rows.Stage.{Stage}
 use Rattle.iiif_machine.specs.declared.rows.Stage.TheVariants.{Looked, Parts, Ready}
-use Rattle.iiif_machine.proofs.Learning.{gathered, AreGathered}
+use Rattle.iiif_machine.proofs.Learning.{gathered}
 use Rattle.iiif_machine.proofs.Subjects.{subject_laws}
 use Rattle.iiif_plain_tables.specs.Heard.{heard_all}
 use Rattle.iiif_world.specs.Loads.{IsLocalAt}
 use Rattle.iiif_plain_tables.specs.declared.hearing.Heard.TheVariants as code
-use Rattle.iiif_world.proofs.Meant.{heard_value, heard_fault, heard_nothing}
+use Rattle.iiif_world.proofs.Meant.{heard_value, heard_fault, heard_nothing, values_are}
 use Rattle.iiif_world.proofs.Stepped.{begin_is, merge_is, merge_none}
 
 -- a tile is read
@@ -48,11 +48,6 @@ split_done w m v f ks cs ns a some hc hn hm hv =
     (sym (hv ∙ ap (λ (z : World). with_stage z f a.lead (Parts ns)) hm
     ∙ ap (λ (x : List Call). with_stage (record w { calls = w.calls ++ x }) f a.lead (Parts ns)) hc
     ∙ ap (λ (x : List ℕ). with_stage (record w { calls = w.calls ++ map fresh (map (call_for a.lead.node a.node (ForPart f)) ks) }) f a.lead (Parts x)) hn))
-
--- the parts are merged
-values_are : (w : World) (node : ℕ) (name : List ℕ) (ks : List Key) (x : Result (List Value) ReadFault) (vs : List Value) → x ≡ Ok vs →
-    AreGathered w.scene w.given node name ks x → vs ≡ map (meaning w.scene) ks
-values_are w node name ks x vs is h = subst (AreGathered w.scene w.given node name ks) is h
 
 pub merge_done : (w v : World) (f : ℕ) (x : Value) (cs : List ℕ) (a : IsLocalAt w f (Parts cs)) → IsProper w.scene → IsHonestWorld w →
     code.Value ≡ heard_all (all_learned w cs) → x ≡ meaning w.scene a.lead.key → v ≡ with_stage w f a.lead (Ready (Ok x) Main) → step w (Load f) ≡ Some v

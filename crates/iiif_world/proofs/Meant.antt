@@ -1,13 +1,12 @@
 -- What keys and requests of sound worlds come to.
 use Rattle.std.proofs.Common.{◌≡◌, ℕ, ◌≤◌, ◌*◌, List, map, Option, Some, None, Result, Ok, Err, refl, sym, ap, subst, ◌∙◌, arith}
-use Rattle.std.proofs.Math.Nat.{mul-le-mul}
 use Rattle.std.specs.Prelude.{slice_get}
 use Rattle.std.proofs.lemmas.Option.{none-some, same_Some}
+use Rattle.std.proofs.lemmas.Nat.{mul-le}
 use Rattle.iiif_pixel.specs.Geometry.{channels_of, sides_of}
 use Rattle.iiif_pixel.specs.Picture.{Picture, dim_of}
 use Rattle.iiif_pixel.specs.declared.geometry.Dim.{Dim}
 use Rattle.iiif_pixel.specs.declared.geometry.Kind.{Kind}
-use Rattle.iiif_pixel.specs.declared.geometry.Kind.TheVariants.{Gray, Rgb}
 use Rattle.iiif_area.specs.Places.{IsScalable}
 use Rattle.iiif_canonical.specs.Resolution.{IsResolved}
 use Rattle.iiif_canonical.specs.Images as images
@@ -19,6 +18,7 @@ use Rattle.iiif_keys.specs.Blocks.{HasParts, TileFitsIn, SumFitsIn}
 use Rattle.iiif_keys.proofs.PartLaws.{fitting_has_parts}
 use Rattle.iiif_keys.specs.declared.keys.TileKey.{TileKey}
 use Rattle.iiif_keys.specs.declared.keys.SumKey.{SumKey}
+use Rattle.iiif_keys.proofs.Shaped.{kind_with_its_channels}
 use Rattle.iiif_scene.specs.Scenes.{Scene, IsProper}
 use Rattle.iiif_scene.specs.Keys.{Fits, name_of, meaning}
 use Rattle.iiif_scene.specs.Plans.{kind_of, resolved, items}
@@ -26,7 +26,7 @@ use Rattle.iiif_scene.specs.Images.{image, assembled}
 use Rattle.iiif_scene.specs.declared.keys.Key.TheVariants as key
 use Rattle.iiif_scene.proofs.Plans.{kind_is, image_from_resolved}
 use Rattle.iiif_scene.proofs.Lists.{each_of_all}
-use Rattle.iiif_machine.specs.Types.{Key, Value, Request, Refusal, Resolved, ReadFault}
+use Rattle.iiif_machine.specs.Types.{Key, Value, Request, Resolved, ReadFault}
 use Rattle.iiif_machine.specs.Tables.{Outcome}
 use Rattle.iiif_machine.specs.declared.rows.Wanted.{Wanted}
 use Rattle.iiif_machine.specs.declared.rows.Answer.TheVariants.{Image}
@@ -35,18 +35,14 @@ use Rattle.iiif_machine.specs.Worlds.{World, all_learned, collected, answer_from
 use Rattle.iiif_machine.specs.Sound.{Each, IsHonestWorld, ProgressIsHonest, facts, AreOf}
 use Rattle.iiif_machine.proofs.Learning.{gathered, AreGathered}
 use Rattle.iiif_machine.proofs.Subjects.{subject_laws}
+use Rattle.iiif_machine.proofs.Promised.{ok_same}
 use Rattle.iiif_plain_tables.specs.Heard.{heard_all, heard_from}
 use Rattle.iiif_plain_tables.specs.declared.hearing.Heard.{Heard}
 use Rattle.iiif_plain_tables.specs.declared.hearing.Heard.TheVariants as code
 use Rattle.iiif_world.specs.Settling.{answer_at, answer_due, answer_with}
 
--- a kind has its channels
-kind_back : (k : Kind) → k ≡ kind_with (channels_of k)
-kind_back Gray = refl
-kind_back Rgb = refl
-
 pub kind_same : (k : Kind) (p : Picture) → channels_of k ≡ p.channels → k ≡ kind_of p
-kind_same k p e = kind_back k ∙ ap kind_with e
+kind_same k p e = sym (kind_with_its_channels k) ∙ ap kind_with e
 
 -- what a key that fits is, of the picture of its name
 pub tile_fits : (s : Scene) (k : TileKey) (p : Picture) → s.shows k.name ≡ Some p → Fits s (key.Tile k) → TileFitsIn (dim_of p) p.channels k
@@ -84,9 +80,6 @@ pub resolves : (s : Scene) (p : Picture) (q : Request) (r : Resolved) → resolv
 unfolding resolved
 resolves s p q r h = resolved_is q (dim_of p) (kind_of p) s.limits r h
 
-area_within : (a b c d : ℕ) → a ≤ c → b ≤ d → a * b ≤ c * d
-area_within a b c d h k = mul-le-mul h k
-
 pub scalable : (d : Dim) (k : Kind) (l : Limits) (r : Resolved) → IsResolved d k l r → d.w * d.h ≤ 4294967296 → IsScalable (sides_of r.rect) r.size
 scalable d k l r is area =
     let inside = is.inside in
@@ -95,7 +88,7 @@ scalable d k l r is area =
     record {
       columns = omega (arith, is.not_empty.0);
       rows = omega (arith, is.not_empty.1);
-      area = omega (arith, area_within r.rect.w r.rect.h d.w d.h w h, area);
+      area = omega (arith, mul-le r.rect.w r.rect.h d.w d.h w h, area);
       result_columns = omega (arith, is.not_zero.0);
       result_rows = omega (arith, is.not_zero.1);
     }
@@ -106,12 +99,9 @@ pub record IsReady (w : World) (q : Wanted) (r : Resolved) (cs : List ℕ) (p : 
   pub solved : IsResolved (dim_of p) (kind_of p) w.scene.limits r
   pub made : (os : List Outcome) (vs : List Value) → all_learned w cs ≡ Some os → collected os ≡ Ok vs → assembled w.scene p r vs ≡ images.resolved_image p r
 
-ok_same : (x : Result Picture Refusal) (a b : Picture) → x ≡ Ok a → x ≡ Ok b → a ≡ b
-ok_same x a b e f = cc
-
-made_of : (w : World) (node : ℕ) (name : List ℕ) (ks : List Key) (r : Result (List Value) ReadFault) (vs : List Value) → r ≡ Ok vs →
+pub values_are : (w : World) (node : ℕ) (name : List ℕ) (ks : List Key) (r : Result (List Value) ReadFault) (vs : List Value) → r ≡ Ok vs →
     AreGathered w.scene w.given node name ks r → vs ≡ map (meaning w.scene) ks
-made_of w node name ks r vs is h = subst (AreGathered w.scene w.given node name ks) is h
+values_are w node name ks r vs is h = subst (AreGathered w.scene w.given node name ks) is h
 
 pub is_ready : (w : World) (i : ℕ) (q : Wanted) (r : Resolved) (cs : List ℕ) (p : Picture) → IsProper w.scene → IsHonestWorld w → slice_get w.requests i ≡ Some q →
     q.progress ≡ Waiting r cs → w.scene.shows q.wish.name ≡ Some p → IsReady w q r cs p
@@ -130,7 +120,7 @@ is_ready w i q r cs p proper honest at waits shown =
       solved = resolves s p q.wish.request r solved;
       made = λ os vs known all.
           let g = gathered w q.wish.node q.wish.name cs ks os honest are named known in
-          ap (assembled s p r) (made_of w q.wish.node q.wish.name ks (collected os) vs all g)
+          ap (assembled s p r) (values_are w q.wish.node q.wish.name ks (collected os) vs all g)
           ∙ ok_same (image s p q.wish.request) _ _ (laws.assembled_is q.wish.name p q.wish.request r shown solved)
           (image_from_resolved s p q.wish.request (kind_is p source.whole) ∙ ap (images.image_from p) solved);
     }

@@ -1,11 +1,12 @@
 -- The pictures of a catalogue, and nodes by their names.
-use Rattle.std.proofs.Common.{◌≡◌, ℕ, zero, suc, ◌<◌, ◌≤◌, Bool, true, false, cond, List, [], ◌∷◌, length, Some, None, refl, sym, ap, ◌∙◌, get_or, arith}
+use Rattle.std.proofs.Common.{◌≡◌, ℕ, zero, suc, ◌<◌, ◌≤◌, Bool, true, false, List, [], ◌∷◌, length, Some, None, refl, sym, ap, ◌∙◌, get_or, arith}
 use Rattle.std.specs.Prelude.{slice_get, position, if◌then◌else◌}
 use Rattle.std.specs.List.{position_or_len}
 use Rattle.std.proofs.lemmas.Option.{none-some, get_or_from_slice_get, slice_get-get_or, same_Some}
 use Rattle.std.proofs.lemmas.List.Quantifiers.{position-Some}
 use Rattle.std.proofs.lemmas.List.Sums.{fails_before_first}
 use Rattle.std.proofs.lemmas.Bool.{ltb-false}
+use Rattle.iiif_plain_tables.proofs.Mixed.{past}
 use Rattle.iiif_world.specs.declared.world.Item.{Item}
 use Rattle.iiif_world.specs.Code.{has_name, shown_in}
 
@@ -33,10 +34,6 @@ all_fail : (name : List ℕ) (is : List Item) → ((j : ℕ) (d : Item) → j < 
 all_fail name [] h = refl
 all_fail name (g ∷ is) h =
     ap (λ (b : Bool). if b then Some g.picture else shown_in is name) (h zero g (omega arith)) ∙ all_fail name is (λ j d less. h (suc j) d (omega arith))
-
-past : (b : Bool) (n : ℕ) → cond b (Some n) None ≡ None → b ≡ false
-past true n h = absurd (none-some n (sym h))
-past false n h = refl
 
 pub shown_missing : (name : List ℕ) (is : List Item) → position (has_name name) is ≡ None → shown_in is name ≡ None
 shown_missing name is h =

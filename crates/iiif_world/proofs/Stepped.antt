@@ -1,5 +1,5 @@
 -- What an event comes to, from the rows that it reads.
-use Rattle.std.proofs.Common.{◌≡◌, ℕ, List, [], ◌∷◌, Bool, map, length, Option, Some, None, refl, sym, ap, ◌∙◌}
+use Rattle.std.proofs.Common.{◌≡◌, ℕ, List, Bool, map, length, Option, Some, None, refl, sym, ap, ◌∙◌}
 use Rattle.std.specs.Prelude.{slice_get, slice_set, position}
 use Rattle.std.specs.Str.{bytes_eq}
 use Rattle.iiif_tables.specs.Cache.{Kept, kept_for}
@@ -9,7 +9,6 @@ use Rattle.iiif_scene.specs.Plans.{resolved}
 use Rattle.iiif_machine.specs.Types.{Key, Value, Request, Picture}
 use Rattle.iiif_machine.specs.Tables.{emptied, Class, Wide, Local, Outcome, Place, Main, Table, met, enter, again, land}
 use Rattle.iiif_machine.specs.Rows.{Node}
-use Rattle.iiif_machine.specs.declared.rows.Ask.{Ask}
 use Rattle.iiif_machine.specs.declared.rows.Caller.{Caller}
 use Rattle.iiif_machine.specs.declared.rows.Call.{Call}
 use Rattle.iiif_machine.specs.declared.rows.Lead.{Lead}
@@ -18,10 +17,9 @@ use Rattle.iiif_machine.specs.declared.rows.Flight.{Flight}
 use Rattle.iiif_machine.specs.declared.rows.Wanted.{Wanted}
 use Rattle.iiif_machine.specs.declared.rows.CallState.TheVariants.{Fresh, Hit, In}
 use Rattle.iiif_machine.specs.declared.rows.Stage.TheVariants.{New, Looked, Asking, Fallback, Parts, Ready, Ended}
-use Rattle.iiif_machine.specs.Worlds.{World, ◌>>=◌, version_shown, version_at, speaker, table_at, put_table, with_node, with_stage, with_state, with_calls, with_flight, with_ask, owner_of, settled, all_learned, collected, outcome_from}
+use Rattle.iiif_machine.specs.Worlds.{World, ◌>>=◌, version_shown, version_at, speaker, table_at, put_table, with_node, with_stage, with_state, with_flight, with_ask, owner_of, settled, all_learned, collected, outcome_from}
 use Rattle.iiif_machine.specs.Steps.{is_open_for, lead_of, after_want, after_look, after_begin, after_stop, flight_stopped, call_stopped, request_stopped, after_ask_peer, after_load, after_meeting, node_without, stage_found, step}
-use Rattle.iiif_machine.specs.declared.events.Event.TheVariants.{Want, Enter, Again, AskPeer, Serve, Load, Land, Stop}
-use Rattle.iiif_machine.specs.declared.rows.Purpose.TheVariants.{ForAsk}
+use Rattle.iiif_machine.specs.declared.events.Event.TheVariants.{Want, Enter, Again, AskPeer, Load, Land, Stop}
 use Rattle.iiif_plain_tables.proofs.Opening.{enter_met}
 
 pub bind_by : {A B : Type 0} (x : Option A) (f : A → Option B) (a : A) {y : Option B} → x ≡ Some a → f a ≡ y → (x >>= f) ≡ y
@@ -148,23 +146,6 @@ unfolding step
 want_mute w i name q n p x there shown is mute =
     bind_by (slice_get w.nodes i) _ n there (bind_by (w.scene.shows name) _ p shown
     (bind_none (speaker n (version_shown p)) _ (ap (λ (y : ℕ). speaker n y) (sym is) ∙ mute)))
-
-pub serve_is : (w v : World) (a : ℕ) (q : Ask) (n : Node) (k : Key) → slice_get w.asks a ≡ Some q → slice_get w.nodes q.node ≡ Some n → speaker n q.version ≡ Some n →
-    k ≡ q.key → v ≡ with_calls w (record { node = q.node; key = k; class = Local; purpose = ForAsk a } ∷ []) → step w (Serve a) ≡ Some v
-unfolding step
-serve_is w v a q n k at there speaks hk hv =
-    bind_by (slice_get w.asks a) _ q at (bind_by (slice_get w.nodes q.node) _ n there (bind_by (speaker n q.version) _ n speaks
-    (ap (λ (x : World). Some x) (sym (hv ∙ ap (λ (x : Key). with_calls w (record { node = q.node; key = x; class = Local; purpose = ForAsk a } ∷ [])) hk)))))
-
-pub serve_lost : (w : World) (a : ℕ) (q : Ask) → slice_get w.asks a ≡ Some q → slice_get w.nodes q.node ≡ None → step w (Serve a) ≡ None
-unfolding step
-serve_lost w a q at gone = bind_by (slice_get w.asks a) _ q at (bind_none (slice_get w.nodes q.node) _ gone)
-
-pub serve_mute : (w : World) (a : ℕ) (q : Ask) (n : Node) → slice_get w.asks a ≡ Some q → slice_get w.nodes q.node ≡ Some n → speaker n q.version ≡ None →
-    step w (Serve a) ≡ None
-unfolding step
-serve_mute w a q n at there mute =
-    bind_by (slice_get w.asks a) _ q at (bind_by (slice_get w.nodes q.node) _ n there (bind_none (speaker n q.version) _ mute))
 
 pub want_lost : (w : World) (i : ℕ) (name : List ℕ) (q : Request) (n : Node) → slice_get w.nodes i ≡ Some n → w.scene.shows name ≡ None → step w (Want i name q) ≡ None
 unfolding step

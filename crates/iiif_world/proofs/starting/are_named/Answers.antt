@@ -2,10 +2,11 @@ use Rattle.std.proofs.Common.{ap, sym, ◌∙◌, String, Global, Some, ◌≡�
 use Rattle.std.specs.String.{string_bytes}
 use Rattle.std.proofs.lemmas.Bool.Decides.{nat_tests}
 use Rattle.std.proofs.lemmas.Option.{slice_get-get_or}
+use Rattle.std.proofs.lemmas.List.{length-map}
 use Rattle.iiif_scene.proofs.Lists.{get_map}
 use Rattle.iiif_ring.specs.Names.{names_of}
 use Rattle.iiif_world.specs.Starting.{IsNamed}
-use Rattle.iiif_world.proofs.Changed.{each_more_made, each_all, map_length}
+use Rattle.iiif_world.proofs.Changed.{each_more_made, each_all}
 use Rattle.iiif_world.proofs.starting.are_named.Goals as goal
 
 pub loop-name-preserved : goal.loop-name-preserved
@@ -15,7 +16,7 @@ loop-name-preserved c =
 
 pub returns-clause-yes : goal.returns-clause-yes
 returns-clause-yes c = λ yes.
-    let all : length (names_of c.args.names.now) ≡ length c.args.names.now = map_length (λ name. string_bytes name) c.args.names.now in
+    let all : length (names_of c.args.names.now) ≡ length c.args.names.now = length-map c.args.names.now (λ name. string_bytes name) in
     let some : (length c.args.names.now == 0) ≡ false = sym c.is_empty.ensures ∙ c.if-is_empty.false in
     let more : 0 < length c.args.names.now = grind (arith, nat_tests) in
     (omega (arith, all, more), each_all (IsNamed c.args.setups.now) (names_of c.args.names.now) c.loop-name.name-index c.loop-name.invariant (omega arith))

@@ -5,9 +5,10 @@ use Rattle.iiif_scene.specs.Scenes.{IsProper}
 use Rattle.iiif_machine.specs.Sound.{IsHonestWorld}
 use Rattle.iiif_machine.specs.Worlds.{World, with_state}
 use Rattle.iiif_machine.specs.declared.rows.CallState.TheVariants.{Fresh, Hit}
+use Rattle.iiif_machine.proofs.Apart.{set_there}
 use Rattle.iiif_world.specs.Code.{world_of}
 use Rattle.iiif_world.specs.Entering.{HasCall}
-use Rattle.iiif_world.proofs.Changed.{get_set, length_set}
+use Rattle.iiif_world.proofs.Changed.{length_set}
 use Rattle.iiif_world.proofs.Found.{found_honest, state_back}
 use Rattle.iiif_world.proofs.Stepped.{find_done}
 use Rattle.iiif_world.proofs.world.World.find.Goals as goal
@@ -31,7 +32,7 @@ settle_entered-requires-clause-there c =
       c.requires.fresh.node,
       record {
         state = Hit c.args.value;
-        call = ap (λ (z : World). slice_get z.calls c.args.call) mid ∙ get_set w.calls c.args.call _ _ c.requires.fresh.call;
+        call = ap (λ (z : World). slice_get z.calls c.args.call) mid ∙ set_there w.calls c.args.call _ _ c.requires.fresh.call;
         there = ap (λ (z : World). slice_get z.nodes c.requires.fresh.who.node) mid ∙ c.requires.fresh.there;
       },
     )
@@ -49,7 +50,7 @@ returns-in-Ok-clause-ok c =
     let w = world_of c.args.self.now in
     let has : HasCall (world_of c.set_state.new.self) c.args.call c.requires.fresh.who c.requires.fresh.node = record {
       state = Hit c.args.value;
-      call = ap (λ (z : World). slice_get z.calls c.args.call) mid ∙ get_set w.calls c.args.call _ _ c.requires.fresh.call;
+      call = ap (λ (z : World). slice_get z.calls c.args.call) mid ∙ set_there w.calls c.args.call _ _ c.requires.fresh.call;
       there = ap (λ (z : World). slice_get z.nodes c.requires.fresh.who.node) mid ∙ c.requires.fresh.there;
     } in
     find_done w (world_of c.set_state.new.self) (world_of c.settle_entered.new.self) c.args.call c.requires.fresh.who c.requires.fresh.node
@@ -61,7 +62,7 @@ returns-in-Err-clause-same c =
     let mid = c.set_state.ensures c.requires.fresh.who Fresh c.requires.fresh.call in
     let w = world_of c.args.self.now in
     let back = c.in-Err.ensures.err ∙ mid in
-    let at = ap (λ (z : World). slice_get z.calls c.args.call) back ∙ get_set w.calls c.args.call _ _ c.requires.fresh.call in
+    let at = ap (λ (z : World). slice_get z.calls c.args.call) back ∙ set_there w.calls c.args.call _ _ c.requires.fresh.call in
     c.set_state-in-Err.ensures c.requires.fresh.who (Hit c.args.value) at
     ∙ ap (λ (z : World). with_state z c.args.call c.requires.fresh.who Fresh) back
     ∙ state_back w c.args.call c.requires.fresh.who Fresh (Hit c.args.value) c.requires.fresh.call

@@ -5,10 +5,11 @@ use Rattle.iiif_scene.specs.Scenes.{IsProper}
 use Rattle.iiif_machine.specs.Sound.{IsHonestWorld}
 use Rattle.iiif_machine.specs.Worlds.{World, with_stage}
 use Rattle.iiif_machine.specs.declared.rows.Stage.TheVariants.{Ready, Ended}
+use Rattle.iiif_machine.proofs.Apart.{set_there}
 use Rattle.iiif_plain_tables.specs.Nodes.{node_of}
 use Rattle.iiif_world.specs.Code.{world_of}
 use Rattle.iiif_world.specs.Entering.{HasFlight}
-use Rattle.iiif_world.proofs.Changed.{get_set, length_set}
+use Rattle.iiif_world.proofs.Changed.{length_set}
 use Rattle.iiif_world.proofs.Found.{ended_honest, stage_back}
 use Rattle.iiif_world.proofs.Stepped.{land_done}
 use Rattle.iiif_world.proofs.world.World.land.Goals as goal
@@ -36,7 +37,7 @@ settle_landed-requires-clause-there c =
       node_of c.in-Some-node_at._node.now,
       record {
         stage = Ended (Some c.in-Some.outcome.now);
-        flight = ap (λ (z : World). slice_get z.flights c.args.flight) mid ∙ get_set w.flights c.args.flight _ _ c.in-Some.ensures;
+        flight = ap (λ (z : World). slice_get z.flights c.args.flight) mid ∙ set_there w.flights c.args.flight _ _ c.in-Some.ensures;
         there = ap (λ (z : World). slice_get z.nodes l.node) mid ∙ c.in-Some-node_at.ensures;
       },
     )
@@ -62,7 +63,7 @@ returns-in-Ok-clause-ok c =
     let n = node_of c.in-Some-node_at._node.now in
     let has : HasFlight (world_of c.end.new.self) c.args.flight l n = record {
       stage = Ended (Some o);
-      flight = ap (λ (z : World). slice_get z.flights c.args.flight) mid ∙ get_set w.flights c.args.flight _ _ c.in-Some.ensures;
+      flight = ap (λ (z : World). slice_get z.flights c.args.flight) mid ∙ set_there w.flights c.args.flight _ _ c.in-Some.ensures;
       there = ap (λ (z : World). slice_get z.nodes l.node) mid ∙ c.in-Some-node_at.ensures;
     } in
     land_done w (world_of c.end.new.self) (world_of c.settle_landed.new.self) c.args.flight l n o c.in-Some.place c.args.keep c.in-Some.ensures c.in-Some-node_at.ensures mid
@@ -76,7 +77,7 @@ returns-in-Err-clause-same c =
     let p = c.in-Some.place in
     let mid = c.end.ensures l o p c.in-Some.ensures in
     let back = c.in-Err.ensures.err ∙ mid in
-    let at = ap (λ (z : World). slice_get z.flights c.args.flight) back ∙ get_set w.flights c.args.flight _ _ c.in-Some.ensures in
+    let at = ap (λ (z : World). slice_get z.flights c.args.flight) back ∙ set_there w.flights c.args.flight _ _ c.in-Some.ensures in
     c.reopen.ensures l o at
     ∙ ap (λ (z : World). with_stage z c.args.flight l (Ready o p)) back
     ∙ stage_back w c.args.flight l (Ready o p) (Ended (Some o)) c.in-Some.ensures
