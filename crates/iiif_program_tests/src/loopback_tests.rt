@@ -84,6 +84,30 @@ fn image_is_loaded_once_for_all_viewers(rt: HostRuntime) {
     assert_eq!(rt; served(&rt, &SAMPLE, &TWICE), Some(expected));
 }
 
+/// The mean of the sample's sixteen places by GET: of tiles of one place each it is a block of level 2.
+const MEAN: Sends<'static> = Sends {
+    request: b"GET /iiif/a/full/1,1/0/default.tif HTTP/1.1\r\nConnection: close\r\n\r\n",
+    ends: true,
+    wanted: Text::Framed(b"HTTP/1.1 200 OK\r\n", &[75]),
+};
+
+#[test]
+fn parts_are_asked_first(rt: HostRuntime) {
+    // Each of two workers asks for the 16 blocks of level 0. Then the block is asked for, which asks for 4 of level 1, and these for the
+    // 16 again, which are kept by now. Each of the 21 blocks is made once, the 16 of their tiles, which are asked for and loaded once.
+    let counts = served(&rt, &Scene { edge: 1, ..SAMPLE }, &MEAN);
+    let as_told = matches!(
+        counts,
+        Some(Counts {
+            gets: 69,
+            loads: 37,
+            peer: 0,
+            ..
+        })
+    );
+    assert!(rt; as_told, "{counts:?}");
+}
+
 /// Whether the program ends where it can't listen at these addresses: one for viewers, and perhaps another behind an option.
 fn ends_at<R>(rt: &R, viewers: &str, option: &str, address: &str) -> Result<bool, Fail>
 where
