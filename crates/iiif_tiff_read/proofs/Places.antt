@@ -80,13 +80,6 @@ window_fits s r p c n part n-is =
     let all : r.h * (r.w * c) ≡ r.w * r.h * c = grind arith in
     record { columns = omega (arith, columns); rows = omega (arith, rows, all, n-is) }
 
-pub part_read : (s : Scheme) (r : Rect) (p : Part) (bytes samples : List ℕ) (row stride first c : ℕ) → stride ≡ row_bytes s → row ≡ row_place s (r.x + p.left) (r.y + p.top) → c ≡ s.channels
-    → first ≡ (r.x + p.left) % s.piece_width * c → HoldsRows (λ j i. stored s.bits bytes (row + j * stride) (first + i)) (window_of c r p) p.rows samples → HoldsPart bytes s r p samples
-part_read s r p bytes samples row stride first c stride-is row-is c-is first-is held j i lt within =
-    let below : i < p.columns * c = rw c-is within in
-    let first' : first ≡ (r.x + p.left) % s.piece_width * s.channels = first-is ∙ ap (λ (m : ℕ). (r.x + p.left) % s.piece_width * m) c-is in
-    rw (← stride-is, ← row-is, ← first', ← c-is) (held j i lt below)
-
 -- ---- places of the image and of the rectangle
 
 -- column x + d lies in the piece of column x while d is below what is left of it
@@ -111,18 +104,6 @@ stored_there s bytes x y dx dy k pw ph dxw dyh =
 abbrev pub Filled : List ℕ → Scheme → Rect → ℕ → ℕ → ℕ → List ℕ → Type 0
 Filled bytes s r top rows left samples = (x y k : ℕ) → x < r.w → k < s.channels → (y < top) ⊎ ((y < top + rows) × (x < left))
     → slice_index samples ((y * r.w + x) * s.channels + k) ≡ stored_at bytes s (r.x + x) (r.y + y) k
-
-pub filled_none : (bytes samples : List ℕ) (s : Scheme) (r : Rect) → Filled bytes s r 0 0 0 samples
-filled_none bytes samples s r x y k xw kc (inl a) = absurd (omega arith)
-filled_none bytes samples s r x y k xw kc (inr b) = absurd (omega (arith, b.1))
-
-pub filled_start : (bytes samples : List ℕ) (s : Scheme) (r : Rect) (top rows : ℕ) → Filled bytes s r top 0 0 samples → Filled bytes s r top rows 0 samples
-filled_start bytes samples s r top rows so_far x y k xw kc (inl a) = so_far x y k xw kc (inl a)
-filled_start bytes samples s r top rows so_far x y k xw kc (inr b) = absurd (omega (arith, b.1))
-
-pub filled_rows : (bytes samples : List ℕ) (s : Scheme) (r : Rect) (top rows left : ℕ) → r.w ≤ left → Filled bytes s r top rows left samples → Filled bytes s r (top + rows) 0 0 samples
-filled_rows bytes samples s r top rows left all so_far x y k xw kc (inl a) = so_far x y k xw kc (inr (a, omega arith))
-filled_rows bytes samples s r top rows left all so_far x y k xw kc (inr b) = absurd (omega (arith, b.1))
 
 flat : (w c x y k : ℕ) → (y * w + x) * c + k ≡ y * (w * c) + (x * c + k)
 flat w c x y k = grind arith

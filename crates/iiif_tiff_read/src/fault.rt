@@ -7,38 +7,34 @@ ghost use Rattle.iiif_tiff_read.specs.declared.fault.LoadFault.TheVariants as lo
 
 use iiif_source::ReadFault;
 use std::alloc::{AllocError, AllocFailed};
-use std::error::Error;
-use std::fmt;
-
-/// Writes what is said of a field.
-fn write_field<W: fmt::Write>(f: &mut fmt::Formatter<W>, tag: u16, words: &str) -> fmt::Result {
-    write!(f, "field {tag} {words}")
-}
-
-/// Writes what is said of a read that failed.
-fn write_read<W: fmt::Write>(f: &mut fmt::Formatter<W>, fault: ReadFault) -> fmt::Result {
-    let ReadFault { place, cause } = fault;
-    write!(f, "a read at byte {place} failed, cause {cause}")
-}
+use thiserror::Error;
 
 /// Why a file is refused. A number is the tag of the field that is at fault (TIFF 6.0, sections 8 and 15).
-#[derive(Clone, Copy, Debug, PartialEq, Eq)]
+#[derive(Clone, Copy, Debug, PartialEq, Eq, Error)]
 pub enum OpenFault {
     /// The bytes do not begin as a TIFF file does.
+    #[error("not a TIFF file")]
     NotTiff,
     /// The directory, a field's values or a strip or tile reaches past the end of the file.
+    #[error("the file is cut off")]
     Truncated,
     /// A field without a default is not there.
+    #[error("field {0} is missing")]
     Missing(u16),
     /// A field has a value that this reader leaves out.
+    #[error("field {0} has a value that is not supported")]
     Unsupported(u16),
     /// A field has a type, a count or a value that it may not have.
+    #[error("field {0} is wrong")]
     BadField(u16),
     /// A side, the area, a tile's side or the number of tiles is above its limit.
+    #[error("the image is too large")]
     TooLarge,
     /// A read of the source failed.
+    #[error("a read at byte {place} failed, cause {cause}", place = .0.place, cause = .0.cause)]
     Source(ReadFault),
     /// Memory was refused.
+    #[error("out of memory")]
     NoMemory,
 }
 
@@ -59,26 +55,6 @@ impl OpenFault {
         }
     }
 }
-
-impl fmt::Display for OpenFault {
-    fn fmt<W: fmt::Write>(&self, f: &mut fmt::Formatter<W>) -> fmt::Result {
-        let words = match self {
-            OpenFault::NotTiff => "not a TIFF file",
-            OpenFault::Truncated => "the file is cut off",
-            OpenFault::Missing(tag) => return write_field(f, *tag, "is missing"),
-            OpenFault::Unsupported(tag) => {
-                return write_field(f, *tag, "has a value that is not supported");
-            }
-            OpenFault::BadField(tag) => return write_field(f, *tag, "is wrong"),
-            OpenFault::TooLarge => "the image is too large",
-            OpenFault::Source(read) => return write_read(f, *read),
-            OpenFault::NoMemory => "out of memory",
-        };
-        f.write_str(words)
-    }
-}
-
-impl Error for OpenFault {}
 
 impl From<ReadFault> for OpenFault {
     ghost from_gives = { λ f e. e ≡ Source f };
@@ -105,11 +81,13 @@ impl<T: Drop> From<AllocFailed<T>> for OpenFault {
 }
 
 /// Why samples could not be read.
-#[derive(Clone, Copy, Debug, PartialEq, Eq)]
+#[derive(Clone, Copy, Debug, PartialEq, Eq, Error)]
 pub enum LoadFault {
     /// A read of the source failed.
+    #[error("a read at byte {place} failed, cause {cause}", place = .0.place, cause = .0.cause)]
     Source(ReadFault),
     /// Memory was refused.
+    #[error("out of memory")]
     NoMemory,
 }
 
@@ -124,17 +102,6 @@ impl LoadFault {
         }
     }
 }
-
-impl fmt::Display for LoadFault {
-    fn fmt<W: fmt::Write>(&self, f: &mut fmt::Formatter<W>) -> fmt::Result {
-        match self {
-            LoadFault::Source(read) => write_read(f, *read),
-            LoadFault::NoMemory => f.write_str("out of memory"),
-        }
-    }
-}
-
-impl Error for LoadFault {}
 
 impl From<ReadFault> for LoadFault {
     ghost from_gives = { λ f e. e ≡ loads.Source f };
