@@ -1,5 +1,6 @@
 -- What takes the place of an accepted image over devices that never fail: nothing but want of memory.
-use Rattle.std.proofs.Common.{◌≡◌, ◌⊎◌, inl, inr, ℕ, Bool, true, false, List, Some, None, Result, Ok, Err, IsTrue, refl, sym, ap, ◌∙◌, subst}
+use Rattle.std.proofs.Common.{◌≡◌, ◌⊎◌, inl, inr, ℕ, Bool, true, false, List, Some, Result, Ok, Err, IsTrue, refl, sym, ap, ◌∙◌, subst}
+use Rattle.std.proofs.lemmas.Option.{none-some, same_Some}
 use Rattle.iiif_source.specs.declared.ReadFault.{ReadFault}
 use Rattle.iiif_pixel.specs.Operations.{crop, turn, quality}
 use Rattle.iiif_pixel.specs.Picture.{Picture, dim_of}
@@ -85,12 +86,6 @@ refused_by_sides p q r l e x sides refusal is =
     refused_first (region_of r.region (dim_of q)) (λ rect. size_of r.size rect.w rect.h l) (made p) (made q) e x
     (subst (λ d. (region_of r.region d >>= λ rect. size_of r.size rect.w rect.h l >>= λ size. Ok (made p rect size)) ≡ Err e) sides refusal) is
 
-none_some : {A : Type 0} (x : A) → Some x ≡ None → ⊥
-none_some x e = cc
-
-one_some : {A : Type 0} (x y : A) → Some x ≡ Some y → x ≡ y
-one_some x y e = cc
-
 ok_err : {A : Type 0} (x : A) (e : Refusal) → Err e ≡ Ok x → ⊥
 ok_err x e same = cc
 
@@ -138,7 +133,7 @@ module _ {S : Type 0} (bytes : S → List ℕ) (keeps : S → Type 0) (honest : 
   image_only _ g a (no_path none) = absurd (none (image a.0 a.1) a.2)
   image_only _ g a (no_item s asks missing) =
       let same : identifier_of s ≡ a.0 = ap identifier_of (asked_once s (image a.0 a.1) asks a.2) in
-      absurd (none_some g.item (sym a.3 ∙ ap (item_named items) (sym same) ∙ missing))
+      absurd (none-some g.item (sym (sym a.3 ∙ ap (item_named items) (sym same) ∙ missing)))
   image_only _ g a (of_base id item asks found) = absurd (base_image id a.0 a.1 (asked_once (base id) (image a.0 a.1) asks a.2))
   image_only _ g a (of_information id item p asks found is) = absurd (information_image id a.0 a.1 (asked_once (information id) (image a.0 a.1) asks a.2))
   image_only _ g a (no_request id w item refusal asks found says) =
@@ -147,7 +142,7 @@ module _ {S : Type 0} (bytes : S → List ℕ) (keeps : S → Type 0) (honest : 
   image_only _ g a (no_image id w item p q refusal asks found is says refuses) =
       let same = asked_once (image id w) (image a.0 a.1) asks a.2 in
       let words : w ≡ a.1 = ap (texts_in w) same in
-      let one : item ≡ g.item = one_some item g.item (sym found ∙ ap (item_named items) (ap identifier_of same) ∙ a.3) in
+      let one : item ≡ g.item = same_Some item g.item (sym found ∙ ap (item_named items) (ap identifier_of same) ∙ a.3) in
       let request : q ≡ g.request = one_ok q g.request (says_once a.1 (Ok q) (Ok g.request) (subst (λ (t : Texts). Says t (Ok q)) words says) a.4.says) in
       let sides : dim_of p ≡ dim_of g.picture = is.sides ∙ ap (λ (i : Item S). layouts.dim_of i.layout) one ∙ sym a.4.is_picture.sides in
       absurd (refused_by_sides p g.picture g.request (limits_of settings) refusal g.asked sides

@@ -1,6 +1,5 @@
 mod BaseUrlLemmas
 mod SettingsLemmas
-mod RenderLemmas
 mod OutcomeLemmas
 mod NameLemmas
 mod ReplyLemmas

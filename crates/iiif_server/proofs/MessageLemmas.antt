@@ -1,6 +1,7 @@
 -- Answers made, told by their definitions.
-use Rattle.std.proofs.Common.{◌≡◌, ◌≢◌, ℕ, Bool, List, [], ◌∷◌, Result, Ok, Err, refl}
+use Rattle.std.proofs.Common.{◌≡◌, ◌≢◌, ℕ, Bool, List, [], ◌∷◌, Result, refl}
 use Rattle.std.specs.Prelude.{IfOk, codes}
+use Rattle.std.proofs.lemmas.Result.{IfOk-weaker}
 use Rattle.iiif_source.specs.declared.ReadFault.{ReadFault}
 use Rattle.iiif_server.specs.Answers.{Reply}
 use Rattle.iiif_server.specs.Settings.{Settings}
@@ -11,11 +12,6 @@ use Rattle.iiif_server.specs.Code.{answer_of, MayTell}
 use Rattle.iiif_server.specs.Responses.{Response, written, line, content_type, any_origin, allowed_methods, refusal_response}
 use Rattle.iiif_server.specs.declared.message.Message.{Message}
 use Rattle.iiif_server.specs.declared.part.Part.{Part}
-
--- what holds of a value holds of it in other words
-pub in_other_words : {A E : Type 0} (r : Result A E) (P Q : A → Type 0) → ((a : A) → P a → Q a) → IfOk r P → IfOk r Q
-in_other_words (Ok a) P Q to p = to a p
-in_other_words (Err e) P Q to p = p
 
 -- no methods are named where the method wasn't at fault
 pub no_methods : (e : Refusal) → e ≢ Method → allowed_methods e ≡ []
@@ -45,5 +41,5 @@ refusal_made r part e status more body s f b made = rw (s, f, b) at made
 pub may_be_given : {S E : Type 0} (s : Settings) (part : Part) (gave : S → ReadFault → Bool) (Reaches : Reply S → Type 0) (r : Result Message E) (a : Response)
     → MayTell s part gave Reaches a → IfOk r (λ m. answer_of m ≡ written part a)
     → IfOk r (λ m. (x : Response) × MayTell s part gave Reaches x × (answer_of m ≡ written part x))
-may_be_given s part gave Reaches r a tell made = in_other_words r (λ m. answer_of m ≡ written part a)
+may_be_given s part gave Reaches r a tell made = IfOk-weaker r (λ m. answer_of m ≡ written part a)
     (λ m. (x : Response) × MayTell s part gave Reaches x × (answer_of m ≡ written part x)) (λ m is. (a, tell, is)) made

@@ -1,11 +1,11 @@
 -- What a request comes to, from what the calls answered.
-use Rattle.std.proofs.Common.{◌≡◌, ℕ, ◌*◌, ◌<◌, ◌≤◌, ◌^◌, ◌%◌, ◌⊎◌, Bool, true, false, List, All, refl, sym, subst, ap, ◌∙◌, arith, None, Result, Ok, Err}
-use Rattle.std.specs.Prelude.{if◌then◌else◌, ◌==◌}
+use Rattle.std.proofs.Common.{◌≡◌, ℕ, ◌*◌, ◌<◌, ◌≤◌, ◌^◌, ◌%◌, ◌⊎◌, List, All, refl, sym, subst, ap, ◌∙◌, arith, None, Result, Ok, Err}
+use Rattle.std.specs.Prelude.{◌==◌}
 use Rattle.std.proofs.Math.Nat.{mul-le-mul}
 use Rattle.iiif_pixel.specs.Geometry.{channels_of, top_of}
 use Rattle.iiif_pixel.specs.Picture.{Picture, IsWhole, dim_of, picture_of, sample_at}
 use Rattle.iiif_pixel.proofs.SampleLists.{sample_at-picture_of}
-use Rattle.iiif_pixel.proofs.Whole.{sample_at-le, whole_picture_of}
+use Rattle.iiif_pixel.proofs.Whole.{sample_at-le, whole_picture_of, chosen_le}
 use Rattle.iiif_pixel.specs.TurnPlaces.{turned_dim}
 use Rattle.iiif_pixel.specs.declared.geometry.Dim.{Dim}
 use Rattle.iiif_pixel.specs.declared.geometry.Rect.{Rect}
@@ -26,7 +26,7 @@ use Rattle.iiif_request.specs.Spells.{Texts, Says}
 use Rattle.iiif_request.specs.declared.request.Request.{Request}
 use Rattle.iiif_request.specs.declared.request.Refusal.{Refusal}
 use Rattle.iiif_canonical.specs.Images as images
-use Rattle.iiif_canonical.specs.Images.{resolved_image, image_from}
+use Rattle.iiif_canonical.specs.Images.{image_from}
 use Rattle.iiif_canonical.specs.Regions.{region_of}
 use Rattle.iiif_canonical.specs.Sizes.{size_of}
 use Rattle.iiif_canonical.specs.Resolution.{◌>>=◌, plain_quality, resolved_of, turn_of, IsResolved}
@@ -209,16 +209,12 @@ pub quality_is : (x : Request) (d : Dim) (k : Kind) (l : Limits) (r : Resolved) 
 unfolding resolved_of
 quality_is x d k l r e = rect_quality (region_of x.region d) (λ rect. size_of x.size rect.w rect.h l) (turn_of x.rotation) (plain_quality k x.quality) r (sym e)
 
-either-le : (b : Bool) (m n top : ℕ) → m ≤ top → n ≤ top → (if b then m else n) ≤ top
-either-le true m n top l r = l
-either-le false m n top l r = r
-
 pub file_fits : ResultsFit → (kind : OutKind) (t : Turn) (size : Dim) (l : Limits)
     → (size.w ≤ l.max_w) × (size.h ≤ l.max_h) → l.max_w ≤ 16384 → l.max_h ≤ 16384 → file_len kind (turned_dim t size) < 2 ^ 32
 file_fits law kind t size l within width height =
     let w : size.w ≤ 16384 = omega (arith, within.0, width) in
     let h : size.h ≤ 16384 = omega (arith, within.1, height) in
-    law kind (turned_dim t size) (either-le (t.quarters % 2 == 0) size.w size.h 16384 w h) (either-le (t.quarters % 2 == 0) size.h size.w 16384 h w)
+    law kind (turned_dim t size) (chosen_le (t.quarters % 2 == 0) size.w size.h 16384 w h) (chosen_le (t.quarters % 2 == 0) size.h size.w 16384 h w)
 
 -- the channels of an image are those of its file
 pub channels_fit : (k : Kind) (d : Depth) (to plain : Quality) (n : ℕ) (kind : OutKind) → plain ≡ plain_quality k to → channels_of k ≡ n → kind ≡ out_kind_of k d to

@@ -5,6 +5,7 @@ use Rattle.std.specs.Io.KnownBytes.{Appends}
 use Rattle.std.proofs.KnownBytes.{Appends-trans}
 use Rattle.std.proofs.lemmas.List.{length-take-le}
 use Rattle.std.proofs.lemmas.Bool.{false≢true}
+use Rattle.std.proofs.lemmas.Result.{IfOk-weaker}
 use Rattle.iiif_io.specs.Sending.{WasCut}
 use Rattle.iiif_source.specs.declared.ReadFault.{ReadFault}
 use Rattle.iiif_pixel.specs.Geometry.{channels_of, top_of}
@@ -33,6 +34,7 @@ use Rattle.iiif_images.specs.Collection.{Item}
 use Rattle.iiif_images.specs.Named.{picture_in}
 use Rattle.iiif_assemble.specs.Jobs.{channels_in, top_in, IsShown}
 use Rattle.iiif_assemble.specs.declared.job.Job.{Job}
+use Rattle.iiif_assemble.proofs.ImageLemmas.{resolved_sides}
 use Rattle.iiif_delivery.specs.Delivery.{result_dim, FailsFor, IsHeldInBands, IsImageFor}
 use Rattle.iiif_delivery.specs.declared.delivery.Stopped.TheVariants as stopped
 use Rattle.iiif_server.specs.Allowed.{own, source_failed, Allowed, HoldsFor, MayFail}
@@ -51,9 +53,7 @@ use Rattle.iiif_server.specs.declared.answer.Cause.TheVariants.{Writer, Load}
 use Rattle.iiif_server.specs.declared.part.Part.{Part}
 use Rattle.iiif_server.specs.declared.part.Part.TheVariants.{Body, Whole, Head}
 use Rattle.iiif_server.proofs.AllowedLemmas.{allowed, memory_allowed, told_allowed}
-use Rattle.iiif_server.proofs.MessageLemmas.{in_other_words}
 use Rattle.iiif_server.proofs.NameLemmas.{band_given, item_channels, item_top}
-use Rattle.iiif_server.proofs.RenderLemmas.{resolved_sides}
 
 -- ---- Faults
 
@@ -268,7 +268,7 @@ head_allowed s part close gave kept item q a p contents fails old new m result i
     let g = given_of item q a p asked in
     told_allowed s part gave (ReachesImageOf kept item q a p) contents fails old new m result (response_of s (given g))
     (own (given g) (asked, record { sides = refl; same = λ k. refl }, refl), subst (λ (x : Part). HoldsFor s x (given g) 0) (sym is) refl)
-    (in_other_words m _ _
+    (IfOk-weaker m _ _
     (λ x f. f asked (resolved_sides p a.resolved few) ∙ ap (λ (k : OutKind). written (Head close) (image_response s.base item.name a.canonical asked k)) kind_is
     ∙ ap (λ (y : Part). written y (response_of s (given g))) (sym is)) made) sent
     (subst (λ (y : Part). IfErr m (λ _. IsSent contents fails old new (written y want_of_memory) result)) (sym is) memory)

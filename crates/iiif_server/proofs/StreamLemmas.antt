@@ -2,7 +2,7 @@
 use Rattle.std.proofs.Common.{◌≡◌, ℕ, ◌+◌, Bool, true, false, not, ◌||◌, List, [], ◌++◌, Option, Some, None, Result, Ok, Err, sym, subst, refl, ap, ◌∙◌, inl, inr, append_assoc}
 use Rattle.std.specs.Prelude.{◌==◌, IfOk, IfErr, IfSome}
 use Rattle.std.specs.Io.KnownBytes.{Appends, prepend_known}
-use Rattle.std.proofs.KnownBytes.{Appends-nil, Appends-trans}
+use Rattle.std.proofs.KnownBytes.{Appends-nil, Appends-trans, prepend_known-nil}
 use Rattle.httparse.specs.Grammar.{RequestHead, print_request}
 use Rattle.iiif_http_front.specs.Reading.{Answers, IsUnfinished, Reading, input_of}
 use Rattle.iiif_http_front.specs.declared.call.Call.{Call}
@@ -10,8 +10,6 @@ use Rattle.iiif_http_front.specs.declared.call.HeadFault.TheVariants as fault
 use Rattle.iiif_request.specs.declared.request.Refusal.TheVariants as refusal
 use Rattle.iiif_http_front.specs.RequestHeads.{BeginsWithCall}
 use Rattle.iiif_source.specs.declared.ReadFault.{ReadFault}
-use Rattle.iiif_server.specs.Allowed.{Allowed}
-use Rattle.iiif_server.specs.Calls.{RepliesToCall, part_of}
 use Rattle.iiif_server.specs.Code.{CloseFor, GoesOn, IsAnswered, Served, answer_of}
 use Rattle.iiif_images.specs.Collection.{Item}
 use Rattle.iiif_server.specs.Responses.{Response, refusal_response, want_of_memory, written}
@@ -27,15 +25,6 @@ use Rattle.iiif_server.specs.declared.part.Part.TheVariants.{Whole}
 pub closing_sent : (writer : Type 0) (r : Response) (text : List ℕ) (result : Result Sent Cut) → EndsWith writer (written (Whole true) r) text result → IsClosing writer r text
 closing_sent writer r text (Ok sent) ends = inl ends.0
 closing_sent writer r text (Err cut) ends = inr (ends.2, ends.3)
-
--- what was sent for a call, with the result of the send
-pub is_answered : {S : Type 0} (bytes : S → List ℕ) (keeps : S → Type 0) (honest : Bool) (gave : S → ReadFault → Bool) (s : Settings) (items : List (Item S)) (writer : Type 0)
-    (method target : List ℕ) (close : Bool) (text : List ℕ) (r : Result Sent Cut) (more : Bool)
-    → Allowed s (part_of method close) gave (RepliesToCall bytes keeps honest s items method target) writer text r
-    → IfOk r (λ _. more ≡ not close) → IfErr r (λ _. more ≡ false)
-    → IsAnswered bytes keeps honest gave s items writer method target close text more
-is_answered bytes keeps honest gave s items writer method target close text (Ok sent) more allowed ok err = inl ((sent, allowed), ok)
-is_answered bytes keeps honest gave s items writer method target close text (Err c) more allowed ok err = inr ((c, allowed), err)
 
 -- a call was answered whole
 served_whole : (t : Terms) (n : ℕ) (input rest : List ℕ) (left : Option (List ℕ)) (text : List ℕ) (h : RequestHead) (close : Bool)
@@ -266,11 +255,7 @@ came_at_end t n unread after old mid new now more is_last on sent =
     subst (λ (b : Bool). Served (t now) n (unread ++ sent.0) after sent.1 b) is_last sent.3 in
     (on.0 ++ served.0, on.1.0 ++ sent.1, Appends-trans old mid new on.1.0 sent.1 on.1.1 sent.2, on.1.2 now served.0 sent.1 served.2)
 
-nothing_before : (o : Option (List ℕ)) → prepend_known [] o ≡ o
-nothing_before None = refl
-nothing_before (Some bytes) = refl
-
 -- the input of a new reader of heads is its reader's
 pub at_start : {R : Type 0} (remaining : R → Option (List ℕ)) (heads : Reading R) (reader : R)
     → heads ≡ record { unread = []; reader = reader; fault = None } → input_of remaining heads ≡ remaining reader
-at_start remaining heads reader is = ap (input_of remaining) is ∙ nothing_before (remaining reader)
+at_start remaining heads reader is = ap (input_of remaining) is ∙ prepend_known-nil (remaining reader)
