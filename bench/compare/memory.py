@@ -11,6 +11,8 @@ PROGRAM = 4 * MIB
 KEPT = 8 * MIB
 # So many blocks are asked ahead for each worker, where there are several: those of bands that follow.
 FOR_EACH = 8
+# The C library maps a block of at least so many bytes in pages of its own: up to so many bytes more than it was asked for.
+MAPPED, PAGE = 128 * 2 ** 10, 4096 + 16
 # What is read ahead of a file at most: 16 times many rows, 128 times few.
 ROWS, AHEAD = MIB, 16 * MIB + 128 * 64 * 2 ** 10
 
@@ -25,6 +27,11 @@ def levels(channels, image, rect, size, edge):
             break
         found.append(across * down * channels)
     return found
+
+
+def pages(kinds, cache):
+    """What pages of their own take beside the values of a cache, of which there are so many (`count`) with so many bytes (`size`)."""
+    return sum(PAGE * min(count, cache // size) for count, size in kinds if size >= MAPPED)
 
 
 def met(start, length, side):
@@ -45,6 +52,7 @@ def bound(channels, depth, image, rect, size, edge=256, cache=64 * MIB, band=64,
         return across * down, across * min(down, lines // side + 2)
 
     tiles, tiles_of_band = squares(edge)
+    own = pages([(tiles, tile)], cache)
     if tuple(size) == tuple(rect[2:]):
         made, items, sums, values = 2 * sample, tiles_of_band * tile, 0, tiles
     elif size[0] > rect[2] or size[1] > rect[3]:
@@ -57,8 +65,9 @@ def bound(channels, depth, image, rect, size, edge=256, cache=64 * MIB, band=64,
         held = of_band if of_band >= enough else min(all_blocks, enough + of_band)
         made, items = 2 * sample + 8, held * blocks[-1]
         sums, values = sum(count * most for count, most in zip(counts, blocks)), tiles + sum(counts)
+        own += pages(zip(counts, blocks), cache)
         tile += sum(blocks)
-    caches = min(cache, tiles * channels * sample * edge ** 2) + min(cache, sums) + (ENTRY * min(values, ENTRIES) if cache else 0)
+    caches = own + min(cache, tiles * channels * sample * edge ** 2) + min(cache, sums) + (ENTRY * min(values, ENTRIES) if cache else 0)
     ahead = ROWS if strips else min(ROWS, channels * sample * edge ** 2)
     kept = AHEAD if strips else 16 * ahead
     return caches + made * channels * size[0] * rows + items + kept + workers * (tile + KEPT + ahead) + PROGRAM
