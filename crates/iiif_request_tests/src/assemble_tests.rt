@@ -1,6 +1,6 @@
 //! Images by hand, in bands and by several workers.
 
-ghost use Rattle.std.specs.Prelude.{◌≡◌, ◌<◌, ◌⊎◌, IfOk, IfErr};
+ghost use Rattle.std.specs.Prelude.{◌≡◌, ◌<◌, ◌⊎◌, IfOk, IfErr, length};
 ghost use Rattle.std.specs.Arc.{arc_value};
 ghost use Rattle.iiif_pixel.specs.Geometry.{channels_of, top_of};
 ghost use Rattle.iiif_pixel.specs.Picture.{dim_of};
@@ -13,7 +13,7 @@ use iiif_assemble::{Items, Job, Made, assemble, assemble_band};
 use iiif_bands::Band;
 use iiif_canonical::Resolved;
 use iiif_keys::{Fault, Name, Shape, SumKey, SumVal, TileKey, TileVal, is_name};
-use iiif_pixel::{Dim, Kind, Quality, Raster, Rect, Samples, Span, Turn};
+use iiif_pixel::{Depth, Dim, Kind, Quality, Raster, Rect, Samples, Span, Turn};
 use std::alloc::Global;
 use std::process::Abort;
 use std::sync::Arc;
@@ -384,6 +384,99 @@ fn fault_is_that_of_the_first_item(rt: HostRuntime) -> Result<(), Fail> {
         let shown = sample(rt.alloc(), fails)?;
         let image = (shown.shape.dim, UPRIGHT, Wanted::Fault(Fault::BadKey));
         compare_workers(&rt, rt.alloc(), &shown, 2, image)?;
+    }
+    Ok(())
+}
+
+/// More sums than the calling thread rounds alone.
+const MANY: Dim = Dim { w: 1_024, h: 1_026 };
+
+/// So many samples of 8 bits: the remainders of their places by 251.
+fn remainders(alloc: Global, count: usize) -> Result<Vec<u8>, Fail>
+    ensures { IfOk result (λ v. length v.items ≡ count) }
+{
+    let mut samples = vec![in alloc; 0u8; count]?;
+    for i in 0..count {
+        samples[i] = (i % 251) as u8;
+    }
+    Ok(samples)
+}
+
+/// And of 16 bits, 257 times as much.
+fn deep_remainders(alloc: Global, count: usize) -> Result<Vec<u16>, Fail>
+    ensures { IfOk result (λ v. length v.items ≡ count) }
+{
+    let mut samples = vec![in alloc; 0u16; count]?;
+    for i in 0..count {
+        samples[i] = (i % 251) as u16 * 257;
+    }
+    Ok(samples)
+}
+
+/// A gray picture twice as wide as `MANY`, of remainders.
+fn wide(alloc: Global, depth: Depth) -> Result<Shown, Fail> {
+    let dim = Dim {
+        w: 2 * MANY.w,
+        h: MANY.h,
+    };
+    let count = 2_048 * 1_026;
+    let samples = match depth {
+        Depth::Eight => Samples::Eight(remainders(alloc, count)?),
+        Depth::Sixteen => Samples::Sixteen(deep_remainders(alloc, count)?),
+    };
+    let raster = Raster::from_samples(dim, Kind::Gray, samples);
+    Ok(of_raster(alloc, raster, Failing::Nothing))
+}
+
+/// Twice the mean of the two remainders that place `i` of the halved picture is made of.
+fn twice_the_mean(i: usize) -> usize {
+    let first = i % 251 * 2;
+    first % 251 + (first + 1) % 251
+}
+
+/// Whether these are the samples of the halved picture: a half goes up.
+fn are_means(samples: Span) -> bool {
+    match samples {
+        Span::Eight(samples) => {
+            for (i, sample) in samples.iter().enumerate() {
+                if usize::from(*sample) != (twice_the_mean(i) + 1) / 2 {
+                    return false;
+                }
+            }
+        }
+        Span::Sixteen(samples) => {
+            for (i, sample) in samples.iter().enumerate() {
+                if usize::from(*sample) != (257 * twice_the_mean(i) + 1) / 2 {
+                    return false;
+                }
+            }
+        }
+    }
+    true
+}
+
+/// Whether the wide picture, halved by so many workers, has the sides and the samples that it is to have.
+fn is_halved<R: Threads + Sync>(
+    rt: &R,
+    alloc: Global,
+    depth: Depth,
+    workers: usize,
+) -> Result<bool, Fail> {
+    let shown = wide(alloc, depth)?;
+    let job = job(alloc, shown.shape, 1_024, MANY, UPRIGHT)?;
+    match image(rt, alloc, &shown, &job, workers) {
+        Ok(made) => Ok(made.raster.dim() == MANY && are_means(made.raster.samples())),
+        Err(_) => Ok(false),
+    }
+}
+
+#[test]
+fn many_sums_are_rounded_by_several_threads(rt: HostRuntime) -> Result<(), Fail> {
+    for (depth, workers) in [(Depth::Eight, 2), (Depth::Sixteen, 1)] {
+        assert!(rt;
+            is_halved(&rt, rt.alloc(), depth, workers)?,
+            "{workers} workers"
+        );
     }
     Ok(())
 }
