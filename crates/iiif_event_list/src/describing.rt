@@ -58,6 +58,15 @@ fn sixteen(alloc: Global, words: &[&str]) -> Result<Option<Samples>, NoMemory> {
     Ok(Some(Samples::Sixteen(samples)))
 }
 
+/// Samples of 8 or of 16 bits, where each word is one.
+fn samples(alloc: Global, bits: &str, words: &[&str]) -> Result<Option<Samples>, NoMemory> {
+    match bits {
+        "8" => eight(alloc, words),
+        "16" => sixteen(alloc, words),
+        _ => Ok(None),
+    }
+}
+
 /// Texts of words.
 fn texts(alloc: Global, words: &[&str]) -> Result<Vec<String>, NoMemory> {
     let mut texts = Vec::new(alloc);
@@ -95,13 +104,7 @@ fn picture(alloc: Global, words: &[&str]) -> Result<Item, LineFault> {
     if words.len() < 6 {
         return Err(LineFault::Bad);
     }
-    let rest = &words[6..];
-    let samples = match word(words, 3)? {
-        "8" => eight(alloc, rest)?,
-        "16" => sixteen(alloc, rest)?,
-        _ => None,
-    };
-    let Some(samples) = samples else {
+    let Some(samples) = samples(alloc, word(words, 3)?, &words[6..])? else {
         return Err(LineFault::Bad);
     };
     let name = name(alloc, words, 1)?;

@@ -114,25 +114,48 @@ fn tile(alloc: Global, words: &[&str]) -> Result<Key, LineFault> {
     }))
 }
 
+/// The rectangle of four numbers from a place on.
+fn rect(words: &[&str], at: usize) -> Result<Rect, LineFault>
+    requires { at + 3 < 2 ^ 32 }
+{
+    Ok(Rect {
+        x: side(words, at)?,
+        y: side(words, at + 1)?,
+        w: side(words, at + 2)?,
+        h: side(words, at + 3)?,
+    })
+}
+
+/// The sides of two numbers from a place on.
+fn dim(words: &[&str], at: usize) -> Result<Dim, LineFault>
+    requires { at + 1 < 2 ^ 32 }
+{
+    Ok(Dim {
+        w: side(words, at)?,
+        h: side(words, at + 1)?,
+    })
+}
+
 /// `sum NAME EDGE X Y W H COLUMNS ROWS LEVEL COLUMN ROW`
 fn sum(alloc: Global, words: &[&str]) -> Result<Key, LineFault> {
     Ok(Key::Sum(SumKey {
         name: name(alloc, words, 1)?,
         edge: side(words, 2)?,
-        rect: Rect {
-            x: side(words, 3)?,
-            y: side(words, 4)?,
-            w: side(words, 5)?,
-            h: side(words, 6)?,
-        },
-        size: Dim {
-            w: side(words, 7)?,
-            h: side(words, 8)?,
-        },
+        rect: rect(words, 3)?,
+        size: dim(words, 7)?,
         level: byte(words, 9)?,
         bx: side(words, 10)?,
         by: side(words, 11)?,
     }))
+}
+
+/// The key that words begin with, and how many they are.
+fn key(alloc: Global, words: &[&str]) -> Result<(Key, usize), LineFault> {
+    match word(words, 0)? {
+        "tile" => Ok((tile(alloc, words)?, 5)),
+        "sum" => Ok((sum(alloc, words)?, 12)),
+        _ => Err(LineFault::Bad),
+    }
 }
 
 fn add(keys: &mut Vec<Key>, key: Key) -> Result<(), NoMemory> {
@@ -151,18 +174,9 @@ fn evict(alloc: Global, words: &[&str]) -> Result<Event, LineFault>
         if at >= words.len() {
             return Ok(Event::Evict(node, keys));
         }
-        let rest = &words[at..];
-        match word(rest, 0)? {
-            "tile" => {
-                add(&mut keys, tile(alloc, rest)?)?;
-                at = at.saturating_add(5);
-            }
-            "sum" => {
-                add(&mut keys, sum(alloc, rest)?)?;
-                at = at.saturating_add(12);
-            }
-            _ => return Err(LineFault::Bad),
-        }
+        let (key, count) = key(alloc, &words[at..])?;
+        add(&mut keys, key)?;
+        at = at.saturating_add(count);
     }
     Err(LineFault::Bad)
 }
@@ -206,6 +220,24 @@ fn land(words: &[&str]) -> Result<Event, LineFault>
     }
 }
 
+/// The event of this name that has a number alone.
+fn numbered(name: &str, number: usize) -> Result<Event, LineFault>
+    ensures { IfOk result IsShortEvent }
+{
+    match name {
+        "enter" => Ok(Event::Enter(number)),
+        "again" => Ok(Event::Again(number)),
+        "ask_peer" => Ok(Event::AskPeer(number)),
+        "serve" => Ok(Event::Serve(number)),
+        "reply" => Ok(Event::Reply(number)),
+        "lose" => Ok(Event::Lose(number)),
+        "go_local" => Ok(Event::GoLocal(number)),
+        "load" => Ok(Event::Load(number)),
+        "stop" => Ok(Event::Stop(number)),
+        _ => Err(LineFault::Bad),
+    }
+}
+
 /// The event of a line's words, in the numbers of the world that it is meant for. `Bad`, where they are no event; whether the world allows
 /// it is not asked.
 pub fn event(alloc: Global, words: &[&str]) -> Result<Event, LineFault>
@@ -213,19 +245,10 @@ pub fn event(alloc: Global, words: &[&str]) -> Result<Event, LineFault>
 {
     match word(words, 0)? {
         "want" => want(alloc, words),
-        "enter" => Ok(Event::Enter(one(words)?)),
-        "again" => Ok(Event::Again(one(words)?)),
-        "ask_peer" => Ok(Event::AskPeer(one(words)?)),
-        "serve" => Ok(Event::Serve(one(words)?)),
-        "reply" => Ok(Event::Reply(one(words)?)),
         "take" => take(words),
-        "lose" => Ok(Event::Lose(one(words)?)),
-        "go_local" => Ok(Event::GoLocal(one(words)?)),
-        "load" => Ok(Event::Load(one(words)?)),
         "source_fault" => source_fault(words),
         "land" => land(words),
         "evict" => evict(alloc, words),
-        "stop" => Ok(Event::Stop(one(words)?)),
-        _ => Err(LineFault::Bad),
+        name => numbered(name, one(words)?),
     }
 }

@@ -147,6 +147,23 @@ impl Replay {
         }
     }
 
+    /// What the words of a line that is no comment come to.
+    fn worded(
+        &mut self,
+        alloc: Global,
+        number: u64,
+        line: &str,
+        words: &[&str],
+    ) -> Result<String, LineFault>
+        requires { IsSoundReplay self.old }
+        ensures { IsSoundReplay self.new }
+    {
+        if self.set(alloc, words)? {
+            return Ok(String::new(alloc));
+        }
+        self.event(alloc, number, line, words)
+    }
+
     /// What a line, of a number, comes to: an event's outcome, behind the number and the words; at `world` the answers of the last one; at
     /// `rows` all rows; else nothing. `Bad`, where it is no setting and no event, sets something of a world that has begun, or comes where
     /// the world can't begin: then each further event is `Bad` until `world`. After `NoMemory` an event may be done, or the world lost.
@@ -160,12 +177,7 @@ impl Replay {
             Some(word) if word.starts_with('#') => Ok(String::new(alloc)),
             Some(&"world") if words.len() == 1 => self.next_world(alloc),
             Some(&"rows") if words.len() == 1 => self.shown(alloc),
-            Some(_) => {
-                if self.set(alloc, &words)? {
-                    return Ok(String::new(alloc));
-                }
-                self.event(alloc, number, line, &words)
-            }
+            Some(_) => self.worded(alloc, number, line, &words),
         }
     }
 }

@@ -8,7 +8,7 @@ use iiif_pixel::NoMemory;
 use iiif_plain_tables::listing::Entry;
 use iiif_plain_tables::node::Node;
 use iiif_plain_tables::plain::{OpenFlight, PlainTable};
-use iiif_tables::Place;
+use iiif_tables::{Book, Place};
 use iiif_world::world::World;
 
 /// The entries of a list, the one used last first.
@@ -33,6 +33,26 @@ fn put_open(text: &mut String, flights: &[OpenFlight]) -> Result<(), NoMemory> {
     Ok(())
 }
 
+/// The counters of a table.
+fn put_book(text: &mut String, book: &Book) -> Result<(), NoMemory> {
+    let counts = [
+        book.gets,
+        book.hits,
+        book.joins,
+        book.leads,
+        book.again_hits,
+        book.loads,
+        book.peer,
+        book.landed,
+        book.faults,
+    ];
+    text.push_str(" book")?;
+    for count in &counts {
+        write!(text, " {}", count)?;
+    }
+    text.push_str("\n")
+}
+
 fn put_table(text: &mut String, table: &PlainTable) -> Result<(), NoMemory> {
     text.push_str(" main")?;
     put_entries(text, &table.cache.main)?;
@@ -40,17 +60,7 @@ fn put_table(text: &mut String, table: &PlainTable) -> Result<(), NoMemory> {
     put_entries(text, &table.cache.hot)?;
     text.push_str(" open")?;
     put_open(text, &table.flights)?;
-    let book = &table.book;
-    write!(
-        text,
-        " book {} {} {} {}",
-        book.gets, book.hits, book.joins, book.leads
-    )?;
-    write!(
-        text,
-        " {} {} {} {} {}\n",
-        book.again_hits, book.loads, book.peer, book.landed, book.faults
-    )
+    put_book(text, &table.book)
 }
 
 fn put_node(text: &mut String, number: usize, node: &Node) -> Result<(), NoMemory> {
@@ -168,28 +178,62 @@ fn put_reply(text: &mut String, number: usize, reply: &Reply) -> Result<(), NoMe
     text.push_str("\n")
 }
 
-/// All rows, one a line.
-pub(crate) fn put_rows(text: &mut String, world: &World) -> Result<(), NoMemory> {
-    for (number, node) in world.nodes.iter().enumerate() {
+fn put_nodes(text: &mut String, nodes: &[Node]) -> Result<(), NoMemory> {
+    for (number, node) in nodes.iter().enumerate() {
         put_node(text, number, node)?;
     }
-    for (number, given) in world.given.iter().enumerate() {
-        put_given(text, number, given)?;
+    Ok(())
+}
+
+fn put_all_given(text: &mut String, given: &[Given]) -> Result<(), NoMemory> {
+    for (number, row) in given.iter().enumerate() {
+        put_given(text, number, row)?;
     }
-    for (number, wanted) in world.requests.iter().enumerate() {
+    Ok(())
+}
+
+fn put_requests(text: &mut String, requests: &[Wanted]) -> Result<(), NoMemory> {
+    for (number, wanted) in requests.iter().enumerate() {
         put_request(text, number, wanted)?;
     }
-    for (number, call) in world.calls.iter().enumerate() {
+    Ok(())
+}
+
+fn put_calls(text: &mut String, calls: &[Call]) -> Result<(), NoMemory> {
+    for (number, call) in calls.iter().enumerate() {
         put_call(text, number, call)?;
     }
-    for (number, flight) in world.flights.iter().enumerate() {
+    Ok(())
+}
+
+fn put_flights(text: &mut String, flights: &[Flight]) -> Result<(), NoMemory> {
+    for (number, flight) in flights.iter().enumerate() {
         put_flight(text, number, flight)?;
     }
-    for (number, ask) in world.asks.iter().enumerate() {
+    Ok(())
+}
+
+fn put_asks(text: &mut String, asks: &[Ask]) -> Result<(), NoMemory> {
+    for (number, ask) in asks.iter().enumerate() {
         put_ask(text, number, ask)?;
     }
-    for (number, reply) in world.replies.iter().enumerate() {
+    Ok(())
+}
+
+fn put_replies(text: &mut String, replies: &[Reply]) -> Result<(), NoMemory> {
+    for (number, reply) in replies.iter().enumerate() {
         put_reply(text, number, reply)?;
     }
     Ok(())
+}
+
+/// All rows, one a line.
+pub(crate) fn put_rows(text: &mut String, world: &World) -> Result<(), NoMemory> {
+    put_nodes(text, &world.nodes)?;
+    put_all_given(text, &world.given)?;
+    put_requests(text, &world.requests)?;
+    put_calls(text, &world.calls)?;
+    put_flights(text, &world.flights)?;
+    put_asks(text, &world.asks)?;
+    put_replies(text, &world.replies)
 }

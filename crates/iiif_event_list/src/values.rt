@@ -1,26 +1,44 @@
 //! Keys, values and answers, as text.
 
-use iiif_keys::{SumVal, TileVal};
+use iiif_keys::{SumKey, SumVal, TileKey, TileVal};
 use iiif_machine::{Answer, Numbers};
-use iiif_pixel::{Kind, NoMemory, Raster, Span};
+use iiif_pixel::{Kind, NoMemory, Raster, Rect, Span};
 use iiif_scene::{Key, Value};
 use iiif_source::ReadFault;
 use iiif_tables::Class;
 
+/// Places and sides, each behind a space.
+fn put_sides(text: &mut String, sides: &[u32]) -> Result<(), NoMemory> {
+    for side in sides {
+        write!(text, " {}", side)?;
+    }
+    Ok(())
+}
+
+/// A rectangle, behind a space.
+fn put_rect(text: &mut String, rect: Rect) -> Result<(), NoMemory> {
+    put_sides(text, &[rect.x, rect.y, rect.w, rect.h])
+}
+
+/// The key of a tile, in the words by which an event names it.
+fn put_tile_key(text: &mut String, key: &TileKey) -> Result<(), NoMemory> {
+    write!(text, "tile {}", key.name.as_str())?;
+    put_sides(text, &[key.edge, key.tx, key.ty])
+}
+
+/// The key of a sum, in the words by which an event names it.
+fn put_sum_key(text: &mut String, key: &SumKey) -> Result<(), NoMemory> {
+    write!(text, "sum {} {}", key.name.as_str(), key.edge)?;
+    put_rect(text, key.rect)?;
+    let (size, level) = (key.size, u32::from(key.level));
+    put_sides(text, &[size.w, size.h, level, key.bx, key.by])
+}
+
 /// A key, in the words by which an event names it.
 pub(crate) fn put_key(text: &mut String, key: &Key) -> Result<(), NoMemory> {
     match key {
-        Key::Tile(k) => {
-            let name = k.name.as_str();
-            write!(text, "tile {} {} {} {}", name, k.edge, k.tx, k.ty)
-        }
-        Key::Sum(k) => {
-            let name = k.name.as_str();
-            let (rect, size) = (k.rect, k.size);
-            write!(text, "sum {} {} ", name, k.edge)?;
-            write!(text, "{} {} {} {} ", rect.x, rect.y, rect.w, rect.h)?;
-            write!(text, "{} {} {} {} {}", size.w, size.h, k.level, k.bx, k.by)
-        }
+        Key::Tile(key) => put_tile_key(text, key),
+        Key::Sum(key) => put_sum_key(text, key),
     }
 }
 
@@ -32,35 +50,45 @@ fn kind_word(kind: Kind) -> &'static str {
     }
 }
 
-/// A picture, in the words of a setting.
-pub(crate) fn put_raster(text: &mut String, raster: &Raster) -> Result<(), NoMemory> {
-    let (dim, kind) = (raster.dim(), kind_word(raster.kind()));
-    match raster.samples() {
-        Span::Eight(samples) => {
-            write!(text, "{} 8 {} {}", kind, dim.w, dim.h)?;
-            for sample in samples {
-                write!(text, " {}", sample)?;
-            }
-        }
-        Span::Sixteen(samples) => {
-            write!(text, "{} 16 {} {}", kind, dim.w, dim.h)?;
-            for sample in samples {
-                write!(text, " {}", sample)?;
-            }
-        }
+/// Samples of 8 bits, each behind a space.
+fn put_bytes(text: &mut String, samples: &[u8]) -> Result<(), NoMemory> {
+    for sample in samples {
+        write!(text, " {}", sample)?;
     }
     Ok(())
+}
+
+/// Samples of 16 bits, each behind a space.
+fn put_words(text: &mut String, samples: &[u16]) -> Result<(), NoMemory> {
+    for sample in samples {
+        write!(text, " {}", sample)?;
+    }
+    Ok(())
+}
+
+/// A picture, in the words of a setting.
+pub(crate) fn put_raster(text: &mut String, raster: &Raster) -> Result<(), NoMemory> {
+    let dim = raster.dim();
+    text.push_str(kind_word(raster.kind()))?;
+    match raster.samples() {
+        Span::Eight(samples) => {
+            text.push_str(" 8")?;
+            put_sides(text, &[dim.w, dim.h])?;
+            put_bytes(text, samples)
+        }
+        Span::Sixteen(samples) => {
+            text.push_str(" 16")?;
+            put_sides(text, &[dim.w, dim.h])?;
+            put_words(text, samples)
+        }
+    }
 }
 
 /// Sums: where they stand, and each of them.
 fn put_sums(text: &mut String, value: &SumVal) -> Result<(), NoMemory> {
     let sums = &value.sums;
-    let (rect, kind) = (sums.rect(), kind_word(sums.kind()));
-    write!(
-        text,
-        "sums {} {} {} {} {}",
-        kind, rect.x, rect.y, rect.w, rect.h
-    )?;
+    write!(text, "sums {}", kind_word(sums.kind()))?;
+    put_rect(text, sums.rect())?;
     for sum in sums.sums() {
         write!(text, " {}", sum)?;
     }
