@@ -43,6 +43,18 @@ impl From<io::Error> for Stop {
     }
 }
 
+/// Writes what a line came to.
+fn put<W: Write>(out: &mut W, number: u64, text: Result<String, LineFault>) -> Result<(), Stop> {
+    match text {
+        Ok(text) => {
+            out.write_all(text.as_bytes())?;
+            Ok(())
+        }
+        Err(LineFault::Bad) => Err(Stop::Line(number)),
+        Err(LineFault::NoMemory) => Err(Stop::Memory),
+    }
+}
+
 /// Replays the lines of a reader: writes what each line comes to before it reads the next, at the end the answers of the last world, and
 /// flushes. Where it stops at a line, what came of those before it was written, but not flushed.
 pub fn replay<R, W>(alloc: Global, reader: R, out: &mut W) -> Result<(), Stop>
@@ -57,17 +69,9 @@ where
             return Err(Stop::Read);
         };
         number = number.saturating_add(1);
-        match replay.line(alloc, number, line.as_str()) {
-            Ok(text) => out.write_all(text.as_bytes())?,
-            Err(LineFault::Bad) => return Err(Stop::Line(number)),
-            Err(LineFault::NoMemory) => return Err(Stop::Memory),
-        }
+        put(out, number, replay.line(alloc, number, line.as_str()))?;
     }
-    match replay.ended(alloc) {
-        Ok(text) => out.write_all(text.as_bytes())?,
-        Err(LineFault::Bad) => return Err(Stop::Line(number)),
-        Err(LineFault::NoMemory) => return Err(Stop::Memory),
-    }
+    put(out, number, replay.ended(alloc))?;
     out.flush()?;
     Ok(())
 }

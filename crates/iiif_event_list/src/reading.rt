@@ -56,9 +56,14 @@ pub(crate) fn word<'a>(words: &[&'a str], at: usize) -> Result<&'a str, LineFaul
     }
 }
 
+/// The text of the word at a place.
+fn text(alloc: Global, words: &[&str], at: usize) -> Result<String, LineFault> {
+    Ok(String::from_str(alloc, word(words, at)?)?)
+}
+
 /// The name at a place.
 pub(crate) fn name(alloc: Global, words: &[&str], at: usize) -> Result<Name, LineFault> {
-    let text = String::from_str(alloc, word(words, at)?)?;
+    let text = text(alloc, words, at)?;
     if !is_name(text.as_str()) {
         return Err(LineFault::Bad);
     }
@@ -79,10 +84,10 @@ fn request(alloc: Global, words: &[&str], at: usize) -> Result<Request, LineFaul
     ensures { IfOk result HasShortDecimals }
 {
     let words = Words {
-        region: String::from_str(alloc, word(words, at)?)?,
-        size: String::from_str(alloc, word(words, at + 1)?)?,
-        rotation: String::from_str(alloc, word(words, at + 2)?)?,
-        quality: String::from_str(alloc, word(words, at + 3)?)?,
+        region: text(alloc, words, at)?,
+        size: text(alloc, words, at + 1)?,
+        rotation: text(alloc, words, at + 2)?,
+        quality: text(alloc, words, at + 3)?,
         format: String::from_str(alloc, "tif")?,
     };
     match parse(&words) {

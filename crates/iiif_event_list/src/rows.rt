@@ -77,6 +77,18 @@ fn put_given(text: &mut String, number: usize, given: &Given) -> Result<(), NoMe
     text.push_str("\n")
 }
 
+/// How far a request is.
+fn put_progress(text: &mut String, progress: &Progress) -> Result<(), NoMemory> {
+    match progress {
+        Progress::Waiting(_, calls) => {
+            text.push_str("waiting")?;
+            put_numbers(text, calls)
+        }
+        Progress::Answered(answer) => put_answer(text, answer),
+        Progress::Dropped => text.push_str("dropped"),
+    }
+}
+
 fn put_request(text: &mut String, number: usize, wanted: &Wanted) -> Result<(), NoMemory> {
     let name = wanted.wish.name.as_str();
     write!(
@@ -84,14 +96,7 @@ fn put_request(text: &mut String, number: usize, wanted: &Wanted) -> Result<(), 
         "request {}: node {} {} ",
         number, wanted.wish.node, name
     )?;
-    match &wanted.progress {
-        Progress::Waiting(_, calls) => {
-            text.push_str("waiting")?;
-            put_numbers(text, calls)?;
-        }
-        Progress::Answered(answer) => put_answer(text, answer)?,
-        Progress::Dropped => text.push_str("dropped")?,
-    }
+    put_progress(text, &wanted.progress)?;
     text.push_str("\n")
 }
 
@@ -104,21 +109,26 @@ fn put_purpose(text: &mut String, purpose: Purpose) -> Result<(), NoMemory> {
     }
 }
 
+/// What a call knows.
+fn put_state(text: &mut String, state: &CallState) -> Result<(), NoMemory> {
+    match state {
+        CallState::Fresh => text.push_str(": fresh"),
+        CallState::Hit(value) => {
+            text.push_str(": hit ")?;
+            put_value(text, value)
+        }
+        CallState::In(flight) => write!(text, ": in {}", flight),
+        CallState::Gone => text.push_str(": gone"),
+    }
+}
+
 fn put_call(text: &mut String, number: usize, call: &Call) -> Result<(), NoMemory> {
     let caller = &call.caller;
     let class = class_word(caller.class);
     write!(text, "call {}: node {} {} ", number, caller.node, class)?;
     put_key(text, &caller.key)?;
     put_purpose(text, caller.purpose)?;
-    match &call.state {
-        CallState::Fresh => text.push_str(": fresh")?,
-        CallState::Hit(value) => {
-            text.push_str(": hit ")?;
-            put_value(text, value)?;
-        }
-        CallState::In(flight) => write!(text, ": in {}", flight)?,
-        CallState::Gone => text.push_str(": gone")?,
-    }
+    put_state(text, &call.state)?;
     text.push_str("\n")
 }
 
