@@ -12,3 +12,4 @@ pub mod Wanted
 pub mod Started
 pub mod Tabled
 pub mod Allowing
+pub mod Asked

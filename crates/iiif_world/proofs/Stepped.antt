@@ -33,6 +33,24 @@ pub again_is : (w : World) (f : ℕ) (l : Lead) (n : Node) → slice_get w.fligh
 unfolding step
 again_is w f l n at there = bind_by (slice_get w.flights f) _ (record { lead = l; stage = New }) at (bind_by (slice_get w.nodes l.node) _ n there refl)
 
+-- a flight's node that isn't there
+pub again_lost : (w : World) (f : ℕ) (l : Lead) → slice_get w.flights f ≡ Some (record { lead = l; stage = New }) → slice_get w.nodes l.node ≡ None → step w (Again f) ≡ None
+unfolding step
+again_lost w f l at gone = bind_by (slice_get w.flights f) _ (record { lead = l; stage = New }) at (bind_none (slice_get w.nodes l.node) _ gone)
+
+pub ask_lost : (w : World) (f : ℕ) (l : Lead) → slice_get w.flights f ≡ Some (record { lead = l; stage = Looked }) → slice_get w.nodes l.node ≡ None → step w (AskPeer f) ≡ None
+unfolding step
+ask_lost w f l at gone = bind_by (slice_get w.flights f) _ (record { lead = l; stage = Looked }) at (bind_none (slice_get w.nodes l.node) _ gone)
+
+pub land_lost : (w : World) (f : ℕ) (l : Lead) (o : Outcome) (p : Place) (kept : Bool) → slice_get w.flights f ≡ Some (record { lead = l; stage = Ready o p }) →
+    slice_get w.nodes l.node ≡ None → step w (Land f kept) ≡ None
+unfolding step
+land_lost w f l o p kept at gone = bind_by (slice_get w.flights f) _ (record { lead = l; stage = Ready o p }) at (bind_none (slice_get w.nodes l.node) _ gone)
+
+pub enter_lost : (w : World) (c : ℕ) (who : Caller) → slice_get w.calls c ≡ Some (record { caller = who; state = Fresh }) → slice_get w.nodes who.node ≡ None → step w (Enter c) ≡ None
+unfolding step
+enter_lost w c who at gone = bind_by (slice_get w.calls c) _ (record { caller = who; state = Fresh }) at (bind_none (slice_get w.nodes who.node) _ gone)
+
 pub ask_is : (w : World) (f o : ℕ) (l : Lead) (n : Node) → l.class ≡ Wide → slice_get w.flights f ≡ Some (record { lead = l; stage = Looked }) →
     slice_get w.nodes l.node ≡ Some n → position (λ m. bytes_eq m.name (owner_of n l.key)) w.nodes ≡ Some o →
     step w (AskPeer f) ≡ Some (with_ask (with_stage w f l Asking) (record { node = o; key = l.key; flight = f; version = version_at w.scene l.key }))

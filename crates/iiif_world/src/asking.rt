@@ -7,7 +7,7 @@ ghost use Rattle.iiif_machine.specs.declared.events.WorldFault.{WorldFault};
 ghost use Rattle.iiif_world.specs.Code.{world_of};
 
 use crate::world::World;
-use iiif_machine::{Caller, Flight, Purpose, Reply, Stage, WorldFault};
+use iiif_machine::{Caller, Purpose, Reply, Stage, WorldFault};
 use iiif_pixel::NoMemory;
 use iiif_plain_tables::keys::{copied, same};
 use iiif_scene::Key;
@@ -32,14 +32,13 @@ fn taken(alloc: Global, key: &Key, reply: &Reply) -> Result<Stage, NoMemory>
 
 impl World {
     /// The asked node, where it speaks the ask's version, serves it by a local call.
-    #[tactic(auto, unfolding(iiif_machine::specs::Steps::step))]
     pub fn serve(&mut self, ask: usize) -> Result<(), WorldFault>
         ensures ok { OnOk result (step (world_of self.old) (Event.Serve ask) ≡ Some (world_of self.new)) }
         ensures not_now { IfErr result (λ f. f ≡ WorldFault.NotNow → step (world_of self.old) (Event.Serve ask) ≡ None) }
         ensures no_memory { IfErr result (λ f. f ≡ WorldFault.NoMemory → ¬ (step (world_of self.old) (Event.Serve ask) ≡ None)) }
         ensures same { OnErr result (world_of self.new ≡ world_of self.old) }
     {
-        let Some(asked) = self.asks.get(ask) else {
+        let Some(asked) = self.ask_at(ask) else {
             return Err(WorldFault::NotNow);
         };
         let Some(node) = self.node_at(asked.node) else {
@@ -60,14 +59,13 @@ impl World {
     }
 
     /// A call that serves an ask replies what it knows.
-    #[tactic(auto, unfolding(iiif_machine::specs::Steps::step))]
     pub fn reply(&mut self, call: usize) -> Result<(), WorldFault>
         ensures ok { OnOk result (step (world_of self.old) (Event.Reply call) ≡ Some (world_of self.new)) }
         ensures not_now { IfErr result (λ f. f ≡ WorldFault.NotNow → step (world_of self.old) (Event.Reply call) ≡ None) }
         ensures no_memory { IfErr result (λ f. f ≡ WorldFault.NoMemory → ¬ (step (world_of self.old) (Event.Reply call) ≡ None)) }
         ensures same { OnErr result (world_of self.new ≡ world_of self.old) }
     {
-        let Some(row) = self.calls.get(call) else {
+        let Some(row) = self.call_at(call) else {
             return Err(WorldFault::NotNow);
         };
         let Purpose::ForAsk(_) = row.caller.purpose else {
@@ -82,17 +80,16 @@ impl World {
     }
 
     /// A flight gets a reply.
-    #[tactic(auto, unfolding(iiif_machine::specs::Steps::step))]
     pub fn take(&mut self, flight: usize, reply: usize) -> Result<(), WorldFault>
         ensures ok { OnOk result (step (world_of self.old) (Event.Take flight reply) ≡ Some (world_of self.new)) }
         ensures not_now { IfErr result (λ f. f ≡ WorldFault.NotNow → step (world_of self.old) (Event.Take flight reply) ≡ None) }
         ensures no_memory { IfErr result (λ f. f ≡ WorldFault.NoMemory → ¬ (step (world_of self.old) (Event.Take flight reply) ≡ None)) }
         ensures same { OnErr result (world_of self.new ≡ world_of self.old) }
     {
-        let Some(row) = self.flights.get(flight) else {
+        let Some(row) = self.flight_at(flight) else {
             return Err(WorldFault::NotNow);
         };
-        let Some(sent) = self.replies.get(reply) else {
+        let Some(sent) = self.reply_at(reply) else {
             return Err(WorldFault::NotNow);
         };
         match row.stage {
@@ -106,46 +103,41 @@ impl World {
     }
 
     /// An ask gets no reply.
-    #[tactic(auto, unfolding(iiif_machine::specs::Steps::step))]
     pub fn lose(&mut self, flight: usize) -> Result<(), WorldFault>
         ensures ok { OnOk result (step (world_of self.old) (Event.Lose flight) ≡ Some (world_of self.new)) }
         ensures not_now { IfErr result (λ f. f ≡ WorldFault.NotNow → step (world_of self.old) (Event.Lose flight) ≡ None) }
         ensures no_memory { IfErr result (λ f. f ≡ WorldFault.NoMemory → ¬ (step (world_of self.old) (Event.Lose flight) ≡ None)) }
         ensures same { OnErr result (world_of self.new ≡ world_of self.old) }
     {
-        match self.flights.get(flight) {
-            Some(
-                Flight {
-                    stage: Stage::Asking,
-                    ..
-                },
-            ) => {}
-            _ => return Err(WorldFault::NotNow),
-        }
+        let Some(row) = self.flight_at(flight) else {
+            return Err(WorldFault::NotNow);
+        };
+        let Stage::Asking = row.stage else {
+            return Err(WorldFault::NotNow);
+        };
         self.set_stage(flight, Stage::Fallback(None));
         Ok(())
     }
 
     /// A flight that asked in vain makes a local call of its own key.
-    #[tactic(auto, unfolding(iiif_machine::specs::Steps::step))]
     pub fn go_local(&mut self, flight: usize) -> Result<(), WorldFault>
         ensures ok { OnOk result (step (world_of self.old) (Event.GoLocal flight) ≡ Some (world_of self.new)) }
         ensures not_now { IfErr result (λ f. f ≡ WorldFault.NotNow → step (world_of self.old) (Event.GoLocal flight) ≡ None) }
         ensures no_memory { IfErr result (λ f. f ≡ WorldFault.NoMemory → ¬ (step (world_of self.old) (Event.GoLocal flight) ≡ None)) }
         ensures same { OnErr result (world_of self.new ≡ world_of self.old) }
     {
-        let Some(
-            Flight {
-                lead,
-                stage: Stage::Fallback(None),
-            },
-        ) = self.flights.get(flight)
-        else {
+        let Some(row) = self.flight_at(flight) else {
+            return Err(WorldFault::NotNow);
+        };
+        let Stage::Fallback(asked) = row.stage else {
+            return Err(WorldFault::NotNow);
+        };
+        let None = asked else {
             return Err(WorldFault::NotNow);
         };
         let caller = Caller {
-            node: lead.node,
-            key: lead.key.copy()?,
+            node: row.lead.node,
+            key: row.lead.key.copy()?,
             class: Class::Local,
             purpose: Purpose::ForFallback(flight),
         };

@@ -56,7 +56,6 @@ impl World {
     }
 
     /// A fresh call whose key is kept finds its value.
-    #[tactic(auto, unfolding(iiif_machine::specs::Steps::step, iiif_machine::specs::Tables::enter, iiif_tables::specs::Flights::enter))]
     fn find(&mut self, call: usize, value: Value, ticket: u64) -> Result<(), WorldFault>
         requires sound { IsSoundWorld (world_of self.old) }
         requires fresh { IsFresh (world_of self.old) call (Some (record { value = value; ticket = ticket })) }
@@ -103,7 +102,7 @@ impl World {
     }
 
     /// A fresh call whose key isn't kept joins the open flight of its node, key and class, or leads a new one.
-    #[tactic(auto, unfolding(iiif_machine::specs::Steps::step, iiif_machine::specs::Tables::enter, iiif_tables::specs::Flights::enter))]
+    #[tactic(auto, unfolding(iiif_machine::specs::Tables::enter, iiif_tables::specs::Flights::enter))]
     fn fly(&mut self, call: usize) -> Result<(), WorldFault>
         requires sound { IsSoundWorld (world_of self.old) }
         requires fresh { IsFresh (world_of self.old) call None }
@@ -157,7 +156,6 @@ impl World {
     }
 
     /// A call enters its node's table.
-    #[tactic(auto, unfolding(iiif_machine::specs::Steps::step))]
     pub fn enter(&mut self, call: usize) -> Result<(), WorldFault>
         requires sound { IsSoundWorld (world_of self.old) }
         ensures ok { OnOk result (step (world_of self.old) (Event.Enter call) ≡ Some (world_of self.new)) }

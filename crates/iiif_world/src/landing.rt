@@ -100,7 +100,6 @@ impl World {
     }
 
     /// A flight that is ready ends, and its calls know.
-    #[tactic(auto, unfolding(iiif_machine::specs::Steps::step))]
     pub fn land(&mut self, flight: usize, keep: bool) -> Result<(), WorldFault>
         requires sound { IsSoundWorld (world_of self.old) }
         ensures ok { OnOk result (step (world_of self.old) (Event.Land flight keep) ≡ Some (world_of self.new)) }

@@ -92,7 +92,6 @@ impl World {
     }
 
     /// The leader of a new flight looks in its node's table again.
-    #[tactic(auto, unfolding(iiif_machine::specs::Steps::step))]
     pub fn again(&mut self, flight: usize) -> Result<(), WorldFault>
         ensures ok { OnOk result (step (world_of self.old) (Event.Again flight) ≡ Some (world_of self.new)) }
         ensures not_now { IfErr result (λ f. f ≡ WorldFault.NotNow → step (world_of self.old) (Event.Again flight) ≡ None) }
@@ -111,7 +110,6 @@ impl World {
     }
 
     /// A wide flight asks the node that owns its key.
-    #[tactic(auto, unfolding(iiif_machine::specs::Steps::step))]
     pub fn ask_peer(&mut self, flight: usize) -> Result<(), WorldFault>
         requires sound { IsSoundWorld (world_of self.old) }
         ensures ok { OnOk result (step (world_of self.old) (Event.AskPeer flight) ≡ Some (world_of self.new)) }

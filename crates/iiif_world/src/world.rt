@@ -97,6 +97,27 @@ impl World {
         self.flights.get(flight)
     }
 
+    /// The call of a number.
+    pub(crate) fn call_at(&self, call: usize) -> Option<&Call>
+        ensures { MatchOption result (slice_get (world_of self.now).calls call ≡ None) (λ c. slice_get (world_of self.now).calls call ≡ Some c.now) }
+    {
+        self.calls.get(call)
+    }
+
+    /// The ask of a number.
+    pub(crate) fn ask_at(&self, ask: usize) -> Option<&Ask>
+        ensures { MatchOption result (slice_get (world_of self.now).asks ask ≡ None) (λ a. slice_get (world_of self.now).asks ask ≡ Some a.now) }
+    {
+        self.asks.get(ask)
+    }
+
+    /// The reply of a number.
+    pub(crate) fn reply_at(&self, reply: usize) -> Option<&Reply>
+        ensures { MatchOption result (slice_get (world_of self.now).replies reply ≡ None) (λ r. slice_get (world_of self.now).replies reply ≡ Some r.now) }
+    {
+        self.replies.get(reply)
+    }
+
     /// A flight goes on to another stage.
     pub(crate) fn set_stage(&mut self, flight: usize, stage: Stage)
         requires { flight < length (world_of self.old).flights }

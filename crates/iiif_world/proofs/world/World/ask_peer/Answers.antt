@@ -8,7 +8,7 @@ use Rattle.iiif_plain_tables.specs.Nodes.{node_of}
 use Rattle.iiif_world.specs.Code.{world_of}
 use Rattle.iiif_world.proofs.Allowing.{wants_memory}
 use Rattle.iiif_world.proofs.Named.{placed_by}
-use Rattle.iiif_world.proofs.Stepped.{ask_done, ask_none}
+use Rattle.iiif_world.proofs.Stepped.{ask_done, ask_lost, ask_none}
 use Rattle.iiif_world.proofs.world.World.ask_peer.Goals as goal
 
 pub returns-in_default-place_of-clause-not_now : goal.returns-in_default-place_of-clause-not_now
@@ -40,3 +40,6 @@ returns-in_err-key-clause-no_memory c = wants_memory (world_of c.args.self.now) 
 
 pub returns-in_err-add_ask-clause-no_memory : goal.returns-in_err-add_ask-clause-no_memory
 returns-in_err-add_ask-clause-no_memory c = wants_memory (world_of c.args.self.now) (AskPeer c.args.flight) c.from_residual-in_err-add_ask.result c.requires.sound (c.in-Some.lead.now, c.in-Some.ensures.0, c.in-Some.ensures.1)
+
+pub returns-in_default-node_at-clause-not_now : goal.returns-in_default-node_at-clause-not_now
+returns-in_default-node_at-clause-not_now c = λ same. ask_lost (world_of c.args.self.now) c.args.flight c.in-Some.lead.now c.in-Some.ensures.0 c.in_default-node_at.ensures

@@ -4,6 +4,7 @@ use Rattle.iiif_plain_tables.specs.Nodes.{node_of}
 use Rattle.iiif_world.specs.Code.{world_of}
 use Rattle.iiif_plain_tables.specs.Rows.{kept_of}
 use Rattle.iiif_world.proofs.Allowing.{wants_memory}
+use Rattle.iiif_world.proofs.Stepped.{enter_lost}
 use Rattle.iiif_world.proofs.world.World.enter.Goals as goal
 
 pub find-requires-clause-fresh : goal.find-requires-clause-fresh
@@ -32,3 +33,6 @@ returns-in-Some-kept-clause-no_memory c = wants_memory (world_of c.args.self.now
 
 pub returns-in-None-clause-no_memory : goal.returns-in-None-clause-no_memory
 returns-in-None-clause-no_memory c = wants_memory (world_of c.args.self.now) (Enter c.args.call) c.fly.result c.requires.sound (c.in-Some.caller.now, c.in-Some.ensures)
+
+pub returns-in_default-node_at-clause-not_now : goal.returns-in_default-node_at-clause-not_now
+returns-in_default-node_at-clause-not_now c = λ same. enter_lost (world_of c.args.self.now) c.args.call c.in-Some.caller.now c.in-Some.ensures c.in_default-node_at.ensures

@@ -1,9 +1,10 @@
 use Rattle.std.proofs.Common.{◌<◌, length, sym, ap, subst, ◌∙◌, Some, arith}
 use Rattle.std.specs.Prelude.{slice_get}
-use Rattle.std.proofs.lemmas.Option.{slice_get_within}
+use Rattle.std.proofs.lemmas.Option.{none-some, slice_get_within}
 use Rattle.iiif_scene.specs.Scenes.{IsProper}
 use Rattle.iiif_machine.specs.Sound.{IsHonestWorld}
 use Rattle.iiif_machine.specs.Worlds.{World, with_stage}
+use Rattle.iiif_machine.specs.declared.events.Event.TheVariants.{Land}
 use Rattle.iiif_machine.specs.declared.rows.Stage.TheVariants.{Ready, Ended}
 use Rattle.iiif_machine.proofs.Apart.{set_there}
 use Rattle.iiif_plain_tables.specs.Nodes.{node_of}
@@ -11,7 +12,8 @@ use Rattle.iiif_world.specs.Code.{world_of}
 use Rattle.iiif_world.specs.Entering.{HasFlight}
 use Rattle.iiif_world.proofs.Changed.{length_set}
 use Rattle.iiif_world.proofs.Found.{ended_honest, stage_back}
-use Rattle.iiif_world.proofs.Stepped.{land_done}
+use Rattle.iiif_world.proofs.Asked.{memory_wanted}
+use Rattle.iiif_world.proofs.Stepped.{land_is, land_lost, land_done}
 use Rattle.iiif_world.proofs.world.World.land.Goals as goal
 
 pub end-requires : goal.end-requires
@@ -81,3 +83,20 @@ returns-in-Err-clause-same c =
     c.reopen.ensures l o at
     ∙ ap (λ (z : World). with_stage z c.args.flight l (Ready o p)) back
     ∙ stage_back w c.args.flight l (Ready o p) (Ended (Some o)) c.in-Some.ensures
+
+pub returns-in_default-node_at-clause-not_now : goal.returns-in_default-node_at-clause-not_now
+returns-in_default-node_at-clause-not_now c = λ same.
+    land_lost (world_of c.args.self.now) c.args.flight c.in-Some.lead.now c.in-Some.outcome.now c.in-Some.place c.args.keep c.in-Some.ensures c.in_default-node_at.ensures
+
+pub returns-in_err-value-clause-no_memory : goal.returns-in_err-value-clause-no_memory
+returns-in_err-value-clause-no_memory c =
+    memory_wanted (world_of c.args.self.now) _ (Land c.args.flight c.args.keep) c.from_residual.result
+    (land_is (world_of c.args.self.now) c.args.flight c.in-Some.lead.now (node_of c.in-Some-node_at._node.now) c.in-Some.outcome.now c.in-Some.place c.args.keep c.in-Some.ensures
+    c.in-Some-node_at.ensures)
+
+pub returns-in-Err-clause-no_memory : goal.returns-in-Err-clause-no_memory
+returns-in-Err-clause-no_memory c = λ same none.
+    none-some _
+    (sym none
+    ∙ land_is (world_of c.args.self.now) c.args.flight c.in-Some.lead.now (node_of c.in-Some-node_at._node.now) c.in-Some.outcome.now c.in-Some.place c.args.keep c.in-Some.ensures
+    c.in-Some-node_at.ensures)
