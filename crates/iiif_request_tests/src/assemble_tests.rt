@@ -1,6 +1,6 @@
 //! Images by hand, in bands and by several workers.
 
-ghost use Rattle.std.specs.Prelude.{◌≡◌, ◌<◌, ◌⊎◌, IfOk, IfErr, length};
+ghost use Rattle.std.specs.Prelude.{◌≡◌, ◌<◌, ◌≤◌, ◌⊎◌, IfOk, IfErr, length};
 ghost use Rattle.std.specs.Arc.{arc_value};
 ghost use Rattle.iiif_pixel.specs.Geometry.{channels_of, top_of};
 ghost use Rattle.iiif_pixel.specs.Picture.{dim_of};
@@ -429,7 +429,9 @@ fn wide(alloc: Global, depth: Depth) -> Result<Shown, Fail> {
 }
 
 /// Twice the mean of the two remainders that place `i` of the halved picture is made of.
-fn twice_the_mean(i: usize) -> usize {
+fn twice_the_mean(i: usize) -> usize
+    ensures { result ≤ 500 }
+{
     let first = i % 251 * 2;
     first % 251 + (first + 1) % 251
 }
