@@ -1,189 +1,252 @@
-//! Calls for tiles of a node, of one thread and of two.
+//! Calls for tiles and sums of a node.
 
-ghost use Rattle.std.specs.Prelude.{◌≡◌, ◌<◌};
+ghost use Rattle.std.specs.Prelude.{◌≡◌, IsTrue};
+ghost use Rattle.std.specs.Arc.{arc_value};
+ghost use Rattle.std.specs.Result.{ForErr, ForOk};
 ghost use Rattle.iiif_group.specs.Beginning.{open_key};
+ghost use Rattle.iiif_keys.specs.Meaning.{tile_is_shaped, tile_meaning};
+ghost use Rattle.iiif_outcome.specs.Outcomes.{is_given};
 
-use crate::pairs::{Bar, Pair, TURNS, Tiles, loaded, shape_for, tile};
-use iiif_group::{Begun, Open};
-use iiif_keys::{CacheKey, TileKey};
+use crate::keys::{block, tile};
+use crate::nodes::{Node, passes};
+use crate::scenes::ODD;
+use iiif_group::{Begun, Open, boxed};
+use iiif_keys::{Fault, SumVal, System, TileKey, TileVal};
 use iiif_outcome::Receipt;
 use iiif_pixel::Span;
 use iiif_singleflight::Pass;
-use iiif_tables::Book;
+use iiif_sum_group::Passes;
+use iiif_tile_group::TileCalls;
 use std::alloc::Global;
-use std::sync::Wait;
-use std::sync::ledger::Ledger;
-use std::test::Fail;
-use std::thread;
-use std::thread::Threads;
-use std::time::{Clock, Duration};
+use std::net::{Net, TcpStream};
+use std::sync::{Arc, Wait};
+use std::time::Clock;
 
-/// How a call begins.
+/// How a value is called for.
 #[derive(Clone, Copy)]
-pub(crate) enum Way {
-    /// By its key's owner.
-    Owner,
-    /// By this node alone.
-    Local,
+pub(crate) enum Call {
+    Get,
+    GetLocal,
+    /// By a group's own calls: `begin` or `begin_local`, and `complete` behind a load, which has to be exact.
+    Begin,
+    BeginLocal,
+    /// Nothing is looked up, and nothing kept.
+    Load,
 }
 
-/// What a call came to: its receipt, and its pass.
-pub(crate) type Came<L> = Option<(Receipt<TileKey, Pair>, Pass<L>)>;
-
-/// The sample of a receipt's tile of one place. None for a fault.
-pub(crate) fn sample_of(receipt: &mut Receipt<TileKey, Pair>) -> Option<u8> {
-    match receipt.outcome() {
-        Ok(value) => match value.raster.samples() {
-            Span::Eight([sample]) => Some(*sample),
-            _ => None,
-        },
-        Err(_) => None,
-    }
+/// What is done with a node.
+#[derive(Clone, Copy)]
+pub(crate) enum Step {
+    /// The tile of `a` in this column and row is called for.
+    Tile(Call, (u32, u32)),
+    /// The sums of `a` are called for, of this block of the first row of a level.
+    Sums(Call, u8, u32),
+    /// The source of `a` is mended.
+    Mend,
 }
 
-/// Loads what is owed. None where the receipt has another outcome.
-fn ended<L: Ledger, R: Wait + Clock>(
-    rt: &R,
-    alloc: Global,
-    group: &Tiles<'_, L>,
-    load: Open<TileKey, Pair>,
-    key: &TileKey,
-) -> Option<Receipt<TileKey, Pair>>
-    requires key { open_key load ≡ key.now }
-    requires fits { key.now.tx < 2 }
-{
-    let outcome = loaded(alloc, key);
-    let completed = group.complete(rt, load, key, outcome);
-    if !completed.exact {
-        return None;
-    }
-    Some(completed.receipt)
-}
-
-/// One call for the tile of a column.
-pub(crate) fn call<L: Ledger, R: Wait + Clock>(
-    rt: &R,
-    alloc: Global,
-    group: &Tiles<'_, L>,
-    mut pass: Pass<L>,
-    way: Way,
-    tx: u32,
-) -> Came<L> {
-    let key = tile(alloc, tx)?;
-    let shape = shape_for(&key);
-    if tx >= 2 || !key.fits(1, &shape) {
-        return None;
-    }
-    match way {
-        Way::Owner => match group.begin(rt, &mut pass, &key, &shape) {
-            Ok(Begun::Known(receipt)) => Some((receipt, pass)),
-            Ok(Begun::Load(load)) => Some((ended(rt, alloc, group, load, &key)?, pass)),
-            Err(_) => None,
-        },
-        Way::Local => match group.begin_local(rt, &mut pass, &key) {
-            Ok(Begun::Known(receipt)) => Some((receipt, pass)),
-            Ok(Begun::Load(load)) => Some((ended(rt, alloc, group, load, &key)?, pass)),
-            Err(_) => None,
-        },
-    }
-}
-
-/// What the first load is held for.
+/// The samples of a tile, or sums.
 #[derive(Clone, Copy, PartialEq, Eq)]
-pub(crate) enum Until {
-    /// The other call has joined.
-    Joined,
-    /// The other call is answered.
-    Answered,
-    /// It isn't held.
-    Nothing,
+pub(crate) enum Numbers {
+    One(u64),
+    Four([u64; 4]),
+    /// So many others, or none.
+    Others,
 }
 
-/// Lifts the gate once the other call has joined, or at once. False where that doesn't come. Where it is held for an answer it is
-/// left to the thread that is answered.
-fn lift<L: Ledger, R: Wait + Clock>(
+/// The sums of the whole of `a` at 2 by 2. Each sample counts 2 by 2 times: a sample of the source is 2 long where a place of the
+/// result is 4.
+pub(crate) const HALVED: Numbers = Numbers::Four([400, 720, 1680, 2000]);
+
+/// The tiles (0, 0), (1, 0) and (1, 1) of `a`.
+pub(crate) const FIRST: Numbers = Numbers::Four([0, 10, 40, 50]);
+
+pub(crate) const SECOND: Numbers = Numbers::Four([20, 30, 60, 70]);
+
+pub(crate) const LAST: Numbers = Numbers::Four([100, 110, 140, 150]);
+
+/// What a step comes to.
+pub(crate) type Answer = Result<Numbers, Fault>;
+
+/// The samples of a tile.
+fn samples_of(value: &TileVal) -> Numbers {
+    match value.raster.samples() {
+        Span::Eight([a, b, c, d]) => {
+            Numbers::Four([u64::from(*a), u64::from(*b), u64::from(*c), u64::from(*d)])
+        }
+        _ => Numbers::Others,
+    }
+}
+
+fn sums_of(value: &SumVal) -> Numbers {
+    match value.sums.sums() {
+        [a, b, c, d] => Numbers::Four([*a, *b, *c, *d]),
+        [sum] => Numbers::One(*sum),
+        _ => Numbers::Others,
+    }
+}
+
+/// The samples of a receipt's tile, or its fault.
+pub(crate) fn told<J: System>(receipt: &mut Receipt<TileKey, J>) -> Answer {
+    match receipt.outcome() {
+        Ok(value) => Ok(samples_of(value)),
+        Err(fault) => Err(*fault),
+    }
+}
+
+/// The tile of a key from its source, or want of memory.
+fn loaded<R: Wait + Clock, J: System>(
     rt: &R,
-    group: &Tiles<'_, L>,
-    gate: &Bar,
-    until: Until,
-) -> bool {
-    for _ in 0..TURNS {
-        let seen = match until {
-            Until::Joined => group.book(rt).joins == 1,
-            Until::Answered => return true,
-            Until::Nothing => true,
+    alloc: Global,
+    node: &Node<'_, R, J>,
+    key: &TileKey,
+) -> Result<Arc<TileVal>, Fault>
+    ensures meant { J.stable key.now.name → IsTrue J.honest → ForOk result (λ v. arc_value v ≡ tile_meaning J.pictures key.now) }
+    ensures shaped { ForOk result (λ v. IsTrue (tile_is_shaped J.pictures key.now (arc_value v))) }
+    ensures given { ForErr result (λ f. IsTrue (is_given (J.gave key.now.name) f)) }
+{
+    match node.tiles().load(rt, key) {
+        Ok(value) => boxed(alloc, value),
+        Err(_) => Err(Fault::NoMemory),
+    }
+}
+
+/// Loads what is owed. Want of memory where the receipt has another outcome.
+fn ended<R: Wait + Clock, J: System>(
+    rt: &R,
+    alloc: Global,
+    node: &Node<'_, R, J>,
+    load: Open<TileKey, J>,
+    key: &TileKey,
+) -> Result<Receipt<TileKey, J>, Fault>
+    requires { open_key load ≡ key.now }
+{
+    let outcome = loaded(rt, alloc, node, key);
+    let completed = node.tiles().group().complete(rt, load, key, outcome);
+    if completed.exact {
+        Ok(completed.receipt)
+    } else {
+        Err(Fault::NoMemory)
+    }
+}
+
+/// A call for a tile by its group's own calls, of its owner or of this node alone.
+fn begun<R: Net<Stream = TcpStream> + Wait + Clock, J: System>(
+    rt: &R,
+    alloc: Global,
+    node: &Node<'_, R, J>,
+    pass: &mut Pass<TileCalls<J>>,
+    is_local: bool,
+    key: &TileKey,
+) -> Result<Receipt<TileKey, J>, Fault> {
+    let tiles = node.tiles();
+    if is_local {
+        return match tiles.group().begin_local(rt, pass, key) {
+            Ok(Begun::Known(receipt)) => Ok(receipt),
+            Ok(Begun::Load(load)) => ended(rt, alloc, node, load, key),
+            Err(_) => Err(Fault::NoMemory),
         };
-        if seen {
-            gate.lift();
-            return true;
-        }
-        thread::sleep(rt, Duration::from_millis(1));
     }
-    false
+    let (_entry, shape) = tiles.images().image_of(key)?;
+    match tiles.group().begin(rt, pass, key, &shape) {
+        Ok(Begun::Known(receipt)) => Ok(receipt),
+        Ok(Begun::Load(load)) => ended(rt, alloc, node, load, key),
+        Err(_) => Err(Fault::NoMemory),
+    }
 }
 
-/// One call by the key's owner. Where the gate is held for an answer, this thread lifts it behind its own call. The one that is held
-/// there can't, so it goes on only once the other has its answer.
-fn answered<L: Ledger, R: Wait + Clock>(
+/// A call for a tile that is counted: no load.
+pub(crate) fn called<R: Net<Stream = TcpStream> + Wait + Clock, J: System>(
     rt: &R,
     alloc: Global,
-    group: &Tiles<'_, L>,
-    gate: &Bar,
-    pass: Pass<L>,
-    tx: u32,
-    until: Until,
-) -> Came<L> {
-    let came = call(rt, alloc, group, pass, Way::Owner, tx);
-    if until == Until::Answered {
-        gate.lift();
+    node: &Node<'_, R, J>,
+    pass: &mut Pass<TileCalls<J>>,
+    call: Call,
+    at: (u32, u32),
+) -> Result<Receipt<TileKey, J>, Fault> {
+    let key = tile(alloc, "a", at)?;
+    match call {
+        Call::Get => node.tiles().get(rt, pass, &key),
+        Call::GetLocal => node.tiles().get_local(rt, pass, &key),
+        Call::Begin => begun(rt, alloc, node, pass, false, &key),
+        Call::BeginLocal => begun(rt, alloc, node, pass, true, &key),
+        Call::Load => Err(Fault::BadKey),
     }
-    came
 }
 
-/// Two threads call for the tiles of these columns, and the first to load is held at the gate until the other is as far as told.
-pub(crate) fn two_calls<L: Ledger + Send + Sync, R: Threads + Wait + Clock + Sync>(
+/// What a call for a tile, or its load, comes to.
+fn tile_asked<R: Net<Stream = TcpStream> + Wait + Clock, J: System>(
     rt: &R,
     alloc: Global,
-    group: &Tiles<'_, L>,
-    gate: &Bar,
-    columns: (u32, u32),
-    until: Until,
-) -> (Came<L>, Came<L>) {
-    let (Some(one), Some(two)) = (group.pass(rt), group.pass(rt)) else {
-        return (None, None);
+    node: &Node<'_, R, J>,
+    pass: &mut Pass<TileCalls<J>>,
+    call: Call,
+    at: (u32, u32),
+) -> Answer {
+    if let Call::Load = call {
+        let value = node.tiles().load(rt, &tile(alloc, "a", at)?)?;
+        return Ok(samples_of(&value));
+    }
+    told(&mut called(rt, alloc, node, pass, call, at)?)
+}
+
+/// What a call for sums, or their load, comes to.
+fn sums_asked<R: Net<Stream = TcpStream> + Wait + Clock, J: System>(
+    rt: &R,
+    alloc: Global,
+    node: &Node<'_, R, J>,
+    passes: &mut Passes<J>,
+    call: Call,
+    place: (u8, u32),
+) -> Answer {
+    let key = block(alloc, place.0, place.1)?;
+    let mut receipt = match call {
+        Call::Get => node.get(rt, passes, &key)?,
+        Call::GetLocal => node.get_local(rt, passes, &key)?,
+        Call::Load => return Ok(sums_of(&node.load(rt, passes, &key)?)),
+        Call::Begin | Call::BeginLocal => return Err(Fault::BadKey),
     };
-    let (came, lifted) = thread::join(
-        rt,
-        || {
-            thread::join(
-                rt,
-                || answered(rt, alloc, group, gate, one, columns.0, until),
-                || answered(rt, alloc, group, gate, two, columns.1, until),
-            )
-        },
-        || lift(rt, group, gate, until),
-    );
-    if lifted { came } else { (None, None) }
+    match receipt.outcome() {
+        Ok(value) => Ok(sums_of(value)),
+        Err(fault) => Err(*fault),
+    }
 }
 
-/// The book and the share at home, with one pass kept back in vain and then with all.
-pub(crate) fn gathered<L: Ledger, R: Wait>(
+/// Mends the source of `a`.
+pub(crate) fn mend<R: Clock, J: System>(node: &Node<'_, R, J>) -> Answer {
+    match node.tiles().images().catalogue().find("a") {
+        Some(entry) => {
+            entry.source.inner.mend();
+            Ok(Numbers::Others)
+        }
+        None => Err(Fault::UnknownName),
+    }
+}
+
+/// What a step comes to.
+pub(crate) fn asked<R: Net<Stream = TcpStream> + Wait + Clock, J: System>(
     rt: &R,
     alloc: Global,
-    group: &Tiles<'_, L>,
-    one: Pass<L>,
-    two: Pass<L>,
-) -> Result<(Book, u64), Fail> {
-    let mut passes = Vec::new(alloc);
-    passes.push(one)?;
-    match group.gather(rt, passes) {
-        Ok(_) => Err("a pass was out".into()),
-        Err(mut back) => {
-            back.push(two)?;
-            match group.gather(rt, back) {
-                Ok(all) => Ok(all),
-                Err(_) => Err("no pass was out".into()),
-            }
-        }
+    node: &Node<'_, R, J>,
+    passes: &mut Passes<J>,
+    step: Step,
+) -> Answer {
+    match step {
+        Step::Tile(call, at) => tile_asked(rt, alloc, node, &mut passes.tile, call, at),
+        Step::Sums(call, level, bx) => sums_asked(rt, alloc, node, passes, call, (level, bx)),
+        Step::Mend => mend(node),
+    }
+}
+
+/// The same with passes of its own.
+pub(crate) fn asked_alone<R: Net<Stream = TcpStream> + Wait + Clock, J: System>(
+    rt: &R,
+    alloc: Global,
+    node: &Node<'_, R, J>,
+    step: Step,
+) -> Answer {
+    match passes(rt, node) {
+        Some(mut passes) => asked(rt, alloc, node, &mut passes, step),
+        None => Err(ODD),
     }
 }

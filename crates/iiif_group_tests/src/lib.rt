@@ -4,21 +4,19 @@
 #![tactic(auto)]
 
 #[cfg(test)]
-mod alone;
-#[cfg(test)]
-mod call_tests;
+mod bars;
 #[cfg(test)]
 mod calls;
 #[cfg(test)]
 mod crossed_tests;
 #[cfg(test)]
+mod crossings;
+#[cfg(test)]
 mod cut_tests;
 #[cfg(test)]
-mod each_tests;
+mod doorways;
 #[cfg(test)]
-mod joining_tests;
-#[cfg(test)]
-mod link_keys;
+mod keys;
 #[cfg(test)]
 mod link_memory_tests;
 #[cfg(test)]
@@ -26,16 +24,16 @@ mod link_tcp_tests;
 #[cfg(test)]
 mod meeting_tests;
 #[cfg(test)]
+mod meetings;
+#[cfg(test)]
 mod messages;
 #[cfg(test)]
-mod pairs;
+mod nodes;
 #[cfg(test)]
 mod peers;
 #[cfg(test)]
-mod refused_tests;
+mod run_tests;
 #[cfg(test)]
-mod reply_tests;
+mod runs;
 #[cfg(test)]
-mod sums_tests;
-#[cfg(test)]
-mod values;
+mod scenes;

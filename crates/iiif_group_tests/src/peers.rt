@@ -1,120 +1,141 @@
-//! Files in memory, their images, and groups over them.
+//! Ways to the node that owns a node's keys.
 
-ghost use Rattle.std.specs.Prelude.{◌≡◌, ℕ, List, Some, IfOk, length};
-ghost use Rattle.iiif_source.specs.declared.ReadFault.{ReadFault};
-ghost use Rattle.iiif_images.specs.Collection.{Item, item_named};
-ghost use Rattle.iiif_images.specs.Named.{gave_of, pictures_of};
+ghost use Rattle.std.specs.Prelude.{◌≡◌, false};
 
-use iiif_group::{Gate, Group, Link, NoGate};
-use iiif_images::{Catalogue, Images};
-use iiif_keys::System;
-use iiif_ring::Ring;
-use iiif_source::{FuseSource, MemSource, Source};
-use iiif_sum_group::{Groups, Passes};
-use iiif_tiff_read::open;
-use iiif_tile_group::Tiles;
+use crate::bars::Bar;
+use crate::calls::Numbers;
+use crate::messages::Exchange;
+use iiif_group::{Link, LinkFault, NoLink};
+use iiif_io::fakes::{FailingReader, FailingWriter};
+use iiif_keys::{Shape, SumKey, SumVal, System, TileKey, TileVal};
+use iiif_peer_link::{TcpLink, sum_over, tile_over};
+use iiif_peer_wire::WireFault;
+use iiif_pixel::{Dim, Kind, Raster, Samples};
 use std::alloc::Global;
-use std::num::NonZeroUsize;
-use std::sync::Wait;
-use std::sync::ledger::Blank;
-use std::test::Fail;
+use std::marker::PhantomData;
+use std::net::{Net, TcpListener, TcpStream};
+use std::time::{Clock, Duration};
 
-/// A TIFF file of 4 by 4 gray samples: 10 more for each column, and 40 more for each row.
-const SAMPLE: [u8; 138] = [
-    0x49, 0x49, 0x2a, 0, 0x18, 0, 0, 0, 0, 10, 20, 30, 40, 50, 60, 70, 80, 90, 100, 110, 120, 130,
-    140, 150, 9, 0, 0, 1, 3, 0, 1, 0, 0, 0, 4, 0, 0, 0, 1, 1, 3, 0, 1, 0, 0, 0, 4, 0, 0, 0, 2, 1,
-    3, 0, 1, 0, 0, 0, 8, 0, 0, 0, 3, 1, 3, 0, 1, 0, 0, 0, 1, 0, 0, 0, 6, 1, 3, 0, 1, 0, 0, 0, 1, 0,
-    0, 0, 0x11, 1, 4, 0, 1, 0, 0, 0, 8, 0, 0, 0, 0x15, 1, 3, 0, 1, 0, 0, 0, 1, 0, 0, 0, 0x16, 1, 3,
-    0, 1, 0, 0, 0, 4, 0, 0, 0, 0x17, 1, 4, 0, 1, 0, 0, 0, 0x10, 0, 0, 0, 0, 0, 0, 0,
-];
+/// How long an ask over TCP may take, in milliseconds. Where a node passed an ask on, its asker would wait for itself, so long.
+pub(crate) const LIMIT: u64 = 10_000;
 
-/// A TIFF file of 2 by 1 gray samples of 16 bits, 0 and 65,535, low bytes first.
-const DEEP: [u8; 126] = [
-    0x49, 0x49, 0x2a, 0x00, 0x0c, 0x00, 0x00, 0x00, 0x00, 0x00, 0xff, 0xff, 0x09, 0x00, 0x00, 0x01,
-    0x03, 0x00, 0x01, 0x00, 0x00, 0x00, 0x02, 0x00, 0x00, 0x00, 0x01, 0x01, 0x03, 0x00, 0x01, 0x00,
-    0x00, 0x00, 0x01, 0x00, 0x00, 0x00, 0x02, 0x01, 0x03, 0x00, 0x01, 0x00, 0x00, 0x00, 0x10, 0x00,
-    0x00, 0x00, 0x03, 0x01, 0x03, 0x00, 0x01, 0x00, 0x00, 0x00, 0x01, 0x00, 0x00, 0x00, 0x06, 0x01,
-    0x03, 0x00, 0x01, 0x00, 0x00, 0x00, 0x01, 0x00, 0x00, 0x00, 0x11, 0x01, 0x04, 0x00, 0x01, 0x00,
-    0x00, 0x00, 0x08, 0x00, 0x00, 0x00, 0x15, 0x01, 0x03, 0x00, 0x01, 0x00, 0x00, 0x00, 0x01, 0x00,
-    0x00, 0x00, 0x16, 0x01, 0x03, 0x00, 0x01, 0x00, 0x00, 0x00, 0x01, 0x00, 0x00, 0x00, 0x17, 0x01,
-    0x04, 0x00, 0x01, 0x00, 0x00, 0x00, 0x04, 0x00, 0x00, 0x00, 0x00, 0x00, 0x00, 0x00,
-];
+/// Each sample of a tile that an owner in memory gives.
+const SAMPLE: u8 = 5;
 
-/// The images of the tests: their names, their files, and which of their reads fails first.
-const IMAGES: [(&str, &[u8], u64); 3] = [("a", &SAMPLE, 99), ("g", &DEEP, 99), ("f", &SAMPLE, 1)];
+/// Such a tile.
+pub(crate) const GIVEN: Numbers = Numbers::Four([5, 5, 5, 5]);
 
-pub(crate) type Fused = FuseSource<MemSource>;
+/// The way to the owner of a node's keys.
+#[derive(Clone, Copy)]
+pub(crate) enum Way<'a> {
+    /// It refuses with status 3. The first ask for a tile waits at the bar, and each other lifts it.
+    Refuses(&'a Bar),
+    /// It replies a tile of 2 by 2 samples, or of 4 by 1, and refuses sums. The first ask waits likewise.
+    Gives { is_wide: bool, bar: &'a Bar },
+    /// A connection in memory whose writer fails after so many bytes, while the whole reply is there to be read. Where the ask has no
+    /// more of them, it is the reader that fails after the rest.
+    Cut(Exchange, usize),
+    /// The node behind this listener.
+    Tcp(&'a TcpListener),
+}
 
-pub(crate) type Node<R, J, N> = Groups<R, Fused, J, N, NoGate>;
-
-/// Takes an image in: its name, its file, and which of its reads fails first. None where memory was wanted.
-fn add<R>(
-    rt: &R,
+/// The owner of a node's keys.
+#[derive(Drop)]
+pub(crate) struct Peer<'a, J: System> {
     alloc: Global,
-    catalogue: &mut Catalogue<R, Fused>,
-    image: (&str, &[u8], u64),
-) -> Option<()> {
-    let (name, file, fuse) = image;
-    let memory = MemSource::new(Vec::from_slice(alloc, file).ok()?);
-    let Ok(layout) = open(rt, alloc, &memory) else {
-        return None;
+    way: Way<'a>,
+    of: PhantomData<J>,
+    pub ghost unsure: { J.honest ≡ false },
+}
+
+impl<'a, J: System> Peer<'a, J> {
+    pub(crate) fn new(alloc: Global, way: Way<'a>) -> Peer<'a, J>
+        requires { J.honest ≡ false }
+    {
+        Peer {
+            alloc,
+            way,
+            of: PhantomData,
+        }
+    }
+
+    /// A link to the node behind that listener.
+    fn over_tcp(&self, listener: &TcpListener) -> Result<TcpLink<J>, LinkFault> {
+        let Ok(address) = listener.local_addr() else {
+            return Err(LinkFault::Wire(WireFault::Io));
+        };
+        match format!(in self.alloc; "{address}") {
+            Ok(address) => Ok(TcpLink::new(self.alloc, address, Duration::from_millis(LIMIT))),
+            Err(_) => Err(LinkFault::Wire(WireFault::NoMemory)),
+        }
+    }
+}
+
+/// The ends of a connection that fails after so many bytes: the one that is read from, and the one that is written to.
+fn ends(
+    alloc: Global,
+    exchange: Exchange,
+    bytes: usize,
+) -> (FailingReader<'static>, FailingWriter) {
+    let (asked, replied) = (exchange.ask.len(), exchange.reply.len());
+    let reader = FailingReader {
+        left: exchange.reply,
+        piece: 1,
+        reads: bytes.checked_sub(asked).unwrap_or(replied),
     };
-    let name = String::from_str(alloc, name).ok()?;
-    match catalogue.add(name, FuseSource::new(memory, fuse), layout) {
-        Ok(()) => Some(()),
-        Err(_) => None,
+    let out = FailingWriter {
+        taken: Vec::new(alloc),
+        room: bytes,
+        piece: 5,
+    };
+    (reader, out)
+}
+
+/// A gray tile of four samples, of 2 by 2 or of 4 by 1.
+fn given(alloc: Global, is_wide: bool) -> Result<TileVal, LinkFault> {
+    let Ok(samples) = Vec::from_array(alloc, [SAMPLE; 4]) else {
+        return Err(LinkFault::Wire(WireFault::NoMemory));
+    };
+    let samples = Samples::Eight(samples);
+    let raster = if is_wide {
+        Raster::from_samples(Dim { w: 4, h: 1 }, Kind::Gray, samples)
+    } else {
+        Raster::from_samples(Dim { w: 2, h: 2 }, Kind::Gray, samples)
+    };
+    Ok(TileVal { raster })
+}
+
+impl<'a, J: System, R: Net<Stream = TcpStream> + Clock> Link<TileKey, J, R> for Peer<'a, J> {
+    fn ask(&self, rt: &R, key: &TileKey, shape: &Shape) -> Result<TileVal, LinkFault> {
+        match self.way {
+            Way::Refuses(bar) => {
+                bar.meet(rt);
+                Link::<TileKey, J, R>::ask(&NoLink, rt, key, shape)
+            }
+            Way::Gives { is_wide, bar } => {
+                bar.meet(rt);
+                given(self.alloc, is_wide)
+            }
+            Way::Cut(exchange, bytes) => {
+                let (mut reader, mut out) = ends(self.alloc, exchange, bytes);
+                tile_over(self.alloc, &mut reader, &mut out, key, shape)
+            }
+            Way::Tcp(listener) => self.over_tcp(listener)?.ask(rt, key, shape),
+        }
     }
 }
 
-/// The images of the tests. None where memory was wanted.
-pub(crate) fn catalogue<R>(rt: &R, alloc: Global) -> Option<Catalogue<R, Fused>> {
-    let mut catalogue = Catalogue::new(alloc);
-    for image in IMAGES {
-        add(rt, alloc, &mut catalogue, image)?;
+impl<'a, J: System, R: Net<Stream = TcpStream> + Clock> Link<SumKey, J, R> for Peer<'a, J> {
+    fn ask(&self, rt: &R, key: &SumKey, shape: &Shape) -> Result<SumVal, LinkFault> {
+        match self.way {
+            Way::Refuses(_) | Way::Gives { .. } => {
+                Link::<SumKey, J, R>::ask(&NoLink, rt, key, shape)
+            }
+            Way::Cut(exchange, bytes) => {
+                let (mut reader, mut out) = ends(self.alloc, exchange, bytes);
+                sum_over(self.alloc, &mut reader, &mut out, key, shape)
+            }
+            Way::Tcp(listener) => self.over_tcp(listener)?.ask(rt, key, shape),
+        }
     }
-    Some(catalogue)
-}
-
-/// The ring of one node.
-fn ring(alloc: Global) -> Result<Ring, Fail>
-    ensures { IfOk result (λ ring. length ring ≡ 1) }
-{
-    let names = Vec::from_array(alloc, [format!(in alloc; "n")?])?;
-    Ok(Ring::new(alloc, names)?)
-}
-
-/// Groups over the images of a catalogue, at tiles of 2 by 2. Each key's owner is behind these links.
-pub(crate) fn groups<R, J: System, N: Drop>(
-    alloc: Global,
-    catalogue: Catalogue<R, Fused>,
-    links: (N, N),
-    tiles: Blank,
-    sums: Blank,
-) -> Result<Node<R, J, N>, Fail>
-    requires pictures { (name : List ℕ) → J.pictures name ≡ pictures_of ⟦<Fused as Source<R>>⟧.bytes catalogue name }
-    requires gave { (name : List ℕ) (f : ReadFault) → J.gave name f ≡ gave_of ⟦<Fused as Source<R>>⟧.gave catalogue name f }
-    requires stable { (name : List ℕ) (item : Item _) → item_named catalogue name ≡ Some item → J.stable name → ∥ ⟦<Fused as Source<R>>⟧.keeps item.source ∥₁ }
-    requires edge { J.edge ≡ 2 }
-    requires tiles { (tiles.name ≡ J.tiles_name) × (tiles.parts ≡ J.tiles_parts) × (J.tiles_parts ≡ 65537) }
-    requires sums { (sums.name ≡ J.sums_name) × (sums.parts ≡ J.sums_parts) × (J.sums_parts ≡ 65537) }
-{
-    let entries = NonZeroUsize::new(8).ok_or("no entry")?;
-    let images = Images::new(alloc, catalogue, 2);
-    let (near, far) = (ring(alloc)?, ring(alloc)?);
-    let (to_tiles, to_sums) = links;
-    let mut link = Vec::new(alloc);
-    link.push(to_tiles)?;
-    let near = Group::new(alloc, 9999, entries, NoGate, near, None, link, tiles)?;
-    let mut link = Vec::new(alloc);
-    link.push(to_sums)?;
-    let far = Group::new(alloc, 9999, entries, NoGate, far, None, link, sums)?;
-    Ok(Groups::new(alloc, Tiles::new(alloc, images, near), far))
-}
-
-/// A pass of each group.
-pub(crate) fn passes<R: Wait, J: System, N>(rt: &R, groups: &Node<R, J, N>) -> Option<Passes<J>> {
-    Some(Passes {
-        tile: groups.tiles().group().pass(rt)?,
-        sum: groups.sums().pass(rt)?,
-    })
 }

@@ -1,9 +1,8 @@
 //! Keys of tiles and sums, and the messages about them. The digests are Python's.
 
-use iiif_keys::{CacheKey, Name, Shape, SumKey, TileKey, is_name};
+use iiif_keys::{Fault, Name, Shape, SumKey, TileKey, is_name};
 use iiif_pixel::{Depth, Dim, Kind, Rect};
 use std::alloc::Global;
-use std::test::Fail;
 
 /// The value of the tile `g`: two gray samples of 16 bits, 0 and 65,535.
 pub const DEEP_VALUE: [u8; 13] = [
@@ -105,21 +104,47 @@ pub const SUM_REPLY: [u8; 110] = [
     0xdb, 0x2b, 0xf5, 0xa3, 0x51, 0xeb, 0xc5, 0x90, 0x93, 0x1c, 0xe4, 0x34, 0x6c, 0xe4,
 ];
 
-/// The name.
-fn name(alloc: Global, text: &str) -> Result<Name, Fail> {
+/// A name.
+fn name(alloc: Global, text: &str) -> Result<Name, Fault> {
     if !is_name(text) {
-        return Err("a name".into());
+        return Err(Fault::UnknownName);
     }
-    Ok(Name::new(String::from_str(alloc, text)?)?)
+    let Ok(text) = String::from_str(alloc, text) else {
+        return Err(Fault::NoMemory);
+    };
+    match Name::new(text) {
+        Ok(name) => Ok(name),
+        Err(_) => Err(Fault::NoMemory),
+    }
 }
 
-/// The key of the tile `g`, of the edge 2.
-pub(crate) fn deep_key(alloc: Global) -> Result<TileKey, Fail> {
+/// The key of the tile in this column and row, of the edge 2.
+pub(crate) fn tile(alloc: Global, text: &str, at: (u32, u32)) -> Result<TileKey, Fault> {
+    let (tx, ty) = at;
     Ok(TileKey {
-        name: name(alloc, "g")?,
+        name: name(alloc, text)?,
         edge: 2,
-        tx: 0,
-        ty: 0,
+        tx,
+        ty,
+    })
+}
+
+/// The key of the sums over a block of the first row of its level, of the whole of `a` scaled to 2 by 2.
+pub(crate) fn block(alloc: Global, level: u8, bx: u32) -> Result<SumKey, Fault> {
+    let rect = Rect {
+        x: 0,
+        y: 0,
+        w: 4,
+        h: 4,
+    };
+    Ok(SumKey {
+        name: name(alloc, "a")?,
+        edge: 2,
+        rect,
+        size: Dim { w: 2, h: 2 },
+        level,
+        bx,
+        by: 0,
     })
 }
 
@@ -136,36 +161,3 @@ pub const SAMPLE: Shape = Shape {
     kind: Kind::Gray,
     depth: Depth::Eight,
 };
-
-/// The key of the tile (1, 1) of `a`.
-pub(crate) fn tile_key(alloc: Global) -> Result<TileKey, Fail> {
-    Ok(TileKey {
-        name: name(alloc, "a")?,
-        edge: 2,
-        tx: 1,
-        ty: 1,
-    })
-}
-
-/// The key of the sums over the first block of level 0 of `a`, of which the whole is scaled to 2 by 2.
-pub(crate) fn sum_key(alloc: Global) -> Result<SumKey, Fail> {
-    Ok(SumKey {
-        name: name(alloc, "a")?,
-        edge: 2,
-        rect: Rect {
-            x: 0,
-            y: 0,
-            w: 4,
-            h: 4,
-        },
-        size: Dim { w: 2, h: 2 },
-        level: 0,
-        bx: 0,
-        by: 0,
-    })
-}
-
-/// The bytes of a value.
-pub(crate) fn bytes_of<K: CacheKey>(alloc: Global, value: &K::Value) -> Result<Vec<u8>, Fail> {
-    Ok(K::value_bytes(alloc, value)?)
-}

@@ -1,5 +1,0 @@
-use Rattle.iiif_group_tests.proofs.call_tests.two_asks_of_the_owner_overlap.Given as goal
-
--- the ledger that is opened
-abbrev pub ghosts-meet : goal.ghosts-meet
-ghosts-meet g a = record { name = a.blank.name; parts = a.blank.parts }

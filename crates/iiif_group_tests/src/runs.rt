@@ -1,0 +1,157 @@
+//! Steps of one thread at a node.
+
+use crate::calls::{Answer, Step, asked};
+use crate::nodes::{Node, books, passes};
+use crate::scenes::{ODD, QUIET, Seen};
+use iiif_group::Group;
+use iiif_keys::{CacheKey, Fault, System};
+use iiif_singleflight::Pass;
+use iiif_sum_group::Passes;
+use iiif_tables::Book;
+use std::alloc::Global;
+use std::net::{Net, TcpStream};
+use std::sync::Wait;
+use std::sync::ledger::Ledger;
+use std::time::Clock;
+
+/// Steps, and what each comes to.
+pub(crate) type Steps = &'static [(Step, Answer)];
+
+/// Steps of one thread.
+#[derive(Clone, Copy)]
+pub(crate) struct Stages {
+    pub first: Steps,
+    pub then: Steps,
+    /// Whether the pass of the sums is handed in where they are gathered. Else it is given back before, as that of the tiles is.
+    pub hands_in: bool,
+}
+
+/// A step, once more where memory was wanted: whether it was, and what the step came to.
+fn asked_twice<R: Net<Stream = TcpStream> + Wait + Clock, J: System>(
+    rt: &R,
+    alloc: Global,
+    node: &Node<'_, R, J>,
+    passes: &mut Passes<J>,
+    step: Step,
+) -> (bool, Answer) {
+    let answer = asked(rt, alloc, node, passes, step);
+    if answer == Err(Fault::NoMemory) {
+        (true, asked(rt, alloc, node, passes, step))
+    } else {
+        (false, answer)
+    }
+}
+
+/// Whether each step came to what was wanted, and whether memory was wanted for one of them.
+fn stepped<R: Net<Stream = TcpStream> + Wait + Clock, J: System>(
+    rt: &R,
+    alloc: Global,
+    node: &Node<'_, R, J>,
+    passes: &mut Passes<J>,
+    steps: Steps,
+) -> (bool, bool) {
+    let mut is_right = true;
+    let mut is_refused = false;
+    for (step, wanted) in steps {
+        let (again, answer) = asked_twice(rt, alloc, node, passes, *step);
+        is_refused |= again;
+        is_right &= answer == *wanted;
+    }
+    (is_right, is_refused)
+}
+
+/// What was counted, and the share at home, behind a pass that is given back. None where another is out.
+fn given_back<K: CacheKey, J: System, L: Ledger, N, T, R: Wait>(
+    rt: &R,
+    alloc: Global,
+    group: &Group<K, J, L, N, T>,
+    pass: Pass<L>,
+) -> Option<(Book, u64)> {
+    group.give_back(rt, pass);
+    group.gather(rt, Vec::new(alloc)).ok()
+}
+
+/// The same with one pass kept back in vain and then with both.
+pub(crate) fn handed_in<K: CacheKey, J: System, L: Ledger, N, T, R: Wait>(
+    rt: &R,
+    alloc: Global,
+    group: &Group<K, J, L, N, T>,
+    one: Pass<L>,
+    two: Pass<L>,
+) -> Result<(Book, u64), Fault> {
+    let Ok(passes) = Vec::from_array(alloc, [one]) else {
+        return Err(Fault::NoMemory);
+    };
+    let Err(mut back) = group.gather(rt, passes) else {
+        return Err(ODD);
+    };
+    if back.push(two).is_err() {
+        return Err(Fault::NoMemory);
+    }
+    match group.gather(rt, back) {
+        Ok(all) => Ok(all),
+        Err(_) => Err(ODD),
+    }
+}
+
+/// What was counted of the tiles and of the sums, and the shares that came home.
+fn home<R: Wait + Clock, J: System>(
+    rt: &R,
+    alloc: Global,
+    node: &Node<'_, R, J>,
+    passes: Passes<J>,
+    hands_in: bool,
+) -> Result<((Book, u64), (Book, u64)), Fault> {
+    let Passes { tile, sum } = passes;
+    let tiles = given_back(rt, alloc, node.tiles().group(), tile).ok_or(ODD)?;
+    let sums = if hands_in {
+        let other = node.sums().pass(rt).ok_or(ODD)?;
+        handed_in(rt, alloc, node.sums(), other, sum)?
+    } else {
+        given_back(rt, alloc, node.sums(), sum).ok_or(ODD)?
+    };
+    Ok((tiles, sums))
+}
+
+/// What is seen of steps.
+pub(crate) fn ran<R: Net<Stream = TcpStream> + Wait + Clock, J: System>(
+    rt: &R,
+    alloc: Global,
+    node: &Node<'_, R, J>,
+    stages: Stages,
+) -> Result<Seen, Fault> {
+    let mut passes = passes(rt, node).ok_or(ODD)?;
+    let first = stepped(rt, alloc, node, &mut passes, stages.first);
+    let between = books(rt, node);
+    let then = stepped(rt, alloc, node, &mut passes, stages.then);
+    let last = books(rt, node);
+    let (tiles, sums) = home(rt, alloc, node, passes, stages.hands_in)?;
+    Ok(Seen {
+        is_right: first.0 && then.0 && last == (tiles.0, sums.0),
+        is_refused: first.1 || then.1,
+        books: between,
+        tiles,
+        sums,
+        ..QUIET
+    })
+}
+
+/// Whether so many passes are given out and no more.
+pub(crate) fn gives_out<R: Wait + Clock, J: System>(
+    rt: &R,
+    node: &Node<'_, R, J>,
+    count: u32,
+) -> Seen {
+    let group = node.tiles().group();
+    let mut given = 0u32;
+    for _ in 0..count {
+        if group.pass(rt).is_none() {
+            break;
+        }
+        given = given.saturating_add(1);
+    }
+    Seen {
+        is_right: given == count && group.pass(rt).is_none(),
+        ..QUIET
+    }
+}

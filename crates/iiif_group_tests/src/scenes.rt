@@ -1,0 +1,145 @@
+//! What happens at a node that is made for it, and what is seen there.
+
+ghost use Rattle.std.specs.Prelude.{◌≡◌, ℕ, List, Some, false};
+ghost use Rattle.iiif_source.specs.declared.ReadFault.{ReadFault};
+ghost use Rattle.iiif_images.specs.Collection.{Item, item_named};
+ghost use Rattle.iiif_images.specs.Named.{gave_of, pictures_of};
+
+use crate::calls::{Answer, Step};
+use crate::crossings::{Crossing, crossed, serves};
+use crate::doorways::Doorway;
+use crate::meetings::{Meeting, met, overlapped};
+use crate::nodes::{NO_COUNTS, Node, Setup, catalogue, made};
+use crate::runs::{Stages, gives_out, ran};
+use iiif_images::Catalogue;
+use iiif_keys::{Fault, System};
+use iiif_source::Source;
+use iiif_tables::Book;
+use std::alloc::Global;
+use std::marker::Brand;
+use std::net::{Net, TcpListener, TcpStream};
+use std::sync::Wait;
+use std::sync::ledger::Blank;
+use std::thread::Threads;
+use std::time::Clock;
+
+/// What happens at a node.
+#[derive(Clone, Copy)]
+pub(crate) enum Scene<'a> {
+    /// Steps, one after another.
+    Runs(Stages),
+    /// Two calls for tiles that meet, and a third.
+    Meets(Meeting),
+    /// Two steps at once, and what each comes to. Their reads of the source overlap.
+    Overlaps([(Step, Answer); 2]),
+    /// All asks of other nodes are replied to.
+    Replies,
+    /// So many passes are given out, and no more.
+    GivesOut(u32),
+    /// The node and another ask each other.
+    Crosses(Crossing<'a>),
+}
+
+/// What is seen at a node.
+#[derive(Clone, Copy, PartialEq, Eq)]
+pub(crate) struct Seen {
+    /// All came to what was wanted.
+    pub is_right: bool,
+    /// Memory was wanted for an answer, which was asked for once more.
+    pub is_refused: bool,
+    /// Of calls that meet: the two are told of one flight, and the third of the second's.
+    pub are_same: (bool, bool),
+    /// The books of the tiles and of the sums, behind the first steps or behind the two calls that meet.
+    pub books: (Book, Book),
+    /// The book of the tiles in the end, and the share of it that had come home.
+    pub tiles: (Book, u64),
+    /// The same of the sums.
+    pub sums: (Book, u64),
+}
+
+/// Says of a scene that no pass or thread came as it has to: no image is without a name there.
+pub(crate) const ODD: Fault = Fault::UnknownName;
+
+/// All right, and nothing called for.
+pub(crate) const QUIET: Seen = Seen {
+    is_right: true,
+    is_refused: false,
+    are_same: (false, false),
+    books: (NO_COUNTS, NO_COUNTS),
+    tiles: (NO_COUNTS, 0),
+    sums: (NO_COUNTS, 0),
+};
+
+/// What is seen of a scene at a node.
+fn shown<R, J>(
+    rt: &R,
+    alloc: Global,
+    node: &Node<'_, R, J>,
+    setup: Setup<'_>,
+    scene: Scene<'_>,
+) -> Result<Seen, Fault>
+where
+    R: Net<Listener = TcpListener, Stream = TcpStream> + Threads + Wait + Clock + Send + Sync,
+    J: System + Send + Sync,
+{
+    match scene {
+        Scene::Runs(stages) => ran(rt, alloc, node, stages),
+        Scene::Meets(meeting) => met(rt, alloc, node, setup.gate, meeting),
+        Scene::Overlaps(steps) => Ok(overlapped(rt, alloc, node, steps)),
+        Scene::Replies => serves(rt, alloc, node),
+        Scene::GivesOut(count) => Ok(gives_out(rt, node, count)),
+        Scene::Crosses(crossing) => Ok(crossed(rt, alloc, node, crossing)),
+    }
+}
+
+/// The same at a node over the images of a catalogue.
+fn seen_over<R, J>(
+    rt: &R,
+    alloc: Global,
+    catalogue: Catalogue<R, Doorway>,
+    setup: Setup<'_>,
+    scene: Scene<'_>,
+    tiles: Blank,
+    sums: Blank,
+) -> Result<Seen, Fault>
+where
+    R: Net<Listener = TcpListener, Stream = TcpStream> + Threads + Wait + Clock + Send + Sync,
+    J: System + Send + Sync,
+    requires pictures { (name : List ℕ) → J.pictures name ≡ pictures_of ⟦<Doorway as Source<R>>⟧.bytes catalogue name }
+    requires gave { (name : List ℕ) (f : ReadFault) → J.gave name f ≡ gave_of ⟦<Doorway as Source<R>>⟧.gave catalogue name f }
+    requires stable { (name : List ℕ) (item : Item _) → item_named catalogue name ≡ Some item → J.stable name → ∥ ⟦<Doorway as Source<R>>⟧.keeps item.source ∥₁ }
+    requires edge { J.edge ≡ 2 }
+    requires tiles { (tiles.name ≡ J.tiles_name) × (tiles.parts ≡ J.tiles_parts) × (J.tiles_parts ≡ 65537) }
+    requires sums { (sums.name ≡ J.sums_name) × (sums.parts ≡ J.sums_parts) × (J.sums_parts ≡ 65537) }
+    requires honest { J.honest ≡ false }
+{
+    let node: Node<'_, R, J> = made(alloc, catalogue, setup, tiles, sums)?;
+    shown(rt, alloc, &node, setup, scene)
+}
+
+/// The images of a node, made once more where memory was wanted.
+fn catalogue_twice<R: Clock>(
+    rt: &R,
+    alloc: Global,
+    setup: &Setup<'_>,
+) -> Option<Catalogue<R, Doorway>> {
+    match catalogue(rt, alloc, setup) {
+        Some(catalogue) => Some(catalogue),
+        None => catalogue(rt, alloc, setup),
+    }
+}
+
+/// What is seen of a scene at a node that is set up for it.
+pub(crate) fn played<R>(
+    rt: &R,
+    alloc: Global,
+    setup: Setup<'_>,
+    scene: Scene<'_>,
+) -> Result<Seen, Fault>
+where
+    R: Net<Listener = TcpListener, Stream = TcpStream> + Threads + Wait + Clock + Send + Sync,
+{
+    let catalogue = catalogue_twice(rt, alloc, &setup).ok_or(Fault::NoMemory)?;
+    let (tiles, sums) = (Blank::new(65_537), Blank::new(65_537));
+    seen_over::<_, Brand>(rt, alloc, catalogue, setup, scene, tiles, sums)
+}
