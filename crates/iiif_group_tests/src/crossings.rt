@@ -2,6 +2,7 @@
 
 use crate::bars::Bar;
 use crate::calls::{Call, HALVED, Step, asked_alone};
+use crate::doorways::Doorway;
 use crate::messages::EXCHANGES;
 use crate::nodes::{Node, books, passes};
 use crate::peers::LIMIT;
@@ -11,10 +12,13 @@ use iiif_keys::{Fault, System};
 use iiif_listener::{Serve, serve_listener, stop};
 use iiif_peer_groups::Peers;
 use iiif_peer_server::serve_peer;
-use iiif_sum_group::Passes;
+use iiif_source::Source;
+use iiif_sum_group::{Passes, SumCalls};
+use iiif_tile_group::TileCalls;
 use std::alloc::Global;
 use std::net::{Net, TcpListener, TcpStream};
 use std::sync::Wait;
+use std::sync::ledger::Ledger;
 use std::thread;
 use std::thread::Threads;
 use std::time::{Clock, Duration};
@@ -31,7 +35,12 @@ pub(crate) struct Crossing<'a> {
 
 /// A node as its listener has it.
 #[derive(Drop)]
-struct Door<'a, 'b, R: Clock, J: System> {
+struct Door<'a, 'b, R, J: System>
+where
+    Doorway: Source<R>,
+    TileCalls<J>: Ledger,
+    SumCalls<J>: Ledger,
+{
     node: &'a Node<'b, R, J>,
 }
 

@@ -10,7 +10,7 @@ use iiif_outcome::Receipt;
 use iiif_singleflight::Pass;
 use iiif_tile_group::TileCalls;
 use std::alloc::Global;
-use std::net::{Net, TcpStream};
+use std::net::{Net, TcpListener, TcpStream};
 use std::sync::Wait;
 use std::thread;
 use std::thread::Threads;
@@ -91,7 +91,7 @@ fn both<R, J>(
     meeting: Meeting,
 ) -> (Came<J>, Came<J>)
 where
-    R: Net<Stream = TcpStream> + Threads + Wait + Clock + Send + Sync,
+    R: Net<Listener = TcpListener, Stream = TcpStream> + Threads + Wait + Clock + Send + Sync,
     J: System + Send + Sync,
 {
     thread::join(
@@ -110,7 +110,7 @@ fn two_calls<R, J>(
     meeting: Meeting,
 ) -> ((Came<J>, Came<J>), bool)
 where
-    R: Net<Stream = TcpStream> + Threads + Wait + Clock + Send + Sync,
+    R: Net<Listener = TcpListener, Stream = TcpStream> + Threads + Wait + Clock + Send + Sync,
     J: System + Send + Sync,
 {
     thread::join(
@@ -153,7 +153,7 @@ pub(crate) fn met<R, J>(
     meeting: Meeting,
 ) -> Result<Seen, Fault>
 where
-    R: Net<Stream = TcpStream> + Threads + Wait + Clock + Send + Sync,
+    R: Net<Listener = TcpListener, Stream = TcpStream> + Threads + Wait + Clock + Send + Sync,
     J: System + Send + Sync,
 {
     let ((a, b), is_lifted) = two_calls(rt, alloc, node, gate, meeting);
@@ -175,7 +175,7 @@ fn at_once<R, J>(
     steps: (Step, Step),
 ) -> (Answer, Answer)
 where
-    R: Net<Stream = TcpStream> + Threads + Wait + Clock + Send + Sync,
+    R: Net<Listener = TcpListener, Stream = TcpStream> + Threads + Wait + Clock + Send + Sync,
     J: System + Send + Sync,
 {
     thread::join(
@@ -201,7 +201,7 @@ pub(crate) fn overlapped<R, J>(
     steps: [(Step, Answer); 2],
 ) -> Seen
 where
-    R: Net<Stream = TcpStream> + Threads + Wait + Clock + Send + Sync,
+    R: Net<Listener = TcpListener, Stream = TcpStream> + Threads + Wait + Clock + Send + Sync,
     J: System + Send + Sync,
 {
     let [one, two] = steps;
