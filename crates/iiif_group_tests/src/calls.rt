@@ -7,11 +7,11 @@ ghost use Rattle.iiif_group.specs.Beginning.{open_key};
 ghost use Rattle.iiif_keys.specs.Meaning.{tile_is_shaped, tile_meaning};
 ghost use Rattle.iiif_outcome.specs.Outcomes.{is_given};
 
-use crate::keys::{block, tile};
+use crate::keys::{block_twice, tile};
 use crate::nodes::{Node, passes};
 use crate::scenes::ODD;
 use iiif_group::{Begun, Open, boxed};
-use iiif_keys::{Fault, SumVal, System, TileKey, TileVal};
+use iiif_keys::{Fault, SumKey, SumVal, System, TileKey, TileVal};
 use iiif_outcome::Receipt;
 use iiif_pixel::Span;
 use iiif_singleflight::Pass;
@@ -190,6 +190,38 @@ fn tile_asked<R: Net<Stream = TcpStream> + Wait + Clock, J: System>(
     told(&mut called(rt, alloc, node, pass, call, at)?)
 }
 
+/// What the load of sums comes to.
+fn sums_loaded<R: Net<Stream = TcpStream> + Wait + Clock, J: System>(
+    rt: &R,
+    node: &Node<'_, R, J>,
+    passes: &mut Passes<J>,
+    key: &SumKey,
+) -> Answer {
+    match node.load(rt, passes, key) {
+        Ok(value) => Ok(sums_of(&value)),
+        Err(fault) => Err(fault),
+    }
+}
+
+/// What a call for sums, by their owner or by this node alone, comes to.
+fn sums_called<R: Net<Stream = TcpStream> + Wait + Clock, J: System>(
+    rt: &R,
+    node: &Node<'_, R, J>,
+    passes: &mut Passes<J>,
+    is_local: bool,
+    key: &SumKey,
+) -> Answer {
+    let came = if is_local {
+        node.get_local(rt, passes, key)
+    } else {
+        node.get(rt, passes, key)
+    };
+    match came?.outcome() {
+        Ok(value) => Ok(sums_of(value)),
+        Err(fault) => Err(*fault),
+    }
+}
+
 /// What a call for sums, or their load, comes to.
 fn sums_asked<R: Net<Stream = TcpStream> + Wait + Clock, J: System>(
     rt: &R,
@@ -199,16 +231,12 @@ fn sums_asked<R: Net<Stream = TcpStream> + Wait + Clock, J: System>(
     call: Call,
     place: (u8, u32),
 ) -> Answer {
-    let key = block(alloc, place.0, place.1)?;
-    let mut receipt = match call {
-        Call::Get => node.get(rt, passes, &key)?,
-        Call::GetLocal => node.get_local(rt, passes, &key)?,
-        Call::Load => return Ok(sums_of(&node.load(rt, passes, &key)?)),
-        Call::Begin | Call::BeginLocal => return Err(Fault::BadKey),
-    };
-    match receipt.outcome() {
-        Ok(value) => Ok(sums_of(value)),
-        Err(fault) => Err(*fault),
+    let key = block_twice(alloc, place.0, place.1)?;
+    match call {
+        Call::Get => sums_called(rt, node, passes, false, &key),
+        Call::GetLocal => sums_called(rt, node, passes, true, &key),
+        Call::Load => sums_loaded(rt, node, passes, &key),
+        Call::Begin | Call::BeginLocal => Err(Fault::BadKey),
     }
 }
 

@@ -148,6 +148,14 @@ pub(crate) fn block(alloc: Global, level: u8, bx: u32) -> Result<SumKey, Fault> 
     })
 }
 
+/// The same, made once more where memory was wanted.
+pub(crate) fn block_twice(alloc: Global, level: u8, bx: u32) -> Result<SumKey, Fault> {
+    match block(alloc, level, bx) {
+        Ok(key) => Ok(key),
+        Err(_) => block(alloc, level, bx),
+    }
+}
+
 /// The shape of `g`.
 pub const DEEP: Shape = Shape {
     dim: Dim { w: 2, h: 1 },

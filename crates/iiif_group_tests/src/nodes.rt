@@ -77,8 +77,8 @@ pub(crate) enum Owner {
 /// A node whose loads pass a gate, and whose asks of the owner pass a bar.
 pub(crate) fn set_up<'a>(owner: Owner, fuse: u64, gate: &'a Bar, bar: &'a Bar) -> Setup<'a> {
     let way = match owner {
-        Owner::Itself | Owner::Refuses => Way::Refuses(bar),
-        Owner::Gives => Way::Gives {
+        Owner::Refuses => Way::Refuses(bar),
+        Owner::Itself | Owner::Gives => Way::Gives {
             is_wide: false,
             bar,
         },

@@ -6,7 +6,7 @@ use crate::scenes::{ODD, QUIET, Seen};
 use iiif_group::Group;
 use iiif_keys::{CacheKey, Fault, System};
 use iiif_singleflight::Pass;
-use iiif_sum_group::Passes;
+use iiif_sum_group::{Passes, SumCalls};
 use iiif_tables::Book;
 use std::alloc::Global;
 use std::net::{Net, TcpStream};
@@ -60,15 +60,15 @@ fn stepped<R: Net<Stream = TcpStream> + Wait + Clock, J: System>(
     (is_right, is_refused)
 }
 
-/// What was counted, and the share at home, behind a pass that is given back. None where another is out.
+/// What was counted, and the share at home, behind a pass that is given back, where no other is out.
 fn given_back<K: CacheKey, J: System, L: Ledger, N, T, R: Wait>(
     rt: &R,
     alloc: Global,
     group: &Group<K, J, L, N, T>,
     pass: Pass<L>,
-) -> Option<(Book, u64)> {
+) -> Result<(Book, u64), Fault> {
     group.give_back(rt, pass);
-    group.gather(rt, Vec::new(alloc)).ok()
+    group.gather(rt, Vec::new(alloc)).ok().ok_or(ODD)
 }
 
 /// The same with one pass kept back in vain and then with both.
@@ -94,23 +94,21 @@ pub(crate) fn handed_in<K: CacheKey, J: System, L: Ledger, N, T, R: Wait>(
     }
 }
 
-/// What was counted of the tiles and of the sums, and the shares that came home.
-fn home<R: Wait + Clock, J: System>(
+/// What was counted of the sums, and the share that came home: with the pass given back, or handed in behind another.
+fn sums_home<R: Wait + Clock, J: System>(
     rt: &R,
     alloc: Global,
     node: &Node<'_, R, J>,
-    passes: Passes<J>,
+    pass: Pass<SumCalls<J>>,
     hands_in: bool,
-) -> Result<((Book, u64), (Book, u64)), Fault> {
-    let Passes { tile, sum } = passes;
-    let tiles = given_back(rt, alloc, node.tiles().group(), tile).ok_or(ODD)?;
-    let sums = if hands_in {
-        let other = node.sums().pass(rt).ok_or(ODD)?;
-        handed_in(rt, alloc, node.sums(), other, sum)?
-    } else {
-        given_back(rt, alloc, node.sums(), sum).ok_or(ODD)?
-    };
-    Ok((tiles, sums))
+) -> Result<(Book, u64), Fault> {
+    if !hands_in {
+        return given_back(rt, alloc, node.sums(), pass);
+    }
+    match node.sums().pass(rt) {
+        Some(other) => handed_in(rt, alloc, node.sums(), other, pass),
+        None => Err(ODD),
+    }
 }
 
 /// What is seen of steps.
@@ -125,7 +123,10 @@ pub(crate) fn ran<R: Net<Stream = TcpStream> + Wait + Clock, J: System>(
     let between = books(rt, node);
     let then = stepped(rt, alloc, node, &mut passes, stages.then);
     let last = books(rt, node);
-    let (tiles, sums) = home(rt, alloc, node, passes, stages.hands_in)?;
+    let Passes { tile, sum } = passes;
+    let tiles = given_back(rt, alloc, node.tiles().group(), tile);
+    let sums = sums_home(rt, alloc, node, sum, stages.hands_in);
+    let (tiles, sums) = (tiles?, sums?);
     Ok(Seen {
         is_right: first.0 && then.0 && last == (tiles.0, sums.0),
         is_refused: first.1 || then.1,

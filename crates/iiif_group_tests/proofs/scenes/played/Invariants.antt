@@ -1,5 +1,5 @@
 use Rattle.std.proofs.Common.{◌==◌}
-use Rattle.std.specs.Prelude.{true, false, ◌||◌}
+use Rattle.std.specs.Prelude.{false, ◌||◌}
 use Rattle.iiif_source.specs.Cause.{fuse}
 use Rattle.iiif_images.specs.Named.{gave_of, pictures_of}
 use Rattle.iiif_group_tests.proofs.scenes.played.Given as goal
