@@ -10,6 +10,8 @@ mod rows_tests;
 #[cfg(test)]
 mod source_tests;
 #[cfg(test)]
+mod steps;
+#[cfg(test)]
 mod tiff_read_tests;
 #[cfg(test)]
 mod tiff_tests;

@@ -6,9 +6,14 @@ use std::fs;
 use std::fs::File;
 use std::test::Fail;
 
+/// A place, and the two bytes that are read from there on, or the cause of the fault of that read.
+type Read = (u64, Result<[u8; 2], u8>);
+
+const FIVE: [u8; 5] = [1, 2, 3, 4, 5];
+
 /// Five bytes in memory.
 fn five(alloc: Global) -> Result<MemSource, Fail> {
-    Ok(MemSource::new(Vec::from_array(alloc, [1, 2, 3, 4, 5])?))
+    Ok(MemSource::new(Vec::from_slice(alloc, &FIVE)?))
 }
 
 /// Two bytes of a source from a place on, where it has them.
@@ -21,113 +26,148 @@ fn two_at<R, S: Source<R>>(rt: &R, source: &S, at: u64) -> Result<[u8; 2], ReadF
     Ok(pair)
 }
 
+/// Whether each read of a source gives what it is to, and the source has so many bytes before them and behind them.
+fn gives<R, S: Source<R>>(rt: &R, source: &S, len: u64, reads: &[Read]) -> bool {
+    for (place, to_come) in reads {
+        let answer = match two_at(rt, source, *place) {
+            Ok(pair) => Ok(pair),
+            Err(fault) if fault.place == *place => Err(fault.cause),
+            Err(_) => return false,
+        };
+        if answer != *to_come || source.len() != len {
+            return false;
+        }
+    }
+    source.len() == len
+}
+
 #[test]
 fn memory_gives_its_bytes_at_any_place(rt: HostRuntime) -> Result<(), Fail> {
     let source = five(rt.alloc())?;
-    assert_eq!(rt; Source::<()>::len(&source), 5);
-    assert_eq!(rt; two_at(&(), &source, 0), Ok([1, 2]));
-    assert_eq!(rt; two_at(&(), &source, 3), Ok([4, 5]));
+    assert!(rt; gives(&(), &source, 5, &[(0, Ok([1, 2])), (3, Ok([4, 5]))]));
     Ok(())
+}
+
+/// From which read on a source fails, what is read of it before it is mended, and what then.
+const FUSES: [(u64, &[Read], &[Read]); 5] = [
+    (1, &[(2, Err(3)); 5], &[(1, Ok([2, 3])); 3]),
+    (
+        2,
+        &[
+            (2, Ok([3, 4])),
+            (2, Err(3)),
+            (2, Err(3)),
+            (2, Err(3)),
+            (2, Err(3)),
+        ],
+        &[(1, Ok([2, 3])); 3],
+    ),
+    (
+        3,
+        &[
+            (2, Ok([3, 4])),
+            (2, Ok([3, 4])),
+            (2, Err(3)),
+            (2, Err(3)),
+            (2, Err(3)),
+        ],
+        &[(1, Ok([2, 3])); 3],
+    ),
+    (0, &[(2, Err(3))], &[(2, Ok([3, 4]))]),
+    (1, &[], &[(3, Ok([4, 5]))]),
+];
+
+/// Whether a source that fails from a read on gives this until it is mended, and that then.
+fn is_mended(alloc: Global, k: u64, before: &[Read], then: &[Read]) -> Result<bool, Fail> {
+    let source = FuseSource::new(five(alloc)?, k);
+    let failed = gives(&(), &source, 5, before);
+    source.mend();
+    Ok(failed && gives(&(), &source, 5, then))
 }
 
 #[test]
 fn fuse_fails_from_the_kth_read_until_it_is_mended(rt: HostRuntime) -> Result<(), Fail> {
-    for k in 1..4 {
-        let source = FuseSource::new(five(rt.alloc())?, k);
-        assert_eq!(rt; Source::<()>::len(&source), 5);
-        for read in 1..6 {
-            let fault = ReadFault { place: 2, cause: 3 };
-            let answer = if read < k { Ok([3, 4]) } else { Err(fault) };
-            assert_eq!(rt; two_at(&(), &source, 2), answer, "read {read} of k {k}");
-        }
-        source.mend();
-        for _ in 0..3 {
-            assert_eq!(rt; two_at(&(), &source, 1), Ok([2, 3]));
-        }
+    for (k, before, then) in FUSES {
+        assert!(rt; is_mended(rt.alloc(), k, before, then)?, "k {k}");
     }
-    Ok(())
-}
-
-#[test]
-fn fuse_mended_early_never_fails(rt: HostRuntime) -> Result<(), Fail> {
-    let source = FuseSource::new(five(rt.alloc())?, 1);
-    source.mend();
-    assert_eq!(rt; two_at(&(), &source, 3), Ok([4, 5]));
     Ok(())
 }
 
 #[test]
 fn fuse_within_a_fuse_fails_first(rt: HostRuntime) -> Result<(), Fail> {
     let source = FuseSource::new(FuseSource::new(five(rt.alloc())?, 2), 9);
-    assert_eq!(rt; two_at(&(), &source, 0), Ok([1, 2]));
-    let fault = ReadFault {
-        place: 1,
-        cause: ReadFault::FUSE,
-    };
-    assert_eq!(rt; two_at(&(), &source, 1), Err(fault));
+    let reads = [(0, Ok([1, 2])), (1, Err(ReadFault::FUSE))];
+    assert!(rt; gives(&(), &source, 5, &reads));
     Ok(())
 }
 
-#[test]
-fn fuse_of_zero_fails_at_the_first_read(rt: HostRuntime) -> Result<(), Fail> {
-    let source = FuseSource::new(five(rt.alloc())?, 0);
-    let fault = ReadFault { place: 2, cause: 3 };
-    assert_eq!(rt; two_at(&(), &source, 2), Err(fault));
-    source.mend();
-    assert_eq!(rt; two_at(&(), &source, 2), Ok([3, 4]));
-    Ok(())
+/// A file that has so many bytes once a source of it is made: its name and its bytes, whether it can be read, and what is read.
+#[derive(Clone, Copy)]
+struct Opened {
+    name: &'static str,
+    bytes: &'static [u8],
+    is_read: bool,
+    len: u64,
+    reads: &'static [Read],
 }
 
-/// An open file of these bytes, and a second handle of it. Its name is gone at once.
-fn open_file(rt: &HostRuntime, name: &str, bytes: &[u8]) -> Result<(File, File), Fail> {
-    fs::write(rt, name, bytes)?;
-    let file = File::options().read(true).write(true).open(rt, name)?;
-    fs::remove_file(rt, name)?;
-    let second = file.try_clone()?;
-    Ok((file, second))
+const FILES: [Opened; 3] = [
+    Opened {
+        name: "iiif_source_read",
+        bytes: &FIVE,
+        is_read: true,
+        len: 5,
+        reads: &[(3, Ok([4, 5])), (0, Ok([1, 2]))],
+    },
+    Opened {
+        name: "iiif_source_cut",
+        bytes: &FIVE,
+        is_read: true,
+        len: 4,
+        reads: &[(3, Err(2)), (2, Ok([3, 4]))],
+    },
+    Opened {
+        name: "iiif_source_write_only",
+        bytes: &[1, 2, 3],
+        is_read: false,
+        len: 3,
+        reads: &[(1, Err(1))],
+    },
+];
+
+/// An open file, whose name is gone.
+fn open_file(rt: &HostRuntime, file: Opened) -> Result<File, Fail> {
+    fs::write(rt, file.name, file.bytes)?;
+    let mut options = File::options();
+    let open = options.read(file.is_read).write(true).open(rt, file.name)?;
+    fs::remove_file(rt, file.name)?;
+    Ok(open)
+}
+
+/// A source of a file, which is cut then.
+fn cut(rt: &HostRuntime, file: Opened) -> Result<FileSource, Fail> {
+    let open = open_file(rt, file)?;
+    let second = open.try_clone()?;
+    let source = FileSource::new(open)?;
+    second.set_len(file.len)?;
+    Ok(source)
 }
 
 #[test]
-fn file_gives_its_bytes_at_any_place(rt: HostRuntime) -> Result<(), Fail> {
-    let (file, _second) = open_file(&rt, "iiif_source_read", &[1, 2, 3, 4, 5])?;
-    let source = FileSource::new(file)?;
-    assert_eq!(rt; Source::<HostRuntime>::len(&source), 5);
-    assert_eq!(rt; two_at(&rt, &source, 3), Ok([4, 5]));
-    assert_eq!(rt; two_at(&rt, &source, 0), Ok([1, 2]));
-    Ok(())
-}
-
-#[test]
-fn file_that_became_shorter_ended(rt: HostRuntime) -> Result<(), Fail> {
-    let (file, second) = open_file(&rt, "iiif_source_cut", &[1, 2, 3, 4, 5])?;
-    let source = FileSource::new(file)?;
-    second.set_len(4)?;
-    let fault = ReadFault { place: 3, cause: 2 };
-    assert_eq!(rt; two_at(&rt, &source, 3), Err(fault));
-    assert_eq!(rt; two_at(&rt, &source, 2), Ok([3, 4]));
-    assert_eq!(rt; Source::<HostRuntime>::len(&source), 5);
+fn files_give_their_bytes_or_a_fault(rt: HostRuntime) -> Result<(), Fail> {
+    for (number, file) in FILES.iter().enumerate() {
+        let source = cut(&rt, *file)?;
+        assert!(rt;
+            gives(&rt, &source, file.bytes.len() as u64, file.reads),
+            "file {number}"
+        );
+    }
     Ok(())
 }
 
 #[test]
 fn fuse_hands_on_the_fault_of_what_is_inside(rt: HostRuntime) -> Result<(), Fail> {
-    let (file, second) = open_file(&rt, "iiif_source_inside", &[1, 2, 3, 4, 5])?;
-    let source = FuseSource::new(FileSource::new(file)?, 9);
-    second.set_len(4)?;
-    let fault = ReadFault { place: 3, cause: 2 };
-    assert_eq!(rt; two_at(&rt, &source, 3), Err(fault));
-    Ok(())
-}
-
-#[test]
-fn file_that_cannot_be_read_failed(rt: HostRuntime) -> Result<(), Fail> {
-    fs::write(&rt, "iiif_source_write_only", [1, 2, 3].as_slice())?;
-    let file = File::options()
-        .write(true)
-        .open(&rt, "iiif_source_write_only")?;
-    fs::remove_file(&rt, "iiif_source_write_only")?;
-    let source = FileSource::new(file)?;
-    let fault = ReadFault { place: 1, cause: 1 };
-    assert_eq!(rt; two_at(&rt, &source, 1), Err(fault));
+    let source = FuseSource::new(cut(&rt, FILES[1])?, 9);
+    assert!(rt; gives(&rt, &source, 5, &[(3, Err(2))]));
     Ok(())
 }
