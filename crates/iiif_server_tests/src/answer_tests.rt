@@ -1,300 +1,558 @@
-//! Answers of a node over sources in memory.
+//! Answers of nodes: bodies, answers to calls, and failures of sources and writers.
 
-use crate::nodes::{Ask, NEVER, bodies, body, ends_of, limits, node_of};
-use iiif_io::fakes::FailingWriter;
-use iiif_server::{AddFault, Catalogue, Cause, Config, ConfigFault, Cut};
-use iiif_source::MemSource;
-use iiif_tiff_read::open;
+use crate::cases::{Ask, Case, LARGER, NODE, Setup, Table, Text, Verb, WHOLE, Want};
+use crate::files::{DEEP, DEEP_HIGH_FIRST, SAMPLE_FILE};
+use crate::nodes::{all_are, are_right, each_is};
 use std::alloc::Global;
+use std::sync::Wait;
 use std::test::Fail;
+use std::thread::Threads;
+use std::time::Clock;
 
-/// A TIFF file of 4 by 4 gray samples: 10 more for each column, and 40 more for each row.
-pub(crate) const SAMPLE: [u8; 138] = [
-    0x49, 0x49, 0x2a, 0, 0x18, 0, 0, 0, 0, 10, 20, 30, 40, 50, 60, 70, 80, 90, 100, 110, 120, 130,
-    140, 150, 9, 0, 0, 1, 3, 0, 1, 0, 0, 0, 4, 0, 0, 0, 1, 1, 3, 0, 1, 0, 0, 0, 4, 0, 0, 0, 2, 1,
-    3, 0, 1, 0, 0, 0, 8, 0, 0, 0, 3, 1, 3, 0, 1, 0, 0, 0, 1, 0, 0, 0, 6, 1, 3, 0, 1, 0, 0, 0, 1, 0,
-    0, 0, 0x11, 1, 4, 0, 1, 0, 0, 0, 8, 0, 0, 0, 0x15, 1, 3, 0, 1, 0, 0, 0, 1, 0, 0, 0, 0x16, 1, 3,
-    0, 1, 0, 0, 0, 4, 0, 0, 0, 0x17, 1, 4, 0, 1, 0, 0, 0, 0x10, 0, 0, 0, 0, 0, 0, 0,
+/// The samples of the sample.
+pub(crate) const STEPS: &[u8] = &[
+    0, 10, 20, 30, 40, 50, 60, 70, 80, 90, 100, 110, 120, 130, 140, 150,
 ];
 
-/// A TIFF file of 2 by 1 gray samples of 16 bits, 0 and 65,535, low bytes first. The samples stand at 8, and the directory at 12.
-const DEEP: [u8; 126] = [
-    0x49, 0x49, 0x2a, 0x00, 0x0c, 0x00, 0x00, 0x00, 0x00, 0x00, 0xff, 0xff, 0x09, 0x00, 0x00, 0x01,
-    0x03, 0x00, 0x01, 0x00, 0x00, 0x00, 0x02, 0x00, 0x00, 0x00, 0x01, 0x01, 0x03, 0x00, 0x01, 0x00,
-    0x00, 0x00, 0x01, 0x00, 0x00, 0x00, 0x02, 0x01, 0x03, 0x00, 0x01, 0x00, 0x00, 0x00, 0x10, 0x00,
-    0x00, 0x00, 0x03, 0x01, 0x03, 0x00, 0x01, 0x00, 0x00, 0x00, 0x01, 0x00, 0x00, 0x00, 0x06, 0x01,
-    0x03, 0x00, 0x01, 0x00, 0x00, 0x00, 0x01, 0x00, 0x00, 0x00, 0x11, 0x01, 0x04, 0x00, 0x01, 0x00,
-    0x00, 0x00, 0x08, 0x00, 0x00, 0x00, 0x15, 0x01, 0x03, 0x00, 0x01, 0x00, 0x00, 0x00, 0x01, 0x00,
-    0x00, 0x00, 0x16, 0x01, 0x03, 0x00, 0x01, 0x00, 0x00, 0x00, 0x01, 0x00, 0x00, 0x00, 0x17, 0x01,
-    0x04, 0x00, 0x01, 0x00, 0x00, 0x00, 0x04, 0x00, 0x00, 0x00, 0x00, 0x00, 0x00, 0x00,
-];
-
-/// The same with high bytes first.
-const DEEP_HIGH_FIRST: [u8; 126] = [
-    0x4d, 0x4d, 0x00, 0x2a, 0x00, 0x00, 0x00, 0x0c, 0x00, 0x00, 0xff, 0xff, 0x00, 0x09, 0x01, 0x00,
-    0x00, 0x03, 0x00, 0x00, 0x00, 0x01, 0x00, 0x02, 0x00, 0x00, 0x01, 0x01, 0x00, 0x03, 0x00, 0x00,
-    0x00, 0x01, 0x00, 0x01, 0x00, 0x00, 0x01, 0x02, 0x00, 0x03, 0x00, 0x00, 0x00, 0x01, 0x00, 0x10,
-    0x00, 0x00, 0x01, 0x03, 0x00, 0x03, 0x00, 0x00, 0x00, 0x01, 0x00, 0x01, 0x00, 0x00, 0x01, 0x06,
-    0x00, 0x03, 0x00, 0x00, 0x00, 0x01, 0x00, 0x01, 0x00, 0x00, 0x01, 0x11, 0x00, 0x04, 0x00, 0x00,
-    0x00, 0x01, 0x00, 0x00, 0x00, 0x08, 0x01, 0x15, 0x00, 0x03, 0x00, 0x00, 0x00, 0x01, 0x00, 0x01,
-    0x00, 0x00, 0x01, 0x16, 0x00, 0x03, 0x00, 0x00, 0x00, 0x01, 0x00, 0x01, 0x00, 0x00, 0x01, 0x17,
-    0x00, 0x04, 0x00, 0x00, 0x00, 0x01, 0x00, 0x00, 0x00, 0x04, 0x00, 0x00, 0x00, 0x00,
-];
-
-pub(crate) const WHOLE: &[u8] = b"/iiif/a/full/max/0/default.tif";
-
-/// The last bytes of a body.
-fn tail(body: &[u8], count: usize) -> &[u8] {
-    let (_, last) = body.split_at(body.len() - count.min(body.len()));
-    last
-}
-
-#[test]
-fn whole_sample_is_190_bytes(rt: HostRuntime) -> Result<(), Fail> {
-    let (status, body) = body(&rt, &node_of(&rt, "a", &SAMPLE, 2, NEVER)?, WHOLE)?;
-    assert_eq!(rt; status, 200);
-    assert_eq!(rt; body.len(), 190);
-    assert_eq!(rt; tail(&body, 16), &SAMPLE[8..24]);
-    Ok(())
-}
-
-#[test]
-fn scaled_and_turned_samples(rt: HostRuntime) -> Result<(), Fail> {
-    let node = node_of(&rt, "a", &SAMPLE, 2, NEVER)?;
-    let cases: [(&[u8], &[u8]); 9] = [
-        (b"/iiif/a/full/2,/0/default.tif", &[25, 45, 105, 125]),
-        (b"/iiif/a/full/%5E2,/0/default.tif", &[25, 45, 105, 125]),
-        (
-            b"/iiif/a/full/3,3/0/default.tif",
-            &[13, 25, 38, 63, 75, 88, 113, 125, 138],
+/// Images of the sample, and how their files end.
+const SCALED: &[Case<'static>] = &[
+    (
+        Ask::Body(b"/iiif/a/full/2,/0/default.tif"),
+        Want::Whole(200, Text::Framed(b"", &[25, 45, 105, 125])),
+    ),
+    (
+        Ask::Body(b"/iiif/a/full/%5E2,/0/default.tif"),
+        Want::Whole(200, Text::Framed(b"", &[25, 45, 105, 125])),
+    ),
+    (
+        Ask::Body(b"/iiif/a/full/3,3/0/default.tif"),
+        Want::Whole(
+            200,
+            Text::Framed(b"", &[13, 25, 38, 63, 75, 88, 113, 125, 138]),
         ),
-        (b"/iiif/a/full/2,/90/default.tif", &[105, 25, 125, 45]),
-        (b"/iiif/a/full/2,/!90/default.tif", &[125, 45, 105, 25]),
-        (b"/iiif/a/full/2,/!180/default.tif", &[105, 125, 25, 45]),
-        (b"/iiif/a/3,3,5,5/max/0/default.tif", &[150]),
-        (
-            b"/iiif/a/pct:25,25,50,50/max/0/default.tif",
-            &[50, 60, 90, 100],
-        ),
-        (b"/iiif/a/full/max/0/bitonal.tif", &[0, 0, 0, 0x70]),
-    ];
-    let mut targets = Vec::new(rt.alloc());
-    for (target, _) in cases {
-        targets.push(target)?;
-    }
-    for ((_, samples), (status, body)) in cases
-        .iter()
-        .zip(bodies(&rt, rt.alloc(), &node, &targets)?)
-    {
-        assert_eq!(rt; status, 200);
-        assert_eq!(rt; tail(&body, samples.len()), *samples);
-    }
-    Ok(())
-}
+    ),
+    (
+        Ask::Body(b"/iiif/a/full/2,/90/default.tif"),
+        Want::Whole(200, Text::Framed(b"", &[105, 25, 125, 45])),
+    ),
+    (
+        Ask::Body(b"/iiif/a/full/2,/!90/default.tif"),
+        Want::Whole(200, Text::Framed(b"", &[125, 45, 105, 25])),
+    ),
+    (
+        Ask::Body(b"/iiif/a/full/2,/!180/default.tif"),
+        Want::Whole(200, Text::Framed(b"", &[105, 125, 25, 45])),
+    ),
+    (
+        Ask::Body(b"/iiif/a/3,3,5,5/max/0/default.tif"),
+        Want::Whole(200, Text::Framed(b"", &[150])),
+    ),
+    (
+        Ask::Body(b"/iiif/a/pct:25,25,50,50/max/0/default.tif"),
+        Want::Whole(200, Text::Framed(b"", &[50, 60, 90, 100])),
+    ),
+    (
+        Ask::Body(b"/iiif/a/full/max/0/bitonal.tif"),
+        Want::Whole(200, Text::Framed(b"", &[0, 0, 0, 0x70])),
+    ),
+];
+
+/// Targets that are refused, and the lines that say why.
+const REFUSED: &[Case<'static>] = &[
+    (
+        Ask::Body(b"/iiif/a%2/full/max/0/default.tif"),
+        Want::Whole(400, Text::Is(b"Q3 path\n")),
+    ),
+    (
+        Ask::Body(b"/other/a/full/max/0/default.tif"),
+        Want::Whole(400, Text::Is(b"Q3 path\n")),
+    ),
+    (
+        Ask::Body(b"/iiif/zz/bad/max/0/default.tif"),
+        Want::Whole(404, Text::Is(b"Q4 identifier\n")),
+    ),
+    (
+        Ask::Body(b"/iiif/zz"),
+        Want::Whole(404, Text::Is(b"Q4 identifier\n")),
+    ),
+    (
+        Ask::Body(b"/iiif/a/bad/bad/0/default.tif"),
+        Want::Whole(400, Text::Is(b"Q5 region\n")),
+    ),
+    (
+        Ask::Body(b"/iiif/a/full/full/45/default.tif"),
+        Want::Whole(400, Text::Is(b"Q6 size\n")),
+    ),
+    (
+        Ask::Body(b"/iiif/a/full/max/45/best.tif"),
+        Want::Whole(400, Text::Is(b"Q7 rotation\n")),
+    ),
+    (
+        Ask::Body(b"/iiif/a/full/max/0/best.jpg"),
+        Want::Whole(400, Text::Is(b"Q8 quality\n")),
+    ),
+    (
+        Ask::Body(b"/iiif/a/full/max/0/default.jpg"),
+        Want::Whole(400, Text::Is(b"Q9 format\n")),
+    ),
+    (
+        Ask::Body(b"/iiif/a/4,0,1,1/max/0/default.tif"),
+        Want::Whole(400, Text::Is(b"Q10 empty\n")),
+    ),
+    (
+        Ask::Body(b"/iiif/a/full/0,/0/default.tif"),
+        Want::Whole(400, Text::Is(b"Q11 zero\n")),
+    ),
+    (
+        Ask::Body(b"/iiif/a/full/8,/0/default.tif"),
+        Want::Whole(400, Text::Is(b"Q12 larger\n")),
+    ),
+    (
+        Ask::Body(b"/iiif/a/full/^8,/0/default.tif"),
+        Want::Whole(501, Text::Is(b"Q13 upscale\n")),
+    ),
+    (
+        Ask::Body(b"/iiif/a/full/pct:100.1/0/default.tif"),
+        Want::Whole(400, Text::Is(b"Q12 larger\n")),
+    ),
+];
+
+/// The sample's body, how it ends where a read fails, and the answer to a target that is no image.
+const SAMPLE_WHOLE: &[Case<'static>] = &[(
+    Ask::Body(WHOLE),
+    Want::Whole(200, Text::Long(190, STEPS)),
+)];
+
+pub(crate) const FAULT: Want<'static> = Want::Held(500, 0, 0, Text::Is(b"L1 source\n"));
+
+const SAMPLE_FAULT: &[Case<'static>] = &[(Ask::Body(WHOLE), FAULT)];
+
+const REDIRECTED: &[Case<'static>] = &[(Ask::Body(b"/iiif/a"), Want::Whole(303, Text::Is(b"")))];
+
+const ESCAPED: &[Case<'static>] = &[(
+    Ask::Body(b"/iiif/a%2Fb/full/max/0/default.tif?x=1"),
+    Want::Whole(200, Text::Long(190, b"")),
+)];
+
+/// Two samples of 16 bits, and their mean.
+const DEEP_WHOLE: &[Case<'static>] = &[(
+    Ask::Body(WHOLE),
+    Want::Whole(200, Text::Long(178, &[0, 0, 0xff, 0xff])),
+)];
+
+const DEEP_MEAN: &[Case<'static>] = &[(
+    Ask::Body(b"/iiif/a/full/1,1/0/default.tif"),
+    Want::Whole(200, Text::Long(176, &[0, 0x80])),
+)];
+
+const DEEP_WHITE: &[Case<'static>] = &[(
+    Ask::Body(b"/iiif/a/full/1,1/0/bitonal.tif"),
+    Want::Whole(200, Text::Long(175, &[0x80])),
+)];
+
+const DEEP_BLACK: &[Case<'static>] = &[(
+    Ask::Body(b"/iiif/a/full/1,1/0/bitonal.tif"),
+    Want::Whole(200, Text::Long(175, &[0])),
+)];
+
+const DEEP_NODE: Setup<'static> = Setup {
+    file: &DEEP,
+    ..NODE
+};
 
 /// The mean of 0 and 65,535, a half up, is 32,768, which is white; that of 0 and 65,534 is 32,767, which is black.
+const BODIES: [Table; 11] = [
+    ("whole", NODE, SAMPLE_WHOLE),
+    ("scaled and turned", NODE, SCALED),
+    ("refused", NODE, REFUSED),
+    ("redirected", NODE, REDIRECTED),
+    (
+        "escaped slash in a name",
+        Setup {
+            name: "a/b",
+            ..NODE
+        },
+        ESCAPED,
+    ),
+    ("failed read", Setup { k: 1, ..NODE }, SAMPLE_FAULT),
+    ("16 bits", DEEP_NODE, DEEP_WHOLE),
+    (
+        "16 bits, high bytes first",
+        Setup {
+            file: &DEEP_HIGH_FIRST,
+            ..NODE
+        },
+        DEEP_WHOLE,
+    ),
+    ("16 bits, mean", DEEP_NODE, DEEP_MEAN),
+    ("16 bits, white", DEEP_NODE, DEEP_WHITE),
+    (
+        "16 bits, black",
+        Setup {
+            changed: &[(10, 0xfe)],
+            ..DEEP_NODE
+        },
+        DEEP_BLACK,
+    ),
+];
+
 #[test]
-fn samples_of_sixteen_bits(rt: HostRuntime) -> Result<(), Fail> {
-    let mut darker = DEEP;
-    darker[10] = 0xfe;
-    let cases: [(&[u8], &[u8], usize, &[u8]); 5] = [
-        (&DEEP, WHOLE, 178, &[0, 0, 0xff, 0xff]),
-        (&DEEP_HIGH_FIRST, WHOLE, 178, &[0, 0, 0xff, 0xff]),
-        (&DEEP, b"/iiif/a/full/1,1/0/default.tif", 176, &[0, 0x80]),
-        (&DEEP, b"/iiif/a/full/1,1/0/bitonal.tif", 175, &[0x80]),
-        (&darker, b"/iiif/a/full/1,1/0/bitonal.tif", 175, &[0]),
-    ];
-    for (file, target, len, last) in cases {
-        let (status, body) = body(&rt, &node_of(&rt, "a", file, 2, NEVER)?, target)?;
-        assert_eq!(rt; (status, body.len()), (200, len));
-        assert_eq!(rt; tail(&body, last.len()), last);
+fn bodies_of_targets(rt: HostRuntime) -> Result<(), Fail> {
+    all_are(&rt, &BODIES)
+}
+
+/// The head of the answer to a GET of the whole sample.
+pub(crate) const IMAGE_HEAD: &[u8] =
+    b"HTTP/1.1 200 OK\r\nContent-Type: image/tiff\r\nAccess-Control-Allow-Origin: *\r\nLink: <http://localhost/iiif/a/full/max/0/default.tif>;rel=\"canonical\"\r\nContent-Length: 190\r\n\r\n";
+
+const FAULT_ANSWER: &[u8] =
+    b"HTTP/1.1 500 Internal Server Error\r\nContent-Type: text/plain\r\nAccess-Control-Allow-Origin: *\r\nContent-Length: 10\r\n\r\nL1 source\n";
+
+/// The image with its head.
+const IMAGE: Case<'static> = (
+    Ask::Call(Verb::Get, WHOLE),
+    Want::Whole(200, Text::Joined(IMAGE_HEAD, &SAMPLE_FILE)),
+);
+
+/// Refusals with their heads.
+const REFUSALS: &[Case<'static>] = &[
+    (
+        Ask::Call(Verb::Get, b"/iiif/zz/info.json"),
+        Want::Whole(
+            404,
+            Text::Is(
+                b"HTTP/1.1 404 Not Found\r\nContent-Type: text/plain\r\nAccess-Control-Allow-Origin: *\r\nContent-Length: 14\r\n\r\nQ4 identifier\n",
+            ),
+        ),
+    ),
+    (
+        Ask::Call(Verb::Head, b"/iiif/a/full/^8,/0/default.tif"),
+        Want::Whole(
+            501,
+            Text::Is(
+                b"HTTP/1.1 501 Not Implemented\r\nContent-Type: text/plain\r\nAccess-Control-Allow-Origin: *\r\nContent-Length: 12\r\n\r\n",
+            ),
+        ),
+    ),
+    (
+        Ask::Call(Verb::Get, b"/"),
+        Want::Whole(
+            400,
+            Text::Is(
+                b"HTTP/1.1 400 Bad Request\r\nContent-Type: text/plain\r\nAccess-Control-Allow-Origin: *\r\nContent-Length: 8\r\n\r\nQ3 path\n",
+            ),
+        ),
+    ),
+    (
+        Ask::Call(Verb::Delete, b"/"),
+        Want::Whole(
+            405,
+            Text::Is(
+                b"HTTP/1.1 405 Method Not Allowed\r\nContent-Type: text/plain\r\nAccess-Control-Allow-Origin: *\r\nAllow: GET, HEAD\r\nContent-Length: 10\r\n\r\nQ2 method\n",
+            ),
+        ),
+    ),
+];
+
+/// A head alone, for which nothing is read, and then an image, for which the first read fails.
+const HEAD_AND_FAULT: &[Case<'static>] = &[
+    (
+        Ask::Call(Verb::Head, WHOLE),
+        Want::Whole(200, Text::Is(IMAGE_HEAD)),
+    ),
+    (
+        Ask::Call(Verb::Get, WHOLE),
+        Want::Whole(500, Text::Is(FAULT_ANSWER)),
+    ),
+];
+
+const ANSWERS: [Table; 3] = [
+    ("image with its head", NODE, &[IMAGE]),
+    ("refusals with their heads", NODE, REFUSALS),
+    ("head reads nothing", Setup { k: 1, ..NODE }, HEAD_AND_FAULT),
+];
+
+#[test]
+fn answers_to_calls(rt: HostRuntime) -> Result<(), Fail> {
+    all_are(&rt, &ANSWERS)
+}
+
+const INFORMATION: &[u8] =
+    b"{\"@context\":\"http://iiif.io/api/image/3/context.json\",\"extraFeatures\":[\"baseUriRedirect\",\"canonicalLinkHeader\",\"cors\",\"mirroring\",\"regionByPct\",\"regionByPx\",\"regionSquare\",\"rotationBy90s\",\"sizeByConfinedWh\",\"sizeByH\",\"sizeByPct\",\"sizeByW\",\"sizeByWh\"],\"extraFormats\":[\"tif\"],\"extraQualities\":[\"bitonal\",\"color\",\"gray\"],\"height\":4,\"id\":\"http://localhost/iiif/a\",\"maxHeight\":4096,\"maxWidth\":4096,\"preferredFormats\":[\"tif\"],\"profile\":\"level0\",\"protocol\":\"http://iiif.io/api/image\",\"tiles\":[{\"height\":2,\"scaleFactors\":[1,2],\"width\":2}],\"type\":\"ImageService3\",\"width\":4}";
+
+const INFORMATION_HEAD: &[u8] =
+    b"HTTP/1.1 200 OK\r\nContent-Type: application/ld+json;profile=\"http://iiif.io/api/image/3/context.json\"\r\nAccess-Control-Allow-Origin: *\r\nContent-Length: 564\r\n\r\n";
+
+/// What a node that scales up says of the sample: after the other features, that sizes may be above their regions.
+const INFORMATION_OF_LARGER: &[u8] =
+    b"{\"@context\":\"http://iiif.io/api/image/3/context.json\",\"extraFeatures\":[\"baseUriRedirect\",\"canonicalLinkHeader\",\"cors\",\"mirroring\",\"regionByPct\",\"regionByPx\",\"regionSquare\",\"rotationBy90s\",\"sizeByConfinedWh\",\"sizeByH\",\"sizeByPct\",\"sizeByW\",\"sizeByWh\",\"sizeUpscaling\"],\"extraFormats\":[\"tif\"],\"extraQualities\":[\"bitonal\",\"color\",\"gray\"],\"height\":4,\"id\":\"http://localhost/iiif/a\",\"maxHeight\":4096,\"maxWidth\":4096,\"preferredFormats\":[\"tif\"],\"profile\":\"level0\",\"protocol\":\"http://iiif.io/api/image\",\"tiles\":[{\"height\":2,\"scaleFactors\":[1,2],\"width\":2}],\"type\":\"ImageService3\",\"width\":4}";
+
+const SAID: [Table; 4] = [
+    (
+        "GET",
+        NODE,
+        &[(
+            Ask::Call(Verb::Get, b"/iiif/a/info.json"),
+            Want::Whole(200, Text::Joined(INFORMATION_HEAD, INFORMATION)),
+        )],
+    ),
+    (
+        "HEAD",
+        NODE,
+        &[(
+            Ask::Call(Verb::Head, b"/iiif/a/info.json"),
+            Want::Whole(200, Text::Is(INFORMATION_HEAD)),
+        )],
+    ),
+    (
+        "body",
+        NODE,
+        &[(
+            Ask::Body(b"/iiif/a/info.json"),
+            Want::Whole(200, Text::Is(INFORMATION)),
+        )],
+    ),
+    (
+        "upscale",
+        LARGER,
+        &[(
+            Ask::Body(b"/iiif/a/info.json"),
+            Want::Whole(200, Text::Is(INFORMATION_OF_LARGER)),
+        )],
+    ),
+];
+
+#[test]
+fn information_of_the_sample(rt: HostRuntime) -> Result<(), Fail> {
+    all_are(&rt, &SAID)
+}
+
+/// The node that scales up to 8 by 8.
+const UP_TO_8: Setup<'static> = Setup { max: 8, ..LARGER };
+
+/// The same over one row of 4: 0, 1, 0, 0.
+const ROW: Setup<'static> = Setup {
+    changed: &[(46, 1), (9, 1), (10, 0), (11, 0)],
+    ..UP_TO_8
+};
+
+/// The first two rows of the sample at twice its sides.
+const TWICE: &[u8] = &[0, 0, 10, 10, 20, 20, 30, 30, 0, 0, 10, 10, 20, 20, 30, 30];
+
+/// Results above their regions, and such that are not, under their canonical URIs.
+const RESULTS: [Table; 7] = [
+    (
+        "0,0,2,2/^3,3",
+        UP_TO_8,
+        &[(
+            Ask::Call(Verb::Get, b"/iiif/a/0,0,2,2/^3,3/0/default.tif"),
+            Want::Whole(
+                200,
+                Text::Image("0,0,2,2/%5E3,3", 9, &[0, 5, 10, 20, 25, 30, 40, 45, 50]),
+            ),
+        )],
+    ),
+    (
+        "0,0,2,1/^3,1",
+        ROW,
+        &[(
+            Ask::Call(Verb::Get, b"/iiif/a/0,0,2,1/^3,1/0/default.tif"),
+            Want::Whole(200, Text::Image("0,0,2,1/%5E3,1", 3, &[0, 1, 1])),
+        )],
+    ),
+    (
+        "full/^max",
+        UP_TO_8,
+        &[(
+            Ask::Call(Verb::Get, b"/iiif/a/full/^max/0/default.tif"),
+            Want::Whole(200, Text::Image("full/%5Emax", 64, TWICE)),
+        )],
+    ),
+    (
+        "full/^8,",
+        UP_TO_8,
+        &[(
+            Ask::Call(Verb::Get, b"/iiif/a/full/^8,/0/default.tif"),
+            Want::Whole(200, Text::Image("full/%5Emax", 64, TWICE)),
+        )],
+    ),
+    (
+        "full/^2,",
+        UP_TO_8,
+        &[(
+            Ask::Call(Verb::Get, b"/iiif/a/full/^2,/0/default.tif"),
+            Want::Whole(200, Text::Image("full/2,2", 4, &[25, 45, 105, 125])),
+        )],
+    ),
+    (
+        "full/2,",
+        UP_TO_8,
+        &[(
+            Ask::Call(Verb::Get, b"/iiif/a/full/2,/0/default.tif"),
+            Want::Whole(200, Text::Image("full/2,2", 4, &[25, 45, 105, 125])),
+        )],
+    ),
+    // Twice as wide, and a quarter as high: the means of columns.
+    (
+        "full/^8,1",
+        UP_TO_8,
+        &[(
+            Ask::Call(Verb::Get, b"/iiif/a/full/^8,1/0/default.tif"),
+            Want::Whole(
+                200,
+                Text::Image("full/%5E8,1", 8, &[60, 60, 70, 70, 80, 80, 90, 90]),
+            ),
+        )],
+    ),
+];
+
+/// Refusals with and without the option.
+const NOT_LARGER: [Table; 6] = [
+    (
+        "full/^5000,",
+        LARGER,
+        &[(
+            Ask::Call(Verb::Get, b"/iiif/a/full/^5000,/0/default.tif"),
+            Want::Whole(400, Text::Framed(b"", b"\r\nQ14 limit\n")),
+        )],
+    ),
+    (
+        "full/8,",
+        LARGER,
+        &[(
+            Ask::Call(Verb::Get, b"/iiif/a/full/8,/0/default.tif"),
+            Want::Whole(400, Text::Framed(b"", b"\r\nQ12 larger\n")),
+        )],
+    ),
+    (
+        "full/pct:200",
+        LARGER,
+        &[(
+            Ask::Call(Verb::Get, b"/iiif/a/full/pct:200/0/default.tif"),
+            Want::Whole(400, Text::Framed(b"", b"\r\nQ12 larger\n")),
+        )],
+    ),
+    (
+        "full/^0,",
+        LARGER,
+        &[(
+            Ask::Call(Verb::Get, b"/iiif/a/full/^0,/0/default.tif"),
+            Want::Whole(400, Text::Framed(b"", b"\r\nQ11 zero\n")),
+        )],
+    ),
+    (
+        "full/^5000,",
+        NODE,
+        &[(
+            Ask::Call(Verb::Get, b"/iiif/a/full/^5000,/0/default.tif"),
+            Want::Whole(501, Text::Framed(b"", b"\r\nQ13 upscale\n")),
+        )],
+    ),
+    (
+        "full/^5,4",
+        NODE,
+        &[(
+            Ask::Call(Verb::Get, b"/iiif/a/full/^5,4/0/default.tif"),
+            Want::Whole(501, Text::Framed(b"", b"\r\nQ13 upscale\n")),
+        )],
+    ),
+];
+
+#[test]
+fn results_above_their_regions(rt: HostRuntime) -> Result<(), Fail> {
+    all_are(&rt, &RESULTS)?;
+    all_are(&rt, &NOT_LARGER)
+}
+
+/// Whether a body is whole, or is the line of a source that fails.
+const BODY_OR_FAULT: [(u64, Want<'static>); 5] = [
+    (1, FAULT),
+    (2, FAULT),
+    (3, FAULT),
+    (4, FAULT),
+    (1000, Want::Whole(200, Text::Framed(b"II", b""))),
+];
+
+#[test]
+fn tile_that_is_not_read_is_a_source_fault(rt: HostRuntime) -> Result<(), Fail> {
+    for target in [WHOLE, b"/iiif/a/full/2,/0/default.tif"] {
+        // Four tiles of edge 2, in a picture 4 by 4: one read each at least.
+        for (k, want) in BODY_OR_FAULT {
+            let setup = Setup { k, ..NODE };
+            assert!(rt;
+                are_right(&rt, &setup, &[(Ask::Body(target), want)])?,
+                "{k}"
+            );
+        }
     }
     Ok(())
 }
 
-#[test]
-fn each_refusal_by_its_line(rt: HostRuntime) -> Result<(), Fail> {
-    let node = node_of(&rt, "a", &SAMPLE, 2, NEVER)?;
-    let cases: [(&str, u16, &str); 14] = [
-        ("/iiif/a%2/full/max/0/default.tif", 400, "Q3 path\n"),
-        ("/other/a/full/max/0/default.tif", 400, "Q3 path\n"),
-        ("/iiif/zz/bad/max/0/default.tif", 404, "Q4 identifier\n"),
-        ("/iiif/zz", 404, "Q4 identifier\n"),
-        ("/iiif/a/bad/bad/0/default.tif", 400, "Q5 region\n"),
-        ("/iiif/a/full/full/45/default.tif", 400, "Q6 size\n"),
-        ("/iiif/a/full/max/45/best.tif", 400, "Q7 rotation\n"),
-        ("/iiif/a/full/max/0/best.jpg", 400, "Q8 quality\n"),
-        ("/iiif/a/full/max/0/default.jpg", 400, "Q9 format\n"),
-        ("/iiif/a/4,0,1,1/max/0/default.tif", 400, "Q10 empty\n"),
-        ("/iiif/a/full/0,/0/default.tif", 400, "Q11 zero\n"),
-        ("/iiif/a/full/8,/0/default.tif", 400, "Q12 larger\n"),
-        ("/iiif/a/full/^8,/0/default.tif", 501, "Q13 upscale\n"),
-        ("/iiif/a/full/pct:100.1/0/default.tif", 400, "Q12 larger\n"),
-    ];
-    let mut targets = Vec::new(rt.alloc());
-    for (target, _, _) in cases {
-        targets.push(target.as_bytes())?;
+/// Writers that fail behind each number of bytes of an answer that is this one as a whole.
+fn full_ones<'a>(
+    alloc: Global,
+    ask: Ask<'a>,
+    piece: usize,
+    whole: &'a [u8],
+) -> Result<Vec<Case<'a>>, Fail> {
+    let mut cases = Vec::new(alloc);
+    for room in 0..whole.len() {
+        cases.push((ask, Want::Full(room, piece, whole)))?;
     }
-    for ((target, status, line), (answered, body)) in cases
-        .iter()
-        .zip(bodies(&rt, rt.alloc(), &node, &targets)?)
-    {
-        assert!(rt;
-            answered == *status && body.as_slice() == line.as_bytes(),
-            "{target}"
-        );
-    }
-    let (status, body) = body(&rt, &node, b"/iiif/a")?;
-    assert_eq!(rt; (status, body.len()), (303, 0));
-    Ok(())
-}
-
-#[test]
-fn escaped_slash_in_a_name(rt: HostRuntime) -> Result<(), Fail> {
-    let (status, body) = body(
-        &rt,
-        &node_of(&rt, "a/b", &SAMPLE, 2, NEVER)?,
-        b"/iiif/a%2Fb/full/max/0/default.tif?x=1",
-    )?;
-    assert_eq!(rt; (status, body.len()), (200, 190));
-    Ok(())
-}
-
-#[test]
-fn failed_read_is_a_source_fault(rt: HostRuntime) -> Result<(), Fail> {
-    let (status, body) = body(&rt, &node_of(&rt, "a", &SAMPLE, 2, 1)?, WHOLE)?;
-    assert_eq!(rt; status, 500);
-    assert_eq!(rt; body.as_slice(), b"L1 source\n".as_slice());
-    Ok(())
+    Ok(cases)
 }
 
 #[test]
 fn writer_that_fails_leaves_a_strict_prefix(rt: HostRuntime) -> Result<(), Fail> {
-    let node = node_of(&rt, "a", &SAMPLE, 2, NEVER)?;
-    let (_, whole) = body(&rt, &node, WHOLE)?;
-    let mut asks = Vec::new(rt.alloc());
-    let mut outs = Vec::new(rt.alloc());
-    for room in 0..190usize {
-        asks.push(Ask::Body(WHOLE))?;
-        outs.push(FailingWriter {
-            taken: Vec::new(rt.alloc()),
-            room,
-            piece: 7,
-        })?;
-    }
-    let ends = ends_of(&rt, rt.alloc(), &node, &asks, &mut outs)?;
-    assert_eq!(rt; ends.len(), 190);
-    for (room, (end, out)) in ends.into_iter().zip(outs).enumerate() {
-        let cut = Cut {
-            sent: room as u64,
-            cause: Cause::Writer,
-        };
-        assert_eq!(rt; end, Err(cut));
-        assert_eq!(rt; out.taken.len(), room);
-        assert!(rt; whole.starts_with(&out.taken));
-    }
-    Ok(())
-}
-
-#[test]
-fn settings_are_refused_in_order(rt: HostRuntime) -> Result<(), Fail> {
-    let alloc = rt.alloc();
-    let cases = [
-        ("http:/localhost", 5, 4, 0, 0, ConfigFault::Base),
-        ("http://localhost/", 2, 4, 64, 2, ConfigFault::Base),
-        (
-            "http://localhost:65536/iiif",
-            2,
-            4,
-            64,
-            2,
-            ConfigFault::Base,
-        ),
-        ("ftp://localhost", 2, 4, 64, 2, ConfigFault::Base),
-        ("http://localhost", 5, 4, 64, 2, ConfigFault::Edge),
-        ("http://localhost", 1025, 4096, 64, 2, ConfigFault::Edge),
-        ("http://localhost", 5, 16385, 64, 2, ConfigFault::Max),
-        ("http://localhost", 5, 16384, 0, 2, ConfigFault::Band),
-        ("http://localhost", 5, 16384, 64, 17, ConfigFault::Workers),
-    ];
-    for (base, edge, max, band, workers, fault) in cases {
-        let config = Config::new(alloc, base, edge, limits(max), band, workers);
-        assert_eq!(rt; config.map(|_| ()), Err(fault));
-    }
-    let Ok(config) = Config::new(alloc, "https://a-b.example:8080/x/~y", 1, limits(1), 1, 1) else {
-        return Err(Fail::from("the settings are refused"));
-    };
-    assert_eq!(rt; config.base(), "https://a-b.example:8080/x/~y");
-    assert_eq!(rt; config.prefix(), b"/x/~y".as_slice());
-    assert_eq!(rt; config.limits(), limits(1));
-    Ok(())
-}
-
-/// Settings, once more where memory was wanted.
-fn configured_again(
-    alloc: Global,
-    base: &str,
-    edge: u32,
-    workers: u32,
-) -> Result<Config, ConfigFault> {
-    match Config::new(alloc, base, edge, limits(4), 64, workers) {
-        Err(ConfigFault::NoMemory) => Config::new(alloc, base, edge, limits(4), 64, workers),
-        answer => answer,
-    }
-}
-
-/// Whether settings are as they were given, or why they are refused.
-fn are_taken(alloc: Global, base: &str, edge: u32, workers: u32) -> Result<bool, ConfigFault> {
-    let config = configured_again(alloc, base, edge, workers)?;
-    let sides = config.edge() == edge && config.limits() == limits(4);
-    Ok(config.base() == base && sides && config.band() == 64 && config.workers() == workers)
-}
-
-#[test]
-fn settings_are_taken_after_a_refused_growth(rt: HostRuntime) -> Result<(), Fail> {
-    for (base, edge, workers, answer) in [
-        ("http://localhost/iiif", 2u32, 2u32, Ok(true)),
-        ("http://localhost/iiif", 5, 2, Err(ConfigFault::Edge)),
-        ("http://localhost/iiif", 2, 17, Err(ConfigFault::Workers)),
-        ("http:/localhost", 5, 2, Err(ConfigFault::Base)),
-        ("https://a-b.example:8080/x/~y", 1, 1, Ok(true)),
+    let mut answer = Vec::from_slice(rt.alloc(), IMAGE_HEAD)?;
+    answer.extend_from_slice(&SAMPLE_FILE)?;
+    for (ask, piece, whole) in [
+        (Ask::Body(WHOLE), 7usize, SAMPLE_FILE.as_slice()),
+        (Ask::Call(Verb::Get, WHOLE), 64, answer.as_slice()),
     ] {
-        let taken = are_taken(rt.alloc(), base, edge, workers);
-        assert!(rt; taken == answer, "edge {edge}, {workers} workers");
+        let cases = full_ones(rt.alloc(), ask, piece, whole)?;
+        each_is(&rt, "full", &NODE, &cases)?;
     }
     Ok(())
 }
 
-/// Takes the sample into a catalogue.
-fn add(
-    alloc: Global,
-    catalogue: &mut Catalogue<(), MemSource>,
-    name: &str,
-) -> Result<Result<(), AddFault>, Fail> {
-    let name = String::from_str(alloc, name)?;
-    let source = MemSource::new(Vec::from_slice(alloc, &SAMPLE)?);
-    let Ok(layout) = open(&(), alloc, &source) else {
-        return Err(Fail::from("the sample is refused"));
-    };
-    Ok(catalogue.add(name, source, layout))
+/// A node that keeps nothing, of whose reads the k-th and each later one fails.
+fn forgetful(k: u64) -> Setup<'static> {
+    Setup {
+        bytes: 0,
+        k,
+        ..NODE
+    }
+}
+
+/// The whole answer, and what comes of it where a read fails before it.
+const READ: Case<'static> = IMAGE;
+
+const UNREAD: Case<'static> = (
+    Ask::Call(Verb::Get, WHOLE),
+    Want::Whole(500, Text::Is(FAULT_ANSWER)),
+);
+
+/// The first read whose failure the whole answer doesn't need, if it is among so many.
+fn first_unneeded<R: Threads + Wait + Clock + Sync + AllocGlobal>(
+    rt: &R,
+    most: u64,
+) -> Result<Option<u64>, Fail> {
+    for k in 1..most {
+        if are_right(rt, &forgetful(k), &[READ])? {
+            return Ok(Some(k));
+        }
+    }
+    Ok(None)
 }
 
 #[test]
-fn names_are_taken_once(rt: HostRuntime) -> Result<(), Fail> {
-    let alloc = rt.alloc();
-    let mut catalogue = Catalogue::new(alloc);
-    for (name, answer) in [
-        ("", Err(AddFault::Name)),
-        ("a", Ok(())),
-        ("a", Err(AddFault::Twice)),
-    ] {
-        assert_eq!(rt; add(alloc, &mut catalogue, name)?, answer);
-    }
-    assert!(rt; catalogue.has("a") && catalogue.find("b").is_none());
-    assert_eq!(rt; AddFault::Twice.number(), 2);
-    assert_eq!(rt;
-        format!(in alloc; "{}", ConfigFault::NoMemory)?.as_str(),
-        "out of memory"
+fn head_spends_no_read(rt: HostRuntime) -> Result<(), Fail> {
+    let last = first_unneeded(&rt, 100)?.ok_or("no such read")?;
+    assert!(rt; last > 1);
+    let head = (
+        Ask::Call(Verb::Head, WHOLE),
+        Want::Whole(200, Text::Is(IMAGE_HEAD)),
     );
-    Ok(())
+    each_is(&rt, "head", &forgetful(last), &[head, READ, UNREAD])
 }

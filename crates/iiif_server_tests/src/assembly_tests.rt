@@ -1,62 +1,40 @@
-//! Images that are made of tiles and blocks, beside those of whole regions; and what their reads do.
+//! Images that are made of tiles and blocks, beside those of whole regions.
 
-use crate::answer_tests::{SAMPLE, WHOLE};
-use crate::nodes::{bodies, body, node_of};
+use crate::cases::{Ask, NODE, Setup, Text, Want};
+use crate::drawn::Drawn;
+use crate::nodes::are_right;
 use crate::reference::plain_render;
 use iiif_area::is_scalable;
 use iiif_canonical::Resolved;
-use iiif_pixel::{Depth, Dim, Kind, NoMemory, Quality, Raster, Rect, Span, Turn};
+use iiif_pixel::{Dim, Kind, Quality, Raster, Rect, Span, Turn};
 use iiif_source::MemSource;
 use iiif_tiff_read::open;
-use iiif_tiff_write::{OutKind, fits, head, put_rows};
+use iiif_tiff_write::OutKind;
 use std::alloc::Global;
 use std::sync::Wait;
 use std::test::Fail;
 use std::thread::Threads;
+use std::time::Clock;
 
-/// Writes a sample, of which a depth of eight bits has the low byte, where there is a place for it.
-fn put(picture: &mut Raster, x: u32, y: u32, channel: usize, sample: u16) {
-    let at = picture.dim();
-    let value = match picture.depth() {
-        Depth::Eight => sample & 0xff,
-        Depth::Sixteen => sample,
+/// The file of a picture 7 by 5, whose samples are so many steps apart. A depth of eight bits has the low byte of each.
+fn file(alloc: Global, out: OutKind, step: u16) -> Result<Vec<u8>, Fail> {
+    let kind = match out {
+        OutKind::Rgb | OutKind::Rgb16 => Kind::Rgb,
+        _ => Kind::Gray,
     };
-    let value = value.min(picture.depth().top());
-    if x < at.w && y < at.h && channel < picture.kind().channels() {
-        picture.set(x, y, channel, value);
-    }
-}
-
-/// A picture 7 by 5, whose samples are so many steps apart.
-fn picture(alloc: Global, kind: Kind, depth: Depth, step: u16) -> Result<Raster, NoMemory> {
-    let dim = Dim { w: 7, h: 5 };
-    let mut picture = Raster::new(alloc, dim, kind, depth)?;
+    let mut samples = Vec::new(alloc);
     let mut sample = 9u16;
-    for y in 0..dim.h {
-        for x in 0..dim.w {
-            for channel in 0..kind.channels() {
-                put(&mut picture, x, y, channel, sample);
-                sample = sample.wrapping_add(step);
-            }
-        }
+    for _ in 0..35 * kind.channels() {
+        samples.push(sample)?;
+        sample = sample.wrapping_add(step);
     }
-    Ok(picture)
-}
-
-/// The file of that picture.
-fn file(alloc: Global, kind: Kind, depth: Depth, step: u16) -> Result<Vec<u8>, Fail> {
-    let raster = picture(alloc, kind, depth, step)?;
-    let out = OutKind::of(kind, depth, Quality::Default);
-    let sides = raster.dim();
-    if !fits(out, sides)
-        || raster.kind().channels() != usize::from(out.samples_per_pixel())
-        || raster.depth() != out.depth()
-    {
-        return Err(Fail::from("no such file"));
-    }
-    let mut bytes = Vec::from_slice(alloc, head(out, sides).as_slice())?;
-    put_rows(&raster, out, &mut bytes)?;
-    Ok(bytes)
+    let picture = Drawn {
+        sides: [7, 5],
+        kind,
+        out,
+        samples: &samples,
+    };
+    picture.file(alloc)
 }
 
 /// The image that a request comes to, from the whole of its region.
@@ -142,62 +120,48 @@ fn resolved(
     }
 }
 
+/// The samples of the image that a request of a file comes to, as they stand in its file.
+fn samples_of(alloc: Global, file: &[u8], resolved: &Resolved) -> Result<Vec<u8>, Fail> {
+    let source = MemSource::new(Vec::from_slice(alloc, file)?);
+    stored(alloc, &plain_image(alloc, &source, resolved)?)
+}
+
 /// Whether each request of a picture is answered by the image that it comes to, by one node with tiles of this edge.
-fn all_are_answered<R: Threads + Wait + Sync + AllocGlobal>(
+fn all_are_answered<R: Threads + Wait + Clock + Sync + AllocGlobal>(
     rt: &R,
     file: &[u8],
     edge: u32,
 ) -> Result<bool, Fail> {
-    let alloc = rt.alloc();
-    let source = MemSource::new(Vec::from_slice(alloc, file)?);
-    let node = node_of(rt, "a", file, edge, 10_000)?;
     let requests = requests();
-    let mut targets = Vec::new(alloc);
-    for (target, _) in &requests {
-        targets.push(*target)?;
+    let mut images = Vec::new(rt.alloc());
+    for (_, resolved) in &requests {
+        images.push(samples_of(rt.alloc(), file, resolved)?)?;
     }
-    for ((_, resolved), (status, sent)) in requests
-        .iter()
-        .zip(bodies(rt, alloc, &node, &targets)?)
-    {
-        let image = plain_image(alloc, &source, resolved)?;
-        let samples = stored(alloc, &image)?;
-        if status != 200 || !sent.ends_with(&samples) {
-            return Ok(false);
-        }
+    let mut cases = Vec::new(rt.alloc());
+    for ((target, _), samples) in requests.iter().zip(&images) {
+        let want = Want::Whole(200, Text::Framed(b"", samples));
+        cases.push((Ask::Body(target), want))?;
     }
-    Ok(true)
+    let setup = Setup {
+        file,
+        edge,
+        k: 10_000,
+        ..NODE
+    };
+    are_right(rt, &setup, &cases)
 }
 
 #[test]
 fn tiles_and_blocks_make_what_whole_regions_make(rt: HostRuntime) -> Result<(), Fail> {
-    for (kind, depth, step) in [
-        (Kind::Gray, Depth::Eight, 37),
-        (Kind::Rgb, Depth::Eight, 101),
-        (Kind::Gray, Depth::Sixteen, 9_973),
-        (Kind::Rgb, Depth::Sixteen, 25_999),
+    for (out, step) in [
+        (OutKind::Gray, 37),
+        (OutKind::Rgb, 101),
+        (OutKind::Gray16, 9_973),
+        (OutKind::Rgb16, 25_999),
     ] {
-        let file = file(rt.alloc(), kind, depth, step)?;
+        let file = file(rt.alloc(), out, step)?;
         for edge in 1..=8 {
-            assert!(rt;
-                all_are_answered(&rt, &file, edge)?,
-                "{kind:?} {depth:?} {edge}"
-            );
-        }
-    }
-    Ok(())
-}
-
-#[test]
-fn tile_that_is_not_read_is_a_source_fault(rt: HostRuntime) -> Result<(), Fail> {
-    let targets: [&[u8]; 2] = [WHOLE, b"/iiif/a/full/2,/0/default.tif"];
-    for target in targets {
-        // Four tiles of edge 2, in a picture 4 by 4: one read each at least.
-        for (k, status) in [(1, 500), (2, 500), (3, 500), (4, 500), (1000, 200)] {
-            let node = node_of(&rt, "a", &SAMPLE, 2, k)?;
-            let (answered, sent) = body(&rt, &node, target)?;
-            assert_eq!(rt; answered, status);
-            assert_eq!(rt; sent.starts_with(b"L1 source\n"), status == 500);
+            assert!(rt; all_are_answered(&rt, &file, edge)?, "{out:?} {edge}");
         }
     }
     Ok(())

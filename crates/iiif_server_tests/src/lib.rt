@@ -10,15 +10,17 @@ mod assembly_tests;
 #[cfg(test)]
 mod band_tests;
 #[cfg(test)]
-mod bands;
+mod calls;
 #[cfg(test)]
-mod equal_bands_tests;
+mod cases;
+#[cfg(test)]
+mod drawn;
+#[cfg(test)]
+mod every;
 #[cfg(test)]
 mod file_tests;
 #[cfg(test)]
 mod files;
-#[cfg(test)]
-mod http_tests;
 #[cfg(test)]
 mod meeting;
 #[cfg(test)]
@@ -28,10 +30,10 @@ mod plain;
 #[cfg(test)]
 mod reference;
 #[cfg(test)]
-mod sizes;
+mod settings_tests;
 #[cfg(test)]
 mod sizes_tests;
 #[cfg(test)]
-mod upscale_tests;
+mod stream_tests;
 #[cfg(test)]
-mod watch_tests;
+mod told;

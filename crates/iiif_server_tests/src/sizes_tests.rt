@@ -1,132 +1,248 @@
-//! Every region, every size up to twice the region's, nine turns and four qualities of small pictures.
+//! Every region, every size up to twice the region's, nine turns and four qualities of small pictures, beside a plain evaluation.
 
-use crate::files::raster;
-use crate::sizes::compared;
-use iiif_pixel::{Dim, Kind, Raster, Samples};
+use crate::cases::{Ask, LARGER, Setup, Want};
+use crate::drawn::{Drawn, STEPS};
+use crate::nodes::are_right;
+use iiif_pixel::Kind;
 use iiif_tiff_write::OutKind;
-use std::alloc::Global;
+use std::process::Abort;
 use std::sync::Wait;
 use std::test::Fail;
 use std::thread::Threads;
+use std::time::Clock;
 
-/// A picture of 8 bits.
-pub(crate) fn bytes(
-    alloc: Global,
-    [w, h]: [u32; 2],
-    kind: Kind,
-    samples: &[u8],
-) -> Result<Raster, Fail> {
-    let samples = Samples::Eight(Vec::from_slice(alloc, samples)?);
-    raster(Dim { w, h }, kind, samples)
+const BITS_OF_12_PLACES: Drawn<'static> = Drawn {
+    sides: [4, 3],
+    kind: Kind::Gray,
+    out: OutKind::Bitonal,
+    samples: &[0, 255, 255, 0, 255, 0, 255, 255, 0, 0, 0, 255],
+};
+
+const DEEP_OF_9_PLACES: Drawn<'static> = Drawn {
+    sides: [3, 3],
+    kind: Kind::Gray,
+    out: OutKind::Gray16,
+    samples: &[0, 65_535, 32_768, 32_767, 257, 255, 256, 1, 40_000],
+};
+
+const REDS: Drawn<'static> = Drawn {
+    sides: [3, 2],
+    kind: Kind::Rgb,
+    out: OutKind::Rgb,
+    samples: &[
+        2, 0, 0, 0, 255, 7, 128, 127, 126, 255, 255, 255, 13, 77, 201, 90, 14, 3,
+    ],
+};
+
+const DEEP_REDS: Drawn<'static> = Drawn {
+    sides: [3, 2],
+    kind: Kind::Rgb,
+    out: OutKind::Rgb16,
+    samples: &[
+        2, 0, 0, 0, 65_535, 7, 32_768, 32_767, 32_766, 65_535, 65_535, 65_535, 513, 19_712, 51_456,
+        23_040, 3_584, 770,
+    ],
+};
+
+const GRAYS: Drawn<'static> = Drawn {
+    sides: [3, 2],
+    kind: Kind::Gray,
+    out: OutKind::Gray,
+    samples: &[0, 10, 255, 40, 128, 127],
+};
+
+const BITS: Drawn<'static> = Drawn {
+    sides: [2, 3],
+    kind: Kind::Gray,
+    out: OutKind::Bitonal,
+    samples: &[0, 255, 255, 255, 0, 255],
+};
+
+const DEEP_GRAYS: Drawn<'static> = Drawn {
+    sides: [2, 3],
+    kind: Kind::Gray,
+    out: OutKind::Gray16,
+    samples: &[0, 65_535, 32_768, 257, 255, 40_000],
+};
+
+/// The most bytes that a node keeps of tiles, and of sums.
+const CACHE_BYTES: u64 = 67_108_864;
+
+/// A node of one worker, whose cache keeps all, and which may scale up.
+const BY_ONE: Setup<'static> = Setup {
+    workers: 1,
+    bytes: CACHE_BYTES,
+    ..LARGER
+};
+
+/// So many images of a picture up to so many times their regions' sizes are all of them, and as the plain evaluation gives them.
+fn are_all<R: Threads + Wait + Clock + Sync + AllocGlobal>(
+    rt: &R,
+    setup: &Setup<'_>,
+    picture: Drawn<'_>,
+    times: u64,
+    count: u64,
+) -> Result<bool, Fail> {
+    let file = picture.file(rt.alloc())?;
+    let setup = Setup {
+        file: &file,
+        ..*setup
+    };
+    let case = (Ask::Every(picture.plain(), times), Want::Compared(count));
+    are_right(rt, &setup, &[case])
 }
 
-/// A picture of 16 bits.
-pub(crate) fn shorts(
-    alloc: Global,
-    [w, h]: [u32; 2],
-    kind: Kind,
-    samples: &[u16],
-) -> Result<Raster, Fail> {
-    let samples = Samples::Sixteen(Vec::from_slice(alloc, samples)?);
-    raster(Dim { w, h }, kind, samples)
+/// All images of a picture are as the plain evaluation gives them, in tiles of these edges: up to twice their regions' sizes, of nodes
+/// that scale up, and, a quarter as many, up to their sizes of nodes that don't.
+fn compared<R: Threads + Wait + Clock + Sync + AllocGlobal + Abort>(
+    rt: &R,
+    picture: Drawn<'_>,
+    edges: &[u32],
+    count: u64,
+) -> Result<(), Fail> {
+    for edge in edges {
+        let edge = *edge;
+        for (upscale, times, count) in [(true, 2u64, count), (false, 1, count / 4)] {
+            let setup = Setup {
+                edge,
+                upscale,
+                ..BY_ONE
+            };
+            assert!(rt;
+                are_all(rt, &setup, picture, times, count)?,
+                "{edge} {times}"
+            );
+        }
+    }
+    Ok(())
 }
 
-/// The answers of a gray picture of 4 by 4 with tiles of this edge that are compared.
-fn gray<R: Threads + Wait + Sync>(rt: &R, alloc: Global, edge: u32) -> Result<u64, Fail> {
-    let samples = [
-        0, 10, 20, 30, 40, 50, 60, 70, 80, 90, 100, 110, 120, 130, 140, 150,
-    ];
-    let picture = bytes(alloc, [4, 4], Kind::Gray, &samples)?;
-    compared(rt, alloc, &picture, OutKind::Gray, edge)
-}
-
+/// The images of a picture: the regions in each width and each height up to twice their own, in nine turns and four qualities.
 #[test]
 fn gray_picture_of_4_by_4_in_tiles_of_1(rt: HostRuntime) -> Result<(), Fail> {
-    assert_eq!(rt; gray(&rt, rt.alloc(), 1)?, 400 * 5 * 36);
-    Ok(())
+    compared(&rt, STEPS, &[1], 1600 * 36)
 }
 
 #[test]
 fn gray_picture_of_4_by_4_in_tiles_of_2(rt: HostRuntime) -> Result<(), Fail> {
-    assert_eq!(rt; gray(&rt, rt.alloc(), 2)?, 400 * 5 * 36);
-    Ok(())
+    compared(&rt, STEPS, &[2], 1600 * 36)
 }
 
 #[test]
 fn gray_picture_of_4_by_4_in_tiles_of_3(rt: HostRuntime) -> Result<(), Fail> {
-    assert_eq!(rt; gray(&rt, rt.alloc(), 3)?, 400 * 5 * 36);
-    Ok(())
+    compared(&rt, STEPS, &[3], 1600 * 36)
 }
 
 #[test]
 fn gray_picture_of_4_by_4_in_tiles_of_4(rt: HostRuntime) -> Result<(), Fail> {
-    assert_eq!(rt; gray(&rt, rt.alloc(), 4)?, 400 * 5 * 36);
-    Ok(())
+    compared(&rt, STEPS, &[4], 1600 * 36)
 }
 
 #[test]
 fn gray_picture_of_4_by_4_in_tiles_of_5(rt: HostRuntime) -> Result<(), Fail> {
-    assert_eq!(rt; gray(&rt, rt.alloc(), 5)?, 400 * 5 * 36);
-    Ok(())
+    compared(&rt, STEPS, &[5], 1600 * 36)
 }
 
 #[test]
-fn rgb_picture_of_3_by_2(rt: HostRuntime) -> Result<(), Fail> {
-    let samples = [
-        2, 0, 0, 0, 255, 7, 128, 127, 126, 255, 255, 255, 13, 77, 201, 90, 14, 3,
-    ];
-    let picture = bytes(rt.alloc(), [3, 2], Kind::Rgb, &samples)?;
-    for edge in 1..=5 {
-        let answers = compared(&rt, rt.alloc(), &picture, OutKind::Rgb, edge)?;
-        assert_eq!(rt; answers, 10 * 4 * 5 * 36);
-    }
-    Ok(())
-}
-
-/// The answers of a picture of bits of 4 by 3 with tiles of this edge that are compared.
-fn bits<R: Threads + Wait + Sync>(rt: &R, alloc: Global, edge: u32) -> Result<u64, Fail> {
-    let samples = [0, 255, 255, 0, 255, 0, 255, 255, 0, 0, 0, 255];
-    let picture = bytes(alloc, [4, 3], Kind::Gray, &samples)?;
-    compared(rt, alloc, &picture, OutKind::Bitonal, edge)
+fn color_pictures_of_both_depths(rt: HostRuntime) -> Result<(), Fail> {
+    compared(&rt, REDS, &[1, 2, 3, 4, 5], 160 * 36)?;
+    compared(&rt, DEEP_REDS, &[1, 2, 3, 4, 5], 160 * 36)
 }
 
 #[test]
-fn bilevel_picture_of_4_by_3_in_tiles_of_1_and_2(rt: HostRuntime) -> Result<(), Fail> {
-    for edge in 1..=2 {
-        assert_eq!(rt; bits(&rt, rt.alloc(), edge)?, 20 * 10 * 5 * 36);
-    }
-    Ok(())
+fn picture_of_bits_in_tiles_of_1_and_2(rt: HostRuntime) -> Result<(), Fail> {
+    compared(&rt, BITS_OF_12_PLACES, &[1, 2], 800 * 36)
 }
 
 #[test]
-fn bilevel_picture_of_4_by_3_in_tiles_of_3_to_5(rt: HostRuntime) -> Result<(), Fail> {
-    for edge in 3..=5 {
-        assert_eq!(rt; bits(&rt, rt.alloc(), edge)?, 20 * 10 * 5 * 36);
-    }
-    Ok(())
+fn picture_of_bits_in_tiles_of_3_to_5(rt: HostRuntime) -> Result<(), Fail> {
+    compared(&rt, BITS_OF_12_PLACES, &[3, 4, 5], 800 * 36)
 }
 
 #[test]
 fn gray_picture_of_16_bits(rt: HostRuntime) -> Result<(), Fail> {
-    let samples = [0, 65_535, 32_768, 32_767, 257, 255, 256, 1, 40_000];
-    let picture = shorts(rt.alloc(), [3, 3], Kind::Gray, &samples)?;
-    for edge in 1..=5 {
-        let answers = compared(&rt, rt.alloc(), &picture, OutKind::Gray16, edge)?;
-        assert_eq!(rt; answers, 10 * 10 * 5 * 36);
+    compared(&rt, DEEP_OF_9_PLACES, &[1, 2, 3, 4, 5], 400 * 36)
+}
+
+/// All images of a picture are as the plain evaluation gives them, in bands of 1, 3 and 64 rows, by so many workers, with no cache, with
+/// one that has room for little and with one that has room for all.
+fn banded<R: Threads + Wait + Clock + Sync + AllocGlobal + Abort>(
+    rt: &R,
+    picture: Drawn<'_>,
+    workers: u32,
+) -> Result<(), Fail> {
+    for rows in [1, 3, 64] {
+        for bytes in [0, 100, CACHE_BYTES] {
+            let setup = Setup {
+                rows,
+                workers,
+                bytes,
+                ..LARGER
+            };
+            assert!(rt;
+                are_all(rt, &setup, picture, 2, 160 * 36)?,
+                "{rows} {workers} {bytes}"
+            );
+        }
     }
     Ok(())
 }
 
 #[test]
-fn rgb_picture_of_16_bits(rt: HostRuntime) -> Result<(), Fail> {
-    let samples = [
-        2, 0, 0, 0, 65_535, 7, 32_768, 32_767, 32_766, 65_535, 65_535, 65_535, 513, 19_712, 51_456,
-        23_040, 3_584, 770,
-    ];
-    let picture = shorts(rt.alloc(), [3, 2], Kind::Rgb, &samples)?;
-    for edge in 1..=5 {
-        let answers = compared(&rt, rt.alloc(), &picture, OutKind::Rgb16, edge)?;
-        assert_eq!(rt; answers, 10 * 4 * 5 * 36);
-    }
-    Ok(())
+fn gray_and_bits_by_one_worker(rt: HostRuntime) -> Result<(), Fail> {
+    banded(&rt, GRAYS, 1)?;
+    banded(&rt, BITS, 1)
+}
+
+#[test]
+fn color_and_gray_of_16_bits_by_one_worker(rt: HostRuntime) -> Result<(), Fail> {
+    banded(&rt, REDS, 1)?;
+    banded(&rt, DEEP_GRAYS, 1)
+}
+
+#[test]
+fn color_of_16_bits_by_one_worker(rt: HostRuntime) -> Result<(), Fail> {
+    banded(&rt, DEEP_REDS, 1)
+}
+
+#[test]
+fn gray_and_bits_by_two_workers(rt: HostRuntime) -> Result<(), Fail> {
+    banded(&rt, GRAYS, 2)?;
+    banded(&rt, BITS, 2)
+}
+
+#[test]
+fn color_and_gray_of_16_bits_by_two_workers(rt: HostRuntime) -> Result<(), Fail> {
+    banded(&rt, REDS, 2)?;
+    banded(&rt, DEEP_GRAYS, 2)
+}
+
+#[test]
+fn color_of_16_bits_by_two_workers(rt: HostRuntime) -> Result<(), Fail> {
+    banded(&rt, DEEP_REDS, 2)
+}
+
+#[test]
+fn gray_by_five_workers(rt: HostRuntime) -> Result<(), Fail> {
+    banded(&rt, GRAYS, 5)
+}
+
+#[test]
+fn bits_by_five_workers(rt: HostRuntime) -> Result<(), Fail> {
+    banded(&rt, BITS, 5)
+}
+
+#[test]
+fn color_by_five_workers(rt: HostRuntime) -> Result<(), Fail> {
+    banded(&rt, REDS, 5)
+}
+
+#[test]
+fn gray_of_16_bits_by_five_workers(rt: HostRuntime) -> Result<(), Fail> {
+    banded(&rt, DEEP_GRAYS, 5)
+}
+
+#[test]
+fn color_of_16_bits_by_five_workers(rt: HostRuntime) -> Result<(), Fail> {
+    banded(&rt, DEEP_REDS, 5)
 }

@@ -1,16 +1,56 @@
-//! What a watch is told of a connection's answers.
+//! Who reads a connection's input, and what a watch is told of its answers.
 
-use crate::answer_tests::SAMPLE;
-use crate::nodes::{NEVER, node_of, send_watched};
+use crate::cases::Input;
 use iiif_http_front::Call;
-use iiif_io::fakes::FailingWriter;
+use iiif_io::Inlet;
+use iiif_io::fakes::FailingReader;
 use iiif_server::{Cut, Sent, Watch};
+use std::io;
+use std::io::Read;
 use std::sync::atomic::{AtomicU64, Ordering};
-use std::test::Fail;
+
+/// A reader that gives what comes, and then what is behind it.
+#[derive(Drop)]
+pub(crate) struct Parts<'a> {
+    now: FailingReader<'a>,
+    second: &'a [u8],
+}
+
+impl<'a> Parts<'a> {
+    /// The reader of an input.
+    pub(crate) fn of(input: Input<'a>) -> Parts<'a> {
+        Parts {
+            now: FailingReader {
+                left: input.first,
+                piece: input.piece,
+                reads: input.reads,
+            },
+            second: input.second,
+        }
+    }
+}
+
+impl<'a> Read for Parts<'a> {
+    fn read(&mut self, buffer: &mut [u8]) -> io::Result<usize> {
+        if self.now.left.is_empty() {
+            self.now.left = self.second;
+            self.second = b"";
+        }
+        self.now.read(buffer)
+    }
+}
+
+impl<'a> Inlet for Parts<'a> {
+    ghost fails = { λ _ _. Unit {0} };
+
+    fn pull(&mut self, buffer: &mut [u8]) -> io::Result<usize> {
+        self.read(buffer)
+    }
+}
 
 /// What was told.
 #[derive(Drop)]
-struct Told {
+pub(crate) struct Told {
     begun: AtomicU64,
     whole: AtomicU64,
     cut: AtomicU64,
@@ -21,7 +61,7 @@ struct Told {
 
 impl Told {
     /// Nothing yet.
-    fn new() -> Told {
+    pub(crate) fn new() -> Told {
         Told {
             begun: AtomicU64::new(0),
             whole: AtomicU64::new(0),
@@ -33,7 +73,7 @@ impl Told {
     }
 
     /// How many answers were begun, sent whole and cut off, how many had a call, and the sums of their bytes and of their statuses.
-    fn counts(&self) -> [u64; 6] {
+    pub(crate) fn counts(&self) -> [u64; 6] {
         [
             self.begun.load(Ordering::SeqCst),
             self.whole.load(Ordering::SeqCst),
@@ -69,32 +109,4 @@ impl<R> Watch<R> for Told {
             }
         }
     }
-}
-
-#[test]
-fn each_answer_is_told(rt: HostRuntime) -> Result<(), Fail> {
-    let node = node_of(&rt, "a", &SAMPLE, 2, NEVER)?;
-    let told = Told::new();
-    let mut out = Vec::new(rt.alloc());
-    let input =
-        b"GET /iiif/a HTTP/1.1\r\n\r\nHEAD /iiif/b HTTP/1.1\r\n\r\nPUT /iiif/a HTTP/1.1\r\n\r\nhello\r\n\r\n".as_slice();
-    send_watched(&rt, &node, input, &mut out, &told)?;
-    let statuses = 303 + 404 + 405 + 400;
-    assert!(rt; told.counts() == [4, 4, 0, 3, out.len() as u64, statuses]);
-    Ok(())
-}
-
-#[test]
-fn an_answer_that_is_cut_off_is_told(rt: HostRuntime) -> Result<(), Fail> {
-    let node = node_of(&rt, "a", &SAMPLE, 2, NEVER)?;
-    let told = Told::new();
-    let mut out = FailingWriter {
-        taken: Vec::new(rt.alloc()),
-        room: 100,
-        piece: 64,
-    };
-    let input = b"GET /iiif/a/full/max/0/default.tif HTTP/1.1\r\n\r\n".as_slice();
-    send_watched(&rt, &node, input, &mut out, &told)?;
-    assert!(rt; told.counts() == [1, 0, 1, 1, 100, 0]);
-    Ok(())
 }

@@ -1,0 +1,173 @@
+//! What is asked of a node, and whether it comes as it is to.
+
+use crate::cases::{Ask, Case, Input, Verb, Want};
+use crate::every::every;
+use crate::meeting::Meeting;
+use crate::told::{Parts, Told};
+use http::Method;
+use iiif_http_front::Call;
+use iiif_io::fakes::FailingWriter;
+use iiif_keys::System;
+use iiif_server::{Cut, NoLink, Node, Passes, Sent, Watch};
+use iiif_source::{FuseSource, MemSource};
+use std::alloc::Global;
+use std::sync::Wait;
+use std::thread::Threads;
+use std::time::Clock;
+
+/// A file in memory, whose reads fail from one on.
+pub(crate) type MemFused = FuseSource<MemSource>;
+
+/// How the body of a target's answer ends.
+pub(crate) fn body_of<R: Threads + Wait + Clock + Sync, J: System + Send + Sync>(
+    rt: &R,
+    alloc: Global,
+    node: &Node<R, MemFused, J, NoLink, &Meeting>,
+    passes: &mut [Passes<J>],
+    target: &[u8],
+    out: &mut FailingWriter,
+) -> Option<Result<Sent, Cut>> {
+    if passes.is_empty() {
+        return None;
+    }
+    Some(node.body_one(rt, alloc, passes, target, out))
+}
+
+fn method_of(verb: Verb) -> Method {
+    match verb {
+        Verb::Get => Method::GET,
+        Verb::Head => Method::HEAD,
+        Verb::Delete => Method::DELETE,
+    }
+}
+
+/// How the answer to a call ends.
+fn call_of<R: Threads + Wait + Clock + Sync, J: System + Send + Sync>(
+    rt: &R,
+    alloc: Global,
+    node: &Node<R, MemFused, J, NoLink, &Meeting>,
+    passes: &mut [Passes<J>],
+    verb: Verb,
+    target: &[u8],
+    out: &mut FailingWriter,
+) -> Option<Result<Sent, Cut>> {
+    if passes.is_empty() {
+        return None;
+    }
+    let call = Call {
+        method: method_of(verb),
+        target: Vec::from_slice(alloc, target).ok()?,
+        close: false,
+    };
+    Some(node.serve_one(rt, alloc, passes, &call, out))
+}
+
+/// So many bytes, or images that were compared, and no answer of a status.
+fn counted(bytes: usize, held: u64) -> Option<Result<Sent, Cut>> {
+    Some(Ok(Sent {
+        status: 0,
+        bytes: bytes as u64,
+        held,
+    }))
+}
+
+/// Answers a connection, and tells the watch.
+fn stream_of<R: Threads + Wait + Clock + Sync, J: System + Send + Sync, V: Watch<R>>(
+    rt: &R,
+    alloc: Global,
+    node: &Node<R, MemFused, J, NoLink, &Meeting>,
+    passes: &mut [Passes<J>],
+    input: Input<'_>,
+    out: &mut FailingWriter,
+    watch: &V,
+) -> Option<Result<Sent, Cut>> {
+    if passes.is_empty() {
+        return None;
+    }
+    node.serve_watched(rt, alloc, passes, Parts::of(input), out, watch);
+    counted(out.taken.len(), 0)
+}
+
+/// Mends the source of the image `a`.
+fn mend<R, J: System>(node: &Node<R, MemFused, J, NoLink, &Meeting>) -> Option<Result<Sent, Cut>> {
+    let entry = node.groups().tiles().images().catalogue().find("a")?;
+    entry.source.mend();
+    counted(0, 0)
+}
+
+/// How many sums a node was asked for, as bytes, and how many it loaded, as what was held.
+fn booked<R: Wait, J: System>(
+    rt: &R,
+    node: &Node<R, MemFused, J, NoLink, &Meeting>,
+) -> Option<Result<Sent, Cut>> {
+    let book = node.groups().sums().book(rt);
+    Some(Ok(Sent {
+        status: 0,
+        bytes: book.gets,
+        held: book.loads,
+    }))
+}
+
+/// How an ask ends.
+fn end_of<R: Threads + Wait + Clock + Sync, J: System + Send + Sync>(
+    rt: &R,
+    alloc: Global,
+    node: &Node<R, MemFused, J, NoLink, &Meeting>,
+    passes: &mut [Passes<J>],
+    told: &Told,
+    ask: Ask<'_>,
+    out: &mut FailingWriter,
+) -> Option<Result<Sent, Cut>> {
+    match ask {
+        Ask::Body(target) => body_of(rt, alloc, node, passes, target, out),
+        Ask::Call(verb, target) => call_of(rt, alloc, node, passes, verb, target, out),
+        Ask::Stream(input) => stream_of(rt, alloc, node, passes, input, out, &()),
+        Ask::Watched(input) => stream_of(rt, alloc, node, passes, input, out, told),
+        Ask::Mend => mend(node),
+        Ask::Every(picture, times) => {
+            counted(0, every(rt, alloc, node, passes, picture, times)?)
+        }
+        Ask::Sums => booked(rt, node),
+    }
+}
+
+/// Whether an ask comes as it is to.
+fn is_right<R: Threads + Wait + Clock + Sync, J: System + Send + Sync>(
+    rt: &R,
+    alloc: Global,
+    node: &Node<R, MemFused, J, NoLink, &Meeting>,
+    passes: &mut [Passes<J>],
+    told: &Told,
+    ask: Ask<'_>,
+    want: Want<'_>,
+) -> bool {
+    let (room, piece) = want.room();
+    let mut out = FailingWriter {
+        taken: Vec::new(alloc),
+        room,
+        piece,
+    };
+    match end_of(rt, alloc, node, passes, told, ask, &mut out) {
+        Some(end) => want.fits(end, &out.taken),
+        None => false,
+    }
+}
+
+/// How many of these come as they are to, one after another, before the first that doesn't.
+pub(crate) fn right_ones<R: Threads + Wait + Clock + Sync, J: System + Send + Sync>(
+    rt: &R,
+    alloc: Global,
+    node: &Node<R, MemFused, J, NoLink, &Meeting>,
+    passes: &mut [Passes<J>],
+    told: &Told,
+    cases: &[Case<'_>],
+) -> usize {
+    let mut right = 0usize;
+    for (ask, want) in cases {
+        if !is_right(rt, alloc, node, passes, told, *ask, *want) {
+            return right;
+        }
+        right = right.saturating_add(1);
+    }
+    right
+}

@@ -1,0 +1,231 @@
+//! What a node is made of, what it is asked, and what is to come of it.
+
+use crate::files::SAMPLE;
+use crate::plain::Plain;
+use iiif_server::{Cause, Cut, Fault, Sent};
+
+/// More reads than a test makes.
+pub(crate) const NEVER: u64 = u64::MAX;
+
+pub(crate) const WHOLE: &[u8] = b"/iiif/a/full/max/0/default.tif";
+
+/// What a node is made of, and how it makes its images.
+#[derive(Clone, Copy)]
+pub(crate) struct Setup<'a> {
+    /// The name of its image.
+    pub name: &'a str,
+    /// The image's file, and which of its bytes are others.
+    pub file: &'a [u8],
+    pub changed: &'a [(usize, u8)],
+    /// The side of its tiles.
+    pub edge: u32,
+    /// Its results are at most so wide and high, and perhaps above their regions.
+    pub max: u32,
+    pub upscale: bool,
+    /// In bands of so many rows, by so many workers.
+    pub rows: u32,
+    pub workers: u32,
+    /// How many bytes it keeps of tiles, and of sums.
+    pub bytes: u64,
+    /// Of the file the k-th read and each later one fails.
+    pub k: u64,
+}
+
+/// The sample under the name `a`, in tiles of edge 2.
+pub(crate) const NODE: Setup<'static> = Setup {
+    name: "a",
+    file: &SAMPLE,
+    changed: &[],
+    edge: 2,
+    max: 4096,
+    upscale: false,
+    rows: 64,
+    workers: 2,
+    bytes: 65_536,
+    k: NEVER,
+};
+
+/// The same, which may scale up.
+pub(crate) const LARGER: Setup<'static> = Setup {
+    upscale: true,
+    ..NODE
+};
+
+/// The same by one worker, who answers a connection.
+pub(crate) const ONE_WORKER: Setup<'static> = Setup { workers: 1, ..NODE };
+
+/// What comes of a connection: these bytes and then those, at most so many a read, until so many reads were made.
+#[derive(Clone, Copy)]
+pub(crate) struct Input<'a> {
+    pub first: &'a [u8],
+    pub second: &'a [u8],
+    pub piece: usize,
+    pub reads: usize,
+}
+
+/// The method of a call.
+#[derive(Clone, Copy)]
+pub(crate) enum Verb {
+    Get,
+    Head,
+    Delete,
+}
+
+/// What is asked of a node.
+#[derive(Clone, Copy)]
+pub(crate) enum Ask<'a> {
+    /// The body of a target's answer.
+    Body(&'a [u8]),
+    /// The answer to a call that leaves the connection open.
+    Call(Verb, &'a [u8]),
+    /// The answers on a connection, of which nobody is told.
+    Stream(Input<'a>),
+    /// Those of which a watch is told.
+    Watched(Input<'a>),
+    /// Nothing: from here on no read fails.
+    Mend,
+    /// The body of each image of a picture up to so many times its regions' sizes, beside the plain evaluation.
+    Every(Plain<'a>, u64),
+    /// Nothing: how many sums were asked for and loaded so far.
+    Sums,
+}
+
+/// What bytes are to be.
+#[derive(Clone, Copy)]
+pub(crate) enum Text<'a> {
+    /// These.
+    Is(&'a [u8]),
+    /// The first of these and then the second.
+    Joined(&'a [u8], &'a [u8]),
+    /// So many, of which the last are these.
+    Long(usize, &'a [u8]),
+    /// The first are these, and the last are those.
+    Framed(&'a [u8], &'a [u8]),
+    /// The answer with an image under this canonical URI, of whose last bytes, so many, the first are these.
+    Image(&'a str, usize, &'a [u8]),
+}
+
+/// What is to come of an ask.
+#[derive(Clone, Copy)]
+pub(crate) enum Want<'a> {
+    /// A whole answer of this status.
+    Whole(u16, Text<'a>),
+    /// The same, for which at least and at most so many places are held at once.
+    Held(u16, u64, u64, Text<'a>),
+    /// As many images as this, each as the plain evaluation gives it.
+    Compared(u64),
+    /// At least and at most so many sums were asked for, and so many loaded.
+    Booked(u64, u64, u64),
+    /// A writer that has room for so many bytes, in pieces of so many, fails. It was given the front of these.
+    Full(usize, usize, &'a [u8]),
+    /// The same on a connection, which ends there.
+    Ended(usize, usize, &'a [u8]),
+    /// The source failed behind the first sample of this body, and before its last.
+    Front(&'a [u8]),
+}
+
+/// An ask and what is to come of it.
+pub(crate) type Case<'a> = (Ask<'a>, Want<'a>);
+
+/// What is asked, one after another, of one new node, and under which name.
+pub(crate) type Table = (&'static str, Setup<'static>, &'static [Case<'static>]);
+
+/// Before the canonical URI of an image, and behind it.
+const BEFORE: &[u8] =
+    b"HTTP/1.1 200 OK\r\nContent-Type: image/tiff\r\nAccess-Control-Allow-Origin: *\r\nLink: <http://localhost/iiif/a/";
+
+const BEHIND: &[u8] = b"/0/default.tif>;rel=\"canonical\"\r\n";
+
+/// Whether that is the answer's head.
+fn has_head(bytes: &[u8], canonical: &str) -> bool {
+    let Some(rest) = bytes.strip_prefix(BEFORE) else {
+        return false;
+    };
+    match rest.strip_prefix(canonical.as_bytes()) {
+        Some(rest) => rest.starts_with(BEHIND),
+        None => false,
+    }
+}
+
+/// The last bytes, so many.
+fn tail(bytes: &[u8], count: usize) -> &[u8] {
+    let (_, last) = bytes.split_at(bytes.len() - count.min(bytes.len()));
+    last
+}
+
+impl<'a> Text<'a> {
+    /// Whether bytes are what they are to be.
+    fn fits(self, bytes: &[u8]) -> bool {
+        match self {
+            Text::Is(wanted) => bytes == wanted,
+            Text::Joined(first, last) => bytes.strip_prefix(first) == Some(last),
+            Text::Long(count, last) => bytes.len() == count && bytes.ends_with(last),
+            Text::Framed(first, last) => bytes.starts_with(first) && bytes.ends_with(last),
+            Text::Image(canonical, count, first) => {
+                has_head(bytes, canonical) && tail(bytes, count).starts_with(first)
+            }
+        }
+    }
+}
+
+/// Whether these are so many, at the front of those.
+fn are_front(bytes: &[u8], count: usize, whole: &[u8]) -> bool {
+    bytes.len() == count && whole.starts_with(bytes)
+}
+
+/// Whether these are a body's front that ends behind its first sample and before its last.
+fn are_cut(bytes: &[u8], whole: &[u8]) -> bool {
+    174 < bytes.len() && bytes.len() < whole.len() && whole.starts_with(bytes)
+}
+
+impl<'a> Want<'a> {
+    /// How many bytes the writer has room for, and in pieces of how many.
+    pub(crate) fn room(self) -> (usize, usize) {
+        match self {
+            Want::Full(room, piece, _) | Want::Ended(room, piece, _) => (room, piece),
+            _ => (usize::MAX, usize::MAX),
+        }
+    }
+
+    /// Whether a whole answer is what is to come.
+    fn is_sent(self, sent: Sent, bytes: &[u8]) -> bool {
+        let is_all = sent.bytes == bytes.len() as u64;
+        match self {
+            Want::Whole(status, text) => is_all && sent.status == status && text.fits(bytes),
+            Want::Held(status, least, most, text) => {
+                let is_held = least <= sent.held && sent.held <= most;
+                is_all && is_held && sent.status == status && text.fits(bytes)
+            }
+            Want::Compared(count) => sent.held == count,
+            Want::Booked(least, most, loads) => {
+                least <= sent.bytes && sent.bytes <= most && sent.held == loads
+            }
+            Want::Ended(room, _, whole) => are_front(bytes, room, whole),
+            _ => false,
+        }
+    }
+
+    /// Whether one that was cut off is.
+    fn is_cut(self, cut: Cut, bytes: &[u8]) -> bool {
+        let is_all = cut.sent == bytes.len() as u64;
+        match self {
+            Want::Full(room, _, whole) => {
+                is_all && cut.cause == Cause::Writer && are_front(bytes, room, whole)
+            }
+            Want::Front(whole) => {
+                is_all
+                    && matches!(cut.cause, Cause::Load(Fault::Source(_)))
+                    && are_cut(bytes, whole)
+            }
+            _ => false,
+        }
+    }
+
+    /// Whether an answer ended as it is to, with these bytes.
+    pub(crate) fn fits(self, end: Result<Sent, Cut>, bytes: &[u8]) -> bool {
+        match end {
+            Ok(sent) => self.is_sent(sent, bytes),
+            Err(cut) => self.is_cut(cut, bytes),
+        }
+    }
+}
