@@ -1,11 +1,10 @@
 //! Answers of nodes: bodies, answers to calls, and failures of sources and writers.
 
-use crate::cases::{Ask, Case, LARGER, NODE, Setup, Table, Text, Verb, WHOLE, Want};
+use crate::cases::{Ask, Case, HALF, LARGER, NODE, Setup, Table, Text, Verb, WHOLE, Want};
 use crate::files::{DEEP, DEEP_HIGH_FIRST, SAMPLE_FILE};
 use crate::nodes::{all_are, are_right, each_is};
 use std::alloc::Global;
 use std::sync::Wait;
-use std::test::Fail;
 use std::thread::Threads;
 use std::time::Clock;
 
@@ -197,8 +196,8 @@ const BODIES: [Table; 11] = [
 ];
 
 #[test]
-fn bodies_of_targets(rt: HostRuntime) -> Result<(), Fail> {
-    all_are(&rt, &BODIES)
+fn bodies_of_targets(rt: HostRuntime) {
+    all_are(&rt, &BODIES);
 }
 
 /// The head of the answer to a GET of the whole sample.
@@ -212,6 +211,18 @@ const FAULT_ANSWER: &[u8] =
 const IMAGE: Case<'static> = (
     Ask::Call(Verb::Get, WHOLE),
     Want::Whole(200, Text::Joined(IMAGE_HEAD, &SAMPLE_FILE)),
+);
+
+/// The same where a read fails before the first band.
+const UNREAD: Case<'static> = (
+    Ask::Call(Verb::Get, WHOLE),
+    Want::Whole(500, Text::Is(FAULT_ANSWER)),
+);
+
+/// The head of the image alone.
+const HEADED: Case<'static> = (
+    Ask::Call(Verb::Head, WHOLE),
+    Want::Whole(200, Text::Is(IMAGE_HEAD)),
 );
 
 /// Refusals with their heads.
@@ -255,16 +266,7 @@ const REFUSALS: &[Case<'static>] = &[
 ];
 
 /// A head alone, for which nothing is read, and then an image, for which the first read fails.
-const HEAD_AND_FAULT: &[Case<'static>] = &[
-    (
-        Ask::Call(Verb::Head, WHOLE),
-        Want::Whole(200, Text::Is(IMAGE_HEAD)),
-    ),
-    (
-        Ask::Call(Verb::Get, WHOLE),
-        Want::Whole(500, Text::Is(FAULT_ANSWER)),
-    ),
-];
+const HEAD_AND_FAULT: &[Case<'static>] = &[HEADED, UNREAD];
 
 const ANSWERS: [Table; 3] = [
     ("image with its head", NODE, &[IMAGE]),
@@ -273,8 +275,8 @@ const ANSWERS: [Table; 3] = [
 ];
 
 #[test]
-fn answers_to_calls(rt: HostRuntime) -> Result<(), Fail> {
-    all_are(&rt, &ANSWERS)
+fn answers_to_calls(rt: HostRuntime) {
+    all_are(&rt, &ANSWERS);
 }
 
 const INFORMATION: &[u8] =
@@ -323,8 +325,8 @@ const SAID: [Table; 4] = [
 ];
 
 #[test]
-fn information_of_the_sample(rt: HostRuntime) -> Result<(), Fail> {
-    all_are(&rt, &SAID)
+fn information_of_the_sample(rt: HostRuntime) {
+    all_are(&rt, &SAID);
 }
 
 /// The node that scales up to 8 by 8.
@@ -339,8 +341,8 @@ const ROW: Setup<'static> = Setup {
 /// The first two rows of the sample at twice its sides.
 const TWICE: &[u8] = &[0, 0, 10, 10, 20, 20, 30, 30, 0, 0, 10, 10, 20, 20, 30, 30];
 
-/// Results above their regions, and such that are not, under their canonical URIs.
-const RESULTS: [Table; 7] = [
+/// Results above their regions, and such that are not, under their canonical URIs; and refusals with and without the option.
+const RESULTS: [Table; 13] = [
     (
         "0,0,2,2/^3,3",
         UP_TO_8,
@@ -404,10 +406,6 @@ const RESULTS: [Table; 7] = [
             ),
         )],
     ),
-];
-
-/// Refusals with and without the option.
-const NOT_LARGER: [Table; 6] = [
     (
         "full/^5000,",
         LARGER,
@@ -459,9 +457,8 @@ const NOT_LARGER: [Table; 6] = [
 ];
 
 #[test]
-fn results_above_their_regions(rt: HostRuntime) -> Result<(), Fail> {
-    all_are(&rt, &RESULTS)?;
-    all_are(&rt, &NOT_LARGER)
+fn results_above_their_regions(rt: HostRuntime) {
+    all_are(&rt, &RESULTS);
 }
 
 /// Whether a body is whole, or is the line of a source that fails.
@@ -474,18 +471,14 @@ const BODY_OR_FAULT: [(u64, Want<'static>); 5] = [
 ];
 
 #[test]
-fn tile_that_is_not_read_is_a_source_fault(rt: HostRuntime) -> Result<(), Fail> {
-    for target in [WHOLE, b"/iiif/a/full/2,/0/default.tif"] {
+fn tile_that_is_not_read_is_a_source_fault(rt: HostRuntime) {
+    for target in [WHOLE, HALF] {
         // Four tiles of edge 2, in a picture 4 by 4: one read each at least.
         for (k, want) in BODY_OR_FAULT {
             let setup = Setup { k, ..NODE };
-            assert!(rt;
-                are_right(&rt, &setup, &[(Ask::Body(target), want)])?,
-                "{k}"
-            );
+            assert!(rt; are_right(&rt, &setup, &[(Ask::Body(target), want)]), "{k}");
         }
     }
-    Ok(())
 }
 
 /// Writers that fail behind each number of bytes of an answer that is this one as a whole.
@@ -494,26 +487,39 @@ fn full_ones<'a>(
     ask: Ask<'a>,
     piece: usize,
     whole: &'a [u8],
-) -> Result<Vec<Case<'a>>, Fail> {
+) -> Option<Vec<Case<'a>>> {
     let mut cases = Vec::new(alloc);
     for room in 0..whole.len() {
-        cases.push((ask, Want::Full(room, piece, whole)))?;
+        cases.push((ask, Want::Full(room, piece, whole))).ok()?;
     }
-    Ok(cases)
+    Some(cases)
+}
+
+/// Whether an answer that is the first of these and then the second as a whole leaves a strict front with each writer that fails, of one
+/// node.
+fn are_fronts<R: Threads + Wait + Clock + Sync + AllocGlobal>(
+    rt: &R,
+    ask: Ask<'_>,
+    piece: usize,
+    [head, body]: [&[u8]; 2],
+) -> Option<bool> {
+    let mut whole = Vec::from_slice(rt.alloc(), head).ok()?;
+    whole.extend_from_slice(body).ok()?;
+    let cases = full_ones(rt.alloc(), ask, piece, &whole)?;
+    Some(are_right(rt, &NODE, &cases))
 }
 
 #[test]
-fn writer_that_fails_leaves_a_strict_prefix(rt: HostRuntime) -> Result<(), Fail> {
-    let mut answer = Vec::from_slice(rt.alloc(), IMAGE_HEAD)?;
-    answer.extend_from_slice(&SAMPLE_FILE)?;
-    for (ask, piece, whole) in [
-        (Ask::Body(WHOLE), 7usize, SAMPLE_FILE.as_slice()),
-        (Ask::Call(Verb::Get, WHOLE), 64, answer.as_slice()),
+fn writer_that_fails_leaves_a_strict_prefix(rt: HostRuntime) {
+    for (ask, piece, head) in [
+        (Ask::Body(WHOLE), 7usize, b"".as_slice()),
+        (Ask::Call(Verb::Get, WHOLE), 64, IMAGE_HEAD),
     ] {
-        let cases = full_ones(rt.alloc(), ask, piece, whole)?;
-        each_is(&rt, "full", &NODE, &cases)?;
+        assert!(rt;
+            are_fronts(&rt, ask, piece, [head, &SAMPLE_FILE]) == Some(true),
+            "{piece}"
+        );
     }
-    Ok(())
 }
 
 /// A node that keeps nothing, of whose reads the k-th and each later one fails.
@@ -525,34 +531,19 @@ fn forgetful(k: u64) -> Setup<'static> {
     }
 }
 
-/// The whole answer, and what comes of it where a read fails before it.
-const READ: Case<'static> = IMAGE;
-
-const UNREAD: Case<'static> = (
-    Ask::Call(Verb::Get, WHOLE),
-    Want::Whole(500, Text::Is(FAULT_ANSWER)),
-);
-
-/// The first read whose failure the whole answer doesn't need, if it is among so many.
-fn first_unneeded<R: Threads + Wait + Clock + Sync + AllocGlobal>(
-    rt: &R,
-    most: u64,
-) -> Result<Option<u64>, Fail> {
-    for k in 1..most {
-        if are_right(rt, &forgetful(k), &[READ])? {
-            return Ok(Some(k));
+/// The first of a hundred reads that the whole answer doesn't need.
+fn first_unneeded<R: Threads + Wait + Clock + Sync + AllocGlobal>(rt: &R) -> Option<u64> {
+    for k in 1..100u64 {
+        if are_right(rt, &forgetful(k), &[IMAGE]) {
+            return Some(k);
         }
     }
-    Ok(None)
+    None
 }
 
 #[test]
-fn head_spends_no_read(rt: HostRuntime) -> Result<(), Fail> {
-    let last = first_unneeded(&rt, 100)?.ok_or("no such read")?;
+fn head_spends_no_read(rt: HostRuntime) {
+    let last = first_unneeded(&rt).unwrap_or(0);
     assert!(rt; last > 1);
-    let head = (
-        Ask::Call(Verb::Head, WHOLE),
-        Want::Whole(200, Text::Is(IMAGE_HEAD)),
-    );
-    each_is(&rt, "head", &forgetful(last), &[head, READ, UNREAD])
+    each_is(&rt, "head", &forgetful(last), &[HEADED, IMAGE, UNREAD]);
 }

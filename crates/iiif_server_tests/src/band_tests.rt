@@ -1,19 +1,14 @@
 //! Bodies in bands.
 
 use crate::answer_tests::{FAULT, STEPS};
-use crate::cases::{Ask, LARGER, Setup, Text, WHOLE, Want};
-use crate::drawn::Drawn;
+use crate::cases::{Ask, Case, HALF, LARGER, Setup, Table, Text, WHOLE, Want};
 use crate::files::{HALVED_FILE, SAMPLE_FILE};
 use crate::meeting::Meeting;
-use crate::nodes::{are_right, each_is, right_of};
+use crate::nodes::{all_are, are_right, each_is, right_of};
 use crate::told::Told;
-use iiif_pixel::Kind;
-use iiif_tiff_write::OutKind;
-use std::alloc::Global;
 use std::process::Abort;
 use std::sync::Wait;
 use std::sync::atomic::Ordering;
-use std::test::Fail;
 use std::thread::Threads;
 use std::time::Clock;
 
@@ -43,7 +38,7 @@ const CASES: [(&[u8], usize, &[u8]); 9] = [
             120, 80, 40, 0, 130, 90, 50, 10, 140, 100, 60, 20, 150, 110, 70, 30,
         ],
     ),
-    (b"/iiif/a/full/2,/0/default.tif", 178, &[25, 45, 105, 125]),
+    (HALF, 178, &[25, 45, 105, 125]),
     (
         b"/iiif/a/full/3,3/0/default.tif",
         183,
@@ -57,24 +52,15 @@ const CASES: [(&[u8], usize, &[u8]); 9] = [
 ];
 
 /// The bodies of the targets are these, each of a new node.
-fn compare<R: Threads + Wait + Clock + Abort + Sync + AllocGlobal>(
-    rt: &R,
-    setup: &Setup<'_>,
-) -> Result<(), Fail> {
+fn compare<R: Threads + Wait + Clock + Abort + Sync + AllocGlobal>(rt: &R, setup: &Setup<'_>) {
     for (target, count, samples) in CASES {
         let want = Want::Whole(200, Text::Long(count, samples));
-        let is_right = are_right(rt, setup, &[(Ask::Body(target), want)])?;
-        assert!(rt;
-            is_right,
-            "{} {} {} {target:?}",
-            setup.rows, setup.workers, setup.bytes
-        );
+        each_is(rt, "in bands", setup, &[(Ask::Body(target), want)]);
     }
-    Ok(())
 }
 
 #[test]
-fn bands_workers_and_caches_change_nothing(rt: HostRuntime) -> Result<(), Fail> {
+fn bands_workers_and_caches_change_nothing(rt: HostRuntime) {
     for rows in [1, 3, 64] {
         for workers in [1, 2, 5] {
             for bytes in [0, 100, 67_108_864] {
@@ -84,159 +70,170 @@ fn bands_workers_and_caches_change_nothing(rt: HostRuntime) -> Result<(), Fail> 
                     bytes,
                     ..LARGER
                 };
-                compare(&rt, &setup)?;
+                compare(&rt, &setup);
             }
         }
     }
-    Ok(())
 }
 
-#[test]
-fn row_of_a_turned_sample_is_held_at_most_twice(rt: HostRuntime) -> Result<(), Fail> {
-    let turned = (
-        Ask::Body(b"/iiif/a/full/max/90/default.tif"),
-        Want::Held(200, 4, 8, Text::Long(190, b"")),
-    );
-    each_is(&rt, "turned", &SLOWLY, &[turned])?;
-    let information = (
-        Ask::Body(b"/iiif/a/info.json"),
-        Want::Held(200, 0, 0, Text::Framed(b"{", b"}")),
-    );
-    each_is(&rt, "information", &SLOWLY, &[information])
-}
-
-/// Images of the sample, of tiles and of blocks: a band may fail after the first was sent.
-const FAILING: [(&[u8], &[u8]); 2] = [
-    (WHOLE, &SAMPLE_FILE),
-    (b"/iiif/a/full/2,/0/default.tif", &HALVED_FILE),
+/// How much is held of an image, and of what is none.
+const HELD: [Table; 2] = [
+    (
+        "turned",
+        SLOWLY,
+        &[(
+            Ask::Body(b"/iiif/a/full/max/90/default.tif"),
+            Want::Held(200, 4, 8, Text::Long(190, b"")),
+        )],
+    ),
+    (
+        "information",
+        SLOWLY,
+        &[(
+            Ask::Body(b"/iiif/a/info.json"),
+            Want::Held(200, 0, 0, Text::Framed(b"{", b"}")),
+        )],
+    ),
 ];
 
-/// Whether a body ends so over a source that fails from a read on, and is whole once the source is mended.
-fn is_mended<'a, R: Threads + Wait + Clock + Sync + AllocGlobal>(
-    rt: &R,
-    setup: &Setup<'_>,
-    target: &'a [u8],
-    want: Want<'a>,
-    whole: &'a [u8],
-) -> Result<bool, Fail> {
-    let nothing = Want::Whole(0, Text::Is(b""));
-    let mended = Want::Whole(200, Text::Is(whole));
-    let cases = [
-        (Ask::Body(target), want),
-        (Ask::Mend, nothing),
-        (Ask::Body(target), mended),
-    ];
-    are_right(rt, setup, &cases)
+#[test]
+fn row_of_a_turned_sample_is_held_at_most_twice(rt: HostRuntime) {
+    all_are(&rt, &HELD);
 }
 
-/// Whether answers end whole, with the fault and with a front, each for some read that is the first to fail. They end in no other way.
-fn ends_of<'a, R: Threads + Wait + Clock + Abort + Sync + AllocGlobal>(
+const SAMPLE_IS_WHOLE: Want<'static> = Want::Whole(200, Text::Is(&SAMPLE_FILE));
+
+const HALF_IS_WHOLE: Want<'static> = Want::Whole(200, Text::Is(&HALVED_FILE));
+
+/// Images of the sample, of tiles and of blocks, whole; and how they end where a read fails, and each later one: first of those of the
+/// first reads, then of those of later ones. All reads of one band come before its first byte is sent: none of them cuts.
+const FAILING: [(Setup<'static>, &[u8], Want<'static>, &[Want<'static>]); 4] = [
+    (
+        SLOWLY,
+        WHOLE,
+        SAMPLE_IS_WHOLE,
+        &[FAULT, Want::Front(&SAMPLE_FILE), SAMPLE_IS_WHOLE],
+    ),
+    (
+        SLOWLY,
+        HALF,
+        HALF_IS_WHOLE,
+        &[FAULT, Want::Front(&HALVED_FILE), HALF_IS_WHOLE],
+    ),
+    (AT_ONCE, WHOLE, SAMPLE_IS_WHOLE, &[FAULT, SAMPLE_IS_WHOLE]),
+    (AT_ONCE, HALF, HALF_IS_WHOLE, &[FAULT, HALF_IS_WHOLE]),
+];
+
+/// The first read from this one on, of 63, whose failure ends a body in another way than this, or doesn't leave it whole once the source
+/// is mended. Else the 64th.
+fn first_other<'a, R: Threads + Wait + Clock + Sync + AllocGlobal>(
     rt: &R,
     setup: Setup<'_>,
     target: &'a [u8],
-    whole: &'a [u8],
-) -> Result<[bool; 3], Fail> {
-    let mut seen = [false; 3];
-    let wants = [Want::Whole(200, Text::Is(whole)), FAULT, Want::Front(whole)];
-    for k in 1..64u64 {
-        let mut is_any = false;
-        for (want, seen) in wants.iter().zip(&mut seen) {
-            if is_mended(rt, &Setup { k, ..setup }, target, *want, whole)? {
-                is_any = true;
-                *seen = true;
-            }
+    whole: Want<'a>,
+    want: Want<'a>,
+    from: u64,
+) -> u64 {
+    let nothing = Want::Whole(0, Text::Is(b""));
+    for k in from..64 {
+        let cases = [
+            (Ask::Body(target), want),
+            (Ask::Mend, nothing),
+            (Ask::Body(target), whole),
+        ];
+        if !are_right(rt, &Setup { k, ..setup }, &cases) {
+            return k;
         }
-        assert!(rt; is_any, "{k}");
     }
-    Ok(seen)
+    64
+}
+
+/// Whether a body ends in these ways, one after another, as the first read that fails is a later one, and in no other.
+fn ends_in_turn<'a, R: Threads + Wait + Clock + Sync + AllocGlobal>(
+    rt: &R,
+    setup: Setup<'_>,
+    target: &'a [u8],
+    whole: Want<'a>,
+    wants: &[Want<'a>],
+) -> bool {
+    let mut from = 1u64;
+    for want in wants {
+        let next = first_other(rt, setup, target, whole, *want, from);
+        if next == from {
+            return false;
+        }
+        from = next;
+    }
+    from == 64
 }
 
 #[test]
-fn first_fault_is_answered_and_a_later_one_cuts_until_the_source_is_mended(
-    rt: HostRuntime,
-) -> Result<(), Fail> {
-    // All reads of one band come before its first byte is sent: none of them cuts.
-    for (setup, cuts) in [(SLOWLY, true), (AT_ONCE, false)] {
-        for (target, whole) in FAILING {
-            assert!(rt;
-                ends_of(&rt, setup, target, whole)? == [true, true, cuts],
-                "{cuts}"
-            );
-        }
+fn first_fault_is_answered_and_a_later_one_cuts_until_the_source_is_mended(rt: HostRuntime) {
+    for (setup, target, whole, wants) in FAILING {
+        assert!(rt;
+            ends_in_turn(&rt, setup, target, whole, wants),
+            "{} {target:?}",
+            setup.rows
+        );
     }
-    Ok(())
 }
 
-/// Whether so many workers make the whole sample, the first load being held for so many turns, and whether that went on alone.
-fn meets<R: Threads + Wait + Clock + Sync + AllocGlobal>(
+/// Where so many workers make the whole sample, the first load being held for so many turns: whether that went on alone.
+fn is_alone<R: Threads + Wait + Clock + Sync + AllocGlobal>(
     rt: &R,
     workers: u32,
     turns: u32,
-) -> Result<(bool, bool), Fail> {
+) -> Option<bool> {
     let gate = Meeting::new(turns);
     let setup = Setup {
         rows: 64,
         workers,
         ..SLOWLY
     };
-    let want = Want::Whole(200, Text::Long(190, STEPS));
-    let right = right_of(
-        rt,
-        rt.alloc(),
-        &setup,
-        &gate,
-        &Told::new(),
-        &[(Ask::Body(WHOLE), want)],
-    )?;
-    Ok((right == 1, gate.alone.load(Ordering::SeqCst)))
+    let case = (Ask::Body(WHOLE), Want::Whole(200, Text::Long(190, STEPS)));
+    match right_of(rt, rt.alloc(), &setup, &gate, &Told::new(), &[case]) {
+        Some(1) => Some(gate.alone.load(Ordering::SeqCst)),
+        _ => None,
+    }
 }
 
 #[test]
-fn workers_meet_and_one_meets_no_other(rt: HostRuntime) -> Result<(), Fail> {
+fn workers_meet_and_one_meets_no_other(rt: HostRuntime) {
     for (workers, turns, alone) in [
         (2, 10_000, false),
         (3, 10_000, false),
         (4, 10_000, false),
         (1, 50, true),
     ] {
-        assert!(rt; meets(&rt, workers, turns)? == (true, alone), "{workers}");
+        assert!(rt; is_alone(&rt, workers, turns) == Some(alone), "{workers}");
     }
-    Ok(())
 }
 
-/// The file of a picture of 64 by 64 whose samples are all the same.
-fn even_file(alloc: Global) -> Result<Vec<u8>, Fail> {
-    let mut samples = Vec::new(alloc);
-    for _ in 0..4096u32 {
-        samples.push(7u16)?;
-    }
-    let picture = Drawn {
-        sides: [64, 64],
-        kind: Kind::Gray,
-        out: OutKind::Gray,
-        samples: &samples,
-    };
-    picture.file(alloc)
-}
+const MEAN: Case<'static> = (
+    Ask::Body(b"/iiif/a/full/1,1/0/default.tif"),
+    Want::Whole(200, Text::Long(175, &[75])),
+);
 
-/// At a quarter of its sides and an edge of 4 the picture is one block of level 4. Below it stand 4, 16, 64 and 256 of levels 3 to 0: 341 in
-/// all, each loaded once. One worker asks for each once, and three ask for some of them before.
-#[test]
-fn parts_are_asked_first(rt: HostRuntime) -> Result<(), Fail> {
-    let file = even_file(rt.alloc())?;
-    for (workers, least, most) in [(1, 341, 341), (3, 342, u64::MAX)] {
-        let setup = Setup {
-            file: &file,
-            edge: 4,
-            workers,
+/// At one place and an edge of 1 the sample is one block of level 2. Below it stand 4 of level 1 and 16 of level 0: 21 in all, each loaded
+/// once. One worker asks for each once, and three ask for some of them before.
+const ASKED: [Table; 2] = [
+    (
+        "by one",
+        Setup { edge: 1, ..AT_ONCE },
+        &[MEAN, (Ask::Sums, Want::Booked(21, 21, 21))],
+    ),
+    (
+        "by three",
+        Setup {
+            edge: 1,
+            workers: 3,
             ..AT_ONCE
-        };
-        let even = Want::Whole(200, Text::Long(430, &[7; 16]));
-        let cases = [
-            (Ask::Body(b"/iiif/a/full/16,16/0/default.tif"), even),
-            (Ask::Sums, Want::Booked(least, most, 341)),
-        ];
-        assert!(rt; are_right(&rt, &setup, &cases)?, "{workers}");
-    }
-    Ok(())
+        },
+        &[MEAN, (Ask::Sums, Want::Booked(22, u64::MAX, 21))],
+    ),
+];
+
+#[test]
+fn parts_are_asked_first(rt: HostRuntime) {
+    all_are(&rt, &ASKED);
 }

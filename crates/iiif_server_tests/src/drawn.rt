@@ -7,7 +7,6 @@ use crate::plain::Plain;
 use iiif_pixel::{Depth, Dim, Kind, Raster, Samples, Span};
 use iiif_tiff_write::{OutKind, fits, head, put_rows};
 use std::alloc::Global;
-use std::test::Fail;
 
 /// A picture: its sides, its channels, its samples row by row, and the kind of its file.
 #[derive(Clone, Copy, Debug)]
@@ -52,42 +51,40 @@ impl<'a> Drawn<'a> {
     }
 
     /// Its samples of 8 bits, or of 16.
-    fn samples(self, alloc: Global) -> Result<Samples, Fail> {
+    fn samples(self, alloc: Global) -> Option<Samples> {
         if self.out.depth() == Depth::Sixteen {
-            return Ok(Samples::Sixteen(Vec::from_slice(alloc, self.samples)?));
+            return Some(Samples::Sixteen(Vec::from_slice(alloc, self.samples).ok()?));
         }
         let mut bytes = Vec::new(alloc);
         for sample in self.samples {
-            bytes.push((*sample & 0xff) as u8)?;
+            bytes.push((*sample & 0xff) as u8).ok()?;
         }
-        Ok(Samples::Eight(bytes))
+        Some(Samples::Eight(bytes))
     }
 
     /// The raster.
-    pub(crate) fn raster(self, alloc: Global) -> Result<Raster, Fail> {
+    pub(crate) fn raster(self, alloc: Global) -> Option<Raster> {
         let samples = self.samples(alloc)?;
         let [w, h] = self.sides;
         let dim = Dim { w, h };
-        let Some(asked) = (dim.w as usize * dim.h as usize).checked_mul(self.kind.channels()) else {
-            return Err(Fail::from("too many samples"));
-        };
+        let asked = (dim.w as usize * dim.h as usize).checked_mul(self.kind.channels())?;
         if asked != count(samples.as_span()) {
-            return Err(Fail::from("another count of samples"));
+            return None;
         }
-        Ok(Raster::from_samples(dim, self.kind, samples))
+        Some(Raster::from_samples(dim, self.kind, samples))
     }
 
     /// Its file.
-    pub(crate) fn file(self, alloc: Global) -> Result<Vec<u8>, Fail> {
+    pub(crate) fn file(self, alloc: Global) -> Option<Vec<u8>> {
         let (kind, raster) = (self.out, self.raster(alloc)?);
         if !fits(kind, raster.dim())
             || raster.kind().channels() != usize::from(kind.samples_per_pixel())
             || raster.depth() != kind.depth()
         {
-            return Err(Fail::from("no such file"));
+            return None;
         }
-        let mut bytes = Vec::from_slice(alloc, head(kind, raster.dim()).as_slice())?;
-        put_rows(&raster, kind, &mut bytes)?;
-        Ok(bytes)
+        let mut bytes = Vec::from_slice(alloc, head(kind, raster.dim()).as_slice()).ok()?;
+        put_rows(&raster, kind, &mut bytes).ok()?;
+        Some(bytes)
     }
 }

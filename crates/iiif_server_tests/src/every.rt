@@ -37,16 +37,27 @@ fn add_sizes(parts: &mut Vec<([u64; 4], [u64; 2])>, region: [u64; 4], times: u64
     Some(())
 }
 
+/// Each region with this left upper place, in each size up to so many times its own.
+fn add_regions(
+    parts: &mut Vec<([u64; 4], [u64; 2])>,
+    picture: Plain<'_>,
+    [x, y]: [u64; 2],
+    times: u64,
+) -> Option<()> {
+    for h in 1..=picture.h.saturating_sub(y).min(9) {
+        for w in 1..=picture.w.saturating_sub(x).min(9) {
+            add_sizes(parts, [x, y, w, h], times)?;
+        }
+    }
+    Some(())
+}
+
 /// Each region of a picture, in each size up to so many times its own.
 fn parts_of(alloc: Global, picture: Plain<'_>, times: u64) -> Option<Vec<([u64; 4], [u64; 2])>> {
     let mut parts = Vec::new(alloc);
     for y in 0..picture.h {
         for x in 0..picture.w {
-            for h in 1..=picture.h.saturating_sub(y).min(9) {
-                for w in 1..=picture.w.saturating_sub(x).min(9) {
-                    add_sizes(&mut parts, [x, y, w, h], times)?;
-                }
-            }
+            add_regions(&mut parts, picture, [x, y], times)?;
         }
     }
     Some(parts)
@@ -69,22 +80,24 @@ fn is_file(file: &[u8], sides: (u64, u64), strip: &[u8]) -> bool {
         && file.len().saturating_sub(strip.len()) <= 180
 }
 
-/// The body that a target is answered with status 200.
-fn image_of<R: Threads + Wait + Clock + Sync, J: System + Send + Sync>(
+/// Whether a target is answered with status 200 and a file that has these sides, and this strip.
+fn is_image<R: Threads + Wait + Clock + Sync, J: System + Send + Sync>(
     rt: &R,
     alloc: Global,
     node: &Node<R, MemFused, J, NoLink, &Meeting>,
     passes: &mut [Passes<J>],
     target: &[u8],
-) -> Option<Vec<u8>> {
+    sides: (u64, u64),
+    strip: &[u8],
+) -> bool {
     let mut out = FailingWriter {
         taken: Vec::new(alloc),
         room: usize::MAX,
         piece: usize::MAX,
     };
     match body_of(rt, alloc, node, passes, target, &mut out) {
-        Some(Ok(sent)) if sent.status == 200 => Some(out.taken),
-        _ => None,
+        Some(Ok(sent)) => sent.status == 200 && is_file(&out.taken, sides, strip),
+        _ => false,
     }
 }
 
@@ -97,11 +110,22 @@ fn is_answered<R: Threads + Wait + Clock + Sync, J: System + Send + Sync>(
     image: Image<'_>,
     rotation: &str,
     quality: &str,
-) -> Option<bool> {
-    let target = target_of(alloc, image, rotation, quality)?;
-    let file = image_of(rt, alloc, node, passes, target.as_bytes())?;
-    let strip = image.strip(alloc, quality)?;
-    Some(is_file(&file, image.sides(), &strip))
+) -> bool {
+    let Some(target) = target_of(alloc, image, rotation, quality) else {
+        return false;
+    };
+    let Some(strip) = image.strip(alloc, quality) else {
+        return false;
+    };
+    is_image(
+        rt,
+        alloc,
+        node,
+        passes,
+        target.as_bytes(),
+        image.sides(),
+        &strip,
+    )
 }
 
 /// Whether a region in a size is, in each turn and quality.
@@ -123,7 +147,7 @@ fn are_answered<R: Threads + Wait + Clock + Sync, J: System + Send + Sync>(
             quarters,
         };
         for quality in QUALITIES {
-            if is_answered(rt, alloc, node, passes, image, rotation, quality) != Some(true) {
+            if !is_answered(rt, alloc, node, passes, image, rotation, quality) {
                 return false;
             }
         }

@@ -1,6 +1,6 @@
 //! A gate at which loads meet, and groups with that gate.
 
-ghost use Rattle.std.specs.Prelude.{◌≡◌, ℕ, IfOk};
+ghost use Rattle.std.specs.Prelude.{◌≡◌, ℕ, IfSome};
 ghost use Rattle.iiif_server.specs.Stocks.{IsStock};
 
 use iiif_group::Gate;
@@ -10,7 +10,6 @@ use std::alloc::Global;
 use std::num::NonZeroUsize;
 use std::sync::atomic::{AtomicBool, Ordering};
 use std::sync::ledger::Blank;
-use std::test::Fail;
 use std::thread;
 use std::time::{Clock, Duration};
 
@@ -62,16 +61,16 @@ pub(crate) fn stock<'a>(
     bytes: u64,
     gate: &'a Meeting,
     blank: Blank,
-) -> Result<Stock<NoLink, &'a Meeting>, Fail>
-    ensures { (name parts : ℕ) → blank.name ≡ name → blank.parts ≡ parts → parts ≡ 65537 → IfOk result (IsStock name parts) }
+) -> Option<Stock<NoLink, &'a Meeting>>
+    ensures { (name parts : ℕ) → blank.name ≡ name → blank.parts ≡ parts → parts ≡ 65537 → IfSome result (IsStock name parts) }
 {
-    let entries = NonZeroUsize::new(1024).ok_or("no entry")?;
+    let entries = NonZeroUsize::new(1024)?;
     let mut names = Vec::new(alloc);
-    names.push(String::from_str(alloc, "n")?)?;
-    let ring = Ring::new(alloc, names)?;
+    names.push(String::from_str(alloc, "n").ok()?).ok()?;
+    let ring = Ring::new(alloc, names).ok()?;
     let mut links = Vec::new(alloc);
-    links.push(NoLink)?;
-    Ok(Stock {
+    links.push(NoLink).ok()?;
+    Some(Stock {
         bytes: bytes.min(67_108_864),
         entries,
         gate,

@@ -21,7 +21,6 @@ use std::marker::Brand;
 use std::process::Abort;
 use std::sync::Wait;
 use std::sync::ledger::Blank;
-use std::test::Fail;
 use std::thread::Threads;
 use std::time::Clock;
 
@@ -67,12 +66,12 @@ fn right_by_workers<R: Threads + Wait + Clock + Sync, J: System + Send + Sync>(
     workers: u32,
     told: &Told,
     cases: &[Case<'_>],
-) -> Result<usize, Fail> {
+) -> Option<usize> {
     let mut passes = Vec::new(alloc);
     for _ in 0..workers {
-        passes.push(node.pass(rt).ok_or("no pass")?)?;
+        passes.push(node.pass(rt)?).ok()?;
     }
-    Ok(right_ones(rt, alloc, node, &mut passes, told, cases))
+    Some(right_ones(rt, alloc, node, &mut passes, told, cases))
 }
 
 /// The same by a new node of these images.
@@ -86,7 +85,7 @@ fn right_by<R: Threads + Wait + Clock + Sync, J: System + Send + Sync>(
     workers: u32,
     told: &Told,
     cases: &[Case<'_>],
-) -> Result<usize, Fail>
+) -> Option<usize>
     requires pictures { (name : List ℕ) → J.pictures name ≡ pictures_of bytes_of images name }
     requires gave { (name : List ℕ) (f : ReadFault) → J.gave name f ≡ gave_of fused_gave images name f }
     requires stable { (name : List ℕ) (item : Item (List ℕ)) → item_named images name ≡ Some item → J.stable name → ∥ keeps_of item.source ∥₁ }
@@ -95,7 +94,9 @@ fn right_by<R: Threads + Wait + Clock + Sync, J: System + Send + Sync>(
     requires tiles { IsStock J.tiles_name J.tiles_parts tiles }
     requires sums { IsStock J.sums_name J.sums_parts sums }
 {
-    let node = Node::<R, MemFused, J, NoLink, &Meeting>::new(alloc, config, images, tiles, sums)?;
+    let node = Node::<R, MemFused, J, NoLink, &Meeting>::new(
+        alloc, config, images, tiles, sums,
+    ).ok()?;
     right_by_workers(rt, alloc, &node, workers, told, cases)
 }
 
@@ -107,9 +108,9 @@ pub(crate) fn right_of<R: Threads + Wait + Clock + Sync>(
     gate: &Meeting,
     told: &Told,
     cases: &[Case<'_>],
-) -> Result<usize, Fail> {
-    let config = settings(alloc, setup).ok_or("no settings")?;
-    let images = images(rt, alloc, setup).ok_or("no images")?;
+) -> Option<usize> {
+    let config = settings(alloc, setup)?;
+    let images = images(rt, alloc, setup)?;
     let tiles = stock(alloc, setup.bytes, gate, Blank::new(65_537))?;
     let sums = stock(alloc, setup.bytes, gate, Blank::new(65_537))?;
     right_by::<R, Brand>(
@@ -125,14 +126,26 @@ pub(crate) fn right_of<R: Threads + Wait + Clock + Sync>(
     )
 }
 
+/// The first of these that doesn't come as it is to of one new node, or the very first where there is no such node.
+fn first_wrong<R: Threads + Wait + Clock + Sync + AllocGlobal>(
+    rt: &R,
+    setup: &Setup<'_>,
+    cases: &[Case<'_>],
+) -> Option<usize> {
+    match right_of(rt, rt.alloc(), setup, &Meeting::new(0), &Told::new(), cases) {
+        Some(right) if right == cases.len() => None,
+        Some(right) => Some(right),
+        None => Some(0),
+    }
+}
+
 /// Whether all of these come as they are to of one new node.
 pub(crate) fn are_right<R: Threads + Wait + Clock + Sync + AllocGlobal>(
     rt: &R,
     setup: &Setup<'_>,
     cases: &[Case<'_>],
-) -> Result<bool, Fail> {
-    let right = right_of(rt, rt.alloc(), setup, &Meeting::new(0), &Told::new(), cases)?;
-    Ok(right == cases.len())
+) -> bool {
+    first_wrong(rt, setup, cases).is_none()
 }
 
 /// All of these come as they are to of one new node.
@@ -141,19 +154,17 @@ pub(crate) fn each_is<R: Threads + Wait + Clock + Sync + AllocGlobal + Abort>(
     name: &str,
     setup: &Setup<'_>,
     cases: &[Case<'_>],
-) -> Result<(), Fail> {
-    let right = right_of(rt, rt.alloc(), setup, &Meeting::new(0), &Told::new(), cases)?;
-    assert!(rt; right == cases.len(), "{name}: case {right}");
-    Ok(())
+) {
+    let wrong = first_wrong(rt, setup, cases);
+    assert!(rt; wrong.is_none(), "{name}: case {wrong:?}");
 }
 
 /// All of these tables' cases come as they are to.
 pub(crate) fn all_are<R: Threads + Wait + Clock + Sync + AllocGlobal + Abort>(
     rt: &R,
     tables: &[Table],
-) -> Result<(), Fail> {
+) {
     for (name, setup, cases) in tables {
-        each_is(rt, name, setup, cases)?;
+        each_is(rt, name, setup, cases);
     }
-    Ok(())
 }

@@ -6,7 +6,6 @@ use iiif_server::{AddFault, Catalogue, Config, ConfigFault};
 use iiif_source::MemSource;
 use iiif_tiff_read::open;
 use std::alloc::Global;
-use std::test::Fail;
 
 /// Results at most so wide and high, and none above its region.
 fn limits(max: u32) -> Limits {
@@ -17,38 +16,54 @@ fn limits(max: u32) -> Limits {
     }
 }
 
-#[test]
-fn settings_are_refused_in_order(rt: HostRuntime) -> Result<(), Fail> {
-    let alloc = rt.alloc();
-    let cases = [
-        ("http:/localhost", 5, 4, 0, 0, ConfigFault::Base),
-        ("http://localhost/", 2, 4, 64, 2, ConfigFault::Base),
-        (
-            "http://localhost:65536/iiif",
-            2,
-            4,
-            64,
-            2,
-            ConfigFault::Base,
-        ),
-        ("ftp://localhost", 2, 4, 64, 2, ConfigFault::Base),
-        ("http://localhost", 5, 4, 64, 2, ConfigFault::Edge),
-        ("http://localhost", 1025, 4096, 64, 2, ConfigFault::Edge),
-        ("http://localhost", 5, 16385, 64, 2, ConfigFault::Max),
-        ("http://localhost", 5, 16384, 0, 2, ConfigFault::Band),
-        ("http://localhost", 5, 16384, 64, 17, ConfigFault::Workers),
-    ];
-    for (base, edge, max, band, workers, fault) in cases {
-        let config = Config::new(alloc, base, edge, limits(max), band, workers);
-        assert_eq!(rt; config.map(|_| ()), Err(fault));
+/// Settings that are refused: the base, the edge, the greatest sides, the rows and the workers; and why.
+const REFUSED: [(&str, [u32; 4], ConfigFault); 9] = [
+    ("http:/localhost", [5, 4, 0, 0], ConfigFault::Base),
+    ("http://localhost/", [2, 4, 64, 2], ConfigFault::Base),
+    (
+        "http://localhost:65536/iiif",
+        [2, 4, 64, 2],
+        ConfigFault::Base,
+    ),
+    ("ftp://localhost", [2, 4, 64, 2], ConfigFault::Base),
+    ("http://localhost", [5, 4, 64, 2], ConfigFault::Edge),
+    ("http://localhost", [1025, 4096, 64, 2], ConfigFault::Edge),
+    ("http://localhost", [5, 16385, 64, 2], ConfigFault::Max),
+    ("http://localhost", [5, 16384, 0, 2], ConfigFault::Band),
+    ("http://localhost", [5, 16384, 64, 17], ConfigFault::Workers),
+];
+
+/// Why settings are refused.
+fn fault_of(
+    alloc: Global,
+    base: &str,
+    [edge, max, band, workers]: [u32; 4],
+) -> Option<ConfigFault> {
+    Config::new(alloc, base, edge, limits(max), band, workers).err()
+}
+
+/// Whether settings are told as they were given.
+fn is_told(alloc: Global) -> bool {
+    let base = "https://a-b.example:8080/x/~y";
+    match Config::new(alloc, base, 1, limits(1), 1, 1) {
+        Ok(config) => {
+            config.base() == base
+                && config.prefix() == b"/x/~y".as_slice()
+                && config.limits() == limits(1)
+        }
+        Err(_) => false,
     }
-    let Ok(config) = Config::new(alloc, "https://a-b.example:8080/x/~y", 1, limits(1), 1, 1) else {
-        return Err(Fail::from("the settings are refused"));
-    };
-    assert_eq!(rt; config.base(), "https://a-b.example:8080/x/~y");
-    assert_eq!(rt; config.prefix(), b"/x/~y".as_slice());
-    assert_eq!(rt; config.limits(), limits(1));
-    Ok(())
+}
+
+#[test]
+fn settings_are_refused_in_order(rt: HostRuntime) {
+    for (base, numbers, fault) in REFUSED {
+        assert!(rt;
+            fault_of(rt.alloc(), base, numbers) == Some(fault),
+            "{base} {numbers:?}"
+        );
+    }
+    assert!(rt; is_told(rt.alloc()));
 }
 
 /// Settings, once more where memory was wanted.
@@ -72,7 +87,7 @@ fn are_taken(alloc: Global, base: &str, edge: u32, workers: u32) -> Result<bool,
 }
 
 #[test]
-fn settings_are_taken_after_a_refused_growth(rt: HostRuntime) -> Result<(), Fail> {
+fn settings_are_taken_after_a_refused_growth(rt: HostRuntime) {
     for (base, edge, workers, answer) in [
         ("http://localhost/iiif", 2u32, 2u32, Ok(true)),
         ("http://localhost/iiif", 5, 2, Err(ConfigFault::Edge)),
@@ -83,39 +98,48 @@ fn settings_are_taken_after_a_refused_growth(rt: HostRuntime) -> Result<(), Fail
         let taken = are_taken(rt.alloc(), base, edge, workers);
         assert!(rt; taken == answer, "edge {edge}, {workers} workers");
     }
-    Ok(())
 }
 
-/// Takes the sample into a catalogue.
+/// Why the sample isn't taken into a catalogue under a name, if it isn't.
 fn add(
     alloc: Global,
     catalogue: &mut Catalogue<(), MemSource>,
     name: &str,
-) -> Result<Result<(), AddFault>, Fail> {
-    let name = String::from_str(alloc, name)?;
-    let source = MemSource::new(Vec::from_slice(alloc, &SAMPLE)?);
+) -> Option<Result<(), AddFault>> {
+    let name = String::from_str(alloc, name).ok()?;
+    let source = MemSource::new(Vec::from_slice(alloc, &SAMPLE).ok()?);
     let Ok(layout) = open(&(), alloc, &source) else {
-        return Err(Fail::from("the sample is refused"));
+        return None;
     };
-    Ok(catalogue.add(name, source, layout))
+    Some(catalogue.add(name, source, layout))
 }
 
 #[test]
-fn names_are_taken_once(rt: HostRuntime) -> Result<(), Fail> {
-    let alloc = rt.alloc();
-    let mut catalogue = Catalogue::new(alloc);
+fn names_are_taken_once(rt: HostRuntime) {
+    let mut catalogue = Catalogue::new(rt.alloc());
     for (name, answer) in [
         ("", Err(AddFault::Name)),
         ("a", Ok(())),
         ("a", Err(AddFault::Twice)),
     ] {
-        assert_eq!(rt; add(alloc, &mut catalogue, name)?, answer);
+        assert!(rt;
+            add(rt.alloc(), &mut catalogue, name) == Some(answer),
+            "{name}"
+        );
     }
     assert!(rt; catalogue.has("a") && catalogue.find("b").is_none());
-    assert_eq!(rt; AddFault::Twice.number(), 2);
-    assert_eq!(rt;
-        format!(in alloc; "{}", ConfigFault::NoMemory)?.as_str(),
-        "out of memory"
-    );
-    Ok(())
+}
+
+/// Whether a fault says this.
+fn says(alloc: Global, fault: ConfigFault, text: &str) -> bool {
+    match format!(in alloc; "{fault}") {
+        Ok(said) => said.as_str() == text,
+        Err(_) => false,
+    }
+}
+
+#[test]
+fn faults_are_told(rt: HostRuntime) {
+    assert!(rt; says(rt.alloc(), ConfigFault::NoMemory, "out of memory"));
+    assert!(rt; AddFault::Twice.number() == 2);
 }
