@@ -1,7 +1,7 @@
 //! Viewers over loopback, and what the node counted for them.
 
 use crate::files::{LARGE_HEAD, SAMPLE_FILE};
-use crate::nodes::{Counts, SAMPLE, Scene};
+use crate::nodes::{SAMPLE, Scene};
 use crate::run::{BASE, Said, Text, says};
 use crate::visits::{Sends, address_of, served};
 use iiif_open_files::Opens;
@@ -15,29 +15,25 @@ use std::test::Fail;
 use std::thread::Threads;
 
 /// Three requests, and what they are answered.
-const REQUESTS: &str =
-    "GET /iiif/a HTTP/1.1\r\nHost: localhost\r\n\r\nPOST /iiif/a HTTP/1.1\r\nHost: localhost\r\n\r\nHEAD /iiif/a/full/max/0/default.tif HTTP/1.1\r\nHost: localhost\r\n\r\n";
+const REQUESTS: &[u8] =
+    b"GET /iiif/a HTTP/1.1\r\nHost: localhost\r\n\r\nPOST /iiif/a HTTP/1.1\r\nHost: localhost\r\n\r\nHEAD /iiif/a/full/max/0/default.tif HTTP/1.1\r\nHost: localhost\r\n\r\n";
 
-const ANSWERS: &str =
-    "HTTP/1.1 303 See Other\r\nAccess-Control-Allow-Origin: *\r\nLocation: http://localhost/iiif/a/info.json\r\nContent-Length: 0\r\n\r\nHTTP/1.1 405 Method Not Allowed\r\nContent-Type: text/plain\r\nAccess-Control-Allow-Origin: *\r\nAllow: GET, HEAD\r\nContent-Length: 10\r\n\r\nQ2 method\nHTTP/1.1 200 OK\r\nContent-Type: image/tiff\r\nAccess-Control-Allow-Origin: *\r\nLink: <http://localhost/iiif/a/full/max/0/default.tif>;rel=\"canonical\"\r\nContent-Length: 190\r\n\r\n";
+const ANSWERS: &[u8] =
+    b"HTTP/1.1 303 See Other\r\nAccess-Control-Allow-Origin: *\r\nLocation: http://localhost/iiif/a/info.json\r\nContent-Length: 0\r\n\r\nHTTP/1.1 405 Method Not Allowed\r\nContent-Type: text/plain\r\nAccess-Control-Allow-Origin: *\r\nAllow: GET, HEAD\r\nContent-Length: 10\r\n\r\nQ2 method\nHTTP/1.1 200 OK\r\nContent-Type: image/tiff\r\nAccess-Control-Allow-Origin: *\r\nLink: <http://localhost/iiif/a/full/max/0/default.tif>;rel=\"canonical\"\r\nContent-Length: 190\r\n\r\n";
 
-#[test]
-fn three_requests_over_loopback(rt: HostRuntime) {
-    // Also where the viewer stays: then the server leaves it in the end.
-    for ends in [true, false] {
-        let viewer = Sends {
-            request: REQUESTS.as_bytes(),
-            ends,
-            wanted: Text::Is(ANSWERS.as_bytes()),
-        };
-        // No group was asked for anything.
-        let counts = served(&rt, &SAMPLE, &viewer);
-        assert!(rt;
-            matches!(counts, Some(Counts { gets: 0, .. })),
-            "{ends} {counts:?}"
-        );
-    }
-}
+/// Who makes them, and says that they are the last.
+const THREE: Sends<'static> = Sends {
+    request: REQUESTS,
+    ends: true,
+    wanted: Text::Is(ANSWERS),
+};
+
+/// Who makes them and stays: then the server leaves it in the end.
+const THREE_AND_STAYS: Sends<'static> = Sends {
+    request: REQUESTS,
+    ends: false,
+    wanted: Text::Is(ANSWERS),
+};
 
 /// A refused request, and 10,000 bytes behind it.
 fn long_request(alloc: Global) -> Result<Vec<u8>, Fail> {
@@ -73,17 +69,6 @@ const TWICE: Sends<'static> = Sends {
     wanted: Text::Framed(b"", &SAMPLE_FILE),
 };
 
-#[test]
-fn image_is_loaded_once_for_all_viewers(rt: HostRuntime) {
-    let expected = Counts {
-        gets: 8,
-        hits: 4,
-        loads: 4,
-        peer: 0,
-    };
-    assert_eq!(rt; served(&rt, &SAMPLE, &TWICE), Some(expected));
-}
-
 /// The mean of the sample's sixteen places by GET: of tiles of one place each it is a block of level 2.
 const MEAN: Sends<'static> = Sends {
     request: b"GET /iiif/a/full/1,1/0/default.tif HTTP/1.1\r\nConnection: close\r\n\r\n",
@@ -91,21 +76,28 @@ const MEAN: Sends<'static> = Sends {
     wanted: Text::Framed(b"HTTP/1.1 200 OK\r\n", &[75]),
 };
 
+/// The sample at tiles of one place each.
+const PLACES: Scene<'static, 'static> = Scene { edge: 1, ..SAMPLE };
+
+/// Scenes, viewers, and what is counted then. No group is asked for anything of three requests without an image's samples. Of an image
+/// that is asked for twice each of four tiles is loaded once for all viewers. Of the mean parts are asked first: each of two workers asks
+/// for the 16 blocks of level 0. Then the block is asked for, which asks for 4 of level 1, and these for the 16 again, which are kept by
+/// now. Each of the 21 blocks is made once, the 16 of their tiles, which are asked for and loaded once.
+const VIEWERS: [(Scene<'static, 'static>, Sends<'static>, [Option<u64>; 4]); 4] = [
+    (SAMPLE, THREE, [Some(0), None, None, None]),
+    (SAMPLE, THREE_AND_STAYS, [Some(0), None, None, None]),
+    (SAMPLE, TWICE, [Some(8), Some(4), Some(4), Some(0)]),
+    (PLACES, MEAN, [Some(69), None, Some(37), Some(0)]),
+];
+
 #[test]
-fn parts_are_asked_first(rt: HostRuntime) {
-    // Each of two workers asks for the 16 blocks of level 0. Then the block is asked for, which asks for 4 of level 1, and these for the
-    // 16 again, which are kept by now. Each of the 21 blocks is made once, the 16 of their tiles, which are asked for and loaded once.
-    let counts = served(&rt, &Scene { edge: 1, ..SAMPLE }, &MEAN);
-    let as_told = matches!(
-        counts,
-        Some(Counts {
-            gets: 69,
-            loads: 37,
-            peer: 0,
-            ..
-        })
-    );
-    assert!(rt; as_told, "{counts:?}");
+fn parts_are_asked_first_and_loaded_once(rt: HostRuntime) {
+    for (scene, viewer, known) in VIEWERS {
+        match served(&rt, &scene, &viewer) {
+            Some(counts) => assert!(rt; counts.are(known), "{counts:?}"),
+            None => assert!(rt; false, "not answered"),
+        }
+    }
 }
 
 /// Whether the program ends where it can't listen at these addresses: one for viewers, and perhaps another behind an option.
@@ -125,11 +117,7 @@ where
         words.push(address)?;
     }
     words.push("a=:sample")?;
-    let said = Said {
-        status: 1,
-        out: Text::Is(b""),
-        err: Text::Is(b"run: listen\n"),
-    };
+    let said = Said::Ends(1, Text::Is(b""), Text::Is(b"run: listen\n"));
     Ok(says(rt, &words, said))
 }
 

@@ -63,6 +63,19 @@ pub(crate) struct Counts {
     pub peer: u64,
 }
 
+impl Counts {
+    /// Whether they are these, each where it is known: gets, hits, loads and values of peers.
+    pub(crate) fn are(self, known: [Option<u64>; 4]) -> bool {
+        let counted = [self.gets, self.hits, self.loads, self.peer];
+        for (known, count) in known.into_iter().zip(counted) {
+            if known.unwrap_or(count) != count {
+                return false;
+            }
+        }
+        true
+    }
+}
+
 /// What a node counted so far.
 fn counted<R: Opens + Wait, J: System, N, T>(rt: &R, node: &Node<R, Stored, J, N, T>) -> Counts {
     let tiles = node.groups().tiles().group().book(rt);

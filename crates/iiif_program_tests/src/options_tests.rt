@@ -2,10 +2,7 @@
 
 use crate::files::{DEEP, RGB, SAMPLE_FILE, WHITE};
 use crate::nodes::{SAMPLE, Scene};
-use crate::run::{
-    BASE, Said, Text, WHOLE, answer, each_answers, each_is_at_fault, each_is_told, each_says, says,
-    whole_fault, written,
-};
+use crate::run::{BASE, Case, Group, Said, Text, WHOLE, each_says, says, written};
 use crate::visits::{Visit, is_sent, served};
 use iiif_image_list::ImageList;
 use iiif_io::fakes::FailingWriter;
@@ -33,93 +30,39 @@ const LISTED: [(&str, &[u8]); 3] = [
 ];
 
 /// Targets, perhaps beside an image of the words, and what is answered.
-const OF_LIST: [(&[&str], Text<'_>); 6] = [
-    (&[WHOLE, "a=:sample"], Text::Is(&SAMPLE_FILE)),
+const OF_LIST: [Case; 6] = [
+    (&[WHOLE, "a=:sample"], Said::Answer(Text::Is(&SAMPLE_FILE))),
     (
         &["/iiif/b/full/max/0/default.tif", "a=:sample"],
-        Text::Is(&RGB),
+        Said::Answer(Text::Is(&RGB)),
     ),
     (
         &["/iiif/d/full/max/0/default.tif", "a=:sample"],
-        Text::Is(&WHITE),
+        Said::Answer(Text::Is(&WHITE)),
     ),
     (
         &["/iiif/e/full/max/0/default.tif", "a=:sample"],
-        Text::Is(&SAMPLE_FILE),
+        Said::Answer(Text::Is(&SAMPLE_FILE)),
     ),
     (
         &["/iiif/c/full/max/0/default.tif", "a=:sample"],
-        Text::Is(b"Q4 identifier\n"),
-    ),
-    (&["/iiif/b/full/max/0/default.tif"], Text::Is(&RGB)),
-];
-
-#[test]
-fn images_of_a_list_come_behind_those_of_the_words(rt: HostRuntime) -> Result<(), Fail> {
-    written(&rt, &LISTED)?;
-    let words = ["--base", BASE, "--images", "option_list", "--one"];
-    each_answers(&rt, &words, &OF_LIST)
-}
-
-/// Lists, and what is said of each beside the word `a=:sample`.
-const BAD_LISTS: [(&[u8], &str); 7] = [
-    (
-        b"b=x\n\n# c\nd\n",
-        "line: image\nline 4: there is no = between a name and a file\n",
+        Said::Answer(Text::Is(b"Q4 identifier\n")),
     ),
     (
-        b"b=x\r\n=y\r\n",
-        "line: image\nline 2: a name has 1 to 1,024 bytes\n",
-    ),
-    (
-        b"b=x\nc=y\nb=z\n",
-        "line: image\nline 3: there is an image of that name\n",
-    ),
-    (
-        b"\na=:sample\n",
-        "line: image\nline 2: there is an image of that name\n",
-    ),
-    (
-        b"d\nb=x\n\xff=y\n",
-        "line: image\nline 3: the text isn't UTF-8\n",
-    ),
-    (
-        b"b=nowhere.tif\n",
-        "image b: 0\nit can't be opened: look at the path and at the rights of the user that the server runs as\n",
-    ),
-    (
-        b"b=:sample\nc",
-        "line: image\nline 2: there is no = between a name and a file\n",
+        &["/iiif/b/full/max/0/default.tif"],
+        Said::Answer(Text::Is(&RGB)),
     ),
 ];
-
-#[test]
-fn line_of_a_list_is_named_by_its_number(rt: HostRuntime) -> Result<(), Fail> {
-    let words = [
-        "--base",
-        BASE,
-        "--images",
-        "option_bad_list",
-        "--one",
-        WHOLE,
-        "a=:sample",
-    ];
-    for (list, said) in BAD_LISTS {
-        fs::write(&rt, "option_bad_list", list)?;
-        assert!(rt; says(&rt, &words, whole_fault(said)), "{said}");
-    }
-    Ok(())
-}
 
 /// Words whose list can't be read or names no image, and what is said of them.
-const UNREAD: [(&[&str], &str); 5] = [
+const UNREAD: [Case; 5] = [
     (
         &["--base", BASE, "--images", "option_nowhere", "--one", WHOLE],
-        "line: image\noption_nowhere can't be read\n",
+        Said::WholeFault("line: image\noption_nowhere can't be read\n"),
     ),
     (
         &["--base", BASE, "--images", "option_nowhere", "--hex"],
-        "line: image\noption_nowhere can't be read\n",
+        Said::WholeFault("line: image\noption_nowhere can't be read\n"),
     ),
     (
         &[
@@ -131,7 +74,7 @@ const UNREAD: [(&[&str], &str); 5] = [
             WHOLE,
             "a=:sample",
         ],
-        "line: image\noption_nowhere can't be read\n",
+        Said::WholeFault("line: image\noption_nowhere can't be read\n"),
     ),
     (
         &[
@@ -142,7 +85,7 @@ const UNREAD: [(&[&str], &str); 5] = [
             "--open-files",
             "0",
         ],
-        "line: open-files\n--open-files is a number of files, 1 to 65536\n",
+        Said::WholeFault("line: open-files\n--open-files is a number of files, 1 to 65536\n"),
     ),
     (
         &[
@@ -153,15 +96,11 @@ const UNREAD: [(&[&str], &str); 5] = [
             "--one",
             WHOLE,
         ],
-        "line: image\nat least one NAME=FILE, here or in the file of --images, with a name of 1 to 1024 bytes that stands once\n",
+        Said::WholeFault(
+            "line: image\nat least one NAME=FILE, here or in the file of --images, with a name of 1 to 1024 bytes that stands once\n",
+        ),
     ),
 ];
-
-#[test]
-fn list_that_cannot_be_read_is_told_where_images_are(rt: HostRuntime) -> Result<(), Fail> {
-    written(&rt, &[("option_empty_list", b"# none\n")])?;
-    each_is_told(&rt, &[], &UNREAD)
-}
 
 /// How many images there are where there is room for four open files.
 const MANY: u16 = 300;
@@ -269,7 +208,7 @@ where
         target.as_str(),
     ];
     let file = numbered(number);
-    Ok(says(rt, &words, answer(Text::Is(&file))))
+    Ok(says(rt, &words, Said::Answer(Text::Is(&file))))
 }
 
 #[test]
@@ -296,16 +235,16 @@ const CHECKED: [(&str, &[u8]); 5] = [
 ];
 
 /// Words behind `--check`, and what is said: on standard output alone.
-const CHECKS: [(&[&str], Said<'_>); 2] = [
+const CHECKS: [Case; 2] = [
     (
         &["--images", "option_good", "a=:sample", "b=option_rgb.tif"],
-        Said {
-            status: 0,
-            out: Text::Is(
+        Said::Ends(
+            0,
+            Text::Is(
                 b"a: 4 by 4, gray, 8 bits\nb: 2 by 1, RGB, 8 bits\nc: 2 by 1, gray, 16 bits\n",
             ),
-            err: Text::Is(b""),
-        },
+            Text::Is(b""),
+        ),
     ),
     (
         &[
@@ -315,21 +254,15 @@ const CHECKS: [(&[&str], Said<'_>); 2] = [
             "option_both",
             "b=option_rgb.tif",
         ],
-        Said {
-            status: 2,
-            out: Text::Is(
+        Said::Ends(
+            2,
+            Text::Is(
                 b"b: 2 by 1, RGB, 8 bits\nimage d: 1\nit is no TIFF file of the classic kind: tiffcp -c none IN.tif OUT.tif for BigTIFF, vips copy IN OUT.tif for other formats\nimage e: 0\nit can't be opened: look at the path and at the rights of the user that the server runs as\nf: 4 by 4, gray, 8 bits\n",
             ),
-            err: Text::Is(b""),
-        },
+            Text::Is(b""),
+        ),
     ),
 ];
-
-#[test]
-fn check_says_what_each_image_is(rt: HostRuntime) -> Result<(), Fail> {
-    written(&rt, &CHECKED)?;
-    each_says(&rt, &["--base", BASE, "--check"], &CHECKS)
-}
 
 /// Whether a check whose standard output has so much room fills it, and ends with the line that it can't write.
 fn fills<R>(rt: &R, room: usize) -> bool
@@ -367,97 +300,206 @@ fn check_that_cannot_write_fails(rt: HostRuntime) {
 }
 
 /// What is said of wrong words: the line, and what to do.
-const REMEDIES: [(&[&str], &str); 10] = [
+const REMEDIES: [Case; 10] = [
     (
         &["--base", "localhost"],
-        "line: base\n--base is http:// or https://, a host, and no / at the end, as --base http://localhost:8080/iiif\n",
+        Said::WholeFault(
+            "line: base\n--base is http:// or https://, a host, and no / at the end, as --base http://localhost:8080/iiif\n",
+        ),
     ),
     (
         &["--base", BASE, "--edge", "1025"],
-        "line: edge\n--edge is 1 to 1024, and at most --max\n",
+        Said::WholeFault("line: edge\n--edge is 1 to 1024, and at most --max\n"),
     ),
     (
         &["--base", BASE, "--max", "16385"],
-        "line: max\n--max is 1 to 16384\n",
+        Said::WholeFault("line: max\n--max is 1 to 16384\n"),
     ),
     (
         &["--base", BASE, "--cache-bytes", "1099511627777"],
-        "line: cache\n--cache-bytes is a number of bytes, 0 to 1099511627776\n",
+        Said::WholeFault("line: cache\n--cache-bytes is a number of bytes, 0 to 1099511627776\n"),
     ),
     (
         &["--base", BASE, "--band", "16385"],
-        "line: band\n--band is a number of rows, 1 to 16384\n",
+        Said::WholeFault("line: band\n--band is a number of rows, 1 to 16384\n"),
     ),
     (
         &["--base", BASE, "--workers", "17"],
-        "line: workers\n--workers is a number of threads, 1 to 16\n",
+        Said::WholeFault("line: workers\n--workers is a number of threads, 1 to 16\n"),
     ),
     (
         &["--base", BASE, "--open-files", "65537"],
-        "line: open-files\n--open-files is a number of files, 1 to 65536\n",
+        Said::WholeFault("line: open-files\n--open-files is a number of files, 1 to 65536\n"),
     ),
     (
         &["--base", BASE, "b"],
-        "line: image\nat least one NAME=FILE, here or in the file of --images, with a name of 1 to 1024 bytes that stands once\n",
+        Said::WholeFault(
+            "line: image\nat least one NAME=FILE, here or in the file of --images, with a name of 1 to 1024 bytes that stands once\n",
+        ),
     ),
     (
         &["--base", BASE, "a=:sample", "--peer", "p"],
-        "line: peer\n--peer is NAME=ADDR with a port at its end, at most 63 times; it and --name have names of 1 to 255 bytes that stand once\n",
+        Said::WholeFault(
+            "line: peer\n--peer is NAME=ADDR with a port at its end, at most 63 times; it and --name have names of 1 to 255 bytes that stand once\n",
+        ),
     ),
     (
         &["--base", BASE, "a=:sample"],
-        "line: mode\none of --listen ADDR, --one TARGET and --check; --hex only with --one; --peer-listen, --log and --stats-listen only with --listen\n",
+        Said::WholeFault(
+            "line: mode\none of --listen ADDR, --one TARGET and --check; --hex only with --one; --peer-listen, --log and --stats-listen only with --listen\n",
+        ),
     ),
 ];
-
-#[test]
-fn second_line_says_what_to_do(rt: HostRuntime) -> Result<(), Fail> {
-    each_is_told(&rt, &[], &REMEDIES)
-}
 
 /// Options that don't go together.
-const APART: [(&[&str], &str); 12] = [
-    (&["--check", "--one", WHOLE], "line: mode\n"),
-    (&["--check", "--listen", "x"], "line: mode\n"),
-    (&["--check", "--hex"], "line: mode\n"),
-    (&["--check", "--log"], "line: mode\n"),
-    (&["--check", "--stats-listen", "x"], "line: mode\n"),
-    (&["--check", "--peer-listen", "x"], "line: mode\n"),
-    (&["--one", WHOLE, "--log"], "line: mode\n"),
-    (&["--one", WHOLE, "--stats-listen", "x"], "line: mode\n"),
-    (&["--log"], "line: mode\n"),
-    (&["--stats-listen", "x"], "line: mode\n"),
-    (&["--listen", "x", "--hex", "--log"], "line: mode\n"),
+const APART: [Case; 12] = [
+    (&["--check", "--one", WHOLE], Said::Fault("line: mode\n")),
+    (&["--check", "--listen", "x"], Said::Fault("line: mode\n")),
+    (&["--check", "--hex"], Said::Fault("line: mode\n")),
+    (&["--check", "--log"], Said::Fault("line: mode\n")),
+    (
+        &["--check", "--stats-listen", "x"],
+        Said::Fault("line: mode\n"),
+    ),
+    (
+        &["--check", "--peer-listen", "x"],
+        Said::Fault("line: mode\n"),
+    ),
+    (&["--one", WHOLE, "--log"], Said::Fault("line: mode\n")),
+    (
+        &["--one", WHOLE, "--stats-listen", "x"],
+        Said::Fault("line: mode\n"),
+    ),
+    (&["--log"], Said::Fault("line: mode\n")),
+    (&["--stats-listen", "x"], Said::Fault("line: mode\n")),
+    (
+        &["--listen", "x", "--hex", "--log"],
+        Said::Fault("line: mode\n"),
+    ),
     (
         &["--listen", "x", "--one", WHOLE, "--check"],
-        "line: mode\n",
+        Said::Fault("line: mode\n"),
     ),
 ];
 
-#[test]
-fn options_that_do_not_go_together_are_told(rt: HostRuntime) -> Result<(), Fail> {
-    each_is_at_fault(&rt, &["--base", BASE, "a=:sample"], &APART)
-}
-
 /// Numbers of open files, and the status with which the program ends.
-const OPEN_FILES: [(&str, u8); 5] = [("0", 2), ("1", 0), ("65536", 0), ("65537", 2), ("many", 2)];
+const OPEN_FILES: [Case; 5] = [
+    (&["0", "a=:sample"], Said::Ends(2, Text::Any, Text::Any)),
+    (&["1", "a=:sample"], Said::Ends(0, Text::Any, Text::Any)),
+    (&["65536", "a=:sample"], Said::Ends(0, Text::Any, Text::Any)),
+    (&["65537", "a=:sample"], Said::Ends(2, Text::Any, Text::Any)),
+    (&["many", "a=:sample"], Said::Ends(2, Text::Any, Text::Any)),
+];
+
+/// The words of the sample beside a list.
+const BESIDE_A_LIST: [&str; 7] = [
+    "--base",
+    BASE,
+    "--images",
+    "option_bad_list",
+    "--one",
+    WHOLE,
+    "a=:sample",
+];
+
+/// Images of a list come behind those of the words; lists, whose wrong line is named by its number; a list that can't be read; checks of
+/// all images; what to do about a wrong word; options that don't go together; limits on open files.
+const GROUPS: [Group; 13] = [
+    Group {
+        files: &LISTED,
+        front: &["--base", BASE, "--images", "option_list", "--one"],
+        cases: &OF_LIST,
+    },
+    Group {
+        files: &[("option_bad_list", b"b=x\n\n# c\nd\n")],
+        front: &BESIDE_A_LIST,
+        cases: &[(
+            &[],
+            Said::WholeFault("line: image\nline 4: there is no = between a name and a file\n"),
+        )],
+    },
+    Group {
+        files: &[("option_bad_list", b"b=x\r\n=y\r\n")],
+        front: &BESIDE_A_LIST,
+        cases: &[(
+            &[],
+            Said::WholeFault("line: image\nline 2: a name has 1 to 1,024 bytes\n"),
+        )],
+    },
+    Group {
+        files: &[("option_bad_list", b"b=x\nc=y\nb=z\n")],
+        front: &BESIDE_A_LIST,
+        cases: &[(
+            &[],
+            Said::WholeFault("line: image\nline 3: there is an image of that name\n"),
+        )],
+    },
+    Group {
+        files: &[("option_bad_list", b"\na=:sample\n")],
+        front: &BESIDE_A_LIST,
+        cases: &[(
+            &[],
+            Said::WholeFault("line: image\nline 2: there is an image of that name\n"),
+        )],
+    },
+    Group {
+        files: &[("option_bad_list", b"d\nb=x\n\xff=y\n")],
+        front: &BESIDE_A_LIST,
+        cases: &[(
+            &[],
+            Said::WholeFault("line: image\nline 3: the text isn't UTF-8\n"),
+        )],
+    },
+    Group {
+        files: &[("option_bad_list", b"b=nowhere.tif\n")],
+        front: &BESIDE_A_LIST,
+        cases: &[(
+            &[],
+            Said::WholeFault(
+                "image b: 0\nit can't be opened: look at the path and at the rights of the user that the server runs as\n",
+            ),
+        )],
+    },
+    Group {
+        files: &[("option_bad_list", b"b=:sample\nc")],
+        front: &BESIDE_A_LIST,
+        cases: &[(
+            &[],
+            Said::WholeFault("line: image\nline 2: there is no = between a name and a file\n"),
+        )],
+    },
+    Group {
+        files: &[("option_empty_list", b"# none\n")],
+        front: &[],
+        cases: &UNREAD,
+    },
+    Group {
+        files: &CHECKED,
+        front: &["--base", BASE, "--check"],
+        cases: &CHECKS,
+    },
+    Group {
+        files: &[],
+        front: &[],
+        cases: &REMEDIES,
+    },
+    Group {
+        files: &[],
+        front: &["--base", BASE, "a=:sample"],
+        cases: &APART,
+    },
+    Group {
+        files: &[],
+        front: &["--base", BASE, "--check", "--open-files"],
+        cases: &OPEN_FILES,
+    },
+];
 
 #[test]
-fn open_files_have_their_limits(rt: HostRuntime) {
-    for (count, status) in OPEN_FILES {
-        let words = [
-            "--base",
-            BASE,
-            "--check",
-            "--open-files",
-            count,
-            "a=:sample",
-        ];
-        let said = Said {
-            status,
-            out: Text::Any,
-            err: Text::Any,
-        };
-        assert!(rt; says(&rt, &words, said), "{count}");
+fn options_are_answered_or_told(rt: HostRuntime) -> Result<(), Fail> {
+    for group in GROUPS {
+        written(&rt, group.files)?;
+        each_says(&rt, &group)?;
     }
+    Ok(())
 }

@@ -3,7 +3,7 @@
 use crate::files::DEEP;
 use crate::nodes::{Counts, SAMPLE, Scene};
 use crate::run::Text;
-use crate::visits::{ANY, Visit, address_of, connected, is_sent, serve, served};
+use crate::visits::{ANY, Visit, address_of, beside, connected, is_sent, served};
 use iiif_listener::stop;
 use iiif_open_files::Opens;
 use iiif_peer_wire::{Version, read_ask};
@@ -13,6 +13,7 @@ use std::alloc::Global;
 use std::io::{Read, Write};
 use std::net::{Net, TcpListener, TcpStream};
 use std::sync::Wait;
+use std::sync::atomic::{AtomicU64, Ordering};
 use std::test::Fail;
 use std::thread::Threads;
 use std::time::{Clock, Duration};
@@ -27,30 +28,37 @@ fn is_halved<R: Net<Stream = TcpStream>>(rt: &R, alloc: Global, listener: &TcpLi
     is_sent(rt, alloc, listener, HALVED, false, wanted)
 }
 
-/// Whether two nodes answer that rightly at once. Then both are stopped.
-fn both_answer<R>(rt: &R, alloc: Global, first: &Listeners, second: &Listeners) -> bool
+/// A viewer of two nodes, who are to answer that rightly at once.
+#[derive(Clone, Copy)]
+struct OfBoth<'a> {
+    first: &'a Listeners,
+}
+
+impl<'a, R> Visit<R> for OfBoth<'a>
 where
     R: Net<Listener = TcpListener, Stream = TcpStream> + Threads + Sync,
 {
-    let (one, two) = thread::join(
-        rt,
-        || is_halved(rt, alloc, &first.viewers),
-        || is_halved(rt, alloc, &second.viewers),
-    );
-    first.stop();
-    second.stop();
-    one && two
+    fn is_right(&self, rt: &R, alloc: Global, second: &Listeners) -> bool {
+        let first = self.first;
+        let both = thread::join(
+            rt,
+            || is_halved(rt, alloc, &first.viewers),
+            || is_halved(rt, alloc, &second.viewers),
+        );
+        both == (true, true)
+    }
 }
 
-/// Serves by the second of them, for which the first owns each key, while both are asked: how many values of the first it took, and
-/// whether both answered.
-fn second_served<R>(
-    rt: &R,
-    alloc: Global,
-    to_first: &str,
-    first: &Listeners,
-    second: &Listeners,
-) -> (Option<Counts>, bool)
+/// A second node at its listeners, for which the first owns each key, beside which both are asked. How many values of the first it took
+/// is added here.
+#[derive(Clone, Copy)]
+struct Second<'a> {
+    to_first: &'a str,
+    listeners: &'a Listeners,
+    taken: &'a AtomicU64,
+}
+
+impl<'a, R> Visit<R> for Second<'a>
 where
     R: Opens
         + Net<Listener = TcpListener, Stream = TcpStream>
@@ -60,44 +68,19 @@ where
         + Sync
         + AllocGlobal,
 {
-    let scene = Scene {
-        owner: Some(to_first),
-        ..SAMPLE
-    };
-    thread::join(
-        rt,
-        || serve(rt, alloc, &scene, second),
-        || both_answer(rt, alloc, first, second),
-    )
-}
-
-/// The same, by the first too, for which the second owns each key.
-fn both_served<R>(
-    rt: &R,
-    alloc: Global,
-    to_first: &str,
-    to_second: &str,
-    first: &Listeners,
-    second: &Listeners,
-) -> (Option<Counts>, (Option<Counts>, bool))
-where
-    R: Opens
-        + Net<Listener = TcpListener, Stream = TcpStream>
-        + Threads
-        + Wait
-        + Clock
-        + Sync
-        + AllocGlobal,
-{
-    let scene = Scene {
-        owner: Some(to_second),
-        ..SAMPLE
-    };
-    thread::join(
-        rt,
-        || serve(rt, alloc, &scene, first),
-        || second_served(rt, alloc, to_first, first, second),
-    )
+    fn is_right(&self, rt: &R, alloc: Global, first: &Listeners) -> bool {
+        let scene = Scene {
+            owner: Some(self.to_first),
+            ..SAMPLE
+        };
+        match beside(rt, alloc, &scene, self.listeners, &OfBoth { first }) {
+            Some(counts) => {
+                self.taken.store(counts.peer, Ordering::SeqCst);
+                true
+            }
+            None => false,
+        }
+    }
 }
 
 /// Listeners for viewers and for other nodes.
@@ -121,8 +104,14 @@ fn peer_address(alloc: Global, listeners: &Listeners) -> Result<String, Fail> {
     }
 }
 
-/// How many values two nodes took from each other that hold each other for the owner of each key, where both answer rightly at once.
-fn taken_by_both<R>(rt: &R) -> Result<u64, Fail>
+/// How many values a first node took, for which a second owns each key, and how many that one took, where both answered.
+fn taken_by_both<R>(
+    rt: &R,
+    first: &Listeners,
+    second: &Listeners,
+    to_first: &str,
+    to_second: &str,
+) -> Option<u64>
 where
     R: Opens
         + Net<Listener = TcpListener, Stream = TcpStream>
@@ -132,21 +121,29 @@ where
         + Sync
         + AllocGlobal,
 {
-    let alloc = rt.alloc();
-    let (first, second) = (two_listeners(rt)?, two_listeners(rt)?);
-    let to_first = peer_address(alloc, &first)?;
-    let to_second = peer_address(alloc, &second)?;
-    match both_served(rt, alloc, &to_first, &to_second, &first, &second) {
-        (Some(one), (Some(two), true)) => Ok(one.peer.saturating_add(two.peer)),
-        _ => Err(Fail::from("no node, or no right answer")),
-    }
+    let scene = Scene {
+        owner: Some(to_second),
+        ..SAMPLE
+    };
+    let taken = AtomicU64::new(0);
+    let visit = Second {
+        to_first,
+        listeners: second,
+        taken: &taken,
+    };
+    let counts = beside(rt, rt.alloc(), &scene, first, &visit)?;
+    Some(counts.peer.saturating_add(taken.load(Ordering::SeqCst)))
 }
 
 #[test]
 fn nodes_that_hold_each_other_for_the_owner_answer_rightly_at_once(
     rt: HostRuntime,
 ) -> Result<(), Fail> {
-    assert!(rt; taken_by_both(&rt)? > 0);
+    let (first, second) = (two_listeners(&rt)?, two_listeners(&rt)?);
+    let to_first = peer_address(rt.alloc(), &first)?;
+    let to_second = peer_address(rt.alloc(), &second)?;
+    let taken = taken_by_both(&rt, &first, &second, &to_first, &to_second);
+    assert!(rt; taken.unwrap_or(0) > 0);
     Ok(())
 }
 
@@ -253,72 +250,36 @@ struct BesideOwner<'a> {
     wanted: Text<'a>,
 }
 
-/// Whether the owner is asked well, and whether the viewer is answered what is wanted.
-fn asked_and_answered<R>(
-    rt: &R,
-    alloc: Global,
-    visit: BesideOwner<'_>,
-    viewers: &TcpListener,
-) -> (bool, bool)
+impl<'a, R> Visit<R> for BesideOwner<'a>
 where
     R: Net<Listener = TcpListener, Stream = TcpStream> + Threads + Clock + Sync,
 {
-    let BesideOwner {
-        owner,
-        way,
-        request,
-        wanted,
-    } = visit;
-    thread::join(
-        rt,
-        || take_one(rt, alloc, owner, way),
-        || {
-            let is_answered = is_sent(rt, alloc, viewers, request, false, wanted);
-            // So that the node ends, and leaves the owner.
-            stop(viewers);
-            // So that the owner doesn't wait for an ask that never came.
-            stop(owner);
-            is_answered
-        },
-    )
-}
-
-/// Serves by a node meanwhile: what it counted, and what of that is so.
-fn served_beside<R>(
-    rt: &R,
-    alloc: Global,
-    scene: &Scene<'_, '_>,
-    listeners: &Listeners,
-    visit: BesideOwner<'_>,
-) -> (Option<Counts>, (bool, bool))
-where
-    R: Opens
-        + Net<Listener = TcpListener, Stream = TcpStream>
-        + Threads
-        + Wait
-        + Clock
-        + Sync
-        + AllocGlobal,
-{
-    thread::join(
-        rt,
-        || serve(rt, alloc, scene, listeners),
-        || {
-            let seen = asked_and_answered(rt, alloc, visit, &listeners.viewers);
-            listeners.stop();
-            seen
-        },
-    )
+    fn is_right(&self, rt: &R, alloc: Global, listeners: &Listeners) -> bool {
+        let BesideOwner {
+            owner,
+            way,
+            request,
+            wanted,
+        } = *self;
+        let viewers = &listeners.viewers;
+        let both = thread::join(
+            rt,
+            || take_one(rt, alloc, owner, way),
+            || {
+                let is_answered = is_sent(rt, alloc, viewers, request, false, wanted);
+                // So that the node ends, and leaves the owner.
+                stop(viewers);
+                // So that the owner doesn't wait for an ask that never came.
+                stop(owner);
+                is_answered
+            },
+        );
+        both == (true, true)
+    }
 }
 
 /// What a node counted whose peer owns every key and does so with the only ask, where it asked well and answered what is wanted.
-fn beside_owner<R>(
-    rt: &R,
-    way: Way,
-    images: &[(&str, &str)],
-    request: &[u8],
-    wanted: Text<'_>,
-) -> Result<Option<Counts>, Fail>
+fn beside_owner<R>(rt: &R, asked: Asked) -> Result<Option<Counts>, Fail>
 where
     R: Opens
         + Net<Listener = TcpListener, Stream = TcpStream>
@@ -328,6 +289,13 @@ where
         + Sync
         + AllocGlobal,
 {
+    let Asked {
+        way,
+        images,
+        request,
+        wanted,
+        ..
+    } = asked;
     let owner = TcpListener::bind(rt, ANY)?;
     let address = address_of(rt.alloc(), &owner)?;
     let scene = Scene {
@@ -345,11 +313,19 @@ where
         request,
         wanted,
     };
-    let listeners = two_listeners(rt)?;
-    match served_beside(rt, rt.alloc(), &scene, &listeners, visit) {
-        (counts, (true, true)) => Ok(counts),
-        _ => Ok(None),
-    }
+    Ok(served(rt, &scene, &visit))
+}
+
+/// What a peer does with the only ask, the images, a viewer's request and its answer, how many calls enter, and how many of the peer's
+/// values are taken.
+#[derive(Clone, Copy)]
+struct Asked {
+    way: Way,
+    images: &'static [(&'static str, &'static str)],
+    request: &'static [u8],
+    wanted: Text<'static>,
+    entered: u64,
+    taken: u64,
 }
 
 /// The tile (1, 1) of the sample as an image.
@@ -359,45 +335,71 @@ const CORNER: &[u8] =
 /// What it is answered.
 const CORNER_ANSWER: Text<'static> = Text::Framed(b"HTTP/1.1 200 OK\r\n", &[100, 110, 140, 150]);
 
-/// What a peer does, how many calls enter, and how many of the peer's values are taken. Where none is, the call enters once more, to
-/// load by itself.
-const WAYS: [(Way, u64, u64); 7] = [
-    (Way::Sends(CHANGED), 2, 0),
-    (Way::Sends(OTHER), 2, 0),
-    (Way::Sends(WIDE), 2, 0),
-    (Way::Closes, 2, 0),
-    (Way::IsSilent, 2, 0),
-    (Way::Drips, 2, 0),
-    (Way::Sends(RIGHT), 1, 1),
-];
+/// The tile (1, 1) of the sample is asked for. Where no value of the peer is taken, the call enters once more, to load by itself.
+const OF_CORNER: Asked = Asked {
+    way: Way::Closes,
+    images: &[("a", ":sample")],
+    request: CORNER,
+    wanted: CORNER_ANSWER,
+    entered: 2,
+    taken: 0,
+};
 
-/// Whether so many calls entered, and so many of a peer's values were taken.
-fn is_counted(counts: Option<Counts>, entered: u64, taken: u64) -> bool {
-    match counts {
-        Some(counts) => counts.gets == entered && counts.peer == taken,
-        None => false,
-    }
-}
+/// The same of a peer whose value is right.
+const OF_RIGHT: Asked = Asked {
+    way: Way::Sends(RIGHT),
+    entered: 1,
+    taken: 1,
+    ..OF_CORNER
+};
+
+/// A peer that closes on the second version, in which samples of 16 bits are asked for.
+const OF_DEEP: Asked = Asked {
+    way: Way::KnowsOneVersion,
+    images: &[("g", "sixteen.tif")],
+    request: b"GET /iiif/g/full/max/0/default.tif HTTP/1.1\r\nConnection: close\r\n\r\n",
+    wanted: Text::Framed(b"HTTP/1.1 200 OK\r\n", &[0, 0, 0xff, 0xff]),
+    entered: 2,
+    taken: 0,
+};
+
+/// What is asked of peers of any kind.
+const WAYS: [Asked; 8] = [
+    Asked {
+        way: Way::Sends(CHANGED),
+        ..OF_CORNER
+    },
+    Asked {
+        way: Way::Sends(OTHER),
+        ..OF_CORNER
+    },
+    Asked {
+        way: Way::Sends(WIDE),
+        ..OF_CORNER
+    },
+    OF_CORNER,
+    Asked {
+        way: Way::IsSilent,
+        ..OF_CORNER
+    },
+    Asked {
+        way: Way::Drips,
+        ..OF_CORNER
+    },
+    OF_RIGHT,
+    OF_DEEP,
+];
 
 #[test]
 fn peer_of_any_kind_leaves_the_answer_right(rt: HostRuntime) -> Result<(), Fail> {
-    for (way, entered, taken) in WAYS {
-        let counts = beside_owner(&rt, way, SAMPLE.images, CORNER, CORNER_ANSWER)?;
-        assert!(rt; is_counted(counts, entered, taken), "{way:?} {counts:?}");
-    }
-    Ok(())
-}
-
-#[test]
-fn peer_that_closes_on_the_second_version_leaves_the_answer_right(
-    rt: HostRuntime,
-) -> Result<(), Fail> {
     fs::write(&rt, "sixteen.tif", &DEEP)?;
-    let images = [("g", "sixteen.tif")];
-    let request = b"GET /iiif/g/full/max/0/default.tif HTTP/1.1\r\nConnection: close\r\n\r\n";
-    let wanted = Text::Framed(b"HTTP/1.1 200 OK\r\n", &[0, 0, 0xff, 0xff]);
-    let counts = beside_owner(&rt, Way::KnowsOneVersion, &images, request, wanted)?;
-    assert!(rt; is_counted(counts, 2, 0), "{counts:?}");
+    for asked in WAYS {
+        let known = [Some(asked.entered), None, None, Some(asked.taken)];
+        match beside_owner(&rt, asked)? {
+            Some(counts) => assert!(rt; counts.are(known), "{counts:?}"),
+            None => assert!(rt; false, "not asked well, or not answered"),
+        }
+    }
     Ok(())
 }
 
@@ -464,17 +466,24 @@ where
     Ok(counts)
 }
 
+/// Requests, how the answers end, and what is counted. The owner is gone, and wasn't asked for the node's ask; for the viewer the tile
+/// was there already.
+const BESIDE_A_DEAD_ONE: [(&[u8], &[u8], [Option<u64>; 4]); 2] = [
+    (
+        CORNER,
+        &[100, 110, 140, 150],
+        [Some(2), Some(1), Some(1), Some(0)],
+    ),
+    (HALVED, &[25, 45, 105, 125], [None; 4]),
+];
+
 #[test]
 fn viewers_and_nodes_share_what_is_loaded(rt: HostRuntime) -> Result<(), Fail> {
-    // The owner is gone, and wasn't asked for the node's ask; for the viewer the tile was there already.
-    let expected = Counts {
-        gets: 2,
-        hits: 1,
-        loads: 1,
-        peer: 0,
-    };
-    let counts = beside_a_dead_one(&rt, CORNER, &[100, 110, 140, 150])?;
-    assert!(rt; counts == Some(expected), "{counts:?}");
-    assert!(rt; beside_a_dead_one(&rt, HALVED, &[25, 45, 105, 125])?.is_some());
+    for (request, last, known) in BESIDE_A_DEAD_ONE {
+        match beside_a_dead_one(&rt, request, last)? {
+            Some(counts) => assert!(rt; counts.are(known), "{counts:?}"),
+            None => assert!(rt; false, "not answered"),
+        }
+    }
     Ok(())
 }

@@ -2,6 +2,7 @@
 
 use iiif_open_files::Opens;
 use iiif_program::program::program;
+use std::alloc::Global;
 use std::fs;
 use std::fs::File;
 use std::net::{Net, TcpListener, TcpStream};
@@ -43,42 +44,34 @@ impl<'a> Text<'a> {
     }
 }
 
-/// The status with which the program is to end, and what it is to write to standard output and to standard error.
+/// What the program is to do on some words.
 #[derive(Clone, Copy)]
-pub(crate) struct Said<'a> {
-    pub status: u8,
-    pub out: Text<'a>,
-    pub err: Text<'a>,
+pub(crate) enum Said<'a> {
+    /// It answers this.
+    Answer(Text<'a>),
+    /// It finds fault with a word or an image, and this is the first line that it says.
+    Fault(&'a str),
+    /// The same, where this is all that it says.
+    WholeFault(&'a str),
+    /// It ends with this status, and writes this to standard output and that to standard error.
+    Ends(u8, Text<'a>, Text<'a>),
 }
 
-/// It answers this.
-pub(crate) fn answer(out: Text<'_>) -> Said<'_> {
-    Said {
-        status: 0,
-        out,
-        err: Text::Is(b""),
+impl<'a> Said<'a> {
+    /// Whether that is what it did.
+    fn fits(self, status: u8, out: &[u8], err: &[u8]) -> bool {
+        match self {
+            Said::Answer(wanted) => status == 0 && wanted.fits(out) && err.is_empty(),
+            Said::Fault(line) => status == 2 && out.is_empty() && err.starts_with(line.as_bytes()),
+            Said::WholeFault(said) => status == 2 && out.is_empty() && err == said.as_bytes(),
+            Said::Ends(ends, first, second) => {
+                status == ends && first.fits(out) && second.fits(err)
+            }
+        }
     }
 }
 
-/// It finds fault with a word or an image, and this is the first line that it says.
-pub(crate) fn fault(line: &str) -> Said<'_> {
-    Said {
-        status: 2,
-        out: Text::Is(b""),
-        err: Text::Framed(line.as_bytes(), b""),
-    }
-}
-
-/// The same, where this is all that it says.
-pub(crate) fn whole_fault(said: &str) -> Said<'_> {
-    Said {
-        status: 2,
-        out: Text::Is(b""),
-        err: Text::Is(said.as_bytes()),
-    }
-}
-
-/// Whether the program, on these words, ends and writes as it is to.
+/// Whether the program, on these words, does what it is to.
 pub(crate) fn says<R>(rt: &R, words: &[&str], said: Said<'_>) -> bool
 where
     R: Opens
@@ -92,36 +85,33 @@ where
     let mut out = Vec::new(rt.alloc());
     let mut err = Vec::new(rt.alloc());
     let status = program(rt, words, &mut out, &mut err);
-    status == said.status && said.out.fits(&out) && said.err.fits(&err)
+    said.fits(status, &out, &err)
 }
 
-/// The same, on these words and more behind them.
-fn says_behind<'w, R>(
-    rt: &R,
-    front: &[&'w str],
-    more: &[&'w str],
-    said: Said<'_>,
-) -> Result<bool, Fail>
-where
-    R: Opens
-        + Net<Listener = TcpListener, Stream = TcpStream>
-        + Threads
-        + Wait
-        + Clock
-        + Sync
-        + AllocGlobal,
-{
-    let mut words = Vec::from_slice(rt.alloc(), front)?;
+/// Words, and what the program is to do on them.
+pub(crate) type Case = (&'static [&'static str], Said<'static>);
+
+/// Files that are there, words, and cases of more words behind them.
+#[derive(Clone, Copy)]
+pub(crate) struct Group {
+    pub files: &'static [(&'static str, &'static [u8])],
+    pub front: &'static [&'static str],
+    pub cases: &'static [Case],
+}
+
+/// The words of a case.
+fn words_of(
+    alloc: Global,
+    front: &[&'static str],
+    more: &[&'static str],
+) -> Result<Vec<&'static str>, Fail> {
+    let mut words = Vec::from_slice(alloc, front)?;
     words.extend_from_slice(more)?;
-    Ok(says(rt, &words, said))
+    Ok(words)
 }
 
-/// Behind these words each list of others has the program end and write as it is to.
-pub(crate) fn each_says<R>(
-    rt: &R,
-    front: &[&str],
-    cases: &[(&[&str], Said<'_>)],
-) -> Result<(), Fail>
+/// In each case of a group the program does what it is to.
+pub(crate) fn each_says<R>(rt: &R, group: &Group) -> Result<(), Fail>
 where
     R: Opens
         + Net<Listener = TcpListener, Stream = TcpStream>
@@ -132,93 +122,11 @@ where
         + AllocGlobal
         + Abort,
 {
-    for (more, wanted) in cases {
-        assert!(rt; says_behind(rt, front, more, *wanted)?, "{more:?}");
+    for (more, said) in group.cases {
+        let words = words_of(rt.alloc(), group.front, *more)?;
+        assert!(rt; says(rt, &words, *said), "{more:?}");
     }
     Ok(())
-}
-
-/// Behind these words each list of others is answered so.
-pub(crate) fn each_answers<R>(
-    rt: &R,
-    front: &[&str],
-    cases: &[(&[&str], Text<'_>)],
-) -> Result<(), Fail>
-where
-    R: Opens
-        + Net<Listener = TcpListener, Stream = TcpStream>
-        + Threads
-        + Wait
-        + Clock
-        + Sync
-        + AllocGlobal
-        + Abort,
-{
-    for (more, wanted) in cases {
-        assert!(rt; says_behind(rt, front, more, answer(*wanted))?, "{more:?}");
-    }
-    Ok(())
-}
-
-/// Behind these words each list of others is at fault, and this is the first line that is said.
-pub(crate) fn each_is_at_fault<R>(
-    rt: &R,
-    front: &[&str],
-    cases: &[(&[&str], &str)],
-) -> Result<(), Fail>
-where
-    R: Opens
-        + Net<Listener = TcpListener, Stream = TcpStream>
-        + Threads
-        + Wait
-        + Clock
-        + Sync
-        + AllocGlobal
-        + Abort,
-{
-    for (more, wanted) in cases {
-        assert!(rt; says_behind(rt, front, more, fault(wanted))?, "{more:?}");
-    }
-    Ok(())
-}
-
-/// The same, where this is all that is said.
-pub(crate) fn each_is_told<R>(rt: &R, front: &[&str], cases: &[(&[&str], &str)]) -> Result<(), Fail>
-where
-    R: Opens
-        + Net<Listener = TcpListener, Stream = TcpStream>
-        + Threads
-        + Wait
-        + Clock
-        + Sync
-        + AllocGlobal
-        + Abort,
-{
-    for (more, wanted) in cases {
-        assert!(rt;
-            says_behind(rt, front, more, whole_fault(wanted))?,
-            "{more:?}"
-        );
-    }
-    Ok(())
-}
-
-/// Of each image each target is answered so, with tiles of 2 by 2.
-pub(crate) fn each_is_answered<R>(rt: &R, cases: &[(&str, &str, Text<'_>)])
-where
-    R: Opens
-        + Net<Listener = TcpListener, Stream = TcpStream>
-        + Threads
-        + Wait
-        + Clock
-        + Sync
-        + AllocGlobal
-        + Abort,
-{
-    for (image, target, body) in cases {
-        let words = ["--base", BASE, "--edge", "2", "--one", *target, *image];
-        assert!(rt; says(rt, &words, answer(*body)), "{target}");
-    }
 }
 
 /// Writes files of these names.

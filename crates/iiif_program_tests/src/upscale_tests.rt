@@ -1,16 +1,16 @@
 //! The program on words that ask for results above their regions.
 
-use crate::run::{BASE, Text, each_answers};
+use crate::run::{BASE, Case, Group, Said, Text, each_says};
 use std::test::Fail;
 
 /// The last samples of the sample at twice its sides.
 const LAST: &[u8] = &[120, 120, 130, 130, 140, 140, 150, 150];
 
 /// Options, sizes, and how the answers end.
-const CASES: [(&[&str], Text<'_>); 6] = [
+const CASES: [Case; 6] = [
     (
         &["--upscale", "--one", "/iiif/a/full/^8,/0/default.tif"],
-        Text::Framed(b"", LAST),
+        Said::Answer(Text::Framed(b"", LAST)),
     ),
     (
         &[
@@ -22,15 +22,15 @@ const CASES: [(&[&str], Text<'_>); 6] = [
             "--one",
             "/iiif/a/full/^max/0/default.tif",
         ],
-        Text::Framed(b"", LAST),
+        Said::Answer(Text::Framed(b"", LAST)),
     ),
     (
         &["--upscale", "--one", "/iiif/a/full/8,/0/default.tif"],
-        Text::Framed(b"", b"Q12 larger\n"),
+        Said::Answer(Text::Framed(b"", b"Q12 larger\n")),
     ),
     (
         &["--upscale", "--one", "/iiif/a/full/^5000,/0/default.tif"],
-        Text::Framed(b"", b"Q14 limit\n"),
+        Said::Answer(Text::Framed(b"", b"Q14 limit\n")),
     ),
     (
         &[
@@ -42,15 +42,21 @@ const CASES: [(&[&str], Text<'_>); 6] = [
             "--one",
             "/iiif/a/full/^5,/0/default.tif",
         ],
-        Text::Framed(b"", b"Q14 limit\n"),
+        Said::Answer(Text::Framed(b"", b"Q14 limit\n")),
     ),
     (
         &["--one", "/iiif/a/full/^8,/0/default.tif"],
-        Text::Framed(b"", b"Q13 upscale\n"),
+        Said::Answer(Text::Framed(b"", b"Q13 upscale\n")),
     ),
 ];
 
+const GROUP: Group = Group {
+    files: &[],
+    front: &["--base", BASE, "a=:sample"],
+    cases: &CASES,
+};
+
 #[test]
 fn sizes_above_the_region_are_an_option(rt: HostRuntime) -> Result<(), Fail> {
-    each_answers(&rt, &["--base", BASE, "a=:sample"], &CASES)
+    each_says(&rt, &GROUP)
 }

@@ -255,12 +255,13 @@ where
     }
 }
 
-/// Serves by a scene's node at these listeners until one is stopped, and says what was counted.
-pub(crate) fn serve<R>(
+/// What a scene's node at these listeners counted during a visit that went as it was to.
+pub(crate) fn beside<R, V>(
     rt: &R,
     alloc: Global,
     scene: &Scene<'_, '_>,
     listeners: &Listeners,
+    visit: &V,
 ) -> Option<Counts>
 where
     R: Opens
@@ -270,8 +271,10 @@ where
         + Clock
         + Sync
         + AllocGlobal,
+    V: Visit<R> + Sync,
 {
     let watcher = Watcher::new(alloc, false).ok()?;
     let mut unread = Vec::new(alloc);
-    serve_told(rt, alloc, scene, &watcher, listeners, &mut unread)
+    let (counts, is_right) = visited(rt, alloc, scene, &watcher, listeners, visit, &mut unread);
+    if is_right { counts } else { None }
 }

@@ -1,7 +1,7 @@
 //! The program on words that are wrong, and on those that ask for caches, bands and workers.
 
 use crate::files::SAMPLE_FILE;
-use crate::run::{BASE, Said, Text, WHOLE, answer, each_answers, each_is_at_fault, fault, says};
+use crate::run::{BASE, Case, Group, Said, Text, WHOLE, each_says, says};
 use iiif_open_files::Opens;
 use std::alloc::Global;
 use std::net::{Net, TcpListener, TcpStream};
@@ -11,7 +11,7 @@ use std::test::Fail;
 use std::thread::Threads;
 
 /// Words, and the line that names the first wrong one.
-const WRONG: [(&[&str], &str); 16] = [
+const WRONG: [Case; 16] = [
     (
         &[
             "--base",
@@ -22,7 +22,7 @@ const WRONG: [(&[&str], &str); 16] = [
             "127.0.0.1:0",
             "a=:sample",
         ],
-        "line: mode\n",
+        Said::Fault("line: mode\n"),
     ),
     (
         &[
@@ -33,16 +33,16 @@ const WRONG: [(&[&str], &str); 16] = [
             "127.0.0.1:0",
             "a=:sample",
         ],
-        "line: mode\n",
+        Said::Fault("line: mode\n"),
     ),
     (
         &["--base", BASE, "--listen", "127.0.0.1:0"],
-        "line: image\n",
+        Said::Fault("line: image\n"),
     ),
-    (&["--one", WHOLE, "a=:sample"], "line: base\n"),
+    (&["--one", WHOLE, "a=:sample"], Said::Fault("line: base\n")),
     (
         &["--base", "http://localhost/", "--one", WHOLE, "a=:sample"],
-        "line: base\n",
+        Said::Fault("line: base\n"),
     ),
     (
         &[
@@ -56,11 +56,11 @@ const WRONG: [(&[&str], &str); 16] = [
             WHOLE,
             "a=:sample",
         ],
-        "line: edge\n",
+        Said::Fault("line: edge\n"),
     ),
     (
         &["--base", BASE, "--max", "100", "--one", WHOLE, "a=:sample"],
-        "line: edge\n",
+        Said::Fault("line: edge\n"),
     ),
     (
         &[
@@ -74,7 +74,7 @@ const WRONG: [(&[&str], &str); 16] = [
             WHOLE,
             "a=:sample",
         ],
-        "line: max\n",
+        Said::Fault("line: max\n"),
     ),
     (
         &[
@@ -86,7 +86,7 @@ const WRONG: [(&[&str], &str); 16] = [
             WHOLE,
             "a=:sample",
         ],
-        "line: edge\n",
+        Said::Fault("line: edge\n"),
     ),
     (
         &[
@@ -98,80 +98,95 @@ const WRONG: [(&[&str], &str); 16] = [
             WHOLE,
             "a=:sample",
         ],
-        "line: max\n",
+        Said::Fault("line: max\n"),
     ),
-    (&["--base", BASE, "--one", WHOLE], "line: image\n"),
-    (&["--base", BASE, "--one", WHOLE, "a"], "line: image\n"),
+    (
+        &["--base", BASE, "--one", WHOLE],
+        Said::Fault("line: image\n"),
+    ),
+    (
+        &["--base", BASE, "--one", WHOLE, "a"],
+        Said::Fault("line: image\n"),
+    ),
     (
         &["--base", BASE, "--one", WHOLE, "a=:sample", "a=:sample"],
-        "line: image\n",
+        Said::Fault("line: image\n"),
     ),
-    (&["--base", BASE, "--hex", "a=:sample"], "line: mode\n"),
-    (&["--base", BASE, "a=:sample"], "line: mode\n"),
-    (&["--edgy", "3"], "line: "),
+    (
+        &["--base", BASE, "--hex", "a=:sample"],
+        Said::Fault("line: mode\n"),
+    ),
+    (&["--base", BASE, "a=:sample"], Said::Fault("line: mode\n")),
+    (&["--edgy", "3"], Said::Fault("line: ")),
 ];
 
-#[test]
-fn first_wrong_word_is_named(rt: HostRuntime) -> Result<(), Fail> {
-    each_is_at_fault(&rt, &[], &WRONG)
-}
-
 /// Caches, bands and workers past their limits.
-const PAST: [(&[&str], &str); 6] = [
-    (&["--cache-bytes", "1099511627777"], "line: cache\n"),
-    (&["--cache-bytes", "many"], "line: cache\n"),
-    (&["--band", "0"], "line: band\n"),
-    (&["--band", "16385"], "line: band\n"),
-    (&["--workers", "0"], "line: workers\n"),
-    (&["--workers", "17"], "line: workers\n"),
+const PAST: [Case; 6] = [
+    (
+        &["--cache-bytes", "1099511627777"],
+        Said::Fault("line: cache\n"),
+    ),
+    (&["--cache-bytes", "many"], Said::Fault("line: cache\n")),
+    (&["--band", "0"], Said::Fault("line: band\n")),
+    (&["--band", "16385"], Said::Fault("line: band\n")),
+    (&["--workers", "0"], Said::Fault("line: workers\n")),
+    (&["--workers", "17"], Said::Fault("line: workers\n")),
 ];
 
 /// Those within them, and what is answered.
-const WITHIN: [(&[&str], Text<'_>); 7] = [
-    (&[], Text::Is(&SAMPLE_FILE)),
+const WITHIN: [Case; 7] = [
+    (&[], Said::Answer(Text::Is(&SAMPLE_FILE))),
     (
         &["--edge", "2", "--cache-bytes", "0"],
-        Text::Is(&SAMPLE_FILE),
+        Said::Answer(Text::Is(&SAMPLE_FILE)),
     ),
     (
         &["--edge", "2", "--cache-bytes", "1099511627776"],
-        Text::Is(&SAMPLE_FILE),
+        Said::Answer(Text::Is(&SAMPLE_FILE)),
     ),
-    (&["--edge", "2", "--band", "1"], Text::Is(&SAMPLE_FILE)),
-    (&["--edge", "2", "--band", "16384"], Text::Is(&SAMPLE_FILE)),
-    (&["--edge", "2", "--workers", "1"], Text::Is(&SAMPLE_FILE)),
-    (&["--edge", "2", "--workers", "16"], Text::Is(&SAMPLE_FILE)),
+    (
+        &["--edge", "2", "--band", "1"],
+        Said::Answer(Text::Is(&SAMPLE_FILE)),
+    ),
+    (
+        &["--edge", "2", "--band", "16384"],
+        Said::Answer(Text::Is(&SAMPLE_FILE)),
+    ),
+    (
+        &["--edge", "2", "--workers", "1"],
+        Said::Answer(Text::Is(&SAMPLE_FILE)),
+    ),
+    (
+        &["--edge", "2", "--workers", "16"],
+        Said::Answer(Text::Is(&SAMPLE_FILE)),
+    ),
 ];
 
-#[test]
-fn caches_bands_and_workers_are_told(rt: HostRuntime) -> Result<(), Fail> {
-    let words = ["--base", BASE, "--one", WHOLE, "a=:sample"];
-    each_is_at_fault(&rt, &words, &PAST)?;
-    each_answers(&rt, &words, &WITHIN)
-}
-
-#[test]
-fn help_and_version_are_answers(rt: HostRuntime) -> Result<(), Fail> {
-    let cases: [(&[&str], Text<'_>); 2] = [
-        (&["--help"], Text::NotEmpty),
-        (&["--version"], Text::NotEmpty),
-    ];
-    each_answers(&rt, &[], &cases)
-}
+/// Words that ask about the program.
+const HELP: [Case; 2] = [
+    (&["--help"], Said::Answer(Text::NotEmpty)),
+    (&["--version"], Said::Answer(Text::NotEmpty)),
+];
 
 /// Words that name other nodes wrongly, or listen to them without viewers.
-const PEERS: [(&[&str], &str); 17] = [
-    (&["--peer", "p"], "line: peer\n"),
-    (&["--peer", "=127.0.0.1:1"], "line: peer\n"),
-    (&["--peer", "p="], "line: peer\n"),
-    (&["--peer", "p=127.0.0.1"], "line: peer\n"),
-    (&["--peer", "p=127.0.0.1:"], "line: peer\n"),
-    (&["--peer", "p=127.0.0.1:0"], "line: peer\n"),
-    (&["--peer", "p=127.0.0.1:65536"], "line: peer\n"),
-    (&["--peer", "p=127.0.0.1:1x"], "line: peer\n"),
-    (&["--peer", "p=:1:"], "line: peer\n"),
-    (&["--peer", "self=127.0.0.1:1"], "line: peer\n"),
-    (&["--name", "n", "--peer", "n=127.0.0.1:1"], "line: peer\n"),
+const PEERS: [Case; 17] = [
+    (&["--peer", "p"], Said::Fault("line: peer\n")),
+    (&["--peer", "=127.0.0.1:1"], Said::Fault("line: peer\n")),
+    (&["--peer", "p="], Said::Fault("line: peer\n")),
+    (&["--peer", "p=127.0.0.1"], Said::Fault("line: peer\n")),
+    (&["--peer", "p=127.0.0.1:"], Said::Fault("line: peer\n")),
+    (&["--peer", "p=127.0.0.1:0"], Said::Fault("line: peer\n")),
+    (
+        &["--peer", "p=127.0.0.1:65536"],
+        Said::Fault("line: peer\n"),
+    ),
+    (&["--peer", "p=127.0.0.1:1x"], Said::Fault("line: peer\n")),
+    (&["--peer", "p=:1:"], Said::Fault("line: peer\n")),
+    (&["--peer", "self=127.0.0.1:1"], Said::Fault("line: peer\n")),
+    (
+        &["--name", "n", "--peer", "n=127.0.0.1:1"],
+        Said::Fault("line: peer\n"),
+    ),
     (
         &[
             "--peer",
@@ -181,22 +196,61 @@ const PEERS: [(&[&str], &str); 17] = [
             "--peer",
             "p=127.0.0.1:2",
         ],
-        "line: peer\n",
+        Said::Fault("line: peer\n"),
     ),
-    (&["--name", ""], "line: peer\n"),
-    (&["--peer", "p", "--hex", "--listen", "x"], "line: peer\n"),
-    (&["--peer", "p", "b"], "line: image\n"),
-    (&["--peer-listen", "127.0.0.1:0"], "line: mode\n"),
+    (&["--name", ""], Said::Fault("line: peer\n")),
+    (
+        &["--peer", "p", "--hex", "--listen", "x"],
+        Said::Fault("line: peer\n"),
+    ),
+    (&["--peer", "p", "b"], Said::Fault("line: image\n")),
+    (
+        &["--peer-listen", "127.0.0.1:0"],
+        Said::Fault("line: mode\n"),
+    ),
     (
         &["--peer", "p=127.0.0.1:1", "--peer-listen", "127.0.0.1:0"],
-        "line: mode\n",
+        Said::Fault("line: mode\n"),
     ),
 ];
 
+/// The words of one target.
+const ONE: [&str; 5] = ["--base", BASE, "--one", WHOLE, "a=:sample"];
+
+const GROUPS: [Group; 5] = [
+    Group {
+        files: &[],
+        front: &[],
+        cases: &WRONG,
+    },
+    Group {
+        files: &[],
+        front: &ONE,
+        cases: &PAST,
+    },
+    Group {
+        files: &[],
+        front: &ONE,
+        cases: &WITHIN,
+    },
+    Group {
+        files: &[],
+        front: &[],
+        cases: &HELP,
+    },
+    Group {
+        files: &[],
+        front: &ONE,
+        cases: &PEERS,
+    },
+];
+
 #[test]
-fn wrong_names_of_nodes_are_told(rt: HostRuntime) -> Result<(), Fail> {
-    let words = ["--base", BASE, "--one", WHOLE, "a=:sample"];
-    each_is_at_fault(&rt, &words, &PEERS)
+fn words_are_answered_or_the_first_wrong_one_is_named(rt: HostRuntime) -> Result<(), Fail> {
+    for group in GROUPS {
+        each_says(&rt, &group)?;
+    }
+    Ok(())
 }
 
 /// Words that name so many other nodes, with so many bytes in each name. No node is at their address.
@@ -231,10 +285,10 @@ where
 
 #[test]
 fn at_most_sixty_three_other_nodes_with_names_of_255_bytes(rt: HostRuntime) -> Result<(), Fail> {
-    assert!(rt; says_beside(&rt, 63, 255, answer(Text::Is(&SAMPLE_FILE)))?);
+    assert!(rt; says_beside(&rt, 63, 255, Said::Answer(Text::Is(&SAMPLE_FILE)))?);
     for (count, bytes) in [(64u32, 2usize), (1, 256)] {
         assert!(rt;
-            says_beside(&rt, count, bytes, fault("line: peer\n"))?,
+            says_beside(&rt, count, bytes, Said::Fault("line: peer\n"))?,
             "{count}"
         );
     }
@@ -284,7 +338,7 @@ where
         + AllocGlobal,
 {
     let words = mended(rt.alloc(), count)?;
-    Ok(says(rt, &words, fault(line)))
+    Ok(says(rt, &words, Said::Fault(line)))
 }
 
 #[test]

@@ -162,8 +162,8 @@ fn long_head_is_none(rt: HostRuntime) {
 const FOUR_ANSWERS: &[u8] =
     b"HTTP/1.1 303 See Other\r\nAccess-Control-Allow-Origin: *\r\nLocation: http://localhost/iiif/a/info.json\r\nContent-Length: 0\r\n\r\nHTTP/1.1 404 Not Found\r\nContent-Type: text/plain\r\nAccess-Control-Allow-Origin: *\r\nContent-Length: 14\r\n\r\nHTTP/1.1 405 Method Not Allowed\r\nContent-Type: text/plain\r\nAccess-Control-Allow-Origin: *\r\nAllow: GET, HEAD\r\nContent-Length: 10\r\n\r\nQ2 method\nHTTP/1.1 400 Bad Request\r\nContent-Type: text/plain\r\nAccess-Control-Allow-Origin: *\r\nContent-Length: 8\r\nConnection: close\r\n\r\nQ1 head\n";
 
-/// Inputs, what is answered, and what a watch is told of them: how many were begun, sent whole and cut off, how many had a call, and the sums of their
-/// bytes and of their statuses.
+/// Inputs, what is answered, and what a watch is told of them: how many were begun, sent whole and cut off, how many had a call, and the
+/// sums of their bytes and of their statuses.
 const TOLD: [(&[u8], Want<'static>, [u64; 6]); 2] = [
     (
         b"GET /iiif/a HTTP/1.1\r\n\r\nHEAD /iiif/b HTTP/1.1\r\n\r\nPUT /iiif/a HTTP/1.1\r\n\r\nhello\r\n\r\n",

@@ -1,6 +1,5 @@
 use Rattle.std.specs.Prelude.{◌≡◌}
 use Rattle.std.proofs.Common.{refl, ◌∙◌}
-use Rattle.iiif_server.specs.Stocks.{IsStock}
 use Rattle.iiif_server_tests.proofs.nodes.right_of.Goals as goal
 
 pub right_by-requires-clause-tiles : goal.right_by-requires-clause-tiles
