@@ -1,11 +1,12 @@
 -- What is sent of an image, and what is held of it meanwhile.
-use Rattle.std.specs.Prelude.{◌≡◌, ℕ, ◌+◌, ◌*◌, ◌<◌, ◌≤◌, ◌⊎◌, ◌==◌, min, List, Option, length, take, if◌then◌else◌}
+use Rattle.std.specs.Prelude.{◌≡◌, ℕ, ◌+◌, ◌-◌, ◌*◌, ◌<◌, ◌≤◌, ◌⊎◌, ◌==◌, min, List, Option, length, take, if◌then◌else◌}
 use Rattle.std.specs.Io.KnownBytes.{Appends}
 use Rattle.iiif_io.specs.Sending.{WasCut}
 use Rattle.iiif_pixel.specs.Geometry.{channels_of, top_of}
 use Rattle.iiif_pixel.specs.Picture.{Picture, dim_of}
 use Rattle.iiif_pixel.specs.TurnPlaces.{turned_dim}
 use Rattle.iiif_pixel.specs.declared.geometry.Dim.{Dim}
+use Rattle.iiif_pixel.specs.declared.geometry.Rect.{Rect}
 use Rattle.iiif_canonical.specs.Images.{resolved_image}
 use Rattle.iiif_keys.specs.Names.{named, Pictures}
 use Rattle.iiif_keys.specs.declared.fault.Fault.{Fault}
@@ -51,9 +52,14 @@ Stops contents fails old new front text (Load n f) = (n < length text) × Append
 abbrev pub len_with : OutKind → ℕ → ℕ → ℕ → ℕ
 len_with kind front w y = if y == 0 then 0 else front + row_len kind w * y
 
--- Why a load stopped the sending: the rows above a band were written, and memory was wanting, or the band could not be made.
-abbrev pub FailsFor : Job → (TileKey → TileVal → Type 0) → (TileKey → Fault → Type 0) → (SumKey → SumVal → Type 0) → (SumKey → Fault → Type 0) → OutKind → ℕ → Stopped → Type 0
-FailsFor j tile tile_failed sum sum_failed kind front (Writer n) = Unit {0}
-FailsFor j tile tile_failed sum sum_failed kind front (Load n f) =
+-- of an image with these sides that is cut into bands of so many rows, the band that begins with row y: the last perhaps of fewer
+abbrev pub band_from : Dim → ℕ → ℕ → Rect
+band_from d rows y = record { x = 0; y = y; w = d.w; h = min rows (d.h - y) }
+
+-- Why a load stopped the sending in bands of so many rows: the rows above a band were written, and memory was wanting, or that band could
+-- not be made.
+abbrev pub FailsFor : Job → (TileKey → TileVal → Type 0) → (TileKey → Fault → Type 0) → (SumKey → SumVal → Type 0) → (SumKey → Fault → Type 0) → OutKind → ℕ → ℕ → Stopped → Type 0
+FailsFor j tile tile_failed sum sum_failed kind rows front (Writer n) = Unit {0}
+FailsFor j tile tile_failed sum sum_failed kind rows front (Load n f) =
     (y : ℕ) × (n ≡ len_with kind front (result_dim j).w y)
-    × ((f ≡ fault.NoMemory) ⊎ ((b : Band) × (b.rect.y ≡ y) × IsBandOf j b × IsBandFault tile tile_failed sum sum_failed j.plan b.items.items f))
+    × ((f ≡ fault.NoMemory) ⊎ ((b : Band) × (b.rect ≡ band_from (result_dim j) rows y) × IsBandOf j b × IsBandFault tile tile_failed sum sum_failed j.plan b.items.items f))

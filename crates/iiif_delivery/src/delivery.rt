@@ -92,7 +92,7 @@ pub fn send_image<
     ensures stopped { IfErr result (λ s. (shows : Pictures) → HasPicture shows job.now.name job.now.shape → IsSource (named shows job.now.name)
         → (image : Picture) × IsImageFor shows job.now (T.means tiles.now) (S.means sums.now) image
         × Stops W.contents W.fails out.old out.new (length (start.now ++ head_of kind (result_dim job.now))) (start.now ++ file image kind) s) }
-    ensures fault { IfErr result (FailsFor job.now (T.means tiles.now) (T.failed tiles.now) (S.means sums.now) (S.failed sums.now) kind
+    ensures fault { IfErr result (FailsFor job.now (T.means tiles.now) (T.failed tiles.now) (S.means sums.now) (S.failed sums.now) kind rows
         (length (start.now ++ head_of kind (result_dim job.now)))) }
 {
     // Laws of bands.

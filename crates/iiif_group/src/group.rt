@@ -25,6 +25,7 @@ pub struct Group<K: CacheKey, J: System, L: Ledger, N, T> {
     pub(crate) links: Vec<N>,
     pub(crate) gate: T,
     pub(crate) alloc: Global,
+    pub(crate) room: u64,
     pub ghost one_a_place: { vec_len links ≡ length ring },
 }
 
@@ -51,6 +52,7 @@ impl<K: CacheKey, J: System, L: Ledger, N, T> Group<K, J, L, N, T> {
         requires name { blank.name ≡ L.name }
         requires parts { blank.parts ≡ L.parts }
         requires all { L.parts ≡ 65537 }
+        ensures room { IfOk result (λ g. g.room ≡ bytes) }
     {
         let (table, pass) = Table::new(alloc, bytes, entries, 65_537, blank)?;
         Ok(Group {
@@ -61,6 +63,7 @@ impl<K: CacheKey, J: System, L: Ledger, N, T> Group<K, J, L, N, T> {
             links,
             gate,
             alloc,
+            room: bytes,
         })
     }
 
@@ -91,6 +94,13 @@ impl<K: CacheKey, J: System, L: Ledger, N, T> Group<K, J, L, N, T> {
         ensures { (aloft : ℕ) × IsBook aloft result }
     {
         self.home.lock(rt).table.book()
+    }
+
+    /// How many bytes keys and values may take together.
+    pub fn room(&self) -> u64
+        ensures { result ≡ self.now.room }
+    {
+        self.room
     }
 
     /// Whether a value is kept for the key now. It counts as no call.

@@ -1,4 +1,4 @@
-//! The parts of blocks, asked by all workers before the blocks are.
+//! The blocks of an image, asked by all workers before its bands are made.
 
 ghost use Rattle.std.specs.Prelude.{ℕ, ◌<◌, length};
 ghost use denote.Param.Send.{IsSync};
@@ -6,8 +6,8 @@ ghost use denote.Param.Send.{IsSync};
 use crate::items::GroupItems;
 use iiif_assemble::Job;
 use iiif_group::{Gate, Link};
-use iiif_keys::{Parts, SumKey, System, TileKey, parts};
-use iiif_pixel::NoMemory;
+use iiif_keys::{CacheKey, Parts, SumKey, System, TileKey, parts};
+use iiif_pixel::{Kind, NoMemory};
 use iiif_planner::Plan;
 use iiif_source::Source;
 use iiif_sum_group::Passes;
@@ -15,14 +15,17 @@ use std::alloc::Global;
 use std::sync::Wait;
 use std::thread::{Threads, join};
 
-/// How many parts each worker is to have, where there are so many.
+/// How many blocks or parts each worker is to have, where there are so many.
 const FOR_EACH: usize = 8;
 
-/// The lowest level of blocks whose parts are asked before them. Below it a thread costs more than it saves.
-const LEAST_LEVEL: u8 = 2;
+/// How many tiles each worker is to have at least. For fewer a thread costs more than it saves.
+const LEAST_TILES: usize = 2;
 
 /// The highest level of a block.
 const LEVELS: u32 = 20;
+
+/// The bytes of a sum, and half as many for those of places that several blocks have.
+const ROOM_OF_A_SUM: u64 = 12;
 
 /// Of the golden section in thousandths: where the calls begin, one after another, they lie well apart.
 const APART: usize = 618;
@@ -46,8 +49,12 @@ fn parts_of(alloc: Global, keys: &[SumKey]) -> Result<Option<Vec<SumKey>>, NoMem
     Ok(Some(below))
 }
 
-/// The keys of the sums that some blocks are made of: of the highest level below them that has enough of these, or of the lowest.
+/// Where some blocks are fewer than `enough`, the keys of the sums that they are made of: of the highest level below them that has
+/// enough of these, or of the lowest. Else none.
 fn parts_below(alloc: Global, keys: &[SumKey], enough: usize) -> Result<Vec<SumKey>, NoMemory> {
+    if keys.len() >= enough {
+        return Ok(Vec::new(alloc));
+    }
     let Some(mut found) = parts_of(alloc, keys)? else {
         return Ok(Vec::new(alloc));
     };
@@ -63,10 +70,22 @@ fn parts_below(alloc: Global, keys: &[SumKey], enough: usize) -> Result<Vec<SumK
     Ok(found)
 }
 
-/// The place in a list of so many at which the `turn`-th call begins.
-fn beginning(turn: usize, count: usize) -> usize {
-    let thousandths = turn % 1_000 * APART % 1_000;
-    thousandths.saturating_mul(count) / 1_000
+/// How many tiles some blocks have, as far as it matters: of a level above 1 they have 16 or more each.
+fn tiles_of(blocks: &[SumKey]) -> usize {
+    let Some(block) = blocks.first() else {
+        return 0;
+    };
+    let each = match block.level {
+        0 => 1,
+        1 => 4,
+        _ => 16,
+    };
+    blocks.len().saturating_mul(each)
+}
+
+/// Where in their lists the `turn`-th call begins, in thousandths.
+fn beginning(turn: usize) -> usize {
+    turn % 1_000 * APART % 1_000
 }
 
 impl<
@@ -87,26 +106,66 @@ impl<
         true
     }
 
-    /// The same from a place of the list on, and then from its beginning to that place.
-    fn ask_from(&self, rt: &R, passes: &mut Passes<J>, keys: &[SumKey], from: usize) {
-        let Some(place) = from.checked_rem(keys.len()) else {
-            return;
+    /// The same from so many thousandths of the list on, and then from its beginning to that place.
+    fn ask_from(
+        &self,
+        rt: &R,
+        passes: &mut Passes<J>,
+        keys: &[SumKey],
+        thousandths: usize,
+    ) -> bool {
+        let place = (thousandths % 1_000).saturating_mul(keys.len()) / 1_000;
+        let Some(place) = place.checked_rem(keys.len()) else {
+            return true;
         };
         let (before, behind) = keys.split_at(place);
-        if self.ask_each(rt, passes, behind) {
-            self.ask_each(rt, passes, before);
-        }
+        self.ask_each(rt, passes, behind) && self.ask_each(rt, passes, before)
     }
 
-    /// Whether this node has to make one of these blocks.
-    fn makes_one(&self, rt: &R, keys: &[SumKey]) -> bool {
+    /// The same of parts, and then of the blocks.
+    fn ask_both(
+        &self,
+        rt: &R,
+        passes: &mut Passes<J>,
+        parts: &[SumKey],
+        blocks: &[SumKey],
+        thousandths: usize,
+    ) -> bool {
+        self.ask_from(rt, passes, parts, thousandths)
+            && self.ask_from(rt, passes, blocks, thousandths)
+    }
+
+    /// Whether all these blocks are kept now.
+    fn hold_all(&self, rt: &R, keys: &[SumKey]) -> bool {
         for key in keys {
-            let sums = self.0.sums();
-            if key.level >= LEAST_LEVEL && sums.owns(key) && !sums.holds(rt, key) {
-                return true;
+            if !self.0.sums().holds(rt, key) {
+                return false;
             }
         }
-        false
+        true
+    }
+
+    /// Whether the sums of blocks that have a whole result, and of all that these are made of, may be kept at once.
+    fn has_room(&self, blocks: &[SumKey], kind: Kind) -> bool {
+        let Some(block) = blocks.first() else {
+            return false;
+        };
+        let places = u64::from(block.size.w).saturating_mul(u64::from(block.size.h));
+        let of_a_level = places.saturating_mul(kind.channels() as u64);
+        let of_all = of_a_level.saturating_mul(u64::from(block.level) + 1);
+        of_all.saturating_mul(ROOM_OF_A_SUM) <= self.0.sums().room()
+    }
+
+    /// The blocks of these that this node has to make. The only error is want of memory.
+    fn missing(&self, rt: &R, alloc: Global, keys: &[SumKey]) -> Result<Vec<SumKey>, NoMemory> {
+        let mut blocks = Vec::new(alloc);
+        for key in keys {
+            let sums = self.0.sums();
+            if sums.owns(key) && !sums.holds(rt, key) {
+                blocks.push(key.copy()?)?;
+            }
+        }
+        Ok(blocks)
     }
 }
 
@@ -118,12 +177,13 @@ impl<
     N: Link<TileKey, J, R> + Link<SumKey, J, R> + Sync,
     T: Gate<R> + Sync,
 > GroupItems<'a, R, S, J, N, T> {
-    /// Asks for all of a list by one worker for each pass, each from another place of it on.
+    /// Asks for all of two lists by one worker for each pass, each `step` thousandths behind the one before.
     fn ask_by_all(
         &self,
         rt: &R,
         passes: &mut [Passes<J>],
-        keys: &[SumKey],
+        parts: &[SumKey],
+        blocks: &[SumKey],
         from: usize,
         step: usize,
     ) {
@@ -131,40 +191,65 @@ impl<
             return;
         };
         if others.is_empty() {
-            return self.ask_from(rt, own, keys, from);
+            self.ask_both(rt, own, parts, blocks, from);
+            return;
         }
         join(
             rt,
-            || self.ask_from(rt, own, keys, from),
+            || self.ask_both(rt, own, parts, blocks, from),
             ||
                 requires { IsSync R.row × (0 < length others.now) }
-            { self.ask_by_all(rt, others, keys, from.saturating_add(step), step) },
+            { self.ask_by_all(rt, others, parts, blocks, from.saturating_add(step), step) },
         );
     }
 
-    /// Asks for the parts of the blocks of a job where there are fewer of these than workers, so that all have something to do. The
-    /// blocks find them kept then; where they aren't kept, no more is asked. The `turn` is another for each call, so that those who ask
-    /// for the same block at a time begin with other parts of it, and each finds what the others made. It answers nothing: what can't be
-    /// had is asked again when the block is.
-    pub fn ask_parts(
+    /// Asks for the blocks of these that this node has to make, by as many workers as have something to do. The only error is want of
+    /// memory.
+    fn ask_missing(
+        &self,
+        rt: &R,
+        alloc: Global,
+        passes: &mut [Passes<J>],
+        keys: &[SumKey],
+        turn: usize,
+    ) -> Result<(), NoMemory> {
+        let blocks = self.missing(rt, alloc, keys)?;
+        let workers = (tiles_of(&blocks) / LEAST_TILES).min(passes.len());
+        if workers < 2 {
+            self.ask_by_all(rt, &mut passes[..1], &[], &blocks, 0, 0);
+            return Ok(());
+        }
+        let parts = parts_below(alloc, &blocks, workers.saturating_mul(FOR_EACH))?;
+        let (from, step) = (beginning(turn), 1_000 / workers);
+        self.ask_by_all(rt, &mut passes[..workers], &parts, &blocks, from, step);
+        Ok(())
+    }
+
+    /// Sees to it that the blocks of a job are kept, where there are several workers and room for all that the blocks are made of: all
+    /// workers ask for parts of them, or for the blocks themselves where these are many, and the bands that are made of them find them
+    /// kept. The `turn` is another for each call, so that those who ask for the same blocks at a time begin with other parts of them, and
+    /// each finds what the others made. Says whether all blocks were kept at its end, so that one worker is enough for the bands: what
+    /// couldn't be had, or isn't kept any more, is asked again when a band is made.
+    pub fn keep_blocks(
         &self,
         rt: &R,
         alloc: Global,
         passes: &mut [Passes<J>],
         job: &Job,
         turn: usize,
-    ) {
+    ) -> bool {
         let Plan::Sum(keys) = &job.plan else {
-            return;
+            return false;
         };
-        let workers = passes.len();
-        if keys.len() >= workers || !self.makes_one(rt, keys) {
-            return;
+        if self.hold_all(rt, keys) {
+            return true;
         }
-        let Ok(list) = parts_below(alloc, keys, workers.saturating_mul(FOR_EACH)) else {
-            return;
-        };
-        let step = list.len() / workers;
-        self.ask_by_all(rt, passes, &list, beginning(turn, list.len()), step);
+        if passes.len() < 2 || !self.has_room(keys, job.shape.kind) {
+            return false;
+        }
+        match self.ask_missing(rt, alloc, passes, keys, turn) {
+            Ok(()) => self.hold_all(rt, keys),
+            Err(_) => false,
+        }
     }
 }

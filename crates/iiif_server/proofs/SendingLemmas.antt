@@ -70,10 +70,10 @@ may_fail gave source given_by fault.BadKey same (inr was) = absurd (false≢true
 
 -- and does, of a node's job
 pub fails : {S : Type 0} (shows : Pictures) (gives : List ℕ → ReadFault → Bool) (stable : List ℕ → Type 0) (edge : ℕ) (bytes : S → List ℕ) (gave : S → ReadFault → Bool)
-    (keeps : S → Type 0) (item : Item S) (a : Accepted) (j : Job) (tile_means : TileKey → TileVal → Type 0) (sum_means : SumKey → SumVal → Type 0) (kind : OutKind) (front n : ℕ)
+    (keeps : S → Type 0) (item : Item S) (a : Accepted) (j : Job) (tile_means : TileKey → TileVal → Type 0) (sum_means : SumKey → SumVal → Type 0) (kind : OutKind) (rows front n : ℕ)
     (f : Fault) → IsJobFor shows gives stable edge bytes gave keeps item a j →
-    FailsFor j tile_means (λ k r. IsTrue (is_given (gives k.name) r)) sum_means (λ k r. IsTrue (is_given (gives k.name) r)) kind front (stopped.Load n f) → MayFail gave item.source f
-fails shows gives stable edge bytes gave keeps item a j tile_means sum_means kind front n f of failed = elim failed.2 [
+    FailsFor j tile_means (λ k r. IsTrue (is_given (gives k.name) r)) sum_means (λ k r. IsTrue (is_given (gives k.name) r)) kind rows front (stopped.Load n f) → MayFail gave item.source f
+fails shows gives stable edge bytes gave keeps item a j tile_means sum_means kind rows front n f of failed = elim failed.2 [
   | inl none ↦ may_fail gave item.source (gives j.name) f of.gave_is (inl none)
   | inr band ↦
       may_fail gave item.source (gives j.name) f of.gave_is

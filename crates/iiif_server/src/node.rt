@@ -281,14 +281,16 @@ impl<
         picture_is_shown(entry);
         groups_serve_jobs::<J>(&job);
         let items = GroupItems(&self.groups);
-        items.ask_parts(rt, alloc, passes, &job, self.next_turn());
+        let is_kept = items.keep_blocks(rt, alloc, passes, &job, self.next_turn());
+        // One worker finds what is kept, and starts no thread.
+        let workers = if is_kept { 1 } else { passes.len() };
         let rows = self.config.band();
         match send_image(
             rt,
             alloc,
             &items,
             &items,
-            passes,
+            &mut passes[..workers],
             &job,
             rows,
             accepted.kind,

@@ -9,7 +9,7 @@ use Rattle.iiif_pixel.proofs.Parts.{same_dim}
 use Rattle.iiif_bands.specs.Bands.{AreBands}
 use Rattle.iiif_assemble.specs.Jobs.{IsBandOf, IsHeldFor}
 use Rattle.iiif_tiff_write.specs.File.{head_of, strip}
-use Rattle.iiif_delivery.specs.Delivery.{result_dim}
+use Rattle.iiif_delivery.specs.Delivery.{band_from, result_dim}
 use Rattle.iiif_delivery.specs.Code.{IsBandFor}
 use Rattle.iiif_delivery.proofs.StepLemmas.{first_rows, none_sent, load_stopped, writer_stopped, next_rows, all_sent, counted_first, counted_more, counted_len, band_at, band_above, bands_end, result_some, more_len, sent_within, counted_done}
 use Rattle.iiif_delivery.proofs.delivery.send_image.Goals as goal
@@ -66,7 +66,7 @@ returns-in-Err-clause-fault g c =
     let at = band_at j.resolved j.plan c.args.rows bs i b are c.loop-band-test.true (sym c.band-item.is) in
     let y = min (i * c.args.rows) d.h in
     let row : i * c.args.rows ≡ y = omega (arith, above) in
-    let here : b.rect.y ≡ y = ap (λ (r : Rect). r.y) at ∙ row in
+    let here : b.rect ≡ band_from d c.args.rows y = at ∙ ap (band_from d c.args.rows) row in
     let of_job : IsBandOf j b = subst (IsBandOf j) (sym c.band-item.is) (each i b c.loop-band-test.true) in (
       y,
       counted_len j c.args.kind (length (c.args.start.now ++ head_of c.args.kind d)) c.args.rows c.loop-band.text.items c.loop-band.sent c.loop-band.held y c.loop-band.invariant.counted,

@@ -83,7 +83,7 @@ returns-then-sent-eq0 g c q p is kind =
     let is_head : (image : Picture) → dim_of image ≡ turned_dim a.resolved.turn a.resolved.size → c.deref.result.now ≡ (written c.args.part (image_response s.base item.name a.canonical image a.kind)).head =
     λ image sides. c.deref.ensures.value ∙ head_is image sides in
     let made = (rw c.in-Err-Load.field-0-is at c.in-Err-Load.ensures.stopped) g.J.System.pictures of.known of.source in
-    let failed = fails g.J.System.pictures g.J.System.gave g.J.System.stable g.J.System.edge g.S.Source.bytes g.S.Source.gave g.S.Source.keeps item a c.in-Ok-job.job _ _ c.args.accepted.now.kind _ c.in-Err-Load.sent
+    let failed = fails g.J.System.pictures g.J.System.gave g.J.System.stable g.J.System.edge g.S.Source.bytes g.S.Source.gave g.S.Source.keeps item a c.in-Ok-job.job _ _ c.args.accepted.now.kind _ _ c.in-Err-Load.sent
     c.in-Err-Load.fault of (rw c.in-Err-Load.field-0-is at c.in-Err-Load.ensures.fault) in
     let nothing = subst (λ (n : ℕ). Appends (g.W.Write.contents c.args.out.now) (g.W.Write.contents c.send_image.new.out) (take n (c.deref.result.now ++ file made.0 a.kind)))
     c.if-sent-eq0.true made.2.1 in
@@ -102,7 +102,7 @@ returns g c q p is kind =
     let is_head : (image : Picture) → dim_of image ≡ turned_dim a.resolved.turn a.resolved.size → c.deref.result.now ≡ (written c.args.part (image_response s.base item.name a.canonical image a.kind)).head =
     λ image sides. c.deref.ensures.value ∙ head_is image sides in
     let made = (rw c.in-Err-Load.field-0-is at c.in-Err-Load.ensures.stopped) g.J.System.pictures of.known of.source in
-    let failed = fails g.J.System.pictures g.J.System.gave g.J.System.stable g.J.System.edge g.S.Source.bytes g.S.Source.gave g.S.Source.keeps item a c.in-Ok-job.job _ _ c.args.accepted.now.kind _ c.in-Err-Load.sent
+    let failed = fails g.J.System.pictures g.J.System.gave g.J.System.stable g.J.System.edge g.S.Source.bytes g.S.Source.gave g.S.Source.keeps item a c.in-Ok-job.job _ _ c.args.accepted.now.kind _ _ c.in-Err-Load.sent
     c.in-Err-Load.fault of (rw c.in-Err-Load.field-0-is at c.in-Err-Load.ensures.fault) in
     let sent = sent_for g.J.System.pictures g.J.System.gave g.J.System.stable g.J.System.edge g.S.Source.bytes g.S.Source.gave g.S.Source.keeps g.J.System.honest item a c.in-Ok-job.job _ _ p made.0 of
     c.groups_serve_jobs.ensures.shown (λ k. c.picture_is_shown.ensures p k is) made.1 in
