@@ -88,6 +88,17 @@ fn counted<R: Opens + Wait, J: System, N, T>(rt: &R, node: &Node<R, Stored, J, N
     }
 }
 
+/// Whether all passes of a node are home.
+fn are_home<R: Opens + Wait, J: System, N, T>(
+    rt: &R,
+    alloc: Global,
+    node: &Node<R, Stored, J, N, T>,
+) -> bool {
+    let groups = node.groups();
+    groups.tiles().group().gather(rt, Vec::new(alloc)).is_ok()
+        && groups.sums().gather(rt, Vec::new(alloc)).is_ok()
+}
+
 /// How a node serves: with which limits of time, who is told, and at which listeners.
 #[derive(Clone, Copy)]
 struct Way<'a> {
@@ -96,14 +107,15 @@ struct Way<'a> {
     listeners: &'a Listeners,
 }
 
-/// Serves by one node until a listener is stopped, writes the log, and says what the node counted.
+/// Serves by one node until a listener is stopped, writes the log, and says what the node counted, where each connection gave its passes
+/// back.
 fn serve_by<R, J, N, T, E>(
     rt: &R,
     alloc: Global,
     node: &Node<R, Stored, J, N, T>,
     way: &Way<'_>,
     err: &mut E,
-) -> Counts
+) -> Option<Counts>
 where
     R: Opens + Net<Listener = TcpListener, Stream = TcpStream> + Threads + Wait + Clock + Sync,
     J: System + Send + Sync,
@@ -113,7 +125,10 @@ where
 {
     let (times, watcher, listeners) = (way.times, way.watcher, way.listeners);
     let _ = serve_node(rt, alloc, node, 2, times, watcher, listeners, err);
-    counted(rt, node)
+    if !are_home(rt, alloc, node) {
+        return None;
+    }
+    Some(counted(rt, node))
 }
 
 /// The same by a node of these settings and images that asks no other.
@@ -140,7 +155,7 @@ where
     requires sums { (sums.name ≡ J.sums_name) × (sums.parts ≡ J.sums_parts) × (J.sums_parts ≡ 65537) }
 {
     let node = Node::<R, Stored, J>::alone(alloc, config, catalogue, 1 << 26, tiles, sums).ok()?;
-    Some(serve_by(rt, alloc, &node, way, err))
+    serve_by(rt, alloc, &node, way, err)
 }
 
 /// The same by a node among others.
@@ -169,7 +184,7 @@ where
     requires sums { (sums.name ≡ J.sums_name) × (sums.parts ≡ J.sums_parts) × (J.sums_parts ≡ 65537) }
 {
     let node = among::<R, J>(alloc, config, catalogue, nodes, 1 << 26, tiles, sums).ok()?;
-    Some(serve_by(rt, alloc, &node, way, err))
+    serve_by(rt, alloc, &node, way, err)
 }
 
 /// Serves by a scene's node at these listeners until one is stopped, writes the log where the watcher has one, and says what was counted.

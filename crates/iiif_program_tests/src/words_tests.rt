@@ -2,6 +2,7 @@
 
 use crate::files::SAMPLE_FILE;
 use crate::run::{BASE, Case, Group, Said, Text, WHOLE, each_says, says};
+use iiif_command_line::{Options, matches, options_in};
 use iiif_open_files::Opens;
 use std::alloc::Global;
 use std::net::{Net, TcpListener, TcpStream};
@@ -251,6 +252,28 @@ fn words_are_answered_or_the_first_wrong_one_is_named(rt: HostRuntime) -> Result
         each_says(&rt, &group)?;
     }
     Ok(())
+}
+
+/// What is set where the words name the images and a target alone: the edge, the greatest side, the bytes of a cache, the rows of a band,
+/// the workers, and the files that stay open.
+fn are_left_out(options: &Options<'_>) -> bool {
+    let sides = (options.edge, options.max) == (256, 4096);
+    let shares = (options.band, options.workers) == (64, 2);
+    let bounds = (options.cache_bytes, options.open_files.get()) == (67_108_864, 256);
+    sides && shares && bounds && !options.upscale && options.name == "self"
+}
+
+#[test]
+fn settings_that_are_left_out(rt: HostRuntime) {
+    let words = ["--base", BASE, "--one", WHOLE, "a=:sample"];
+    let Ok(found) = matches(rt.alloc(), &words) else {
+        assert!(rt; false, "{words:?}");
+        return;
+    };
+    match options_in(rt.alloc(), &found, BASE, Ok(b"")) {
+        Ok(options) => assert!(rt; are_left_out(&options), "{options:?}"),
+        Err(fault) => assert!(rt; false, "{fault:?}"),
+    }
 }
 
 /// Words that name so many other nodes, with so many bytes in each name. No node is at their address.
