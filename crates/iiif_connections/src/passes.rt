@@ -1,6 +1,6 @@
 //! The passes of the workers that make the images of a connection.
 
-ghost use Rattle.std.specs.Prelude.{◌<◌, length, IfSome};
+ghost use Rattle.std.specs.Prelude.{◌≡◌, ◌<◌, length, IfSome};
 
 use iiif_keys::System;
 use iiif_open_files::Opens;
@@ -17,7 +17,8 @@ pub fn passes_of<R: Opens + Wait, J: System, N, T>(
     node: &Node<R, Stored, J, N, T>,
     workers: u32,
 ) -> Option<Vec<Passes<J>>>
-    ensures { IfSome result (λ ps. 0 < length ps.items) }
+    ensures count { IfSome result (λ ps. length ps.items ≡ workers) }
+    ensures some { IfSome result (λ ps. 0 < length ps.items) }
 {
     let Ok(mut all) = Vec::with_capacity(alloc, workers as usize) else {
         return None;

@@ -38,7 +38,7 @@ IsAlone {S} Reaches = (r : Reply S) → Reaches r → (g : Given S) × (r ≡ gi
 -- ---- From what may be answered
 
 module _ {S : Type 0} (gave : S → ReadFault → Bool) (writer : Type 0) (settings : Settings) (part : Part) (Reaches : Reply S → Type 0) (alone : IsAlone Reaches)
-    (never : (source : S) (f : ReadFault) → ¬ IsTrue (gave source f)) (no_writer : ¬ writer) where
+    (never : (h : Given S) (f : ReadFault) → Reaches (given h) → ¬ IsTrue (gave h.item.source f)) (no_writer : ¬ writer) where
   abbrev Answered : Response → Type 0
   Answered a = ((g : Given S) × Reaches (given g) × (a ≡ response_of settings (given g))) ⊎ (a ≡ want_of_memory)
 
@@ -46,7 +46,7 @@ module _ {S : Type 0} (gave : S → ReadFault → Bool) (writer : Type 0) (setti
   by_answer _ (own r reached) =
       let is = alone r reached in
       inl (is.0, subst (λ (x : Reply S). Reaches x) is.1 reached, ap (λ (x : Reply S). response_of settings x) is.1)
-  by_answer _ (source_failed g f reached loaded failed) = absurd (never g.item.source f failed)
+  by_answer _ (source_failed g f reached loaded failed) = absurd (never g f reached failed)
   by_answer _ memory_wanted = inr refl
 
   whole : (a : Response) (text : List ℕ) (sent : Sent) → Answered a → text ≡ text_of (written part a) → sent.status ≡ a.status → IsWholeOrWanting settings part Reaches text (Ok sent)
@@ -57,7 +57,7 @@ module _ {S : Type 0} (gave : S → ReadFault → Bool) (writer : Type 0) (setti
   by_cause : (text : List ℕ) (cause : Cause) → IsCut settings part gave Reaches writer text cause
       → (cause ≡ Load NoMemory) × ((g : Given S) × Reaches (given g) × EndsInBody settings part g text)
   by_cause text Writer is = absurd (no_writer is.0)
-  by_cause text (Load (Source f)) is = absurd (never is.0.item.source f is.2)
+  by_cause text (Load (Source f)) is = absurd (never is.0 f is.1 is.2)
   by_cause text (Load NoMemory) is = (refl, (is.0, is.1, is.3))
   by_cause text (Load UnknownName) is = absurd is.2
   by_cause text (Load BadKey) is = absurd is.2

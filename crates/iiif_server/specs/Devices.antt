@@ -23,10 +23,10 @@ IsWholeOrWanting {S} settings part Reaches text (Ok sent) =
 IsWholeOrWanting {S} settings part Reaches text (Err cut) =
     (cut.cause ≡ Load NoMemory) × ((g : Given S) × Reaches (given g) × EndsInBody settings part g text)
 
--- Where no source gave a fault and the writer didn't fail, what is sent for a call that reaches an image is nothing else.
+-- Where the source of an image that the call reaches gave no fault and the writer didn't fail, what is sent for the call is nothing else.
 abbrev pub IsImageAlone : {S : Type 0} → (S → ReadFault → Bool) → Type 0 → Settings → (Reply S → Type 0) → Type 0
 IsImageAlone {S} gave writer settings Reaches =
-    (part : Part) (g : Given S) (text : List ℕ) (result : Result Sent Cut) → ((source : S) (f : ReadFault) → ¬ IsTrue (gave source f)) → ¬ writer
+    (part : Part) (g : Given S) (text : List ℕ) (result : Result Sent Cut) → ((h : Given S) (f : ReadFault) → Reaches (given h) → ¬ IsTrue (gave h.item.source f)) → ¬ writer
     → Reaches (given g) → Allowed settings part gave Reaches writer text result → IsWholeOrWanting settings part Reaches text result
 
 -- So it is of each target and of each call.
