@@ -216,7 +216,9 @@ impl<
         let blocks = self.missing(rt, alloc, keys)?;
         let workers = (tiles_of(&blocks) / LEAST_TILES).min(passes.len());
         if workers < 2 {
-            self.ask_by_all(rt, &mut passes[..1], &[], &blocks, 0, 0);
+            if let Some((own, _others)) = passes.split_first_mut() {
+                self.ask_from(rt, own, &blocks, 0);
+            }
             return Ok(());
         }
         let parts = parts_below(alloc, &blocks, workers.saturating_mul(FOR_EACH))?;
