@@ -3,4 +3,4 @@ use Rattle.iiif_connections.proofs.passes.passes_of.Given as goal
 
 -- one for each worker so far
 abbrev pub invariant-loop : goal.invariant-loop
-invariant-loop l = length l.all.items ≡ l.counter
+invariant-loop g l = length l.all.items ≡ l.counter
