@@ -19,7 +19,7 @@ use std::thread::{Threads, join};
 const FOR_EACH: usize = 8;
 
 /// How many tiles each worker is to have at least. For fewer a thread costs more than it saves.
-const LEAST_TILES: usize = 2;
+const LEAST_TILES: usize = 8;
 
 /// The highest level of a block.
 const LEVELS: u32 = 20;
@@ -88,6 +88,28 @@ fn beginning(turn: usize) -> usize {
     turn % 1_000 * APART % 1_000
 }
 
+/// A worker's share of a list: how many thousandths of it lie before the share, and how many it has.
+#[derive(Clone, Copy)]
+struct Share {
+    from: usize,
+    step: usize,
+}
+
+impl Share {
+    /// So many thousandths of a list of `count`.
+    fn places(&self, thousandths: usize, count: usize) -> usize {
+        thousandths.saturating_mul(count) / 1_000
+    }
+
+    /// That of the next worker.
+    fn next(&self) -> Share {
+        Share {
+            from: self.from.saturating_add(self.step),
+            step: self.step,
+        }
+    }
+}
+
 impl<
     'a,
     R: Wait,
@@ -96,30 +118,45 @@ impl<
     N: Link<TileKey, J, R> + Link<SumKey, J, R>,
     T: Gate<R>,
 > GroupItems<'a, R, S, J, N, T> {
-    /// Asks for sums one after another, until one can't be had or isn't kept. Whether all are kept.
+    /// Asks for sums where they aren't kept. Whether they are kept then.
+    fn ask_one(&self, rt: &R, passes: &mut Passes<J>, key: &SumKey) -> bool {
+        let sums = self.0.sums();
+        sums.holds(rt, key) || (self.0.get(rt, passes, key).is_ok() && sums.holds(rt, key))
+    }
+
+    /// The same of one key after another, until one can't be had or isn't kept. Whether all are kept.
     fn ask_each(&self, rt: &R, passes: &mut Passes<J>, keys: &[SumKey]) -> bool {
         for key in keys {
-            if self.0.get(rt, passes, key).is_err() || !self.0.sums().holds(rt, key) {
+            if !self.ask_one(rt, passes, key) {
                 return false;
             }
         }
         true
     }
 
-    /// The same from so many thousandths of the list on, and then from its beginning to that place.
-    fn ask_from(
-        &self,
-        rt: &R,
-        passes: &mut Passes<J>,
-        keys: &[SumKey],
-        thousandths: usize,
-    ) -> bool {
-        let place = (thousandths % 1_000).saturating_mul(keys.len()) / 1_000;
+    /// The same from the last one to the first.
+    fn ask_back(&self, rt: &R, passes: &mut Passes<J>, keys: &[SumKey]) -> bool {
+        for n in 0..keys.len() {
+            if !self.ask_one(rt, passes, &keys[keys.len() - 1 - n]) {
+                return false;
+            }
+        }
+        true
+    }
+
+    /// The same of a worker's share of the list, and then of what others may have left of theirs: from their ends, as each of them works
+    /// from its share's beginning.
+    fn ask_from(&self, rt: &R, passes: &mut Passes<J>, keys: &[SumKey], share: &Share) -> bool {
+        let place = share.places(share.from % 1_000, keys.len());
         let Some(place) = place.checked_rem(keys.len()) else {
             return true;
         };
         let (before, behind) = keys.split_at(place);
-        self.ask_each(rt, passes, behind) && self.ask_each(rt, passes, before)
+        let count = share.places(share.step, keys.len()).saturating_add(1);
+        let (own, after) = behind.split_at(count.min(behind.len()));
+        self.ask_each(rt, passes, own)
+            && self.ask_back(rt, passes, before)
+            && self.ask_back(rt, passes, after)
     }
 
     /// The same of parts, and then of the blocks.
@@ -129,10 +166,9 @@ impl<
         passes: &mut Passes<J>,
         parts: &[SumKey],
         blocks: &[SumKey],
-        thousandths: usize,
+        share: &Share,
     ) -> bool {
-        self.ask_from(rt, passes, parts, thousandths)
-            && self.ask_from(rt, passes, blocks, thousandths)
+        self.ask_from(rt, passes, parts, share) && self.ask_from(rt, passes, blocks, share)
     }
 
     /// Whether all these blocks are kept now.
@@ -177,29 +213,28 @@ impl<
     N: Link<TileKey, J, R> + Link<SumKey, J, R> + Sync,
     T: Gate<R> + Sync,
 > GroupItems<'a, R, S, J, N, T> {
-    /// Asks for all of two lists by one worker for each pass, each `step` thousandths behind the one before.
+    /// Asks for all of two lists by one worker for each pass, the first with this share.
     fn ask_by_all(
         &self,
         rt: &R,
         passes: &mut [Passes<J>],
         parts: &[SumKey],
         blocks: &[SumKey],
-        from: usize,
-        step: usize,
+        share: &Share,
     ) {
         let Some((own, others)) = passes.split_first_mut() else {
             return;
         };
         if others.is_empty() {
-            self.ask_both(rt, own, parts, blocks, from);
+            self.ask_both(rt, own, parts, blocks, share);
             return;
         }
         join(
             rt,
-            || self.ask_both(rt, own, parts, blocks, from),
+            || self.ask_both(rt, own, parts, blocks, share),
             ||
                 requires { IsSync R.row × (0 < length others.now) }
-            { self.ask_by_all(rt, others, parts, blocks, from.saturating_add(step), step) },
+            { self.ask_by_all(rt, others, parts, blocks, &share.next()) },
         );
     }
 
@@ -217,13 +252,16 @@ impl<
         let workers = (tiles_of(&blocks) / LEAST_TILES).min(passes.len());
         if workers < 2 {
             if let Some((own, _others)) = passes.split_first_mut() {
-                self.ask_from(rt, own, &blocks, 0);
+                self.ask_each(rt, own, &blocks);
             }
             return Ok(());
         }
         let parts = parts_below(alloc, &blocks, workers.saturating_mul(FOR_EACH))?;
-        let (from, step) = (beginning(turn), 1_000 / workers);
-        self.ask_by_all(rt, &mut passes[..workers], &parts, &blocks, from, step);
+        let share = Share {
+            from: beginning(turn),
+            step: 1_000 / workers,
+        };
+        self.ask_by_all(rt, &mut passes[..workers], &parts, &blocks, &share);
         Ok(())
     }
 

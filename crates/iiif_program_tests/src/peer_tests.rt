@@ -28,6 +28,19 @@ fn is_halved<R: Net<Stream = TcpStream>>(rt: &R, alloc: Global, listener: &TcpLi
     is_sent(rt, alloc, listener, HALVED, false, wanted)
 }
 
+/// Whether two nodes answer that rightly at once.
+fn both_answer<R>(rt: &R, alloc: Global, first: &Listeners, second: &Listeners) -> bool
+where
+    R: Net<Listener = TcpListener, Stream = TcpStream> + Threads + Sync,
+{
+    let both = thread::join(
+        rt,
+        || is_halved(rt, alloc, &first.viewers),
+        || is_halved(rt, alloc, &second.viewers),
+    );
+    both == (true, true)
+}
+
 /// A viewer of two nodes, who are to answer that rightly at once.
 #[derive(Clone, Copy)]
 struct OfBoth<'a> {
@@ -39,13 +52,7 @@ where
     R: Net<Listener = TcpListener, Stream = TcpStream> + Threads + Sync,
 {
     fn is_right(&self, rt: &R, alloc: Global, second: &Listeners) -> bool {
-        let first = self.first;
-        let both = thread::join(
-            rt,
-            || is_halved(rt, alloc, &first.viewers),
-            || is_halved(rt, alloc, &second.viewers),
-        );
-        both == (true, true)
+        both_answer(rt, alloc, self.first, second)
     }
 }
 
@@ -240,14 +247,44 @@ fn take_one<R: Clock>(rt: &R, alloc: Global, listener: &TcpListener, way: Way) -
     ask.version == Version::One && ask.group == 1
 }
 
-/// A viewer of a node whose peer owns every key and does so with the only ask. The peer is asked well, and the viewer is answered what
-/// is wanted.
+/// Whether a peer that owns every key, and does so with the only ask, is asked well, and the viewer is answered what is wanted. Then the
+/// node ends.
+fn is_asked_and_answered<R>(
+    rt: &R,
+    alloc: Global,
+    owner: &TcpListener,
+    viewers: &TcpListener,
+    asked: Asked,
+) -> bool
+where
+    R: Net<Listener = TcpListener, Stream = TcpStream> + Threads + Clock + Sync,
+{
+    let Asked {
+        way,
+        request,
+        wanted,
+        ..
+    } = asked;
+    let both = thread::join(
+        rt,
+        || take_one(rt, alloc, owner, way),
+        || {
+            let is_answered = is_sent(rt, alloc, viewers, request, false, wanted);
+            // So that the node ends, and leaves the owner.
+            stop(viewers);
+            // So that the owner doesn't wait for an ask that never came.
+            stop(owner);
+            is_answered
+        },
+    );
+    both == (true, true)
+}
+
+/// A viewer of a node whose peer owns every key.
 #[derive(Clone, Copy)]
 struct BesideOwner<'a> {
     owner: &'a TcpListener,
-    way: Way,
-    request: &'a [u8],
-    wanted: Text<'a>,
+    asked: Asked,
 }
 
 impl<'a, R> Visit<R> for BesideOwner<'a>
@@ -255,26 +292,7 @@ where
     R: Net<Listener = TcpListener, Stream = TcpStream> + Threads + Clock + Sync,
 {
     fn is_right(&self, rt: &R, alloc: Global, listeners: &Listeners) -> bool {
-        let BesideOwner {
-            owner,
-            way,
-            request,
-            wanted,
-        } = *self;
-        let viewers = &listeners.viewers;
-        let both = thread::join(
-            rt,
-            || take_one(rt, alloc, owner, way),
-            || {
-                let is_answered = is_sent(rt, alloc, viewers, request, false, wanted);
-                // So that the node ends, and leaves the owner.
-                stop(viewers);
-                // So that the owner doesn't wait for an ask that never came.
-                stop(owner);
-                is_answered
-            },
-        );
-        both == (true, true)
+        is_asked_and_answered(rt, alloc, self.owner, &listeners.viewers, self.asked)
     }
 }
 
@@ -289,17 +307,10 @@ where
         + Sync
         + AllocGlobal,
 {
-    let Asked {
-        way,
-        images,
-        request,
-        wanted,
-        ..
-    } = asked;
     let owner = TcpListener::bind(rt, ANY)?;
     let address = address_of(rt.alloc(), &owner)?;
     let scene = Scene {
-        images,
+        images: asked.images,
         owner: Some(address.as_str()),
         times: Times {
             ask: LIMIT,
@@ -309,9 +320,7 @@ where
     };
     let visit = BesideOwner {
         owner: &owner,
-        way,
-        request,
-        wanted,
+        asked,
     };
     Ok(served(rt, &scene, &visit))
 }

@@ -215,7 +215,8 @@ const MEAN: Case<'static> = (
 );
 
 /// At one place and an edge of 1 the sample is one block of level 2. Below it stand 4 of level 1 and 16 of level 0: 21 in all, each loaded
-/// once. One worker asks for each once, and three ask for some of them before.
+/// once. One worker asks for each once. Of three two ask for the 16 before, and then for the block, which asks for 20: at least 37 asks, and
+/// one more for the band.
 const ASKED: [Table; 2] = [
     (
         "by one",
@@ -229,7 +230,7 @@ const ASKED: [Table; 2] = [
             workers: 3,
             ..AT_ONCE
         },
-        &[MEAN, (Ask::Sums, Want::Booked(22, u64::MAX, 21))],
+        &[MEAN, (Ask::Sums, Want::Booked(38, u64::MAX, 21))],
     ),
 ];
 
