@@ -16,8 +16,8 @@ seven runs of its own (of the others three). With --before, another build of the
 that aren't scaled up. With --reads, `strace` counts the reads of the source that a job takes, in a run of its own.
 
 The status is 1 where an answer of the program differs or a program fails, and with --strict also where a limit is passed. Memory: what
-docs/OPERATING.md says, which is the caches and a band (`memory.py`), with the program's defaults, with no cache, and with a small one and a
-single worker. Wall clock: an overview of 100 megapixels from tiles 1.15 of the build before by one worker, and 0.6 by four, by the defaults;
+docs/OPERATING.md says, which is the caches and a band (`memory.py`), with the program's defaults, with no cache, with a small one and a
+single worker, and with four workers. Wall clock: an overview of 100 megapixels from tiles 1.15 of the build before by one worker, and 0.6 by four, by the defaults;
 from strips GDAL's average, by two. Processor time: on 16 bits 1.5 of plain Rust's and 1.0 of GDAL's average, and 1.5 of plain Rust's where a result is
 above its region.
 """
@@ -127,6 +127,7 @@ MEMORY = {
     "defaults": ([], {}),
     "no cache": (["--cache-bytes", "0"], {"cache": 0}),
     "8 MiB, one worker": (["--cache-bytes", str(8 << 20), "--workers", "1"], {"cache": 8 << 20, "workers": 1}),
+    "four workers": (["--workers", "4"], {"workers": 4}),
 }
 
 # Name of the job, source, rectangle, sides of the result.

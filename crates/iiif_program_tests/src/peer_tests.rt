@@ -49,7 +49,13 @@ struct OfBoth<'a> {
 
 impl<'a, R> Visit<R> for OfBoth<'a>
 where
-    R: Net<Listener = TcpListener, Stream = TcpStream> + Threads + Sync,
+    R: Opens
+        + Net<Listener = TcpListener, Stream = TcpStream>
+        + Threads
+        + Wait
+        + Clock
+        + Sync
+        + AllocGlobal,
 {
     fn is_right(&self, rt: &R, alloc: Global, second: &Listeners) -> bool {
         both_answer(rt, alloc, self.first, second)
@@ -289,7 +295,13 @@ struct BesideOwner<'a> {
 
 impl<'a, R> Visit<R> for BesideOwner<'a>
 where
-    R: Net<Listener = TcpListener, Stream = TcpStream> + Threads + Clock + Sync,
+    R: Opens
+        + Net<Listener = TcpListener, Stream = TcpStream>
+        + Threads
+        + Wait
+        + Clock
+        + Sync
+        + AllocGlobal,
 {
     fn is_right(&self, rt: &R, alloc: Global, listeners: &Listeners) -> bool {
         is_asked_and_answered(rt, alloc, self.owner, &listeners.viewers, self.asked)
