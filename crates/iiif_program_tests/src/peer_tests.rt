@@ -1,19 +1,18 @@
 //! Nodes that ask each other, and nodes whose peers lie, drip, are silent or gone.
 
 use crate::files::DEEP;
-use crate::nodes::{Counts, SAMPLE, Scene};
+use crate::nodes::{Counts, SAMPLE, Scene, serve_told};
 use crate::run::Text;
-use crate::visits::{ANY, Visit, address_of, beside, connected, is_sent, served};
+use crate::visits::{ANY, Visit, address_of, connected, is_sent, served};
 use iiif_listener::stop;
 use iiif_open_files::Opens;
 use iiif_peer_wire::{Version, read_ask};
 use iiif_program::times::USUAL;
-use iiif_program::{Addresses, Listeners, Times};
+use iiif_program::{Addresses, Listeners, Times, Watcher};
 use std::alloc::Global;
 use std::io::{Read, Write};
 use std::net::{Net, TcpListener, TcpStream};
 use std::sync::Wait;
-use std::sync::atomic::{AtomicU64, Ordering};
 use std::test::Fail;
 use std::thread::Threads;
 use std::time::{Clock, Duration};
@@ -28,7 +27,23 @@ fn is_halved<R: Net<Stream = TcpStream>>(rt: &R, alloc: Global, listener: &TcpLi
     is_sent(rt, alloc, listener, HALVED, false, wanted)
 }
 
-/// Whether two nodes answer that rightly at once.
+/// Serves by a scene's node at these listeners until one is stopped, and says what it counted.
+fn serve<R>(rt: &R, alloc: Global, scene: &Scene<'_, '_>, listeners: &Listeners) -> Option<Counts>
+where
+    R: Opens
+        + Net<Listener = TcpListener, Stream = TcpStream>
+        + Threads
+        + Wait
+        + Clock
+        + Sync
+        + AllocGlobal,
+{
+    let watcher = Watcher::new(alloc, false).ok()?;
+    let mut unread = Vec::new(alloc);
+    serve_told(rt, alloc, scene, &watcher, listeners, &mut unread)
+}
+
+/// Whether two nodes answer that rightly at once. Then both are stopped.
 fn both_answer<R>(rt: &R, alloc: Global, first: &Listeners, second: &Listeners) -> bool
 where
     R: Net<Listener = TcpListener, Stream = TcpStream> + Threads + Sync,
@@ -38,16 +53,20 @@ where
         || is_halved(rt, alloc, &first.viewers),
         || is_halved(rt, alloc, &second.viewers),
     );
+    first.stop();
+    second.stop();
     both == (true, true)
 }
 
-/// A viewer of two nodes, who are to answer that rightly at once.
-#[derive(Clone, Copy)]
-struct OfBoth<'a> {
-    first: &'a Listeners,
-}
-
-impl<'a, R> Visit<R> for OfBoth<'a>
+/// Serves by the second of them, for which the first owns each key, while both are asked: how many values of the first it took, and
+/// whether both answered.
+fn second_served<R>(
+    rt: &R,
+    alloc: Global,
+    to_first: &str,
+    first: &Listeners,
+    second: &Listeners,
+) -> (Option<Counts>, bool)
 where
     R: Opens
         + Net<Listener = TcpListener, Stream = TcpStream>
@@ -57,21 +76,26 @@ where
         + Sync
         + AllocGlobal,
 {
-    fn is_right(&self, rt: &R, alloc: Global, second: &Listeners) -> bool {
-        both_answer(rt, alloc, self.first, second)
-    }
+    let scene = Scene {
+        owner: Some(to_first),
+        ..SAMPLE
+    };
+    thread::join(
+        rt,
+        || serve(rt, alloc, &scene, second),
+        || both_answer(rt, alloc, first, second),
+    )
 }
 
-/// A second node at its listeners, for which the first owns each key, beside which both are asked. How many values of the first it took
-/// is added here.
-#[derive(Clone, Copy)]
-struct Second<'a> {
-    to_first: &'a str,
-    listeners: &'a Listeners,
-    taken: &'a AtomicU64,
-}
-
-impl<'a, R> Visit<R> for Second<'a>
+/// The same, by the first too, for which the second owns each key.
+fn both_served<R>(
+    rt: &R,
+    alloc: Global,
+    to_first: &str,
+    to_second: &str,
+    first: &Listeners,
+    second: &Listeners,
+) -> (Option<Counts>, (Option<Counts>, bool))
 where
     R: Opens
         + Net<Listener = TcpListener, Stream = TcpStream>
@@ -81,19 +105,15 @@ where
         + Sync
         + AllocGlobal,
 {
-    fn is_right(&self, rt: &R, alloc: Global, first: &Listeners) -> bool {
-        let scene = Scene {
-            owner: Some(self.to_first),
-            ..SAMPLE
-        };
-        match beside(rt, alloc, &scene, self.listeners, &OfBoth { first }) {
-            Some(counts) => {
-                self.taken.store(counts.peer, Ordering::SeqCst);
-                true
-            }
-            None => false,
-        }
-    }
+    let scene = Scene {
+        owner: Some(to_second),
+        ..SAMPLE
+    };
+    thread::join(
+        rt,
+        || serve(rt, alloc, &scene, first),
+        || second_served(rt, alloc, to_first, first, second),
+    )
 }
 
 /// Listeners for viewers and for other nodes.
@@ -117,14 +137,8 @@ fn peer_address(alloc: Global, listeners: &Listeners) -> Result<String, Fail> {
     }
 }
 
-/// How many values a first node took, for which a second owns each key, and how many that one took, where both answered.
-fn taken_by_both<R>(
-    rt: &R,
-    first: &Listeners,
-    second: &Listeners,
-    to_first: &str,
-    to_second: &str,
-) -> Option<u64>
+/// How many values two nodes took from each other that hold each other for the owner of each key, where both answer rightly at once.
+fn taken_by_both<R>(rt: &R) -> Result<u64, Fail>
 where
     R: Opens
         + Net<Listener = TcpListener, Stream = TcpStream>
@@ -134,29 +148,21 @@ where
         + Sync
         + AllocGlobal,
 {
-    let scene = Scene {
-        owner: Some(to_second),
-        ..SAMPLE
-    };
-    let taken = AtomicU64::new(0);
-    let visit = Second {
-        to_first,
-        listeners: second,
-        taken: &taken,
-    };
-    let counts = beside(rt, rt.alloc(), &scene, first, &visit)?;
-    Some(counts.peer.saturating_add(taken.load(Ordering::SeqCst)))
+    let alloc = rt.alloc();
+    let (first, second) = (two_listeners(rt)?, two_listeners(rt)?);
+    let to_first = peer_address(alloc, &first)?;
+    let to_second = peer_address(alloc, &second)?;
+    match both_served(rt, alloc, &to_first, &to_second, &first, &second) {
+        (Some(one), (Some(two), true)) => Ok(one.peer.saturating_add(two.peer)),
+        _ => Err(Fail::from("no node, or no right answer")),
+    }
 }
 
 #[test]
 fn nodes_that_hold_each_other_for_the_owner_answer_rightly_at_once(
     rt: HostRuntime,
 ) -> Result<(), Fail> {
-    let (first, second) = (two_listeners(&rt)?, two_listeners(&rt)?);
-    let to_first = peer_address(rt.alloc(), &first)?;
-    let to_second = peer_address(rt.alloc(), &second)?;
-    let taken = taken_by_both(&rt, &first, &second, &to_first, &to_second);
-    assert!(rt; taken.unwrap_or(0) > 0);
+    assert!(rt; taken_by_both(&rt)? > 0);
     Ok(())
 }
 
@@ -253,15 +259,14 @@ fn take_one<R: Clock>(rt: &R, alloc: Global, listener: &TcpListener, way: Way) -
     ask.version == Version::One && ask.group == 1
 }
 
-/// Whether a peer that owns every key, and does so with the only ask, is asked well, and the viewer is answered what is wanted. Then the
-/// node ends.
-fn is_asked_and_answered<R>(
+/// Whether the owner is asked well, and whether the viewer is answered what is wanted.
+fn asked_and_answered<R>(
     rt: &R,
     alloc: Global,
     owner: &TcpListener,
     viewers: &TcpListener,
     asked: Asked,
-) -> bool
+) -> (bool, bool)
 where
     R: Net<Listener = TcpListener, Stream = TcpStream> + Threads + Clock + Sync,
 {
@@ -271,7 +276,7 @@ where
         wanted,
         ..
     } = asked;
-    let both = thread::join(
+    thread::join(
         rt,
         || take_one(rt, alloc, owner, way),
         || {
@@ -282,18 +287,18 @@ where
             stop(owner);
             is_answered
         },
-    );
-    both == (true, true)
+    )
 }
 
-/// A viewer of a node whose peer owns every key.
-#[derive(Clone, Copy)]
-struct BesideOwner<'a> {
-    owner: &'a TcpListener,
+/// Serves by a node meanwhile: what it counted, and what of that is so.
+fn served_beside<R>(
+    rt: &R,
+    alloc: Global,
+    scene: &Scene<'_, '_>,
+    listeners: &Listeners,
+    owner: &TcpListener,
     asked: Asked,
-}
-
-impl<'a, R> Visit<R> for BesideOwner<'a>
+) -> (Option<Counts>, (bool, bool))
 where
     R: Opens
         + Net<Listener = TcpListener, Stream = TcpStream>
@@ -303,9 +308,15 @@ where
         + Sync
         + AllocGlobal,
 {
-    fn is_right(&self, rt: &R, alloc: Global, listeners: &Listeners) -> bool {
-        is_asked_and_answered(rt, alloc, self.owner, &listeners.viewers, self.asked)
-    }
+    thread::join(
+        rt,
+        || serve(rt, alloc, scene, listeners),
+        || {
+            let seen = asked_and_answered(rt, alloc, owner, &listeners.viewers, asked);
+            listeners.stop();
+            seen
+        },
+    )
 }
 
 /// What a node counted whose peer owns every key and does so with the only ask, where it asked well and answered what is wanted.
@@ -330,11 +341,11 @@ where
         },
         ..SAMPLE
     };
-    let visit = BesideOwner {
-        owner: &owner,
-        asked,
-    };
-    Ok(served(rt, &scene, &visit))
+    let listeners = two_listeners(rt)?;
+    match served_beside(rt, rt.alloc(), &scene, &listeners, &owner, asked) {
+        (counts, (true, true)) => Ok(counts),
+        _ => Ok(None),
+    }
 }
 
 /// What a peer does with the only ask, the images, a viewer's request and its answer, how many calls enter, and how many of the peer's

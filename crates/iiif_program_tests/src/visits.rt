@@ -254,27 +254,3 @@ where
         None => None,
     }
 }
-
-/// What a scene's node at these listeners counted during a visit that went as it was to.
-pub(crate) fn beside<R, V>(
-    rt: &R,
-    alloc: Global,
-    scene: &Scene<'_, '_>,
-    listeners: &Listeners,
-    visit: &V,
-) -> Option<Counts>
-where
-    R: Opens
-        + Net<Listener = TcpListener, Stream = TcpStream>
-        + Threads
-        + Wait
-        + Clock
-        + Sync
-        + AllocGlobal,
-    V: Visit<R> + Sync,
-{
-    let watcher = Watcher::new(alloc, false).ok()?;
-    let mut unread = Vec::new(alloc);
-    let (counts, is_right) = visited(rt, alloc, scene, &watcher, listeners, visit, &mut unread);
-    if is_right { counts } else { None }
-}
