@@ -16,7 +16,7 @@ use iiif_tiff_write::laws::lengths_fit;
 
 /// An image request that is accepted: the values that it comes to, its canonical form, and the kind of the file that is
 /// answered.
-#[derive(Clone, Copy, Debug)]
+#[derive(Clone, Copy)]
 pub struct Accepted {
     pub resolved: Resolved,
     pub canonical: Request,

@@ -53,6 +53,17 @@ fn turned_dim(turn: Turn, dim: Dim) -> Dim
     }
 }
 
+/// The value of the field that gives a canonical URI.
+fn link_to(alloc: Global, uri: &str) -> Result<String, NoMemory>
+    ensures { IfOk result (λ s. string_bytes s ≡ canonical_link uri.now) }
+{
+    let mut link = String::new(alloc);
+    link.push_str("<")?;
+    link.push_str(uri)?;
+    link.push_str(">;rel=\"canonical\"")?;
+    Ok(link)
+}
+
 /// The value of the field that gives a request's canonical URI.
 fn canonical_link(
     alloc: Global,
@@ -64,11 +75,7 @@ fn canonical_link(
     ensures { IfOk result (λ s. string_bytes s ≡ canonical_link (uri_of base.now name.now canonical.now)) }
 {
     let uri = uri(alloc, base, name, canonical)?;
-    let mut link = String::new(alloc);
-    link.push_str("<")?;
-    link.push_str(uri.as_str())?;
-    link.push_str(">;rel=\"canonical\"")?;
-    Ok(link)
+    link_to(alloc, uri.as_str())
 }
 
 /// The head of an image's answer.

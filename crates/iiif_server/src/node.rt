@@ -3,7 +3,9 @@
 ghost use Rattle.std.specs.Prelude.{◌≡◌, ◌<◌, ◌^◌, ℕ, List, Some, true, false, IfOk, IsTrue, length};
 ghost use Rattle.std.specs.Io.KnownBytes.{Appends};
 ghost use Rattle.iiif_source.specs.declared.ReadFault.{ReadFault};
-ghost use Rattle.iiif_pixel.specs.Picture.{Picture};
+ghost use Rattle.iiif_pixel.specs.Picture.{Picture, dim_of};
+ghost use Rattle.iiif_pixel.specs.TurnPlaces.{turned_dim};
+ghost use Rattle.iiif_request.specs.Targets.{AsksFor, resource_of};
 ghost use Rattle.iiif_request.specs.declared.request.Request.{Request};
 ghost use Rattle.iiif_tiff_write.specs.OutKind.{out_kind_of};
 ghost use Rattle.iiif_images.specs.Collection.{Item, item_named};
@@ -11,11 +13,12 @@ ghost use Rattle.iiif_images.specs.Items.{item_of};
 ghost use Rattle.iiif_images.specs.Named.{gave_of, pictures_of};
 ghost use Rattle.iiif_server.specs.Answers.{given, Given, IsPictureOf, Replies};
 ghost use Rattle.iiif_server.specs.Allowed.{Allowed, IsFramedText};
+ghost use Rattle.iiif_server.specs.BaseUrl.{path_of};
 ghost use Rattle.iiif_server.specs.Calls.{RepliesToCall, part_of};
-ghost use Rattle.iiif_server.specs.Code.{IsJobFor, ReachesImageOf};
+ghost use Rattle.iiif_server.specs.Code.{IsJobFor, MayTell, ReachesImageOf, answer_of};
 ghost use Rattle.iiif_server.specs.Kinds.{depth_of, kind_of};
 ghost use Rattle.iiif_server.specs.Outcomes.{CanBeMade, ComesTo, IsFound, IsReady};
-ghost use Rattle.iiif_server.specs.Responses.{is_loaded};
+ghost use Rattle.iiif_server.specs.Responses.{Response, image_response, is_loaded, written};
 ghost use Rattle.iiif_server.specs.declared.part.Part.TheVariants.{Body};
 
 use crate::accepted::{Accepted, accept};
@@ -23,14 +26,14 @@ use crate::answer::{Cause, Cut, Sent};
 use crate::calls::{is_answered, part_of};
 use crate::config::Config;
 use crate::images::{head_message, image_head, job_of, picture_is_shown};
-use crate::message::{information_message, redirect_message, refusal_message};
+use crate::message::{Message, information_message, redirect_message, refusal_message};
 use crate::outcome::{Outcome, identifier, sides};
 use crate::part::Part;
 use crate::sending::{send_fault, send_message};
 use crate::stock::Stock;
 use iiif_assemble::Job;
 use iiif_delivery::{Stopped, send_image};
-use iiif_group::{Gate, Group, Link, NoGate, NoLink};
+use iiif_group::{Gate, Link, NoGate, NoLink};
 use iiif_group_items::GroupItems;
 use iiif_group_items::laws::groups_serve_jobs;
 use iiif_http_front::Call;
@@ -104,27 +107,9 @@ impl<R, S: Source<R> + Drop, J: System, N, T> Node<R, S, J, N, T> {
     {
         let edge = config.edge();
         let images = Images::new(alloc, catalogue, edge);
-        let group = Group::new(
-            alloc,
-            tiles.bytes,
-            tiles.entries,
-            tiles.gate,
-            tiles.ring,
-            tiles.own,
-            tiles.links,
-            tiles.blank,
-        )?;
+        let group = tiles.group(alloc)?;
         let tiles = Tiles::new(alloc, images, group);
-        let group = Group::new(
-            alloc,
-            sums.bytes,
-            sums.entries,
-            sums.gate,
-            sums.ring,
-            sums.own,
-            sums.links,
-            sums.blank,
-        )?;
+        let group = sums.group(alloc)?;
         let groups = Groups::new(alloc, tiles, group);
         Ok(Node {
             config,
@@ -156,21 +141,53 @@ impl<R, S: Source<R> + Drop, J: System, N, T> Node<R, S, J, N, T> {
         ensures made { CanBeMade result }
         ensures found { IsFound self.now.items result }
     {
-        let resource = match split(alloc, self.config.prefix(), target) {
-            Ok(resource) => resource,
-            Err(SplitFault::Path) => return Outcome::Refused(Refusal::Path),
-            Err(SplitFault::NoMemory) => return Outcome::NoMemory,
-        };
-        let Some(entry) = self.images().find(identifier(&resource)) else {
+        match split(alloc, self.config.prefix(), target) {
+            Ok(resource) => self.outcome_of(&resource),
+            Err(SplitFault::Path) => Outcome::Refused(Refusal::Path),
+            Err(SplitFault::NoMemory) => Outcome::NoMemory,
+        }
+    }
+
+    /// The same, where this is asked for.
+    fn outcome_of<'a>(&'a self, resource: &Target) -> Outcome<'a, R, S>
+        ensures comes { (target : List ℕ) → AsksFor (path_of self.now.settings.base) target (resource_of resource.now)
+            → ComesTo S.bytes S.keeps J.honest (Replies S.bytes S.keeps J.honest self.now.settings self.now.items target) result }
+        ensures made { CanBeMade result }
+        ensures found { IsFound self.now.items result }
+    {
+        let Some(entry) = self.images().find(identifier(resource)) else {
             return Outcome::Refused(Refusal::Identifier);
         };
-        match &resource {
+        match resource {
             Target::Base(_) => Outcome::Redirect(entry),
             Target::Info(_) => Outcome::Information(entry, sides(entry)),
             Target::Image(_, words) => match accept(entry, &self.config.limits(), words) {
                 Ok(accepted) => Outcome::Image(entry, accepted),
                 Err(refusal) => Outcome::Refused(refusal),
             },
+        }
+    }
+
+    /// What is told where no image is made. The only error is want of memory.
+    fn message_of(
+        &self,
+        alloc: Global,
+        part: Part,
+        outcome: &Outcome<'_, R, S>,
+    ) -> Result<Message, NoMemory>
+        ensures { (target : List ℕ) → ComesTo S.bytes S.keeps J.honest (Replies S.bytes S.keeps J.honest self.now.settings self.now.items target) outcome.now
+            → IfOk result (λ m. (a : Response) × MayTell self.now.settings part S.gave (Replies S.bytes S.keeps J.honest self.now.settings self.now.items target) a
+            × (answer_of m ≡ written part a)) }
+    {
+        match outcome {
+            Outcome::Refused(refusal) => refusal_message(alloc, part, *refusal),
+            Outcome::Redirect(entry) => {
+                redirect_message(alloc, part, self.config.base(), entry.name.as_str())
+            }
+            Outcome::Information(entry, dim) => {
+                information_message(alloc, part, &self.config, entry.name.as_str(), *dim)
+            }
+            _ => Err(AllocError),
         }
     }
 
@@ -207,8 +224,7 @@ impl<R, S: Source<R> + Drop, J: System> Node<R, S, J, NoLink, NoGate> {
         ensures settings { IfOk result (λ n. n.settings ≡ config) }
         ensures items { IfOk result (λ n. n.items ≡ catalogue) }
     {
-        let tiles = Stock::alone(alloc, bytes, tiles)?;
-        let sums = Stock::alone(alloc, bytes, sums)?;
+        let (tiles, sums) = Stock::both_alone(alloc, bytes, tiles, sums)?;
         Node::new(alloc, config, catalogue, tiles, sums)
     }
 }
@@ -277,11 +293,38 @@ impl<
         let Ok(job) = self.job(alloc, entry, accepted) else {
             return send_message(out, part, Err(AllocError));
         };
+        self.send_job(rt, alloc, passes, part, entry, accepted, &job, &head, out)
+    }
+
+    /// Sends the image of a job for an accepted request behind its head, band by band.
+    fn send_job<W: Outlet>(
+        &self,
+        rt: &R,
+        alloc: Global,
+        passes: &mut [Passes<J>],
+        part: Part,
+        entry: &Entry<R, S>,
+        accepted: &Accepted,
+        job: &Job,
+        head: &[u8],
+        out: &mut W,
+    ) -> Result<Sent, Cut>
+        requires some { 0 < length passes.old }
+        requires ready { IsReady entry.now.layout accepted.now }
+        requires loaded { is_loaded part ≡ true }
+        requires job { IsJobFor J.pictures J.gave J.stable J.edge S.bytes S.gave S.keeps (item_of entry.now) accepted.now job.now }
+        requires head { (image : Picture) → dim_of image ≡ turned_dim accepted.now.resolved.turn accepted.now.resolved.size
+            → head.now ≡ (written part (image_response self.now.settings.base entry.now.name accepted.now.canonical image accepted.now.kind)).head }
+        ensures { (q : Request) (p : Picture) → IsPictureOf S.bytes S.keeps (item_of entry.now) p → accepted.now.kind ≡ out_kind_of (kind_of p) (depth_of p) q.quality
+            → (text : List ℕ) × Appends (W.contents out.old) (W.contents out.new) text
+            × Allowed self.now.settings part S.gave (ReachesImageOf (S.keeps entry.now.source × IsTrue J.honest) (item_of entry.now) q accepted.now p)
+            ((before : W) × W.fails before out.new) text result }
+    {
         // Laws of images and of groups.
         picture_is_shown(entry);
-        groups_serve_jobs::<J>(&job);
+        groups_serve_jobs::<J>(job);
         let items = GroupItems(&self.groups);
-        let is_kept = items.keep_blocks(rt, alloc, passes, &job, self.next_turn());
+        let is_kept = items.keep_blocks(rt, alloc, passes, job, self.next_turn());
         // One worker finds what is kept, and starts no thread.
         let workers = if is_kept { 1 } else { passes.len() };
         let rows = self.config.band();
@@ -291,10 +334,10 @@ impl<
             &items,
             &items,
             &mut passes[..workers],
-            &job,
+            job,
             rows,
             accepted.kind,
-            &head,
+            head,
             out,
         ) {
             Ok(delivered) => Ok(Sent {
@@ -366,30 +409,14 @@ impl<
         ensures unasked { ((g : Given S) → Replies S.bytes S.keeps J.honest self.now.settings self.now.items target.now (given g) → is_loaded part ≡ false)
             → passes.new ≡ passes.old }
     {
-        let base = self.config.base();
         match self.outcome(alloc, target) {
-            Outcome::Refused(refusal) => {
-                let message = refusal_message(alloc, part, refusal);
-                send_message(out, part, message)
-            }
-            Outcome::Redirect(entry) => {
-                let message = redirect_message(alloc, part, base, entry.name.as_str());
-                send_message(out, part, message)
-            }
-            Outcome::Information(entry, dim) => {
-                let message = information_message(
-                    alloc,
-                    part,
-                    &self.config,
-                    entry.name.as_str(),
-                    dim,
-                );
-                send_message(out, part, message)
-            }
             Outcome::Image(entry, accepted) => {
                 self.send_accepted(rt, alloc, passes, part, entry, &accepted, out)
             }
-            Outcome::NoMemory => send_message(out, part, Err(AllocError)),
+            told => {
+                let message = self.message_of(alloc, part, &told);
+                send_message(out, part, message)
+            }
         }
     }
 

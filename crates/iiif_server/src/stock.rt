@@ -1,14 +1,15 @@
 //! What the groups of a node are made with.
 
-ghost use Rattle.std.specs.Prelude.{◌≡◌, ◌<◌, ◌^◌, ℕ, IfOk};
+ghost use Rattle.std.specs.Prelude.{◌≡◌, ◌<◌, ◌^◌, ℕ, IfOk, length};
 ghost use Rattle.iiif_server.specs.Stocks.{IsStock};
 
-use iiif_group::{NoGate, NoLink};
+use iiif_group::{Group, NoGate, NoLink};
+use iiif_keys::{CacheKey, System};
 use iiif_pixel::NoMemory;
 use iiif_ring::Ring;
 use std::alloc::{AllocError, Global};
 use std::num::NonZeroUsize;
-use std::sync::ledger::Blank;
+use std::sync::ledger::{Blank, Ledger};
 
 /// The most entries of a list.
 const ENTRIES: usize = 4096;
@@ -33,6 +34,39 @@ pub struct Stock<N, T> {
     pub blank: Blank,
 }
 
+impl<N: Drop, T: Drop> Stock<N, T> {
+    /// The group that is made of it. The only error is want of memory.
+    pub(crate) fn group<K: CacheKey, J: System, L: Ledger>(
+        self,
+        alloc: Global,
+    ) -> Result<Group<K, J, L, N, T>, NoMemory>
+        requires { IsStock L.name L.parts self }
+    {
+        Group::new(
+            alloc,
+            self.bytes,
+            self.entries,
+            self.gate,
+            self.ring,
+            self.own,
+            self.links,
+            self.blank,
+        )
+    }
+}
+
+/// The ring of a node that has no others beside it.
+fn own_ring(alloc: Global) -> Result<Ring, NoMemory>
+    ensures { IfOk result (λ ring. length ring ≡ 1) }
+{
+    let mut names = Vec::new(alloc);
+    names.push(String::from_str(alloc, OWN_NAME)?)?;
+    match Ring::new(alloc, names) {
+        Ok(ring) => Ok(ring),
+        Err(_) => Err(AllocError),
+    }
+}
+
 impl Stock<NoLink, NoGate> {
     /// That of a node which has no others beside it, with room for so many bytes. The only error is want of memory.
     pub fn alone(alloc: Global, bytes: u64, blank: Blank) -> Result<Self, NoMemory>
@@ -42,11 +76,7 @@ impl Stock<NoLink, NoGate> {
         let Some(entries) = NonZeroUsize::new(ENTRIES) else {
             return Err(AllocError);
         };
-        let mut names = Vec::new(alloc);
-        names.push(String::from_str(alloc, OWN_NAME)?)?;
-        let Ok(ring) = Ring::new(alloc, names) else {
-            return Err(AllocError);
-        };
+        let ring = own_ring(alloc)?;
         let mut links = Vec::new(alloc);
         links.push(NoLink)?;
         Ok(Stock {
@@ -58,5 +88,21 @@ impl Stock<NoLink, NoGate> {
             links,
             blank,
         })
+    }
+
+    /// Two such stocks, with room for so many bytes each.
+    pub(crate) fn both_alone(
+        alloc: Global,
+        bytes: u64,
+        tiles: Blank,
+        sums: Blank,
+    ) -> Result<(Self, Self), NoMemory>
+        requires { bytes < 2 ^ 63 }
+        ensures tiles { (name parts : ℕ) → tiles.name ≡ name → tiles.parts ≡ parts → parts ≡ 65537 → IfOk result (λ both. IsStock name parts both.0) }
+        ensures sums { (name parts : ℕ) → sums.name ≡ name → sums.parts ≡ parts → parts ≡ 65537 → IfOk result (λ both. IsStock name parts both.1) }
+    {
+        let tiles = Stock::alone(alloc, bytes, tiles)?;
+        let sums = Stock::alone(alloc, bytes, sums)?;
+        Ok((tiles, sums))
     }
 }

@@ -1,6 +1,5 @@
-use Rattle.std.proofs.Common.{refl}
+use Rattle.std.proofs.Common.{◌∙◌}
 use Rattle.iiif_server.proofs.images.canonical_link.Goals as goal
 
 pub returns : goal.returns
-returns c =
-    rw (c.in_ok-push_str-3.ensures.bytes, c.in_ok-push_str-2.ensures.bytes, c.in_ok-push_str.ensures.bytes, c.new-link.ensures.bytes, c.as_str.ensures.value, c.in_ok-uri.ensures.value) refl
+returns c = rw (c.as_str.ensures.value ∙ c.in_ok-uri.ensures.value) at c.link_to.ensures

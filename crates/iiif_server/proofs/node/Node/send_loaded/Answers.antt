@@ -1,16 +1,9 @@
-use Rattle.std.proofs.Common.{◌≡◌, ◌∙◌, ℕ, ◌++◌, length, take, ap, subst, arith, length-append}
+use Rattle.std.proofs.Common.{◌∙◌, ap}
 use Rattle.std.specs.Prelude.{IsTrue}
-use Rattle.std.specs.Io.KnownBytes.{Appends}
-use Rattle.iiif_pixel.specs.Picture.{Picture, dim_of}
-use Rattle.iiif_pixel.specs.TurnPlaces.{turned_dim}
-use Rattle.iiif_tiff_write.specs.File.{file, head_of}
 use Rattle.iiif_images.specs.Items.{item_of}
-use Rattle.iiif_delivery.specs.Delivery.{result_dim}
 use Rattle.iiif_server.specs.Code.{ReachesImageOf}
 use Rattle.iiif_server.specs.Nodes.{Service}
-use Rattle.iiif_server.specs.Responses.{image_response, written}
 use Rattle.iiif_server.proofs.AllowedLemmas.{memory_allowed}
-use Rattle.iiif_server.proofs.SendingLemmas.{fails, file_head_some, fits_channels, fits_depth, held_for, load_allowed, none_allowed, sent_for, whole_allowed, writer_allowed}
 use Rattle.iiif_server.proofs.node.Node.send_loaded.Goals as goal
 
 pub returns-in_default : goal.returns-in_default
@@ -25,89 +18,7 @@ returns-in_default-job g c q p is kind =
     (ReachesImageOf (g.S.Source.keeps c.args.entry.now.source × IsTrue g.J.System.honest) (item_of c.args.entry.now) q c.args.accepted.now p) g.W.Write.contents g.W.Outlet.fails
     c.args.out.now c.send_message-in_default-job.new.out c.send_message-in_default-job.result c.send_message-in_default-job.ensures.memory
 
-pub send_image-requires-clause-channels : goal.send_image-requires-clause-channels
-send_image-requires-clause-channels g c κs within =
-    fits_channels g.J.System.pictures g.J.System.gave g.J.System.stable g.J.System.edge g.S.Source.bytes g.S.Source.gave g.S.Source.keeps (item_of c.args.entry.now) c.args.accepted.now
-    c.in-Ok-job.job c.in-Ok-job.ensures c.requires.ready
-
-pub send_image-requires-clause-depth : goal.send_image-requires-clause-depth
-send_image-requires-clause-depth g c κs within =
-    fits_depth g.J.System.pictures g.J.System.gave g.J.System.stable g.J.System.edge g.S.Source.bytes g.S.Source.gave g.S.Source.keeps (item_of c.args.entry.now) c.args.accepted.now
-    c.in-Ok-job.job c.in-Ok-job.ensures c.requires.ready
-
-pub returns-in-Ok-send_image : goal.returns-in-Ok-send_image
-returns-in-Ok-send_image g c q p is kind =
-    let item = item_of c.args.entry.now in
-    let a = c.args.accepted.now in
-    let s = c.args.self.now.settings in
-    let of = c.in-Ok-job.ensures in
+pub send_job-requires-clause-head : goal.send_job-requires-clause-head
+send_job-requires-clause-head g c κs within image sides =
     let base = c.base.ensures ∙ ap (λ (n : Service g.row.S.Denot). n.settings.base) c.self.view_is in
-    let head_is = rw (base, c.as_str.ensures.text) at c.in-Ok.ensures in
-    let is_head : (image : Picture) → dim_of image ≡ turned_dim a.resolved.turn a.resolved.size → c.deref.result.now ≡ (written c.args.part (image_response s.base item.name a.canonical image a.kind)).head =
-    λ image sides. c.deref.ensures.value ∙ head_is image sides in
-    let made = c.in-Ok-send_image.ensures.whole g.J.System.pictures of.known of.source in
-    let sent = sent_for g.J.System.pictures g.J.System.gave g.J.System.stable g.J.System.edge g.S.Source.bytes g.S.Source.gave g.S.Source.keeps g.J.System.honest item a c.in-Ok-job.job _ _ p made.0 of
-    c.groups_serve_jobs.ensures.shown (λ k. c.picture_is_shown.ensures p k is) made.1 in
-    let rows = c.band-rows.ensures.value ∙ ap (λ (n : Service g.row.S.Denot). n.settings.band) c.self.view_is in
-    let held = held_for g.J.System.pictures g.J.System.gave g.J.System.stable g.J.System.edge g.S.Source.bytes g.S.Source.gave g.S.Source.keeps item a c.in-Ok-job.job p made.0 c.band-rows.result s.band
-    c.in-Ok-send_image.delivered.held of is made.1.sides rows c.in-Ok-send_image.ensures.held in
-    whole_allowed s c.args.part g.S.Source.gave (g.S.Source.keeps c.args.entry.now.source × IsTrue g.J.System.honest) item q a p c.deref.result.now
-    g.W.Write.contents g.W.Outlet.fails c.requires.loaded c.requires.ready.quarters kind is_head
-    made.0 c.args.out.now c.send_image.new.out c.in-Ok-send_image.delivered.bytes c.in-Ok-send_image.delivered.held sent made.2 made.3 held
-
-pub returns-in-Err-Writer : goal.returns-in-Err-Writer
-returns-in-Err-Writer g c q p is kind =
-    let item = item_of c.args.entry.now in
-    let a = c.args.accepted.now in
-    let s = c.args.self.now.settings in
-    let of = c.in-Ok-job.ensures in
-    let base = c.base.ensures ∙ ap (λ (n : Service g.row.S.Denot). n.settings.base) c.self.view_is in
-    let head_is = rw (base, c.as_str.ensures.text) at c.in-Ok.ensures in
-    let is_head : (image : Picture) → dim_of image ≡ turned_dim a.resolved.turn a.resolved.size → c.deref.result.now ≡ (written c.args.part (image_response s.base item.name a.canonical image a.kind)).head =
-    λ image sides. c.deref.ensures.value ∙ head_is image sides in
-    let made = (rw c.in-Err-Writer.field-0-is at c.in-Err-Writer.ensures.stopped) g.J.System.pictures of.known of.source in
-    let sent = sent_for g.J.System.pictures g.J.System.gave g.J.System.stable g.J.System.edge g.S.Source.bytes g.S.Source.gave g.S.Source.keeps g.J.System.honest item a c.in-Ok-job.job _ _ p made.0 of
-    c.groups_serve_jobs.ensures.shown (λ k. c.picture_is_shown.ensures p k is) made.1 in
-    writer_allowed s c.args.part g.S.Source.gave (g.S.Source.keeps c.args.entry.now.source × IsTrue g.J.System.honest) item q a p c.deref.result.now
-    g.W.Write.contents g.W.Outlet.fails c.requires.loaded c.requires.ready.quarters kind is_head
-    made.0 c.args.out.now c.send_image.new.out c.in-Err-Writer.sent sent made.2
-
-pub returns-then-sent-eq0 : goal.returns-then-sent-eq0
-returns-then-sent-eq0 g c q p is kind =
-    let item = item_of c.args.entry.now in
-    let a = c.args.accepted.now in
-    let s = c.args.self.now.settings in
-    let of = c.in-Ok-job.ensures in
-    let base = c.base.ensures ∙ ap (λ (n : Service g.row.S.Denot). n.settings.base) c.self.view_is in
-    let head_is = rw (base, c.as_str.ensures.text) at c.in-Ok.ensures in
-    let is_head : (image : Picture) → dim_of image ≡ turned_dim a.resolved.turn a.resolved.size → c.deref.result.now ≡ (written c.args.part (image_response s.base item.name a.canonical image a.kind)).head =
-    λ image sides. c.deref.ensures.value ∙ head_is image sides in
-    let made = (rw c.in-Err-Load.field-0-is at c.in-Err-Load.ensures.stopped) g.J.System.pictures of.known of.source in
-    let failed = fails g.J.System.pictures g.J.System.gave g.J.System.stable g.J.System.edge g.S.Source.bytes g.S.Source.gave g.S.Source.keeps item a c.in-Ok-job.job _ _ c.args.accepted.now.kind _ _ c.in-Err-Load.sent
-    c.in-Err-Load.fault of (rw c.in-Err-Load.field-0-is at c.in-Err-Load.ensures.fault) in
-    let nothing = subst (λ (n : ℕ). Appends (g.W.Write.contents c.args.out.now) (g.W.Write.contents c.send_image.new.out) (take n (c.deref.result.now ++ file made.0 a.kind)))
-    c.if-sent-eq0.true made.2.1 in
-    none_allowed s c.args.part g.S.Source.gave (g.S.Source.keeps c.args.entry.now.source × IsTrue g.J.System.honest) item q a p c.deref.result.now
-    g.W.Write.contents g.W.Outlet.fails c.requires.loaded c.requires.ready.quarters kind is_head
-    c.args.out.now c.send_image.new.out c.send_fault.new.out c.in-Err-Load.fault c.send_fault.result nothing failed c.send_fault.ensures
-
-pub returns : goal.returns
-returns g c q p is kind =
-    let item = item_of c.args.entry.now in
-    let a = c.args.accepted.now in
-    let s = c.args.self.now.settings in
-    let of = c.in-Ok-job.ensures in
-    let base = c.base.ensures ∙ ap (λ (n : Service g.row.S.Denot). n.settings.base) c.self.view_is in
-    let head_is = rw (base, c.as_str.ensures.text) at c.in-Ok.ensures in
-    let is_head : (image : Picture) → dim_of image ≡ turned_dim a.resolved.turn a.resolved.size → c.deref.result.now ≡ (written c.args.part (image_response s.base item.name a.canonical image a.kind)).head =
-    λ image sides. c.deref.ensures.value ∙ head_is image sides in
-    let made = (rw c.in-Err-Load.field-0-is at c.in-Err-Load.ensures.stopped) g.J.System.pictures of.known of.source in
-    let failed = fails g.J.System.pictures g.J.System.gave g.J.System.stable g.J.System.edge g.S.Source.bytes g.S.Source.gave g.S.Source.keeps item a c.in-Ok-job.job _ _ c.args.accepted.now.kind _ _ c.in-Err-Load.sent
-    c.in-Err-Load.fault of (rw c.in-Err-Load.field-0-is at c.in-Err-Load.ensures.fault) in
-    let sent = sent_for g.J.System.pictures g.J.System.gave g.J.System.stable g.J.System.edge g.S.Source.bytes g.S.Source.gave g.S.Source.keeps g.J.System.honest item a c.in-Ok-job.job _ _ p made.0 of
-    c.groups_serve_jobs.ensures.shown (λ k. c.picture_is_shown.ensures p k is) made.1 in
-    let front = length (c.deref.result.now ++ head_of a.kind (result_dim c.in-Ok-job.job)) in
-    load_allowed s c.args.part g.S.Source.gave (g.S.Source.keeps c.args.entry.now.source × IsTrue g.J.System.honest) item q a p c.deref.result.now
-    g.W.Write.contents g.W.Outlet.fails c.requires.loaded c.requires.ready.quarters kind is_head
-    made.0 c.args.out.now c.send_image.new.out c.in-Err-Load.sent front c.in-Err-Load.fault sent made.2.0 made.2.1 (omega (arith, c.if-sent-eq0.false))
-    (omega (arith, length-append c.deref.result.now (head_of a.kind (result_dim c.in-Ok-job.job)), file_head_some a.kind (result_dim c.in-Ok-job.job))) made.2.2 failed
+    c.deref.ensures.value ∙ (rw (base, c.as_str.ensures.text) at c.in-Ok.ensures) image sides
