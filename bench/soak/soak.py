@@ -11,7 +11,8 @@ before its first answer is counted as turned away, and tried again.
 Prints how many answers there were, the honest viewers' latency (median, 99 in 100, the longest), what became of the others, and resident
 memory and open files before, with full caches, at the greatest and afterwards. The status is 1 where an answer was wrong, the server ended,
 open files stayed, or more memory stayed than docs/OPERATING.md, Memory, has of a program that nobody asks: that is of
-GLIBC_TUNABLES=glibc.malloc.hugetlb=1:glibc.malloc.arena_max=1 in the environment, as the package's unit sets it.
+GLIBC_TUNABLES=glibc.malloc.hugetlb=1:glibc.malloc.arena_max=1:glibc.malloc.mmap_threshold=8388608:glibc.malloc.trim_threshold=134217728 in the
+environment, as the package's unit sets it.
 """
 import argparse
 import asyncio
