@@ -13,3 +13,4 @@ pub mod Started
 pub mod Tabled
 pub mod Allowing
 pub mod Asked
+pub mod Refused

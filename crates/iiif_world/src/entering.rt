@@ -17,7 +17,7 @@ ghost use Rattle.iiif_world.specs.Code.{world_of, IsSoundWorld};
 ghost use Rattle.iiif_world.specs.Entering.{HasCall, IsFresh};
 
 use crate::world::World;
-use iiif_machine::{Call, CallState, Caller, Flight, Lead, Stage, WorldFault};
+use iiif_machine::{CallState, Caller, Flight, Lead, Stage, WorldFault};
 use iiif_pixel::NoMemory;
 use iiif_plain_tables::flights::open_for;
 use iiif_plain_tables::table::Entered;
@@ -82,6 +82,21 @@ impl World {
         Ok(())
     }
 
+    /// A new flight, for which there is room.
+    fn add_flight(&mut self, lead: Lead)
+        requires { vec_len self.old.flights < vec_capacity self.old.flights }
+        ensures { world_of self.new ≡ with_flight (world_of self.old) lead }
+    {
+        let flight = Flight {
+            lead,
+            stage: Stage::New,
+        };
+        match self.flights.push(flight) {
+            Ok(()) => {}
+            Err(_) => unreachable!(),
+        }
+    }
+
     /// A call leads a new flight, for which there is room.
     fn begin_flight(&mut self, call: usize, lead: Lead)
         requires room { vec_len self.old.flights < vec_capacity self.old.flights }
@@ -90,15 +105,8 @@ impl World {
             → world_of self.new ≡ with_state (with_flight (world_of self.old) lead) call who (CallState.In (length (world_of self.old).flights)) }
     {
         let number = self.flights.len();
-        let flight = Flight {
-            lead,
-            stage: Stage::New,
-        };
-        match self.flights.push(flight) {
-            Ok(()) => {}
-            Err(_) => {}
-        }
-        self.calls[call].state = CallState::In(number);
+        self.add_flight(lead);
+        self.set_state(call, CallState::In(number));
     }
 
     /// A fresh call whose key isn't kept joins the open flight of its node, key and class, or leads a new one.
@@ -139,20 +147,17 @@ impl World {
     }
 
     /// Who makes a fresh call.
-    #[tactic(auto, unfolding(iiif_machine::specs::Steps::step))]
     fn fresh_caller(&self, call: usize) -> Option<&Caller>
         ensures { MatchOption result (step (world_of self.now) (Event.Enter call) ≡ None)
             (λ who. slice_get (world_of self.now).calls call ≡ Some (record { caller = who.now; state = CallState.Fresh })) }
     {
-        match self.calls.get(call) {
-            Some(
-                Call {
-                    caller,
-                    state: CallState::Fresh,
-                },
-            ) => Some(caller),
-            _ => None,
-        }
+        let Some(row) = self.call_at(call) else {
+            return None;
+        };
+        let CallState::Fresh = row.state else {
+            return None;
+        };
+        Some(&row.caller)
     }
 
     /// A call enters its node's table.

@@ -1,12 +1,13 @@
 //! What calls know.
 
-ghost use Rattle.std.specs.Prelude.{◌≡◌, None, IfOk, OnErr};
+ghost use Rattle.std.specs.Prelude.{◌≡◌, Some, None, IfOk, MatchOption, OnErr};
+ghost use Rattle.iiif_machine.specs.declared.rows.CallState.{CallState};
 ghost use Rattle.iiif_machine.specs.Worlds.{all_learned, known_by, learned};
 ghost use Rattle.iiif_world.specs.Code.{world_of};
 ghost use Rattle.iiif_plain_tables.specs.Heard.{heard, heard_all};
 
 use crate::world::World;
-use iiif_machine::{CallState, Flight, Stage};
+use iiif_machine::{CallState, Stage};
 use iiif_pixel::NoMemory;
 use iiif_plain_tables::hearing::{Heard, copied_outcome, first_of, heard_of};
 use iiif_plain_tables::keys::copied;
@@ -14,6 +15,23 @@ use iiif_scene::Value;
 use iiif_source::ReadFault;
 
 impl World {
+    /// The outcome that a flight ended with, if it has.
+    fn outcome_in(&self, flight: usize) -> Option<&Result<Value, ReadFault>>
+        ensures { MatchOption result (known_by (world_of self.now).flights (CallState.In flight) ≡ None)
+            (λ o. known_by (world_of self.now).flights (CallState.In flight) ≡ Some o.now) }
+    {
+        let Some(row) = self.flight_at(flight) else {
+            return None;
+        };
+        let Stage::Ended(ended) = &row.stage else {
+            return None;
+        };
+        let Some(outcome) = ended else {
+            return None;
+        };
+        Some(outcome)
+    }
+
     /// What a call in a state knows. The only error is want of memory, and only where it knows something.
     fn known(&self, state: &CallState) -> Result<Option<Result<Value, ReadFault>>, NoMemory>
         ensures ok { IfOk result (λ o. o ≡ known_by (world_of self.now).flights state.now) }
@@ -23,14 +41,9 @@ impl World {
         match state {
             CallState::Fresh => Ok(None),
             CallState::Hit(value) => Ok(Some(Ok(copied(alloc, value)?))),
-            CallState::In(flight) => match self.flights.get(*flight) {
-                Some(
-                    Flight {
-                        stage: Stage::Ended(Some(outcome)),
-                        ..
-                    },
-                ) => Ok(Some(copied_outcome(alloc, outcome)?)),
-                _ => Ok(None),
+            CallState::In(flight) => match self.outcome_in(*flight) {
+                Some(outcome) => Ok(Some(copied_outcome(alloc, outcome)?)),
+                None => Ok(None),
             },
             CallState::Gone => Ok(None),
         }
@@ -54,14 +67,9 @@ impl World {
         match state {
             CallState::Fresh => Heard::Nothing,
             CallState::Hit(_) => Heard::Value,
-            CallState::In(flight) => match self.flights.get(*flight) {
-                Some(
-                    Flight {
-                        stage: Stage::Ended(Some(outcome)),
-                        ..
-                    },
-                ) => heard_of(outcome),
-                _ => Heard::Nothing,
+            CallState::In(flight) => match self.outcome_in(*flight) {
+                Some(outcome) => heard_of(outcome),
+                None => Heard::Nothing,
             },
             CallState::Gone => Heard::Nothing,
         }

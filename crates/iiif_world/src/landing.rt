@@ -16,7 +16,7 @@ ghost use Rattle.iiif_world.specs.Code.{world_of, IsSoundWorld};
 ghost use Rattle.iiif_world.specs.Entering.{HasFlight};
 
 use crate::world::World;
-use iiif_machine::{Flight, Lead, Stage, WorldFault};
+use iiif_machine::{Lead, Stage, WorldFault};
 use iiif_pixel::NoMemory;
 use iiif_plain_tables::flights::{end_flight, reopen_flight, value_in};
 use iiif_scene::Value;
@@ -25,20 +25,17 @@ use iiif_tables::Place;
 
 impl World {
     /// What a flight has that is ready.
-    #[tactic(auto, unfolding(iiif_machine::specs::Steps::step))]
     fn ready(&self, flight: usize) -> Option<(&Lead, &Result<Value, ReadFault>, Place)>
         ensures { MatchOption result ((keep : Bool) → step (world_of self.now) (Event.Land flight keep) ≡ None)
             (λ r. slice_get (world_of self.now).flights flight ≡ Some (record { lead = r.0.now; stage = Stage.Ready r.1.now r.2 })) }
     {
-        match self.flights.get(flight) {
-            Some(
-                Flight {
-                    lead,
-                    stage: Stage::Ready(outcome, place),
-                },
-            ) => Some((lead, outcome, *place)),
-            _ => None,
-        }
+        let Some(row) = self.flight_at(flight) else {
+            return None;
+        };
+        let Stage::Ready(outcome, place) = &row.stage else {
+            return None;
+        };
+        Some((&row.lead, outcome, *place))
     }
 
     /// A flight that is ready ends.

@@ -17,7 +17,7 @@ ghost use Rattle.iiif_world.specs.Loads.{IsLoading, IsLocalAt};
 ghost use Rattle.iiif_plain_tables.specs.declared.hearing.Heard.{Heard};
 
 use crate::world::World;
-use iiif_machine::{Call, Flight, Given, Numbers, Purpose, Stage, WorldFault};
+use iiif_machine::{Call, Given, Numbers, Purpose, Stage, WorldFault};
 use iiif_pixel::NoMemory;
 use iiif_plain_tables::calling::{calls_of, numbers_of, parts_in};
 use iiif_plain_tables::hearing::Heard;
@@ -41,23 +41,23 @@ pub enum Loading {
 
 impl World {
     /// The read of a local flight's tile fails.
-    #[tactic(auto, unfolding(iiif_machine::specs::Steps::step, iiif_scene::specs::Keys::parts_of))]
     pub fn source_fault(&mut self, flight: usize, fault: ReadFault) -> Result<(), WorldFault>
         ensures ok { OnOk result (step (world_of self.old) (Event.SourceFault flight fault) ≡ Some (world_of self.new)) }
         ensures not_now { IfErr result (λ f. f ≡ WorldFault.NotNow → step (world_of self.old) (Event.SourceFault flight fault) ≡ None) }
         ensures no_memory { IfErr result (λ f. f ≡ WorldFault.NoMemory → ¬ (step (world_of self.old) (Event.SourceFault flight fault) ≡ None)) }
         ensures same { OnErr result (world_of self.new ≡ world_of self.old) }
     {
-        let Some(
-            Flight {
-                lead,
-                stage: Stage::Looked,
-            },
-        ) = self.flights.get(flight)
-        else {
+        let Some(row) = self.flight_at(flight) else {
             return Err(WorldFault::NotNow);
         };
-        let (Class::Local, Key::Tile(_)) = (lead.class, &lead.key) else {
+        let Stage::Looked = row.stage else {
+            return Err(WorldFault::NotNow);
+        };
+        let lead = &row.lead;
+        let Class::Local = lead.class else {
+            return Err(WorldFault::NotNow);
+        };
+        let Key::Tile(_) = &lead.key else {
             return Err(WorldFault::NotNow);
         };
         let given = Given {

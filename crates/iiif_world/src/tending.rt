@@ -15,7 +15,7 @@ ghost use Rattle.iiif_world.specs.Code.{world_of, IsSoundWorld};
 ghost use Rattle.iiif_world.specs.Entering.{HasFlight};
 
 use crate::world::World;
-use iiif_machine::{Ask, Flight, Lead, Stage, WorldFault};
+use iiif_machine::{Ask, Lead, Stage, WorldFault};
 use iiif_pixel::NoMemory;
 use iiif_plain_tables::node::Node;
 use iiif_plain_tables::stopping::{stop_calls, stop_flights, stop_requests};
@@ -41,40 +41,34 @@ fn stage_found(found: Option<Value>) -> Stage
 
 impl World {
     /// What of a new flight never changes.
-    #[tactic(auto, unfolding(iiif_machine::specs::Steps::step))]
     fn new_lead(&self, flight: usize) -> Option<&Lead>
         ensures { MatchOption result (step (world_of self.now) (Event.Again flight) ≡ None)
             (λ l. slice_get (world_of self.now).flights flight ≡ Some (record { lead = l.now; stage = Stage.New })) }
     {
-        match self.flights.get(flight) {
-            Some(
-                Flight {
-                    lead,
-                    stage: Stage::New,
-                },
-            ) => Some(lead),
-            _ => None,
-        }
+        let Some(row) = self.flight_at(flight) else {
+            return None;
+        };
+        let Stage::New = row.stage else {
+            return None;
+        };
+        Some(&row.lead)
     }
 
     /// What of a wide flight that has looked again never changes.
-    #[tactic(auto, unfolding(iiif_machine::specs::Steps::step))]
     fn wide_lead(&self, flight: usize) -> Option<&Lead>
         ensures { MatchOption result (step (world_of self.now) (Event.AskPeer flight) ≡ None)
             (λ l. (slice_get (world_of self.now).flights flight ≡ Some (record { lead = l.now; stage = Stage.Looked })) × (l.now.class ≡ Class.Wide)) }
     {
-        match self.flights.get(flight) {
-            Some(
-                Flight {
-                    lead,
-                    stage: Stage::Looked,
-                },
-            ) => match lead.class {
-                Class::Wide => Some(lead),
-                Class::Local => None,
-            },
-            _ => None,
-        }
+        let Some(row) = self.flight_at(flight) else {
+            return None;
+        };
+        let Stage::Looked = row.stage else {
+            return None;
+        };
+        let Class::Wide = row.lead.class else {
+            return None;
+        };
+        Some(&row.lead)
     }
 
     /// The table of a flight's node has its leader look again. After an error all is as before.
@@ -140,7 +134,6 @@ impl World {
     }
 
     /// A node loses kept values.
-    #[tactic(auto, unfolding(iiif_machine::specs::Steps::step))]
     pub fn evict(&mut self, node: usize, keys: &Vec<Key>) -> Result<(), WorldFault>
         ensures ok { OnOk result (step (world_of self.old) (Event.Evict node keys.now) ≡ Some (world_of self.new)) }
         ensures not_now { IfErr result (λ f. f ≡ WorldFault.NotNow → step (world_of self.old) (Event.Evict node keys.now) ≡ None) }
@@ -155,7 +148,6 @@ impl World {
     }
 
     /// A node ends, with all that it had, and begins anew.
-    #[tactic(auto, unfolding(iiif_machine::specs::Steps::step))]
     pub fn stop(&mut self, node: usize) -> Result<(), WorldFault>
         ensures ok { OnOk result (step (world_of self.old) (Event.Stop node) ≡ Some (world_of self.new)) }
         ensures not_now { IfErr result (λ f. f ≡ WorldFault.NotNow → step (world_of self.old) (Event.Stop node) ≡ None) }

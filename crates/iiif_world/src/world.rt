@@ -57,6 +57,13 @@ fn place_of(items: &[Item], name: &Name) -> Option<usize>
     items.iter().position(|item| item.name == *name)
 }
 
+/// The node at a place.
+fn row_of(nodes: &[Node], node: usize) -> Option<&Node>
+    ensures { MatchOption result (slice_get nodes.now node ≡ None) (λ n. slice_get nodes.now node ≡ Some n.now) }
+{
+    nodes.get(node)
+}
+
 impl World {
     /// The picture of a name.
     pub(crate) fn picture(&self, name: &Name) -> Option<&Raster>
@@ -83,10 +90,9 @@ impl World {
     pub(crate) fn node_at(&self, node: usize) -> Option<&Node>
         ensures { MatchOption result (slice_get (world_of self.now).nodes node ≡ None) (λ n. slice_get (world_of self.now).nodes node ≡ Some (node_of n.now)) }
     {
-        if node < self.nodes.len() {
-            Some(&self.nodes[node])
-        } else {
-            None
+        match row_of(&self.nodes, node) {
+            Some(found) => Some(found),
+            None => None,
         }
     }
 

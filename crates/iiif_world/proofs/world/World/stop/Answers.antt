@@ -1,12 +1,13 @@
 use Rattle.std.proofs.Common.{◌≡◌, ◌<◌, map, length, refl, sym, ap, ◌∙◌, Some, arith}
 use Rattle.std.specs.Prelude.{slice_get, slice_set}
-use Rattle.std.proofs.lemmas.Option.{slice_get-get_or}
+use Rattle.std.proofs.lemmas.Option.{slice_get-get_or, slice_get_past}
 use Rattle.iiif_scene.proofs.Lists.{get_map}
 use Rattle.iiif_machine.specs.Steps.{flight_stopped, call_stopped, request_stopped}
 use Rattle.iiif_plain_tables.specs.Nodes.{node_of}
 use Rattle.iiif_world.specs.Code.{world_of}
-use Rattle.iiif_world.proofs.Changed.{map-set, made_is}
+use Rattle.iiif_world.proofs.Changed.{missing_map, map-set, made_is}
 use Rattle.iiif_world.proofs.Stepped.{stop_done}
+use Rattle.iiif_world.proofs.Refused.{stop_gone}
 use Rattle.iiif_world.proofs.world.World.stop.Goals as goal
 
 pub returns-clause-ok : goal.returns-clause-ok
@@ -24,3 +25,8 @@ returns-clause-ok c =
     (made_is c.args.self.now.flights c.stop_flights.new.flights (flight_stopped i) flights)
     (made_is c.args.self.now.calls c.stop_calls.new.calls (call_stopped i) calls)
     (made_is c.args.self.now.requests c.stop_requests.new.requests (request_stopped i) requests) refl
+
+pub returns-then-node-len-clause-not_now : goal.returns-then-node-len-clause-not_now
+returns-then-node-len-clause-not_now c = λ same.
+    let ns = c.args.self.now.nodes.items in
+    stop_gone (world_of c.args.self.now) c.args.node (missing_map node_of ns c.args.node (slice_get_past ns c.args.node (omega (arith, c.if-node-len.true, c.len.ensures, c.args.self.now.nodes.ok.0))))
