@@ -43,6 +43,10 @@ pub weight-le : (i x a c : ℕ) → weight_of i x a c ≤ a
 unfolding weight_of overlap
 weight-le i x a c = omega arith
 
+pub weight-le_result : (i x a c : ℕ) → weight_of i x a c ≤ c
+unfolding weight_of overlap
+weight-le_result i x a c = omega arith
+
 pub div_times-le : (n m : ℕ) → n / m * m ≤ n
 div_times-le n m = omega (arith, div-add-mod' n m)
 

@@ -1,9 +1,10 @@
 //! Rows of a tile, added to the sums of its columns, each with its weight or several without.
 
-ghost use Rattle.std.specs.Prelude.{◌≡◌, ℕ, ◌+◌, ◌*◌, ◌<◌, ◌^◌, length, slice_index, EachIndex};
+ghost use Rattle.std.specs.Prelude.{◌≡◌, ℕ, ◌+◌, ◌*◌, ◌<◌, ◌≤◌, ◌^◌, length, slice_index, EachIndex};
 ghost use Rattle.iiif_pixel.specs.Depths.{span_values};
+ghost use Rattle.iiif_pixel.specs.Picture.{span_of};
 
-use iiif_pixel::Span;
+use iiif_pixel::{Raster, Span};
 
 /// Adds each sample of `row`, times `weight`, to the number of `columns` at its index.
 pub(crate) fn add_row(columns: &mut [u64], row: Span, weight: u32)
@@ -77,5 +78,51 @@ pub(crate) fn add_sums(columns: &mut [u64], inner: &[u32], weight: u32)
 {
     for (t, column) in columns.iter_mut().enumerate() {
         *column += u64::from(weight) * u64::from(inner[t]);
+    }
+}
+
+/// A row of the part that a tile of 8 bits holds from its place `corner` on.
+pub(crate) fn row_of<'a>(tile: &'a Raster, corner: (u32, u32), w: u32, s: u32) -> &'a [u8]
+    requires depth { tile.now.top ≡ 255 }
+    requires held { (corner.0 + w ≤ tile.now.width) × (corner.1 + s < tile.now.height) }
+    requires corner { corner.1 + s < 2 ^ 32 }
+    ensures { result.now ≡ span_of tile.now corner.0 (corner.1 + s) w }
+{
+    match tile.span(corner.0, corner.1 + s, w) {
+        Span::Eight(samples) => samples,
+        Span::Sixteen(_) => &[],
+    }
+}
+
+/// Adds the samples of four rows to the number of `short` at their index.
+pub(crate) fn sum_four(short: &mut [u16], a: &[u8], b: &[u8], c: &[u8], d: &[u8])
+    requires same { (length a.now ≡ length short.old) × (length b.now ≡ length short.old) × (length c.now ≡ length short.old) × (length d.now ≡ length short.old) }
+    requires room { (t : ℕ) → t < length short.old → slice_index short.old t + 1020 < 2 ^ 16 }
+    ensures { EachIndex short.new (λ t. slice_index short.new t
+        ≡ slice_index short.old t + (slice_index a.now t + slice_index b.now t + slice_index c.now t + slice_index d.now t)) }
+{
+    for (t, sum) in short.iter_mut().enumerate() {
+        *sum += u16::from(a[t]) + u16::from(b[t]) + u16::from(c[t]) + u16::from(d[t]);
+    }
+}
+
+/// Adds each sample of `row`, times `weight`, to the number of `edges` at its index.
+pub(crate) fn add_edge(edges: &mut [u32], row: &[u8], weight: u16)
+    requires same { length edges.old ≡ length row.now }
+    requires room { (t : ℕ) → t < length edges.old → slice_index edges.old t + weight * slice_index row.now t < 2 ^ 32 }
+    ensures { EachIndex edges.new (λ t. slice_index edges.new t ≡ slice_index edges.old t + weight * slice_index row.now t) }
+{
+    for (t, edge) in edges.iter_mut().enumerate() {
+        *edge += u32::from(weight) * u32::from(row[t]);
+    }
+}
+
+/// Writes to each of `columns` the number of `edges` at its index and that of `short`, times `weight`.
+pub(crate) fn join_sums(columns: &mut [u64], edges: &[u32], short: &[u16], weight: u16)
+    requires same { (length edges.now ≡ length columns.old) × (length short.now ≡ length columns.old) }
+    ensures { EachIndex columns.new (λ t. slice_index columns.new t ≡ slice_index edges.now t + weight * slice_index short.now t) }
+{
+    for (t, column) in columns.iter_mut().enumerate() {
+        *column = u64::from(edges[t]) + u64::from(weight) * u64::from(short[t]);
     }
 }

@@ -1,14 +1,14 @@
-use Rattle.std.proofs.Common.{◌≡◌, ℕ, ◌+◌, ◌-◌, ◌*◌, ◌≤◌, ◌^◌, List, min, length, get_or, take, drop, arith, ap, ◌∙◌, sym, refl, subst}
+use Rattle.std.proofs.Common.{◌≡◌, ℕ, ◌+◌, ◌-◌, ◌*◌, ◌≤◌, ◌^◌, min, length, get_or, take, drop, arith, ap, ◌∙◌, sym, refl, subst}
 use Rattle.std.proofs.lemmas.List.{length-take, length-drop}
 use borrow.Rule.Slice.PartMut.{put_mid}
 use Rattle.iiif_pixel.specs.Scaling.{area_sum}
 use Rattle.iiif_pixel.specs.declared.geometry.Rect.{Rect}
 use Rattle.iiif_area.specs.Code.{tile_sample}
-use Rattle.iiif_area.specs.Grid.{Grid, grid_of}
+use Rattle.iiif_area.specs.Grid.{grid_of}
 use Rattle.iiif_area.specs.Places.{corner_of, part_of, places_of}
 use Rattle.iiif_area.proofs.AddingLaws.{part_sums, run_added}
-use Rattle.iiif_area.proofs.MergeLaws.{AddedTo, AddedTo-step, added_is, run_fits_in, RunFits}
-use Rattle.iiif_area.proofs.PlaceLaws.{part_fits, PartFits}
+use Rattle.iiif_area.proofs.MergeLaws.{AddedTo, AddedTo-step, added_is, run_fits_in}
+use Rattle.iiif_area.proofs.PlaceLaws.{part_fits}
 use Rattle.iiif_area.proofs.SumsSeen.{channels-positive}
 use Rattle.iiif_area.proofs.adding.add_part.Goals as goal
 

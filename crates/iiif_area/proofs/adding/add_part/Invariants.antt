@@ -1,6 +1,3 @@
-use Rattle.iiif_pixel.specs.Picture.{samples_of}
-use Rattle.iiif_pixel.specs.Scaling.{area_sum}
-use Rattle.iiif_area.specs.Code.{tile_sample}
 use Rattle.iiif_area.proofs.AddingLaws.{part_sums}
 use Rattle.iiif_area.proofs.MergeLaws.{AddedTo}
 use Rattle.iiif_area.proofs.adding.add_part.Given as goal

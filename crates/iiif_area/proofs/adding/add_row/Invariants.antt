@@ -1,4 +1,4 @@
-use Rattle.std.proofs.Common.{◌≡◌, ℕ, ◌+◌, ◌-◌, ◌*◌, ◌^◌, ◌<◌, ◌≤◌, ◌⊎◌, min, get_or}
+use Rattle.std.proofs.Common.{◌≡◌, ℕ, ◌+◌, ◌-◌, ◌*◌, ◌<◌, ◌≤◌, ◌⊎◌}
 use Rattle.iiif_pixel.specs.Depths.{span_values}
 use Rattle.iiif_area.proofs.AddingLaws.{TakenOf}
 use Rattle.iiif_area.proofs.adding.add_row.Given as goal

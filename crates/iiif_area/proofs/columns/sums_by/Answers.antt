@@ -9,9 +9,6 @@ use Rattle.iiif_area.proofs.ColumnLaws.{span_total-area, tile_area-fits}
 use Rattle.iiif_area.proofs.GridLaws.{FilledTo-push, filled_is}
 use Rattle.iiif_area.proofs.columns.sums_by.Goals as goal
 
-pub fill_columns-requires-clause-samples : goal.fill_columns-requires-clause-samples
-fill_columns-requires-clause-samples c = λ x y k. omega (arith, sample_at-le c.args.tile.now c.is_whole.ensures.whole x y k, top-le c.args.tile.now c.is_whole.ensures.whole)
-
 pub span_sum-sum-requires-clause-within : goal.span_sum-sum-requires-clause-within
 span_sum-sum-requires-clause-within c =
     let n = c.args.channels in
@@ -71,6 +68,7 @@ loop-j-preserved c =
     record {
       room = omega (arith, c.fill_columns.auto.columns, c.loop-j.invariant.room);
       inner = omega (arith, c.fill_columns.auto.inner, c.loop-j.invariant.inner);
+      short = omega (arith, c.fill_columns.auto.short, c.loop-j.invariant.short);
       clear = c.fill_columns.ensures.clear;
       capacity = omega arith;
       count = omega arith;
