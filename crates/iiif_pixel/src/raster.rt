@@ -1,6 +1,6 @@
 //! Pictures in memory.
 
-ghost use Rattle.std.specs.Prelude.{◌≡◌, ◌*◌, ◌<◌, ◌≤◌, ◌+◌, IfOk, length};
+ghost use Rattle.std.specs.Prelude.{◌≡◌, ◌*◌, ◌<◌, ◌≤◌, ◌+◌, ◌⊎◌, IfOk, length};
 ghost use Rattle.iiif_pixel.specs.Geometry.{channels_of, top_of, LiesIn};
 ghost use Rattle.iiif_pixel.specs.Depths.{values_of, depth_of, span_values, span_depth};
 ghost use Rattle.iiif_pixel.specs.Picture.{dim_of, index_of, sample_at, picture_of, IsWhole, with_sample, with_span, span_of};
@@ -83,10 +83,11 @@ impl Raster {
         self.samples.depth()
     }
 
-    /// Computes nothing: its clause is what a caller knows of every raster. There are as many samples as the sides and channels
+    /// Computes nothing: its clauses are what a caller knows of every raster. There are as many samples as the sides and channels
     /// ask for, none above the depth's greatest.
     pub fn is_whole(&self)
         ensures whole { IsWhole self.now }
+        ensures top { (self.now.top ≡ 255) ⊎ (self.now.top ≡ 65535) }
     {
         // The samples are lent and not looked at: that what stands behind a reference is in its range is known only of what is read.
         let _samples = self.samples();

@@ -182,3 +182,9 @@ answer_to_call_framed bytes keeps honest s items part gave method target writer 
   sent.1,
   text_framed s part gave (RepliesToCall bytes keeps honest s items method target) writer sent.0 result (call_framed bytes keeps honest s items method target) sent.2,
 )
+
+pub call_text_framed : {S : Type 0} (bytes : S → List ℕ) (keeps : S → Type 0) (honest : Bool) (gave : S → ReadFault → Bool) (writer : Type 0) (s : Settings) (items : List (Item S))
+    (part : Part) (method target text : List ℕ) (result : Result Sent Cut) → Allowed s part gave (RepliesToCall bytes keeps honest s items method target) writer text result
+    → IsFramedText S s part text result
+call_text_framed bytes keeps honest gave writer s items part method target text result sent =
+    text_framed s part gave (RepliesToCall bytes keeps honest s items method target) writer text result (call_framed bytes keeps honest s items method target) sent

@@ -1,14 +1,18 @@
 -- Laws of connections and of answers.
-use Rattle.std.specs.Prelude.{◌≡◌, ℕ, ◌^◌, ◌<◌, Bool, List, [], ◌∷◌, ◌++◌, All, length, map, codes, decimal}
+use Rattle.std.specs.Prelude.{◌≡◌, ℕ, ◌^◌, ◌<◌, Bool, List, Result, [], ◌∷◌, ◌++◌, All, length, map, codes, decimal}
 use Rattle.httparse.specs.Grammar.{RequestHead, ResponseHead, ReadsResponse, status_code}
 use Rattle.httparse.specs.Spans.{name_and_value}
 use Rattle.iiif_http_front.specs.AnswerHeads.{head_text}
 use Rattle.iiif_http_front.specs.Laws.{IsPlainField, close_fields}
 use Rattle.iiif_http_front.specs.RequestHeads.{BeginsWithCall}
 use Rattle.iiif_source.specs.declared.ReadFault.{ReadFault}
-use Rattle.iiif_server.specs.Allowed.{IsFramed}
+use Rattle.iiif_server.specs.Allowed.{Allowed, IsFramed, IsFramedText}
 use Rattle.iiif_images.specs.Collection.{Item}
+use Rattle.iiif_server.specs.Calls.{RepliesToCall}
 use Rattle.iiif_server.specs.Responses.{Response}
+use Rattle.iiif_server.specs.declared.answer.Cut.{Cut}
+use Rattle.iiif_server.specs.declared.answer.Sent.{Sent}
+use Rattle.iiif_server.specs.declared.part.Part.{Part}
 use Rattle.iiif_server.specs.Settings.{Settings, IsLegal}
 use Rattle.iiif_server.specs.Streams.{IsConnection, terms}
 
@@ -17,6 +21,12 @@ abbrev pub NoSilence : {S : Type 0} → (S → List ℕ) → (S → Type 0) → 
 NoSilence {S} bytes keeps honest gave reader writer =
     (settings : Settings) (items : List (Item S)) (input rest : List ℕ) (h : RequestHead) → BeginsWithCall input h rest
     → IsConnection (terms bytes keeps honest gave settings items reader writer) input [] → writer
+
+-- What may be sent for a call is framed, whatever the sources' reads give.
+abbrev pub AllowedIsFramed : {S : Type 0} → (S → List ℕ) → (S → Type 0) → Bool → (S → ReadFault → Bool) → Type 0 → Type 0
+AllowedIsFramed {S} bytes keeps honest gave writer =
+    (settings : Settings) (items : List (Item S)) (part : Part) (method target text : List ℕ) (result : Result Sent Cut)
+    → Allowed settings part gave (RepliesToCall bytes keeps honest settings items method target) writer text result → IsFramedText S settings part text result
 
 -- The fields of each answer are plain where the settings are legal.
 abbrev pub FieldsArePlain : Type 0 → Type 0

@@ -2,7 +2,7 @@
 //! `serve_stream`'s and `serve_one`'s.
 
 ghost use Rattle.iiif_server.specs.Devices.{WholeOverHonestDevices};
-ghost use Rattle.iiif_server.specs.Laws.{FieldsArePlain, HeadsReadBack, NoSilence};
+ghost use Rattle.iiif_server.specs.Laws.{AllowedIsFramed, FieldsArePlain, HeadsReadBack, NoSilence};
 
 use iiif_http_front::laws::written_head_reads_back;
 use iiif_io::{Inlet, Outlet};
@@ -13,6 +13,11 @@ use iiif_source::Source;
 /// So `serve_stream` never lets a call go without a byte of an answer, where the writer doesn't fail.
 pub fn calls_are_not_passed_over<R, S: Source<R>, J: System, I: Inlet, W: Outlet>()
     ensures { (last : W) → NoSilence S.bytes S.keeps J.honest S.gave ((before after : I) × I.fails before after) ((before : W) × W.fails before last) }
+{}
+
+/// So each answer of a connection is framed, whatever the sources' reads give, as what may be sent for a call is.
+pub fn allowed_is_framed<R, S: Source<R>, J: System, W: Outlet>()
+    ensures { (last : W) → AllowedIsFramed S.bytes S.keeps J.honest S.gave ((before : W) × W.fails before last) }
 {}
 
 /// So no field of an answer is split, and no body is taken for a field.
