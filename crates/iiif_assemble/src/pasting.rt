@@ -39,6 +39,7 @@ fn put_part(picture: &mut Raster, tile: &Raster, corner: (u32, u32), part: Rect)
     // Read, so that the rows' numbers are known to fit.
     let (_sides, _bounds) = (tile.dim(), picture.dim());
     for row in 0..part.h {
+        // Of whole pictures, so that the rows' places are known to fit.
         picture.is_whole();
         let run = tile.span(corner.0, corner.1 + row, part.w);
         picture.put_span(part.x, part.y + row, part.w, run);
@@ -134,6 +135,7 @@ pub(crate) fn pasted<T: Items<TileKey, TileVal, P, R> + Sync, P: Send, R: Thread
         ..from
     };
     put_all(&mut raster, &job.shape, rect, keys, items, &values);
+    // What was put stays whole, so that its samples can be counted.
     raster.is_whole();
     let held = count_of(&raster);
     Ok(Made { raster, held })

@@ -84,6 +84,7 @@ pub(crate) fn put_band<
     };
     match assemble_band(rt, alloc, tiles, &ahead, &mut passes[..workers], job, band) {
         Ok(made) => {
+            // Whole, so that its top is known from its depth.
             made.raster.is_whole();
             match put_rows(&made.raster, kind, text) {
                 Ok(()) => Ok(made.held),

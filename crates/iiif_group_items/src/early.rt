@@ -6,7 +6,7 @@ ghost use denote.Param.Send.{IsSync};
 use crate::items::GroupItems;
 use iiif_assemble::Job;
 use iiif_group::{Gate, Link};
-use iiif_keys::{CacheKey, Parts, SumKey, System, TileKey, parts};
+use iiif_keys::{CacheKey, LEVEL_LIMIT, Parts, SumKey, System, TileKey, parts};
 use iiif_pixel::{Kind, NoMemory};
 use iiif_planner::Plan;
 use iiif_source::Source;
@@ -20,9 +20,6 @@ const FOR_EACH: usize = 8;
 
 /// How many tiles each worker is to have at least. For fewer a thread costs more than it saves.
 const LEAST_TILES: usize = 8;
-
-/// The highest level of a block.
-const LEVELS: u32 = 20;
 
 /// The bytes of a sum, and half as many for those of places that several blocks have.
 const ROOM_OF_A_SUM: u64 = 12;
@@ -58,7 +55,7 @@ fn parts_below(alloc: Global, keys: &[SumKey], enough: usize) -> Result<Vec<SumK
     let Some(mut found) = parts_of(alloc, keys)? else {
         return Ok(Vec::new(alloc));
     };
-    for _ in 1..LEVELS {
+    for _ in 1..LEVEL_LIMIT {
         if found.len() >= enough {
             break;
         }
@@ -226,7 +223,8 @@ impl<
             return;
         };
         if others.is_empty() {
-            self.ask_both(rt, own, parts, blocks, share);
+            // Whether all are kept is looked at once all workers have ended.
+            let _ = self.ask_both(rt, own, parts, blocks, share);
             return;
         }
         join(
@@ -252,7 +250,8 @@ impl<
         let workers = (tiles_of(&blocks) / LEAST_TILES).min(passes.len());
         if workers < 2 {
             if let Some((own, _others)) = passes.split_first_mut() {
-                self.ask_each(rt, own, &blocks);
+                // So is it here.
+                let _ = self.ask_each(rt, own, &blocks);
             }
             return Ok(());
         }

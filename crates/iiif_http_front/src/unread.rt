@@ -28,6 +28,7 @@ impl Model for Unread {
 }
 
 impl Unread {
+    /// Nothing, with room for the longest head.
     pub fn new(alloc: Global) -> Result<Unread, AllocError>
         ensures { IfOk result (λ unread. unread ≡ []) }
     {
@@ -40,6 +41,7 @@ impl Unread {
         })
     }
 
+    /// The bytes that wait to be read.
     pub fn as_slice(&self) -> &[u8]
         ensures value { result.now ≡ self.now }
         ensures bound { length self.now ≤ 8192 }

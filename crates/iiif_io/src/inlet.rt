@@ -13,7 +13,7 @@ pub const TRIES: u32 = 1000;
 
 /// A reader that says of a failed read that it failed.
 pub trait Inlet: Read {
-    // A read in the first state failed and left the second.
+    /// A read in the first state failed and left the second.
     ghost fails: { Self → Self → Type 0 };
 
     /// Reads some bytes into the buffer, and none only at the end or where the buffer is empty.

@@ -12,7 +12,7 @@ use std::net::TcpStream;
 
 /// A writer that says of a failed write that it failed.
 pub trait Outlet: Write {
-    // A write in the first state failed and left the second.
+    /// A write in the first state failed and left the second.
     ghost fails: { Self → Self → Type 0 };
 
     /// Writes some of the bytes. To take none of some is to fail.
@@ -32,9 +32,8 @@ pub fn send<W: Outlet>(out: &mut W, text: &[u8]) -> Result<(), u64>
     while at < text.len() {
         let (_, rest) = text.split_at(at);
         match out.put(rest) {
-            Ok(0) => return Err(at as u64),
+            Ok(0) | Err(_) => return Err(at as u64),
             Ok(n) => at += n,
-            Err(_) => return Err(at as u64),
         }
     }
     Ok(())

@@ -16,13 +16,13 @@ pub fn close(mut stream: TcpStream) {
     if stream.shutdown(Shutdown::Write).is_err() {
         return;
     }
+    // Where it can't be set, the bound on what is read is enough.
     let _ = stream.set_read_timeout(Some(Duration::from_millis(LINGER)));
     let mut block = [0u8; 4096];
     for _ in 0..UNREAD_BLOCKS {
         match stream.read(&mut block) {
-            Ok(0) => return,
+            Ok(0) | Err(_) => return,
             Ok(_) => {}
-            Err(_) => return,
         }
     }
 }

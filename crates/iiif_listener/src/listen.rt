@@ -80,6 +80,7 @@ pub fn serve_listener<R: Threads + Wait + Clock + Sync, V: Serve<R> + Sync>(
 /// Ends what a listener waits for, so that the one who serves it ends. Its connections go on.
 pub fn stop(listener: &TcpListener) {
     if let Ok(copy) = listener.try_clone() {
+        // One that listens no more needs no stop.
         let _ = TcpStream::from(OwnedFd::from(copy)).shutdown(Shutdown::Both);
     }
 }
@@ -114,6 +115,7 @@ where
                 move ||
                     requires { G.IsAlwaysCallable serve_peer.now × H.IsAlwaysCallable refused.now }
                 {
+                    // However it ended, the other is stopped, and tells its own end.
                     let _ = serve_each(rt, serve_peer, refused, peer_listener);
                     stop(viewer_listener);
                 },

@@ -31,9 +31,7 @@ fn is_passing(kind: ErrorKind) -> bool
     ensures { result ≡ passes kind }
 {
     match kind {
-        ErrorKind::ConnectionAborted => true,
-        ErrorKind::ConnectionReset => true,
-        ErrorKind::Interrupted => true,
+        ErrorKind::ConnectionAborted | ErrorKind::ConnectionReset | ErrorKind::Interrupted => true,
         _ => false,
     }
 }

@@ -129,12 +129,9 @@ fn reply<R, M: Measure<R>, W: Outlet>(
     ensures { OnOk result ((output : List ℕ) × Appends (W.contents out.old) (W.contents out.new) output × Replies ((before : W) × W.fails before out.new) read.now output) }
 {
     let text = match read {
-        Ok(None) => return Ok(()),
-        Err(HeadFault::Cut) => return Ok(()),
-        Err(HeadFault::Io) => return Ok(()),
+        Ok(None) | Err(HeadFault::Cut | HeadFault::Io) => return Ok(()),
         Err(HeadFault::NoMemory) => return Err(NoMemory),
-        Err(HeadFault::Bad) => no_head(alloc)?,
-        Err(HeadFault::TooLong) => no_head(alloc)?,
+        Err(HeadFault::Bad | HeadFault::TooLong) => no_head(alloc)?,
         Ok(Some(call)) => answer_bytes(alloc, call, &source.measure(rt))?,
     };
     send_text(out, &text);

@@ -69,6 +69,7 @@ impl RowShelf {
         match self.placed(number, runs) {
             Some((place, found)) => {
                 let rows = self.rows.remove(place);
+                // One was taken out, so there is room; and rows that are lost are read again.
                 let _ = self.rows.push(rows);
                 Some(found)
             }

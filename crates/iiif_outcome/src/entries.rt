@@ -42,6 +42,7 @@ impl<K: CacheKey, J: System> Entry<K, J> {
         Ok(Entry { value, receipt })
     }
 
+    /// The value that is kept.
     pub fn value(&self) -> &Arc<K::Value>
         ensures { arc_value result.now ≡ (kept_of self.now).value }
     {

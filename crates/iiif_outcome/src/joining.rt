@@ -12,6 +12,7 @@ use iiif_pixel::NoMemory;
 use std::sync::Arc;
 
 impl<K: CacheKey, J: System> Flight<K, J> {
+    /// The key whose value the flight is for.
     pub fn key(&self) -> &K
         ensures { result.now ≡ flight_key self.now }
     {

@@ -58,6 +58,7 @@ impl<K: CacheKey, J: System> Lead<K, J> {
         ))
     }
 
+    /// The key of the flight.
     pub fn key(&self) -> &K
         ensures { result.now ≡ lead_key self.now }
     {
@@ -71,6 +72,7 @@ impl<K: CacheKey, J: System> Lead<K, J> {
         self.flight.ticket
     }
 
+    /// Whether other nodes may be asked in the flight.
     pub fn class(&self) -> Class
         ensures { result ≡ lead_class self.now }
     {

@@ -18,7 +18,7 @@ pub const ASK_LIMIT: u32 = 1000;
 
 /// What answers the asks of other nodes. R is the runtime, and P what calls are counted by.
 pub trait Answers<R, P> {
-    // What may be replied to an ask of a version, a group and a key: a status and a value.
+    /// What may be replied to an ask of a version, a group and a key: a status and a value.
     ghost answers: { Self → Version → ℕ → List ℕ → ℕ → List ℕ → Type 0 };
 
     /// The status and the value of the reply to an ask. It comes from this node: no other node is asked for the key.
@@ -46,8 +46,7 @@ fn serve_next<R, P, S: Answers<R, P>, I: Inlet, W: Outlet>(
 {
     let ask = match read_ask(alloc, reader) {
         Ok(Some(ask)) => ask,
-        Ok(None) => return false,
-        Err(_) => return false,
+        Ok(None) | Err(_) => return false,
     };
     let (status, value) = service.answer(rt, alloc, passes, &ask);
     match write_reply(out, ask.version, &ask.key, status, &value) {

@@ -29,7 +29,8 @@ impl PlainCache {
         if touch_in(&mut self.main, key) {
             return;
         }
-        touch_in(&mut self.hot, key);
+        // Where neither list has it, none is changed.
+        let _ = touch_in(&mut self.hot, key);
     }
 
     /// The key's entry goes.

@@ -51,7 +51,6 @@ pub fn first_of(first: Heard, next: Heard) -> Heard
         (Heard::Nothing, _) => Heard::Nothing,
         (Heard::Value, next) => next,
         (Heard::Fault(_), Heard::Nothing) => Heard::Nothing,
-        (Heard::Fault(fault), Heard::Value) => Heard::Fault(fault),
-        (Heard::Fault(fault), Heard::Fault(_)) => Heard::Fault(fault),
+        (Heard::Fault(fault), Heard::Value | Heard::Fault(_)) => Heard::Fault(fault),
     }
 }

@@ -36,8 +36,7 @@ pub(crate) fn to_front(list: &mut Vec<Entry>, place: usize)
     let _count = list.len();
     let entry = list.remove(place);
     match list.insert(0, entry) {
-        Ok(()) => {}
-        Err(_) => {}
+        Ok(()) | Err(_) => {}
     }
 }
 
@@ -50,8 +49,7 @@ fn renew(list: &mut Vec<Entry>, place: usize, entry: Entry)
     let _count = list.len();
     let _gone = list.remove(place);
     match list.insert(0, entry) {
-        Ok(()) => {}
-        Err(_) => {}
+        Ok(()) | Err(_) => {}
     }
 }
 

@@ -37,8 +37,7 @@ pub(crate) fn same_class(a: Class, b: Class) -> bool
     ensures { result ≡ class_eq a b }
 {
     match (a, b) {
-        (Class::Wide, Class::Wide) => true,
-        (Class::Local, Class::Local) => true,
+        (Class::Wide, Class::Wide) | (Class::Local, Class::Local) => true,
         _ => false,
     }
 }
@@ -89,8 +88,7 @@ fn counted(book: &Book, found: bool, value: &Option<Value>, place: Place) -> Opt
     match (value, place) {
         (None, _) => after.faults += 1,
         (Some(_), Place::Peer) => after.peer += 1,
-        (Some(_), Place::Nowhere) => {}
-        (Some(_), Place::Main) => {}
+        (Some(_), Place::Nowhere | Place::Main) => {}
     }
     Some(after)
 }

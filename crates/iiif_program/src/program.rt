@@ -71,6 +71,7 @@ where
         Ok(matches) => with_matches(rt, alloc, &matches, out, err),
         Err(error) if error.kind() == ErrorKind::OutOfMemory => ended(err, "run: memory", 1),
         Err(error) if error.use_stderr() => {
+            // Where the words can't be written, the status says it.
             let _ = write!(err, "line: {error}");
             2
         }

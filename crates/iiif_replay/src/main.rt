@@ -30,6 +30,7 @@ fn main(rt: HostRuntime) -> ExitCode {
     match run(&rt) {
         Ok(()) => ExitCode::from(0),
         Err(stop) => {
+            // Where the words can't be written, the status says it.
             let _ = writeln!(err, "{stop}");
             match stop {
                 Stop::Line(_) => ExitCode::from(2),

@@ -72,6 +72,7 @@ impl CacheKey for Sample {
     ghost val_refusal = { λ _. None };
 
     fn name(&self) -> &Name {
+        // Read, so that it is known to be a name.
         self.tile.name.as_str();
         &self.tile.name
     }
@@ -85,6 +86,7 @@ impl CacheKey for Sample {
     }
 
     fn shaped(&self, _shape: &Shape, value: &u16) -> bool {
+        // Read, so that it is known to be in its range.
         let _value = *value;
         true
     }

@@ -58,8 +58,9 @@ pub fn head_in(
 {
     match part {
         Part::Body => Ok(Vec::new(alloc)),
-        Part::Whole(close) => head_bytes(alloc, status, fields, length, close),
-        Part::Head(close) => head_bytes(alloc, status, fields, length, close),
+        Part::Whole(close) | Part::Head(close) => {
+            head_bytes(alloc, status, fields, length, close)
+        }
     }
 }
 
@@ -78,8 +79,7 @@ fn body_in(alloc: Global, part: Part, body: Vec<u8>) -> Vec<u8>
     ensures { result.items ≡ body_in part body.items }
 {
     match part {
-        Part::Body => body,
-        Part::Whole(_) => body,
+        Part::Body | Part::Whole(_) => body,
         Part::Head(_) => Vec::new(alloc),
     }
 }
@@ -219,10 +219,8 @@ pub fn memory_head(part: Part) -> &'static [u8]
 {
     match part {
         Part::Body => b"",
-        Part::Whole(true) => memory_head_closes(),
-        Part::Whole(false) => memory_head_stays(),
-        Part::Head(true) => memory_head_closes(),
-        Part::Head(false) => memory_head_stays(),
+        Part::Whole(true) | Part::Head(true) => memory_head_closes(),
+        Part::Whole(false) | Part::Head(false) => memory_head_stays(),
     }
 }
 
@@ -231,8 +229,7 @@ pub fn memory_body(part: Part) -> &'static [u8]
     ensures { result.now ≡ (written part want_of_memory).body }
 {
     match part {
-        Part::Body => b"L2 memory\n",
-        Part::Whole(_) => b"L2 memory\n",
+        Part::Body | Part::Whole(_) => b"L2 memory\n",
         Part::Head(_) => b"",
     }
 }

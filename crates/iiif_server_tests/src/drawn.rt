@@ -67,8 +67,7 @@ impl<'a> Drawn<'a> {
         let samples = self.samples(alloc)?;
         let [w, h] = self.sides;
         let dim = Dim { w, h };
-        let asked = (dim.w as usize * dim.h as usize).checked_mul(self.kind.channels())?;
-        if asked != count(samples.as_span()) {
+        if self.kind.count(dim)? != count(samples.as_span()) {
             return None;
         }
         Some(Raster::from_samples(dim, self.kind, samples))

@@ -72,6 +72,7 @@ where
     requires serve { F.IsAlwaysCallable serve.now }
     requires refused { G.IsAlwaysCallable refused.now }
 {
+    // However it ended, all others are stopped.
     let _ = serve_each(rt, serve, refused, listener);
     all.stop();
 }

@@ -25,7 +25,7 @@ pub struct Home<K: CacheKey, J: System, L: Ledger> {
     pub ghost gets_are: { share.amount ≡ gets },
 }
 
-// The parts of all passes, or None where they are too many.
+/// The parts of all passes, or None where they are too many.
 #[tactic(auto, using(std::proofs::lemmas::List::Sums::sum_by_more))]
 fn parts_of<L: Ledger>(passes: &[Pass<L>]) -> Option<u64>
     ensures some { IfSome result (λ n. n ≡ sum_by (λ p. p.parts) passes.now) }

@@ -50,8 +50,7 @@ pub(crate) fn count(book: &mut Book, found: bool, fault: bool, place: Place)
         return;
     }
     match place {
-        Place::Nowhere => {}
-        Place::Main => {}
+        Place::Nowhere | Place::Main => {}
         Place::Peer => book.peer += 1,
     }
 }

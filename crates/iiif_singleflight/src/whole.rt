@@ -13,6 +13,7 @@ pub struct Whole<L: Ledger> {
 }
 
 impl<L: Ledger> Whole<L> {
+    /// All of a ledger.
     pub fn new() -> Whole<L>
         requires { L.parts ≡ 65537 }
     {

@@ -27,6 +27,7 @@ impl<'a> Stop<'a> {
     {
         match self {
             Stop::Image(name, unfit) => {
+                // Where the words can't be written, the status says it.
                 let _ = unfit.told(err, name);
                 2
             }

@@ -59,6 +59,7 @@ pub fn refused<E: Write>(err: &mut E, fault: LineFault, list: Option<&str>) -> u
     match fault {
         LineFault::NoMemory => ended(err, "run: memory", 1),
         _ => {
+            // Where the words can't be written, the status says it.
             let _ = say(err, fault, list);
             2
         }

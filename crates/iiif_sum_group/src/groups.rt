@@ -35,6 +35,7 @@ where
 }
 
 impl<R, S: Source<R> + Drop, J: System, N, T> Groups<R, S, J, N, T> {
+    /// Groups of tiles and of sums.
     pub fn new(
         alloc: Global,
         tiles: Tiles<R, S, J, N, T>,

@@ -50,16 +50,20 @@ pub record Reads (bytes : List ℕ) (o : ByteOrder) (es : List Entry) : Type 0 w
   pub order_is : endian o ≡ tiff.order bytes
   pub entries_are : entry_views es ≡ tiff.entries bytes
 
+-- The fields are those of their source's bytes.
+abbrev pub AreTrue : {R S : Type 0} → (S → List ℕ) → Fields R S → Type 0
+AreTrue bytes f = Reads (bytes f.source.now) f.order f.entries.items
+
 -- The answer that fields give to a check of their file: a value where it applies nowhere, else its refusal, or a fault of
 -- the device, or want of memory; of a file with these fields, of which Known is known besides.
 abbrev pub TellsWhere : {R S X : Type 0} → (S → List ℕ) → (S → ReadFault → Bool) → Fields R S → (List ℕ → Type 0) → (List ℕ → Option Refusal) → (List ℕ → X → Type 0) → Result X OpenFault → Type 0
 TellsWhere bytes gave f Known check Right result =
-    Answers (Reads (bytes f.source.now) f.order f.entries.items × Known (bytes f.source.now)) (gave f.source.now) (check (bytes f.source.now)) (Right (bytes f.source.now)) result
+    Answers (AreTrue bytes f × Known (bytes f.source.now)) (gave f.source.now) (check (bytes f.source.now)) (Right (bytes f.source.now)) result
 
 -- the same, where nothing more has to be known
 abbrev pub Tells : {R S X : Type 0} → (S → List ℕ) → (S → ReadFault → Bool) → Fields R S → (List ℕ → Option Refusal) → (List ℕ → X → Type 0) → Result X OpenFault → Type 0
 Tells bytes gave f check Right result =
-    Answers (Reads (bytes f.source.now) f.order f.entries.items) (gave f.source.now) (check (bytes f.source.now)) (Right (bytes f.source.now)) result
+    Answers (AreTrue bytes f) (gave f.source.now) (check (bytes f.source.now)) (Right (bytes f.source.now)) result
 
 -- The sides are those of the bytes.
 abbrev pub HasSides : List ℕ → Dim → Type 0

@@ -5,7 +5,7 @@ ghost use Rattle.std.specs.Int.{w16, w32};
 ghost use Rattle.std.specs.List.{range_with_len};
 ghost use Rattle.iiif_tiff.specs.Tiff.{header, order, number, directory_fits, entries, entry_of, one, needed, optional, value_or, entry_fits, value, values, values_or, one_or, only, opening};
 ghost use Rattle.iiif_tiff.specs.Tiff as tiff;
-ghost use Rattle.iiif_tiff_read.specs.Code.{endian, entry_view, entry_views, first_values, Reads, Tells, TellsWhere};
+ghost use Rattle.iiif_tiff_read.specs.Code.{endian, entry_view, entry_views, first_values, AreTrue, Reads, Tells, TellsWhere};
 ghost use Rattle.iiif_tiff_read.specs.Faults.{Answers};
 ghost use Rattle.iiif_tiff_read.specs.Code.{IsDeviceFault, IsNotMemory};
 
@@ -196,7 +196,7 @@ impl<'a, R, S: Source<R>> Fields<'a, R, S> {
 
     /// The first entry with a tag.
     fn find(&self, tag: u16) -> Option<Entry>
-        ensures { Reads (S.bytes self.now.source.now) self.now.order self.now.entries.items → option_map entry_view result ≡ entry_of (S.bytes self.now.source.now) tag }
+        ensures { AreTrue S.bytes self.now → option_map entry_view result ≡ entry_of (S.bytes self.now.source.now) tag }
     {
         first_with(&self.entries, tag)
     }
@@ -345,7 +345,7 @@ impl<'a, R, S: Source<R>> Fields<'a, R, S> {
 
     /// Whether the field is there.
     pub fn has(&self, tag: u16) -> bool
-        ensures { Reads (S.bytes self.now.source.now) self.now.order self.now.entries.items → result ≡ is_some (entry_of (S.bytes self.now.source.now) tag) }
+        ensures { AreTrue S.bytes self.now → result ≡ is_some (entry_of (S.bytes self.now.source.now) tag) }
     {
         self.find(tag).is_some()
     }

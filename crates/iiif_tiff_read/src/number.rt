@@ -17,6 +17,7 @@ pub enum ByteOrder {
 }
 
 impl ByteOrder {
+    /// The number of two bytes.
     pub fn short(self, bytes: [u8; 2]) -> u16
         ensures { result ≡ number (endian self) w16 bytes 0 }
     {
@@ -26,6 +27,7 @@ impl ByteOrder {
         }
     }
 
+    /// The number of four bytes.
     pub fn long(self, bytes: [u8; 4]) -> u32
         ensures { result ≡ number (endian self) w32 bytes 0 }
     {
@@ -45,6 +47,7 @@ pub enum FieldType {
 }
 
 impl FieldType {
+    /// The type of a number of TIFF 6.0, section 2, if it is one of these.
     pub fn of(number: u16) -> Option<FieldType>
         ensures { option_map code result ≡ (if is_unsigned number then Some number else None) }
     {
@@ -56,6 +59,7 @@ impl FieldType {
         }
     }
 
+    /// How many bytes a number of the type takes.
     pub fn size(self) -> usize
         ensures { result ≡ size (code self) }
     {
@@ -116,6 +120,7 @@ impl Model for Few {
 }
 
 impl Few {
+    /// A single number.
     pub fn of(value: u32) -> Few
         ensures { result ≡ value ∷ [] }
     {
@@ -125,6 +130,7 @@ impl Few {
         }
     }
 
+    /// The numbers.
     pub fn as_slice(&self) -> &[u32]
         ensures { result.now ≡ self.now }
     {

@@ -142,6 +142,7 @@ pub fn put_rows(raster: &Raster, kind: OutKind, out: &mut Vec<u8>) -> Result<(),
     ensures rows { OnOk result (out.new.items ≡ out.old.items ++ strip kind raster.now) }
     ensures err { OnErr result (out.new.items ≡ out.old.items) }
 {
+    // Whole, so that its samples are known to be as many as its rows have, and none above the top.
     raster.is_whole();
     match kind {
         OutKind::Gray | OutKind::Rgb => out.extend_from_slice(bytes_of(raster.samples())),

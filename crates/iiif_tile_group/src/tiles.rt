@@ -40,6 +40,7 @@ where
 }
 
 impl<R, S: Source<R> + Drop, J: System, N, T> Tiles<R, S, J, N, T> {
+    /// Tiles of these images, shared by this group.
     pub fn new(
         alloc: Global,
         images: Images<R, S, J>,

@@ -63,6 +63,7 @@ fn is_source(picture: &Raster) -> bool
     ensures yes { IsTrue result → IsSource picture.now }
     ensures no { result ≡ false → ¬ IsSource picture.now }
 {
+    // Whole: it has a channel or three, and samples up to its top.
     picture.is_whole();
     is_readable(picture.dim())
 }

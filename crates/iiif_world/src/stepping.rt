@@ -32,8 +32,7 @@ fn answer_in(progress: &Progress) -> Result<Option<Answer>, NoMemory>
 {
     match progress {
         Progress::Answered(answer) => Ok(Some(copied_answer(answer)?)),
-        Progress::Waiting(_, _) => Ok(None),
-        Progress::Dropped => Ok(None),
+        Progress::Waiting(_, _) | Progress::Dropped => Ok(None),
     }
 }
 
@@ -95,8 +94,7 @@ impl World {
             None => None,
             Some(wanted) => match &wanted.progress {
                 Progress::Answered(answer) => Some(answer),
-                Progress::Waiting(_, _) => None,
-                Progress::Dropped => None,
+                Progress::Waiting(_, _) | Progress::Dropped => None,
             },
         }
     }
