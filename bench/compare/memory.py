@@ -13,8 +13,8 @@ KEPT = 16 * MIB
 FOR_EACH = 8
 # The C library maps a block of at least so many bytes in pages of its own: up to so many bytes more than it was asked for.
 MAPPED, PAGE = 128 * 2 ** 10, 4096 + 16
-# What is read ahead of a file at most: 16 times many rows, 128 times few.
-ROWS, AHEAD = MIB, 16 * MIB + 128 * 64 * 2 ** 10
+# What is read ahead of a file at most: 16 times many rows, 256 times few.
+ROWS, AHEAD = MIB, 16 * MIB + 256 * 64 * 2 ** 10
 
 
 def levels(channels, image, rect, size, edge):

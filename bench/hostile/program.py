@@ -186,8 +186,8 @@ def grown_by(grown):
 
 def memory_bound(channels, limit, edge, pieces, deep=False, longer_side=None):
     """The bytes that one request can take, by docs/OPERATING.md, with 4 for each strip or tile of the files, a connection's buffer, and what is
-    read ahead of files: 24 MiB, and 1 for each of two workers."""
+    read ahead of files: 32 MiB, and 1 for each of two workers."""
     per = 10 if deep else 9
     across = limit // edge + 2
     down = across if longer_side is None else max(across, longer_side // edge + 2)
-    return per * channels * limit ** 2 + per * channels * (edge + 1) ** 2 + 160 * across * down + 30 * 2 ** 20 + 4 * pieces + 8192
+    return per * channels * limit ** 2 + per * channels * (edge + 1) ** 2 + 160 * across * down + 38 * 2 ** 20 + 4 * pieces + 8192

@@ -17,7 +17,7 @@ use std::sync::{Arc, Mutex, Wait};
 
 /// The files that the sources of one program keep open between their reads, as many as a [`Shelf`] has room for. No lock is held
 /// while a file is opened or read. So the files that are open at once are those that are kept, and one for each read that goes on.
-/// Beside them stand the rows that were read ahead: at most 16 times many rows, and 128 times few.
+/// Beside them stand the rows that were read ahead: at most 16 times many rows, and 256 times few.
 #[derive(Drop)]
 pub struct OpenFiles {
     shelf: Mutex<Shelf>,
@@ -33,7 +33,7 @@ impl OpenFiles {
         Ok(OpenFiles {
             shelf: Mutex::new(Shelf::new(alloc, most)?),
             many: Mutex::new(RowShelf::new(alloc, 16)),
-            few: Mutex::new(RowShelf::new(alloc, 128)),
+            few: Mutex::new(RowShelf::new(alloc, 256)),
             numbers: AtomicU64::new(0),
             alloc,
         })

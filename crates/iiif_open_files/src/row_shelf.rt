@@ -42,13 +42,14 @@ impl RowShelf {
         self.rows.len()
     }
 
-    /// Rows of the source of a number that have these runs, and their place.
+    /// Rows of the source of a number that have these runs, and their place: those that were used last are looked at first.
     fn placed(&self, number: u64, runs: Runs) -> Option<(usize, Arc<WideRows>)>
         ensures place { IfSome result (λ p. p.0 < vec_len self.now.rows) }
         ensures number { IfSome result (λ p. (arc_value p.1).number ≡ number) }
         ensures among { IfSome result (λ p. AreAmong (arc_value p.1).runs runs) }
     {
-        for place in 0..self.rows.len() {
+        for newer in 0..self.rows.len() {
+            let place = self.rows.len() - 1 - newer;
             let rows = &self.rows[place];
             if rows.have(number, runs) {
                 return match rows.clone() {
