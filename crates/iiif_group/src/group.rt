@@ -4,6 +4,7 @@ ghost use Rattle.std.specs.Prelude.{◌≡◌, ℕ, ◌+◌, ◌<◌, ◌^◌, l
 ghost use Rattle.std.specs.List.{sum_by};
 ghost use Rattle.iiif_tables.specs.Flights.{IsBook};
 
+use crate::lists::Lists;
 use iiif_keys::{CacheKey, System};
 use iiif_pixel::NoMemory;
 use iiif_ring::Ring;
@@ -12,14 +13,14 @@ use iiif_tables::Book;
 use std::alloc::Global;
 use std::num::NonZeroUsize;
 use std::sync::ledger::{Blank, Ledger};
-use std::sync::{Condvar, Mutex, Wait};
+use std::sync::{Mutex, Wait};
 
 /// Values that are kept, and that are loaded once for all that ask for them at a time. A key of this node's own is loaded here; of
 /// another its owner is asked first.
 #[derive(Drop)]
 pub struct Group<K: CacheKey, J: System, L: Ledger, N, T> {
     pub(crate) home: Mutex<Home<K, J, L>>,
-    pub(crate) landed: Condvar,
+    pub(crate) landed: Lists,
     pub(crate) ring: Ring,
     pub(crate) own: Option<usize>,
     pub(crate) links: Vec<N>,
@@ -57,7 +58,7 @@ impl<K: CacheKey, J: System, L: Ledger, N, T> Group<K, J, L, N, T> {
         let (table, pass) = Table::new(alloc, bytes, entries, 65_537, blank)?;
         Ok(Group {
             home: Mutex::new(Home::new(table, pass, Whole::new())),
-            landed: Condvar::new(),
+            landed: Lists::new(),
             ring,
             own,
             links,

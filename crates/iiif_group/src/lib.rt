@@ -16,6 +16,7 @@ pub mod gate;
 pub mod group;
 mod leading;
 pub mod link;
+mod lists;
 pub mod outcomes;
 mod steps;
 mod waiting;

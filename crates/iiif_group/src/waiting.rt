@@ -38,6 +38,7 @@ impl<K: CacheKey, J: System, L: Ledger, N, T> Group<K, J, L, N, T> {
     pub(crate) fn meet<R: Wait>(&self, rt: &R, flight: Flight<K, J>) -> Receipt<K, J>
         ensures { IfSome (receipt_known result) (λ x. arc_value x.key ≡ flight_key flight) }
     {
+        let landed = self.landed.of(flight.ticket());
         let mut flight = flight;
         let mut home = self.home.lock(rt);
         for _ in rt.forever() {
@@ -45,7 +46,7 @@ impl<K: CacheKey, J: System, L: Ledger, N, T> Group<K, J, L, N, T> {
                 Ok(receipt) => return receipt,
                 Err(back) => flight = back,
             }
-            home = self.landed.wait(rt, home);
+            home = landed.wait(rt, home);
         }
         unreachable!()
     }
@@ -64,13 +65,14 @@ impl<K: CacheKey, J: System, L: Ledger, N, T> Group<K, J, L, N, T> {
         ensures taken { IsTrue landing.taken × (receipt_known result ≡ receipt_known landing.receipt) }
         ensures cell { receipt_cell result ≡ receipt_cell landing.receipt }
     {
-        self.landed.notify_all();
+        let landed = self.landed.of(landing.receipt.ticket());
+        landed.notify_all();
         if landing.taken {
             return landing.receipt;
         }
         let mut home = self.home.lock(rt);
         for _ in rt.forever() {
-            home = self.landed.wait(rt, home);
+            home = landed.wait(rt, home);
         }
         unreachable!()
     }
