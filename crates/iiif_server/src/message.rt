@@ -58,9 +58,8 @@ pub fn head_in(
 {
     match part {
         Part::Body => Ok(Vec::new(alloc)),
-        Part::Whole(close) | Part::Head(close) => {
-            head_bytes(alloc, status, fields, length, close)
-        }
+        Part::Whole(close) => head_bytes(alloc, status, fields, length, close),
+        Part::Head(close) => head_bytes(alloc, status, fields, length, close),
     }
 }
 

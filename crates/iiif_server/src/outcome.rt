@@ -29,7 +29,9 @@ pub fn identifier(target: &Target) -> &str
     ensures { result.now ≡ identifier_of (resource_of target.now) }
 {
     match target {
-        Target::Base(id) | Target::Info(id) | Target::Image(id, _) => id.as_str(),
+        Target::Base(id) => id.as_str(),
+        Target::Info(id) => id.as_str(),
+        Target::Image(id, _) => id.as_str(),
     }
 }
 

@@ -115,8 +115,14 @@ impl<
     {
         let call = match heads.read_head() {
             Ok(Some(call)) => closing_call(call, n),
-            Ok(None) | Err(HeadFault::Cut | HeadFault::Io) => return false,
-            Err(HeadFault::Bad | HeadFault::TooLong) => {
+            Ok(None) => return false,
+            Err(HeadFault::Bad) => {
+                let begun = watch.begin(rt);
+                let outcome = close_for_head(alloc, out);
+                watch.answered(rt, begun, None, &outcome);
+                return false;
+            }
+            Err(HeadFault::TooLong) => {
                 let begun = watch.begin(rt);
                 let outcome = close_for_head(alloc, out);
                 watch.answered(rt, begun, None, &outcome);
@@ -128,6 +134,8 @@ impl<
                 watch.answered(rt, begun, None, &outcome);
                 return false;
             }
+            Err(HeadFault::Cut) => return false,
+            Err(HeadFault::Io) => return false,
         };
         self.serve_call(rt, alloc, passes, &call, out, watch)
     }

@@ -141,7 +141,8 @@ impl World {
                 self.set_state(call, CallState::In(flight));
                 Ok(())
             }
-            (Entered::Joined(_), None) | (Entered::Hit(_), _) => unreachable!(),
+            (Entered::Joined(_), None) => unreachable!(),
+            (Entered::Hit(_), _) => unreachable!(),
         }
     }
 
