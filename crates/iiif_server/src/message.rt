@@ -218,8 +218,10 @@ pub fn memory_head(part: Part) -> &'static [u8]
 {
     match part {
         Part::Body => b"",
-        Part::Whole(true) | Part::Head(true) => memory_head_closes(),
-        Part::Whole(false) | Part::Head(false) => memory_head_stays(),
+        Part::Whole(true) => memory_head_closes(),
+        Part::Whole(false) => memory_head_stays(),
+        Part::Head(true) => memory_head_closes(),
+        Part::Head(false) => memory_head_stays(),
     }
 }
 
