@@ -13,6 +13,8 @@ KEPT = 16 * MIB
 FOR_EACH = 8
 # The C library maps a block of at least so many bytes in pages of its own: up to so many bytes more than it was asked for.
 MAPPED, PAGE = 128 * 2 ** 10, 4096 + 16
+# So many bytes of rows wait at most to be written with those of the next band.
+WAITING = 64 * 2 ** 10
 # What is read ahead of a file at most: 16 times many rows, 256 times few.
 ROWS, AHEAD = MIB, 16 * MIB + 256 * 64 * 2 ** 10
 
@@ -70,4 +72,4 @@ def bound(channels, depth, image, rect, size, edge=256, cache=64 * MIB, band=64,
     caches = own + min(cache, tiles * channels * sample * edge ** 2) + min(cache, sums) + (ENTRY * min(values, ENTRIES) if cache else 0)
     ahead = ROWS if strips else min(ROWS, channels * sample * edge ** 2)
     kept = AHEAD if strips else 16 * ahead
-    return caches + made * channels * size[0] * rows + items + kept + workers * (tile + KEPT + ahead) + PROGRAM
+    return caches + made * channels * size[0] * rows + WAITING + items + kept + workers * (tile + KEPT + ahead) + PROGRAM

@@ -1,5 +1,5 @@
 -- The steps of an image that is sent band by band.
-use Rattle.std.proofs.Common.{◌≡◌, ℕ, ◌+◌, ◌*◌, ◌%◌, ◌<◌, ◌≤◌, ◌⊎◌, ◌==◌, eqb, min, max, Bool, true, false, List, [], ◌++◌, length, get_or, take, inl, inr, refl, sym, ap, subst, ◌∙◌, arith, append_assoc, length-append, Option}
+use Rattle.std.proofs.Common.{◌≡◌, ℕ, ◌+◌, ◌*◌, ◌%◌, ◌<◌, ◌≤◌, ◌⊎◌, ◌==◌, eqb, min, max, Bool, true, false, List, [], ◌++◌, length, get_or, take, inl, inr, ⊎_elim, refl, sym, ap, subst, ◌∙◌, arith, append_assoc, length-append, Option}
 use Rattle.std.specs.Prelude.{if◌then◌else◌}
 use Rattle.std.specs.Int.{div_ceil}
 use Rattle.std.specs.Io.KnownBytes.{Appends}
@@ -16,6 +16,8 @@ use Rattle.iiif_pixel.specs.Picture.{Picture, IsWhole, dim_of}
 use Rattle.iiif_pixel.specs.Scaling.{scale, whole_of}
 use Rattle.iiif_pixel.specs.TurnPlaces.{turned_dim}
 use Rattle.iiif_pixel.specs.declared.geometry.Dim.{Dim}
+use Rattle.iiif_pixel.specs.declared.geometry.Kind.{Kind}
+use Rattle.iiif_pixel.specs.declared.geometry.Kind.TheVariants as kinds
 use Rattle.iiif_pixel.specs.declared.geometry.Rect.{Rect}
 use Rattle.iiif_canonical.specs.Images.{resolved_image}
 use Rattle.iiif_canonical.specs.declared.resolved.Resolved.{Resolved}
@@ -130,56 +132,84 @@ rows_short k w y h some above =
 
 -- ---- Counts
 
--- nothing was written yet, or all rows that stand ready
-pub counted_len : (j : Job) (kind : OutKind) (front rows : ℕ) (text : List ℕ) (sent held y : ℕ) → HasCounted j kind front rows text sent held y →
-    sent ≡ len_with kind front (result_dim j).w y
-counted_len j kind front rows text sent held y counted = elim counted.begun [
-  | inl none ↦ let first : eqb y 0 ≡ true = rw (none.0) refl in rw first (none.1)
-  | inr some ↦
+channels_some : (k : Kind) → 0 < channels_of k
+channels_some kinds.Gray = omega arith
+channels_some kinds.Rgb = omega arith
+
+-- where something is held a band was made; where nothing is, none was
+pub counted_len : (j : Job) (kind : OutKind) (front rows : ℕ) (text : List ℕ) (sent held y all : ℕ) → HasCounted j kind front rows text sent held y → 0 < held →
+    all ≡ sent + length text → (0 < y) × (all ≡ len_with kind front (result_dim j).w y)
+counted_len j kind front rows text sent held y all counted some is = elim counted.begun [
+  | inl none ↦ absurd (omega (arith, none.2, some))
+  | inr begun ↦
+      let above : 0 < y = begun.0 in
       let later : eqb y 0 ≡ false = grind arith in
-      let empty : length text ≡ 0 = ap length (some.1) in
-      rw later (let t = counted.total in omega (arith, t, empty))
+      let t = counted.total in
+      (above, rw later (omega (arith, t, is)))
 ]
 
-pub counted_front : (j : Job) (kind : OutKind) (front rows : ℕ) (text : List ℕ) (sent held y : ℕ) → HasCounted j kind front rows text sent held y → (sent ≡ 0) ⊎ (front ≤ sent)
-counted_front j kind front rows text sent held y counted = elim counted.begun [
-  | inl none ↦ inl (none.1)
-  | inr some ↦ let empty : length text ≡ 0 = ap length (some.1) in let t = counted.total in inr (omega (arith, t, empty))
+pub counted_none : (j : Job) (kind : OutKind) (front rows : ℕ) (text : List ℕ) (sent held y : ℕ) → HasCounted j kind front rows text sent held y → held ≡ 0 →
+    0 < (result_dim j).w → (y ≡ 0) × (sent ≡ 0)
+counted_none j kind front rows text sent held y counted zero some = elim counted.begun [
+  | inl none ↦ (none.0, none.1)
+  | inr begun ↦
+      let c = channels_of j.shape.kind in
+      let one : 1 * c ≤ (result_dim j).w * c = mul-le-mul_right c (omega (arith, some)) in
+      absurd (omega (arith, begun.1, zero, one, channels_some j.shape.kind))
 ]
+
+pub counted_before : (j : Job) (kind : OutKind) (front rows : ℕ) (text : List ℕ) (sent held y : ℕ) → HasCounted j kind front rows text sent held y → held ≡ 0 →
+    0 < (result_dim j).w → sent ≡ len_with kind front (result_dim j).w y
+counted_before j kind front rows text sent held y counted zero some =
+    let none = counted_none j kind front rows text sent held y counted zero some in
+    let first : eqb y 0 ≡ true = rw (none.0) refl in
+    rw first (none.1)
 
 -- a band more
-pub counted_more : (j : Job) (kind : OutKind) (front rows : ℕ) (text more after : List ℕ) (sent sent2 held most y n y2 held2 : ℕ) → HasCounted j kind front rows text sent held y →
+pub counted_more : (j : Job) (kind : OutKind) (front rows : ℕ) (text more after : List ℕ) (sent held most y n y2 held2 : ℕ) → HasCounted j kind front rows text sent held y →
     length more ≡ row_len kind (result_dim j).w * n → IsHeldFor (record { w = (result_dim j).w; h = n }) (channels_of j.shape.kind) most → n ≤ min rows (result_dim j).h → 0 < n →
-    held2 ≡ max held most → y2 ≡ y + n → sent2 ≡ sent + length (text ++ more) → after ≡ [] → HasCounted j kind front rows after sent2 held2 y2
-counted_more j kind front rows text more after sent sent2 held most y n y2 held2 counted len is_held few some greater next written none =
+    held2 ≡ max held most → y2 ≡ y + n → after ≡ text ++ more → HasCounted j kind front rows after sent held2 y2
+counted_more j kind front rows text more after sent held most y n y2 held2 counted len is_held few some greater next ready =
     let d = result_dim j in
     let c = channels_of j.shape.kind in
     let row = row_len kind d.w in
-    let both : length (text ++ more) ≡ length text + length more = length-append text more in
+    let both : length after ≡ length text + length more = ap length ready ∙ length-append text more in
     let sum : row * y2 ≡ row * y + row * n = ap (λ m. row * m) next ∙ omega arith in
     let narrow : n * (d.w * c) ≤ min rows d.h * (d.w * c) = mul-le-mul_right (d.w * c) few in
     let one : 1 * (d.w * c) ≤ n * (d.w * c) = mul-le-mul_right (d.w * c) some in
     let own : d.w * n * c ≡ n * (d.w * c) = omega arith in
     let wide : min rows d.h * d.w * c ≡ min rows d.h * (d.w * c) = omega arith in
     record {
-      total = let t = counted.total in let empty : length after ≡ 0 = ap length none in omega (arith, t, both, sum, len, written, empty);
+      total = let t = counted.total in omega (arith, t, both, sum, len);
       band = let a = counted.band in let b = is_held.twice in omega (arith, a, b, narrow, own, wide, greater);
-      begun = inr (omega arith, none, let b = is_held.own in omega (arith, b, one, own, greater));
+      begun = inr (omega (arith, next, some), let b = is_held.own in omega (arith, b, one, own, greater));
     }
+
+-- what stood ready is written
+pub counted_flushed : (j : Job) (kind : OutKind) (front rows : ℕ) (text after : List ℕ) (sent held y sent2 : ℕ) → HasCounted j kind front rows text sent held y → 0 < y →
+    sent2 ≡ sent + length text → after ≡ [] → HasCounted j kind front rows after sent2 held y
+counted_flushed j kind front rows text after sent held y sent2 counted some written none = record {
+  total = let t = counted.total in let empty : length after ≡ 0 = ap length none in omega (arith, t, written, empty);
+  band = counted.band;
+  begun = elim counted.begun [
+    | inl first ↦ absurd (omega (arith, first.0, some))
+    | inr begun ↦ inr begun
+  ];
+}
 
 pub counted_first : (j : Job) (kind : OutKind) (front rows y : ℕ) (text : List ℕ) → length text ≡ front → y ≡ 0 → HasCounted j kind front rows text 0 0 y
 counted_first j kind front rows y text len none = record {
   total = let zero : row_len kind (result_dim j).w * y ≡ 0 = ap (λ m. row_len kind (result_dim j).w * m) none ∙ omega arith in omega (arith, len, zero);
   band = omega arith;
-  begun = inl (none, refl);
+  begun = inl (none, refl, refl);
 }
 
 -- all rows
 pub counted_done : (j : Job) (kind : OutKind) (front rows : ℕ) (text : List ℕ) (sent held y : ℕ) → 0 < (result_dim j).h → y ≡ (result_dim j).h →
-    HasCounted j kind front rows text sent held y → (text ≡ []) × IsHeldInBands (result_dim j) rows (channels_of j.shape.kind) held
+    HasCounted j kind front rows text sent held y → IsHeldInBands (result_dim j) rows (channels_of j.shape.kind) held
 counted_done j kind front rows text sent held y some end counted = elim counted.begun [
   | inl none ↦ absurd (omega (arith, none.0, end, some))
-  | inr done ↦ (done.1, record { row = done.2; band = counted.band })
+  | inr done ↦ record { row = done.1; band = counted.band }
 ]
 
 -- ---- What is written
@@ -226,13 +256,13 @@ module _ (laws : Laws) (j : Job) (tile_means : TileKey → TileVal → Type 0) (
       let long = length_whole start kind image (result_dim j) is_for.sides in
       (image, is_for, (omega (arith, long, offset_some kind), Appends-nil old, inl refl))
 
-  -- so much of it as was written before a band failed
+  -- so much of it as was written before a band failed: nothing, or all that stood ready
   pub load_stopped : (old new : Option (List ℕ)) (text : List ℕ) (sent held rows y : ℕ) → y < (result_dim j).h → 0 < (result_dim j).w →
-      HasCounted j kind (length (start ++ head_of kind (result_dim j))) rows text sent held y → (shows : Pictures) → HasPicture shows j.name j.shape → IsSource (named shows j.name) →
-      HasRows shows j tile_means sum_means kind start old new text sent y →
+      HasCounted j kind (length (start ++ head_of kind (result_dim j))) rows text sent held y → (sent ≡ 0) ⊎ (text ≡ []) →
+      (shows : Pictures) → HasPicture shows j.name j.shape → IsSource (named shows j.name) → HasRows shows j tile_means sum_means kind start old new text sent y →
       (image : Picture) × IsImageFor shows j tile_means sum_means image
       × ((sent < length (start ++ file image kind)) × Appends old new (take sent (start ++ file image kind)) × ((sent ≡ 0) ⊎ (length (start ++ head_of kind (result_dim j)) ≤ sent)))
-  load_stopped old new text sent held rows y above some counted shows has source so_far =
+  load_stopped old new text sent held rows y above some counted ready shows has source so_far =
       let p = named shows j.name in
       let of = picture_shown shows j has source in
       let image = so_far.has.image in
@@ -250,37 +280,32 @@ module _ (laws : Laws) (j : Job) (tile_means : TileKey → TileVal → Type 0) (
         (
           omega (arith, long, front, short, total),
           subst (Appends old new) (sym part) so_far.appended,
-          counted_front j kind (length (start ++ head_of kind (result_dim j))) rows text sent held y counted,
+          ⊎_elim (λ none. inl none) (λ (none : text ≡ []). let empty : length text ≡ 0 = ap length none in inr (omega (arith, total, empty))) ready,
         ),
       )
 
-  -- so much as was written before the writer failed in a band
-  pub writer_stopped : {W : Type 0} (contents : W → Option (List ℕ)) (fails : W → W → Type 0) (old mid new : W) (text : List ℕ) (sent y n m : ℕ) (b : Picture) →
-      y + n ≤ (result_dim j).h → IsBandFor j tile_means sum_means (record { x = 0; y = y; w = (result_dim j).w; h = n }) b →
-      WasCut contents fails mid new (text ++ strip kind b) m → (shows : Pictures) → HasPicture shows j.name j.shape → IsSource (named shows j.name) →
+  -- so much as was written before the writer failed
+  pub writer_stopped : {W : Type 0} (contents : W → Option (List ℕ)) (fails : W → W → Type 0) (old mid new : W) (text : List ℕ) (sent y m : ℕ) → y ≤ (result_dim j).h →
+      WasCut contents fails mid new text m → (shows : Pictures) → HasPicture shows j.name j.shape → IsSource (named shows j.name) →
       HasRows shows j tile_means sum_means kind start (contents old) (contents mid) text sent y →
       (image : Picture) × IsImageFor shows j tile_means sum_means image × WasCut contents fails old new (start ++ file image kind) (sent + m)
-  writer_stopped contents fails old mid new text sent y n m b within is_band cut shows has source so_far =
+  writer_stopped contents fails old mid new text sent y m within cut shows has source so_far =
       let p = named shows j.name in
       let of = picture_shown shows j has source in
-      let whole = asked_whole laws p j.resolved of.whole in
-      let sides = asked_sides laws p j.resolved of.whole few in
-      let next = more_text shows j tile_means sum_means kind start fits laws.more laws.all whole sides (so_far.written ++ text) b y n within so_far.has is_band in
-      let left = text_left shows j tile_means sum_means kind start fits laws.more laws.all whole sides ((so_far.written ++ text) ++ strip kind b) (y + n) within next in
-      let image = next.image in
-      let piece = text ++ strip kind b in
-      let full : start ++ file image kind ≡ so_far.written ++ (piece ++ left.0) =
-      left.1 ∙ ap (λ t. t ++ left.0) (append_assoc so_far.written text (strip kind b)) ∙ append_assoc so_far.written piece left.0 in
+      let image = so_far.has.image in
+      let left = text_left shows j tile_means sum_means kind start fits laws.more laws.all (asked_whole laws p j.resolved of.whole) (asked_sides laws p j.resolved of.whole few)
+      (so_far.written ++ text) y within so_far.has in
+      let full : start ++ file image kind ≡ so_far.written ++ (text ++ left.0) = left.1 ∙ append_assoc so_far.written text left.0 in
       let strict = cut.strict in
-      let longer : length (start ++ file image kind) ≡ length so_far.written + (length piece + length left.0) =
-      ap length full ∙ length-append so_far.written (piece ++ left.0) ∙ ap (λ k. length so_far.written + k) (length-append piece left.0) in
-      let part : take (sent + m) (start ++ file image kind) ≡ so_far.written ++ take m piece =
+      let longer : length (start ++ file image kind) ≡ length so_far.written + (length text + length left.0) =
+      ap length full ∙ length-append so_far.written (text ++ left.0) ∙ ap (λ k. length so_far.written + k) (length-append text left.0) in
+      let part : take (sent + m) (start ++ file image kind) ≡ so_far.written ++ take m text =
       ap (λ k. take (k + m) (start ++ file image kind)) so_far.count ∙ ap (take (length so_far.written + m)) full
-      ∙ take-append-add so_far.written (piece ++ left.0) m
-      ∙ ap (λ t. so_far.written ++ t) (take-append-le m piece left.0 (omega (arith, strict))) in
+      ∙ take-append-add so_far.written (text ++ left.0) m
+      ∙ ap (λ t. so_far.written ++ t) (take-append-le m text left.0 (omega (arith, strict))) in
       let count = so_far.count in (
         image,
-        next.is_for,
+        so_far.has.is_for,
         record {
           strict = omega (arith, longer, strict, count);
           written = subst (Appends (contents old) (contents new)) (sym part) (Appends-trans _ _ _ _ _ so_far.appended cut.written);
@@ -290,29 +315,39 @@ module _ (laws : Laws) (j : Job) (tile_means : TileKey → TileVal → Type 0) (
         },
       )
 
-  -- a band more
-  pub next_rows : (old mid new : Option (List ℕ)) (text after : List ℕ) (sent sent2 y n y2 : ℕ) (b : Picture) → y + n ≤ (result_dim j).h →
-      IsBandFor j tile_means sum_means (record { x = 0; y = y; w = (result_dim j).w; h = n }) b → Appends mid new (text ++ strip kind b) → after ≡ [] → y2 ≡ y + n →
-      sent2 ≡ sent + length (text ++ strip kind b) →
+  -- a band more stands ready
+  pub more_rows : (old mid : Option (List ℕ)) (text after : List ℕ) (sent y n y2 : ℕ) (b : Picture) → y + n ≤ (result_dim j).h →
+      IsBandFor j tile_means sum_means (record { x = 0; y = y; w = (result_dim j).w; h = n }) b → after ≡ text ++ strip kind b → y2 ≡ y + n →
       (shows : Pictures) → HasPicture shows j.name j.shape → IsSource (named shows j.name) → HasRows shows j tile_means sum_means kind start old mid text sent y →
-      HasRows shows j tile_means sum_means kind start old new after sent2 y2
-  next_rows old mid new text after sent sent2 y n y2 b within is_band appended none is counted shows has source so_far =
+      HasRows shows j tile_means sum_means kind start old mid after sent y2
+  more_rows old mid text after sent y n y2 b within is_band ready is shows has source so_far =
       let p = named shows j.name in
       let of = picture_shown shows j has source in
       let whole = asked_whole laws p j.resolved of.whole in
       let sides = asked_sides laws p j.resolved of.whole few in
       let next = more_text shows j tile_means sum_means kind start fits laws.more laws.all whole sides (so_far.written ++ text) b y n within so_far.has is_band in
-      let piece = text ++ strip kind b in
-      let all = so_far.written ++ piece in
-      let same : (so_far.written ++ text) ++ strip kind b ≡ all ++ after =
-      append_assoc so_far.written text (strip kind b) ∙ sym (append-nil all) ∙ ap (λ t. all ++ t) (sym none) in
+      let same : (so_far.written ++ text) ++ strip kind b ≡ so_far.written ++ after =
+      append_assoc so_far.written text (strip kind b) ∙ ap (λ t. so_far.written ++ t) (sym ready) in
+      record {
+        written = so_far.written;
+        appended = so_far.appended;
+        count = so_far.count;
+        has = subst (λ k. HasText shows j tile_means sum_means kind start (so_far.written ++ after) k) (sym is)
+            (subst (λ t. HasText shows j tile_means sum_means kind start t (y + n)) same next);
+      }
+
+  -- what stood ready is written
+  pub flushed_rows : (old mid new : Option (List ℕ)) (text after : List ℕ) (sent sent2 y : ℕ) → Appends mid new text → after ≡ [] → sent2 ≡ sent + length text →
+      (shows : Pictures) → HasRows shows j tile_means sum_means kind start old mid text sent y → HasRows shows j tile_means sum_means kind start old new after sent2 y
+  flushed_rows old mid new text after sent sent2 y appended none written shows so_far =
+      let all = so_far.written ++ text in
+      let same : all ≡ all ++ after = sym (append-nil all) ∙ ap (λ t. all ++ t) (sym none) in
       let count = so_far.count in
       record {
         written = all;
         appended = Appends-trans _ _ _ _ _ so_far.appended appended;
-        count = omega (arith, count, counted, length-append so_far.written piece);
-        has = subst (λ k. HasText shows j tile_means sum_means kind start (all ++ after) k) (sym is)
-            (subst (λ t. HasText shows j tile_means sum_means kind start t (y + n)) same next);
+        count = omega (arith, count, written, length-append so_far.written text);
+        has = subst (λ t. HasText shows j tile_means sum_means kind start t y) same so_far.has;
       }
 
   -- all of it
@@ -351,12 +386,12 @@ pub more_len : (j : Job) (tile_means : TileKey → TileVal → Type 0) (sum_mean
     IsBandFor j tile_means sum_means (record { x = 0; y = y; w = (result_dim j).w; h = n }) b → length (strip kind b) ≡ row_len kind (result_dim j).w * n
 more_len j tile_means sum_means kind y n b is_band = length-strip kind b ∙ ap (strip_len kind) is_band.sides
 
-pub sent_within : (j : Job) (kind : OutKind) (start : List ℕ) (rows : ℕ) (text more : List ℕ) (sent held y n : ℕ) →
-    HasCounted j kind (length (start ++ head_of kind (result_dim j))) rows text sent held y → length more ≡ row_len kind (result_dim j).w * n → y + n ≤ (result_dim j).h →
-    sent + length (text ++ more) ≤ length start + file_len kind (result_dim j)
-sent_within j kind start rows text more sent held y n counted len within =
+-- what was written and stands ready is within the answer
+pub sent_within : (j : Job) (kind : OutKind) (start : List ℕ) (rows : ℕ) (text : List ℕ) (sent held y : ℕ) →
+    HasCounted j kind (length (start ++ head_of kind (result_dim j))) rows text sent held y → y ≤ (result_dim j).h →
+    sent + length text ≤ length start + file_len kind (result_dim j)
+sent_within j kind start rows text sent held y counted within =
     let row = row_len kind (result_dim j).w in
-    let below : row * (y + n) ≤ row * (result_dim j).h = mul-le-mul_left row within in
-    let sum : row * (y + n) ≡ row * y + row * n = omega arith in
+    let below : row * y ≤ row * (result_dim j).h = mul-le-mul_left row within in
     let t = counted.total in
-    omega (arith, t, length-append text more, len, below, sum, length_front start kind (result_dim j))
+    omega (arith, t, below, length_front start kind (result_dim j))

@@ -66,8 +66,8 @@ abbrev pub HaveRows : Job → (TileKey → TileVal → Type 0) → (SumKey → S
 HaveRows j tile_means sum_means kind start old new text sent y =
     (shows : Pictures) → HasPicture shows j.name j.shape → IsSource (named shows j.name) → HasRows shows j tile_means sum_means kind start old new text sent y
 
--- Behind a front of so many bytes the first y rows were written or stand ready: nothing was written yet, or all of them.
+-- Behind a front of so many bytes the first y rows were written or stand ready; nothing was written and held before a band was made.
 pub record HasCounted (j : Job) (kind : OutKind) (front rows : ℕ) (text : List ℕ) (sent held y : ℕ) : Type 0 where
   pub total : sent + length text ≡ front + row_len kind (result_dim j).w * y
   pub band : held ≤ 2 * (min rows (result_dim j).h * (result_dim j).w * channels_of j.shape.kind)
-  pub begun : ((y ≡ 0) × (sent ≡ 0)) ⊎ ((0 < y) × (text ≡ []) × ((result_dim j).w * channels_of j.shape.kind ≤ held))
+  pub begun : ((y ≡ 0) × (sent ≡ 0) × (held ≡ 0)) ⊎ ((0 < y) × ((result_dim j).w * channels_of j.shape.kind ≤ held))

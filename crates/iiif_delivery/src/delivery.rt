@@ -1,7 +1,8 @@
 //! Images, sent.
 
-ghost use Rattle.std.specs.Prelude.{◌≡◌, ◌<◌, ◌++◌, ◌^◌, IfOk, IfErr, length};
+ghost use Rattle.std.specs.Prelude.{◌≡◌, ℕ, ◌+◌, ◌<◌, [], ◌++◌, ◌^◌, IfOk, IfErr, OnOk, length};
 ghost use Rattle.std.specs.Io.KnownBytes.{Appends};
+ghost use Rattle.iiif_io.specs.Sending.{WasCut};
 ghost use Rattle.iiif_pixel.specs.Geometry.{channels_of, top_of};
 ghost use Rattle.iiif_pixel.specs.Picture.{Picture};
 ghost use Rattle.iiif_keys.specs.Names.{named, IsSource, Pictures};
@@ -10,6 +11,7 @@ ghost use Rattle.iiif_assemble.specs.Jobs.{channels_in, top_in, IsJob, SumsServe
 ghost use Rattle.iiif_tiff_write.specs.File.{file, file_len, head_of};
 ghost use Rattle.iiif_tiff_write.specs.OutKind.{out_depth, samples_per_pixel};
 ghost use Rattle.iiif_delivery.specs.Delivery.{result_dim, FailsFor, IsHeldInBands, IsImageFor, Stops};
+ghost use Rattle.iiif_delivery.specs.declared.delivery.Stopped.TheVariants.{Writer};
 
 use crate::rows::{laws_of_bands, put_band};
 use iiif_assemble::{Items, Job};
@@ -39,6 +41,9 @@ pub enum Stopped {
     Load(u64, Fault),
 }
 
+/// Rows in the file are sent once they take so many bytes, so that a small image takes one write.
+const PIECE: usize = 65_536;
+
 /// What stands before the rows: the head of an answer, and that of the file.
 fn front(alloc: Global, start: &[u8], kind: OutKind, dim: Dim) -> Result<Vec<u8>, NoMemory>
     requires { file_len kind dim < 2 ^ 32 }
@@ -49,8 +54,26 @@ fn front(alloc: Global, start: &[u8], kind: OutKind, dim: Dim) -> Result<Vec<u8>
     Ok(text)
 }
 
-/// Sends the image of a job behind a text, in bands of `rows`: each is made, written and dropped before the next is made, and the
-/// text goes out with the first. There is a worker for each pass, and which of them asks for an item changes nothing.
+/// Sends what stands ready, of which there is nothing then. Says how many bytes were sent in all, with those `sent` before it.
+fn flush<W: Outlet>(out: &mut W, text: &mut Vec<u8>, sent: u64) -> Result<u64, Stopped>
+    requires { sent + length text.old.items < 2 ^ 64 }
+    ensures count { IfOk result (λ n. n ≡ sent + length text.old.items) }
+    ensures none { OnOk result (text.new.items ≡ []) }
+    ensures whole { OnOk result (Appends (W.contents out.old) (W.contents out.new) text.old.items) }
+    ensures cut { IfErr result (λ s. (m : ℕ) × (s ≡ Writer (sent + m)) × WasCut W.contents W.fails out.old out.new text.old.items m) }
+{
+    match send(out, text) {
+        Ok(()) => {
+            let all = sent + text.len() as u64;
+            text.clear();
+            Ok(all)
+        }
+        Err(more) => Err(Stopped::Writer(sent + more)),
+    }
+}
+
+/// Sends the image of a job behind a text, in bands of `rows`: each is made, and dropped but for its rows in the file before the next is
+/// made. The text goes out with the rows of the first, and rows once they take 64 KiB, or where a band that follows can't be made. There is a worker for each pass, and which of them asks for an item changes nothing.
 ///
 /// Of an image that is made of blocks, the sums of those of a band are held while it is made. With several workers blocks of the bands
 /// that follow are asked in the same turns, and their sums are held until their bands are made: up to 8 blocks for each worker, or those
@@ -115,15 +138,28 @@ pub fn send_image<
             rt, alloc, tiles, sums, passes, job, kind, band, left, before, &mut kept, &mut text,
         ) {
             Ok(most) => held = held.max(most),
-            Err(fault) => return Err(Stopped::Load(sent, fault)),
+            Err(fault) => {
+                // Where no band was made, nothing is written.
+                if held == 0 {
+                    return Err(Stopped::Load(sent, fault));
+                }
+                match flush(out, &mut text, sent) {
+                    Ok(all) => return Err(Stopped::Load(all, fault)),
+                    Err(stopped) => return Err(stopped),
+                }
+            }
         }
         before = band.items.as_slice();
         left = left.get(1..).unwrap_or(&[]);
-        match send(out, &text) {
-            Ok(()) => sent += text.len() as u64,
-            Err(more) => return Err(Stopped::Writer(sent + more)),
+        if text.len() >= PIECE {
+            match flush(out, &mut text, sent) {
+                Ok(all) => sent = all,
+                Err(stopped) => return Err(stopped),
+            }
         }
-        text.clear();
     }
-    Ok(Delivered { bytes: sent, held })
+    match flush(out, &mut text, sent) {
+        Ok(bytes) => Ok(Delivered { bytes, held }),
+        Err(stopped) => Err(stopped),
+    }
 }

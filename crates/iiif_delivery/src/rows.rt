@@ -64,6 +64,7 @@ pub(crate) fn put_band<
     ensures kept { AreKept (S.means sums.now) kept.new.items }
     ensures rows { IfOk result (λ held. (b : Picture) × IsBandFor job.now (T.means tiles.now) (S.means sums.now) band.now.rect b
         × (text.new.items ≡ text.old.items ++ strip kind b)) }
+    ensures none { OnErr result (text.new.items ≡ text.old.items) }
     ensures held { IfOk result (λ held. IsHeldFor (sides_of band.now.rect) (channels_of job.now.shape.kind) held) }
     ensures fault { IfErr result (λ f. (f ≡ Fault.NoMemory)
         ⊎ IsBandFault (T.means tiles.now) (T.failed tiles.now) (S.means sums.now) (S.failed sums.now) job.now.plan band.now.items.items f) }
