@@ -8,7 +8,7 @@ ENTRIES = 4 * 4096
 # The program with its stack and its code, and what is small: heads, names, a word for each item of a plan.
 PROGRAM = 4 * MIB
 # What the C library keeps for each thread of the memory that was given back.
-KEPT = 16 * MIB
+KEPT = 24 * MIB
 # So many blocks are asked ahead for each worker, where there are several: those of bands that follow.
 FOR_EACH = 8
 # The C library maps a block of at least so many bytes in pages of its own: up to so many bytes more than it was asked for.
