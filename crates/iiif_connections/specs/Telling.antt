@@ -2,8 +2,8 @@
 use Rattle.std.specs.Prelude.{ℕ, Result, Ok, Err}
 use Rattle.iiif_log.specs.declared.answered.Outcome.{Outcome}
 use Rattle.iiif_log.specs.declared.answered.Outcome.TheVariants as outcomes
-use Rattle.iiif_server.specs.declared.answer.Cut.{Cut}
-use Rattle.iiif_server.specs.declared.answer.Sent.{Sent}
+use Rattle.iiif_answers.specs.declared.answer.Cut.{Cut}
+use Rattle.iiif_answers.specs.declared.answer.Sent.{Sent}
 
 -- its status, where it was sent whole
 abbrev pub outcome_of : Result Sent Cut → Outcome

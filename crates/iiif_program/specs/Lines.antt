@@ -1,5 +1,5 @@
 -- What the options of a line say.
-use Rattle.iiif_server.specs.Settings.{Settings}
+use Rattle.iiif_answers.specs.Settings.{Settings}
 use Rattle.iiif_command_line.specs.declared.line.Options.{Options}
 
 -- the settings of a server: both of the greatest sides are one number

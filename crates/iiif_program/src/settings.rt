@@ -1,8 +1,8 @@
 //! The settings of the server that the words name.
 
 ghost use Rattle.std.specs.Prelude.{◌≡◌, true, None, IfOk};
-ghost use Rattle.iiif_server.specs.BaseUrl.{is_base_url};
-ghost use Rattle.iiif_server.specs.Settings.{refusal_of};
+ghost use Rattle.iiif_answers.specs.BaseUrl.{is_base_url};
+ghost use Rattle.iiif_answers.specs.Settings.{refusal_of};
 ghost use Rattle.iiif_program.specs.Lines.{settings_in};
 
 use clap::ArgMatches;
@@ -24,7 +24,7 @@ fn base_in<'a>(matches: &ArgMatches<'a>) -> Result<&'a str, LineFault>
 
 /// What the words and the text of the list ask for, or the first thing that is wrong with them. Where the list can't be read, that
 /// comes in its place, at the images.
-#[tactic(auto, unfolding(iiif_server::specs::Settings::refusal_of))]
+#[tactic(auto, unfolding(iiif_answers::specs::Settings::refusal_of))]
 pub(crate) fn options_of<'t, 'a: 't>(
     alloc: Global,
     matches: &ArgMatches<'a>,

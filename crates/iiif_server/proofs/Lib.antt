@@ -1,13 +1,4 @@
-mod BaseUrlLemmas
-mod SettingsLemmas
-mod OutcomeLemmas
-mod NameLemmas
-mod ReplyLemmas
+mod JobLemmas
 mod StreamLemmas
-mod SilenceLemmas
-mod MessageLemmas
-mod AllowedLemmas
 mod SendingLemmas
-mod PlainLemmas
 mod PeerLemmas
-mod DeviceLemmas

@@ -37,23 +37,23 @@ use Rattle.iiif_assemble.specs.declared.job.Job.{Job}
 use Rattle.iiif_assemble.proofs.ImageLemmas.{resolved_sides}
 use Rattle.iiif_delivery.specs.Delivery.{result_dim, FailsFor, IsHeldInBands, IsImageFor}
 use Rattle.iiif_delivery.specs.declared.delivery.Stopped.TheVariants as stopped
-use Rattle.iiif_server.specs.Allowed.{own, source_failed, Allowed, HoldsFor, MayFail}
-use Rattle.iiif_server.specs.Answers.{given, IsPictureOf, IsSentFor}
-use Rattle.iiif_server.specs.Code.{answer_of, IsJobFor, ReachesImageOf}
-use Rattle.iiif_server.specs.declared.message.Message.{Message}
-use Rattle.iiif_server.specs.Kinds.{depth_of, kind_of}
-use Rattle.iiif_server.specs.Outcomes.{given_of, IsReady}
-use Rattle.iiif_server.specs.Responses.{body_in, image_response, is_loaded, response_of, source_fault, want_of_memory, written}
-use Rattle.iiif_server.specs.Sent.{text_of, IsSent, IsStrictPrefix}
-use Rattle.iiif_server.specs.Settings.{Settings}
-use Rattle.iiif_server.specs.declared.accepted.Accepted.{Accepted}
-use Rattle.iiif_server.specs.declared.answer.Sent.{Sent}
-use Rattle.iiif_server.specs.declared.answer.Cut.{Cut}
-use Rattle.iiif_server.specs.declared.answer.Cause.TheVariants.{Writer, Load}
-use Rattle.iiif_server.specs.declared.part.Part.{Part}
-use Rattle.iiif_server.specs.declared.part.Part.TheVariants.{Body, Whole, Head}
-use Rattle.iiif_server.proofs.AllowedLemmas.{allowed, memory_allowed, told_allowed}
-use Rattle.iiif_server.proofs.NameLemmas.{band_given, item_channels, item_top}
+use Rattle.iiif_answers.specs.Allowed.{own, source_failed, Allowed, HoldsFor, MayFail}
+use Rattle.iiif_answers.specs.Answers.{given, IsPictureOf, IsSentFor}
+use Rattle.iiif_server.specs.Code.{IsJobFor, ReachesImageOf}
+use Rattle.iiif_answers.specs.declared.message.Message.{Message}
+use Rattle.iiif_answers.specs.Kinds.{depth_of, kind_of}
+use Rattle.iiif_answers.specs.Outcomes.{given_of, IsReady}
+use Rattle.iiif_answers.specs.Responses.{body_in, image_response, is_loaded, response_of, source_fault, want_of_memory, written}
+use Rattle.iiif_answers.specs.Sent.{answer_of, text_of, IsSent, IsStrictPrefix}
+use Rattle.iiif_answers.specs.Settings.{Settings}
+use Rattle.iiif_answers.specs.declared.accepted.Accepted.{Accepted}
+use Rattle.iiif_answers.specs.declared.answer.Sent.{Sent}
+use Rattle.iiif_answers.specs.declared.answer.Cut.{Cut}
+use Rattle.iiif_answers.specs.declared.answer.Cause.TheVariants.{Writer, Load}
+use Rattle.iiif_answers.specs.declared.part.Part.{Part}
+use Rattle.iiif_answers.specs.declared.part.Part.TheVariants.{Body, Whole, Head}
+use Rattle.iiif_answers.proofs.AllowedLemmas.{allowed, memory_allowed, told_allowed}
+use Rattle.iiif_server.proofs.JobLemmas.{band_given, item_channels, item_top}
 
 -- ---- Faults
 

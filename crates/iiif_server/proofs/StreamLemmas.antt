@@ -10,16 +10,16 @@ use Rattle.iiif_http_front.specs.declared.call.HeadFault.TheVariants as fault
 use Rattle.iiif_request.specs.declared.request.Refusal.TheVariants as refusal
 use Rattle.iiif_http_front.specs.RequestHeads.{BeginsWithCall}
 use Rattle.iiif_source.specs.declared.ReadFault.{ReadFault}
-use Rattle.iiif_server.specs.Code.{CloseFor, GoesOn, IsAnswered, Served, answer_of}
+use Rattle.iiif_server.specs.Code.{CloseFor, GoesOn, IsAnswered, Served}
 use Rattle.iiif_images.specs.Collection.{Item}
-use Rattle.iiif_server.specs.Responses.{Response, refusal_response, want_of_memory, written}
-use Rattle.iiif_server.specs.Sent.{Answer, EndsWith, IsSent}
-use Rattle.iiif_server.specs.Settings.{Settings}
-use Rattle.iiif_server.specs.Streams.{Terms, Stream, IsCame, IsConnection, terms, call_limit, closes_after, IsClosing, goes_on, closed, cut_off, ended, head_cut, reader_failed, no_memory, no_head}
-use Rattle.iiif_server.specs.declared.answer.Sent.{Sent}
-use Rattle.iiif_server.specs.declared.answer.Cut.{Cut}
-use Rattle.iiif_server.specs.declared.message.Message.{Message}
-use Rattle.iiif_server.specs.declared.part.Part.TheVariants.{Whole}
+use Rattle.iiif_answers.specs.Responses.{Response, refusal_response, want_of_memory, written}
+use Rattle.iiif_answers.specs.Sent.{answer_of, Answer, EndsWith, IsSent}
+use Rattle.iiif_answers.specs.Settings.{Settings}
+use Rattle.iiif_answers.specs.Streams.{Terms, Stream, IsCame, IsConnection, terms, call_limit, closes_after, IsClosing, goes_on, closed, cut_off, ended, head_cut, reader_failed, no_memory, no_head}
+use Rattle.iiif_answers.specs.declared.answer.Sent.{Sent}
+use Rattle.iiif_answers.specs.declared.answer.Cut.{Cut}
+use Rattle.iiif_answers.specs.declared.message.Message.{Message}
+use Rattle.iiif_answers.specs.declared.part.Part.TheVariants.{Whole}
 
 -- an answer to no call was sent with that result
 pub closing_sent : (writer : Type 0) (r : Response) (text : List ℕ) (result : Result Sent Cut) → EndsWith writer (written (Whole true) r) text result → IsClosing writer r text

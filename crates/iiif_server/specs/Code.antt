@@ -12,23 +12,16 @@ use Rattle.iiif_images.specs.Collection.{Item}
 use Rattle.iiif_images.specs.Named.{picture_in}
 use Rattle.iiif_assemble.specs.Jobs.{IsJob}
 use Rattle.iiif_assemble.specs.declared.job.Job.{Job}
-use Rattle.iiif_server.specs.Allowed.{Allowed, Holds, MayAnswer}
-use Rattle.iiif_server.specs.Answers.{Reply, given, IsSentFor}
-use Rattle.iiif_server.specs.Calls.{RepliesToCall, part_of}
-use Rattle.iiif_server.specs.Outcomes.{given_of}
-use Rattle.iiif_server.specs.Responses.{Response, want_of_memory}
-use Rattle.iiif_server.specs.Settings.{Settings}
-use Rattle.iiif_server.specs.declared.accepted.Accepted.{Accepted}
-use Rattle.iiif_server.specs.declared.answer.Sent.{Sent}
-use Rattle.iiif_server.specs.declared.answer.Cut as cut
-use Rattle.iiif_server.specs.declared.part.Part.{Part}
-use Rattle.iiif_server.specs.Sent.{Answer}
-use Rattle.iiif_server.specs.Streams.{Terms, Stream, IsCame, IsClosing, closes_after}
-use Rattle.iiif_server.specs.declared.message.Message.{Message}
-
--- an answer as it is written
-abbrev pub answer_of : Message → Answer
-answer_of m = record { status = m.status; head = m.head.items; body = m.body.items }
+use Rattle.iiif_answers.specs.Allowed.{Allowed}
+use Rattle.iiif_answers.specs.Answers.{Reply, given, IsSentFor}
+use Rattle.iiif_answers.specs.Calls.{RepliesToCall, part_of}
+use Rattle.iiif_answers.specs.Outcomes.{given_of}
+use Rattle.iiif_answers.specs.Responses.{Response, want_of_memory}
+use Rattle.iiif_answers.specs.Settings.{Settings}
+use Rattle.iiif_answers.specs.declared.accepted.Accepted.{Accepted}
+use Rattle.iiif_answers.specs.declared.answer.Sent.{Sent}
+use Rattle.iiif_answers.specs.declared.answer.Cut as cut
+use Rattle.iiif_answers.specs.Streams.{Terms, Stream, IsCame, IsClosing, closes_after}
 
 -- the answer to no call, or that to want of memory, was sent before a connection closes
 abbrev pub CloseFor : Type 0 → Response → List ℕ → Type 0
@@ -51,10 +44,6 @@ GoesOn t n input left text = (h : RequestHead) × (rest : List ℕ) × BeginsWit
 abbrev pub Served : Terms → ℕ → List ℕ → Option (List ℕ) → List ℕ → Bool → Type 0
 Served t n input left text true = GoesOn t n input left text
 Served t n input left text false = (came : List ℕ) × IsCame t.reader input came × Stream t n came text
-
--- that answer may be given, and nothing is held of it
-abbrev pub MayTell : {S : Type 0} → Settings → Part → (S → ReadFault → Bool) → (Reply S → Type 0) → Response → Type 0
-MayTell settings part gave Reaches a = (may : MayAnswer settings part gave Reaches a) × Holds settings part gave Reaches a may 0
 
 -- A job for what a request of an item comes to, on a node where names have these pictures, these faults of their sources, these that
 -- are stable, and tiles this edge.

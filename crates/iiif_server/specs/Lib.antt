@@ -1,16 +1,4 @@
-pub mod BaseUrl
-pub mod Settings
-pub mod Kinds
 pub mod Nodes
 pub mod Stocks
-pub mod Sent
-pub mod Answers
-pub mod Responses
-pub mod Allowed
-pub mod Calls
-pub mod Streams
-pub mod Laws
-pub mod Outcomes
 pub mod Code
 pub mod Peers
-pub mod Devices

@@ -1,7 +1,7 @@
 -- What a node was told, and its images.
 use Rattle.std.specs.Prelude.{◌≡◌, ℕ, List, Option, None, Some}
 use Rattle.iiif_images.specs.Collection.{Item, item_named}
-use Rattle.iiif_server.specs.Settings.{Settings}
+use Rattle.iiif_answers.specs.Settings.{Settings}
 
 pub record Service (S : Type 0) : Type 0 where
   pub settings : Settings

@@ -5,32 +5,28 @@ ghost use Rattle.std.specs.Io.KnownBytes.{Appends};
 ghost use Rattle.iiif_source.specs.declared.ReadFault.{ReadFault};
 ghost use Rattle.iiif_pixel.specs.Picture.{Picture, dim_of};
 ghost use Rattle.iiif_pixel.specs.TurnPlaces.{turned_dim};
-ghost use Rattle.iiif_request.specs.Targets.{AsksFor, resource_of};
 ghost use Rattle.iiif_request.specs.declared.request.Request.{Request};
 ghost use Rattle.iiif_tiff_write.specs.OutKind.{out_kind_of};
 ghost use Rattle.iiif_images.specs.Collection.{Item, item_named};
 ghost use Rattle.iiif_images.specs.Items.{item_of};
 ghost use Rattle.iiif_images.specs.Named.{gave_of, pictures_of};
-ghost use Rattle.iiif_server.specs.Answers.{given, Given, IsPictureOf, Replies};
-ghost use Rattle.iiif_server.specs.Allowed.{Allowed, IsFramedText};
-ghost use Rattle.iiif_server.specs.BaseUrl.{path_of};
-ghost use Rattle.iiif_server.specs.Calls.{RepliesToCall, part_of};
-ghost use Rattle.iiif_server.specs.Code.{IsJobFor, MayTell, ReachesImageOf, answer_of};
-ghost use Rattle.iiif_server.specs.Kinds.{depth_of, kind_of};
-ghost use Rattle.iiif_server.specs.Outcomes.{CanBeMade, ComesTo, IsFound, IsReady};
-ghost use Rattle.iiif_server.specs.Responses.{Response, image_response, is_loaded, written};
-ghost use Rattle.iiif_server.specs.declared.part.Part.TheVariants.{Body};
+ghost use Rattle.iiif_answers.specs.Answers.{given, Given, IsPictureOf, Replies};
+ghost use Rattle.iiif_answers.specs.Allowed.{Allowed, IsFramedText};
+ghost use Rattle.iiif_answers.specs.Calls.{RepliesToCall, part_of};
+ghost use Rattle.iiif_server.specs.Code.{IsJobFor, ReachesImageOf};
+ghost use Rattle.iiif_answers.specs.Kinds.{depth_of, kind_of};
+ghost use Rattle.iiif_answers.specs.Outcomes.{IsReady};
+ghost use Rattle.iiif_answers.specs.Responses.{image_response, is_loaded, written};
+ghost use Rattle.iiif_answers.specs.declared.part.Part.TheVariants.{Body};
 
-use crate::accepted::{Accepted, accept};
-use crate::answer::{Cause, Cut, Sent};
-use crate::calls::{is_answered, part_of};
-use crate::config::Config;
-use crate::images::{head_message, image_head, job_of, picture_is_shown};
-use crate::message::{Message, information_message, redirect_message, refusal_message};
-use crate::outcome::{Outcome, identifier, sides};
-use crate::part::Part;
-use crate::sending::{send_fault, send_message};
 use crate::stock::Stock;
+use iiif_answers::accepted::Accepted;
+use iiif_answers::calls::{is_answered, part_of};
+use iiif_answers::images::{head_message, image_head, job_of, picture_is_shown};
+use iiif_answers::message::{message_of, refusal_message};
+use iiif_answers::outcome::{Outcome, outcome_of};
+use iiif_answers::sending::{send_fault, send_message};
+use iiif_answers::{Cause, Config, Cut, Part, Sent};
 use iiif_assemble::Job;
 use iiif_delivery::{Stopped, send_image};
 use iiif_group::{Gate, Link, NoGate, NoLink};
@@ -41,7 +37,7 @@ use iiif_images::{Catalogue, Entry, Images};
 use iiif_io::Outlet;
 use iiif_keys::{SumKey, System, TileKey};
 use iiif_pixel::NoMemory;
-use iiif_request::{Refusal, SplitFault, Target, split};
+use iiif_request::Refusal;
 use iiif_source::Source;
 use iiif_sum_group::{Groups, Passes, SumCalls};
 use iiif_tile_group::{TileCalls, Tiles};
@@ -133,62 +129,6 @@ impl<R, S: Source<R> + Drop, J: System, N, T> Node<R, S, J, N, T> {
         ensures stable { (name : List ℕ) (item : Item S) → item_named result.now name ≡ Some item → J.stable name → ∥ S.keeps item.source ∥₁ }
     {
         self.groups.tiles().images().catalogue()
-    }
-
-    /// What a target comes to before anything is loaded.
-    fn outcome(&self, alloc: Global, target: &[u8]) -> Outcome<'_, R, S>
-        ensures comes { ComesTo S.bytes S.keeps J.honest (Replies S.bytes S.keeps J.honest self.now.settings self.now.items target.now) result }
-        ensures made { CanBeMade result }
-        ensures found { IsFound self.now.items result }
-    {
-        match split(alloc, self.config.prefix(), target) {
-            Ok(resource) => self.outcome_of(&resource),
-            Err(SplitFault::Path) => Outcome::Refused(Refusal::Path),
-            Err(SplitFault::NoMemory) => Outcome::NoMemory,
-        }
-    }
-
-    /// The same, where this is asked for.
-    fn outcome_of<'a>(&'a self, resource: &Target) -> Outcome<'a, R, S>
-        ensures comes { (target : List ℕ) → AsksFor (path_of self.now.settings.base) target (resource_of resource.now)
-            → ComesTo S.bytes S.keeps J.honest (Replies S.bytes S.keeps J.honest self.now.settings self.now.items target) result }
-        ensures made { CanBeMade result }
-        ensures found { IsFound self.now.items result }
-    {
-        let Some(entry) = self.images().find(identifier(resource)) else {
-            return Outcome::Refused(Refusal::Identifier);
-        };
-        match resource {
-            Target::Base(_) => Outcome::Redirect(entry),
-            Target::Info(_) => Outcome::Information(entry, sides(entry)),
-            Target::Image(_, words) => match accept(entry, &self.config.limits(), words) {
-                Ok(accepted) => Outcome::Image(entry, accepted),
-                Err(refusal) => Outcome::Refused(refusal),
-            },
-        }
-    }
-
-    /// What is told where no image is made. The only error is want of memory.
-    fn message_of(
-        &self,
-        alloc: Global,
-        part: Part,
-        outcome: &Outcome<'_, R, S>,
-    ) -> Result<Message, NoMemory>
-        ensures { (target : List ℕ) → ComesTo S.bytes S.keeps J.honest (Replies S.bytes S.keeps J.honest self.now.settings self.now.items target) outcome.now
-            → IfOk result (λ m. (a : Response) × MayTell self.now.settings part S.gave (Replies S.bytes S.keeps J.honest self.now.settings self.now.items target) a
-            × (answer_of m ≡ written part a)) }
-    {
-        match outcome {
-            Outcome::Refused(refusal) => refusal_message(alloc, part, *refusal),
-            Outcome::Redirect(entry) => {
-                redirect_message(alloc, part, self.config.base(), entry.name.as_str())
-            }
-            Outcome::Information(entry, dim) => {
-                information_message(alloc, part, &self.config, entry.name.as_str(), *dim)
-            }
-            _ => Err(AllocError),
-        }
     }
 
     /// What an accepted request of one of its images comes to, planned.
@@ -409,12 +349,12 @@ impl<
         ensures unasked { ((g : Given S) → Replies S.bytes S.keeps J.honest self.now.settings self.now.items target.now (given g) → is_loaded part ≡ false)
             → passes.new ≡ passes.old }
     {
-        match self.outcome(alloc, target) {
+        match outcome_of(alloc, &self.config, self.images(), target) {
             Outcome::Image(entry, accepted) => {
                 self.send_accepted(rt, alloc, passes, part, entry, &accepted, out)
             }
             told => {
-                let message = self.message_of(alloc, part, &told);
+                let message = message_of(alloc, part, &self.config, &told);
                 send_message(out, part, message)
             }
         }

@@ -4,16 +4,15 @@ ghost use Rattle.std.specs.Prelude.{◌≡◌, ◌≤◌, ◌<◌, ◌==◌, ◌
 ghost use Rattle.std.specs.Io.KnownBytes.{Appends};
 ghost use Rattle.iiif_http_front.specs.Reading.{input_of};
 ghost use Rattle.iiif_server.specs.Code.{CloseFor, IsAnswered, Served};
-ghost use Rattle.iiif_server.specs.Streams.{IsCame, IsConnection, call_limit, terms, IsClosing};
-ghost use Rattle.iiif_server.specs.Responses.{refusal_response, want_of_memory};
+ghost use Rattle.iiif_answers.specs.Streams.{IsCame, IsConnection, call_limit, terms, IsClosing};
+ghost use Rattle.iiif_answers.specs.Responses.{refusal_response, want_of_memory};
 ghost use Rattle.iiif_request.specs.declared.request.Refusal.TheVariants as refusal;
 
-use crate::answer::{Cut, Sent};
-use crate::message::refusal_message;
 use crate::node::Node;
-use crate::part::Part;
-use crate::sending::send_message;
 use crate::watch::Watch;
+use iiif_answers::message::refusal_message;
+use iiif_answers::sending::send_message;
+use iiif_answers::{Cut, Part, Sent};
 use iiif_group::{Gate, Link};
 use iiif_http_front::{Call, HeadFault, Heads};
 use iiif_io::{Inlet, Outlet};

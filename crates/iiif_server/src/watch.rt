@@ -1,6 +1,6 @@
 //! Who is told of each answer of a connection.
 
-use crate::answer::{Cut, Sent};
+use iiif_answers::{Cut, Sent};
 use iiif_http_front::Call;
 
 /// Who is told of each answer, as for a log and for counters. R is the runtime.

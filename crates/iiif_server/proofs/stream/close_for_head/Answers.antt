@@ -1,5 +1,5 @@
 use Rattle.iiif_request.specs.declared.request.Refusal.TheVariants as refusal
-use Rattle.iiif_server.specs.Responses.{refusal_response}
+use Rattle.iiif_answers.specs.Responses.{refusal_response}
 use Rattle.iiif_server.proofs.StreamLemmas.{head_closing}
 use Rattle.iiif_server.proofs.stream.close_for_head.Goals as goal
 

@@ -1,4 +1,4 @@
-use Rattle.iiif_server.specs.Responses.{want_of_memory}
+use Rattle.iiif_answers.specs.Responses.{want_of_memory}
 use Rattle.iiif_server.proofs.StreamLemmas.{closing_sent}
 use Rattle.iiif_server.proofs.stream.close_for_memory.Goals as goal
 

@@ -1,5 +1,5 @@
-use Rattle.iiif_server.specs.declared.part.Part.TheVariants.{Body}
-use Rattle.iiif_server.proofs.AllowedLemmas.{body_framed}
+use Rattle.iiif_answers.specs.declared.part.Part.TheVariants.{Body}
+use Rattle.iiif_answers.proofs.AllowedLemmas.{body_framed}
 use Rattle.iiif_server.proofs.node.Node.body_one.Goals as goal
 
 pub returns-clause-framed : goal.returns-clause-framed

@@ -3,7 +3,7 @@ use Rattle.std.specs.Prelude.{IsTrue}
 use Rattle.iiif_images.specs.Items.{item_of}
 use Rattle.iiif_server.specs.Code.{ReachesImageOf}
 use Rattle.iiif_server.specs.Nodes.{Service}
-use Rattle.iiif_server.proofs.AllowedLemmas.{memory_allowed}
+use Rattle.iiif_answers.proofs.AllowedLemmas.{memory_allowed}
 use Rattle.iiif_server.proofs.node.Node.send_loaded.Goals as goal
 
 pub returns-in_default : goal.returns-in_default

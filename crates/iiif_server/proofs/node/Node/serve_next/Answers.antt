@@ -1,6 +1,6 @@
 use Rattle.std.proofs.Common.{◌++◌, Err, Some, ap}
 use Rattle.iiif_http_front.specs.Reading.{input_of}
-use Rattle.iiif_server.specs.Streams.{terms}
+use Rattle.iiif_answers.specs.Streams.{terms}
 use Rattle.iiif_server.proofs.StreamLemmas.{next_call, next_none, next_cut, next_failed, next_failed_here, next_bad, next_too_long, next_no_memory}
 use Rattle.iiif_server.proofs.node.Node.serve_next.Goals as goal
 

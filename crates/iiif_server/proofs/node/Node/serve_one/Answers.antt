@@ -1,10 +1,10 @@
 use Rattle.std.proofs.Common.{◌∙◌, List, ℕ, ap, sym, subst, refl}
 use Rattle.iiif_request.specs.declared.request.Refusal.TheVariants.{Method}
-use Rattle.iiif_server.specs.Allowed.{own}
-use Rattle.iiif_server.specs.Answers.{Replies, refused, given}
-use Rattle.iiif_server.specs.Calls.{RepliesToCall, no_method, of_target, part_of}
-use Rattle.iiif_server.specs.Responses.{is_loaded}
-use Rattle.iiif_server.proofs.AllowedLemmas.{answer_to_call_framed, call_allowed, other_part, told_allowed}
+use Rattle.iiif_answers.specs.Allowed.{own}
+use Rattle.iiif_answers.specs.Answers.{Replies, refused, given}
+use Rattle.iiif_answers.specs.Calls.{RepliesToCall, no_method, of_target, part_of}
+use Rattle.iiif_answers.specs.Responses.{is_loaded}
+use Rattle.iiif_answers.proofs.AllowedLemmas.{answer_to_call_framed, call_allowed, other_part, told_allowed}
 use Rattle.iiif_server.proofs.node.Node.serve_one.Goals as goal
 
 pub returns-then-is_answered : goal.returns-then-is_answered

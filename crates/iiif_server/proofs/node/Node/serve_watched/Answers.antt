@@ -1,6 +1,6 @@
 use Rattle.std.proofs.Common.{[], Some, ap, arith, ◌<◌}
 use Rattle.iiif_http_front.specs.Reading.{Reading, input_of}
-use Rattle.iiif_server.specs.Streams.{terms}
+use Rattle.iiif_answers.specs.Streams.{terms}
 use Rattle.iiif_server.proofs.StreamLemmas.{begins_so, goes_further, ends_so, next_no_memory, at_start, came_at_end, came_further, nothing_came}
 use Rattle.iiif_server.proofs.node.Node.serve_watched.Goals as goal
 

@@ -1,0 +1,12 @@
+pub mod BaseUrl
+pub mod Settings
+pub mod Kinds
+pub mod Sent
+pub mod Answers
+pub mod Responses
+pub mod Allowed
+pub mod Calls
+pub mod Streams
+pub mod Laws
+pub mod Outcomes
+pub mod Devices

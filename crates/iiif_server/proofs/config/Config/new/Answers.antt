@@ -1,7 +1,0 @@
-use Rattle.std.proofs.Common.{rules}
-use Rattle.iiif_server.proofs.SettingsLemmas.{legal}
-use Rattle.iiif_server.proofs.config.Config.new.Goals as goal
-
-pub invariant_of-result : goal.invariant_of-result
-invariant_of-result c =
-    rw c.in-Ok.ensures.ok (legal _ (search rules))

@@ -1,5 +1,0 @@
-use Rattle.std.proofs.Common.{◌∙◌}
-use Rattle.iiif_server.proofs.images.canonical_link.Goals as goal
-
-pub returns : goal.returns
-returns c = rw (c.as_str.ensures.value ∙ c.in_ok-uri.ensures.value) at c.link_to.ensures
