@@ -9,7 +9,7 @@ use Rattle.iiif_pixel.specs.declared.geometry.Rect.{Rect}
 use Rattle.iiif_tiff.specs.Tiff.{Scheme, row_bytes, piece_rows, piece_bytes, stored}
 use Rattle.iiif_tiff_read.specs.declared.rects.Part.{Part}
 use Rattle.iiif_tiff_read.specs.Layouts.{FitsIn}
-use Rattle.iiif_tiff_read.specs.Code.{IsSound, IsPart, FitsWindow, HoldsRows, HoldsPart, KeepsOthers, row_place, stored_at, window_of}
+use Rattle.iiif_tiff_read.specs.Code.{IsSound, AreEven, IsPart, FitsWindow, HoldsPart, KeepsOthers, row_place, stored_at, window_of}
 use Rattle.iiif_tiff.proofs.Numbers.{one_piece}
 
 one_row : (q m r : ℕ) → m ≡ 1 → (q + m) * r ≡ q * r + r
@@ -48,21 +48,28 @@ rows_left s x y n sound xw yh inside =
           rw (strips, sound.strip strips, across, none, one) (omega arith)
     ]
 
-join : (a b c r : ℕ) → (b + c) * r ≤ a → b * r + c * r ≤ a
-join a b c r le = omega (arith, le)
+-- a row stands in the file, whole
+row_in_file : (s : Scheme) (x y n : ℕ) → IsSound s → FitsIn s n → x < s.width → y < s.height → row_place s x y + row_bytes s ≤ n
+unfolding row_place piece_bytes
+row_in_file s x y n sound fits xw yh =
+    let below : y % s.piece_height < s.piece_height = mod_below y s.piece_height sound.piece_height.0 in
+    let left = rows_left s x y 1 sound xw (omega (arith, yh)) (omega (arith, below)) in
+    let piece = fits (y / s.piece_height * s.tiles_across + x / s.piece_width) (piece_index s x y sound xw yh) in
+    let product = mul-le-mul_right (row_bytes s) left in
+    omega (arith, piece, product)
+
+last_row : (n r : ℕ) → 0 < n → n * r ≡ (n - 1) * r + r
+last_row n r some =
+    let e : n ≡ n - 1 + 1 = omega (arith, some) in
+    ap (λ (k : ℕ). k * r) e ∙ omega arith
 
 -- the part's rows stand in the file, each whole
 pub part_in_file : (s : Scheme) (r : Rect) (p : Part) (n : ℕ) → IsSound s → FitsIn s n → IsPart s r p → row_place s (r.x + p.left) (r.y + p.top) + p.rows * row_bytes s ≤ n
-unfolding row_place piece_bytes
 part_in_file s r p n sound fits part =
     let xw : r.x + p.left < s.width = omega (arith, part.inside.columns, part.columns, part.columns_some) in
-    let yh : r.y + p.top + p.rows ≤ s.height = omega (arith, part.inside.rows, part.rows) in
-    let there = piece_index s (r.x + p.left) (r.y + p.top) sound xw (omega (arith, yh, part.rows_some)) in
-    let left = rows_left s (r.x + p.left) (r.y + p.top) p.rows sound xw yh part.piece_rows in
-    let piece = fits ((r.y + p.top) / s.piece_height * s.tiles_across + (r.x + p.left) / s.piece_width) there in
-    let product = mul-le-mul_right (row_bytes s) left in
-    let sum = join _ ((r.y + p.top) % s.piece_height) p.rows (row_bytes s) product in
-    omega (arith, piece, sum)
+    let yh : r.y + p.top + (p.rows - 1) < s.height = omega (arith, part.inside.rows, part.rows, part.rows_some) in
+    let last = row_in_file s (r.x + p.left) (r.y + p.top + (p.rows - 1)) n sound fits xw yh in
+    omega (arith, last, part.even (p.rows - 1) (omega (arith, part.rows_some)), last_row p.rows (row_bytes s) part.rows_some)
 
 pub ceil_le : (a b : ℕ) → a ≤ b → div_ceil a 8 ≤ div_ceil b 8
 ceil_le a b le = omega arith
@@ -89,16 +96,48 @@ in_piece x w d pos lt =
     let whole : x + d ≡ x / w * w + (x % w + d) = omega (arith, div-add-mod' x w) in
     (rw whole (div-mul-add (x / w) w (x % w + d) below), rw whole (mod-mul-add (x / w) w (x % w + d) below))
 
-stored_there : (s : Scheme) (bytes : List ℕ) (x y dx dy k : ℕ) → 0 < s.piece_width → 0 < s.piece_height → dx < s.piece_width - x % s.piece_width → dy < s.piece_height - y % s.piece_height
+-- its rows begin where those of column x do
+same_column : (s : Scheme) (x d y : ℕ) → 0 < s.piece_width → d < s.piece_width - x % s.piece_width → row_place s (x + d) y ≡ row_place s x y
+unfolding row_place
+same_column s x d y pos lt = rw (in_piece x s.piece_width d pos lt).0 refl
+
+-- rows of one piece stand one after another
+pub piece_even : (s : Scheme) (x y n : ℕ) → 0 < s.piece_height → y % s.piece_height + n ≤ s.piece_height → AreEven s x y n
+unfolding row_place
+piece_even s x y n pos le j lt =
+    let row = in_piece y s.piece_height j pos (omega (arith, le, lt)) in
+    rw (row.0, row.1) (omega arith)
+
+-- and so do those of the piece below, where it begins where m rows end
+pub joined_even : (s : Scheme) (x y m d : ℕ) → 0 < s.piece_height → d ≤ s.piece_height → (y + m) % s.piece_height ≡ 0 → AreEven s x y m → row_place s x (y + m) ≡ row_place s x y + m * row_bytes s
+    → AreEven s x y (m + d)
+joined_even s x y m d pos le begins even joins j lt =
+    elim (cases_lt j m) [
+      | inl above ↦ even j above
+      | inr below ↦
+          let there = piece_even s x (y + m) d pos (omega (arith, begins, le)) (j - m) (omega (arith, below, lt)) in
+          let at : y + j ≡ y + m + (j - m) = omega (arith, below) in
+          let rows : j ≡ m + (j - m) = omega (arith, below) in
+          let bytes : j * row_bytes s ≡ m * row_bytes s + (j - m) * row_bytes s = ap (λ (k : ℕ). k * row_bytes s) rows ∙ omega arith in
+          ap (λ (k : ℕ). row_place s x k) at ∙ omega (arith, there, joins, bytes)
+    ]
+
+-- the row behind the k that are left of a piece is the first of the next
+pub piece_ends : (y h k : ℕ) → 0 < h → y % h + k ≡ h → (y + k) % h ≡ 0
+piece_ends y h k pos left =
+    let next : y + k ≡ (y / h + 1) * h + 0 = omega (arith, div-add-mod' y h, left) in
+    rw next (mod-mul-add (y / h + 1) h 0 pos)
+
+-- what is so of a column is so of each of its piece
+pub columns_even : (s : Scheme) (x d y n : ℕ) → 0 < s.piece_width → d < s.piece_width - x % s.piece_width → AreEven s x y n → AreEven s (x + d) y n
+columns_even s x d y n pos lt even j below = same_column s x d (y + j) pos lt ∙ even j below ∙ ap (λ (m : ℕ). m + j * row_bytes s) (sym (same_column s x d y pos lt))
+
+stored_there : (s : Scheme) (bytes : List ℕ) (x y dx dy k : ℕ) → 0 < s.piece_width → dx < s.piece_width - x % s.piece_width → row_place s x (y + dy) ≡ row_place s x y + dy * row_bytes s
     → stored_at bytes s (x + dx) (y + dy) k ≡ stored s.bits bytes (row_place s x y + dy * row_bytes s) (x % s.piece_width * s.channels + (dx * s.channels + k))
-unfolding stored_at row_place
-stored_there s bytes x y dx dy k pw ph dxw dyh =
-    let column = in_piece x s.piece_width dx pw dxw in
-    let row = in_piece y s.piece_height dy ph dyh in
-    let o = slice_index s.offsets (y / s.piece_height * s.tiles_across + x / s.piece_width) in
-    let place : o + (y % s.piece_height + dy) * row_bytes s ≡ o + y % s.piece_height * row_bytes s + dy * row_bytes s = omega arith in
+unfolding stored_at
+stored_there s bytes x y dx dy k pw dxw row =
     let sample : (x % s.piece_width + dx) * s.channels + k ≡ x % s.piece_width * s.channels + (dx * s.channels + k) = omega arith in
-    rw (column.0, column.1, row.0, row.1, place, sample) refl
+    rw ((in_piece x s.piece_width dx pw dxw).1, same_column s x dx (y + dy) pw dxw, row, sample) refl
 
 -- In the rows before `top` and, in `rows` rows from there on, in the columns before `left` the samples are those that are stored.
 abbrev pub Filled : List ℕ → Scheme → Rect → ℕ → ℕ → ℕ → List ℕ → Type 0
@@ -134,7 +173,7 @@ filled_part bytes old new s r p sound part held rest so_far x y k xw kc (inr b) 
             let i : (x - p.left) * s.channels + k < p.columns * s.channels = omega (arith, row_fits (x - p.left) s.channels p.columns s.channels dx (omega arith)) in
             let xs : r.x + p.left + (x - p.left) ≡ r.x + x = omega arith in
             let ys : r.y + p.top + (y - p.top) ≡ r.y + y = omega arith in
-            let there = stored_there s bytes (r.x + p.left) (r.y + p.top) (x - p.left) (y - p.top) k sound.piece_width.0 sound.piece_height.0 (omega (arith, part.piece_columns)) (omega (arith, part.piece_rows)) in
+            let there = stored_there s bytes (r.x + p.left) (r.y + p.top) (x - p.left) (y - p.top) k sound.piece_width.0 (omega (arith, part.piece_columns)) (part.even (y - p.top) dy) in
             ap (λ (m : ℕ). get_or new m 0) (flat_part r.w s.channels x y k p.left p.top from below) ∙ held (y - p.top) ((x - p.left) * s.channels + k) dy i ∙ sym there
             ∙ ap (λ (m : ℕ). stored_at bytes s m (r.y + p.top + (y - p.top)) k) xs ∙ ap (λ (m : ℕ). stored_at bytes s (r.x + x) m k) ys
       ]

@@ -181,7 +181,11 @@ abbrev pub KeepsRest : Window → ℕ → List ℕ → List ℕ → Type 0
 KeepsRest v m old new = (j q : ℕ) → q < v.width → (j < v.top) ⊎ (v.top + m ≤ j) ⊎ (q < v.left) ⊎ (v.left + v.columns ≤ q)
     → slice_index new (j * v.width + q) ≡ slice_index old (j * v.width + q)
 
--- The rectangle lies in the image, the part in the rectangle, and in one piece of the image.
+-- In the column of place (x, y) n rows from it on stand one after another in the file.
+abbrev pub AreEven : Scheme → ℕ → ℕ → ℕ → Type 0
+AreEven s x y n = (j : ℕ) → j < n → row_place s x (y + j) ≡ row_place s x y + j * row_bytes s
+
+-- The rectangle lies in the image, the part in the rectangle, its columns in one piece of the image, and its rows stand one after another.
 pub record IsPart (s : Scheme) (r : Rect) (p : Part) : Type 0 where
   pub inside : LiesIn r (dim_of s)
   pub columns : p.left + p.columns ≤ r.w
@@ -189,7 +193,7 @@ pub record IsPart (s : Scheme) (r : Rect) (p : Part) : Type 0 where
   pub columns_some : 0 < p.columns
   pub rows_some : 0 < p.rows
   pub piece_columns : (r.x + p.left) % s.piece_width + p.columns ≤ s.piece_width
-  pub piece_rows : (r.y + p.top) % s.piece_height + p.rows ≤ s.piece_height
+  pub even : AreEven s (r.x + p.left) (r.y + p.top) p.rows
 
 -- the window of a part among the samples of its rectangle
 abbrev pub window_of : ℕ → Rect → Part → Window

@@ -56,7 +56,8 @@ impl Layout {
     }
 
     /// A rectangle of the image, from the source that the layout was opened from. It reads only the bytes that the
-    /// rectangle needs: of each strip or tile one run where the rows lie together, else a run a row.
+    /// rectangle needs: of each tile, and of strips that stand one after another in the file, one run where the rows lie
+    /// together, else a run a row.
     pub fn read_rect<R, S: Source<R>>(
         &self,
         rt: &R,

@@ -1,11 +1,11 @@
 //! Reads rectangles of samples from strips and tiles.
 
-ghost use Rattle.std.specs.Prelude.{◌≡◌, ◌*◌, ◌^◌, ◌<◌, ◌≤◌, length, IfOk, IfErr, OnOk};
+ghost use Rattle.std.specs.Prelude.{◌≡◌, ◌+◌, ◌*◌, ◌%◌, ◌^◌, ◌<◌, ◌≤◌, ℕ, length, IfOk, IfErr, OnOk};
 ghost use Rattle.iiif_pixel.specs.Geometry.{channels_of, top_of, LiesIn};
 ghost use Rattle.iiif_pixel.specs.Depths.{depth_of, values_of};
 ghost use Rattle.iiif_tiff.specs.Tiff.{row_bytes, white_of};
 ghost use Rattle.iiif_tiff_read.specs.Layouts.{FitsIn, dim_of};
-ghost use Rattle.iiif_tiff_read.specs.Code.{IsSound, image_scheme, image_units, row_place, IsPart, HoldsPart, KeepsOthers, HoldsStored, HoldsShown};
+ghost use Rattle.iiif_tiff_read.specs.Code.{IsSound, image_scheme, image_units, row_place, AreEven, IsPart, HoldsPart, KeepsOthers, HoldsStored, HoldsShown};
 ghost use Rattle.iiif_tiff_read.specs.Faults.{IsLoadFault};
 
 use crate::checks::Format;
@@ -16,7 +16,8 @@ use iiif_pixel::{Rect, Samples};
 use iiif_source::Source;
 use std::alloc::Global;
 
-/// A part of a rectangle that stands in one piece: its corner in the rectangle, and its sides.
+/// A part of a rectangle whose columns stand in one piece, and whose rows stand one after another in the file: its corner in the
+/// rectangle, and its sides.
 #[derive(Clone, Copy)]
 pub struct Part {
     pub left: u32,
@@ -46,6 +47,53 @@ impl Image {
         let offsets = self.offsets.as_slice();
         let offset = offsets[above + (x / self.grid.width) as usize];
         offset as u64 + (y % self.grid.height) as u64 * self.row_bytes()
+    }
+
+    /// How many rows of its piece are left from a row on.
+    fn left_of_piece(&self, y: u32) -> u32
+        requires { IsSound (image_units self.now) }
+        ensures some { 0 < result }
+        ensures left { y % self.now.grid.height + result ≡ self.now.grid.height }
+    {
+        self.grid.height - y % self.grid.height
+    }
+
+    /// How many rows from a place on, at most so many, stand one after another in the file: those that are left of its piece, and
+    /// those of the pieces below while each begins where the one above it ends.
+    fn even_rows(&self, x: u32, y: u32, most: u32) -> u32
+        requires sound { IsSound (image_units self.now) }
+        requires inside { (x < self.now.dim.w) × (y + most ≤ self.now.dim.h) }
+        requires some { 0 < most }
+        ensures some { 0 < result }
+        ensures most { result ≤ most }
+        ensures even { AreEven (image_units self.now) x y result }
+    {
+        let first = self.row_place(x, y);
+        let stride = self.row_bytes();
+        let mut rows = self.left_of_piece(y).min(most);
+        while rows < most && self.row_place(x, y + rows) == first + rows as u64 * stride {
+            rows += self.grid.height.min(most - rows);
+        }
+        rows
+    }
+
+    /// How many rows of a rectangle from one on stand one after another in the file, in each of its columns. Where it has
+    /// columns of several pieces, they are rows of one piece.
+    fn band_rows(&self, rect: Rect, top: u32) -> u32
+        requires sound { IsSound (image_units self.now) }
+        requires inside { LiesIn rect (dim_of (image_scheme self.now)) }
+        requires some { top < rect.h }
+        ensures some { 0 < result }
+        ensures most { top + result ≤ rect.h }
+        ensures even { (x : ℕ) → x < rect.w → AreEven (image_units self.now) (rect.x + x) (rect.y + top) result }
+    {
+        let y = rect.y + top;
+        let most = rect.h - top;
+        if rect.w > 0 && rect.x % self.grid.width + rect.w <= self.grid.width {
+            self.even_rows(rect.x, y, most)
+        } else {
+            self.left_of_piece(y).min(most)
+        }
     }
 
     /// Reads the part's samples, as they are stored, into those of the rectangle.
@@ -84,7 +132,7 @@ impl Image {
         read_window(rt, alloc, source, rows, window, samples)
     }
 
-    /// Reads the samples of a rectangle, as they are stored, piece by piece.
+    /// Reads the samples of a rectangle, as they are stored, part by part.
     fn fill<R, S: Source<R>>(
         &self,
         rt: &R,
@@ -102,7 +150,7 @@ impl Image {
     {
         let mut top = 0;
         while top < rect.h {
-            let rows = (self.grid.height - (rect.y + top) % self.grid.height).min(rect.h - top);
+            let rows = self.band_rows(rect, top);
             let mut left = 0;
             while left < rect.w {
                 let columns = (self.grid.width - (rect.x + left) % self.grid.width).min(

@@ -9,31 +9,29 @@ pub read_part-requires-clause-part : goal.read_part-requires-clause-part
 read_part-requires-clause-part g c =
     let s = image_units c.args.self.now in
     let x-below : (c.args.rect.x + c.loop-left.left) % s.piece_width < s.piece_width = mod_below (c.args.rect.x + c.loop-left.left) s.piece_width c.requires.sound.piece_width.0 in
-    let y-below : (c.args.rect.y + c.loop-top.top) % s.piece_height < s.piece_height = mod_below (c.args.rect.y + c.loop-top.top) s.piece_height c.requires.sound.piece_height.0 in
     record {
       inside = c.requires.inside;
       columns = omega (arith, c.min-columns.ensures, c.loop-left-test.true);
-      rows = omega (arith, c.min-rows.ensures, c.loop-top-test.true);
+      rows = c.band_rows-rows.ensures.most;
       columns_some = omega (arith, c.min-columns.ensures, c.loop-left-test.true, x-below);
-      rows_some = omega (arith, c.min-rows.ensures, c.loop-top-test.true, y-below);
+      rows_some = c.band_rows-rows.ensures.some;
       piece_columns = omega (arith, c.min-columns.ensures, x-below);
-      piece_rows = omega (arith, c.min-rows.ensures, y-below);
+      even = c.band_rows-rows.ensures.even c.loop-left.left c.loop-left-test.true;
     }
 
 pub loop-left-preserved : goal.loop-left-preserved
 loop-left-preserved g c =
     let s = image_units c.args.self.now in
-    let p : Part = record { left = c.loop-left.left; top = c.loop-top.top; columns = c.min-columns.result; rows = c.min-rows.result } in
+    let p : Part = record { left = c.loop-left.left; top = c.loop-top.top; columns = c.min-columns.result; rows = c.band_rows-rows.result } in
     let x-below : (c.args.rect.x + c.loop-left.left) % s.piece_width < s.piece_width = mod_below (c.args.rect.x + c.loop-left.left) s.piece_width c.requires.sound.piece_width.0 in
-    let y-below : (c.args.rect.y + c.loop-top.top) % s.piece_height < s.piece_height = mod_below (c.args.rect.y + c.loop-top.top) s.piece_height c.requires.sound.piece_height.0 in
     let part : IsPart s c.args.rect p = record {
       inside = c.requires.inside;
       columns = omega (arith, c.min-columns.ensures, c.loop-left-test.true);
-      rows = omega (arith, c.min-rows.ensures, c.loop-top-test.true);
+      rows = c.band_rows-rows.ensures.most;
       columns_some = omega (arith, c.min-columns.ensures, c.loop-left-test.true, x-below);
-      rows_some = omega (arith, c.min-rows.ensures, c.loop-top-test.true, y-below);
+      rows_some = c.band_rows-rows.ensures.some;
       piece_columns = omega (arith, c.min-columns.ensures, x-below);
-      piece_rows = omega (arith, c.min-rows.ensures, y-below);
+      even = c.band_rows-rows.ensures.even c.loop-left.left c.loop-left-test.true;
     } in (
       part.columns,
       λ keeps. filled_part (g.S.Source.bytes c.args.source.now) c.loop-left.samples c.read_part.new.samples s c.args.rect p c.requires.sound part (c.in_ok-read_part.ensures.held keeps) c.in_ok-read_part.ensures.rest (c.loop-left.invariant.1 keeps),
