@@ -134,16 +134,35 @@ fn sample_of_bit(byte: u8, bit: usize) -> u8
     (byte >> (7 - bit)) % 2 * 255
 }
 
-/// Unpacks bits to samples, without those that are skipped.
+/// Unpacks the bits of a byte to eight samples.
+fn unpack_byte(byte: u8, samples: &mut [u8])
+    requires { length samples.old ≡ 8 }
+    ensures length { length samples.new ≡ 8 }
+    ensures samples { (k : ℕ) → k < 8 → slice_index samples.new k ≡ 255 * (byte / 2 ^ (7 - k) % 2) }
+{
+    for bit in 0..8 {
+        samples[bit] = sample_of_bit(byte, bit);
+    }
+}
+
+/// Unpacks bits to samples, without those that are skipped: a whole byte at a time where its samples are all wanted.
 fn unpack_bits(bytes: &[u8], skip: usize, samples: &mut [u8])
     requires room { skip + length samples.old ≤ 8 * length bytes.now }
     requires skip { skip < 8 }
     ensures length { length samples.new ≡ length samples.old }
     ensures samples { (i : ℕ) → i < length samples.old → slice_index samples.new i ≡ stored 1 bytes.now 0 (skip + i) }
 {
-    for i in 0..samples.len() {
+    let mut i = 0;
+    while i < samples.len() {
         let place = skip + i;
-        samples[i] = sample_of_bit(bytes[place / 8], place % 8);
+        let byte = bytes[place / 8];
+        if place % 8 == 0 && i + 8 <= samples.len() {
+            unpack_byte(byte, &mut samples[i..i + 8]);
+            i += 8;
+        } else {
+            samples[i] = sample_of_bit(byte, place % 8);
+            i += 1;
+        }
     }
 }
 
