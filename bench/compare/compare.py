@@ -13,7 +13,7 @@ job that keeps its size, or whose larger result is 1,024 wide at most, is so sho
 do it ten times a round. An overview of 100 megapixels is made by one worker and by four, too, each also with the settings of SMALL, which
 docs/OPERATING.md has for a single large image; and an overview from strips with tiles of 1,024. The peak of the resident memory is taken in
 seven runs of its own (of the others three). With --before, another build of the program runs beside it, on the jobs of 8 bits and of bits
-that aren't scaled up. With --reads, `strace` counts the reads of the source that a job takes, in a run of its own.
+that aren't scaled up. With --package both run in the environment of the package's unit. With --reads, `strace` counts the reads of the source that a job takes, in a run of its own.
 
 The status is 1 where an answer of the program differs or a program fails, and with --strict also where a limit is passed. Memory: what
 docs/OPERATING.md says, which is the caches and a band (`memory.py`), with the program's defaults, with no cache, with a small one and a
@@ -104,6 +104,9 @@ class Source:
             out.write(struct.pack("<2sHI", b"II", 42, directory))
         os.replace(path + ".part", path)
 
+
+# What starts the program in the package, and sets its environment.
+UNIT = os.path.join(os.path.dirname(os.path.abspath(__file__)), "..", "..", "packaging", "iiif-serve.service")
 
 SOURCES = [
     Source("gray-tiles", 10_000, 12, tile=256),
@@ -268,8 +271,16 @@ def touch(mebibytes):
         subprocess.run([sys.executable, "-c", f"b'x' * ({mebibytes} << 20)"], check=True)
 
 
-def run(commands, out, repeat=1):
-    """Runs the commands one after the other, and all so often: wall clock and processor time in seconds of each time."""
+def package():
+    """The environment of the package's unit."""
+    with open(UNIT) as unit:
+        words = [line.strip().removeprefix("Environment=") for line in unit if line.startswith("Environment=")]
+    return {**os.environ, **dict(word.split("=", 1) for word in words)}
+
+
+def run(commands, out, repeat=1, environment=None):
+    """Runs the commands one after the other, and all so often: wall clock and processor time in seconds of each time. Builds of the program
+    are run in this environment."""
     times = []
     for _ in range(repeat):
         wall = cpu = 0
@@ -277,7 +288,7 @@ def run(commands, out, repeat=1):
             own = command[-1].startswith("a=")
             with open(out if own else os.devnull, "wb") as stdout, open(out + ".err", "wb") as errors:
                 start = time.perf_counter()
-                child = subprocess.Popen(command, stdout=stdout, stderr=errors)
+                child = subprocess.Popen(command, stdout=stdout, stderr=errors, env=environment if own else None)
                 _, status, usage = os.wait4(child.pid, 0)
                 wall += time.perf_counter() - start
             child.returncode = os.waitstatus_to_exitcode(status)
@@ -374,6 +385,7 @@ def turned(programs, turn):
 def measured(args, jobs, wanted):
     """The medians of each job and program (wall clock, processor time, peak memory), and whether an answer was wrong."""
     times, peaks, wrong = {}, {}, False
+    environment = package() if args.package else None
     for turn in range(args.rounds):
         for job in jobs:
             for name, commands in turned(list(programs(args, job).items()), turn):
@@ -382,7 +394,7 @@ def measured(args, jobs, wanted):
                 out = answer_path(args, job, name)
                 touch(args.warm)
                 short = name in OWN and JOBS[job][2][2] <= JOBS[job][3] <= 1024
-                times.setdefault((job, name), []).extend(run(commands, out, 10 if short else 1))
+                times.setdefault((job, name), []).extend(run(commands, out, 10 if short else 1, environment))
                 if turn == 0 and name in OWN:
                     with open(out, "rb") as file:
                         if file.read() != answer_file(wanted[job]):
@@ -501,6 +513,7 @@ def main():
     parser.add_argument("--without", nargs="*", default=[], help="libvips, GDAL, plain: programs to leave out")
     parser.add_argument("--reads", action="store_true", help="count the reads of the source")
     parser.add_argument("--warm", type=int, default=0, help="touch so many MiB of memory right before each program is run, whichever it is")
+    parser.add_argument("--package", action="store_true", help="run the program, and the build before, in the environment of the package's unit, but for peaks of memory")
     parser.add_argument("--strict", action="store_true", help="status 1 where a limit is passed")
     return compare(parser.parse_args())
 
