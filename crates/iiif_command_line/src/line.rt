@@ -40,6 +40,11 @@ const OPEN_FILES: u64 = 256;
 
 const MOST_OPEN_FILES: u64 = 65_536;
 
+/// The bytes that are touched at the start where none are given, and the most that may be.
+const TOUCH_BYTES: u64 = 0;
+
+const MOST_TOUCH_BYTES: u64 = 1 << 40;
+
 /// The name of a node where none is given, and the most bytes of one.
 const OWN_NAME: &str = "self";
 
@@ -52,7 +57,7 @@ const MOST_PORT: u64 = 65_535;
 const MOST_PEERS: usize = 63;
 
 /// The options that take one text each: the name, what the text is, and the help.
-const OPTIONS: [(&str, &str, &str); 12] = [
+const OPTIONS: [(&str, &str, &str); 13] = [
     ("base", "URL", "the URL that begins each image's"),
     ("edge", "PIXELS", "the edge of a tile, 256 if left out"),
     (
@@ -79,6 +84,11 @@ const OPTIONS: [(&str, &str, &str); 12] = [
         "open-files",
         "COUNT",
         "the images' files that stay open, 256 if left out",
+    ),
+    (
+        "touch-bytes",
+        "BYTES",
+        "the memory that is written to before it listens, 0 if left out",
     ),
     (
         "name",
@@ -128,6 +138,8 @@ pub enum LineFault {
     Workers,
     #[error("open-files")]
     OpenFiles,
+    #[error("touch")]
+    Touch,
     #[error("image")]
     Image,
     /// The file of the list of images can't be read.
@@ -178,6 +190,8 @@ pub struct Options<'a> {
     pub workers: u32,
     /// How many of the images' files stay open.
     pub open_files: NonZeroUsize,
+    /// How much memory is written to before the program listens, in bytes.
+    pub touch_bytes: u64,
     /// Each image's name and file: those of the words, and behind them those of the list.
     pub images: Vec<(&'a str, &'a str)>,
     /// This node's name, and each other node's name and address.
@@ -295,15 +309,15 @@ fn sides(edge: Option<&str>, max: Option<&str>) -> Result<(u32, u32), LineFault>
     }
 }
 
-/// The bytes of a cache: a whole number of up to thirteen digits, within their limit.
-fn cache_bytes(text: Option<&str>) -> Option<u64>
-    ensures { IfSome result (λ n. n < 2 ^ 63) }
+/// So many bytes: a whole number of up to thirteen digits, within its limit.
+fn bytes(text: Option<&str>, default: u64, most: u64) -> Option<u64>
+    ensures { IfSome result (λ n. n ≤ most) }
 {
     let value = match text {
         Some(text) => numeral(text.as_bytes(), 13)?,
-        None => CACHE_BYTES,
+        None => default,
     };
-    if value > MOST_CACHE_BYTES {
+    if value > most {
         return None;
     }
     Some(value)
@@ -390,11 +404,13 @@ fn peers<'t, 'a: 't>(
     Ok(peers)
 }
 
-/// What a node may take of the machine: the rows of a band, the workers of a request, and the files that stay open.
+/// What a node may take of the machine: the rows of a band, the workers of a request, the files that stay open, and the memory that is
+/// written to at the start.
 struct Shares {
     band: u32,
     workers: u32,
     open_files: NonZeroUsize,
+    touch_bytes: u64,
     ghost within: { (1 ≤ band) × (band ≤ 16384) × (1 ≤ workers) × (workers ≤ 16) },
 }
 
@@ -409,10 +425,18 @@ fn shares_in(matches: &ArgMatches<'_>) -> Result<Shares, LineFault> {
     let Some(open_files) = open_files(matches.get_str("open-files")) else {
         return Err(LineFault::OpenFiles);
     };
+    let Some(touch_bytes) = bytes(
+        matches.get_str("touch-bytes"),
+        TOUCH_BYTES,
+        MOST_TOUCH_BYTES,
+    ) else {
+        return Err(LineFault::Touch);
+    };
     Ok(Shares {
         band,
         workers,
         open_files,
+        touch_bytes,
     })
 }
 
@@ -453,13 +477,18 @@ pub fn options_in<'t, 'a: 't>(
     ensures { IfOk result (λ o. o.base.now ≡ base.now) }
 {
     let (edge, max) = sides(matches.get_str("edge"), matches.get_str("max"))?;
-    let Some(cache_bytes) = cache_bytes(matches.get_str("cache-bytes")) else {
+    let Some(cache_bytes) = bytes(
+        matches.get_str("cache-bytes"),
+        CACHE_BYTES,
+        MOST_CACHE_BYTES,
+    ) else {
         return Err(LineFault::Cache);
     };
     let Shares {
         band,
         workers,
         open_files,
+        touch_bytes,
     } = shares_in(matches)?;
     let images = images_in(alloc, matches, list)?;
     let name = name_in(matches);
@@ -473,6 +502,7 @@ pub fn options_in<'t, 'a: 't>(
         band,
         workers,
         open_files,
+        touch_bytes,
         images,
         name,
         peers,

@@ -23,7 +23,7 @@ use iiif_open_files::Opens;
 use iiif_server::{Catalogue, Config, Node};
 use iiif_services::Addresses;
 use iiif_start::check::check;
-use iiif_start::{Stop, Stored, catalogue, ended, list_of, refused};
+use iiif_start::{Stop, Stored, catalogue, ended, list_of, refused, touch};
 use std::alloc::Global;
 use std::convert::AsStr;
 use std::marker::Brand;
@@ -266,6 +266,9 @@ where
             log,
             stats,
         } => {
+            if touch(alloc, options.touch_bytes).is_err() {
+                return Err(Stop::Memory);
+            }
             let addresses = Addresses {
                 viewers,
                 peers,

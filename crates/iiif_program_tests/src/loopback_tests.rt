@@ -125,9 +125,10 @@ where
 fn addresses_that_are_none_end_the_program(rt: HostRuntime) -> Result<(), Fail> {
     let listener = TcpListener::bind(&rt, "127.0.0.1:0")?;
     let taken = address_of(rt.alloc(), &listener)?;
-    let cases: [(&str, &str, &str); 6] = [
+    let cases: [(&str, &str, &str); 7] = [
         (taken.as_str(), "", ""),
         ("nowhere", "", ""),
+        ("nowhere", "--touch-bytes", "3000000"),
         ("127.0.0.1:0", "--peer-listen", taken.as_str()),
         ("127.0.0.1:0", "--peer-listen", "127.0.0.1"),
         ("127.0.0.1:0", "--stats-listen", taken.as_str()),

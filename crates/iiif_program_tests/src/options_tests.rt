@@ -300,7 +300,7 @@ fn check_that_cannot_write_fails(rt: HostRuntime) {
 }
 
 /// What is said of wrong words: the line, and what to do.
-const REMEDIES: [Case; 10] = [
+const REMEDIES: [Case; 11] = [
     (
         &["--base", "localhost"],
         Said::WholeFault(
@@ -330,6 +330,10 @@ const REMEDIES: [Case; 10] = [
     (
         &["--base", BASE, "--open-files", "65537"],
         Said::WholeFault("line: open-files\n--open-files is a number of files, 1 to 65536\n"),
+    ),
+    (
+        &["--base", BASE, "--touch-bytes", "1099511627777"],
+        Said::WholeFault("line: touch\n--touch-bytes is a number of bytes, 0 to 1099511627776\n"),
     ),
     (
         &["--base", BASE, "b"],

@@ -255,12 +255,13 @@ fn words_are_answered_or_the_first_wrong_one_is_named(rt: HostRuntime) -> Result
 }
 
 /// What is set where the words name the images and a target alone: the edge, the greatest side, the bytes of a cache, the rows of a band,
-/// the workers, and the files that stay open.
+/// the workers, the files that stay open, and the memory that is written to at the start.
 fn are_left_out(options: &Options<'_>) -> bool {
     let sides = (options.edge, options.max) == (256, 4096);
     let shares = (options.band, options.workers) == (64, 2);
     let bounds = (options.cache_bytes, options.open_files.get()) == (67_108_864, 256);
-    sides && shares && bounds && !options.upscale && options.name == "self"
+    let memory = bounds && options.touch_bytes == 0;
+    sides && shares && memory && !options.upscale && options.name == "self"
 }
 
 #[test]
@@ -319,7 +320,7 @@ fn at_most_sixty_three_other_nodes_with_names_of_255_bytes(rt: HostRuntime) -> R
 }
 
 /// What the program names, in its order: the line, a word that is wrong there, and one that isn't.
-const IN_ORDER: [(&str, &[&str], &[&str]); 10] = [
+const IN_ORDER: [(&str, &[&str], &[&str]); 11] = [
     ("line: base\n", &["--base", "ftp://x"], &["--base", BASE]),
     ("line: edge\n", &["--edge", "0"], &["--edge", "2"]),
     ("line: max\n", &["--max", "0"], &["--max", "4"]),
@@ -334,6 +335,11 @@ const IN_ORDER: [(&str, &[&str], &[&str]); 10] = [
         "line: open-files\n",
         &["--open-files", "0"],
         &["--open-files", "1"],
+    ),
+    (
+        "line: touch\n",
+        &["--touch-bytes", "x"],
+        &["--touch-bytes", "0"],
     ),
     ("line: image\n", &["a"], &["a=:sample"]),
     ("line: peer\n", &["--peer", "p=x"], &["--peer", "p=x:65535"]),

@@ -6,6 +6,7 @@ pub use check::Checked;
 pub use opening::{catalogue, list_of};
 pub use stop::{Stop, ended};
 pub use stored::Stored;
+pub use touching::touch;
 pub use unfit::Unfit;
 pub use wrong::refused;
 
@@ -14,5 +15,6 @@ pub mod opening;
 mod sample;
 pub mod stop;
 pub mod stored;
+pub mod touching;
 pub mod unfit;
 pub mod wrong;

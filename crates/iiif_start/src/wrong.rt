@@ -25,6 +25,7 @@ fn remedy(fault: LineFault) -> &'static str
         LineFault::Band => "--band is a number of rows, 1 to 16384",
         LineFault::Workers => "--workers is a number of threads, 1 to 16",
         LineFault::OpenFiles => "--open-files is a number of files, 1 to 65536",
+        LineFault::Touch => "--touch-bytes is a number of bytes, 0 to 1099511627776",
         LineFault::Image => {
             "at least one NAME=FILE, here or in the file of --images, with a name of 1 to 1024 bytes that stands once"
         }
