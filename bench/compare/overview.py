@@ -1,0 +1,93 @@
+"""The overview of 100 megapixels beside the program before bands and caches, in both environments, by turns.
+
+    /usr/bin/python3 bench/compare/overview.py --program crates/iiif_serve/out/iiif_serve --before BUILD [--rounds 11] [--strict]
+
+The gray file of 10,000 square in tiles of compare.py, 1,024 wide, from the command line: by the program before and by this one with one
+worker, two and four, each without an environment and in that of the package's unit. All run by turns, each round begun with another. Each
+answer of this program is compared with the exact averages. Prints the medians of the wall clock with the least in brackets, of the processor
+time of all threads, and of the new pages that were touched; then what one worker and four take of the program before. The status is 1 where
+an answer differs, and with --strict also where, in the package's environment, one worker takes more than 1.15 of it, or four more than 0.6.
+"""
+import argparse
+import os
+import statistics
+import subprocess
+import sys
+import time
+
+import compare
+
+# What a count of workers may take of the program before.
+LIMITS = {"1": 1.15, "4": 0.6}
+SOURCE, RECT, SIZE = compare.SOURCES[0], (0, 0, 10000, 10000), 1024
+
+
+def once(command, out, environment):
+    """Wall clock and processor time in ms, and new pages."""
+    with open(out, "wb") as stdout:
+        start = time.perf_counter()
+        child = subprocess.Popen(command, stdout=stdout, env=environment)
+        _, status, usage = os.wait4(child.pid, 0)
+        wall = time.perf_counter() - start
+    child.returncode = os.waitstatus_to_exitcode(status)
+    if child.returncode:
+        sys.exit(f"{' '.join(command)}: status {child.returncode}")
+    return wall * 1000, (usage.ru_utime + usage.ru_stime) * 1000, usage.ru_minflt
+
+
+def commands(args, path):
+    """How each is run, by its name: the program before, and this one by its workers."""
+    words = ["--base", "http://localhost/iiif", "--one", f"/iiif/a/full/{SIZE},/0/default.tif", f"a={path}"]
+    found = {"before": [args.before, *words]}
+    for workers in ("1", "2", "4"):
+        found[workers] = [args.program, "--workers", workers, *words]
+    return found
+
+
+def measured(args, path, wanted):
+    """The runs of each program in each environment, and whether an answer was wrong."""
+    environments = {"none": None, "package": compare.package()}
+    ways = [(name, kind) for name in commands(args, path) for kind in environments]
+    runs, wrong, out = {}, False, os.path.join(args.work, "overview.tif")
+    for turn in range(args.rounds):
+        for name, kind in compare.turned(ways, turn):
+            runs.setdefault((name, kind), []).append(once(commands(args, path)[name], out, environments[kind]))
+            with open(out, "rb") as file:
+                if name != "before" and file.read() != wanted:
+                    wrong = True
+                    print(f"{name} workers: differs from the exact averages", file=sys.stderr)
+    return runs, wrong
+
+
+def main():
+    parser = argparse.ArgumentParser(description=__doc__, formatter_class=argparse.RawDescriptionHelpFormatter)
+    parser.add_argument("--program", required=True)
+    parser.add_argument("--before", required=True, help="the program before bands and caches")
+    parser.add_argument("--work", default="/tmp/iiif_compare", help="where the sources are kept")
+    parser.add_argument("--rounds", type=int, default=11)
+    parser.add_argument("--strict", action="store_true", help="status 1 where a limit is passed")
+    args = parser.parse_args()
+    job = next(n for n, (_, number, rect, size) in enumerate(compare.JOBS) if (number, tuple(rect), size) == (0, RECT, SIZE))
+    wanted = compare.answer_file(compare.prepared(args, [job])[job])
+    runs, wrong = measured(args, os.path.join(args.work, SOURCE.name + ".tif"), wanted)
+    middle = {key: [statistics.median(column) for column in zip(*found)] for key, found in runs.items()}
+    print("| | no environment | processor time | pages | package | processor time | pages |\n|---|---|---|---|---|---|---|")
+    for name, title in (("before", "before"), ("1", "one worker"), ("2", "two"), ("4", "four")):
+        cells = []
+        for kind in ("none", "package"):
+            wall, used, pages = middle[name, kind]
+            cells.append(f"{wall:.0f} ({min(run[0] for run in runs[name, kind]):.0f}) | {used:.0f} | {pages:,.0f}")
+        print(f"| {title} | {' | '.join(cells)} |")
+    passed = []
+    for workers, limit in LIMITS.items():
+        parts = {kind: middle[workers, kind][0] / middle["before", kind][0] for kind in ("none", "package")}
+        print(f"{workers} of the program before: {parts['none']:.2f} without an environment, {parts['package']:.2f} in the package's, limit {limit}")
+        if parts["package"] > limit:
+            passed.append(f"{workers} workers: {parts['package']:.2f}, above {limit}")
+    for line in passed:
+        print(line, file=sys.stderr)
+    return 1 if wrong or (args.strict and passed) else 0
+
+
+if __name__ == "__main__":
+    sys.exit(main())
