@@ -5,8 +5,9 @@
 The gray file of 10,000 square in tiles of compare.py, 1,024 wide, from the command line: by the program before and by this one with one
 worker, two and four, each without an environment and in that of the package's unit. All run by turns, each round begun with another. Each
 answer of this program is compared with the exact averages. Prints the medians of the wall clock with the least in brackets, of the processor
-time of all threads, and of the new pages that were touched; then what one worker and four take of the program before. The status is 1 where
-an answer differs, and with --strict also where, in the package's environment, one worker takes more than 1.15 of it, or four more than 0.6.
+time of all threads, and of the new pages that were touched; then what one worker and four take of the program before: both without an
+environment, both in the package's, and each as its own package starts it, of which the one before sets none. The status is 1 where an answer
+differs, and with --strict also where of these last one worker takes more than 1.15, or four more than 0.6.
 """
 import argparse
 import os
@@ -79,11 +80,13 @@ def main():
             cells.append(f"{wall:.0f} ({min(run[0] for run in runs[name, kind]):.0f}) | {used:.0f} | {pages:,.0f}")
         print(f"| {title} | {' | '.join(cells)} |")
     passed = []
+    print("\n| beside the program before | both without an environment | both in the package's | each as its package starts it | limit |\n|---|---|---|---|---|")
     for workers, limit in LIMITS.items():
-        parts = {kind: middle[workers, kind][0] / middle["before", kind][0] for kind in ("none", "package")}
-        print(f"{workers} of the program before: {parts['none']:.2f} without an environment, {parts['package']:.2f} in the package's, limit {limit}")
-        if parts["package"] > limit:
-            passed.append(f"{workers} workers: {parts['package']:.2f}, above {limit}")
+        plain, shared = (middle[workers, kind][0] / middle["before", kind][0] for kind in ("none", "package"))
+        packaged = middle[workers, "package"][0] / middle["before", "none"][0]
+        print(f"| {workers} worker{'s' * (workers != '1')} | {plain:.2f} | {shared:.2f} | {packaged:.2f} | {limit} |")
+        if packaged > limit:
+            passed.append(f"{workers} workers: {packaged:.2f}, above {limit}")
     for line in passed:
         print(line, file=sys.stderr)
     return 1 if wrong or (args.strict and passed) else 0
