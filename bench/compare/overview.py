@@ -1,22 +1,27 @@
-"""The overview of 100 megapixels beside the program before bands and caches, in both environments, by turns.
+"""The overview of 100 megapixels beside the program before bands and caches, by turns: from the command line, and asked of a server.
 
     /usr/bin/python3 bench/compare/overview.py --program crates/iiif_serve/out/iiif_serve --before BUILD [--rounds 11] [--strict]
 
-The gray file of 10,000 square in tiles of compare.py, 1,024 wide, from the command line: by the program before and by this one with one
-worker, two and four, each without an environment and in that of the package's unit. All run by turns, each round begun with another. Each
-answer of this program is compared with the exact averages. Prints the medians of the wall clock with the least in brackets, of the processor
-time of all threads, and of the new pages that were touched; then what one worker and four take of the program before: both without an
-environment, both in the package's, and each as its own package starts it, of which the one before sets none. The status is 1 where an answer
-differs, and with --strict also where of these last one worker takes more than 1.15, or four more than 0.6.
+The gray file of 10,000 square in tiles of compare.py, 1,024 wide, by the program before and by this one with one worker, two and four. From
+the command line each without an environment and in that of the package's unit; as a server each as its own package starts it, which is
+without an environment for the one before, and for this one in the unit's and with the memory touched that the package's options say. A server
+is started anew for each answer, so its caches are empty, and the clock runs from the request until the last byte. All run by turns, each round
+begun with another. Each answer of this program is compared with the exact averages. Prints the medians of the wall clock with the least in
+brackets, and from the command line those of the processor time of all threads and of the new pages that were touched; then what one worker and
+four take of the program before. The status is 1 where an answer differs, and with --strict also where of a server's time one worker takes more
+than 1.15, or four more than 0.6.
 """
 import argparse
 import os
+import re
 import statistics
 import subprocess
 import sys
 import time
 
+import again
 import compare
+import program as running
 
 # What a count of workers may take of the program before.
 LIMITS = {"1": 1.15, "4": 0.6}
@@ -45,18 +50,39 @@ def commands(args, path):
     return found
 
 
+def touched():
+    """The option of the package by which memory is touched."""
+    with open(os.path.join(os.path.dirname(compare.UNIT), "iiif-serve.default")) as default:
+        return re.search(r"--touch-bytes \d+", default.read())[0].split()
+
+
+def served(args, name, path):
+    """The wall clock in ms of the first answer of a server, and the answer."""
+    program, options, environment = args.before, [], None
+    if name != "before":
+        program, options, environment = args.program, ["--workers", name, *touched()], compare.package()
+    with running.Server(program, [f"a={path}"], options, environment) as server, server.connect() as link:
+        seconds, body = again.asked(link, again.TARGET)
+    return seconds * 1000, body
+
+
 def measured(args, path, wanted):
-    """The runs of each program in each environment, and whether an answer was wrong."""
+    """The runs of each program in each way, and whether an answer was wrong."""
     environments = {"none": None, "package": compare.package()}
-    ways = [(name, kind) for name in commands(args, path) for kind in environments]
+    ways = [(name, kind) for name in commands(args, path) for kind in (*environments, "server")]
     runs, wrong, out = {}, False, os.path.join(args.work, "overview.tif")
     for turn in range(args.rounds):
         for name, kind in compare.turned(ways, turn):
-            runs.setdefault((name, kind), []).append(once(commands(args, path)[name], out, environments[kind]))
-            with open(out, "rb") as file:
-                if name != "before" and file.read() != wanted:
-                    wrong = True
-                    print(f"{name} workers: differs from the exact averages", file=sys.stderr)
+            if kind == "server":
+                wall, body = served(args, name, path)
+                runs.setdefault((name, kind), []).append((wall, 0, 0))
+            else:
+                runs.setdefault((name, kind), []).append(once(commands(args, path)[name], out, environments[kind]))
+                with open(out, "rb") as file:
+                    body = file.read()
+            if name != "before" and body != wanted:
+                wrong = True
+                print(f"{name} workers, {kind}: differs from the exact averages", file=sys.stderr)
     return runs, wrong
 
 
@@ -72,21 +98,20 @@ def main():
     wanted = compare.answer_file(compare.prepared(args, [job])[job])
     runs, wrong = measured(args, os.path.join(args.work, SOURCE.name + ".tif"), wanted)
     middle = {key: [statistics.median(column) for column in zip(*found)] for key, found in runs.items()}
-    print("| | no environment | processor time | pages | package | processor time | pages |\n|---|---|---|---|---|---|---|")
+    print("| | no environment | processor time | pages | package | processor time | pages | server |\n|---|---|---|---|---|---|---|---|")
     for name, title in (("before", "before"), ("1", "one worker"), ("2", "two"), ("4", "four")):
         cells = []
-        for kind in ("none", "package"):
+        for kind in ("none", "package", "server"):
             wall, used, pages = middle[name, kind]
-            cells.append(f"{wall:.0f} ({min(run[0] for run in runs[name, kind]):.0f}) | {used:.0f} | {pages:,.0f}")
+            cells.append(f"{wall:.0f} ({min(run[0] for run in runs[name, kind]):.0f})" + ("" if kind == "server" else f" | {used:.0f} | {pages:,.0f}"))
         print(f"| {title} | {' | '.join(cells)} |")
     passed = []
-    print("\n| beside the program before | both without an environment | both in the package's | each as its package starts it | limit |\n|---|---|---|---|---|")
+    print("\n| beside the program before | both without an environment | both in the package's | servers as their packages start them | limit |\n|---|---|---|---|---|")
     for workers, limit in LIMITS.items():
-        plain, shared = (middle[workers, kind][0] / middle["before", kind][0] for kind in ("none", "package"))
-        packaged = middle[workers, "package"][0] / middle["before", "none"][0]
-        print(f"| {workers} worker{'s' * (workers != '1')} | {plain:.2f} | {shared:.2f} | {packaged:.2f} | {limit} |")
-        if packaged > limit:
-            passed.append(f"{workers} workers: {packaged:.2f}, above {limit}")
+        parts = [middle[workers, kind][0] / middle["before", kind][0] for kind in ("none", "package", "server")]
+        print(f"| {workers} worker{'s' * (workers != '1')} | {' | '.join(f'{part:.2f}' for part in parts)} | {limit} |")
+        if parts[2] > limit:
+            passed.append(f"{workers} workers: {parts[2]:.2f}, above {limit}")
     for line in passed:
         print(line, file=sys.stderr)
     return 1 if wrong or (args.strict and passed) else 0
