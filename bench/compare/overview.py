@@ -8,8 +8,9 @@ without an environment for the one before, and for this one in the unit's and wi
 is started anew for each answer, so its caches are empty, and the clock runs from the request until the last byte. All run by turns, each round
 begun with another. Each answer of this program is compared with the exact averages. Prints the medians of the wall clock with the least in
 brackets, and from the command line those of the processor time of all threads and of the new pages that were touched; then what one worker and
-four take of the program before. The status is 1 where an answer differs, and with --strict also where of a server's time one worker takes more
-than 1.15, or four more than 0.6.
+four take of the program before. The status is 1 where an answer differs, and with --strict also where from the command line, both in the
+package's environment, one worker takes more than 1.15, or four more than 0.6. The servers' times are printed and not judged: this program's
+memory is touched before their clock starts.
 """
 import argparse
 import os
@@ -106,12 +107,12 @@ def main():
             cells.append(f"{wall:.0f} ({min(run[0] for run in runs[name, kind]):.0f})" + ("" if kind == "server" else f" | {used:.0f} | {pages:,.0f}"))
         print(f"| {title} | {' | '.join(cells)} |")
     passed = []
-    print("\n| beside the program before | both without an environment | both in the package's | servers as their packages start them | limit |\n|---|---|---|---|---|")
+    print("\n| beside the program before | both without an environment | both in the package's | servers as their packages start them | limit, of the command line |\n|---|---|---|---|---|")
     for workers, limit in LIMITS.items():
         parts = [middle[workers, kind][0] / middle["before", kind][0] for kind in ("none", "package", "server")]
         print(f"| {workers} worker{'s' * (workers != '1')} | {' | '.join(f'{part:.2f}' for part in parts)} | {limit} |")
-        if parts[2] > limit:
-            passed.append(f"{workers} workers: {parts[2]:.2f}, above {limit}")
+        if parts[1] > limit:
+            passed.append(f"{workers} workers: {parts[1]:.2f}, above {limit}")
     for line in passed:
         print(line, file=sys.stderr)
     return 1 if wrong or (args.strict and passed) else 0
