@@ -85,22 +85,6 @@ next_row p cx cy from j b d start s w t k weight v row l e h lt lk so_far =
     let sample = ap (λ u. get_or u (t * p.channels + k) 0) e ∙ get_or-span_of p cx (cy + s) w t k 0 lt lk in
     sum_from-step start s (λ s. weight_of j (from + s) b d * sample_at p (cx + t) (cy + s) k) _ _ l so_far (same_product h sample)
 
--- and four rows more of weight d
-pub next_four : (p : Picture) (cx cy from j b d start s w t k v : ℕ) (r0 r1 r2 r3 : List ℕ) →
-    start ≤ s → r0 ≡ span_of p cx (cy + s) w → r1 ≡ span_of p cx (cy + (s + 1)) w → r2 ≡ span_of p cx (cy + (s + 2)) w → r3 ≡ span_of p cx (cy + (s + 3)) w →
-    ((n : ℕ) → s ≤ n → n < s + 4 → weight_of j (from + n) b d ≡ d) → t < w → k < p.channels →
-    v ≡ sum_from start (s - start) (λ s. weight_of j (from + s) b d * sample_at p (cx + t) (cy + s) k) →
-    v + d * get_or r0 (t * p.channels + k) 0 + d * get_or r1 (t * p.channels + k) 0 + d * get_or r2 (t * p.channels + k) 0 + d * get_or r3 (t * p.channels + k) 0
-    ≡ sum_from start (s + 4 - start) (λ s. weight_of j (from + s) b d * sample_at p (cx + t) (cy + s) k)
-next_four p cx cy from j b d start s w t k v r0 r1 r2 r3 l e0 e1 e2 e3 h lt lk so_far =
-    let f : ℕ → ℕ = λ s. weight_of j (from + s) b d * sample_at p (cx + t) (cy + s) k in
-    let step : (m n v : ℕ) → m ≡ n → v ≡ sum_from start (m - start) f → v ≡ sum_from start (n - start) f = λ m n v e h. h ∙ ap (λ u. sum_from start (u - start) f) e in
-    let one = next_row p cx cy from j b d start s w t k d v r0 (omega arith) e0 (sym (h s (omega arith) (omega arith))) lt lk so_far in
-    let two = next_row p cx cy from j b d start (s + 1) w t k d _ r1 (omega arith) e1 (sym (h (s + 1) (omega arith) (omega arith))) lt lk one in
-    let three = next_row p cx cy from j b d start (s + 2) w t k d _ r2 (omega arith) e2 (sym (h (s + 2) (omega arith) (omega arith))) lt lk (step (s + 1 + 1) (s + 2) _ (omega arith) two) in
-    step (s + 3 + 1) (s + 4) _ (omega arith)
-    (next_row p cx cy from j b d start (s + 3) w t k d _ r3 (omega arith) e3 (sym (h (s + 3) (omega arith) (omega arith))) lt lk (step (s + 2 + 1) (s + 3) _ (omega arith) three))
-
 -- the sum so far, of which d times a number is held apart: of nothing, where a row's sample is added to what is held, and where it
 -- is added with its weight
 pub held-none : {a h : ℕ} (d : ℕ) → a ≡ 0 → h ≡ 0 → a + d * h ≡ 0
@@ -111,13 +95,6 @@ held-more a h v d w e f s = omega (arith, e, ap (λ u. d * u) f, ap (λ u. u * v
 
 pub held-added : {b i : ℕ} (a h v d w : ℕ) → b ≡ a + w * v → i ≡ h → b + d * i ≡ a + d * h + w * v
 held-added a h v d w e f = omega (arith, e, ap (λ u. d * u) f)
-
--- so where four rows are added to what is held, and where a row is added beside it with its weight
-pub held-four : {e h : ℕ} (g i d a b c f : ℕ) → e ≡ g → h ≡ i + (a + b + c + f) → e + d * h ≡ g + d * i + d * a + d * b + d * c + d * f
-held-four g i d a b c f s m = omega (arith, s, ap (λ u. d * u) m)
-
-pub held-edge : {e h : ℕ} (g i v d w : ℕ) → e ≡ g + w * v → h ≡ i → e + d * h ≡ g + d * i + w * v
-held-edge g i v d w s m = omega (arith, s, ap (λ u. d * u) m)
 
 -- a row of the tile: its length, its samples by index, and a bound on them
 pub row-length : (p : Picture) (x y w : ℕ) (row : List ℕ) → row ≡ span_of p x y w → length row ≡ w * p.channels

@@ -3,6 +3,7 @@ pub mod AreaLaws
 pub mod AverageLaws
 pub mod ColumnLaws
 pub mod CutLaws
+pub mod EightLaws
 pub mod FinishLaws
 pub mod GridLaws
 pub mod MergeLaws

@@ -7,9 +7,10 @@ ghost use Rattle.iiif_pixel.specs.Scaling.{area_sum};
 ghost use Rattle.iiif_area.specs.Places.{places_of, IsScalable};
 ghost use Rattle.iiif_area.specs.Code.{column_sum, span_total, tile_sample, IsSpan};
 
-use crate::rows::{add_edge, add_row, add_sums, join_sums, row_of, sum_four, sum_row};
+use crate::eight;
+use crate::rows::{add_row, add_sums, sum_row};
 use crate::weights::{sources, weight};
-use iiif_pixel::{Depth, Dim, Kind, NoMemory, Raster, Rect};
+use iiif_pixel::{Dim, Kind, NoMemory, Raster, Rect};
 use std::alloc::{AllocError, Global};
 
 /// Of so few source rows each is added with its weight: adding them up apart costs a pass over all columns.
@@ -18,23 +19,14 @@ const FEW: u32 = 6;
 /// The sums of so many samples, each of at most 65,535, fit in 32 bits. Rows past them are added with their weight.
 const RUN: u32 = 65_536;
 
-/// So many rows of weight 1 are added up at once.
-const FOUR: u32 = 4;
-
-/// The sums of so many samples of at most 255, and of three more, fit in 16 bits. Rows past them are added with their weight.
-const SHORT_RUN: u32 = 253;
-
-/// Of so many rows of at most 255 a column's weighted sum fits in 32 bits.
-const SHORT_ROWS: u32 = 16_843_009;
-
 /// The columns of a part that a result column takes something of, counted from the part's first, and what it takes of the
 /// first and of the last. Of a single one it takes all as the first.
 #[derive(Clone, Copy)]
 pub struct Span {
-    start: usize,
-    end: usize,
-    first: u64,
-    last: u64,
+    pub(crate) start: usize,
+    pub(crate) end: usize,
+    pub(crate) first: u64,
+    pub(crate) last: u64,
 }
 
 /// The sums over the part of a region that a tile holds from its place `corner` on, at the result places `rect`.
@@ -55,13 +47,20 @@ pub(crate) fn tile_sums(
     ensures { IfOk result (λ v. v.items ≡ samples_of rect.w rect.h tile.now.channels
         (λ i j k. area_sum region size part (tile_sample tile.now corner part k) (rect.x + i) (rect.y + j))) }
 {
-    match tile.kind() {
-        Kind::Gray => sums_by(alloc, tile, 1, corner, part, region, size, rect),
-        Kind::Rgb => sums_by(alloc, tile, 3, corner, part, region, size, rect),
+    if eight::is_short(tile.depth(), part.h, region.h, size.h) {
+        match tile.kind() {
+            Kind::Gray => eight::sums_by(alloc, tile, 1, corner, part, region, size, rect),
+            Kind::Rgb => eight::sums_by(alloc, tile, 3, corner, part, region, size, rect),
+        }
+    } else {
+        match tile.kind() {
+            Kind::Gray => sums_by(alloc, tile, 1, corner, part, region, size, rect),
+            Kind::Rgb => sums_by(alloc, tile, 3, corner, part, region, size, rect),
+        }
     }
 }
 
-/// The same of a tile with so many channels. It is made anew for each number that is passed, so that no place costs a loop over
+/// The same of any tile with so many channels. It is made anew for each number that is passed, so that no place costs a loop over
 /// channels.
 #[inline(always)]
 fn sums_by(
@@ -89,8 +88,6 @@ fn sums_by(
     let columns = cells.as_mut_slice();
     let mut scratch = vec![in alloc; 0u32; part.w as usize * channels]?;
     let inner = scratch.as_mut_slice();
-    let mut few = vec![in alloc; 0u16; part.w as usize * channels]?;
-    let short = few.as_mut_slice();
     let spans = spans(alloc, rect.x, rect.w, region.w, size.w, part.x, part.w)?;
     let Some(count) = tile.kind().count(rect.dim()) else {
         return Err(AllocError);
@@ -98,9 +95,7 @@ fn sums_by(
     let mut sums = Vec::with_capacity(alloc, count)?;
     for j in 0..rect.h {
         let row = rect.y + j;
-        fill_columns(
-            columns, inner, short, tile, corner, part, region.h, size.h, row,
-        );
+        fill_columns(columns, inner, tile, corner, part, region.h, size.h, row);
         for i in 0..rect.w {
             for k in 0..channels {
                 let span = spans[i as usize];
@@ -114,7 +109,7 @@ fn sums_by(
 
 /// The spans of `results` result columns from `first` on, where `a` columns are scaled to `c`, in the `count` source columns
 /// from `from` on.
-fn spans(
+pub(crate) fn spans(
     alloc: Global,
     first: u32,
     results: u32,
@@ -159,106 +154,11 @@ fn span_of(i: u32, a: u32, c: u32, from: u32, count: u32) -> Span
     }
 }
 
-/// Whether a sample has 8 bits.
-fn is_eight(depth: Depth) -> bool
-    ensures { result ≡ true → top_of depth ≡ 255 }
-{
-    match depth {
-        Depth::Eight => true,
-        Depth::Sixteen => false,
-    }
-}
-
 /// What result row `j` takes of each column of the part that a tile holds from its place `corner` on, where `b` rows are
-/// scaled to `d`. `inner` is 0 before and after; `short` is used for rows of 8 bits.
-fn fill_columns(
-    columns: &mut [u64],
-    inner: &mut [u32],
-    short: &mut [u16],
-    tile: &Raster,
-    corner: (u32, u32),
-    part: Rect,
-    b: u32,
-    d: u32,
-    j: u32,
-)
-    requires divides { 0 < d }
-    requires inside { part.y + part.h ≤ b }
-    requires held { (corner.0 + part.w ≤ tile.now.width) × (corner.1 + part.h ≤ tile.now.height) }
-    requires corner { corner.1 + part.h < 2 ^ 32 }
-    requires room { length columns.old ≡ part.w * tile.now.channels }
-    requires inner { length inner.old ≡ length columns.old }
-    requires short { length short.old ≡ length columns.old }
-    requires clear { EachIndex inner.old (λ t. slice_index inner.old t ≡ 0) }
-    ensures clear { EachIndex inner.new (λ t. slice_index inner.new t ≡ 0) }
-    ensures sums { (t k : ℕ) → t < part.w → k < tile.now.channels →
-        slice_index columns.new (t * tile.now.channels + k) ≡ column_sum tile.now corner part b d j t k }
-{
-    // No sample is above the top, so the sums fit.
-    tile.is_whole();
-    if is_eight(tile.depth()) && b <= SHORT_ROWS && d <= u32::from(u16::MAX) {
-        fill_short(columns, inner, short, tile, corner, part, b, d, j);
-    } else {
-        fill_long(columns, inner, tile, corner, part, b, d, j);
-    }
-}
-
-/// The same of a tile of 8 bits. Rows of weight `d`, which all between the first and the last have, are added up without it, four at a
-/// time, in numbers of 16 bits, and the others with their weights in `edges`, in numbers of 32: the narrower, the more of them are added
-/// at once. `edges` is 0 before and after.
-#[inline(never)]
-fn fill_short(
-    columns: &mut [u64],
-    edges: &mut [u32],
-    short: &mut [u16],
-    tile: &Raster,
-    corner: (u32, u32),
-    part: Rect,
-    b: u32,
-    d: u32,
-    j: u32,
-)
-    requires divides { 0 < d }
-    requires depth { tile.now.top ≡ 255 }
-    requires samples { (x y k : ℕ) → sample_at tile.now x y k ≤ 255 }
-    requires few { (b * 255 < 2 ^ 32) × (d < 2 ^ 16) }
-    requires inside { part.y + part.h ≤ b }
-    requires held { (corner.0 + part.w ≤ tile.now.width) × (corner.1 + part.h ≤ tile.now.height) }
-    requires corner { corner.1 + part.h < 2 ^ 32 }
-    requires room { length columns.old ≡ part.w * tile.now.channels }
-    requires edges { length edges.old ≡ length columns.old }
-    requires short { length short.old ≡ length columns.old }
-    requires clear { EachIndex edges.old (λ t. slice_index edges.old t ≡ 0) }
-    ensures clear { EachIndex edges.new (λ t. slice_index edges.new t ≡ 0) }
-    ensures sums { (t k : ℕ) → t < part.w → k < tile.now.channels →
-        slice_index columns.new (t * tile.now.channels + k) ≡ column_sum tile.now corner part b d j t k }
-{
-    short.fill(0);
-    let (start, end) = sources(j, b, d, part.y, part.h);
-    let mut s = start;
-    while s < end {
-        if start < s && s + FOUR < end && s - start < SHORT_RUN {
-            let first = row_of(tile, corner, part.w, s);
-            let second = row_of(tile, corner, part.w, s + 1);
-            let third = row_of(tile, corner, part.w, s + 2);
-            let fourth = row_of(tile, corner, part.w, s + 3);
-            sum_four(short, first, second, third, fourth);
-            s += FOUR;
-        } else {
-            let row = row_of(tile, corner, part.w, s);
-            let rows = weight(j, part.y + s, b, d);
-            add_edge(edges, row, rows as u16);
-            s += 1;
-        }
-    }
-    join_sums(columns, edges, short, d as u16);
-    edges.fill(0);
-}
-
-/// The same of any tile. Rows of weight `d` are added up without it in `inner`, since numbers of 32 bits take less than half of the
+/// scaled to `d`. Rows of weight `d` are added up without it in `inner`, since numbers of 32 bits take less than half of the
 /// time. `inner` is 0 before and after.
 #[inline(never)]
-fn fill_long(
+fn fill_columns(
     columns: &mut [u64],
     inner: &mut [u32],
     tile: &Raster,

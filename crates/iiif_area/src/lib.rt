@@ -4,6 +4,7 @@
 mod adding;
 pub mod averages;
 mod columns;
+mod eight;
 pub mod laws;
 mod merging;
 pub mod places;

@@ -106,23 +106,46 @@ pub(crate) fn sum_four(short: &mut [u16], a: &[u8], b: &[u8], c: &[u8], d: &[u8]
     }
 }
 
-/// Adds each sample of `row`, times `weight`, to the number of `edges` at its index.
-pub(crate) fn add_edge(edges: &mut [u32], row: &[u8], weight: u16)
-    requires same { length edges.old ≡ length row.now }
-    requires room { (t : ℕ) → t < length edges.old → slice_index edges.old t + weight * slice_index row.now t < 2 ^ 32 }
-    ensures { EachIndex edges.new (λ t. slice_index edges.new t ≡ slice_index edges.old t + weight * slice_index row.now t) }
+/// Adds each sample of `row` to the number of `short` at its index.
+pub(crate) fn sum_one(short: &mut [u16], row: &[u8])
+    requires same { length row.now ≡ length short.old }
+    requires room { (t : ℕ) → t < length short.old → slice_index short.old t + 255 < 2 ^ 16 }
+    ensures { EachIndex short.new (λ t. slice_index short.new t ≡ slice_index short.old t + slice_index row.now t) }
 {
-    for (t, edge) in edges.iter_mut().enumerate() {
-        *edge += u32::from(weight) * u32::from(row[t]);
+    for (t, sum) in short.iter_mut().enumerate() {
+        *sum += u16::from(row[t]);
     }
 }
 
-/// Writes to each of `columns` the number of `edges` at its index and that of `short`, times `weight`.
-pub(crate) fn join_sums(columns: &mut [u64], edges: &[u32], short: &[u16], weight: u16)
-    requires same { (length edges.now ≡ length columns.old) × (length short.now ≡ length columns.old) }
-    ensures { EachIndex columns.new (λ t. slice_index columns.new t ≡ slice_index edges.now t + weight * slice_index short.now t) }
+/// Writes to each of `columns` the samples of two rows at its index, times their weights.
+pub(crate) fn join_ends(columns: &mut [u32], first: &[u8], above: u16, last: &[u8], below: u16)
+    requires same { (length first.now ≡ length columns.old) × (length last.now ≡ length columns.old) }
+    ensures { EachIndex columns.new (λ t. slice_index columns.new t ≡ above * slice_index first.now t + below * slice_index last.now t) }
 {
     for (t, column) in columns.iter_mut().enumerate() {
-        *column = u64::from(edges[t]) + u64::from(weight) * u64::from(short[t]);
+        *column = u32::from(above) * u32::from(first[t]) + u32::from(below) * u32::from(last[t]);
+    }
+}
+
+/// Writes to each of `columns` the samples of two rows at its index, times their weights, and the number of `short`, times `weight`.
+pub(crate) fn join_rows(
+    columns: &mut [u32],
+    first: &[u8],
+    above: u16,
+    last: &[u8],
+    below: u16,
+    short: &[u16],
+    weight: u16,
+)
+    requires same { (length first.now ≡ length columns.old) × (length last.now ≡ length columns.old) × (length short.now ≡ length columns.old) }
+    requires room { (t : ℕ) → t < length columns.old
+        → above * slice_index first.now t + weight * slice_index short.now t + below * slice_index last.now t < 2 ^ 32 }
+    ensures { EachIndex columns.new (λ t. slice_index columns.new t
+        ≡ above * slice_index first.now t + weight * slice_index short.now t + below * slice_index last.now t) }
+{
+    for (t, column) in columns.iter_mut().enumerate() {
+        *column = u32::from(above) * u32::from(first[t])
+            + u32::from(weight) * u32::from(short[t])
+            + u32::from(below) * u32::from(last[t]);
     }
 }

@@ -68,9 +68,11 @@ loop-j-preserved c =
     record {
       room = omega (arith, c.fill_columns.auto.columns, c.loop-j.invariant.room);
       inner = omega (arith, c.fill_columns.auto.inner, c.loop-j.invariant.inner);
-      short = omega (arith, c.fill_columns.auto.short, c.loop-j.invariant.short);
       clear = c.fill_columns.ensures.clear;
       capacity = omega arith;
       count = omega arith;
       filled = c.loop-i.invariant.filled;
     }
+
+pub fill_columns-requires-clause-samples : goal.fill_columns-requires-clause-samples
+fill_columns-requires-clause-samples c = λ x y k. omega (arith, sample_at-le c.args.tile.now c.is_whole.ensures.whole x y k, top-le c.args.tile.now c.is_whole.ensures.whole)

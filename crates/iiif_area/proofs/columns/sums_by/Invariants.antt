@@ -22,7 +22,6 @@ abbrev pub invariant-loop-j : goal.invariant-loop-j
 invariant-loop-j l = record {
   room : length l.columns ≡ l.part.w * l.channels;
   inner : length l.inner ≡ l.part.w * l.channels;
-  short : length l.short ≡ l.part.w * l.channels;
   clear : (i : ℕ) → i < length l.inner → get_or l.inner i 0 ≡ 0;
   capacity : vec_capacity l.sums ≡ l.rect.w * l.rect.h * l.channels;
   count : vec_len l.sums ≡ place_index l.rect.w l.channels 0 l.j 0;

@@ -1,0 +1,110 @@
+-- What columns of a tile of 8 bits come to, by their first row, their last and those between.
+use Rattle.std.proofs.Common.{⊎_elim, List, zero, suc, get_or, ◌≡◌, ℕ, ◌+◌, ◌-◌, ◌*◌, ◌<◌, ◌≤◌, ◌⊎◌, inl, inr, sym, ap, ◌∙◌, refl, arith}
+use Rattle.std.proofs.lemmas.Bool.{cases_lt}
+use Rattle.std.proofs.Math.Nat.{mul-le-mul_right}
+use Rattle.iiif_pixel.specs.Picture.{Picture, sample_at, span_of}
+use Rattle.iiif_pixel.proofs.Reading.{get_or-span_of}
+use Rattle.iiif_pixel.specs.Scaling.{sum_from, weight_of}
+use Rattle.iiif_pixel.specs.declared.geometry.Rect.{Rect}
+use Rattle.iiif_area.specs.Code.{column_sum}
+use Rattle.iiif_area.proofs.ColumnLaws.{column_fits, column_sum-is}
+use Rattle.iiif_area.proofs.SumLaws.{sum_from-start, sum_from-one, sum_from-step, same_product, three_parts}
+use Rattle.iiif_area.proofs.WeightLaws.{weighted-le_from}
+
+-- one row more of the sum at column t and channel k, which is v so far
+pub next_sample : (p : Picture) (cx cy start s w t k v : ℕ) (row : List ℕ) →
+    start ≤ s → row ≡ span_of p cx (cy + s) w → t < w → k < p.channels → v ≡ sum_from start (s - start) (λ s. sample_at p (cx + t) (cy + s) k) →
+    v + get_or row (t * p.channels + k) 0 ≡ sum_from start (s + 1 - start) (λ s. sample_at p (cx + t) (cy + s) k)
+next_sample p cx cy start s w t k v row l e lt lk so_far =
+    let sample = ap (λ u. get_or u (t * p.channels + k) 0) e ∙ get_or-span_of p cx (cy + s) w t k 0 lt lk in
+    sum_from-step start s (λ s. sample_at p (cx + t) (cy + s) k) _ _ l so_far sample
+
+-- and four rows more
+pub next_samples : (p : Picture) (cx cy start s w t k v : ℕ) (r0 r1 r2 r3 : List ℕ) →
+    start ≤ s → r0 ≡ span_of p cx (cy + s) w → r1 ≡ span_of p cx (cy + (s + 1)) w → r2 ≡ span_of p cx (cy + (s + 2)) w → r3 ≡ span_of p cx (cy + (s + 3)) w →
+    t < w → k < p.channels → v ≡ sum_from start (s - start) (λ s. sample_at p (cx + t) (cy + s) k) →
+    v + (get_or r0 (t * p.channels + k) 0 + get_or r1 (t * p.channels + k) 0 + get_or r2 (t * p.channels + k) 0 + get_or r3 (t * p.channels + k) 0)
+    ≡ sum_from start (s + 4 - start) (λ s. sample_at p (cx + t) (cy + s) k)
+next_samples p cx cy start s w t k v r0 r1 r2 r3 l e0 e1 e2 e3 lt lk so_far =
+    let f : ℕ → ℕ = λ s. sample_at p (cx + t) (cy + s) k in
+    let step : (m n v : ℕ) → m ≡ n → v ≡ sum_from start (m - start) f → v ≡ sum_from start (n - start) f = λ m n v e h. h ∙ ap (λ u. sum_from start (u - start) f) e in
+    let one = next_sample p cx cy start s w t k v r0 (omega arith) e0 lt lk so_far in
+    let two = next_sample p cx cy start (s + 1) w t k _ r1 (omega arith) e1 lt lk one in
+    let three = next_sample p cx cy start (s + 2) w t k _ r2 (omega arith) e2 lt lk (step (s + 1 + 1) (s + 2) _ (omega arith) two) in
+    let four = step (s + 3 + 1) (s + 4) _ (omega arith) (next_sample p cx cy start (s + 3) w t k _ r3 (omega arith) e3 lt lk (step (s + 2 + 1) (s + 3) _ (omega arith) three)) in
+    omega (arith, four)
+
+-- a sum of equal terms
+sum_from-equal : (u n d : ℕ) (f : ℕ → ℕ) → ((x : ℕ) → u ≤ x → x < u + n → f x ≡ d) → sum_from u n f ≡ n * d
+unfolding sum_from
+sum_from-equal u zero d f h = omega arith
+sum_from-equal u (suc n) d f h =
+    let e = sum_from-equal u n d f (λ k l m. h k l (omega arith)) in
+    let g = h (u + n) (omega arith) (omega arith) in
+    omega arith
+
+-- where no more than 257 rows go into a result row, or a part has no more, no more lie between the first and the last
+pub run_fits : (j b d from start end h : ℕ) → 0 < d → end ≤ h → (h ≤ 257) ⊎ (b ≤ 257 * d) → ((s : ℕ) → start < s → s + 1 < end → weight_of j (from + s) b d ≡ d) →
+    end - 1 ≤ start + 1 + 257
+run_fits j b d from start end h p within (inl few) between = omega arith
+run_fits j b d from start end h p within (inr few) between =
+    let u = start + 1 in
+    let n = end - 1 - u in
+    let total = weighted-le_from j b d from u n 1 (λ x. 1) (λ x l m. omega arith) in
+    let same = sum_from-equal u n d (λ x. weight_of j (from + x) b d * 1) (λ x l m. omega (arith, between x (omega arith) (omega arith))) in
+    ⊎_elim
+    (λ (over : 257 < n). let e : 258 * d ≤ n * d = mul-le-mul_right d (omega arith) in omega arith)
+    (λ (fits : n ≤ 257). omega arith)
+    (cases_lt 257 n)
+
+-- what a result row takes of column t in channel k, where it takes nothing, of one row, or of more
+pub column_of-none : (p : Picture) (corner : ℕ × ℕ) (part : Rect) (b d j t k start end : ℕ) → start ≡ end → end ≤ part.h →
+    ((s : ℕ) → s < start → weight_of j (part.y + s) b d ≡ 0) → ((s : ℕ) → end ≤ s → s < part.h → weight_of j (part.y + s) b d ≡ 0) →
+    0 ≡ column_sum p corner part b d j t k
+column_of-none p corner part b d j t k start end e within below above =
+    column_sum-is p corner part b d j t k start end end 0 (omega arith) within refl below above (sum_from-start _ _ _ (omega arith))
+
+pub column_of-one : (p : Picture) (corner : ℕ × ℕ) (part : Rect) (b d j t k start end w : ℕ) (row : List ℕ) → end - start ≡ 1 → end ≤ part.h →
+    row ≡ span_of p corner.0 (corner.1 + start) part.w → w ≡ weight_of j (part.y + start) b d → t < part.w → k < p.channels →
+    ((s : ℕ) → s < start → weight_of j (part.y + s) b d ≡ 0) → ((s : ℕ) → end ≤ s → s < part.h → weight_of j (part.y + s) b d ≡ 0) →
+    w * get_or row (t * p.channels + k) 0 ≡ column_sum p corner part b d j t k
+column_of-one p corner part b d j t k start end w row one within er ew lt lk below above =
+    let f : ℕ → ℕ = λ s. weight_of j (part.y + s) b d * sample_at p (corner.0 + t) (corner.1 + s) k in
+    let sample = ap (λ u. get_or u (t * p.channels + k) 0) er ∙ get_or-span_of p corner.0 (corner.1 + start) part.w t k 0 lt lk in
+    column_sum-is p corner part b d j t k start end end _ (omega arith) within refl below above
+    (same_product ew sample ∙ sym (ap (λ u. sum_from start u f) one ∙ sum_from-one start f))
+
+pub column_of-parts : (p : Picture) (corner : ℕ × ℕ) (part : Rect) (b d j t k start end w v i : ℕ) (first last : List ℕ) → start + 1 < end → end ≤ part.h →
+    first ≡ span_of p corner.0 (corner.1 + start) part.w → w ≡ weight_of j (part.y + start) b d →
+    last ≡ span_of p corner.0 (corner.1 + (end - 1)) part.w → v ≡ weight_of j (part.y + (end - 1)) b d →
+    i ≡ sum_from (start + 1) (end - 1 - (start + 1)) (λ s. sample_at p (corner.0 + t) (corner.1 + s) k) → t < part.w → k < p.channels →
+    ((s : ℕ) → s < start → weight_of j (part.y + s) b d ≡ 0) → ((s : ℕ) → start < s → s + 1 < end → weight_of j (part.y + s) b d ≡ d) →
+    ((s : ℕ) → end ≤ s → s < part.h → weight_of j (part.y + s) b d ≡ 0) →
+    w * get_or first (t * p.channels + k) 0 + d * i + v * get_or last (t * p.channels + k) 0 ≡ column_sum p corner part b d j t k
+column_of-parts p corner part b d j t k start end w v i first last more within ef ew el ev ei lt lk below between above =
+    let weights : ℕ → ℕ = λ s. weight_of j (part.y + s) b d in
+    let f : ℕ → ℕ = λ s. sample_at p (corner.0 + t) (corner.1 + s) k in
+    let one = ap (λ u. get_or u (t * p.channels + k) 0) ef ∙ get_or-span_of p corner.0 (corner.1 + start) part.w t k 0 lt lk in
+    let two = ap (λ u. get_or u (t * p.channels + k) 0) el ∙ get_or-span_of p corner.0 (corner.1 + (end - 1)) part.w t k 0 lt lk in
+    let parts = three_parts d start end weights f more between in
+    let a = same_product ew one in
+    let z = same_product ev two in
+    let m = ap (λ u. d * u) ei in
+    column_sum-is p corner part b d j t k start end end _ (omega arith) within refl below above (omega arith)
+
+-- and of two
+pub column_of-two : (p : Picture) (corner : ℕ × ℕ) (part : Rect) (b d j t k start end w v : ℕ) (first last : List ℕ) → end - start ≡ 2 → end ≤ part.h →
+    first ≡ span_of p corner.0 (corner.1 + start) part.w → w ≡ weight_of j (part.y + start) b d →
+    last ≡ span_of p corner.0 (corner.1 + (end - 1)) part.w → v ≡ weight_of j (part.y + (end - 1)) b d → t < part.w → k < p.channels →
+    ((s : ℕ) → s < start → weight_of j (part.y + s) b d ≡ 0) → ((s : ℕ) → start < s → s + 1 < end → weight_of j (part.y + s) b d ≡ d) →
+    ((s : ℕ) → end ≤ s → s < part.h → weight_of j (part.y + s) b d ≡ 0) →
+    w * get_or first (t * p.channels + k) 0 + v * get_or last (t * p.channels + k) 0 ≡ column_sum p corner part b d j t k
+column_of-two p corner part b d j t k start end w v first last two within ef ew el ev lt lk below between above =
+    let none = sum_from-start (start + 1) (end - 1 - (start + 1)) (λ s. sample_at p (corner.0 + t) (corner.1 + s) k) (omega arith) in
+    let parts = column_of-parts p corner part b d j t k start end w v 0 first last (omega arith) within ef ew el ev none lt lk below between above in
+    omega arith
+
+-- it fits
+pub column_of-fits : (p : Picture) (corner : ℕ × ℕ) (part : Rect) (b d j t k m : ℕ) → ((x y k : ℕ) → sample_at p x y k ≤ m) → column_sum p corner part b d j t k ≤ b * m
+unfolding column_sum
+column_of-fits p corner part b d j t k m h = column_fits p corner.0 corner.1 part.y j b d 0 part.h t k m h

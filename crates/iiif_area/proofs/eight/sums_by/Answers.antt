@@ -1,0 +1,77 @@
+use Rattle.std.proofs.Common.{◌≡◌, ℕ, ◌+◌, ◌*◌, ◌≤◌, arith, ap, ◌∙◌}
+use Rattle.std.proofs.Math.Nat.{mul-le-mul_right}
+use Rattle.iiif_pixel.specs.Picture.{samples_of}
+use Rattle.iiif_pixel.specs.Scaling.{area_sum}
+use Rattle.iiif_pixel.proofs.SampleLists.{index_below}
+use Rattle.iiif_pixel.proofs.Whole.{sample_at-le, top-le}
+use Rattle.iiif_area.specs.Code.{tile_sample, IsSpan}
+use Rattle.iiif_area.proofs.ColumnLaws.{span_total-area, tile_area-fits}
+use Rattle.iiif_area.proofs.GridLaws.{FilledTo-push, filled_is}
+use Rattle.iiif_area.proofs.eight.sums_by.Goals as goal
+
+pub span_sum-sum-requires-clause-within : goal.span_sum-sum-requires-clause-within
+span_sum-sum-requires-clause-within c =
+    let n = c.args.channels in
+    let span : IsSpan c.args.region.w c.args.size.w c.args.part.x c.args.part.w (c.args.rect.x + c.loop-i.i) c.index-span.result.now =
+    rw c.index-span.ensures (c.in_ok-spans.ensures.each c.loop-i.i c.index-span.result.now (omega arith)) in
+    let e : c.index-span.result.now.end * n ≤ c.args.part.w * n = mul-le-mul_right n span.within in
+    omega (arith, c.fill_columns.auto.columns, c.loop-j.invariant.room)
+
+pub span_sum-sum-requires-clause-fits : goal.span_sum-sum-requires-clause-fits
+span_sum-sum-requires-clause-fits c =
+    let span : IsSpan c.args.region.w c.args.size.w c.args.part.x c.args.part.w (c.args.rect.x + c.loop-i.i) c.index-span.result.now =
+    rw c.index-span.ensures (c.in_ok-spans.ensures.each c.loop-i.i c.index-span.result.now (omega arith)) in
+    let i = c.args.rect.x + c.loop-i.i in
+    let j = c.args.rect.y + c.loop-j.j in
+    let k = c.loop-k.k in
+    let ch : c.args.channels ≡ c.args.tile.now.channels = c.requires.channels in
+    let sum = span_total-area c.args.region c.args.size c.args.part c.args.tile.now c.args.corner i j k c.args.channels c.from.result c.fill_columns.new.columns c.index-span.result.now
+    ch c.from.ensures span (λ t l. c.fill_columns.ensures.sums t k l (omega arith)) in
+    let fits = tile_area-fits c.args.region c.args.size c.args.part c.args.tile.now c.args.corner i j k c.requires.limits.area
+    (λ x y k. omega (arith, sample_at-le c.args.tile.now c.is_whole.ensures.whole x y k, top-le c.args.tile.now c.is_whole.ensures.whole)) in
+    omega arith
+
+pub loop-k-preserved : goal.loop-k-preserved
+loop-k-preserved c =
+    let span : IsSpan c.args.region.w c.args.size.w c.args.part.x c.args.part.w (c.args.rect.x + c.loop-i.i) c.index-span.result.now =
+    rw c.index-span.ensures (c.in_ok-spans.ensures.each c.loop-i.i c.index-span.result.now (omega arith)) in
+    let k = c.loop-k.k in
+    let ch : c.args.channels ≡ c.args.tile.now.channels = c.requires.channels in
+    let sum = span_total-area c.args.region c.args.size c.args.part c.args.tile.now c.args.corner (c.args.rect.x + c.loop-i.i) (c.args.rect.y + c.loop-j.j) k c.args.channels c.from.result
+    c.fill_columns.new.columns c.index-span.result.now ch c.from.ensures span (λ t l. c.fill_columns.ensures.sums t k l (omega arith)) in
+    record {
+      capacity = omega arith;
+      count = omega arith;
+      filled = rw c.push_reserved.ensures.items (FilledTo-push _ _ _ _ c.loop-i.i c.loop-j.j k _ c.loop-k.invariant.filled (omega arith) (omega arith) (omega arith) (c.span_sum-sum.ensures ∙ sum));
+    }
+
+pub returns : goal.returns
+returns c =
+    let r = c.args.rect in
+    let n = c.args.channels in
+    let ch : n ≡ c.args.tile.now.channels = c.requires.channels in
+    let f : ℕ → ℕ → ℕ → ℕ = λ i j k. area_sum c.args.region c.args.size c.args.part (tile_sample c.args.tile.now c.args.corner c.args.part k) (r.x + i) (r.y + j) in
+    let rows : c.loop-j.j ≡ r.h = omega arith in
+    let count : r.w * n * c.loop-j.j ≡ r.w * n * r.h = ap (λ y. r.w * n * y) rows in
+    filled_is r.w r.h n f c.loop-j.sums.items (omega arith) c.loop-j.invariant.filled ∙ ap (λ u. samples_of r.w r.h u f) ch
+
+pub push_reserved-requires : goal.push_reserved-requires
+push_reserved-requires c =
+    let r = c.args.rect in
+    omega (arith, index_below r.w r.h c.args.channels c.loop-i.i c.loop-j.j c.loop-k.k (omega arith) (omega arith) (omega arith))
+
+pub loop-j-preserved : goal.loop-j-preserved
+loop-j-preserved c =
+    let n = c.args.channels in
+    let e : c.loop-i.i ≡ c.args.rect.w = omega arith in
+    let d : c.loop-i.i * n ≡ c.args.rect.w * n = ap (λ x. x * n) e in
+    record {
+      room = omega (arith, c.fill_columns.auto.columns, c.loop-j.invariant.room);
+      short = omega (arith, c.fill_columns.auto.short, c.loop-j.invariant.short);
+      capacity = omega arith;
+      count = omega arith;
+      filled = c.loop-i.invariant.filled;
+    }
+
+pub fill_columns-requires-clause-samples : goal.fill_columns-requires-clause-samples
+fill_columns-requires-clause-samples c = λ x y k. omega (arith, sample_at-le c.args.tile.now c.is_whole.ensures.whole x y k, c.requires.depth)

@@ -1,0 +1,28 @@
+use Rattle.std.proofs.Common.{◌≡◌, ◌+◌, ◌*◌, vec_capacity, vec_len, length}
+use Rattle.iiif_pixel.specs.Scaling.{area_sum}
+use Rattle.iiif_area.specs.Code.{tile_sample}
+use Rattle.iiif_area.proofs.GridLaws.{place_index, FilledTo}
+use Rattle.iiif_area.proofs.eight.sums_by.Given as goal
+
+abbrev pub invariant-loop-k : goal.invariant-loop-k
+invariant-loop-k l = record {
+  capacity : vec_capacity l.sums ≡ l.rect.w * l.rect.h * l.channels;
+  count : vec_len l.sums ≡ place_index l.rect.w l.channels l.i l.j l.k;
+  filled : FilledTo l.rect.w l.channels (λ i j k. area_sum l.region l.size l.part (tile_sample l.tile l.corner l.part k) (l.rect.x + i) (l.rect.y + j)) l.sums.items;
+}
+
+abbrev pub invariant-loop-i : goal.invariant-loop-i
+invariant-loop-i l = record {
+  capacity : vec_capacity l.sums ≡ l.rect.w * l.rect.h * l.channels;
+  count : vec_len l.sums ≡ place_index l.rect.w l.channels l.i l.j 0;
+  filled : FilledTo l.rect.w l.channels (λ i j k. area_sum l.region l.size l.part (tile_sample l.tile l.corner l.part k) (l.rect.x + i) (l.rect.y + j)) l.sums.items;
+}
+
+abbrev pub invariant-loop-j : goal.invariant-loop-j
+invariant-loop-j l = record {
+  room : length l.columns ≡ l.part.w * l.channels;
+  short : length l.short ≡ l.part.w * l.channels;
+  capacity : vec_capacity l.sums ≡ l.rect.w * l.rect.h * l.channels;
+  count : vec_len l.sums ≡ place_index l.rect.w l.channels 0 l.j 0;
+  filled : FilledTo l.rect.w l.channels (λ i j k. area_sum l.region l.size l.part (tile_sample l.tile l.corner l.part k) (l.rect.x + i) (l.rect.y + j)) l.sums.items;
+}

@@ -1,7 +1,0 @@
-use Rattle.std.proofs.Common.{◌≡◌, ℕ, ◌+◌, ◌*◌, ◌<◌, get_or}
-use Rattle.iiif_area.proofs.rows.join_sums.Given as goal
-
-abbrev pub invariant-loop-t : goal.invariant-loop-t
-invariant-loop-t l = record {
-  joined : (i : ℕ) → i < l.t → get_or l.columns i 0 ≡ get_or l.edges i 0 + l.weight * get_or l.short i 0;
-}

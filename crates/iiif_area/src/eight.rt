@@ -1,0 +1,195 @@
+//! The sums over a tile of 8 bits, whose columns fit in numbers of 32 bits, and most of their rows in 16: the narrower, the more of them
+//! are added at once.
+
+ghost use Rattle.std.specs.Prelude.{◌≡◌, ℕ, ◌+◌, ◌-◌, ◌*◌, ◌<◌, ◌≤◌, ◌^◌, ◌⊎◌, length, slice_index, true, IfOk};
+ghost use Rattle.iiif_pixel.specs.Geometry.{LiesIn, top_of};
+ghost use Rattle.iiif_pixel.specs.Picture.{samples_of, sample_at};
+ghost use Rattle.iiif_pixel.specs.Scaling.{area_sum, sum_from};
+ghost use Rattle.iiif_area.specs.Places.{IsScalable};
+ghost use Rattle.iiif_area.specs.Code.{column_sum, span_total, tile_sample};
+
+use crate::columns::{Span, spans};
+use crate::rows::{join_ends, join_rows, row_of, sum_four, sum_one};
+use crate::weights::{sources, weight};
+use iiif_pixel::{Depth, Dim, NoMemory, Raster, Rect};
+use std::alloc::{AllocError, Global};
+
+/// So many rows of weight 1 are added up at once.
+const FOUR: u32 = 4;
+
+/// The sums of so many samples of at most 255 fit in 16 bits.
+const SHORT_RUN: u32 = 257;
+
+/// Of so many rows of at most 255 a column's weighted sum fits in 32 bits.
+const SHORT_ROWS: u32 = 16_843_009;
+
+/// Whether a sample has 8 bits.
+fn is_eight(depth: Depth) -> bool
+    ensures { result ≡ true → top_of depth ≡ 255 }
+{
+    match depth {
+        Depth::Eight => true,
+        Depth::Sixteen => false,
+    }
+}
+
+/// Whether the sums of a part of `h` rows may be made here, where `b` rows are scaled to `d`: the samples have 8 bits, and the sums of columns
+/// and of rows between the first and the last of a result row fit.
+pub(crate) fn is_short(depth: Depth, h: u32, b: u32, d: u32) -> bool
+    ensures depth { result ≡ true → top_of depth ≡ 255 }
+    ensures few { result ≡ true → (b * 255 < 2 ^ 32) × (d < 2 ^ 16) }
+    ensures run { result ≡ true → (h ≤ 257) ⊎ (b ≤ 257 * d) }
+{
+    is_eight(depth)
+        && b <= SHORT_ROWS
+        && d <= u32::from(u16::MAX)
+        && (h <= SHORT_RUN || u64::from(b) <= u64::from(SHORT_RUN) * u64::from(d))
+}
+
+/// The sums over the part of a region that a tile holds from its place `corner` on, at the result places `rect`.
+#[inline(always)]
+pub(crate) fn sums_by(
+    alloc: Global,
+    tile: &Raster,
+    channels: usize,
+    corner: (u32, u32),
+    part: Rect,
+    region: Dim,
+    size: Dim,
+    rect: Rect,
+) -> Result<Vec<u64>, NoMemory>
+    requires channels { channels ≡ tile.now.channels }
+    requires depth { tile.now.top ≡ 255 }
+    requires few { (region.h * 255 < 2 ^ 32) × (size.h < 2 ^ 16) }
+    requires run { (part.h ≤ 257) ⊎ (region.h ≤ 257 * size.h) }
+    requires limits { IsScalable region size }
+    requires inside { LiesIn part region }
+    requires held { (corner.0 + part.w ≤ tile.now.width) × (corner.1 + part.h ≤ tile.now.height) }
+    requires corner { corner.1 + part.h < 2 ^ 32 }
+    requires rect { LiesIn rect size }
+    ensures { IfOk result (λ v. v.items ≡ samples_of rect.w rect.h tile.now.channels
+        (λ i j k. area_sum region size part (tile_sample tile.now corner part k) (rect.x + i) (rect.y + j))) }
+{
+    // No sample is above 255, so the sums fit.
+    tile.is_whole();
+    let mut cells = vec![in alloc; 0u32; part.w as usize * channels]?;
+    let columns = cells.as_mut_slice();
+    let mut few = vec![in alloc; 0u16; part.w as usize * channels]?;
+    let short = few.as_mut_slice();
+    let spans = spans(alloc, rect.x, rect.w, region.w, size.w, part.x, part.w)?;
+    let Some(count) = tile.kind().count(rect.dim()) else {
+        return Err(AllocError);
+    };
+    let mut sums = Vec::with_capacity(alloc, count)?;
+    for j in 0..rect.h {
+        let row = rect.y + j;
+        fill_columns(columns, short, tile, corner, part, region.h, size.h, row);
+        for i in 0..rect.w {
+            for k in 0..channels {
+                let span = spans[i as usize];
+                let sum = span_sum(columns, channels, k, u64::from(size.w), span);
+                sums.push_reserved(sum);
+            }
+        }
+    }
+    Ok(sums)
+}
+
+/// What result row `j` takes of each column of the part that a tile holds from its place `corner` on, where `b` rows are
+/// scaled to `d`. Rows between the first and the last, which all have the weight `d`, are added up without it in `short`.
+#[inline(never)]
+fn fill_columns(
+    columns: &mut [u32],
+    short: &mut [u16],
+    tile: &Raster,
+    corner: (u32, u32),
+    part: Rect,
+    b: u32,
+    d: u32,
+    j: u32,
+)
+    requires divides { 0 < d }
+    requires depth { tile.now.top ≡ 255 }
+    requires samples { (x y k : ℕ) → sample_at tile.now x y k ≤ 255 }
+    requires few { (b * 255 < 2 ^ 32) × (d < 2 ^ 16) }
+    requires run { (part.h ≤ 257) ⊎ (b ≤ 257 * d) }
+    requires inside { part.y + part.h ≤ b }
+    requires held { (corner.0 + part.w ≤ tile.now.width) × (corner.1 + part.h ≤ tile.now.height) }
+    requires corner { corner.1 + part.h < 2 ^ 32 }
+    requires room { length columns.old ≡ part.w * tile.now.channels }
+    requires short { length short.old ≡ length columns.old }
+    ensures sums { (t k : ℕ) → t < part.w → k < tile.now.channels →
+        slice_index columns.new (t * tile.now.channels + k) ≡ column_sum tile.now corner part b d j t k }
+{
+    let (start, end) = sources(j, b, d, part.y, part.h);
+    if start == end {
+        columns.fill(0);
+        return;
+    }
+    let first = row_of(tile, corner, part.w, start);
+    let above = weight(j, part.y + start, b, d) as u16;
+    if end - start == 1 {
+        join_ends(columns, first, above, first, 0);
+        return;
+    }
+    let last = row_of(tile, corner, part.w, end - 1);
+    let below = weight(j, part.y + (end - 1), b, d) as u16;
+    if end - start == 2 {
+        join_ends(columns, first, above, last, below);
+        return;
+    }
+    sum_inner(short, tile, corner, part.w, start + 1, end - 1);
+    join_rows(columns, first, above, last, below, short, d as u16);
+}
+
+/// The sums of the samples of the rows from `from` up to `to` of the part that a tile of 8 bits holds from its place `corner` on.
+fn sum_inner(short: &mut [u16], tile: &Raster, corner: (u32, u32), w: u32, from: u32, to: u32)
+    requires depth { tile.now.top ≡ 255 }
+    requires samples { (x y k : ℕ) → sample_at tile.now x y k ≤ 255 }
+    requires run { to ≤ from + 257 }
+    requires in_order { from ≤ to }
+    requires held { (corner.0 + w ≤ tile.now.width) × (corner.1 + to ≤ tile.now.height) }
+    requires corner { corner.1 + to < 2 ^ 32 }
+    requires room { length short.old ≡ w * tile.now.channels }
+    ensures sums { (t k : ℕ) → t < w → k < tile.now.channels →
+        slice_index short.new (t * tile.now.channels + k) ≡ sum_from from (to - from) (λ s. sample_at tile.now (corner.0 + t) (corner.1 + s) k) }
+{
+    short.fill(0);
+    let mut s = from;
+    while s < to {
+        if FOUR <= to - s {
+            let first = row_of(tile, corner, w, s);
+            let second = row_of(tile, corner, w, s + 1);
+            let third = row_of(tile, corner, w, s + 2);
+            let fourth = row_of(tile, corner, w, s + 3);
+            sum_four(short, first, second, third, fourth);
+            s += FOUR;
+        } else {
+            sum_one(short, row_of(tile, corner, w, s));
+            s += 1;
+        }
+    }
+}
+
+/// What a result column takes of channel `k` of column sums.
+fn span_sum(columns: &[u32], channels: usize, k: usize, c: u64, span: Span) -> u64
+    requires in_order { span.start ≤ span.end }
+    requires within { span.end * channels ≤ length columns.now }
+    requires channel { k < channels }
+    requires none { span.start ≡ span.end → span.first ≡ 0 }
+    requires single { span.end ≤ span.start + 1 → span.last ≡ 0 }
+    requires takes { 0 < c }
+    requires fits { span_total columns.now channels k c span < 2 ^ 64 }
+    ensures { result ≡ span_total columns.now channels k c span }
+{
+    if span.start == span.end {
+        return 0;
+    }
+    let mut inner = 0;
+    for t in span.start + 1..span.end - 1 {
+        inner += u64::from(columns[t * channels + k]);
+    }
+    let first = span.first * u64::from(columns[span.start * channels + k]);
+    let last = span.last * u64::from(columns[(span.end - 1) * channels + k]);
+    first + c * inner + last
+}
