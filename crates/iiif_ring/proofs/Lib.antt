@@ -1,3 +1,4 @@
+pub mod Least
 pub mod Names
 pub mod Next
 pub mod Owners

@@ -7,8 +7,9 @@ use Rattle.std.proofs.lemmas.Option.{slice_get-get_or}
 use Rattle.std.specs.BTreeMap.{BTreeMap, get}
 use Rattle.std.specs.Ordering.{nat_cmp}
 use Rattle.iiif_ring.specs.Code.{name_at, IsNext, IsTable}
-use Rattle.iiif_ring.specs.Owner.{point, replicas, hash, distance, IsOwner, IsUpTo, HaveSameNames}
-use Rattle.iiif_ring.proofs.Names.{IsUpTo-antisym}
+use Rattle.iiif_ring.specs.Owner.{point, replicas, hash, distance, distance_from, ComesFirst, IsOwner, IsUpTo, HaveSameNames}
+use Rattle.iiif_ring.proofs.Least.{HasLeast, has_least}
+use Rattle.iiif_ring.proofs.Names.{IsUpTo-antisym, IsUpTo-refl}
 use Rattle.iiif_ring.proofs.Next.{distance_ahead, distance_behind}
 use Rattle.iiif_ring.proofs.Table.{found, replica_at, same_found}
 
@@ -81,3 +82,29 @@ owner_stands names points key from place table is small next =
     let at : IsNext points (hash key) place = subst (λ f. IsNext points f place) is next in
     let below : hash key < 2 ^ 64 = omega (arith, is, small) in
     (owner_at names points key place table below at, slice_get-get_or names place [] (table.each next.here place next.found).1)
+
+-- of two replicas of one name the nearer comes first, and of two that are as near either does
+nearest_first : (key name other : List ℕ) (replica replica' : ℕ) → name ≡ other → distance_from key name replica ≤ distance_from key name replica' → ComesFirst key name replica other replica'
+nearest_first key name other replica replica' same near =
+    let P : List ℕ → Type 0 = λ t. ComesFirst key name replica t replica' in
+    subst P same (⊎_elim
+    (λ nearer. inl nearer)
+    (λ as_near. inr (omega (arith, near, as_near), IsUpTo-refl name))
+    (cases_lt (distance_from key name replica) (distance_from key name replica')))
+
+-- a name that is alone is the owner: one of its replicas is the nearest
+alone_at : (names : List (List ℕ)) (key : List ℕ) → length names ≡ 1 → HasLeast (distance_from key (name_at names 0)) replicas → IsOwner names key (name_at names 0)
+alone_at names key alone nearest = record {
+  named = Contains-get_or names 0 [] (omega arith);
+  replica = nearest.at;
+  numbered = nearest.within;
+  first = λ other r there numbered.
+      let here : there.0 ≡ 0 = omega (arith, there.1) in
+      let at : name_at names there.0 ≡ other = get_or_default names there.0 [] other there.1 ∙ there.2 in
+      let same : name_at names 0 ≡ other = ap (name_at names) (sym here) ∙ at in
+      nearest_first key (name_at names 0) other nearest.at r same (nearest.least r numbered);
+}
+
+-- where one name stands alone, the owner stands at the first place
+pub alone_stands : (names : List (List ℕ)) (key : List ℕ) → length names ≡ 1 → IsOwner names key (name_at names 0) × (slice_get names 0 ≡ Some (name_at names 0))
+alone_stands names key alone = (alone_at names key alone (has_least (distance_from key (name_at names 0)) replicas (omega arith)), slice_get-get_or names 0 [] (omega arith))
