@@ -1,6 +1,6 @@
 //! Images, sent.
 
-ghost use Rattle.std.specs.Prelude.{◌≡◌, ℕ, ◌+◌, ◌<◌, [], ◌++◌, ◌^◌, IfOk, IfErr, OnOk, length};
+ghost use Rattle.std.specs.Prelude.{◌≡◌, ℕ, ◌+◌, ◌*◌, ◌<◌, ◌≤◌, ◌⊎◌, [], ◌++◌, ◌^◌, min, IfOk, IfErr, OnOk, length};
 ghost use Rattle.std.specs.Io.KnownBytes.{Appends};
 ghost use Rattle.iiif_io.specs.Sending.{WasCut};
 ghost use Rattle.iiif_pixel.specs.Geometry.{channels_of, top_of};
@@ -8,7 +8,7 @@ ghost use Rattle.iiif_pixel.specs.Picture.{Picture};
 ghost use Rattle.iiif_keys.specs.Names.{named, IsSource, Pictures};
 ghost use Rattle.iiif_keys.specs.Shapes.{HasPicture};
 ghost use Rattle.iiif_assemble.specs.Jobs.{channels_in, top_in, IsJob, SumsServe, TilesServe};
-ghost use Rattle.iiif_tiff_write.specs.File.{file, file_len, head_of};
+ghost use Rattle.iiif_tiff_write.specs.File.{file, file_len, head_of, row_len, strip_offset};
 ghost use Rattle.iiif_tiff_write.specs.OutKind.{out_depth, samples_per_pixel};
 ghost use Rattle.iiif_delivery.specs.Delivery.{result_dim, FailsFor, IsHeldInBands, IsImageFor, Stops};
 ghost use Rattle.iiif_delivery.specs.declared.delivery.Stopped.TheVariants.{Writer};
@@ -19,7 +19,7 @@ use iiif_bands::laws::bands_cut_results;
 use iiif_io::{Outlet, send};
 use iiif_keys::{Fault, SumKey, SumVal, TileKey, TileVal};
 use iiif_pixel::{Dim, NoMemory};
-use iiif_tiff_write::{OutKind, head};
+use iiif_tiff_write::{OutKind, head, total_len};
 use std::alloc::Global;
 use std::thread::Threads;
 
@@ -44,12 +44,38 @@ pub enum Stopped {
 /// Rows in the file are sent once they take so many bytes, so that a small image takes one write.
 const PIECE: usize = 65_536;
 
-/// What stands before the rows: the head of an answer, and that of the file.
-fn front(alloc: Global, start: &[u8], kind: OutKind, dim: Dim) -> Result<Vec<u8>, NoMemory>
+/// How many bytes room is made for where a file is sent in bands of `rows`: all of a small file, else its head, and a band behind the rows
+/// that wait.
+fn room(kind: OutKind, dim: Dim, rows: u32) -> usize
+    requires { file_len kind dim < 2 ^ 32 }
+    ensures small { result ≤ file_len kind dim }
+    ensures bounded { result ≤ PIECE + (strip_offset kind + row_len kind dim.w * min rows dim.h) }
+    ensures enough { (result ≡ file_len kind dim) ⊎ (strip_offset kind + row_len kind dim.w * min rows dim.h ≤ result) }
+{
+    let first = Dim {
+        w: dim.w,
+        h: rows.min(dim.h),
+    };
+    let band = total_len(kind, first) as usize;
+    // No rows wait where each band goes out by itself.
+    let most = if band < PIECE { PIECE + band } else { band };
+    most.min(total_len(kind, dim) as usize)
+}
+
+/// What stands before the rows: the head of an answer, and that of the file. Room for the rows is made here, so that bytes needn't be moved
+/// as more come.
+fn front(
+    alloc: Global,
+    start: &[u8],
+    kind: OutKind,
+    dim: Dim,
+    rows: u32,
+) -> Result<Vec<u8>, NoMemory>
     requires { file_len kind dim < 2 ^ 32 }
     ensures { IfOk result (λ v. v.items ≡ start.now ++ head_of kind dim) }
 {
     let mut text = Vec::from_slice(alloc, start)?;
+    text.reserve_exact(room(kind, dim, rows))?;
     text.extend_from_slice(head(kind, dim).as_slice())?;
     Ok(text)
 }
@@ -122,7 +148,7 @@ pub fn send_image<
     bands_cut_results();
     laws_of_bands();
     let dim = job.resolved.size.turned(job.resolved.turn);
-    let Ok(mut text) = front(alloc, start, kind, dim) else {
+    let Ok(mut text) = front(alloc, start, kind, dim, rows) else {
         return Err(Stopped::Load(0, Fault::NoMemory));
     };
     let Ok(bands) = job.bands(alloc, rows) else {
