@@ -55,7 +55,7 @@ fn ran(
     alloc: Global,
     world: &str,
     events: &str,
-) -> Result<Result<String, (usize, WorldFault)>, Fail> {
+) -> Result<Result<String, (usize, WorldFault)>, LineFault> {
     let world = begun(alloc, world)?;
     let events = events_of(alloc, events)?;
     match run(world, &events) {
@@ -64,53 +64,69 @@ fn ran(
     }
 }
 
-#[test]
-fn lists_run_to_their_answers(rt: HostRuntime) -> Result<(), Fail> {
-    for (world, events, answers) in [
-        (
-            CROSSED,
-            "want 0 p full max 0 default; want 1 p full max 0 default; enter 0; enter 1; again 0; again 1; ask_peer 0; ask_peer 1; serve 0; serve 1; enter 2; enter 3; again 2; again 3; load 2; load 3; land 2 kept; land 3 kept; reply 2; reply 3; take 0 0; take 1 1; land 0 kept; land 1 kept; serve 0; enter 4; reply 4; take 0 2",
-            "image gray 8 1 1 7;image gray 8 1 1 7;",
-        ),
-        (
-            CROSSED,
-            "want 0 p full max 0 default; enter 0; again 0; ask_peer 0; stop 0; want 0 p full max 0 default; enter 1; again 1; ask_peer 1; serve 0; enter 2; again 2; load 2; land 2 kept; reply 2; take 0 0; take 1 0; land 1 kept",
-            "none;image gray 8 1 1 7;",
-        ),
-        (
-            DEEP,
-            "want 0 p full max 0 default; enter 0; again 0; ask_peer 0; lose 0; go_local 0; enter 1; again 1; load 1; land 1 kept; land 0 kept",
-            "image gray 16 1 1 700;",
-        ),
-        (CROSSED, "want 0 p 1,0,1,1 max 0 default", "refused Empty;"),
-    ] {
-        match ran(rt.alloc(), world, events)? {
-            Ok(text) => assert_eq!(rt; text.as_str(), answers),
-            Err(stopped) => assert_eq!(rt; Some(stopped), None),
-        }
+/// Whether a list runs to its end, and these are its answers.
+fn runs_to(alloc: Global, world: &str, events: &str, answers: &str) -> bool {
+    match ran(alloc, world, events) {
+        Ok(Ok(text)) => text.as_str() == answers,
+        _ => false,
     }
-    Ok(())
 }
 
-#[test]
-fn first_event_that_is_not_allowed_is_named(rt: HostRuntime) -> Result<(), Fail> {
-    for (world, events, place) in [
-        (
-            CROSSED,
-            "want 0 p full max 0 default; enter 0; again 0; ask_peer 0; serve 0; enter 1; again 1; source_fault 1 8 3; land 1 kept; enter 1; load 1",
-            9usize,
-        ),
-        (
-            DEEP,
-            "want 0 p full max 0 default; enter 0; again 0; ask_peer 0; serve 0; serve 0",
-            4,
-        ),
-        (CROSSED, "stop 2", 0),
-    ] {
-        let stopped = ran(rt.alloc(), world, events)?.err();
-        assert_eq!(rt; stopped, Some((place, WorldFault::NotNow)));
+/// Whether the first event of a list that isn't allowed has this place.
+fn stops_at(alloc: Global, world: &str, events: &str, place: usize) -> bool {
+    match ran(alloc, world, events) {
+        Ok(Err(stopped)) => stopped == (place, WorldFault::NotNow),
+        _ => false,
     }
-    Ok(())
+}
+
+/// Worlds, lists of events and what they run to.
+const RUNS: [(&str, &str, &str); 4] = [
+    (
+        CROSSED,
+        "want 0 p full max 0 default; want 1 p full max 0 default; enter 0; enter 1; again 0; again 1; ask_peer 0; ask_peer 1; serve 0; serve 1; enter 2; enter 3; again 2; again 3; load 2; load 3; land 2 kept; land 3 kept; reply 2; reply 3; take 0 0; take 1 1; land 0 kept; land 1 kept; serve 0; enter 4; reply 4; take 0 2",
+        "image gray 8 1 1 7;image gray 8 1 1 7;",
+    ),
+    (
+        CROSSED,
+        "want 0 p full max 0 default; enter 0; again 0; ask_peer 0; stop 0; want 0 p full max 0 default; enter 1; again 1; ask_peer 1; serve 0; enter 2; again 2; load 2; land 2 kept; reply 2; take 0 0; take 1 0; land 1 kept",
+        "none;image gray 8 1 1 7;",
+    ),
+    (
+        DEEP,
+        "want 0 p full max 0 default; enter 0; again 0; ask_peer 0; lose 0; go_local 0; enter 1; again 1; load 1; land 1 kept; land 0 kept",
+        "image gray 16 1 1 700;",
+    ),
+    (CROSSED, "want 0 p 1,0,1,1 max 0 default", "refused Empty;"),
+];
+
+#[test]
+fn lists_run_to_their_answers(rt: HostRuntime) {
+    for (world, events, answers) in RUNS {
+        assert!(rt; runs_to(rt.alloc(), world, events, answers), "{events}");
+    }
+}
+
+/// Worlds, lists of events and the place of the first that isn't allowed.
+const STOPS: [(&str, &str, usize); 3] = [
+    (
+        CROSSED,
+        "want 0 p full max 0 default; enter 0; again 0; ask_peer 0; serve 0; enter 1; again 1; source_fault 1 8 3; land 1 kept; enter 1; load 1",
+        9,
+    ),
+    (
+        DEEP,
+        "want 0 p full max 0 default; enter 0; again 0; ask_peer 0; serve 0; serve 0",
+        4,
+    ),
+    (CROSSED, "stop 2", 0),
+];
+
+#[test]
+fn first_event_that_is_not_allowed_is_named(rt: HostRuntime) {
+    for (world, events, place) in STOPS {
+        assert!(rt; stops_at(rt.alloc(), world, events, place), "{events}");
+    }
 }
 
 /// A node that names itself on its ring, or another.

@@ -1,0 +1,115 @@
+"""What a text of lists comes to, by the evaluation of the definitions in Python: writes what `iiif_replay` has to write for it.
+
+    /usr/bin/python3 bench/machine/text.py < crates/iiif_replay/stdin
+
+The words of each line are those of docs/MACHINE.md, Replaying a list. A line that is no setting and no event ends it with status 2.
+"""
+import sys
+
+from lists import answer_text, rows
+from machine import Node, Scene, World
+
+NUMBERED = ("enter", "again", "ask_peer", "serve", "reply", "lose", "go_local", "load", "stop")
+
+
+def numbers(words):
+    return [int(word) for word in words]
+
+
+def picture_of(words):
+    """gray|rgb 8|16 WIDTH HEIGHT SAMPLE.."""
+    kind, bits, w, h, *samples = words
+    return (int(w), int(h), {"gray": 1, "rgb": 3}[kind], {"8": 255, "16": 65535}[bits], tuple(numbers(samples)))
+
+
+def keys_of(words):
+    """Keys, one behind another: `tile` and 4 words, or `sum` and 11."""
+    if not words:
+        return []
+    if words[0] == "tile":
+        return [("tile", words[1], *numbers(words[2:5]))] + keys_of(words[5:])
+    edge, x, y, w, h, columns, lines, level, bx, by = numbers(words[2:12])
+    return [("sum", words[1], edge, (x, y, w, h), (columns, lines), level, bx, by)] + keys_of(words[12:])
+
+
+class Text:
+    """The lists of a text, line by line."""
+
+    def __init__(self):
+        self.begin()
+
+    def begin(self):
+        self.pictures, self.nodes, self.world = {}, [], None
+        self.edge, self.limits, self.room = 256, (4096, 4096, False), 65536
+
+    def set(self, words):
+        """Whether the words describe the world."""
+        kind, rest = words[0], words[1:]
+        if kind == "edge":
+            self.edge, = numbers(rest)
+        elif kind == "room":
+            self.room, = numbers(rest)
+        elif kind == "limits":
+            self.limits = (*numbers(rest[:2]), rest[2:] == ["upscale"])
+        elif kind == "picture":
+            self.pictures[rest[0]] = picture_of(rest[1:])
+        elif kind == "node":
+            version, limit, room = numbers(rest[1:4])
+            self.nodes.append(Node(rest[0], rest[4:], version, limit, room))
+        else:
+            return False
+        return True
+
+    def event(self, words):
+        kind, rest = words[0], words[1:]
+        if kind == "want":
+            return (kind, int(rest[0]), rest[1], tuple(rest[2:]))
+        if kind == "land":
+            return (kind, int(rest[0]), {"kept": True, "dropped": False}[rest[1]])
+        if kind == "evict":
+            return (kind, int(rest[0]), keys_of(rest[1:]))
+        if kind in ("take", "source_fault") + NUMBERED:
+            return (kind, *numbers(rest))
+        raise ValueError(kind)
+
+    def begun(self):
+        if self.world is None:
+            self.world = World(Scene(self.pictures, self.edge, self.limits, self.room), self.nodes)
+        return self.world
+
+    def ended(self):
+        """The answers, a line a request."""
+        for n, (_, _, progress) in enumerate(self.world.requests if self.world else []):
+            yield "request %d: %s" % (n, answer_text(progress[1]) if progress[0] == "answered" else "none")
+
+    def line(self, number, line):
+        """What a line comes to."""
+        words = line.split()
+        if not words or words[0].startswith("#"):
+            return
+        if words == ["world"]:
+            yield from self.ended()
+            self.begin()
+        elif words == ["rows"]:
+            yield from rows(self.begun())
+        elif self.world is not None or not self.set(words):
+            done = self.begun().step(self.event(words))
+            yield "%d %s: %s" % (number, line.strip(), "done" if done else "not now")
+
+
+def main():
+    text = Text()
+    for number, line in enumerate(sys.stdin, 1):
+        try:
+            for wrote in text.line(number, line):
+                print(wrote)
+        except (ValueError, KeyError, IndexError, TypeError):
+            print("line %d" % number, file=sys.stderr)
+            return 2
+    for wrote in text.ended():
+        print(wrote)
+    return 0
+
+
+if __name__ == "__main__":
+    sys.exit(main())
