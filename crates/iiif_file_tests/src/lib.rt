@@ -6,6 +6,8 @@
 #[cfg(test)]
 mod open_files_tests;
 #[cfg(test)]
+mod refused_tests;
+#[cfg(test)]
 mod rows_tests;
 #[cfg(test)]
 mod source_tests;

@@ -12,7 +12,7 @@ mod one_fault;
 mod writer;
 
 /// A file of low bytes first: a gray picture of 4 by 4 with v(x, y) = 10x + 40y in one strip, and its directory behind it.
-const SAMPLE: [u8; 138] = [
+pub(crate) const SAMPLE: [u8; 138] = [
     73, 73, 42, 0, 24, 0, 0, 0, 0, 10, 20, 30, 40, 50, 60, 70, 80, 90, 100, 110, 120, 130, 140,
     150, 9, 0, 0, 1, 3, 0, 1, 0, 0, 0, 4, 0, 0, 0, 1, 1, 3, 0, 1, 0, 0, 0, 4, 0, 0, 0, 2, 1, 3, 0,
     1, 0, 0, 0, 8, 0, 0, 0, 3, 1, 3, 0, 1, 0, 0, 0, 1, 0, 0, 0, 6, 1, 3, 0, 1, 0, 0, 0, 1, 0, 0, 0,

@@ -16,4 +16,6 @@ mod info_tests;
 #[cfg(test)]
 mod plan_tests;
 #[cfg(test)]
+mod refused_tests;
+#[cfg(test)]
 mod request_tests;

@@ -19,3 +19,5 @@ mod pace_tests;
 mod peer_tests;
 #[cfg(test)]
 mod place_tests;
+#[cfg(test)]
+mod refused_tests;
