@@ -21,15 +21,17 @@ use std::{env, fs, process, thread};
 const TRIES: u32 = 2000;
 const PATIENCE: Duration = Duration::from_secs(120);
 
+/// Heads and bodies of the first answers, by their targets.
+type Kept = HashMap<String, (String, Vec<u8>)>;
+
 struct Request<'a> {
     address: &'a str,
     target: &'a str,
 }
 
-/// A whole answer: its head, its body, and whether the connection stays.
+/// The head of a whole answer, and whether the connection stays.
 struct Answer {
     head: String,
-    body: Vec<u8>,
     stays: bool,
 }
 
@@ -43,11 +45,12 @@ struct Outcome {
     sum: u64,
 }
 
-/// A connection and what was read of it and isn't used yet.
+/// A connection and what was read of it and isn't used yet, from `at` to `end` of `held`.
 struct Link {
     stream: TcpStream,
     held: Vec<u8>,
     at: usize,
+    end: usize,
 }
 
 fn early() -> Error {
@@ -59,28 +62,27 @@ impl Link {
         let stream = TcpStream::connect(address)?;
         stream.set_nodelay(true)?;
         stream.set_read_timeout(Some(PATIENCE))?;
-        Ok(Link { stream, held: vec![0; 1 << 17], at: 0 }.emptied())
-    }
-
-    fn emptied(mut self) -> Link {
-        self.held.clear();
-        self
+        Ok(Link { stream, held: vec![0; 1 << 14], at: 0, end: 0 })
     }
 
     /// Reads more; false at the end of the connection.
     fn more(&mut self) -> Result<bool> {
-        let from = self.held.len();
-        self.held.resize(from + (1 << 16), 0);
-        let got = self.stream.read(&mut self.held[from..])?;
-        self.held.truncate(from + got);
+        self.held.copy_within(self.at..self.end, 0);
+        (self.at, self.end) = (0, self.end - self.at);
+        if self.end == self.held.len() {
+            self.held.resize(2 * self.end, 0);
+        }
+        let got = self.stream.read(&mut self.held[self.end..])?;
+        self.end += got;
         Ok(got > 0)
     }
 
     /// The text up to `end`, without it.
     fn until(&mut self, end: &[u8]) -> Result<Vec<u8>> {
         loop {
-            if let Some(found) = self.held[self.at..].windows(end.len()).position(|part| part == end) {
-                let text = self.held[self.at..self.at + found].to_vec();
+            let held = &self.held[self.at..self.end];
+            if let Some(found) = held.windows(end.len()).position(|part| part == end) {
+                let text = held[..found].to_vec();
                 self.at += found + end.len();
                 return Ok(text);
             }
@@ -90,23 +92,25 @@ impl Link {
         }
     }
 
+    /// Reads so many bytes: those that are held, and the others straight to their place.
     fn take(&mut self, count: usize, into: &mut Vec<u8>) -> Result<()> {
-        while self.held.len() - self.at < count {
-            if !self.more()? {
-                return Err(early());
-            }
+        into.reserve(count);
+        let held = count.min(self.end - self.at);
+        into.extend_from_slice(&self.held[self.at..self.at + held]);
+        self.at += held;
+        let left = count - held;
+        if (&self.stream).take(left as u64).read_to_end(into)? < left {
+            return Err(early());
         }
-        into.extend_from_slice(&self.held[self.at..self.at + count]);
-        self.at += count;
         Ok(())
     }
 
-    /// Sends a request and reads its answer; nothing where the connection is closed before an answer's first byte.
-    fn ask(&mut self, request: &Request, sent: &mut Vec<u8>) -> Result<Option<Answer>> {
+    /// Sends a request and reads its answer, whose body is left in `body`; nothing where the connection is closed before an answer's first
+    /// byte.
+    fn ask(&mut self, request: &Request, sent: &mut Vec<u8>, body: &mut Vec<u8>) -> Result<Option<Answer>> {
         sent.clear();
+        body.clear();
         write!(sent, "GET {} HTTP/1.1\r\nHost: {}\r\n\r\n", request.target, request.address)?;
-        self.held.drain(..self.at);
-        self.at = 0;
         let is_open = self.stream.write_all(sent).is_ok() && match self.more() {
             Ok(more) => more,
             Err(error) if error.kind() == ErrorKind::ConnectionReset => false,
@@ -116,27 +120,24 @@ impl Link {
             return Ok(None);
         }
         let head = String::from_utf8_lossy(&self.until(b"\r\n\r\n")?).into_owned() + "\r\n\r\n";
-        let body = self.body(&head)?;
+        self.body(&head, body)?;
         let stays = field(&head, "connection").is_none_or(|value| !value.eq_ignore_ascii_case("close"));
-        Ok(Some(Answer { head, body, stays }))
+        Ok(Some(Answer { head, stays }))
     }
 
     /// The body that a head announces: of so many bytes, or in chunks.
-    fn body(&mut self, head: &str) -> Result<Vec<u8>> {
-        let mut body = Vec::new();
+    fn body(&mut self, head: &str, body: &mut Vec<u8>) -> Result<()> {
         if let Some(length) = field(head, "content-length").and_then(|value| value.parse().ok()) {
-            body.reserve_exact(length);
-            self.take(length, &mut body)?;
-            return Ok(body);
+            return self.take(length, body);
         }
         loop {
             let line = self.until(b"\r\n")?;
             let digits = String::from_utf8_lossy(&line);
             let size = usize::from_str_radix(digits.trim(), 16).map_err(|_| Error::new(ErrorKind::InvalidData, "no length"))?;
-            self.take(size, &mut body)?;
+            self.take(size, body)?;
             self.until(b"\r\n")?;
             if size == 0 {
-                return Ok(body);
+                return Ok(());
             }
         }
     }
@@ -147,21 +148,23 @@ fn field<'a>(head: &'a str, name: &str) -> Option<&'a str> {
     head.lines().skip(1).filter_map(|line| line.split_once(':')).find(|(key, _)| key.eq_ignore_ascii_case(name)).map(|(_, value)| value.trim())
 }
 
-/// A check sum of bytes, cheap beside what makes them.
+/// A check sum of bytes, cheap beside what makes them: of four words at a time, each in a sum of its own.
 fn check_sum(bytes: &[u8]) -> u64 {
-    let words = bytes.chunks_exact(8);
-    let rest = words.remainder().iter().fold(bytes.len() as u64, |sum, &byte| sum << 8 ^ u64::from(byte) ^ sum >> 56);
-    words.fold(rest, |sum, word| {
-        let word = u64::from_le_bytes(word.try_into().unwrap_or_default());
-        (sum ^ word).wrapping_mul(0x9e37_79b9_7f4a_7c15).rotate_left(29)
-    })
+    let mixed = |sum: u64, word: u64| (sum ^ word).wrapping_mul(0x9e37_79b9_7f4a_7c15).rotate_left(29);
+    let blocks = bytes.chunks_exact(32);
+    let rest = blocks.remainder().iter().fold(bytes.len() as u64, |sum, &byte| mixed(sum, u64::from(byte)));
+    let sums = blocks.fold([rest, 1, 2, 3], |sums, block| {
+        let word = |n: usize| u64::from_le_bytes(block[8 * n..8 * n + 8].try_into().unwrap_or_default());
+        [mixed(sums[0], word(0)), mixed(sums[1], word(1)), mixed(sums[2], word(2)), mixed(sums[3], word(3))]
+    });
+    sums.into_iter().fold(0, mixed)
 }
 
 /// Asks for a list, one request after another; the answers that are kept go to `kept`.
-fn viewer(list: &[Request], start: &Barrier, began: &Mutex<Option<Instant>>, kept: Option<&Mutex<HashMap<String, Answer>>>) -> Result<Vec<Outcome>> {
+fn viewer(list: &[Request], start: &Barrier, began: &Mutex<Option<Instant>>, kept: Option<&Mutex<Kept>>) -> Result<Vec<Outcome>> {
     let connected = list.first().map(|request| Link::connect(request.address)).transpose();
     let mut outcomes = Vec::with_capacity(list.len());
-    let mut sent = Vec::new();
+    let (mut sent, mut body) = (Vec::new(), Vec::new());
     start.wait();
     let mut link = connected?;
     let zero = *began.lock().unwrap().get_or_insert_with(Instant::now);
@@ -173,7 +176,7 @@ fn viewer(list: &[Request], start: &Barrier, began: &Mutex<Option<Instant>>, kep
                 Some(open) if n == 0 || list[n - 1].address == request.address => open,
                 _ => Link::connect(request.address)?,
             };
-            if let Some(answer) = open.ask(request, &mut sent)? {
+            if let Some(answer) = open.ask(request, &mut sent, &mut body)? {
                 link = answer.stays.then_some(open);
                 break answer;
             }
@@ -185,9 +188,9 @@ fn viewer(list: &[Request], start: &Barrier, began: &Mutex<Option<Instant>>, kep
         };
         let took = begun.elapsed();
         let status = answer.head.split(' ').nth(1).and_then(|text| text.parse().ok()).unwrap_or(0);
-        outcomes.push(Outcome { begun: begun - zero, took, status, bytes: answer.body.len(), away, sum: check_sum(&answer.body) });
+        outcomes.push(Outcome { begun: begun - zero, took, status, bytes: body.len(), away, sum: check_sum(&body) });
         if let Some(kept) = kept {
-            kept.lock().unwrap().entry(request.target.to_string()).or_insert(answer);
+            kept.lock().unwrap().entry(request.target.to_string()).or_insert_with(|| (answer.head, body.clone()));
         }
     }
     Ok(outcomes)
@@ -209,16 +212,16 @@ fn report(lists: &[Vec<Request>], all: &[Vec<Outcome>], path: &str) -> Result<bo
     Ok(is_equal)
 }
 
-fn keep(lists: &[Vec<Request>], kept: HashMap<String, Answer>, folder: &str) -> Result<()> {
+fn keep(lists: &[Vec<Request>], kept: Kept, folder: &str) -> Result<()> {
     let mut number = HashMap::new();
     for request in lists.iter().flatten() {
         let next = number.len();
         number.entry(request.target).or_insert(next);
     }
-    for (target, answer) in kept {
+    for (target, (head, body)) in kept {
         let mut file = fs::File::create(format!("{folder}/{}", number[target.as_str()]))?;
-        file.write_all(answer.head.as_bytes())?;
-        file.write_all(&answer.body)?;
+        file.write_all(head.as_bytes())?;
+        file.write_all(&body)?;
     }
     Ok(())
 }
