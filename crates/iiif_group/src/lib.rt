@@ -7,6 +7,7 @@ pub use gate::{Gate, NoGate};
 pub use group::Group;
 pub use iiif_singleflight::Kept;
 pub use link::{Link, LinkFault, NoLink};
+pub use lists::Lists;
 pub use outcomes::{boxed, shared, taken};
 
 mod beginning;
@@ -16,7 +17,7 @@ pub mod gate;
 pub mod group;
 mod leading;
 pub mod link;
-mod lists;
+pub mod lists;
 pub mod outcomes;
 mod steps;
 mod waiting;

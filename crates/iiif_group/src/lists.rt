@@ -1,9 +1,9 @@
-//! Those who wait for flights.
+//! Those who wait for one of many numbers.
 
 use std::sync::Condvar;
 
-/// Those who wait for flights, in 16 lists by the flights' numbers: a landing wakes those of its list alone, so that few are woken who wait
-/// for another flight.
+/// Those who wait for flights, or for their turn, in 16 lists by numbers: what comes to pass for a number wakes those of its list alone, so
+/// that few are woken who wait for another one.
 #[derive(Drop)]
 pub struct Lists {
     lists: [Condvar; 16],
@@ -34,8 +34,8 @@ impl Lists {
         }
     }
 
-    /// Those who wait for the flight of a number.
-    pub fn of(&self, ticket: u64) -> &Condvar {
-        &self.lists[(ticket % 16) as usize]
+    /// Those who wait for a number.
+    pub fn of(&self, number: u64) -> &Condvar {
+        &self.lists[(number % 16) as usize]
     }
 }

@@ -3,6 +3,7 @@
 ghost use Rattle.std.specs.Prelude.{ℕ, ◌<◌, length};
 ghost use denote.Param.Send.{IsSync};
 
+use crate::admission::Admission;
 use crate::items::GroupItems;
 use iiif_assemble::Job;
 use iiif_group::{Gate, Link};
@@ -80,9 +81,9 @@ fn tiles_of(blocks: &[SumKey]) -> usize {
     blocks.len().saturating_mul(each)
 }
 
-/// Where in their lists the `turn`-th call begins, in thousandths.
-fn beginning(turn: usize) -> usize {
-    turn % 1_000 * APART % 1_000
+/// Where in its list a job of this number begins, in thousandths.
+fn beginning(turn: u64) -> usize {
+    (turn % 1_000) as usize * APART % 1_000
 }
 
 /// A worker's share of a list: how many thousandths of it lie before the share, and how many it has.
@@ -244,7 +245,7 @@ impl<
         alloc: Global,
         passes: &mut [Passes<J>],
         keys: &[SumKey],
-        turn: usize,
+        turn: u64,
     ) -> Result<(), NoMemory> {
         let blocks = self.missing(rt, alloc, keys)?;
         let workers = (tiles_of(&blocks) / LEAST_TILES).min(passes.len());
@@ -266,16 +267,17 @@ impl<
 
     /// Sees to it that the blocks of a job are kept, where there are several workers and room for all that the blocks are made of: all
     /// workers ask for parts of them, or for the blocks themselves where these are many, and the bands that are made of them find them
-    /// kept. The `turn` is another for each call, so that those who ask for the same blocks at a time begin with other parts of them, and
-    /// each finds what the others made. Says whether all blocks were kept at its end, so that one worker is enough for the bands: what
-    /// couldn't be had, or isn't kept any more, is asked again when a band is made.
+    /// kept. It waits until the job is admitted, so that few jobs at a time share the processors. Those that are admitted together begin
+    /// with different parts, so that of those who ask for the same blocks each finds what the others made. Says whether all blocks were
+    /// kept at its end, so that one worker is enough for the bands: what couldn't be had, or isn't kept any more, is asked again when a
+    /// band is made.
     pub fn keep_blocks(
         &self,
         rt: &R,
         alloc: Global,
         passes: &mut [Passes<J>],
         job: &Job,
-        turn: usize,
+        admission: &Admission,
     ) -> bool {
         let Plan::Sum(keys) = &job.plan else {
             return false;
@@ -286,7 +288,10 @@ impl<
         if passes.len() < 2 || !self.has_room(keys, job.shape.kind) {
             return false;
         }
-        match self.ask_missing(rt, alloc, passes, keys, turn) {
+        let turn = admission.enter(rt);
+        let asked = self.ask_missing(rt, alloc, passes, keys, turn);
+        admission.leave(rt);
+        match asked {
             Ok(()) => self.hold_all(rt, keys),
             Err(_) => false,
         }

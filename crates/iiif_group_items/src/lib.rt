@@ -1,8 +1,10 @@
 //! Values as images are made of them, asked of the groups of a node.
 #![tactic(auto)]
 
+pub use admission::Admission;
 pub use items::GroupItems;
 
+pub mod admission;
 mod early;
 pub mod items;
 pub mod laws;

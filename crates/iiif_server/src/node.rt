@@ -30,8 +30,8 @@ use iiif_answers::{Cause, Config, Cut, Part, Sent};
 use iiif_assemble::Job;
 use iiif_delivery::{Stopped, send_image};
 use iiif_group::{Gate, Link, NoGate, NoLink};
-use iiif_group_items::GroupItems;
 use iiif_group_items::laws::groups_serve_jobs;
+use iiif_group_items::{Admission, GroupItems};
 use iiif_http_front::Call;
 use iiif_images::{Catalogue, Entry, Images};
 use iiif_io::Outlet;
@@ -44,7 +44,6 @@ use iiif_tile_group::{TileCalls, Tiles};
 use std::alloc::{AllocError, Global};
 use std::marker::Model;
 use std::sync::Wait;
-use std::sync::atomic::{AtomicUsize, Ordering};
 use std::sync::ledger::{Blank, Ledger};
 use std::thread::Threads;
 
@@ -58,8 +57,8 @@ where
 {
     config: Config,
     groups: Groups<R, S, J, N, T>,
-    /// How many images were asked for.
-    turns: AtomicUsize,
+    /// Who may make the blocks of an image now.
+    admission: Admission,
 }
 
 impl<R, S: Source<R>, J: System, N, T> Model for Node<R, S, J, N, T>
@@ -107,10 +106,12 @@ impl<R, S: Source<R> + Drop, J: System, N, T> Node<R, S, J, N, T> {
         let tiles = Tiles::new(alloc, images, group);
         let group = sums.group(alloc)?;
         let groups = Groups::new(alloc, tiles, group);
+        // As many jobs at a time as each has workers.
+        let admission = Admission::new(config.workers());
         Ok(Node {
             config,
             groups,
-            turns: AtomicUsize::new(0),
+            admission,
         })
     }
 
@@ -196,11 +197,6 @@ impl<
     N: Link<TileKey, J, R> + Link<SumKey, J, R> + Sync,
     T: Gate<R> + Sync,
 > Node<R, S, J, N, T> {
-    /// Another number for each image.
-    fn next_turn(&self) -> usize {
-        self.turns.fetch_add(1, Ordering::SeqCst)
-    }
-
     /// Sends an image for an accepted request, band by band.
     fn send_loaded<W: Outlet>(
         &self,
@@ -264,7 +260,7 @@ impl<
         picture_is_shown(entry);
         groups_serve_jobs::<J>(job);
         let items = GroupItems(&self.groups);
-        let is_kept = items.keep_blocks(rt, alloc, passes, job, self.next_turn());
+        let is_kept = items.keep_blocks(rt, alloc, passes, job, &self.admission);
         // One worker finds what is kept, and starts no thread.
         let workers = if is_kept { 1 } else { passes.len() };
         let rows = self.config.band();

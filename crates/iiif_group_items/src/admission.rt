@@ -1,0 +1,51 @@
+//! How many images are made ready at a time.
+
+use iiif_group::Lists;
+use std::sync::{Mutex, Wait};
+
+/// How many jobs came, and how many of these may have begun.
+#[derive(Drop)]
+struct Order {
+    came: u64,
+    admitted: u64,
+}
+
+/// Who may make the blocks of an image now: so many jobs at a time, in the order in which they came. Without it each of 64 viewers has its
+/// workers, who take the processors from one another, and the heaviest image waits for all the light ones.
+#[derive(Drop)]
+pub struct Admission {
+    order: Mutex<Order>,
+    waiting: Lists,
+}
+
+impl Admission {
+    /// Room for so many jobs at a time.
+    pub fn new(most: u32) -> Admission {
+        Admission {
+            order: Mutex::new(Order {
+                came: 0,
+                admitted: u64::from(most),
+            }),
+            waiting: Lists::new(),
+        }
+    }
+
+    /// Waits until a job may begin. Its number, which no other has.
+    pub(crate) fn enter<R: Wait>(&self, rt: &R) -> u64 {
+        let mut order = self.order.lock(rt);
+        let number = order.came;
+        order.came = number.saturating_add(1);
+        let begun = self.waiting.of(number);
+        drop(begun.wait_while(rt, order, |order| order.admitted <= number));
+        number
+    }
+
+    /// A job is done, and the next one may begin.
+    pub(crate) fn leave<R: Wait>(&self, rt: &R) {
+        let mut order = self.order.lock(rt);
+        let next = order.admitted;
+        order.admitted = next.saturating_add(1);
+        drop(order);
+        self.waiting.of(next).notify_all();
+    }
+}
