@@ -2,7 +2,8 @@
 
     rustc --edition 2021 -O -o /tmp/load bench/crowd/load.rs
     cc -O2 -o /tmp/plain bench/crowd/plain.c $(pkg-config --cflags --libs vips) -lpthread
-    /usr/bin/python3 bench/crowd/crowd.py --program crates/iiif_serve/out/iiif_serve --load /tmp/load --plain /tmp/plain [--before BUILD] [--nodes 2 3]
+    cc -O2 -o /tmp/floor bench/crowd/floor.c -lpthread
+    /usr/bin/python3 bench/crowd/crowd.py --program crates/iiif_serve/out/iiif_serve --load /tmp/load --plain /tmp/plain --floor /tmp/floor [--before BUILD] [--nodes 2 3]
 
 Needs numpy, Pillow, libvips-tools, libvips-dev, lighttpd and iipimage-server. The picture is the gray one of 10,000 square of bench/compare,
 in tiles of 256, which all read. IIPImage reads in turn a pyramid too, which `vips tiffsave` makes of it: that is the form that it wants, and of
@@ -14,6 +15,7 @@ The jobs, each on servers that are started anew for it, so that their caches are
   zoom path      200 requests of one viewer of demo/index.html who opens the picture, zooms in and moves, as bench/scale records it
   crowd          8 viewers, 100 different requests of such paths, each asked by two viewers at the same time
   viewers        1, 8 and 64 viewers, each somewhere else on such paths
+With --floor a server that reads and writes the bytes of native tiles, and does nothing else, runs too: no server takes less.
 All servers run in turn, --rounds times (the plain one once, as it takes minutes), and medians are printed: wall time, processor time of all processes of a server, requests a second,
 and the 50th and the 99th percentile of the time from a request's first byte to its answer's last. With --nodes, the crowd's viewers go to
 so many nodes that ask each other, one after another.
@@ -44,7 +46,9 @@ import scale  # noqa: E402
 from model import Image  # noqa: E402
 
 SOURCE, EDGE, LIMIT = compare.SOURCES[0], 256, 4096
-OWN, BEFORE, PLAIN = "this program", "the build before", "libvips in C"
+OWN, BEFORE, PLAIN, FLOOR = "this program", "the build before", "libvips in C", "reads and writes alone"
+# The jobs that the server does which reads and writes alone.
+WITH_FLOOR = "native"
 # Of IIPImage's time over the same file: the greatest part that this program is to take, and of the 99th percentile at 64 viewers, in 50th ones.
 LIMITS = {"native tiles, 1 viewer": 0.12, "zoom path": 0.2, "crowd": 0.3}
 SPREAD = ("viewers, 64", 10)
@@ -152,6 +156,8 @@ class Bench:
                 found[name] = lambda name=name, many=many, file=file: servers.Iip(name, file, self.room, many)
         if args.plain:
             found[PLAIN] = lambda: servers.Plain(PLAIN, args.plain, self.source, self.room)
+        if args.floor:
+            found[FLOOR] = lambda: servers.Plain(FLOOR, args.floor, self.source, self.room)
         return found
 
     def lists(self, server, job):
@@ -228,7 +234,7 @@ def measured(bench, jobs, columns):
     for turn in range(bench.args.rounds):
         for job in jobs:
             for column, start in compare.turned(list(columns.items()), turn):
-                if turn and column == PLAIN:
+                if turn and column == PLAIN or column == FLOOR and not job.startswith(WITH_FLOOR):
                     continue
                 with start() as server:
                     try:
@@ -243,12 +249,13 @@ def measured(bench, jobs, columns):
 
 
 def table(title, jobs, names, medians, cell):
-    """A row for each job, a column for each server; a server that kept a viewer waiting until it gave up has no figure there."""
+    """A row for each job, a column for each server; a server that kept a viewer waiting until it gave up has no figure there, nor one that doesn't
+    do the job."""
     if not names:
         return
     print(f"\n**{title}**\n\n| | {' | '.join(names)} |\n|---|{'---|' * len(names)}")
     for job in jobs:
-        print(f"| {job} | {' | '.join(cell(job, name) if (job, name) in medians else 'gave up' for name in names)} |")
+        print(f"| {job} | {' | '.join(cell(job, name) if (job, name) in medians else '' if name == FLOOR else 'gave up' for name in names)} |")
 
 
 def limits(jobs, names, medians):
@@ -293,6 +300,7 @@ def main():
     parser.add_argument("--before", help="the program as it was with one connection after another")
     parser.add_argument("--load", required=True, help="load.rs of this folder, built by rustc -O")
     parser.add_argument("--plain", help="plain.c of this folder, built by cc -O2")
+    parser.add_argument("--floor", help="floor.c of this folder, built by cc -O2")
     parser.add_argument("--iip", type=int, nargs="*", default=[4], help="how many processes of IIPImage, two columns for each")
     parser.add_argument("--work", default="/tmp/iiif_compare", help="where the pictures are kept, about 240 MB")
     parser.add_argument("--rounds", type=int, default=5)
@@ -309,7 +317,7 @@ def main():
         jobs, columns = [job for job in JOBS if re.search(args.jobs, job)], bench.columns()
         with open("/proc/cpuinfo") as info:
             print(f"{os.cpu_count()} processors, {re.search('model name	: (.*)', info.read())[1]}; {args.rounds} rounds; load before: {compare.load()}", flush=True)
-        wrong = [] if args.unchecked else [fault for job in jobs for column, start in columns.items() for fault in bench.checked(column, start, job)]
+        wrong = [] if args.unchecked else [fault for job in jobs for column, start in columns.items() if column != FLOOR for fault in bench.checked(column, start, job)]
         print(f"{len(wrong)} wrong answers" if not args.unchecked else "answers not compared", flush=True)
         medians, names = measured(bench, jobs, columns), list(columns)
         print(f"load after: {compare.load()}")

@@ -155,7 +155,7 @@ fastcgi.server = ("/iiif" => (("socket" => "{room}/iip{processes}.socket", "chec
 
 
 class Plain(Servers):
-    """plain.c over libvips."""
+    """plain.c over libvips, or floor.c."""
 
     def __init__(self, column, path, source, room):
         port = running.free_port()
