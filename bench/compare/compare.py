@@ -10,14 +10,14 @@ the plain one are compared with them byte for byte. The others scale in ways of 
 GDAL by `-r average`, which gives bits of bits): how far their samples are from the exact averages is printed, not judged. Each job is run
 by every program in turn, --rounds times (libvips three times), and the medians are printed: wall clock and processor time of all threads. A
 job that keeps its size, or whose larger result is 1,024 wide at most, is so short that the program, the build before and the plain program
-do it ten times a round. An overview of 100 megapixels is made by one worker and by four, too, each also with the settings of SMALL, which
+do it ten times a round. An overview of 100 megapixels is made by one worker and by four, too, each also with the settings of ALONE, which
 docs/OPERATING.md has for a single large image; and an overview from strips with tiles of 1,024. The peak of the resident memory is taken in
 seven runs of its own (of the others three). With --before, another build of the program runs beside it, on the jobs of 8 bits and of bits
 that aren't scaled up. With --package both run in the environment of the package's unit. With --reads, `strace` counts the reads of the source that a job takes, in a run of its own.
 
 The status is 1 where an answer of the program differs or a program fails, and with --strict also where a limit is passed. Memory: what
 docs/OPERATING.md says, which is the caches and a band (`memory.py`), with the program's defaults, with no cache, with a small one and a
-single worker, and with four workers. Wall clock: an overview of 100 megapixels from tiles 1.15 of the build before by one worker, and 0.6 by four, by the defaults;
+single worker, and with four workers. Wall clock: an overview of 100 megapixels from tiles 1.15 of the build before by one worker, and 0.6 by four, with the settings of ALONE (by the defaults they are printed);
 from strips GDAL's average, by two; on 16 bits 1.5 of plain Rust's and 1.0 of GDAL's average, by the defaults, which are two workers, where the others have one
 thread. Processor time: 1.5 of plain Rust's where a result is above its region. The other ratios of processor time are printed and not judged.
 """
@@ -119,11 +119,11 @@ SOURCES = [
 ]
 
 # The programs whose answers are to be equal to the exact averages.
-OWN = ("this program", "one worker", "four workers", "one worker, small", "four workers, small", "--edge 1024", "the build before", "plain Rust")
+OWN = ("this program", "one worker", "four workers", "one worker, no caches", "four workers, no caches", "--edge 1024", "the build before", "plain Rust")
 
-# Caches of 16 MiB, which are filled again and again, so that an image touches few new pages; and one band of all rows, in which no worker
-# waits for another at a band's end.
-SMALL = ["--cache-bytes", str(16 << 20), "--band", "1024"]
+# For one answer from the command line: no caches, as nothing is asked again, so that an image touches few new pages; and one band of all rows, so
+# that each block is made once. The build before keeps nothing, either.
+ALONE = ["--cache-bytes", "0", "--band", "1024"]
 
 # What the program is told beside its defaults where its memory is looked at, and what that means.
 MEMORY = {
@@ -228,8 +228,8 @@ def programs(args, job):
         "this program": [own(args, target, path, larger, [])],
         "one worker": [own(args, target, path, larger, ["--workers", "1"])],
         "four workers": [own(args, target, path, larger, ["--workers", "4"])],
-        "one worker, small": [own(args, target, path, larger, ["--workers", "1", *SMALL])],
-        "four workers, small": [own(args, target, path, larger, ["--workers", "4", *SMALL])],
+        "one worker, no caches": [own(args, target, path, larger, ["--workers", "1", *ALONE])],
+        "four workers, no caches": [own(args, target, path, larger, ["--workers", "4", *ALONE])],
         "--edge 1024": [own(args, target, path, larger, ["--edge", "1024"])],
         "the build before": [[args.before, "--base", "http://localhost/iiif", "--one", target, "a=" + path]],
         "plain Rust": [[args.plain, path, x, y, w, h, str(size), str(size), answer_path(args, job, "plain Rust")]],
@@ -425,14 +425,14 @@ def limits(args, jobs, medians):
         return f"{value:.2f}{' (!)' if over else ''}"
 
     print("\n**Beside the limits: wall clock**\n")
-    print("| Job | one worker beside the build before | the same, small | four workers | the same, small | two workers | two workers beside GDAL | the same, `--edge 1024` |")
+    print("| Job | one worker beside the build before | the same, no caches | four workers | the same, no caches | two workers | two workers beside GDAL | the same, `--edge 1024` |")
     print("|---|---|---|---|---|---|---|---|")
     for job in filter(is_overview, jobs):
         tiles = SOURCES[JOBS[job][1]].tile
-        cells = [ratio(job, "one worker", "the build before", 0, 1.15 if tiles else None),
-                 ratio(job, "one worker, small", "the build before", 0, None),
-                 ratio(job, "four workers", "the build before", 0, 0.6 if tiles else None),
-                 ratio(job, "four workers, small", "the build before", 0, None),
+        cells = [ratio(job, "one worker", "the build before", 0, None),
+                 ratio(job, "one worker, no caches", "the build before", 0, 1.15 if tiles else None),
+                 ratio(job, "four workers", "the build before", 0, None),
+                 ratio(job, "four workers, no caches", "the build before", 0, 0.6 if tiles else None),
                  ratio(job, "this program", "the build before", 0, None), ratio(job, "this program", "GDAL", 0, None if tiles else 1.0),
                  ratio(job, "--edge 1024", "GDAL", 0, 1.0)]
         print(f"| {JOBS[job][0]} | {' | '.join(cells)} |")
