@@ -47,6 +47,12 @@ use std::sync::Wait;
 use std::sync::ledger::{Blank, Ledger};
 use std::thread::Threads;
 
+/// How many jobs at a time make their blocks, among so many nodes: as many as each has workers. Of several nodes all do: there a job mostly
+/// waits for replies, and who waits for a slow node is not to hold the others.
+fn jobs_at_a_time(workers: u32, nodes: usize) -> u32 {
+    if nodes > 1 { u32::MAX } else { workers }
+}
+
 /// A server. Clauses see what it was told, and its images. J says what the names of the images stand for, and which ledgers count
 /// the calls; N is the way to other nodes, and T what each load passes.
 #[derive(Drop)]
@@ -101,17 +107,16 @@ impl<R, S: Source<R> + Drop, J: System, N, T> Node<R, S, J, N, T> {
         ensures items { IfOk result (λ n. n.items ≡ catalogue) }
     {
         let edge = config.edge();
+        let most = jobs_at_a_time(config.workers(), sums.links.len());
         let images = Images::new(alloc, catalogue, edge);
         let group = tiles.group(alloc)?;
         let tiles = Tiles::new(alloc, images, group);
         let group = sums.group(alloc)?;
         let groups = Groups::new(alloc, tiles, group);
-        // As many jobs at a time as each has workers.
-        let admission = Admission::new(config.workers());
         Ok(Node {
             config,
             groups,
-            admission,
+            admission: Admission::new(most),
         })
     }
 
