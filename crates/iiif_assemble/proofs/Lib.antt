@@ -1,5 +1,6 @@
 pub mod ZipLemmas
 pub mod SumLemmas
+pub mod LoneLemmas
 pub mod PasteLemmas
 pub mod CutLemmas
 pub mod ImageLemmas

@@ -8,12 +8,14 @@ use Rattle.std.proofs.lemmas.List.Sums.{fold-append}
 use Rattle.iiif_pixel.specs.Geometry.{HasPlace, LiesIn, sides_of}
 use Rattle.iiif_pixel.specs.Picture.{Picture, IsWhole, dim_of}
 use Rattle.iiif_pixel.specs.Operations.{crop}
-use Rattle.iiif_pixel.specs.Scaling.{whole_of}
+use Rattle.iiif_pixel.specs.Scaling.{scale, whole_of}
 use Rattle.iiif_pixel.specs.declared.geometry.Dim.{Dim}
 use Rattle.iiif_pixel.specs.declared.geometry.Rect.{Rect}
-use Rattle.iiif_area.specs.Grid.{Grid, grid_of, has_place, merged, sum_at, sums_at, sums_of}
+use Rattle.iiif_area.specs.Grid.{Grid, finished, grid_of, has_place, merged, sum_at, sums_at, sums_of}
 use Rattle.iiif_area.specs.Laws.{IsCutInto, PiecesMerge}
 use Rattle.iiif_area.specs.Places.{places_of, IsScalable}
+use Rattle.iiif_area.proofs.FinishLaws.{finished-scaled}
+use Rattle.iiif_area.proofs.WholeTile.{inside_itself}
 use Rattle.iiif_area.proofs.GridLaws.{grid_of-same, sum_at-grid_of, has_place-no}
 use Rattle.iiif_keys.specs.Blocks.{square, part_in, tile_of}
 use Rattle.iiif_keys.specs.declared.keys.TileKey.{TileKey}
@@ -27,7 +29,7 @@ use Rattle.iiif_keys.proofs.Derived.{picture_is}
 use Rattle.iiif_bands.specs.Bands.{block_places}
 use Rattle.iiif_bands.specs.Laws.{PlacesAreThose}
 use Rattle.iiif_assemble.specs.Gathering.{AreValues}
-use Rattle.iiif_assemble.specs.Code.{sums_in, tile_in, ListsMet}
+use Rattle.iiif_assemble.specs.Code.{sums_in, tile_in, total_of, ListsMet}
 
 -- sums at no place of a grid change nothing in it
 pub apart : (r : Rect) (n : ℕ) (f : ℕ → ℕ → ℕ → ℕ) (h : Grid) → ((i j : ℕ) → HasPlace r i j → ¬ (HasPlace h.rect i j)) → merged (grid_of r n f) h ≡ grid_of r n f
@@ -140,19 +142,14 @@ merged_more {A} f values i a start old new within is before made =
 pub merged_all : {A : Type 0} (f : A → Grid) (values : List A) (i : ℕ) (start new : Grid) → length values ≤ i → new ≡ fold merged start (map f (take i values)) → new ≡ fold merged start (map f values)
 merged_all {A} f values i start new end made = made ∙ ap (λ (xs : List A). fold merged start (map f xs)) (take_all i values end)
 
--- the total of a band
-pub total_is : {A : Type 0} (value : A → SumVal) (from : Rect) (n : ℕ) (q : Picture) (size : Dim) (xs ys : List A) (none new : Grid) → none ≡ grid_of from n (λ i j k. 0) → q.channels ≡ n → ys ≡ xs →
-    new ≡ fold merged none (map (λ v. sums_in (value v)) ys) → new.rect ≡ none.rect →
-    fold merged (grid_of from q.channels (λ i j k. 0)) (map sums_in (map value xs)) ≡ sums_at from q size (whole_of (dim_of q)) →
-    new ≡ sums_at new.rect q size (whole_of (dim_of q))
-total_is {A} value from n q size xs ys none new is_none channels same made places total =
-    let f : A → Grid = λ v. sums_in (value v) in
-    let rect : new.rect ≡ from = places ∙ ap (λ (g : Grid). g.rect) is_none in
-    made ∙ ap (λ (zs : List A). fold merged none (map f zs)) same
-    ∙ ap (λ (g : Grid). fold merged g (map f xs)) is_none
-    ∙ ap (λ (c : ℕ). fold merged (grid_of from c (λ i j k. 0)) (map f xs)) (sym channels)
-    ∙ ap (λ (gs : List Grid). fold merged (grid_of from q.channels (λ i j k. 0)) gs) (sym (map_twice sums_in value xs))
-    ∙ total ∙ ap (λ (r : Rect). sums_at r q size (whole_of (dim_of q))) (sym rect)
+-- the samples of a band
+pub total_finished : (from : Rect) (q : Picture) (size : Dim) (n top : ℕ) (values : List SumVal) → IsWhole q → LiesIn from size → q.channels ≡ n → q.top ≡ top →
+    total_of from q.channels values ≡ sums_at from q size (whole_of (dim_of q)) → finished (total_of from n values) (dim_of q) top from ≡ crop (scale q size) from
+total_finished from q size n top values whole lies channels depth total =
+    ap (λ (c : ℕ). finished (total_of from c values) (dim_of q) top from) (sym channels)
+    ∙ ap (λ (t : Grid). finished t (dim_of q) top from) total
+    ∙ ap (λ (t : ℕ). finished (sums_at from q size (whole_of (dim_of q))) (dim_of q) t from) (sym depth)
+    ∙ finished-scaled from from q size whole (inside_itself from from refl) lies
 
 -- what a tile's value has where it is meant
 pub tile_meant : (shows : Pictures) (name : List ℕ) (p : Picture) (image : Dim) (k : TileKey) (v : TileVal) → shows name ≡ Some p → dim_of p ≡ image → k.name ≡ name →

@@ -1,11 +1,11 @@
 -- Words of private functions.
-use Rattle.std.specs.Prelude.{◌≡◌, ℕ, ◌+◌, ◌*◌, ◌<◌, ◌≤◌, List, true, Bool, count_by, Some}
+use Rattle.std.specs.Prelude.{◌≡◌, ℕ, ◌*◌, ◌<◌, ◌≤◌, List, true, Bool, count_by, map, fold, Some}
 use Rattle.iiif_pixel.specs.Geometry.{channels_of, top_of, HasPlace}
 use Rattle.iiif_pixel.specs.Picture.{Picture, IsWhole, dim_of, sample_at}
 use Rattle.iiif_pixel.specs.Operations.{crop}
 use Rattle.iiif_pixel.specs.declared.geometry.Dim.{Dim}
 use Rattle.iiif_pixel.specs.declared.geometry.Rect.{Rect}
-use Rattle.iiif_area.specs.Grid.{Grid, has_place, sums_of}
+use Rattle.iiif_area.specs.Grid.{Grid, grid_of, has_place, merged, sums_of}
 use Rattle.iiif_area.specs.Places.{part_of, Meets}
 use Rattle.iiif_canonical.specs.declared.resolved.Resolved.{Resolved}
 use Rattle.iiif_keys.specs.Blocks.{tile_of, TileFitsIn}
@@ -84,3 +84,7 @@ pub record TileHasPart (s : Shape) (region : Rect) (k : TileKey) : Type 0 where
 -- what a tile of a picture adds to the sums of a region that is scaled to a size
 abbrev pub tile_adds : Picture → Dim → Rect → Dim → TileKey → Grid
 tile_adds p image region size k = sums_of (crop p region) size (part_of (tile_of image k) region)
+
+-- what the sums of values come to at the places of a rectangle
+abbrev pub total_of : Rect → ℕ → List SumVal → Grid
+total_of rect channels values = fold merged (grid_of rect channels (λ i j k. 0)) (map sums_in values)

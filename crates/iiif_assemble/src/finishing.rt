@@ -1,14 +1,14 @@
 //! Sums made into samples, place by place: few by the calling thread, many by as many threads as there are processors.
 
-ghost use Rattle.std.specs.Prelude.{◌≡◌, ◌*◌, ◌<◌, ◌≤◌, ◌^◌, IfOk};
+ghost use Rattle.std.specs.Prelude.{◌≡◌, ◌*◌, ◌<◌, ◌≤◌, ◌^◌, ◌↔◌, IsTrue, IfOk};
 ghost use Rattle.std.specs.List.{AllZip};
 ghost use Rattle.iiif_pixel.specs.Depths.{values_of, depth_of};
-ghost use Rattle.iiif_pixel.specs.Geometry.{top_of};
+ghost use Rattle.iiif_pixel.specs.Geometry.{channels_of, top_of};
 ghost use Rattle.iiif_area.specs.Grid.{average_within, finished};
 ghost use Rattle.iiif_assemble.specs.Code.{count_of};
 
 use iiif_area::{Averager, Sums};
-use iiif_pixel::{Depth, Dim, NoMemory, Raster, Samples, Span};
+use iiif_pixel::{Depth, Dim, Kind, NoMemory, Raster, Samples, Span};
 use rayon::prelude::*;
 use std::alloc::Global;
 use std::thread::Threads;
@@ -94,6 +94,16 @@ pub(crate) fn count_of(raster: &Raster) -> u64
     match raster.samples() {
         Span::Eight(samples) => samples.len() as u64,
         Span::Sixteen(samples) => samples.len() as u64,
+    }
+}
+
+/// Whether the calling thread rounds the sums of so many places alone.
+pub(crate) fn are_few(kind: Kind, dim: Dim) -> bool
+    ensures { IsTrue result ↔ dim.w * dim.h * channels_of kind ≤ 1048576 }
+{
+    match kind.count(dim) {
+        Some(count) => count <= FEW,
+        None => false,
     }
 }
 
