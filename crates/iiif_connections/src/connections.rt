@@ -1,16 +1,17 @@
 //! The two ends of a connection.
 
 use crate::times::Times;
-use iiif_listener::{Pace, PacedReader, PacedWriter};
+use iiif_listener::{Company, Pace, PacedReader, PacedWriter};
 use std::io;
 use std::net::TcpStream;
 use std::time::{Clock, Duration};
 
-/// What a connection sends and what it is sent, with their limits of time.
+/// What a connection sends and what it is sent, with their limits of time, among those that are open.
 pub(crate) fn ends<'a, R: Clock>(
     rt: &'a R,
     times: &Times,
     pace: &'a Pace,
+    company: &'a Company,
     stream: TcpStream,
 ) -> io::Result<(PacedReader<'a, R>, PacedWriter<'a, R>)> {
     stream.set_nodelay(true)?;
@@ -22,6 +23,7 @@ pub(crate) fn ends<'a, R: Clock>(
         rt,
         pace,
         idle,
+        company,
     };
     let out = PacedWriter {
         stream: copy,

@@ -4,7 +4,7 @@ use crate::connections::ends;
 use crate::times::Times;
 use iiif_group::{Gate, Link};
 use iiif_keys::{SumKey, System, TileKey};
-use iiif_listener::{Pace, PacedWriter, close};
+use iiif_listener::{Company, Pace, PacedWriter, close};
 use iiif_metrics::Tally;
 use iiif_open_files::Opens;
 use iiif_server::Node;
@@ -30,6 +30,8 @@ where
     pub times: Times,
     /// Where the connections are counted.
     pub tally: &'a Tally,
+    /// The connections that are open, of viewers too.
+    pub company: &'a Company,
 }
 
 impl<
@@ -43,9 +45,11 @@ impl<
     /// counted.
     pub fn serve(&self, rt: &R, alloc: Global, stream: TcpStream) {
         self.tally.opened(rt);
+        self.company.enter();
         if !self.answer(rt, alloc, stream) {
             self.tally.refused(rt);
         }
+        self.company.leave();
         self.tally.closed(rt);
     }
 
@@ -54,7 +58,7 @@ impl<
         let Ok(pace) = Pace::new(rt, Duration::from_millis(self.times.whole)) else {
             return false;
         };
-        let Ok((mut reader, mut out)) = ends(rt, &self.times, &pace, stream) else {
+        let Ok((mut reader, mut out)) = ends(rt, &self.times, &pace, self.company, stream) else {
             return false;
         };
         let Some(mut passes) = self.node.pass(rt) else {

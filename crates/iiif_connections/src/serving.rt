@@ -8,6 +8,7 @@ use crate::watcher::Watcher;
 use iiif_group::{Gate, Link};
 use iiif_io::Outlet;
 use iiif_keys::{SumKey, System, TileKey};
+use iiif_listener::Company;
 use iiif_open_files::Opens;
 use iiif_server::Node;
 use iiif_services::{Addresses, Listeners, logged, serve_all};
@@ -40,13 +41,20 @@ where
     E: Outlet + Send,
 {
     let tally = &watcher.tally;
+    let company = Company::new();
     let viewers = Viewers {
         node,
         workers,
         times,
         watcher,
+        company: &company,
     };
-    let peers = PeerCalls { node, times, tally };
+    let peers = PeerCalls {
+        node,
+        times,
+        tally,
+        company: &company,
+    };
     let statistics = Statistics { node, times, tally };
     let serve_viewer = |stream: TcpStream| viewers.serve(rt, alloc, stream);
     let serve_peer = |stream: TcpStream| peers.serve(rt, alloc, stream);

@@ -6,7 +6,7 @@ use crate::connections::ends;
 use crate::times::Times;
 use iiif_group::Kept;
 use iiif_keys::System;
-use iiif_listener::{Pace, PacedWriter, close};
+use iiif_listener::{Company, Pace, PacedWriter, close};
 use iiif_metrics::{CacheMetrics, Measure, Metrics, Tally, serve_metrics};
 use iiif_open_files::Opens;
 use iiif_server::Node;
@@ -65,7 +65,9 @@ impl<'a, R: Opens + Wait + Clock, J: System, N, T> Statistics<'a, R, J, N, T> {
         let Ok(pace) = Pace::new(rt, Duration::from_millis(self.times.whole)) else {
             return;
         };
-        let Ok((reader, mut out)) = ends(rt, &self.times, &pace, stream) else {
+        // Nobody is counted in it, so the call is waited for at once.
+        let company = Company::new();
+        let Ok((reader, mut out)) = ends(rt, &self.times, &pace, &company, stream) else {
             return;
         };
         // Where memory is wanting, it is closed unanswered.

@@ -6,7 +6,7 @@ use crate::times::Times;
 use crate::watcher::Watcher;
 use iiif_group::{Gate, Link};
 use iiif_keys::{SumKey, System, TileKey};
-use iiif_listener::{Pace, PacedWriter, close};
+use iiif_listener::{Company, Pace, PacedWriter, close};
 use iiif_open_files::Opens;
 use iiif_server::Node;
 use iiif_source::Source;
@@ -34,6 +34,8 @@ where
     pub times: Times,
     /// Who is told of the connections and their answers.
     pub watcher: &'a Watcher,
+    /// The connections that are open, of other nodes too.
+    pub company: &'a Company,
 }
 
 impl<
@@ -48,9 +50,11 @@ impl<
     pub fn serve(&self, rt: &R, alloc: Global, stream: TcpStream) {
         let tally = &self.watcher.tally;
         tally.opened(rt);
+        self.company.enter();
         if !self.answer(rt, alloc, stream) {
             tally.refused(rt);
         }
+        self.company.leave();
         tally.closed(rt);
     }
 
@@ -59,7 +63,7 @@ impl<
         let Ok(pace) = Pace::new(rt, Duration::from_millis(self.times.whole)) else {
             return false;
         };
-        let Ok((reader, mut out)) = ends(rt, &self.times, &pace, stream) else {
+        let Ok((reader, mut out)) = ends(rt, &self.times, &pace, self.company, stream) else {
             return false;
         };
         let Some(mut passes) = passes_of(rt, alloc, self.node, self.workers) else {

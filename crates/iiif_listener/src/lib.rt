@@ -2,12 +2,14 @@
 #![tactic(auto)]
 
 pub use closing::close;
+pub use company::Company;
 pub use listen::{Serve, serve_both, serve_each, serve_listener, serve_listeners, stop};
 pub use pace::{Pace, PacedReader, PacedWriter};
 pub use places::{Place, Places, Taken};
 pub use retry::{Retry, after_failure};
 
 pub mod closing;
+pub mod company;
 pub mod listen;
 pub mod pace;
 pub mod places;

@@ -1,17 +1,30 @@
 //! Limits of time for what a connection sends: a reader and a writer of one stream share when something was last written there.
 
+ghost use Rattle.std.specs.Prelude.{◌≤◌, IfOk, IfSome, length};
+
+use crate::company::Company;
 use iiif_io::{Inlet, Outlet};
 use std::io;
 use std::io::{ErrorKind, Read, Write};
 use std::net::TcpStream;
-use std::sync::atomic::{AtomicU64, Ordering};
+use std::sync::atomic::{AtomicBool, AtomicU64, Ordering};
+use std::thread::yield_now;
 use std::time::{Clock, Duration, Instant};
 
-/// When a connection began, how many milliseconds later something was last written there, and how long a head may take as a whole.
+/// How long a connection that is alone is looked at for the next head before this is waited for, in microseconds: about what a viewer
+/// needs to take an answer of 64 KiB and to ask again. A thread that waits is woken no sooner than some 10 after its bytes came.
+const MOMENT: u64 = 100;
+
+/// How often it is looked at in that time, at most.
+const LOOKS: u32 = 1000;
+
+/// When a connection began, how many milliseconds later something was last written there, whether that was since it was last looked at,
+/// and how long a head may take as a whole.
 #[derive(Drop)]
 pub struct Pace {
     start: Instant,
     written: AtomicU64,
+    answered: AtomicBool,
     limit: Duration,
 }
 
@@ -21,6 +34,7 @@ impl Pace {
         Ok(Pace {
             start: Instant::now(rt)?,
             written: AtomicU64::new(0),
+            answered: AtomicBool::new(false),
             limit,
         })
     }
@@ -33,6 +47,7 @@ impl Pace {
 
     /// Begins the time for a head anew.
     fn begin<R: Clock>(&self, rt: &R) -> io::Result<()> {
+        self.answered.store(true, Ordering::SeqCst);
         self.written.store(self.now(rt)?, Ordering::SeqCst);
         Ok(())
     }
@@ -58,11 +73,49 @@ pub struct PacedReader<'a, R: Clock> {
     pub pace: &'a Pace,
     /// How long nothing may come.
     pub idle: Duration,
+    /// The connections that are open: where this one is alone, the next head is looked for a moment before it is waited for.
+    pub company: &'a Company,
+}
+
+/// Reads what came, without waiting. None where nothing did in a moment.
+fn glance<R: Clock>(rt: &R, stream: &mut TcpStream, buffer: &mut [u8]) -> io::Result<Option<usize>>
+    ensures { IfOk result (λ found. IfSome found (λ n. n ≤ length buffer.new)) }
+{
+    let begun = Instant::now(rt)?;
+    for _ in 0..LOOKS {
+        match stream.read(buffer) {
+            Ok(count) => return Ok(Some(count)),
+            Err(error) => match error.kind() {
+                ErrorKind::WouldBlock | ErrorKind::Interrupted => yield_now(),
+                _ => return Err(error),
+            },
+        }
+        if begun.elapsed(rt)? >= Duration::from_micros(MOMENT) {
+            break;
+        }
+    }
+    Ok(None)
+}
+
+/// The same of a stream whose reads wait, which do so again then.
+fn look<R: Clock>(rt: &R, stream: &mut TcpStream, buffer: &mut [u8]) -> io::Result<Option<usize>>
+    ensures { IfOk result (λ found. IfSome found (λ n. n ≤ length buffer.new)) }
+{
+    stream.set_nonblocking(true)?;
+    let found = glance(rt, stream, buffer);
+    stream.set_nonblocking(false)?;
+    found
 }
 
 impl<'a, R: Clock> Read for PacedReader<'a, R> {
     fn read(&mut self, buffer: &mut [u8]) -> io::Result<usize> {
         let left = self.pace.left(self.rt)?;
+        // Once for each answer, so that one who drips costs no more than before.
+        if self.pace.answered.swap(false, Ordering::SeqCst) && self.company.is_alone() {
+            if let Some(count) = look(self.rt, &mut self.stream, buffer)? {
+                return Ok(count);
+            }
+        }
         self.stream.set_read_timeout(Some(left.min(self.idle)))?;
         self.stream.pull(buffer)
     }

@@ -2,7 +2,7 @@
 
 use crate::echo::connected;
 use iiif_io::Inlet;
-use iiif_listener::{Pace, PacedReader, PacedWriter, close};
+use iiif_listener::{Company, Pace, PacedReader, PacedWriter, close};
 use std::io::{Read, Write};
 use std::net::{Net, TcpListener, TcpStream};
 use std::sync::Wait;
@@ -11,8 +11,18 @@ use std::thread;
 use std::thread::Threads;
 use std::time::{Clock, Duration};
 
-/// How many single bytes are read before the time is over, each answered where `answers` is set.
-fn read_drops<R: Clock>(rt: &R, stream: TcpStream, answers: bool) -> Option<u32> {
+/// So many connections.
+fn company_of(count: u32) -> Company {
+    let company = Company::new();
+    for _ in 0..count {
+        company.enter();
+    }
+    company
+}
+
+/// How many single bytes are read before the time is over, each answered where `answers` is set, of one of so many connections.
+fn read_drops<R: Clock>(rt: &R, stream: TcpStream, answers: bool, open: u32) -> Option<u32> {
+    let company = company_of(open);
     let pace = Pace::new(rt, Duration::from_millis(500)).ok()?;
     let mut out = PacedWriter {
         stream: stream.try_clone().ok()?,
@@ -24,6 +34,7 @@ fn read_drops<R: Clock>(rt: &R, stream: TcpStream, answers: bool) -> Option<u32>
         rt,
         pace: &pace,
         idle: Duration::from_millis(400),
+        company: &company,
     };
     Some(count_drops(&mut reader, &mut out, answers))
 }
@@ -59,29 +70,32 @@ fn drops_of<R: Net<Listener = TcpListener, Stream = TcpStream> + Threads + Wait 
     rt: &R,
     pause: u64,
     answers: bool,
+    open: u32,
 ) -> Result<u32, Fail> {
     let (mut viewer, stream) = connected(rt)?;
     let (drops, ()) = thread::join(
         rt,
-        || read_drops(rt, stream, answers),
+        || read_drops(rt, stream, answers, open),
         || drip(rt, &mut viewer, pause),
     );
     Ok(drops.ok_or("no clock")?)
 }
 
-/// The pause between bytes, whether each is answered, and at least and at most how many are read.
-const VIEWERS: [(u64, bool, u32, u32); 3] = [
-    (100, false, 1, 8),
-    (100, true, 20, 20),
-    (900, true, 1, 1),
+/// The pause between bytes, whether each is answered, how many connections are open, and at least and at most how many bytes are read.
+const VIEWERS: [(u64, bool, u32, u32, u32); 5] = [
+    (100, false, 1, 1, 8),
+    (100, true, 1, 20, 20),
+    (900, true, 1, 1, 1),
+    (0, true, 1, 20, 20),
+    (900, true, 2, 1, 1),
 ];
 
 #[test]
 fn dripping_and_silent_viewers_are_left_and_an_asking_one_is_not(
     rt: HostRuntime,
 ) -> Result<(), Fail> {
-    for (pause, answers, least, most) in VIEWERS {
-        let drops = drops_of(&rt, pause, answers)?;
+    for (pause, answers, open, least, most) in VIEWERS {
+        let drops = drops_of(&rt, pause, answers, open)?;
         assert!(rt; least <= drops && drops <= most, "{drops} at {pause}");
     }
     Ok(())
@@ -110,6 +124,14 @@ fn ask_much(viewer: &mut TcpStream) -> Option<(usize, [u8; 8])> {
         }
     }
     None
+}
+
+#[test]
+fn a_connection_is_alone_where_no_other_is_open(rt: HostRuntime) {
+    let company = company_of(1);
+    assert!(rt; company.is_alone() && !company_of(0).is_alone() && !company_of(2).is_alone());
+    company.leave();
+    assert!(rt; !company.is_alone());
 }
 
 #[test]
