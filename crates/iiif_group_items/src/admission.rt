@@ -1,7 +1,11 @@
 //! How many images are made ready at a time.
 
 use iiif_group::Lists;
-use std::sync::{Mutex, Wait};
+use std::sync::{CondvarTimeouts, Mutex, Wait};
+use std::time::{Clock, Duration};
+
+/// How long a job waits at most, in milliseconds. Then it goes on beside those that were admitted, as reads of theirs may have stalled.
+const PATIENCE: u64 = 500;
 
 /// How many jobs came, and how many of these may have begun.
 #[derive(Drop)]
@@ -30,18 +34,19 @@ impl Admission {
         }
     }
 
-    /// Waits until a job may begin. Its number, which no other has.
-    pub(crate) fn enter<R: Wait>(&self, rt: &R) -> u64 {
+    /// Waits until a job may begin, or for half a second. Its number, which no other has.
+    pub fn enter<R: Wait + Clock>(&self, rt: &R) -> u64 {
         let mut order = self.order.lock(rt);
         let number = order.came;
         order.came = number.saturating_add(1);
         let begun = self.waiting.of(number);
-        drop(begun.wait_while(rt, order, |order| order.admitted <= number));
+        let patience = Duration::from_millis(PATIENCE);
+        drop(begun.wait_timeout_while(rt, order, patience, |order| order.admitted <= number));
         number
     }
 
-    /// A job is done, and the next one may begin.
-    pub(crate) fn leave<R: Wait>(&self, rt: &R) {
+    /// A job is done that was admitted, or went on unadmitted. One more may begin.
+    pub fn leave<R: Wait>(&self, rt: &R) {
         let mut order = self.order.lock(rt);
         let next = order.admitted;
         order.admitted = next.saturating_add(1);

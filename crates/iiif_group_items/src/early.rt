@@ -15,6 +15,7 @@ use iiif_sum_group::Passes;
 use std::alloc::Global;
 use std::sync::Wait;
 use std::thread::{Threads, join};
+use std::time::Clock;
 
 /// How many blocks or parts each worker is to have, where there are so many.
 const FOR_EACH: usize = 8;
@@ -205,7 +206,7 @@ impl<
 
 impl<
     'a,
-    R: Threads + Wait + Sync,
+    R: Threads + Wait + Clock + Sync,
     S: Source<R> + Drop + Sync,
     J: System + Send + Sync,
     N: Link<TileKey, J, R> + Link<SumKey, J, R> + Sync,

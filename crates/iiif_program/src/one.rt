@@ -11,6 +11,7 @@ use iiif_start::{Stop, Stored};
 use std::alloc::Global;
 use std::sync::Wait;
 use std::thread::Threads;
+use std::time::Clock;
 
 /// Why an answer that was cut off ends the program.
 fn stop_by<'a>(cause: Cause) -> Stop<'a> {
@@ -31,7 +32,7 @@ pub(crate) fn answer_one<'a, R, O, J, N, T>(
     out: &mut O,
 ) -> Result<(), Stop<'a>>
 where
-    R: Opens + Threads + Wait + Sync,
+    R: Opens + Threads + Wait + Clock + Sync,
     O: Outlet,
     J: System + Send + Sync,
     N: Link<TileKey, J, R> + Link<SumKey, J, R> + Sync,
@@ -58,7 +59,7 @@ pub(crate) fn answer_in_hex<'a, R, O, J, N, T>(
     out: &mut O,
 ) -> Result<(), Stop<'a>>
 where
-    R: Opens + Threads + Wait + Sync,
+    R: Opens + Threads + Wait + Clock + Sync,
     O: Outlet,
     J: System + Send + Sync,
     N: Link<TileKey, J, R> + Link<SumKey, J, R> + Sync,

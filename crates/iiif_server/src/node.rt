@@ -46,6 +46,7 @@ use std::marker::Model;
 use std::sync::Wait;
 use std::sync::ledger::{Blank, Ledger};
 use std::thread::Threads;
+use std::time::Clock;
 
 /// How many jobs at a time make their blocks, among so many nodes: as many as each has workers. Of several nodes all do: there a job mostly
 /// waits for replies, and who waits for a slow node is not to hold the others.
@@ -196,7 +197,7 @@ impl<R: Wait, S: Source<R> + Drop, J: System, N, T> Node<R, S, J, N, T> {
 }
 
 impl<
-    R: Threads + Wait + Sync,
+    R: Threads + Wait + Clock + Sync,
     S: Source<R> + Drop + Sync,
     J: System + Send + Sync,
     N: Link<TileKey, J, R> + Link<SumKey, J, R> + Sync,

@@ -23,6 +23,7 @@ use iiif_sum_group::Passes;
 use std::alloc::{AllocError, Global};
 use std::sync::Wait;
 use std::thread::Threads;
+use std::time::Clock;
 
 /// The most calls of one connection.
 pub const CALL_LIMIT: u32 = 1000;
@@ -59,7 +60,7 @@ fn closing_call(call: Call, n: u32) -> Call
 }
 
 impl<
-    R: Threads + Wait + Sync,
+    R: Threads + Wait + Clock + Sync,
     S: Source<R> + Drop + Sync,
     J: System + Send + Sync,
     N: Link<TileKey, J, R> + Link<SumKey, J, R> + Sync,

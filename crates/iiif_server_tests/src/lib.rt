@@ -1,8 +1,11 @@
 //! Tests of `iiif_server`, which call only what is public: answers of a node, calls and connections; images made of tiles and blocks
 //! beside those of whole regions, and results above their regions; whole answers beside a plain evaluation of the definitions on whole
-//! pictures, whatever the bands, the workers and the caches; workers that load at the same time; and bands that fail.
+//! pictures, whatever the bands, the workers and the caches; workers that load at the same time; and bands that fail;
+//! jobs that wait for others.
 #![tactic(auto)]
 
+#[cfg(test)]
+mod admission_tests;
 #[cfg(test)]
 mod answer_tests;
 #[cfg(test)]
