@@ -11,11 +11,12 @@ which it has each scale that the viewers ask for made before. This program answe
 uncompressed TIFF scaled in libvips' way, and IIPImage JPEG, as it knows nothing else.
 
 The jobs, each on servers that are started anew for it, so that their caches are empty and the files are in the page cache:
-  native tiles   whole tiles of 256, all different, asked by 1, 8 or 64 viewers
+  native tiles   whole tiles of 256, all different, asked by 1, 8 or 64 viewers, and by one who looks for each answer in place of sleeping until
+                 it comes, whichever the server: no thread of the viewer's has to be woken then
   zoom path      200 requests of one viewer of demo/index.html who opens the picture, zooms in and moves, as bench/scale records it
   crowd          8 viewers, 100 different requests of such paths, each asked by two viewers at the same time
   viewers        1, 8 and 64 viewers, each somewhere else on such paths
-With --floor a server that reads and writes the bytes of native tiles, and does nothing else, runs too: no server takes less.
+With --floor a server that reads and writes the bytes of native tiles, and does nothing else, runs too: none whose threads sleep takes less.
 All servers run in turn, --rounds times (the plain one once, as it takes minutes), and medians are printed: wall time, processor time of all processes of a server, requests a second,
 and the 50th and the 99th percentile of the time from a request's first byte to its answer's last. With --nodes, the crowd's viewers go to
 so many nodes that ask each other, one after another.
@@ -49,6 +50,8 @@ SOURCE, EDGE, LIMIT = compare.SOURCES[0], 256, 4096
 OWN, BEFORE, PLAIN, FLOOR = "this program", "the build before", "libvips in C", "reads and writes alone"
 # The jobs that the server does which reads and writes alone.
 WITH_FLOOR = "native"
+# The jobs of a viewer who looks for its answers.
+LOOKS = "who looks"
 # Of IIPImage's time over the same file: the greatest part that this program is to take, and of the 99th percentile at 64 viewers, in 50th ones.
 LIMITS = {"native tiles, 1 viewer": 0.12, "zoom path": 0.2, "crowd": 0.3}
 SPREAD = ("viewers, 64", 10)
@@ -113,6 +116,7 @@ def spread(viewers, count):
 
 JOBS = {
     "native tiles, 1 viewer": lambda: native(1, 1400),
+    "native tiles, 1 viewer who looks": lambda: native(1, 1400),
     "native tiles, 8 viewers": lambda: native(8, 180),
     "native tiles, 64 viewers": lambda: native(64, 22),
     "zoom path": lambda: [path(1, 200)],
@@ -171,8 +175,8 @@ class Bench:
         lists, times = os.path.join(self.room, "lists"), os.path.join(self.room, "times")
         with open(lists, "w") as file:
             file.write(self.lists(server, job))
-        used = server.used()
-        done = subprocess.run([self.args.load, lists, times, *([kept] if kept else [])], capture_output=True, text=True)
+        used, env = server.used(), {**os.environ, "LOOKS": "1"} if job.endswith(LOOKS) else None
+        done = subprocess.run([self.args.load, lists, times, *([kept] if kept else [])], capture_output=True, text=True, env=env)
         used = server.used() - used
         if done.returncode:
             raise servers.Failed(server.column, done.returncode, f"{job}: {done.stderr.strip()}")

@@ -4,7 +4,8 @@
 //!     /tmp/load LISTS TIMES [KEPT]
 //!
 //! LISTS has a line `ADDRESS TARGET` for each request, and an empty line between two viewers. All viewers connect first and begin at once. A
-//! viewer whose connection is closed before an answer's first byte connects anew and asks again; the time goes on. TIMES gets a line for
+//! viewer whose connection is closed before an answer's first byte connects anew and asks again; the time goes on. With LOOKS in the environment each viewer looks for
+//! its answer for up to 5 ms before it sleeps until it comes: then how long this machine takes to wake a thread is no part of the times. TIMES gets a line for
 //! each request: viewer, begin and length in microseconds, status, bytes of the body, connections that were closed unanswered, a check sum
 //! of the body, the target. With KEPT the first answer to each distinct target is kept as a file in that folder, head and body, by the
 //! target's number in the order of LISTS; such a run is for checking, not for times. The status is 1 where an answer isn't whole, or
@@ -15,7 +16,7 @@ use std::io::{Error, ErrorKind, Read, Result, Write};
 use std::net::TcpStream;
 use std::sync::{Barrier, Mutex};
 use std::time::{Duration, Instant};
-use std::{env, fs, process, thread};
+use std::{env, fs, hint, process, thread};
 
 /// How often a request is asked again whose connection was closed unanswered, and how long a read may wait.
 const TRIES: u32 = 2000;
@@ -45,9 +46,13 @@ struct Outcome {
     sum: u64,
 }
 
-/// A connection and what was read of it and isn't used yet, from `at` to `end` of `held`.
+/// How long a viewer who looks for what comes does so before it sleeps.
+const MOMENT: Duration = Duration::from_millis(5);
+
+/// A connection and what was read of it and isn't used yet, from `at` to `end` of `held`. Where it `looks`, its reads don't wait.
 struct Link {
     stream: TcpStream,
+    looks: bool,
     held: Vec<u8>,
     at: usize,
     end: usize,
@@ -58,11 +63,30 @@ fn early() -> Error {
 }
 
 impl Link {
-    fn connect(address: &str) -> Result<Link> {
+    fn connect(address: &str, looks: bool) -> Result<Link> {
         let stream = TcpStream::connect(address)?;
         stream.set_nodelay(true)?;
         stream.set_read_timeout(Some(PATIENCE))?;
-        Ok(Link { stream, held: vec![0; 1 << 14], at: 0, end: 0 })
+        stream.set_nonblocking(looks)?;
+        Ok(Link { stream, looks, held: vec![0; 1 << 14], at: 0, end: 0 })
+    }
+
+    /// Reads what comes: it is looked for a moment, and then waited for.
+    fn read(mut stream: &TcpStream, looks: bool, into: &mut [u8]) -> Result<usize> {
+        if !looks {
+            return stream.read(into);
+        }
+        let begun = Instant::now();
+        while begun.elapsed() < MOMENT {
+            match stream.read(into) {
+                Err(error) if error.kind() == ErrorKind::WouldBlock => hint::spin_loop(),
+                other => return other,
+            }
+        }
+        stream.set_nonblocking(false)?;
+        let got = stream.read(into);
+        stream.set_nonblocking(true)?;
+        got
     }
 
     /// Reads more; false at the end of the connection.
@@ -72,7 +96,7 @@ impl Link {
         if self.end == self.held.len() {
             self.held.resize(2 * self.end, 0);
         }
-        let got = self.stream.read(&mut self.held[self.end..])?;
+        let got = Link::read(&self.stream, self.looks, &mut self.held[self.end..])?;
         self.end += got;
         Ok(got > 0)
     }
@@ -93,14 +117,16 @@ impl Link {
     }
 
     /// Reads so many bytes: those that are held, and the others straight to their place.
-    fn take(&mut self, count: usize, into: &mut Vec<u8>) -> Result<()> {
-        into.reserve(count);
+    fn take(&mut self, count: usize, into: &mut [u8]) -> Result<()> {
         let held = count.min(self.end - self.at);
-        into.extend_from_slice(&self.held[self.at..self.at + held]);
+        into[..held].copy_from_slice(&self.held[self.at..self.at + held]);
         self.at += held;
-        let left = count - held;
-        if (&self.stream).take(left as u64).read_to_end(into)? < left {
-            return Err(early());
+        let mut left = &mut into[held..];
+        while !left.is_empty() {
+            match Link::read(&self.stream, self.looks, left)? {
+                0 => return Err(early()),
+                got => left = &mut left[got..],
+            }
         }
         Ok(())
     }
@@ -109,7 +135,6 @@ impl Link {
     /// byte.
     fn ask(&mut self, request: &Request, sent: &mut Vec<u8>, body: &mut Vec<u8>) -> Result<Option<Answer>> {
         sent.clear();
-        body.clear();
         write!(sent, "GET {} HTTP/1.1\r\nHost: {}\r\n\r\n", request.target, request.address)?;
         let is_open = self.stream.write_all(sent).is_ok() && match self.more() {
             Ok(more) => more,
@@ -128,13 +153,17 @@ impl Link {
     /// The body that a head announces: of so many bytes, or in chunks.
     fn body(&mut self, head: &str, body: &mut Vec<u8>) -> Result<()> {
         if let Some(length) = field(head, "content-length").and_then(|value| value.parse().ok()) {
+            body.resize(length, 0);
             return self.take(length, body);
         }
+        body.clear();
         loop {
             let line = self.until(b"\r\n")?;
             let digits = String::from_utf8_lossy(&line);
             let size = usize::from_str_radix(digits.trim(), 16).map_err(|_| Error::new(ErrorKind::InvalidData, "no length"))?;
-            self.take(size, body)?;
+            let front = body.len();
+            body.resize(front + size, 0);
+            self.take(size, &mut body[front..])?;
             self.until(b"\r\n")?;
             if size == 0 {
                 return Ok(());
@@ -161,8 +190,8 @@ fn check_sum(bytes: &[u8]) -> u64 {
 }
 
 /// Asks for a list, one request after another; the answers that are kept go to `kept`.
-fn viewer(list: &[Request], start: &Barrier, began: &Mutex<Option<Instant>>, kept: Option<&Mutex<Kept>>) -> Result<Vec<Outcome>> {
-    let connected = list.first().map(|request| Link::connect(request.address)).transpose();
+fn viewer(list: &[Request], looks: bool, start: &Barrier, began: &Mutex<Option<Instant>>, kept: Option<&Mutex<Kept>>) -> Result<Vec<Outcome>> {
+    let connected = list.first().map(|request| Link::connect(request.address, looks)).transpose();
     let mut outcomes = Vec::with_capacity(list.len());
     let (mut sent, mut body) = (Vec::new(), Vec::new());
     start.wait();
@@ -174,7 +203,7 @@ fn viewer(list: &[Request], start: &Barrier, began: &Mutex<Option<Instant>>, kep
         let answer = loop {
             let mut open = match link.take() {
                 Some(open) if n == 0 || list[n - 1].address == request.address => open,
-                _ => Link::connect(request.address)?,
+                _ => Link::connect(request.address, looks)?,
             };
             if let Some(answer) = open.ask(request, &mut sent, &mut body)? {
                 link = answer.stays.then_some(open);
@@ -238,8 +267,9 @@ fn main() -> Result<()> {
     }).collect();
     let (start, began) = (Barrier::new(lists.len()), Mutex::new(None));
     let kept = folder.first().map(|_| Mutex::new(HashMap::new()));
+    let looks = env::var_os("LOOKS").is_some();
     let all = thread::scope(|scope| {
-        let viewers: Vec<_> = lists.iter().map(|list| scope.spawn(|| viewer(list, &start, &began, kept.as_ref()))).collect();
+        let viewers: Vec<_> = lists.iter().map(|list| scope.spawn(|| viewer(list, looks, &start, &began, kept.as_ref()))).collect();
         viewers.into_iter().map(|it| it.join().unwrap_or_else(|_| Err(early()))).collect::<Result<Vec<_>>>()
     })?;
     let is_equal = report(&lists, &all, times)?;
