@@ -1,7 +1,7 @@
 -- Averages by the reciprocal of the area, counted in parts of `one`.
-use Rattle.std.proofs.Common.{◌≡◌, ℕ, ◌+◌, ◌-◌, ◌*◌, ◌/◌, ◌<◌, ◌≤◌, min, sym, ap, ◌∙◌, arith, ⊎_elim}
-use Rattle.std.proofs.Math.Nat.{div-div-eq-div-mul, div-mul-le_self, lt-div-mul-add, lt_of_mul-lt-mul_left, le_of_mul-le-mul_left, mul-le-mul_left}
-use Rattle.std.proofs.lemmas.Nat.{div_below, le-div}
+use Rattle.std.proofs.Common.{◌≡◌, ℕ, ◌+◌, ◌-◌, ◌*◌, ◌/◌, ◌%◌, ◌^◌, ◌<◌, ◌≤◌, min, sym, ap, ◌∙◌, arith, ⊎_elim}
+use Rattle.std.proofs.Math.Nat.{add-mul-div_right, div-div-eq-div-mul, div-mul-le_self, lt-div-mul-add, lt_of_mul-lt-mul_left, le_of_mul-le-mul_left, mul-le-mul_left}
+use Rattle.std.proofs.lemmas.Nat.{div_below, le-div, one_shl, pow-add}
 use Rattle.std.proofs.lemmas.Bool.{cases_lt}
 use Rattle.iiif_area.specs.Grid.{average_within}
 
@@ -71,3 +71,23 @@ average_is s area top word sum most parts q some fits sum_is most_is parts_are i
     let above : (most + 1) * area ≡ (top + 1) * area = ap (λ u. (u + 1) * area) most_is in
     let same : parts ≡ min (s + area / 2) ((top + 1) * area - 1) = omega arith in
     is ∙ ap (λ u. u / area) same ∙ capped (s + area / 2) area top some ∙ ap (λ u. min top u) (sym (half_up s area))
+
+-- twice a power of two that has a bit in a word
+pub doubled_shift : (area bits : ℕ) → bits < 64 → 0 < area → area ≡ 2 * 2 ^ bits % 2 ^ 64 → area ≡ 2 * 2 ^ bits
+doubled_shift area bits below some is =
+    ⊎_elim
+    (λ (h : bits < 63). let e = one_shl (bits + 1) 64 (omega arith) in let d = pow-add 2 bits 1 in omega arith)
+    (λ (h : 63 ≤ bits). let same : bits ≡ 63 = omega arith in absurd (omega (arith, ap (λ u. 2 * 2 ^ u % 2 ^ 64) same)))
+    (cases_lt bits 63)
+
+-- the average by halves of the area, the odd half up
+pub average_by_halves : (s half top : ℕ) → 0 < half → min (s / half / 2 + s / half % 2) top ≡ average_within (2 * half) top s
+average_by_halves s half top some =
+    let next : (s + half) / half ≡ s / half + 1 = ap (λ u. (s + u) / half) (omega arith) ∙ add-mul-div_right s 1 some in
+    let whole : s + 2 * half / 2 ≡ s + half = omega arith in
+    let twice : 2 * half ≡ half * 2 = omega arith in
+    let parts = ap (λ u. (s + half) / u) twice ∙ sym (div-div-eq-div-mul (s + half) half 2) ∙ ap (λ u. u / 2) next in
+    let same : (2 * s + 2 * half) / (2 * (2 * half)) ≡ (s / half + 1) / 2 = half_up s (2 * half) ∙ ap (λ u. u / (2 * half)) whole ∙ parts in
+    let up : s / half / 2 + s / half % 2 ≡ (s / half + 1) / 2 = omega arith in
+    let least : min (s / half / 2 + s / half % 2) top ≡ min top ((s / half + 1) / 2) = omega arith in
+    least ∙ ap (λ u. min top u) (sym same)

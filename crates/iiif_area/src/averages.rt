@@ -1,12 +1,13 @@
 //! Sums made into samples.
 
-ghost use Rattle.std.specs.Prelude.{◌≡◌, ◌+◌, ◌*◌, ◌/◌, ◌<◌, ◌≤◌, ◌^◌, ◌++◌, map, min, length, vec_len, vec_capacity};
+ghost use Rattle.std.specs.Prelude.{◌≡◌, ◌+◌, ◌*◌, ◌/◌, ◌<◌, ◌≤◌, ◌^◌, ◌++◌, map, min, length, IfSome, vec_len, vec_capacity};
 ghost use Rattle.iiif_pixel.specs.Geometry.{top_of};
 ghost use Rattle.iiif_pixel.specs.Depths.{values_of, depth_of, capacity_of};
 ghost use Rattle.iiif_area.specs.Grid.{average_within};
 
 use iiif_pixel::Samples;
 use std::marker::Model;
+use std::mem::replace;
 
 /// Makes sums over regions of so many places into averages, each by the reciprocal of that number, without a division.
 #[derive(Drop)]
@@ -80,6 +81,13 @@ fn push_eight(samples: &mut Vec<u8>, sums: &[u64], area: u64)
     ensures values { samples.new.items ≡ samples.old.items ++ map (average_within area 255) sums.now }
     ensures capacity { vec_capacity samples.new ≡ vec_capacity samples.old }
 {
+    if let Some(bits) = half_power(area) {
+        // Behind a reference, its length would be written to memory at each push, and no two sums be averaged at once.
+        let empty = Vec::new(*samples.allocator());
+        let filled = replace(samples, empty);
+        *samples = with_halves_eight(filled, sums, bits);
+        return;
+    }
     let averager = Averager::new(area);
     for sum in sums {
         samples.push_reserved(averager.average(*sum, 255) as u8);
@@ -92,8 +100,59 @@ fn push_sixteen(samples: &mut Vec<u16>, sums: &[u64], area: u64)
     ensures values { samples.new.items ≡ samples.old.items ++ map (average_within area 65535) sums.now }
     ensures capacity { vec_capacity samples.new ≡ vec_capacity samples.old }
 {
+    if let Some(bits) = half_power(area) {
+        let empty = Vec::new(*samples.allocator());
+        let filled = replace(samples, empty);
+        *samples = with_halves_sixteen(filled, sums, bits);
+        return;
+    }
     let averager = Averager::new(area);
     for sum in sums {
         samples.push_reserved(averager.average(*sum, 65_535));
     }
+}
+
+/// Which power of two the half of an area is, if it is one.
+fn half_power(area: u64) -> Option<u32>
+    requires { 0 < area }
+    ensures half { IfSome result (λ bits. area ≡ 2 * 2 ^ bits) }
+    ensures bits { IfSome result (λ bits. bits < 64) }
+{
+    let bits = area.trailing_zeros().saturating_sub(1);
+    if area == 2 << bits { Some(bits) } else { None }
+}
+
+/// The average of a sum over twice 2^`bits` places: half of how often 2^`bits` goes into the sum. Without a multiplication, so that
+/// several sums are averaged at once.
+#[inline]
+fn average_of_halves(sum: u64, bits: u32, top: u64) -> u64
+    requires { bits < 64 }
+    ensures { result ≡ average_within (2 * 2 ^ bits) top sum }
+{
+    let halves = sum >> bits;
+    (halves / 2 + halves % 2).min(top)
+}
+
+fn with_halves_eight(mut samples: Vec<u8>, sums: &[u64], bits: u32) -> Vec<u8>
+    requires bits { bits < 64 }
+    requires room { vec_len samples + length sums.now ≤ vec_capacity samples }
+    ensures values { result.items ≡ samples.items ++ map (average_within (2 * 2 ^ bits) 255) sums.now }
+    ensures capacity { vec_capacity result ≡ vec_capacity samples }
+{
+    for sum in sums {
+        samples.push_reserved(average_of_halves(*sum, bits, 255) as u8);
+    }
+    samples
+}
+
+fn with_halves_sixteen(mut samples: Vec<u16>, sums: &[u64], bits: u32) -> Vec<u16>
+    requires bits { bits < 64 }
+    requires room { vec_len samples + length sums.now ≤ vec_capacity samples }
+    ensures values { result.items ≡ samples.items ++ map (average_within (2 * 2 ^ bits) 65535) sums.now }
+    ensures capacity { vec_capacity result ≡ vec_capacity samples }
+{
+    for sum in sums {
+        samples.push_reserved(average_of_halves(*sum, bits, 65_535) as u16);
+    }
+    samples
 }
