@@ -15,4 +15,5 @@ pub mod SumLaws
 pub mod SumsSeen
 pub mod TileLaws
 pub mod WeightLaws
+pub mod WholeSpanLaws
 pub mod WholeTile

@@ -1,5 +1,5 @@
 -- Words on the private functions: how the sums over a tile are added up column by column.
-use Rattle.std.specs.Prelude.{◌≡◌, ℕ, ◌+◌, ◌-◌, ◌*◌, ◌<◌, ◌≤◌, List, slice_index}
+use Rattle.std.specs.Prelude.{◌≡◌, ℕ, ◌+◌, ◌-◌, ◌*◌, ◌<◌, ◌≤◌, List, length, slice_index}
 use Rattle.iiif_pixel.specs.Picture.{Picture, sample_at}
 use Rattle.iiif_pixel.specs.Scaling.{sum_from, weight_of}
 use Rattle.iiif_pixel.specs.declared.geometry.Rect.{Rect}
@@ -26,6 +26,20 @@ pub record IsSpan (a c from n i : ℕ) (s : Span) : Type 0 where
   pub last : s.start + 1 < s.end → s.last ≡ weight_of i (from + (s.end - 1)) a c
   pub single : s.end ≤ s.start + 1 → s.last ≡ 0
   pub none : s.start ≡ s.end → s.first ≡ 0
+
+-- Of columns that are scaled to c, the span of the ith result column has n of them whole: those that follow the spans before it,
+-- of which each has n.
+pub record IsWholeSpan (c n i : ℕ) (s : Span) : Type 0 where
+  pub start : s.start ≡ i * n
+  pub end : s.end ≡ i * n + n
+  pub first : s.first ≡ c
+  pub last : s.last ≡ c
+
+-- the list `after` is `before`, and then m entries: those of n channels at a place, in channel k at place i what f says
+pub record IsMore (before after : List ℕ) (n m : ℕ) (f : ℕ → ℕ → ℕ) : Type 0 where
+  pub count : length after ≡ length before + m
+  pub kept : (t : ℕ) → t < length before → slice_index after t ≡ slice_index before t
+  pub added : (i k : ℕ) → k < n → i * n + k < m → slice_index after (length before + (i * n + k)) ≡ f i k
 
 -- what a result column takes of channel k of column sums with n channels: of its first column, of those between, of its last
 unfoldable pub span_total : List ℕ → ℕ → ℕ → ℕ → Span → ℕ

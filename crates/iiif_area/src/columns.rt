@@ -1,11 +1,11 @@
 //! The sums over a tile: each result row adds up the tile's columns, and each result place takes its part of them.
 
-ghost use Rattle.std.specs.Prelude.{◌≡◌, ℕ, ◌+◌, ◌*◌, ◌<◌, ◌≤◌, ◌^◌, length, slice_index, slice_index_or, true, vec_len, EachIndex, IfOk};
+ghost use Rattle.std.specs.Prelude.{◌≡◌, ℕ, ◌+◌, ◌*◌, ◌<◌, ◌≤◌, ◌^◌, length, slice_index, slice_index_or, true, vec_len, EachIndex, IfOk, IfSome};
 ghost use Rattle.iiif_pixel.specs.Geometry.{LiesIn, top_of};
 ghost use Rattle.iiif_pixel.specs.Picture.{samples_of, sample_at};
 ghost use Rattle.iiif_pixel.specs.Scaling.{area_sum};
 ghost use Rattle.iiif_area.specs.Places.{places_of, IsScalable};
-ghost use Rattle.iiif_area.specs.Code.{column_sum, span_total, tile_sample, IsSpan};
+ghost use Rattle.iiif_area.specs.Code.{column_sum, span_total, tile_sample, IsSpan, IsWholeSpan};
 
 use crate::eight;
 use crate::rows::{add_row, add_sums, sum_row};
@@ -152,6 +152,29 @@ fn span_of(i: u32, a: u32, c: u32, from: u32, count: u32) -> Span
         first,
         last,
     }
+}
+
+/// How many columns each of the spans has, where all have as many, at least two, whole and side by side from the first on, and
+/// columns are scaled to `c`.
+pub(crate) fn whole_columns(spans: &[Span], c: u32) -> Option<usize>
+    ensures many { IfSome result (λ n. 1 < n) }
+    ensures each { IfSome result (λ n. (i : ℕ) (d : Span) → i < length spans.now → IsWholeSpan c n i (slice_index_or spans.now i d)) }
+{
+    let columns = spans.first()?.end;
+    if columns < 2 {
+        return None;
+    }
+    let mut start = 0;
+    for span in spans {
+        if span.start != start || span.end < start || span.end - start != columns {
+            return None;
+        }
+        if span.first != u64::from(c) || span.last != u64::from(c) {
+            return None;
+        }
+        start = span.end;
+    }
+    Some(columns)
 }
 
 /// What result row `j` takes of each column of the part that a tile holds from its place `corner` on, where `b` rows are

@@ -1,14 +1,14 @@
 //! The sums over a tile of 8 bits, whose columns fit in numbers of 32 bits, and most of their rows in 16: the narrower, the more of them
 //! are added at once.
 
-ghost use Rattle.std.specs.Prelude.{◌≡◌, ℕ, ◌+◌, ◌-◌, ◌*◌, ◌<◌, ◌≤◌, ◌^◌, ◌⊎◌, length, slice_index, true, IfOk};
+ghost use Rattle.std.specs.Prelude.{◌≡◌, ℕ, ◌+◌, ◌-◌, ◌*◌, ◌<◌, ◌≤◌, ◌^◌, ◌⊎◌, length, slice_index, true, vec_len, vec_capacity, IfOk};
 ghost use Rattle.iiif_pixel.specs.Geometry.{LiesIn, top_of};
 ghost use Rattle.iiif_pixel.specs.Picture.{samples_of, sample_at};
 ghost use Rattle.iiif_pixel.specs.Scaling.{area_sum, sum_from};
 ghost use Rattle.iiif_area.specs.Places.{IsScalable};
-ghost use Rattle.iiif_area.specs.Code.{column_sum, span_total, tile_sample};
+ghost use Rattle.iiif_area.specs.Code.{column_sum, span_total, tile_sample, IsMore};
 
-use crate::columns::{Span, spans};
+use crate::columns::{Span, spans, whole_columns};
 use crate::rows::{join_ends, join_rows, row_of, sum_four, sum_one};
 use crate::weights::{sources, weight};
 use iiif_pixel::{Depth, Dim, NoMemory, Raster, Rect};
@@ -81,9 +81,14 @@ pub(crate) fn sums_by(
         return Err(AllocError);
     };
     let mut sums = Vec::with_capacity(alloc, count)?;
+    let whole = whole_columns(&spans, size.w);
     for j in 0..rect.h {
         let row = rect.y + j;
         fill_columns(columns, short, tile, corner, part, region.h, size.h, row);
+        if let Some(n) = whole {
+            sums = with_whole(sums, columns, channels, size.w, n, rect.w as usize);
+            continue;
+        }
         for i in 0..rect.w {
             for k in 0..channels {
                 let span = spans[i as usize];
@@ -192,4 +197,71 @@ fn span_sum(columns: &[u32], channels: usize, k: usize, c: u64, span: Span) -> u
     let first = span.first * u64::from(columns[span.start * channels + k]);
     let last = span.last * u64::from(columns[(span.end - 1) * channels + k]);
     first + c * inner + last
+}
+
+/// Appends what each of `count` result places takes of its `n` columns, which it has whole. It is made anew for the numbers that scales
+/// by a power of two have, so that the sums of several places are made at once.
+#[inline(always)]
+fn with_whole(
+    sums: Vec<u64>,
+    columns: &[u32],
+    channels: usize,
+    c: u32,
+    n: usize,
+    count: usize,
+) -> Vec<u64>
+    requires room { vec_len sums + count * channels ≤ vec_capacity sums }
+    requires within { count * n * channels ≤ length columns.now }
+    requires takes { 0 < c }
+    requires fits { (i k : ℕ) → i < count → k < channels → c * sum_from (i * n) n (λ t. slice_index columns.now (t * channels + k)) < 2 ^ 64 }
+    ensures row { IsMore sums.items result.items channels (count * channels) (λ i k. c * sum_from (i * n) n (λ t. slice_index columns.now (t * channels + k))) }
+    ensures capacity { vec_capacity result ≡ vec_capacity sums }
+{
+    match n {
+        2 => with_whole_of(sums, columns, channels, c, 2, count),
+        4 => with_whole_of(sums, columns, channels, c, 4, count),
+        8 => with_whole_of(sums, columns, channels, c, 8, count),
+        _ => with_whole_of(sums, columns, channels, c, n, count),
+    }
+}
+
+/// The same of any number of columns.
+#[inline(always)]
+fn with_whole_of(
+    mut sums: Vec<u64>,
+    columns: &[u32],
+    channels: usize,
+    c: u32,
+    n: usize,
+    count: usize,
+) -> Vec<u64>
+    requires room { vec_len sums + count * channels ≤ vec_capacity sums }
+    requires within { count * n * channels ≤ length columns.now }
+    requires takes { 0 < c }
+    requires fits { (i k : ℕ) → i < count → k < channels → c * sum_from (i * n) n (λ t. slice_index columns.now (t * channels + k)) < 2 ^ 64 }
+    ensures row { IsMore sums.items result.items channels (count * channels) (λ i k. c * sum_from (i * n) n (λ t. slice_index columns.now (t * channels + k))) }
+    ensures capacity { vec_capacity result ≡ vec_capacity sums }
+{
+    for i in 0..count {
+        for k in 0..channels {
+            let sum = sum_of(columns, channels, k, i * n, n);
+            sums.push_reserved(u64::from(c) * sum);
+        }
+    }
+    sums
+}
+
+/// The sum of channel `k` of the `n` columns from `start` on.
+#[inline(always)]
+fn sum_of(columns: &[u32], channels: usize, k: usize, start: usize, n: usize) -> u64
+    requires channel { k < channels }
+    requires within { (start + n) * channels ≤ length columns.now }
+    requires fits { sum_from start n (λ t. slice_index columns.now (t * channels + k)) < 2 ^ 64 }
+    ensures { result ≡ sum_from start n (λ t. slice_index columns.now (t * channels + k)) }
+{
+    let mut sum = 0;
+    for t in 0..n {
+        sum += u64::from(columns[(start + t) * channels + k]);
+    }
+    sum
 }
