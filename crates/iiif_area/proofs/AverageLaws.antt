@@ -91,3 +91,29 @@ average_by_halves s half top some =
     let up : s / half / 2 + s / half % 2 ≡ (s / half + 1) / 2 = omega arith in
     let least : min (s / half / 2 + s / half % 2) top ≡ min top ((s / half + 1) / 2) = omega arith in
     least ∙ ap (λ u. min top u) (sym same)
+
+-- A reciprocal that is rounded up gives the quotient too, of numbers that times the area are below one ..
+pub quotient_by_more : (n area reciprocal one : ℕ) → 0 < area → n * area < one → reciprocal ≡ one / area + 1 → n * reciprocal / one ≡ n / area
+quotient_by_more n area m one some small is =
+    let q = n / area in
+    let under : one < one / area * area + area = lt-div-mul-add some in
+    let over : one / area * area ≤ one = div-mul-le_self one area in
+    let product : m * area ≡ one / area * area + area = ap (λ u. u * area) is ∙ omega arith in
+    let whole : q * area ≤ n = div-mul-le_self n area in
+    let next : n < q * area + area = lt-div-mul-add some in
+    let a : q * one ≤ q * (m * area) = mul-le-mul_left q (omega arith) in
+    let b : m * (q * area) ≤ m * n = mul-le-mul_left m whole in
+    let low : q * one ≤ n * m = omega arith in
+    let d : n * (m * area) ≤ n * (one + area) = mul-le-mul_left n (omega arith) in
+    let e : one * (n + 1) ≤ one * (q * area + area) = mul-le-mul_left one (omega arith) in
+    let f : area * (n * m) < area * ((q + 1) * one) = omega arith in
+    quotient_is (n * m) one q (omega arith) low (lt_of_mul-lt-mul_left area f)
+
+-- .. and the product of what is below k areas is at most k ones and areas.
+pub product_fits : (area n reciprocal one k : ℕ) → 0 < area → n < k * area → reciprocal ≡ one / area + 1 → n * reciprocal ≤ k * (one + area)
+product_fits area n m one k some below is =
+    let over : one / area * area ≤ one = div-mul-le_self one area in
+    let product : m * area ≡ one / area * area + area = ap (λ u. u * area) is ∙ omega arith in
+    let a : m * n ≤ m * (k * area) = mul-le-mul_left m (omega arith) in
+    let b : k * (m * area) ≤ k * (one + area) = mul-le-mul_left k (omega arith) in
+    omega arith

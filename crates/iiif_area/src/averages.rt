@@ -9,6 +9,9 @@ use iiif_pixel::Samples;
 use std::marker::Model;
 use std::mem::replace;
 
+/// Of so many places the averages of 8 bits need no correction: 256 times the square of it is below 2^55.
+const SMALL_AREA: u64 = 8_388_608;
+
 /// Makes sums over regions of so many places into averages, each by the reciprocal of that number, without a division.
 #[derive(Drop)]
 pub struct Averager {
@@ -88,6 +91,10 @@ fn push_eight(samples: &mut Vec<u8>, sums: &[u64], area: u64)
         *samples = with_halves_eight(filled, sums, bits);
         return;
     }
+    if area <= SMALL_AREA {
+        push_small_eight(samples, sums, area);
+        return;
+    }
     let averager = Averager::new(area);
     for sum in sums {
         samples.push_reserved(averager.average(*sum, 255) as u8);
@@ -110,6 +117,29 @@ fn push_sixteen(samples: &mut Vec<u16>, sums: &[u64], area: u64)
     for sum in sums {
         samples.push_reserved(averager.average(*sum, 65_535));
     }
+}
+
+fn push_small_eight(samples: &mut Vec<u8>, sums: &[u64], area: u64)
+    requires area { (0 < area) × (area ≤ 2 ^ 23) }
+    requires room { vec_len samples.old + length sums.now ≤ vec_capacity samples.old }
+    ensures values { samples.new.items ≡ samples.old.items ++ map (average_within area 255) sums.now }
+    ensures capacity { vec_capacity samples.new ≡ vec_capacity samples.old }
+{
+    let reciprocal = (1 << 55) / area + 1;
+    for sum in sums {
+        samples.push_reserved(small_average(*sum, area, reciprocal) as u8);
+    }
+}
+
+/// The average of 8 bits by a reciprocal that was rounded up: what it has too much never comes to a whole part.
+#[inline]
+fn small_average(sum: u64, area: u64, reciprocal: u64) -> u64
+    requires area { (0 < area) × (area ≤ 2 ^ 23) }
+    requires reciprocal { reciprocal ≡ 2 ^ 55 / area + 1 }
+    ensures { result ≡ average_within area 255 sum }
+{
+    let parts = sum.saturating_add(area / 2).min(256 * area - 1);
+    (parts * reciprocal) >> 55
 }
 
 /// Which power of two the half of an area is, if it is one.
