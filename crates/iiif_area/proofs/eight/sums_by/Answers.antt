@@ -1,11 +1,10 @@
-use Rattle.std.proofs.Common.{◌≡◌, ℕ, ◌+◌, ◌*◌, ◌<◌, ◌≤◌, get_or, arith, refl, ap, ◌∙◌}
+use Rattle.std.proofs.Common.{◌≡◌, ℕ, ◌+◌, ◌*◌, ◌≤◌, get_or, arith, refl, ap, ◌∙◌}
 use Rattle.std.proofs.Math.Nat.{mul-le-mul_right}
 use Rattle.iiif_pixel.specs.Picture.{samples_of}
 use Rattle.iiif_pixel.specs.Scaling.{area_sum}
 use Rattle.iiif_pixel.proofs.SampleLists.{index_below}
 use Rattle.iiif_pixel.proofs.Whole.{sample_at-le, top-le}
-use Rattle.iiif_area.specs.declared.columns.Span.{Span}
-use Rattle.iiif_area.specs.Code.{tile_sample, IsSpan, IsWholeSpan}
+use Rattle.iiif_area.specs.Code.{tile_sample, IsSpan}
 use Rattle.iiif_area.proofs.ColumnLaws.{span_total-area, tile_area-fits}
 use Rattle.iiif_area.proofs.GridLaws.{FilledTo-push, filled_is}
 use Rattle.iiif_area.proofs.WholeSpanLaws.{whole_area, whole_within, no_span, FilledTo-more}
