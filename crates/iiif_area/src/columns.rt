@@ -1,11 +1,11 @@
 //! The sums over a tile: each result row adds up the tile's columns, and each result place takes its part of them.
 
-ghost use Rattle.std.specs.Prelude.{◌≡◌, ℕ, ◌+◌, ◌*◌, ◌<◌, ◌≤◌, ◌^◌, length, slice_index, slice_index_or, true, vec_len, EachIndex, IfOk, IfSome};
+ghost use Rattle.std.specs.Prelude.{◌≡◌, ℕ, ◌+◌, ◌*◌, ◌<◌, ◌≤◌, ◌^◌, length, slice_index, slice_index_or, true, vec_len, vec_capacity, EachIndex, IfOk, IfSome};
 ghost use Rattle.iiif_pixel.specs.Geometry.{LiesIn, top_of};
 ghost use Rattle.iiif_pixel.specs.Picture.{samples_of, sample_at};
-ghost use Rattle.iiif_pixel.specs.Scaling.{area_sum};
+ghost use Rattle.iiif_pixel.specs.Scaling.{area_sum, sum_from};
 ghost use Rattle.iiif_area.specs.Places.{places_of, IsScalable};
-ghost use Rattle.iiif_area.specs.Code.{column_sum, span_total, tile_sample, IsSpan, IsWholeSpan};
+ghost use Rattle.iiif_area.specs.Code.{column_sum, span_total, tile_sample, IsMore, IsSpan, IsWholeSpan};
 
 use crate::eight;
 use crate::rows::{add_row, add_sums, sum_row};
@@ -93,9 +93,14 @@ fn sums_by(
         return Err(AllocError);
     };
     let mut sums = Vec::with_capacity(alloc, count)?;
+    let whole = whole_columns(&spans, size.w);
     for j in 0..rect.h {
         let row = rect.y + j;
         fill_columns(columns, inner, tile, corner, part, region.h, size.h, row);
+        if let Some(n) = whole {
+            sums = with_whole(sums, columns, channels, size.w, n, rect.w as usize);
+            continue;
+        }
         for i in 0..rect.w {
             for k in 0..channels {
                 let span = spans[i as usize];
@@ -242,4 +247,71 @@ fn span_sum(columns: &[u64], channels: usize, k: usize, c: u64, span: Span) -> u
     let first = span.first * columns[span.start * channels + k];
     let last = span.last * columns[(span.end - 1) * channels + k];
     first + c * inner + last
+}
+
+/// Appends what each of `count` result places takes of its `n` columns, which it has whole. It is made anew for the numbers that scales
+/// by a power of two have, so that the sums of several places are made at once.
+#[inline(always)]
+fn with_whole(
+    sums: Vec<u64>,
+    columns: &[u64],
+    channels: usize,
+    c: u32,
+    n: usize,
+    count: usize,
+) -> Vec<u64>
+    requires room { vec_len sums + count * channels ≤ vec_capacity sums }
+    requires within { count * n * channels ≤ length columns.now }
+    requires takes { 0 < c }
+    requires fits { (i k : ℕ) → i < count → k < channels → c * sum_from (i * n) n (λ t. slice_index columns.now (t * channels + k)) < 2 ^ 64 }
+    ensures row { IsMore sums.items result.items channels (count * channels) (λ i k. c * sum_from (i * n) n (λ t. slice_index columns.now (t * channels + k))) }
+    ensures capacity { vec_capacity result ≡ vec_capacity sums }
+{
+    match n {
+        2 => with_whole_of(sums, columns, channels, c, 2, count),
+        4 => with_whole_of(sums, columns, channels, c, 4, count),
+        8 => with_whole_of(sums, columns, channels, c, 8, count),
+        _ => with_whole_of(sums, columns, channels, c, n, count),
+    }
+}
+
+/// The same of any number of columns.
+#[inline(always)]
+fn with_whole_of(
+    mut sums: Vec<u64>,
+    columns: &[u64],
+    channels: usize,
+    c: u32,
+    n: usize,
+    count: usize,
+) -> Vec<u64>
+    requires room { vec_len sums + count * channels ≤ vec_capacity sums }
+    requires within { count * n * channels ≤ length columns.now }
+    requires takes { 0 < c }
+    requires fits { (i k : ℕ) → i < count → k < channels → c * sum_from (i * n) n (λ t. slice_index columns.now (t * channels + k)) < 2 ^ 64 }
+    ensures row { IsMore sums.items result.items channels (count * channels) (λ i k. c * sum_from (i * n) n (λ t. slice_index columns.now (t * channels + k))) }
+    ensures capacity { vec_capacity result ≡ vec_capacity sums }
+{
+    for i in 0..count {
+        for k in 0..channels {
+            let sum = sum_of(columns, channels, k, i * n, n);
+            sums.push_reserved(u64::from(c) * sum);
+        }
+    }
+    sums
+}
+
+/// The sum of channel `k` of the `n` columns from `start` on.
+#[inline(always)]
+fn sum_of(columns: &[u64], channels: usize, k: usize, start: usize, n: usize) -> u64
+    requires channel { k < channels }
+    requires within { (start + n) * channels ≤ length columns.now }
+    requires fits { sum_from start n (λ t. slice_index columns.now (t * channels + k)) < 2 ^ 64 }
+    ensures { result ≡ sum_from start n (λ t. slice_index columns.now (t * channels + k)) }
+{
+    let mut sum = 0;
+    for t in 0..n {
+        sum += columns[(start + t) * channels + k];
+    }
+    sum
 }

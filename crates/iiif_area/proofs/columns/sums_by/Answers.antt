@@ -1,4 +1,4 @@
-use Rattle.std.proofs.Common.{◌≡◌, ℕ, ◌+◌, ◌*◌, ◌≤◌, arith, ap, ◌∙◌}
+use Rattle.std.proofs.Common.{◌≡◌, ℕ, ◌+◌, ◌*◌, ◌≤◌, get_or, arith, refl, ap, ◌∙◌}
 use Rattle.std.proofs.Math.Nat.{mul-le-mul_right}
 use Rattle.iiif_pixel.specs.Picture.{samples_of}
 use Rattle.iiif_pixel.specs.Scaling.{area_sum}
@@ -7,6 +7,7 @@ use Rattle.iiif_pixel.proofs.Whole.{sample_at-le, top-le}
 use Rattle.iiif_area.specs.Code.{tile_sample, IsSpan}
 use Rattle.iiif_area.proofs.ColumnLaws.{span_total-area, tile_area-fits}
 use Rattle.iiif_area.proofs.GridLaws.{FilledTo-push, filled_is}
+use Rattle.iiif_area.proofs.WholeSpanLaws.{whole_area, whole_within, no_span, FilledTo-more}
 use Rattle.iiif_area.proofs.columns.sums_by.Goals as goal
 
 pub span_sum-sum-requires-clause-within : goal.span_sum-sum-requires-clause-within
@@ -69,6 +70,7 @@ loop-j-preserved c =
       room = omega (arith, c.fill_columns.auto.columns, c.loop-j.invariant.room);
       inner = omega (arith, c.fill_columns.auto.inner, c.loop-j.invariant.inner);
       clear = c.fill_columns.ensures.clear;
+      whole = c.loop-j.invariant.whole;
       capacity = omega arith;
       count = omega arith;
       filled = c.loop-i.invariant.filled;
@@ -76,3 +78,49 @@ loop-j-preserved c =
 
 pub fill_columns-requires-clause-samples : goal.fill_columns-requires-clause-samples
 fill_columns-requires-clause-samples c = λ x y k. omega (arith, sample_at-le c.args.tile.now c.is_whole.ensures.whole x y k, top-le c.args.tile.now c.is_whole.ensures.whole)
+
+pub with_whole-sums-requires-clause-room : goal.with_whole-sums-requires-clause-room
+with_whole-sums-requires-clause-room c =
+    let r = c.args.rect in
+    let rows : (c.loop-j.j + 1) * (r.w * c.args.channels) ≤ r.h * (r.w * c.args.channels) = mul-le-mul_right (r.w * c.args.channels) (omega arith) in
+    omega arith
+
+pub with_whole-sums-requires-clause-within : goal.with_whole-sums-requires-clause-within
+with_whole-sums-requires-clause-within c =
+    let n = c.in-Some-whole.n in
+    let whole = rw c.in-Some-whole.is at c.loop-j.invariant.whole in
+    let columns = whole_within c.args.region.w c.args.size.w c.args.part.x c.args.part.w c.args.rect.x c.args.rect.w n c.in_ok-spans.spans.items c.in_ok-spans.ensures.each whole.1 in
+    let entries : c.args.rect.w * n * c.args.channels ≤ c.args.part.w * c.args.channels = mul-le-mul_right c.args.channels columns in
+    omega (arith, c.fill_columns.auto.columns, c.loop-j.invariant.room)
+
+pub with_whole-sums-requires-clause-fits : goal.with_whole-sums-requires-clause-fits
+with_whole-sums-requires-clause-fits c = λ p k lp lk.
+    let n = c.in-Some-whole.n in
+    let whole = rw c.in-Some-whole.is at c.loop-j.invariant.whole in
+    let i = c.args.rect.x + p in
+    let j = c.args.rect.y + c.loop-j.j in
+    let ch : c.args.channels ≡ c.args.tile.now.channels = c.requires.channels in
+    let sum = whole_area c.args.region c.args.size c.args.part c.args.tile.now c.args.corner i j k p n c.args.channels c.fill_columns.new.columns (get_or c.in_ok-spans.spans.items p no_span)
+    whole.0 ch (c.in_ok-spans.ensures.each p no_span lp) (whole.1 p no_span lp) (λ t l. c.fill_columns.ensures.sums t k l (omega arith)) in
+    let fits = tile_area-fits c.args.region c.args.size c.args.part c.args.tile.now c.args.corner i j k c.requires.limits.area
+    (λ x y k. omega (arith, sample_at-le c.args.tile.now c.is_whole.ensures.whole x y k, top-le c.args.tile.now c.is_whole.ensures.whole)) in
+    omega (arith, sum, fits)
+
+pub loop-j-preserved-in-Some-whole : goal.loop-j-preserved-in-Some-whole
+loop-j-preserved-in-Some-whole c =
+    let r = c.args.rect in
+    let n = c.in-Some-whole.n in
+    let whole = rw c.in-Some-whole.is at c.loop-j.invariant.whole in
+    let j = r.y + c.loop-j.j in
+    let ch : c.args.channels ≡ c.args.tile.now.channels = c.requires.channels in
+    record {
+      room = omega (arith, c.fill_columns.auto.columns, c.loop-j.invariant.room);
+      inner = omega (arith, c.fill_columns.auto.inner, c.loop-j.invariant.inner);
+      clear = c.fill_columns.ensures.clear;
+      whole = whole;
+      capacity = omega arith;
+      count = omega (arith, c.with_whole-sums.ensures.row.count);
+      filled = FilledTo-more r.w c.args.channels c.loop-j.j _ _ _ _ _ c.loop-j.invariant.filled (omega arith) refl c.with_whole-sums.ensures.row
+          (λ p k lp lk. whole_area c.args.region c.args.size c.args.part c.args.tile.now c.args.corner (r.x + p) j k p n c.args.channels c.fill_columns.new.columns (get_or c.in_ok-spans.spans.items p no_span)
+          whole.0 ch (c.in_ok-spans.ensures.each p no_span lp) (whole.1 p no_span lp) (λ t l. c.fill_columns.ensures.sums t k l (omega arith)));
+    }

@@ -1,6 +1,7 @@
-use Rattle.std.proofs.Common.{◌≡◌, ℕ, ◌+◌, ◌*◌, ◌<◌, get_or, vec_capacity, vec_len, length}
+use Rattle.std.proofs.Common.{◌≡◌, ℕ, ◌+◌, ◌*◌, ◌<◌, get_or, IfSome, vec_capacity, vec_len, length}
 use Rattle.iiif_pixel.specs.Scaling.{area_sum}
-use Rattle.iiif_area.specs.Code.{tile_sample}
+use Rattle.iiif_area.specs.declared.columns.Span.{Span}
+use Rattle.iiif_area.specs.Code.{tile_sample, IsWholeSpan}
 use Rattle.iiif_area.proofs.GridLaws.{place_index, FilledTo}
 use Rattle.iiif_area.proofs.columns.sums_by.Given as goal
 
@@ -22,6 +23,7 @@ abbrev pub invariant-loop-j : goal.invariant-loop-j
 invariant-loop-j l = record {
   room : length l.columns ≡ l.part.w * l.channels;
   inner : length l.inner ≡ l.part.w * l.channels;
+  whole : IfSome l.whole (λ n. (1 < n) × ((t : ℕ) (d : Span) → t < l.rect.w → IsWholeSpan l.size.w n t (get_or l.spans.items t d)));
   clear : (i : ℕ) → i < length l.inner → get_or l.inner i 0 ≡ 0;
   capacity : vec_capacity l.sums ≡ l.rect.w * l.rect.h * l.channels;
   count : vec_len l.sums ≡ place_index l.rect.w l.channels 0 l.j 0;
