@@ -5,9 +5,10 @@ ghost use Rattle.std.specs.Arc.{arc_value};
 ghost use Rattle.iiif_pixel.specs.Geometry.{channels_of, nested, sides_of, top_of, LiesIn};
 ghost use Rattle.iiif_pixel.specs.Picture.{Picture, dim_of, sample_at};
 ghost use Rattle.iiif_pixel.specs.Operations.{crop};
-ghost use Rattle.iiif_area.specs.Places.{part_of};
+ghost use Rattle.iiif_area.specs.Places.{part_of, IsInside};
 ghost use Rattle.iiif_keys.specs.Blocks.{tile_of, TileFitsIn};
 ghost use Rattle.iiif_keys.specs.Names.{Pictures};
+ghost use Rattle.iiif_keys.specs.declared.fault.Fault.TheVariants as Fault;
 ghost use Rattle.iiif_keys.specs.Meaning.{TileHasShape};
 ghost use Rattle.iiif_keys.specs.declared.keys.TileKey.{TileKey};
 ghost use Rattle.iiif_bands.specs.Bands.{tile_places};
@@ -19,7 +20,7 @@ use crate::crew::gathered;
 use crate::finishing::count_of;
 use crate::items::Items;
 use crate::job::{Job, Made};
-use iiif_area::{corner_of, meets, part_of};
+use iiif_area::{corner_of, is_inside, meets, part_of};
 use iiif_keys::{Fault, Shape, TileKey, TileVal};
 use iiif_pixel::laws::{crop_of_crop, whole_stays_whole};
 use iiif_pixel::{Raster, Rect};
@@ -93,6 +94,65 @@ fn put_all(
     }
 }
 
+/// What a tile has of a rectangle of the image that lies in it.
+fn cut_out(shape: &Shape, rect: Rect, key: &TileKey, value: &Arc<TileVal>) -> Result<Raster, Fault>
+    requires fits { TileFitsIn shape.now.dim (channels_of shape.now.kind) key.now }
+    requires shaped { TileHasShape shape.now key.now (arc_value value.now) }
+    requires inside { IsInside rect (tile_of shape.now.dim key.now) }
+    ensures sides { IfOk result (λ r. dim_of r ≡ sides_of rect) }
+    ensures channels { IfOk result (λ r. r.channels ≡ channels_of shape.now.kind) }
+    ensures top { IfOk result (λ r. r.top ≡ top_of shape.now.depth) }
+    ensures image { IfOk result (λ r. (p : Picture) → tile_in (arc_value value.now) ≡ crop p (tile_of shape.now.dim key.now) → r ≡ crop p rect) }
+    ensures fault { IfErr result (λ f. f ≡ Fault.NoMemory) }
+{
+    // A law of crops.
+    crop_of_crop();
+    let at = key.rect_in(shape.dim);
+    let part = Rect {
+        x: rect.x - at.x,
+        y: rect.y - at.y,
+        ..rect
+    };
+    match value.raster.crop(part) {
+        Ok(raster) => Ok(raster),
+        Err(_) => Err(Fault::NoMemory),
+    }
+}
+
+/// A rectangle of the image, of tiles: cut out of one that has all of it and was asked for alone, and else put together of what
+/// each has of it.
+fn picture_of(
+    alloc: Global,
+    shape: &Shape,
+    rect: Rect,
+    keys: &[TileKey],
+    items: &[usize],
+    values: &[Arc<TileVal>],
+) -> Result<Raster, Fault>
+    requires fits { All (TileFitsIn shape.now.dim (channels_of shape.now.kind)) keys.now }
+    requires within { All (λ i. i < length keys.now) items.now }
+    requires shaped { AreValues (TileHasShape shape.now) keys.now items.now (map arc_value values.now) }
+    ensures sides { IfOk result (λ r. dim_of r ≡ sides_of rect) }
+    ensures channels { IfOk result (λ r. r.channels ≡ channels_of shape.now.kind) }
+    ensures top { IfOk result (λ r. r.top ≡ top_of shape.now.depth) }
+    ensures copies { IfOk result (λ r. (p : Picture) (x : TileKey) → p.channels ≡ channels_of shape.now.kind
+        → AreValues (λ k v. tile_in v ≡ crop p (tile_of shape.now.dim k)) keys.now items.now (map arc_value values.now)
+        → HasCopied (crop p rect) (map (λ i. part_of (tile_of shape.now.dim (slice_index_or keys.now i x)) rect) items.now) r) }
+    ensures fault { IfErr result (λ f. f ≡ Fault.NoMemory) }
+{
+    if items.len() == 1 {
+        let key = &keys[items[0]];
+        if is_inside(rect, key.rect_in(shape.dim)) {
+            return cut_out(shape, rect, key, &values[0]);
+        }
+    }
+    let Ok(mut raster) = Raster::new(alloc, rect.dim(), shape.kind, shape.depth) else {
+        return Err(Fault::NoMemory);
+    };
+    put_all(&mut raster, shape, rect, keys, items, values);
+    Ok(raster)
+}
+
 /// The part in `from` of a region that keeps its sides, of the tiles that have a place of it. Nothing is held of the result but
 /// this part.
 pub(crate) fn pasted<T: Items<TileKey, TileVal, P, R> + Sync, P: Send, R: Threads + Sync>(
@@ -123,9 +183,6 @@ pub(crate) fn pasted<T: Items<TileKey, TileVal, P, R> + Sync, P: Send, R: Thread
     whole_stays_whole();
     crop_of_crop();
     let values = gathered(rt, alloc, group, passes, keys, items)?;
-    let Ok(mut raster) = Raster::new(alloc, from.dim(), job.shape.kind, job.shape.depth) else {
-        return Err(Fault::NoMemory);
-    };
     // Read, so that the region's numbers are known to fit.
     let (_w, _h) = (job.shape.dim.w, job.shape.dim.h);
     let region = job.resolved.rect;
@@ -134,8 +191,8 @@ pub(crate) fn pasted<T: Items<TileKey, TileVal, P, R> + Sync, P: Send, R: Thread
         y: region.y + from.y,
         ..from
     };
-    put_all(&mut raster, &job.shape, rect, keys, items, &values);
-    // What was put stays whole, so that its samples can be counted.
+    let raster = picture_of(alloc, &job.shape, rect, keys, items, &values)?;
+    // Whole, so that its samples can be counted.
     raster.is_whole();
     let held = count_of(&raster);
     Ok(Made { raster, held })

@@ -3,7 +3,7 @@ use Rattle.std.specs.Arc.{arc_value}
 use Rattle.std.proofs.lemmas.List.Elements.{All-weaker}
 use Rattle.iiif_pixel.specs.Geometry.{channels_of, nested, sides_of}
 use Rattle.iiif_pixel.specs.Operations.{crop}
-use Rattle.iiif_pixel.specs.Picture.{Picture, dim_of}
+use Rattle.iiif_pixel.specs.Picture.{dim_of}
 use Rattle.iiif_pixel.specs.Scaling.{whole_of}
 use Rattle.iiif_pixel.specs.declared.geometry.Dim.{Dim}
 use Rattle.iiif_area.specs.Laws.{IsCutInto}
@@ -25,11 +25,11 @@ use Rattle.iiif_assemble.proofs.pasting.pasted.Goals as goal
 pub gathered-requires-clause-within : goal.gathered-requires-clause-within
 gathered-requires-clause-within g c κs within = lists_within (tile_places c.args.job.now.resolved.rect) c.args.from c.args.keys.now c.args.items.now c.requires.lists
 
-pub put_all-requires-clause-within : goal.put_all-requires-clause-within
-put_all-requires-clause-within g c = lists_within (tile_places c.args.job.now.resolved.rect) c.args.from c.args.keys.now c.args.items.now c.requires.lists
+pub picture_of-requires-clause-within : goal.picture_of-requires-clause-within
+picture_of-requires-clause-within g c = lists_within (tile_places c.args.job.now.resolved.rect) c.args.from c.args.keys.now c.args.items.now c.requires.lists
 
-pub put_all-requires-clause-shaped : goal.put_all-requires-clause-shaped
-put_all-requires-clause-shaped g c =
+pub picture_of-requires-clause-shaped : goal.picture_of-requires-clause-shaped
+picture_of-requires-clause-shaped g c =
     let image = c.args.job.now.shape.dim in
     let channels = channels_of c.args.job.now.shape.kind in
     let means = g.T.Items.means c.args.group.now in
@@ -49,7 +49,7 @@ returns-clause-image g c shows p shown are_meant =
     let items = c.args.items.now in
     let part = nested region from in
     let means = g.T.Items.means c.args.group.now in
-    let picture = c.put_all.new.picture in
+    let picture = c.in_ok-raster.raster in
     let x : TileKey = record { name = []; edge = 0; tx = 0; ty = 0 } in
     let planned = IsTileFor c.args.job.now.name c.args.job.now.edge image channels region in
     let is_tile : TileKey → TileVal → Type 0 = λ k v. tile_in v ≡ crop p (tile_of image k) in
@@ -57,11 +57,11 @@ returns-clause-image g c shows p shown are_meant =
     (λ k b v m. tile_meant shows c.args.job.now.name p image k v shown.known shown.sides b.named (are_meant k v b.named m)) keys c.requires.cover.tiles in
     let meant = values_weaker means is_tile keys items (map arc_value c.in_ok-values.values.items) c.in_ok-values.ensures.values each in
     let meant_here = rw (← c.deref.ensures.value) at meant in
-    let copied = c.put_all.ensures.copies p x shown.samples_a_place meant_here in
+    let copied = c.in_ok-raster.ensures.copies p x shown.samples_a_place meant_here in
     let cut = items_cut (places_are TileKey) image region from keys items x c.requires.job.inside c.requires.inside c.requires.cover.cut c.requires.lists in
-    let sides : dim_of picture ≡ sides_of part = c.put_all.ensures.sides ∙ ap dim_of c.in-Ok.ensures ∙ c.dim.ensures in
+    let sides : dim_of picture ≡ sides_of part = c.in_ok-raster.ensures.sides in
     let cut_here = subst (λ (d : Dim). IsCutInto (whole_of d) (map (λ i. part_of (tile_of image (get_or keys i x)) part) items)) (sym sides) cut in
     copied_all (crop p part) picture (map (λ i. part_of (tile_of image (get_or keys i x)) part) items) copied cut_here c.is_whole.ensures.whole
     (c.whole_stays_whole.ensures.crop p part shown.whole) (ap (λ (d : Dim). d.w) sides) (ap (λ (d : Dim). d.h) sides)
-    (c.put_all.ensures.channels ∙ ap (λ (q : Picture). q.channels) c.in-Ok.ensures ∙ sym shown.samples_a_place) (c.put_all.ensures.top ∙ ap (λ (q : Picture). q.top) c.in-Ok.ensures ∙ sym shown.depth)
+    (c.in_ok-raster.ensures.channels ∙ sym shown.samples_a_place) (c.in_ok-raster.ensures.top ∙ sym shown.depth)
     ∙ sym (c.crop_of_crop.ensures p region from c.requires.inside)
