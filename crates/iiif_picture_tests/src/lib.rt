@@ -7,4 +7,10 @@ mod area_plain;
 #[cfg(test)]
 mod area_tests;
 #[cfg(test)]
+mod cuts;
+#[cfg(test)]
+mod growth_tests;
+#[cfg(test)]
+mod pictures;
+#[cfg(test)]
 mod pixel_tests;

@@ -1,40 +1,357 @@
+//! Pictures turned, cropped and in a quality; samples that are written and read in place.
+
+use crate::pictures::{Picture, cropped, is, raster};
 use iiif_pixel::geometry::turn_place;
-use iiif_pixel::{Depth, Dim, Kind, Quality, Raster, Rect, Samples, Span, Turn, unturn_rect};
+use iiif_pixel::{Depth, Dim, Kind, Quality, Raster, Rect, Span, Turn, unturn_rect};
 use std::alloc::Global;
-use std::test::Fail;
 
-/// The raster with these samples of 8 bits.
-fn raster(alloc: Global, w: u32, h: u32, kind: Kind, samples: &[u8]) -> Result<Raster, Fail> {
-    let dim = Dim { w, h };
-    let samples = Vec::from_slice(alloc, samples)?;
-    let Some(count) = kind.count(dim) else {
-        return Err("too many samples".into());
-    };
-    if count != samples.len() {
-        return Err("another count of samples".into());
-    }
-    Ok(Raster::from_samples(dim, kind, Samples::Eight(samples)))
+/// What is made of a picture.
+#[derive(Clone, Copy)]
+enum Work {
+    /// It is mirrored or not, and turned so many quarters.
+    Turn(bool, u8),
+    /// The part in a rectangle: column, row, width and height.
+    Crop(u32, u32, u32, u32),
+    Quality(Quality),
 }
 
-/// The raster with these samples of 16 bits.
-fn wide(alloc: Global, w: u32, h: u32, kind: Kind, samples: &[u16]) -> Result<Raster, Fail> {
-    let dim = Dim { w, h };
-    let samples = Vec::from_slice(alloc, samples)?;
-    let Some(count) = kind.count(dim) else {
-        return Err("too many samples".into());
-    };
-    if count != samples.len() {
-        return Err("another count of samples".into());
+/// A picture, what is made of it, and what comes.
+#[derive(Clone, Copy)]
+struct Case(Picture, Work, Picture);
+
+/// A raster turned.
+fn turned(source: &Raster, by: Turn) -> Option<Raster> {
+    if by.quarters >= 4 {
+        return None;
     }
-    Ok(Raster::from_samples(dim, kind, Samples::Sixteen(samples)))
+    let Ok(turned) = source.turn(by) else {
+        return None;
+    };
+    Some(turned)
 }
 
-/// Whether a raster has these sides, this kind (and so many channels) and these samples.
-fn is(raster: &Raster, dim: Dim, kind: Kind, samples: Span) -> bool {
-    raster.dim() == dim
-        && raster.kind() == kind
-        && raster.kind().channels() == kind.channels()
-        && raster.samples() == samples
+/// A raster in a quality.
+fn seen(source: &Raster, to: Quality) -> Option<Raster> {
+    let Ok(seen) = source.quality(to) else {
+        return None;
+    };
+    Some(seen)
+}
+
+/// What is made of a raster.
+fn made(source: &Raster, work: Work) -> Option<Raster> {
+    match work {
+        Work::Turn(mirror, quarters) => turned(source, Turn { mirror, quarters }),
+        Work::Crop(x, y, w, h) => cropped(source, Rect { x, y, w, h }),
+        Work::Quality(to) => seen(source, to),
+    }
+}
+
+/// Whether this picture is made of a raster.
+fn makes(source: &Raster, work: Work, want: Picture) -> bool {
+    match made(source, work) {
+        Some(made) => is(&made, want),
+        None => false,
+    }
+}
+
+/// Whether what is made of a picture is what it is to be.
+fn is_right(alloc: Global, case: Case) -> bool {
+    let Case(picture, work, want) = case;
+    match raster(alloc, picture) {
+        Some(source) => makes(&source, work, want),
+        None => false,
+    }
+}
+
+/// The number of the first case that is wrong.
+fn first_wrong(alloc: Global, cases: &[Case]) -> Option<usize> {
+    for (number, case) in cases.iter().enumerate() {
+        if !is_right(alloc, *case) {
+            return Some(number);
+        }
+    }
+    None
+}
+
+/// 4 by 4: the sample at (x, y) is 10x + 40y.
+const FOUR_BY_FOUR: Picture = Picture(
+    Dim { w: 4, h: 4 },
+    Kind::Gray,
+    Span::Eight(&[
+        0, 10, 20, 30, 40, 50, 60, 70, 80, 90, 100, 110, 120, 130, 140, 150,
+    ]),
+);
+
+/// The same, scaled to 2 by 2: each sample is the mean of four.
+const HALVED: Picture = Picture(
+    Dim { w: 2, h: 2 },
+    Kind::Gray,
+    Span::Eight(&[25, 45, 105, 125]),
+);
+
+const TURNS: [Case; 8] = [
+    Case(
+        HALVED,
+        Work::Turn(false, 0),
+        Picture(
+            Dim { w: 2, h: 2 },
+            Kind::Gray,
+            Span::Eight(&[25, 45, 105, 125]),
+        ),
+    ),
+    Case(
+        HALVED,
+        Work::Turn(false, 1),
+        Picture(
+            Dim { w: 2, h: 2 },
+            Kind::Gray,
+            Span::Eight(&[105, 25, 125, 45]),
+        ),
+    ),
+    Case(
+        HALVED,
+        Work::Turn(false, 2),
+        Picture(
+            Dim { w: 2, h: 2 },
+            Kind::Gray,
+            Span::Eight(&[125, 105, 45, 25]),
+        ),
+    ),
+    Case(
+        HALVED,
+        Work::Turn(false, 3),
+        Picture(
+            Dim { w: 2, h: 2 },
+            Kind::Gray,
+            Span::Eight(&[45, 125, 25, 105]),
+        ),
+    ),
+    Case(
+        HALVED,
+        Work::Turn(true, 0),
+        Picture(
+            Dim { w: 2, h: 2 },
+            Kind::Gray,
+            Span::Eight(&[45, 25, 125, 105]),
+        ),
+    ),
+    Case(
+        HALVED,
+        Work::Turn(true, 1),
+        Picture(
+            Dim { w: 2, h: 2 },
+            Kind::Gray,
+            Span::Eight(&[125, 45, 105, 25]),
+        ),
+    ),
+    Case(
+        HALVED,
+        Work::Turn(true, 2),
+        Picture(
+            Dim { w: 2, h: 2 },
+            Kind::Gray,
+            Span::Eight(&[105, 125, 25, 45]),
+        ),
+    ),
+    Case(
+        HALVED,
+        Work::Turn(true, 3),
+        Picture(
+            Dim { w: 2, h: 2 },
+            Kind::Gray,
+            Span::Eight(&[25, 105, 45, 125]),
+        ),
+    ),
+];
+
+#[test]
+fn turns_clockwise_after_mirroring(rt: HostRuntime) {
+    let wrong = first_wrong(rt.alloc(), &TURNS);
+    assert!(rt; wrong.is_none(), "{wrong:?}");
+}
+
+const COLOURS: Picture = Picture(
+    Dim { w: 3, h: 2 },
+    Kind::Rgb,
+    Span::Eight(&[
+        1, 0, 0, 2, 0, 0, 0, 1, 0, 0, 0, 1, 255, 255, 255, 10, 20, 30,
+    ]),
+);
+
+/// Means of 0.299, 0.598, 0.587, 0.114, 255 and 18.15.
+const GRAYS: Picture = Picture(
+    Dim { w: 3, h: 2 },
+    Kind::Gray,
+    Span::Eight(&[0, 1, 1, 0, 255, 18]),
+);
+
+/// A picture of 16 bits.
+const DEEP_COLOURS: Picture = Picture(
+    Dim { w: 2, h: 2 },
+    Kind::Rgb,
+    Span::Sixteen(&[
+        65_535, 0, 0, 0, 65_535, 0, 1000, 2000, 3000, 65_535, 65_535, 65_535,
+    ]),
+);
+
+/// Means of 19,594.965, 38,469.045, 1,815 and 65,535.
+const DEEP_GRAYS: Picture = Picture(
+    Dim { w: 2, h: 2 },
+    Kind::Gray,
+    Span::Sixteen(&[19_595, 38_469, 1815, 65_535]),
+);
+
+const MEANS: [Case; 5] = [
+    Case(COLOURS, Work::Quality(Quality::Gray), GRAYS),
+    Case(COLOURS, Work::Quality(Quality::Default), COLOURS),
+    Case(COLOURS, Work::Quality(Quality::Color), COLOURS),
+    Case(GRAYS, Work::Quality(Quality::Gray), GRAYS),
+    Case(DEEP_COLOURS, Work::Quality(Quality::Gray), DEEP_GRAYS),
+];
+
+#[test]
+fn gray_is_the_rounded_weighted_mean(rt: HostRuntime) {
+    let wrong = first_wrong(rt.alloc(), &MEANS);
+    assert!(rt; wrong.is_none(), "{wrong:?}");
+}
+
+/// Of 16 bits black is below 32,768, and what is made has 8.
+const BLACK_AND_WHITE: [Case; 5] = [
+    Case(
+        FOUR_BY_FOUR,
+        Work::Quality(Quality::Bitonal),
+        Picture(
+            Dim { w: 4, h: 4 },
+            Kind::Gray,
+            Span::Eight(&[0, 0, 0, 0, 0, 0, 0, 0, 0, 0, 0, 0, 0, 255, 255, 255]),
+        ),
+    ),
+    Case(
+        Picture(Dim { w: 2, h: 1 }, Kind::Gray, Span::Eight(&[127, 128])),
+        Work::Quality(Quality::Bitonal),
+        Picture(Dim { w: 2, h: 1 }, Kind::Gray, Span::Eight(&[0, 255])),
+    ),
+    Case(
+        Picture(
+            Dim { w: 2, h: 1 },
+            Kind::Rgb,
+            Span::Eight(&[255, 0, 0, 0, 255, 0]),
+        ),
+        Work::Quality(Quality::Bitonal),
+        Picture(Dim { w: 2, h: 1 }, Kind::Gray, Span::Eight(&[0, 255])),
+    ),
+    Case(
+        Picture(
+            Dim { w: 4, h: 1 },
+            Kind::Gray,
+            Span::Sixteen(&[255, 32_767, 32_768, 65_535]),
+        ),
+        Work::Quality(Quality::Bitonal),
+        Picture(
+            Dim { w: 4, h: 1 },
+            Kind::Gray,
+            Span::Eight(&[0, 0, 255, 255]),
+        ),
+    ),
+    Case(
+        DEEP_COLOURS,
+        Work::Quality(Quality::Bitonal),
+        Picture(
+            Dim { w: 2, h: 2 },
+            Kind::Gray,
+            Span::Eight(&[0, 255, 0, 255]),
+        ),
+    ),
+];
+
+#[test]
+fn bitonal_is_black_below_128(rt: HostRuntime) {
+    let wrong = first_wrong(rt.alloc(), &BLACK_AND_WHITE);
+    assert!(rt; wrong.is_none(), "{wrong:?}");
+}
+
+/// A picture of 16 bits.
+const DEEP: Picture = Picture(
+    Dim { w: 3, h: 2 },
+    Kind::Gray,
+    Span::Sixteen(&[0, 0, 65_535, 256, 255, 0]),
+);
+
+/// Parts, and a turned picture of 16 bits.
+const PARTS: [Case; 3] = [
+    Case(
+        FOUR_BY_FOUR,
+        Work::Crop(1, 2, 3, 2),
+        Picture(
+            Dim { w: 3, h: 2 },
+            Kind::Gray,
+            Span::Eight(&[90, 100, 110, 130, 140, 150]),
+        ),
+    ),
+    Case(
+        DEEP,
+        Work::Crop(1, 0, 2, 2),
+        Picture(
+            Dim { w: 2, h: 2 },
+            Kind::Gray,
+            Span::Sixteen(&[0, 65_535, 255, 0]),
+        ),
+    ),
+    Case(
+        DEEP,
+        Work::Turn(false, 1),
+        Picture(
+            Dim { w: 2, h: 3 },
+            Kind::Gray,
+            Span::Sixteen(&[256, 0, 255, 0, 0, 65_535]),
+        ),
+    ),
+];
+
+#[test]
+fn a_crop_is_the_part_in_the_rectangle(rt: HostRuntime) {
+    let wrong = first_wrong(rt.alloc(), &PARTS);
+    assert!(rt; wrong.is_none(), "{wrong:?}");
+}
+
+/// The greatest sides.
+const LARGEST: Dim = Dim {
+    w: u32::MAX,
+    h: u32::MAX,
+};
+
+/// Column, row and sides of rectangles, and whether they lie in the largest picture.
+const RECTANGLES: [([u32; 4], bool); 4] = [
+    ([1, 2, 3, 2], true),
+    ([u32::MAX - 1, u32::MAX - 1, 1, 1], true),
+    ([u32::MAX - 1, u32::MAX - 1, 2, 1], false),
+    ([u32::MAX - 1, u32::MAX - 1, 1, 2], false),
+];
+
+/// Whether a rectangle has its sides, and lies in the largest picture or doesn't.
+fn lies([x, y, w, h]: [u32; 4], want: bool) -> bool {
+    let rect = Rect { x, y, w, h };
+    rect.dim() == Dim { w, h } && rect.lies_in(LARGEST) == want
+}
+
+/// The kind and sides of pictures, and how many samples they have.
+const COUNTS: [(Kind, Dim, Option<usize>); 3] = [
+    (Kind::Gray, LARGEST, Some(18_446_744_065_119_617_025)),
+    (Kind::Rgb, LARGEST, None),
+    (Kind::Rgb, Dim { w: 3, h: 2 }, Some(18)),
+];
+
+#[test]
+fn the_greatest_sides_do_not_wrap_and_find_no_memory(rt: HostRuntime) {
+    for (rectangle, want) in RECTANGLES {
+        assert!(rt; lies(rectangle, want), "{rectangle:?}");
+    }
+    for (kind, sides, count) in COUNTS {
+        assert!(rt; kind.count(sides) == count, "{kind:?}");
+        assert!(rt; Raster::new(rt.alloc(), LARGEST, kind, Depth::Eight).is_err());
+    }
+    assert!(rt; Depth::Sixteen.top() == 65_535 && Depth::Sixteen.bytes() == 2);
 }
 
 /// The sample at a place; none outside the raster.
@@ -89,245 +406,121 @@ fn put_row(raster: &mut Raster, x: u32, y: u32, w: u32, samples: Span) -> bool {
     }
 }
 
-/// A raster turned.
-fn turned(source: &Raster, by: Turn) -> Result<Raster, Fail> {
-    if by.quarters >= 4 {
-        return Err("no turn".into());
-    }
-    Ok(source.turn(by)?)
+/// Places of a raster in a column and a row: a channel of one, or so many in a row.
+#[derive(Clone, Copy)]
+enum Samples {
+    One(usize, u16),
+    Row(u32, Span<'static>),
 }
 
-/// The part of a raster in a rectangle.
-fn cropped(source: &Raster, rect: Rect) -> Result<Raster, Fail> {
-    if !rect.lies_in(source.dim()) {
-        return Err("a rectangle beyond the picture".into());
-    }
-    Ok(source.crop(rect)?)
+/// Where samples stand.
+type Placed = (u32, u32, Samples);
+
+/// Samples that are written into a new raster; zeros, as which it begins; the picture that it is then; samples that are read of it.
+#[derive(Clone, Copy)]
+struct Written {
+    zeros: Picture,
+    written: &'static [Placed],
+    picture: Picture,
+    read: &'static [Placed],
 }
 
-/// Whether a raster has these samples once it is turned.
-fn turns_to(source: &Raster, by: Turn, samples: Span) -> Result<bool, Fail> {
-    Ok(turned(source, by)?.samples() == samples)
-}
-
-/// Whether the part in a rectangle has these sides and samples.
-fn crops_to(source: &Raster, rect: Rect, dim: Dim, samples: Span) -> Result<bool, Fail> {
-    let part = cropped(source, rect)?;
-    Ok(part.dim() == dim && part.samples() == samples)
-}
-
-/// Whether a raster and its copy have these sides, this kind and these samples.
-fn copies_to(raster: &Raster, dim: Dim, kind: Kind, samples: Span) -> Result<bool, Fail> {
-    Ok(is(raster, dim, kind, samples) && is(&raster.copy()?, dim, kind, samples))
-}
-
-/// Whether a new raster has its sides, its kind and these samples.
-fn begins_as(
-    alloc: Global,
-    dim: Dim,
-    kind: Kind,
-    depth: Depth,
-    samples: Span,
-) -> Result<bool, Fail> {
-    Ok(is(&Raster::new(alloc, dim, kind, depth)?, dim, kind, samples))
-}
-
-/// The sample at (x, y) is 10x + 40y.
-const FOUR_BY_FOUR: [u8; 16] = [
-    0, 10, 20, 30, 40, 50, 60, 70, 80, 90, 100, 110, 120, 130, 140, 150,
-];
-
-/// The same, scaled to 2 by 2: each sample is the mean of four.
-const HALVED: [u8; 4] = [25, 45, 105, 125];
-
-/// Whether the raster above has these samples once it is turned.
-fn halved_turns_to(alloc: Global, by: Turn, samples: &[u8]) -> Result<bool, Fail> {
-    let source = raster(alloc, 2, 2, Kind::Gray, &HALVED)?;
-    turns_to(&source, by, Span::Eight(samples))
-}
-
-#[test]
-fn turns_clockwise_after_mirroring(rt: HostRuntime) -> Result<(), Fail> {
-    let cases: [(bool, u8, [u8; 4]); 8] = [
-        (false, 0, [25, 45, 105, 125]),
-        (false, 1, [105, 25, 125, 45]),
-        (false, 2, [125, 105, 45, 25]),
-        (false, 3, [45, 125, 25, 105]),
-        (true, 0, [45, 25, 125, 105]),
-        (true, 1, [125, 45, 105, 25]),
-        (true, 2, [105, 125, 25, 45]),
-        (true, 3, [25, 105, 45, 125]),
-    ];
-    for (mirror, quarters, want) in cases {
-        let by = Turn { mirror, quarters };
-        assert!(rt; halved_turns_to(rt.alloc(), by, &want)?, "{by:?}");
-    }
-    Ok(())
-}
-
-/// A picture of 8 bits in a quality.
-fn seen(
-    alloc: Global,
-    [w, h]: [u32; 2],
-    kind: Kind,
-    samples: &[u8],
-    to: Quality,
-) -> Result<Raster, Fail> {
-    Ok(raster(alloc, w, h, kind, samples)?.quality(to)?)
-}
-
-/// Whether a picture of 8 bits in a quality has these samples, and is of this kind and as wide and high.
-fn shows(
-    alloc: Global,
-    ([w, h], kind, samples): ([u32; 2], Kind, &[u8]),
-    to: Quality,
-    (made, want): (Kind, &[u8]),
-) -> Result<bool, Fail> {
-    let shown = seen(alloc, [w, h], kind, samples, to)?;
-    Ok(is(&shown, Dim { w, h }, made, Span::Eight(want)))
-}
-
-#[test]
-fn gray_is_the_rounded_weighted_mean(rt: HostRuntime) -> Result<(), Fail> {
-    // means of 0.299, 0.598, 0.587, 0.114, 255 and 18.15
-    let colours = [
-        1, 0, 0, 2, 0, 0, 0, 1, 0, 0, 0, 1, 255, 255, 255, 10, 20, 30,
-    ];
-    let colours = (Kind::Rgb, colours.as_slice());
-    let grays = (Kind::Gray, [0, 1, 1, 0, 255, 18].as_slice());
-    for ((kind, samples), to, want) in [
-        (colours, Quality::Gray, grays),
-        (colours, Quality::Default, colours),
-        (colours, Quality::Color, colours),
-        (grays, Quality::Gray, grays),
-    ] {
-        assert!(rt; shows(rt.alloc(), ([3, 2], kind, samples), to, want)?);
-    }
-    Ok(())
-}
-
-#[test]
-fn bitonal_is_black_below_128(rt: HostRuntime) -> Result<(), Fail> {
-    let cases: [([u32; 2], Kind, &[u8], &[u8]); 3] = [
-        (
-            [4, 4],
-            Kind::Gray,
-            &FOUR_BY_FOUR,
-            &[0, 0, 0, 0, 0, 0, 0, 0, 0, 0, 0, 0, 0, 255, 255, 255],
-        ),
-        ([2, 1], Kind::Gray, &[127, 128], &[0, 255]),
-        ([2, 1], Kind::Rgb, &[255, 0, 0, 0, 255, 0], &[0, 255]),
-    ];
-    for (sides, kind, samples, want) in cases {
-        let picture = (sides, kind, samples);
-        assert!(rt; shows(rt.alloc(), picture, Quality::Bitonal, (Kind::Gray, want))?);
-    }
-    Ok(())
-}
-
-/// Whether the part in a rectangle of the picture of 4 by 4 has these sides and samples.
-fn four_crops_to(alloc: Global, rect: Rect, dim: Dim, samples: Span) -> Result<bool, Fail> {
-    let source = raster(alloc, 4, 4, Kind::Gray, &FOUR_BY_FOUR)?;
-    crops_to(&source, rect, dim, samples)
-}
-
-#[test]
-fn a_crop_is_the_part_in_the_rectangle(rt: HostRuntime) -> Result<(), Fail> {
-    let rect = Rect {
-        x: 1,
-        y: 2,
-        w: 3,
-        h: 2,
-    };
-    let dim = Dim { w: 3, h: 2 };
-    let want = Span::Eight(&[90, 100, 110, 130, 140, 150]);
-    assert!(rt; rect.dim() == dim);
-    assert!(rt; four_crops_to(rt.alloc(), rect, dim, want)?);
-    Ok(())
-}
-
-#[test]
-fn a_rectangle_at_the_greatest_sides_does_not_wrap(rt: HostRuntime) {
-    let dim = Dim {
-        w: u32::MAX,
-        h: u32::MAX,
-    };
-    let last = Rect {
-        x: u32::MAX - 1,
-        y: u32::MAX - 1,
-        w: 1,
-        h: 1,
-    };
-    for (w, h, lies) in [(1, 1, true), (2, 1, false), (1, 2, false)] {
-        assert!(rt; Rect { w, h, ..last }.lies_in(dim) == lies);
+/// Whether samples have a place, where they are written.
+fn put(raster: &mut Raster, (x, y, samples): Placed) -> bool {
+    match samples {
+        Samples::One(channel, value) => set(raster, x, y, channel, value),
+        Samples::Row(w, samples) => put_row(raster, x, y, w, samples),
     }
 }
 
-/// The raster of 3 by 2 colours of 8 bits, zeros but for a sample of the first row and the first two places of the second.
-fn shallow(alloc: Global) -> Result<Raster, Fail> {
-    let mut raster = Raster::new(alloc, Dim { w: 3, h: 2 }, Kind::Rgb, Depth::Eight)?;
-    let first_row = set(&mut raster, 2, 0, 1, 7);
-    let second_row = put_row(&mut raster, 0, 1, 2, Span::Eight(&[1, 2, 3, 4, 5, 6]));
-    if first_row && second_row {
-        Ok(raster)
-    } else {
-        Err("a sample has no place".into())
+/// Whether samples are read.
+fn is_read(raster: &Raster, (x, y, samples): Placed) -> bool {
+    match samples {
+        Samples::One(channel, value) => sample(raster, x, y, channel) == Some(value),
+        Samples::Row(w, samples) => row(raster, x, y, w) == Some(samples),
     }
 }
 
-/// Whether the raster above and its copy have its samples, and single samples and a row of it are read.
-fn is_shallow_read(alloc: Global) -> Result<bool, Fail> {
-    let raster = shallow(alloc)?;
-    let want = [0, 0, 0, 0, 0, 0, 0, 7, 0, 1, 2, 3, 4, 5, 6, 0, 0, 0];
-    let all = copies_to(&raster, Dim { w: 3, h: 2 }, Kind::Rgb, Span::Eight(&want))?;
-    let single = sample(&raster, 2, 0, 1) == Some(7) && sample(&raster, 1, 1, 2) == Some(6);
-    let part = Some(Span::Eight(&[4, 5, 6, 0, 0, 0]));
-    Ok(all && single && row(&raster, 1, 1, 2) == part)
-}
-
-#[test]
-fn samples_are_read_and_written_in_place(rt: HostRuntime) -> Result<(), Fail> {
-    let dim = Dim { w: 3, h: 2 };
-    let zeros = Span::Eight(&[0; 18]);
-    assert!(rt; begins_as(rt.alloc(), dim, Kind::Rgb, Depth::Eight, zeros)?);
-    assert!(rt; is_shallow_read(rt.alloc())?);
-    Ok(())
-}
-
-#[test]
-fn sides_beyond_the_address_space_find_no_memory(rt: HostRuntime) {
-    let dim = Dim {
-        w: u32::MAX,
-        h: u32::MAX,
-    };
-    for (kind, sides, count) in [
-        (Kind::Gray, dim, Some(18_446_744_065_119_617_025)),
-        (Kind::Rgb, dim, None),
-        (Kind::Rgb, Dim { w: 3, h: 2 }, Some(18)),
-    ] {
-        assert!(rt; kind.count(sides) == count);
-        assert!(rt; Raster::new(rt.alloc(), dim, kind, Depth::Eight).is_err());
+/// Whether a raster's copy is this picture.
+fn copies_to(raster: &Raster, want: Picture) -> bool {
+    match raster.copy() {
+        Ok(copy) => is(&copy, want),
+        Err(_) => false,
     }
 }
 
-#[test]
-fn places_follow_their_samples(rt: HostRuntime) -> Result<(), Fail> {
-    for mirror in [false, true] {
-        for quarters in 0..4u8 {
-            assert!(rt; all_follow(rt.alloc(), Turn { mirror, quarters })?);
+/// Whether a new raster begins as zeros, takes samples, and gives them.
+fn takes_and_gives(raster: &mut Raster, case: Written) -> bool {
+    if !is(raster, case.zeros) {
+        return false;
+    }
+    for placed in case.written {
+        if !put(raster, *placed) {
+            return false;
         }
     }
-    Ok(())
+    for placed in case.read {
+        if !is_read(raster, *placed) {
+            return false;
+        }
+    }
+    is(raster, case.picture) && copies_to(raster, case.picture)
 }
 
-/// Whether the sample of each place is found where the place goes, once a gray picture is turned.
-fn all_follow(alloc: Global, by: Turn) -> Result<bool, Fail> {
-    let source = raster(alloc, 3, 2, Kind::Gray, &[1, 2, 3, 4, 5, 6])?;
-    let turned = turned(&source, by)?;
-    Ok(turned.dim() == source.dim().turned(by) && follow(&source, &turned, by))
+/// The same from the beginning.
+fn is_written(alloc: Global, case: Written) -> bool {
+    let Picture(dim, kind, samples) = case.picture;
+    let depth = match samples {
+        Span::Eight(_) => Depth::Eight,
+        Span::Sixteen(_) => Depth::Sixteen,
+    };
+    match Raster::new(alloc, dim, kind, depth) {
+        Ok(mut raster) => takes_and_gives(&mut raster, case),
+        Err(_) => false,
+    }
 }
 
-/// The same, where the picture is turned already.
+/// A sample of the first row and the first two places of the second.
+const WRITTEN: [Written; 2] = [
+    Written {
+        zeros: Picture(Dim { w: 3, h: 2 }, Kind::Rgb, Span::Eight(&[0; 18])),
+        written: &[
+            (2, 0, Samples::One(1, 7)),
+            (0, 1, Samples::Row(2, Span::Eight(&[1, 2, 3, 4, 5, 6]))),
+        ],
+        picture: Picture(
+            Dim { w: 3, h: 2 },
+            Kind::Rgb,
+            Span::Eight(&[0, 0, 0, 0, 0, 0, 0, 7, 0, 1, 2, 3, 4, 5, 6, 0, 0, 0]),
+        ),
+        read: &[
+            (2, 0, Samples::One(1, 7)),
+            (1, 1, Samples::One(2, 6)),
+            (1, 1, Samples::Row(2, Span::Eight(&[4, 5, 6, 0, 0, 0]))),
+        ],
+    },
+    Written {
+        zeros: Picture(Dim { w: 3, h: 2 }, Kind::Gray, Span::Sixteen(&[0; 6])),
+        written: &[
+            (2, 0, Samples::One(0, 65_535)),
+            (0, 1, Samples::Row(2, Span::Sixteen(&[256, 255]))),
+        ],
+        picture: DEEP,
+        read: &[
+            (2, 0, Samples::One(0, 65_535)),
+            (1, 1, Samples::Row(2, Span::Sixteen(&[255, 0]))),
+        ],
+    },
+];
+
+#[test]
+fn samples_are_read_and_written_in_place(rt: HostRuntime) {
+    for (number, case) in WRITTEN.iter().enumerate() {
+        assert!(rt; is_written(rt.alloc(), *case), "picture {number}");
+    }
+}
+
+/// Whether the sample of each place is found where the place goes, once a picture is turned.
 fn follow(source: &Raster, turned: &Raster, by: Turn) -> bool {
     let dim = source.dim();
     if by.quarters >= 4 {
@@ -345,166 +538,95 @@ fn follow(source: &Raster, turned: &Raster, by: Turn) -> bool {
     true
 }
 
-#[test]
-fn a_turned_part_is_the_part_of_the_turned(rt: HostRuntime) -> Result<(), Fail> {
-    for mirror in [false, true] {
-        for quarters in 0..4u8 {
-            assert!(rt; are_same_parts(rt.alloc(), Turn { mirror, quarters })?);
-        }
+/// The part, turned, that comes to lie in a rectangle of the turned raster.
+fn turned_part(source: &Raster, by: Turn, rect: Rect) -> Option<Raster> {
+    if by.quarters >= 4 || !rect.lies_in(source.dim().turned(by)) {
+        return None;
     }
-    Ok(())
+    turned(&cropped(source, unturn_rect(by, source.dim(), rect))?, by)
 }
 
-/// Whether the two are the same for every rectangle of a turned picture of colours.
-fn are_same_parts(alloc: Global, by: Turn) -> Result<bool, Fail> {
-    let colours = [
-        1, 2, 3, 4, 5, 6, 7, 8, 9, 10, 11, 12, 13, 14, 15, 16, 17, 18,
-    ];
-    let source = raster(alloc, 3, 2, Kind::Rgb, &colours)?;
-    let turned = turned(&source, by)?;
-    are_all_same_parts(&source, &turned, by)
+/// Whether a raster is the part of a whole one in a rectangle, and as wide and high as it.
+fn is_part(part: &Raster, whole: &Raster, rect: Rect) -> bool {
+    match cropped(whole, rect) {
+        Some(want) => part.dim() == rect.dim() && part.samples() == want.samples(),
+        None => false,
+    }
 }
 
-/// The same, where the picture is turned already.
-fn are_all_same_parts(source: &Raster, turned: &Raster, by: Turn) -> Result<bool, Fail> {
+/// Whether a turned part is the part of the turned raster.
+fn is_same_part(source: &Raster, turned: &Raster, by: Turn, rect: Rect) -> bool {
+    match turned_part(source, by, rect) {
+        Some(part) => is_part(&part, turned, rect),
+        None => false,
+    }
+}
+
+/// The same for every rectangle of the turned raster.
+fn are_same_parts(source: &Raster, turned: &Raster, by: Turn) -> bool {
     let sides = turned.dim();
     for x in 0..sides.w {
         for y in 0..sides.h {
             for w in 1..=sides.w - x {
                 for h in 1..=sides.h - y {
-                    if !is_same_part(source, turned, by, Rect { x, y, w, h })? {
-                        return Ok(false);
+                    if !is_same_part(source, turned, by, Rect { x, y, w, h }) {
+                        return false;
                     }
                 }
             }
         }
     }
-    Ok(true)
+    true
 }
 
-/// Whether the two are the same for one rectangle of the turned raster, and as wide and high as it.
-fn is_same_part(source: &Raster, turned: &Raster, by: Turn, rect: Rect) -> Result<bool, Fail> {
-    let part = turned_part(source, by, rect)?;
-    let want = cropped(turned, rect)?;
-    let Rect { w, h, .. } = rect;
-    Ok(part.dim() == Dim { w, h } && part.samples() == want.samples())
-}
-
-/// The part, turned, that comes to lie in a rectangle of the turned raster.
-fn turned_part(source: &Raster, by: Turn, rect: Rect) -> Result<Raster, Fail> {
-    if by.quarters >= 4 || !rect.lies_in(source.dim().turned(by)) {
-        return Err("a rectangle beyond the turned picture".into());
-    }
-    Ok(source.crop(unturn_rect(by, source.dim(), rect))?.turn(by)?)
-}
-
-/// The raster of 3 by 2 grays of 16 bits, zeros but for the last sample of the first row and the first two of the second.
-fn deep(alloc: Global) -> Result<Raster, Fail> {
-    let mut raster = Raster::new(alloc, Dim { w: 3, h: 2 }, Kind::Gray, Depth::Sixteen)?;
-    let first_row = set(&mut raster, 2, 0, 0, 65_535);
-    let second_row = put_row(&mut raster, 0, 1, 2, Span::Sixteen(&[256, 255]));
-    if first_row && second_row {
-        Ok(raster)
-    } else {
-        Err("a sample has no place".into())
+/// Whether a raster that is turned has its sides, places and parts.
+fn is_turned(source: &Raster, by: Turn) -> bool {
+    match turned(source, by) {
+        Some(turned) => {
+            turned.dim() == source.dim().turned(by)
+                && follow(source, &turned, by)
+                && are_same_parts(source, &turned, by)
+        }
+        None => false,
     }
 }
 
-/// Whether the raster above and its copy have its depth and samples, and a single sample and a row of it are read.
-fn is_deep_read(alloc: Global) -> Result<bool, Fail> {
-    let raster = deep(alloc)?;
-    let want = [0, 0, 65_535, 256, 255, 0];
-    let all = copies_to(
-        &raster,
+/// Whether a picture has its sides, places and parts after each turn.
+fn all_turns_are_right(alloc: Global, picture: Picture) -> bool {
+    let Some(source) = raster(alloc, picture) else {
+        return false;
+    };
+    for mirror in [false, true] {
+        for quarters in 0..4 {
+            if !is_turned(&source, Turn { mirror, quarters }) {
+                return false;
+            }
+        }
+    }
+    true
+}
+
+const NUMBERED: [Picture; 2] = [
+    Picture(
         Dim { w: 3, h: 2 },
         Kind::Gray,
-        Span::Sixteen(&want),
-    )?;
-    let single = sample(&raster, 2, 0, 0) == Some(65_535);
-    let part = Some(Span::Sixteen(&[255, 0]));
-    Ok(all && raster.depth() == Depth::Sixteen && single && row(&raster, 1, 1, 2) == part)
-}
+        Span::Eight(&[1, 2, 3, 4, 5, 6]),
+    ),
+    Picture(
+        Dim { w: 3, h: 2 },
+        Kind::Rgb,
+        Span::Eight(&[
+            1, 2, 3, 4, 5, 6, 7, 8, 9, 10, 11, 12, 13, 14, 15, 16, 17, 18,
+        ]),
+    ),
+];
 
 #[test]
-fn sixteen_bits_are_read_and_written_in_place(rt: HostRuntime) -> Result<(), Fail> {
-    let dim = Dim { w: 3, h: 2 };
-    let zeros = Span::Sixteen(&[0; 6]);
-    assert!(rt; Depth::Sixteen.top() == 65_535 && Depth::Sixteen.bytes() == 2);
-    assert!(rt; begins_as(rt.alloc(), dim, Kind::Gray, Depth::Sixteen, zeros)?);
-    assert!(rt; is_deep_read(rt.alloc())?);
-    Ok(())
-}
-
-/// Whether the raster above is turned and cropped.
-fn is_deep_turned_and_cropped(alloc: Global) -> Result<bool, Fail> {
-    let raster = deep(alloc)?;
-    let by = Turn {
-        mirror: false,
-        quarters: 1,
-    };
-    let rect = Rect {
-        x: 1,
-        y: 0,
-        w: 2,
-        h: 2,
-    };
-    let (turned, part) = ([256, 0, 255, 0, 0, 65_535], [0, 65_535, 255, 0]);
-    let is_turned = turns_to(&raster, by, Span::Sixteen(&turned))?;
-    Ok(is_turned && crops_to(&raster, rect, rect.dim(), Span::Sixteen(&part))?)
-}
-
-#[test]
-fn sixteen_bits_are_turned_and_cropped(rt: HostRuntime) -> Result<(), Fail> {
-    assert!(rt; is_deep_turned_and_cropped(rt.alloc())?);
-    Ok(())
-}
-
-/// A picture of 16 bits in a quality.
-fn seen_wide(
-    alloc: Global,
-    [w, h]: [u32; 2],
-    kind: Kind,
-    samples: &[u16],
-    to: Quality,
-) -> Result<Raster, Fail> {
-    Ok(wide(alloc, w, h, kind, samples)?.quality(to)?)
-}
-
-/// Whether a picture of 16 bits in a quality has this depth and these samples.
-fn shows_wide(
-    alloc: Global,
-    (sides, kind, samples): ([u32; 2], Kind, &[u16]),
-    to: Quality,
-    (depth, want): (Depth, Span),
-) -> Result<bool, Fail> {
-    let shown = seen_wide(alloc, sides, kind, samples, to)?;
-    Ok(shown.depth() == depth && shown.samples() == want)
-}
-
-#[test]
-fn sixteen_bits_are_black_below_32768(rt: HostRuntime) -> Result<(), Fail> {
-    let grays = [255, 32_767, 32_768, 65_535];
-    let grays = ([4, 1], Kind::Gray, grays.as_slice());
-    // means of 19,594.965, 38,469.045, 1,815 and 65,535
-    let colours = [
-        65_535, 0, 0, 0, 65_535, 0, 1000, 2000, 3000, 65_535, 65_535, 65_535,
-    ];
-    let colours = ([2, 2], Kind::Rgb, colours.as_slice());
-    let means = Span::Sixteen(&[19_595, 38_469, 1815, 65_535]);
-    for (picture, to, want) in [
-        (
-            grays,
-            Quality::Bitonal,
-            (Depth::Eight, Span::Eight(&[0, 0, 255, 255])),
-        ),
-        (colours, Quality::Gray, (Depth::Sixteen, means)),
-        (
-            colours,
-            Quality::Bitonal,
-            (Depth::Eight, Span::Eight(&[0, 255, 0, 255])),
-        ),
-    ] {
-        assert!(rt; shows_wide(rt.alloc(), picture, to, want)?);
+fn places_and_parts_follow_each_turn(rt: HostRuntime) {
+    for (number, picture) in NUMBERED.iter().enumerate() {
+        assert!(rt;
+            all_turns_are_right(rt.alloc(), *picture),
+            "picture {number}"
+        );
     }
-    Ok(())
 }
