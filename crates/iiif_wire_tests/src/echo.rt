@@ -5,7 +5,6 @@ use std::alloc::Global;
 use std::io::{Read, Write};
 use std::net::{Net, TcpListener, TcpStream};
 use std::sync::atomic::{AtomicU64, Ordering};
-use std::test::Fail;
 use std::time::Duration;
 
 /// How long a viewer may send or take nothing, in milliseconds.
@@ -80,9 +79,18 @@ pub(crate) fn greeted(stream: &mut TcpStream) -> bool {
 /// Both ends of a connection, first the one that connected.
 pub(crate) fn connected<R: Net<Listener = TcpListener, Stream = TcpStream>>(
     rt: &R,
-) -> Result<(TcpStream, TcpStream), Fail> {
-    let listener = TcpListener::bind(rt, "127.0.0.1:0")?;
-    let viewer = TcpStream::connect(rt, listener.local_addr()?)?;
-    let (stream, _) = listener.accept()?;
-    Ok((viewer, stream))
+) -> Option<(TcpStream, TcpStream)> {
+    let Ok(listener) = TcpListener::bind(rt, "127.0.0.1:0") else {
+        return None;
+    };
+    let Ok(address) = listener.local_addr() else {
+        return None;
+    };
+    let Ok(viewer) = TcpStream::connect(rt, address) else {
+        return None;
+    };
+    match listener.accept() {
+        Ok((stream, _)) => Some((viewer, stream)),
+        Err(_) => None,
+    }
 }

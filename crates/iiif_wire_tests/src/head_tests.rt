@@ -1,22 +1,22 @@
 //! Heads as they stand on the wire.
 
 use http::StatusCode;
-use iiif_http_front::{Call, Field, HeadFault, Heads, NoMemory, head_bytes};
+use iiif_http_front::{Call, Field, HeadFault, Heads, head_bytes};
 use iiif_io::Inlet;
 use iiif_io::fakes::FailingReader;
 use std::alloc::Global;
-use std::fmt::Write;
+use std::io;
 use std::io::{ErrorKind, Read};
-use std::test::Fail;
-use std::{io, str};
 
 const REQUESTS: &str =
     "GET /iiif/a HTTP/1.1\r\nHost: localhost\r\n\r\nPOST /iiif/a/full/max/0/default.tif HTTP/1.1\r\nHost: localhost\r\n\r\nHEAD /iiif/b HTTP/1.1\nHost: localhost\n\n";
 
-/// The lengths of the first head and of the first two.
+/// The lengths of the first head, of the first two, and of all.
 const FIRST: usize = 41;
 
 const SECOND: usize = 106;
+
+const THIRD: usize = 145;
 
 /// A reader that gives one part and then the other.
 #[derive(Drop)]
@@ -77,289 +77,300 @@ fn whole(text: &[u8], piece: usize) -> FailingReader<'_> {
     }
 }
 
-/// Writes a call, as a line.
-fn push_call(text: &mut String, call: &Call) -> Result<(), NoMemory> {
-    let method = call.method.as_str();
-    let target = str::from_utf8(&call.target).unwrap_or("?");
-    let then = if call.close { "closes" } else { "stays" };
-    write!(text, "{method} {target} {then}\n")?;
-    Ok(())
+/// What is read of an input.
+#[derive(Clone, Copy)]
+enum Said {
+    /// A call: its method, its target, and whether the connection closes after the answer.
+    Call(&'static str, &'static str, bool),
+    End,
+    /// A fault, and the same where it is asked for again.
+    Fault(HeadFault),
 }
 
-/// Writes a fault, and the one that came when it was asked for again.
-fn push_faults(
-    text: &mut String,
-    fault: HeadFault,
-    again: Option<HeadFault>,
-) -> Result<(), NoMemory> {
-    write!(text, "{fault:?} {again:?}")?;
-    Ok(())
+const CUT: Said = Said::Fault(HeadFault::Cut);
+
+const IO: Said = Said::Fault(HeadFault::Io);
+
+const GET: Said = Said::Call("GET", "/iiif/a", false);
+
+const POST: Said = Said::Call("POST", "/iiif/a/full/max/0/default.tif", false);
+
+const HEAD: Said = Said::Call("HEAD", "/iiif/b", false);
+
+/// What is read of the three requests.
+static CALLS: [Said; 4] = [GET, POST, HEAD, Said::End];
+
+const BAD: [Said; 1] = [Said::Fault(HeadFault::Bad)];
+
+const TOO_LONG: [Said; 1] = [Said::Fault(HeadFault::TooLong)];
+
+/// A call for `/`, after which the connection stays.
+const STAYS: [Said; 2] = [Said::Call("GET", "/", false), Said::End];
+
+/// The same, after which it closes.
+const CLOSES: [Said; 2] = [Said::Call("GET", "/", true), Said::End];
+
+/// Whether a call is the one that is to come.
+fn is_call(call: &Call, to_come: Said) -> bool {
+    match to_come {
+        Said::Call(method, target, close) => {
+            call.method.as_str() == method
+                && call.target.as_slice() == target.as_bytes()
+                && call.close == close
+        }
+        _ => false,
+    }
 }
 
-/// Writes the calls and how the reading ends.
-fn push_all<R: Inlet + Drop>(text: &mut String, heads: &mut Heads<R>) -> Result<(), NoMemory> {
-    for _ in 0..10u32 {
-        match heads.read_head() {
-            Ok(Some(call)) => push_call(text, &call)?,
-            Ok(None) => {
-                text.push_str("end")?;
-                return Ok(());
-            }
-            Err(fault) => return push_faults(text, fault, heads.read_head().err()),
+/// Whether the next head is refused for this reason.
+fn fails<R: Inlet + Drop>(heads: &mut Heads<R>, to_come: HeadFault) -> bool {
+    match heads.read_head() {
+        Ok(_) => false,
+        Err(fault) => fault == to_come,
+    }
+}
+
+/// Whether what is to come is read next.
+fn says<R: Inlet + Drop>(heads: &mut Heads<R>, to_come: Said) -> bool {
+    if let Said::Fault(fault) = to_come {
+        return fails(heads, fault) && fails(heads, fault);
+    }
+    match heads.read_head() {
+        Ok(Some(call)) => is_call(&call, to_come),
+        Ok(None) => matches!(to_come, Said::End),
+        Err(_) => false,
+    }
+}
+
+/// Whether this is read of what a reader gives.
+fn gives<R: Inlet + Drop>(alloc: Global, reader: R, want: &[Said]) -> bool {
+    let Ok(mut heads) = Heads::new(alloc, reader) else {
+        return false;
+    };
+    for to_come in want {
+        if !says(&mut heads, *to_come) {
+            return false;
         }
     }
-    Ok(())
-}
-
-/// The calls, a line each, and how the reading ends. A fault is asked for twice.
-fn transcript<R: Inlet + Drop>(alloc: Global, reader: R) -> Result<String, NoMemory> {
-    let mut text = String::new(alloc);
-    let mut heads = Heads::new(alloc, reader)?;
-    push_all(&mut text, &mut heads)?;
-    Ok(text)
-}
-
-/// Whether the calls and the end of what a reader gives are these.
-fn gives<R: Inlet + Drop>(alloc: Global, reader: R, want: &str) -> Result<bool, NoMemory> {
-    Ok(transcript(alloc, reader)?.as_str() == want)
+    true
 }
 
 /// The same of a text that comes in large pieces.
-fn reads(alloc: Global, text: &[u8], want: &str) -> Result<bool, NoMemory> {
+fn reads(alloc: Global, text: &[u8], want: &[Said]) -> bool {
     gives(alloc, whole(text, 1000), want)
 }
 
-/// What is read of the three requests.
-const CALLS: &str =
-    "GET /iiif/a stays\nPOST /iiif/a/full/max/0/default.tif stays\nHEAD /iiif/b stays\nend";
-
-#[test]
-fn three_requests_cut_at_every_place(rt: HostRuntime) -> Result<(), Fail> {
+/// Whether the three requests are read where they come in two parts, of which the first has so many bytes.
+fn reads_two_parts(alloc: Global, place: usize) -> bool {
     let text = REQUESTS.as_bytes();
-    for (first, second) in (0..=text.len()).map(|place| text.split_at(place)) {
-        assert!(rt; gives(rt.alloc(), Parts { first, second }, CALLS)?);
-    }
-    assert!(rt; gives(rt.alloc(), whole(text, 1), CALLS)?);
-    Ok(())
-}
-
-/// What is read of so many bytes of the three requests.
-fn end_after(count: usize) -> &'static str {
-    if count == 0 {
-        "end"
-    } else if count < FIRST {
-        "Cut Some(Cut)"
-    } else if count == FIRST {
-        "GET /iiif/a stays\nend"
-    } else if count < SECOND {
-        "GET /iiif/a stays\nCut Some(Cut)"
-    } else if count == SECOND {
-        "GET /iiif/a stays\nPOST /iiif/a/full/max/0/default.tif stays\nend"
-    } else {
-        "GET /iiif/a stays\nPOST /iiif/a/full/max/0/default.tif stays\nCut Some(Cut)"
-    }
+    let (first, second) = text.split_at(place.min(text.len()));
+    gives(alloc, Parts { first, second }, &CALLS)
 }
 
 #[test]
-fn input_cut_after_each_byte(rt: HostRuntime) -> Result<(), Fail> {
-    let text = REQUESTS.as_bytes();
-    for count in 0..text.len() {
-        let front = whole(&text[..count], 7);
-        assert!(rt;
-            gives(rt.alloc(), front, end_after(count))?,
-            "{count} bytes"
-        );
+fn three_requests_cut_at_every_place(rt: HostRuntime) {
+    for place in 0..=REQUESTS.len() {
+        assert!(rt; reads_two_parts(rt.alloc(), place), "{place}");
     }
-    Ok(())
+    let text = REQUESTS.as_bytes();
+    assert!(rt; gives(rt.alloc(), whole(text, 1), &CALLS));
+    assert!(rt; gives(rt.alloc(), text, &CALLS));
 }
 
-/// A head of so many bytes, which has them in its one field.
-fn long_head(alloc: Global, length: usize) -> Result<Vec<u8>, NoMemory> {
+/// The least and the greatest count of bytes of the three requests, and what is read of so many.
+static FRONTS: [(usize, usize, &[Said]); 6] = [
+    (0, 0, &[Said::End]),
+    (1, FIRST - 1, &[CUT]),
+    (FIRST, FIRST, &[GET, Said::End]),
+    (FIRST + 1, SECOND - 1, &[GET, CUT]),
+    (SECOND, SECOND, &[GET, POST, Said::End]),
+    (SECOND + 1, THIRD - 1, &[GET, POST, CUT]),
+];
+
+/// Whether this is read of so many bytes of the three requests.
+fn reads_front(alloc: Global, count: usize, want: &[Said]) -> bool {
+    let text = REQUESTS.as_bytes();
+    let (front, _) = text.split_at(count.min(text.len()));
+    gives(alloc, whole(front, 7), want)
+}
+
+#[test]
+fn input_cut_after_each_byte(rt: HostRuntime) {
+    assert!(rt; REQUESTS.len() == THIRD);
+    for (least, most, want) in FRONTS.iter() {
+        for count in *least..=*most {
+            assert!(rt; reads_front(rt.alloc(), count, *want), "{count} bytes");
+        }
+    }
+}
+
+/// Bytes, what stands behind them so many times, and an end.
+fn repeated(
+    alloc: Global,
+    front: &[u8],
+    again: &[u8],
+    times: usize,
+    end: &[u8],
+) -> Option<Vec<u8>> {
     let mut text = Vec::new(alloc);
-    text.extend_from_slice(b"GET /a HTTP/1.1\r\nA: ")?;
-    for _ in 24..length {
-        text.push(b'x')?;
+    let mut is_whole = text.extend_from_slice(front).is_ok();
+    for _ in 0..times {
+        is_whole = is_whole && text.extend_from_slice(again).is_ok();
     }
-    text.extend_from_slice(b"\r\n\r\n")?;
-    Ok(text)
+    if is_whole && text.extend_from_slice(end).is_ok() {
+        Some(text)
+    } else {
+        None
+    }
 }
 
-/// Whether a head is so long, and so many bytes of it are read so.
-fn reads_long(alloc: Global, length: usize, taken: usize, want: &str) -> Result<bool, NoMemory> {
-    let text = long_head(alloc, length)?;
+/// Whether a head of so many bytes, which has them in its one field, is so long, and so many bytes of it are read so.
+fn reads_long(alloc: Global, length: usize, taken: usize, want: &[Said]) -> bool {
+    let times = length.saturating_sub(24);
+    let Some(text) = repeated(alloc, b"GET /a HTTP/1.1\r\nA: ", b"x", times, b"\r\n\r\n") else {
+        return false;
+    };
     let (front, _) = text.split_at(text.len().min(taken));
-    Ok(text.len() == length && reads(alloc, front, want)?)
+    text.len() == length && reads(alloc, front, want)
 }
+
+const FOR_A: [Said; 2] = [Said::Call("GET", "/a", false), Said::End];
+
+/// How long heads are, how many bytes of them come, and what is read. The last is unfinished.
+static LENGTHS: [(usize, usize, &[Said]); 4] = [
+    (8192, 8192, &FOR_A),
+    (8193, 8193, &TOO_LONG),
+    (9000, 9000, &TOO_LONG),
+    (9000, 8192, &TOO_LONG),
+];
 
 #[test]
-fn head_of_8192_bytes_is_the_longest(rt: HostRuntime) -> Result<(), Fail> {
-    for (length, taken, want) in [
-        (8192, 8192, "GET /a stays\nend"),
-        (8193, 8193, "TooLong Some(TooLong)"),
-        (9000, 9000, "TooLong Some(TooLong)"),
-        // Unfinished.
-        (9000, 8192, "TooLong Some(TooLong)"),
-    ] {
-        let right = reads_long(rt.alloc(), length, taken, want)?;
+fn head_of_8192_bytes_is_the_longest(rt: HostRuntime) {
+    for (length, taken, want) in LENGTHS.iter() {
+        let right = reads_long(rt.alloc(), *length, *taken, *want);
         assert!(rt; right, "{taken} of {length} bytes");
     }
-    Ok(())
 }
 
 /// Whether a head with so many fields is read so.
-fn reads_fields(alloc: Global, count: u32, want: &str) -> Result<bool, NoMemory> {
-    let mut text = Vec::new(alloc);
-    text.extend_from_slice(b"GET / HTTP/1.1\r\n")?;
-    for _ in 0..count {
-        text.extend_from_slice(b"A: 1\r\n")?;
+fn reads_fields(alloc: Global, count: usize, want: &[Said]) -> bool {
+    match repeated(alloc, b"GET / HTTP/1.1\r\n", b"A: 1\r\n", count, b"\r\n") {
+        Some(text) => reads(alloc, &text, want),
+        None => false,
     }
-    text.extend_from_slice(b"\r\n")?;
-    reads(alloc, &text, want)
 }
+
+/// How many fields heads have, and what is read of them.
+static FIELDS: [(usize, &[Said]); 2] = [(64, &STAYS), (65, &BAD)];
 
 #[test]
-fn head_has_64_fields_at_most(rt: HostRuntime) -> Result<(), Fail> {
-    for (count, want) in [(64, "GET / stays\nend"), (65, "Bad Some(Bad)")] {
-        assert!(rt; reads_fields(rt.alloc(), count, want)?, "{count} fields");
+fn head_has_64_fields_at_most(rt: HostRuntime) {
+    for (count, want) in FIELDS.iter() {
+        assert!(rt; reads_fields(rt.alloc(), *count, *want), "{count} fields");
     }
-    Ok(())
 }
+
+/// Heads, and what is read of them.
+static HEADS: [(&[u8], &[Said]); 16] = [
+    // They announce a body.
+    (b"GET / HTTP/1.1\r\nContent-Length: 5\r\n\r\n", &BAD),
+    (b"GET / HTTP/1.1\r\ncontent-length: 00\r\n\r\n", &BAD),
+    (b"GET / HTTP/1.1\r\ntransfer-ENCODING: gzip\r\n\r\n", &BAD),
+    (b"GET / HTTP/1.1\r\nTransfer-Encoding:\r\n\r\n", &BAD),
+    (b"GET / HTTP/1.1\r\nContent-Length: 0 \r\n\r\n", &STAYS),
+    // They are no heads.
+    (b"GET / HTTP/2.0\r\n\r\n", &BAD),
+    (b"GET / HTTP/1.1\r\nA 1\r\n\r\n", &BAD),
+    (b"G\0T / HTTP/1.1\r\n\r\n", &BAD),
+    (b"GET /\xFF HTTP/1.1\r\n\r\n", &BAD),
+    // They say whether the connection closes.
+    (b"GET / HTTP/1.0\r\n\r\n", &CLOSES),
+    (
+        b"GET / HTTP/1.1\r\nConnection: Keep-Alive, Close\r\n\r\n",
+        &CLOSES,
+    ),
+    (
+        b"GET / HTTP/1.1\r\nconnection: x ,\tclose\t\r\n\r\n",
+        &CLOSES,
+    ),
+    (b"GET / HTTP/1.1\r\nConnection: keep-alive\r\n\r\n", &STAYS),
+    (b"GET / HTTP/1.1\r\nConnection: closed\r\n\r\n", &STAYS),
+    (b"GET / HTTP/1.1\r\nX-Connection: close\r\n\r\n", &STAYS),
+    // A long method is kept whole.
+    (
+        b"BASELINE-CONTROL-OF /a HTTP/1.1\r\n\r\n",
+        &[Said::Call("BASELINE-CONTROL-OF", "/a", false), Said::End],
+    ),
+];
 
 #[test]
-fn heads_that_announce_a_body_are_bad(rt: HostRuntime) -> Result<(), Fail> {
-    for (text, want) in [
-        (
-            "GET / HTTP/1.1\r\nContent-Length: 5\r\n\r\n",
-            "Bad Some(Bad)",
-        ),
-        (
-            "GET / HTTP/1.1\r\ncontent-length: 00\r\n\r\n",
-            "Bad Some(Bad)",
-        ),
-        (
-            "GET / HTTP/1.1\r\ntransfer-ENCODING: gzip\r\n\r\n",
-            "Bad Some(Bad)",
-        ),
-        (
-            "GET / HTTP/1.1\r\nTransfer-Encoding:\r\n\r\n",
-            "Bad Some(Bad)",
-        ),
-        (
-            "GET / HTTP/1.1\r\nContent-Length: 0 \r\n\r\n",
-            "GET / stays\nend",
-        ),
-    ] {
-        assert!(rt; reads(rt.alloc(), text.as_bytes(), want)?, "{text}");
+fn heads_are_read_or_bad(rt: HostRuntime) {
+    for (number, (text, want)) in HEADS.iter().enumerate() {
+        assert!(rt; reads(rt.alloc(), *text, *want), "head {number}");
     }
-    Ok(())
 }
 
-#[test]
-fn what_is_no_head_is_bad(rt: HostRuntime) -> Result<(), Fail> {
-    let texts: [&[u8]; 4] = [
-        b"GET / HTTP/2.0\r\n\r\n",
-        b"GET / HTTP/1.1\r\nA 1\r\n\r\n",
-        b"G\0T / HTTP/1.1\r\n\r\n",
-        b"GET /\xFF HTTP/1.1\r\n\r\n",
-    ];
-    for text in texts {
-        assert!(rt; reads(rt.alloc(), text, "Bad Some(Bad)")?, "{text:?}");
-    }
-    Ok(())
-}
-
-#[test]
-fn connection_closes_where_the_head_says_so(rt: HostRuntime) -> Result<(), Fail> {
-    for (text, want) in [
-        ("GET / HTTP/1.0\r\n\r\n", "GET / closes\nend"),
-        (
-            "GET / HTTP/1.1\r\nConnection: Keep-Alive, Close\r\n\r\n",
-            "GET / closes\nend",
-        ),
-        (
-            "GET / HTTP/1.1\r\nconnection: x ,\tclose\t\r\n\r\n",
-            "GET / closes\nend",
-        ),
-        (
-            "GET / HTTP/1.1\r\nConnection: keep-alive\r\n\r\n",
-            "GET / stays\nend",
-        ),
-        (
-            "GET / HTTP/1.1\r\nConnection: closed\r\n\r\n",
-            "GET / stays\nend",
-        ),
-        (
-            "GET / HTTP/1.1\r\nX-Connection: close\r\n\r\n",
-            "GET / stays\nend",
-        ),
-    ] {
-        assert!(rt; reads(rt.alloc(), text.as_bytes(), want)?, "{text}");
-    }
-    Ok(())
-}
-
-#[test]
-fn long_method_is_kept_whole(rt: HostRuntime) -> Result<(), Fail> {
-    let text = b"BASELINE-CONTROL-OF /a HTTP/1.1\r\n\r\n";
-    assert!(rt; reads(rt.alloc(), text, "BASELINE-CONTROL-OF /a stays\nend")?);
-    Ok(())
-}
-
-/// A reader of the three requests that gives so many bytes at once, and fails after so many reads.
-fn failing(piece: usize, reads: usize) -> FailingReader<'static> {
-    FailingReader {
+/// Whether this is read of the three requests where so many bytes come at once, and reads fail after so many.
+fn reads_failing(alloc: Global, piece: usize, reads: usize, want: &[Said]) -> bool {
+    let reader = FailingReader {
         left: REQUESTS.as_bytes(),
         piece,
         reads,
-    }
+    };
+    gives(alloc, reader, want)
 }
 
-#[test]
-fn failed_read_is_answered_again(rt: HostRuntime) -> Result<(), Fail> {
-    for reads in 0..4 {
-        assert!(rt; gives(rt.alloc(), failing(10, reads), "Io Some(Io)")?);
-    }
+/// Whether one read that fails is a fault for good.
+fn fails_for_good(alloc: Global, want: &[Said]) -> bool {
     let reader = FailsOnce {
         left: REQUESTS.as_bytes(),
         reads: 0,
     };
-    assert!(rt; gives(rt.alloc(), reader, "Io Some(Io)")?);
-    Ok(())
+    gives(alloc, reader, want)
 }
 
-#[test]
-fn calls_that_came_are_answered_before_a_failure(rt: HostRuntime) -> Result<(), Fail> {
-    let calls =
-        "GET /iiif/a stays\nPOST /iiif/a/full/max/0/default.tif stays\nHEAD /iiif/b stays\nIo Some(Io)";
-    assert!(rt; gives(rt.alloc(), failing(1000, 1), calls)?);
-    Ok(())
-}
+/// How many bytes come at once, how many reads don't fail, and what is read of the three requests: calls that came are answered before
+/// a failure.
+static FAILING: [(usize, usize, &[Said]); 5] = [
+    (10, 0, &[IO]),
+    (10, 1, &[IO]),
+    (10, 2, &[IO]),
+    (10, 3, &[IO]),
+    (1000, 1, &[GET, POST, HEAD, IO]),
+];
 
 #[test]
-fn slice_in_memory_is_read_to_its_end(rt: HostRuntime) -> Result<(), Fail> {
-    assert!(rt; gives(rt.alloc(), REQUESTS.as_bytes(), CALLS)?);
-    Ok(())
-}
-
-#[test]
-fn faults_have_their_texts(rt: HostRuntime) -> Result<(), Fail> {
-    let text = format!(in rt.alloc(); "{}", HeadFault::Cut)?;
-    assert!(rt; text.as_str() == "the input ended inside a head");
-    Ok(())
-}
-
-#[test]
-fn faults_have_their_numbers(rt: HostRuntime) {
-    let faults = [
-        HeadFault::Bad,
-        HeadFault::TooLong,
-        HeadFault::Cut,
-        HeadFault::Io,
-        HeadFault::NoMemory,
-    ];
-    for (fault, number) in faults.iter().zip(1u8..) {
-        assert!(rt; fault.number() == number);
+fn failed_read_is_answered_again(rt: HostRuntime) {
+    for (piece, reads, want) in FAILING.iter() {
+        assert!(rt; reads_failing(rt.alloc(), *piece, *reads, *want), "{reads}");
     }
+    let (_, _, want) = FAILING[0];
+    assert!(rt; fails_for_good(rt.alloc(), want));
+}
+
+/// Faults, and their numbers.
+static FAULTS: [(HeadFault, u8); 5] = [
+    (HeadFault::Bad, 1),
+    (HeadFault::TooLong, 2),
+    (HeadFault::Cut, 3),
+    (HeadFault::Io, 4),
+    (HeadFault::NoMemory, 5),
+];
+
+/// Whether the fault of an input that ends has this text.
+fn is_cut_told_so(alloc: Global, want: &str) -> bool {
+    match format!(in alloc; "{}", HeadFault::Cut) {
+        Ok(text) => text.as_str() == want,
+        Err(_) => false,
+    }
+}
+
+#[test]
+fn faults_have_their_numbers_and_texts(rt: HostRuntime) {
+    for (fault, number) in FAULTS.iter() {
+        assert!(rt; fault.number() == *number);
+    }
+    assert!(rt; is_cut_told_so(rt.alloc(), "the input ended inside a head"));
 }
 
 const ALLOW_ORIGIN: Field<'static> = Field {
@@ -402,43 +413,47 @@ const NOT_ALLOWED: &str =
 const FOUND: &str =
     "HTTP/1.1 200 OK\r\nContent-Type: image/tiff\r\nAccess-Control-Allow-Origin: *\r\nLink: <http://localhost/iiif/a/full/max/0/default.tif>;rel=\"canonical\"\r\nContent-Length: 190\r\n\r\n";
 
+/// Answers: the status, the fields, how long the body is, whether the connection closes, and the head.
+static ANSWERS: [(u16, &[Field], u64, bool, &str); 4] = [
+    (303, &[ALLOW_ORIGIN, LOCATION], 0, false, SEE_OTHER),
+    (405, &[TEXT, ALLOW_ORIGIN, ALLOW], 10, false, NOT_ALLOWED),
+    (200, &[IMAGE, ALLOW_ORIGIN, LINK], 190, false, FOUND),
+    (501, &[], u64::MAX, true, LAST),
+];
+
+const LAST: &str =
+    "HTTP/1.1 501 Not Implemented\r\nContent-Length: 18446744073709551615\r\nConnection: close\r\n\r\n";
+
+/// A status by its number.
+fn status_of(number: u16) -> StatusCode {
+    match number {
+        303 => StatusCode::SEE_OTHER,
+        405 => StatusCode::METHOD_NOT_ALLOWED,
+        501 => StatusCode::NOT_IMPLEMENTED,
+        _ => StatusCode::OK,
+    }
+}
+
 /// Whether an answer's head is this text.
 fn heads(
     alloc: Global,
-    status: StatusCode,
+    number: u16,
     fields: &[Field<'_>],
     (length, close): (u64, bool),
     want: &str,
-) -> Result<bool, NoMemory> {
-    let head = head_bytes(alloc, status, fields, length, close)?;
-    Ok(head.as_slice() == want.as_bytes())
+) -> bool {
+    match head_bytes(alloc, status_of(number), fields, length, close) {
+        Ok(head) => head.as_slice() == want.as_bytes(),
+        Err(_) => false,
+    }
 }
 
 #[test]
-fn heads_of_three_answers(rt: HostRuntime) -> Result<(), Fail> {
-    let see_other = [ALLOW_ORIGIN, LOCATION];
-    assert!(rt;
-        heads(
-            rt.alloc(),
-            StatusCode::SEE_OTHER,
-            &see_other,
-            (0, false),
-            SEE_OTHER
-        )?
-    );
-    let not_allowed = [TEXT, ALLOW_ORIGIN, ALLOW];
-    let status = StatusCode::METHOD_NOT_ALLOWED;
-    assert!(rt; heads(rt.alloc(), status, &not_allowed, (10, false), NOT_ALLOWED)?);
-    let found = [IMAGE, ALLOW_ORIGIN, LINK];
-    assert!(rt; heads(rt.alloc(), StatusCode::OK, &found, (190, false), FOUND)?);
-    Ok(())
-}
-
-#[test]
-fn head_of_a_last_answer(rt: HostRuntime) -> Result<(), Fail> {
-    let want =
-        "HTTP/1.1 501 Not Implemented\r\nContent-Length: 18446744073709551615\r\nConnection: close\r\n\r\n";
-    let status = StatusCode::NOT_IMPLEMENTED;
-    assert!(rt; heads(rt.alloc(), status, &[], (u64::MAX, true), want)?);
-    Ok(())
+fn heads_of_four_answers(rt: HostRuntime) {
+    for (number, fields, length, close, want) in ANSWERS.iter() {
+        assert!(rt;
+            heads(rt.alloc(), *number, *fields, (*length, *close), *want),
+            "{number}"
+        );
+    }
 }

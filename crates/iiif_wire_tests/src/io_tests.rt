@@ -1,92 +1,134 @@
-//! What reaches a writer that fails.
+//! What reaches a writer that fails, and what a reader gives that does.
 
 use iiif_io::fakes::{FailingReader, FailingWriter};
 use iiif_io::{CountingSink, FixedBuffer, Inlet, send, send_both};
+use std::alloc::Global;
 use std::test::Fail;
 
-fn writer(rt: &HostRuntime, room: usize, piece: usize) -> FailingWriter {
-    FailingWriter {
-        taken: Vec::new(rt.alloc()),
+const HEAD: &[u8] = b"HTTP/1.1 200 OK\r\n\r\n";
+
+const BODY: &[u8] = b"body";
+
+/// Both, one after another.
+const TEXT: &[u8] = b"HTTP/1.1 200 OK\r\n\r\nbody";
+
+const ASK: &[u8] = b"GET / HTTP/1.1";
+
+/// Whether a writer that has room for a front of the text alone takes it, and says so.
+fn is_cut_after(alloc: Global, room: usize) -> bool {
+    let mut out = FailingWriter {
+        taken: Vec::new(alloc),
         room,
+        piece: 3,
+    };
+    let cut = send_both(&mut out, HEAD, BODY).err() == Some(room as u64);
+    cut && TEXT.get(..room) == Some(out.taken.as_slice())
+}
+
+/// Whether a writer that takes so many bytes at once takes all.
+fn is_sent_by(alloc: Global, piece: usize) -> bool {
+    let mut out = FailingWriter {
+        taken: Vec::new(alloc),
+        room: 100,
         piece,
-    }
+    };
+    send(&mut out, ASK).is_ok() && out.taken.as_slice() == ASK
+}
+
+/// Whether a vector takes all.
+fn is_sent_to_a_vector(alloc: Global) -> bool {
+    let mut out = Vec::new(alloc);
+    send(&mut out, b"II*").is_ok() && out.as_slice() == b"II*".as_slice()
 }
 
 #[test]
-fn text_cut_after_each_byte(rt: HostRuntime) -> Result<(), Fail> {
-    let text = b"HTTP/1.1 200 OK\r\n\r\nbody";
-    for room in 0..text.len() {
-        let mut out = writer(&rt, room, 3);
-        let answer = send_both(&mut out, b"HTTP/1.1 200 OK\r\n\r\n", b"body");
-        assert_eq!(rt; answer.err(), Some(room as u64));
-        assert_eq!(rt; out.taken.as_slice(), &text[..room]);
+fn writers_take_the_text_or_what_they_have_room_for(rt: HostRuntime) {
+    for room in 0..TEXT.len() {
+        assert!(rt; is_cut_after(rt.alloc(), room), "room for {room}");
     }
-    Ok(())
+    for piece in 1..8 {
+        assert!(rt; is_sent_by(rt.alloc(), piece), "pieces of {piece}");
+    }
+    assert!(rt; is_sent_to_a_vector(rt.alloc()));
+}
+
+/// How many bytes a read of up to four gives, and these.
+type Read = Option<(usize, [u8; 4])>;
+
+/// What a read gives; none where it fails.
+fn read<R: Inlet>(reader: &mut R) -> Read {
+    let mut buffer = [0; 4];
+    match reader.pull(&mut buffer) {
+        Ok(count) => Some((count, buffer)),
+        Err(_) => None,
+    }
+}
+
+/// Whether a reader gives these reads.
+fn gives<R: Inlet>(reader: &mut R, reads: [Read; 3]) -> bool {
+    for to_come in reads {
+        if read(reader) != to_come {
+            return false;
+        }
+    }
+    true
 }
 
 #[test]
-fn whole_text_in_pieces(rt: HostRuntime) -> Result<(), Fail> {
-    for piece in 1..8usize {
-        let mut out = writer(&rt, 100, piece);
-        assert_eq!(rt; send(&mut out, b"GET / HTTP/1.1").err(), None);
-        assert_eq!(rt; out.taken.as_slice(), b"GET / HTTP/1.1".as_slice());
-    }
-    let mut out = Vec::new(rt.alloc());
-    assert_eq!(rt; send(&mut out, b"II*").err(), None);
-    assert_eq!(rt; out.as_slice(), b"II*".as_slice());
-    Ok(())
-}
-
-#[test]
-fn reader_gives_pieces_and_fails(rt: HostRuntime) -> Result<(), Fail> {
-    let mut reader = FailingReader {
+fn readers_give_what_is_left(rt: HostRuntime) {
+    let mut failing = FailingReader {
         left: b"abcde",
         piece: 2,
         reads: 2,
     };
-    let mut buffer = [0u8; 4];
-    assert_eq!(rt; reader.pull(&mut buffer)?, 2);
-    assert_eq!(rt; &buffer[..2], b"ab".as_slice());
-    assert_eq!(rt; reader.pull(&mut buffer)?, 2);
-    assert!(rt; reader.pull(&mut buffer).is_err());
-    Ok(())
+    let pieces = [Some((2, *b"ab\0\0")), Some((2, *b"cd\0\0")), None];
+    assert!(rt; gives(&mut failing, pieces));
+    let mut slice: &[u8] = b"abcde";
+    let all = [
+        Some((4, *b"abcd")),
+        Some((1, *b"e\0\0\0")),
+        Some((0, [0; 4])),
+    ];
+    assert!(rt; gives(&mut slice, all));
 }
 
-#[test]
-fn slice_is_read_to_its_end(rt: HostRuntime) -> Result<(), Fail> {
-    let mut left: &[u8] = b"abcde";
-    let mut buffer = [0u8; 4];
-    assert_eq!(rt; left.pull(&mut buffer)?, 4);
-    assert_eq!(rt; &buffer[..], b"abcd".as_slice());
-    assert_eq!(rt; left.pull(&mut buffer)?, 1);
-    assert_eq!(rt; &buffer[..1], b"e".as_slice());
-    assert_eq!(rt; left.pull(&mut buffer)?, 0);
-    Ok(())
-}
-
-#[test]
-fn sink_counts_what_it_takes(rt: HostRuntime) -> Result<(), Fail> {
-    let mut out = CountingSink { written: 5 };
-    assert_eq!(rt;
-        send_both(&mut out, b"HTTP/1.1 200 OK\r\n\r\n", b"body").err(),
-        None
-    );
-    assert_eq!(rt; out.written, 28);
-    let mut full = CountingSink {
+/// Whether a sink that has taken so many bytes has taken so many then.
+fn is_counted() -> bool {
+    let mut few = CountingSink { written: 5 };
+    let mut most = CountingSink {
         written: u64::MAX - 1,
     };
-    assert_eq!(rt; send(&mut full, b"abc").err(), None);
-    assert_eq!(rt; full.written, u64::MAX);
-    Ok(())
+    let sent = send_both(&mut few, HEAD, BODY).is_ok() && send(&mut most, b"abc").is_ok();
+    sent && few.written == 28 && most.written == u64::MAX
+}
+
+/// What a buffer of five bytes is sent, how many it takes where it fails, and what it holds then.
+static SENT: [(&[u8], Option<u64>, &[u8]); 4] = [
+    (b"abc", None, b"abc"),
+    (b"def", Some(2), b"abcde"),
+    (b"", None, b"abcde"),
+    (b"g", Some(0), b"abcde"),
+];
+
+/// Whether a buffer takes what fits of a text, and holds this then.
+fn takes(out: &mut FixedBuffer<5>, text: &[u8], cut: Option<u64>, held: &[u8]) -> bool {
+    send(out, text).err() == cut && out.as_slice() == held
+}
+
+/// Whether a buffer takes what fits of each text.
+fn takes_what_fits(out: &mut FixedBuffer<5>) -> bool {
+    for (text, cut, held) in SENT.iter() {
+        if !takes(out, *text, *cut, *held) {
+            return false;
+        }
+    }
+    true
 }
 
 #[test]
-fn buffer_takes_what_fits(rt: HostRuntime) -> Result<(), Fail> {
-    let mut out: FixedBuffer<5> = FixedBuffer::new(rt.alloc())?;
-    assert_eq!(rt; send(&mut out, b"abc").err(), None);
-    assert_eq!(rt; send(&mut out, b"def").err(), Some(2));
-    assert_eq!(rt; out.as_slice(), b"abcde".as_slice());
-    assert_eq!(rt; send(&mut out, b"").err(), None);
-    assert_eq!(rt; send(&mut out, b"g").err(), Some(0));
+fn sinks_count_and_buffers_fill(rt: HostRuntime) -> Result<(), Fail> {
+    assert!(rt; is_counted());
+    let mut out = FixedBuffer::new(rt.alloc())?;
+    assert!(rt; takes_what_fits(&mut out));
     Ok(())
 }

@@ -6,7 +6,6 @@ use iiif_listener::{Company, Pace, PacedReader, PacedWriter, close};
 use std::io::{Read, Write};
 use std::net::{Net, TcpListener, TcpStream};
 use std::sync::Wait;
-use std::test::Fail;
 use std::thread;
 use std::thread::Threads;
 use std::time::{Clock, Duration};
@@ -23,9 +22,14 @@ fn company_of(count: u32) -> Company {
 /// How many single bytes are read before the time is over, each answered where `answers` is set, of one of so many connections.
 fn read_drops<R: Clock>(rt: &R, stream: TcpStream, answers: bool, open: u32) -> Option<u32> {
     let company = company_of(open);
-    let pace = Pace::new(rt, Duration::from_millis(500)).ok()?;
+    let Ok(pace) = Pace::new(rt, Duration::from_millis(500)) else {
+        return None;
+    };
+    let Ok(answering) = stream.try_clone() else {
+        return None;
+    };
     let mut out = PacedWriter {
-        stream: stream.try_clone().ok()?,
+        stream: answering,
         rt,
         pace: &pace,
     };
@@ -65,42 +69,6 @@ fn drip<R: Clock>(rt: &R, viewer: &mut TcpStream, pause: u64) {
     }
 }
 
-/// How many bytes are read of a viewer that pauses so long between them.
-fn drops_of<R: Net<Listener = TcpListener, Stream = TcpStream> + Threads + Wait + Clock + Sync>(
-    rt: &R,
-    pause: u64,
-    answers: bool,
-    open: u32,
-) -> Result<u32, Fail> {
-    let (mut viewer, stream) = connected(rt)?;
-    let (drops, ()) = thread::join(
-        rt,
-        || read_drops(rt, stream, answers, open),
-        || drip(rt, &mut viewer, pause),
-    );
-    Ok(drops.ok_or("no clock")?)
-}
-
-/// The pause between bytes, whether each is answered, how many connections are open, and at least and at most how many bytes are read.
-const VIEWERS: [(u64, bool, u32, u32, u32); 5] = [
-    (100, false, 1, 1, 8),
-    (100, true, 1, 20, 20),
-    (900, true, 1, 1, 1),
-    (0, true, 1, 20, 20),
-    (900, true, 2, 1, 1),
-];
-
-#[test]
-fn dripping_and_silent_viewers_are_left_and_an_asking_one_is_not(
-    rt: HostRuntime,
-) -> Result<(), Fail> {
-    for (pause, answers, open, least, most) in VIEWERS {
-        let drops = drops_of(&rt, pause, answers, open)?;
-        assert!(rt; least <= drops && drops <= most, "{drops} at {pause}");
-    }
-    Ok(())
-}
-
 /// Answers without reading, and closes.
 fn answer_unread(mut stream: TcpStream) {
     if stream.write_all(b"answer").is_ok() {
@@ -110,7 +78,9 @@ fn answer_unread(mut stream: TcpStream) {
 
 /// Sends more than is read, and gives what was answered.
 fn ask_much(viewer: &mut TcpStream) -> Option<(usize, [u8; 8])> {
-    viewer.write_all(&[b'G'; 50_000]).ok()?;
+    if viewer.write_all(&[b'G'; 50_000]).is_err() {
+        return None;
+    }
     let mut answer = [0u8; 8];
     let mut came = 0usize;
     for _ in 0..9u32 {
@@ -126,6 +96,80 @@ fn ask_much(viewer: &mut TcpStream) -> Option<(usize, [u8; 8])> {
     None
 }
 
+/// What a viewer does.
+#[derive(Clone, Copy)]
+enum Viewer {
+    /// It sends single bytes with a pause between them, in milliseconds, each of which is answered or not, where so many connections
+    /// are open.
+    Drips(u64, bool, u32),
+    /// It asks for more than is read.
+    AsksMuch,
+}
+
+/// What is seen at both ends: how many single bytes were read, and what was answered.
+type Seen = (Option<u32>, Option<(usize, [u8; 8])>);
+
+/// How many single bytes of a viewer are read, where it drips.
+fn serve<R: Clock>(rt: &R, stream: TcpStream, viewer: Viewer) -> Option<u32> {
+    match viewer {
+        Viewer::Drips(_, answers, open) => read_drops(rt, stream, answers, open),
+        Viewer::AsksMuch => {
+            answer_unread(stream);
+            None
+        }
+    }
+}
+
+/// What a viewer is answered, where it asks for much.
+fn view<R: Clock>(rt: &R, stream: &mut TcpStream, viewer: Viewer) -> Option<(usize, [u8; 8])> {
+    match viewer {
+        Viewer::Drips(pause, _, _) => {
+            drip(rt, stream, pause);
+            None
+        }
+        Viewer::AsksMuch => ask_much(stream),
+    }
+}
+
+/// What is seen of a viewer at both ends of a connection.
+fn seen_at<R: Net<Listener = TcpListener, Stream = TcpStream> + Threads + Wait + Clock + Sync>(
+    rt: &R,
+    viewer: Viewer,
+    near: &mut TcpStream,
+    far: TcpStream,
+) -> Seen {
+    thread::join(rt, || serve(rt, far, viewer), || view(rt, near, viewer))
+}
+
+/// The same where it connects.
+fn seen_of<R: Net<Listener = TcpListener, Stream = TcpStream> + Threads + Wait + Clock + Sync>(
+    rt: &R,
+    viewer: Viewer,
+) -> Seen {
+    match connected(rt) {
+        Some((mut near, far)) => seen_at(rt, viewer, &mut near, far),
+        None => (None, None),
+    }
+}
+
+/// What viewers do, and at least and at most how many bytes are read.
+static VIEWERS: [(Viewer, u32, u32); 5] = [
+    (Viewer::Drips(100, false, 1), 1, 8),
+    (Viewer::Drips(100, true, 1), 20, 20),
+    (Viewer::Drips(900, true, 1), 1, 1),
+    (Viewer::Drips(0, true, 1), 20, 20),
+    (Viewer::Drips(900, true, 2), 1, 1),
+];
+
+#[test]
+fn dripping_and_silent_viewers_are_left_and_an_asking_one_is_not(rt: HostRuntime) {
+    for (viewer, least, most) in VIEWERS.iter() {
+        let (drops, _) = seen_of(&rt, *viewer);
+        let drops = drops.unwrap_or(0);
+        assert!(rt; *least <= drops && drops <= *most, "{drops}");
+    }
+}
+
 #[test]
 fn a_connection_is_alone_where_no_other_is_open(rt: HostRuntime) {
     let company = company_of(1);
@@ -135,9 +179,7 @@ fn a_connection_is_alone_where_no_other_is_open(rt: HostRuntime) {
 }
 
 #[test]
-fn answer_arrives_though_input_was_left(rt: HostRuntime) -> Result<(), Fail> {
-    let (mut viewer, stream) = connected(&rt)?;
-    let ((), seen) = thread::join(&rt, || answer_unread(stream), || ask_much(&mut viewer));
-    assert!(rt; seen == Some((6, *b"answer\0\0")), "{seen:?}");
-    Ok(())
+fn answer_arrives_though_input_was_left(rt: HostRuntime) {
+    let seen = seen_of(&rt, Viewer::AsksMuch);
+    assert!(rt; seen == (None, Some((6, *b"answer\0\0"))), "{seen:?}");
 }

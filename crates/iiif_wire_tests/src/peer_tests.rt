@@ -6,7 +6,6 @@ use iiif_io::fakes::{FailingReader, FailingWriter};
 use iiif_peer_server::{Answers, serve_peer};
 use iiif_peer_wire::{Ask, Version, read_reply, write_ask};
 use std::alloc::Global;
-use std::test::Fail;
 
 /// Replies with the key itself, and refuses the second group. It counts what it answers.
 #[derive(Drop)]
@@ -75,12 +74,14 @@ fn version_of(n: u32) -> Version {
 }
 
 /// Asks for so many keys, one after another.
-fn asks(alloc: Global, count: u32) -> Result<Vec<u8>, Fail> {
+fn asks(alloc: Global, count: u32) -> Vec<u8> {
     let mut input = Vec::new(alloc);
     for n in 0..count {
-        write_ask(&mut input, version_of(n), 1, &n.to_be_bytes())?;
+        if write_ask(&mut input, version_of(n), 1, &n.to_be_bytes()).is_err() {
+            break;
+        }
     }
-    Ok(input)
+    input
 }
 
 /// How many right replies stand there in order, and whether nothing stands behind them.
@@ -99,14 +100,14 @@ fn right_replies(alloc: Global, output: &[u8], most: u32) -> (u32, bool) {
 }
 
 /// Whether so many of these asks are answered, in order, and nothing more is written.
-fn is_answered(rt: &HostRuntime, count: u32, piece: usize, answered: u32) -> Result<bool, Fail> {
-    let input = asks(rt.alloc(), count)?;
+fn is_answered(rt: &HostRuntime, count: u32, piece: usize, answered: u32) -> bool {
+    let input = asks(rt.alloc(), count);
     let (out, seen) = served(rt, input.as_slice(), piece, 1_000_000);
-    Ok(seen == answered && right_replies(rt.alloc(), out.as_slice(), 1001) == (answered, true))
+    seen == answered && right_replies(rt.alloc(), out.as_slice(), 1001) == (answered, true)
 }
 
 /// Counts of asks, in how large pieces they come, and how many are answered.
-const COUNTS: [(u32, usize, u32); 6] = [
+static COUNTS: [(u32, usize, u32); 6] = [
     (0, 1, 0),
     (3, 1, 3),
     (3, 7, 3),
@@ -116,21 +117,20 @@ const COUNTS: [(u32, usize, u32); 6] = [
 ];
 
 #[test]
-fn thousand_asks_are_answered_in_order_and_no_more(rt: HostRuntime) -> Result<(), Fail> {
-    for (count, piece, answered) in COUNTS {
+fn thousand_asks_are_answered_in_order_and_no_more(rt: HostRuntime) {
+    for (count, piece, answered) in COUNTS.iter() {
         assert!(rt;
-            is_answered(&rt, count, piece, answered)?,
+            is_answered(&rt, *count, *piece, *answered),
             "{count} asks by {piece}"
         );
     }
-    Ok(())
 }
 
 /// An ask of version 2 in the first group for `ab`, and one of version 1 in the second for `key`.
 const TWO: &[u8] = b"IGA2\x01\0\0\0\x02abIGA1\x02\0\0\0\x03key";
 
 /// The reply of version 2 for `ab` with the value `ab`, and that of version 1 for `key` with status 4. The digests are Python's.
-const TWO_REPLIES: [u8; 97] = [
+static TWO_REPLIES: [u8; 97] = [
     0x49, 0x47, 0x52, 0x32, 0x00, 0x00, 0x00, 0x02, 0x61, 0x62, 0x00, 0x00, 0x00, 0x00, 0x02, 0x61,
     0x62, 0xa6, 0x67, 0x28, 0x26, 0x75, 0xf4, 0x87, 0x60, 0x21, 0xd3, 0x92, 0xaa, 0x65, 0x92, 0xf3,
     0x9d, 0xab, 0xf7, 0x18, 0x74, 0x8c, 0x4b, 0x73, 0x85, 0x63, 0xcb, 0x9d, 0x5d, 0xc8, 0xf2, 0x1f,
@@ -206,7 +206,7 @@ fn writer_that_fails_gets_a_prefix(rt: HostRuntime) {
 }
 
 /// Asks at fault: another magic, a version 3, a group 3, a key of 4,097 bytes. What stands behind them isn't answered.
-const REFUSED: [&[u8]; 5] = [
+static REFUSED: [&[u8]; 5] = [
     b"IGR1\x01\0\0\0\x01aIGA1\x01\0\0\0\x01a",
     b"IGA3\x01\0\0\0\x01aIGA1\x01\0\0\0\x01a",
     b"IGA1\x03\0\0\0\x01aIGA1\x01\0\0\0\x01a",
