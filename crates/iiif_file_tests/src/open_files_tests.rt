@@ -6,7 +6,7 @@ use iiif_open_files::Known;
 use iiif_source::ReadFault;
 use std::test::Fail;
 
-const FIVE: [Step; 6] = [
+const FIVE: &[Step] = &[
     Step::Open("open_files_again_0", Bytes::These(&[0, 10, 20])),
     Step::Open("open_files_again_1", Bytes::These(&[1, 11, 21])),
     Step::Open("open_files_again_2", Bytes::These(&[2, 12, 22])),
@@ -15,7 +15,7 @@ const FIVE: [Step; 6] = [
     Step::Kept(2),
 ];
 
-const FIVE_ARE_READ: [Step; 20] = [
+const FIVE_ARE_READ: &[Step] = &[
     Step::Ask(0, Ask::Len(3)),
     Step::Ask(0, Ask::Two(1, Ok([10, 20]))),
     Step::Ask(0, Ask::Two(0, Ok([0, 10]))),
@@ -38,7 +38,7 @@ const FIVE_ARE_READ: [Step; 20] = [
     Step::Kept(2),
 ];
 
-const FIVE_ARE_REMOVED: [Step; 5] = [
+const FIVE_ARE_REMOVED: &[Step] = &[
     Step::Change("open_files_again_0", Change::Removed),
     Step::Change("open_files_again_1", Change::Removed),
     Step::Change("open_files_again_2", Change::Removed),
@@ -46,13 +46,13 @@ const FIVE_ARE_REMOVED: [Step; 5] = [
     Step::Change("open_files_again_4", Change::Removed),
 ];
 
-const AGAIN: [(u32, &[Step]); 3] = [(1, &FIVE), (3, &FIVE_ARE_READ), (1, &FIVE_ARE_REMOVED)];
+const AGAIN: &[(u32, &[Step])] = &[(1, FIVE), (3, FIVE_ARE_READ), (1, FIVE_ARE_REMOVED)];
 
-const NOWHERE: [Step; 2] = [Step::Nowhere("open_files_nowhere"), Step::Kept(0)];
+const NOWHERE: &[Step] = &[Step::Nowhere("open_files_nowhere"), Step::Kept(0)];
 
 /// Files that are gone, shorter, longer, another, and made again after they were opened, and one that is the same. The node of the one
 /// that was removed may be that of the one that is made in its place.
-const CHANGED: [Step; 11] = [
+const CHANGED: &[Step] = &[
     Step::Open("open_files_gone", Bytes::These(&[1, 2, 3])),
     Step::Open("open_files_shorter", Bytes::These(&[1, 2, 3])),
     Step::Open("open_files_longer", Bytes::These(&[1, 2, 3])),
@@ -67,7 +67,7 @@ const CHANGED: [Step; 11] = [
 ];
 
 /// What is read of them, and then of the one that is the same.
-const CHANGED_ARE_READ: [Step; 15] = [
+const CHANGED_ARE_READ: &[Step] = &[
     Step::Ask(0, Ask::Two(1, Err(ReadFault::FAILED))),
     Step::Ask(0, Ask::Len(3)),
     Step::Ask(5, Ask::Two(1, Ok([8, 9]))),
@@ -85,7 +85,7 @@ const CHANGED_ARE_READ: [Step; 15] = [
     Step::Ask(5, Ask::Two(1, Ok([8, 9]))),
 ];
 
-const CHANGED_ARE_REMOVED: [Step; 5] = [
+const CHANGED_ARE_REMOVED: &[Step] = &[
     Step::Change("open_files_shorter", Change::Removed),
     Step::Change("open_files_longer", Change::Removed),
     Step::Change("open_files_another", Change::Removed),
@@ -93,13 +93,13 @@ const CHANGED_ARE_REMOVED: [Step; 5] = [
     Step::Change("open_files_same", Change::Removed),
 ];
 
-const FAULTS: [(u32, &[Step]); 3] = [
-    (1, &CHANGED),
-    (1, &CHANGED_ARE_READ),
-    (1, &CHANGED_ARE_REMOVED),
+const FAULTS: &[(u32, &[Step])] = &[
+    (1, CHANGED),
+    (1, CHANGED_ARE_READ),
+    (1, CHANGED_ARE_REMOVED),
 ];
 
-const KEPT: [Step; 7] = [
+const KEPT: &[Step] = &[
     Step::Open("open_files_kept", Bytes::These(&[1, 2, 3])),
     Step::Change("open_files_kept", Change::Removed),
     Step::Ask(0, Ask::Two(0, Ok([1, 2]))),
@@ -109,7 +109,7 @@ const KEPT: [Step; 7] = [
     Step::Change("open_files_other", Change::Removed),
 ];
 
-const CUT: [Step; 5] = [
+const CUT: &[Step] = &[
     Step::Open("open_files_cut", Bytes::These(&[1, 2, 3])),
     Step::Change("open_files_cut", Change::Resized(2)),
     Step::Ask(0, Ask::Two(1, Err(2))),
@@ -117,26 +117,26 @@ const CUT: [Step; 5] = [
     Step::Change("open_files_cut", Change::Removed),
 ];
 
-const TWO: [Step; 2] = [
+const TWO: &[Step] = &[
     Step::Open("open_files_one", Bytes::These(&[1, 2, 3])),
     Step::Open("open_files_two", Bytes::These(&[4, 5])),
 ];
 
-const TWO_ARE_READ: [Step; 3] = [
+const TWO_ARE_READ: &[Step] = &[
     Step::Ask(0, Ask::Two(1, Ok([2, 3]))),
     Step::Ask(1, Ask::Two(0, Ok([4, 5]))),
     Step::KeptAtMost(1),
 ];
 
-const TWO_ARE_REMOVED: [Step; 2] = [
+const TWO_ARE_REMOVED: &[Step] = &[
     Step::Change("open_files_one", Change::Removed),
     Step::Change("open_files_two", Change::Removed),
 ];
 
-const GROWTH: [(u32, &[Step]); 3] = [(1, &TWO), (3, &TWO_ARE_READ), (1, &TWO_ARE_REMOVED)];
+static GROWTH: [(u32, &[Step]); 3] = [(1, TWO), (3, TWO_ARE_READ), (1, TWO_ARE_REMOVED)];
 
 /// Eight files, with their numbers in the middle.
-const EIGHT: [Step; 8] = [
+const EIGHT: &[Step] = &[
     Step::Open("open_files_shared_0", Bytes::These(&[0, 0, 100])),
     Step::Open("open_files_shared_1", Bytes::These(&[0, 1, 100])),
     Step::Open("open_files_shared_2", Bytes::These(&[0, 2, 100])),
@@ -148,7 +148,7 @@ const EIGHT: [Step; 8] = [
 ];
 
 /// The last two bytes of each.
-const EIGHT_ARE_ASKED: [(usize, Ask); 8] = [
+const EIGHT_ARE_ASKED: &[(usize, Ask)] = &[
     (0, Ask::Two(1, Ok([0, 100]))),
     (1, Ask::Two(1, Ok([1, 100]))),
     (2, Ask::Two(1, Ok([2, 100]))),
@@ -159,7 +159,7 @@ const EIGHT_ARE_ASKED: [(usize, Ask); 8] = [
     (7, Ask::Two(1, Ok([7, 100]))),
 ];
 
-const EIGHT_ARE_REMOVED: [Step; 9] = [
+const EIGHT_ARE_REMOVED: &[Step] = &[
     Step::Kept(3),
     Step::Change("open_files_shared_0", Change::Removed),
     Step::Change("open_files_shared_1", Change::Removed),
@@ -173,15 +173,18 @@ const EIGHT_ARE_REMOVED: [Step; 9] = [
 
 const SHARED: Shared = Shared {
     most: 3,
-    before: &EIGHT,
-    asks: &EIGHT_ARE_ASKED,
+    before: EIGHT,
+    asks: EIGHT_ARE_ASKED,
     turns: (50, 50),
-    behind: &EIGHT_ARE_REMOVED,
+    behind: EIGHT_ARE_REMOVED,
 };
+
+/// What threads share, here and of runs.
+static BOTH: [Shared; 2] = [SHARED, rows_tests::SHARED];
 
 #[test]
 fn threads_share_the_open_files(rt: HostRuntime) -> Result<(), Fail> {
-    for shared in [SHARED, rows_tests::SHARED] {
+    for shared in BOTH.iter().copied() {
         let files = open_files(rt.alloc(), shared.most)?;
         let mut sources = Vec::new(rt.alloc());
         play(&rt, &files, &mut sources, shared.before)?;
@@ -192,18 +195,18 @@ fn threads_share_the_open_files(rt: HostRuntime) -> Result<(), Fail> {
 }
 
 /// How many files are kept open, and what is done.
-const LISTS: [(usize, &[(u32, &[Step])]); 5] = [
-    (2, &AGAIN),
-    (1, &[(1, &NOWHERE)]),
-    (1, &FAULTS),
-    (1, &[(1, &KEPT)]),
-    (1, &[(1, &CUT)]),
+static LISTS: [(usize, &[(u32, &[Step])]); 5] = [
+    (2, AGAIN),
+    (1, &[(1, NOWHERE)]),
+    (1, FAULTS),
+    (1, &[(1, KEPT)]),
+    (1, &[(1, CUT)]),
 ];
 
 #[test]
 fn sources_are_their_files(rt: HostRuntime) -> Result<(), Fail> {
-    for (most, lists) in LISTS {
-        run(&rt, most, lists)?;
+    for (most, lists) in LISTS.iter() {
+        run(&rt, *most, *lists)?;
     }
     Ok(())
 }
@@ -215,7 +218,7 @@ fn file_is_read_after_a_refused_growth(rt: HostRuntime) -> Result<(), Fail> {
 
 /// What is found of a file that was known as [1, 2, 4, 3] (the device, the node, the moment when it was made, the length), and the
 /// cause of the fault that comes of it.
-const KNOWN: [([u64; 4], Option<u8>); 8] = [
+static KNOWN: [([u64; 4], Option<u8>); 8] = [
     ([1, 2, 4, 3], None),
     ([1, 2, 4, 2], Some(2)),
     ([1, 2, 4, 4], Some(1)),

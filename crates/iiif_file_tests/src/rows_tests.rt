@@ -8,7 +8,7 @@ use std::sync::Arc;
 use std::test::Fail;
 
 /// Twenty rows of a picture of 5,000 by 22 bytes: from left to right, from right to left, and runs that lie across those before.
-const ORDERS: [Step; 17] = [
+const ORDERS: &[Step] = &[
     Step::Open("rows_orders", Bytes::Numbered(0, 110_000)),
     Step::Ask(0, Ask::Runs(0, (0, 5000, 4, 20), Outcome::Right)),
     Step::Ask(0, Ask::Runs(0, (4, 5000, 4, 20), Outcome::Right)),
@@ -29,7 +29,7 @@ const ORDERS: [Step; 17] = [
 ];
 
 /// Whole rows, the last rows of the file, one run, runs that lie together, and runs without a byte.
-const EDGES: [Step; 15] = [
+const EDGES: &[Step] = &[
     Step::Open("rows_edges", Bytes::Numbered(0, 4000)),
     Step::Ask(0, Ask::Runs(0, (0, 100, 10, 8), Outcome::Right)),
     Step::Ask(0, Ask::Runs(0, (90, 100, 10, 8), Outcome::Right)),
@@ -48,7 +48,7 @@ const EDGES: [Step; 15] = [
 ];
 
 /// Two files of equal rows.
-const TWO: [Step; 9] = [
+const TWO: &[Step] = &[
     Step::Open("rows_one", Bytes::Numbered(0, 4000)),
     Step::Open("rows_two", Bytes::Numbered(255, 4000)),
     Step::Ask(0, Ask::Runs(0, (0, 100, 4, 8), Outcome::Right)),
@@ -61,7 +61,7 @@ const TWO: [Step; 9] = [
 ];
 
 /// A file that is cut while it is open has ended, though its rows were read ahead; as long again it holds what it holds now.
-const CUT: [Step; 9] = [
+const CUT: &[Step] = &[
     Step::Open("rows_cut", Bytes::Numbered(7, 4000)),
     Step::Ask(0, Ask::Runs(7, (0, 100, 4, 8), Outcome::Right)),
     Step::Ask(0, Ask::Runs(7, (0, 100, 4, 20), Outcome::Right)),
@@ -77,7 +77,7 @@ const CUT: [Step; 9] = [
 ];
 
 /// A file that is written over while it isn't open is read anew, and one that is another then isn't read.
-const ANEW: [Step; 12] = [
+const ANEW: &[Step] = &[
     Step::Open("rows_anew", Bytes::Numbered(1, 4000)),
     Step::Ask(0, Ask::Runs(1, (0, 100, 4, 8), Outcome::Right)),
     Step::Ask(0, Ask::Runs(1, (0, 100, 4, 20), Outcome::Right)),
@@ -96,7 +96,7 @@ const ANEW: [Step; 12] = [
 ];
 
 /// Columns of 20 groups of rows, more than are kept.
-const GROUPS: [(usize, Ask); 20] = [
+const GROUPS: &[(usize, Ask)] = &[
     (0, Ask::Runs(5, (0, 5000, 4, 20), Outcome::Right)),
     (0, Ask::Runs(5, (5000, 5000, 4, 20), Outcome::Right)),
     (0, Ask::Runs(5, (10000, 5000, 4, 20), Outcome::Right)),
@@ -123,39 +123,47 @@ const GROUPS: [(usize, Ask); 20] = [
 pub(crate) const SHARED: Shared = Shared {
     most: 1,
     before: &[Step::Open("rows_shared", Bytes::Numbered(5, 200_000))],
-    asks: &GROUPS,
+    asks: GROUPS,
     turns: (50, 70),
     behind: &[Step::Change("rows_shared", Change::Removed)],
 };
 
 /// How many files are kept open, and what is done.
-const LISTS: [(usize, &[Step]); 5] = [(1, &ORDERS), (1, &EDGES), (2, &TWO), (1, &CUT), (1, &ANEW)];
+static LISTS: [(usize, &[(u32, &[Step])]); 5] = [
+    (1, &[(1, ORDERS)]),
+    (1, &[(1, EDGES)]),
+    (2, &[(1, TWO)]),
+    (1, &[(1, CUT)]),
+    (1, &[(1, ANEW)]),
+];
 
 #[test]
 fn runs_are_those_of_the_file(rt: HostRuntime) -> Result<(), Fail> {
-    for (most, steps) in LISTS {
-        run(&rt, most, &[(1, steps)])?;
+    for (most, lists) in LISTS.iter() {
+        run(&rt, *most, *lists)?;
     }
     Ok(())
 }
 
 /// A read whose rows are read ahead, where memory allows it.
-const GROWTH: [Step; 4] = [
+const GROWTH: &[Step] = &[
     Step::Open("rows_growth", Bytes::Numbered(9, 4000)),
     Step::Ask(0, Ask::Runs(9, (0, 100, 4, 8), Outcome::Right)),
     Step::Ask(0, Ask::Runs(9, (4, 100, 4, 8), Outcome::Right)),
     Step::Change("rows_growth", Change::Removed),
 ];
 
+static GROWTHS: [(u32, &[Step]); 1] = [(1, GROWTH)];
+
 #[test]
 fn runs_are_read_after_a_refused_growth(rt: HostRuntime) -> Result<(), Fail> {
-    run(&rt, 1, &[(1, &GROWTH)])
+    run(&rt, 1, &GROWTHS)
 }
 
 /// Runs, the length of their source, and how long the wider ones are: eight times as long; less where a row or the source ends, or
 /// 1 MiB, of up to 16 rows 64 KiB; whole rows where these are short; none where there is no room, for one run, for runs that lie
 /// together or have no byte.
-const WIDER: [(Place, u64, Option<usize>); 18] = [
+static WIDER: [(Place, u64, Option<usize>); 18] = [
     ((0, 10_000, 256, 256), 100_000_000, Some(2048)),
     ((9_984, 10_000, 16, 256), 100_000_000, Some(128)),
     ((0, 10_000, 1024, 256), 100_000_000, Some(4096)),
@@ -224,7 +232,7 @@ enum Shelved {
     Len(usize),
 }
 
-const SHELVED: [Shelved; 12] = [
+static SHELVED: [Shelved; 12] = [
     Shelved::Keep(0, 16),
     Shelved::Len(16),
     Shelved::Has(0, true),

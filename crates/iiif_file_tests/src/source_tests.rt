@@ -2,9 +2,10 @@
 
 use iiif_source::{FileSource, FuseSource, MemSource, ReadFault, Source};
 use std::alloc::Global;
-use std::fs;
 use std::fs::File;
-use std::test::Fail;
+use std::rt::Files;
+use std::sync::Wait;
+use std::{fs, io};
 
 /// A place, and the two bytes that are read from there on, or the cause of the fault of that read.
 type Read = (u64, Result<[u8; 2], u8>);
@@ -12,8 +13,11 @@ type Read = (u64, Result<[u8; 2], u8>);
 const FIVE: [u8; 5] = [1, 2, 3, 4, 5];
 
 /// Five bytes in memory.
-fn five(alloc: Global) -> Result<MemSource, Fail> {
-    Ok(MemSource::new(Vec::from_slice(alloc, &FIVE)?))
+fn five(alloc: Global) -> Option<MemSource> {
+    match Vec::from_slice(alloc, &FIVE) {
+        Ok(bytes) => Some(MemSource::new(bytes)),
+        Err(_) => None,
+    }
 }
 
 /// Two bytes of a source from a place on, where it has them.
@@ -41,15 +45,30 @@ fn gives<R, S: Source<R>>(rt: &R, source: &S, len: u64, reads: &[Read]) -> bool 
     source.len() == len
 }
 
-#[test]
-fn memory_gives_its_bytes_at_any_place(rt: HostRuntime) -> Result<(), Fail> {
-    let source = five(rt.alloc())?;
-    assert!(rt; gives(&(), &source, 5, &[(0, Ok([1, 2])), (3, Ok([4, 5]))]));
-    Ok(())
+/// Whether five bytes in memory give these reads.
+fn memory_gives(alloc: Global, reads: &[Read]) -> bool {
+    match five(alloc) {
+        Some(source) => gives(&(), &source, 5, reads),
+        None => false,
+    }
 }
 
+/// Whether a source that fails from the second read on gives these reads, within one that fails from the ninth on.
+fn fuses_give(alloc: Global, reads: &[Read]) -> bool {
+    match five(alloc) {
+        Some(five) => gives(&(), &FuseSource::new(FuseSource::new(five, 2), 9), 5, reads),
+        None => false,
+    }
+}
+
+/// What five bytes give at any place.
+static IN_MEMORY: [Read; 2] = [(0, Ok([1, 2])), (3, Ok([4, 5]))];
+
+/// What they give within two fuses.
+static WITHIN_FUSES: [Read; 2] = [(0, Ok([1, 2])), (1, Err(ReadFault::FUSE))];
+
 /// From which read on a source fails, what is read of it before it is mended, and what then.
-const FUSES: [(u64, &[Read], &[Read]); 5] = [
+static FUSES: [(u64, &[Read], &[Read]); 5] = [
     (1, &[(2, Err(3)); 5], &[(1, Ok([2, 3])); 3]),
     (
         2,
@@ -78,27 +97,23 @@ const FUSES: [(u64, &[Read], &[Read]); 5] = [
 ];
 
 /// Whether a source that fails from a read on gives this until it is mended, and that then.
-fn is_mended(alloc: Global, k: u64, before: &[Read], then: &[Read]) -> Result<bool, Fail> {
-    let source = FuseSource::new(five(alloc)?, k);
+fn is_mended(alloc: Global, k: u64, before: &[Read], then: &[Read]) -> bool {
+    let Some(five) = five(alloc) else {
+        return false;
+    };
+    let source = FuseSource::new(five, k);
     let failed = gives(&(), &source, 5, before);
     source.mend();
-    Ok(failed && gives(&(), &source, 5, then))
+    failed && gives(&(), &source, 5, then)
 }
 
 #[test]
-fn fuse_fails_from_the_kth_read_until_it_is_mended(rt: HostRuntime) -> Result<(), Fail> {
-    for (k, before, then) in FUSES {
-        assert!(rt; is_mended(rt.alloc(), k, before, then)?, "k {k}");
+fn fuse_fails_from_the_kth_read_until_it_is_mended(rt: HostRuntime) {
+    assert!(rt; memory_gives(rt.alloc(), &IN_MEMORY));
+    assert!(rt; fuses_give(rt.alloc(), &WITHIN_FUSES));
+    for (k, before, then) in FUSES.iter() {
+        assert!(rt; is_mended(rt.alloc(), *k, *before, *then), "k {k}");
     }
-    Ok(())
-}
-
-#[test]
-fn fuse_within_a_fuse_fails_first(rt: HostRuntime) -> Result<(), Fail> {
-    let source = FuseSource::new(FuseSource::new(five(rt.alloc())?, 2), 9);
-    let reads = [(0, Ok([1, 2])), (1, Err(ReadFault::FUSE))];
-    assert!(rt; gives(&(), &source, 5, &reads));
-    Ok(())
 }
 
 /// A file that has so many bytes once a source of it is made: its name and its bytes, whether it can be read, and what is read.
@@ -111,7 +126,7 @@ struct Opened {
     reads: &'static [Read],
 }
 
-const FILES: [Opened; 3] = [
+static FILES: [Opened; 3] = [
     Opened {
         name: "iiif_source_read",
         bytes: &FIVE,
@@ -136,7 +151,7 @@ const FILES: [Opened; 3] = [
 ];
 
 /// An open file, whose name is gone.
-fn open_file(rt: &HostRuntime, file: Opened) -> Result<File, Fail> {
+fn open_file<R: Files<File = File>>(rt: &R, file: &Opened) -> io::Result<File> {
     fs::write(rt, file.name, file.bytes)?;
     let mut options = File::options();
     let open = options.read(file.is_read).write(true).open(rt, file.name)?;
@@ -145,7 +160,7 @@ fn open_file(rt: &HostRuntime, file: Opened) -> Result<File, Fail> {
 }
 
 /// A source of a file, which is cut then.
-fn cut(rt: &HostRuntime, file: Opened) -> Result<FileSource, Fail> {
+fn cut<R: Files<File = File>>(rt: &R, file: &Opened) -> io::Result<FileSource> {
     let open = open_file(rt, file)?;
     let second = open.try_clone()?;
     let source = FileSource::new(open)?;
@@ -153,21 +168,29 @@ fn cut(rt: &HostRuntime, file: Opened) -> Result<FileSource, Fail> {
     Ok(source)
 }
 
-#[test]
-fn files_give_their_bytes_or_a_fault(rt: HostRuntime) -> Result<(), Fail> {
-    for (number, file) in FILES.iter().enumerate() {
-        let source = cut(&rt, *file)?;
-        assert!(rt;
-            gives(&rt, &source, file.bytes.len() as u64, file.reads),
-            "file {number}"
-        );
+/// Whether a file gives its reads.
+fn file_gives<R: Files<File = File> + Wait>(rt: &R, file: &Opened) -> bool {
+    match cut(rt, file) {
+        Ok(source) => gives(rt, &source, file.bytes.len() as u64, file.reads),
+        Err(_) => false,
     }
-    Ok(())
 }
 
+/// Whether a source that fails from the ninth read on gives the first fault of what is inside.
+fn fuse_gives<R: Files<File = File> + Wait>(rt: &R, file: &Opened, reads: &[Read]) -> bool {
+    match cut(rt, file) {
+        Ok(source) => gives(rt, &FuseSource::new(source, 9), 5, reads),
+        Err(_) => false,
+    }
+}
+
+/// The fault that a fuse hands on.
+static HANDED_ON: [Read; 1] = [(3, Err(2))];
+
 #[test]
-fn fuse_hands_on_the_fault_of_what_is_inside(rt: HostRuntime) -> Result<(), Fail> {
-    let source = FuseSource::new(cut(&rt, FILES[1])?, 9);
-    assert!(rt; gives(&rt, &source, 5, &[(3, Err(2))]));
-    Ok(())
+fn files_give_their_bytes_or_a_fault(rt: HostRuntime) {
+    for (number, file) in FILES.iter().enumerate() {
+        assert!(rt; file_gives(&rt, file), "file {number}");
+    }
+    assert!(rt; fuse_gives(&rt, &FILES[1], &HANDED_ON));
 }

@@ -1,13 +1,13 @@
-//! Files of many layouts, read and refused, and devices that fail while they are read.
+//! Files of many layouts, read and refused.
 
 use iiif_pixel::{Dim, Kind, Raster, Rect, Span};
-use iiif_source::{FuseSource, MemSource, ReadFault, Source};
+use iiif_source::{MemSource, ReadFault, Source};
 use iiif_tiff_read::{LoadFault, OpenFault, open};
-use one_fault::OneFault;
 use std::alloc::Global;
 use std::test::Fail;
 use writer::{Field, Form, PLAIN, write_file};
 
+mod device_tests;
 mod one_fault;
 mod writer;
 
@@ -40,7 +40,7 @@ const WHITE_IS_ZERO: Field = Field(262, 3, &[0]);
 const ONE_SAMPLE: Field = Field(277, 3, &[1]);
 
 /// The picture in one strip.
-const FOUR_ROWS: [Field; 9] = [
+const FOUR_ROWS: &[Field] = &[
     WIDTH,
     LENGTH,
     EIGHT_BITS,
@@ -53,7 +53,7 @@ const FOUR_ROWS: [Field; 9] = [
 ];
 
 /// The picture in strips of 2 rows.
-const TWO_ROWS: [Field; 9] = [
+const TWO_ROWS: &[Field] = &[
     WIDTH,
     LENGTH,
     EIGHT_BITS,
@@ -66,7 +66,7 @@ const TWO_ROWS: [Field; 9] = [
 ];
 
 /// The picture in strips of 1 row.
-const ONE_ROW: [Field; 9] = [
+const ONE_ROW: &[Field] = &[
     WIDTH,
     LENGTH,
     EIGHT_BITS,
@@ -79,7 +79,7 @@ const ONE_ROW: [Field; 9] = [
 ];
 
 /// The picture in strips of 3 rows and 1.
-const THREE_ROWS: [Field; 9] = [
+const THREE_ROWS: &[Field] = &[
     WIDTH,
     LENGTH,
     EIGHT_BITS,
@@ -92,7 +92,7 @@ const THREE_ROWS: [Field; 9] = [
 ];
 
 /// The picture in tiles of 3 by 3, padded with 99.
-const TILES: [Field; 10] = [
+const TILES: &[Field] = &[
     WIDTH,
     LENGTH,
     EIGHT_BITS,
@@ -157,15 +157,24 @@ fn read_part<S: Source<()>>(
 }
 
 /// Whether a rectangle of the image in a source, or all of it, has these samples.
-fn shows<S: Source<()>>(
+fn shows<S: Source<()>>(alloc: Global, source: &S, part: Option<Rect>, samples: Span) -> bool {
+    match read_part(alloc, source, part) {
+        Ok(raster) => raster.samples() == samples,
+        Err(_) => false,
+    }
+}
+
+/// The same of a file with these fields and bytes.
+fn file_shows(
     alloc: Global,
-    source: &S,
+    form: Form,
+    (fields, bytes): (&[Field], &[u8]),
     part: Option<Rect>,
     samples: Span,
-) -> Result<bool, Fail> {
-    match read_part(alloc, source, part) {
-        Ok(raster) => Ok(raster.samples() == samples),
-        Err(_) => Err("the image is refused, or its device fails".into()),
+) -> bool {
+    match write_file(alloc, form, fields, bytes) {
+        Some(file) => shows(alloc, &MemSource::new(file), part, samples),
+        None => false,
     }
 }
 
@@ -175,15 +184,21 @@ fn opened(alloc: Global, bytes: &[u8]) -> Opened {
     Ok((layout.dim().w, layout.dim().h, layout.kind()))
 }
 
+/// Whether the plain file with these fields and bytes is this one.
+fn is_written_so(alloc: Global, fields: &[Field], bytes: &[u8], want: &[u8]) -> bool {
+    match write_file(alloc, PLAIN, fields, bytes) {
+        Some(file) => file.as_slice() == want,
+        None => false,
+    }
+}
+
 #[test]
-fn sample_file_is_as_published(rt: HostRuntime) -> Result<(), Fail> {
-    let file = write_file(rt.alloc(), PLAIN, &FOUR_ROWS, &SAMPLES)?;
-    assert!(rt; file.as_slice() == SAMPLE.as_slice());
-    Ok(())
+fn sample_file_is_as_published(rt: HostRuntime) {
+    assert!(rt; is_written_so(rt.alloc(), FOUR_ROWS, &SAMPLES, &SAMPLE));
 }
 
 /// Low or high bytes first, and the directory behind the samples or before them.
-const FORMS: [Form; 4] = [
+static FORMS: [Form; 4] = [
     PLAIN,
     Form {
         high_first: true,
@@ -200,7 +215,7 @@ const FORMS: [Form; 4] = [
 ];
 
 /// The fields of the tiled picture from the last one on.
-const REVERSED: [Field; 10] = [
+const REVERSED: &[Field] = &[
     Field(325, 4, &[9, 9, 9, 9]),
     Field(324, 4, &[0, 9, 18, 27]),
     Field(323, 3, &[3]),
@@ -214,7 +229,7 @@ const REVERSED: [Field; 10] = [
 ];
 
 /// The same with a second Compression and a field of text behind them.
-const REVERSED_AND_MORE: [Field; 12] = [
+const REVERSED_AND_MORE: &[Field] = &[
     Field(325, 4, &[9, 9, 9, 9]),
     Field(324, 4, &[0, 9, 18, 27]),
     Field(323, 3, &[3]),
@@ -230,7 +245,7 @@ const REVERSED_AND_MORE: [Field; 12] = [
 ];
 
 /// The picture in one strip, which has a byte more than it needs.
-const STRIP_AND_MORE: [Field; 9] = [
+const STRIP_AND_MORE: &[Field] = &[
     WIDTH,
     LENGTH,
     EIGHT_BITS,
@@ -248,47 +263,43 @@ const MORE: [u8; 17] = [
 ];
 
 /// The fields and the bytes of files that show the one picture. Tags stand in any order, and the first of two counts.
-const LAYOUTS: [(&[Field], &[u8]); 8] = [
-    (&FOUR_ROWS, &SAMPLES),
-    (&TWO_ROWS, &SAMPLES),
-    (&ONE_ROW, &SAMPLES),
-    (&THREE_ROWS, &SAMPLES),
-    (&TILES, &TILED),
-    (&REVERSED, &TILED),
-    (&REVERSED_AND_MORE, &TILED),
-    (&STRIP_AND_MORE, &MORE),
+static LAYOUTS: [(&[Field], &[u8]); 8] = [
+    (FOUR_ROWS, &SAMPLES),
+    (TWO_ROWS, &SAMPLES),
+    (ONE_ROW, &SAMPLES),
+    (THREE_ROWS, &SAMPLES),
+    (TILES, &TILED),
+    (REVERSED, &TILED),
+    (REVERSED_AND_MORE, &TILED),
+    (STRIP_AND_MORE, &MORE),
 ];
 
-/// Whether a file with these fields shows the picture, whole and in its middle.
-fn shows_sample(alloc: Global, form: Form, fields: &[Field], bytes: &[u8]) -> Result<bool, Fail> {
-    let source = MemSource::new(write_file(alloc, form, fields, bytes)?);
-    let whole = shows(alloc, &source, Some(WHOLE), Span::Eight(&SAMPLES))?;
-    Ok(
-        whole
-            && shows(
-                alloc,
-                &source,
-                Some(MIDDLE),
-                Span::Eight(&[50, 60, 90, 100]),
-            )?,
-    )
+/// The samples of its middle.
+const IN_THE_MIDDLE: [u8; 4] = [50, 60, 90, 100];
+
+/// Whether a file with these fields and bytes shows the picture, whole and in its middle.
+fn shows_sample(alloc: Global, form: Form, layout: (&[Field], &[u8])) -> bool {
+    file_shows(alloc, form, layout, Some(WHOLE), Span::Eight(&SAMPLES))
+        && file_shows(
+            alloc,
+            form,
+            layout,
+            Some(MIDDLE),
+            Span::Eight(&IN_THE_MIDDLE),
+        )
 }
 
 #[test]
-fn one_picture_from_each_layout(rt: HostRuntime) -> Result<(), Fail> {
-    for form in FORMS {
-        for (number, (fields, bytes)) in LAYOUTS.iter().enumerate() {
-            assert!(rt;
-                shows_sample(rt.alloc(), form, *fields, *bytes)?,
-                "layout {number}"
-            );
+fn one_picture_from_each_layout(rt: HostRuntime) {
+    for form in FORMS.iter() {
+        for (number, layout) in LAYOUTS.iter().enumerate() {
+            assert!(rt; shows_sample(rt.alloc(), *form, *layout), "layout {number}");
         }
     }
-    Ok(())
 }
 
 /// A bilevel picture of 10 by 2 in two rows of two bytes, where 0 is black.
-const BLACK_BITS: [Field; 5] = [
+const BLACK_BITS: &[Field] = &[
     Field(256, 3, &[10]),
     Field(257, 3, &[2]),
     BLACK_IS_ZERO,
@@ -297,7 +308,7 @@ const BLACK_BITS: [Field; 5] = [
 ];
 
 /// The same where 0 is white.
-const WHITE_BITS: [Field; 5] = [
+const WHITE_BITS: &[Field] = &[
     Field(256, 3, &[10]),
     Field(257, 3, &[2]),
     WHITE_IS_ZERO,
@@ -306,7 +317,7 @@ const WHITE_BITS: [Field; 5] = [
 ];
 
 /// The picture in one strip, where 0 is white.
-const INVERTED: [Field; 9] = [
+const INVERTED: &[Field] = &[
     WIDTH,
     LENGTH,
     EIGHT_BITS,
@@ -319,7 +330,7 @@ const INVERTED: [Field; 9] = [
 ];
 
 /// An RGB picture of 2 by 1.
-const COLOURS: [Field; 7] = [
+const COLOURS: &[Field] = &[
     Field(256, 3, &[2]),
     Field(257, 3, &[1]),
     Field(258, 3, &[8, 8, 8]),
@@ -330,7 +341,7 @@ const COLOURS: [Field; 7] = [
 ];
 
 /// A gray picture of 2 by 1 of 16 bits, where 0 is black.
-const BLACK_DEEP: [Field; 7] = [
+const BLACK_DEEP: &[Field] = &[
     Field(256, 3, &[2]),
     Field(257, 3, &[1]),
     Field(258, 3, &[16]),
@@ -341,7 +352,7 @@ const BLACK_DEEP: [Field; 7] = [
 ];
 
 /// The same where 0 is white.
-const WHITE_DEEP: [Field; 7] = [
+const WHITE_DEEP: &[Field] = &[
     Field(256, 3, &[2]),
     Field(257, 3, &[1]),
     Field(258, 3, &[16]),
@@ -352,7 +363,7 @@ const WHITE_DEEP: [Field; 7] = [
 ];
 
 /// Two tiles of 2 by 1, of which the second is cut off, with channels 1 to 9 times 257.
-const DEEP_TILES: [Field; 9] = [
+const DEEP_TILES: &[Field] = &[
     Field(256, 3, &[3]),
     Field(257, 3, &[1]),
     Field(258, 3, &[16, 16, 16]),
@@ -374,10 +385,10 @@ struct Part {
     samples: Span<'static>,
 }
 
-const PARTS: [Part; 9] = [
+static PARTS: [Part; 9] = [
     // A rectangle without samples is empty.
     Part {
-        fields: &FOUR_ROWS,
+        fields: FOUR_ROWS,
         high_first: false,
         bytes: &SAMPLES,
         rect: Some(Rect {
@@ -389,7 +400,7 @@ const PARTS: [Part; 9] = [
         samples: Span::Eight(&[]),
     },
     Part {
-        fields: &BLACK_BITS,
+        fields: BLACK_BITS,
         high_first: false,
         // 1011 0001 01.. and 0000 0000 11..
         bytes: &[177, 64, 0, 192],
@@ -397,21 +408,21 @@ const PARTS: [Part; 9] = [
         samples: Span::Eight(&[0, 255, 0, 255, 0, 0, 255, 255]),
     },
     Part {
-        fields: &WHITE_BITS,
+        fields: WHITE_BITS,
         high_first: false,
         bytes: &[177, 64, 0, 192],
         rect: Some(LAST_OF_BILEVEL),
         samples: Span::Eight(&[255, 0, 255, 0, 255, 255, 0, 0]),
     },
     Part {
-        fields: &INVERTED,
+        fields: INVERTED,
         high_first: false,
         bytes: &SAMPLES,
         rect: Some(MIDDLE),
         samples: Span::Eight(&[205, 195, 165, 155]),
     },
     Part {
-        fields: &COLOURS,
+        fields: COLOURS,
         high_first: false,
         bytes: &[2, 0, 1, 5, 6, 7],
         rect: Some(Rect {
@@ -423,28 +434,28 @@ const PARTS: [Part; 9] = [
         samples: Span::Eight(&[5, 6, 7]),
     },
     Part {
-        fields: &BLACK_DEEP,
+        fields: BLACK_DEEP,
         high_first: false,
         bytes: &[3, 2, 254, 255],
         rect: None,
         samples: Span::Sixteen(&[515, 65_534]),
     },
     Part {
-        fields: &BLACK_DEEP,
+        fields: BLACK_DEEP,
         high_first: true,
         bytes: &[2, 3, 255, 254],
         rect: None,
         samples: Span::Sixteen(&[515, 65_534]),
     },
     Part {
-        fields: &WHITE_DEEP,
+        fields: WHITE_DEEP,
         high_first: true,
         bytes: &[2, 3, 255, 254],
         rect: None,
         samples: Span::Sixteen(&[65_020, 1]),
     },
     Part {
-        fields: &DEEP_TILES,
+        fields: DEEP_TILES,
         high_first: false,
         bytes: &[
             1, 1, 2, 2, 3, 3, 4, 4, 5, 5, 6, 6, 7, 7, 8, 8, 9, 9, 0, 0, 0, 0, 0, 0,
@@ -462,24 +473,24 @@ const LAST_OF_BILEVEL: Rect = Rect {
 };
 
 /// Whether what is read of a file is what it is to be.
-fn is_read(alloc: Global, part: Part) -> Result<bool, Fail> {
+fn is_read(alloc: Global, part: &Part) -> bool {
     let form = Form {
         high_first: part.high_first,
         directory_first: false,
     };
-    let file = write_file(alloc, form, part.fields, part.bytes)?;
-    shows(alloc, &MemSource::new(file), part.rect, part.samples)
+    let file = (part.fields, part.bytes);
+    file_shows(alloc, form, file, part.rect, part.samples)
 }
 
 #[test]
-fn parts_have_these_samples(rt: HostRuntime) -> Result<(), Fail> {
+fn parts_have_these_samples(rt: HostRuntime) {
     for (number, part) in PARTS.iter().enumerate() {
-        assert!(rt; is_read(rt.alloc(), *part)?, "part {number}");
+        assert!(rt; is_read(rt.alloc(), part), "part {number}");
     }
-    Ok(())
 }
 
-const WIDEST: [Field; 5] = [
+/// The widest image, in one row.
+const WIDEST: &[Field] = &[
     Field(256, 4, &[1_000_000]),
     Field(257, 3, &[1]),
     BLACK_IS_ZERO,
@@ -487,32 +498,39 @@ const WIDEST: [Field; 5] = [
     Field(279, 4, &[125_000]),
 ];
 
-#[test]
-fn limits_on_sides_are_those_of_the_image(rt: HostRuntime) -> Result<(), Fail> {
-    let alloc = rt.alloc();
-    let bits = vec![in alloc; 0u8; 125_000]?;
-    let file = write_file(alloc, PLAIN, &WIDEST, &bits)?;
-    assert!(rt; opened(alloc, &file) == Ok((1_000_000, 1, Kind::Gray)));
-    let last = Rect {
-        x: 999_998,
-        y: 0,
-        w: 2,
-        h: 1,
+/// The last two places of its row.
+const LAST_OF_THE_WIDEST: Rect = Rect {
+    x: 999_998,
+    y: 0,
+    w: 2,
+    h: 1,
+};
+
+/// Whether a file of an image is opened, and these are the last places of its row.
+fn is_widest(alloc: Global, bits: &[u8], samples: Span) -> bool {
+    let Some(file) = write_file(alloc, PLAIN, WIDEST, bits) else {
+        return false;
     };
-    assert!(rt;
-        shows(
+    let is_opened = opened(alloc, &file) == Ok((1_000_000, 1, Kind::Gray));
+    is_opened
+        && shows(
             alloc,
             &MemSource::new(file),
-            Some(last),
-            Span::Eight(&[0, 0])
-        )?
-    );
+            Some(LAST_OF_THE_WIDEST),
+            samples,
+        )
+}
+
+#[test]
+fn limits_on_sides_are_those_of_the_image(rt: HostRuntime) -> Result<(), Fail> {
+    let bits = vec![in rt.alloc(); 0u8; 125_000]?;
+    assert!(rt; is_widest(rt.alloc(), &bits, Span::Eight(&[0, 0])));
     Ok(())
 }
 
 /// The first bytes of the sample, so many; where four of them are others, and which; what is answered then. A file is cut, its
 /// offsets and counts are hostile, or a field is wrong.
-const CHANGED: [(usize, usize, [u8; 4], Opened); 22] = [
+static CHANGED: [(usize, usize, [u8; 4], Opened); 22] = [
     (7, 7, [0; 4], Err(OpenFault::NotTiff)),
     (23, 23, [0; 4], Err(OpenFault::Truncated)),
     (133, 133, [0; 4], Err(OpenFault::Truncated)),
@@ -557,15 +575,20 @@ fn cut_and_changed_files_are_refused(rt: HostRuntime) {
     }
 }
 
+/// What is answered to the plain file with these fields and bytes.
+fn written(alloc: Global, fields: &[Field], bytes: &[u8]) -> Option<Opened> {
+    let file = write_file(alloc, PLAIN, fields, bytes)?;
+    Some(opened(alloc, &file))
+}
+
 #[test]
-fn colours_are_red_green_blue(rt: HostRuntime) -> Result<(), Fail> {
-    let file = write_file(rt.alloc(), PLAIN, &COLOURS, &[2, 0, 1, 5, 6, 7])?;
-    assert!(rt; opened(rt.alloc(), &file) == Ok((2, 1, Kind::Rgb)));
-    Ok(())
+fn colours_are_red_green_blue(rt: HostRuntime) {
+    let opened = written(rt.alloc(), COLOURS, &[2, 0, 1, 5, 6, 7]);
+    assert!(rt; opened == Some(Ok((2, 1, Kind::Rgb))));
 }
 
 /// The fields of the tiled picture but its sides.
-const TILES_OF_NO_SIDES: [Field; 8] = [
+const TILES_OF_NO_SIDES: &[Field] = &[
     EIGHT_BITS,
     PLAINLY,
     BLACK_IS_ZERO,
@@ -579,61 +602,53 @@ const TILES_OF_NO_SIDES: [Field; 8] = [
 /// Fields, those behind them, and the refusal of a file of both without samples. The first entry with a tag counts. The first files
 /// have a wrong field; then come areas and tiles without end (more than 2^32 places; 1,025 by 1,024 tiles; 1,024 by 1,024 tiles, of
 /// which four have offsets), colours with more samples or in planes, and a wrong field before a right one.
-const REFUSED: [(&[Field], &[Field], OpenFault); 23] = [
-    (&[Field(256, 4, &[1_000_001])], &TILES, OpenFault::TooLarge),
-    (&[Field(257, 3, &[0])], &TILES, OpenFault::BadField(257)),
-    (&[Field(257, 4, &[1_000_001])], &TILES, OpenFault::TooLarge),
-    (&[Field(277, 3, &[0])], &TILES, OpenFault::BadField(277)),
-    (&[Field(277, 3, &[2])], &TILES, OpenFault::Unsupported(277)),
-    (&[Field(258, 3, &[8, 8])], &TILES, OpenFault::BadField(258)),
-    (&[Field(266, 3, &[2])], &TILES, OpenFault::Unsupported(266)),
-    (&[Field(274, 3, &[9])], &TILES, OpenFault::Unsupported(274)),
-    (&[Field(339, 3, &[1, 1])], &TILES, OpenFault::BadField(339)),
-    (&[Field(339, 3, &[2])], &TILES, OpenFault::Unsupported(339)),
-    (&[Field(322, 3, &[0])], &TILES, OpenFault::BadField(322)),
-    (&[Field(322, 4, &[1_048_577])], &TILES, OpenFault::TooLarge),
-    (&[Field(323, 2, &[3])], &TILES, OpenFault::BadField(323)),
-    (&[Field(323, 3, &[0])], &TILES, OpenFault::BadField(323)),
+static REFUSED: [(&[Field], &[Field], OpenFault); 23] = [
+    (&[Field(256, 4, &[1_000_001])], TILES, OpenFault::TooLarge),
+    (&[Field(257, 3, &[0])], TILES, OpenFault::BadField(257)),
+    (&[Field(257, 4, &[1_000_001])], TILES, OpenFault::TooLarge),
+    (&[Field(277, 3, &[0])], TILES, OpenFault::BadField(277)),
+    (&[Field(277, 3, &[2])], TILES, OpenFault::Unsupported(277)),
+    (&[Field(258, 3, &[8, 8])], TILES, OpenFault::BadField(258)),
+    (&[Field(266, 3, &[2])], TILES, OpenFault::Unsupported(266)),
+    (&[Field(274, 3, &[9])], TILES, OpenFault::Unsupported(274)),
+    (&[Field(339, 3, &[1, 1])], TILES, OpenFault::BadField(339)),
+    (&[Field(339, 3, &[2])], TILES, OpenFault::Unsupported(339)),
+    (&[Field(322, 3, &[0])], TILES, OpenFault::BadField(322)),
+    (&[Field(322, 4, &[1_048_577])], TILES, OpenFault::TooLarge),
+    (&[Field(323, 2, &[3])], TILES, OpenFault::BadField(323)),
+    (&[Field(323, 3, &[0])], TILES, OpenFault::BadField(323)),
     (
         &[Field(324, 4, &[0, 9, 18])],
-        &TILES,
+        TILES,
         OpenFault::BadField(324),
     ),
     (
         &[Field(325, 4, &[9, 9, 9])],
-        &TILES,
+        TILES,
         OpenFault::BadField(325),
     ),
     (
         &[Field(325, 4, &[9, 9, 9, 8])],
-        &TILES,
+        TILES,
         OpenFault::BadField(325),
     ),
     (
         &[Field(256, 4, &[1_000_000]), Field(257, 4, &[4_295])],
-        &TILES_OF_NO_SIDES,
+        TILES_OF_NO_SIDES,
         OpenFault::TooLarge,
     ),
     (
         &[Field(256, 4, &[3_075]), Field(257, 4, &[3_072])],
-        &TILES_OF_NO_SIDES,
+        TILES_OF_NO_SIDES,
         OpenFault::TooLarge,
     ),
     (
         &[Field(256, 4, &[3_072]), Field(257, 4, &[3_072])],
-        &TILES_OF_NO_SIDES,
+        TILES_OF_NO_SIDES,
         OpenFault::BadField(324),
     ),
-    (
-        &COLOURS,
-        &[Field(338, 3, &[0])],
-        OpenFault::Unsupported(338),
-    ),
-    (
-        &COLOURS,
-        &[Field(284, 3, &[2])],
-        OpenFault::Unsupported(284),
-    ),
+    (COLOURS, &[Field(338, 3, &[0])], OpenFault::Unsupported(338)),
+    (COLOURS, &[Field(284, 3, &[2])], OpenFault::Unsupported(284)),
     (
         &[WIDTH, LENGTH, EIGHT_BITS],
         &[Field(259, 3, &[5]), PLAINLY],
@@ -641,109 +656,39 @@ const REFUSED: [(&[Field], &[Field], OpenFault); 23] = [
     ),
 ];
 
-/// What is answered to a file of these fields, one after another, without samples.
-fn answered(alloc: Global, fields: &[Field], behind: &[Field]) -> Result<Opened, Fail> {
-    let mut all = Vec::from_slice(alloc, fields)?;
-    all.extend_from_slice(behind)?;
-    Ok(opened(alloc, &write_file(alloc, PLAIN, &all, &[])?))
+/// Fields, one after another.
+fn joined(alloc: Global, fields: &[Field], behind: &[Field]) -> Option<Vec<Field>> {
+    let mut all = Vec::new(alloc);
+    if all.extend_from_slice(fields).is_ok() && all.extend_from_slice(behind).is_ok() {
+        Some(all)
+    } else {
+        None
+    }
+}
+
+/// Whether a file of these fields, one after another, without samples, is refused for this reason.
+fn is_refused(alloc: Global, fields: &[Field], behind: &[Field], fault: OpenFault) -> bool {
+    match joined(alloc, fields, behind) {
+        Some(all) => written(alloc, &all, &[]) == Some(Err(fault)),
+        None => false,
+    }
 }
 
 #[test]
-fn each_field_has_its_refusal(rt: HostRuntime) -> Result<(), Fail> {
+fn each_field_has_its_refusal(rt: HostRuntime) {
     for (number, (fields, behind, fault)) in REFUSED.iter().enumerate() {
         assert!(rt;
-            answered(rt.alloc(), *fields, *behind)? == Err(*fault),
+            is_refused(rt.alloc(), *fields, *behind, *fault),
             "file {number}"
         );
     }
-    Ok(())
-}
-
-/// The first fault of the device while an image is opened and its middle is read.
-fn first_fault<S: Source<()>>(alloc: Global, source: &S) -> Result<Option<ReadFault>, Fail> {
-    match read_part(alloc, source, Some(MIDDLE)) {
-        Ok(_) => Ok(None),
-        Err(Failed::Open(OpenFault::Source(fault))) => Ok(Some(fault)),
-        Err(Failed::Load(LoadFault::Source(fault))) => Ok(Some(fault)),
-        Err(_) => Err("the file is refused, or memory is wanted".into()),
-    }
-}
-
-/// Where the sample is read: the header, the number of entries, the entries, and two rows of the middle.
-const READS: [u64; 5] = [0, 24, 26, 13, 17];
-
-/// The sample in memory.
-fn sample(alloc: Global) -> Result<MemSource, Fail> {
-    Ok(MemSource::new(Vec::from_slice(alloc, &SAMPLE)?))
-}
-
-/// Whether the first fault of a device that fails from a read on is at this place, and is gone once the device is mended.
-fn fails_until_mended(alloc: Global, read: u64, place: u64) -> Result<bool, Fail> {
-    let source = FuseSource::new(sample(alloc)?, read);
-    let fault = first_fault(alloc, &source)?;
-    source.mend();
-    Ok(fault == Some(ReadFault { place, cause: 3 }) && first_fault(alloc, &source)? == None)
-}
-
-#[test]
-fn failing_reads_come_out_with_their_place_until_mended(rt: HostRuntime) -> Result<(), Fail> {
-    for (read, place) in (1..6u64).zip(READS) {
-        assert!(rt; fails_until_mended(rt.alloc(), read, place)?, "read {read}");
-    }
-    Ok(())
-}
-
-#[test]
-fn failed_reads_are_not_tried_again(rt: HostRuntime) -> Result<(), Fail> {
-    for (failing, place) in (0..5u64).zip(READS) {
-        let source = OneFault::new(sample(rt.alloc())?, failing);
-        let fault = first_fault(rt.alloc(), &source)?;
-        assert!(rt;
-            fault == Some(ReadFault { place, cause: 1 }),
-            "read {failing}"
-        );
-    }
-    Ok(())
-}
-
-const TILE: Rect = Rect {
-    x: 0,
-    y: 0,
-    w: 3,
-    h: 3,
-};
-
-/// Fields, bytes, a rectangle, its samples, and the read that isn't made any more. Four rows of a strip are the fourth read of all,
-/// and a tile is the sixth: two reads more are those of the tiles' offsets and byte counts.
-const TOGETHER: [(&[Field], &[u8], Rect, &[u8], u64); 2] = [
-    (&FOUR_ROWS, &SAMPLES, WHOLE, &SAMPLES, 5),
-    (
-        &TILES,
-        &TILED,
-        TILE,
-        &[0, 10, 20, 40, 50, 60, 80, 90, 100],
-        7,
-    ),
-];
-
-#[test]
-fn rows_that_lie_together_are_one_read(rt: HostRuntime) -> Result<(), Fail> {
-    for (fields, bytes, rect, samples, read) in TOGETHER {
-        let file = write_file(rt.alloc(), PLAIN, fields, bytes)?;
-        let source = FuseSource::new(MemSource::new(file), read);
-        assert!(rt;
-            shows(rt.alloc(), &source, Some(rect), Span::Eight(samples))?,
-            "{read}"
-        );
-    }
-    Ok(())
 }
 
 /// The fault of a read.
 const READ: ReadFault = ReadFault { place: 9, cause: 2 };
 
 /// Faults, their numbers and their texts.
-const FAULTS: [(OpenFault, u8, &str); 8] = [
+static FAULTS: [(OpenFault, u8, &str); 8] = [
     (OpenFault::NotTiff, 1, "not a TIFF file"),
     (OpenFault::Truncated, 2, "the file is cut off"),
     (OpenFault::Missing(262), 3, "field 262 is missing"),
@@ -762,12 +707,19 @@ const FAULTS: [(OpenFault, u8, &str); 8] = [
     (OpenFault::NoMemory, 8, "out of memory"),
 ];
 
+/// Whether a fault has this text.
+fn is_told_so(alloc: Global, fault: OpenFault, text: &str) -> bool {
+    match format!(in alloc; "{fault}") {
+        Ok(told) => told.as_str() == text,
+        Err(_) => false,
+    }
+}
+
 #[test]
 fn faults_have_numbers_and_texts(rt: HostRuntime) -> Result<(), Fail> {
-    for (fault, number, text) in FAULTS {
-        let told = format!(in rt.alloc(); "{fault}")?;
+    for (fault, number, text) in FAULTS.iter() {
         assert!(rt;
-            fault.number() == number && told.as_str() == text,
+            fault.number() == *number && is_told_so(rt.alloc(), *fault, *text),
             "{number}"
         );
     }

@@ -10,48 +10,58 @@ use std::test::Fail;
 struct Picture(u32, u32, Kind, Span<'static>);
 
 /// The raster of a picture.
-fn raster(alloc: Global, picture: Picture) -> Result<Raster, Fail> {
+fn raster(alloc: Global, picture: Picture) -> Option<Raster> {
     let Picture(w, h, kind, samples) = picture;
-    let dim = Dim { w, h };
-    let Some(count) = kind.count(dim) else {
-        return Err("too many samples".into());
-    };
     match samples {
-        Span::Eight(few) if few.len() == count => {
-            let samples = Samples::Eight(Vec::from_slice(alloc, few)?);
-            Ok(Raster::from_samples(dim, kind, samples))
-        }
-        Span::Sixteen(deep) if deep.len() == count => {
-            let samples = Samples::Sixteen(Vec::from_slice(alloc, deep)?);
-            Ok(Raster::from_samples(dim, kind, samples))
-        }
-        _ => Err("another count of samples".into()),
+        Span::Eight(few) => eight(alloc, Dim { w, h }, kind, few),
+        Span::Sixteen(deep) => sixteen(alloc, Dim { w, h }, kind, deep),
     }
 }
 
-/// Puts the rows of a picture that has the channels and the depth of its file.
-fn put(picture: &Raster, kind: OutKind, bytes: &mut Vec<u8>) -> Result<(), Fail> {
+/// The raster of samples of 8 bits.
+fn eight(alloc: Global, dim: Dim, kind: Kind, samples: &[u8]) -> Option<Raster> {
+    if kind.count(dim) != Some(samples.len()) {
+        return None;
+    }
+    let Ok(samples) = Vec::from_slice(alloc, samples) else {
+        return None;
+    };
+    Some(Raster::from_samples(dim, kind, Samples::Eight(samples)))
+}
+
+/// The raster of samples of 16 bits.
+fn sixteen(alloc: Global, dim: Dim, kind: Kind, samples: &[u16]) -> Option<Raster> {
+    if kind.count(dim) != Some(samples.len()) {
+        return None;
+    }
+    let Ok(samples) = Vec::from_slice(alloc, samples) else {
+        return None;
+    };
+    Some(Raster::from_samples(dim, kind, Samples::Sixteen(samples)))
+}
+
+/// Puts the rows of a picture that has the channels and the depth of its file, or says that it doesn't.
+fn put(picture: &Raster, kind: OutKind, bytes: &mut Vec<u8>) -> bool {
     if picture.kind().channels() != usize::from(kind.samples_per_pixel()) {
-        return Err("other channels".into());
+        return false;
     }
-    if picture.depth() != kind.depth() {
-        return Err("another depth".into());
-    }
-    Ok(put_rows(picture, kind, bytes)?)
+    picture.depth() == kind.depth() && put_rows(picture, kind, bytes).is_ok()
 }
 
 /// Head and rows, one after another, as many bytes as they are said to be.
-fn file(alloc: Global, picture: &Raster, kind: OutKind) -> Result<Vec<u8>, Fail> {
+fn file(alloc: Global, picture: &Raster, kind: OutKind) -> Option<Vec<u8>> {
     let dim = picture.dim();
     if !fits(kind, dim) {
-        return Err("too large a file".into());
+        return None;
     }
-    let mut bytes = Vec::from_slice(alloc, head(kind, dim).as_slice())?;
-    put(picture, kind, &mut bytes)?;
-    if bytes.len() as u64 != total_len(kind, dim) {
-        return Err("another length".into());
+    let Ok(mut bytes) = Vec::from_slice(alloc, head(kind, dim).as_slice()) else {
+        return None;
+    };
+    if put(picture, kind, &mut bytes) && bytes.len() as u64 == total_len(kind, dim) {
+        Some(bytes)
+    } else {
+        None
     }
-    Ok(bytes)
 }
 
 /// Whether bytes are so many, and have each part at its place.
@@ -88,7 +98,7 @@ const GRAY: Picture = Picture(4, 4, Kind::Gray, Span::Eight(&SAMPLE));
 
 /// Pictures, as what they are written, how long their files are, and what stands where in these. The third entry of a directory is
 /// BitsPerSample; samples of 16 bits have their low byte first, and rows of bits end at whole bytes: white is 128 and above.
-const FILES: [(Picture, OutKind, usize, &[(usize, &[u8])]); 6] = [
+static FILES: [(Picture, OutKind, usize, &[(usize, &[u8])]); 6] = [
     (GRAY, OutKind::Gray, 190, &[(0, &SAMPLE_FILE)]),
     (
         Picture(2, 1, Kind::Rgb, Span::Eight(&[2, 0, 0, 0, 0, 0])),
@@ -130,22 +140,71 @@ const FILES: [(Picture, OutKind, usize, &[(usize, &[u8])]); 6] = [
     ),
 ];
 
-#[test]
-fn files_have_these_bytes(rt: HostRuntime) -> Result<(), Fail> {
-    for (number, (picture, kind, len, parts)) in FILES.iter().enumerate() {
-        let picture = raster(rt.alloc(), *picture)?;
-        let bytes = file(rt.alloc(), &picture, *kind)?;
-        assert!(rt; have(&bytes, *len, *parts), "file {number}");
+/// Whether the file of a raster has so many bytes, and each part at its place.
+fn is_written(
+    alloc: Global,
+    picture: &Raster,
+    kind: OutKind,
+    len: usize,
+    parts: &[(usize, &[u8])],
+) -> bool {
+    match file(alloc, picture, kind) {
+        Some(bytes) => have(&bytes, len, parts),
+        None => false,
     }
-    Ok(())
+}
+
+/// The same of a picture.
+fn picture_is_written(
+    alloc: Global,
+    picture: Picture,
+    kind: OutKind,
+    len: usize,
+    parts: &[(usize, &[u8])],
+) -> bool {
+    match raster(alloc, picture) {
+        Some(picture) => is_written(alloc, &picture, kind, len, parts),
+        None => false,
+    }
 }
 
 #[test]
-fn rows_of_bits_end_at_whole_bytes(rt: HostRuntime) -> Result<(), Fail> {
-    let black_and_white = raster(rt.alloc(), GRAY)?.quality(Quality::Bitonal)?;
-    let bytes = file(rt.alloc(), &black_and_white, OutKind::Bitonal)?;
-    assert!(rt; have(&bytes, 178, &[(174, &[0, 0, 0, 0x70])]));
-    Ok(())
+fn files_have_these_bytes(rt: HostRuntime) {
+    for (number, (picture, kind, len, parts)) in FILES.iter().enumerate() {
+        assert!(rt;
+            picture_is_written(rt.alloc(), *picture, *kind, *len, *parts),
+            "file {number}"
+        );
+    }
+}
+
+/// A picture in black and white.
+fn bitonal(alloc: Global, picture: Picture) -> Option<Raster> {
+    match raster(alloc, picture)?.quality(Quality::Bitonal) {
+        Ok(bitonal) => Some(bitonal),
+        Err(_) => None,
+    }
+}
+
+/// Whether the file of a picture in black and white has so many bytes, and each part at its place.
+fn is_written_in_bits(
+    alloc: Global,
+    picture: Picture,
+    len: usize,
+    parts: &[(usize, &[u8])],
+) -> bool {
+    match bitonal(alloc, picture) {
+        Some(bitonal) => is_written(alloc, &bitonal, OutKind::Bitonal, len, parts),
+        None => false,
+    }
+}
+
+/// The rows of the sample in black and white.
+static ROWS_OF_BITS: [(usize, &[u8]); 1] = [(174, &[0, 0, 0, 0x70])];
+
+#[test]
+fn rows_of_bits_end_at_whole_bytes(rt: HostRuntime) {
+    assert!(rt; is_written_in_bits(rt.alloc(), GRAY, 178, &ROWS_OF_BITS));
 }
 
 /// The samples of three rows.
@@ -155,7 +214,7 @@ const ROWS: [u8; 27] = [
 ];
 
 /// Pictures of three rows, as what their rows are written, and the bytes of these.
-const BANDS: [(Picture, OutKind, &[u8]); 3] = [
+static BANDS: [(Picture, OutKind, &[u8]); 3] = [
     (
         Picture(9, 3, Kind::Gray, Span::Eight(&ROWS)),
         OutKind::Gray,
@@ -173,64 +232,73 @@ const BANDS: [(Picture, OutKind, &[u8]); 3] = [
     ),
 ];
 
-/// Puts some rows of a picture.
-fn put_band(
-    picture: &Raster,
-    y: u32,
-    h: u32,
-    kind: OutKind,
-    out: &mut Vec<u8>,
-) -> Result<(), Fail> {
+/// Puts some rows of a picture, or says that it doesn't.
+fn put_band(picture: &Raster, y: u32, h: u32, kind: OutKind, out: &mut Vec<u8>) -> bool {
     let w = picture.dim().w;
     let rect = Rect { x: 0, y, w, h };
     if !rect.lies_in(picture.dim()) {
-        return Err("other rows".into());
+        return false;
     }
-    put(&picture.crop(rect)?, kind, out)
+    match picture.crop(rect) {
+        Ok(band) => put(&band, kind, out),
+        Err(_) => false,
+    }
+}
+
+/// Whether two bands of a picture of three rows are these bytes.
+fn bands_are(alloc: Global, picture: &Raster, kind: OutKind, want: &[u8]) -> bool {
+    let mut bands = Vec::new(alloc);
+    picture.dim().h == 3
+        && put_band(picture, 0, 1, kind, &mut bands)
+        && put_band(picture, 1, 2, kind, &mut bands)
+        && bands.as_slice() == want
+}
+
+/// The same of a picture.
+fn bands_of_picture_are(alloc: Global, picture: Picture, kind: OutKind, want: &[u8]) -> bool {
+    match raster(alloc, picture) {
+        Some(picture) => bands_are(alloc, &picture, kind, want),
+        None => false,
+    }
 }
 
 #[test]
-fn bands_make_the_same_strip(rt: HostRuntime) -> Result<(), Fail> {
+fn bands_make_the_same_strip(rt: HostRuntime) {
     for (number, (picture, kind, want)) in BANDS.iter().enumerate() {
-        let picture = raster(rt.alloc(), *picture)?;
-        let mut bands = Vec::new(rt.alloc());
-        put_band(&picture, 0, 1, *kind, &mut bands)?;
-        put_band(&picture, 1, 2, *kind, &mut bands)?;
         assert!(rt;
-            picture.dim().h == 3 && bands.as_slice() == *want,
+            bands_of_picture_are(rt.alloc(), *picture, *kind, *want),
             "picture {number}"
         );
     }
-    Ok(())
+}
+
+/// As what the sample's rows are written, and the bytes of these.
+static REFUSED_ROWS: [(OutKind, &[u8]); 2] = [
+    (OutKind::Gray, &SAMPLE),
+    (OutKind::Bitonal, &[0, 0, 0, 0x70]),
+];
+
+/// Whether a vector that has bytes has rows behind them where these could be put, and else has its bytes alone.
+fn has_rows_or_not(picture: &Raster, kind: OutKind, out: &mut Vec<u8>, rows: &[u8]) -> bool {
+    let channels = usize::from(kind.samples_per_pixel());
+    let is_alike = picture.kind().channels() == channels && picture.depth() == kind.depth();
+    let rows: &[u8] = if put(picture, kind, out) { rows } else { &[] };
+    let len = rows.len().wrapping_add(3);
+    is_alike && have(out, len, &[(0, &[1, 2, 3]), (3, rows)])
 }
 
 /// Run with each allocation refused in turn, this sees a vector after its refusal.
 #[test]
 fn refused_rows_leave_the_vector(rt: HostRuntime) -> Result<(), Fail> {
-    let gray = raster(rt.alloc(), GRAY)?;
-    for (kind, rows) in [
-        (OutKind::Gray, SAMPLE.as_slice()),
-        (OutKind::Bitonal, &[0, 0, 0, 0x70]),
-    ] {
+    let gray = raster(rt.alloc(), GRAY).ok_or("out of memory")?;
+    for (kind, rows) in REFUSED_ROWS.iter() {
         let mut out = Vec::from_slice(rt.alloc(), &[1, 2, 3])?;
-        let channels = usize::from(kind.samples_per_pixel());
-        assert!(rt; gray.kind().channels() == channels && gray.depth() == kind.depth());
-        let rows = match put_rows(&gray, kind, &mut out) {
-            Ok(()) => rows,
-            Err(_) => &[],
-        };
-        assert!(rt;
-            have(
-                &out,
-                rows.len().wrapping_add(3),
-                &[(0, &[1, 2, 3]), (3, rows)]
-            )
-        );
+        assert!(rt; has_rows_or_not(&gray, *kind, &mut out, *rows));
     }
     Ok(())
 }
 
-const QUALITIES: [(Kind, Depth, Quality, OutKind); 12] = [
+static QUALITIES: [(Kind, Depth, Quality, OutKind); 12] = [
     (Kind::Gray, Depth::Eight, Quality::Default, OutKind::Gray),
     (Kind::Gray, Depth::Eight, Quality::Color, OutKind::Gray),
     (Kind::Gray, Depth::Eight, Quality::Gray, OutKind::Gray),
@@ -266,7 +334,7 @@ fn kinds_of_the_qualities(rt: HostRuntime) {
 }
 
 /// 65,536 by 65,535 gray samples are 2^32 - 65,536 bytes, and 65,536 by 21,845 places of RGB the same.
-const SIDES: [(OutKind, u32, u32, bool); 9] = [
+static SIDES: [(OutKind, u32, u32, bool); 9] = [
     (OutKind::Gray, 65536, 65535, true),
     (OutKind::Gray, 65536, 65536, false),
     (OutKind::Rgb, 65536, 21845, true),
@@ -280,8 +348,8 @@ const SIDES: [(OutKind, u32, u32, bool); 9] = [
 
 #[test]
 fn offsets_of_four_bytes(rt: HostRuntime) {
-    for (kind, w, h, want) in SIDES {
-        assert!(rt; fits(kind, Dim { w, h }) == want, "{w} {h}");
+    for (kind, w, h, want) in SIDES.iter() {
+        assert!(rt; fits(*kind, Dim { w: *w, h: *h }) == *want, "{w} {h}");
     }
 }
 

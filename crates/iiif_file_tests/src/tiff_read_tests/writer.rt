@@ -1,7 +1,7 @@
 //! Writes small TIFF files: any fields, in either byte order, with the directory before or behind the samples.
 
+use iiif_pixel::NoMemory;
 use std::alloc::Global;
-use std::test::Fail;
 
 /// A field: its tag, its type and its values. Offsets of strips and tiles count from the first sample.
 #[derive(Clone, Copy)]
@@ -38,13 +38,12 @@ impl Form {
         }
     }
 
-    fn put_value(self, out: &mut Vec<u8>, kind: u16, value: usize) -> Result<(), Fail> {
+    fn put_value(self, out: &mut Vec<u8>, kind: u16, value: usize) -> Result<(), NoMemory> {
         match kind {
-            1 => out.push((value & 0xff) as u8)?,
-            3 => out.extend_from_slice(&self.short((value & 0xffff) as u16))?,
-            _ => out.extend_from_slice(&self.long(value))?,
+            1 => out.extend_from_slice(&[(value & 0xff) as u8]),
+            3 => out.extend_from_slice(&self.short((value & 0xffff) as u16)),
+            _ => out.extend_from_slice(&self.long(value)),
         }
-        Ok(())
     }
 }
 
@@ -87,82 +86,115 @@ fn places(form: Form, fields: &[Field], samples: usize) -> Starts {
     }
 }
 
-/// A field's values, where offsets count from this place.
-fn values(alloc: Global, form: Form, field: Field, samples_at: usize) -> Result<Vec<u8>, Fail> {
+/// Puts a field's values, where offsets count from this place.
+fn put_values(
+    file: &mut Vec<u8>,
+    form: Form,
+    field: Field,
+    samples_at: usize,
+) -> Result<(), NoMemory> {
     let Field(tag, kind, numbers) = field;
     let start = if tag == 273 || tag == 324 {
         samples_at
     } else {
         0
     };
-    let mut values = Vec::new(alloc);
     for number in numbers {
-        form.put_value(&mut values, kind, start.wrapping_add(*number as usize))?;
-    }
-    Ok(values)
-}
-
-/// Writes an entry, and its values behind the others where they do not fit it.
-fn put_entry(
-    directory: &mut Vec<u8>,
-    outside: &mut Vec<u8>,
-    form: Form,
-    field: Field,
-    mut values: Vec<u8>,
-    outside_at: usize,
-) -> Result<(), Fail> {
-    directory.extend_from_slice(&form.short(field.0))?;
-    directory.extend_from_slice(&form.short(field.1))?;
-    directory.extend_from_slice(&form.long(field.2.len()))?;
-    if values.len() <= 4 {
-        values.resize(4, 0)?;
-        directory.extend_from_slice(&values)?;
-    } else {
-        directory.extend_from_slice(&form.long(outside_at.wrapping_add(outside.len())))?;
-        outside.extend_from_slice(&values)?;
+        form.put_value(file, kind, start.wrapping_add(*number as usize))?;
     }
     Ok(())
 }
 
-/// The first eight bytes, which say where the directory is.
-fn header(alloc: Global, form: Form, directory_at: usize) -> Result<Vec<u8>, Fail> {
-    let mark = if form.high_first { *b"MM" } else { *b"II" };
-    let mut file = Vec::from_slice(alloc, &mark)?;
-    file.extend_from_slice(&form.short(42))?;
-    file.extend_from_slice(&form.long(directory_at))?;
-    Ok(file)
+/// Puts zeros up to a length.
+fn pad(file: &mut Vec<u8>, len: usize) -> Result<(), NoMemory> {
+    if file.len() < len {
+        file.resize(len, 0)?;
+    }
+    Ok(())
 }
 
-/// A file with these fields and these bytes of samples.
-pub fn write_file(
-    alloc: Global,
+/// Puts an entry: its values, or where they stand.
+fn put_entry(
+    file: &mut Vec<u8>,
+    form: Form,
+    field: Field,
+    samples_at: usize,
+    outside_at: usize,
+) -> Result<(), NoMemory> {
+    let end = file.len().wrapping_add(12);
+    file.extend_from_slice(&form.short(field.0))?;
+    file.extend_from_slice(&form.short(field.1))?;
+    file.extend_from_slice(&form.long(field.2.len()))?;
+    if outside_len(field) > 0 {
+        return file.extend_from_slice(&form.long(outside_at));
+    }
+    put_values(file, form, field, samples_at)?;
+    pad(file, end)
+}
+
+/// Puts the directory.
+fn put_directory(
+    file: &mut Vec<u8>,
+    form: Form,
+    fields: &[Field],
+    places: Starts,
+) -> Result<(), NoMemory> {
+    file.extend_from_slice(&form.short((fields.len() & 0xffff) as u16))?;
+    let mut outside = places.outside;
+    for field in fields {
+        put_entry(file, form, *field, places.samples, outside)?;
+        outside = outside.wrapping_add(outside_len(*field));
+    }
+    file.extend_from_slice(&[0; 4])
+}
+
+/// Puts the values that do not fit their entries.
+fn put_outside(
+    file: &mut Vec<u8>,
+    form: Form,
+    fields: &[Field],
+    places: Starts,
+) -> Result<(), NoMemory> {
+    for field in fields {
+        if outside_len(*field) > 0 {
+            put_values(file, form, *field, places.samples)?;
+        }
+    }
+    Ok(())
+}
+
+/// Puts the first eight bytes, which say where the directory is.
+fn put_header(file: &mut Vec<u8>, form: Form, directory_at: usize) -> Result<(), NoMemory> {
+    let mark = if form.high_first { *b"MM" } else { *b"II" };
+    file.extend_from_slice(&mark)?;
+    file.extend_from_slice(&form.short(42))?;
+    file.extend_from_slice(&form.long(directory_at))
+}
+
+/// Puts all of a file.
+fn put_file(
+    file: &mut Vec<u8>,
     form: Form,
     fields: &[Field],
     samples: &[u8],
-) -> Result<Vec<u8>, Fail> {
+) -> Result<(), NoMemory> {
     let places = places(form, fields, samples.len());
-    let mut directory = Vec::from_slice(alloc, &form.short((fields.len() & 0xffff) as u16))?;
-    let mut outside = Vec::new(alloc);
-    for field in fields.iter().copied() {
-        let values = values(alloc, form, field, places.samples)?;
-        put_entry(
-            &mut directory,
-            &mut outside,
-            form,
-            field,
-            values,
-            places.outside,
-        )?;
+    put_header(file, form, places.directory)?;
+    if form.directory_first {
+        put_directory(file, form, fields, places)?;
+        put_outside(file, form, fields, places)?;
+        return file.extend_from_slice(samples);
     }
-    directory.extend_from_slice(&[0; 4])?;
-    let mut file = header(alloc, form, places.directory)?;
-    let parts: [&[u8]; 3] = if form.directory_first {
-        [&directory, &outside, samples]
-    } else {
-        [samples, &outside, &directory]
-    };
-    for part in parts {
-        file.extend_from_slice(part)?;
+    file.extend_from_slice(samples)?;
+    put_outside(file, form, fields, places)?;
+    put_directory(file, form, fields, places)
+}
+
+/// A file with these fields and these bytes of samples; none where memory is wanted.
+pub fn write_file(alloc: Global, form: Form, fields: &[Field], samples: &[u8]) -> Option<Vec<u8>> {
+    let mut file = Vec::new(alloc);
+    match put_file(&mut file, form, fields, samples) {
+        Ok(()) => Some(file),
+        Err(_) => None,
     }
-    Ok(file)
 }

@@ -1,0 +1,123 @@
+//! Devices that fail while files are read.
+
+use super::one_fault::OneFault;
+use super::writer::{Field, PLAIN, write_file};
+use super::{FOUR_ROWS, Failed, MIDDLE, SAMPLE, SAMPLES, TILED, TILES, WHOLE, read_part, shows};
+use iiif_pixel::{Rect, Span};
+use iiif_source::{FuseSource, MemSource, ReadFault, Source};
+use iiif_tiff_read::{LoadFault, OpenFault};
+use std::alloc::Global;
+
+/// Whether this is the first fault of the device while an image is opened and its middle is read.
+fn fails_so<S: Source<()>>(alloc: Global, source: &S, want: Option<ReadFault>) -> bool {
+    match read_part(alloc, source, Some(MIDDLE)) {
+        Ok(_) => want.is_none(),
+        Err(Failed::Open(OpenFault::Source(fault))) => want == Some(fault),
+        Err(Failed::Load(LoadFault::Source(fault))) => want == Some(fault),
+        Err(_) => false,
+    }
+}
+
+/// Where the sample is read: the header, the number of entries, the entries, and two rows of the middle.
+const READS: [u64; 5] = [0, 24, 26, 13, 17];
+
+/// The sample in memory.
+fn sample(alloc: Global) -> Option<MemSource> {
+    match Vec::from_slice(alloc, &SAMPLE) {
+        Ok(bytes) => Some(MemSource::new(bytes)),
+        Err(_) => None,
+    }
+}
+
+/// Whether the first fault of a device that fails from a read on is at this place, and is gone once the device is mended.
+fn fails_until_mended(alloc: Global, read: u64, place: u64) -> bool {
+    let Some(sample) = sample(alloc) else {
+        return false;
+    };
+    let source = FuseSource::new(sample, read);
+    let failed = fails_so(alloc, &source, Some(ReadFault { place, cause: 3 }));
+    source.mend();
+    failed && fails_so(alloc, &source, None)
+}
+
+#[test]
+fn failing_reads_come_out_with_their_place_until_mended(rt: HostRuntime) {
+    for (read, place) in (1..6u64).zip(READS) {
+        assert!(rt; fails_until_mended(rt.alloc(), read, place), "read {read}");
+    }
+}
+
+/// Whether one read that fails is the first fault, at this place.
+fn fails_once(alloc: Global, read: u64, place: u64) -> bool {
+    match sample(alloc) {
+        Some(sample) => {
+            let want = ReadFault { place, cause: 1 };
+            fails_so(alloc, &OneFault::new(sample, read), Some(want))
+        }
+        None => false,
+    }
+}
+
+#[test]
+fn failed_reads_are_not_tried_again(rt: HostRuntime) {
+    for (read, place) in (0..5u64).zip(READS) {
+        assert!(rt; fails_once(rt.alloc(), read, place), "read {read}");
+    }
+}
+
+const TILE: Rect = Rect {
+    x: 0,
+    y: 0,
+    w: 3,
+    h: 3,
+};
+
+/// A file, a rectangle, its samples, and the read that isn't made any more.
+#[derive(Clone, Copy)]
+struct Together {
+    fields: &'static [Field],
+    bytes: &'static [u8],
+    rect: Rect,
+    samples: &'static [u8],
+    read: u64,
+}
+
+/// Four rows of a strip are the fourth read of all, and a tile is the sixth: two reads more are those of the tiles' offsets and byte
+/// counts.
+static TOGETHER: [Together; 2] = [
+    Together {
+        fields: FOUR_ROWS,
+        bytes: &SAMPLES,
+        rect: WHOLE,
+        samples: &SAMPLES,
+        read: 5,
+    },
+    Together {
+        fields: TILES,
+        bytes: &TILED,
+        rect: TILE,
+        samples: &[0, 10, 20, 40, 50, 60, 80, 90, 100],
+        read: 7,
+    },
+];
+
+/// Whether the samples are read though a read, and all behind it, fail.
+fn is_one_read(alloc: Global, together: &Together) -> bool {
+    let Some(file) = write_file(alloc, PLAIN, together.fields, together.bytes) else {
+        return false;
+    };
+    let source = FuseSource::new(MemSource::new(file), together.read);
+    shows(
+        alloc,
+        &source,
+        Some(together.rect),
+        Span::Eight(together.samples),
+    )
+}
+
+#[test]
+fn rows_that_lie_together_are_one_read(rt: HostRuntime) {
+    for (number, together) in TOGETHER.iter().enumerate() {
+        assert!(rt; is_one_read(rt.alloc(), together), "file {number}");
+    }
+}
