@@ -129,7 +129,7 @@ const WORDS: Span = Span::Sixteen(&[
     10177, 5817, 55881, 20418, 463, 30321, 19115,
 ]);
 
-const COMPARED: [(Picture, Compared); 13] = [
+static COMPARED: [(Picture, Compared); 13] = [
     (
         Picture(Dim { w: 5, h: 3 }, Kind::Gray, BYTES),
         Compared::Regions(Way::Merged),
@@ -245,7 +245,7 @@ fn comes(alloc: Global, example: Example) -> bool {
     )
 }
 
-const EXAMPLES: [Example; 15] = [
+static EXAMPLES: [Example; 15] = [
     // A half rounds up, in each channel.
     Example {
         picture: Picture(Dim { w: 2, h: 1 }, Kind::Gray, Span::Sixteen(&[0, 65_535])),

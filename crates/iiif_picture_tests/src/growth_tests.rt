@@ -148,7 +148,7 @@ const LAST_TWO: More = More::Sums(
     &[7, 1],
 );
 
-const GROWTHS: [Growth; 5] = [
+static GROWTHS: [Growth; 5] = [
     // Tiles that are added are cut off at the greatest sum.
     Growth {
         places: ONE_PLACE,
@@ -256,7 +256,7 @@ fn sums_grow_up_to_the_greatest(rt: HostRuntime) {
 }
 
 /// Result and source columns, how many there are of these, and the weight.
-const WEIGHTS: [([u32; 4], u64); 4] = [
+static WEIGHTS: [([u32; 4], u64); 4] = [
     // 4 columns to 3: column 1 is shared by results 0 and 1, 1 part to 2
     ([0, 1, 4, 3], 1),
     ([1, 1, 4, 3], 2),
@@ -272,7 +272,7 @@ fn weights_are_overlaps(rt: HostRuntime) {
 }
 
 /// How many places, a sum over them, the greatest average, and the average.
-const AVERAGES: [(u64, u64, u16, u16); 9] = [
+static AVERAGES: [(u64, u64, u16, u16); 9] = [
     // 5 and 6 over 4 places: 1.25 and 1.5; 10 and 11 over 7: 1.43 and 1.57
     (4, 5, 255, 1),
     (4, 6, 255, 2),

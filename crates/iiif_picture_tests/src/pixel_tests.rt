@@ -90,7 +90,7 @@ const HALVED: Picture = Picture(
     Span::Eight(&[25, 45, 105, 125]),
 );
 
-const TURNS: [Case; 8] = [
+static TURNS: [Case; 8] = [
     Case(
         HALVED,
         Work::Turn(false, 0),
@@ -202,7 +202,7 @@ const DEEP_GRAYS: Picture = Picture(
     Span::Sixteen(&[19_595, 38_469, 1815, 65_535]),
 );
 
-const MEANS: [Case; 5] = [
+static MEANS: [Case; 5] = [
     Case(COLOURS, Work::Quality(Quality::Gray), GRAYS),
     Case(COLOURS, Work::Quality(Quality::Default), COLOURS),
     Case(COLOURS, Work::Quality(Quality::Color), COLOURS),
@@ -217,7 +217,7 @@ fn gray_is_the_rounded_weighted_mean(rt: HostRuntime) {
 }
 
 /// Of 16 bits black is below 32,768, and what is made has 8.
-const BLACK_AND_WHITE: [Case; 5] = [
+static BLACK_AND_WHITE: [Case; 5] = [
     Case(
         FOUR_BY_FOUR,
         Work::Quality(Quality::Bitonal),
@@ -279,7 +279,7 @@ const DEEP: Picture = Picture(
 );
 
 /// Parts, and a turned picture of 16 bits.
-const PARTS: [Case; 3] = [
+static PARTS: [Case; 3] = [
     Case(
         FOUR_BY_FOUR,
         Work::Crop(1, 2, 3, 2),
@@ -322,7 +322,7 @@ const LARGEST: Dim = Dim {
 };
 
 /// Column, row and sides of rectangles, and whether they lie in the largest picture.
-const RECTANGLES: [([u32; 4], bool); 4] = [
+static RECTANGLES: [([u32; 4], bool); 4] = [
     ([1, 2, 3, 2], true),
     ([u32::MAX - 1, u32::MAX - 1, 1, 1], true),
     ([u32::MAX - 1, u32::MAX - 1, 2, 1], false),
@@ -336,20 +336,25 @@ fn lies([x, y, w, h]: [u32; 4], want: bool) -> bool {
 }
 
 /// The kind and sides of pictures, and how many samples they have.
-const COUNTS: [(Kind, Dim, Option<usize>); 3] = [
+static COUNTS: [(Kind, Dim, Option<usize>); 3] = [
     (Kind::Gray, LARGEST, Some(18_446_744_065_119_617_025)),
     (Kind::Rgb, LARGEST, None),
     (Kind::Rgb, Dim { w: 3, h: 2 }, Some(18)),
 ];
 
+/// Whether there is no memory for the largest picture.
+fn is_refused(alloc: Global, kind: Kind) -> bool {
+    Raster::new(alloc, LARGEST, kind, Depth::Eight).is_err()
+}
+
 #[test]
 fn the_greatest_sides_do_not_wrap_and_find_no_memory(rt: HostRuntime) {
-    for (rectangle, want) in RECTANGLES {
-        assert!(rt; lies(rectangle, want), "{rectangle:?}");
+    for (rectangle, want) in RECTANGLES.iter() {
+        assert!(rt; lies(*rectangle, *want), "{rectangle:?}");
     }
-    for (kind, sides, count) in COUNTS {
-        assert!(rt; kind.count(sides) == count, "{kind:?}");
-        assert!(rt; Raster::new(rt.alloc(), LARGEST, kind, Depth::Eight).is_err());
+    for (kind, sides, count) in COUNTS.iter() {
+        assert!(rt; kind.count(*sides) == *count, "{kind:?}");
+        assert!(rt; is_refused(rt.alloc(), *kind), "{kind:?}");
     }
     assert!(rt; Depth::Sixteen.top() == 65_535 && Depth::Sixteen.bytes() == 2);
 }
@@ -481,7 +486,7 @@ fn is_written(alloc: Global, case: Written) -> bool {
 }
 
 /// A sample of the first row and the first two places of the second.
-const WRITTEN: [Written; 2] = [
+static WRITTEN: [Written; 2] = [
     Written {
         zeros: Picture(Dim { w: 3, h: 2 }, Kind::Rgb, Span::Eight(&[0; 18])),
         written: &[
@@ -606,7 +611,7 @@ fn all_turns_are_right(alloc: Global, picture: Picture) -> bool {
     true
 }
 
-const NUMBERED: [Picture; 2] = [
+static NUMBERED: [Picture; 2] = [
     Picture(
         Dim { w: 3, h: 2 },
         Kind::Gray,
