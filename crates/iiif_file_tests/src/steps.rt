@@ -254,26 +254,45 @@ where
     Ok(fs::write(rt, path, bytes_of(rt.alloc(), bytes)?.as_slice())?)
 }
 
+/// Writes another file, which takes the name of one that is there.
+fn replace<R>(rt: &R, path: &str, bytes: &[u8]) -> Result<(), Fail>
+where
+    R: Files<File = File> + AllocGlobal,
+{
+    let new = format!(in rt.alloc(); "{path}_new")?;
+    fs::write(rt, new.as_str(), bytes)?;
+    Ok(fs::rename(rt, new.as_str(), path)?)
+}
+
+/// Sets the length of a file.
+fn resize<R>(rt: &R, path: &str, len: u64) -> io::Result<()>
+where
+    R: Files<File = File>,
+{
+    File::options().write(true).open(rt, path)?.set_len(len)
+}
+
+/// Removes a file, and makes one of these bytes in its place.
+fn make_again<R>(rt: &R, path: &str, bytes: &[u8]) -> io::Result<()>
+where
+    R: Files<File = File>,
+{
+    fs::remove_file(rt, path)?;
+    fs::write(rt, path, bytes)
+}
+
 /// Changes a file.
 fn change_file<R>(rt: &R, path: &str, how: Change) -> Result<(), Fail>
 where
     R: Files<File = File> + AllocGlobal,
 {
     match how {
-        Change::Removed => fs::remove_file(rt, path)?,
-        Change::Resized(len) => File::options().write(true).open(rt, path)?.set_len(len)?,
-        Change::Written(bytes) => write(rt, path, bytes)?,
-        Change::Replaced(bytes) => {
-            let new = format!(in rt.alloc(); "{path}_new")?;
-            fs::write(rt, new.as_str(), bytes)?;
-            fs::rename(rt, new.as_str(), path)?;
-        }
-        Change::MadeAgain(bytes) => {
-            fs::remove_file(rt, path)?;
-            fs::write(rt, path, bytes)?;
-        }
+        Change::Removed => Ok(fs::remove_file(rt, path)?),
+        Change::Resized(len) => Ok(resize(rt, path, len)?),
+        Change::Written(bytes) => write(rt, path, bytes),
+        Change::Replaced(bytes) => replace(rt, path, bytes),
+        Change::MadeAgain(bytes) => Ok(make_again(rt, path, bytes)?),
     }
-    Ok(())
 }
 
 /// Whether no source is opened of a file that is not there.

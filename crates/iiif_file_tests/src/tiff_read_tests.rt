@@ -559,8 +559,10 @@ static CHANGED: [(usize, usize, [u8; 4], Opened); 22] = [
 /// What is answered to the first bytes of the sample once four of them are others.
 fn changed(alloc: Global, len: usize, at: usize, value: [u8; 4]) -> Opened {
     let mut bytes = SAMPLE;
-    for (byte, new) in bytes.iter_mut().skip(at).zip(value) {
-        *byte = new;
+    for (k, new) in value.iter().enumerate() {
+        if let Some(byte) = bytes.get_mut(at.wrapping_add(k)) {
+            *byte = *new;
+        }
     }
     opened(alloc, &bytes[..len.min(138)])
 }

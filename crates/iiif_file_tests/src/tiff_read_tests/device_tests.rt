@@ -18,8 +18,9 @@ fn fails_so<S: Source<()>>(alloc: Global, source: &S, want: Option<ReadFault>) -
     }
 }
 
-/// Where the sample is read: the header, the number of entries, the entries, and two rows of the middle.
-const READS: [u64; 5] = [0, 24, 26, 13, 17];
+/// The numbers of the reads of the sample, counted from 1, and where it is read: the header, the number of entries, the entries, and two
+/// rows of the middle.
+static READS: [(u64, u64); 5] = [(1, 0), (2, 24), (3, 26), (4, 13), (5, 17)];
 
 /// The sample in memory.
 fn sample(alloc: Global) -> Option<MemSource> {
@@ -42,8 +43,11 @@ fn fails_until_mended(alloc: Global, read: u64, place: u64) -> bool {
 
 #[test]
 fn failing_reads_come_out_with_their_place_until_mended(rt: HostRuntime) {
-    for (read, place) in (1..6u64).zip(READS) {
-        assert!(rt; fails_until_mended(rt.alloc(), read, place), "read {read}");
+    for (read, place) in READS.iter() {
+        assert!(rt;
+            fails_until_mended(rt.alloc(), *read, *place),
+            "read {read}"
+        );
     }
 }
 
@@ -52,7 +56,11 @@ fn fails_once(alloc: Global, read: u64, place: u64) -> bool {
     match sample(alloc) {
         Some(sample) => {
             let want = ReadFault { place, cause: 1 };
-            fails_so(alloc, &OneFault::new(sample, read), Some(want))
+            fails_so(
+                alloc,
+                &OneFault::new(sample, read.wrapping_sub(1)),
+                Some(want),
+            )
         }
         None => false,
     }
@@ -60,8 +68,8 @@ fn fails_once(alloc: Global, read: u64, place: u64) -> bool {
 
 #[test]
 fn failed_reads_are_not_tried_again(rt: HostRuntime) {
-    for (read, place) in (0..5u64).zip(READS) {
-        assert!(rt; fails_once(rt.alloc(), read, place), "read {read}");
+    for (read, place) in READS.iter() {
+        assert!(rt; fails_once(rt.alloc(), *read, *place), "read {read}");
     }
 }
 
