@@ -9,98 +9,170 @@ use iiif_area::Sums;
 use iiif_keys::{CacheKey, Parts, Shape, SumKey, SumVal, TileKey, TileVal, parts};
 use iiif_pixel::{Depth, Dim, Kind, Raster, Rect};
 use std::alloc::Global;
-use std::process::Abort;
-use std::test::Fail;
 
-/// The whole of a 4 by 4 picture at edge 2, scaled to 2 by 2.
-fn whole(alloc: Global, level: u8, bx: u32, by: u32) -> Result<SumKey, Fail> {
-    Ok(SumKey {
+/// A block, by all that a key of sums has but the name, which is `a`.
+#[derive(Clone, Copy)]
+struct Block {
+    edge: u32,
+    rect: Rect,
+    size: Dim,
+    level: u8,
+    bx: u32,
+    by: u32,
+}
+
+/// The key of a block.
+fn key_of(alloc: Global, block: Block) -> Option<SumKey> {
+    Some(SumKey {
         name: name(alloc, "a")?,
-        edge: 2,
-        rect: Rect {
-            x: 0,
-            y: 0,
-            w: 4,
-            h: 4,
-        },
-        size: Dim { w: 2, h: 2 },
-        level,
-        bx,
-        by,
+        edge: block.edge,
+        rect: block.rect,
+        size: block.size,
+        level: block.level,
+        bx: block.bx,
+        by: block.by,
     })
 }
 
-#[test]
-fn tiles_that_do_not_fit(rt: HostRuntime) -> Result<(), Fail> {
-    let alloc = rt.alloc();
-    let shape = Shape {
-        dim: Dim { w: 4, h: 4 },
-        kind: Kind::Gray,
-        depth: Depth::Eight,
-    };
-    let mut tile = TileKey {
+/// Whether the tile in a column and row 1, at edge 2, fits an image of 4 by 4 at some edge.
+fn tile_fits(alloc: Global, tx: u32, edge: u32) -> Option<bool> {
+    let tile = TileKey {
         name: name(alloc, "a")?,
         edge: 2,
-        tx: 1,
+        tx,
         ty: 1,
     };
-    assert!(rt; tile.fits(2, &shape));
-    assert!(rt; !tile.fits(3, &shape));
-    tile.tx = 2;
-    assert!(rt; !tile.fits(2, &shape));
-    // The product of column and edge passes 2^32.
-    tile.tx = 1 << 31;
-    assert!(rt; !tile.fits(2, &shape));
-    Ok(())
-}
-
-#[test]
-fn blocks_that_do_not_fit(rt: HostRuntime) -> Result<(), Fail> {
-    let alloc = rt.alloc();
     let shape = Shape {
         dim: Dim { w: 4, h: 4 },
         kind: Kind::Gray,
         depth: Depth::Eight,
     };
-    let mut key = whole(alloc, 1, 0, 0)?;
-    assert!(rt; key.fits(2, &shape));
-    key.level = 21;
-    assert!(rt; !key.fits(2, &shape));
-    key.level = 0;
-    key.bx = 2;
-    assert!(rt; !key.fits(2, &shape));
-    key.bx = 1 << 31;
-    assert!(rt; !key.fits(2, &shape));
-    key.bx = 1;
-    key.size.w = 5;
-    assert!(rt; !key.fits(2, &shape));
-    key.size.w = 0;
-    assert!(rt; !key.fits(2, &shape));
-    key.size.w = 4;
-    assert!(rt; key.fits(2, &shape));
-    key.rect.x = 1;
-    assert!(rt; !key.fits(2, &shape));
-    Ok(())
+    Some(tile.fits(edge, &shape))
 }
 
-#[test]
-fn values_that_are_too_long(rt: HostRuntime) -> Result<(), Fail> {
-    let alloc = rt.alloc();
-    // 4,096 by 4,096 places take more than 2^26 bytes, 2,048 by 4,094 don't.
+/// Columns of tiles, edges, and whether the tile fits at the edge.
+static TILES: [(u32, u32, bool); 4] = [
+    (1, 2, true),
+    (1, 3, false),
+    (2, 2, false),
+    // The product of column and edge passes 2^32.
+    (1 << 31, 2, false),
+];
+
+/// A block in row 0 of a gray picture with equal sides, over the rectangle from a column on that is as large as the picture.
+#[derive(Clone, Copy)]
+struct Place {
+    side: u32,
+    edge: u32,
+    x: u32,
+    size: (u32, u32),
+    level: u8,
+    bx: u32,
+}
+
+/// Whether a block fits its picture.
+fn block_fits(alloc: Global, place: Place) -> Option<bool> {
+    let Place { side, edge, x, .. } = place;
+    let (w, h) = place.size;
+    let block = Block {
+        edge,
+        rect: Rect {
+            x,
+            y: 0,
+            w: side,
+            h: side,
+        },
+        size: Dim { w, h },
+        level: place.level,
+        bx: place.bx,
+        by: 0,
+    };
     let shape = Shape {
-        dim: Dim { w: 4096, h: 4096 },
+        dim: Dim { w: side, h: side },
         kind: Kind::Gray,
         depth: Depth::Eight,
     };
-    let mut key = whole(alloc, 2, 0, 0)?;
-    key.edge = 1024;
-    key.rect.w = 4096;
-    key.rect.h = 4096;
-    key.size = Dim { w: 4096, h: 4096 };
-    assert!(rt; !key.fits(1024, &shape));
-    key.size = Dim { w: 2048, h: 4094 };
-    assert!(rt; key.fits(1024, &shape));
-    Ok(())
+    Some(key_of(alloc, block)?.fits(edge, &shape))
+}
+
+/// A block of level 0 of a picture of 4 by 4, scaled to 2 by 2.
+const LOW: Place = Place {
+    side: 4,
+    edge: 2,
+    x: 0,
+    size: (2, 2),
+    level: 0,
+    bx: 0,
+};
+
+/// The whole of a picture of 4,096 by 4,096.
+const LARGE: Place = Place {
+    side: 4096,
+    edge: 1024,
+    x: 0,
+    size: (4096, 4096),
+    level: 2,
+    bx: 0,
+};
+
+/// Blocks, and whether they fit their pictures.
+static PLACES: [(Place, bool); 10] = [
+    (Place { level: 1, ..LOW }, true),
+    (Place { level: 21, ..LOW }, false),
+    (Place { bx: 2, ..LOW }, false),
+    (Place { bx: 1 << 31, ..LOW }, false),
+    (
+        Place {
+            bx: 1,
+            size: (5, 2),
+            ..LOW
+        },
+        false,
+    ),
+    (
+        Place {
+            bx: 1,
+            size: (0, 2),
+            ..LOW
+        },
+        false,
+    ),
+    (
+        Place {
+            bx: 1,
+            size: (4, 2),
+            ..LOW
+        },
+        true,
+    ),
+    (
+        Place {
+            bx: 1,
+            size: (4, 2),
+            x: 1,
+            ..LOW
+        },
+        false,
+    ),
+    // 4,096 by 4,096 places take more than 2^26 bytes, 2,048 by 4,094 don't.
+    (LARGE, false),
+    (
+        Place {
+            size: (2048, 4094),
+            ..LARGE
+        },
+        true,
+    ),
+];
+
+#[test]
+fn keys_that_do_not_fit(rt: HostRuntime) {
+    for (tx, edge, fits) in &TILES {
+        assert!(rt; tile_fits(rt.alloc(), *tx, *edge) == Some(*fits), "{tx}");
+    }
+    for (line, (place, fits)) in PLACES.iter().enumerate() {
+        assert!(rt; block_fits(rt.alloc(), *place) == Some(*fits), "{line}");
+    }
 }
 
 /// Writes a sample that has a place.
@@ -112,30 +184,39 @@ fn put(picture: &mut Raster, x: u32, y: u32, channel: usize, value: u16) {
     }
 }
 
-/// A picture of samples that look random, none of them 0.
-fn pattern(alloc: Global, shape: Shape) -> Result<Raster, Fail> {
-    let (dim, kind) = (shape.dim, shape.kind);
-    let mut picture = Raster::new(alloc, dim, kind, shape.depth)?;
+/// A sample that isn't 0.
+fn sample_of(state: u32, depth: Depth) -> u16 {
+    match depth {
+        Depth::Eight => (state >> 24) as u16 | 1,
+        Depth::Sixteen => (state >> 16) as u16 | 1,
+    }
+}
+
+/// Writes samples that look random, none of them 0.
+fn fill(picture: &mut Raster, shape: &Shape) {
     let mut state = 12345u32;
-    for y in 0..dim.h {
-        for x in 0..dim.w {
-            for channel in 0..kind.channels() {
+    for y in 0..shape.dim.h {
+        for x in 0..shape.dim.w {
+            for channel in 0..shape.kind.channels() {
                 state = state.wrapping_mul(1_664_525).wrapping_add(1_013_904_223);
-                let value = match shape.depth {
-                    Depth::Eight => (state >> 24) as u16 | 1,
-                    Depth::Sixteen => (state >> 16) as u16 | 1,
-                };
-                put(&mut picture, x, y, channel, value);
+                put(picture, x, y, channel, sample_of(state, shape.depth));
             }
         }
     }
-    Ok(picture)
+}
+
+/// A picture, and the shape of its image.
+#[derive(Drop)]
+struct Scene {
+    alloc: Global,
+    picture: Raster,
+    shape: Shape,
 }
 
 /// Where a block lies in a picture.
-fn block_at(dim: Dim, key: &SumKey) -> Rect {
-    let side = key.edge.wrapping_shl(u32::from(key.level));
-    let (x, y) = (key.bx.wrapping_mul(side), key.by.wrapping_mul(side));
+fn block_at(dim: Dim, block: Block) -> Rect {
+    let side = block.edge.wrapping_shl(u32::from(block.level));
+    let (x, y) = (block.bx.wrapping_mul(side), block.by.wrapping_mul(side));
     Rect {
         x,
         y,
@@ -144,114 +225,119 @@ fn block_at(dim: Dim, key: &SumKey) -> Rect {
     }
 }
 
-/// The result places of a key that fits.
-fn places_of(key: &SumKey, shape: &Shape) -> Result<Rect, Fail> {
-    if key.fits(key.edge, shape) {
-        Ok(key.places_in(shape.dim))
-    } else {
-        Err("the key does not fit".into())
-    }
-}
-
-/// Sums at these places.
-fn sums_at(places: Rect, kind: Kind, sums: Vec<u64>) -> Result<SumVal, Fail> {
-    let Some(count) = kind.count(places.dim()) else {
-        return Err("too many places".into());
+/// Where the block of a key lies in a picture.
+fn key_at(dim: Dim, key: &SumKey) -> Rect {
+    let block = Block {
+        edge: key.edge,
+        rect: key.rect,
+        size: key.size,
+        level: key.level,
+        bx: key.bx,
+        by: key.by,
     };
-    if count != sums.len() {
-        return Err("another count of sums".into());
-    }
-    Ok(SumVal {
-        sums: Sums::from_parts(places, kind, sums),
-    })
+    block_at(dim, block)
 }
 
-/// The sums of a key that fits, the plain way.
-fn plain_value(
-    alloc: Global,
-    picture: &Raster,
-    shape: &Shape,
-    key: &SumKey,
-) -> Result<SumVal, Fail> {
-    let places = places_of(key, shape)?;
-    let at = block_at(shape.dim, key);
-    let mut sums = Vec::new(alloc);
+/// The sums of a key at some places, the plain way.
+fn plain_sums(scene: &Scene, key: &SumKey, places: Rect) -> Option<Vec<u64>> {
+    let at = key_at(scene.shape.dim, key);
+    let mut sums = Vec::new(scene.alloc);
     for j in 0..places.h {
         for i in 0..places.w {
-            for channel in 0..shape.kind.channels() {
+            for channel in 0..scene.shape.kind.channels() {
                 let (i, j) = (places.x.wrapping_add(i), places.y.wrapping_add(j));
-                sums.push(block_plain::sum_at(picture, at, key.rect, key.size, i, j, channel))?;
+                let sum = block_plain::sum_at(
+                    &scene.picture,
+                    at,
+                    key.rect,
+                    key.size,
+                    i,
+                    j,
+                    channel,
+                );
+                sums.push(sum).ok()?;
             }
         }
     }
-    sums_at(places, shape.kind, sums)
+    Some(sums)
+}
+
+/// The sums of a key that fits, the plain way.
+fn plain_value(scene: &Scene, key: &SumKey) -> Option<SumVal> {
+    if !key.fits(key.edge, &scene.shape) {
+        return None;
+    }
+    let places = key.places_in(scene.shape.dim);
+    let sums = plain_sums(scene, key, places)?;
+    if scene.shape.kind.count(places.dim()) != Some(sums.len()) {
+        return None;
+    }
+    Some(SumVal {
+        sums: Sums::from_parts(places, scene.shape.kind, sums),
+    })
 }
 
 /// A tile's value in the picture.
-fn tile_value(
-    rt: &impl Abort,
-    picture: &Raster,
-    shape: &Shape,
-    tile: &TileKey,
-) -> Result<TileVal, Fail> {
-    assert!(rt; tile.fits(tile.edge, shape));
-    let at = tile.rect_in(shape.dim);
-    assert!(rt; at.lies_in(picture.dim()));
-    Ok(TileVal {
-        raster: picture.crop(at)?,
+fn tile_value(scene: &Scene, tile: &TileKey) -> Option<TileVal> {
+    if !tile.fits(tile.edge, &scene.shape) {
+        return None;
+    }
+    let at = tile.rect_in(scene.shape.dim);
+    if !at.lies_in(scene.picture.dim()) {
+        return None;
+    }
+    Some(TileVal {
+        raster: scene.picture.crop(at).ok()?,
     })
 }
 
 /// The value of a key of level 0, by that of its tile in the picture.
-fn of_tile(
-    rt: &impl Abort,
-    alloc: Global,
-    picture: &Raster,
-    shape: &Shape,
-    key: &SumKey,
-    tile: &TileKey,
-) -> Result<SumVal, Fail>
+fn of_tile(scene: &Scene, key: &SumKey, tile: &TileKey) -> Option<SumVal>
     requires level { key.now.level ≡ 0 }
     requires below { tile.now ≡ tile_below key.now }
 {
-    let value = tile_value(rt, picture, shape, tile)?;
-    let area = u64::from(shape.dim.w) * u64::from(shape.dim.h);
-    assert!(rt; area <= 1 << 32 && key.fits(key.edge, shape));
-    assert!(rt; tile.fits(key.edge, shape) && tile.shaped(shape, &value));
-    Ok(SumVal::of_tile(alloc, key, shape, &value)?)
+    let shape = &scene.shape;
+    let value = tile_value(scene, tile)?;
+    let is_small = u64::from(shape.dim.w) * u64::from(shape.dim.h) <= 1 << 32;
+    if !is_small || !key.fits(key.edge, shape) || !tile.fits(key.edge, shape) {
+        return None;
+    }
+    if !tile.shaped(shape, &value) {
+        return None;
+    }
+    SumVal::of_tile(scene.alloc, key, shape, &value).ok()
+}
+
+/// Adds the sums of keys, which the plain way gives, to a value.
+fn add_sums(scene: &Scene, value: &mut SumVal, keys: &[SumKey]) -> Option<()> {
+    for key in keys {
+        let more = plain_value(scene, key)?;
+        if more.sums.kind() != value.sums.kind() {
+            return None;
+        }
+        value.merge(&more);
+    }
+    Some(())
 }
 
 /// The value of a key with the sums of these keys, which the plain way gives.
-fn of_sums(
-    rt: &impl Abort,
-    alloc: Global,
-    picture: &Raster,
-    shape: &Shape,
-    key: &SumKey,
-    keys: &[SumKey],
-) -> Result<SumVal, Fail> {
-    assert!(rt; key.fits(key.edge, shape));
-    let mut value = SumVal::zero(alloc, key, shape)?;
-    for key in keys {
-        let more = plain_value(alloc, picture, shape, key)?;
-        assert!(rt; more.sums.kind() == value.sums.kind());
-        value.merge(&more);
+fn of_sums(scene: &Scene, key: &SumKey, keys: &[SumKey]) -> Option<SumVal> {
+    if !key.fits(key.edge, &scene.shape) {
+        return None;
     }
-    Ok(value)
+    let mut value = SumVal::zero(scene.alloc, key, &scene.shape).ok()?;
+    add_sums(scene, &mut value, keys)?;
+    Some(value)
 }
 
-/// The value that a key's parts make: of a tile of the picture, or of sums that the plain way gives.
-fn derived(
-    rt: &impl Abort,
-    alloc: Global,
-    picture: &Raster,
-    shape: &Shape,
-    key: &SumKey,
-) -> Result<SumVal, Fail> {
-    assert!(rt; key.has_parts() && key.fits(key.edge, shape));
-    match parts(alloc, key)? {
-        Parts::Tile(tile) => of_tile(rt, alloc, picture, shape, key, &tile),
-        Parts::Sums(keys) => of_sums(rt, alloc, picture, shape, key, &keys),
+/// The value that the parts of a key make: of a tile of the picture, or of sums that the plain way gives.
+fn derived(scene: &Scene, key: &SumKey) -> Option<SumVal> {
+    if !key.has_parts() || !key.fits(key.edge, &scene.shape) {
+        return None;
+    }
+    match parts(scene.alloc, key).ok()? {
+        Parts::Tile(tile) => of_tile(scene, key, &tile),
+        Parts::Sums(keys) => of_sums(scene, key, &keys),
     }
 }
 
@@ -267,200 +353,166 @@ fn has_any(dim: Dim, at: Rect, rect: Rect) -> bool {
     false
 }
 
-/// The sums of a value are the plain way's, at just the places where that has sums.
-fn compare_sums(rt: &impl Abort, picture: &Raster, at: Rect, key: &SumKey, value: &SumVal) {
+/// Whether the sums of a value are the plain way's, at just the places where that has sums.
+fn are_plain(picture: &Raster, block: Block, at: Rect, value: &SumVal) -> bool {
     let mut sums = value.sums.sums().iter();
-    for j in 0..key.size.h {
-        for i in 0..key.size.w {
+    let Block { rect, size, .. } = block;
+    for j in 0..size.h {
+        for i in 0..size.w {
             for channel in 0..picture.kind().channels() {
-                let plain = block_plain::sum_at(picture, at, key.rect, key.size, i, j, channel);
-                let inside = block_plain::has(value.sums.rect(), i, j);
-                assert!(rt; (plain > 0) == inside);
-                if inside {
-                    assert!(rt; sums.next().copied() == Some(plain));
+                let plain = block_plain::sum_at(picture, at, rect, size, i, j, channel);
+                let is_inside = block_plain::has(value.sums.rect(), i, j);
+                if (plain > 0) != is_inside {
+                    return false;
+                }
+                if is_inside && sums.next().copied() != Some(plain) {
+                    return false;
                 }
             }
         }
     }
-    assert!(rt; sums.next().is_none());
+    sums.next().is_none()
 }
 
-/// A key fits where its block has a place of the rectangle, and then what its parts make is the plain way's, at just the
-/// places where that has sums.
-fn compare_block(
-    rt: &impl Abort,
-    alloc: Global,
-    picture: &Raster,
-    shape: &Shape,
-    key: &SumKey,
-) -> Result<(), Fail> {
-    let at = block_at(shape.dim, key);
-    let fits = key.fits(key.edge, shape);
-    assert!(rt; fits == has_any(shape.dim, at, key.rect));
+/// Whether what the parts of a key make has its shape and is the plain way's.
+fn is_made_right(scene: &Scene, block: Block, at: Rect, key: &SumKey) -> Option<bool> {
+    if !key.fits(block.edge, &scene.shape) {
+        return None;
+    }
+    let value = derived(scene, key)?;
+    Some(key.shaped(&scene.shape, &value) && are_plain(&scene.picture, block, at, &value))
+}
+
+/// Whether a key fits just where its block has a place of the rectangle, and then what its parts make is the plain way's.
+fn is_block_right(scene: &Scene, block: Block) -> Option<bool> {
+    let at = block_at(scene.shape.dim, block);
+    let key = key_of(scene.alloc, block)?;
+    let fits = key.fits(block.edge, &scene.shape);
+    if fits != has_any(scene.shape.dim, at, block.rect) {
+        return Some(false);
+    }
     if fits {
-        let value = derived(rt, alloc, picture, shape, key)?;
-        assert!(rt; key.shaped(shape, &value));
-        compare_sums(rt, picture, at, key, &value);
+        is_made_right(scene, block, at, &key)
+    } else {
+        Some(true)
     }
-    Ok(())
 }
 
-/// Every block of every rectangle, size and edge from the first to the last.
-fn compare_all(
-    rt: &impl Abort,
-    alloc: Global,
-    dim: Dim,
-    kind: Kind,
-    depth: Depth,
-    edges: (u32, u32),
-) -> Result<(), Fail> {
-    let shape = Shape { dim, kind, depth };
-    let picture = pattern(alloc, shape)?;
-    let mut key = whole(alloc, 0, 0, 0)?;
-    compare_rects(rt, alloc, &picture, &shape, &mut key, edges)
-}
-
-/// Every block of every rectangle of a picture.
-fn compare_rects(
-    rt: &impl Abort,
-    alloc: Global,
-    picture: &Raster,
-    shape: &Shape,
-    key: &mut SumKey,
-    edges: (u32, u32),
-) -> Result<(), Fail> {
-    for y in 0..shape.dim.h {
-        for x in 0..shape.dim.w {
-            for h in 1..=shape.dim.h - y {
-                for w in 1..=shape.dim.w - x {
-                    key.rect = Rect { x, y, w, h };
-                    compare_sizes(rt, alloc, picture, shape, key, edges)?;
+/// Whether every block is right of every level up to the one that has the whole picture, and one column and row of blocks more.
+fn are_levels_right(scene: &Scene, edge: u32, rect: Rect, size: Dim) -> bool {
+    let dim = scene.shape.dim;
+    for level in 0..4 {
+        let side = edge.wrapping_shl(u32::from(level)).max(1);
+        for by in 0..=dim.h.div_ceil(side) {
+            for bx in 0..=dim.w.div_ceil(side) {
+                let block = Block {
+                    edge,
+                    rect,
+                    size,
+                    level,
+                    bx,
+                    by,
+                };
+                if is_block_right(scene, block) != Some(true) {
+                    return false;
                 }
             }
         }
     }
-    Ok(())
+    true
 }
 
-/// Every block of a rectangle at every size and edge from the first to the last.
-fn compare_sizes(
-    rt: &impl Abort,
-    alloc: Global,
-    picture: &Raster,
-    shape: &Shape,
-    key: &mut SumKey,
-    edges: (u32, u32),
-) -> Result<(), Fail> {
-    for d in 1..=key.rect.h {
-        for c in 1..=key.rect.w {
+/// Whether every block of a rectangle is right, at every size and at these edges.
+fn is_rect_right(scene: &Scene, edges: (u32, u32), rect: Rect) -> bool {
+    for h in 1..=rect.h {
+        for w in 1..=rect.w {
             for edge in edges.0..=edges.1 {
-                key.size = Dim { w: c, h: d };
-                key.edge = edge;
-                compare_blocks(rt, alloc, picture, shape, key)?;
+                if !are_levels_right(scene, edge, rect, Dim { w, h }) {
+                    return false;
+                }
             }
         }
     }
-    Ok(())
+    true
 }
 
-/// Every block of every level up to the one that has the whole picture, and one column and row of blocks more.
-fn compare_blocks(
-    rt: &impl Abort,
-    alloc: Global,
-    picture: &Raster,
-    shape: &Shape,
-    key: &mut SumKey,
-) -> Result<(), Fail> {
-    for level in 0..4 {
-        key.level = level;
-        let side = key.edge.wrapping_shl(u32::from(level)).max(1);
-        for by in 0..=shape.dim.h.div_ceil(side) {
-            for bx in 0..=shape.dim.w.div_ceil(side) {
-                key.bx = bx;
-                key.by = by;
-                compare_block(rt, alloc, picture, shape, key)?;
+/// Whether every block of every rectangle is right that has its first place in a column and row.
+fn are_rects_right(scene: &Scene, edges: (u32, u32), x: u32, y: u32) -> bool {
+    let dim = scene.shape.dim;
+    for h in 1..=dim.h.saturating_sub(y) {
+        for w in 1..=dim.w.saturating_sub(x) {
+            if !is_rect_right(scene, edges, Rect { x, y, w, h }) {
+                return false;
             }
         }
     }
-    Ok(())
+    true
 }
+
+/// Whether every block of every rectangle of a picture is right, at every size and at these edges.
+fn is_right(scene: &Scene, edges: (u32, u32)) -> bool {
+    for y in 0..scene.shape.dim.h {
+        for x in 0..scene.shape.dim.w {
+            if !are_rects_right(scene, edges, x, y) {
+                return false;
+            }
+        }
+    }
+    true
+}
+
+/// The same of a picture of this shape.
+fn is_right_of(alloc: Global, shape: Shape, edges: (u32, u32)) -> Option<bool> {
+    let mut picture = Raster::new(alloc, shape.dim, shape.kind, shape.depth).ok()?;
+    fill(&mut picture, &shape);
+    let scene = Scene {
+        alloc,
+        picture,
+        shape,
+    };
+    Some(is_right(&scene, edges))
+}
+
+/// The sides of a picture, what its places have, its depth, and its first and last edge.
+type Picture = (u32, u32, Kind, Depth, (u32, u32));
+
+/// Whether every block of a picture is right.
+fn is_picture_right(alloc: Global, picture: Picture) -> bool {
+    let (w, h, kind, depth, edges) = picture;
+    let dim = Dim { w, h };
+    is_right_of(alloc, Shape { dim, kind, depth }, edges) == Some(true)
+}
+
+/// Pictures beside the gray ones of 1 by 1 to 4 by 4.
+static PICTURES: [Picture; 5] = [
+    (6, 2, Kind::Gray, Depth::Eight, (1, 5)),
+    (1, 5, Kind::Gray, Depth::Eight, (1, 5)),
+    (3, 3, Kind::Rgb, Depth::Eight, (1, 5)),
+    (4, 3, Kind::Gray, Depth::Sixteen, (1, 4)),
+    (2, 3, Kind::Rgb, Depth::Sixteen, (1, 3)),
+];
 
 #[test]
-fn blocks_of_gray_pictures(rt: HostRuntime) -> Result<(), Fail> {
+fn blocks_of_pictures(rt: HostRuntime) {
     for h in 1..5 {
         for w in 1..5 {
-            compare_all(
-                &rt,
-                rt.alloc(),
-                Dim { w, h },
-                Kind::Gray,
-                Depth::Eight,
-                (1, 5),
-            )?;
+            let picture = (w, h, Kind::Gray, Depth::Eight, (1, 5));
+            assert!(rt; is_picture_right(rt.alloc(), picture), "{w} by {h}");
         }
     }
-    compare_all(
-        &rt,
-        rt.alloc(),
-        Dim { w: 6, h: 2 },
-        Kind::Gray,
-        Depth::Eight,
-        (1, 5),
-    )?;
-    compare_all(
-        &rt,
-        rt.alloc(),
-        Dim { w: 1, h: 5 },
-        Kind::Gray,
-        Depth::Eight,
-        (1, 5),
-    )?;
-    Ok(())
+    for (line, picture) in PICTURES.iter().enumerate() {
+        assert!(rt; is_picture_right(rt.alloc(), *picture), "{line}");
+    }
 }
 
 #[test]
-fn blocks_of_rgb_pictures(rt: HostRuntime) -> Result<(), Fail> {
-    compare_all(
-        &rt,
-        rt.alloc(),
-        Dim { w: 3, h: 3 },
-        Kind::Rgb,
-        Depth::Eight,
-        (1, 5),
-    )?;
-    Ok(())
+fn blocks_of_6_by_6_at_edge_1(rt: HostRuntime) {
+    let picture = (6, 6, Kind::Gray, Depth::Eight, (1, 1));
+    assert!(rt; is_picture_right(rt.alloc(), picture));
 }
 
 #[test]
-fn blocks_of_pictures_of_16_bits(rt: HostRuntime) -> Result<(), Fail> {
-    let (gray, rgb) = (Dim { w: 4, h: 3 }, Dim { w: 2, h: 3 });
-    compare_all(&rt, rt.alloc(), gray, Kind::Gray, Depth::Sixteen, (1, 4))?;
-    compare_all(&rt, rt.alloc(), rgb, Kind::Rgb, Depth::Sixteen, (1, 3))?;
-    Ok(())
-}
-
-#[test]
-fn blocks_of_6_by_6_at_edge_1(rt: HostRuntime) -> Result<(), Fail> {
-    compare_all(
-        &rt,
-        rt.alloc(),
-        Dim { w: 6, h: 6 },
-        Kind::Gray,
-        Depth::Eight,
-        (1, 1),
-    )?;
-    Ok(())
-}
-
-#[test]
-fn blocks_of_6_by_6_at_edges_2_to_5(rt: HostRuntime) -> Result<(), Fail> {
-    compare_all(
-        &rt,
-        rt.alloc(),
-        Dim { w: 6, h: 6 },
-        Kind::Gray,
-        Depth::Eight,
-        (2, 5),
-    )?;
-    Ok(())
+fn blocks_of_6_by_6_at_edges_2_to_5(rt: HostRuntime) {
+    let picture = (6, 6, Kind::Gray, Depth::Eight, (2, 5));
+    assert!(rt; is_picture_right(rt.alloc(), picture));
 }

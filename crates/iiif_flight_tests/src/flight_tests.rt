@@ -1,10 +1,11 @@
 //! Tables of samples, of one thread and of two.
 
-ghost use Rattle.std.specs.Prelude.{◌≡◌, ◌^◌, ◌<◌, true, IsTrue};
+ghost use Rattle.std.specs.Prelude.{◌≡◌, true, IsTrue};
 ghost use Rattle.std.specs.Result.{ForErr};
 ghost use Rattle.iiif_outcome.specs.Outcomes.{is_given};
 
-use iiif_keys::{Fault, Name, is_name};
+use crate::cache_tests::sample;
+use iiif_keys::Fault;
 use iiif_outcome::{Flight, Lead, Receipt, learned_apart};
 use iiif_sample_keys::{Lax, Sample};
 use iiif_singleflight::entered::Entered;
@@ -17,37 +18,29 @@ use iiif_tables::{Book, Class, Place};
 use std::alloc::Global;
 use std::marker::Brand;
 use std::num::NonZeroUsize;
-use std::process::Abort;
 use std::sync::ledger::{Blank, Ledger};
 use std::sync::{Arc, Mutex, Wait};
-use std::test::Fail;
 use std::thread;
 use std::thread::Threads;
 use std::time::{Clock, Duration};
 
 type Shared<L> = Home<Sample, Lax, L>;
 
-fn made<L: Ledger>(alloc: Global, bytes: u64, blank: Blank) -> Result<Shared<L>, Fail>
-    requires bytes { bytes < 2 ^ 63 }
+type Told = Result<u16, Fault>;
+
+/// A home for so many bytes.
+fn made<L: Ledger>(alloc: Global, bytes: u32, blank: Blank) -> Option<Shared<L>>
     requires name { blank.name ≡ L.name }
     requires parts { blank.parts ≡ L.parts }
     requires all { L.parts ≡ 65537 }
 {
-    let entries = NonZeroUsize::new(8).ok_or("no entry")?;
-    let (table, pass) = Table::new(alloc, bytes, entries, 65_537, blank)?;
-    Ok(Home::new(table, pass, Whole::new()))
-}
-
-fn sample(alloc: Global) -> Option<Sample> {
-    let text = format!(in alloc; "a").ok()?;
-    if !is_name(text.as_str()) {
-        return None;
-    }
-    Some(Sample::new(Name::new(text).ok()?, 7))
+    let entries = NonZeroUsize::new(8)?;
+    let (table, pass) = Table::new(alloc, u64::from(bytes), entries, 65_537, blank).ok()?;
+    Some(Home::new(table, pass, Whole::new()))
 }
 
 /// What a flight ended with, by its receipt.
-fn told(receipt: &mut Receipt<Sample, Lax>) -> Result<u16, Fault> {
+fn told(receipt: &mut Receipt<Sample, Lax>) -> Told {
     match receipt.outcome() {
         Ok(value) => Ok(**value),
         Err(fault) => Err(*fault),
@@ -91,35 +84,62 @@ fn learned<R: Wait + Clock>(
     None
 }
 
+/// What was counted.
+fn counted<L: Ledger, R: Wait>(rt: &R, home: &Mutex<Shared<L>>) -> Book {
+    home.lock(rt).table.book()
+}
+
+/// How many entries are kept.
+fn entries_kept<L: Ledger, R: Wait>(rt: &R, home: &Mutex<Shared<L>>) -> usize {
+    home.lock(rt).table.kept().entries
+}
+
 /// Waits until so many have joined.
 fn wait<L: Ledger, R: Wait + Clock>(rt: &R, home: &Mutex<Shared<L>>, joins: u64) {
     for _ in 0..10_000u32 {
-        if home.lock(rt).table.book().joins == joins {
+        if counted(rt, home).joins == joins {
             break;
         }
         thread::sleep(rt, Duration::from_millis(1));
     }
 }
 
-/// Enters; where it leads, waits until so many have joined and lands; where it joined, learns what was landed.
+/// What a call meets that enters with this pass.
+fn entered<L: Ledger, R: Wait>(
+    rt: &R,
+    alloc: Global,
+    home: &Mutex<Shared<L>>,
+    pass: &mut Pass<L>,
+) -> Option<Entered<Sample, Lax>> {
+    let key = sample(alloc, 7)?;
+    home.lock(rt).table.enter(pass, &key, Class::Wide).ok()
+}
+
+/// Waits until one has joined, and lands.
+fn landed<L: Ledger, R: Wait + Clock>(
+    rt: &R,
+    alloc: Global,
+    home: &Mutex<Shared<L>>,
+    lead: Lead<Sample, Lax>,
+    lands: Outcome,
+) -> Receipt<Sample, Lax> {
+    wait(rt, home, 1);
+    let outcome = landing_of(alloc, lands);
+    home.lock(rt).table.land(lead, outcome, Place::Main).receipt
+}
+
+/// Enters; where it leads, waits until one has joined and lands; where it joined, learns what was landed.
 fn ask<L: Ledger, R: Wait + Clock>(
     rt: &R,
     alloc: Global,
     home: &Mutex<Shared<L>>,
     pass: &mut Pass<L>,
-    joins: u64,
     lands: Outcome,
 ) -> Option<Receipt<Sample, Lax>> {
-    let key = sample(alloc)?;
-    let entered = home.lock(rt).table.enter(pass, &key, Class::Wide).ok()?;
-    match entered {
+    match entered(rt, alloc, home, pass)? {
         Entered::Hit(receipt) => Some(receipt),
         Entered::Joined(flight) => learned(rt, flight),
-        Entered::Lead(lead) => {
-            wait(rt, home, joins);
-            let outcome = landing_of(alloc, lands);
-            Some(home.lock(rt).table.land(lead, outcome, Place::Main).receipt)
-        }
+        Entered::Lead(lead) => Some(landed(rt, alloc, home, lead, lands)),
     }
 }
 
@@ -131,69 +151,63 @@ fn ask_with<L: Ledger, R: Wait + Clock>(
     mut pass: Pass<L>,
     lands: Outcome,
 ) -> Option<(Receipt<Sample, Lax>, Pass<L>)> {
-    let receipt = ask(rt, alloc, home, &mut pass, 1, lands)?;
+    let receipt = ask(rt, alloc, home, &mut pass, lands)?;
     Some((receipt, pass))
 }
 
-fn no_counts() -> Book {
-    Book {
-        gets: 0,
-        hits: 0,
-        joins: 0,
-        leads: 0,
-        again_hits: 0,
-        loads: 0,
-        peer: 0,
-        landed: 0,
-        faults: 0,
-    }
-}
-
-/// What came of two calls that met, and of a third: what each was told, whether the third learned of the same flight as the first,
-/// the counts before the third and behind it, and how many entries were kept before it.
-#[derive(Clone, Copy)]
+/// What came of two calls that met, and of a third: what the leader, the one who joined and the third were told, whether the
+/// first two learned of one flight and the third of the same, the counts before the third and behind it, and how many entries were
+/// kept before it.
+#[derive(Clone, Copy, PartialEq)]
 struct Met {
-    leads: Result<u16, Fault>,
-    joins: Result<u16, Fault>,
-    third: Result<u16, Fault>,
+    leads: Told,
+    joins: Told,
+    third: Told,
+    is_shared: bool,
     is_third_same: bool,
     book: Book,
     book_then: Book,
     entries: usize,
 }
 
-/// What was counted, and how many entries are kept.
-fn counted<L: Ledger, R: Wait>(rt: &R, home: &Mutex<Shared<L>>) -> (Book, usize) {
-    let home = home.lock(rt);
-    (home.table.book(), home.table.kept().entries)
+/// What came of the three calls, by their receipts.
+fn met_by(
+    leads: &mut Receipt<Sample, Lax>,
+    joins: &mut Receipt<Sample, Lax>,
+    third: &mut Receipt<Sample, Lax>,
+    counts: (Book, Book),
+    entries: usize,
+) -> Met {
+    let (is_shared, is_third_same) = (leads.same(joins), third.same(leads));
+    Met {
+        leads: told(leads),
+        joins: told(joins),
+        third: told(third),
+        is_shared,
+        is_third_same,
+        book: counts.0,
+        book_then: counts.1,
+        entries,
+    }
 }
 
 /// A third call, after two that met.
-fn third<L: Ledger, R: Wait + Clock + Abort>(
+fn third<L: Ledger, R: Wait + Clock>(
     rt: &R,
     alloc: Global,
     home: &Mutex<Shared<L>>,
     pass: &mut Pass<L>,
-    mut leads: Receipt<Sample, Lax>,
-    mut joins: Receipt<Sample, Lax>,
+    leads: &mut Receipt<Sample, Lax>,
+    joins: &mut Receipt<Sample, Lax>,
 ) -> Option<Met> {
-    assert!(rt; leads.same(&joins));
-    let (book, entries) = counted(rt, home);
-    let mut third = ask(rt, alloc, home, pass, 1, Outcome::Value)?;
-    let book_then = home.lock(rt).table.book();
-    Some(Met {
-        leads: told(&mut leads),
-        joins: told(&mut joins),
-        third: told(&mut third),
-        is_third_same: third.same(&leads),
-        book,
-        book_then,
-        entries,
-    })
+    let (book, entries) = (counted(rt, home), entries_kept(rt, home));
+    let mut third = ask(rt, alloc, home, pass, Outcome::Value)?;
+    let counts = (book, counted(rt, home));
+    Some(met_by(leads, joins, &mut third, counts, entries))
 }
 
 /// Two threads ask for one key, and the leader lands once the other has joined; then a third call is made.
-fn meet<L: Ledger + Send + Sync, R: Threads + Wait + Clock + Abort + Sync>(
+fn meet<L: Ledger + Send + Sync, R: Threads + Wait + Clock + Sync>(
     rt: &R,
     alloc: Global,
     home: &Mutex<Shared<L>>,
@@ -206,67 +220,27 @@ fn meet<L: Ledger + Send + Sync, R: Threads + Wait + Clock + Abort + Sync>(
         || ask_with(rt, alloc, home, one, lands),
         || ask_with(rt, alloc, home, two, lands),
     );
-    let (leads, mut pass) = a?;
-    let (joins, _other) = b?;
-    third(rt, alloc, home, &mut pass, leads, joins)
+    let (mut leads, mut pass) = a?;
+    let (mut joins, _other) = b?;
+    third(rt, alloc, home, &mut pass, &mut leads, &mut joins)
 }
 
 /// The same at a home for so many bytes.
-fn two_meet<L: Ledger + Send + Sync, R: Threads + Wait + Clock + Abort + Sync>(
+fn two_meet<L: Ledger + Send + Sync, R: Threads + Wait + Clock + Sync>(
     rt: &R,
     alloc: Global,
-    bytes: u64,
+    bytes: u32,
     lands: Outcome,
     blank: Blank,
-) -> Result<Met, Fail>
-    requires bytes { bytes < 2 ^ 63 }
+) -> Option<Met>
     requires name { blank.name ≡ L.name }
     requires parts { blank.parts ≡ L.parts }
     requires all { L.parts ≡ 65537 }
 {
     let mut home: Shared<L> = made(alloc, bytes, blank)?;
-    let one = home.pass().ok_or("no pass")?;
-    let two = home.pass().ok_or("no pass")?;
-    Ok(meet(rt, alloc, &Mutex::new(home), one, two, lands).ok_or("no answer")?)
-}
-
-#[test]
-fn two_threads_share_one_load(rt: HostRuntime) -> Result<(), Fail> {
-    let met = two_meet::<Brand, _>(&rt, rt.alloc(), 1000, Outcome::Value, Blank::new(65_537))?;
-    let book = Book {
-        gets: 2,
-        joins: 1,
-        leads: 1,
-        loads: 1,
-        landed: 1,
-        ..no_counts()
-    };
-    let book_then = Book {
-        gets: 3,
-        hits: 1,
-        ..book
-    };
-    assert!(rt; met.book == book);
-    assert!(rt; met.book_then == book_then);
-    assert!(rt; met.leads == Ok(42) && met.joins == Ok(42) && met.third == Ok(42));
-    assert!(rt; met.is_third_same && met.entries == 1);
-    Ok(())
-}
-
-#[test]
-fn third_call_leads_where_nothing_is_kept(rt: HostRuntime) -> Result<(), Fail> {
-    let met = two_meet::<Brand, _>(&rt, rt.alloc(), 1, Outcome::Value, Blank::new(65_537))?;
-    let loaded_twice = Book {
-        gets: 3,
-        joins: 1,
-        leads: 2,
-        loads: 2,
-        landed: 2,
-        ..no_counts()
-    };
-    assert!(rt; met.book_then == loaded_twice);
-    assert!(rt; met.third == Ok(42));
-    Ok(())
+    let one = home.pass()?;
+    let two = home.pass()?;
+    meet(rt, alloc, &Mutex::new(home), one, two, lands)
 }
 
 /// The fault of a read at place 3.
@@ -275,35 +249,107 @@ const FAULT: ReadFault = ReadFault {
     cause: ReadFault::FAILED,
 };
 
-#[test]
-fn call_after_a_fault_loads_again(rt: HostRuntime) -> Result<(), Fail> {
-    let failed = Book {
-        gets: 2,
-        joins: 1,
-        leads: 1,
-        loads: 1,
-        landed: 1,
-        faults: 1,
-        ..no_counts()
-    };
-    let loaded = Book {
+const NO_COUNTS: Book = Book {
+    gets: 0,
+    hits: 0,
+    joins: 0,
+    leads: 0,
+    again_hits: 0,
+    loads: 0,
+    peer: 0,
+    landed: 0,
+    faults: 0,
+};
+
+/// Two calls of which one led and landed a value.
+const LOADED: Book = Book {
+    gets: 2,
+    joins: 1,
+    leads: 1,
+    loads: 1,
+    landed: 1,
+    ..NO_COUNTS
+};
+
+/// Two calls of which one led and landed a fault.
+const FAILED: Book = Book {
+    faults: 1,
+    ..LOADED
+};
+
+/// The third call hits what two threads shared.
+const SHARED: Met = Met {
+    leads: Ok(42),
+    joins: Ok(42),
+    third: Ok(42),
+    is_shared: true,
+    is_third_same: true,
+    book: LOADED,
+    book_then: Book {
+        gets: 3,
+        hits: 1,
+        ..LOADED
+    },
+    entries: 1,
+};
+
+/// The third call leads where nothing is kept.
+const NOT_KEPT: Met = Met {
+    leads: Ok(42),
+    joins: Ok(42),
+    third: Ok(42),
+    is_shared: true,
+    is_third_same: false,
+    book: LOADED,
+    book_then: Book {
         gets: 3,
         leads: 2,
         loads: 2,
         landed: 2,
-        ..failed
-    };
-    for (lands, fault) in [
-        (Outcome::Fault(FAULT), Fault::Source(FAULT)),
-        (Outcome::NoMemory, Fault::NoMemory),
-    ] {
-        let met = two_meet::<Brand, _>(&rt, rt.alloc(), 1000, lands, Blank::new(65_537))?;
-        let told = [met.leads, met.joins, met.third];
-        assert!(rt; told == [Err(fault), Err(fault), Ok(42)], "{fault:?}");
-        assert!(rt; met.book == failed && met.entries == 0, "{fault:?}");
-        assert!(rt; met.book_then == loaded && !met.is_third_same, "{fault:?}");
+        ..LOADED
+    },
+    entries: 0,
+};
+
+/// The fault of a read at place 3, which two calls are told. A third call loads again.
+const AFTER_A_READ: Met = Met {
+    leads: Err(Fault::Source(FAULT)),
+    joins: Err(Fault::Source(FAULT)),
+    third: Ok(42),
+    is_shared: true,
+    is_third_same: false,
+    book: FAILED,
+    book_then: Book {
+        gets: 3,
+        leads: 2,
+        loads: 2,
+        landed: 2,
+        ..FAILED
+    },
+    entries: 0,
+};
+
+/// The same where memory was wanting.
+const AFTER_NO_MEMORY: Met = Met {
+    leads: Err(Fault::NoMemory),
+    joins: Err(Fault::NoMemory),
+    ..AFTER_A_READ
+};
+
+/// For how many bytes a home is, what the leader of two calls lands, and what comes of them and of a third.
+static MEETINGS: [(u32, Outcome, Met); 4] = [
+    (1000, Outcome::Value, SHARED),
+    (1, Outcome::Value, NOT_KEPT),
+    (1000, Outcome::Fault(FAULT), AFTER_A_READ),
+    (1000, Outcome::NoMemory, AFTER_NO_MEMORY),
+];
+
+#[test]
+fn two_threads_share_one_load(rt: HostRuntime) {
+    for (line, (bytes, lands, met)) in MEETINGS.iter().enumerate() {
+        let seen = two_meet::<Brand, _>(&rt, rt.alloc(), *bytes, *lands, Blank::new(65_537));
+        assert!(rt; seen == Some(*met), "{line}");
     }
-    Ok(())
 }
 
 /// A call of the local class, which lands where it leads.
@@ -330,7 +376,7 @@ fn look_and_land<L: Ledger>(
     alloc: Global,
     home: &mut Shared<L>,
     lead: Lead<Sample, Lax>,
-) -> (Result<u16, Fault>, Book) {
+) -> (Told, Book) {
     let outcome = match home.table.again(&lead) {
         Ok(Some(value)) => Ok(value),
         _ => landing_of(alloc, Outcome::Fault(FAULT)),
@@ -343,94 +389,95 @@ fn look_and_land<L: Ledger>(
 fn look_again<L: Ledger>(
     alloc: Global,
     home: &mut Shared<L>,
+    pass: &mut Pass<L>,
+    key: &Sample,
     lands: Outcome,
-) -> Option<(Result<u16, Fault>, Book)> {
-    let key = sample(alloc)?;
-    let mut pass = home.pass()?;
-    match home.table.enter(&mut pass, &key, Class::Wide).ok()? {
+) -> Option<(Told, Book)> {
+    match home.table.enter(pass, key, Class::Wide).ok()? {
         Entered::Hit(_) => None,
         Entered::Joined(_) => None,
         Entered::Lead(lead) => {
-            land_beside(alloc, home, &mut pass, &key, lands);
+            land_beside(alloc, home, pass, key, lands);
             Some(look_and_land(alloc, home, lead))
         }
     }
 }
 
 /// The same at a new home.
-fn looked<L: Ledger>(
-    alloc: Global,
-    lands: Outcome,
-    blank: Blank,
-) -> Result<(Result<u16, Fault>, Book), Fail>
+fn looked<L: Ledger>(alloc: Global, lands: Outcome, blank: Blank) -> Option<(Told, Book)>
     requires name { blank.name ≡ L.name }
     requires parts { blank.parts ≡ L.parts }
     requires all { L.parts ≡ 65537 }
 {
+    let key = sample(alloc, 7)?;
     let mut home: Shared<L> = made(alloc, 1000, blank)?;
-    Ok(look_again(alloc, &mut home, lands).ok_or("no lead")?)
+    let mut pass = home.pass()?;
+    look_again(alloc, &mut home, &mut pass, &key, lands)
 }
 
-#[test]
-fn leader_that_looks_again_finds_what_landed_meanwhile(rt: HostRuntime) -> Result<(), Fail> {
-    let (tells, book) = looked::<Brand>(rt.alloc(), Outcome::Value, Blank::new(65_537))?;
-    let found = Book {
-        gets: 2,
-        leads: 2,
-        again_hits: 1,
-        loads: 1,
-        landed: 2,
-        ..no_counts()
-    };
-    assert!(rt; tells == Ok(42) && book == found);
-    Ok(())
-}
+/// The leader finds what landed meanwhile.
+const FOUND: Book = Book {
+    gets: 2,
+    leads: 2,
+    again_hits: 1,
+    loads: 1,
+    landed: 2,
+    ..NO_COUNTS
+};
+
+/// The leader finds no fault.
+const NOT_FOUND: Book = Book {
+    gets: 2,
+    leads: 2,
+    loads: 2,
+    landed: 2,
+    faults: 2,
+    ..NO_COUNTS
+};
+
+/// What lands beside a leader that looks again, what that leader is told, and the counts.
+static LOOKS: [(Outcome, Told, Book); 2] = [
+    (Outcome::Value, Ok(42), FOUND),
+    (Outcome::Fault(FAULT), Err(Fault::Source(FAULT)), NOT_FOUND),
+];
 
 #[test]
-fn leader_that_looks_again_finds_no_fault(rt: HostRuntime) -> Result<(), Fail> {
-    let lands = Outcome::Fault(FAULT);
-    let (tells, book) = looked::<Brand>(rt.alloc(), lands, Blank::new(65_537))?;
-    let failed = Book {
-        gets: 2,
-        leads: 2,
-        loads: 2,
-        landed: 2,
-        faults: 2,
-        ..no_counts()
-    };
-    assert!(rt; tells == Err(Fault::Source(FAULT)) && book == failed);
-    Ok(())
+fn leader_that_looks_again_finds_values_alone(rt: HostRuntime) {
+    for (line, (lands, told, book)) in LOOKS.iter().enumerate() {
+        let seen = looked::<Brand>(rt.alloc(), *lands, Blank::new(65_537));
+        assert!(rt; seen == Some((*told, *book)), "{line}");
+    }
 }
 
 /// The ticket of a receipt, and what it tells.
-fn ticket_of(receipt: &mut Receipt<Sample, Lax>) -> (u64, Result<u16, Fault>) {
+fn ticket_of(receipt: &mut Receipt<Sample, Lax>) -> (u64, Told) {
     (receipt.ticket(), told(receipt))
 }
 
 /// What two threads learn of one flight.
-fn both_learn<R: Threads + Sync>(
-    rt: &R,
-    mut one: Flight<Sample, Lax>,
-) -> Result<[(u64, Result<u16, Fault>); 2], Fail> {
-    let other = one.join()?;
-    let (mut a, mut b) = learned_apart(rt, one, other).ok_or("nothing learned")?;
-    Ok([ticket_of(&mut a), ticket_of(&mut b)])
+fn both_learn<R: Threads + Sync>(rt: &R, mut one: Flight<Sample, Lax>) -> Option<[(u64, Told); 2]> {
+    let other = one.join().ok()?;
+    let (mut a, mut b) = learned_apart(rt, one, other)?;
+    Some([ticket_of(&mut a), ticket_of(&mut b)])
 }
 
-/// A flight with the ticket 5, which ended with that fault, and whether this was taken.
-fn ended(alloc: Global) -> Result<(Flight<Sample, Lax>, bool), Fail> {
-    let key = sample(alloc).ok_or("no key")?;
-    let (lead, flight) = Lead::open(alloc, &key, Class::Wide, 5)?;
-    let ended = lead.set(landing_of(alloc, Outcome::Fault(FAULT)));
-    Ok((flight, ended.taken))
+/// A flight with the ticket 5, which ended with that fault. None where this wasn't taken.
+fn ended(alloc: Global) -> Option<Flight<Sample, Lax>> {
+    let key = sample(alloc, 7)?;
+    let (lead, flight) = Lead::open(alloc, &key, Class::Wide, 5).ok()?;
+    if !lead.set(landing_of(alloc, Outcome::Fault(FAULT))).taken {
+        return None;
+    }
+    Some(flight)
+}
+
+/// What two threads learn of the flight that ended.
+fn learned_of_one<R: Threads + Sync>(rt: &R, alloc: Global) -> Option<[(u64, Told); 2]> {
+    both_learn(rt, ended(alloc)?)
 }
 
 #[test]
-fn two_threads_learn_of_one_flight(rt: HostRuntime) -> Result<(), Fail> {
-    let (flight, is_taken) = ended(rt.alloc())?;
-    assert!(rt; is_taken);
-    for (ticket, told) in both_learn(&rt, flight)? {
-        assert!(rt; ticket == 5 && told == Err(Fault::Source(FAULT)));
-    }
-    Ok(())
+fn two_threads_learn_of_one_flight(rt: HostRuntime) {
+    let tells = (5, Err(Fault::Source(FAULT)));
+    assert!(rt; learned_of_one(&rt, rt.alloc()) == Some([tells, tells]));
 }

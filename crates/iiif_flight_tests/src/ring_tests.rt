@@ -2,10 +2,34 @@
 
 use iiif_ring::{Ring, RingFault};
 use std::alloc::{AllocError, Global};
-use std::test::Fail;
 
 /// A key whose next point is replica 11 of `x` and replica 1 of `1x`.
 const TIED: [u8; 15] = [0, 1, 97, 0, 0, 0, 2, 0, 0, 0, 6, 0, 0, 0, 0];
+
+/// Names, a key, and the place of the name that owns it.
+static OWNERS: [(&[&str], &[u8], usize); 3] = [
+    // A key behind the last point goes to the first.
+    (&["n", "m"], b"wrap-80", 1),
+    // Two names that share a point go by their bytes.
+    (&["x", "1x"], &TIED, 1),
+    (&["1x", "x"], &TIED, 0),
+];
+
+/// How many names are taken of `node 0` to `node 64` and then `node 64` again, and how many the ring has, or why there is none.
+static COUNTS: [(u32, Result<usize, RingFault>); 4] = [
+    (0, Err(RingFault::Empty)),
+    (64, Ok(64)),
+    (65, Err(RingFault::TooMany)),
+    (66, Err(RingFault::Twice)),
+];
+
+/// Faults, and their numbers.
+static NUMBERS: [(RingFault, u8); 4] = [
+    (RingFault::Empty, 1),
+    (RingFault::Twice, 2),
+    (RingFault::TooMany, 3),
+    (RingFault::NoMemory, 4),
+];
 
 fn texts(alloc: Global, names: &[&str]) -> Result<Vec<String>, AllocError> {
     let mut all = Vec::new(alloc);
@@ -15,48 +39,64 @@ fn texts(alloc: Global, names: &[&str]) -> Result<Vec<String>, AllocError> {
     Ok(all)
 }
 
-#[test]
-fn names_that_make_no_ring(rt: HostRuntime) -> Result<(), Fail> {
-    let none = Ring::new(rt.alloc(), Vec::new(rt.alloc()));
-    assert_eq!(rt; none.err(), Some(RingFault::Empty));
-    let twice = Ring::new(rt.alloc(), texts(rt.alloc(), &["n", "n"])?);
-    assert_eq!(rt; twice.err(), Some(RingFault::Twice));
-    let mut many = Vec::new(rt.alloc());
-    for number in 0..65u32 {
-        many.push(format!(in rt.alloc(); "node {number}")?)?;
+/// The ring of these names.
+fn ring(alloc: Global, names: &[&str]) -> Result<Ring, RingFault> {
+    match texts(alloc, names) {
+        Ok(names) => Ring::new(alloc, names),
+        Err(_) => Err(RingFault::NoMemory),
     }
-    let mut repeated = many.clone()?;
-    repeated.push(String::from_str(rt.alloc(), "node 64")?)?;
-    let mut fewer = many.clone()?;
-    let _ = fewer.pop();
-    assert_eq!(rt; Ring::new(rt.alloc(), many).err(), Some(RingFault::TooMany));
-    assert_eq!(rt;
-        Ring::new(rt.alloc(), repeated).err(),
-        Some(RingFault::Twice)
-    );
-    assert_eq!(rt; Ring::new(rt.alloc(), fewer)?.names().len(), 64);
-    assert_eq!(rt; RingFault::Empty.number(), 1);
-    assert_eq!(rt; RingFault::Twice.number(), 2);
-    assert_eq!(rt; RingFault::TooMany.number(), 3);
-    assert_eq!(rt; RingFault::NoMemory.number(), 4);
-    Ok(())
+}
+
+/// Why these names make no ring.
+fn fault_of(alloc: Global, names: &[&str]) -> Option<RingFault> {
+    ring(alloc, names).err()
+}
+
+/// The place of the name that owns a key.
+fn owner(alloc: Global, names: &[&str], key: &[u8]) -> Option<usize> {
+    Some(ring(alloc, names).ok()?.owner(key))
+}
+
+/// So many names from `node 0` on, where all behind `node 64` are `node 64` again.
+fn numbered(alloc: Global, count: u32) -> Result<Vec<String>, AllocError> {
+    let mut all = Vec::new(alloc);
+    for number in 0..count {
+        let number = number.min(64);
+        all.push(format!(in alloc; "node {number}")?)?;
+    }
+    Ok(all)
+}
+
+/// How many names the ring of so many names has.
+fn names_kept(alloc: Global, count: u32) -> Result<usize, RingFault> {
+    match numbered(alloc, count) {
+        Ok(names) => Ok(Ring::new(alloc, names)?.names().len()),
+        Err(_) => Err(RingFault::NoMemory),
+    }
 }
 
 #[test]
-fn one_name_owns_every_key(rt: HostRuntime) -> Result<(), Fail> {
-    let ring = Ring::new(rt.alloc(), texts(rt.alloc(), &["n"])?)?;
-    for number in 0..1000u32 {
-        assert_eq!(rt; ring.owner(&number.to_be_bytes()), 0);
+fn names_that_make_no_ring(rt: HostRuntime) {
+    assert!(rt; fault_of(rt.alloc(), &["n", "n"]) == Some(RingFault::Twice));
+    for (count, kept) in &COUNTS {
+        assert!(rt; names_kept(rt.alloc(), *count) == *kept, "{count}");
     }
-    Ok(())
+    for (fault, number) in &NUMBERS {
+        assert!(rt; fault.number() == *number, "{number}");
+    }
+}
+
+/// The place of the name that owns `key-0`, `key-1` and so on.
+fn owner_of_number(alloc: Global, names: &[&str], number: u32) -> Option<usize> {
+    let key = format!(in alloc; "key-{number}").ok()?;
+    owner(alloc, names, key.as_bytes())
 }
 
 #[test]
-fn owners_as_computed_outside(rt: HostRuntime) -> Result<(), Fail> {
-    let names = ["node-b", "node-a", "é", "x", "1x", "10.0.0.7:8080"];
-    let ring = Ring::new(rt.alloc(), texts(rt.alloc(), &names)?)?;
-    let owners = [
-        (0u32, 1usize),
+fn owners_as_computed_outside(rt: HostRuntime) {
+    static NAMES: [&str; 6] = ["node-b", "node-a", "é", "x", "1x", "10.0.0.7:8080"];
+    static PLACES: [(u32, usize); 26] = [
+        (0, 1),
         (1, 4),
         (2, 3),
         (3, 3),
@@ -84,42 +124,61 @@ fn owners_as_computed_outside(rt: HostRuntime) -> Result<(), Fail> {
         (208, 4),
         (76, 5),
     ];
-    for (number, place) in owners {
-        let key = format!(in rt.alloc(); "key-{number}")?;
-        assert_eq!(rt; ring.owner(key.as_bytes()), place, "key {number}");
+    for (number, place) in &PLACES {
+        assert!(rt;
+            owner_of_number(rt.alloc(), &NAMES, *number) == Some(*place),
+            "{number}"
+        );
     }
-    Ok(())
 }
 
 #[test]
-fn keys_behind_the_last_point_go_to_the_first(rt: HostRuntime) -> Result<(), Fail> {
-    let ring = Ring::new(rt.alloc(), texts(rt.alloc(), &["n", "m"])?)?;
-    assert_eq!(rt; ring.owner(b"wrap-80"), 1);
-    Ok(())
+fn owners_at_the_end_and_at_a_shared_point(rt: HostRuntime) {
+    for (line, (names, key, place)) in OWNERS.iter().enumerate() {
+        assert!(rt; owner(rt.alloc(), names, key) == Some(*place), "{line}");
+    }
 }
 
-#[test]
-fn two_names_that_share_a_point_go_by_their_bytes(rt: HostRuntime) -> Result<(), Fail> {
-    let one = Ring::new(rt.alloc(), texts(rt.alloc(), &["x", "1x"])?)?;
-    assert_eq!(rt; one.owner(&TIED), 1);
-    let other = Ring::new(rt.alloc(), texts(rt.alloc(), &["1x", "x"])?)?;
-    assert_eq!(rt; other.owner(&TIED), 0);
-    Ok(())
+/// Whether the first name owns each of 1,000 keys.
+fn owns_every_key(ring: &Ring) -> bool {
+    for number in 0..1000u32 {
+        if ring.owner(&number.to_be_bytes()) != 0 {
+            return false;
+        }
+    }
+    true
 }
 
-#[test]
-fn owners_in_whatever_order(rt: HostRuntime) -> Result<(), Fail> {
-    let one = Ring::new(rt.alloc(), texts(rt.alloc(), &["p", "q"])?)?;
-    let other = Ring::new(rt.alloc(), texts(rt.alloc(), &["q", "p"])?)?;
+/// The name that owns a key.
+fn owner_name<'a>(ring: &'a Ring, key: &[u8]) -> Option<&'a str> {
+    Some(ring.names().get(ring.owner(key))?.as_str())
+}
+
+/// Whether two rings name the same owner for each of 1,000 keys.
+fn agree(one: &Ring, other: &Ring) -> bool {
     for number in 0..1000u32 {
         let key = number.to_be_bytes();
-        let name = one.names().get(one.owner(&key)).map(|name| name.as_str());
-        let again = other
-            .names()
-            .get(other.owner(&key))
-            .map(|name| name.as_str());
-        assert!(rt; name.is_some());
-        assert_eq!(rt; name, again);
+        let name = owner_name(one, &key);
+        if name.is_none() || name != owner_name(other, &key) {
+            return false;
+        }
     }
-    Ok(())
+    true
+}
+
+/// Whether one name owns every key.
+fn is_alone_right(alloc: Global) -> Option<bool> {
+    Some(owns_every_key(&ring(alloc, &["n"]).ok()?))
+}
+
+/// Whether the owners are the same in whatever order two names are given.
+fn is_order_right(alloc: Global) -> Option<bool> {
+    let one = ring(alloc, &["p", "q"]).ok()?;
+    Some(agree(&one, &ring(alloc, &["q", "p"]).ok()?))
+}
+
+#[test]
+fn owners_of_1000_keys(rt: HostRuntime) {
+    assert!(rt; is_alone_right(rt.alloc()) == Some(true));
+    assert!(rt; is_order_right(rt.alloc()) == Some(true));
 }

@@ -5,8 +5,8 @@ use Rattle.iiif_images.specs.Named.{gave_of, pictures_of}
 use Rattle.iiif_flight_tests.proofs.image_tests.tiles_are_of_the_named_image.Given as goal
 
 -- what the catalogue shows
-abbrev pub ghosts-tiles_are : goal.ghosts-tiles_are
-ghosts-tiles_are g a = record {
+abbrev pub ghosts-wrong_tile : goal.ghosts-wrong_tile
+ghosts-wrong_tile g a = record {
   pictures = pictures_of (λ s. s) a.catalogue;
   edge = 2;
   gave = gave_of (λ s f. false || f.cause == fuse) a.catalogue;

@@ -1,4 +1,4 @@
-use Rattle.iiif_flight_tests.proofs.flight_tests.leader_that_looks_again_finds_no_fault.Given as goal
+use Rattle.iiif_flight_tests.proofs.flight_tests.leader_that_looks_again_finds_values_alone.Given as goal
 
 -- the ledger that is opened
 abbrev pub ghosts-looked : goal.ghosts-looked
