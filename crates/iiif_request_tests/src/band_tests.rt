@@ -1,62 +1,81 @@
 //! Bands by hand.
 
-use iiif_bands::{Band, bands, laws};
-use iiif_canonical::Resolved;
-use iiif_keys::{Name, is_name};
-use iiif_pixel::{Dim, Kind, Quality, Rect, Turn};
-use iiif_planner::plan;
+use crate::pictures::{ROOM, job};
+use iiif_bands::{Band, laws};
+use iiif_keys::Shape;
+use iiif_pixel::{Depth, Dim, Kind, Rect, Turn};
+use iiif_planner::laws as plans;
 use std::alloc::Global;
-use std::test::Fail;
 
-/// The bands of 3 rows of a picture 4 by 4, of tiles with edge 2, scaled to this side and turned by so many quarters, 0 to 3.
-fn of_three_rows(alloc: Global, name: &Name, side: u32, quarters: u8) -> Result<Vec<Band>, Fail> {
-    if side == 0 || quarters >= 4 {
-        return Err(Fail::from("no side, or too many quarters"));
+/// Whether there are two bands: of three rows and all four items, and of these rows and items.
+fn are_two(bands: &[Band], side: u32, rows: u32, last: [usize; 2]) -> bool {
+    if bands.len() != 2 {
+        return false;
     }
-    let dim = Dim { w: 4, h: 4 };
-    let resolved = Resolved {
-        rect: Rect {
-            x: 0,
-            y: 0,
-            w: 4,
-            h: 4,
-        },
-        size: Dim { w: side, h: side },
-        turn: Turn {
-            mirror: false,
-            quarters,
-        },
-        quality: Quality::Default,
+    let upper = Rect {
+        x: 0,
+        y: 0,
+        w: side,
+        h: 3,
     };
-    let plan = plan(alloc, name, &resolved, dim, Kind::Gray, 2, 65_536)?;
-    Ok(bands(alloc, &resolved, &plan, 3)?)
+    let lower = Rect {
+        x: 0,
+        y: 3,
+        w: side,
+        h: rows,
+    };
+    bands[0].rect == upper
+        && bands[1].rect == lower
+        && bands[0].items.as_slice() == [0, 1, 2, 3].as_slice()
+        && bands[1].items.as_slice() == last.as_slice()
 }
 
-/// Upright the first three rows have places of all four tiles, and the last of the lower two. A quarter clockwise the last row
-/// is the picture's right column, of which the second and the fourth tile have places. Scaled to 5 by 5, the middle row or column
-/// has places of all four tiles.
+/// A side, quarters, and the rows and the items of the second band.
+type Cut = (u32, u8, u32, [usize; 2]);
+
+/// Whether a picture of 4 by 4, of tiles with edge 2, is cut so, scaled to this side and turned by so many quarters.
+fn is_cut(alloc: Global, cut: &Cut) -> bool {
+    let (side, quarters, rows, last) = *cut;
+    let shape = Shape {
+        dim: Dim { w: 4, h: 4 },
+        kind: Kind::Gray,
+        depth: Depth::Eight,
+    };
+    let size = Dim { w: side, h: side };
+    let turn = Turn {
+        mirror: false,
+        quarters,
+    };
+    let Some(job) = job(alloc, shape, 2, size, turn, ROOM) else {
+        return false;
+    };
+    match job.bands(alloc, 3) {
+        Ok(bands) => are_two(&bands, side, rows, last),
+        Err(_) => false,
+    }
+}
+
+/// Upright the first three rows have places of all four tiles, and the
+/// last of the lower two. A quarter clockwise the last row is the picture's right column, of which the second and the fourth tile have
+/// places. Scaled to 5 by 5, the middle row or column has places of all four tiles.
+static CUTS: [Cut; 4] = [
+    (4, 0, 1, [2, 3]),
+    (4, 1, 1, [1, 3]),
+    (5, 0, 2, [2, 3]),
+    (5, 1, 2, [1, 3]),
+];
+
 #[test]
-fn last_band_is_lower_and_has_the_tiles_of_its_row(rt: HostRuntime) -> Result<(), Fail> {
+fn last_band_is_lower_and_has_the_tiles_of_its_row(rt: HostRuntime) {
+    for (k, cut) in CUTS.iter().enumerate() {
+        assert!(rt; is_cut(rt.alloc(), cut), "cut {k}");
+    }
+}
+
+#[test]
+fn laws_of_plans_and_bands_are_called() {
+    plans::each_is_listed_once();
+    plans::level_is_greatest();
     laws::items_in_order::<u64>();
     laws::bands_cut_results();
-    let text = String::from_str(rt.alloc(), "a")?;
-    if !is_name(text.as_str()) {
-        return Err(Fail::from("no name"));
-    }
-    let name = Name::new(text)?;
-    for (side, quarters, rows, last) in [
-        (4u32, 0, 1, [2, 3]),
-        (4, 1, 1, [1, 3]),
-        (5, 0, 2, [2, 3]),
-        (5, 1, 2, [1, 3]),
-    ] {
-        let bands = of_three_rows(rt.alloc(), &name, side, quarters)?;
-        assert_eq!(rt; bands.len(), 2);
-        let rects = [bands[0].rect, bands[1].rect];
-        assert_eq!(rt; (rects[0].y, rects[0].w, rects[0].h), (0, side, 3));
-        assert_eq!(rt; (rects[1].y, rects[1].w, rects[1].h), (3, side, rows));
-        assert_eq!(rt; bands[0].items.as_slice(), [0, 1, 2, 3].as_slice());
-        assert_eq!(rt; bands[1].items.as_slice(), last.as_slice());
-    }
-    Ok(())
 }

@@ -1,89 +1,141 @@
-//! Texts of images whose information was written by hand.
+//! Parts of information that were written by hand. A whole one stands in `refused_tests`.
 
 use iiif_canonical::Limits;
 use iiif_info::info;
 use iiif_pixel::Dim;
-use std::test::Fail;
+use std::alloc::Global;
 
-const LIMITS: Limits = Limits {
+/// Limits of 4,096, where nothing is scaled up.
+const PLAIN: Limits = Limits {
     max_w: 4096,
     max_h: 4096,
     upscale: false,
 };
 
-#[test]
-fn image_of_four_by_four_in_tiles_of_two(rt: HostRuntime) -> Result<(), Fail> {
-    let text = info(
-        rt.alloc(),
-        "http://localhost/iiif",
-        "a",
-        Dim { w: 4, h: 4 },
-        &LIMITS,
-        2,
-    )?;
-    assert_eq!(rt;
-        text.as_str(),
-        "{\"@context\":\"http://iiif.io/api/image/3/context.json\",\"extraFeatures\":[\"baseUriRedirect\",\"canonicalLinkHeader\",\"cors\",\"mirroring\",\"regionByPct\",\"regionByPx\",\"regionSquare\",\"rotationBy90s\",\"sizeByConfinedWh\",\"sizeByH\",\"sizeByPct\",\"sizeByW\",\"sizeByWh\"],\"extraFormats\":[\"tif\"],\"extraQualities\":[\"bitonal\",\"color\",\"gray\"],\"height\":4,\"id\":\"http://localhost/iiif/a\",\"maxHeight\":4096,\"maxWidth\":4096,\"preferredFormats\":[\"tif\"],\"profile\":\"level0\",\"protocol\":\"http://iiif.io/api/image\",\"tiles\":[{\"height\":2,\"scaleFactors\":[1,2],\"width\":2}],\"type\":\"ImageService3\",\"width\":4}"
-    );
-    Ok(())
-}
+/// Other limits, of a server that scales up.
+const LARGER: Limits = Limits {
+    max_w: 300,
+    max_h: 200,
+    upscale: true,
+};
 
-#[test]
-fn names_are_escaped(rt: HostRuntime) -> Result<(), Fail> {
-    for (base, id, want) in [
-        ("http://h", "a/b c\"d", "\"id\":\"http://h/a%2Fb%20c%22d\","),
-        ("http://h", "ü~\u{1}", "\"id\":\"http://h/%C3%BC~%01\","),
-        (
-            "http://h/\"q\"\\",
-            "x",
-            "\"id\":\"http://h/\\\"q\\\"\\\\/x\",",
-        ),
-        (
-            "http://h/\u{1}\n\u{7f}",
-            "x",
-            "\"id\":\"http://h/\\u0001\\n\u{7f}/x\",",
-        ),
-        ("http://h/é", "x", "\"id\":\"http://h/é/x\","),
-    ] {
-        let text = info(rt.alloc(), base, id, Dim { w: 1, h: 1 }, &LIMITS, 1)?;
-        assert!(rt; text.as_str().contains(want), "{text}");
-    }
-    Ok(())
-}
+const ONE: Dim = Dim { w: 1, h: 1 };
 
-#[test]
-fn scale_factors_end_where_one_tile_covers(rt: HostRuntime) -> Result<(), Fail> {
-    for (w, h, edge, want) in [
-        (1000, 300, 256, "[1,2,4]"),
-        (300, 1025, 256, "[1,2,4,8]"),
-        (256, 256, 256, "[1]"),
-        (257, 1, 256, "[1,2]"),
-        (1, 1, 1024, "[1]"),
-    ] {
-        let text = info(rt.alloc(), "http://h", "x", Dim { w, h }, &LIMITS, edge)?;
-        let wanted = format!(in rt.alloc();
-            "{{\"height\":{edge},\"scaleFactors\":{want},\"width\":{edge}}}"
-        )?;
-        assert!(rt; text.as_str().contains(wanted.as_str()), "{text}");
-    }
-    Ok(())
-}
+const ODD: Dim = Dim { w: 7, h: 5 };
 
-#[test]
-fn sides_and_limits_stand_at_their_keys(rt: HostRuntime) -> Result<(), Fail> {
-    let limits = Limits {
-        max_w: 300,
-        max_h: 200,
-        upscale: true,
-    };
-    let text = info(rt.alloc(), "http://h", "x", Dim { w: 7, h: 5 }, &limits, 8)?;
-    for want in [
+/// A server and an image's name, its sides, the limits and the edge of its tiles, and a part of its information.
+type Page = (&'static str, &'static str, Dim, Limits, u32, &'static str);
+
+/// Names and servers that are escaped; scales, which end where one tile covers the image; sides and limits.
+static PAGES: [Page; 14] = [
+    (
+        "http://h",
+        "a/b c\"d",
+        ONE,
+        PLAIN,
+        1,
+        "\"id\":\"http://h/a%2Fb%20c%22d\",",
+    ),
+    (
+        "http://h",
+        "ü~\u{1}",
+        ONE,
+        PLAIN,
+        1,
+        "\"id\":\"http://h/%C3%BC~%01\",",
+    ),
+    (
+        "http://h/\"q\"\\",
+        "x",
+        ONE,
+        PLAIN,
+        1,
+        "\"id\":\"http://h/\\\"q\\\"\\\\/x\",",
+    ),
+    (
+        "http://h/\u{1}\n\u{7f}",
+        "x",
+        ONE,
+        PLAIN,
+        1,
+        "\"id\":\"http://h/\\u0001\\n\u{7f}/x\",",
+    ),
+    ("http://h/é", "x", ONE, PLAIN, 1, "\"id\":\"http://h/é/x\","),
+    (
+        "http://h",
+        "x",
+        Dim { w: 1000, h: 300 },
+        PLAIN,
+        256,
+        "{\"height\":256,\"scaleFactors\":[1,2,4],\"width\":256}",
+    ),
+    (
+        "http://h",
+        "x",
+        Dim { w: 300, h: 1025 },
+        PLAIN,
+        256,
+        "{\"height\":256,\"scaleFactors\":[1,2,4,8],\"width\":256}",
+    ),
+    (
+        "http://h",
+        "x",
+        Dim { w: 256, h: 256 },
+        PLAIN,
+        256,
+        "{\"height\":256,\"scaleFactors\":[1],\"width\":256}",
+    ),
+    (
+        "http://h",
+        "x",
+        Dim { w: 257, h: 1 },
+        PLAIN,
+        256,
+        "{\"height\":256,\"scaleFactors\":[1,2],\"width\":256}",
+    ),
+    (
+        "http://h",
+        "x",
+        ONE,
+        PLAIN,
+        1024,
+        "{\"height\":1024,\"scaleFactors\":[1],\"width\":1024}",
+    ),
+    (
+        "http://h",
+        "x",
+        ODD,
+        LARGER,
+        8,
         "\"sizeByWh\",\"sizeUpscaling\"],\"extraFormats\"",
-        "\"height\":5,\"id\"",
+    ),
+    ("http://h", "x", ODD, LARGER, 8, "\"height\":5,\"id\""),
+    (
+        "http://h",
+        "x",
+        ODD,
+        LARGER,
+        8,
         "\"maxHeight\":200,\"maxWidth\":300,",
-        "\"width\":7}",
-    ] {
-        assert!(rt; text.as_str().contains(want), "{text}");
+    ),
+    ("http://h", "x", ODD, LARGER, 8, "\"width\":7}"),
+];
+
+/// Whether an image's information has the part.
+fn is_told(alloc: Global, page: &Page) -> bool {
+    let (base, id, dim, limits, edge, part) = page;
+    if *edge == 0 {
+        return false;
     }
-    Ok(())
+    match info(alloc, base, id, *dim, limits, *edge) {
+        Ok(text) => text.as_str().contains(*part),
+        Err(_) => false,
+    }
+}
+
+#[test]
+fn parts_stand_at_their_keys(rt: HostRuntime) {
+    for page in &PAGES {
+        assert!(rt; is_told(rt.alloc(), page), "{}", page.5);
+    }
 }

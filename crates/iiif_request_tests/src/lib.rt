@@ -4,6 +4,8 @@
 #![tactic(auto)]
 
 #[cfg(test)]
+mod answers;
+#[cfg(test)]
 mod assemble_tests;
 #[cfg(test)]
 mod band_tests;
@@ -13,6 +15,8 @@ mod canonical_tests;
 mod delivery_tests;
 #[cfg(test)]
 mod info_tests;
+#[cfg(test)]
+mod pictures;
 #[cfg(test)]
 mod plan_tests;
 #[cfg(test)]

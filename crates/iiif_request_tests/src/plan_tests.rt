@@ -1,316 +1,445 @@
 //! Plans by hand.
 
+use crate::pictures::{ROOM, UPRIGHT, named};
 use iiif_canonical::Resolved;
-use iiif_keys::{Name, Parts, SumKey, TileKey, is_name, parts};
-use iiif_pixel::{Dim, Kind, NoMemory, Quality, Rect, Turn};
-use iiif_planner::{Plan, laws, plan};
+use iiif_keys::{SumKey, TileKey};
+use iiif_pixel::{Dim, Kind, Quality, Rect};
+use iiif_planner::{Plan, plan};
 use std::alloc::Global;
-use std::process::Abort;
-use std::test::Fail;
 
-/// An image's sides and kind, the edge of its tiles, and the room for a block's sums.
+/// The columns and rows of tiles or blocks, in the order of a plan.
+pub type Places = &'static [(u32, u32)];
+
+/// Of what a plan of the image `a` is to be made.
 #[derive(Clone, Copy)]
-struct Image {
-    dim: Dim,
-    kind: Kind,
+enum Wanted {
+    /// Of these tiles, where the region keeps its size.
+    Tiles(Places),
+    /// Of these tiles, where a side is above the region's.
+    Grown(Places),
+    /// Of these blocks of a level.
+    Blocks(u8, Places),
+    /// Of so many blocks of a level, of which the last stands here.
+    Many(usize, u8, (u32, u32)),
+    /// There is none, as memory is wanting.
+    Memory,
+}
+
+/// The sides of an image, its kind, the edge of its tiles and the room for a block's sums; a region's first column and row, its width and
+/// height; the sides it is scaled to; and what is wanted.
+type Case = (Dim, Kind, u32, u64, [u32; 4], Dim, Wanted);
+
+/// The four tiles of a square, or its four blocks.
+pub const FOUR: Places = &[(0, 0), (1, 0), (0, 1), (1, 1)];
+
+/// Plans.
+static PLANS: [Case; 32] = [
+    // Regions that keep their size. In the last there are three columns of tiles, the last one place wide.
+    (
+        Dim { w: 4, h: 4 },
+        Kind::Gray,
+        2,
+        ROOM,
+        [0, 0, 4, 4],
+        Dim { w: 4, h: 4 },
+        Wanted::Tiles(FOUR),
+    ),
+    (
+        Dim { w: 4, h: 4 },
+        Kind::Gray,
+        2,
+        ROOM,
+        [2, 2, 2, 2],
+        Dim { w: 2, h: 2 },
+        Wanted::Tiles(&[(1, 1)]),
+    ),
+    (
+        Dim { w: 4, h: 4 },
+        Kind::Gray,
+        2,
+        ROOM,
+        [1, 1, 2, 2],
+        Dim { w: 2, h: 2 },
+        Wanted::Tiles(FOUR),
+    ),
+    (
+        Dim { w: 4, h: 4 },
+        Kind::Gray,
+        2,
+        ROOM,
+        [1, 3, 3, 1],
+        Dim { w: 3, h: 1 },
+        Wanted::Tiles(&[(0, 1), (1, 1)]),
+    ),
+    (
+        Dim { w: 5, h: 3 },
+        Kind::Gray,
+        2,
+        ROOM,
+        [0, 0, 5, 3],
+        Dim { w: 5, h: 3 },
+        Wanted::Tiles(&[(0, 0), (1, 0), (2, 0), (0, 1), (1, 1), (2, 1)]),
+    ),
+    // Regions with a side that is scaled up. In the last two one side is above the region's and one below.
+    (
+        Dim { w: 4, h: 4 },
+        Kind::Gray,
+        2,
+        ROOM,
+        [0, 0, 2, 2],
+        Dim { w: 3, h: 3 },
+        Wanted::Grown(&[(0, 0)]),
+    ),
+    (
+        Dim { w: 4, h: 4 },
+        Kind::Gray,
+        2,
+        ROOM,
+        [1, 1, 2, 2],
+        Dim { w: 4, h: 4 },
+        Wanted::Grown(FOUR),
+    ),
+    (
+        Dim { w: 4, h: 4 },
+        Kind::Gray,
+        2,
+        ROOM,
+        [0, 0, 2, 4],
+        Dim { w: 2, h: 5 },
+        Wanted::Grown(&[(0, 0), (0, 1)]),
+    ),
+    (
+        Dim { w: 4, h: 4 },
+        Kind::Gray,
+        2,
+        ROOM,
+        [0, 0, 4, 2],
+        Dim { w: 5, h: 1 },
+        Wanted::Grown(&[(0, 0), (1, 0)]),
+    ),
+    (
+        Dim { w: 4, h: 4 },
+        Kind::Gray,
+        2,
+        ROOM,
+        [1, 1, 2, 2],
+        Dim { w: 1, h: 3 },
+        Wanted::Grown(FOUR),
+    ),
+    // Blocks are counted from the corner of the image. A block of level 0, 1, 2 meets at most 2, 3, 5 result columns and rows. In the
+    // last one side alone is scaled.
+    (
+        Dim { w: 8, h: 8 },
+        Kind::Gray,
+        2,
+        ROOM,
+        [3, 3, 4, 4],
+        Dim { w: 2, h: 2 },
+        Wanted::Blocks(2, &[(0, 0)]),
+    ),
+    (
+        Dim { w: 8, h: 8 },
+        Kind::Gray,
+        2,
+        25,
+        [3, 3, 4, 4],
+        Dim { w: 2, h: 2 },
+        Wanted::Blocks(2, &[(0, 0)]),
+    ),
+    (
+        Dim { w: 8, h: 8 },
+        Kind::Gray,
+        2,
+        24,
+        [3, 3, 4, 4],
+        Dim { w: 2, h: 2 },
+        Wanted::Blocks(1, FOUR),
+    ),
+    (
+        Dim { w: 8, h: 8 },
+        Kind::Gray,
+        2,
+        9,
+        [3, 3, 4, 4],
+        Dim { w: 2, h: 2 },
+        Wanted::Blocks(1, FOUR),
+    ),
+    (
+        Dim { w: 8, h: 8 },
+        Kind::Gray,
+        2,
+        8,
+        [3, 3, 4, 4],
+        Dim { w: 2, h: 2 },
+        Wanted::Blocks(
+            0,
+            &[
+                (1, 1),
+                (2, 1),
+                (3, 1),
+                (1, 2),
+                (2, 2),
+                (3, 2),
+                (1, 3),
+                (2, 3),
+                (3, 3),
+            ],
+        ),
+    ),
+    (
+        Dim { w: 8, h: 8 },
+        Kind::Gray,
+        2,
+        ROOM,
+        [3, 3, 4, 4],
+        Dim { w: 4, h: 3 },
+        Wanted::Blocks(2, &[(0, 0)]),
+    ),
+    // At level 1 a block has at most 3 by 3 sums, at level 0 at most 2 by 2; RGB has three times as many.
+    (
+        Dim { w: 4, h: 4 },
+        Kind::Gray,
+        2,
+        9,
+        [0, 0, 4, 4],
+        Dim { w: 2, h: 2 },
+        Wanted::Blocks(1, &[(0, 0)]),
+    ),
+    (
+        Dim { w: 4, h: 4 },
+        Kind::Gray,
+        2,
+        8,
+        [0, 0, 4, 4],
+        Dim { w: 2, h: 2 },
+        Wanted::Blocks(0, FOUR),
+    ),
+    (
+        Dim { w: 4, h: 4 },
+        Kind::Gray,
+        2,
+        4,
+        [0, 0, 4, 4],
+        Dim { w: 2, h: 2 },
+        Wanted::Blocks(0, FOUR),
+    ),
+    (
+        Dim { w: 4, h: 4 },
+        Kind::Gray,
+        2,
+        3,
+        [0, 0, 4, 4],
+        Dim { w: 2, h: 2 },
+        Wanted::Blocks(0, FOUR),
+    ),
+    (
+        Dim { w: 4, h: 4 },
+        Kind::Gray,
+        2,
+        0,
+        [0, 0, 4, 4],
+        Dim { w: 2, h: 2 },
+        Wanted::Blocks(0, FOUR),
+    ),
+    (
+        Dim { w: 4, h: 4 },
+        Kind::Rgb,
+        2,
+        27,
+        [0, 0, 4, 4],
+        Dim { w: 2, h: 2 },
+        Wanted::Blocks(1, &[(0, 0)]),
+    ),
+    (
+        Dim { w: 4, h: 4 },
+        Kind::Rgb,
+        2,
+        26,
+        [0, 0, 4, 4],
+        Dim { w: 2, h: 2 },
+        Wanted::Blocks(0, FOUR),
+    ),
+    (
+        Dim { w: 4, h: 4 },
+        Kind::Rgb,
+        2,
+        12,
+        [0, 0, 4, 4],
+        Dim { w: 2, h: 2 },
+        Wanted::Blocks(0, FOUR),
+    ),
+    (
+        Dim { w: 4, h: 4 },
+        Kind::Rgb,
+        2,
+        11,
+        [0, 0, 4, 4],
+        Dim { w: 2, h: 2 },
+        Wanted::Blocks(0, FOUR),
+    ),
+    // No level is above the least whose block holds the image.
+    (
+        Dim { w: 4, h: 4 },
+        Kind::Gray,
+        2,
+        ROOM,
+        [0, 0, 4, 4],
+        Dim { w: 1, h: 1 },
+        Wanted::Blocks(1, &[(0, 0)]),
+    ),
+    (
+        Dim { w: 4, h: 4 },
+        Kind::Gray,
+        3,
+        ROOM,
+        [0, 0, 4, 4],
+        Dim { w: 1, h: 1 },
+        Wanted::Blocks(1, &[(0, 0)]),
+    ),
+    (
+        Dim { w: 4, h: 4 },
+        Kind::Gray,
+        4,
+        ROOM,
+        [0, 0, 4, 4],
+        Dim { w: 1, h: 1 },
+        Wanted::Blocks(0, &[(0, 0)]),
+    ),
+    // A block of level 3, 2,048 long, meets at most 211 result columns of the first, one of level 4 at most 421. Of the second, one of level
+    // 3 has at most 10 by 2,049 sums, one of level 4 at most 18 by 4,097. The greatest level is 20, whatever the sides: a block of the third
+    // is 1,073,741,824 long. Of the last there are too many tiles for any memory.
+    (
+        Dim {
+            w: 10_000,
+            h: 10_000,
+        },
+        Kind::Gray,
+        256,
+        ROOM,
+        [0, 0, 10_000, 10_000],
+        Dim { w: 1024, h: 1024 },
+        Wanted::Many(25, 3, (4, 4)),
+    ),
+    (
+        Dim { w: 1_000_000, h: 1 },
+        Kind::Gray,
+        256,
+        ROOM,
+        [0, 0, 1_000_000, 1],
+        Dim { w: 4096, h: 1 },
+        Wanted::Many(489, 3, (488, 0)),
+    ),
+    (
+        Dim {
+            w: 4_000_000_000,
+            h: 4_000_000_000,
+        },
+        Kind::Gray,
+        1024,
+        ROOM,
+        [0, 0, 4_000_000_000, 4_000_000_000],
+        Dim { w: 1, h: 1 },
+        Wanted::Many(16, 20, (3, 3)),
+    ),
+    (
+        Dim {
+            w: u32::MAX,
+            h: u32::MAX,
+        },
+        Kind::Gray,
+        1,
+        ROOM,
+        [0, 0, u32::MAX, u32::MAX],
+        Dim {
+            w: u32::MAX,
+            h: u32::MAX,
+        },
+        Wanted::Memory,
+    ),
+];
+
+/// Whether keys are those of the tiles of `a` in these columns and rows, in this order.
+pub fn are_tiles(keys: &[TileKey], edge: u32, places: &[(u32, u32)]) -> bool {
+    for (key, place) in keys.iter().zip(places) {
+        let is_of_image = key.name.as_str() == "a" && key.edge == edge;
+        if !is_of_image || (key.tx, key.ty) != *place {
+            return false;
+        }
+    }
+    keys.len() == places.len()
+}
+
+/// Whether keys are those of the blocks of this level in these columns and rows, in this order, for what a request of `a` comes to.
+pub fn are_blocks(
+    keys: &[SumKey],
     edge: u32,
-    room: u64,
+    resolved: &Resolved,
+    level: u8,
+    places: &[(u32, u32)],
+) -> bool {
+    for (key, place) in keys.iter().zip(places) {
+        let is_of_image = key.name.as_str() == "a" && key.edge == edge;
+        let is_asked = key.rect == resolved.rect && key.size == resolved.size;
+        if !is_of_image || !is_asked || key.level != level || (key.bx, key.by) != *place {
+            return false;
+        }
+    }
+    keys.len() == places.len()
 }
 
-/// A gray image, with the greatest room.
-fn gray(w: u32, h: u32, edge: u32) -> Image {
-    Image {
-        dim: Dim { w, h },
-        kind: Kind::Gray,
-        edge,
-        room: 65_536,
+/// Whether there are so many blocks of this level, none below the last, which stands here.
+fn are_many(keys: &[SumKey], count: usize, level: u8, last: (u32, u32)) -> bool {
+    for key in keys {
+        if key.level != level || key.by > last.1 {
+            return false;
+        }
+    }
+    match keys.last() {
+        Some(key) => keys.len() == count && (key.bx, key.by) == last,
+        None => false,
     }
 }
 
-/// The same with other room.
-fn with_room(image: Image, room: u64) -> Image {
-    Image { room, ..image }
-}
-
-fn rect(x: u32, y: u32, w: u32, h: u32) -> Rect {
-    Rect { x, y, w, h }
-}
-
-/// The plan for a region of the image `a` that is scaled to `w` by `h`, where the call's conditions are met.
-fn planned(
-    alloc: Global,
-    image: Image,
-    rect: Rect,
-    w: u32,
-    h: u32,
-) -> Result<Result<Plan, NoMemory>, Fail> {
-    let sides = 0 < w && 0 < rect.w && 0 < h && 0 < rect.h;
-    let limits = 0 < image.edge && image.edge <= 1024 && image.room <= 65_536;
-    let name = "a";
-    if !(sides && limits && rect.lies_in(image.dim) && is_name(name)) {
-        return Err(Fail::from("a condition of the call is not met"));
+/// Whether a plan is made of what is wanted.
+fn is_of(plan: &Plan, edge: u32, resolved: &Resolved, wanted: Wanted) -> bool {
+    match (plan, wanted) {
+        (Plan::Copy(keys), Wanted::Tiles(places)) => are_tiles(keys, edge, places),
+        (Plan::Grow(keys), Wanted::Grown(places)) => are_tiles(keys, edge, places),
+        (Plan::Sum(keys), Wanted::Blocks(level, places)) => are_blocks(
+            keys, edge, resolved, level, places,
+        ),
+        (Plan::Sum(keys), Wanted::Many(count, level, last)) => are_many(keys, count, level, last),
+        _ => false,
     }
-    let name = Name::new(String::from_str(alloc, name)?)?;
+}
+
+/// Whether a region that comes to this has the plan that is wanted, of an image with these sides, of this kind.
+fn is_planned(alloc: Global, case: &Case) -> bool {
+    let (dim, kind, edge, room, [x, y, w, h], size, wanted) = *case;
+    let rect = Rect { x, y, w, h };
+    let sides = 0 < size.w && 0 < w && 0 < size.h && 0 < h;
+    let limits = 0 < edge && edge <= 1024 && room <= ROOM;
+    if !(sides && limits && rect.lies_in(dim)) {
+        return false;
+    }
+    let Some(name) = named(alloc) else {
+        return false;
+    };
     let resolved = Resolved {
         rect,
-        size: Dim { w, h },
-        turn: Turn {
-            mirror: false,
-            quarters: 0,
-        },
+        size,
+        turn: UPRIGHT,
         quality: Quality::Default,
     };
-    Ok(plan(
-        alloc, &name, &resolved, image.dim, image.kind, image.edge, image.room,
-    ))
-}
-
-/// The tiles of a plan.
-fn tiles(alloc: Global, image: Image, rect: Rect) -> Result<Vec<TileKey>, Fail> {
-    match planned(alloc, image, rect, rect.w, rect.h)?? {
-        Plan::Copy(keys) => Ok(keys),
-        _ => Err(Fail::from("others where the region keeps its size")),
+    match plan(alloc, &name, &resolved, dim, kind, edge, room) {
+        Ok(plan) => is_of(&plan, edge, &resolved, wanted),
+        Err(_) => matches!(wanted, Wanted::Memory),
     }
-}
-
-/// The blocks of a plan.
-fn blocks(alloc: Global, image: Image, rect: Rect, w: u32, h: u32) -> Result<Vec<SumKey>, Fail> {
-    match planned(alloc, image, rect, w, h)?? {
-        Plan::Sum(keys) => Ok(keys),
-        _ => Err(Fail::from("others where the region is scaled down")),
-    }
-}
-
-/// The tiles of a plan to a result with a side above the region's.
-fn grown(alloc: Global, image: Image, rect: Rect, w: u32, h: u32) -> Result<Vec<TileKey>, Fail> {
-    match planned(alloc, image, rect, w, h)?? {
-        Plan::Grow(keys) => Ok(keys),
-        _ => Err(Fail::from("others where the region is scaled up")),
-    }
-}
-
-/// The keys are those of the tiles of `a` in these columns and rows, in this order.
-fn are_tiles(rt: &impl Abort, keys: &[TileKey], edge: u32, places: &[(u32, u32)]) {
-    assert_eq!(rt; keys.len(), places.len());
-    for (key, place) in keys.iter().zip(places) {
-        assert_eq!(rt; key.name.as_str(), "a");
-        assert_eq!(rt; key.edge, edge);
-        assert_eq!(rt; (key.tx, key.ty), *place);
-    }
-}
-
-/// The keys are those of the blocks of this level in these columns and rows, in this order.
-fn are_blocks(rt: &impl Abort, keys: &[SumKey], level: u8, places: &[(u32, u32)]) {
-    assert_eq!(rt; keys.len(), places.len());
-    for (key, place) in keys.iter().zip(places) {
-        assert_eq!(rt; key.level, level);
-        assert_eq!(rt; (key.bx, key.by), *place);
-    }
-}
-
-const FOUR: [(u32, u32); 4] = [(0, 0), (1, 0), (0, 1), (1, 1)];
-
-#[test]
-fn whole_image_is_one_block(rt: HostRuntime) -> Result<(), Fail> {
-    let alloc = rt.alloc();
-    let keys = blocks(alloc, gray(4, 4, 2), rect(0, 0, 4, 4), 2, 2)?;
-    are_blocks(&rt, &keys, 1, &[(0, 0)]);
-    let key = keys.first().ok_or("a block")?;
-    assert_eq!(rt; key.name.as_str(), "a");
-    assert_eq!(rt; key.edge, 2);
-    assert_eq!(rt; key.rect, rect(0, 0, 4, 4));
-    assert_eq!(rt; key.size, Dim { w: 2, h: 2 });
-    if !key.has_parts() {
-        return Err(Fail::from("a block has parts"));
-    }
-    match parts(alloc, key)? {
-        Parts::Sums(sums) => are_blocks(&rt, &sums, 0, &FOUR),
-        Parts::Tile(_) => return Err(Fail::from("a block of level 1 has sums")),
-    }
-    laws::each_is_listed_once();
-    laws::level_is_greatest();
-    Ok(())
 }
 
 #[test]
-fn region_that_keeps_its_size_is_copied(rt: HostRuntime) -> Result<(), Fail> {
-    let alloc = rt.alloc();
-    let image = gray(4, 4, 2);
-    are_tiles(&rt, &tiles(alloc, image, rect(0, 0, 4, 4))?, 2, &FOUR);
-    are_tiles(&rt, &tiles(alloc, image, rect(2, 2, 2, 2))?, 2, &[(1, 1)]);
-    are_tiles(&rt, &tiles(alloc, image, rect(1, 1, 2, 2))?, 2, &FOUR);
-    are_tiles(
-        &rt,
-        &tiles(alloc, image, rect(1, 3, 3, 1))?,
-        2,
-        &[(0, 1), (1, 1)],
-    );
-    // Three columns of tiles, the last one place wide.
-    let wide = [(0, 0), (1, 0), (2, 0), (0, 1), (1, 1), (2, 1)];
-    are_tiles(
-        &rt,
-        &tiles(alloc, gray(5, 3, 2), rect(0, 0, 5, 3))?,
-        2,
-        &wide,
-    );
-    Ok(())
-}
-
-#[test]
-fn region_that_is_scaled_up_is_made_of_tiles(rt: HostRuntime) -> Result<(), Fail> {
-    let alloc = rt.alloc();
-    let image = gray(4, 4, 2);
-    for (rect, w, h, places) in [
-        (rect(0, 0, 2, 2), 3, 3, FOUR.get(..1)),
-        (rect(1, 1, 2, 2), 4, 4, Some(&FOUR[..])),
-        (rect(0, 0, 2, 4), 2, 5, Some(&[(0, 0), (0, 1)][..])),
-        // One side is above the region's and one below.
-        (rect(0, 0, 4, 2), 5, 1, FOUR.get(..2)),
-        (rect(1, 1, 2, 2), 1, 3, Some(&FOUR[..])),
-    ] {
-        let keys = grown(alloc, image, rect, w, h)?;
-        are_tiles(&rt, &keys, 2, places.ok_or("places")?);
+fn plans_are_made_of_tiles_and_blocks(rt: HostRuntime) {
+    for (k, case) in PLANS.iter().enumerate() {
+        assert!(rt; is_planned(rt.alloc(), case), "plan {k}");
     }
-    Ok(())
-}
-
-#[test]
-fn blocks_are_counted_from_the_corner_of_the_image(rt: HostRuntime) -> Result<(), Fail> {
-    let alloc = rt.alloc();
-    // A block of level 0, 1, 2 meets at most 2, 3, 5 result columns and rows.
-    let image = gray(8, 8, 2);
-    let region = rect(3, 3, 4, 4);
-    are_blocks(&rt, &blocks(alloc, image, region, 2, 2)?, 2, &[(0, 0)]);
-    are_blocks(
-        &rt,
-        &blocks(alloc, with_room(image, 25), region, 2, 2)?,
-        2,
-        &[(0, 0)],
-    );
-    are_blocks(
-        &rt,
-        &blocks(alloc, with_room(image, 24), region, 2, 2)?,
-        1,
-        &FOUR,
-    );
-    are_blocks(
-        &rt,
-        &blocks(alloc, with_room(image, 9), region, 2, 2)?,
-        1,
-        &FOUR,
-    );
-    let nine = [
-        (1, 1),
-        (2, 1),
-        (3, 1),
-        (1, 2),
-        (2, 2),
-        (3, 2),
-        (1, 3),
-        (2, 3),
-        (3, 3),
-    ];
-    are_blocks(
-        &rt,
-        &blocks(alloc, with_room(image, 8), region, 2, 2)?,
-        0,
-        &nine,
-    );
-    // One side alone is scaled.
-    are_blocks(&rt, &blocks(alloc, image, region, 4, 3)?, 2, &[(0, 0)]);
-    Ok(())
-}
-
-#[test]
-fn room_bounds_the_level(rt: HostRuntime) -> Result<(), Fail> {
-    let alloc = rt.alloc();
-    let whole = rect(0, 0, 4, 4);
-    // At level 1 a block has at most 3 by 3 sums, at level 0 at most 2 by 2.
-    let image = gray(4, 4, 2);
-    for (room, level) in [(9, 1), (8, 0), (4, 0), (3, 0), (0, 0)] {
-        let keys = blocks(alloc, with_room(image, room), whole, 2, 2)?;
-        are_blocks(
-            &rt,
-            &keys,
-            level,
-            if level == 1 { &[(0, 0)] } else { &FOUR },
-        );
-    }
-    // RGB has three times as many.
-    let coloured = Image {
-        kind: Kind::Rgb,
-        ..image
-    };
-    for (room, level) in [(27, 1), (26, 0), (12, 0), (11, 0)] {
-        let keys = blocks(alloc, with_room(coloured, room), whole, 2, 2)?;
-        are_blocks(
-            &rt,
-            &keys,
-            level,
-            if level == 1 { &[(0, 0)] } else { &FOUR },
-        );
-    }
-    // No level is above the least whose block holds the image.
-    are_blocks(
-        &rt,
-        &blocks(alloc, gray(4, 4, 2), whole, 1, 1)?,
-        1,
-        &[(0, 0)],
-    );
-    are_blocks(
-        &rt,
-        &blocks(alloc, gray(4, 4, 3), whole, 1, 1)?,
-        1,
-        &[(0, 0)],
-    );
-    are_blocks(
-        &rt,
-        &blocks(alloc, gray(4, 4, 4), whole, 1, 1)?,
-        0,
-        &[(0, 0)],
-    );
-    Ok(())
-}
-
-#[test]
-fn overviews_of_large_images(rt: HostRuntime) -> Result<(), Fail> {
-    let alloc = rt.alloc();
-    // A block of level 3, 2,048 long, meets at most 211 result columns, one of level 4 at most 421.
-    let keys = blocks(
-        alloc,
-        gray(10_000, 10_000, 256),
-        rect(0, 0, 10_000, 10_000),
-        1024,
-        1024,
-    )?;
-    assert_eq!(rt; keys.len(), 25);
-    assert!(rt; keys.iter().all(|key| key.level == 3));
-    let last = keys.last().ok_or("a block")?;
-    assert_eq!(rt; (last.bx, last.by), (4, 4));
-    // At level 3 a block has at most 10 by 2,049 sums, at level 4 at most 18 by 4,097.
-    let keys = blocks(
-        alloc,
-        gray(1_000_000, 1, 256),
-        rect(0, 0, 1_000_000, 1),
-        4096,
-        1,
-    )?;
-    assert_eq!(rt; keys.len(), 489);
-    assert!(rt; keys.iter().all(|key| key.level == 3 && key.by == 0));
-    assert_eq!(rt; keys.last().ok_or("a block")?.bx, 488);
-    // The greatest level is 20, whatever the sides: a block is 1,073,741,824 long.
-    let side = 4_000_000_000;
-    let keys = blocks(alloc, gray(side, side, 1024), rect(0, 0, side, side), 1, 1)?;
-    assert_eq!(rt; keys.len(), 16);
-    assert!(rt; keys.iter().all(|key| key.level == 20));
-    Ok(())
-}
-
-#[test]
-fn too_many_tiles_are_want_of_memory(rt: HostRuntime) -> Result<(), Fail> {
-    let side = u32::MAX;
-    let whole = rect(0, 0, side, side);
-    let plan = planned(rt.alloc(), gray(side, side, 1), whole, side, side)?;
-    assert!(rt; plan.is_err());
-    Ok(())
 }

@@ -1,503 +1,340 @@
-use iiif_pixel::Quality;
+//! Targets and words, as texts that ask for something or for nothing.
+
+use crate::answers::{Subject, compare};
 use iiif_request::numerals::{is_numeral, numeral};
 use iiif_request::{
-    Decimal, Form, Refusal, Region, Request, Rotation, Size, SplitFault, Target, Words, asked_once,
-    parse, says_once, spelled_once, split,
+    Refusal, SplitFault, Target, asked_once, parse, says_once, spelled_once, split,
 };
 use std::alloc::{AllocError, Global};
-use std::process::Abort;
-use std::test::Fail;
 
-fn decimal(digits: u64, places: u8) -> Decimal {
-    Decimal { digits, places }
-}
+/// One, two and five segments. Each is decoded once; a query is left unread; the last segment is parted at its first dot.
+const TARGETS: &str = r#"/iiif/a => Ok(Base("a"))
+/iiif/a/info.json => Ok(Info("a"))
+/iiif/a/full/max/0/default.tif => Ok(Image("a", Words { region: "full", size: "max", rotation: "0", quality: "default", format: "tif" }))
+/iiif/a%2Fb/0%2c0,1%2C1/%5E2,/%210/gr%61y%2Etif => Ok(Image("a/b", Words { region: "0,0,1,1", size: "^2,", rotation: "!0", quality: "gray", format: "tif" }))
+/iiif/a%252Fb/0,0,1,1/^2,/!0/gray.tif => Ok(Image("a%2Fb", Words { region: "0,0,1,1", size: "^2,", rotation: "!0", quality: "gray", format: "tif" }))
+/iiif/%C3%A4%3f/info%2ejson => Ok(Info("ä?"))
+/iiif/a/full/max/0/default.tif?b/c?d.e% => Ok(Image("a", Words { region: "full", size: "max", rotation: "0", quality: "default", format: "tif" }))
+/iiif/a?/info.json => Ok(Base("a"))
+/iiif/a/full/max/0/default.tif.tif => Ok(Image("a", Words { region: "full", size: "max", rotation: "0", quality: "default", format: "tif.tif" }))
+/iiif/a/full/max/0/default => Ok(Image("a", Words { region: "full", size: "max", rotation: "0", quality: "default", format: "" }))
+/iiif/a////. => Ok(Image("a", Words { region: "", size: "", rotation: "", quality: "", format: "" }))"#;
 
-/// What `full/max/0/default.tif` asks for.
-fn plain() -> Request {
-    Request {
-        region: Region::Full,
-        size: Size {
-            up: false,
-            form: Form::Max,
-        },
-        rotation: Rotation {
-            mirror: false,
-            degrees: decimal(0, 0),
-        },
-        quality: Quality::Default,
+/// Other counts of segments, another prefix, and broken escapes. The first line's target is empty.
+const NO_TARGETS: &str = r#" => Err(Path)
+* => Err(Path)
+/ => Err(Path)
+/iiif => Err(Path)
+/iiif?a => Err(Path)
+/iiif/ => Err(Path)
+/iiifa => Err(Path)
+/IIIF/a => Err(Path)
+/other/a => Err(Path)
+/iiif/a/ => Err(Path)
+/iiif/a/INFO.JSON => Err(Path)
+/iiif/a/info.json/ => Err(Path)
+/iiif/a/full/max => Err(Path)
+/iiif/a/full/max/0 => Err(Path)
+/iiif/a/full/max/0/default.tif/ => Err(Path)
+/iiif/a/b/full/max/0/default.tif => Err(Path)
+/iiif//info.json => Err(Path)
+/iiif/a%2/full/max/0/default.tif => Err(Path)
+/iiif/a% => Err(Path)
+/iiif/a%zz => Err(Path)
+/iiif/a%2gb => Err(Path)
+/iiif/a%%41 => Err(Path)
+/iiif/a%FF => Err(Path)
+/iiif/%C3 => Err(Path)
+/iiif/%C3/%A4/max/0/default.tif => Err(Path)
+/iiif//full/max/0/default.tif => Err(Path)"#;
+
+/// Whole requests, regions, sizes with and without `^`, and rotations with and without `!`, which keep their decimals.
+const REQUESTS: &str =
+    r#"/iiif/a/full/max/0/default.tif => Ok(Request { region: Full, size: Size { up: false, form: Max }, rotation: Rotation { mirror: false, degrees: Decimal { digits: 0, places: 0 } }, quality: Default })
+/iiif/a/pct:25,0,50.5,0.0000000001/^!2,9/!270.00/bitonal.tif => Ok(Request { region: Percents(Decimal { digits: 25, places: 0 }, Decimal { digits: 0, places: 0 }, Decimal { digits: 505, places: 1 }, Decimal { digits: 1, places: 10 }), size: Size { up: true, form: Within(2, 9) }, rotation: Rotation { mirror: true, degrees: Decimal { digits: 27000, places: 2 } }, quality: Bitonal })
+/iiif/a/full/max/0/color.tif => Ok(Request { region: Full, size: Size { up: false, form: Max }, rotation: Rotation { mirror: false, degrees: Decimal { digits: 0, places: 0 } }, quality: Color })
+/iiif/a/full/max/0/gray.tif => Ok(Request { region: Full, size: Size { up: false, form: Max }, rotation: Rotation { mirror: false, degrees: Decimal { digits: 0, places: 0 } }, quality: Gray })
+/iiif/a/square/max/0/default.tif => Ok(Request { region: Square, size: Size { up: false, form: Max }, rotation: Rotation { mirror: false, degrees: Decimal { digits: 0, places: 0 } }, quality: Default })
+/iiif/a/0,0,9,9/max/0/default.tif => Ok(Request { region: Pixels(0, 0, 9, 9), size: Size { up: false, form: Max }, rotation: Rotation { mirror: false, degrees: Decimal { digits: 0, places: 0 } }, quality: Default })
+/iiif/a/007,08,1,000000000/max/0/default.tif => Ok(Request { region: Pixels(7, 8, 1, 0), size: Size { up: false, form: Max }, rotation: Rotation { mirror: false, degrees: Decimal { digits: 0, places: 0 } }, quality: Default })
+/iiif/a/999999999,0,2,3/max/0/default.tif => Ok(Request { region: Pixels(999999999, 0, 2, 3), size: Size { up: false, form: Max }, rotation: Rotation { mirror: false, degrees: Decimal { digits: 0, places: 0 } }, quality: Default })
+/iiif/a/pct:1,2.5,03,999999999.9999999999/max/0/default.tif => Ok(Request { region: Percents(Decimal { digits: 1, places: 0 }, Decimal { digits: 25, places: 1 }, Decimal { digits: 3, places: 0 }, Decimal { digits: 9999999999999999999, places: 10 }), size: Size { up: false, form: Max }, rotation: Rotation { mirror: false, degrees: Decimal { digits: 0, places: 0 } }, quality: Default })
+/iiif/a/full/max/0/default.tif => Ok(Request { region: Full, size: Size { up: false, form: Max }, rotation: Rotation { mirror: false, degrees: Decimal { digits: 0, places: 0 } }, quality: Default })
+/iiif/a/full/^max/0/default.tif => Ok(Request { region: Full, size: Size { up: true, form: Max }, rotation: Rotation { mirror: false, degrees: Decimal { digits: 0, places: 0 } }, quality: Default })
+/iiif/a/full/2,/0/default.tif => Ok(Request { region: Full, size: Size { up: false, form: Width(2) }, rotation: Rotation { mirror: false, degrees: Decimal { digits: 0, places: 0 } }, quality: Default })
+/iiif/a/full/^2,/0/default.tif => Ok(Request { region: Full, size: Size { up: true, form: Width(2) }, rotation: Rotation { mirror: false, degrees: Decimal { digits: 0, places: 0 } }, quality: Default })
+/iiif/a/full/,3/0/default.tif => Ok(Request { region: Full, size: Size { up: false, form: Height(3) }, rotation: Rotation { mirror: false, degrees: Decimal { digits: 0, places: 0 } }, quality: Default })
+/iiif/a/full/^,3/0/default.tif => Ok(Request { region: Full, size: Size { up: true, form: Height(3) }, rotation: Rotation { mirror: false, degrees: Decimal { digits: 0, places: 0 } }, quality: Default })
+/iiif/a/full/pct:100.1/0/default.tif => Ok(Request { region: Full, size: Size { up: false, form: Percent(Decimal { digits: 1001, places: 1 }) }, rotation: Rotation { mirror: false, degrees: Decimal { digits: 0, places: 0 } }, quality: Default })
+/iiif/a/full/^pct:100.1/0/default.tif => Ok(Request { region: Full, size: Size { up: true, form: Percent(Decimal { digits: 1001, places: 1 }) }, rotation: Rotation { mirror: false, degrees: Decimal { digits: 0, places: 0 } }, quality: Default })
+/iiif/a/full/pct:050/0/default.tif => Ok(Request { region: Full, size: Size { up: false, form: Percent(Decimal { digits: 50, places: 0 }) }, rotation: Rotation { mirror: false, degrees: Decimal { digits: 0, places: 0 } }, quality: Default })
+/iiif/a/full/^pct:050/0/default.tif => Ok(Request { region: Full, size: Size { up: true, form: Percent(Decimal { digits: 50, places: 0 }) }, rotation: Rotation { mirror: false, degrees: Decimal { digits: 0, places: 0 } }, quality: Default })
+/iiif/a/full/3,4/0/default.tif => Ok(Request { region: Full, size: Size { up: false, form: Both(3, 4) }, rotation: Rotation { mirror: false, degrees: Decimal { digits: 0, places: 0 } }, quality: Default })
+/iiif/a/full/^3,4/0/default.tif => Ok(Request { region: Full, size: Size { up: true, form: Both(3, 4) }, rotation: Rotation { mirror: false, degrees: Decimal { digits: 0, places: 0 } }, quality: Default })
+/iiif/a/full/!100,9/0/default.tif => Ok(Request { region: Full, size: Size { up: false, form: Within(100, 9) }, rotation: Rotation { mirror: false, degrees: Decimal { digits: 0, places: 0 } }, quality: Default })
+/iiif/a/full/^!100,9/0/default.tif => Ok(Request { region: Full, size: Size { up: true, form: Within(100, 9) }, rotation: Rotation { mirror: false, degrees: Decimal { digits: 0, places: 0 } }, quality: Default })
+/iiif/a/full/0,00/0/default.tif => Ok(Request { region: Full, size: Size { up: false, form: Both(0, 0) }, rotation: Rotation { mirror: false, degrees: Decimal { digits: 0, places: 0 } }, quality: Default })
+/iiif/a/full/^0,00/0/default.tif => Ok(Request { region: Full, size: Size { up: true, form: Both(0, 0) }, rotation: Rotation { mirror: false, degrees: Decimal { digits: 0, places: 0 } }, quality: Default })
+/iiif/a/full/max/0/default.tif => Ok(Request { region: Full, size: Size { up: false, form: Max }, rotation: Rotation { mirror: false, degrees: Decimal { digits: 0, places: 0 } }, quality: Default })
+/iiif/a/full/max/!0/default.tif => Ok(Request { region: Full, size: Size { up: false, form: Max }, rotation: Rotation { mirror: true, degrees: Decimal { digits: 0, places: 0 } }, quality: Default })
+/iiif/a/full/max/90/default.tif => Ok(Request { region: Full, size: Size { up: false, form: Max }, rotation: Rotation { mirror: false, degrees: Decimal { digits: 90, places: 0 } }, quality: Default })
+/iiif/a/full/max/!90/default.tif => Ok(Request { region: Full, size: Size { up: false, form: Max }, rotation: Rotation { mirror: true, degrees: Decimal { digits: 90, places: 0 } }, quality: Default })
+/iiif/a/full/max/180/default.tif => Ok(Request { region: Full, size: Size { up: false, form: Max }, rotation: Rotation { mirror: false, degrees: Decimal { digits: 180, places: 0 } }, quality: Default })
+/iiif/a/full/max/!180/default.tif => Ok(Request { region: Full, size: Size { up: false, form: Max }, rotation: Rotation { mirror: true, degrees: Decimal { digits: 180, places: 0 } }, quality: Default })
+/iiif/a/full/max/270/default.tif => Ok(Request { region: Full, size: Size { up: false, form: Max }, rotation: Rotation { mirror: false, degrees: Decimal { digits: 270, places: 0 } }, quality: Default })
+/iiif/a/full/max/!270/default.tif => Ok(Request { region: Full, size: Size { up: false, form: Max }, rotation: Rotation { mirror: true, degrees: Decimal { digits: 270, places: 0 } }, quality: Default })
+/iiif/a/full/max/360/default.tif => Ok(Request { region: Full, size: Size { up: false, form: Max }, rotation: Rotation { mirror: false, degrees: Decimal { digits: 360, places: 0 } }, quality: Default })
+/iiif/a/full/max/!360/default.tif => Ok(Request { region: Full, size: Size { up: false, form: Max }, rotation: Rotation { mirror: true, degrees: Decimal { digits: 360, places: 0 } }, quality: Default })
+/iiif/a/full/max/0.0/default.tif => Ok(Request { region: Full, size: Size { up: false, form: Max }, rotation: Rotation { mirror: false, degrees: Decimal { digits: 0, places: 1 } }, quality: Default })
+/iiif/a/full/max/!0.0/default.tif => Ok(Request { region: Full, size: Size { up: false, form: Max }, rotation: Rotation { mirror: true, degrees: Decimal { digits: 0, places: 1 } }, quality: Default })
+/iiif/a/full/max/090/default.tif => Ok(Request { region: Full, size: Size { up: false, form: Max }, rotation: Rotation { mirror: false, degrees: Decimal { digits: 90, places: 0 } }, quality: Default })
+/iiif/a/full/max/!090/default.tif => Ok(Request { region: Full, size: Size { up: false, form: Max }, rotation: Rotation { mirror: true, degrees: Decimal { digits: 90, places: 0 } }, quality: Default })
+/iiif/a/full/max/360.0000000000/default.tif => Ok(Request { region: Full, size: Size { up: false, form: Max }, rotation: Rotation { mirror: false, degrees: Decimal { digits: 3600000000000, places: 10 } }, quality: Default })
+/iiif/a/full/max/!360.0000000000/default.tif => Ok(Request { region: Full, size: Size { up: false, form: Max }, rotation: Rotation { mirror: true, degrees: Decimal { digits: 3600000000000, places: 10 } }, quality: Default })"#;
+
+/// Words that spell no region, in pixels or percents.
+const NO_REGIONS: &str = r#"/iiif/a//max/0/default.tif => Err(Region)
+/iiif/a/Full/max/0/default.tif => Err(Region)
+/iiif/a/full /max/0/default.tif => Err(Region)
+/iiif/a/max/max/0/default.tif => Err(Region)
+/iiif/a/1,1,1/max/0/default.tif => Err(Region)
+/iiif/a/1,1,1,/max/0/default.tif => Err(Region)
+/iiif/a/,1,1,1/max/0/default.tif => Err(Region)
+/iiif/a/1,,1,1/max/0/default.tif => Err(Region)
+/iiif/a/1,1,1,1,1/max/0/default.tif => Err(Region)
+/iiif/a/1,1,1,1,/max/0/default.tif => Err(Region)
+/iiif/a/1 ,1,1,1/max/0/default.tif => Err(Region)
+/iiif/a/+1,1,1,1/max/0/default.tif => Err(Region)
+/iiif/a/-1,1,1,1/max/0/default.tif => Err(Region)
+/iiif/a/1.0,1,1,1/max/0/default.tif => Err(Region)
+/iiif/a/square,/max/0/default.tif => Err(Region)
+/iiif/a/1e1,1,1,1/max/0/default.tif => Err(Region)
+/iiif/a/1000000000,1,1,1/max/0/default.tif => Err(Region)
+/iiif/a/0000000001,1,1,1/max/0/default.tif => Err(Region)
+/iiif/a/١,1,1,1/max/0/default.tif => Err(Region)
+/iiif/a/pct:/max/0/default.tif => Err(Region)
+/iiif/a/pct:1,1,1/max/0/default.tif => Err(Region)
+/iiif/a/pct:1,1,1,/max/0/default.tif => Err(Region)
+/iiif/a/pct:,1,1,1/max/0/default.tif => Err(Region)
+/iiif/a/pct:1,1,1,1,1/max/0/default.tif => Err(Region)
+/iiif/a/pct:1.,1,1,1/max/0/default.tif => Err(Region)
+/iiif/a/pct:.5,1,1,1/max/0/default.tif => Err(Region)
+/iiif/a/pct:+1,1,1,1/max/0/default.tif => Err(Region)
+/iiif/a/pct:-1,1,1,1/max/0/default.tif => Err(Region)
+/iiif/a/pct:1, 1,1,1/max/0/default.tif => Err(Region)
+/iiif/a/pct:1,1,1,1000000000/max/0/default.tif => Err(Region)
+/iiif/a/pct:1.2.3,1,1,1/max/0/default.tif => Err(Region)
+/iiif/a/pct:1,1,1,0.00000000001/max/0/default.tif => Err(Region)
+/iiif/a/PCT:1,1,1,1/max/0/default.tif => Err(Region)"#;
+
+/// Words that spell no size: in the target the last but one is `%5E2,` once it is decoded.
+const NO_SIZES: &str = r#"/iiif/a/full//0/default.tif => Err(Size)
+/iiif/a/full/full/0/default.tif => Err(Size)
+/iiif/a/full/Max/0/default.tif => Err(Size)
+/iiif/a/full/max /0/default.tif => Err(Size)
+/iiif/a/full/,/0/default.tif => Err(Size)
+/iiif/a/full/^/0/default.tif => Err(Size)
+/iiif/a/full/!/0/default.tif => Err(Size)
+/iiif/a/full/^!/0/default.tif => Err(Size)
+/iiif/a/full/!,/0/default.tif => Err(Size)
+/iiif/a/full/^,/0/default.tif => Err(Size)
+/iiif/a/full/^^max/0/default.tif => Err(Size)
+/iiif/a/full/^^2,/0/default.tif => Err(Size)
+/iiif/a/full/!^2,3/0/default.tif => Err(Size)
+/iiif/a/full/!w,/0/default.tif => Err(Size)
+/iiif/a/full/!2,/0/default.tif => Err(Size)
+/iiif/a/full/!,3/0/default.tif => Err(Size)
+/iiif/a/full/^!,h/0/default.tif => Err(Size)
+/iiif/a/full/^!2,/0/default.tif => Err(Size)
+/iiif/a/full/^!,3/0/default.tif => Err(Size)
+/iiif/a/full/!!2,3/0/default.tif => Err(Size)
+/iiif/a/full/!max/0/default.tif => Err(Size)
+/iiif/a/full/!pct:5/0/default.tif => Err(Size)
+/iiif/a/full/2/0/default.tif => Err(Size)
+/iiif/a/full/^2/0/default.tif => Err(Size)
+/iiif/a/full/2,3,/0/default.tif => Err(Size)
+/iiif/a/full/2,3,4/0/default.tif => Err(Size)
+/iiif/a/full/,2,/0/default.tif => Err(Size)
+/iiif/a/full/1.5,/0/default.tif => Err(Size)
+/iiif/a/full/,1.5/0/default.tif => Err(Size)
+/iiif/a/full/2 ,/0/default.tif => Err(Size)
+/iiif/a/full/+2,/0/default.tif => Err(Size)
+/iiif/a/full/-2,/0/default.tif => Err(Size)
+/iiif/a/full/1000000000,/0/default.tif => Err(Size)
+/iiif/a/full/,1000000000/0/default.tif => Err(Size)
+/iiif/a/full/pct:/0/default.tif => Err(Size)
+/iiif/a/full/^pct:/0/default.tif => Err(Size)
+/iiif/a/full/pct:1./0/default.tif => Err(Size)
+/iiif/a/full/pct:.5/0/default.tif => Err(Size)
+/iiif/a/full/pct:+1/0/default.tif => Err(Size)
+/iiif/a/full/pct:-1/0/default.tif => Err(Size)
+/iiif/a/full/pct:1,/0/default.tif => Err(Size)
+/iiif/a/full/pct:1000000000/0/default.tif => Err(Size)
+/iiif/a/full/%255E2,/0/default.tif => Err(Size)
+/iiif/a/full/pct:1.00000000001/0/default.tif => Err(Size)"#;
+
+/// Words that spell no rotation, no quality and no format. The first word that spells nothing is named.
+const NO_OTHERS: &str = r#"/iiif/a/full/max//default.tif => Err(Rotation)
+/iiif/a/full/max/!/default.tif => Err(Rotation)
+/iiif/a/full/max/45/default.tif => Err(Rotation)
+/iiif/a/full/max/361/default.tif => Err(Rotation)
+/iiif/a/full/max/450/default.tif => Err(Rotation)
+/iiif/a/full/max/720/default.tif => Err(Rotation)
+/iiif/a/full/max/-90/default.tif => Err(Rotation)
+/iiif/a/full/max/+90/default.tif => Err(Rotation)
+/iiif/a/full/max/90.5/default.tif => Err(Rotation)
+/iiif/a/full/max/90./default.tif => Err(Rotation)
+/iiif/a/full/max/.0/default.tif => Err(Rotation)
+/iiif/a/full/max/!!90/default.tif => Err(Rotation)
+/iiif/a/full/max/90!/default.tif => Err(Rotation)
+/iiif/a/full/max/ 90/default.tif => Err(Rotation)
+/iiif/a/full/max/90 /default.tif => Err(Rotation)
+/iiif/a/full/max/0.00000000001/default.tif => Err(Rotation)
+/iiif/a/full/max/0000000090.0/default.tif => Err(Rotation)
+/iiif/a/full/max/360.0000000001/default.tif => Err(Rotation)
+/iiif/a/full/max/1e2/default.tif => Err(Rotation)
+/iiif/a/full/max/0/.tif => Err(Quality)
+/iiif/a/full/max/0/best.tif => Err(Quality)
+/iiif/a/full/max/0/native.tif => Err(Quality)
+/iiif/a/full/max/0/Color.tif => Err(Quality)
+/iiif/a/full/max/0/grey.tif => Err(Quality)
+/iiif/a/full/max/0/colour.tif => Err(Quality)
+/iiif/a/full/max/0/default .tif => Err(Quality)
+/iiif/a/full/max/0/default. => Err(Format)
+/iiif/a/full/max/0/default.jpg => Err(Format)
+/iiif/a/full/max/0/default.TIF => Err(Format)
+/iiif/a/full/max/0/default.tiff => Err(Format)
+/iiif/a/full/max/0/default.tif.tif => Err(Format)
+/iiif/a/full/max/0/default.tif  => Err(Format)
+/iiif/a/x/x/x/x.x => Err(Region)
+/iiif/a/full/x/x/x.x => Err(Size)
+/iiif/a/full/max/x/x.x => Err(Rotation)
+/iiif/a/full/max/0/best.jpg => Err(Quality)
+/iiif/a/full/max/0/gray.jpg => Err(Format)"#;
+
+static LISTS: [(Subject, &str); 6] = [
+    (Subject::Targets, TARGETS),
+    (Subject::Targets, NO_TARGETS),
+    (Subject::Requests, REQUESTS),
+    (Subject::Requests, NO_REGIONS),
+    (Subject::Requests, NO_SIZES),
+    (Subject::Requests, NO_OTHERS),
+];
+
+#[test]
+fn texts_ask_for_something_or_nothing(rt: HostRuntime) {
+    for (subject, list) in &LISTS {
+        compare(&rt, rt.alloc(), *subject, list);
     }
 }
 
-/// What five words say, which stand with slashes between and a dot before the last.
-fn said(alloc: Global, text: &str) -> Result<Result<Request, Refusal>, AllocError> {
-    let (region, rest) = text.split_once('/').unwrap_or(("", ""));
-    let (size, rest) = rest.split_once('/').unwrap_or(("", ""));
-    let (rotation, rest) = rest.split_once('/').unwrap_or(("", ""));
-    let (quality, format) = rest.split_once('.').unwrap_or(("", ""));
-    let words = Words {
-        region: String::from_str(alloc, region)?,
-        size: String::from_str(alloc, size)?,
-        rotation: String::from_str(alloc, rotation)?,
-        quality: String::from_str(alloc, quality)?,
-        format: String::from_str(alloc, format)?,
-    };
-    Ok(parse(&words))
-}
-
-/// Whether five words spell a request.
-fn spells(alloc: Global, text: &str, want: Request) -> Result<bool, Fail> {
-    Ok(said(alloc, text)? == Ok(want))
-}
-
-/// Whether a word spells a region.
-fn spells_region(alloc: Global, text: &str, region: Region) -> Result<bool, Fail> {
-    let whole = format!(in alloc; "{text}/max/0/default.tif")?;
-    spells(alloc, whole.as_str(), Request { region, ..plain() })
-}
-
-/// Whether a word, behind `^` where it may scale up, spells a size.
-fn spells_size(alloc: Global, text: &str, up: bool, form: Form) -> Result<bool, Fail> {
-    let caret = if up { "^" } else { "" };
-    let whole = format!(in alloc; "full/{caret}{text}/0/default.tif")?;
-    let size = Size { up, form };
-    spells(alloc, whole.as_str(), Request { size, ..plain() })
-}
-
-/// Whether a word, behind `!` where it mirrors, spells a rotation.
-fn spells_rotation(
-    alloc: Global,
-    text: &str,
-    mirror: bool,
-    degrees: Decimal,
-) -> Result<bool, Fail> {
-    let mark = if mirror { "!" } else { "" };
-    let whole = format!(in alloc; "full/max/{mark}{text}/default.tif")?;
-    let rotation = Rotation { mirror, degrees };
-    let want = Request {
-        rotation,
-        ..plain()
-    };
-    spells(alloc, whole.as_str(), want)
-}
-
-/// The texts that a target asks for at the prefix `/iiif`, with a space between each two.
-fn asked(alloc: Global, target: &[u8]) -> Result<String, Fail> {
-    match split(alloc, b"/iiif", target)? {
-        Target::Base(id) => Ok(format!(in alloc; "base {id}")?),
-        Target::Info(id) => Ok(format!(in alloc; "info {id}")?),
-        Target::Image(id, w) => Ok(format!(in alloc;
-            "image {id} {} {} {} {} {}",
-            w.region, w.size, w.rotation, w.quality, w.format
-        )?),
+/// Whether a target asks for nothing at a prefix.
+fn is_no_target(alloc: Global, prefix: &[u8], target: &[u8]) -> bool {
+    match split(alloc, prefix, target) {
+        Ok(_) => false,
+        Err(fault) => fault == SplitFault::Path,
     }
 }
 
-/// Whether a target asks for this at the prefix `/iiif`, in the words of `asked`.
-fn asks(alloc: Global, target: &[u8], want: &str) -> Result<bool, Fail> {
-    Ok(asked(alloc, target)?.as_str() == want)
-}
-
-/// Whether five words are refused so.
-fn is_refused(alloc: Global, text: &str, refusal: Refusal) -> Result<bool, Fail> {
-    Ok(said(alloc, text)? == Err(refusal))
-}
-
-/// That each of the texts, which stand with a `|` between, is refused so between what stands before and behind it.
-fn refuse(
-    rt: &impl Abort,
-    alloc: Global,
-    (before, texts, behind): (&str, &str, &str),
-    refusal: Refusal,
-) -> Result<(), Fail> {
-    for text in texts.split('|') {
-        let whole = format!(in alloc; "{before}{text}{behind}")?;
-        assert!(rt; is_refused(alloc, whole.as_str(), refusal)?, "{text}");
+/// Whether a target is the base URI of the image `a` at an empty prefix.
+fn is_base(alloc: Global, target: &[u8]) -> bool {
+    match split(alloc, b"", target) {
+        Ok(Target::Base(id)) => id.as_str() == "a",
+        _ => false,
     }
-    Ok(())
-}
-
-/// That each of the texts, which stand with a `|` between, spells no region.
-fn refuse_regions(rt: &impl Abort, alloc: Global, texts: &str) -> Result<(), Fail> {
-    refuse(
-        rt,
-        alloc,
-        ("", texts, "/max/0/default.tif"),
-        Refusal::Region,
-    )
-}
-
-/// The same for sizes.
-fn refuse_sizes(rt: &impl Abort, alloc: Global, texts: &str) -> Result<(), Fail> {
-    refuse(rt, alloc, ("full/", texts, "/0/default.tif"), Refusal::Size)
-}
-
-/// The same for rotations.
-fn refuse_rotations(rt: &impl Abort, alloc: Global, texts: &str) -> Result<(), Fail> {
-    refuse(
-        rt,
-        alloc,
-        ("full/max/", texts, "/default.tif"),
-        Refusal::Rotation,
-    )
-}
-
-/// Why a target asks for nothing at a prefix; none where it asks for something.
-fn fault(alloc: Global, prefix: &[u8], target: &[u8]) -> Option<SplitFault> {
-    split(alloc, prefix, target).err()
-}
-
-/// That each of the targets, which stand with a space between, asks for nothing at `/iiif`.
-fn refuse_targets(rt: &impl Abort, alloc: Global, targets: &str) {
-    for target in targets.split(' ') {
-        let path = fault(alloc, b"/iiif", target.as_bytes()) == Some(SplitFault::Path);
-        assert!(rt; path, "{target}");
-    }
-}
-
-/// That each target asks for what stands beside it.
-fn ask(rt: &impl Abort, alloc: Global, cases: &[(&[u8], &str)]) -> Result<(), Fail> {
-    for (target, want) in cases.iter() {
-        assert!(rt; asks(alloc, target, want)?, "{want}");
-    }
-    Ok(())
 }
 
 #[test]
-fn one_two_and_five_segments_ask_for_something(rt: HostRuntime) -> Result<(), Fail> {
-    let cases: [(&[u8], &str); 3] = [
-        (b"/iiif/a", "base a"),
-        (b"/iiif/a/info.json", "info a"),
-        (
-            b"/iiif/a/full/max/0/default.tif",
-            "image a full max 0 default tif",
-        ),
-    ];
-    ask(&rt, rt.alloc(), &cases)
+fn a_prefix_may_be_empty_and_a_target_is_a_text(rt: HostRuntime) {
+    assert!(rt; is_base(rt.alloc(), b"/a"));
+    assert!(rt; is_no_target(rt.alloc(), b"", b"a"));
+    assert!(rt; is_no_target(rt.alloc(), b"/iiif", b"/iiif/\xff"));
 }
 
-#[test]
-fn segments_are_decoded_once(rt: HostRuntime) -> Result<(), Fail> {
-    let cases: [(&[u8], &str); 3] = [
-        (
-            b"/iiif/a%2Fb/0%2c0,1%2C1/%5E2,/%210/gr%61y%2Etif",
-            "image a/b 0,0,1,1 ^2, !0 gray tif",
-        ),
-        (
-            b"/iiif/a%252Fb/0,0,1,1/^2,/!0/gray.tif",
-            "image a%2Fb 0,0,1,1 ^2, !0 gray tif",
-        ),
-        (b"/iiif/%C3%A4%3f/info%2ejson", "info \u{e4}?"),
-    ];
-    ask(&rt, rt.alloc(), &cases)
-}
-
-#[test]
-fn a_query_is_left_unread(rt: HostRuntime) -> Result<(), Fail> {
-    let cases: [(&[u8], &str); 2] = [
-        (
-            b"/iiif/a/full/max/0/default.tif?b/c?d.e%",
-            "image a full max 0 default tif",
-        ),
-        (b"/iiif/a?/info.json", "base a"),
-    ];
-    ask(&rt, rt.alloc(), &cases)
-}
-
-#[test]
-fn the_last_segment_is_parted_at_its_first_dot(rt: HostRuntime) -> Result<(), Fail> {
-    let cases: [(&[u8], &str); 3] = [
-        (
-            b"/iiif/a/full/max/0/default.tif.tif",
-            "image a full max 0 default tif.tif",
-        ),
-        (b"/iiif/a/full/max/0/default", "image a full max 0 default "),
-        (b"/iiif/a////.", "image a     "),
-    ];
-    ask(&rt, rt.alloc(), &cases)
-}
-
-/// Whether a target is the base URI of this identifier at an empty prefix.
-fn is_base(alloc: Global, target: &[u8], want: &str) -> Result<bool, Fail> {
-    match split(alloc, b"", target)? {
-        Target::Base(id) => Ok(id.as_str() == want),
-        _ => Ok(false),
-    }
-}
-
-#[test]
-fn a_prefix_may_be_empty(rt: HostRuntime) -> Result<(), Fail> {
-    assert!(rt; is_base(rt.alloc(), b"/a", "a")?);
-    assert!(rt; fault(rt.alloc(), b"", b"a") == Some(SplitFault::Path));
-    Ok(())
-}
-
-#[test]
-fn other_counts_of_segments_ask_for_nothing(rt: HostRuntime) {
-    for targets in [
-        " * / /iiif /iiif?a /iiif/ /iiifa /IIIF/a /other/a /iiif/a/",
-        "/iiif/a/INFO.JSON /iiif/a/info.json/ /iiif/a/full/max",
-        "/iiif/a/full/max/0 /iiif/a/full/max/0/default.tif/",
-        "/iiif/a/b/full/max/0/default.tif /iiif//info.json",
-    ] {
-        refuse_targets(&rt, rt.alloc(), targets);
-    }
-}
-
-#[test]
-fn broken_escapes_ask_for_nothing(rt: HostRuntime) {
-    for targets in [
-        "/iiif/a%2/full/max/0/default.tif /iiif/a% /iiif/a%zz",
-        "/iiif/a%2gb /iiif/a%%41 /iiif/a%FF /iiif/%C3",
-        "/iiif/%C3/%A4/max/0/default.tif /iiif//full/max/0/default.tif",
-    ] {
-        refuse_targets(&rt, rt.alloc(), targets);
-    }
-    assert!(rt; fault(rt.alloc(), b"/iiif", b"/iiif/\xff") == Some(SplitFault::Path));
-}
+/// Texts, and how often each stands in a target.
+type Parts = &'static [(&'static [u8], u32)];
 
 /// A target whose identifier is 349,526 slashes and whose region is a megabyte.
-fn megabyte(alloc: Global) -> Result<Vec<u8>, Fail> {
-    let mut target = Vec::from_slice(alloc, b"/iiif/")?;
-    for _ in 0..349_526 {
-        target.extend_from_slice(b"%2F")?;
+const MEGABYTE: Parts = &[
+    (b"/iiif/", 1),
+    (b"%2F", 349_526),
+    (b"/", 1),
+    (b"full", 262_144),
+    (b"/max/0/default.tif", 1),
+];
+
+/// A target of a megabyte of slashes.
+const SLASHES: Parts = &[(b"/iiif", 1), (b"/", 1_048_576)];
+
+/// A target of such parts.
+fn joined(alloc: Global, parts: Parts) -> Result<Vec<u8>, AllocError> {
+    let mut target = Vec::new(alloc);
+    for (text, count) in parts {
+        for _ in 0..*count {
+            target.extend_from_slice(text)?;
+        }
     }
-    target.extend_from_slice(b"/")?;
-    for _ in 0..262_144 {
-        target.extend_from_slice(b"full")?;
-    }
-    target.extend_from_slice(b"/max/0/default.tif")?;
     Ok(target)
 }
 
-/// How long an image's identifier and region are, and what its words say.
-fn image(alloc: Global, target: &[u8]) -> Result<(usize, usize, Result<Request, Refusal>), Fail> {
-    match split(alloc, b"/iiif", target)? {
-        Target::Image(id, words) => Ok((id.len(), words.region.len(), parse(&words))),
-        _ => Err("no image".into()),
-    }
-}
-
-#[test]
-fn a_megabyte_is_split(rt: HostRuntime) -> Result<(), Fail> {
-    let target = megabyte(rt.alloc())?;
-    let (id, region, request) = image(rt.alloc(), &target)?;
-    assert!(rt; id == 349_526 && region == 1_048_576, "{id} {region}");
-    assert!(rt; request == Err(Refusal::Region));
-    Ok(())
-}
-
-#[test]
-fn a_megabyte_of_slashes_is_refused(rt: HostRuntime) -> Result<(), Fail> {
-    let mut slashes = Vec::from_slice(rt.alloc(), b"/iiif")?;
-    for _ in 0..1_048_576 {
-        slashes.push(b'/')?;
-    }
-    assert!(rt; fault(rt.alloc(), b"/iiif", &slashes) == Some(SplitFault::Path));
-    Ok(())
-}
-
-/// Whether a target is the image `a/b` in the size `^2,`.
-fn is_image(target: &Target) -> bool {
-    match target {
-        Target::Image(id, words) => {
-            id.as_str() == "a/b"
-                && words.size.as_str() == "^2,"
-                && words.quality.as_str() == "default"
-                && words.format.as_str() == "tif"
+/// Whether that target is an image with an identifier and a region of such lengths, and the region is refused.
+fn is_split(alloc: Global, target: &[u8]) -> bool {
+    match split(alloc, b"/iiif", target) {
+        Ok(Target::Image(id, words)) => {
+            let is_long = id.len() == 349_526 && words.region.len() == 1_048_576;
+            is_long && parse(&words) == Err(Refusal::Region)
         }
         _ => false,
     }
 }
 
 #[test]
-fn want_of_memory_is_told_or_the_answer_is_the_same(rt: HostRuntime) {
-    let target = b"/iiif/a%2Fb/full/%5E2,/0/default.tif";
-    let right = match split(rt.alloc(), b"/iiif", target) {
-        Ok(target) => is_image(&target),
-        Err(fault) => fault == SplitFault::NoMemory,
+fn a_megabyte_is_split(rt: HostRuntime) {
+    let right = match joined(rt.alloc(), MEGABYTE) {
+        Ok(target) => is_split(rt.alloc(), &target),
+        Err(_) => false,
     };
     assert!(rt; right);
 }
 
 #[test]
-fn words_spell_a_request(rt: HostRuntime) -> Result<(), Fail> {
-    let other = Request {
-        region: Region::Percents(
-            decimal(25, 0),
-            decimal(0, 0),
-            decimal(505, 1),
-            decimal(1, 10),
-        ),
-        size: Size {
-            up: true,
-            form: Form::Within(2, 9),
-        },
-        rotation: Rotation {
-            mirror: true,
-            degrees: decimal(27000, 2),
-        },
-        quality: Quality::Bitonal,
+fn a_megabyte_of_slashes_is_refused(rt: HostRuntime) {
+    let right = match joined(rt.alloc(), SLASHES) {
+        Ok(target) => is_no_target(rt.alloc(), b"/iiif", &target),
+        Err(_) => false,
     };
-    for (text, want) in [
-        ("full/max/0/default.tif", plain()),
-        (
-            "pct:25,0,50.5,0.0000000001/^!2,9/!270.00/bitonal.tif",
-            other,
-        ),
-    ] {
-        assert!(rt; spells(rt.alloc(), text, want)?, "{text}");
-    }
-    Ok(())
+    assert!(rt; right);
 }
 
-#[test]
-fn regions(rt: HostRuntime) -> Result<(), Fail> {
-    let top = 999_999_999;
-    let most = decimal(9_999_999_999_999_999_999, 10);
-    let percents = Region::Percents(decimal(1, 0), decimal(25, 1), decimal(3, 0), most);
-    for (text, region) in [
-        ("square", Region::Square),
-        ("0,0,9,9", Region::Pixels(0, 0, 9, 9)),
-        ("007,08,1,000000000", Region::Pixels(7, 8, 1, 0)),
-        ("999999999,0,2,3", Region::Pixels(top, 0, 2, 3)),
-        ("pct:1,2.5,03,999999999.9999999999", percents),
-    ] {
-        assert!(rt; spells_region(rt.alloc(), text, region)?, "{text}");
-    }
-    Ok(())
-}
-
-#[test]
-fn other_regions_are_refused(rt: HostRuntime) -> Result<(), Fail> {
-    for texts in [
-        "|Full|full |max|1,1,1|1,1,1,|,1,1,1|1,,1,1|1,1,1,1,1",
-        "1,1,1,1,|1 ,1,1,1|+1,1,1,1|-1,1,1,1|1.0,1,1,1|square,",
-        "1e1,1,1,1|1000000000,1,1,1|0000000001,1,1,1|\u{661},1,1,1",
-    ] {
-        refuse_regions(&rt, rt.alloc(), texts)?;
-    }
-    Ok(())
-}
-
-#[test]
-fn other_percents_are_refused(rt: HostRuntime) -> Result<(), Fail> {
-    for texts in [
-        "pct:|pct:1,1,1|pct:1,1,1,|pct:,1,1,1|pct:1,1,1,1,1",
-        "pct:1.,1,1,1|pct:.5,1,1,1|pct:+1,1,1,1|pct:-1,1,1,1",
-        "pct:1, 1,1,1|pct:1,1,1,1000000000|pct:1.2.3,1,1,1",
-        "pct:1,1,1,0.00000000001|PCT:1,1,1,1",
-    ] {
-        refuse_regions(&rt, rt.alloc(), texts)?;
-    }
-    Ok(())
-}
-
-#[test]
-fn sizes(rt: HostRuntime) -> Result<(), Fail> {
-    for (text, form) in [
-        ("max", Form::Max),
-        ("2,", Form::Width(2)),
-        (",3", Form::Height(3)),
-        ("pct:100.1", Form::Percent(decimal(1001, 1))),
-        ("pct:050", Form::Percent(decimal(50, 0))),
-        ("3,4", Form::Both(3, 4)),
-        ("!100,9", Form::Within(100, 9)),
-        ("0,00", Form::Both(0, 0)),
-    ] {
-        for up in [false, true] {
-            assert!(rt; spells_size(rt.alloc(), text, up, form)?, "{text} {up}");
+/// Whether a target is the image `a/b` in the size `^2,`.
+fn is_image(target: &Target) -> bool {
+    match target {
+        Target::Image(id, words) => {
+            let (quality, format) = (words.quality.as_str(), words.format.as_str());
+            [id.as_str(), words.size.as_str(), quality, format] == ["a/b", "^2,", "default", "tif"]
         }
+        _ => false,
     }
-    Ok(())
+}
+
+/// Whether a target is split into what it is to be, or want of memory is told.
+fn is_split_or_told(alloc: Global) -> bool {
+    match split(alloc, b"/iiif", b"/iiif/a%2Fb/full/%5E2,/0/default.tif") {
+        Ok(target) => is_image(&target),
+        Err(fault) => fault == SplitFault::NoMemory,
+    }
 }
 
 #[test]
-fn other_sizes_are_refused(rt: HostRuntime) -> Result<(), Fail> {
-    for texts in [
-        "|full|Max|max |,|^|!|^!|!,|^,|^^max|^^2,|!^2,3|!w,|!2,|!,3",
-        "^!,h|^!2,|^!,3|!!2,3|!max|!pct:5|2|^2|2,3,|2,3,4|,2,|1.5,",
-        ",1.5|2 ,|+2,|-2,|1000000000,|,1000000000|pct:|^pct:|pct:1.",
-        "pct:.5|pct:+1|pct:-1|pct:1,|pct:1000000000|%5E2,",
-        "pct:1.00000000001",
-    ] {
-        refuse_sizes(&rt, rt.alloc(), texts)?;
-    }
-    Ok(())
-}
-
-#[test]
-fn rotations_keep_their_decimals(rt: HostRuntime) -> Result<(), Fail> {
-    for (text, digits, places) in [
-        ("0", 0, 0),
-        ("90", 90, 0),
-        ("180", 180, 0),
-        ("270", 270, 0),
-        ("360", 360, 0),
-        ("0.0", 0, 1),
-        ("090", 90, 0),
-        ("360.0000000000", 3_600_000_000_000, 10),
-    ] {
-        let degrees = decimal(digits, places);
-        for mirror in [false, true] {
-            let spells = spells_rotation(rt.alloc(), text, mirror, degrees)?;
-            assert!(rt; spells, "{text} {mirror}");
-        }
-    }
-    Ok(())
-}
-
-#[test]
-fn other_rotations_are_refused(rt: HostRuntime) -> Result<(), Fail> {
-    for texts in [
-        "|!|45|361|450|720|-90|+90|90.5|90.|.0|!!90|90!| 90|90 ",
-        "0.00000000001|0000000090.0|360.0000000001|1e2",
-    ] {
-        refuse_rotations(&rt, rt.alloc(), texts)?;
-    }
-    Ok(())
-}
-
-#[test]
-fn qualities_and_the_format(rt: HostRuntime) -> Result<(), Fail> {
-    for (text, quality) in [
-        ("full/max/0/color.tif", Quality::Color),
-        ("full/max/0/gray.tif", Quality::Gray),
-    ] {
-        let want = Request { quality, ..plain() };
-        assert!(rt; spells(rt.alloc(), text, want)?, "{text}");
-    }
-    let qualities = "|best|native|Color|grey|colour|default ";
-    let formats = "|jpg|TIF|tiff|tif.tif|tif ";
-    for (texts, refusal) in [
-        (("full/max/0/", qualities, ".tif"), Refusal::Quality),
-        (("full/max/0/default.", formats, ""), Refusal::Format),
-    ] {
-        refuse(&rt, rt.alloc(), texts, refusal)?;
-    }
-    Ok(())
-}
-
-#[test]
-fn the_first_word_that_spells_nothing_is_named(rt: HostRuntime) -> Result<(), Fail> {
-    for (text, refusal) in [
-        ("x/x/x/x.x", Refusal::Region),
-        ("full/x/x/x.x", Refusal::Size),
-        ("full/max/x/x.x", Refusal::Rotation),
-        ("full/max/0/best.jpg", Refusal::Quality),
-        ("full/max/0/gray.jpg", Refusal::Format),
-    ] {
-        assert!(rt; is_refused(rt.alloc(), text, refusal)?, "{text}");
-    }
-    Ok(())
+fn want_of_memory_is_told_or_the_answer_is_the_same(rt: HostRuntime) {
+    assert!(rt; is_split_or_told(rt.alloc()));
 }
 
 #[test]
 fn refusals_and_faults_are_numbered(rt: HostRuntime) {
-    assert!(rt; Refusal::Identifier.status() == 404);
-    assert!(rt; Refusal::Upscale.line() == "Q13 upscale");
-    for (fault, number) in [(SplitFault::Path, 1), (SplitFault::NoMemory, 2)] {
-        assert!(rt; fault.number() == number, "{fault:?}");
-    }
+    let refusals = Refusal::Identifier.status() == 404 && Refusal::Upscale.line() == "Q13 upscale";
+    let faults = SplitFault::Path.number() == 1 && SplitFault::NoMemory.number() == 2;
+    assert!(rt; refusals && faults);
 }
 
 #[test]
@@ -507,18 +344,24 @@ fn the_laws_hold() {
     asked_once();
 }
 
+/// Texts, how many digits they have at most, and the numbers that they are.
+static NUMERALS: [(&[u8], usize, Option<u64>); 5] = [
+    (b"0042", 4, Some(42)),
+    (b"9999999999999999999", 19, Some(9_999_999_999_999_999_999)),
+    (b"12345", 4, None),
+    (b"", 4, None),
+    (b"1 2", 4, None),
+];
+
+/// Whether such a text is that number.
+fn is_number((text, most, want): (&[u8], usize, Option<u64>)) -> bool {
+    most <= 19 && numeral(text, most) == want
+}
+
 #[test]
-fn numerals_to_so_many_digits(rt: HostRuntime) -> Result<(), Fail> {
-    let cases: [(&[u8], usize, Option<u64>); 5] = [
-        (b"0042", 4, Some(42)),
-        (b"9999999999999999999", 19, Some(9_999_999_999_999_999_999)),
-        (b"12345", 4, None),
-        (b"", 4, None),
-        (b"1 2", 4, None),
-    ];
-    for (text, most, want) in cases {
-        assert!(rt; most <= 19 && numeral(text, most) == want, "{text:?}");
+fn numerals_to_so_many_digits(rt: HostRuntime) {
+    for case in &NUMERALS {
+        assert!(rt; is_number(*case), "{}", case.1);
     }
     assert!(rt; is_numeral(b"007", 3) && !is_numeral(b"-7", 3));
-    Ok(())
 }

@@ -1,0 +1,133 @@
+//! What comes of a text. Cases stand as lines of a list, each a text, ` => ` and what it comes to: a further line costs no proof.
+
+ghost use Rattle.iiif_request.specs.Requests.{HasShortDecimals};
+
+use iiif_canonical::{
+    Limits, canonical, canonical_request, image_uri, push_escaped, resolve, text, uri,
+};
+use iiif_pixel::{Dim, Kind};
+use iiif_request::{Request, Target, Words, parse, split};
+use std::alloc::Global;
+use std::process::Abort;
+
+/// An image that words are read for, and how large its results may be.
+#[derive(Clone, Copy)]
+pub struct Image {
+    pub dim: Dim,
+    pub kind: Kind,
+    pub limits: Limits,
+}
+
+/// What the texts of a list are, and in what words it says what they come to.
+#[derive(Clone, Copy)]
+pub enum Subject {
+    /// Targets, cut at the prefix `/iiif`.
+    Targets,
+    /// Targets of images, of which the words are read as a request.
+    Requests,
+    /// The same: the text of that request as it is.
+    Texts,
+    /// The same: what it comes to for an image.
+    Resolved(Image),
+    /// The same: the text of its canonical form for an image, or why it is refused.
+    Canonical(Image),
+    /// The same: the link to that form.
+    Links(Image),
+    /// Identifiers: the link to their image.
+    Images,
+    /// Identifiers, escaped.
+    Escaped,
+}
+
+/// The server that links lead to.
+const BASE: &str = "http://localhost/iiif";
+
+/// What a target asks for.
+fn asked(alloc: Global, target: &str) -> Option<String> {
+    let asked = split(alloc, b"/iiif", target.as_bytes());
+    format!(in alloc; "{asked:?}").ok()
+}
+
+/// What a request comes to for an image.
+fn resolved(alloc: Global, image: &Image, request: &Request) -> Option<String>
+    requires { HasShortDecimals request.now }
+{
+    let resolved = resolve(request, image.dim, image.kind, &image.limits);
+    format!(in alloc; "{resolved:?}").ok()
+}
+
+/// The text of a request's canonical form for an image, or why it is refused.
+fn canonical_text(alloc: Global, image: &Image, request: &Request) -> Option<String>
+    requires { HasShortDecimals request.now }
+{
+    match canonical_request(request, image.dim, image.kind, &image.limits) {
+        Ok(form) => text(alloc, &form).ok(),
+        Err(refusal) => format!(in alloc; "{refusal:?}").ok(),
+    }
+}
+
+/// The link to a request's canonical form for an image; none where it is refused.
+pub fn link(alloc: Global, image: &Image, id: &str, request: &Request) -> Option<String>
+    requires { HasShortDecimals request.now }
+{
+    let Ok(resolved) = resolve(request, image.dim, image.kind, &image.limits) else {
+        return None;
+    };
+    let form = canonical(&resolved, image.dim, image.kind, &image.limits);
+    uri(alloc, BASE, id, &form).ok()
+}
+
+/// What the words for an image of this identifier come to.
+fn said(alloc: Global, subject: Subject, id: &str, words: &Words) -> Option<String> {
+    let said = parse(words);
+    match (said, subject) {
+        (Ok(request), Subject::Texts) => text(alloc, &request).ok(),
+        (Ok(request), Subject::Resolved(image)) => resolved(alloc, &image, &request),
+        (Ok(request), Subject::Canonical(image)) => canonical_text(alloc, &image, &request),
+        (Ok(request), Subject::Links(image)) => link(alloc, &image, id, &request),
+        _ => format!(in alloc; "{said:?}").ok(),
+    }
+}
+
+/// What the words of a target come to.
+fn words_of(alloc: Global, subject: Subject, target: &str) -> Option<String> {
+    match split(alloc, b"/iiif", target.as_bytes()) {
+        Ok(Target::Image(id, words)) => said(alloc, subject, id.as_str(), &words),
+        _ => None,
+    }
+}
+
+/// An identifier, escaped.
+fn escaped(alloc: Global, id: &str) -> Option<String> {
+    let mut name = String::new(alloc);
+    push_escaped(&mut name, id).ok()?;
+    Some(name)
+}
+
+/// What a text comes to; none where it is no text for this, or memory is wanting.
+fn answer(alloc: Global, subject: Subject, given: &str) -> Option<String> {
+    match subject {
+        Subject::Targets => asked(alloc, given),
+        Subject::Images => image_uri(alloc, BASE, given).ok(),
+        Subject::Escaped => escaped(alloc, given),
+        _ => words_of(alloc, subject, given),
+    }
+}
+
+/// Whether a line's text comes to what stands behind it.
+fn is_so(alloc: Global, subject: Subject, line: &str) -> bool {
+    let Some((given, want)) = line.split_once(" => ") else {
+        return false;
+    };
+    match answer(alloc, subject, given) {
+        Some(text) => text.as_str() == want,
+        None => false,
+    }
+}
+
+/// That the text of each line comes to what stands behind it.
+pub fn compare(rt: &impl Abort, alloc: Global, subject: Subject, list: &str) {
+    for line in list.lines() {
+        assert!(rt; is_so(alloc, subject, line), "{line}");
+    }
+}

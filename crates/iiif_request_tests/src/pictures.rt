@@ -1,0 +1,215 @@
+//! Gray pictures that are held whole, and requests on them that are planned.
+
+ghost use Rattle.std.specs.Prelude.{◌≡◌, ◌<◌, ◌≤◌, ◌⊎◌, IfOk, IfErr, IfSome, length};
+ghost use Rattle.std.specs.Arc.{arc_value};
+ghost use Rattle.iiif_pixel.specs.Depths.{values_of};
+ghost use Rattle.iiif_pixel.specs.Geometry.{channels_of, top_of};
+ghost use Rattle.iiif_pixel.specs.Picture.{dim_of};
+ghost use Rattle.iiif_keys.specs.Blocks.{SumFitsIn, TileFitsIn};
+ghost use Rattle.iiif_keys.specs.Meaning.{SumHasShape, TileHasShape};
+ghost use Rattle.iiif_assemble.specs.Jobs.{IsJob};
+
+use iiif_area::{Sums, is_scalable, meets};
+use iiif_assemble::{Items, Job};
+use iiif_canonical::Resolved;
+use iiif_keys::{Fault, Name, Shape, SumKey, SumVal, TileKey, TileVal, is_name};
+use iiif_pixel::{Dim, Kind, Quality, Raster, Rect, Samples, Turn};
+use std::alloc::Global;
+use std::sync::Arc;
+
+/// Which items of a picture fail. Of tiles two do, of which the second fails otherwise: of four, in a row they are asked for in one turn
+/// of two workers.
+#[derive(Clone, Copy)]
+pub enum Failing {
+    Nothing,
+    SecondColumn,
+    FirstRow,
+    /// All tiles, which aren't to be asked for, and the blocks in this row.
+    Blocks(Option<u32>),
+}
+
+impl Failing {
+    /// What a tile fails with, if it does.
+    fn of_tile(self, key: &TileKey) -> Option<Fault> {
+        let is_first = match self {
+            Failing::SecondColumn if key.tx == 1 => key.ty == 0,
+            Failing::FirstRow if key.ty == 0 => key.tx == 0,
+            Failing::Blocks(_) => true,
+            _ => return None,
+        };
+        Some(if is_first {
+            Fault::BadKey
+        } else {
+            Fault::UnknownName
+        })
+    }
+
+    /// Whether a block fails.
+    fn has_block(self, key: &SumKey) -> bool {
+        match self {
+            Failing::Blocks(row) => row == Some(key.by),
+            _ => false,
+        }
+    }
+}
+
+/// A picture that is held whole, of which each value is made anew, but for the items that fail. A worker counts what it asks for.
+#[derive(Drop)]
+pub struct Shown {
+    raster: Raster,
+    pub shape: Shape,
+    fails: Failing,
+    alloc: Global,
+    ghost sides: { dim_of raster ≡ shape.dim },
+    ghost samples_a_place: { raster.channels ≡ channels_of shape.kind },
+    ghost depth: { raster.top ≡ top_of shape.depth },
+}
+
+impl<R> Items<TileKey, TileVal, u64, R> for Shown {
+    ghost fits = { λ s k. TileFitsIn s.shape.dim (channels_of s.shape.kind) k };
+
+    ghost means = { λ s k v. TileHasShape s.shape k v };
+
+    ghost failed = { λ s k f. Unit {0} };
+
+    fn get(&self, _rt: &R, pass: &mut u64, key: &TileKey) -> Result<Arc<TileVal>, Fault> {
+        *pass = pass.wrapping_add(1);
+        if let Some(fault) = self.fails.of_tile(key) {
+            return Err(fault);
+        }
+        let at = key.rect_in(self.shape.dim);
+        let raster = self.raster.crop(at)?;
+        match Arc::new(self.alloc, TileVal { raster }) {
+            Ok(value) => Ok(value),
+            Err(_) => Err(Fault::NoMemory),
+        }
+    }
+}
+
+impl<R> Items<SumKey, SumVal, u64, R> for Shown {
+    ghost fits = { λ s k. SumFitsIn s.shape.dim (channels_of s.shape.kind) k };
+
+    ghost means = { λ s k v. SumHasShape s.shape k v };
+
+    ghost failed = { λ s k f. Unit {0} };
+
+    fn get(&self, _rt: &R, pass: &mut u64, key: &SumKey) -> Result<Arc<SumVal>, Fault> {
+        *pass = pass.wrapping_add(1);
+        if self.fails.has_block(key) {
+            return Err(Fault::UnknownName);
+        }
+        let at = key.block_in(self.shape.dim);
+        if !meets(at, key.rect) || !is_scalable(key.rect.dim(), key.size) {
+            return Err(Fault::BadKey);
+        }
+        let raster = self.raster.crop(at)?;
+        let sums = Sums::of_tile(self.alloc, &raster, at, key.rect, key.size)?;
+        match Arc::new(self.alloc, SumVal { sums }) {
+            Ok(value) => Ok(value),
+            Err(_) => Err(Fault::NoMemory),
+        }
+    }
+}
+
+/// How many samples there are.
+fn len_of(samples: &Samples) -> usize
+    ensures { result ≡ length (values_of samples.now) }
+{
+    match samples {
+        Samples::Eight(samples) => samples.len(),
+        Samples::Sixteen(samples) => samples.len(),
+    }
+}
+
+/// The picture with these sides and samples; none where there aren't as many samples as places.
+pub fn of_samples(alloc: Global, dim: Dim, samples: Samples, fails: Failing) -> Option<Shown> {
+    match Kind::Gray.count(dim) {
+        Some(count) if count == len_of(&samples) => {
+            let raster = Raster::from_samples(dim, Kind::Gray, samples);
+            let shape = Shape {
+                dim: raster.dim(),
+                kind: raster.kind(),
+                depth: raster.depth(),
+            };
+            Some(Shown {
+                raster,
+                shape,
+                fails,
+                alloc,
+            })
+        }
+        _ => None,
+    }
+}
+
+/// The samples of a picture of 4 by 4 places.
+pub static TENS: [u8; 16] = [
+    0, 10, 20, 30, 40, 50, 60, 70, 80, 90, 100, 110, 120, 130, 140, 150,
+];
+
+/// The picture of 4 by 4 places with those samples.
+pub fn tens(alloc: Global, fails: Failing) -> Option<Shown> {
+    match Vec::from_slice(alloc, &TENS) {
+        Ok(samples) => of_samples(alloc, Dim { w: 4, h: 4 }, Samples::Eight(samples), fails),
+        Err(_) => None,
+    }
+}
+
+/// The name `a`.
+pub fn named(alloc: Global) -> Option<Name> {
+    match String::from_str(alloc, "a") {
+        Ok(text) if is_name(text.as_str()) => Name::new(text).ok(),
+        _ => None,
+    }
+}
+
+/// A quarter clockwise.
+pub const QUARTER: Turn = Turn {
+    mirror: false,
+    quarters: 1,
+};
+
+/// No turn.
+pub const UPRIGHT: Turn = Turn {
+    mirror: false,
+    quarters: 0,
+};
+
+/// The greatest room for a block's sums.
+pub const ROOM: u64 = 65_536;
+
+/// What a request comes to: the whole of a picture with these sides, scaled and turned.
+fn whole(dim: Dim, size: Dim, turn: Turn) -> Resolved {
+    Resolved {
+        rect: Rect {
+            x: 0,
+            y: 0,
+            w: dim.w,
+            h: dim.h,
+        },
+        size,
+        turn,
+        quality: Quality::Default,
+    }
+}
+
+/// The whole of a picture of this shape, scaled and turned, of tiles with this edge and blocks with such room; none where a condition
+/// isn't met.
+pub fn job(alloc: Global, shape: Shape, edge: u32, size: Dim, turn: Turn, room: u64) -> Option<Job>
+    ensures job { IfSome result IsJob }
+    ensures shape { IfSome result (λ j. j.shape ≡ shape) }
+{
+    let resolved = whole(shape.dim, size, turn);
+    let rect = resolved.rect;
+    let limits = 0 < edge && edge <= 1024 && resolved.turn.quarters < 4 && room <= ROOM;
+    if !(limits && rect.lies_in(shape.dim) && is_scalable(rect.dim(), resolved.size)) {
+        return None;
+    }
+    let Some(name) = named(alloc) else {
+        return None;
+    };
+    match Job::new(alloc, name, edge, shape, resolved, room) {
+        Ok(job) => Some(job),
+        Err(_) => None,
+    }
+}
