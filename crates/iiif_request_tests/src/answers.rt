@@ -8,7 +8,6 @@ use iiif_canonical::{
 use iiif_pixel::{Dim, Kind};
 use iiif_request::{Request, Target, Words, parse, split};
 use std::alloc::Global;
-use std::process::Abort;
 
 /// An image that words are read for, and how large its results may be.
 #[derive(Clone, Copy)]
@@ -125,9 +124,23 @@ fn is_so(alloc: Global, subject: Subject, line: &str) -> bool {
     }
 }
 
-/// That the text of each line comes to what stands behind it.
-pub fn compare(rt: &impl Abort, alloc: Global, subject: Subject, list: &str) {
+/// The first line whose text comes to something else.
+fn wrong_line(alloc: Global, subject: Subject, list: &'static str) -> Option<&'static str> {
     for line in list.lines() {
-        assert!(rt; is_so(alloc, subject, line), "{line}");
+        if !is_so(alloc, subject, line) {
+            return Some(line);
+        }
     }
+    None
+}
+
+/// The first such line of some lists.
+pub fn first_wrong(alloc: Global, lists: &[(Subject, &'static str)]) -> Option<&'static str> {
+    for (subject, list) in lists {
+        let wrong = wrong_line(alloc, *subject, list);
+        if wrong.is_some() {
+            return wrong;
+        }
+    }
+    None
 }

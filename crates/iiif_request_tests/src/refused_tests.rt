@@ -135,8 +135,20 @@ fn is_planned(
     }
 }
 
-/// Sides of squares, and their tiles: the whole image as it is, and at half its width; and its last tile, which stands alone.
-static PLANS: [(u32, u32, &[(u32, u32)]); 3] = [(0, 4, FOUR), (0, 2, &[]), (2, 2, &[(1, 1)])];
+/// The same, once more where memory was wanted.
+fn is_planned_again(alloc: Global, name: &Name, case: &Case) -> bool {
+    let (from, side, tiles) = *case;
+    match is_planned(alloc, name, from, side, tiles) {
+        Some(right) => right,
+        None => is_planned(alloc, name, from, side, tiles) == Some(true),
+    }
+}
+
+/// From where a square reaches, the side it is scaled to, and its tiles.
+type Case = (u32, u32, &'static [(u32, u32)]);
+
+/// The whole image as it is, and at half its width; and its last tile, which stands alone.
+static PLANS: [Case; 3] = [(0, 4, FOUR), (0, 2, &[]), (2, 2, &[(1, 1)])];
 
 #[test]
 fn plan_is_made_after_a_refused_growth(rt: HostRuntime) -> Result<(), Fail> {
@@ -145,13 +157,13 @@ fn plan_is_made_after_a_refused_growth(rt: HostRuntime) -> Result<(), Fail> {
         return Err("no name".into());
     }
     let name = Name::new(text)?;
-    for (from, side, tiles) in &PLANS {
-        let first = is_planned(rt.alloc(), &name, *from, *side, tiles);
-        let right = match first {
-            Some(right) => right,
-            None => is_planned(rt.alloc(), &name, *from, *side, tiles) == Some(true),
-        };
-        assert!(rt; right, "from {from}, {side} wide");
+    for case in &PLANS {
+        assert!(rt;
+            is_planned_again(rt.alloc(), &name, case),
+            "from {}, {} wide",
+            case.0,
+            case.1
+        );
     }
     Ok(())
 }
