@@ -12,7 +12,6 @@ use iiif_machine::{Event, WorldFault};
 use iiif_pixel::NoMemory;
 use iiif_world::world::World;
 use std::alloc::Global;
-use std::process::Abort;
 use std::test::Fail;
 
 /// The world that lines describe.
@@ -56,40 +55,48 @@ fn rows_again(alloc: Global, world: &World) -> Result<String, NoMemory> {
     }
 }
 
-/// An event that is allowed. Where memory is refused nothing has changed, and it is done when it comes again.
-fn step_again(rt: &impl Abort, alloc: Global, world: &mut World, event: &Event) -> Result<(), Fail>
+/// Whether the world's rows are as they were.
+fn has_rows(alloc: Global, world: &World, before: &str) -> Result<bool, NoMemory> {
+    Ok(rows(alloc, world)?.as_str() == before)
+}
+
+/// Whether an event is done that is allowed. Where memory is refused nothing has changed, and it is done when it comes again.
+fn is_done(alloc: Global, world: &mut World, event: &Event) -> Result<bool, NoMemory>
     requires sound { IsSoundWorld (world_of world.old) }
     requires short { IsShortEvent event.now }
     ensures { IsSoundWorld (world_of world.new) }
 {
     let before = rows_again(alloc, world)?;
     match world.step(event) {
-        Ok(()) => Ok(()),
-        Err(WorldFault::NotNow) => Err("an event isn't allowed".into()),
+        Ok(()) => Ok(true),
+        Err(WorldFault::NotNow) => Ok(false),
         Err(WorldFault::NoMemory) => {
-            assert_eq!(rt; rows(alloc, world)?.as_str(), before.as_str());
+            if !has_rows(alloc, world, before.as_str())? {
+                return Ok(false);
+            }
             match world.step(event) {
-                Ok(()) => Ok(()),
-                Err(_) => Err("an event is refused again".into()),
+                Ok(()) => Ok(true),
+                Err(_) => Ok(false),
             }
         }
     }
 }
 
-/// The answers after the events of lines, in the world that others describe.
-fn answers_after(
-    rt: &impl Abort,
-    alloc: Global,
-    world: &str,
-    events: &str,
-) -> Result<String, Fail> {
+/// Whether these are the answers of a world.
+fn has_answers(alloc: Global, world: &World, text: &str) -> Result<bool, NoMemory> {
+    Ok(answers(alloc, world)?.as_str() == text)
+}
+
+/// Whether these are the answers after the events of lines, in the world that others describe.
+fn answers_after(alloc: Global, world: &str, events: &str, text: &str) -> Result<bool, LineFault> {
     let mut world = begun_again(alloc, world)?;
     for line in events.split(';') {
         let event = event_of(alloc, line)?;
-        step_again(rt, alloc, &mut world, &event)?;
+        if !is_done(alloc, &mut world, &event)? {
+            return Ok(false);
+        }
     }
-    let text = answers(alloc, &world)?;
-    Ok(text)
+    Ok(has_answers(alloc, &world, text)?)
 }
 
 /// Two nodes, each of which owns all keys for the other.
@@ -104,11 +111,8 @@ pub(crate) const DEEP: &str =
 fn crossed_rings_go_on_after_a_refused_growth(rt: HostRuntime) -> Result<(), Fail> {
     let events =
         "want 0 p full max 0 default; want 1 p full max 0 default; enter 0; enter 1; again 0; again 1; ask_peer 0; ask_peer 1; serve 0; serve 1; enter 2; enter 3; again 2; again 3; load 2; load 3; land 2 kept; land 3 kept; reply 2; reply 3; take 0 0; take 1 1; land 0 kept; land 1 kept; serve 0; enter 4; reply 4; take 0 2";
-    let text = answers_after(&rt, rt.alloc(), CROSSED, events)?;
-    assert_eq!(rt;
-        text.as_str(),
-        "request 0: image gray 8 1 1 7\nrequest 1: image gray 8 1 1 7\n"
-    );
+    let text = "request 0: image gray 8 1 1 7\nrequest 1: image gray 8 1 1 7\n";
+    assert!(rt; answers_after(rt.alloc(), CROSSED, events, text)?);
     Ok(())
 }
 
@@ -116,11 +120,8 @@ fn crossed_rings_go_on_after_a_refused_growth(rt: HostRuntime) -> Result<(), Fai
 fn stopped_node_goes_on_after_a_refused_growth(rt: HostRuntime) -> Result<(), Fail> {
     let events =
         "want 0 p full max 0 default; enter 0; again 0; ask_peer 0; stop 0; want 0 p full max 0 default; enter 1; again 1; ask_peer 1; serve 0; enter 2; again 2; load 2; land 2 kept; reply 2; take 0 0; take 1 0; land 1 kept";
-    let text = answers_after(&rt, rt.alloc(), CROSSED, events)?;
-    assert_eq!(rt;
-        text.as_str(),
-        "request 0: none\nrequest 1: image gray 8 1 1 7\n"
-    );
+    let text = "request 0: none\nrequest 1: image gray 8 1 1 7\n";
+    assert!(rt; answers_after(rt.alloc(), CROSSED, events, text)?);
     Ok(())
 }
 
@@ -128,11 +129,8 @@ fn stopped_node_goes_on_after_a_refused_growth(rt: HostRuntime) -> Result<(), Fa
 fn lost_ask_and_fault_go_on_after_a_refused_growth(rt: HostRuntime) -> Result<(), Fail> {
     let events =
         "want 0 p full max 0 default; enter 0; again 0; ask_peer 0; lose 0; go_local 0; enter 1; again 1; load 1; land 1 kept; land 0 kept; evict 0 tile p 1 0 0; want 0 p full max 0 default; enter 2; again 2; ask_peer 2; lose 2; go_local 2; enter 3; again 3; source_fault 3 8 3; land 3 kept; land 2 kept";
-    let text = answers_after(&rt, rt.alloc(), DEEP, events)?;
-    assert_eq!(rt;
-        text.as_str(),
-        "request 0: image gray 16 1 1 700\nrequest 1: fault 8 3\n"
-    );
+    let text = "request 0: image gray 16 1 1 700\nrequest 1: fault 8 3\n";
+    assert!(rt; answers_after(rt.alloc(), DEEP, events, text)?);
     Ok(())
 }
 
@@ -142,10 +140,7 @@ fn sums_go_on_after_a_refused_growth(rt: HostRuntime) -> Result<(), Fail> {
         "edge 2; picture a gray 8 4 4 0 10 20 30 40 50 60 70 80 90 100 110 120 130 140 150; node n 2 1000 8 n";
     let events =
         "want 0 a full 2, 0 default; enter 0; again 0; load 0; enter 1; enter 2; enter 3; enter 4; again 1; load 1; enter 5; again 2; load 2; enter 6; again 3; load 3; enter 7; again 4; load 4; enter 8; again 5; load 5; land 5 kept; load 1; land 1 kept; again 6; load 6; land 6 kept; load 2; land 2 kept; again 7; load 7; land 7 kept; load 3; land 3 kept; again 8; load 8; land 8 kept; load 4; land 4 kept; load 0; land 0 kept; want 0 a 4,0,1,1 max 0 default";
-    let text = answers_after(&rt, rt.alloc(), ramp, events)?;
-    assert_eq!(rt;
-        text.as_str(),
-        "request 0: image gray 8 2 2 25 45 105 125\nrequest 1: refused Empty\n"
-    );
+    let text = "request 0: image gray 8 2 2 25 45 105 125\nrequest 1: refused Empty\n";
+    assert!(rt; answers_after(rt.alloc(), ramp, events, text)?);
     Ok(())
 }

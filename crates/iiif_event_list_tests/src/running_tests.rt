@@ -15,7 +15,6 @@ use iiif_world::starting::{Setup, SetupFault};
 use iiif_world::stepping::run;
 use iiif_world::world::{Item, World};
 use std::alloc::Global;
-use std::test::Fail;
 
 fn add(events: &mut Vec<Event>, event: Event) -> Result<(), NoMemory>
     requires so_far { All IsShortEvent events.old.items }
@@ -81,7 +80,7 @@ fn stops_at(alloc: Global, world: &str, events: &str, place: usize) -> bool {
 }
 
 /// Worlds, lists of events and what they run to.
-const RUNS: [(&str, &str, &str); 4] = [
+static RUNS: [(&str, &str, &str); 4] = [
     (
         CROSSED,
         "want 0 p full max 0 default; want 1 p full max 0 default; enter 0; enter 1; again 0; again 1; ask_peer 0; ask_peer 1; serve 0; serve 1; enter 2; enter 3; again 2; again 3; load 2; load 3; land 2 kept; land 3 kept; reply 2; reply 3; take 0 0; take 1 1; land 0 kept; land 1 kept; serve 0; enter 4; reply 4; take 0 2",
@@ -102,13 +101,13 @@ const RUNS: [(&str, &str, &str); 4] = [
 
 #[test]
 fn lists_run_to_their_answers(rt: HostRuntime) {
-    for (world, events, answers) in RUNS {
+    for (world, events, answers) in RUNS.iter() {
         assert!(rt; runs_to(rt.alloc(), world, events, answers), "{events}");
     }
 }
 
 /// Worlds, lists of events and the place of the first that isn't allowed.
-const STOPS: [(&str, &str, usize); 3] = [
+static STOPS: [(&str, &str, usize); 3] = [
     (
         CROSSED,
         "want 0 p full max 0 default; enter 0; again 0; ask_peer 0; serve 0; enter 1; again 1; source_fault 1 8 3; land 1 kept; enter 1; load 1",
@@ -124,76 +123,144 @@ const STOPS: [(&str, &str, usize); 3] = [
 
 #[test]
 fn first_event_that_is_not_allowed_is_named(rt: HostRuntime) {
-    for (world, events, place) in STOPS {
-        assert!(rt; stops_at(rt.alloc(), world, events, place), "{events}");
+    for (world, events, place) in STOPS.iter() {
+        assert!(rt; stops_at(rt.alloc(), world, events, *place), "{events}");
     }
 }
 
-/// A node that names itself on its ring, or another.
-fn setup(alloc: Global, other: bool) -> Result<Setup, Fail> {
-    let text = String::from_str(alloc, "a")?;
+/// The name of a text that is one.
+fn name(alloc: Global, text: &str) -> Option<Name> {
+    let text = String::from_str(alloc, text).ok()?;
     if !is_name(text.as_str()) {
-        return Err("no name".into());
+        return None;
     }
+    Name::new(text).ok()
+}
+
+/// A ring that names one node.
+fn ring(alloc: Global, owner: &str) -> Option<Ring> {
+    let names = Vec::from_array(alloc, [String::from_str(alloc, owner).ok()?]).ok()?;
+    Ring::new(alloc, names).ok()
+}
+
+/// A node that names itself on its ring, or another.
+fn setup(alloc: Global, other: bool) -> Option<Setup> {
     let owner = if other { "b" } else { "a" };
-    let names = Vec::from_array(alloc, [String::from_str(alloc, owner)?])?;
-    Ok(Setup {
-        name: Name::new(text)?,
-        ring: Ring::new(alloc, names)?,
+    Some(Setup {
+        name: name(alloc, "a")?,
+        ring: ring(alloc, owner)?,
         version: 2,
         limit: 1000,
         room: 8,
     })
 }
 
-/// A picture without places, or one of a place, named p.
-fn item(alloc: Global, empty: bool) -> Result<Item, Fail> {
-    let text = String::from_str(alloc, "p")?;
-    if !is_name(text.as_str()) {
-        return Err("no name".into());
-    }
-    let name = Name::new(text)?;
+/// A picture without places, or one of a place.
+fn picture(alloc: Global, empty: bool) -> Option<Raster> {
     let samples = Vec::new(alloc);
     if empty {
-        let picture = Raster::from_samples(Dim { w: 0, h: 0 }, Kind::Gray, Samples::Eight(samples));
-        return Ok(Item { name, picture });
+        let none = Samples::Eight(samples);
+        return Some(Raster::from_samples(Dim { w: 0, h: 0 }, Kind::Gray, none));
     }
     let mut samples = samples;
-    samples.push(7u8)?;
-    let picture = Raster::from_samples(Dim { w: 1, h: 1 }, Kind::Gray, Samples::Eight(samples));
-    Ok(Item { name, picture })
+    samples.push(7u8).ok()?;
+    let one = Samples::Eight(samples);
+    Some(Raster::from_samples(Dim { w: 1, h: 1 }, Kind::Gray, one))
 }
 
-/// Why no world of one node and one picture begins so.
-fn fault_of(
-    alloc: Global,
+/// Such a picture, named p.
+fn item(alloc: Global, empty: bool) -> Option<Item> {
+    Some(Item {
+        name: name(alloc, "p")?,
+        picture: picture(alloc, empty)?,
+    })
+}
+
+/// A world of one node and one picture: a tile's side, the room of a plan, whether the picture is without places, whether the node
+/// isn't on its ring; and why none begins so.
+struct Start {
     edge: u32,
     room: u64,
     empty: bool,
     other: bool,
-) -> Result<Option<SetupFault>, Fail> {
-    let items = Vec::from_array(alloc, [item(alloc, empty)?])?;
-    let setups = Vec::from_array(alloc, [setup(alloc, other)?])?;
+    fault: Option<SetupFault>,
+}
+
+/// Why no world begins so.
+fn fault_of(alloc: Global, start: &Start) -> Option<Option<SetupFault>> {
+    let items = Vec::from_array(alloc, [item(alloc, start.empty)?]).ok()?;
+    let setups = Vec::from_array(alloc, [setup(alloc, start.other)?]).ok()?;
     let limits = Limits {
         max_w: 4096,
         max_h: 4096,
         upscale: false,
     };
-    Ok(World::new(alloc, items, edge, limits, room, setups).err())
+    Some(World::new(alloc, items, start.edge, limits, start.room, setups).err())
 }
 
-#[test]
-fn worlds_that_can_not_begin_have_their_first_fault(rt: HostRuntime) -> Result<(), Fail> {
-    for (edge, room, empty, other, fault) in [
-        (1u32, 65_536u64, false, false, None),
-        (1024, 0, false, false, None),
-        (0, 65_537, true, true, Some(SetupFault::Edge)),
-        (1025, 65_536, false, false, Some(SetupFault::Edge)),
-        (1, 65_537, true, true, Some(SetupFault::Room)),
-        (1, 65_536, true, true, Some(SetupFault::Picture)),
-        (1, 65_536, false, true, Some(SetupFault::Ring)),
-    ] {
-        assert_eq!(rt; fault_of(rt.alloc(), edge, room, empty, other)?, fault);
+/// Whether a world begins, or has the fault that it is to have.
+fn is_right(alloc: Global, start: &Start) -> bool {
+    match fault_of(alloc, start) {
+        Some(fault) => fault == start.fault,
+        None => false,
     }
-    Ok(())
+}
+
+static STARTS: [Start; 7] = [
+    Start {
+        edge: 1,
+        room: 65_536,
+        empty: false,
+        other: false,
+        fault: None,
+    },
+    Start {
+        edge: 1024,
+        room: 0,
+        empty: false,
+        other: false,
+        fault: None,
+    },
+    Start {
+        edge: 0,
+        room: 65_537,
+        empty: true,
+        other: true,
+        fault: Some(SetupFault::Edge),
+    },
+    Start {
+        edge: 1025,
+        room: 65_536,
+        empty: false,
+        other: false,
+        fault: Some(SetupFault::Edge),
+    },
+    Start {
+        edge: 1,
+        room: 65_537,
+        empty: true,
+        other: true,
+        fault: Some(SetupFault::Room),
+    },
+    Start {
+        edge: 1,
+        room: 65_536,
+        empty: true,
+        other: true,
+        fault: Some(SetupFault::Picture),
+    },
+    Start {
+        edge: 1,
+        room: 65_536,
+        empty: false,
+        other: true,
+        fault: Some(SetupFault::Ring),
+    },
+];
+
+#[test]
+fn worlds_that_can_not_begin_have_their_first_fault(rt: HostRuntime) {
+    for (place, start) in STARTS.iter().enumerate() {
+        assert!(rt; is_right(rt.alloc(), start), "world {place}");
+    }
 }

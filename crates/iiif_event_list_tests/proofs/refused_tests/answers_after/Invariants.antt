@@ -3,7 +3,7 @@ use Rattle.iiif_event_list_tests.proofs.refused_tests.answers_after.Given as goa
 
 -- the world is sound
 abbrev pub invariant-loop-line : goal.invariant-loop-line
-invariant-loop-line g l =
-    (goal.iterator-loop-line g).can_next l.line-iterator
-    × (goal.iterator-loop-line g).is_finite l.line-iterator
+invariant-loop-line l =
+    (goal.iterator-loop-line).can_next l.line-iterator
+    × (goal.iterator-loop-line).is_finite l.line-iterator
     × IsSoundWorld (world_of l.world)
