@@ -3,7 +3,6 @@
 use iiif_image_list::{Fault, ImageList, LineFault};
 use std::alloc::Global;
 use std::process::Abort;
-use std::test::Fail;
 
 /// A call of a list, and what is to come of it.
 #[derive(Clone, Copy)]
@@ -73,7 +72,7 @@ fn run(rt: &impl Abort, alloc: Global, steps: &[Step]) {
     }
 }
 
-const WORDS: [Step; 13] = [
+static WORDS: [Step; 13] = [
     Step::Word("a=one.tif"),
     Step::Refused("b", Fault::Parts),
     Step::Refused("", Fault::Parts),
@@ -82,7 +81,7 @@ const WORDS: [Step; 13] = [
     Step::Word("b==two=.tif"),
     Step::Word(" a="),
     Step::Word("#=:sample"),
-    Step::Images(&IMAGES),
+    Step::Images(IMAGES),
     Step::Has("a", true),
     Step::Has("#", true),
     Step::Has("c", false),
@@ -90,39 +89,46 @@ const WORDS: [Step; 13] = [
 ];
 
 /// The images of these words.
-const IMAGES: [(&str, &str); 4] = [
+const IMAGES: &[(&str, &str)] = &[
     ("a", "one.tif"),
     ("b", "=two=.tif"),
     (" a", ""),
     ("#", ":sample"),
 ];
 
+/// Whether the pairs of a list are these images.
+fn makes_pairs(alloc: Global, list: ImageList<'_>, images: &[(&str, &str)]) -> bool {
+    match list.into_pairs(alloc) {
+        Ok(pairs) => pairs.as_slice() == images,
+        Err(_) => false,
+    }
+}
+
 /// Whether those steps, one after another, make the pairs of these images.
-fn make_pairs(alloc: Global, steps: &[Step], images: &[(&str, &str)]) -> Result<bool, Fail> {
+fn make_pairs(alloc: Global, steps: &[Step], images: &[(&str, &str)]) -> bool {
     let mut list = ImageList::new(alloc);
     for step in steps {
         if !is_right(&mut list, *step) {
-            return Ok(false);
+            return false;
         }
     }
-    Ok(list.into_pairs(alloc)?.as_slice() == images)
+    makes_pairs(alloc, list, images)
 }
 
 #[test]
-fn words_name_images_once(rt: HostRuntime) -> Result<(), Fail> {
-    run(&rt, rt.alloc(), &WORDS);
-    assert!(rt; make_pairs(rt.alloc(), &WORDS, &IMAGES)?);
-    Ok(())
+fn words_name_images_once(rt: HostRuntime) {
+    run(&rt, rt.alloc(), WORDS.as_slice());
+    assert!(rt; make_pairs(rt.alloc(), WORDS.as_slice(), IMAGES));
 }
 
 /// A word whose name has so many bytes.
-fn word_with_name_of(alloc: Global, bytes: u32) -> Result<String, Fail> {
+fn word_with_name_of(alloc: Global, bytes: u32) -> Option<String> {
     let mut word = String::new(alloc);
     for _ in 0..bytes {
-        word.push('n')?;
+        word.push('n').ok()?;
     }
-    word.push_str("=file.tif")?;
-    Ok(word)
+    word.push_str("=file.tif").ok()?;
+    Some(word)
 }
 
 /// Whether a word is refused for its name, and another is taken after it.
@@ -131,16 +137,20 @@ fn is_longer(alloc: Global, longer: &str, longest: &str) -> bool {
     list.add(longer) == Err(Fault::Name) && list.add(longest) == Ok(())
 }
 
+/// Whether a name of so many bytes is refused, and one of so many others is taken after it.
+fn goes_up_to(alloc: Global, longer: u32, longest: u32) -> Option<bool> {
+    let longer = word_with_name_of(alloc, longer)?;
+    let longest = word_with_name_of(alloc, longest)?;
+    Some(is_longer(alloc, longer.as_str(), longest.as_str()))
+}
+
 #[test]
-fn name_has_up_to_1024_bytes(rt: HostRuntime) -> Result<(), Fail> {
-    let longest = word_with_name_of(rt.alloc(), 1024)?;
-    let longer = word_with_name_of(rt.alloc(), 1025)?;
-    assert!(rt; is_longer(rt.alloc(), longer.as_str(), longest.as_str()));
-    Ok(())
+fn name_has_up_to_1024_bytes(rt: HostRuntime) {
+    assert!(rt; goes_up_to(rt.alloc(), 1025, 1024) == Some(true));
 }
 
 /// Texts, and the images that their lines name.
-const TEXTS: [(&str, &[(&str, &str)]); 7] = [
+static TEXTS: [(&str, &[(&str, &str)]); 7] = [
     ("", &[]),
     ("\n\r\n\n", &[]),
     ("# a=b\n#", &[]),
@@ -161,13 +171,13 @@ fn names(alloc: Global, text: &str, images: &[(&str, &str)]) -> bool {
 
 #[test]
 fn lines_of_a_text_name_images(rt: HostRuntime) {
-    for (text, images) in TEXTS {
+    for (text, images) in TEXTS.iter() {
         assert!(rt; names(rt.alloc(), text, images), "{text}");
     }
 }
 
 /// Texts, their first line at fault, and why it is, where there is an image named `first`.
-const FAULTS: [(&[u8], u64, Fault); 9] = [
+static FAULTS: [(&[u8], u64, Fault); 9] = [
     (b"first=x\n", 1, Fault::Twice),
     (b"a", 1, Fault::Parts),
     (b"a=b\n\n \nc=d", 3, Fault::Parts),
@@ -196,44 +206,58 @@ fn first_line_at_fault_is_told(rt: HostRuntime) {
     }
 }
 
+/// Whether a line's fault is written so.
+fn is_said(alloc: Global, fault: LineFault, text: &str) -> bool {
+    match format!(in alloc; "{fault}") {
+        Ok(said) => said.as_str() == text,
+        Err(_) => false,
+    }
+}
+
 #[test]
-fn faults_are_said_in_words(rt: HostRuntime) -> Result<(), Fail> {
+fn faults_are_said_in_words(rt: HostRuntime) {
     let fault = LineFault {
         line: 12,
         fault: Fault::Twice,
     };
-    let text = format!(in rt.alloc(); "{fault}")?;
-    assert!(rt; text.as_str() == "line 12: there is an image of that name");
-    Ok(())
+    assert!(rt; is_said(rt.alloc(), fault, "line 12: there is an image of that name"));
 }
+
+static WORDS_AGAIN: [Step; 4] = [
+    Step::WordAgain("a=b"),
+    Step::WordAgain("c=d"),
+    Step::WordAgain("e=f"),
+    Step::Images(&[("a", "b"), ("c", "d"), ("e", "f")]),
+];
 
 #[test]
 fn image_is_named_after_a_refused_growth(rt: HostRuntime) {
-    let steps = [
-        Step::WordAgain("a=b"),
-        Step::WordAgain("c=d"),
-        Step::WordAgain("e=f"),
-        Step::Images(&[("a", "b"), ("c", "d"), ("e", "f")]),
-    ];
-    run(&rt, rt.alloc(), &steps);
+    run(&rt, rt.alloc(), WORDS_AGAIN.as_slice());
 }
+
+static TEXT_AGAIN: [Step; 2] = [
+    Step::TextAgain(b"a=b\nc=d\n"),
+    Step::Images(&[("a", "b"), ("c", "d")]),
+];
 
 #[test]
 fn text_goes_on_after_a_refused_growth(rt: HostRuntime) {
-    let steps = [
-        Step::TextAgain(b"a=b\nc=d\n"),
-        Step::Images(&[("a", "b"), ("c", "d")]),
-    ];
-    run(&rt, rt.alloc(), &steps);
+    run(&rt, rt.alloc(), TEXT_AGAIN.as_slice());
+}
+
+/// Adds a line that names an image of this number.
+fn add_line(alloc: Global, text: &mut String, number: u32) -> Option<()> {
+    let line = format!(in alloc; "scan-{number}=/scans/{number}.tif\n").ok()?;
+    text.push_str(line.as_str()).ok()
 }
 
 /// A text that names the images `scan-0` to `scan-19999`.
-fn twenty_thousand_lines(alloc: Global) -> Result<String, Fail> {
+fn twenty_thousand_lines(alloc: Global) -> Option<String> {
     let mut text = String::new(alloc);
     for number in 0..20_000u32 {
-        text.push_str(format!(in alloc; "scan-{number}=/scans/{number}.tif\n")?.as_str())?;
+        add_line(alloc, &mut text, number)?;
     }
-    Ok(text)
+    Some(text)
 }
 
 /// Whether all images of that text are named, and no word names one of them again.
@@ -246,9 +270,15 @@ fn tells_them_apart(alloc: Global, text: &str) -> bool {
         && list.add("scan-20000=x") == Ok(())
 }
 
+/// Whether the names of that text are told apart.
+fn are_told_apart(alloc: Global) -> bool {
+    match twenty_thousand_lines(alloc) {
+        Some(text) => tells_them_apart(alloc, text.as_str()),
+        None => false,
+    }
+}
+
 #[test]
-fn twenty_thousand_names_are_told_apart(rt: HostRuntime) -> Result<(), Fail> {
-    let text = twenty_thousand_lines(rt.alloc())?;
-    assert!(rt; tells_them_apart(rt.alloc(), text.as_str()));
-    Ok(())
+fn twenty_thousand_names_are_told_apart(rt: HostRuntime) {
+    assert!(rt; are_told_apart(rt.alloc()));
 }

@@ -4,7 +4,6 @@ use iiif_io::fakes::{FailingReader, FailingWriter};
 use iiif_metrics::{CacheMetrics, Counts, Measure, Metrics, metrics_text, serve_metrics};
 use iiif_tables::Book;
 use std::alloc::Global;
-use std::test::Fail;
 
 /// Counters of which each has another value.
 #[derive(Drop)]
@@ -88,28 +87,37 @@ fn answered<R>(rt: &R, alloc: Global, input: &[u8]) -> Vec<u8> {
     out
 }
 
-#[test]
-fn the_text(rt: HostRuntime) -> Result<(), Fail> {
-    let text = metrics_text(rt.alloc(), &metrics())?;
-    assert!(rt; text.starts_with(TEXT.as_bytes()));
-    assert!(rt; text.ends_with(END.as_bytes()));
-    Ok(())
+/// Whether the text begins and ends so.
+fn is_text(alloc: Global, begin: &[u8], end: &[u8]) -> bool {
+    match metrics_text(alloc, &metrics()) {
+        Ok(text) => text.starts_with(begin) && text.ends_with(end),
+        Err(_) => false,
+    }
 }
 
 #[test]
-fn get_of_the_counters(rt: HostRuntime) -> Result<(), Fail> {
-    let out = answered(&rt, rt.alloc(), b"GET /metrics HTTP/1.1\r\nHost: a\r\n\r\n");
-    assert!(rt;
-        out.starts_with(
-            b"HTTP/1.1 200 OK\r\nContent-Type: text/plain; version=0.0.4\r\nContent-Length: "
-        )
-    );
-    assert!(rt; out.ends_with(END.as_bytes()));
-    Ok(())
+fn the_text(rt: HostRuntime) {
+    assert!(rt; is_text(rt.alloc(), TEXT.as_bytes(), END.as_bytes()));
+}
+
+/// What is written for a call of the counters, before their number of bytes.
+const HEAD: &[u8] =
+    b"HTTP/1.1 200 OK\r\nContent-Type: text/plain; version=0.0.4\r\nContent-Length: ";
+
+/// Whether what is written for this input begins and ends so.
+fn is_answered<R>(rt: &R, alloc: Global, input: &[u8], begin: &[u8], end: &[u8]) -> bool {
+    let out = answered(rt, alloc, input);
+    out.starts_with(begin) && out.ends_with(end)
+}
+
+#[test]
+fn get_of_the_counters(rt: HostRuntime) {
+    let input = b"GET /metrics HTTP/1.1\r\nHost: a\r\n\r\n".as_slice();
+    assert!(rt; is_answered(&rt, rt.alloc(), input, HEAD, END.as_bytes()));
 }
 
 /// Calls of another target, by another method and of no HTTP, and what is written for each.
-const REFUSED: [(&[u8], &[u8]); 3] = [
+static REFUSED: [(&[u8], &[u8]); 3] = [
     (
         b"GET / HTTP/1.1\r\n\r\n",
         b"HTTP/1.1 404 Not Found\r\nContent-Type: text/plain\r\nContent-Length: 0\r\nConnection: close\r\n\r\n",
@@ -124,46 +132,45 @@ const REFUSED: [(&[u8], &[u8]); 3] = [
     ),
 ];
 
+/// Whether just this is written for this input.
+fn is_written<R>(rt: &R, alloc: Global, input: &[u8], wanted: &[u8]) -> bool {
+    answered(rt, alloc, input).as_slice() == wanted
+}
+
 #[test]
 fn another_target_and_another_method(rt: HostRuntime) {
     for (place, (input, wanted)) in REFUSED.iter().enumerate() {
-        assert!(rt;
-            answered(&rt, rt.alloc(), input).as_slice() == *wanted,
-            "call {place}"
-        );
+        assert!(rt; is_written(&rt, rt.alloc(), input, wanted), "call {place}");
     }
 }
 
 /// Whether nothing is written where the third read of a call fails.
-fn is_unanswered<R>(rt: &R, alloc: Global) -> Result<bool, Fail> {
+fn is_unanswered<R>(rt: &R, alloc: Global) -> bool {
     let reader = FailingReader {
         left: b"GET /metrics HTTP/1.1\r\n\r\n",
         piece: 5,
         reads: 2,
     };
     let mut out = Vec::new(alloc);
-    serve_metrics(rt, alloc, &Fixed, reader, &mut out)?;
-    Ok(out.is_empty())
+    serve_metrics(rt, alloc, &Fixed, reader, &mut out).is_ok() && out.is_empty()
 }
 
 /// Whether a device with room for 20 bytes takes the first 20 of an answer.
-fn is_cut<R>(rt: &R, alloc: Global) -> Result<bool, Fail> {
+fn is_cut<R>(rt: &R, alloc: Global) -> bool {
     let mut out = FailingWriter {
         taken: Vec::new(alloc),
         room: 20,
         piece: 7,
     };
     let input = b"GET / HTTP/1.1\r\n\r\n".as_slice();
-    serve_metrics(rt, alloc, &Fixed, input, &mut out)?;
-    Ok(out.taken.as_slice() == b"HTTP/1.1 404 Not Fou".as_slice())
+    serve_metrics(rt, alloc, &Fixed, input, &mut out).is_ok()
+        && out.taken.as_slice() == b"HTTP/1.1 404 Not Fou".as_slice()
 }
 
 #[test]
-fn no_call_and_devices_that_fail(rt: HostRuntime) -> Result<(), Fail> {
-    for input in [b"".as_slice(), b"GET /metr"] {
-        assert!(rt; answered(&rt, rt.alloc(), input).is_empty());
-    }
-    assert!(rt; is_unanswered(&rt, rt.alloc())?);
-    assert!(rt; is_cut(&rt, rt.alloc())?);
-    Ok(())
+fn no_call_and_devices_that_fail(rt: HostRuntime) {
+    assert!(rt; is_written(&rt, rt.alloc(), b"", b""));
+    assert!(rt; is_written(&rt, rt.alloc(), b"GET /metr", b""));
+    assert!(rt; is_unanswered(&rt, rt.alloc()));
+    assert!(rt; is_cut(&rt, rt.alloc()));
 }
