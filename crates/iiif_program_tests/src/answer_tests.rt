@@ -158,7 +158,7 @@ const ONE_FILE: [&str; 4] = ["--base", BASE, "--one", WHOLE];
 /// Those before one target and its image, with tiles of 2 by 2.
 const ONE_TARGET: [&str; 5] = ["--base", BASE, "--edge", "2", "--one"];
 
-const GROUPS: [Group; 8] = [
+static GROUPS: [Group; 8] = [
     Group {
         files: &[],
         front: &[],
@@ -207,9 +207,9 @@ const GROUPS: [Group; 8] = [
 
 #[test]
 fn targets_are_answered(rt: HostRuntime) -> Result<(), Fail> {
-    for group in GROUPS {
+    for group in &GROUPS {
         written(&rt, group.files)?;
-        each_says(&rt, &group)?;
+        each_says(&rt, group)?;
     }
     Ok(())
 }

@@ -408,7 +408,7 @@ const BESIDE_A_LIST: [&str; 7] = [
 
 /// Images of a list come behind those of the words; lists, whose wrong line is named by its number; a list that can't be read; checks of
 /// all images; what to do about a wrong word; options that don't go together; limits on open files.
-const GROUPS: [Group; 13] = [
+static GROUPS: [Group; 13] = [
     Group {
         files: &LISTED,
         front: &["--base", BASE, "--images", "option_list", "--one"],
@@ -501,9 +501,9 @@ const GROUPS: [Group; 13] = [
 
 #[test]
 fn options_are_answered_or_told(rt: HostRuntime) -> Result<(), Fail> {
-    for group in GROUPS {
+    for group in &GROUPS {
         written(&rt, group.files)?;
-        each_says(&rt, &group)?;
+        each_says(&rt, group)?;
     }
     Ok(())
 }

@@ -218,7 +218,7 @@ const PEERS: [Case; 17] = [
 /// The words of one target.
 const ONE: [&str; 5] = ["--base", BASE, "--one", WHOLE, "a=:sample"];
 
-const GROUPS: [Group; 5] = [
+static GROUPS: [Group; 5] = [
     Group {
         files: &[],
         front: &[],
@@ -248,8 +248,8 @@ const GROUPS: [Group; 5] = [
 
 #[test]
 fn words_are_answered_or_the_first_wrong_one_is_named(rt: HostRuntime) -> Result<(), Fail> {
-    for group in GROUPS {
-        each_says(&rt, &group)?;
+    for group in &GROUPS {
+        each_says(&rt, group)?;
     }
     Ok(())
 }
