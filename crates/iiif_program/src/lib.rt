@@ -1,5 +1,6 @@
-//! The program as a library: its node, and what its words ask for, done. The words stand in `iiif_command_line`, the images that they
-//! name in `iiif_start`, the connections that the node serves in `iiif_connections`, the listeners in `iiif_services`.
+//! The program as a library: what its words ask for, done. The words stand in `iiif_command_line`, the images that they name in
+//! `iiif_start`, the node among others in `iiif_linked_node`, the connections that the node serves in `iiif_connections`, the listeners in
+//! `iiif_services`.
 #![tactic(auto)]
 
 pub use iiif_connections::{PeerCalls, Statistics, Times, Viewers, Watcher, serving, times};
@@ -7,7 +8,6 @@ pub use iiif_services::{Addresses, Listeners, listeners};
 pub use iiif_start::{Stop, Stored, Unfit, opening, stop, stored, unfit};
 
 mod hex;
-pub mod nodes;
 mod one;
 pub mod program;
 mod settings;

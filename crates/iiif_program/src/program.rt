@@ -8,7 +8,6 @@ ghost use Rattle.iiif_start.specs.Stored.{bytes_of, keeps_of, stored_gave};
 ghost use Rattle.iiif_answers.specs.Settings.{refusal_of};
 ghost use Rattle.iiif_program.specs.Lines.{settings_in};
 
-use crate::nodes::{Nodes, among};
 use crate::one::{answer_in_hex, answer_one};
 use crate::settings::{config, options_of};
 use clap::ArgMatches;
@@ -19,6 +18,7 @@ use iiif_connections::times::USUAL;
 use iiif_group::{Gate, Link};
 use iiif_io::Outlet;
 use iiif_keys::{SumKey, System, TileKey};
+use iiif_linked_node::{Nodes, among};
 use iiif_open_files::Opens;
 use iiif_server::{Catalogue, Config, Node};
 use iiif_services::Addresses;

@@ -1,4 +1,4 @@
-//! The program's node: one that asks no other, or one among others.
+//! The node among others, and what its groups are made with.
 
 ghost use Rattle.std.specs.Prelude.{◌≡◌, ◌<◌, ◌^◌, ℕ, List, Some, IfOk, length, false, vec_len};
 ghost use Rattle.iiif_source.specs.declared.ReadFault.{ReadFault};
