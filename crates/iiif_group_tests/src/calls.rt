@@ -7,9 +7,9 @@ ghost use Rattle.iiif_group.specs.Beginning.{open_key};
 ghost use Rattle.iiif_keys.specs.Meaning.{tile_is_shaped, tile_meaning};
 ghost use Rattle.iiif_outcome.specs.Outcomes.{is_given};
 
+use crate::doorways::Doorway;
 use crate::keys::{block_twice, tile};
-use crate::nodes::{Node, passes};
-use crate::scenes::ODD;
+use crate::nodes::Node;
 use iiif_group::{Begun, Open, boxed};
 use iiif_keys::{Fault, SumKey, SumVal, System, TileKey, TileVal};
 use iiif_outcome::Receipt;
@@ -23,7 +23,6 @@ use std::sync::{Arc, Wait};
 use std::time::Clock;
 
 /// How a value is called for.
-#[derive(Clone, Copy)]
 pub(crate) enum Call {
     Get,
     GetLocal,
@@ -35,7 +34,6 @@ pub(crate) enum Call {
 }
 
 /// What is done with a node.
-#[derive(Clone, Copy)]
 pub(crate) enum Step {
     /// The tile of `a` in this column and row is called for.
     Tile(Call, (u32, u32)),
@@ -45,51 +43,68 @@ pub(crate) enum Step {
     Mend,
 }
 
-/// The samples of a tile, or sums.
-#[derive(Clone, Copy, PartialEq, Eq)]
-pub(crate) enum Numbers {
-    One(u64),
-    Four([u64; 4]),
-    /// So many others, or none.
-    Others,
-}
+/// How many samples a tile has, or how many sums there are, and these: one, with nothing behind it, or four. Others are none.
+pub(crate) type Numbers = (usize, [u64; 4]);
+
+/// No numbers, or others.
+pub(crate) const NONE: Numbers = (0, [0, 0, 0, 0]);
 
 /// The sums of the whole of `a` at 2 by 2. Each sample counts 2 by 2 times: a sample of the source is 2 long where a place of the
 /// result is 4.
-pub(crate) const HALVED: Numbers = Numbers::Four([400, 720, 1680, 2000]);
+pub(crate) const HALVED: Numbers = (4, [400, 720, 1680, 2000]);
 
 /// The tiles (0, 0), (1, 0) and (1, 1) of `a`.
-pub(crate) const FIRST: Numbers = Numbers::Four([0, 10, 40, 50]);
+pub(crate) const FIRST: Numbers = (4, [0, 10, 40, 50]);
 
-pub(crate) const SECOND: Numbers = Numbers::Four([20, 30, 60, 70]);
+pub(crate) const SECOND: Numbers = (4, [20, 30, 60, 70]);
 
-pub(crate) const LAST: Numbers = Numbers::Four([100, 110, 140, 150]);
+pub(crate) const LAST: Numbers = (4, [100, 110, 140, 150]);
+
+/// A call for the sums of the whole of `a`.
+pub(crate) const WHOLE: Step = Step::Sums(Call::Get, 1, 0);
 
 /// What a step comes to.
 pub(crate) type Answer = Result<Numbers, Fault>;
 
+/// What a call for a tile comes to, and the ticket of the flight of which it is told, 0 where it is told of none.
+pub(crate) type Told = (u64, Answer);
+
 /// The samples of a tile.
 fn samples_of(value: &TileVal) -> Numbers {
     match value.raster.samples() {
-        Span::Eight([a, b, c, d]) => {
-            Numbers::Four([u64::from(*a), u64::from(*b), u64::from(*c), u64::from(*d)])
-        }
-        _ => Numbers::Others,
+        Span::Eight([a, b, c, d]) => (
+            4,
+            [u64::from(*a), u64::from(*b), u64::from(*c), u64::from(*d)],
+        ),
+        _ => NONE,
     }
 }
 
 fn sums_of(value: &SumVal) -> Numbers {
     match value.sums.sums() {
-        [a, b, c, d] => Numbers::Four([*a, *b, *c, *d]),
-        [sum] => Numbers::One(*sum),
-        _ => Numbers::Others,
+        [a, b, c, d] => (4, [*a, *b, *c, *d]),
+        [sum] => (1, [*sum, 0, 0, 0]),
+        _ => NONE,
     }
 }
 
-/// The samples of a receipt's tile, or its fault.
-pub(crate) fn told<J: System>(receipt: &mut Receipt<TileKey, J>) -> Answer {
+/// What a receipt tells, or why there is none.
+fn told<J: System>(came: Result<Receipt<TileKey, J>, Fault>) -> Told {
+    let mut receipt = match came {
+        Ok(receipt) => receipt,
+        Err(fault) => return (0, Err(fault)),
+    };
+    let ticket = receipt.ticket();
     match receipt.outcome() {
-        Ok(value) => Ok(samples_of(value)),
+        Ok(value) => (ticket, Ok(samples_of(value))),
+        Err(fault) => (ticket, Err(*fault)),
+    }
+}
+
+/// The same of sums.
+fn sums_told<J: System>(came: Result<Receipt<SumKey, J>, Fault>) -> Answer {
+    match came?.outcome() {
+        Ok(value) => Ok(sums_of(value)),
         Err(fault) => Err(*fault),
     }
 }
@@ -155,99 +170,57 @@ fn begun<R: Net<Stream = TcpStream> + Wait + Clock, J: System>(
     }
 }
 
-/// A call for a tile that is counted: no load.
+/// What a call for a tile, or its load, comes to.
 pub(crate) fn called<R: Net<Stream = TcpStream> + Wait + Clock, J: System>(
     rt: &R,
     alloc: Global,
     node: &Node<'_, R, J>,
     pass: &mut Pass<TileCalls<J>>,
-    call: Call,
+    call: &Call,
     at: (u32, u32),
-) -> Result<Receipt<TileKey, J>, Fault> {
-    let key = tile(alloc, "a", at)?;
-    match call {
-        Call::Get => node.tiles().get(rt, pass, &key),
-        Call::GetLocal => node.tiles().get_local(rt, pass, &key),
-        Call::Begin => begun(rt, alloc, node, pass, false, &key),
-        Call::BeginLocal => begun(rt, alloc, node, pass, true, &key),
-        Call::Load => Err(Fault::BadKey),
-    }
-}
-
-/// What a call for a tile, or its load, comes to.
-fn tile_asked<R: Net<Stream = TcpStream> + Wait + Clock, J: System>(
-    rt: &R,
-    alloc: Global,
-    node: &Node<'_, R, J>,
-    pass: &mut Pass<TileCalls<J>>,
-    call: Call,
-    at: (u32, u32),
-) -> Answer {
-    if let Call::Load = call {
-        let value = node.tiles().load(rt, &tile(alloc, "a", at)?)?;
-        return Ok(samples_of(&value));
-    }
-    told(&mut called(rt, alloc, node, pass, call, at)?)
-}
-
-/// What the load of sums comes to.
-fn sums_loaded<R: Net<Stream = TcpStream> + Wait + Clock, J: System>(
-    rt: &R,
-    node: &Node<'_, R, J>,
-    passes: &mut Passes<J>,
-    key: &SumKey,
-) -> Answer {
-    match node.load(rt, passes, key) {
-        Ok(value) => Ok(sums_of(&value)),
-        Err(fault) => Err(fault),
-    }
-}
-
-/// What a call for sums, by their owner or by this node alone, comes to.
-fn sums_called<R: Net<Stream = TcpStream> + Wait + Clock, J: System>(
-    rt: &R,
-    node: &Node<'_, R, J>,
-    passes: &mut Passes<J>,
-    is_local: bool,
-    key: &SumKey,
-) -> Answer {
-    let came = if is_local {
-        node.get_local(rt, passes, key)
-    } else {
-        node.get(rt, passes, key)
+) -> Told {
+    let key = match tile(alloc, "a", at) {
+        Ok(key) => key,
+        Err(fault) => return (0, Err(fault)),
     };
-    match came?.outcome() {
-        Ok(value) => Ok(sums_of(value)),
-        Err(fault) => Err(*fault),
+    match call {
+        Call::Get => told(node.tiles().get(rt, pass, &key)),
+        Call::GetLocal => told(node.tiles().get_local(rt, pass, &key)),
+        Call::Begin => told(begun(rt, alloc, node, pass, false, &key)),
+        Call::BeginLocal => told(begun(rt, alloc, node, pass, true, &key)),
+        Call::Load => match node.tiles().load(rt, &key) {
+            Ok(value) => (0, Ok(samples_of(&value))),
+            Err(fault) => (0, Err(fault)),
+        },
     }
 }
 
 /// What a call for sums, or their load, comes to.
-fn sums_asked<R: Net<Stream = TcpStream> + Wait + Clock, J: System>(
+fn sums_called<R: Net<Stream = TcpStream> + Wait + Clock, J: System>(
     rt: &R,
     alloc: Global,
     node: &Node<'_, R, J>,
     passes: &mut Passes<J>,
-    call: Call,
+    call: &Call,
     place: (u8, u32),
 ) -> Answer {
     let key = block_twice(alloc, place.0, place.1)?;
     match call {
-        Call::Get => sums_called(rt, node, passes, false, &key),
-        Call::GetLocal => sums_called(rt, node, passes, true, &key),
-        Call::Load => sums_loaded(rt, node, passes, &key),
+        Call::Get => sums_told(node.get(rt, passes, &key)),
+        Call::GetLocal => sums_told(node.get_local(rt, passes, &key)),
+        Call::Load => match node.load(rt, passes, &key) {
+            Ok(value) => Ok(sums_of(&value)),
+            Err(fault) => Err(fault),
+        },
         Call::Begin | Call::BeginLocal => Err(Fault::BadKey),
     }
 }
 
-/// Mends the source of `a`.
-pub(crate) fn mend<R: Clock, J: System>(node: &Node<'_, R, J>) -> Answer {
+/// The source of `a`.
+pub(crate) fn source<'a, R: Clock, J: System>(node: &'a Node<'_, R, J>) -> Option<&'a Doorway> {
     match node.tiles().images().catalogue().find("a") {
-        Some(entry) => {
-            entry.source.inner.mend();
-            Ok(Numbers::Others)
-        }
-        None => Err(Fault::UnknownName),
+        Some(entry) => Some(&entry.source),
+        None => None,
     }
 }
 
@@ -257,24 +230,17 @@ pub(crate) fn asked<R: Net<Stream = TcpStream> + Wait + Clock, J: System>(
     alloc: Global,
     node: &Node<'_, R, J>,
     passes: &mut Passes<J>,
-    step: Step,
+    step: &Step,
 ) -> Answer {
     match step {
-        Step::Tile(call, at) => tile_asked(rt, alloc, node, &mut passes.tile, call, at),
-        Step::Sums(call, level, bx) => sums_asked(rt, alloc, node, passes, call, (level, bx)),
-        Step::Mend => mend(node),
-    }
-}
-
-/// The same with passes of its own.
-pub(crate) fn asked_alone<R: Net<Stream = TcpStream> + Wait + Clock, J: System>(
-    rt: &R,
-    alloc: Global,
-    node: &Node<'_, R, J>,
-    step: Step,
-) -> Answer {
-    match passes(rt, node) {
-        Some(mut passes) => asked(rt, alloc, node, &mut passes, step),
-        None => Err(ODD),
+        Step::Tile(call, at) => called(rt, alloc, node, &mut passes.tile, call, *at).1,
+        Step::Sums(call, level, bx) => sums_called(rt, alloc, node, passes, call, (*level, *bx)),
+        Step::Mend => match source(node) {
+            Some(source) => {
+                source.inner.mend();
+                Ok(NONE)
+            }
+            None => Err(Fault::UnknownName),
+        },
     }
 }

@@ -3,9 +3,10 @@
 
 use crate::bars::Bar;
 use crate::calls::{Call, LAST, Step};
+use crate::cases::{Case, first_wrong};
 use crate::crossings::Crossing;
 use crate::messages::{CHANGED, OTHER, RIGHT, WIDE};
-use crate::nodes::{Owner, Setup, set_up};
+use crate::nodes::{Owner, Setup};
 use crate::peers::{LIMIT, Way};
 use crate::runs::Stages;
 use crate::scenes::{QUIET, Scene, Seen, played};
@@ -20,65 +21,13 @@ use std::thread;
 use std::thread::Threads;
 use std::time::{Clock, Duration, Instant};
 
-/// What is seen of a node that is served by that listener and asks the other's.
-fn crossing<R>(
-    rt: &R,
-    alloc: Global,
-    listeners: (&TcpListener, &TcpListener),
-    done: (&Bar, &Bar),
-) -> Result<Seen, Fault>
-where
-    R: Net<Listener = TcpListener, Stream = TcpStream> + Threads + Wait + Clock + Send + Sync,
-{
-    let open = Bar::new(true);
-    let setup = Setup {
-        way: Way::Tcp(listeners.1),
-        ..set_up(Owner::Refuses, 99, &open, &open)
-    };
-    let crossing = Crossing {
-        listener: listeners.0,
-        done: done.0,
-        others: done.1,
-    };
-    played(rt, alloc, setup, Scene::Crosses(crossing))
-}
-
-/// What is seen of two nodes with crossed rings that are asked at once while they serve each other.
-fn both<R>(
-    rt: &R,
-    alloc: Global,
-    first: &TcpListener,
-    second: &TcpListener,
-) -> (Result<Seen, Fault>, Result<Seen, Fault>)
-where
-    R: Net<Listener = TcpListener, Stream = TcpStream> + Threads + Wait + Clock + Send + Sync,
-{
-    let one = Bar::new(false);
-    let two = Bar::new(false);
-    thread::join(
-        rt,
-        || crossing(rt, alloc, (first, second), (&one, &two)),
-        || crossing(rt, alloc, (second, first), (&two, &one)),
-    )
-}
-
-/// How many values a node took from its peer.
-fn taken(seen: &Seen) -> u64 {
-    seen.books.0.peer.saturating_add(seen.books.1.peer)
-}
-
-#[test]
-fn crossed_nodes_answer_rightly_at_once(rt: HostRuntime) -> Result<(), Fail> {
-    let first = TcpListener::bind(&rt, "127.0.0.1:0")?;
-    let second = TcpListener::bind(&rt, "127.0.0.1:0")?;
-    let start = Instant::now(&rt)?;
-    let (one, two) = both(&rt, rt.alloc(), &first, &second);
-    // Before an ask runs out of time.
-    assert!(rt; start.elapsed(&rt)? < Duration::from_millis(LIMIT));
-    let (one, two) = (one?, two?);
-    assert!(rt; one.is_right && two.is_right);
-    assert!(rt; taken(&one) > 0 || taken(&two) > 0);
-    Ok(())
+/// What one of two threads does.
+#[derive(Drop)]
+enum Side<'a> {
+    /// A node is set up for a scene.
+    Plays(Setup<'a>, &'static Scene),
+    /// One ask is taken, and these bytes are sent.
+    Sends(&'a TcpListener, &'static [u8]),
 }
 
 /// Takes one ask, and sends these bytes.
@@ -90,56 +39,159 @@ fn send_once(alloc: Global, listener: &TcpListener, reply: &[u8]) {
     }
 }
 
-/// The tile (1, 1) of `a`.
-const TILE: Stages = Stages {
-    first: &[(Step::Tile(Call::Get, (1, 1)), Ok(LAST))],
-    then: &[],
-    hands_in: false,
-};
-
-/// What is seen of a call at a node whose peer owns every key and replies so.
-fn replied<R>(rt: &R, alloc: Global, listener: &TcpListener, reply: &[u8]) -> Result<Seen, Fault>
+/// What is seen of a side.
+fn seen_of<R>(rt: &R, alloc: Global, side: &Side<'_>) -> Result<Seen, Fault>
 where
     R: Net<Listener = TcpListener, Stream = TcpStream> + Threads + Wait + Clock + Send + Sync,
 {
-    let open = Bar::new(true);
-    let setup = Setup {
-        way: Way::Tcp(listener),
-        ..set_up(Owner::Refuses, 99, &open, &open)
+    match side {
+        Side::Plays(setup, scene) => played(rt, alloc, setup, scene),
+        Side::Sends(listener, reply) => {
+            send_once(alloc, listener, reply);
+            Ok(QUIET)
+        }
+    }
+}
+
+/// What is seen of two sides at once.
+fn both<R>(
+    rt: &R,
+    alloc: Global,
+    one: &Side<'_>,
+    other: &Side<'_>,
+) -> (Result<Seen, Fault>, Result<Seen, Fault>)
+where
+    R: Net<Listener = TcpListener, Stream = TcpStream> + Threads + Wait + Clock + Send + Sync,
+{
+    thread::join(rt, || seen_of(rt, alloc, one), || seen_of(rt, alloc, other))
+}
+
+/// A node that asks who listens there for every key.
+fn setup<'a>(peer: &'a TcpListener, gate: &'a Bar, crossing: Option<Crossing<'a>>) -> Setup<'a> {
+    Setup {
+        fuse: 99,
+        meets: false,
+        stands: false,
+        way: Way::Tcp(peer),
+        gate,
+        crossing,
+    }
+}
+
+static CROSSES: Scene = Scene::Crosses;
+
+/// What is seen of two nodes with crossed rings that are asked at once while they serve each other.
+fn crossed<R>(
+    rt: &R,
+    alloc: Global,
+    first: &TcpListener,
+    second: &TcpListener,
+) -> (Result<Seen, Fault>, Result<Seen, Fault>)
+where
+    R: Net<Listener = TcpListener, Stream = TcpStream> + Threads + Wait + Clock + Send + Sync,
+{
+    let (open, one, two) = (Bar::new(true), Bar::new(false), Bar::new(false));
+    let near = Crossing {
+        listener: first,
+        done: &one,
+        others: &two,
     };
-    let ((), seen) = thread::join(
+    let far = Crossing {
+        listener: second,
+        done: &two,
+        others: &one,
+    };
+    both(
         rt,
-        || send_once(alloc, listener, reply),
-        || played(rt, alloc, setup, Scene::Runs(TILE)),
-    );
-    seen
+        alloc,
+        &Side::Plays(setup(second, &open, Some(near)), &CROSSES),
+        &Side::Plays(setup(first, &open, Some(far)), &CROSSES),
+    )
+}
+
+/// Whether a node took values from its peer.
+fn has_taken(seen: &Seen) -> bool {
+    seen.books.0.peer > 0 || seen.books.1.peer > 0
+}
+
+#[test]
+fn crossed_nodes_answer_rightly_at_once(rt: HostRuntime) -> Result<(), Fail> {
+    let first = TcpListener::bind(&rt, "127.0.0.1:0")?;
+    let second = TcpListener::bind(&rt, "127.0.0.1:0")?;
+    let start = Instant::now(&rt)?;
+    let (one, two) = crossed(&rt, rt.alloc(), &first, &second);
+    // Before an ask runs out of time.
+    let in_time = start.elapsed(&rt)? < Duration::from_millis(LIMIT);
+    let (one, two) = (one?, two?);
+    let has_taken = has_taken(&one) || has_taken(&two);
+    let came = [in_time, one.is_right, two.is_right, has_taken];
+    assert!(rt; came == [true; 4], "{came:?}");
+    Ok(())
+}
+
+/// The tile (1, 1) of `a`.
+static TILE: Scene = Scene::Runs(Stages {
+    first: &[(Step::Tile(Call::Get, (1, 1)), Ok(LAST))],
+    then: &[],
+    hands_in: false,
+});
+
+/// Whether a node whose peer owns every key and replies so answers a call rightly, and how many values it took from its peer.
+fn replied<R>(rt: &R, alloc: Global, reply: &'static [u8]) -> Option<(bool, u64)>
+where
+    R: Net<Listener = TcpListener, Stream = TcpStream> + Threads + Wait + Clock + Send + Sync,
+{
+    let listener = TcpListener::bind(rt, "127.0.0.1:0").ok()?;
+    let open = Bar::new(true);
+    let peer = Side::Sends(&listener, reply);
+    let node = Side::Plays(setup(&listener, &open, None), &TILE);
+    let (_sent, seen) = both(rt, alloc, &peer, &node);
+    let seen = seen.ok()?;
+    Some((seen.is_right, seen.tiles.0.peer))
 }
 
 /// Replies of a peer, and how many of their values are taken.
-const REPLIES: [(&[u8], u64); 5] = [(CHANGED, 0), (OTHER, 0), (WIDE, 0), (b"", 0), (RIGHT, 1)];
+static REPLIES: [(&str, &'static [u8], u64); 5] = [
+    ("one with a changed byte", CHANGED, 0),
+    ("one for another tile", OTHER, 0),
+    ("one with a value of other sides", WIDE, 0),
+    ("no bytes", b"", 0),
+    ("the right one", RIGHT, 1),
+];
 
 #[test]
-fn peer_that_lies_leads_to_the_local_load(rt: HostRuntime) -> Result<(), Fail> {
-    for (reply, taken) in REPLIES {
-        let listener = TcpListener::bind(&rt, "127.0.0.1:0")?;
-        let seen = replied(&rt, rt.alloc(), &listener, reply)?;
-        assert!(rt; seen.is_right && seen.tiles.0.peer == taken, "{taken}");
+fn peer_that_lies_leads_to_the_local_load(rt: HostRuntime) {
+    for (what, reply, taken) in REPLIES.iter() {
+        assert!(rt;
+            replied(&rt, rt.alloc(), reply) == Some((true, *taken)),
+            "{what}"
+        );
     }
-    Ok(())
 }
 
-#[test]
-fn each_ask_gets_the_reply_of_its_key(rt: HostRuntime) -> Result<(), Fail> {
-    let open = Bar::new(true);
-    let setup = set_up(Owner::Refuses, 99, &open, &open);
-    assert!(rt; played(&rt, rt.alloc(), setup, Scene::Replies)? == QUIET);
-    Ok(())
-}
+static OTHERS: [Case; 2] = [
+    Case {
+        what: "Each ask gets the reply of its key.",
+        owner: Owner::Refuses,
+        fuse: 99,
+        reads_meet: false,
+        asks_meet: false,
+        scene: Scene::Replies,
+        seen: QUIET,
+    },
+    Case {
+        what: "65,536 passes are given out, and no more.",
+        owner: Owner::Itself,
+        fuse: 99,
+        reads_meet: false,
+        asks_meet: false,
+        scene: Scene::GivesOut(65_536),
+        seen: QUIET,
+    },
+];
 
 #[test]
-fn passes_are_65536(rt: HostRuntime) -> Result<(), Fail> {
-    let open = Bar::new(true);
-    let setup = set_up(Owner::Itself, 99, &open, &open);
-    assert!(rt; played(&rt, rt.alloc(), setup, Scene::GivesOut(65_536))? == QUIET);
-    Ok(())
+fn each_ask_gets_its_reply_and_passes_are_65536(rt: HostRuntime) {
+    let wrong = first_wrong(&rt, rt.alloc(), &OTHERS);
+    assert!(rt; wrong.is_empty(), "{wrong}");
 }

@@ -1,15 +1,17 @@
 //! Nodes that ask each other, and what a node replies to another.
 
+use crate::acts::served_beside;
 use crate::bars::Bar;
-use crate::calls::{Call, HALVED, Step, asked_alone};
+use crate::calls::{HALVED, WHOLE};
 use crate::doorways::Doorway;
+use crate::meetings::Asker;
 use crate::messages::EXCHANGES;
-use crate::nodes::{Node, books, passes};
+use crate::nodes::{Node, Setup, books, passes};
 use crate::peers::LIMIT;
 use crate::scenes::{ODD, QUIET, Seen};
 use iiif_io::fakes::FailingReader;
 use iiif_keys::{Fault, System};
-use iiif_listener::{Serve, serve_listener, stop};
+use iiif_listener::Serve;
 use iiif_peer_groups::Peers;
 use iiif_peer_server::serve_peer;
 use iiif_source::Source;
@@ -19,12 +21,11 @@ use std::alloc::Global;
 use std::net::{Net, TcpListener, TcpStream};
 use std::sync::Wait;
 use std::sync::ledger::Ledger;
-use std::thread;
 use std::thread::Threads;
 use std::time::{Clock, Duration};
 
 /// A node that serves another while it asks that one.
-#[derive(Clone, Copy)]
+#[derive(Drop)]
 pub(crate) struct Crossing<'a> {
     pub listener: &'a TcpListener,
     /// Is lifted once this node has its answer.
@@ -60,67 +61,63 @@ impl<'a, 'b, R: Net<Stream = TcpStream> + Wait + Clock, J: System> Serve<R> for 
     }
 }
 
-/// Whether a node answers the sums of the whole of `a` rightly. It is served until the other has its answer too.
-fn is_answered<R: Net<Stream = TcpStream> + Wait + Clock, J: System>(
-    rt: &R,
-    alloc: Global,
-    node: &Node<'_, R, J>,
-    crossing: Crossing<'_>,
-) -> bool {
-    let answer = asked_alone(rt, alloc, node, Step::Sums(Call::Get, 1, 0));
-    crossing.done.lift();
-    crossing.others.holds(rt);
-    stop(crossing.listener);
-    answer == Ok(HALVED)
-}
-
-/// What is seen of a node that is asked while it and another serve each other.
+/// What is seen of a node that is asked for the sums of the whole of `a` while it and another serve each other.
 pub(crate) fn crossed<R, J>(
     rt: &R,
     alloc: Global,
     node: &Node<'_, R, J>,
-    crossing: Crossing<'_>,
-) -> Seen
+    setup: &Setup<'_>,
+) -> Result<Seen, Fault>
 where
     R: Net<Listener = TcpListener, Stream = TcpStream> + Threads + Wait + Clock + Send + Sync,
     J: System + Send + Sync,
 {
-    let door = Door { node };
-    let (_served, is_right) = thread::join(
-        rt,
-        || serve_listener(rt, alloc, &door, crossing.listener).is_ok(),
-        || is_answered(rt, alloc, node, crossing),
-    );
-    Seen {
-        is_right,
+    let Some(crossing) = &setup.crossing else {
+        return Err(ODD);
+    };
+    let asker = Asker {
+        alloc,
+        node,
+        step: &WHOLE,
+        crossing: Some(crossing),
+    };
+    let answer = served_beside(rt, alloc, &Door { node }, crossing.listener, &asker);
+    Ok(Seen {
+        is_right: answer == Ok(HALVED),
         books: books(rt, node),
         ..QUIET
-    }
+    })
 }
 
-/// What a node writes for an input.
-fn served<R: Net<Stream = TcpStream> + Wait + Clock, J: System>(
+/// Whether a node writes these replies for these asks.
+fn is_replied<R: Net<Stream = TcpStream> + Wait + Clock, J: System>(
     rt: &R,
     alloc: Global,
     node: &Node<'_, R, J>,
     passes: &mut Passes<J>,
-    input: &[u8],
-) -> Vec<u8> {
+    asks: &[u8],
+    replies: &[u8],
+) -> bool {
     let mut out: Vec<u8> = Vec::new(alloc);
     let mut reader = FailingReader {
-        left: input,
+        left: asks,
         piece: 7,
         reads: 1_000_000,
     };
-    serve_peer(
-        rt,
-        alloc,
-        &Peers { groups: node },
-        passes,
-        &mut reader,
-        &mut out,
-    );
-    out
+    let peers = Peers { groups: node };
+    serve_peer(rt, alloc, &peers, passes, &mut reader, &mut out);
+    out.as_slice() == replies
+}
+
+/// All asks, one behind another, and all replies. None where memory was wanted.
+fn all_exchanges(alloc: Global) -> Option<(Vec<u8>, Vec<u8>)> {
+    let mut asks: Vec<u8> = Vec::new(alloc);
+    let mut replies: Vec<u8> = Vec::new(alloc);
+    for exchange in EXCHANGES.iter() {
+        asks.extend_from_slice(exchange.ask).ok()?;
+        replies.extend_from_slice(exchange.reply).ok()?;
+    }
+    Some((asks, replies))
 }
 
 /// Each ask alone gets its reply; and all of them in one connection get theirs in order.
@@ -130,20 +127,11 @@ pub(crate) fn serves<R: Net<Stream = TcpStream> + Wait + Clock, J: System>(
     node: &Node<'_, R, J>,
 ) -> Result<Seen, Fault> {
     let mut passes = passes(rt, node).ok_or(ODD)?;
-    let mut asks: Vec<u8> = Vec::new(alloc);
-    let mut replies: Vec<u8> = Vec::new(alloc);
     let mut is_right = true;
-    for exchange in EXCHANGES {
-        is_right &= served(rt, alloc, node, &mut passes, exchange.ask).as_slice() == exchange.reply;
-        if asks.extend_from_slice(exchange.ask).is_err()
-            || replies.extend_from_slice(exchange.reply).is_err()
-        {
-            return Err(Fault::NoMemory);
-        }
+    for exchange in EXCHANGES.iter() {
+        is_right &= is_replied(rt, alloc, node, &mut passes, exchange.ask, exchange.reply);
     }
-    let output = served(rt, alloc, node, &mut passes, asks.as_slice());
-    Ok(Seen {
-        is_right: is_right && output.as_slice() == replies.as_slice(),
-        ..QUIET
-    })
+    let (asks, replies) = all_exchanges(alloc).ok_or(Fault::NoMemory)?;
+    is_right &= is_replied(rt, alloc, node, &mut passes, &asks, &replies);
+    Ok(Seen { is_right, ..QUIET })
 }

@@ -1,11 +1,11 @@
 //! A node whose links fail after each number of bytes: what it answers is what it loads by itself.
 
 use crate::bars::Bar;
-use crate::calls::{Call, HALVED, LAST, Step};
+use crate::calls::{Call, HALVED, LAST, Step, WHOLE};
 use crate::messages::{Exchange, SUMS, TILE};
-use crate::nodes::{Owner, Setup, set_up};
+use crate::nodes::Setup;
 use crate::peers::Way;
-use crate::runs::{Stages, Steps};
+use crate::runs::Stages;
 use crate::scenes::{Scene, played};
 use iiif_keys::Fault;
 use std::alloc::Global;
@@ -16,51 +16,63 @@ use std::thread::Threads;
 use std::time::Clock;
 
 /// A value that another node owns.
-#[derive(Clone, Copy)]
-struct Case {
+struct Cut {
     /// How it is asked for, and replied.
     exchange: Exchange,
     /// The call, and the value that the node's own image has.
-    steps: Steps,
+    scene: Scene,
     is_tile: bool,
     /// How many flights land where no ask gives a value: two of each key, that whose owner was asked in vain and the load's own.
     loads: u64,
 }
 
 /// The sums are those of four tiles, each of which is a key of its own: five keys in all.
-const CASES: [Case; 2] = [
-    Case {
+static CUTS: [Cut; 2] = [
+    Cut {
         exchange: TILE,
-        steps: &[(Step::Tile(Call::Get, (1, 1)), Ok(LAST))],
+        scene: Scene::Runs(Stages {
+            first: &[(Step::Tile(Call::Get, (1, 1)), Ok(LAST))],
+            then: &[],
+            hands_in: false,
+        }),
         is_tile: true,
         loads: 2,
     },
-    Case {
+    Cut {
         exchange: SUMS,
-        steps: &[(Step::Sums(Call::Get, 1, 0), Ok(HALVED))],
+        scene: Scene::Runs(Stages {
+            first: &[(WHOLE, Ok(HALVED))],
+            then: &[],
+            hands_in: false,
+        }),
         is_tile: false,
         loads: 10,
     },
 ];
 
 /// Whether a node whose links fail after so many bytes answers the value that its image has; how many values of that kind it took from
-/// its peer; and how many flights landed there.
-fn answered<R>(rt: &R, alloc: Global, case: Case, bytes: usize) -> Result<(bool, u64, u64), Fault>
+/// its peer; and how many flights landed there. The writer fails first; where the ask has no more bytes, it is the reader that fails
+/// after the rest.
+fn answered<R>(rt: &R, alloc: Global, cut: &Cut, bytes: usize) -> Result<(bool, u64, u64), Fault>
 where
     R: Net<Listener = TcpListener, Stream = TcpStream> + Threads + Wait + Clock + Send + Sync,
 {
     let open = Bar::new(true);
+    let (asked, reply) = (cut.exchange.ask.len(), cut.exchange.reply);
     let setup = Setup {
-        way: Way::Cut(case.exchange, bytes),
-        ..set_up(Owner::Refuses, 99, &open, &open)
+        fuse: 99,
+        meets: false,
+        stands: false,
+        way: Way::Cut {
+            reply,
+            reads: bytes.checked_sub(asked).unwrap_or(reply.len()),
+            room: bytes,
+        },
+        gate: &open,
+        crossing: None,
     };
-    let stages = Stages {
-        first: case.steps,
-        then: &[],
-        hands_in: false,
-    };
-    let seen = played(rt, alloc, setup, Scene::Runs(stages))?;
-    let book = if case.is_tile {
+    let seen = played(rt, alloc, &setup, &cut.scene)?;
+    let book = if cut.is_tile {
         seen.tiles.0
     } else {
         seen.sums.0
@@ -70,18 +82,18 @@ where
 
 /// The first number of bytes after which a link fails and the node doesn't do as it has to, if there is one. Over a link that gives
 /// all bytes it takes the value.
-fn first_wrong<R>(rt: &R, alloc: Global, case: Case) -> Result<Option<usize>, Fault>
+fn first_wrong<R>(rt: &R, alloc: Global, cut: &Cut) -> Result<Option<usize>, Fault>
 where
     R: Net<Listener = TcpListener, Stream = TcpStream> + Threads + Wait + Clock + Send + Sync,
 {
-    let all = case.exchange.ask.len() + case.exchange.reply.len();
+    let all = cut.exchange.ask.len() + cut.exchange.reply.len();
     for bytes in 0..=all {
         let wanted = if bytes < all {
-            (true, 0, case.loads)
+            (true, 0, cut.loads)
         } else {
             (true, 1, 1)
         };
-        if answered(rt, alloc, case, bytes)? != wanted {
+        if answered(rt, alloc, cut, bytes)? != wanted {
             return Ok(Some(bytes));
         }
     }
@@ -90,9 +102,9 @@ where
 
 #[test]
 fn value_is_loaded_here_wherever_a_link_fails(rt: HostRuntime) -> Result<(), Fail> {
-    for case in CASES {
-        let wrong = first_wrong(&rt, rt.alloc(), case)?;
-        assert!(rt; wrong == None, "{}: {wrong:?}", case.exchange.what);
+    for cut in CUTS.iter() {
+        let wrong = first_wrong(&rt, rt.alloc(), cut)?;
+        assert!(rt; wrong == None, "{}: {wrong:?}", cut.exchange.what);
     }
     Ok(())
 }

@@ -4,9 +4,13 @@
 #![tactic(auto)]
 
 #[cfg(test)]
+mod acts;
+#[cfg(test)]
 mod bars;
 #[cfg(test)]
 mod calls;
+#[cfg(test)]
+mod cases;
 #[cfg(test)]
 mod crossed_tests;
 #[cfg(test)]

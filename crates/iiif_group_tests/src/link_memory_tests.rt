@@ -10,189 +10,192 @@ use iiif_keys::{CacheKey, Shape, SumKey, TileKey};
 use iiif_peer_link::{ask_over, sum_over, tile_over};
 use iiif_peer_wire::{Version, WireFault};
 use std::alloc::Global;
-use std::test::Fail;
 
-/// What an ask has to give: the bytes of its value, or the fault.
-type Wanted<'a> = Result<&'a [u8], LinkFault>;
-
-/// A reader of these bytes that fails after so many reads, each of at most so many bytes.
-fn reader(bytes: &[u8], piece: usize, reads: usize) -> FailingReader<'_> {
-    FailingReader {
-        left: bytes,
-        piece,
-        reads,
-    }
+/// Whose value is asked for.
+enum Of {
+    /// The tile of 16 bits.
+    Deep,
+    Tile,
+    Sum,
 }
 
-/// A writer with so much room.
-fn writer(alloc: Global, room: usize) -> FailingWriter {
-    FailingWriter {
-        taken: Vec::new(alloc),
-        room,
-        piece: 5,
-    }
-}
+/// What an ask gives: the bytes of its value, or the fault. None where the key doesn't fit, or memory was wanted.
+type Came = Option<Result<Vec<u8>, LinkFault>>;
 
-/// Whether an ask gave what it had to.
-fn is_wanted<K: CacheKey>(
-    alloc: Global,
-    value: Result<K::Value, LinkFault>,
-    wanted: Wanted<'_>,
-) -> Result<bool, Fail> {
-    match (value, wanted) {
-        (Ok(value), Ok(bytes)) => Ok(K::value_bytes(alloc, &value)?.as_slice() == bytes),
-        (Err(fault), Err(wanted)) => Ok(fault == wanted),
-        _ => Ok(false),
-    }
-}
-
-/// Whether an ask for a tile sends this and gives what it has to.
-fn tile_is(
+/// What an ask for a tile gives.
+fn tile_came(
     alloc: Global,
     key: &TileKey,
     shape: &Shape,
-    ends: (FailingReader<'_>, FailingWriter),
-    sent: &[u8],
-    wanted: Wanted<'_>,
-) -> Result<bool, Fail> {
+    input: &mut FailingReader<'_>,
+    out: &mut FailingWriter,
+) -> Came {
     if !key.fits(2, shape) {
-        return Err("the key doesn't fit".into());
+        return None;
     }
-    let (mut input, mut out) = ends;
-    let value = tile_over(alloc, &mut input, &mut out, key, shape);
-    Ok(out.taken.as_slice() == sent && is_wanted::<TileKey>(alloc, value, wanted)?)
+    match tile_over(alloc, input, out, key, shape) {
+        Ok(value) => Some(Ok(TileKey::value_bytes(alloc, &value).ok()?)),
+        Err(fault) => Some(Err(fault)),
+    }
 }
 
-/// The same of an ask for sums.
-fn sums_are(
+/// What an ask for sums gives.
+fn sum_came(
     alloc: Global,
     key: &SumKey,
     shape: &Shape,
-    ends: (FailingReader<'_>, FailingWriter),
-    sent: &[u8],
-    wanted: Wanted<'_>,
-) -> Result<bool, Fail> {
+    input: &mut FailingReader<'_>,
+    out: &mut FailingWriter,
+) -> Came {
     if !key.fits(2, shape) {
-        return Err("the key doesn't fit".into());
+        return None;
     }
-    let (mut input, mut out) = ends;
-    let value = sum_over(alloc, &mut input, &mut out, key, shape);
-    Ok(out.taken.as_slice() == sent && is_wanted::<SumKey>(alloc, value, wanted)?)
+    match sum_over(alloc, input, out, key, shape) {
+        Ok(value) => Some(Ok(SumKey::value_bytes(alloc, &value).ok()?)),
+        Err(fault) => Some(Err(fault)),
+    }
 }
 
-/// Whether an ask for the tile of 16 bits, over a writer with so much room, sends as much of it and gives what it has to.
-fn deep_is(
+/// What an ask gives.
+fn came(alloc: Global, of: &Of, input: &mut FailingReader<'_>, out: &mut FailingWriter) -> Came {
+    match of {
+        Of::Deep => tile_came(alloc, &tile(alloc, "g", (0, 0)).ok()?, &DEEP, input, out),
+        Of::Tile => tile_came(alloc, &tile(alloc, "a", (1, 1)).ok()?, &SAMPLE, input, out),
+        Of::Sum => sum_came(alloc, &block(alloc, 0, 0).ok()?, &SAMPLE, input, out),
+    }
+}
+
+/// Whether an ask, over a writer with so much room, sends as much of it, and a reply that is read so many bytes at a time and so often at
+/// most gives what it has to.
+fn is_right(
     alloc: Global,
-    input: FailingReader<'_>,
+    of: &Of,
+    reply: (&[u8], usize, usize),
     room: usize,
-    wanted: Wanted<'_>,
-) -> Result<bool, Fail> {
-    let key = tile(alloc, "g", (0, 0))?;
-    let (sent, _) = DEEP_ASK.split_at(room.min(DEEP_ASK.len()));
-    tile_is(
-        alloc,
-        &key,
-        &DEEP,
-        (input, writer(alloc, room)),
-        sent,
-        wanted,
-    )
+    wanted: Result<&[u8], LinkFault>,
+) -> bool {
+    let (left, piece, reads) = reply;
+    let mut input = FailingReader { left, piece, reads };
+    let mut out = FailingWriter {
+        taken: Vec::new(alloc),
+        room,
+        piece: 5,
+    };
+    let came = came(alloc, of, &mut input, &mut out);
+    let ask = match of {
+        Of::Deep => DEEP_ASK,
+        Of::Tile => TILE_ASK,
+        Of::Sum => SUM_ASK,
+    };
+    let (sent, _) = ask.split_at(room.min(ask.len()));
+    out.taken.as_slice() == sent
+        && match (came, wanted) {
+            (Some(Ok(value)), Ok(bytes)) => value.as_slice() == bytes,
+            (Some(Err(fault)), Err(wanted)) => fault == wanted,
+            _ => false,
+        }
 }
 
-/// Whether the right replies, read so many bytes at a time, give the values.
-fn all_are_right(alloc: Global, piece: usize) -> Result<bool, Fail> {
-    let deep = deep_is(
-        alloc,
-        reader(&DEEP_REPLY, piece, 1000),
-        100,
-        Ok(&DEEP_VALUE),
-    )?;
-    let ends = (reader(&TILE_REPLY, piece, 1000), writer(alloc, 100));
-    let key = tile(alloc, "a", (1, 1))?;
-    let tile = tile_is(alloc, &key, &SAMPLE, ends, &TILE_ASK, Ok(&TILE_VALUE))?;
-    let ends = (reader(&SUM_REPLY, piece, 1000), writer(alloc, 100));
-    let key = block(alloc, 0, 0)?;
-    let sums = sums_are(alloc, &key, &SAMPLE, ends, &SUM_ASK, Ok(&SUM_VALUE))?;
-    Ok(deep && tile && sums)
-}
-
-#[test]
-fn right_replies_give_the_values(rt: HostRuntime) -> Result<(), Fail> {
-    for piece in [1usize, 7, 4096] {
-        assert!(rt; all_are_right(rt.alloc(), piece)?, "{piece}");
-    }
-    Ok(())
-}
-
-const FAULTS: [(&[u8], LinkFault); 5] = [
-    (&DEEP_REPLY_ONE, LinkFault::Wire(WireFault::Magic)),
-    (&OTHER_REPLY, LinkFault::Wire(WireFault::Key)),
-    (&SHORT_VALUE_REPLY, LinkFault::Value),
-    (&UNKNOWN_REPLY, LinkFault::Refused(3)),
-    (&DEEP_ASK, LinkFault::Wire(WireFault::Magic)),
+/// Replies, how many bytes of them are read at a time, and what they give.
+static REPLIES: [(Of, &[u8], usize, Result<&[u8], LinkFault>); 14] = [
+    (Of::Deep, DEEP_REPLY, 1, Ok(DEEP_VALUE)),
+    (Of::Deep, DEEP_REPLY, 7, Ok(DEEP_VALUE)),
+    (Of::Deep, DEEP_REPLY, 4096, Ok(DEEP_VALUE)),
+    (Of::Tile, TILE_REPLY, 1, Ok(TILE_VALUE)),
+    (Of::Tile, TILE_REPLY, 7, Ok(TILE_VALUE)),
+    (Of::Tile, TILE_REPLY, 4096, Ok(TILE_VALUE)),
+    (Of::Sum, SUM_REPLY, 1, Ok(SUM_VALUE)),
+    (Of::Sum, SUM_REPLY, 7, Ok(SUM_VALUE)),
+    (Of::Sum, SUM_REPLY, 4096, Ok(SUM_VALUE)),
+    (
+        Of::Deep,
+        DEEP_REPLY_ONE,
+        3,
+        Err(LinkFault::Wire(WireFault::Magic)),
+    ),
+    (
+        Of::Deep,
+        OTHER_REPLY,
+        3,
+        Err(LinkFault::Wire(WireFault::Key)),
+    ),
+    (Of::Deep, SHORT_VALUE_REPLY, 3, Err(LinkFault::Value)),
+    (Of::Deep, UNKNOWN_REPLY, 3, Err(LinkFault::Refused(3))),
+    (
+        Of::Deep,
+        DEEP_ASK,
+        3,
+        Err(LinkFault::Wire(WireFault::Magic)),
+    ),
 ];
 
 #[test]
-fn other_replies_are_faults(rt: HostRuntime) -> Result<(), Fail> {
-    for (reply, fault) in FAULTS {
-        assert!(rt; deep_is(rt.alloc(), reader(reply, 3, 1000), 100, Err(fault))?);
+fn right_replies_give_the_values_and_others_are_faults(rt: HostRuntime) {
+    for (line, (of, reply, piece, wanted)) in REPLIES.iter().enumerate() {
+        let reply = (*reply, *piece, 1000);
+        assert!(rt; is_right(rt.alloc(), of, reply, 100, *wanted), "{line}");
     }
-    Ok(())
 }
 
-/// Whether the reply with a byte of its value changed is refused.
-fn is_refused(alloc: Global, at: usize) -> Result<bool, Fail> {
-    let mut reply = Vec::from_slice(alloc, &DEEP_REPLY)?;
-    let byte = reply.get_mut(at).ok_or("no such byte")?;
+/// Whether the reply with a byte of its value changed is refused. None where there is no such byte, or memory was wanted.
+fn is_refused(alloc: Global, at: usize) -> Option<bool> {
+    let mut reply = Vec::from_slice(alloc, DEEP_REPLY).ok()?;
+    let byte = reply.get_mut(at)?;
     *byte ^= 1;
-    let input = reader(reply.as_slice(), 4096, 1000);
-    deep_is(alloc, input, 100, Err(LinkFault::Wire(WireFault::Digest)))
+    let reply = (reply.as_slice(), 4096, 1000);
+    let wanted = Err(LinkFault::Wire(WireFault::Digest));
+    Some(is_right(alloc, &Of::Deep, reply, 100, wanted))
 }
 
 #[test]
-fn reply_with_one_changed_byte(rt: HostRuntime) -> Result<(), Fail> {
+fn reply_with_one_changed_byte(rt: HostRuntime) {
     // The value's bytes begin behind the magic, the key, the status and the length.
     for at in 28..41usize {
-        assert!(rt; is_refused(rt.alloc(), at)?, "at {at}");
+        assert!(rt; is_refused(rt.alloc(), at) == Some(true), "at {at}");
     }
-    Ok(())
 }
 
 /// Whether a reply that ends after so many bytes is too short, and one whose reads fail from there on a fault of reading.
-fn is_cut(alloc: Global, cut: usize) -> Result<bool, Fail> {
+fn is_cut(alloc: Global, cut: usize) -> bool {
     let (front, _) = DEEP_REPLY.split_at(cut.min(DEEP_REPLY.len()));
     let short = Err(LinkFault::Wire(WireFault::Short));
     let failed = Err(LinkFault::Wire(WireFault::Io));
-    Ok(
-        deep_is(alloc, reader(front, 7, 1000), 100, short)?
-            && deep_is(alloc, reader(&DEEP_REPLY, 1, cut), 100, failed)?,
-    )
+    is_right(alloc, &Of::Deep, (front, 7, 1000), 100, short)
+        && is_right(alloc, &Of::Deep, (DEEP_REPLY, 1, cut), 100, failed)
 }
 
 #[test]
-fn reply_cut_after_each_byte(rt: HostRuntime) -> Result<(), Fail> {
+fn reply_cut_after_each_byte(rt: HostRuntime) {
     for cut in 0..DEEP_REPLY.len() {
-        assert!(rt; is_cut(rt.alloc(), cut)?, "at {cut}");
+        assert!(rt; is_cut(rt.alloc(), cut), "at {cut}");
     }
-    Ok(())
 }
 
 #[test]
-fn ask_cut_after_each_byte(rt: HostRuntime) -> Result<(), Fail> {
+fn ask_cut_after_each_byte(rt: HostRuntime) {
+    let reply = (DEEP_REPLY, 4096, 1000);
     let failed = Err(LinkFault::Wire(WireFault::Io));
     for room in 0..DEEP_ASK.len() {
-        assert!(rt; deep_is(rt.alloc(), reader(&DEEP_REPLY, 4096, 1000), room, failed)?);
+        assert!(rt;
+            is_right(rt.alloc(), &Of::Deep, reply, room, failed),
+            "at {room}"
+        );
     }
-    Ok(())
 }
 
 #[test]
-fn key_of_bytes_is_asked_for(rt: HostRuntime) -> Result<(), Fail> {
-    let alloc = rt.alloc();
-    let mut input = reader(b"IGR1\0\0\0\x01k\x02\0\0\0\0\x82", 4096, 1000);
-    let mut out = writer(alloc, 100);
-    let came = ask_over(alloc, &mut input, &mut out, Version::One, 2, b"k");
-    assert!(rt; came.err() == Some(LinkFault::Wire(WireFault::Short)));
-    assert!(rt; out.taken.as_slice() == b"IGA1\x02\0\0\0\x01k".as_slice());
-    Ok(())
+fn key_of_bytes_is_asked_for(rt: HostRuntime) {
+    let mut input = FailingReader {
+        left: b"IGR1\0\0\0\x01k\x02\0\0\0\0\x82",
+        piece: 4096,
+        reads: 1000,
+    };
+    let mut out = FailingWriter {
+        taken: Vec::new(rt.alloc()),
+        room: 100,
+        piece: 5,
+    };
+    let came = ask_over(rt.alloc(), &mut input, &mut out, Version::One, 2, b"k");
+    let is_short = matches!(came, Err(LinkFault::Wire(WireFault::Short)));
+    assert!(rt; is_short && out.taken.as_slice() == b"IGA1\x02\0\0\0\x01k".as_slice());
 }

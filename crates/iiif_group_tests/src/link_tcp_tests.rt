@@ -3,6 +3,7 @@
 ghost use Rattle.std.specs.Prelude.{◌≡◌};
 ghost use Rattle.iiif_keys.specs.Shapes.{HasPicture};
 
+use crate::acts::{Act, two};
 use crate::keys::{
     DEEP_REPLY, DEEP_REPLY_ONE, DEEP_VALUE, OTHER_REPLY, SHORT_VALUE_REPLY, UNKNOWN_REPLY, tile,
 };
@@ -57,7 +58,6 @@ fn shape_for(key: &TileKey) -> Shape
 }
 
 /// What a node does with an ask.
-#[derive(Clone, Copy)]
 enum Way {
     /// It closes the connection as soon as it has seen a magic of the second version.
     KnowsOneVersion,
@@ -74,18 +74,10 @@ enum Way {
 /// How long an ask may take.
 const LIMIT: u64 = 400;
 
-/// Whether the time since then is at most so much.
-fn took_at_most<R: Clock>(rt: &R, start: Instant, millis: u64) -> bool {
-    match start.elapsed(rt) {
-        Ok(passed) => passed <= Duration::from_millis(millis),
-        Err(_) => false,
-    }
-}
-
 /// Sends a reply byte by byte, 50 milliseconds apart.
 fn drip<R: Clock>(rt: &R, stream: &mut TcpStream) {
     for byte in DEEP_REPLY {
-        if stream.write_all(&[byte]).is_err() {
+        if stream.write_all(&[*byte]).is_err() {
             return;
         }
         thread::sleep(rt, Duration::from_millis(50));
@@ -93,7 +85,7 @@ fn drip<R: Clock>(rt: &R, stream: &mut TcpStream) {
 }
 
 /// Answers an ask that came whole. Says whether it was of the second version, for a tile.
-fn answer<R: Clock>(rt: &R, alloc: Global, stream: &mut TcpStream, way: Way) -> bool {
+fn answer<R: Clock>(rt: &R, alloc: Global, stream: &mut TcpStream, way: &Way) -> bool {
     let Ok(Some(ask)) = read_ask(alloc, stream) else {
         return false;
     };
@@ -108,16 +100,28 @@ fn answer<R: Clock>(rt: &R, alloc: Global, stream: &mut TcpStream, way: Way) -> 
     ask.version == Version::Two && ask.group == 1
 }
 
-/// Takes one connection and answers in this way. Says whether it was asked in the second version for a tile.
-fn take_one<R: Clock>(rt: &R, alloc: Global, listener: &TcpListener, way: Way) -> bool {
-    let Ok((mut stream, _)) = listener.accept() else {
-        return false;
-    };
-    if let Way::KnowsOneVersion = way {
-        let mut magic = [0u8; 4];
-        return stream.read_exact(&mut magic).is_ok() && &magic == b"IGA2";
+/// A node that takes one connection and answers in this way.
+#[derive(Drop)]
+struct Taker<'a> {
+    alloc: Global,
+    listener: &'a TcpListener,
+    way: &'a Way,
+}
+
+impl<'a, R: Clock> Act<R> for Taker<'a> {
+    type Came = bool;
+
+    /// Whether it was asked in the second version for a tile.
+    fn act(&self, rt: &R) -> bool {
+        let Ok((mut stream, _)) = self.listener.accept() else {
+            return false;
+        };
+        if let Way::KnowsOneVersion = self.way {
+            let mut magic = [0u8; 4];
+            return stream.read_exact(&mut magic).is_ok() && &magic == b"IGA2";
+        }
+        answer(rt, self.alloc, &mut stream, self.way)
     }
-    answer(rt, alloc, &mut stream, way)
 }
 
 /// A link to an address.
@@ -125,156 +129,180 @@ fn link_to(alloc: Global, address: String) -> TcpLink<Deep> {
     TcpLink::new(alloc, address, Duration::from_millis(LIMIT))
 }
 
-/// Whether what a link gave is the tile, or the fault; and whether it came in time.
-#[derive(Clone, Copy, PartialEq, Eq)]
-struct Came {
-    value: Result<bool, LinkFault>,
-    in_time: bool,
+/// A listener, and a link to it.
+fn linked<R>(rt: &R, alloc: Global) -> Option<(TcpListener, TcpLink<Deep>)>
+where
+    R: Net<Listener = TcpListener, Stream = TcpStream>,
+{
+    let listener = TcpListener::bind(rt, "127.0.0.1:0").ok()?;
+    let address = format!(in alloc; "{}", listener.local_addr().ok()?).ok()?;
+    Some((listener, link_to(alloc, address)))
 }
 
-/// What a link gives.
-fn asked<R: Clock, N: Link<TileKey, Deep, R>>(
-    rt: &R,
+/// Whether what a link gave is the tile, or the fault; and whether it came in time.
+type Came = (Result<bool, LinkFault>, bool);
+
+/// Who asks over a link.
+#[derive(Drop)]
+struct Asker<'a, N> {
     alloc: Global,
-    link: &N,
-) -> Result<Came, Fail> {
-    let key = tile(alloc, "g", (0, 0))?;
-    let shape = shape_for(&key);
-    if !key.fits(2, &shape) {
-        return Err("the key doesn't fit".into());
+    link: &'a N,
+}
+
+impl<'a, R: Clock, N: Link<TileKey, Deep, R>> Act<R> for Asker<'a, N> {
+    type Came = Option<Came>;
+
+    /// What the link gives. None where it isn't asked.
+    fn act(&self, rt: &R) -> Option<Came> {
+        let key = tile(self.alloc, "g", (0, 0)).ok()?;
+        let shape = shape_for(&key);
+        if !key.fits(2, &shape) {
+            return None;
+        }
+        let start = Instant::now(rt).ok()?;
+        let value = self.link.ask(rt, &key, &shape);
+        let in_time = start.elapsed(rt).ok()? <= Duration::from_millis(3 * LIMIT);
+        match value {
+            Ok(value) => {
+                let bytes = TileKey::value_bytes(self.alloc, &value).ok()?;
+                Some((Ok(bytes.as_slice() == DEEP_VALUE), in_time))
+            }
+            Err(fault) => Some((Err(fault), in_time)),
+        }
     }
-    let start = Instant::now(rt)?;
-    let value = link.ask(rt, &key, &shape);
-    let in_time = took_at_most(rt, start, 3 * LIMIT);
-    let value = match value {
-        Ok(value) => Ok(TileKey::value_bytes(alloc, &value)?.as_slice() == DEEP_VALUE.as_slice()),
-        Err(fault) => Err(fault),
-    };
-    Ok(Came { value, in_time })
 }
 
 /// What a link gives whose node answers in this way; and whether the node was well asked.
-fn answered<R>(rt: &R, alloc: Global, way: Way) -> Result<(Came, bool), Fail>
+fn answered<R>(rt: &R, alloc: Global, way: &Way) -> Option<(Came, bool)>
 where
     R: Net<Listener = TcpListener, Stream = TcpStream> + Threads + Clock + Sync,
 {
-    let listener = TcpListener::bind(rt, "127.0.0.1:0")?;
-    let link = link_to(alloc, format!(in alloc; "{}", listener.local_addr()?)?);
-    let (well_asked, came) = thread::join(
-        rt,
-        || take_one(rt, alloc, &listener, way),
-        || asked(rt, alloc, &link),
-    );
-    Ok((came?, well_asked))
+    let (listener, link) = linked(rt, alloc)?;
+    let taker = Taker {
+        alloc,
+        listener: &listener,
+        way,
+    };
+    let asker = Asker { alloc, link: &link };
+    let (well_asked, came) = two(rt, &taker, &asker);
+    Some((came?, well_asked))
 }
 
-/// What a node does, and the fault that comes of it, or another.
-const FAILURES: [(&str, Way, LinkFault, LinkFault); 8] = [
+/// What a node does, and the tile, or the fault that comes of it, or another.
+static ANSWERS: [(&str, Way, Result<bool, LinkFault>, Result<bool, LinkFault>); 9] = [
     (
         "knows one version",
         Way::KnowsOneVersion,
-        LinkFault::Wire(WireFault::Io),
-        LinkFault::Wire(WireFault::Short),
+        Err(LinkFault::Wire(WireFault::Io)),
+        Err(LinkFault::Wire(WireFault::Short)),
     ),
     (
         "closes",
         Way::Closes,
-        LinkFault::Wire(WireFault::Short),
-        LinkFault::Wire(WireFault::Short),
+        Err(LinkFault::Wire(WireFault::Short)),
+        Err(LinkFault::Wire(WireFault::Short)),
     ),
     (
         "is silent",
         Way::IsSilent,
-        LinkFault::Wire(WireFault::Io),
-        LinkFault::Wire(WireFault::Io),
+        Err(LinkFault::Wire(WireFault::Io)),
+        Err(LinkFault::Wire(WireFault::Io)),
     ),
     (
         "drips",
         Way::Drips,
-        LinkFault::Wire(WireFault::Io),
-        LinkFault::Wire(WireFault::Io),
+        Err(LinkFault::Wire(WireFault::Io)),
+        Err(LinkFault::Wire(WireFault::Io)),
     ),
     (
         "replies in version 1",
-        Way::Sends(&DEEP_REPLY_ONE),
-        LinkFault::Wire(WireFault::Magic),
-        LinkFault::Wire(WireFault::Magic),
+        Way::Sends(DEEP_REPLY_ONE),
+        Err(LinkFault::Wire(WireFault::Magic)),
+        Err(LinkFault::Wire(WireFault::Magic)),
     ),
     (
         "replies for another tile",
-        Way::Sends(&OTHER_REPLY),
-        LinkFault::Wire(WireFault::Key),
-        LinkFault::Wire(WireFault::Key),
+        Way::Sends(OTHER_REPLY),
+        Err(LinkFault::Wire(WireFault::Key)),
+        Err(LinkFault::Wire(WireFault::Key)),
     ),
     (
         "replies with a value that ends too soon",
-        Way::Sends(&SHORT_VALUE_REPLY),
-        LinkFault::Value,
-        LinkFault::Value,
+        Way::Sends(SHORT_VALUE_REPLY),
+        Err(LinkFault::Value),
+        Err(LinkFault::Value),
     ),
     (
         "refuses",
-        Way::Sends(&UNKNOWN_REPLY),
-        LinkFault::Refused(3),
-        LinkFault::Refused(3),
+        Way::Sends(UNKNOWN_REPLY),
+        Err(LinkFault::Refused(3)),
+        Err(LinkFault::Refused(3)),
+    ),
+    (
+        "replies rightly",
+        Way::Sends(DEEP_REPLY),
+        Ok(true),
+        Ok(true),
     ),
 ];
 
-#[test]
-fn each_failure_is_a_fault_in_time(rt: HostRuntime) -> Result<(), Fail> {
-    for (what, way, fault, other) in FAILURES {
-        let (came, well_asked) = answered(&rt, rt.alloc(), way)?;
-        assert!(rt;
-            came.value == Err(fault) || came.value == Err(other),
-            "{what}"
-        );
-        assert!(rt; came.in_time && well_asked, "{what}");
+/// Whether that comes of it, in time, and the node was well asked.
+fn is_answered<R>(
+    rt: &R,
+    alloc: Global,
+    way: &Way,
+    wanted: Result<bool, LinkFault>,
+    other: Result<bool, LinkFault>,
+) -> bool
+where
+    R: Net<Listener = TcpListener, Stream = TcpStream> + Threads + Clock + Sync,
+{
+    match answered(rt, alloc, way) {
+        Some(((value, true), true)) => value == wanted || value == other,
+        _ => false,
     }
-    Ok(())
 }
 
-/// The tile, in time.
-const RIGHT: Came = Came {
-    value: Ok(true),
-    in_time: true,
-};
-
 #[test]
-fn right_reply_over_tcp(rt: HostRuntime) -> Result<(), Fail> {
-    assert!(rt; answered(&rt, rt.alloc(), Way::Sends(&DEEP_REPLY))? == (RIGHT, true));
-    Ok(())
+fn right_reply_is_the_tile_and_each_failure_a_fault_in_time(rt: HostRuntime) {
+    for (what, way, wanted, other) in ANSWERS.iter() {
+        assert!(rt;
+            is_answered(&rt, rt.alloc(), way, *wanted, *other),
+            "{what}"
+        );
+    }
 }
 
 /// A fault of the connection, in time.
-const LOST: Came = Came {
-    value: Err(LinkFault::Wire(WireFault::Io)),
-    in_time: true,
-};
-
-/// An address where nobody listens.
-fn dead_address<R>(rt: &R, alloc: Global) -> Result<String, Fail>
-where
-    R: Net<Listener = TcpListener, Stream = TcpStream>,
-{
-    let listener = TcpListener::bind(rt, "127.0.0.1:0")?;
-    Ok(format!(in alloc; "{}", listener.local_addr()?)?)
-}
+const LOST: Option<Came> = Some((Err(LinkFault::Wire(WireFault::Io)), true));
 
 #[test]
 fn dead_node_is_a_fault_of_the_connection(rt: HostRuntime) -> Result<(), Fail> {
     let alloc = rt.alloc();
-    let dead = link_to(alloc, dead_address(&rt, alloc)?);
+    let (listener, dead) = linked(&rt, alloc).ok_or("no listener")?;
+    drop(listener);
     let nowhere = link_to(alloc, String::from_str(alloc, "no port")?);
-    assert!(rt; asked(&rt, alloc, &dead)? == LOST);
-    assert!(rt; asked(&rt, alloc, &nowhere)? == LOST);
+    assert!(rt; Asker { alloc, link: &dead }.act(&rt) == LOST);
+    assert!(rt;
+        Asker {
+            alloc,
+            link: &nowhere
+        }
+        .act(&rt)
+            == LOST
+    );
     Ok(())
 }
 
 #[test]
-fn no_link_refuses_with_status_3(rt: HostRuntime) -> Result<(), Fail> {
-    let came = asked(&rt, rt.alloc(), &NoLink)?;
-    assert!(rt; came.value == Err(LinkFault::Refused(3)));
-    Ok(())
+fn no_link_refuses_with_status_3(rt: HostRuntime) {
+    let alloc = rt.alloc();
+    let came = Asker {
+        alloc,
+        link: &NoLink,
+    }
+    .act(&rt);
+    assert!(rt; matches!(came, Some((Err(LinkFault::Refused(3)), _))));
 }
 
 #[test]

@@ -1,34 +1,15 @@
 //! Two calls at once: one load for both, answers while another is held at the gate or asks the owner, a fault that both are told, and
 //! reads of a source that overlap, since nothing is locked there.
 
-use crate::bars::Bar;
-use crate::calls::{Answer, Call, FIRST, Numbers, SECOND, Step};
-use crate::meetings::{Meeting, Until};
-use crate::nodes::{NO_COUNTS, ONE, Owner, Setup, THREE, TWO, set_up};
+use crate::calls::{Answer, Call, FIRST, SECOND, Step};
+use crate::cases::{Case, first_wrong};
+use crate::meetings::Meeting;
+use crate::nodes::{NO_COUNTS, ONE, Owner, THREE, TWO};
 use crate::peers::GIVEN;
-use crate::scenes::{QUIET, Scene, Seen, played};
+use crate::scenes::{QUIET, Scene, Seen};
 use iiif_keys::Fault;
 use iiif_source::ReadFault;
 use iiif_tables::Book;
-use std::alloc::Global;
-use std::net::{Net, TcpListener, TcpStream};
-use std::sync::Wait;
-use std::test::Fail;
-use std::thread::Threads;
-use std::time::Clock;
-
-/// A node, two calls there and a third, and what is seen.
-#[derive(Clone, Copy)]
-struct Case {
-    what: &'static str,
-    owner: Owner,
-    /// Which read of the source fails first.
-    fuse: u64,
-    /// The first that asks the owner waits until another asks it.
-    asks_meet: bool,
-    meeting: Meeting,
-    seen: Seen,
-}
 
 /// The fault of the first read, which is of the samples.
 const FUSED: Answer = Err(Fault::Source(ReadFault {
@@ -36,19 +17,20 @@ const FUSED: Answer = Err(Fault::Source(ReadFault {
     cause: ReadFault::FUSE,
 }));
 
-const CASES: [Case; 5] = [
+static MEETINGS: [Case; 5] = [
     Case {
         what: "Two calls for one key share one load.",
         owner: Owner::Itself,
         fuse: 99,
+        reads_meet: false,
         asks_meet: false,
-        meeting: Meeting {
+        scene: Scene::Meets(Meeting {
             call: Call::Begin,
             columns: (0, 0),
-            until: Until::Joined,
+            joins: true,
             mends: false,
-            answers: [Ok(FIRST), Ok(FIRST), Ok(FIRST)],
-        },
+            answers: (Ok(FIRST), Ok(FIRST), Ok(FIRST)),
+        }),
         seen: Seen {
             are_same: (true, true),
             books: (
@@ -75,14 +57,15 @@ const CASES: [Case; 5] = [
         what: "A call is answered while another is held at the gate.",
         owner: Owner::Itself,
         fuse: 99,
+        reads_meet: false,
         asks_meet: false,
-        meeting: Meeting {
+        scene: Scene::Meets(Meeting {
             call: Call::Begin,
             columns: (0, 1),
-            until: Until::Answered,
+            joins: false,
             mends: false,
-            answers: [Ok(FIRST), Ok(SECOND), Ok(FIRST)],
-        },
+            answers: (Ok(FIRST), Ok(SECOND), Ok(FIRST)),
+        }),
         seen: Seen {
             books: (TWO, NO_COUNTS),
             tiles: (
@@ -100,14 +83,15 @@ const CASES: [Case; 5] = [
         what: "Who joins a call whose owner refused has the load, whose own flight is what is kept.",
         owner: Owner::Refuses,
         fuse: 99,
+        reads_meet: false,
         asks_meet: false,
-        meeting: Meeting {
+        scene: Scene::Meets(Meeting {
             call: Call::Begin,
             columns: (1, 1),
-            until: Until::Joined,
+            joins: true,
             mends: false,
-            answers: [Ok(SECOND), Ok(SECOND), Ok(SECOND)],
-        },
+            answers: (Ok(SECOND), Ok(SECOND), Ok(SECOND)),
+        }),
         seen: Seen {
             are_same: (true, false),
             books: (
@@ -130,18 +114,20 @@ const CASES: [Case; 5] = [
             ..QUIET
         },
     },
+    // Nothing is loaded here, so none comes to the gate.
     Case {
         what: "Two asks of the owner overlap.",
         owner: Owner::Gives,
         fuse: 99,
+        reads_meet: false,
         asks_meet: true,
-        meeting: Meeting {
+        scene: Scene::Meets(Meeting {
             call: Call::Begin,
             columns: (0, 1),
-            until: Until::Nothing,
+            joins: false,
             mends: false,
-            answers: [Ok(GIVEN), Ok(GIVEN), Ok(GIVEN)],
-        },
+            answers: (Ok(GIVEN), Ok(GIVEN), Ok(GIVEN)),
+        }),
         seen: Seen {
             books: (Book { peer: 2, ..TWO }, NO_COUNTS),
             tiles: (Book { peer: 3, ..THREE }, 0),
@@ -152,14 +138,15 @@ const CASES: [Case; 5] = [
         what: "A source's fault is told to both, and isn't kept: the call after it loads again.",
         owner: Owner::Itself,
         fuse: 1,
+        reads_meet: false,
         asks_meet: false,
-        meeting: Meeting {
+        scene: Scene::Meets(Meeting {
             call: Call::Get,
             columns: (0, 0),
-            until: Until::Joined,
+            joins: true,
             mends: true,
-            answers: [FUSED, FUSED, Ok(FIRST)],
-        },
+            answers: (FUSED, FUSED, Ok(FIRST)),
+        }),
         seen: Seen {
             are_same: (true, false),
             books: (
@@ -185,56 +172,48 @@ const CASES: [Case; 5] = [
     },
 ];
 
-/// What is seen of a case, and whether a thread went on at a bar that nobody lifted.
-fn seen_of<R>(rt: &R, alloc: Global, case: Case) -> Result<(Seen, bool), Fault>
-where
-    R: Net<Listener = TcpListener, Stream = TcpStream> + Threads + Wait + Clock + Send + Sync,
-{
-    let gate = Bar::new(false);
-    let asks = Bar::new(!case.asks_meet);
-    let setup = set_up(case.owner, case.fuse, &gate, &asks);
-    let seen = played(rt, alloc, setup, Scene::Meets(case.meeting))?;
-    Ok((seen, gate.is_left() || asks.is_left()))
-}
-
 #[test]
-fn calls_that_meet_share_one_load_and_no_other_waits(rt: HostRuntime) -> Result<(), Fail> {
-    for case in CASES {
-        let came = seen_of(&rt, rt.alloc(), case)?;
-        assert!(rt; came == (case.seen, false), "{}", case.what);
-    }
-    Ok(())
+fn calls_that_meet_share_one_load_and_no_other_waits(rt: HostRuntime) {
+    let wrong = first_wrong(&rt, rt.alloc(), &MEETINGS);
+    assert!(rt; wrong.is_empty(), "{wrong}");
 }
 
-/// Two tiles, and two blocks of level 0, each of which is made of its tile.
-const AT_ONCE: [([(Step, Answer); 2], (Book, Book)); 2] = [
-    (
-        [
+static AT_ONCE: [Case; 2] = [
+    Case {
+        what: "Loads of two tiles overlap.",
+        owner: Owner::Itself,
+        fuse: 99,
+        reads_meet: true,
+        asks_meet: false,
+        scene: Scene::Overlaps(&[
             (Step::Tile(Call::Get, (0, 0)), Ok(FIRST)),
             (Step::Tile(Call::Get, (1, 0)), Ok(SECOND)),
-        ],
-        (TWO, NO_COUNTS),
-    ),
+        ]),
+        seen: Seen {
+            books: (TWO, NO_COUNTS),
+            ..QUIET
+        },
+    },
     // Each sample counts 2 by 2 times: a sample of the source is 2 long where a place of the result is 4.
-    (
-        [
-            (Step::Sums(Call::Get, 0, 0), Ok(Numbers::One(400))),
-            (Step::Sums(Call::Get, 0, 1), Ok(Numbers::One(720))),
-        ],
-        (TWO, TWO),
-    ),
+    Case {
+        what: "Loads of two blocks of level 0 overlap, each of which is made of its tile.",
+        owner: Owner::Itself,
+        fuse: 99,
+        reads_meet: true,
+        asks_meet: false,
+        scene: Scene::Overlaps(&[
+            (Step::Sums(Call::Get, 0, 0), Ok((1, [400, 0, 0, 0]))),
+            (Step::Sums(Call::Get, 0, 1), Ok((1, [720, 0, 0, 0]))),
+        ]),
+        seen: Seen {
+            books: (TWO, TWO),
+            ..QUIET
+        },
+    },
 ];
 
 #[test]
-fn two_loads_of_tiles_and_of_sums_overlap(rt: HostRuntime) -> Result<(), Fail> {
-    let open = Bar::new(true);
-    let setup = Setup {
-        meets: true,
-        ..set_up(Owner::Itself, 99, &open, &open)
-    };
-    for (steps, books) in AT_ONCE {
-        let seen = played(&rt, rt.alloc(), setup, Scene::Overlaps(steps))?;
-        assert!(rt; seen == Seen { books, ..QUIET });
-    }
-    Ok(())
+fn two_loads_of_tiles_and_of_sums_overlap(rt: HostRuntime) {
+    let wrong = first_wrong(&rt, rt.alloc(), &AT_ONCE);
+    assert!(rt; wrong.is_empty(), "{wrong}");
 }

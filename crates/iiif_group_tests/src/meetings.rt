@@ -1,214 +1,239 @@
 //! Calls of two threads that meet at a node.
 
+use crate::acts::{Act, three, two};
 use crate::bars::{Bar, TURNS};
-use crate::calls::{Answer, Call, Step, asked_alone, called, mend, told};
-use crate::nodes::{Node, books};
-use crate::runs::handed_in;
+use crate::calls::{Answer, Call, Step, Told, asked, called, source};
+use crate::crossings::Crossing;
+use crate::doorways::Doorway;
+use crate::nodes::{Node, books, passes};
+use crate::runs::{Steps, handed_in};
 use crate::scenes::{ODD, QUIET, Seen};
-use iiif_keys::{Fault, System, TileKey};
-use iiif_outcome::Receipt;
+use iiif_keys::{Fault, System};
+use iiif_listener::stop;
 use iiif_singleflight::Pass;
+use iiif_source::Source;
+use iiif_sum_group::SumCalls;
 use iiif_tile_group::TileCalls;
 use std::alloc::Global;
 use std::net::{Net, TcpListener, TcpStream};
 use std::sync::Wait;
+use std::sync::ledger::Ledger;
 use std::thread;
 use std::thread::Threads;
 use std::time::{Clock, Duration};
 
-/// What the first load is held for.
-#[derive(Clone, Copy)]
-pub(crate) enum Until {
-    /// The other call has joined.
-    Joined,
-    /// The other call is answered.
-    Answered,
-    /// It isn't held.
-    Nothing,
-}
-
 /// Two calls at once for tiles of the first row, and then, perhaps once the source is mended, a third for the first's tile.
-#[derive(Clone, Copy)]
 pub(crate) struct Meeting {
     pub call: Call,
     pub columns: (u32, u32),
-    pub until: Until,
+    /// The first load is held until the other call has joined. Else until the other is answered.
+    pub joins: bool,
     pub mends: bool,
     /// What the three come to.
-    pub answers: [Answer; 3],
+    pub answers: (Answer, Answer, Answer),
 }
 
-/// What a call came to: its receipt, and its pass.
-type Came<J> = Option<(Receipt<TileKey, J>, Pass<TileCalls<J>>)>;
+/// Who makes one of the two calls. Where the first load is held until the other is answered, this thread lifts the gate behind its own
+/// call. The one that is held there can't, so it goes on only once the other has its answer.
+#[derive(Drop)]
+struct Caller<'a, 'b, R, J: System>
+where
+    Doorway: Source<R>,
+    TileCalls<J>: Ledger,
+    SumCalls<J>: Ledger,
+{
+    alloc: Global,
+    node: &'a Node<'b, R, J>,
+    gate: &'a Bar,
+    meeting: &'a Meeting,
+    column: u32,
+}
 
-/// Lifts the gate once the other call has joined, or at once. False where that doesn't come. Where it is held for an answer it is
-/// left to the thread that is answered.
-fn lift<R: Wait + Clock, J: System>(
-    rt: &R,
-    node: &Node<'_, R, J>,
-    gate: &Bar,
-    until: Until,
-) -> bool {
-    for _ in 0..TURNS {
-        let seen = match until {
-            Until::Joined => node.tiles().group().book(rt).joins == 1,
-            Until::Answered => return true,
-            Until::Nothing => true,
-        };
-        if seen {
-            gate.lift();
+/// What a call came to, and its pass.
+type Came<J> = Option<(Told, Pass<TileCalls<J>>)>;
+
+impl<'a, 'b, R: Net<Stream = TcpStream> + Wait + Clock, J: System> Act<R> for Caller<'a, 'b, R, J> {
+    type Came = Came<J>;
+
+    fn act(&self, rt: &R) -> Came<J> {
+        let mut pass = self.node.tiles().group().pass(rt)?;
+        let at = (self.column, 0);
+        let told = called(rt, self.alloc, self.node, &mut pass, &self.meeting.call, at);
+        if !self.meeting.joins {
+            self.gate.lift();
+        }
+        Some((told, pass))
+    }
+}
+
+/// Who lifts the gate once the other call has joined. Where it is held for an answer it is left to the thread that is answered.
+#[derive(Drop)]
+struct Lifter<'a, 'b, R, J: System>
+where
+    Doorway: Source<R>,
+    TileCalls<J>: Ledger,
+    SumCalls<J>: Ledger,
+{
+    node: &'a Node<'b, R, J>,
+    gate: &'a Bar,
+    meeting: &'a Meeting,
+}
+
+impl<'a, 'b, R: Wait + Clock, J: System> Act<R> for Lifter<'a, 'b, R, J> {
+    type Came = bool;
+
+    /// False where the other call doesn't join.
+    fn act(&self, rt: &R) -> bool {
+        if !self.meeting.joins {
             return true;
         }
-        thread::sleep(rt, Duration::from_millis(1));
+        for _ in 0..TURNS {
+            if self.node.tiles().group().book(rt).joins == 1 {
+                self.gate.lift();
+                return true;
+            }
+            thread::sleep(rt, Duration::from_millis(1));
+        }
+        false
     }
-    false
 }
 
-/// One call. Where the gate is held for an answer, this thread lifts it behind its own call. The one that is held there can't, so it
-/// goes on only once the other has its answer.
-fn answered<R: Net<Stream = TcpStream> + Wait + Clock, J: System>(
+/// Two calls at once, of which the first to load is held at the gate until the other is as far as told. None where it doesn't come so
+/// far, or a pass was wanting.
+fn both<'a, R, J>(
     rt: &R,
     alloc: Global,
-    node: &Node<'_, R, J>,
-    gate: &Bar,
-    meeting: Meeting,
-    column: u32,
-) -> Came<J> {
-    let mut pass = node.tiles().group().pass(rt)?;
-    let came = called(rt, alloc, node, &mut pass, meeting.call, (column, 0));
-    if let Until::Answered = meeting.until {
-        gate.lift();
-    }
-    Some((came.ok()?, pass))
-}
-
-/// Two calls at once.
-fn both<R, J>(
-    rt: &R,
-    alloc: Global,
-    node: &Node<'_, R, J>,
-    gate: &Bar,
-    meeting: Meeting,
-) -> (Came<J>, Came<J>)
+    node: &'a Node<'_, R, J>,
+    gate: &'a Bar,
+    meeting: &'a Meeting,
+) -> Option<((Told, Pass<TileCalls<J>>), (Told, Pass<TileCalls<J>>))>
 where
     R: Net<Listener = TcpListener, Stream = TcpStream> + Threads + Wait + Clock + Send + Sync,
     J: System + Send + Sync,
 {
-    thread::join(
-        rt,
-        || answered(rt, alloc, node, gate, meeting, meeting.columns.0),
-        || answered(rt, alloc, node, gate, meeting, meeting.columns.1),
-    )
-}
-
-/// Two calls at once, of which the first to load is held at the gate until the other is as far as told. Whether it came so far.
-fn two_calls<R, J>(
-    rt: &R,
-    alloc: Global,
-    node: &Node<'_, R, J>,
-    gate: &Bar,
-    meeting: Meeting,
-) -> ((Came<J>, Came<J>), bool)
-where
-    R: Net<Listener = TcpListener, Stream = TcpStream> + Threads + Wait + Clock + Send + Sync,
-    J: System + Send + Sync,
-{
-    thread::join(
-        rt,
-        || both(rt, alloc, node, gate, meeting),
-        || lift(rt, node, gate, meeting.until),
-    )
-}
-
-/// What is seen of two calls, by their receipts, and of a third with the first's pass.
-fn third<R: Net<Stream = TcpStream> + Wait + Clock, J: System>(
-    rt: &R,
-    alloc: Global,
-    node: &Node<'_, R, J>,
-    pass: &mut Pass<TileCalls<J>>,
-    meeting: Meeting,
-    receipts: (&mut Receipt<TileKey, J>, &mut Receipt<TileKey, J>),
-) -> Result<Seen, Fault> {
-    let (one, two) = receipts;
-    let books = books(rt, node);
-    if meeting.mends {
-        mend(node)?;
+    let (column, others) = meeting.columns;
+    let one = Caller {
+        alloc,
+        node,
+        gate,
+        meeting,
+        column,
+    };
+    let other = Caller {
+        alloc,
+        node,
+        gate,
+        meeting,
+        column: others,
+    };
+    let lifter = Lifter {
+        node,
+        gate,
+        meeting,
+    };
+    let ((one, other), is_lifted) = three(rt, &one, &other, &lifter);
+    if !is_lifted {
+        return None;
     }
-    let mut third = called(rt, alloc, node, pass, meeting.call, (meeting.columns.0, 0))?;
-    let are_same = (one.same(two), third.same(two));
-    Ok(Seen {
-        is_right: [told(one), told(two), told(&mut third)] == meeting.answers,
-        are_same,
-        books,
-        ..QUIET
-    })
+    let one = one?;
+    let other = other?;
+    Some((one, other))
 }
 
-/// What is seen of two calls that meet, and of a third.
-pub(crate) fn met<R, J>(
+/// What is seen of two calls that meet, and of a third with the first's pass.
+pub(crate) fn met<'a, R, J>(
     rt: &R,
     alloc: Global,
-    node: &Node<'_, R, J>,
-    gate: &Bar,
-    meeting: Meeting,
+    node: &'a Node<'_, R, J>,
+    gate: &'a Bar,
+    meeting: &'a Meeting,
 ) -> Result<Seen, Fault>
 where
     R: Net<Listener = TcpListener, Stream = TcpStream> + Threads + Wait + Clock + Send + Sync,
     J: System + Send + Sync,
 {
-    let ((a, b), is_lifted) = two_calls(rt, alloc, node, gate, meeting);
-    if !is_lifted {
+    let Some(((one, mut pass), (two, other))) = both(rt, alloc, node, gate, meeting) else {
         return Err(ODD);
+    };
+    let books = books(rt, node);
+    if let (true, Some(source)) = (meeting.mends, source(node)) {
+        source.inner.mend();
     }
-    let (mut one, mut pass) = a.ok_or(ODD)?;
-    let (mut two, other) = b.ok_or(ODD)?;
-    let seen = third(rt, alloc, node, &mut pass, meeting, (&mut one, &mut two))?;
+    let at = (meeting.columns.0, 0);
+    let third = called(rt, alloc, node, &mut pass, &meeting.call, at);
     let tiles = handed_in(rt, alloc, node.tiles().group(), pass, other)?;
-    Ok(Seen { tiles, ..seen })
+    Ok(Seen {
+        is_right: (one.1, two.1, third.1) == meeting.answers,
+        are_same: (one.0 == two.0, third.0 == two.0),
+        books,
+        tiles,
+        ..QUIET
+    })
 }
 
-/// What two steps come to that are made at once.
-fn at_once<R, J>(
-    rt: &R,
-    alloc: Global,
-    node: &Node<'_, R, J>,
-    steps: (Step, Step),
-) -> (Answer, Answer)
+/// Who makes a step with passes of its own; where the node and another ask each other, until the other has its answer too, for which
+/// this node is served.
+#[derive(Drop)]
+pub(crate) struct Asker<'a, 'b, R, J: System>
 where
-    R: Net<Listener = TcpListener, Stream = TcpStream> + Threads + Wait + Clock + Send + Sync,
-    J: System + Send + Sync,
+    Doorway: Source<R>,
+    TileCalls<J>: Ledger,
+    SumCalls<J>: Ledger,
 {
-    thread::join(
-        rt,
-        || asked_alone(rt, alloc, node, steps.0),
-        || asked_alone(rt, alloc, node, steps.1),
-    )
+    pub alloc: Global,
+    pub node: &'a Node<'b, R, J>,
+    pub step: &'a Step,
+    pub crossing: Option<&'a Crossing<'a>>,
 }
 
-/// Whether the first read of `a` met another.
-fn overlaps<R: Clock, J: System>(node: &Node<'_, R, J>) -> bool {
-    match node.tiles().images().catalogue().find("a") {
-        Some(entry) => !entry.source.bar.is_left(),
-        None => false,
+impl<'a, 'b, R: Net<Stream = TcpStream> + Wait + Clock, J: System> Act<R> for Asker<'a, 'b, R, J> {
+    type Came = Answer;
+
+    fn act(&self, rt: &R) -> Answer {
+        let answer = match passes(rt, self.node) {
+            Some(mut passes) => asked(rt, self.alloc, self.node, &mut passes, self.step),
+            None => Err(ODD),
+        };
+        if let Some(crossing) = self.crossing {
+            crossing.done.lift();
+            crossing.others.holds(rt);
+            stop(crossing.listener);
+        }
+        answer
     }
 }
 
-/// What is seen of two steps at once.
+/// What is seen of two steps at once, where the first read of `a` has to meet another.
 pub(crate) fn overlapped<R, J>(
     rt: &R,
     alloc: Global,
     node: &Node<'_, R, J>,
-    steps: [(Step, Answer); 2],
-) -> Seen
+    steps: Steps,
+) -> Result<Seen, Fault>
 where
     R: Net<Listener = TcpListener, Stream = TcpStream> + Threads + Wait + Clock + Send + Sync,
     J: System + Send + Sync,
 {
-    let [one, two] = steps;
-    let answers = at_once(rt, alloc, node, (one.0, two.0));
-    Seen {
-        is_right: answers == (one.1, two.1) && overlaps(node),
+    let [(one, came), (other, others)] = steps else {
+        return Err(ODD);
+    };
+    let one = Asker {
+        alloc,
+        node,
+        step: one,
+        crossing: None,
+    };
+    let other = Asker {
+        alloc,
+        node,
+        step: other,
+        crossing: None,
+    };
+    let answers = two(rt, &one, &other);
+    let is_met = matches!(source(node), Some(source) if !source.bar.is_left());
+    Ok(Seen {
+        is_right: answers == (*came, *others) && is_met,
         books: books(rt, node),
         ..QUIET
-    }
+    })
 }

@@ -1,7 +1,6 @@
 //! Asks, and the replies that the images of the tests make right. The digests are Python's.
 
 /// What is asked, the ask, and the reply.
-#[derive(Clone, Copy)]
 pub(crate) struct Exchange {
     pub what: &'static str,
     pub ask: &'static [u8],
@@ -40,7 +39,8 @@ pub(crate) const SUMS: Exchange = Exchange {
     ],
 };
 
-pub(crate) const EXCHANGES: [Exchange; 16] = [
+/// Each kind of ask.
+pub(crate) static EXCHANGES: [Exchange; 16] = [
     TILE,
     Exchange {
         what: "The same in version 2.",

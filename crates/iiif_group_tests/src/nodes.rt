@@ -1,22 +1,19 @@
 //! Nodes over files in memory: their images, their gates, and their ways to the node that owns their keys.
 
-ghost use Rattle.std.specs.Prelude.{◌≡◌, ℕ, List, Some, IfOk, false, length};
-ghost use Rattle.iiif_source.specs.declared.ReadFault.{ReadFault};
-ghost use Rattle.iiif_images.specs.Collection.{Item, item_named};
-ghost use Rattle.iiif_images.specs.Named.{gave_of, pictures_of};
+ghost use Rattle.std.specs.Prelude.{◌≡◌, IfOk, false, length};
 
 use crate::bars::Bar;
+use crate::crossings::Crossing;
 use crate::doorways::Doorway;
 use crate::peers::{Peer, Way};
 use iiif_group::Group;
-use iiif_images::{Catalogue, Images};
+use iiif_images::Catalogue;
 use iiif_keys::{CacheKey, Fault, System};
 use iiif_ring::Ring;
-use iiif_source::{FuseSource, MemSource, Source};
+use iiif_source::{FuseSource, MemSource};
 use iiif_sum_group::{Groups, Passes};
 use iiif_tables::Book;
 use iiif_tiff_read::open;
-use iiif_tile_group::Tiles;
 use std::alloc::Global;
 use std::num::NonZeroUsize;
 use std::sync::Wait;
@@ -24,7 +21,7 @@ use std::sync::ledger::{Blank, Ledger};
 use std::time::Clock;
 
 /// A TIFF file of 4 by 4 gray samples: 10 more for each column, and 40 more for each row.
-const SAMPLE: [u8; 138] = [
+const SAMPLE: &[u8] = &[
     0x49, 0x49, 0x2a, 0, 0x18, 0, 0, 0, 0, 10, 20, 30, 40, 50, 60, 70, 80, 90, 100, 110, 120, 130,
     140, 150, 9, 0, 0, 1, 3, 0, 1, 0, 0, 0, 4, 0, 0, 0, 1, 1, 3, 0, 1, 0, 0, 0, 4, 0, 0, 0, 2, 1,
     3, 0, 1, 0, 0, 0, 8, 0, 0, 0, 3, 1, 3, 0, 1, 0, 0, 0, 1, 0, 0, 0, 6, 1, 3, 0, 1, 0, 0, 0, 1, 0,
@@ -33,7 +30,7 @@ const SAMPLE: [u8; 138] = [
 ];
 
 /// A TIFF file of 2 by 1 gray samples of 16 bits, 0 and 65,535, low bytes first.
-const DEEP: [u8; 126] = [
+const DEEP: &[u8] = &[
     0x49, 0x49, 0x2a, 0x00, 0x0c, 0x00, 0x00, 0x00, 0x00, 0x00, 0xff, 0xff, 0x09, 0x00, 0x00, 0x01,
     0x03, 0x00, 0x01, 0x00, 0x00, 0x00, 0x02, 0x00, 0x00, 0x00, 0x01, 0x01, 0x03, 0x00, 0x01, 0x00,
     0x00, 0x00, 0x01, 0x00, 0x00, 0x00, 0x02, 0x01, 0x03, 0x00, 0x01, 0x00, 0x00, 0x00, 0x10, 0x00,
@@ -44,11 +41,11 @@ const DEEP: [u8; 126] = [
     0x04, 0x00, 0x01, 0x00, 0x00, 0x00, 0x04, 0x00, 0x00, 0x00, 0x00, 0x00, 0x00, 0x00,
 ];
 
-/// The images besides `a`: their names, their files, and which of their reads fails first.
-const OTHERS: [(&str, &[u8], u64); 2] = [("g", &DEEP, 99), ("f", &SAMPLE, 1)];
+/// The images of a node: their names, their files, and which of their reads fails first. Of `a` it is said by the node's own setup.
+static IMAGES: [(&str, &[u8], u64); 3] = [("a", SAMPLE, 0), ("g", DEEP, 99), ("f", SAMPLE, 1)];
 
 /// How a node is set up.
-#[derive(Clone, Copy)]
+#[derive(Drop)]
 pub(crate) struct Setup<'a> {
     /// Which read of the image `a` fails first.
     pub fuse: u64,
@@ -60,10 +57,11 @@ pub(crate) struct Setup<'a> {
     pub way: Way<'a>,
     /// What each load passes.
     pub gate: &'a Bar,
+    /// Where it and another ask each other.
+    pub crossing: Option<Crossing<'a>>,
 }
 
 /// Who owns the keys of a node.
-#[derive(Clone, Copy)]
 pub(crate) enum Owner {
     Itself,
     /// Another, which refuses with status 3.
@@ -74,37 +72,32 @@ pub(crate) enum Owner {
     GivesWide,
 }
 
-/// A node whose loads pass a gate, and whose asks of the owner pass a bar.
-pub(crate) fn set_up<'a>(owner: Owner, fuse: u64, gate: &'a Bar, bar: &'a Bar) -> Setup<'a> {
-    let way = match owner {
+/// The way to an owner. The first ask waits at the bar until another comes, if that isn't lifted.
+pub(crate) fn way_to<'a>(owner: &Owner, bar: &'a Bar) -> Way<'a> {
+    match owner {
         Owner::Refuses => Way::Refuses(bar),
         Owner::Itself | Owner::Gives => Way::Gives {
             is_wide: false,
             bar,
         },
         Owner::GivesWide => Way::Gives { is_wide: true, bar },
-    };
-    Setup {
-        fuse,
-        meets: false,
-        stands: matches!(owner, Owner::Itself),
-        way,
-        gate,
     }
 }
 
 /// A node over images in memory.
 pub(crate) type Node<'a, R, J> = Groups<R, Doorway, J, Peer<'a, J>, &'a Bar>;
 
-/// Takes an image in: its name, its file, and which of its reads fails first. None where memory was wanted.
+/// Takes an image in: its name, its file, which of its reads fails first, and whether the first waits for another. None where memory was
+/// wanted.
 fn add<R: Clock>(
     rt: &R,
     alloc: Global,
     catalogue: &mut Catalogue<R, Doorway>,
-    image: (&str, &[u8], u64),
+    name: &str,
+    file: &[u8],
+    fuse: u64,
     meets: bool,
 ) -> Option<()> {
-    let (name, file, fuse) = image;
     let memory = MemSource::new(Vec::from_slice(alloc, file).ok()?);
     let Ok(layout) = open(rt, alloc, &memory) else {
         return None;
@@ -124,10 +117,13 @@ pub(crate) fn catalogue<R: Clock>(
     setup: &Setup<'_>,
 ) -> Option<Catalogue<R, Doorway>> {
     let mut catalogue = Catalogue::new(alloc);
-    let sample = ("a", SAMPLE.as_slice(), setup.fuse);
-    add(rt, alloc, &mut catalogue, sample, setup.meets)?;
-    for image in OTHERS {
-        add(rt, alloc, &mut catalogue, image, false)?;
+    for (name, file, fuse) in IMAGES.iter() {
+        let (fuse, meets) = if *fuse == 0 {
+            (setup.fuse, setup.meets)
+        } else {
+            (*fuse, false)
+        };
+        add(rt, alloc, &mut catalogue, name, file, fuse, meets)?;
     }
     Some(catalogue)
 }
@@ -149,9 +145,9 @@ fn ring(alloc: Global) -> Result<Ring, Fault>
 }
 
 /// A group of a node.
-fn shared<'a, K: CacheKey, J: System, L: Ledger>(
+pub(crate) fn shared<'a, K: CacheKey, J: System, L: Ledger>(
     alloc: Global,
-    setup: Setup<'a>,
+    setup: &'a Setup<'a>,
     blank: Blank,
 ) -> Result<Group<K, J, L, Peer<'a, J>, &'a Bar>, Fault>
     requires name { blank.name ≡ L.name }
@@ -160,34 +156,12 @@ fn shared<'a, K: CacheKey, J: System, L: Ledger>(
     requires honest { J.honest ≡ false }
 {
     let ring = ring(alloc)?;
-    let Ok(links) = Vec::from_array(alloc, [Peer::new(alloc, setup.way)]) else {
+    let Ok(links) = Vec::from_array(alloc, [Peer::new(alloc, &setup.way)]) else {
         return Err(Fault::NoMemory);
     };
     let entries = NonZeroUsize::MIN.saturating_add(7);
     let own = if setup.stands { Some(0) } else { None };
     Ok(Group::new(alloc, 9999, entries, setup.gate, ring, own, links, blank)?)
-}
-
-/// A node over the images of a catalogue, at tiles of 2 by 2.
-pub(crate) fn made<'a, R: Clock, J: System>(
-    alloc: Global,
-    catalogue: Catalogue<R, Doorway>,
-    setup: Setup<'a>,
-    tiles: Blank,
-    sums: Blank,
-) -> Result<Node<'a, R, J>, Fault>
-    requires pictures { (name : List ℕ) → J.pictures name ≡ pictures_of ⟦<Doorway as Source<R>>⟧.bytes catalogue name }
-    requires gave { (name : List ℕ) (f : ReadFault) → J.gave name f ≡ gave_of ⟦<Doorway as Source<R>>⟧.gave catalogue name f }
-    requires stable { (name : List ℕ) (item : Item _) → item_named catalogue name ≡ Some item → J.stable name → ∥ ⟦<Doorway as Source<R>>⟧.keeps item.source ∥₁ }
-    requires edge { J.edge ≡ 2 }
-    requires tiles { (tiles.name ≡ J.tiles_name) × (tiles.parts ≡ J.tiles_parts) × (J.tiles_parts ≡ 65537) }
-    requires sums { (sums.name ≡ J.sums_name) × (sums.parts ≡ J.sums_parts) × (J.sums_parts ≡ 65537) }
-    requires honest { J.honest ≡ false }
-{
-    let images = Images::new(alloc, catalogue, 2);
-    let near = shared(alloc, setup, tiles)?;
-    let far = shared(alloc, setup, sums)?;
-    Ok(Groups::new(alloc, Tiles::new(alloc, images, near), far))
 }
 
 /// A pass of each group.

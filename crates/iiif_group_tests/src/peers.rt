@@ -4,7 +4,6 @@ ghost use Rattle.std.specs.Prelude.{◌≡◌, false};
 
 use crate::bars::Bar;
 use crate::calls::Numbers;
-use crate::messages::Exchange;
 use iiif_group::{Link, LinkFault, NoLink};
 use iiif_io::fakes::{FailingReader, FailingWriter};
 use iiif_keys::{Shape, SumKey, SumVal, System, TileKey, TileVal};
@@ -23,18 +22,25 @@ pub(crate) const LIMIT: u64 = 10_000;
 const SAMPLE: u8 = 5;
 
 /// Such a tile.
-pub(crate) const GIVEN: Numbers = Numbers::Four([5, 5, 5, 5]);
+pub(crate) const GIVEN: Numbers = (4, [5, 5, 5, 5]);
 
 /// The way to the owner of a node's keys.
-#[derive(Clone, Copy)]
+#[derive(Drop)]
 pub(crate) enum Way<'a> {
     /// It refuses with status 3. The first ask for a tile waits at the bar, and each other lifts it.
     Refuses(&'a Bar),
     /// It replies a tile of 2 by 2 samples, or of 4 by 1, and refuses sums. The first ask waits likewise.
-    Gives { is_wide: bool, bar: &'a Bar },
-    /// A connection in memory whose writer fails after so many bytes, while the whole reply is there to be read. Where the ask has no
-    /// more of them, it is the reader that fails after the rest.
-    Cut(Exchange, usize),
+    Gives {
+        is_wide: bool,
+        bar: &'a Bar,
+    },
+    /// A connection in memory over which this reply is read until so many reads of a byte each have been made, and whose writer has room
+    /// for so many bytes.
+    Cut {
+        reply: &'static [u8],
+        reads: usize,
+        room: usize,
+    },
     /// The node behind this listener.
     Tcp(&'a TcpListener),
 }
@@ -43,13 +49,13 @@ pub(crate) enum Way<'a> {
 #[derive(Drop)]
 pub(crate) struct Peer<'a, J: System> {
     alloc: Global,
-    way: Way<'a>,
+    way: &'a Way<'a>,
     of: PhantomData<J>,
     pub ghost unsure: { J.honest ≡ false },
 }
 
 impl<'a, J: System> Peer<'a, J> {
-    pub(crate) fn new(alloc: Global, way: Way<'a>) -> Peer<'a, J>
+    pub(crate) fn new(alloc: Global, way: &'a Way<'a>) -> Peer<'a, J>
         requires { J.honest ≡ false }
     {
         Peer {
@@ -71,21 +77,21 @@ impl<'a, J: System> Peer<'a, J> {
     }
 }
 
-/// The ends of a connection that fails after so many bytes: the one that is read from, and the one that is written to.
+/// The ends of a connection in memory: the one that is read from, and the one that is written to.
 fn ends(
     alloc: Global,
-    exchange: Exchange,
-    bytes: usize,
+    reply: &'static [u8],
+    reads: usize,
+    room: usize,
 ) -> (FailingReader<'static>, FailingWriter) {
-    let (asked, replied) = (exchange.ask.len(), exchange.reply.len());
     let reader = FailingReader {
-        left: exchange.reply,
+        left: reply,
         piece: 1,
-        reads: bytes.checked_sub(asked).unwrap_or(replied),
+        reads,
     };
     let out = FailingWriter {
         taken: Vec::new(alloc),
-        room: bytes,
+        room,
         piece: 5,
     };
     (reader, out)
@@ -114,10 +120,10 @@ impl<'a, J: System, R: Net<Stream = TcpStream> + Clock> Link<TileKey, J, R> for 
             }
             Way::Gives { is_wide, bar } => {
                 bar.meet(rt);
-                given(self.alloc, is_wide)
+                given(self.alloc, *is_wide)
             }
-            Way::Cut(exchange, bytes) => {
-                let (mut reader, mut out) = ends(self.alloc, exchange, bytes);
+            Way::Cut { reply, reads, room } => {
+                let (mut reader, mut out) = ends(self.alloc, reply, *reads, *room);
                 tile_over(self.alloc, &mut reader, &mut out, key, shape)
             }
             Way::Tcp(listener) => self.over_tcp(listener)?.ask(rt, key, shape),
@@ -131,8 +137,8 @@ impl<'a, J: System, R: Net<Stream = TcpStream> + Clock> Link<SumKey, J, R> for P
             Way::Refuses(_) | Way::Gives { .. } => {
                 Link::<SumKey, J, R>::ask(&NoLink, rt, key, shape)
             }
-            Way::Cut(exchange, bytes) => {
-                let (mut reader, mut out) = ends(self.alloc, exchange, bytes);
+            Way::Cut { reply, reads, room } => {
+                let (mut reader, mut out) = ends(self.alloc, reply, *reads, *room);
                 sum_over(self.alloc, &mut reader, &mut out, key, shape)
             }
             Way::Tcp(listener) => self.over_tcp(listener)?.ask(rt, key, shape),

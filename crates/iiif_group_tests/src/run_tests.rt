@@ -1,34 +1,16 @@
 //! Steps of one thread at a node: each public call, owners that are asked, sources that fail, and growths of memory that are refused.
 
 use crate::bars::Bar;
-use crate::calls::{Call, FIRST, HALVED, Numbers, SECOND, Step};
-use crate::nodes::{FIVE, FOUR, NO_COUNTS, ONE, Owner, SEVEN, SIX, TWO, set_up};
+use crate::calls::{Call, FIRST, HALVED, NONE, SECOND, Step, WHOLE};
+use crate::cases::{Case, first_wrong};
+use crate::nodes::{FIVE, FOUR, NO_COUNTS, ONE, Owner, SEVEN, SIX, Setup, TWO, way_to};
 use crate::peers::GIVEN;
-use crate::runs::{Stages, Steps};
+use crate::runs::Stages;
 use crate::scenes::{QUIET, Scene, Seen, played};
 use iiif_keys::Fault;
 use iiif_source::ReadFault;
 use iiif_tables::Book;
-use std::alloc::Global;
-use std::net::{Net, TcpListener, TcpStream};
-use std::sync::Wait;
 use std::test::Fail;
-use std::thread::Threads;
-use std::time::Clock;
-
-/// A node of its own, steps there, and what is seen.
-#[derive(Clone, Copy)]
-struct Case {
-    what: &'static str,
-    owner: Owner,
-    /// Which read of the source fails first.
-    fuse: u64,
-    stages: Stages,
-    seen: Seen,
-}
-
-/// A call for the sums of the whole of `a`.
-const WHOLE: Step = Step::Sums(Call::Get, 1, 0);
 
 /// The fault of the first read, which is of the samples.
 const FUSED: Fault = Fault::Source(ReadFault {
@@ -36,16 +18,18 @@ const FUSED: Fault = Fault::Source(ReadFault {
     cause: ReadFault::FUSE,
 });
 
-const EACH_CALL: [Case; 3] = [
+static EACH_CALL: [Case; 3] = [
     Case {
         what: "Each part of sums is asked once, and then the sums are kept.",
         owner: Owner::Itself,
         fuse: 99,
-        stages: Stages {
+        reads_meet: false,
+        asks_meet: false,
+        scene: Scene::Runs(Stages {
             first: &[(WHOLE, Ok(HALVED))],
-            then: &[(Step::Mend, Ok(Numbers::Others)), (WHOLE, Ok(HALVED))],
+            then: &[(Step::Mend, Ok(NONE)), (WHOLE, Ok(HALVED))],
             hands_in: false,
-        },
+        }),
         seen: Seen {
             books: (FOUR, FIVE),
             tiles: (FOUR, 4),
@@ -64,11 +48,13 @@ const EACH_CALL: [Case; 3] = [
         what: "The fault of a source is not kept.",
         owner: Owner::Itself,
         fuse: 1,
-        stages: Stages {
+        reads_meet: false,
+        asks_meet: false,
+        scene: Scene::Runs(Stages {
             first: &[(WHOLE, Err(FUSED))],
-            then: &[(Step::Mend, Ok(Numbers::Others)), (WHOLE, Ok(HALVED))],
+            then: &[(Step::Mend, Ok(NONE)), (WHOLE, Ok(HALVED))],
             hands_in: false,
-        },
+        }),
         // The whole and its first part end with the fault, as the part's tile does; then all is loaded.
         seen: Seen {
             books: (Book { faults: 1, ..ONE }, Book { faults: 2, ..TWO }),
@@ -81,7 +67,9 @@ const EACH_CALL: [Case; 3] = [
         what: "A tile and sums are loaded, and got by this node alone.",
         owner: Owner::Itself,
         fuse: 99,
-        stages: Stages {
+        reads_meet: false,
+        asks_meet: false,
+        scene: Scene::Runs(Stages {
             first: &[
                 (Step::Tile(Call::Load, (1, 0)), Ok(SECOND)),
                 (Step::Tile(Call::GetLocal, (1, 0)), Ok(SECOND)),
@@ -91,7 +79,7 @@ const EACH_CALL: [Case; 3] = [
                 (Step::Sums(Call::GetLocal, 1, 0), Ok(HALVED)),
             ],
             hands_in: false,
-        },
+        }),
         seen: Seen {
             books: (ONE, NO_COUNTS),
             // A tile is got, and then the four below the sums, of which that is one.
@@ -117,75 +105,105 @@ const EACH_CALL: [Case; 3] = [
     },
 ];
 
-/// What is seen of steps at a node of its own.
-fn seen_of<R>(rt: &R, alloc: Global, owner: Owner, fuse: u64, stages: Stages) -> Result<Seen, Fault>
-where
-    R: Net<Listener = TcpListener, Stream = TcpStream> + Threads + Wait + Clock + Send + Sync,
-{
-    let open = Bar::new(true);
-    played(
-        rt,
-        alloc,
-        set_up(owner, fuse, &open, &open),
-        Scene::Runs(stages),
-    )
-}
-
 #[test]
-fn each_call_gives_its_value_and_shares_come_home(rt: HostRuntime) -> Result<(), Fail> {
-    for case in EACH_CALL {
-        let seen = seen_of(&rt, rt.alloc(), case.owner, case.fuse, case.stages)?;
-        assert!(rt; seen == case.seen, "{}", case.what);
-    }
-    Ok(())
+fn each_call_gives_its_value_and_shares_come_home(rt: HostRuntime) {
+    let wrong = first_wrong(&rt, rt.alloc(), &EACH_CALL);
+    assert!(rt; wrong.is_empty(), "{wrong}");
 }
 
-/// Who owns the keys of a node; a call for the tile (0, 0) of `a`, and what it comes to; and the book of the tiles.
-const OWNERS: [(Owner, Steps, Book); 5] = [
-    (
-        Owner::Itself,
-        &[(Step::Tile(Call::Begin, (0, 0)), Ok(FIRST))],
-        ONE,
-    ),
-    (
-        Owner::Gives,
-        &[(Step::Tile(Call::Begin, (0, 0)), Ok(GIVEN))],
-        Book { peer: 1, ..ONE },
-    ),
-    (
-        Owner::Gives,
-        &[(Step::Tile(Call::BeginLocal, (0, 0)), Ok(FIRST))],
-        ONE,
-    ),
-    (
-        Owner::GivesWide,
-        &[(Step::Tile(Call::Begin, (0, 0)), Ok(FIRST))],
-        TWO,
-    ),
-    (
-        Owner::Refuses,
-        &[(Step::Tile(Call::Begin, (0, 0)), Ok(FIRST))],
-        TWO,
-    ),
+/// Who owns the keys of a node, and a call for the tile (0, 0) of `a`.
+static OWNERS: [Case; 5] = [
+    Case {
+        what: "A node loads what it owns.",
+        owner: Owner::Itself,
+        fuse: 99,
+        reads_meet: false,
+        asks_meet: false,
+        scene: Scene::Runs(Stages {
+            first: &[(Step::Tile(Call::Begin, (0, 0)), Ok(FIRST))],
+            then: &[],
+            hands_in: false,
+        }),
+        seen: Seen {
+            books: (ONE, NO_COUNTS),
+            tiles: (ONE, 1),
+            ..QUIET
+        },
+    },
+    Case {
+        what: "What the owner gives is taken.",
+        owner: Owner::Gives,
+        fuse: 99,
+        reads_meet: false,
+        asks_meet: false,
+        scene: Scene::Runs(Stages {
+            first: &[(Step::Tile(Call::Begin, (0, 0)), Ok(GIVEN))],
+            then: &[],
+            hands_in: false,
+        }),
+        seen: Seen {
+            books: (Book { peer: 1, ..ONE }, NO_COUNTS),
+            tiles: (Book { peer: 1, ..ONE }, 1),
+            ..QUIET
+        },
+    },
+    Case {
+        what: "No owner is asked by a node alone.",
+        owner: Owner::Gives,
+        fuse: 99,
+        reads_meet: false,
+        asks_meet: false,
+        scene: Scene::Runs(Stages {
+            first: &[(Step::Tile(Call::BeginLocal, (0, 0)), Ok(FIRST))],
+            then: &[],
+            hands_in: false,
+        }),
+        seen: Seen {
+            books: (ONE, NO_COUNTS),
+            tiles: (ONE, 1),
+            ..QUIET
+        },
+    },
+    Case {
+        what: "A tile of another shape leads to a load.",
+        owner: Owner::GivesWide,
+        fuse: 99,
+        reads_meet: false,
+        asks_meet: false,
+        scene: Scene::Runs(Stages {
+            first: &[(Step::Tile(Call::Begin, (0, 0)), Ok(FIRST))],
+            then: &[],
+            hands_in: false,
+        }),
+        seen: Seen {
+            books: (TWO, NO_COUNTS),
+            tiles: (TWO, 2),
+            ..QUIET
+        },
+    },
+    Case {
+        what: "A refusal leads to a load.",
+        owner: Owner::Refuses,
+        fuse: 99,
+        reads_meet: false,
+        asks_meet: false,
+        scene: Scene::Runs(Stages {
+            first: &[(Step::Tile(Call::Begin, (0, 0)), Ok(FIRST))],
+            then: &[],
+            hands_in: false,
+        }),
+        seen: Seen {
+            books: (TWO, NO_COUNTS),
+            tiles: (TWO, 2),
+            ..QUIET
+        },
+    },
 ];
 
 #[test]
-fn owner_is_asked_and_a_bad_reply_leads_to_a_load(rt: HostRuntime) -> Result<(), Fail> {
-    for (owner, first, book) in OWNERS {
-        let stages = Stages {
-            first,
-            then: &[],
-            hands_in: false,
-        };
-        let seen = seen_of(&rt, rt.alloc(), owner, 99, stages)?;
-        let wanted = Seen {
-            books: (book, NO_COUNTS),
-            tiles: (book, book.gets),
-            ..QUIET
-        };
-        assert!(rt; seen == wanted);
-    }
-    Ok(())
+fn owner_is_asked_and_a_bad_reply_leads_to_a_load(rt: HostRuntime) {
+    let wrong = first_wrong(&rt, rt.alloc(), &OWNERS);
+    assert!(rt; wrong.is_empty(), "{wrong}");
 }
 
 /// Whether each call is counted once, and each flight has landed.
@@ -198,11 +216,11 @@ fn is_settled(book: &Book) -> bool {
 }
 
 /// The sums of the whole of `a`, twice.
-const TWICE: Stages = Stages {
+static TWICE: Scene = Scene::Runs(Stages {
     first: &[(WHOLE, Ok(HALVED))],
     then: &[(WHOLE, Ok(HALVED))],
     hands_in: true,
-};
+});
 
 /// The book of the sums where no growth was refused: the second call is a hit.
 const KEPT: Book = Book {
@@ -219,19 +237,30 @@ const ANEW: Book = Book {
     ..SIX
 };
 
-/// Whether these are the books of the tiles and of the sums where no answer wanted memory.
-fn are_whole(tiles: Book, sums: Book) -> bool {
-    tiles == FOUR && (sums == KEPT || sums == ANEW)
+/// Whether all is right; some of the sums were hit by the second call; no answer wanted memory, or the books are those of that; and the
+/// calls' pass had its share when both were handed in, where none had come home before.
+fn facts(seen: &Seen) -> [bool; 4] {
+    let (tiles, sums) = (&seen.tiles.0, &seen.sums.0);
+    [
+        seen.is_right && is_settled(tiles) && is_settled(sums),
+        seen.books.1.hits < sums.hits,
+        seen.is_refused || *tiles == FOUR && (*sums == KEPT || *sums == ANEW),
+        seen.sums.1 == 0,
+    ]
 }
 
 #[test]
 fn sums_and_books_are_right_after_a_refused_growth(rt: HostRuntime) -> Result<(), Fail> {
-    let seen = seen_of(&rt, rt.alloc(), Owner::Itself, 99, TWICE)?;
-    let (tiles, sums) = (seen.tiles.0, seen.sums.0);
-    assert!(rt; seen.is_right && is_settled(&tiles) && is_settled(&sums));
-    assert!(rt; seen.books.1.hits < sums.hits);
-    assert!(rt; seen.is_refused || are_whole(tiles, sums));
-    // The calls' pass had its share when both were handed in, and none had come home before.
-    assert!(rt; seen.sums.1 == 0);
+    let open = Bar::new(true);
+    let setup = Setup {
+        fuse: 99,
+        meets: false,
+        stands: true,
+        way: way_to(&Owner::Itself, &open),
+        gate: &open,
+        crossing: None,
+    };
+    let facts = facts(&played(&rt, rt.alloc(), &setup, &TWICE)?);
+    assert!(rt; facts == [true; 4], "{facts:?}");
     Ok(())
 }

@@ -6,7 +6,7 @@ use crate::scenes::{ODD, QUIET, Seen};
 use iiif_group::Group;
 use iiif_keys::{CacheKey, Fault, System};
 use iiif_singleflight::Pass;
-use iiif_sum_group::{Passes, SumCalls};
+use iiif_sum_group::Passes;
 use iiif_tables::Book;
 use std::alloc::Global;
 use std::net::{Net, TcpStream};
@@ -18,7 +18,6 @@ use std::time::Clock;
 pub(crate) type Steps = &'static [(Step, Answer)];
 
 /// Steps of one thread.
-#[derive(Clone, Copy)]
 pub(crate) struct Stages {
     pub first: Steps,
     pub then: Steps,
@@ -26,23 +25,7 @@ pub(crate) struct Stages {
     pub hands_in: bool,
 }
 
-/// A step, once more where memory was wanted: whether it was, and what the step came to.
-fn asked_twice<R: Net<Stream = TcpStream> + Wait + Clock, J: System>(
-    rt: &R,
-    alloc: Global,
-    node: &Node<'_, R, J>,
-    passes: &mut Passes<J>,
-    step: Step,
-) -> (bool, Answer) {
-    let answer = asked(rt, alloc, node, passes, step);
-    if answer == Err(Fault::NoMemory) {
-        (true, asked(rt, alloc, node, passes, step))
-    } else {
-        (false, answer)
-    }
-}
-
-/// Whether each step came to what was wanted, and whether memory was wanted for one of them.
+/// Whether each step came to what was wanted, and whether memory was wanted for one of them, which was made once more then.
 fn stepped<R: Net<Stream = TcpStream> + Wait + Clock, J: System>(
     rt: &R,
     alloc: Global,
@@ -53,25 +36,17 @@ fn stepped<R: Net<Stream = TcpStream> + Wait + Clock, J: System>(
     let mut is_right = true;
     let mut is_refused = false;
     for (step, wanted) in steps {
-        let (again, answer) = asked_twice(rt, alloc, node, passes, *step);
-        is_refused |= again;
+        let mut answer = asked(rt, alloc, node, passes, step);
+        if answer == Err(Fault::NoMemory) {
+            is_refused = true;
+            answer = asked(rt, alloc, node, passes, step);
+        }
         is_right &= answer == *wanted;
     }
     (is_right, is_refused)
 }
 
-/// What was counted, and the share at home, behind a pass that is given back, where no other is out.
-fn given_back<K: CacheKey, J: System, L: Ledger, N, T, R: Wait>(
-    rt: &R,
-    alloc: Global,
-    group: &Group<K, J, L, N, T>,
-    pass: Pass<L>,
-) -> Result<(Book, u64), Fault> {
-    group.give_back(rt, pass);
-    group.gather(rt, Vec::new(alloc)).ok().ok_or(ODD)
-}
-
-/// The same with one pass kept back in vain and then with both.
+/// What was counted, and the share that came home: in vain with one pass kept back, and then with both handed in.
 pub(crate) fn handed_in<K: CacheKey, J: System, L: Ledger, N, T, R: Wait>(
     rt: &R,
     alloc: Global,
@@ -94,20 +69,25 @@ pub(crate) fn handed_in<K: CacheKey, J: System, L: Ledger, N, T, R: Wait>(
     }
 }
 
-/// What was counted of the sums, and the share that came home: with the pass given back, or handed in behind another.
-fn sums_home<R: Wait + Clock, J: System>(
+/// What was counted, and the share that came home with a pass that is given back, where no other is out; or that is handed in beside
+/// another.
+fn home<K: CacheKey, J: System, L: Ledger, N, T, R: Wait>(
     rt: &R,
     alloc: Global,
-    node: &Node<'_, R, J>,
-    pass: Pass<SumCalls<J>>,
+    group: &Group<K, J, L, N, T>,
+    pass: Pass<L>,
     hands_in: bool,
 ) -> Result<(Book, u64), Fault> {
-    if !hands_in {
-        return given_back(rt, alloc, node.sums(), pass);
+    if hands_in {
+        return match group.pass(rt) {
+            Some(other) => handed_in(rt, alloc, group, other, pass),
+            None => Err(ODD),
+        };
     }
-    match node.sums().pass(rt) {
-        Some(other) => handed_in(rt, alloc, node.sums(), other, pass),
-        None => Err(ODD),
+    group.give_back(rt, pass);
+    match group.gather(rt, Vec::new(alloc)) {
+        Ok(all) => Ok(all),
+        Err(_) => Err(ODD),
     }
 }
 
@@ -116,7 +96,7 @@ pub(crate) fn ran<R: Net<Stream = TcpStream> + Wait + Clock, J: System>(
     rt: &R,
     alloc: Global,
     node: &Node<'_, R, J>,
-    stages: Stages,
+    stages: &Stages,
 ) -> Result<Seen, Fault> {
     let mut passes = passes(rt, node).ok_or(ODD)?;
     let first = stepped(rt, alloc, node, &mut passes, stages.first);
@@ -124,8 +104,8 @@ pub(crate) fn ran<R: Net<Stream = TcpStream> + Wait + Clock, J: System>(
     let then = stepped(rt, alloc, node, &mut passes, stages.then);
     let last = books(rt, node);
     let Passes { tile, sum } = passes;
-    let tiles = given_back(rt, alloc, node.tiles().group(), tile);
-    let sums = sums_home(rt, alloc, node, sum, stages.hands_in);
+    let tiles = home(rt, alloc, node.tiles().group(), tile, false);
+    let sums = home(rt, alloc, node.sums(), sum, stages.hands_in);
     let (tiles, sums) = (tiles?, sums?);
     Ok(Seen {
         is_right: first.0 && then.0 && last == (tiles.0, sums.0),

@@ -5,16 +5,17 @@ ghost use Rattle.iiif_source.specs.declared.ReadFault.{ReadFault};
 ghost use Rattle.iiif_images.specs.Collection.{Item, item_named};
 ghost use Rattle.iiif_images.specs.Named.{gave_of, pictures_of};
 
-use crate::calls::{Answer, Step};
-use crate::crossings::{Crossing, crossed, serves};
+use crate::crossings::{crossed, serves};
 use crate::doorways::Doorway;
 use crate::meetings::{Meeting, met, overlapped};
-use crate::nodes::{NO_COUNTS, Node, Setup, catalogue, made};
-use crate::runs::{Stages, gives_out, ran};
-use iiif_images::Catalogue;
+use crate::nodes::{NO_COUNTS, Node, Setup, catalogue, shared};
+use crate::runs::{Stages, Steps, gives_out, ran};
+use iiif_images::{Catalogue, Images};
 use iiif_keys::{Fault, System};
 use iiif_source::Source;
+use iiif_sum_group::Groups;
 use iiif_tables::Book;
+use iiif_tile_group::Tiles;
 use std::alloc::Global;
 use std::marker::Brand;
 use std::net::{Net, TcpListener, TcpStream};
@@ -24,20 +25,19 @@ use std::thread::Threads;
 use std::time::Clock;
 
 /// What happens at a node.
-#[derive(Clone, Copy)]
-pub(crate) enum Scene<'a> {
+pub(crate) enum Scene {
     /// Steps, one after another.
     Runs(Stages),
     /// Two calls for tiles that meet, and a third.
     Meets(Meeting),
     /// Two steps at once, and what each comes to. Their reads of the source overlap.
-    Overlaps([(Step, Answer); 2]),
+    Overlaps(Steps),
     /// All asks of other nodes are replied to.
     Replies,
     /// So many passes are given out, and no more.
     GivesOut(u32),
-    /// The node and another ask each other.
-    Crosses(Crossing<'a>),
+    /// The node and another ask each other, as its setup says.
+    Crosses,
 }
 
 /// What is seen at a node.
@@ -71,12 +71,12 @@ pub(crate) const QUIET: Seen = Seen {
 };
 
 /// What is seen of a scene at a node.
-fn shown<R, J>(
+fn shown<'a, R, J>(
     rt: &R,
     alloc: Global,
-    node: &Node<'_, R, J>,
-    setup: Setup<'_>,
-    scene: Scene<'_>,
+    node: &'a Node<'_, R, J>,
+    setup: &'a Setup<'_>,
+    scene: &'a Scene,
 ) -> Result<Seen, Fault>
 where
     R: Net<Listener = TcpListener, Stream = TcpStream> + Threads + Wait + Clock + Send + Sync,
@@ -85,20 +85,20 @@ where
     match scene {
         Scene::Runs(stages) => ran(rt, alloc, node, stages),
         Scene::Meets(meeting) => met(rt, alloc, node, setup.gate, meeting),
-        Scene::Overlaps(steps) => Ok(overlapped(rt, alloc, node, steps)),
+        Scene::Overlaps(steps) => overlapped(rt, alloc, node, steps),
         Scene::Replies => serves(rt, alloc, node),
-        Scene::GivesOut(count) => Ok(gives_out(rt, node, count)),
-        Scene::Crosses(crossing) => Ok(crossed(rt, alloc, node, crossing)),
+        Scene::GivesOut(count) => Ok(gives_out(rt, node, *count)),
+        Scene::Crosses => crossed(rt, alloc, node, setup),
     }
 }
 
-/// The same at a node over the images of a catalogue.
+/// The same at a node over the images of a catalogue, at tiles of 2 by 2.
 fn seen_over<R, J>(
     rt: &R,
     alloc: Global,
     catalogue: Catalogue<R, Doorway>,
-    setup: Setup<'_>,
-    scene: Scene<'_>,
+    setup: &Setup<'_>,
+    scene: &Scene,
     tiles: Blank,
     sums: Blank,
 ) -> Result<Seen, Fault>
@@ -113,7 +113,10 @@ where
     requires sums { (sums.name ≡ J.sums_name) × (sums.parts ≡ J.sums_parts) × (J.sums_parts ≡ 65537) }
     requires honest { J.honest ≡ false }
 {
-    let node: Node<'_, R, J> = made(alloc, catalogue, setup, tiles, sums)?;
+    let images = Images::new(alloc, catalogue, 2);
+    let near = shared(alloc, setup, tiles)?;
+    let far = shared(alloc, setup, sums)?;
+    let node: Node<'_, R, J> = Groups::new(alloc, Tiles::new(alloc, images, near), far);
     shown(rt, alloc, &node, setup, scene)
 }
 
@@ -133,13 +136,13 @@ fn catalogue_twice<R: Clock>(
 pub(crate) fn played<R>(
     rt: &R,
     alloc: Global,
-    setup: Setup<'_>,
-    scene: Scene<'_>,
+    setup: &Setup<'_>,
+    scene: &Scene,
 ) -> Result<Seen, Fault>
 where
     R: Net<Listener = TcpListener, Stream = TcpStream> + Threads + Wait + Clock + Send + Sync,
 {
-    let catalogue = catalogue_twice(rt, alloc, &setup).ok_or(Fault::NoMemory)?;
+    let catalogue = catalogue_twice(rt, alloc, setup).ok_or(Fault::NoMemory)?;
     let (tiles, sums) = (Blank::new(65_537), Blank::new(65_537));
     seen_over::<_, Brand>(rt, alloc, catalogue, setup, scene, tiles, sums)
 }

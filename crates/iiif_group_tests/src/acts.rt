@@ -1,0 +1,64 @@
+//! What threads do at once. Each is a value of a type of its own, so that no scene has a closure.
+
+use iiif_listener::{Serve, serve_listener};
+use std::alloc::Global;
+use std::net::TcpListener;
+use std::sync::Wait;
+use std::thread;
+use std::thread::Threads;
+use std::time::Clock;
+
+/// What a thread does. R is the runtime.
+pub(crate) trait Act<R> {
+    /// What comes of it.
+    type Came;
+
+    /// Does it.
+    fn act(&self, rt: &R) -> Self::Came;
+}
+
+/// Two at once.
+pub(crate) fn two<R, A, B>(rt: &R, one: &A, other: &B) -> (A::Came, B::Came)
+where
+    R: Threads + Sync,
+    A: Act<R> + Sync,
+    B: Act<R> + Sync,
+    A::Came: Send + Drop,
+    B::Came: Send + Drop,
+{
+    thread::join(rt, || one.act(rt), || other.act(rt))
+}
+
+/// Two of a kind and a third at once.
+pub(crate) fn three<R, A, B>(rt: &R, one: &A, other: &A, third: &B) -> ((A::Came, A::Came), B::Came)
+where
+    R: Threads + Sync,
+    A: Act<R> + Sync,
+    B: Act<R> + Sync,
+    A::Came: Send + Drop,
+    B::Came: Send + Drop,
+{
+    thread::join(rt, || two(rt, one, other), || third.act(rt))
+}
+
+/// One beside a listener's service, which ends where it is stopped.
+pub(crate) fn served_beside<R, D, A>(
+    rt: &R,
+    alloc: Global,
+    door: &D,
+    listener: &TcpListener,
+    one: &A,
+) -> A::Came
+where
+    R: Threads + Wait + Clock + Sync,
+    D: Serve<R> + Sync,
+    A: Act<R> + Sync,
+    A::Came: Send + Drop,
+{
+    let (_served, came) = thread::join(
+        rt,
+        || serve_listener(rt, alloc, door, listener).is_ok(),
+        || one.act(rt),
+    );
+    came
+}
