@@ -33,13 +33,13 @@ def bytes_in(module, name):
 
 
 def owners():
-    body = tests_of("ring_tests").split("fn owners_as_computed_outside")[1].split("\n}\n")[0]
-    names = [name.encode() for name in re.findall(r'"([^"]+)"', body.split("];", 1)[0])]
+    body = tests_of("ring_tests")
+    names = [name.encode() for name in re.findall(r'"([^"]+)"', body.split("const NAMES:", 1)[1].split("];", 1)[0])]
     ring = Ring(names)
-    pairs = re.findall(r"\((\d+)(?:u32)?, (\d+)(?:usize)?\)", body)
+    pairs = re.findall(r'\(NAMES, b"([^"]+)", (\d+)\)', body)
     same("owners in the ring's test", len(pairs), 26)
-    for number, place in pairs:
-        same(f"owner of key-{number}", ring.owner(b"key-" + number.encode()), int(place))
+    for key, place in pairs:
+        same(f"owner of {key}", ring.owner(key.encode()), int(place))
     same("owner behind the last point", Ring([b"n", b"m"]).owner(b"wrap-80"), 1)
     tied = bytes_in("ring_tests", "TIED")
     same("owner at a shared point", Ring([b"x", b"1x"]).owner(tied), 1)

@@ -22,7 +22,7 @@ struct Block {
 }
 
 /// The key of a block.
-fn key_of(alloc: Global, block: Block) -> Option<SumKey> {
+fn key_of(alloc: Global, block: &Block) -> Option<SumKey> {
     Some(SumKey {
         name: name(alloc, "a")?,
         edge: block.edge,
@@ -34,24 +34,30 @@ fn key_of(alloc: Global, block: Block) -> Option<SumKey> {
     })
 }
 
-/// Whether the tile in a column and row 1, at edge 2, fits an image of 4 by 4 at some edge.
-fn tile_fits(alloc: Global, tx: u32, edge: u32) -> Option<bool> {
-    let tile = TileKey {
+/// A column of tiles and an edge, and whether the tile there in row 1, of edge 2, fits an image of 4 by 4 at the edge.
+type Tile = (u32, u32, bool);
+
+/// Whether a tile fits as it is to.
+fn is_tile_right(alloc: Global, tile: &Tile) -> Option<bool> {
+    let key = TileKey {
         name: name(alloc, "a")?,
         edge: 2,
-        tx,
+        tx: tile.0,
         ty: 1,
     };
-    let shape = Shape {
-        dim: Dim { w: 4, h: 4 },
-        kind: Kind::Gray,
-        depth: Depth::Eight,
-    };
-    Some(tile.fits(edge, &shape))
+    Some(key.fits(tile.1, &gray(4)) == tile.2)
 }
 
-/// Columns of tiles, edges, and whether the tile fits at the edge.
-static TILES: [(u32, u32, bool); 4] = [
+/// The shape of a gray picture with equal sides.
+fn gray(side: u32) -> Shape {
+    Shape {
+        dim: Dim { w: side, h: side },
+        kind: Kind::Gray,
+        depth: Depth::Eight,
+    }
+}
+
+static TILES: [Tile; 4] = [
     (1, 2, true),
     (1, 3, false),
     (2, 2, false),
@@ -59,150 +65,126 @@ static TILES: [(u32, u32, bool); 4] = [
     (1 << 31, 2, false),
 ];
 
-/// A block in row 0 of a gray picture with equal sides, over the rectangle from a column on that is as large as the picture.
-#[derive(Clone, Copy)]
-struct Place {
-    side: u32,
-    edge: u32,
-    x: u32,
-    size: (u32, u32),
-    level: u8,
-    bx: u32,
-}
+/// A block, the sides of a gray picture, and whether it fits.
+type Place = (Block, u32, bool);
 
-/// Whether a block fits its picture.
-fn block_fits(alloc: Global, place: Place) -> Option<bool> {
-    let Place { side, edge, x, .. } = place;
-    let (w, h) = place.size;
-    let block = Block {
-        edge,
-        rect: Rect {
-            x,
-            y: 0,
-            w: side,
-            h: side,
-        },
-        size: Dim { w, h },
-        level: place.level,
-        bx: place.bx,
-        by: 0,
-    };
-    let shape = Shape {
-        dim: Dim { w: side, h: side },
-        kind: Kind::Gray,
-        depth: Depth::Eight,
-    };
-    Some(key_of(alloc, block)?.fits(edge, &shape))
+/// Whether a block fits as it is to.
+fn is_place_right(alloc: Global, place: &Place) -> Option<bool> {
+    let key = key_of(alloc, &place.0)?;
+    Some(key.fits(key.edge, &gray(place.1)) == place.2)
 }
 
 /// A block of level 0 of a picture of 4 by 4, scaled to 2 by 2.
-const LOW: Place = Place {
-    side: 4,
+const LOW: Block = Block {
     edge: 2,
-    x: 0,
-    size: (2, 2),
+    rect: Rect {
+        x: 0,
+        y: 0,
+        w: 4,
+        h: 4,
+    },
+    size: Dim { w: 2, h: 2 },
     level: 0,
     bx: 0,
+    by: 0,
+};
+
+/// The same in column 1, of a picture that is scaled to 4 by 2.
+const NEXT: Block = Block {
+    bx: 1,
+    size: Dim { w: 4, h: 2 },
+    ..LOW
 };
 
 /// The whole of a picture of 4,096 by 4,096.
-const LARGE: Place = Place {
-    side: 4096,
+const LARGE: Block = Block {
     edge: 1024,
-    x: 0,
-    size: (4096, 4096),
+    rect: Rect {
+        x: 0,
+        y: 0,
+        w: 4096,
+        h: 4096,
+    },
+    size: Dim { w: 4096, h: 4096 },
     level: 2,
     bx: 0,
+    by: 0,
 };
 
-/// Blocks, and whether they fit their pictures.
-static PLACES: [(Place, bool); 10] = [
-    (Place { level: 1, ..LOW }, true),
-    (Place { level: 21, ..LOW }, false),
-    (Place { bx: 2, ..LOW }, false),
-    (Place { bx: 1 << 31, ..LOW }, false),
+static PLACES: [Place; 10] = [
+    (Block { level: 1, ..LOW }, 4, true),
+    (Block { level: 21, ..LOW }, 4, false),
+    (Block { bx: 2, ..LOW }, 4, false),
+    (Block { bx: 1 << 31, ..LOW }, 4, false),
     (
-        Place {
-            bx: 1,
-            size: (5, 2),
-            ..LOW
+        Block {
+            size: Dim { w: 5, h: 2 },
+            ..NEXT
         },
+        4,
         false,
     ),
     (
-        Place {
-            bx: 1,
-            size: (0, 2),
-            ..LOW
+        Block {
+            size: Dim { w: 0, h: 2 },
+            ..NEXT
         },
+        4,
         false,
     ),
+    (NEXT, 4, true),
     (
-        Place {
-            bx: 1,
-            size: (4, 2),
-            ..LOW
+        Block {
+            rect: Rect {
+                x: 1,
+                y: 0,
+                w: 4,
+                h: 4,
+            },
+            ..NEXT
         },
-        true,
-    ),
-    (
-        Place {
-            bx: 1,
-            size: (4, 2),
-            x: 1,
-            ..LOW
-        },
+        4,
         false,
     ),
     // 4,096 by 4,096 places take more than 2^26 bytes, 2,048 by 4,094 don't.
-    (LARGE, false),
+    (LARGE, 4096, false),
     (
-        Place {
-            size: (2048, 4094),
+        Block {
+            size: Dim { w: 2048, h: 4094 },
             ..LARGE
         },
+        4096,
         true,
     ),
 ];
 
 #[test]
 fn keys_that_do_not_fit(rt: HostRuntime) {
-    for (tx, edge, fits) in &TILES {
-        assert!(rt; tile_fits(rt.alloc(), *tx, *edge) == Some(*fits), "{tx}");
+    for tile in &TILES {
+        assert!(rt; is_tile_right(rt.alloc(), tile) == Some(true));
     }
-    for (line, (place, fits)) in PLACES.iter().enumerate() {
-        assert!(rt; block_fits(rt.alloc(), *place) == Some(*fits), "{line}");
-    }
-}
-
-/// Writes a sample that has a place.
-fn put(picture: &mut Raster, x: u32, y: u32, channel: usize, value: u16) {
-    let at = picture.dim();
-    let has_channel = channel < picture.kind().channels();
-    if x < at.w && y < at.h && has_channel && value <= picture.depth().top() {
-        picture.set(x, y, channel, value);
+    for (line, place) in PLACES.iter().enumerate() {
+        assert!(rt; is_place_right(rt.alloc(), place) == Some(true), "{line}");
     }
 }
 
-/// A sample that isn't 0.
-fn sample_of(state: u32, depth: Depth) -> u16 {
-    match depth {
-        Depth::Eight => (state >> 24) as u16 | 1,
-        Depth::Sixteen => (state >> 16) as u16 | 1,
-    }
-}
+/// A picture: its sides, its kind and depth by their byte in a tile's value, and its first and last edge.
+type Picture = (u8, u8, u8, u32, u32);
 
-/// Writes samples that look random, none of them 0.
-fn fill(picture: &mut Raster, shape: &Shape) {
+/// The bytes of a tile's value with these sides, whose samples look random, and none of which is 0.
+fn bytes_of(alloc: Global, picture: &Picture) -> Option<Vec<u8>> {
+    let (w, h, kind, ..) = *picture;
+    let mut bytes = Vec::from_slice(alloc, &[0, 0, 0, w, 0, 0, 0, h, kind]).ok()?;
+    let depth = if kind < 16 { 1u32 } else { 2 };
+    let width = u32::from(w)
+        .wrapping_mul(u32::from(kind & 3))
+        .wrapping_mul(depth);
     let mut state = 12345u32;
-    for y in 0..shape.dim.h {
-        for x in 0..shape.dim.w {
-            for channel in 0..shape.kind.channels() {
-                state = state.wrapping_mul(1_664_525).wrapping_add(1_013_904_223);
-                put(picture, x, y, channel, sample_of(state, shape.depth));
-            }
-        }
+    for _ in 0..width.wrapping_mul(u32::from(h)) {
+        state = state.wrapping_mul(1_664_525).wrapping_add(1_013_904_223);
+        bytes.push((state >> 24) as u8 | 1).ok()?;
     }
+    Some(bytes)
 }
 
 /// A picture, and the shape of its image.
@@ -213,10 +195,25 @@ struct Scene {
     shape: Shape,
 }
 
-/// Where a block lies in a picture.
-fn block_at(dim: Dim, block: Block) -> Rect {
-    let side = block.edge.wrapping_shl(u32::from(block.level));
-    let (x, y) = (block.bx.wrapping_mul(side), block.by.wrapping_mul(side));
+/// A picture's scene.
+fn scene_of(alloc: Global, picture: &Picture) -> Option<Scene> {
+    let TileVal { raster } = TileKey::value_from(alloc, &bytes_of(alloc, picture)?).ok()?;
+    let shape = Shape {
+        dim: raster.dim(),
+        kind: raster.kind(),
+        depth: raster.depth(),
+    };
+    Some(Scene {
+        alloc,
+        picture: raster,
+        shape,
+    })
+}
+
+/// Where the block of a key lies in a picture.
+fn block_at(dim: Dim, key: &SumKey) -> Rect {
+    let side = key.edge.wrapping_shl(u32::from(key.level));
+    let (x, y) = (key.bx.wrapping_mul(side), key.by.wrapping_mul(side));
     Rect {
         x,
         y,
@@ -225,22 +222,9 @@ fn block_at(dim: Dim, block: Block) -> Rect {
     }
 }
 
-/// Where the block of a key lies in a picture.
-fn key_at(dim: Dim, key: &SumKey) -> Rect {
-    let block = Block {
-        edge: key.edge,
-        rect: key.rect,
-        size: key.size,
-        level: key.level,
-        bx: key.bx,
-        by: key.by,
-    };
-    block_at(dim, block)
-}
-
 /// The sums of a key at some places, the plain way.
 fn plain_sums(scene: &Scene, key: &SumKey, places: Rect) -> Option<Vec<u64>> {
-    let at = key_at(scene.shape.dim, key);
+    let at = block_at(scene.shape.dim, key);
     let mut sums = Vec::new(scene.alloc);
     for j in 0..places.h {
         for i in 0..places.w {
@@ -341,11 +325,12 @@ fn derived(scene: &Scene, key: &SumKey) -> Option<SumVal> {
     }
 }
 
-/// Whether a block at `at` of a picture with these sides has a place of a rectangle.
-fn has_any(dim: Dim, at: Rect, rect: Rect) -> bool {
+/// Whether the block of a key has a place of its rectangle, in a picture with these sides.
+fn has_any(dim: Dim, key: &SumKey) -> bool {
+    let at = block_at(dim, key);
     for y in 0..dim.h {
         for x in 0..dim.w {
-            if block_plain::has(at, x, y) && block_plain::has(rect, x, y) {
+            if block_plain::has(at, x, y) && block_plain::has(key.rect, x, y) {
                 return true;
             }
         }
@@ -354,9 +339,11 @@ fn has_any(dim: Dim, at: Rect, rect: Rect) -> bool {
 }
 
 /// Whether the sums of a value are the plain way's, at just the places where that has sums.
-fn are_plain(picture: &Raster, block: Block, at: Rect, value: &SumVal) -> bool {
+fn are_plain(scene: &Scene, key: &SumKey, value: &SumVal) -> bool {
+    let picture = &scene.picture;
+    let at = block_at(scene.shape.dim, key);
     let mut sums = value.sums.sums().iter();
-    let Block { rect, size, .. } = block;
+    let (rect, size) = (key.rect, key.size);
     for j in 0..size.h {
         for i in 0..size.w {
             for channel in 0..picture.kind().channels() {
@@ -375,144 +362,124 @@ fn are_plain(picture: &Raster, block: Block, at: Rect, value: &SumVal) -> bool {
 }
 
 /// Whether what the parts of a key make has its shape and is the plain way's.
-fn is_made_right(scene: &Scene, block: Block, at: Rect, key: &SumKey) -> Option<bool> {
-    if !key.fits(block.edge, &scene.shape) {
+fn is_made_right(scene: &Scene, key: &SumKey) -> Option<bool> {
+    if !key.fits(key.edge, &scene.shape) {
         return None;
     }
     let value = derived(scene, key)?;
-    Some(key.shaped(&scene.shape, &value) && are_plain(&scene.picture, block, at, &value))
+    Some(key.shaped(&scene.shape, &value) && are_plain(scene, key, &value))
 }
 
 /// Whether a key fits just where its block has a place of the rectangle, and then what its parts make is the plain way's.
-fn is_block_right(scene: &Scene, block: Block) -> Option<bool> {
-    let at = block_at(scene.shape.dim, block);
+fn is_block_right(scene: &Scene, block: &Block) -> Option<bool> {
     let key = key_of(scene.alloc, block)?;
-    let fits = key.fits(block.edge, &scene.shape);
-    if fits != has_any(scene.shape.dim, at, block.rect) {
+    let fits = key.fits(key.edge, &scene.shape);
+    if fits != has_any(scene.shape.dim, &key) {
         return Some(false);
     }
     if fits {
-        is_made_right(scene, block, at, &key)
+        is_made_right(scene, &key)
     } else {
         Some(true)
     }
 }
 
-/// Whether every block is right of every level up to the one that has the whole picture, and one column and row of blocks more.
-fn are_levels_right(scene: &Scene, edge: u32, rect: Rect, size: Dim) -> bool {
+/// Whether every block of a rectangle and a size is right, at these edges: of the levels 0 to 3, and one column and row of blocks more
+/// than the picture has.
+fn are_blocks_right(scene: &Scene, rect: Rect, size: Dim, first: u32, last: u32) -> bool {
     let dim = scene.shape.dim;
-    for level in 0..4 {
-        let side = edge.wrapping_shl(u32::from(level)).max(1);
-        for by in 0..=dim.h.div_ceil(side) {
-            for bx in 0..=dim.w.div_ceil(side) {
-                let block = Block {
-                    edge,
-                    rect,
-                    size,
-                    level,
-                    bx,
-                    by,
-                };
-                if is_block_right(scene, block) != Some(true) {
-                    return false;
-                }
-            }
+    // Two bits for the level, and three each for the edge, the column and the row.
+    for bits in 0..2048u32 {
+        let block = Block {
+            edge: (bits >> 2) & 7,
+            rect,
+            size,
+            level: (bits & 3) as u8,
+            bx: (bits >> 5) & 7,
+            by: (bits >> 8) & 7,
+        };
+        let side = block.edge.wrapping_shl(bits & 3);
+        let is_column = block.bx.wrapping_mul(side) < dim.w.wrapping_add(side);
+        let is_row = block.by.wrapping_mul(side) < dim.h.wrapping_add(side);
+        let is_edge = first <= block.edge && block.edge <= last;
+        if is_edge && is_column && is_row && is_block_right(scene, &block) != Some(true) {
+            return false;
         }
     }
     true
 }
 
-/// Whether every block of a rectangle is right, at every size and at these edges.
-fn is_rect_right(scene: &Scene, edges: (u32, u32), rect: Rect) -> bool {
-    for h in 1..=rect.h {
-        for w in 1..=rect.w {
-            for edge in edges.0..=edges.1 {
-                if !are_levels_right(scene, edge, rect, Dim { w, h }) {
-                    return false;
-                }
-            }
+/// Whether every block of every rectangle of a picture with sides of at most 7 is right, at every size and at these edges.
+fn is_right(scene: &Scene, first: u32, last: u32) -> bool {
+    // Three bits each for the rectangle's place, its sides and the size.
+    for bits in 0..262_144u32 {
+        let rect = Rect {
+            x: bits & 7,
+            y: (bits >> 3) & 7,
+            w: (bits >> 6) & 7,
+            h: (bits >> 9) & 7,
+        };
+        let size = Dim {
+            w: (bits >> 12) & 7,
+            h: bits >> 15,
+        };
+        let is_size = 0 < size.w && size.w <= rect.w && 0 < size.h && size.h <= rect.h;
+        let is_inside = rect.x.wrapping_add(rect.w) <= scene.shape.dim.w
+            && rect.y.wrapping_add(rect.h) <= scene.shape.dim.h;
+        if is_size && is_inside && !are_blocks_right(scene, rect, size, first, last) {
+            return false;
         }
     }
     true
 }
-
-/// Whether every block of every rectangle is right that has its first place in a column and row.
-fn are_rects_right(scene: &Scene, edges: (u32, u32), x: u32, y: u32) -> bool {
-    let dim = scene.shape.dim;
-    for h in 1..=dim.h.saturating_sub(y) {
-        for w in 1..=dim.w.saturating_sub(x) {
-            if !is_rect_right(scene, edges, Rect { x, y, w, h }) {
-                return false;
-            }
-        }
-    }
-    true
-}
-
-/// Whether every block of every rectangle of a picture is right, at every size and at these edges.
-fn is_right(scene: &Scene, edges: (u32, u32)) -> bool {
-    for y in 0..scene.shape.dim.h {
-        for x in 0..scene.shape.dim.w {
-            if !are_rects_right(scene, edges, x, y) {
-                return false;
-            }
-        }
-    }
-    true
-}
-
-/// The same of a picture of this shape.
-fn is_right_of(alloc: Global, shape: Shape, edges: (u32, u32)) -> Option<bool> {
-    let mut picture = Raster::new(alloc, shape.dim, shape.kind, shape.depth).ok()?;
-    fill(&mut picture, &shape);
-    let scene = Scene {
-        alloc,
-        picture,
-        shape,
-    };
-    Some(is_right(&scene, edges))
-}
-
-/// The sides of a picture, what its places have, its depth, and its first and last edge.
-type Picture = (u32, u32, Kind, Depth, (u32, u32));
 
 /// Whether every block of a picture is right.
-fn is_picture_right(alloc: Global, picture: Picture) -> bool {
-    let (w, h, kind, depth, edges) = picture;
-    let dim = Dim { w, h };
-    is_right_of(alloc, Shape { dim, kind, depth }, edges) == Some(true)
+fn is_picture_right(alloc: Global, picture: &Picture) -> Option<bool> {
+    Some(is_right(&scene_of(alloc, picture)?, picture.3, picture.4))
 }
 
-/// Pictures beside the gray ones of 1 by 1 to 4 by 4.
-static PICTURES: [Picture; 5] = [
-    (6, 2, Kind::Gray, Depth::Eight, (1, 5)),
-    (1, 5, Kind::Gray, Depth::Eight, (1, 5)),
-    (3, 3, Kind::Rgb, Depth::Eight, (1, 5)),
-    (4, 3, Kind::Gray, Depth::Sixteen, (1, 4)),
-    (2, 3, Kind::Rgb, Depth::Sixteen, (1, 3)),
+/// Gray pictures of 1 by 1 to 4 by 4, and others.
+static PICTURES: [Picture; 21] = [
+    (1, 1, 1, 1, 5),
+    (2, 1, 1, 1, 5),
+    (3, 1, 1, 1, 5),
+    (4, 1, 1, 1, 5),
+    (1, 2, 1, 1, 5),
+    (2, 2, 1, 1, 5),
+    (3, 2, 1, 1, 5),
+    (4, 2, 1, 1, 5),
+    (1, 3, 1, 1, 5),
+    (2, 3, 1, 1, 5),
+    (3, 3, 1, 1, 5),
+    (4, 3, 1, 1, 5),
+    (1, 4, 1, 1, 5),
+    (2, 4, 1, 1, 5),
+    (3, 4, 1, 1, 5),
+    (4, 4, 1, 1, 5),
+    (6, 2, 1, 1, 5),
+    (1, 5, 1, 1, 5),
+    // Red, green and blue, gray of 16 bits, and red, green and blue of 16 bits.
+    (3, 3, 3, 1, 5),
+    (4, 3, 17, 1, 4),
+    (2, 3, 19, 1, 3),
 ];
 
 #[test]
 fn blocks_of_pictures(rt: HostRuntime) {
-    for h in 1..5 {
-        for w in 1..5 {
-            let picture = (w, h, Kind::Gray, Depth::Eight, (1, 5));
-            assert!(rt; is_picture_right(rt.alloc(), picture), "{w} by {h}");
-        }
-    }
     for (line, picture) in PICTURES.iter().enumerate() {
-        assert!(rt; is_picture_right(rt.alloc(), *picture), "{line}");
+        assert!(rt;
+            is_picture_right(rt.alloc(), picture) == Some(true),
+            "{line}"
+        );
     }
 }
 
 #[test]
 fn blocks_of_6_by_6_at_edge_1(rt: HostRuntime) {
-    let picture = (6, 6, Kind::Gray, Depth::Eight, (1, 1));
-    assert!(rt; is_picture_right(rt.alloc(), picture));
+    assert!(rt; is_picture_right(rt.alloc(), &(6, 6, 1, 1, 1)) == Some(true));
 }
 
 #[test]
 fn blocks_of_6_by_6_at_edges_2_to_5(rt: HostRuntime) {
-    let picture = (6, 6, Kind::Gray, Depth::Eight, (2, 5));
-    assert!(rt; is_picture_right(rt.alloc(), picture));
+    assert!(rt; is_picture_right(rt.alloc(), &(6, 6, 1, 2, 5)) == Some(true));
 }

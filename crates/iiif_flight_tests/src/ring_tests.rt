@@ -1,13 +1,42 @@
 //! Owners that were computed outside, by Python's `hashlib`, and the order of names.
 
 use iiif_ring::{Ring, RingFault};
-use std::alloc::{AllocError, Global};
+use std::alloc::Global;
 
 /// A key whose next point is replica 11 of `x` and replica 1 of `1x`.
 const TIED: [u8; 15] = [0, 1, 97, 0, 0, 0, 2, 0, 0, 0, 6, 0, 0, 0, 0];
 
+const NAMES: &[&str] = &["node-b", "node-a", "é", "x", "1x", "10.0.0.7:8080"];
+
 /// Names, a key, and the place of the name that owns it.
-static OWNERS: [(&[&str], &[u8], usize); 3] = [
+static OWNERS: [(&[&str], &[u8], usize); 29] = [
+    (NAMES, b"key-0", 1),
+    (NAMES, b"key-1", 4),
+    (NAMES, b"key-2", 3),
+    (NAMES, b"key-3", 3),
+    (NAMES, b"key-4", 4),
+    (NAMES, b"key-5", 4),
+    (NAMES, b"key-6", 4),
+    (NAMES, b"key-7", 1),
+    (NAMES, b"key-8", 5),
+    (NAMES, b"key-9", 1),
+    (NAMES, b"key-10", 0),
+    (NAMES, b"key-11", 0),
+    (NAMES, b"key-12", 2),
+    (NAMES, b"key-13", 0),
+    (NAMES, b"key-14", 1),
+    (NAMES, b"key-15", 5),
+    (NAMES, b"key-16", 1),
+    (NAMES, b"key-17", 5),
+    (NAMES, b"key-18", 3),
+    (NAMES, b"key-19", 5),
+    (NAMES, b"key-20", 0),
+    (NAMES, b"key-21", 1),
+    (NAMES, b"key-22", 1),
+    (NAMES, b"key-23", 0),
+    // Replica 49 owns the first of these two; a replica 50 would own the other.
+    (NAMES, b"key-208", 4),
+    (NAMES, b"key-76", 5),
     // A key behind the last point goes to the first.
     (&["n", "m"], b"wrap-80", 1),
     // Two names that share a point go by their bytes.
@@ -15,12 +44,14 @@ static OWNERS: [(&[&str], &[u8], usize); 3] = [
     (&["1x", "x"], &TIED, 0),
 ];
 
-/// How many names are taken of `node 0` to `node 64` and then `node 64` again, and how many the ring has, or why there is none.
-static COUNTS: [(u32, Result<usize, RingFault>); 4] = [
-    (0, Err(RingFault::Empty)),
-    (64, Ok(64)),
-    (65, Err(RingFault::TooMany)),
-    (66, Err(RingFault::Twice)),
+/// Names, how many of `node 0` to `node 64` and then `node 64` again are taken behind them, and how many the ring has, or why there
+/// is none.
+static COUNTS: [(&[&str], u32, Result<usize, RingFault>); 5] = [
+    (&["n", "n"], 0, Err(RingFault::Twice)),
+    (&[], 0, Err(RingFault::Empty)),
+    (&[], 64, Ok(64)),
+    (&[], 65, Err(RingFault::TooMany)),
+    (&[], 66, Err(RingFault::Twice)),
 ];
 
 /// Faults, and their numbers.
@@ -31,122 +62,52 @@ static NUMBERS: [(RingFault, u8); 4] = [
     (RingFault::NoMemory, 4),
 ];
 
-fn texts(alloc: Global, names: &[&str]) -> Result<Vec<String>, AllocError> {
+/// These names and so many from `node 0` on, where all behind `node 64` are `node 64` again.
+fn texts(alloc: Global, names: &[&str], count: u32) -> Option<Vec<String>> {
     let mut all = Vec::new(alloc);
     for name in names {
-        all.push(String::from_str(alloc, name)?)?;
+        all.push(String::from_str(alloc, name).ok()?).ok()?;
     }
-    Ok(all)
+    for number in 0..count {
+        let number = number.min(64);
+        all.push(format!(in alloc; "node {number}").ok()?).ok()?;
+    }
+    Some(all)
 }
 
 /// The ring of these names.
-fn ring(alloc: Global, names: &[&str]) -> Result<Ring, RingFault> {
-    match texts(alloc, names) {
-        Ok(names) => Ring::new(alloc, names),
-        Err(_) => Err(RingFault::NoMemory),
+fn ring(alloc: Global, names: &[&str], count: u32) -> Result<Ring, RingFault> {
+    match texts(alloc, names, count) {
+        Some(names) => Ring::new(alloc, names),
+        None => Err(RingFault::NoMemory),
     }
 }
 
-/// Why these names make no ring.
-fn fault_of(alloc: Global, names: &[&str]) -> Option<RingFault> {
-    ring(alloc, names).err()
-}
-
-/// The place of the name that owns a key.
-fn owner(alloc: Global, names: &[&str], key: &[u8]) -> Option<usize> {
-    Some(ring(alloc, names).ok()?.owner(key))
-}
-
-/// So many names from `node 0` on, where all behind `node 64` are `node 64` again.
-fn numbered(alloc: Global, count: u32) -> Result<Vec<String>, AllocError> {
-    let mut all = Vec::new(alloc);
-    for number in 0..count {
-        let number = number.min(64);
-        all.push(format!(in alloc; "node {number}")?)?;
-    }
-    Ok(all)
-}
-
-/// How many names the ring of so many names has.
-fn names_kept(alloc: Global, count: u32) -> Result<usize, RingFault> {
-    match numbered(alloc, count) {
-        Ok(names) => Ok(Ring::new(alloc, names)?.names().len()),
-        Err(_) => Err(RingFault::NoMemory),
-    }
+/// How many names that ring has.
+fn names_kept(alloc: Global, names: &[&str], count: u32) -> Result<usize, RingFault> {
+    Ok(ring(alloc, names, count)?.names().len())
 }
 
 #[test]
 fn names_that_make_no_ring(rt: HostRuntime) {
-    assert!(rt; fault_of(rt.alloc(), &["n", "n"]) == Some(RingFault::Twice));
-    for (count, kept) in &COUNTS {
-        assert!(rt; names_kept(rt.alloc(), *count) == *kept, "{count}");
+    for (names, count, kept) in &COUNTS {
+        assert!(rt; names_kept(rt.alloc(), names, *count) == *kept, "{count}");
     }
     for (fault, number) in &NUMBERS {
         assert!(rt; fault.number() == *number, "{number}");
     }
 }
 
-/// The place of the name that owns `key-0`, `key-1` and so on.
-fn owner_of_number(alloc: Global, names: &[&str], number: u32) -> Option<usize> {
-    let key = format!(in alloc; "key-{number}").ok()?;
-    owner(alloc, names, key.as_bytes())
+/// The place of the name that owns a key.
+fn owner(alloc: Global, names: &[&str], key: &[u8]) -> Option<usize> {
+    Some(ring(alloc, names, 0).ok()?.owner(key))
 }
 
 #[test]
 fn owners_as_computed_outside(rt: HostRuntime) {
-    static NAMES: [&str; 6] = ["node-b", "node-a", "é", "x", "1x", "10.0.0.7:8080"];
-    static PLACES: [(u32, usize); 26] = [
-        (0, 1),
-        (1, 4),
-        (2, 3),
-        (3, 3),
-        (4, 4),
-        (5, 4),
-        (6, 4),
-        (7, 1),
-        (8, 5),
-        (9, 1),
-        (10, 0),
-        (11, 0),
-        (12, 2),
-        (13, 0),
-        (14, 1),
-        (15, 5),
-        (16, 1),
-        (17, 5),
-        (18, 3),
-        (19, 5),
-        (20, 0),
-        (21, 1),
-        (22, 1),
-        (23, 0),
-        // Replica 49 owns the first of these two; a replica 50 would own the other.
-        (208, 4),
-        (76, 5),
-    ];
-    for (number, place) in &PLACES {
-        assert!(rt;
-            owner_of_number(rt.alloc(), &NAMES, *number) == Some(*place),
-            "{number}"
-        );
-    }
-}
-
-#[test]
-fn owners_at_the_end_and_at_a_shared_point(rt: HostRuntime) {
     for (line, (names, key, place)) in OWNERS.iter().enumerate() {
         assert!(rt; owner(rt.alloc(), names, key) == Some(*place), "{line}");
     }
-}
-
-/// Whether the first name owns each of 1,000 keys.
-fn owns_every_key(ring: &Ring) -> bool {
-    for number in 0..1000u32 {
-        if ring.owner(&number.to_be_bytes()) != 0 {
-            return false;
-        }
-    }
-    true
 }
 
 /// The name that owns a key.
@@ -166,19 +127,15 @@ fn agree(one: &Ring, other: &Ring) -> bool {
     true
 }
 
-/// Whether one name owns every key.
-fn is_alone_right(alloc: Global) -> Option<bool> {
-    Some(owns_every_key(&ring(alloc, &["n"]).ok()?))
+/// Whether the rings of these names and of those do.
+fn are_of_one_mind(alloc: Global, names: &[&str], others: &[&str]) -> Option<bool> {
+    let one = ring(alloc, names, 0).ok()?;
+    Some(agree(&one, &ring(alloc, others, 0).ok()?))
 }
 
-/// Whether the owners are the same in whatever order two names are given.
-fn is_order_right(alloc: Global) -> Option<bool> {
-    let one = ring(alloc, &["p", "q"]).ok()?;
-    Some(agree(&one, &ring(alloc, &["q", "p"]).ok()?))
-}
-
+/// One name owns every key, and the owners are the same in whatever order two names are given.
 #[test]
 fn owners_of_1000_keys(rt: HostRuntime) {
-    assert!(rt; is_alone_right(rt.alloc()) == Some(true));
-    assert!(rt; is_order_right(rt.alloc()) == Some(true));
+    assert!(rt; are_of_one_mind(rt.alloc(), &["n"], &["n"]) == Some(true));
+    assert!(rt; are_of_one_mind(rt.alloc(), &["p", "q"], &["q", "p"]) == Some(true));
 }
