@@ -13,11 +13,11 @@ job that keeps its size, or whose larger result is 1,024 wide at most, is so sho
 do it ten times a round. An overview of 100 megapixels is made by one worker and by four, too, each also with the settings of ALONE, which
 docs/OPERATING.md has for a single large image; and an overview from strips with tiles of 1,024. The peak of the resident memory is taken in
 seven runs of its own (of the others three). With --before, another build of the program runs beside it, on the jobs of 8 bits and of bits
-that aren't scaled up. With --package both run in the environment of the package's unit. With --reads, `strace` counts the reads of the source that a job takes, in a run of its own.
+that aren't scaled up. Right before each program, whichever it is, --warm MiB of memory are touched and given back (`touch`). With --package both run in the environment of the package's unit. With --reads, `strace` counts the reads of the source that a job takes, in a run of its own.
 
 The status is 1 where an answer of the program differs or a program fails, and with --strict also where a limit is passed. Memory: what
 docs/OPERATING.md says, which is the caches and a band (`memory.py`), with the program's defaults, with no cache, with a small one and a
-single worker, and with four workers. Wall clock: an overview of 100 megapixels from tiles 1.15 of the build before by one worker, and 0.6 by four, with the settings of ALONE (by the defaults they are printed);
+single worker, and with four workers. Wall clock: an overview of 100 megapixels from tiles 1.15 of the build before by one worker, and 0.6 by four, by the defaults and with the settings of ALONE;
 from strips GDAL's average, by two; on 16 bits 1.5 of plain Rust's and 1.0 of GDAL's average, by the defaults, which are two workers, where the others have one
 thread. Processor time: 1.5 of plain Rust's where a result is above its region. The other ratios of processor time are printed and not judged.
 """
@@ -429,9 +429,9 @@ def limits(args, jobs, medians):
     print("|---|---|---|---|---|---|---|---|")
     for job in filter(is_overview, jobs):
         tiles = SOURCES[JOBS[job][1]].tile
-        cells = [ratio(job, "one worker", "the build before", 0, None),
+        cells = [ratio(job, "one worker", "the build before", 0, 1.15 if tiles else None),
                  ratio(job, "one worker, no caches", "the build before", 0, 1.15 if tiles else None),
-                 ratio(job, "four workers", "the build before", 0, None),
+                 ratio(job, "four workers", "the build before", 0, 0.6 if tiles else None),
                  ratio(job, "four workers, no caches", "the build before", 0, 0.6 if tiles else None),
                  ratio(job, "this program", "the build before", 0, None), ratio(job, "this program", "GDAL", 0, None if tiles else 1.0),
                  ratio(job, "--edge 1024", "GDAL", 0, 1.0)]
@@ -512,7 +512,7 @@ def main():
     parser.add_argument("--jobs", default="", help="only jobs whose name has this pattern")
     parser.add_argument("--without", nargs="*", default=[], help="libvips, GDAL, plain: programs to leave out")
     parser.add_argument("--reads", action="store_true", help="count the reads of the source")
-    parser.add_argument("--warm", type=int, default=0, help="touch so many MiB of memory right before each program is run, whichever it is")
+    parser.add_argument("--warm", type=int, default=512, metavar="MIB", help="how much memory is touched right before each program is run, whichever it is")
     parser.add_argument("--package", action="store_true", help="run the program, and the build before, in the environment of the package's unit, but for peaks of memory")
     parser.add_argument("--strict", action="store_true", help="status 1 where a limit is passed")
     return compare(parser.parse_args())

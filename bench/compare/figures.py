@@ -158,7 +158,7 @@ def main():
         print("\n## Whole answers\n")
         whole = argparse.Namespace(program=Bench("iiif_serve", []).program(TOP), plain=os.path.join(args.work, "compare"), work=args.work,
                                    before=Bench("iiif_serve", []).program(args.before) if args.before else None,
-                                   rounds=args.rounds, jobs=args.jobs, reads=args.reads, without=[], warm=0, strict=True)
+                                   rounds=args.rounds, jobs=args.jobs, reads=args.reads, without=[], warm=512, strict=True)
         with contextlib.chdir(args.work):
             status |= compare.compare(whole)
     return status
