@@ -34,6 +34,7 @@ import time
 import memory
 import numpy as np
 from PIL import Image
+from warming import touch
 
 Image.MAX_IMAGE_PIXELS = None
 
@@ -262,13 +263,6 @@ def programs(args, job):
     bits = ["-scale", "0", "1", "0", "255"] if source.bits == 1 else []
     lines["GDAL"] = [["gdal_translate", "-q", "-co", "PROFILE=BASELINE", *window, *scaling, *bits, path, out]]
     return {name: line for name, line in lines.items() if name.split(" ")[0] not in args.without}
-
-
-def touch(mebibytes):
-    """Takes so much memory, writes to all of it and gives it back. A virtual machine then has it at hand for a while, and whoever takes new
-    pages next doesn't wait until its host finds them."""
-    if mebibytes:
-        subprocess.run([sys.executable, "-c", f"b'x' * ({mebibytes} << 20)"], check=True)
 
 
 def package():

@@ -311,7 +311,7 @@ def main():
     parser.add_argument("--jobs", default="", help="only jobs whose name has this pattern")
     parser.add_argument("--nodes", type=int, nargs="*", default=[], help="so many nodes beside one")
     parser.add_argument("--unchecked", action="store_true", help="leave out the run in which answers are compared")
-    parser.add_argument("--warm", type=int, default=0, help="touch so many MiB of memory right before each server is started, whichever it is")
+    parser.add_argument("--warm", type=int, default=512, metavar="MIB", help="how much memory is touched right before each server is started, whichever it is")
     parser.add_argument("--strict", action="store_true", help="status 1 where a limit is passed")
     args = parser.parse_args()
     args.work = os.path.abspath(args.work)

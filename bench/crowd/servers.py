@@ -6,8 +6,10 @@ import subprocess
 import sys
 import time
 
-sys.path.insert(0, os.path.join(os.path.dirname(os.path.abspath(__file__)), "..", "hostile"))
+for folder in ("hostile", "compare"):
+    sys.path.insert(0, os.path.join(os.path.dirname(os.path.abspath(__file__)), "..", folder))
 import program as running  # noqa: E402
+from warming import touch  # noqa: E402
 
 BASE, NAME, IIPSRV = running.BASE, "gray", "/usr/lib/iipimage-server/iipsrv.fcgi"
 TICKS = os.sysconf("SC_CLK_TCK")
@@ -19,13 +21,6 @@ def unit_environment():
     with open(UNIT) as unit:
         words = [line.strip().removeprefix("Environment=") for line in unit if line.startswith("Environment=")]
     return dict(word.split("=", 1) for word in words)
-
-
-def touch(mebibytes):
-    """Takes so much memory, writes to all of it and gives it back. A virtual machine then has it at hand for a while, and whoever takes new
-    pages next doesn't wait until its host finds them."""
-    if mebibytes:
-        subprocess.run([sys.executable, "-c", f"b'x' * ({mebibytes} << 20)"], check=True)
 
 
 class Failed(Exception):
