@@ -17,9 +17,10 @@ The jobs, each on servers that are started anew for it, so that their caches are
   crowd          8 viewers, 100 different requests of such paths, each asked by two viewers at the same time
   viewers        1, 8 and 64 viewers, each somewhere else on such paths
 With --floor a server that reads and writes the bytes of native tiles, and does nothing else, runs too: none whose threads sleep takes less.
-All servers run in turn, --rounds times (the plain one once, as it takes minutes), and medians are printed: wall time, processor time of all processes of a server, requests a second,
-and the 50th and the 99th percentile of the time from a request's first byte to its answer's last. With --nodes, the crowd's viewers go to
-so many nodes that ask each other, one after another.
+All servers run in turn, --rounds times (the plain one once, as it takes minutes), and medians are printed: how long the viewer waited who waited longest, which is the sum over
+its requests of the time from a request's first byte to its answer's last; processor time of all processes of a server; requests a second of that time; and the 50th and the 99th
+percentile of those times. What a viewer does between an answer and its next request, a check sum of the answer's bytes, is in none of them: of a native tile of 64 KiB that
+takes as long as a tenth of the answer, of IIPImage's JPEG nearly nothing. With --nodes, the crowd's viewers go to so many nodes that ask each other, one after another.
 
 In a run before these the answers are kept: those of the program have to be equal, byte for byte, to heads and exact averages worked out by
 bench/hostile and bench/compare from the formula; of the others it is looked whether each is an image of the right sides. In every run equal
@@ -171,7 +172,7 @@ class Bench:
         return "\n\n".join("\n".join(f"{server.addresses[n % len(server.addresses)]} {target}" for target in part) for n, part in enumerate(lists)) + "\n"
 
     def asked(self, server, job, kept=None):
-        """One run: wall and processor seconds, and for each request its columns of TIMES."""
+        """One run: seconds that were waited and processor seconds, and for each request its columns of TIMES."""
         lists, times = os.path.join(self.room, "lists"), os.path.join(self.room, "times")
         with open(lists, "w") as file:
             file.write(self.lists(server, job))
@@ -182,7 +183,7 @@ class Bench:
             raise servers.Failed(server.column, done.returncode, f"{job}: {done.stderr.strip()}")
         with open(times) as file:
             rows = [line.split() for line in file]
-        return max(int(row[1]) + int(row[2]) for row in rows) / 1e6, used, rows
+        return waited(rows), used, rows
 
     def expected(self, target):
         if target not in self.known:
@@ -226,6 +227,14 @@ def unclosed(answer):
     return answer.replace(b"Connection: close\r\n", b"", 1)
 
 
+def waited(rows):
+    """The seconds for which the viewer waited who waited longest."""
+    each = {}
+    for row in rows:
+        each[row[0]] = each.get(row[0], 0) + int(row[2])
+    return max(each.values()) / 1e6
+
+
 def percentile(rows, part):
     """In ms."""
     times = sorted(int(row[2]) for row in rows)
@@ -233,7 +242,7 @@ def percentile(rows, part):
 
 
 def measured(bench, jobs, columns):
-    """The medians of each job and column: wall and processor seconds, requests a second, the two percentiles, connections closed unanswered."""
+    """The medians of each job and column: seconds waited, processor seconds, requests a second, the two percentiles, connections closed unanswered."""
     found = {}
     for turn in range(bench.args.rounds):
         for job in jobs:
@@ -242,13 +251,13 @@ def measured(bench, jobs, columns):
                     continue
                 with start() as server:
                     try:
-                        wall, used, rows = bench.asked(server, job)
+                        time, used, rows = bench.asked(server, job)
                     except servers.Failed:
                         if column == PLAIN:
                             continue
                         raise
                 away = sum(int(row[5]) for row in rows)
-                found.setdefault((job, column), []).append((wall, used, len(rows) / wall, percentile(rows, 0.5), percentile(rows, 0.99), away))
+                found.setdefault((job, column), []).append((time, used, len(rows) / time, percentile(rows, 0.5), percentile(rows, 0.99), away))
     return {key: [statistics.median(column) for column in zip(*runs)] for key, runs in found.items()}
 
 
@@ -267,12 +276,12 @@ def limits(jobs, names, medians):
     passed = []
 
     def part(job, name):
-        wall, used = (medians[job, OWN][at] / max(medians[job, name][at], 0.01) for at in (0, 1))
-        if name.startswith("IIPImage over the same file") and wall > LIMITS.get(job, wall):
-            passed.append(f"{job}: {wall:.2f} of the time of {name}, above {LIMITS[job]}")
-        return f"{wall:.2f} ({used:.2f})"
+        time, used = (medians[job, OWN][at] / max(medians[job, name][at], 0.01) for at in (0, 1))
+        if name.startswith("IIPImage over the same file") and time > LIMITS.get(job, time):
+            passed.append(f"{job}: {time:.2f} of the time of {name}, above {LIMITS[job]}")
+        return f"{time:.2f} ({used:.2f})"
 
-    table("This program's wall time as a part of each other's (and processor time)", jobs, [name for name in names if name != OWN], medians, part)
+    table("What was waited for this program as a part of each other's (and processor time)", jobs, [name for name in names if name != OWN], medians, part)
     job, most = SPREAD
     if job in jobs and (value := medians[job, OWN][4] / medians[job, OWN][3]) > most:
         passed.append(f"{job}: the 99th percentile is {value:.1f} of the 50th, above {most}")
@@ -281,7 +290,7 @@ def limits(jobs, names, medians):
 
 def nodes(bench, counts, job="crowd"):
     """Loads, requests and wrong answers of one node and of several; the rows are printed."""
-    print(f"\n**The {job}'s viewers over several nodes**\n\n| nodes | wall time, s | processor time, s | each node's loads of tiles and of sums | requests to each node |\n|---|---|---|---|---|")
+    print(f"\n**The {job}'s viewers over several nodes**\n\n| nodes | waited, s | processor time, s | each node's loads of tiles and of sums | requests to each node |\n|---|---|---|---|---|")
     wrong = []
     for count in counts:
         start = lambda: servers.Program(f"{OWN}, {count} nodes", bench.args.program, bench.source, bench.room, bench.args.options.split(), count)  # noqa: E731
@@ -289,11 +298,11 @@ def nodes(bench, counts, job="crowd"):
         runs = []
         for _ in range(bench.args.rounds):
             with start() as server:
-                wall, used, rows = bench.asked(server, job)
+                time, used, rows = bench.asked(server, job)
                 requests = [sum(int(row[0]) % count == n for row in rows) for n in range(count)]
-                runs.append((wall, used, server.loads(), requests))
-        wall, used, loads, requests = sorted(runs, key=lambda run: run[0])[len(runs) // 2]
-        print(f"| {count} | {wall:.2f} | {used:.2f} | {'; '.join(loads) if loads else 'no counters'} | {', '.join(map(str, requests))} |")
+                runs.append((time, used, server.loads(), requests))
+        time, used, loads, requests = sorted(runs, key=lambda run: run[0])[len(runs) // 2]
+        print(f"| {count} | {time:.2f} | {used:.2f} | {'; '.join(loads) if loads else 'no counters'} | {', '.join(map(str, requests))} |")
     return wrong
 
 
@@ -325,7 +334,7 @@ def main():
         print(f"{len(wrong)} wrong answers" if not args.unchecked else "answers not compared", flush=True)
         medians, names = measured(bench, jobs, columns), list(columns)
         print(f"load after: {compare.load()}")
-        table("Wall time, s (and processor time)", jobs, names, medians, lambda job, name: "{:.2f} ({:.2f})".format(*medians[job, name][:2]))
+        table("Waited, s (and processor time)", jobs, names, medians, lambda job, name: "{:.2f} ({:.2f})".format(*medians[job, name][:2]))
         table("Requests a second", jobs, names, medians, lambda job, name: f"{medians[job, name][2]:,.0f}")
         table("50th and 99th percentile, ms", jobs, names, medians, lambda job, name: "{:.1f}, {:.1f}".format(*medians[job, name][3:5]))
         table("Connections closed unanswered", jobs, names, medians, lambda job, name: f"{medians[job, name][5]:.0f}")
