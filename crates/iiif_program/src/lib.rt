@@ -3,9 +3,7 @@
 //! `iiif_services`.
 #![tactic(auto)]
 
-pub use iiif_connections::{PeerCalls, Statistics, Times, Viewers, Watcher, serving, times};
-pub use iiif_services::{Addresses, Listeners, listeners};
-pub use iiif_start::{Stop, Stored, Unfit, opening, stop, stored, unfit};
+pub use iiif_start::stop;
 
 mod hex;
 mod one;

@@ -329,8 +329,9 @@ impl<
                 let message = head_message(alloc, close, &self.config, entry, accepted);
                 send_message(out, part, message)
             }
-            Part::Body => self.send_loaded(rt, alloc, passes, part, entry, accepted, out),
-            Part::Whole(_) => self.send_loaded(rt, alloc, passes, part, entry, accepted, out),
+            Part::Body | Part::Whole(_) => {
+                self.send_loaded(rt, alloc, passes, part, entry, accepted, out)
+            }
         }
     }
 

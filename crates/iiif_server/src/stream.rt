@@ -116,13 +116,7 @@ impl<
         let call = match heads.read_head() {
             Ok(Some(call)) => closing_call(call, n),
             Ok(None) => return false,
-            Err(HeadFault::Bad) => {
-                let begun = watch.begin(rt);
-                let outcome = close_for_head(alloc, out);
-                watch.answered(rt, begun, None, &outcome);
-                return false;
-            }
-            Err(HeadFault::TooLong) => {
+            Err(HeadFault::Bad | HeadFault::TooLong) => {
                 let begun = watch.begin(rt);
                 let outcome = close_for_head(alloc, out);
                 watch.answered(rt, begun, None, &outcome);
@@ -134,8 +128,7 @@ impl<
                 watch.answered(rt, begun, None, &outcome);
                 return false;
             }
-            Err(HeadFault::Cut) => return false,
-            Err(HeadFault::Io) => return false,
+            Err(HeadFault::Cut | HeadFault::Io) => return false,
         };
         self.serve_call(rt, alloc, passes, &call, out, watch)
     }

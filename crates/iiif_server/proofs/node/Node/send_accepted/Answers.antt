@@ -1,4 +1,4 @@
-use Rattle.std.proofs.Common.{◌∙◌, ap, sym}
+use Rattle.std.proofs.Common.{◌∙◌, ap, sym, ⊎_elim}
 use Rattle.std.specs.Prelude.{IsTrue}
 use Rattle.std.proofs.lemmas.Bool.{false≢true}
 use Rattle.iiif_images.specs.Items.{item_of}
@@ -15,7 +15,4 @@ returns-in-Head-clause-allowed g c q p is kind =
     c.requires.ready.quarters kind made c.send_message.ensures.made c.send_message.ensures.memory
 
 pub returns-in-Body-clause-unasked : goal.returns-in-Body-clause-unasked
-returns-in-Body-clause-unasked g c none = absurd (false≢true (sym none ∙ ap is_loaded c.in-Body.is))
-
-pub returns-in-Whole-clause-unasked : goal.returns-in-Whole-clause-unasked
-returns-in-Whole-clause-unasked g c none = absurd (false≢true (sym none ∙ ap is_loaded c.in-Whole.is))
+returns-in-Body-clause-unasked g c none = ⊎_elim (λ is. absurd (false≢true (sym none ∙ ap is_loaded is))) (λ whole. absurd (false≢true (sym none ∙ ap is_loaded whole.1))) c.in-Body.is
