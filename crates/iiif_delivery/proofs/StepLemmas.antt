@@ -168,8 +168,8 @@ counted_before j kind front rows text sent held y counted zero some =
 -- a band more
 pub counted_more : (j : Job) (kind : OutKind) (front rows : ℕ) (text more after : List ℕ) (sent held most y n y2 held2 : ℕ) → HasCounted j kind front rows text sent held y →
     length more ≡ row_len kind (result_dim j).w * n → IsHeldFor (record { w = (result_dim j).w; h = n }) (channels_of j.shape.kind) most → n ≤ min rows (result_dim j).h → 0 < n →
-    held2 ≡ max held most → y2 ≡ y + n → after ≡ text ++ more → HasCounted j kind front rows after sent held2 y2
-counted_more j kind front rows text more after sent held most y n y2 held2 counted len is_held few some greater next ready =
+    (y ≡ 0 → n ≡ min rows (result_dim j).h) → held2 ≡ max held most → y2 ≡ y + n → after ≡ text ++ more → HasCounted j kind front rows after sent held2 y2
+counted_more j kind front rows text more after sent held most y n y2 held2 counted len is_held few some whole greater next ready =
     let d = result_dim j in
     let c = channels_of j.shape.kind in
     let row = row_len kind d.w in
@@ -183,6 +183,12 @@ counted_more j kind front rows text more after sent held most y n y2 held2 count
       total = let t = counted.total in omega (arith, t, both, sum, len);
       band = let a = counted.band in let b = is_held.twice in omega (arith, a, b, narrow, own, wide, greater);
       begun = inr (omega (arith, next, some), let b = is_held.own in omega (arith, b, one, own, greater));
+      first = λ _. elim counted.begun [
+        | inl none ↦
+            let same : n * (d.w * c) ≡ min rows d.h * (d.w * c) = ap (λ m. m * (d.w * c)) (whole none.0) in
+            let b = is_held.own in omega (arith, b, own, same, wide, greater)
+        | inr begun ↦ let a = counted.first begun.0 in omega (arith, a, greater)
+      ];
     }
 
 -- what stood ready is written
@@ -195,6 +201,7 @@ counted_flushed j kind front rows text after sent held y sent2 counted some writ
     | inl first ↦ absurd (omega (arith, first.0, some))
     | inr begun ↦ inr begun
   ];
+  first = counted.first;
 }
 
 pub counted_first : (j : Job) (kind : OutKind) (front rows y : ℕ) (text : List ℕ) → length text ≡ front → y ≡ 0 → HasCounted j kind front rows text 0 0 y
@@ -202,15 +209,13 @@ counted_first j kind front rows y text len none = record {
   total = let zero : row_len kind (result_dim j).w * y ≡ 0 = ap (λ m. row_len kind (result_dim j).w * m) none ∙ omega arith in omega (arith, len, zero);
   band = omega arith;
   begun = inl (none, refl, refl);
+  first = λ some. absurd (omega (arith, none, some));
 }
 
 -- all rows
 pub counted_done : (j : Job) (kind : OutKind) (front rows : ℕ) (text : List ℕ) (sent held y : ℕ) → 0 < (result_dim j).h → y ≡ (result_dim j).h →
     HasCounted j kind front rows text sent held y → IsHeldInBands (result_dim j) rows (channels_of j.shape.kind) held
-counted_done j kind front rows text sent held y some end counted = elim counted.begun [
-  | inl none ↦ absurd (omega (arith, none.0, end, some))
-  | inr done ↦ record { row = done.1; band = counted.band }
-]
+counted_done j kind front rows text sent held y some end counted = record { band = counted.first (omega (arith, end, some)); twice = counted.band }
 
 -- ---- What is written
 

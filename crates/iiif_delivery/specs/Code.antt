@@ -1,5 +1,5 @@
 -- Words of private functions.
-use Rattle.std.specs.Prelude.{◌≡◌, ℕ, ◌+◌, ◌-◌, ◌*◌, ◌<◌, ◌≤◌, ◌⊎◌, min, List, [], ◌++◌, Option, length, nat_lt, if◌then◌else◌}
+use Rattle.std.specs.Prelude.{◌≡◌, ℕ, ◌+◌, ◌-◌, ◌*◌, ◌<◌, ◌≤◌, ◌⊎◌, min, List, ◌++◌, Option, length, nat_lt, if◌then◌else◌}
 use Rattle.std.specs.Io.KnownBytes.{Appends}
 use Rattle.iiif_pixel.specs.Geometry.{channels_of, sides_of, top_of}
 use Rattle.iiif_pixel.specs.Laws.{AllRows, CropIsWhole, QualityIsWhole, ScaleIsWhole, TurnIsWhole}
@@ -71,3 +71,4 @@ pub record HasCounted (j : Job) (kind : OutKind) (front rows : ℕ) (text : List
   pub total : sent + length text ≡ front + row_len kind (result_dim j).w * y
   pub band : held ≤ 2 * (min rows (result_dim j).h * (result_dim j).w * channels_of j.shape.kind)
   pub begun : ((y ≡ 0) × (sent ≡ 0) × (held ≡ 0)) ⊎ ((0 < y) × ((result_dim j).w * channels_of j.shape.kind ≤ held))
+  pub first : 0 < y → min rows (result_dim j).h * (result_dim j).w * channels_of j.shape.kind ≤ held

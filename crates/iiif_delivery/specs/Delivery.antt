@@ -37,10 +37,10 @@ pub record IsImageFor (shows : Pictures) (j : Job) (tile_means : TileKey → Til
   pub same : IsShown shows j tile_means sum_means → image ≡ resolved_image (named shows j.name) j.resolved
 
 -- Of an image with these sides that was sent in bands of so many rows, with so many channels in its source, so many samples and sums
--- were held at once: those of a row at least, and at most twice those of a band.
+-- were held at once: those of its first band at least, of which none has more, and at most twice these.
 pub record IsHeldInBands (d : Dim) (rows channels held : ℕ) : Type 0 where
-  pub row : d.w * channels ≤ held
-  pub band : held ≤ 2 * (min rows d.h * d.w * channels)
+  pub band : min rows d.h * d.w * channels ≤ held
+  pub twice : held ≤ 2 * (min rows d.h * d.w * channels)
 
 -- What was written of a text before its sending stopped. Where the writer failed, a strict prefix. Where a band could not be made,
 -- a strict prefix too, which is empty or has what stands before the rows.

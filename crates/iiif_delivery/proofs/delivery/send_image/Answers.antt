@@ -195,7 +195,8 @@ flush-requires-then-len-ge-PIECE g c =
     let is_held = subst (λ (r : Rect). IsHeldFor (sides_of r) (channels_of j.shape.kind) c.in-Ok-put_band.most) is c.in-Ok-put_band.ensures.held in
     let len = more_len j tm sm c.args.kind y n made.0 is_band in
     let counted = counted_more j c.args.kind front c.args.rows c.loop-band.text.items (strip c.args.kind made.0) c.put_band.new.text.items c.loop-band.sent c.loop-band.held
-    c.in-Ok-put_band.most y n y2 c.max-held.result c.loop-band.invariant.counted len is_held (omega (arith, above)) (omega (arith, above, c.requires.rows)) (omega (arith, c.max-held.ensures)) next made.2 in
+    c.in-Ok-put_band.most y n y2 c.max-held.result c.loop-band.invariant.counted len is_held (omega (arith, above)) (omega (arith, above, c.requires.rows)) (λ (zero : y ≡ 0). omega (arith, zero, row))
+    (omega (arith, c.max-held.ensures)) next made.2 in
     let small = c.in-Ok.text.small in
     let long = c.in-Ok.text.ok in
     let first : length c.in-Ok.text.items ≡ length c.args.start.now + length (head_of c.args.kind c.turned-dim.result) =
@@ -257,7 +258,8 @@ loop-band-preserved g c =
     let is_held = subst (λ (r : Rect). IsHeldFor (sides_of r) (channels_of j.shape.kind) c.in-Ok-put_band.most) is c.in-Ok-put_band.ensures.held in
     let len = more_len j tm sm c.args.kind y n made.0 is_band in
     let counted = counted_more j c.args.kind front c.args.rows c.loop-band.text.items (strip c.args.kind made.0) c.put_band.new.text.items c.loop-band.sent c.loop-band.held
-    c.in-Ok-put_band.most y n y2 c.max-held.result c.loop-band.invariant.counted len is_held (omega (arith, above)) (omega (arith, above, c.requires.rows)) (omega (arith, c.max-held.ensures)) next made.2 in
+    c.in-Ok-put_band.most y n y2 c.max-held.result c.loop-band.invariant.counted len is_held (omega (arith, above)) (omega (arith, above, c.requires.rows)) (λ (zero : y ≡ 0). omega (arith, zero, row))
+    (omega (arith, c.max-held.ensures)) next made.2 in
     elim c.if-len-ge-PIECE.branch [
       | then-len-ge-PIECE+in-Ok-flush-2 w ↦
           let none = ap (λ v. v.items) w.text-is ∙ w.in-Ok-flush-2.ensures.none in
