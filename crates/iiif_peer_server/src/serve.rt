@@ -46,8 +46,7 @@ fn serve_next<R, P, S: Answers<R, P>, I: Inlet, W: Outlet>(
 {
     let ask = match read_ask(alloc, reader) {
         Ok(Some(ask)) => ask,
-        Ok(None) => return false,
-        Err(_) => return false,
+        Ok(None) | Err(_) => return false,
     };
     let (status, value) = service.answer(rt, alloc, passes, &ask);
     match write_reply(out, ask.version, &ask.key, status, &value) {
