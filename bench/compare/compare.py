@@ -13,7 +13,8 @@ job that keeps its size, or whose larger result is 1,024 wide at most, is so sho
 do it ten times a round. An overview of 100 megapixels is made by one worker and by four, too, each also with the settings of ALONE, which
 docs/OPERATING.md has for a single large image; and an overview from strips with tiles of 1,024. The peak of the resident memory is taken in
 seven runs of its own (of the others three). With --before, another build of the program runs beside it, on the jobs of 8 bits and of bits
-that aren't scaled up. Right before each program, whichever it is, --warm MiB of memory are touched and given back (`touch`). With --package both run in the environment of the package's unit. With --reads, `strace` counts the reads of the source that a job takes, in a run of its own.
+that aren't scaled up. Right before each program, whichever it is, --warm MiB of memory are touched and given back (`touch`). With --tuned both run in the environment
+that the manual has for one large image. With --reads, `strace` counts the reads of the source that a job takes, in a run of its own.
 
 The status is 1 where an answer of the program differs or a program fails, and with --strict also where a limit is passed. Memory: what
 docs/OPERATING.md says, which is the caches and a band (`memory.py`), with the program's defaults, with no cache, with a small one and a
@@ -106,8 +107,9 @@ class Source:
         os.replace(path + ".part", path)
 
 
-# What starts the program in the package, and sets its environment.
-UNIT = os.path.join(os.path.dirname(os.path.abspath(__file__)), "..", "..", "packaging", "iiif-serve.service")
+# What starts the program in the package, and sets its environment; and what says in which one an image is made from the command line.
+PACKAGING = os.path.join(os.path.dirname(os.path.abspath(__file__)), "..", "..", "packaging")
+UNIT, MANUAL = os.path.join(PACKAGING, "iiif-serve.service"), os.path.join(PACKAGING, "iiif_serve.1")
 
 SOURCES = [
     Source("gray-tiles", 10_000, 12, tile=256),
@@ -267,8 +269,18 @@ def programs(args, job):
 
 def package():
     """The environment of the package's unit."""
-    with open(UNIT) as unit:
-        words = [line.strip().removeprefix("Environment=") for line in unit if line.startswith("Environment=")]
+    return added(UNIT, "Environment=GLIBC_TUNABLES=", "Environment=")
+
+
+def one_image():
+    """The one that the manual has for one large image from the command line."""
+    return added(MANUAL, "GLIBC_TUNABLES=")
+
+
+def added(file, start, more=""):
+    """The environment with what the lines of a file that start so set in it."""
+    with open(file) as lines:
+        words = [line.strip().removeprefix(more) for line in lines if line.startswith(start)]
     return {**os.environ, **dict(word.split("=", 1) for word in words)}
 
 
@@ -379,7 +391,7 @@ def turned(programs, turn):
 def measured(args, jobs, wanted):
     """The medians of each job and program (wall clock, processor time, peak memory), and whether an answer was wrong."""
     times, peaks, wrong = {}, {}, False
-    environment = package() if args.package else None
+    environment = one_image() if args.tuned else None
     for turn in range(args.rounds):
         for job in jobs:
             for name, commands in turned(list(programs(args, job).items()), turn):
@@ -507,7 +519,7 @@ def main():
     parser.add_argument("--without", nargs="*", default=[], help="libvips, GDAL, plain: programs to leave out")
     parser.add_argument("--reads", action="store_true", help="count the reads of the source")
     parser.add_argument("--warm", type=int, default=512, metavar="MIB", help="how much memory is touched right before each program is run, whichever it is")
-    parser.add_argument("--package", action="store_true", help="run the program, and the build before, in the environment of the package's unit, but for peaks of memory")
+    parser.add_argument("--tuned", action="store_true", help="run the program, and the build before, in the environment that the manual has for one image, but for peaks of memory")
     parser.add_argument("--strict", action="store_true", help="status 1 where a limit is passed")
     return compare(parser.parse_args())
 

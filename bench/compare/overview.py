@@ -3,15 +3,15 @@
     /usr/bin/python3 bench/compare/overview.py --program crates/iiif_serve/out/iiif_serve --before BUILD [--rounds 11] [--strict]
 
 The gray file of 10,000 square in tiles of compare.py, 1,024 wide, by the program before and by this one with one worker, two and four. From
-the command line each without an environment and in that of the package's unit, and there this one also with no caches and one band of all rows,
-as docs/OPERATING.md has it for a single large image: the program before keeps nothing, either. As a server each as its own package starts it, which is
+the command line each without an environment and in the one that the manual has for one large image, and there this one also with no caches and one band
+of all rows, as docs/OPERATING.md has it: the program before keeps nothing, either. As a server each as its own package starts it, which is
 without an environment for the one before, and for this one in the unit's and with the memory touched that the package's options say. A server
 is started anew for each answer, so its caches are empty, and the clock runs from the request until the last byte. All run by turns, each round
 begun with another. Each answer of this program is compared with the exact averages. Right before each run, whichever it is, --warm MiB are touched and given back: a
 virtual machine whose host takes back what lies free has to ask for it again else, which costs more than the whole answer, and more at one time than at another. Prints
 the medians of the wall clock with the least in brackets, and from the command line those of the processor time of all threads and of the new pages that were touched; then what one worker and
 four take of the program before. The status is 1 where an answer differs, and with --strict also where from the command line, both in the
-package's environment, one worker takes more than 1.15, or four more than 0.6, by the defaults or without caches. The servers' times are printed and not
+manual's environment, one worker takes more than 1.15, or four more than 0.6, by the defaults or without caches. The servers' times are printed and not
 judged: this program's memory is touched before their clock starts.
 """
 import argparse
@@ -71,7 +71,7 @@ def served(args, name, path):
 
 def measured(args, path, wanted):
     """The runs of each program in each way, and whether an answer was wrong."""
-    environments = {"none": None, "package": compare.package()}
+    environments = {"none": None, "manual": compare.one_image()}
     ways = [(name, kind) for name in commands(args, path) for kind in (*environments, "alone", "server") if (name, kind) != ("before", "alone")]
     runs, wrong, out = {}, False, os.path.join(args.work, "overview.tif")
     for turn in range(args.rounds):
@@ -83,7 +83,7 @@ def measured(args, path, wanted):
             else:
                 more = compare.ALONE if kind == "alone" else []
                 compare.touch(args.warm)
-                runs.setdefault((name, kind), []).append(once(commands(args, path)[name] + more, out, environments.get(kind, environments["package"])))
+                runs.setdefault((name, kind), []).append(once(commands(args, path)[name] + more, out, environments.get(kind, environments["manual"])))
                 with open(out, "rb") as file:
                     body = file.read()
             if name != "before" and body != wanted:
@@ -105,10 +105,10 @@ def main():
     wanted = compare.answer_file(compare.prepared(args, [job])[job])
     runs, wrong = measured(args, os.path.join(args.work, SOURCE.name + ".tif"), wanted)
     middle = {key: [statistics.median(column) for column in zip(*found)] for key, found in runs.items()}
-    print("| | no environment | processor time | pages | package | processor time | pages | package, no caches | processor time | pages | server |\n|---|---|---|---|---|---|---|---|---|---|---|")
+    print("| | no environment | processor time | pages | manual | processor time | pages | manual, no caches | processor time | pages | server |\n|---|---|---|---|---|---|---|---|---|---|---|")
     for name, title in (("before", "before"), ("1", "one worker"), ("2", "two"), ("4", "four")):
         cells = []
-        for kind in ("none", "package", "alone", "server"):
+        for kind in ("none", "manual", "alone", "server"):
             if (name, kind) not in middle:
                 cells.append(" | | ")
                 continue
@@ -116,12 +116,12 @@ def main():
             cells.append(f"{wall:.0f} ({min(run[0] for run in runs[name, kind]):.0f})" + ("" if kind == "server" else f" | {used:.0f} | {pages:,.0f}"))
         print(f"| {title} | {' | '.join(cells)} |")
     passed = []
-    print("\n| beside the program before | both without an environment | both in the package's | the same, no caches | servers as their packages start them | limit, of the command line |\n|---|---|---|---|---|---|")
+    print("\n| beside the program before | both without an environment | both in the manual's | the same, no caches | servers as their packages start them | limit, of the command line |\n|---|---|---|---|---|---|")
     for workers, limit in LIMITS.items():
         parts = {kind: middle[workers, kind][0] / middle["before", beside][0]
-                 for kind, beside in (("none", "none"), ("package", "package"), ("alone", "package"), ("server", "server"))}
+                 for kind, beside in (("none", "none"), ("manual", "manual"), ("alone", "manual"), ("server", "server"))}
         print(f"| {workers} worker{'s' * (workers != '1')} | {' | '.join(f'{part:.2f}' for part in parts.values())} | {limit} |")
-        passed += [f"{workers} workers, {kind}: {parts[kind]:.2f}, above {limit}" for kind in ("package", "alone") if parts[kind] > limit]
+        passed += [f"{workers} workers, {kind}: {parts[kind]:.2f}, above {limit}" for kind in ("manual", "alone") if parts[kind] > limit]
     for line in passed:
         print(line, file=sys.stderr)
     return 1 if wrong or (args.strict and passed) else 0

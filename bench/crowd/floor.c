@@ -2,7 +2,11 @@
    connection and nothing else. What it answers is no image.
 
        cc -O2 -o floor bench/crowd/floor.c -lpthread
-       ./floor PORT FILE
+       ./floor PORT FILE [MIB]
+
+   With a third word it keeps as well: each tile is read into memory of its own, of so many MiB in turn, which are touched at the start, and is written
+   from there. That is the least that a server does which keeps what it was asked: the memory of a tile was written last so many MiB ago, so it has
+   left the processor's caches. It looks nothing up, and asks again for what it keeps.
 
    The bytes are those of the tile of 256 square at /iiif/ANY/x,y,.. of a file of bench/compare, 10,000 wide, whose tiles stand in order. */
 #include <arpa/inet.h>
@@ -13,11 +17,32 @@
 #include <stdio.h>
 #include <stdlib.h>
 #include <string.h>
+#include <sys/mman.h>
+#include <sys/uio.h>
 #include <unistd.h>
 
 enum { HEAD = 8192, TILE = 65536, FRONT = 174, ACROSS = 40, EDGE = 256 };
 
 static int file;
+static char *kept;
+static long slots, used;
+
+/* Writes all of two runs of bytes; whether that went well. */
+static int is_sent(int link, char *front, ssize_t before, char *tile) {
+    struct iovec parts[2] = {{front, before}, {tile, TILE}};
+    while (parts[1].iov_len > 0) {
+        ssize_t more = writev(link, parts, 2);
+        if (more <= 0)
+            return 0;
+        for (int n = 0; n < 2; n++) {
+            ssize_t gone = more < (ssize_t)parts[n].iov_len ? more : (ssize_t)parts[n].iov_len;
+            parts[n].iov_base = (char *)parts[n].iov_base + gone;
+            parts[n].iov_len -= gone;
+            more -= gone;
+        }
+    }
+    return 1;
+}
 
 /* Answers the requests of a connection until it ends. */
 static void *serve(void *given) {
@@ -37,12 +62,8 @@ static void *serve(void *given) {
             break;
         held = 0;
         int front = sprintf(answer, "HTTP/1.1 200 OK\r\nContent-Type: image/tiff\r\nContent-Length: %d\r\n\r\n", FRONT + TILE) + FRONT;
-        if (pread(file, answer + front, TILE, 8 + (off_t)(y / EDGE * ACROSS + x / EDGE) * TILE) != TILE)
-            break;
-        ssize_t all = front + TILE, sent = 0, more = 0;
-        while (sent < all && (more = write(link, answer + sent, all - sent)) > 0)
-            sent += more;
-        if (sent < all)
+        char *tile = kept ? kept + __sync_fetch_and_add(&used, 1) % slots * TILE : answer + front;
+        if (pread(file, tile, TILE, 8 + (off_t)(y / EDGE * ACROSS + x / EDGE) * TILE) != TILE || !is_sent(link, answer, front, tile))
             break;
     }
     free(answer);
@@ -54,8 +75,17 @@ int main(int count, char **words) {
     int listener = socket(AF_INET, SOCK_STREAM, 0), one = 1;
     struct sockaddr_in here = {.sin_family = AF_INET, .sin_addr.s_addr = htonl(INADDR_LOOPBACK)};
     signal(SIGPIPE, SIG_IGN);
-    if (count != 3 || (file = open(words[2], O_RDONLY)) < 0)
+    if (count < 3 || count > 4 || (file = open(words[2], O_RDONLY)) < 0)
         return 2;
+    if (count == 4) {
+        size_t size = atol(words[3]) << 20;
+        slots = size / TILE;
+        kept = mmap(0, size, PROT_READ | PROT_WRITE, MAP_PRIVATE | MAP_ANONYMOUS, -1, 0);
+        if (!slots || kept == MAP_FAILED)
+            return 2;
+        madvise(kept, size, MADV_HUGEPAGE);
+        memset(kept, 1, size);
+    }
     here.sin_port = htons(atoi(words[1]));
     setsockopt(listener, SOL_SOCKET, SO_REUSEADDR, &one, sizeof one);
     if (bind(listener, (struct sockaddr *)&here, sizeof here) || listen(listener, 128))

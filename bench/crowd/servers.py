@@ -152,6 +152,6 @@ fastcgi.server = ("/iiif" => (("socket" => "{room}/iip{processes}.socket", "chec
 class Plain(Servers):
     """plain.c over libvips, or floor.c."""
 
-    def __init__(self, column, path, source, room):
+    def __init__(self, column, path, source, room, *more):
         port = running.free_port()
-        super().__init__(column, [[path, str(port), source]], [port], room)
+        super().__init__(column, [[path, str(port), source, *more]], [port], room)
