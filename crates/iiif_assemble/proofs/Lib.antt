@@ -10,3 +10,4 @@ pub mod WholeLemmas
 pub mod JobLemmas
 pub mod GrowLemmas
 pub mod AheadLemmas
+pub mod TileLemmas

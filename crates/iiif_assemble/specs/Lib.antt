@@ -3,3 +3,4 @@ pub mod Jobs
 pub mod Faults
 pub mod Code
 pub mod Ahead
+pub mod Lone

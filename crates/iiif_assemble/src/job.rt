@@ -6,7 +6,7 @@ ghost use Rattle.iiif_pixel.specs.Scaling.{whole_of};
 ghost use Rattle.iiif_pixel.specs.TurnPlaces.{turned_dim};
 ghost use Rattle.iiif_area.specs.Places.{IsScalable};
 ghost use Rattle.iiif_keys.specs.Blocks.{IsEdge};
-ghost use Rattle.iiif_bands.specs.Bands.{AreBands};
+ghost use Rattle.iiif_bands.specs.Bands.{band_rect, AreBands};
 ghost use Rattle.iiif_assemble.specs.Jobs.{IsBandOf, IsJob};
 
 use iiif_bands::laws::bands_cut_results;
@@ -85,6 +85,24 @@ impl Job {
         // Read, so that the image's sides are known to fit.
         let (_w, _h) = (self.shape.dim.w, self.shape.dim.h);
         bands(alloc, &self.resolved, &self.plan, rows)
+    }
+
+    /// The first of the bands of `rows`. The only error is want of memory.
+    pub fn first(&self, alloc: Global, rows: u32) -> Result<Band, NoMemory>
+        requires job { IsJob self.now }
+        ensures rect { IfOk result (λ b. b.rect ≡ band_rect (turned_dim self.now.resolved.turn self.now.resolved.size) rows 0) }
+        ensures band { IfOk result (IsBandOf self.now) }
+    {
+        // Read, so that the image's sides are known to fit.
+        let (_w, _h) = (self.shape.dim.w, self.shape.dim.h);
+        let dim = self.resolved.size.turned(self.resolved.turn);
+        let rect = Rect {
+            x: 0,
+            y: 0,
+            w: dim.w,
+            h: rows.min(dim.h),
+        };
+        band_in(alloc, &self.resolved, &self.plan, rect)
     }
 
     /// The band of all rows. The only error is want of memory.

@@ -8,6 +8,7 @@ mod finishing;
 mod growing;
 pub mod items;
 pub mod job;
+pub mod lone;
 mod merging;
 mod pasting;
 
@@ -15,3 +16,4 @@ pub use ahead::{KeptSum, SumsAhead, keep_ahead};
 pub use band::{assemble, assemble_band};
 pub use items::Items;
 pub use job::{Job, Made};
+pub use lone::lone_tile;

@@ -1,6 +1,7 @@
 -- Words of private functions.
 use Rattle.std.specs.Prelude.{◌≡◌, ℕ, ◌+◌, ◌-◌, ◌*◌, ◌<◌, ◌≤◌, ◌⊎◌, min, List, ◌++◌, Option, length, nat_lt, if◌then◌else◌}
 use Rattle.std.specs.Io.KnownBytes.{Appends}
+use Rattle.iiif_io.specs.Sending.{WasCut}
 use Rattle.iiif_pixel.specs.Geometry.{channels_of, sides_of, top_of}
 use Rattle.iiif_pixel.specs.Laws.{AllRows, CropIsWhole, QualityIsWhole, ScaleIsWhole, TurnIsWhole}
 use Rattle.iiif_pixel.specs.Operations.{crop}
@@ -9,17 +10,22 @@ use Rattle.iiif_pixel.specs.declared.geometry.Rect.{Rect}
 use Rattle.iiif_canonical.specs.Images.{resolved_image}
 use Rattle.iiif_keys.specs.Names.{named, IsSource, Pictures}
 use Rattle.iiif_keys.specs.Shapes.{HasPicture}
+use Rattle.iiif_keys.specs.declared.fault.Fault.{Fault}
+use Rattle.iiif_keys.specs.declared.fault.Fault.TheVariants as fault
 use Rattle.iiif_keys.specs.declared.keys.SumKey.{SumKey}
 use Rattle.iiif_keys.specs.declared.keys.TileKey.{TileKey}
 use Rattle.iiif_keys.specs.declared.values.SumVal.{SumVal}
 use Rattle.iiif_keys.specs.declared.values.TileVal.{TileVal}
 use Rattle.iiif_assemble.specs.Jobs.{channels_in, top_in, IsShown}
+use Rattle.iiif_assemble.specs.Lone.{IsFirstFault, IsTileImage}
 use Rattle.iiif_assemble.specs.declared.job.Job.{Job}
 use Rattle.iiif_tiff_write.specs.Bands.{band}
-use Rattle.iiif_tiff_write.specs.File.{head_of, row_len, strip}
+use Rattle.iiif_tiff_write.specs.File.{file, head_of, row_len, strip}
 use Rattle.iiif_tiff_write.specs.Laws.{StripOfAllRows, StripOfMoreRows, StripOfNoRows}
 use Rattle.iiif_tiff_write.specs.declared.kind.OutKind.{OutKind}
 use Rattle.iiif_delivery.specs.Delivery.{result_dim, IsImageFor}
+use Rattle.iiif_delivery.specs.declared.delivery.Stopped.{Stopped}
+use Rattle.iiif_delivery.specs.declared.delivery.Stopped.TheVariants.{Writer, Load}
 
 -- what is relied on of pictures and of files
 pub record Laws : Type 0 where
@@ -72,3 +78,15 @@ pub record HasCounted (j : Job) (kind : OutKind) (front rows : ℕ) (text : List
   pub band : held ≤ 2 * (min rows (result_dim j).h * (result_dim j).w * channels_of j.shape.kind)
   pub begun : ((y ≡ 0) × (sent ≡ 0) × (held ≡ 0)) ⊎ ((0 < y) × ((result_dim j).w * channels_of j.shape.kind ≤ held))
   pub first : 0 < y → min rows (result_dim j).h * (result_dim j).w * channels_of j.shape.kind ≤ held
+
+-- Why a text wasn't sent whole: the writer failed within it; or memory was wanting, and nothing was written.
+abbrev pub IsSendingOf : {W : Type 0} → (W → Option (List ℕ)) → (W → W → Type 0) → List ℕ → W → W → Stopped → Type 0
+IsSendingOf contents fails text old new (Writer n) = WasCut contents fails old new text n
+IsSendingOf contents fails text old new (Load n f) = (n ≡ 0) × (new ≡ old) × (f ≡ fault.NoMemory)
+
+-- Why the sending of an image stopped that is a tile as it stands: the writer failed within the whole text; or the tile could not be had,
+-- and nothing was written.
+abbrev pub TileStops : {W : Type 0} → (W → Option (List ℕ)) → (W → W → Type 0) → Job → (TileKey → TileVal → Type 0) → (TileKey → Fault → Type 0) → OutKind → ℕ → List ℕ → W → W → Stopped → Type 0
+TileStops contents fails j means failed kind rows start old new (Writer n) =
+    (image : Picture) × IsTileImage j means image × WasCut contents fails old new (start ++ file image kind) n
+TileStops contents fails j means failed kind rows start old new (Load n f) = (n ≡ 0) × (new ≡ old) × IsFirstFault j means failed rows f

@@ -14,6 +14,7 @@ ghost use Rattle.iiif_delivery.specs.Delivery.{result_dim, FailsFor, IsHeldInBan
 ghost use Rattle.iiif_delivery.specs.declared.delivery.Stopped.TheVariants.{Writer};
 
 use crate::rows::{laws_of_bands, put_band};
+use crate::tile::send_tile;
 use iiif_assemble::{Items, Job};
 use iiif_bands::laws::bands_cut_results;
 use iiif_io::{Outlet, send};
@@ -42,7 +43,7 @@ pub enum Stopped {
 }
 
 /// Rows in the file are sent once they take so many bytes, so that a small image takes one write.
-const PIECE: usize = 65_536;
+pub(crate) const PIECE: usize = 65_536;
 
 /// How many bytes room is made for where a file is sent in bands of `rows`: all of a small file, else its head, and a band behind the rows
 /// that wait.
@@ -98,17 +99,8 @@ fn flush<W: Outlet>(out: &mut W, text: &mut Vec<u8>, sent: u64) -> Result<u64, S
     }
 }
 
-/// Sends the image of a job behind a text, in bands of `rows`: each is made, and dropped but for its rows in the file before the next is
-/// made. The text goes out with the rows of the first, and rows once they take 64 KiB, or where a band that follows can't be made. There is a worker for each pass, and which of them asks for an item changes nothing.
-///
-/// Of an image that is made of blocks, the sums of those of a band are held while it is made. With several workers blocks of the bands
-/// that follow are asked in the same turns, and their sums are held until their bands are made: up to 8 blocks for each worker, or those
-/// of one band where these are more, plus those of the last band that was taken in.
-///
-/// # Errors
-///
-/// The first fault of a band, the writer's, or `NoMemory`.
-pub fn send_image<
+/// Sends the image of a job behind a text in bands of `rows`, as `send_image` does where the image is not a tile as it stands.
+fn send_bands<
     T: Items<TileKey, TileVal, P, R> + Sync,
     S: Items<SumKey, SumVal, P, R> + Sync,
     P: Send,
@@ -187,5 +179,62 @@ pub fn send_image<
     match flush(out, &mut text, sent) {
         Ok(bytes) => Ok(Delivered { bytes, held }),
         Err(stopped) => Err(stopped),
+    }
+}
+
+/// Sends the image of a job behind a text, in bands of `rows`: each is made, and dropped but for its rows in the file before the next is
+/// made. The text goes out with the rows of the first, and rows once they take 64 KiB, or where a band that follows can't be made. There is a worker for each pass, and which of them asks for an item changes nothing.
+///
+/// An image of 8 bits that is a tile as it stands is not made in bands: the tile's samples are its rows, and go out as they are. Then
+/// `held` counts a band of them.
+///
+/// Of an image that is made of blocks, the sums of those of a band are held while it is made. With several workers blocks of the bands
+/// that follow are asked in the same turns, and their sums are held until their bands are made: up to 8 blocks for each worker, or those
+/// of one band where these are more, plus those of the last band that was taken in.
+///
+/// # Errors
+///
+/// The first fault of a band, the writer's, or `NoMemory`.
+pub fn send_image<
+    T: Items<TileKey, TileVal, P, R> + Sync,
+    S: Items<SumKey, SumVal, P, R> + Sync,
+    P: Send,
+    R: Threads + Sync,
+    W: Outlet,
+>(
+    rt: &R,
+    alloc: Global,
+    tiles: &T,
+    sums: &S,
+    passes: &mut [P],
+    job: &Job,
+    rows: u32,
+    kind: OutKind,
+    start: &[u8],
+    out: &mut W,
+) -> Result<Delivered, Stopped>
+    requires some { 0 < length passes.old }
+    requires job { IsJob job.now }
+    requires rows { 0 < rows }
+    requires tiles { TilesServe job.now (T.fits tiles.now) (T.means tiles.now) }
+    requires sums { SumsServe job.now (S.fits sums.now) (S.means sums.now) }
+    requires channels { channels_in job.now.resolved.quality (channels_of job.now.shape.kind) ≡ samples_per_pixel kind }
+    requires depth { top_in job.now.resolved.quality (top_of job.now.shape.depth) ≡ top_of (out_depth kind) }
+    requires len { file_len kind (result_dim job.now) < 2 ^ 32 }
+    ensures whole { IfOk result (λ d. (shows : Pictures) → HasPicture shows job.now.name job.now.shape → IsSource (named shows job.now.name)
+        → (image : Picture) × IsImageFor shows job.now (T.means tiles.now) (S.means sums.now) image
+        × Appends (W.contents out.old) (W.contents out.new) (start.now ++ file image kind) × (d.bytes ≡ length (start.now ++ file image kind))) }
+    ensures held { IfOk result (λ d. IsHeldInBands (result_dim job.now) rows (channels_of job.now.shape.kind) d.held) }
+    ensures stopped { IfErr result (λ s. (shows : Pictures) → HasPicture shows job.now.name job.now.shape → IsSource (named shows job.now.name)
+        → (image : Picture) × IsImageFor shows job.now (T.means tiles.now) (S.means sums.now) image
+        × Stops W.contents W.fails out.old out.new (length (start.now ++ head_of kind (result_dim job.now))) (start.now ++ file image kind) s) }
+    ensures fault { IfErr result (FailsFor job.now (T.means tiles.now) (T.failed tiles.now) (S.means sums.now) (S.failed sums.now) kind rows
+        (length (start.now ++ head_of kind (result_dim job.now)))) }
+{
+    // Laws of pictures and of files.
+    laws_of_bands();
+    match send_tile(rt, alloc, tiles, passes, job, rows, kind, start, out) {
+        Some(result) => result,
+        None => send_bands(rt, alloc, tiles, sums, passes, job, rows, kind, start, out),
     }
 }

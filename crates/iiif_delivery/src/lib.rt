@@ -3,5 +3,6 @@
 
 pub mod delivery;
 mod rows;
+mod tile;
 
 pub use delivery::{Delivered, Stopped, send_image};

@@ -1,13 +1,13 @@
-//! Images that are made of blocks, sent by several workers.
+//! Images that are made of blocks, sent by several workers; and one that is a tile as it stands.
 
 ghost use Rattle.std.specs.Prelude.{◌≡◌};
 ghost use Rattle.iiif_assemble.specs.Jobs.{IsJob};
 
-use crate::pictures::{Failing, Shown, UPRIGHT, job, of_samples};
+use crate::pictures::{Failing, QUARTER, Shown, UPRIGHT, job, of_samples, tens};
 use iiif_assemble::Job;
 use iiif_delivery::{Delivered, Stopped, send_image};
 use iiif_keys::Fault;
-use iiif_pixel::{Depth, Dim, Kind, Quality, Samples};
+use iiif_pixel::{Depth, Dim, Kind, Quality, Samples, Turn};
 use iiif_tiff_write::{OutKind, fits};
 use std::alloc::{AllocError, Global};
 use std::thread::Threads;
@@ -35,7 +35,7 @@ fn sample(alloc: Global, fails: Option<u32>) -> Option<Shown> {
 struct Answer {
     end: Result<Delivered, Stopped>,
     bytes: Vec<u8>,
-    /// How many blocks were asked for.
+    /// How many blocks or tiles were asked for.
     asks: u64,
 }
 
@@ -175,5 +175,149 @@ fn each_block_is_asked_for_once_and_bands_above_a_fault_are_sent(rt: HostRuntime
         assert!(rt; alone.bytes.len() as u64 == LEN);
         assert!(rt; are_same(&rt, rt.alloc(), alone));
         assert!(rt; end_above(&rt, rt.alloc(), alone));
+    }
+}
+
+/// The picture of 4 by 4 places, which is one tile, turned and sent by one worker.
+fn alone<R: Threads + Sync>(rt: &R, alloc: Global, fails: Failing, turn: Turn) -> Option<Answer> {
+    match tens(alloc, fails) {
+        Some(shown) => match job(alloc, shown.shape, 4, Dim { w: 4, h: 4 }, turn, 1) {
+            Some(job) => send(rt, alloc, &shown, &job, 1),
+            None => None,
+        },
+        None => None,
+    }
+}
+
+/// How often the tile is asked for, how the image is sent, and its rows in the file.
+type Lone = (
+    Failing,
+    Turn,
+    u64,
+    Result<Delivered, Stopped>,
+    &'static [u8],
+);
+
+/// The picture's rows, and those of it turned by a quarter.
+const ROWS: &[u8] = &[
+    0, 10, 20, 30, 40, 50, 60, 70, 80, 90, 100, 110, 120, 130, 140, 150,
+];
+
+const TURNED: &[u8] = &[
+    120, 80, 40, 0, 130, 90, 50, 10, 140, 100, 60, 20, 150, 110, 70, 30,
+];
+
+/// As it stands, turned, and where the tile fails. Of a band that is turned its four samples are held twice.
+static LONE: [Lone; 4] = [
+    (
+        Failing::Nothing,
+        UPRIGHT,
+        1,
+        Ok(Delivered {
+            bytes: 190,
+            held: 4,
+        }),
+        ROWS,
+    ),
+    (
+        Failing::Nothing,
+        QUARTER,
+        4,
+        Ok(Delivered {
+            bytes: 190,
+            held: 8,
+        }),
+        TURNED,
+    ),
+    (
+        Failing::FirstRow,
+        UPRIGHT,
+        1,
+        Err(Stopped::Load(0, Fault::BadKey)),
+        &[],
+    ),
+    (
+        Failing::FirstRow,
+        QUARTER,
+        1,
+        Err(Stopped::Load(0, Fault::BadKey)),
+        &[],
+    ),
+];
+
+/// Whether the picture is sent so.
+fn is_lone<R: Threads + Sync>(
+    rt: &R,
+    alloc: Global,
+    (fails, turn, asks, end, rows): &Lone,
+) -> bool {
+    match alone(rt, alloc, *fails, *turn) {
+        Some(answer) => {
+            answer.asks == *asks
+                && answer.end == *end
+                && answer.bytes.as_slice().get(174..).unwrap_or(&[]) == *rows
+        }
+        None => false,
+    }
+}
+
+#[test]
+fn a_tile_as_it_stands_is_asked_for_once(rt: HostRuntime) {
+    for lone in &LONE {
+        assert!(rt; is_lone(&rt, rt.alloc(), lone));
+    }
+}
+
+/// How many samples a picture of 300 by 300 places has: more than go out in one write.
+const MANY: usize = 90_000;
+
+/// So many samples, 0 to 249 again and again.
+fn many(alloc: Global) -> Result<Vec<u8>, AllocError> {
+    let mut samples = Vec::with_capacity(alloc, MANY)?;
+    for _ in 0..MANY / 250 {
+        for sample in 0..250u8 {
+            samples.push(sample)?;
+        }
+    }
+    Ok(samples)
+}
+
+/// The picture with these samples as one tile, sent.
+fn large<R: Threads + Sync>(rt: &R, alloc: Global, samples: Vec<u8>) -> Option<Answer> {
+    let dim = Dim { w: 300, h: 300 };
+    match of_samples(alloc, dim, Samples::Eight(samples), Failing::Nothing) {
+        Some(shown) => match job(alloc, shown.shape, 300, dim, UPRIGHT, 1) {
+            Some(job) => send(rt, alloc, &shown, &job, 1),
+            None => None,
+        },
+        None => None,
+    }
+}
+
+/// Whether it is sent whole.
+fn is_large_sent<R: Threads + Sync>(rt: &R, alloc: Global, rows: &[u8]) -> bool {
+    let Ok(samples) = many(alloc) else {
+        return false;
+    };
+    match large(rt, alloc, samples) {
+        Some(answer) => {
+            answer.asks == 1
+                && answer.end
+                    == Ok(Delivered {
+                        bytes: 90_174,
+                        held: 300,
+                    })
+                && answer.bytes.as_slice().get(174..).unwrap_or(&[]) == rows
+        }
+        None => false,
+    }
+}
+
+#[test]
+fn a_large_tile_is_sent_whole(rt: HostRuntime) {
+    let rows = many(rt.alloc());
+    assert!(rt; rows.is_ok());
+    if let Ok(rows) = &rows {
+        assert!(rt; is_large_sent(&rt, rt.alloc(), rows));
     }
 }

@@ -5,7 +5,7 @@ pub use directory::head;
 pub use head_bytes::Head;
 pub use kind::OutKind;
 pub use layout::{fits, total_len};
-pub use rows::put_rows;
+pub use rows::{byte_rows, put_rows};
 
 mod directory;
 mod head_bytes;

@@ -1,6 +1,6 @@
 //! The rows of a picture as the bytes of a strip.
 
-ghost use Rattle.std.specs.Prelude.{◌≡◌, ◌+◌, ◌*◌, ◌<◌, ◌≤◌, ◌++◌, length, vec_len, vec_capacity, OnOk, OnErr};
+ghost use Rattle.std.specs.Prelude.{◌≡◌, ◌+◌, ◌*◌, ◌<◌, ◌≤◌, ◌⊎◌, ◌++◌, length, vec_len, vec_capacity, OnOk, OnErr};
 ghost use Rattle.std.specs.Int.{div_ceil, to_le_bytes, w16};
 ghost use Rattle.std.specs.List.{flat_map};
 ghost use Rattle.iiif_pixel.specs.Geometry.{top_of};
@@ -135,6 +135,19 @@ fn put_shorts(samples: &[u16], out: &mut Vec<u8>) -> Result<(), NoMemory>
     Ok(())
 }
 
+/// The rows of a raster of 8 bits as they stand in the strip of a file: its samples, which are lent. A whole picture or a band of its
+/// rows will do.
+pub fn byte_rows<'a>(raster: &'a Raster, kind: OutKind) -> &'a [u8]
+    requires kind { (kind ≡ OutKind.Gray) ⊎ (kind ≡ OutKind.Rgb) }
+    requires channels { raster.now.channels ≡ samples_per_pixel kind }
+    requires depth { raster.now.top ≡ top_of (out_depth kind) }
+    ensures { result.now ≡ strip kind raster.now }
+{
+    // Whole, so that its samples are known to be as many as its rows have.
+    raster.is_whole();
+    bytes_of(raster.samples())
+}
+
 /// Appends the rows of a raster as they stand in the strip of a file. A whole picture or a band of its rows will do.
 pub fn put_rows(raster: &Raster, kind: OutKind, out: &mut Vec<u8>) -> Result<(), NoMemory>
     requires channels { raster.now.channels ≡ samples_per_pixel kind }
@@ -145,7 +158,7 @@ pub fn put_rows(raster: &Raster, kind: OutKind, out: &mut Vec<u8>) -> Result<(),
     // Whole, so that its samples are known to be as many as its rows have, and none above the top.
     raster.is_whole();
     match kind {
-        OutKind::Gray | OutKind::Rgb => out.extend_from_slice(bytes_of(raster.samples())),
+        OutKind::Gray | OutKind::Rgb => out.extend_from_slice(byte_rows(raster, kind)),
         OutKind::Gray16 | OutKind::Rgb16 => put_shorts(shorts_of(raster.samples()), out),
         OutKind::Bitonal => {
             let dim = raster.dim();

@@ -4,7 +4,7 @@ use Rattle.iiif_tiff_write.specs.File.{head_of}
 use Rattle.iiif_assemble.specs.Ahead.{AreKept}
 use Rattle.iiif_delivery.specs.Delivery.{result_dim}
 use Rattle.iiif_delivery.specs.Code.{HasCounted, HaveRows}
-use Rattle.iiif_delivery.proofs.delivery.send_image.Given as goal
+use Rattle.iiif_delivery.proofs.delivery.send_bands.Given as goal
 
 -- the bands so far
 abbrev pub invariant-loop-band : goal.invariant-loop-band

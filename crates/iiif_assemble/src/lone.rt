@@ -1,0 +1,73 @@
+//! Images that are a tile as it stands.
+
+ghost use Rattle.std.specs.Prelude.{◌<◌, IfOk, IfErr, IfSome, IsTrue, length};
+ghost use Rattle.std.specs.Arc.{arc_value};
+ghost use Rattle.iiif_pixel.specs.Geometry.{channels_of};
+ghost use Rattle.iiif_keys.specs.Blocks.{TileFitsIn};
+ghost use Rattle.iiif_assemble.specs.Jobs.{IsJob, TilesServe};
+ghost use Rattle.iiif_assemble.specs.Lone.{IsFirstFault, IsTileImage, IsTileItself};
+ghost use Rattle.iiif_assemble.specs.Code.{tile_in};
+
+use crate::crew::gathered;
+use crate::items::Items;
+use crate::job::Job;
+use iiif_area::laws::same_sides_change_nothing;
+use iiif_keys::{Fault, TileKey, TileVal};
+use iiif_pixel::Quality;
+use iiif_pixel::laws::whole_stays_whole;
+use iiif_planner::Plan;
+use std::alloc::Global;
+use std::sync::Arc;
+use std::thread::Threads;
+
+/// Whether the region of a job is that of a tile, and nothing is turned or made gray.
+fn is_itself(job: &Job, key: &TileKey) -> bool
+    requires fits { TileFitsIn job.now.shape.dim (channels_of job.now.shape.kind) key.now }
+    ensures { IsTrue result → IsTileItself job.now key.now }
+{
+    let (turn, rect) = (job.resolved.turn, job.resolved.rect);
+    let at = key.rect_in(job.shape.dim);
+    let keeps = match job.resolved.quality {
+        Quality::Default | Quality::Color => true,
+        Quality::Gray | Quality::Bitonal => false,
+    };
+    keeps && turn.quarters == 0 && !turn.mirror && rect == at
+}
+
+/// The tile that is the image of a job as it stands: the region is the tile's, and nothing is scaled, turned or made gray. It is asked
+/// for as the one item of the image's first band of `rows`. None where the image is no such tile, for which nothing is asked then.
+///
+/// # Errors
+///
+/// The fault of that band, or `NoMemory`.
+pub fn lone_tile<T: Items<TileKey, TileVal, P, R> + Sync, P: Send, R: Threads + Sync>(
+    rt: &R,
+    alloc: Global,
+    tiles: &T,
+    passes: &mut [P],
+    job: &Job,
+    rows: u32,
+) -> Result<Option<Arc<TileVal>>, Fault>
+    requires some { 0 < length passes.old }
+    requires job { IsJob job.now }
+    requires tiles { TilesServe job.now (T.fits tiles.now) (T.means tiles.now) }
+    ensures image { IfOk result (λ found. IfSome found (λ v. IsTileImage job.now (T.means tiles.now) (tile_in (arc_value v)))) }
+    ensures fault { IfErr result (IsFirstFault job.now (T.means tiles.now) (T.failed tiles.now) rows) }
+{
+    // Laws of scaling and of pictures.
+    same_sides_change_nothing();
+    whole_stays_whole();
+    let Plan::Copy(keys) = &job.plan else {
+        return Ok(None);
+    };
+    if keys.len() != 1 || !is_itself(job, &keys[0]) {
+        return Ok(None);
+    }
+    let Ok(band) = job.first(alloc, rows) else {
+        return Err(Fault::NoMemory);
+    };
+    match gathered(rt, alloc, tiles, passes, keys, &band.items) {
+        Ok(mut values) => Ok(values.pop()),
+        Err(fault) => Err(fault),
+    }
+}
