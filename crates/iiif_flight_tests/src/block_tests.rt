@@ -34,7 +34,7 @@ fn key_of(alloc: Global, block: &Block) -> Option<SumKey> {
     })
 }
 
-/// A column of tiles and an edge, and whether the tile there in row 1, of edge 2, fits an image of 4 by 4 at the edge.
+/// A column of tiles and an edge, and whether the tile there in the second row, of edge 2, fits an image of 4 by 4 at the edge.
 type Tile = (u32, u32, bool);
 
 /// Whether a tile fits as it is to.
