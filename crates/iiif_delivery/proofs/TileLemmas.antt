@@ -33,15 +33,14 @@ pub image_for : (shows : Pictures) (j : Job) (tile_means : TileKey → TileVal �
     IsSource (named shows j.name) → IsTileImage j tile_means image → IsImageFor shows j tile_means sum_means image
 image_for shows j tile_means sum_means image has source is = record { sides = is.sides; channels = is.channels; top = is.top; same = λ shown. is.same shows has source shown.tiles }
 
--- a text, the head of a file, and its rows in two parts
-pub file_in_parts : (start : List ℕ) (kind : OutKind) (image : Picture) (d : Dim) (text first rest rows : List ℕ) → text ≡ start ++ head_of kind d ++ first → first ++ rest ≡ rows →
-    rows ≡ strip kind image → d ≡ dim_of image → text ++ rest ≡ start ++ file image kind
-file_in_parts start kind image d text first rest rows is joined same sides =
+-- a text, the head of a file, and its rows
+pub file_in_parts : (start : List ℕ) (kind : OutKind) (image : Picture) (d : Dim) (text rows : List ℕ) → text ≡ start ++ head_of kind d → rows ≡ strip kind image → d ≡ dim_of image →
+    text ++ rows ≡ start ++ file image kind
+file_in_parts start kind image d text rows is same sides =
     let head = head_of kind d in
-    ap (λ t. t ++ rest) is
-    ∙ append_assoc (start ++ head) first rest
-    ∙ ap (λ t. start ++ head ++ t) (joined ∙ same)
-    ∙ append_assoc start head (strip kind image)
+    ap (λ t. t ++ rows) is
+    ∙ append_assoc start head rows
+    ∙ ap (λ t. start ++ (head ++ t)) same
     ∙ ap (λ (e : Dim). start ++ (head_of kind e ++ strip kind image)) sides
 
 -- so much of it as was written before it stopped

@@ -43,7 +43,7 @@ pub enum Stopped {
 }
 
 /// Rows in the file are sent once they take so many bytes, so that a small image takes one write.
-pub(crate) const PIECE: usize = 65_536;
+const PIECE: usize = 65_536;
 
 /// How many bytes room is made for where a file is sent in bands of `rows`: all of a small file, else its head, and a band behind the rows
 /// that wait.

@@ -11,7 +11,7 @@ ghost use Rattle.iiif_tiff_write.specs.OutKind.{out_depth, samples_per_pixel};
 ghost use Rattle.iiif_delivery.specs.Code.{IsSendingOf, TileStops};
 ghost use Rattle.iiif_delivery.specs.Delivery.{result_dim, IsHeldInBands};
 
-use crate::delivery::{Delivered, PIECE, Stopped};
+use crate::delivery::{Delivered, Stopped};
 use iiif_assemble::{Items, Job, lone_tile};
 use iiif_io::{Outlet, send_both};
 use iiif_keys::{Fault, TileKey, TileVal};
@@ -20,28 +20,19 @@ use iiif_tiff_write::{OutKind, byte_rows, head};
 use std::alloc::Global;
 use std::thread::Threads;
 
-/// A text, the head of a file, and rows of it.
-fn front(
-    alloc: Global,
-    start: &[u8],
-    kind: OutKind,
-    dim: Dim,
-    rows: &[u8],
-) -> Result<Vec<u8>, NoMemory>
+/// A text, and the head of a file.
+fn front(alloc: Global, start: &[u8], kind: OutKind, dim: Dim) -> Result<Vec<u8>, NoMemory>
     requires { file_len kind dim < 2 ^ 32 }
-    ensures { IfOk result (λ v. v.items ≡ start.now ++ head_of kind dim ++ rows.now) }
+    ensures { IfOk result (λ v. v.items ≡ start.now ++ head_of kind dim) }
 {
     let head = head(kind, dim);
     let mut text = Vec::from_slice(alloc, start)?;
-    // Room is made once.
-    text.reserve_exact(head.as_slice().len().saturating_add(rows.len()))?;
     text.extend_from_slice(head.as_slice())?;
-    text.extend_from_slice(rows)?;
     Ok(text)
 }
 
-/// Sends a text and a picture's file behind it: the heads and up to 64 KiB of samples in one write, and more samples as they stand. Says
-/// how many bytes were sent.
+/// Sends a text and a picture's file behind it, whose samples go out as they stand, in one write with the heads where the writer takes two
+/// texts at once. Says how many bytes were sent.
 fn send_raster<W: Outlet>(
     alloc: Global,
     out: &mut W,
@@ -57,13 +48,11 @@ fn send_raster<W: Outlet>(
     ensures stopped { IfErr result (IsSendingOf W.contents W.fails (start.now ++ file raster.now kind) out.old out.new) }
 {
     let rows = byte_rows(raster, kind);
-    let joined = if rows.len() <= PIECE { rows.len() } else { 0 };
-    let (first, rest) = rows.split_at(joined);
-    let Ok(text) = front(alloc, start, kind, raster.dim(), first) else {
+    let Ok(text) = front(alloc, start, kind, raster.dim()) else {
         return Err(Stopped::Load(0, Fault::NoMemory));
     };
-    match send_both(out, &text, rest) {
-        Ok(()) => Ok(text.len() as u64 + rest.len() as u64),
+    match send_both(out, &text, rows) {
+        Ok(()) => Ok(text.len() as u64 + rows.len() as u64),
         Err(sent) => Err(Stopped::Writer(sent)),
     }
 }

@@ -7,7 +7,7 @@ ghost use Rattle.iiif_io.specs.Sending.{WasCut};
 
 use crate::inlet::TRIES;
 use std::io;
-use std::io::{ErrorKind, Stderr, Stdout, Write};
+use std::io::{ErrorKind, IoSlice, Stderr, Stdout, Write};
 use std::net::TcpStream;
 
 /// A writer that says of a failed write that it failed.
@@ -21,6 +21,21 @@ pub trait Outlet: Write {
         ensures bytes { WriteAppends (Self.contents self.old) (Self.contents self.new) result bytes.now }
         ensures err { OnErr result (fails self.old self.new) }
         ensures none { IfOk result (λ n. n ≡ 0 → 0 < length bytes.now → fails self.old self.new) };
+
+    /// Writes some of the bytes of a text and of another behind it. To take none of some is to fail. A writer that is given one run of
+    /// bytes at a time is given the first that has any.
+    fn put_both(&mut self, first: &[u8], second: &[u8]) -> io::Result<usize>
+        ensures bound { WritesAtMost result (first.now ++ second.now) }
+        ensures bytes { WriteAppends (Self.contents self.old) (Self.contents self.new) result (first.now ++ second.now) }
+        ensures err { OnErr result (fails self.old self.new) }
+        ensures none { IfOk result (λ n. n ≡ 0 → 0 < length (first.now ++ second.now) → fails self.old self.new) }
+    {
+        if first.is_empty() {
+            self.put(second)
+        } else {
+            self.put(first)
+        }
+    }
 }
 
 /// Writes the whole text, or says how many of its bytes were written before the writer failed.
@@ -39,16 +54,25 @@ pub fn send<W: Outlet>(out: &mut W, text: &[u8]) -> Result<(), u64>
     Ok(())
 }
 
-/// Writes one text and then another. Where the writer fails it says how many bytes of both were written.
+/// Writes one text and then another, in one write where the writer takes both at once. Where it fails it says how many bytes of both were
+/// written.
 pub fn send_both<W: Outlet>(out: &mut W, first: &[u8], second: &[u8]) -> Result<(), u64>
     ensures whole { OnOk result (Appends (W.contents out.old) (W.contents out.new) (first.now ++ second.now)) }
     ensures cut { IfErr result (WasCut W.contents W.fails out.old out.new (first.now ++ second.now)) }
 {
-    send(out, first)?;
-    let front = first.len() as u64;
-    match send(out, second) {
+    let mut taken = 0usize;
+    while taken < first.len() {
+        let (_, rest) = first.split_at(taken);
+        match out.put_both(rest, second) {
+            Ok(0) | Err(_) => return Err(taken as u64),
+            Ok(n) => taken += n,
+        }
+    }
+    // All of the first text was taken, and perhaps some of the second.
+    let (_, rest) = second.split_at(taken - first.len());
+    match send(out, rest) {
         Ok(()) => Ok(()),
-        Err(sent) => Err(front + sent),
+        Err(sent) => Err(taken as u64 + sent),
     }
 }
 
@@ -68,7 +92,8 @@ impl Outlet for Vec<u8> {
     }
 }
 
-/// Of a socket nothing is known but that a write failed. A write that a signal breaks off is tried again.
+/// Of a socket nothing is known but that a write failed. A write that a signal breaks off is tried again. Two texts go out in one call of
+/// the system.
 impl Outlet for TcpStream {
     ghost fails = { λ _ _. Unit {0} };
 
@@ -80,6 +105,17 @@ impl Outlet for TcpStream {
             }
         }
         self.write(bytes)
+    }
+
+    fn put_both(&mut self, first: &[u8], second: &[u8]) -> io::Result<usize> {
+        let parts = [IoSlice::new(first), IoSlice::new(second)];
+        for _ in 0..TRIES {
+            match TcpStream::write_vectored(self, &parts) {
+                Err(error) if error.kind() == ErrorKind::Interrupted => {}
+                other => return other,
+            }
+        }
+        TcpStream::write_vectored(self, &parts)
     }
 }
 

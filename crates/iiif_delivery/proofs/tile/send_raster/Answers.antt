@@ -1,4 +1,4 @@
-use Rattle.std.proofs.Common.{◌≡◌, ◌++◌, List, ℕ, subst, rules}
+use Rattle.std.proofs.Common.{◌≡◌, ◌++◌, List, ℕ, subst}
 use Rattle.iiif_io.specs.Sending.{WasCut}
 use Rattle.iiif_pixel.specs.Picture.{dim_of}
 use Rattle.iiif_pixel.proofs.Parts.{same_dim}
@@ -8,12 +8,9 @@ use Rattle.iiif_delivery.proofs.tile.send_raster.Goals as goal
 pub returns-clause-stopped : goal.returns-clause-stopped
 returns-clause-stopped g c =
     let image = c.args.raster.now in
-    let first = c.split_at.result.0.now in
-    let rest = c.split_at.result.1.now in
     let rows = c.byte_rows-rows.result.now in
-    let parts : first ++ rest ≡ rows = search rules in
     let text : c.deref.result.now ≡ c.in-Ok.text.items = c.deref.ensures.value in
     let sides = same_dim c.dim.result (dim_of image) c.dim.ensures.width c.dim.ensures.height in
-    let whole = file_in_parts c.args.start.now c.args.kind image c.dim.result c.in-Ok.text.items first rest rows c.in-Ok.ensures parts c.byte_rows-rows.ensures sides in
-    let cut = subst (λ (t : List ℕ). WasCut g.W.Write.contents g.W.Outlet.fails c.args.out.now c.send_both.new.out (t ++ rest) c.in-Err.sent) text c.in-Err.ensures.cut in
+    let whole = file_in_parts c.args.start.now c.args.kind image c.dim.result c.in-Ok.text.items rows c.in-Ok.ensures c.byte_rows-rows.ensures sides in
+    let cut = subst (λ (t : List ℕ). WasCut g.W.Write.contents g.W.Outlet.fails c.args.out.now c.send_both.new.out (t ++ rows) c.in-Err.sent) text c.in-Err.ensures.cut in
     subst (λ (t : List ℕ). WasCut g.W.Write.contents g.W.Outlet.fails c.args.out.now c.send_both.new.out t c.in-Err.sent) whole cut
