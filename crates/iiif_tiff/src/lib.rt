@@ -7,6 +7,12 @@ ghost use Rattle.iiif_tiff.specs.Tiff.{refusal_of, AcceptedIsReadable, ShowsInve
 
 pub mod tag;
 
+/// The most columns, and the most rows, of an image that is read.
+pub const MAX_SIDE: u32 = 1_000_000;
+
+/// The most places (pixels) of an image that is read.
+pub const MAX_AREA: u64 = 1 << 32;
+
 /// A file of bytes that no check refuses shows exactly one picture.
 pub fn shows_one_picture()
     ensures { (bytes : List ℕ) → All (λ b. b ≤ 255) bytes → refusal_of bytes ≡ None → ShowsOnePicture bytes }

@@ -12,11 +12,7 @@ use crate::fields::Fields;
 use crate::number::ByteOrder;
 use iiif_pixel::{Depth, Dim, Kind};
 use iiif_source::Source;
-use iiif_tiff::tag;
-
-const MAX_SIDE: u32 = 1_000_000;
-
-const MAX_AREA: u64 = 1 << 32;
+use iiif_tiff::{MAX_AREA, MAX_SIDE, tag};
 
 const MAX_TILE_SIDE: u32 = 1 << 20;
 

@@ -17,6 +17,7 @@ use iiif_pixel::{Dim, NoMemory, Raster};
 use iiif_plain_tables::node::Node;
 use iiif_plain_tables::plain::PlainTable;
 use iiif_ring::Ring;
+use iiif_tiff::{MAX_AREA, MAX_SIDE};
 use std::alloc::Global;
 
 /// What a node is made of: its name, the names on its ring, the last version of messages that it speaks, and how many bytes and
@@ -50,12 +51,11 @@ fn is_readable(dim: Dim) -> bool
     ensures yes { IsTrue result → IsReadable dim }
     ensures no { result ≡ false → ¬ IsReadable dim }
 {
-    let limit = 1_000_000;
     0 < dim.w
-        && dim.w <= limit
+        && dim.w <= MAX_SIDE
         && 0 < dim.h
-        && dim.h <= limit
-        && u64::from(dim.w) * u64::from(dim.h) <= 1 << 32
+        && dim.h <= MAX_SIDE
+        && u64::from(dim.w) * u64::from(dim.h) <= MAX_AREA
 }
 
 /// Whether a picture is within the limits on an image's sides.
