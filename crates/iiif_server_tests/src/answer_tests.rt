@@ -1,8 +1,8 @@
 //! Answers of nodes: bodies, answers to calls, and failures of sources and writers.
 
-use crate::cases::{Ask, Case, HALF, LARGER, NODE, Setup, Table, Text, Verb, WHOLE, Want};
+use crate::cases::{Ask, Case, HALF, LARGER, NODE, SLOWLY, Setup, Table, Text, Verb, WHOLE, Want};
 use crate::files::{DEEP, DEEP_HIGH_FIRST, SAMPLE_FILE};
-use crate::nodes::{all_are, are_right, each_is};
+use crate::nodes::{all_are, are_right};
 use std::alloc::Global;
 use std::sync::Wait;
 use std::thread::Threads;
@@ -126,6 +126,18 @@ pub(crate) const FAULT: Want<'static> = Want::Held(500, 0, 0, Text::Is(b"L1 sour
 
 const SAMPLE_FAULT: &[Case<'static>] = &[(Ask::Body(WHOLE), FAULT)];
 
+const HALF_FAULT: &[Case<'static>] = &[(Ask::Body(HALF), FAULT)];
+
+const SAMPLE_BODY: &[Case<'static>] = &[(
+    Ask::Body(WHOLE),
+    Want::Whole(200, Text::Framed(b"II", b"")),
+)];
+
+const HALF_BODY: &[Case<'static>] = &[(
+    Ask::Body(HALF),
+    Want::Whole(200, Text::Framed(b"II", b"")),
+)];
+
 const REDIRECTED: &[Case<'static>] = &[(Ask::Body(b"/iiif/a"), Want::Whole(303, Text::Is(b"")))];
 
 const ESCAPED: &[Case<'static>] = &[(
@@ -159,8 +171,7 @@ const DEEP_NODE: Setup<'static> = Setup {
     ..NODE
 };
 
-/// The mean of 0 and 65,535, a half up, is 32,768, which is white; that of 0 and 65,534 is 32,767, which is black.
-const BODIES: [Table; 11] = [
+static BODIES: [Table; 5] = [
     ("whole", NODE, SAMPLE_WHOLE),
     ("scaled and turned", NODE, SCALED),
     ("refused", NODE, REFUSED),
@@ -173,7 +184,15 @@ const BODIES: [Table; 11] = [
         },
         ESCAPED,
     ),
-    ("failed read", Setup { k: 1, ..NODE }, SAMPLE_FAULT),
+];
+
+#[test]
+fn bodies_of_targets(rt: HostRuntime) {
+    all_are(&rt, &BODIES);
+}
+
+/// The mean of 0 and 65,535, a half up, is 32,768, which is white; that of 0 and 65,534 is 32,767, which is black.
+static DEEP_BODIES: [Table; 5] = [
     ("16 bits", DEEP_NODE, DEEP_WHOLE),
     (
         "16 bits, high bytes first",
@@ -196,8 +215,54 @@ const BODIES: [Table; 11] = [
 ];
 
 #[test]
-fn bodies_of_targets(rt: HostRuntime) {
-    all_are(&rt, &BODIES);
+fn bodies_of_16_bits(rt: HostRuntime) {
+    all_are(&rt, &DEEP_BODIES);
+}
+
+/// How much is held of an image, and of what is none.
+static HELD: [Table; 2] = [
+    (
+        "turned",
+        SLOWLY,
+        &[(
+            Ask::Body(b"/iiif/a/full/max/90/default.tif"),
+            Want::Held(200, 4, 8, Text::Long(190, b"")),
+        )],
+    ),
+    (
+        "information",
+        SLOWLY,
+        &[(
+            Ask::Body(b"/iiif/a/info.json"),
+            Want::Held(200, 0, 0, Text::Framed(b"{", b"}")),
+        )],
+    ),
+];
+
+#[test]
+fn row_of_a_turned_sample_is_held_at_most_twice(rt: HostRuntime) {
+    all_are(&rt, &HELD);
+}
+
+/// Whether a body is the line of a source that fails where one of its first four reads does, and whole where none of a thousand does. Four
+/// tiles of edge 2, in a picture 4 by 4, take one read each at least.
+fn needs_four_reads<R: Threads + Wait + Clock + Sync + AllocGlobal>(
+    rt: &R,
+    fault: &[Case<'_>],
+    body: &[Case<'_>],
+) -> bool {
+    for k in 1..=4u64 {
+        if !are_right(rt, &Setup { k, ..NODE }, fault) {
+            return false;
+        }
+    }
+    are_right(rt, &Setup { k: 1000, ..NODE }, body)
+}
+
+#[test]
+fn tile_that_is_not_read_is_a_source_fault(rt: HostRuntime) {
+    assert!(rt; needs_four_reads(&rt, SAMPLE_FAULT, SAMPLE_BODY));
+    assert!(rt; needs_four_reads(&rt, HALF_FAULT, HALF_BODY));
 }
 
 /// The head of the answer to a GET of the whole sample.
@@ -268,7 +333,7 @@ const REFUSALS: &[Case<'static>] = &[
 /// A head alone, for which nothing is read, and then an image, for which the first read fails.
 const HEAD_AND_FAULT: &[Case<'static>] = &[HEADED, UNREAD];
 
-const ANSWERS: [Table; 3] = [
+static ANSWERS: [Table; 3] = [
     ("image with its head", NODE, &[IMAGE]),
     ("refusals with their heads", NODE, REFUSALS),
     ("head reads nothing", Setup { k: 1, ..NODE }, HEAD_AND_FAULT),
@@ -277,56 +342,6 @@ const ANSWERS: [Table; 3] = [
 #[test]
 fn answers_to_calls(rt: HostRuntime) {
     all_are(&rt, &ANSWERS);
-}
-
-const INFORMATION: &[u8] =
-    b"{\"@context\":\"http://iiif.io/api/image/3/context.json\",\"extraFeatures\":[\"baseUriRedirect\",\"canonicalLinkHeader\",\"cors\",\"mirroring\",\"regionByPct\",\"regionByPx\",\"regionSquare\",\"rotationBy90s\",\"sizeByConfinedWh\",\"sizeByH\",\"sizeByPct\",\"sizeByW\",\"sizeByWh\"],\"extraFormats\":[\"tif\"],\"extraQualities\":[\"bitonal\",\"color\",\"gray\"],\"height\":4,\"id\":\"http://localhost/iiif/a\",\"maxHeight\":4096,\"maxWidth\":4096,\"preferredFormats\":[\"tif\"],\"profile\":\"level0\",\"protocol\":\"http://iiif.io/api/image\",\"tiles\":[{\"height\":2,\"scaleFactors\":[1,2],\"width\":2}],\"type\":\"ImageService3\",\"width\":4}";
-
-const INFORMATION_HEAD: &[u8] =
-    b"HTTP/1.1 200 OK\r\nContent-Type: application/ld+json;profile=\"http://iiif.io/api/image/3/context.json\"\r\nAccess-Control-Allow-Origin: *\r\nContent-Length: 564\r\n\r\n";
-
-/// What a node that scales up says of the sample: after the other features, that sizes may be above their regions.
-const INFORMATION_OF_LARGER: &[u8] =
-    b"{\"@context\":\"http://iiif.io/api/image/3/context.json\",\"extraFeatures\":[\"baseUriRedirect\",\"canonicalLinkHeader\",\"cors\",\"mirroring\",\"regionByPct\",\"regionByPx\",\"regionSquare\",\"rotationBy90s\",\"sizeByConfinedWh\",\"sizeByH\",\"sizeByPct\",\"sizeByW\",\"sizeByWh\",\"sizeUpscaling\"],\"extraFormats\":[\"tif\"],\"extraQualities\":[\"bitonal\",\"color\",\"gray\"],\"height\":4,\"id\":\"http://localhost/iiif/a\",\"maxHeight\":4096,\"maxWidth\":4096,\"preferredFormats\":[\"tif\"],\"profile\":\"level0\",\"protocol\":\"http://iiif.io/api/image\",\"tiles\":[{\"height\":2,\"scaleFactors\":[1,2],\"width\":2}],\"type\":\"ImageService3\",\"width\":4}";
-
-const SAID: [Table; 4] = [
-    (
-        "GET",
-        NODE,
-        &[(
-            Ask::Call(Verb::Get, b"/iiif/a/info.json"),
-            Want::Whole(200, Text::Joined(INFORMATION_HEAD, INFORMATION)),
-        )],
-    ),
-    (
-        "HEAD",
-        NODE,
-        &[(
-            Ask::Call(Verb::Head, b"/iiif/a/info.json"),
-            Want::Whole(200, Text::Is(INFORMATION_HEAD)),
-        )],
-    ),
-    (
-        "body",
-        NODE,
-        &[(
-            Ask::Body(b"/iiif/a/info.json"),
-            Want::Whole(200, Text::Is(INFORMATION)),
-        )],
-    ),
-    (
-        "upscale",
-        LARGER,
-        &[(
-            Ask::Body(b"/iiif/a/info.json"),
-            Want::Whole(200, Text::Is(INFORMATION_OF_LARGER)),
-        )],
-    ),
-];
-
-#[test]
-fn information_of_the_sample(rt: HostRuntime) {
-    all_are(&rt, &SAID);
 }
 
 /// The node that scales up to 8 by 8.
@@ -341,8 +356,8 @@ const ROW: Setup<'static> = Setup {
 /// The first two rows of the sample at twice its sides.
 const TWICE: &[u8] = &[0, 0, 10, 10, 20, 20, 30, 30, 0, 0, 10, 10, 20, 20, 30, 30];
 
-/// Results above their regions, and such that are not, under their canonical URIs; and refusals with and without the option.
-const RESULTS: [Table; 13] = [
+/// Results above their regions, and such that are not, under their canonical URIs.
+static RESULTS: [Table; 7] = [
     (
         "0,0,2,2/^3,3",
         UP_TO_8,
@@ -406,6 +421,15 @@ const RESULTS: [Table; 13] = [
             ),
         )],
     ),
+];
+
+#[test]
+fn results_above_their_regions(rt: HostRuntime) {
+    all_are(&rt, &RESULTS);
+}
+
+/// Refusals with and without the option.
+static REFUSED_RESULTS: [Table; 6] = [
     (
         "full/^5000,",
         LARGER,
@@ -457,28 +481,58 @@ const RESULTS: [Table; 13] = [
 ];
 
 #[test]
-fn results_above_their_regions(rt: HostRuntime) {
-    all_are(&rt, &RESULTS);
+fn results_above_their_regions_that_are_refused(rt: HostRuntime) {
+    all_are(&rt, &REFUSED_RESULTS);
 }
 
-/// Whether a body is whole, or is the line of a source that fails.
-const BODY_OR_FAULT: [(u64, Want<'static>); 5] = [
-    (1, FAULT),
-    (2, FAULT),
-    (3, FAULT),
-    (4, FAULT),
-    (1000, Want::Whole(200, Text::Framed(b"II", b""))),
+const INFORMATION: &[u8] =
+    b"{\"@context\":\"http://iiif.io/api/image/3/context.json\",\"extraFeatures\":[\"baseUriRedirect\",\"canonicalLinkHeader\",\"cors\",\"mirroring\",\"regionByPct\",\"regionByPx\",\"regionSquare\",\"rotationBy90s\",\"sizeByConfinedWh\",\"sizeByH\",\"sizeByPct\",\"sizeByW\",\"sizeByWh\"],\"extraFormats\":[\"tif\"],\"extraQualities\":[\"bitonal\",\"color\",\"gray\"],\"height\":4,\"id\":\"http://localhost/iiif/a\",\"maxHeight\":4096,\"maxWidth\":4096,\"preferredFormats\":[\"tif\"],\"profile\":\"level0\",\"protocol\":\"http://iiif.io/api/image\",\"tiles\":[{\"height\":2,\"scaleFactors\":[1,2],\"width\":2}],\"type\":\"ImageService3\",\"width\":4}";
+
+const INFORMATION_HEAD: &[u8] =
+    b"HTTP/1.1 200 OK\r\nContent-Type: application/ld+json;profile=\"http://iiif.io/api/image/3/context.json\"\r\nAccess-Control-Allow-Origin: *\r\nContent-Length: 564\r\n\r\n";
+
+/// What a node that scales up says of the sample: after the other features, that sizes may be above their regions.
+const INFORMATION_OF_LARGER: &[u8] =
+    b"{\"@context\":\"http://iiif.io/api/image/3/context.json\",\"extraFeatures\":[\"baseUriRedirect\",\"canonicalLinkHeader\",\"cors\",\"mirroring\",\"regionByPct\",\"regionByPx\",\"regionSquare\",\"rotationBy90s\",\"sizeByConfinedWh\",\"sizeByH\",\"sizeByPct\",\"sizeByW\",\"sizeByWh\",\"sizeUpscaling\"],\"extraFormats\":[\"tif\"],\"extraQualities\":[\"bitonal\",\"color\",\"gray\"],\"height\":4,\"id\":\"http://localhost/iiif/a\",\"maxHeight\":4096,\"maxWidth\":4096,\"preferredFormats\":[\"tif\"],\"profile\":\"level0\",\"protocol\":\"http://iiif.io/api/image\",\"tiles\":[{\"height\":2,\"scaleFactors\":[1,2],\"width\":2}],\"type\":\"ImageService3\",\"width\":4}";
+
+static SAID: [Table; 4] = [
+    (
+        "GET",
+        NODE,
+        &[(
+            Ask::Call(Verb::Get, b"/iiif/a/info.json"),
+            Want::Whole(200, Text::Joined(INFORMATION_HEAD, INFORMATION)),
+        )],
+    ),
+    (
+        "HEAD",
+        NODE,
+        &[(
+            Ask::Call(Verb::Head, b"/iiif/a/info.json"),
+            Want::Whole(200, Text::Is(INFORMATION_HEAD)),
+        )],
+    ),
+    (
+        "body",
+        NODE,
+        &[(
+            Ask::Body(b"/iiif/a/info.json"),
+            Want::Whole(200, Text::Is(INFORMATION)),
+        )],
+    ),
+    (
+        "upscale",
+        LARGER,
+        &[(
+            Ask::Body(b"/iiif/a/info.json"),
+            Want::Whole(200, Text::Is(INFORMATION_OF_LARGER)),
+        )],
+    ),
 ];
 
 #[test]
-fn tile_that_is_not_read_is_a_source_fault(rt: HostRuntime) {
-    for target in [WHOLE, HALF] {
-        // Four tiles of edge 2, in a picture 4 by 4: one read each at least.
-        for (k, want) in BODY_OR_FAULT {
-            let setup = Setup { k, ..NODE };
-            assert!(rt; are_right(&rt, &setup, &[(Ask::Body(target), want)]), "{k}");
-        }
-    }
+fn information_of_the_sample(rt: HostRuntime) {
+    all_are(&rt, &SAID);
 }
 
 /// Writers that fail behind each number of bytes of an answer that is this one as a whole.
@@ -522,28 +576,28 @@ fn writer_that_fails_leaves_a_strict_prefix(rt: HostRuntime) {
     }
 }
 
-/// A node that keeps nothing, of whose reads the k-th and each later one fails.
-fn forgetful(k: u64) -> Setup<'static> {
-    Setup {
-        bytes: 0,
-        k,
-        ..NODE
-    }
-}
+const ALONE: &[Case<'static>] = &[IMAGE];
 
-/// The first of a hundred reads that the whole answer doesn't need.
-fn first_unneeded<R: Threads + Wait + Clock + Sync + AllocGlobal>(rt: &R) -> Option<u64> {
+/// A head alone, the image, and the image once more, which fails.
+const BEHIND_A_HEAD: &[Case<'static>] = &[HEADED, IMAGE, UNREAD];
+
+/// Nodes that keep nothing, of whose reads the k-th and each later one fails: of the first of a hundred k that the whole answer doesn't
+/// need, whether a head alone, the answer and one more that fails come as they are to.
+fn is_head_without_a_read<R: Threads + Wait + Clock + Sync + AllocGlobal>(rt: &R) -> bool {
     for k in 1..100u64 {
-        if are_right(rt, &forgetful(k), &[IMAGE]) {
-            return Some(k);
+        let setup = Setup {
+            bytes: 0,
+            k,
+            ..NODE
+        };
+        if are_right(rt, &setup, ALONE) {
+            return k > 1 && are_right(rt, &setup, BEHIND_A_HEAD);
         }
     }
-    None
+    false
 }
 
 #[test]
 fn head_spends_no_read(rt: HostRuntime) {
-    let last = first_unneeded(&rt).unwrap_or(0);
-    assert!(rt; last > 1);
-    each_is(&rt, "head", &forgetful(last), &[HEADED, IMAGE, UNREAD]);
+    assert!(rt; is_head_without_a_read(&rt));
 }

@@ -1,8 +1,8 @@
 //! Images that are made of tiles and blocks, beside those of whole regions.
 
-use crate::cases::{Ask, Case, NODE, Setup, Text, Want};
+use crate::cases::{Ask, Case, NODE, Setup, Text, Variant, Want};
 use crate::drawn::Drawn;
-use crate::nodes::are_right;
+use crate::nodes::wrong_variant;
 use crate::reference::plain_render;
 use iiif_area::is_scalable;
 use iiif_canonical::Resolved;
@@ -68,7 +68,7 @@ fn stored(alloc: Global, image: &Raster) -> Option<Vec<u8>> {
 type Request = (&'static [u8], [u32; 4], [u32; 2], (bool, u8), Quality);
 
 /// Requests of a picture 7 by 5: kept at their sides, scaled, turned, and at the picture's edges.
-const REQUESTS: [Request; 7] = [
+static REQUESTS: [Request; 7] = [
     (
         b"/iiif/a/full/max/0/default.tif",
         [0, 0, 7, 5],
@@ -121,8 +121,8 @@ const REQUESTS: [Request; 7] = [
 ];
 
 /// What a request comes to.
-fn resolved(request: Request) -> Resolved {
-    let (_, [x, y, w, h], [width, height], (mirror, quarters), quality) = request;
+fn resolved(request: &Request) -> Resolved {
+    let (_, [x, y, w, h], [width, height], (mirror, quarters), quality) = *request;
     Resolved {
         rect: Rect { x, y, w, h },
         size: Dim {
@@ -135,60 +135,74 @@ fn resolved(request: Request) -> Resolved {
 }
 
 /// The samples of the image that a request of a file comes to, as they stand in its file.
-fn samples_of(alloc: Global, file: &[u8], request: Request) -> Option<Vec<u8>> {
+fn samples_of(alloc: Global, file: &[u8], request: &Request) -> Option<Vec<u8>> {
     let source = MemSource::new(Vec::from_slice(alloc, file).ok()?);
     stored(alloc, &plain_image(alloc, &source, &resolved(request))?)
 }
 
-/// The samples of all of them.
-fn all_samples(alloc: Global, file: &[u8]) -> Option<Vec<Vec<u8>>> {
+/// The targets of all requests, and the samples of their images.
+type Images = Vec<(&'static [u8], Vec<u8>)>;
+
+/// Those of a file.
+fn images_of(alloc: Global, file: &[u8]) -> Option<Images> {
     let mut images = Vec::new(alloc);
-    for request in REQUESTS {
-        images.push(samples_of(alloc, file, request)?).ok()?;
+    for request in &REQUESTS {
+        images
+            .push((request.0, samples_of(alloc, file, request)?))
+            .ok()?;
     }
     Some(images)
 }
 
 /// The bodies of the requests, with these samples.
-fn asks<'a>(alloc: Global, images: &'a [Vec<u8>]) -> Option<Vec<Case<'a>>> {
+fn asks(alloc: Global, images: &Images) -> Option<Vec<Case<'_>>> {
     let mut cases = Vec::new(alloc);
-    for ((target, ..), samples) in REQUESTS.iter().zip(images) {
+    for (target, samples) in images {
         let want = Want::Whole(200, Text::Framed(b"", samples));
         cases.push((Ask::Body(target), want)).ok()?;
     }
     Some(cases)
 }
 
-/// Whether each request of a picture is answered by the image that it comes to, by one node for each edge of tiles from 1 to 8.
+/// Tiles of the edges 1 to 8.
+const EDGES: &[Variant] = &[
+    (1, 64, 2, 65_536),
+    (2, 64, 2, 65_536),
+    (3, 64, 2, 65_536),
+    (4, 64, 2, 65_536),
+    (5, 64, 2, 65_536),
+    (6, 64, 2, 65_536),
+    (7, 64, 2, 65_536),
+    (8, 64, 2, 65_536),
+];
+
+/// Whether each request of a picture is answered by the image that it comes to, by one node for each edge.
 fn are_answered<R: Threads + Wait + Clock + Sync + AllocGlobal>(
     rt: &R,
-    out: OutKind,
-    step: u16,
+    picture: &(OutKind, u16),
 ) -> Option<bool> {
-    let file = file(rt.alloc(), out, step)?;
-    let images = all_samples(rt.alloc(), &file)?;
+    let file = file(rt.alloc(), picture.0, picture.1)?;
+    let images = images_of(rt.alloc(), &file)?;
     let cases = asks(rt.alloc(), &images)?;
-    let mut is_each = cases.len() == REQUESTS.len();
-    for edge in 1..=8 {
-        let setup = Setup {
-            file: &file,
-            edge,
-            k: 10_000,
-            ..NODE
-        };
-        is_each = is_each && are_right(rt, &setup, &cases);
-    }
-    Some(is_each)
+    let base = Setup {
+        file: &file,
+        k: 10_000,
+        ..NODE
+    };
+    Some(wrong_variant(rt, &base, EDGES, &cases).is_none())
 }
+
+/// Kinds of pictures, and how many steps their samples are apart.
+static PICTURES: [(OutKind, u16); 4] = [
+    (OutKind::Gray, 37),
+    (OutKind::Rgb, 101),
+    (OutKind::Gray16, 9_973),
+    (OutKind::Rgb16, 25_999),
+];
 
 #[test]
 fn tiles_and_blocks_make_what_whole_regions_make(rt: HostRuntime) {
-    for (out, step) in [
-        (OutKind::Gray, 37),
-        (OutKind::Rgb, 101),
-        (OutKind::Gray16, 9_973),
-        (OutKind::Rgb16, 25_999),
-    ] {
-        assert!(rt; are_answered(&rt, out, step) == Some(true), "{out:?}");
+    for picture in &PICTURES {
+        assert!(rt; are_answered(&rt, picture) == Some(true), "{}", picture.1);
     }
 }

@@ -1,24 +1,15 @@
 //! Bodies in bands.
 
 use crate::answer_tests::{FAULT, STEPS};
-use crate::cases::{Ask, Case, HALF, LARGER, Setup, Table, Text, WHOLE, Want};
+use crate::cases::{
+    Ask, BY_FIVE, BY_ONE, BY_TWO, Case, HALF, IS_NOT_SO, IS_SO, LARGER, SLOWLY, Setup, Table, Text,
+    Variant, WHOLE, Want,
+};
 use crate::files::{HALVED_FILE, SAMPLE_FILE};
-use crate::meeting::Meeting;
-use crate::nodes::{all_are, are_right, each_is, right_of};
-use crate::told::Told;
-use std::process::Abort;
+use crate::nodes::{all_are, are_right, wrong_variant};
 use std::sync::Wait;
-use std::sync::atomic::Ordering;
 use std::thread::Threads;
 use std::time::Clock;
-
-/// One worker, bands of one row, and no cache.
-const SLOWLY: Setup<'static> = Setup {
-    rows: 1,
-    workers: 1,
-    bytes: 0,
-    ..LARGER
-};
 
 /// One worker, a band of all rows, and a cache that keeps all.
 const AT_ONCE: Setup<'static> = Setup {
@@ -28,8 +19,11 @@ const AT_ONCE: Setup<'static> = Setup {
     ..LARGER
 };
 
-/// Targets, and the last samples or bits of their bodies, by hand.
-const CASES: [(&[u8], usize, &[u8]); 9] = [
+/// A target, how many bytes its body has, and its last samples or bits.
+type Body = (&'static [u8], usize, &'static [u8]);
+
+/// Bodies, by hand.
+static CASES: [Body; 9] = [
     (WHOLE, 190, STEPS),
     (
         b"/iiif/a/full/max/90/default.tif",
@@ -51,97 +45,88 @@ const CASES: [(&[u8], usize, &[u8]); 9] = [
     (b"/iiif/a/0,0,1,1/^2,2/0/default.tif", 178, &[0, 0, 0, 0]),
 ];
 
-/// The bodies of the targets are these, each of a new node.
-fn compare<R: Threads + Wait + Clock + Abort + Sync + AllocGlobal>(rt: &R, setup: &Setup<'_>) {
-    for (target, count, samples) in CASES {
-        let want = Want::Whole(200, Text::Long(count, samples));
-        each_is(rt, "in bands", setup, &[(Ask::Body(target), want)]);
+/// Each number of workers.
+static IN_BANDS: [&[Variant]; 3] = [BY_ONE, BY_TWO, BY_FIVE];
+
+/// Whether the body of a target is this, each time of a new node.
+fn is_in_bands<R: Threads + Wait + Clock + Sync + AllocGlobal>(rt: &R, body: &Body) -> bool {
+    let (target, count, samples) = *body;
+    let case = [(
+        Ask::Body(target),
+        Want::Whole(200, Text::Long(count, samples)),
+    )];
+    for variants in &IN_BANDS {
+        if wrong_variant(rt, &LARGER, variants, &case).is_some() {
+            return false;
+        }
     }
+    true
 }
 
 #[test]
 fn bands_workers_and_caches_change_nothing(rt: HostRuntime) {
-    for rows in [1, 3, 64] {
-        for workers in [1, 2, 5] {
-            for bytes in [0, 100, 67_108_864] {
-                let setup = Setup {
-                    rows,
-                    workers,
-                    bytes,
-                    ..LARGER
-                };
-                compare(&rt, &setup);
-            }
-        }
+    for body in &CASES {
+        assert!(rt; is_in_bands(&rt, body));
     }
 }
 
-/// How much is held of an image, and of what is none.
-const HELD: [Table; 2] = [
-    (
-        "turned",
-        SLOWLY,
-        &[(
-            Ask::Body(b"/iiif/a/full/max/90/default.tif"),
-            Want::Held(200, 4, 8, Text::Long(190, b"")),
-        )],
-    ),
-    (
-        "information",
-        SLOWLY,
-        &[(
-            Ask::Body(b"/iiif/a/info.json"),
-            Want::Held(200, 0, 0, Text::Framed(b"{", b"}")),
-        )],
-    ),
+const SAMPLE_IS_WHOLE: Case<'static> = (Ask::Body(WHOLE), Want::Whole(200, Text::Is(&SAMPLE_FILE)));
+
+const HALF_IS_WHOLE: Case<'static> = (Ask::Body(HALF), Want::Whole(200, Text::Is(&HALVED_FILE)));
+
+const MENDED: Case<'static> = (Ask::Mend, Want::Whole(0, Text::Is(b"")));
+
+/// A body that ends in some way where a read and each later one fails, and is whole once the source is mended: the line of a source that
+/// fails, a part, or whole at once.
+const SAMPLE_REFUSED: &[Case<'static>] = &[(Ask::Body(WHOLE), FAULT), MENDED, SAMPLE_IS_WHOLE];
+
+const SAMPLE_CUT: &[Case<'static>] = &[
+    (Ask::Body(WHOLE), Want::Front(&SAMPLE_FILE)),
+    MENDED,
+    SAMPLE_IS_WHOLE,
 ];
 
-#[test]
-fn row_of_a_turned_sample_is_held_at_most_twice(rt: HostRuntime) {
-    all_are(&rt, &HELD);
-}
+const SAMPLE_SENT: &[Case<'static>] = &[SAMPLE_IS_WHOLE, MENDED, SAMPLE_IS_WHOLE];
 
-const SAMPLE_IS_WHOLE: Want<'static> = Want::Whole(200, Text::Is(&SAMPLE_FILE));
+const HALF_REFUSED: &[Case<'static>] = &[(Ask::Body(HALF), FAULT), MENDED, HALF_IS_WHOLE];
 
-const HALF_IS_WHOLE: Want<'static> = Want::Whole(200, Text::Is(&HALVED_FILE));
+const HALF_CUT: &[Case<'static>] = &[
+    (Ask::Body(HALF), Want::Front(&HALVED_FILE)),
+    MENDED,
+    HALF_IS_WHOLE,
+];
 
-/// Images of the sample, of tiles and of blocks, whole; and how they end where a read fails, and each later one: first of those of the
-/// first reads, then of those of later ones. All reads of one band come before its first byte is sent: none of them cuts.
-const FAILING: [(Setup<'static>, &[u8], Want<'static>, &[Want<'static>]); 4] = [
+const HALF_SENT: &[Case<'static>] = &[HALF_IS_WHOLE, MENDED, HALF_IS_WHOLE];
+
+/// A name, a node, and how a body ends there: first where one of the first reads fails, then where one of later ones does.
+type Failing = (
+    &'static str,
+    Setup<'static>,
+    &'static [&'static [Case<'static>]],
+);
+
+/// Images of the sample, of tiles and of blocks. All reads of one band come before its first byte is sent: none of them cuts.
+static FAILING: [Failing; 4] = [
     (
+        "whole, slowly",
         SLOWLY,
-        WHOLE,
-        SAMPLE_IS_WHOLE,
-        &[FAULT, Want::Front(&SAMPLE_FILE), SAMPLE_IS_WHOLE],
+        &[SAMPLE_REFUSED, SAMPLE_CUT, SAMPLE_SENT],
     ),
-    (
-        SLOWLY,
-        HALF,
-        HALF_IS_WHOLE,
-        &[FAULT, Want::Front(&HALVED_FILE), HALF_IS_WHOLE],
-    ),
-    (AT_ONCE, WHOLE, SAMPLE_IS_WHOLE, &[FAULT, SAMPLE_IS_WHOLE]),
-    (AT_ONCE, HALF, HALF_IS_WHOLE, &[FAULT, HALF_IS_WHOLE]),
+    ("half, slowly", SLOWLY, &[HALF_REFUSED, HALF_CUT, HALF_SENT]),
+    ("whole, at once", AT_ONCE, &[SAMPLE_REFUSED, SAMPLE_SENT]),
+    ("half, at once", AT_ONCE, &[HALF_REFUSED, HALF_SENT]),
 ];
 
 /// The first read from this one on, of 63, whose failure ends a body in another way than this, or doesn't leave it whole once the source
 /// is mended. Else the 64th.
-fn first_other<'a, R: Threads + Wait + Clock + Sync + AllocGlobal>(
+fn first_other<R: Threads + Wait + Clock + Sync + AllocGlobal>(
     rt: &R,
-    setup: Setup<'_>,
-    target: &'a [u8],
-    whole: Want<'a>,
-    want: Want<'a>,
+    setup: &Setup<'_>,
+    cases: &[Case<'_>],
     from: u64,
 ) -> u64 {
-    let nothing = Want::Whole(0, Text::Is(b""));
     for k in from..64 {
-        let cases = [
-            (Ask::Body(target), want),
-            (Ask::Mend, nothing),
-            (Ask::Body(target), whole),
-        ];
-        if !are_right(rt, &Setup { k, ..setup }, &cases) {
+        if !are_right(rt, &Setup { k, ..*setup }, cases) {
             return k;
         }
     }
@@ -149,16 +134,11 @@ fn first_other<'a, R: Threads + Wait + Clock + Sync + AllocGlobal>(
 }
 
 /// Whether a body ends in these ways, one after another, as the first read that fails is a later one, and in no other.
-fn ends_in_turn<'a, R: Threads + Wait + Clock + Sync + AllocGlobal>(
-    rt: &R,
-    setup: Setup<'_>,
-    target: &'a [u8],
-    whole: Want<'a>,
-    wants: &[Want<'a>],
-) -> bool {
+fn ends_in_turn<R: Threads + Wait + Clock + Sync + AllocGlobal>(rt: &R, failing: &Failing) -> bool {
+    let (_, setup, ends) = failing;
     let mut from = 1u64;
-    for want in wants {
-        let next = first_other(rt, setup, target, whole, *want, from);
+    for cases in *ends {
+        let next = first_other(rt, setup, cases, from);
         if next == from {
             return false;
         }
@@ -169,44 +149,63 @@ fn ends_in_turn<'a, R: Threads + Wait + Clock + Sync + AllocGlobal>(
 
 #[test]
 fn first_fault_is_answered_and_a_later_one_cuts_until_the_source_is_mended(rt: HostRuntime) {
-    for (setup, target, whole, wants) in FAILING {
-        assert!(rt;
-            ends_in_turn(&rt, setup, target, whole, wants),
-            "{} {target:?}",
-            setup.rows
-        );
+    for failing in &FAILING {
+        assert!(rt; ends_in_turn(&rt, failing), "{}", failing.0);
     }
 }
 
-/// Where so many workers make the whole sample, the first load being held for so many turns: whether that went on alone.
-fn is_alone<R: Threads + Wait + Clock + Sync + AllocGlobal>(
-    rt: &R,
-    workers: u32,
-    turns: u32,
-) -> Option<bool> {
-    let gate = Meeting::new(turns);
-    let setup = Setup {
-        rows: 64,
-        workers,
-        ..SLOWLY
-    };
-    let case = (Ask::Body(WHOLE), Want::Whole(200, Text::Long(190, STEPS)));
-    match right_of(rt, rt.alloc(), &setup, &gate, &Told::new(), &[case]) {
-        Some(1) => Some(gate.alone.load(Ordering::SeqCst)),
-        _ => None,
-    }
-}
+/// A node of so many workers that make the whole sample, the first load being held for so many turns.
+const HOLDING: Setup<'static> = Setup {
+    rows: 64,
+    turns: 10_000,
+    ..SLOWLY
+};
+
+const SAMPLE_IS_LONG: Case<'static> = (Ask::Body(WHOLE), Want::Whole(200, Text::Long(190, STEPS)));
+
+/// Whether the first load went on alone.
+const IS_MET: &[Case<'static>] = &[SAMPLE_IS_LONG, (Ask::Alone, IS_NOT_SO)];
+
+const IS_ALONE: &[Case<'static>] = &[SAMPLE_IS_LONG, (Ask::Alone, IS_SO)];
+
+static MEETINGS: [Table; 4] = [
+    (
+        "2",
+        Setup {
+            workers: 2,
+            ..HOLDING
+        },
+        IS_MET,
+    ),
+    (
+        "3",
+        Setup {
+            workers: 3,
+            ..HOLDING
+        },
+        IS_MET,
+    ),
+    (
+        "4",
+        Setup {
+            workers: 4,
+            ..HOLDING
+        },
+        IS_MET,
+    ),
+    (
+        "1",
+        Setup {
+            turns: 50,
+            ..HOLDING
+        },
+        IS_ALONE,
+    ),
+];
 
 #[test]
 fn workers_meet_and_one_meets_no_other(rt: HostRuntime) {
-    for (workers, turns, alone) in [
-        (2, 10_000, false),
-        (3, 10_000, false),
-        (4, 10_000, false),
-        (1, 50, true),
-    ] {
-        assert!(rt; is_alone(&rt, workers, turns) == Some(alone), "{workers}");
-    }
+    all_are(&rt, &MEETINGS);
 }
 
 const MEAN: Case<'static> = (
@@ -217,7 +216,7 @@ const MEAN: Case<'static> = (
 /// At one place and an edge of 1 the sample is one block of level 2. Below it stand 4 of level 1 and 16 of level 0: 21 in all, each loaded
 /// once. One worker asks for each once. Of three two ask for the 16 before, and then for the block, which asks for 20: at least 37 asks, and
 /// one more for the band.
-const ASKED: [Table; 2] = [
+static ASKED: [Table; 2] = [
     (
         "by one",
         Setup { edge: 1, ..AT_ONCE },

@@ -1,9 +1,9 @@
 //! What is asked of a node, and whether it comes as it is to.
 
-use crate::cases::{Ask, Case, Input, Verb, Want};
-use crate::every::every;
+use crate::cases::{Ask, Input, Verb, Want};
 use crate::meeting::Meeting;
-use crate::told::{Parts, Told};
+use crate::nodes::Seen;
+use crate::told::Parts;
 use http::Method;
 use iiif_http_front::Call;
 use iiif_io::fakes::FailingWriter;
@@ -12,6 +12,7 @@ use iiif_server::{Cut, NoLink, Node, Passes, Sent, Watch};
 use iiif_source::{FuseSource, MemSource};
 use std::alloc::Global;
 use std::sync::Wait;
+use std::sync::atomic::Ordering;
 use std::thread::Threads;
 use std::time::Clock;
 
@@ -19,7 +20,7 @@ use std::time::Clock;
 pub(crate) type MemFused = FuseSource<MemSource>;
 
 /// How the body of a target's answer ends.
-pub(crate) fn body_of<R: Threads + Wait + Clock + Sync, J: System + Send + Sync>(
+fn body_of<R: Threads + Wait + Clock + Sync, J: System + Send + Sync>(
     rt: &R,
     alloc: Global,
     node: &Node<R, MemFused, J, NoLink, &Meeting>,
@@ -62,7 +63,7 @@ fn call_of<R: Threads + Wait + Clock + Sync, J: System + Send + Sync>(
     Some(node.serve_one(rt, alloc, passes, &call, out))
 }
 
-/// So many bytes, or images that were compared, and no answer of a status.
+/// So many bytes, or so much of what is counted, and no answer of a status.
 fn counted(bytes: usize, held: u64) -> Option<Result<Sent, Cut>> {
     Some(Ok(Sent {
         status: 0,
@@ -114,7 +115,7 @@ fn end_of<R: Threads + Wait + Clock + Sync, J: System + Send + Sync>(
     alloc: Global,
     node: &Node<R, MemFused, J, NoLink, &Meeting>,
     passes: &mut [Passes<J>],
-    told: &Told,
+    seen: &Seen,
     ask: Ask<'_>,
     out: &mut FailingWriter,
 ) -> Option<Result<Sent, Cut>> {
@@ -122,22 +123,21 @@ fn end_of<R: Threads + Wait + Clock + Sync, J: System + Send + Sync>(
         Ask::Body(target) => body_of(rt, alloc, node, passes, target, out),
         Ask::Call(verb, target) => call_of(rt, alloc, node, passes, verb, target, out),
         Ask::Stream(input) => stream_of(rt, alloc, node, passes, input, out, &()),
-        Ask::Watched(input) => stream_of(rt, alloc, node, passes, input, out, told),
+        Ask::Watched(input) => stream_of(rt, alloc, node, passes, input, out, &seen.told),
         Ask::Mend => mend(node),
-        Ask::Every(picture, times) => {
-            counted(0, every(rt, alloc, node, passes, picture, times)?)
-        }
         Ask::Sums => booked(rt, node),
+        Ask::Told(counts) => counted(0, u64::from(seen.told.counts() == counts)),
+        Ask::Alone => counted(0, u64::from(seen.gate.alone.load(Ordering::SeqCst))),
     }
 }
 
 /// Whether an ask comes as it is to.
-fn is_right<R: Threads + Wait + Clock + Sync, J: System + Send + Sync>(
+pub(crate) fn is_right<R: Threads + Wait + Clock + Sync, J: System + Send + Sync>(
     rt: &R,
     alloc: Global,
     node: &Node<R, MemFused, J, NoLink, &Meeting>,
     passes: &mut [Passes<J>],
-    told: &Told,
+    seen: &Seen,
     ask: Ask<'_>,
     want: Want<'_>,
 ) -> bool {
@@ -147,27 +147,8 @@ fn is_right<R: Threads + Wait + Clock + Sync, J: System + Send + Sync>(
         room,
         piece,
     };
-    match end_of(rt, alloc, node, passes, told, ask, &mut out) {
+    match end_of(rt, alloc, node, passes, seen, ask, &mut out) {
         Some(end) => want.fits(end, &out.taken),
         None => false,
     }
-}
-
-/// How many of these come as they are to, one after another, before the first that doesn't.
-pub(crate) fn right_ones<R: Threads + Wait + Clock + Sync, J: System + Send + Sync>(
-    rt: &R,
-    alloc: Global,
-    node: &Node<R, MemFused, J, NoLink, &Meeting>,
-    passes: &mut [Passes<J>],
-    told: &Told,
-    cases: &[Case<'_>],
-) -> usize {
-    let mut right = 0usize;
-    for (ask, want) in cases {
-        if !is_right(rt, alloc, node, passes, told, *ask, *want) {
-            return right;
-        }
-        right = right.saturating_add(1);
-    }
-    right
 }

@@ -1,7 +1,6 @@
 //! What a node is made of, what it is asked, and what is to come of it.
 
 use crate::files::SAMPLE;
-use crate::plain::Plain;
 use iiif_server::{Cause, Cut, Fault, Sent};
 
 /// More reads than a test makes.
@@ -31,6 +30,8 @@ pub(crate) struct Setup<'a> {
     pub bytes: u64,
     /// Of the file the k-th read and each later one fails.
     pub k: u64,
+    /// The first load is held for so many turns, or until another has come.
+    pub turns: u32,
 }
 
 /// The sample under the name `a`, in tiles of edge 2.
@@ -45,6 +46,7 @@ pub(crate) const NODE: Setup<'static> = Setup {
     workers: 2,
     bytes: 65_536,
     k: NEVER,
+    turns: 0,
 };
 
 /// The same, which may scale up.
@@ -53,7 +55,15 @@ pub(crate) const LARGER: Setup<'static> = Setup {
     ..NODE
 };
 
-/// The same by one worker, who answers a connection.
+/// One worker, bands of one row, and no cache.
+pub(crate) const SLOWLY: Setup<'static> = Setup {
+    rows: 1,
+    workers: 1,
+    bytes: 0,
+    ..LARGER
+};
+
+/// The sample by one worker, who answers a connection.
 pub(crate) const ONE_WORKER: Setup<'static> = Setup { workers: 1, ..NODE };
 
 /// What comes of a connection: these bytes and then those, at most so many a read, until so many reads were made.
@@ -86,10 +96,12 @@ pub(crate) enum Ask<'a> {
     Watched(Input<'a>),
     /// Nothing: from here on no read fails.
     Mend,
-    /// The body of each image of a picture up to so many times its regions' sizes, beside the plain evaluation.
-    Every(Plain<'a>, u64),
     /// Nothing: how many sums were asked for and loaded so far.
     Sums,
+    /// Nothing: whether the watch was told this so far.
+    Told([u64; 6]),
+    /// Nothing: whether the first load went on alone.
+    Alone,
 }
 
 /// What bytes are to be.
@@ -105,6 +117,8 @@ pub(crate) enum Text<'a> {
     Framed(&'a [u8], &'a [u8]),
     /// The answer with an image under this canonical URI, of whose last bytes, so many, the first are these.
     Image(&'a str, usize, &'a [u8]),
+    /// A file of these sides, with this strip behind its head.
+    File((u64, u64), &'a [u8]),
 }
 
 /// What is to come of an ask.
@@ -114,8 +128,6 @@ pub(crate) enum Want<'a> {
     Whole(u16, Text<'a>),
     /// The same, for which at least and at most so many places are held at once.
     Held(u16, u64, u64, Text<'a>),
-    /// As many images as this, each as the plain evaluation gives it.
-    Compared(u64),
     /// At least and at most so many sums were asked for, and so many loaded.
     Booked(u64, u64, u64),
     /// A writer that has room for so many bytes, in pieces of so many, fails. It was given the front of these.
@@ -126,8 +138,59 @@ pub(crate) enum Want<'a> {
     Front(&'a [u8]),
 }
 
+/// Something is so.
+pub(crate) const IS_SO: Want<'static> = Want::Held(0, 1, 1, Text::Is(b""));
+
+/// It isn't.
+pub(crate) const IS_NOT_SO: Want<'static> = Want::Held(0, 0, 0, Text::Is(b""));
+
 /// An ask and what is to come of it.
 pub(crate) type Case<'a> = (Ask<'a>, Want<'a>);
+
+/// The edge of a node's tiles, the rows of its bands, its workers, and how many bytes it keeps.
+pub(crate) type Variant = (u32, u32, u32, u64);
+
+/// The most bytes that a node keeps of tiles, and of sums.
+pub(crate) const MOST_BYTES: u64 = 67_108_864;
+
+/// Bands of 1, 3 and 64 rows by one worker, with no cache, with one that has room for little and with one that has room for all.
+pub(crate) const BY_ONE: &[Variant] = &[
+    (2, 1, 1, 0),
+    (2, 1, 1, 100),
+    (2, 1, 1, MOST_BYTES),
+    (2, 3, 1, 0),
+    (2, 3, 1, 100),
+    (2, 3, 1, MOST_BYTES),
+    (2, 64, 1, 0),
+    (2, 64, 1, 100),
+    (2, 64, 1, MOST_BYTES),
+];
+
+/// The same by two workers.
+pub(crate) const BY_TWO: &[Variant] = &[
+    (2, 1, 2, 0),
+    (2, 1, 2, 100),
+    (2, 1, 2, MOST_BYTES),
+    (2, 3, 2, 0),
+    (2, 3, 2, 100),
+    (2, 3, 2, MOST_BYTES),
+    (2, 64, 2, 0),
+    (2, 64, 2, 100),
+    (2, 64, 2, MOST_BYTES),
+];
+
+/// The same by five.
+pub(crate) const BY_FIVE: &[Variant] = &[
+    (2, 1, 5, 0),
+    (2, 1, 5, 100),
+    (2, 1, 5, MOST_BYTES),
+    (2, 3, 5, 0),
+    (2, 3, 5, 100),
+    (2, 3, 5, MOST_BYTES),
+    (2, 64, 5, 0),
+    (2, 64, 5, 100),
+    (2, 64, 5, MOST_BYTES),
+];
 
 /// What is asked, one after another, of one new node, and under which name.
 pub(crate) type Table = (&'static str, Setup<'static>, &'static [Case<'static>]);
@@ -155,6 +218,16 @@ fn tail(bytes: &[u8], count: usize) -> &[u8] {
     last
 }
 
+/// Whether a file has these sides, and this strip behind its head.
+fn is_file(file: &[u8], sides: (u64, u64), strip: &[u8]) -> bool {
+    let (Some(width), Some(height)) = (file.get(18), file.get(30)) else {
+        return false;
+    };
+    (u64::from(*width), u64::from(*height)) == sides
+        && file.ends_with(strip)
+        && file.len().saturating_sub(strip.len()) <= 180
+}
+
 impl<'a> Text<'a> {
     /// Whether bytes are what they are to be.
     fn fits(self, bytes: &[u8]) -> bool {
@@ -166,6 +239,7 @@ impl<'a> Text<'a> {
             Text::Image(canonical, count, first) => {
                 has_head(bytes, canonical) && tail(bytes, count).starts_with(first)
             }
+            Text::File(sides, strip) => is_file(bytes, sides, strip),
         }
     }
 }
@@ -198,7 +272,6 @@ impl<'a> Want<'a> {
                 let is_held = least <= sent.held && sent.held <= most;
                 is_all && is_held && sent.status == status && text.fits(bytes)
             }
-            Want::Compared(count) => sent.held == count,
             Want::Booked(least, most, loads) => {
                 least <= sent.bytes && sent.bytes <= most && sent.held == loads
             }

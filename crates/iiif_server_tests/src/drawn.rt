@@ -9,7 +9,7 @@ use iiif_tiff_write::{OutKind, fits, head, put_rows};
 use std::alloc::Global;
 
 /// A picture: its sides, its channels, its samples row by row, and the kind of its file.
-#[derive(Clone, Copy, Debug)]
+#[derive(Clone, Copy)]
 pub(crate) struct Drawn<'a> {
     pub sides: [u32; 2],
     pub kind: Kind,
@@ -39,7 +39,7 @@ fn count(samples: Span) -> usize
 
 impl<'a> Drawn<'a> {
     /// The picture for the plain evaluation.
-    pub(crate) fn plain(self) -> Plain<'a> {
+    pub(crate) fn plain(&self) -> Plain<'a> {
         let [w, h] = self.sides;
         Plain {
             w: u64::from(w),
@@ -51,7 +51,7 @@ impl<'a> Drawn<'a> {
     }
 
     /// Its samples of 8 bits, or of 16.
-    fn samples(self, alloc: Global) -> Option<Samples> {
+    fn samples(&self, alloc: Global) -> Option<Samples> {
         if self.out.depth() == Depth::Sixteen {
             return Some(Samples::Sixteen(Vec::from_slice(alloc, self.samples).ok()?));
         }
@@ -63,7 +63,7 @@ impl<'a> Drawn<'a> {
     }
 
     /// The raster.
-    pub(crate) fn raster(self, alloc: Global) -> Option<Raster> {
+    pub(crate) fn raster(&self, alloc: Global) -> Option<Raster> {
         let samples = self.samples(alloc)?;
         let [w, h] = self.sides;
         let dim = Dim { w, h };
@@ -74,7 +74,7 @@ impl<'a> Drawn<'a> {
     }
 
     /// Its file.
-    pub(crate) fn file(self, alloc: Global) -> Option<Vec<u8>> {
+    pub(crate) fn file(&self, alloc: Global) -> Option<Vec<u8>> {
         let (kind, raster) = (self.out, self.raster(alloc)?);
         if !fits(kind, raster.dim())
             || raster.kind().channels() != usize::from(kind.samples_per_pixel())

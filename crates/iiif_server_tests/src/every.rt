@@ -1,18 +1,19 @@
-//! Answers beside the plain evaluation: every region, size, turn and quality of a picture.
+//! The images of a picture as the plain evaluation gives them: every region, size, turn and quality.
 
-use crate::calls::{MemFused, body_of};
-use crate::meeting::Meeting;
+use crate::cases::{Ask, Case, Text, Want};
 use crate::plain::{Image, Plain};
-use iiif_io::fakes::FailingWriter;
-use iiif_keys::System;
-use iiif_server::{NoLink, Node, Passes};
 use std::alloc::Global;
-use std::sync::Wait;
-use std::thread::Threads;
-use std::time::Clock;
+
+/// An image: the target that asks for it, the sides of its file, and the file's strip.
+#[derive(Drop)]
+pub(crate) struct Pictured {
+    pub target: String,
+    pub sides: (u64, u64),
+    pub strip: Vec<u8>,
+}
 
 /// The nine turns: as they stand in a request, whether they mirror, and how many quarters they turn.
-const TURNS: [(&str, bool, u32); 9] = [
+static TURNS: [(&str, bool, u32); 9] = [
     ("0", false, 0),
     ("90", false, 1),
     ("180", false, 2),
@@ -24,7 +25,7 @@ const TURNS: [(&str, bool, u32); 9] = [
     ("!270", true, 3),
 ];
 
-const QUALITIES: [&str; 4] = ["default", "color", "gray", "bitonal"];
+static QUALITIES: [&str; 4] = ["default", "color", "gray", "bitonal"];
 
 /// Each size of a region up to so many times its own.
 fn add_sizes(parts: &mut Vec<([u64; 4], [u64; 2])>, region: [u64; 4], times: u64) -> Option<()> {
@@ -70,106 +71,58 @@ fn target_of(alloc: Global, image: Image<'_>, rotation: &str, quality: &str) -> 
     format!(in alloc; "/iiif/a/{x},{y},{w},{h}/{caret}{c},{d}/{rotation}/{quality}.tif").ok()
 }
 
-/// Whether a file has these sides, and this strip behind its head.
-fn is_file(file: &[u8], sides: (u64, u64), strip: &[u8]) -> bool {
-    let (Some(width), Some(height)) = (file.get(18), file.get(30)) else {
-        return false;
-    };
-    (u64::from(*width), u64::from(*height)) == sides
-        && file.ends_with(strip)
-        && file.len().saturating_sub(strip.len()) <= 180
+/// An image with this turn and quality.
+fn image_with(alloc: Global, image: Image<'_>, rotation: &str, quality: &str) -> Option<Pictured> {
+    let target = target_of(alloc, image, rotation, quality)?;
+    let strip = image.strip(alloc, quality)?;
+    Some(Pictured {
+        target,
+        sides: image.sides(),
+        strip,
+    })
 }
 
-/// Whether a target is answered with status 200 and a file that has these sides, and this strip.
-fn is_image<R: Threads + Wait + Clock + Sync, J: System + Send + Sync>(
-    rt: &R,
+/// Adds a region in a size, in each turn and quality.
+fn add_images(
+    images: &mut Vec<Pictured>,
     alloc: Global,
-    node: &Node<R, MemFused, J, NoLink, &Meeting>,
-    passes: &mut [Passes<J>],
-    target: &[u8],
-    sides: (u64, u64),
-    strip: &[u8],
-) -> bool {
-    let mut out = FailingWriter {
-        taken: Vec::new(alloc),
-        room: usize::MAX,
-        piece: usize::MAX,
-    };
-    match body_of(rt, alloc, node, passes, target, &mut out) {
-        Some(Ok(sent)) => sent.status == 200 && is_file(&out.taken, sides, strip),
-        _ => false,
-    }
-}
-
-/// Whether an image with this turn and quality is answered as the plain evaluation gives it.
-fn is_answered<R: Threads + Wait + Clock + Sync, J: System + Send + Sync>(
-    rt: &R,
-    alloc: Global,
-    node: &Node<R, MemFused, J, NoLink, &Meeting>,
-    passes: &mut [Passes<J>],
-    image: Image<'_>,
-    rotation: &str,
-    quality: &str,
-) -> bool {
-    let Some(target) = target_of(alloc, image, rotation, quality) else {
-        return false;
-    };
-    let Some(strip) = image.strip(alloc, quality) else {
-        return false;
-    };
-    is_image(
-        rt,
-        alloc,
-        node,
-        passes,
-        target.as_bytes(),
-        image.sides(),
-        &strip,
-    )
-}
-
-/// Whether a region in a size is, in each turn and quality.
-fn are_answered<R: Threads + Wait + Clock + Sync, J: System + Send + Sync>(
-    rt: &R,
-    alloc: Global,
-    node: &Node<R, MemFused, J, NoLink, &Meeting>,
-    passes: &mut [Passes<J>],
     picture: Plain<'_>,
     region: [u64; 4],
     size: [u64; 2],
-) -> bool {
-    for (rotation, mirror, quarters) in TURNS {
+) -> Option<()> {
+    for (rotation, mirror, quarters) in &TURNS {
         let image = Image {
             picture,
             region,
             size,
-            mirror,
-            quarters,
+            mirror: *mirror,
+            quarters: *quarters,
         };
-        for quality in QUALITIES {
-            if !is_answered(rt, alloc, node, passes, image, rotation, quality) {
-                return false;
-            }
+        for quality in &QUALITIES {
+            images
+                .push(image_with(alloc, image, rotation, quality)?)
+                .ok()?;
         }
     }
-    true
+    Some(())
 }
 
-/// How many images of a picture are answered as the plain evaluation gives them, where all are: each region in each size up to so
-/// many times its own, in nine turns and four qualities.
-pub(crate) fn every<R: Threads + Wait + Clock + Sync, J: System + Send + Sync>(
-    rt: &R,
-    alloc: Global,
-    node: &Node<R, MemFused, J, NoLink, &Meeting>,
-    passes: &mut [Passes<J>],
-    picture: Plain<'_>,
-    times: u64,
-) -> Option<u64> {
+/// All images of a picture: each region in each size up to so many times its own, in nine turns and four qualities.
+pub(crate) fn images_of(alloc: Global, picture: Plain<'_>, times: u64) -> Option<Vec<Pictured>> {
     let parts = parts_of(alloc, picture, times)?;
+    let mut images = Vec::new(alloc);
     for (region, size) in &parts {
-        if !are_answered(rt, alloc, node, passes, picture, *region, *size) {
-            return None;
-        }
+        add_images(&mut images, alloc, picture, *region, *size)?;
     }
-    Some((parts.len() as u64).saturating_mul(36))
+    Some(images)
+}
+
+/// The bodies of the targets of images, which are whole answers with these.
+pub(crate) fn asks<'a>(alloc: Global, images: &'a [Pictured]) -> Option<Vec<Case<'a>>> {
+    let mut cases = Vec::new(alloc);
+    for image in images {
+        let want = Want::Whole(200, Text::File(image.sides, &image.strip));
+        cases.push((Ask::Body(image.target.as_bytes()), want)).ok()?;
+    }
+    Some(cases)
 }

@@ -3,7 +3,7 @@
 use crate::cases::{Ask, NODE, Setup, Text, Verb, WHOLE, Want};
 use crate::drawn::{Drawn, STEPS};
 use crate::nodes::are_right;
-use iiif_pixel::{Dim, Kind, Rect};
+use iiif_pixel::{Dim, Kind, Raster, Rect};
 use iiif_source::MemSource;
 use iiif_tiff_read::open;
 use iiif_tiff_write::{OutKind, fits, head};
@@ -12,10 +12,9 @@ use std::sync::Wait;
 use std::thread::Threads;
 use std::time::Clock;
 
-/// Whether the file of a picture is opened as one of its sides, its kind and its depth, and has its samples.
-fn reads_back(alloc: Global, picture: Drawn<'_>) -> Option<bool> {
-    let raster = picture.raster(alloc)?;
-    let source = MemSource::new(picture.file(alloc)?);
+/// Whether a file is opened as one of a picture's sides, kind and depth, and has its samples.
+fn has_samples(alloc: Global, file: Vec<u8>, raster: &Raster) -> Option<bool> {
+    let source = MemSource::new(file);
     let Ok(layout) = open(&(), alloc, &source) else {
         return None;
     };
@@ -39,10 +38,20 @@ fn reads_back(alloc: Global, picture: Drawn<'_>) -> Option<bool> {
     Some(read.samples() == raster.samples())
 }
 
-/// Pictures, and whether their files have their samples.
-const PICTURES: [(Drawn<'static>, bool); 7] = [
-    (STEPS, true),
+/// A name, a picture, and whether its file has its samples.
+type Written = (&'static str, Drawn<'static>, bool);
+
+/// Whether the file of a picture has its samples, or not, as it is to.
+fn is_written(alloc: Global, written: &Written) -> Option<bool> {
+    let (_, picture, is_read) = written;
+    let raster = picture.raster(alloc)?;
+    Some(has_samples(alloc, picture.file(alloc)?, &raster)? == *is_read)
+}
+
+static PICTURES: [Written; 7] = [
+    ("grays", STEPS, true),
     (
+        "colors",
         Drawn {
             sides: [2, 1],
             kind: Kind::Rgb,
@@ -52,6 +61,7 @@ const PICTURES: [(Drawn<'static>, bool); 7] = [
         true,
     ),
     (
+        "a row of bits",
         Drawn {
             sides: [9, 1],
             kind: Kind::Gray,
@@ -62,6 +72,7 @@ const PICTURES: [(Drawn<'static>, bool); 7] = [
     ),
     // Two rows of two bytes each.
     (
+        "two rows of bits",
         Drawn {
             sides: [10, 2],
             kind: Kind::Gray,
@@ -74,6 +85,7 @@ const PICTURES: [(Drawn<'static>, bool); 7] = [
     ),
     // Bits don't hold the steps.
     (
+        "bits of grays",
         Drawn {
             out: OutKind::Bitonal,
             ..STEPS
@@ -81,6 +93,7 @@ const PICTURES: [(Drawn<'static>, bool); 7] = [
         false,
     ),
     (
+        "grays of 16 bits",
         Drawn {
             sides: [3, 2],
             kind: Kind::Gray,
@@ -90,6 +103,7 @@ const PICTURES: [(Drawn<'static>, bool); 7] = [
         true,
     ),
     (
+        "colors of 16 bits",
         Drawn {
             sides: [1, 2],
             kind: Kind::Rgb,
@@ -102,10 +116,11 @@ const PICTURES: [(Drawn<'static>, bool); 7] = [
 
 #[test]
 fn written_files_are_read_back(rt: HostRuntime) {
-    for (picture, is_read) in PICTURES {
+    for written in &PICTURES {
         assert!(rt;
-            reads_back(rt.alloc(), picture) == Some(is_read),
-            "{picture:?}"
+            is_written(rt.alloc(), written) == Some(true),
+            "{}",
+            written.0
         );
     }
 }

@@ -3,9 +3,8 @@
 ghost use Rattle.std.specs.Prelude.{◌≡◌, ℕ, IfSome};
 ghost use Rattle.iiif_server.specs.Stocks.{IsStock};
 
-use iiif_group::Gate;
 use iiif_ring::Ring;
-use iiif_server::{NoLink, Stock};
+use iiif_server::{Gate, NoLink, Stock};
 use std::alloc::Global;
 use std::num::NonZeroUsize;
 use std::sync::atomic::{AtomicBool, Ordering};

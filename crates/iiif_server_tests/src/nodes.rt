@@ -7,8 +7,9 @@ ghost use Rattle.iiif_images.specs.Named.{gave_of, pictures_of};
 ghost use Rattle.iiif_server.specs.Stocks.{IsStock};
 ghost use Rattle.iiif_server_tests.specs.Fused.{bytes_of, fused_gave, keeps_of};
 
-use crate::calls::{MemFused, right_ones};
-use crate::cases::{Case, Setup, Table};
+use crate::calls::{MemFused, is_right};
+use crate::cases::{Case, Setup, Table, Variant};
+use crate::every::{Pictured, asks};
 use crate::meeting::{Meeting, stock};
 use crate::told::Told;
 use iiif_canonical::Limits;
@@ -23,6 +24,13 @@ use std::sync::Wait;
 use std::sync::ledger::Blank;
 use std::thread::Threads;
 use std::time::Clock;
+
+/// The gate of a node, and what is told of its answers.
+#[derive(Drop)]
+pub(crate) struct Seen {
+    pub gate: Meeting,
+    pub told: Told,
+}
 
 /// The settings of a node.
 fn settings(alloc: Global, setup: &Setup<'_>) -> Option<Config> {
@@ -46,32 +54,39 @@ fn file(alloc: Global, setup: &Setup<'_>) -> Option<Vec<u8>> {
 
 /// The images of a node.
 fn images<R>(rt: &R, alloc: Global, setup: &Setup<'_>) -> Option<Catalogue<R, MemFused>> {
+    let name = String::from_str(alloc, setup.name).ok()?;
     let source = MemSource::new(file(alloc, setup)?);
     let Ok(layout) = open(rt, alloc, &source) else {
         return None;
     };
     let mut catalogue = Catalogue::new(alloc);
-    let name = String::from_str(alloc, setup.name).ok()?;
     match catalogue.add(name, FuseSource::new(source, setup.k), layout) {
         Ok(()) => Some(catalogue),
         Err(_) => None,
     }
 }
 
-/// How many of these come as they are to, by so many workers of a node.
+/// How many of these come as they are to, one after another, before the first that doesn't, by so many workers of a node.
 fn right_by_workers<R: Threads + Wait + Clock + Sync, J: System + Send + Sync>(
     rt: &R,
     alloc: Global,
     node: &Node<R, MemFused, J, NoLink, &Meeting>,
     workers: u32,
-    told: &Told,
+    seen: &Seen,
     cases: &[Case<'_>],
 ) -> Option<usize> {
     let mut passes = Vec::new(alloc);
     for _ in 0..workers {
         passes.push(node.pass(rt)?).ok()?;
     }
-    Some(right_ones(rt, alloc, node, &mut passes, told, cases))
+    let mut right = 0usize;
+    for (ask, want) in cases {
+        if !is_right(rt, alloc, node, &mut passes, seen, *ask, *want) {
+            break;
+        }
+        right = right.saturating_add(1);
+    }
+    Some(right)
 }
 
 /// The same by a new node of these images.
@@ -83,7 +98,7 @@ fn right_by<R: Threads + Wait + Clock + Sync, J: System + Send + Sync>(
     tiles: Stock<NoLink, &Meeting>,
     sums: Stock<NoLink, &Meeting>,
     workers: u32,
-    told: &Told,
+    seen: &Seen,
     cases: &[Case<'_>],
 ) -> Option<usize>
     requires pictures { (name : List ℕ) → J.pictures name ≡ pictures_of bytes_of images name }
@@ -97,22 +112,21 @@ fn right_by<R: Threads + Wait + Clock + Sync, J: System + Send + Sync>(
     let node = Node::<R, MemFused, J, NoLink, &Meeting>::new(
         alloc, config, images, tiles, sums,
     ).ok()?;
-    right_by_workers(rt, alloc, &node, workers, told, cases)
+    right_by_workers(rt, alloc, &node, workers, seen, cases)
 }
 
-/// How many of these come as they are to of one new node, whose loads pass this gate, before the first that doesn't.
-pub(crate) fn right_of<R: Threads + Wait + Clock + Sync>(
+/// How many of these come as they are to of one new node, before the first that doesn't.
+fn right_of<R: Threads + Wait + Clock + Sync>(
     rt: &R,
     alloc: Global,
     setup: &Setup<'_>,
-    gate: &Meeting,
-    told: &Told,
+    seen: &Seen,
     cases: &[Case<'_>],
 ) -> Option<usize> {
     let config = settings(alloc, setup)?;
     let images = images(rt, alloc, setup)?;
-    let tiles = stock(alloc, setup.bytes, gate, Blank::new(65_537))?;
-    let sums = stock(alloc, setup.bytes, gate, Blank::new(65_537))?;
+    let tiles = stock(alloc, setup.bytes, &seen.gate, Blank::new(65_537))?;
+    let sums = stock(alloc, setup.bytes, &seen.gate, Blank::new(65_537))?;
     right_by::<R, Brand>(
         rt,
         alloc,
@@ -121,7 +135,7 @@ pub(crate) fn right_of<R: Threads + Wait + Clock + Sync>(
         tiles,
         sums,
         setup.workers,
-        told,
+        seen,
         cases,
     )
 }
@@ -132,7 +146,11 @@ fn first_wrong<R: Threads + Wait + Clock + Sync + AllocGlobal>(
     setup: &Setup<'_>,
     cases: &[Case<'_>],
 ) -> Option<usize> {
-    match right_of(rt, rt.alloc(), setup, &Meeting::new(0), &Told::new(), cases) {
+    let seen = Seen {
+        gate: Meeting::new(setup.turns),
+        told: Told::new(),
+    };
+    match right_of(rt, rt.alloc(), setup, &seen, cases) {
         Some(right) if right == cases.len() => None,
         Some(right) => Some(right),
         None => Some(0),
@@ -148,15 +166,40 @@ pub(crate) fn are_right<R: Threads + Wait + Clock + Sync + AllocGlobal>(
     first_wrong(rt, setup, cases).is_none()
 }
 
-/// All of these come as they are to of one new node.
-pub(crate) fn each_is<R: Threads + Wait + Clock + Sync + AllocGlobal + Abort>(
+/// The first variant of a node of which a new one doesn't answer all of these as it is to.
+pub(crate) fn wrong_variant<R: Threads + Wait + Clock + Sync + AllocGlobal>(
     rt: &R,
-    name: &str,
-    setup: &Setup<'_>,
+    base: &Setup<'_>,
+    variants: &[Variant],
     cases: &[Case<'_>],
-) {
-    let wrong = first_wrong(rt, setup, cases);
-    assert!(rt; wrong.is_none(), "{name}: case {wrong:?}");
+) -> Option<Variant> {
+    for variant in variants {
+        let (edge, rows, workers, bytes) = *variant;
+        let setup = Setup {
+            edge,
+            rows,
+            workers,
+            bytes,
+            ..*base
+        };
+        if !are_right(rt, &setup, cases) {
+            return Some(*variant);
+        }
+    }
+    None
+}
+
+/// Whether a new node of each of these variants answers all of these images.
+pub(crate) fn are_answered<R: Threads + Wait + Clock + Sync + AllocGlobal>(
+    rt: &R,
+    base: &Setup<'_>,
+    variants: &[Variant],
+    images: &[Pictured],
+) -> bool {
+    match asks(rt.alloc(), images) {
+        Some(cases) => wrong_variant(rt, base, variants, &cases).is_none(),
+        None => false,
+    }
 }
 
 /// All of these tables' cases come as they are to.
@@ -165,6 +208,7 @@ pub(crate) fn all_are<R: Threads + Wait + Clock + Sync + AllocGlobal + Abort>(
     tables: &[Table],
 ) {
     for (name, setup, cases) in tables {
-        each_is(rt, name, setup, cases);
+        let wrong = first_wrong(rt, setup, cases);
+        assert!(rt; wrong.is_none(), "{name}: case {wrong:?}");
     }
 }

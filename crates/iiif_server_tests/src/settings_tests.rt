@@ -17,7 +17,9 @@ fn limits(max: u32) -> Limits {
 }
 
 /// Settings that are refused: the base, the edge, the greatest sides, the rows and the workers; and why.
-const REFUSED: [(&str, [u32; 4], ConfigFault); 9] = [
+type Refused = (&'static str, [u32; 4], ConfigFault);
+
+static REFUSED: [Refused; 9] = [
     ("http:/localhost", [5, 4, 0, 0], ConfigFault::Base),
     ("http://localhost/", [2, 4, 64, 2], ConfigFault::Base),
     (
@@ -33,98 +35,103 @@ const REFUSED: [(&str, [u32; 4], ConfigFault); 9] = [
     ("http://localhost", [5, 16384, 64, 17], ConfigFault::Workers),
 ];
 
-/// Why settings are refused.
-fn fault_of(
-    alloc: Global,
-    base: &str,
-    [edge, max, band, workers]: [u32; 4],
-) -> Option<ConfigFault> {
-    Config::new(alloc, base, edge, limits(max), band, workers).err()
+/// Whether settings are refused for this.
+fn are_refused(alloc: Global, refused: &Refused) -> bool {
+    let (base, [edge, max, band, workers], fault) = *refused;
+    Config::new(alloc, base, edge, limits(max), band, workers).err() == Some(fault)
 }
 
 /// Whether settings are told as they were given.
-fn is_told(alloc: Global) -> bool {
+fn is_told(alloc: Global) -> Option<bool> {
     let base = "https://a-b.example:8080/x/~y";
-    match Config::new(alloc, base, 1, limits(1), 1, 1) {
-        Ok(config) => {
-            config.base() == base
-                && config.prefix() == b"/x/~y".as_slice()
-                && config.limits() == limits(1)
-        }
-        Err(_) => false,
-    }
+    let config = Config::new(alloc, base, 1, limits(1), 1, 1).ok()?;
+    let is_prefix = config.prefix() == b"/x/~y".as_slice();
+    Some(is_prefix && config.base() == base && config.limits() == limits(1))
 }
 
 #[test]
 fn settings_are_refused_in_order(rt: HostRuntime) {
-    for (base, numbers, fault) in REFUSED {
+    for refused in &REFUSED {
         assert!(rt;
-            fault_of(rt.alloc(), base, numbers) == Some(fault),
-            "{base} {numbers:?}"
+            are_refused(rt.alloc(), refused),
+            "{} {:?}",
+            refused.0,
+            refused.1
         );
     }
-    assert!(rt; is_told(rt.alloc()));
-}
-
-/// Settings, once more where memory was wanted.
-fn configured_again(
-    alloc: Global,
-    base: &str,
-    edge: u32,
-    workers: u32,
-) -> Result<Config, ConfigFault> {
-    match Config::new(alloc, base, edge, limits(4), 64, workers) {
-        Err(ConfigFault::NoMemory) => Config::new(alloc, base, edge, limits(4), 64, workers),
-        answer => answer,
-    }
+    assert!(rt; is_told(rt.alloc()) == Some(true));
 }
 
 /// Whether settings are as they were given, or why they are refused.
 fn are_taken(alloc: Global, base: &str, edge: u32, workers: u32) -> Result<bool, ConfigFault> {
-    let config = configured_again(alloc, base, edge, workers)?;
+    let config = Config::new(alloc, base, edge, limits(4), 64, workers)?;
     let sides = config.edge() == edge && config.limits() == limits(4);
     Ok(config.base() == base && sides && config.band() == 64 && config.workers() == workers)
 }
 
-#[test]
-fn settings_are_taken_after_a_refused_growth(rt: HostRuntime) {
-    for (base, edge, workers, answer) in [
-        ("http://localhost/iiif", 2u32, 2u32, Ok(true)),
-        ("http://localhost/iiif", 5, 2, Err(ConfigFault::Edge)),
-        ("http://localhost/iiif", 2, 17, Err(ConfigFault::Workers)),
-        ("http:/localhost", 5, 2, Err(ConfigFault::Base)),
-        ("https://a-b.example:8080/x/~y", 1, 1, Ok(true)),
-    ] {
-        let taken = are_taken(rt.alloc(), base, edge, workers);
-        assert!(rt; taken == answer, "edge {edge}, {workers} workers");
+/// A base, an edge and workers, and whether settings with them are as they were given, or why they are refused.
+type Taken = (&'static str, u32, u32, Result<bool, ConfigFault>);
+
+static TAKEN: [Taken; 5] = [
+    ("http://localhost/iiif", 2, 2, Ok(true)),
+    ("http://localhost/iiif", 5, 2, Err(ConfigFault::Edge)),
+    ("http://localhost/iiif", 2, 17, Err(ConfigFault::Workers)),
+    ("http:/localhost", 5, 2, Err(ConfigFault::Base)),
+    ("https://a-b.example:8080/x/~y", 1, 1, Ok(true)),
+];
+
+/// Whether that comes of settings, once more where memory was wanted.
+fn are_taken_again(alloc: Global, taken: &Taken) -> bool {
+    let (base, edge, workers, answer) = *taken;
+    match are_taken(alloc, base, edge, workers) {
+        Err(ConfigFault::NoMemory) => are_taken(alloc, base, edge, workers) == answer,
+        once => once == answer,
     }
 }
 
-/// Why the sample isn't taken into a catalogue under a name, if it isn't.
-fn add(
+#[test]
+fn settings_are_taken_after_a_refused_growth(rt: HostRuntime) {
+    for taken in &TAKEN {
+        assert!(rt;
+            are_taken_again(rt.alloc(), taken),
+            "edge {}, {} workers",
+            taken.1,
+            taken.2
+        );
+    }
+}
+
+/// A name, and whether the sample is taken under it, or why it isn't.
+type Named = (&'static str, Result<(), AddFault>);
+
+static NAMES: [Named; 3] = [
+    ("", Err(AddFault::Name)),
+    ("a", Ok(())),
+    ("a", Err(AddFault::Twice)),
+];
+
+/// Whether that comes of the sample under a name in a catalogue.
+fn is_added(
     alloc: Global,
     catalogue: &mut Catalogue<(), MemSource>,
-    name: &str,
-) -> Option<Result<(), AddFault>> {
-    let name = String::from_str(alloc, name).ok()?;
+    named: &Named,
+) -> Option<bool> {
+    let name = String::from_str(alloc, named.0).ok()?;
     let source = MemSource::new(Vec::from_slice(alloc, &SAMPLE).ok()?);
     let Ok(layout) = open(&(), alloc, &source) else {
         return None;
     };
-    Some(catalogue.add(name, source, layout))
+    Some(catalogue.add(name, source, layout) == named.1)
 }
 
 #[test]
 fn names_are_taken_once(rt: HostRuntime) {
     let mut catalogue = Catalogue::new(rt.alloc());
-    for (name, answer) in [
-        ("", Err(AddFault::Name)),
-        ("a", Ok(())),
-        ("a", Err(AddFault::Twice)),
-    ] {
+    for named in &NAMES {
         assert!(rt;
-            add(rt.alloc(), &mut catalogue, name) == Some(answer),
-            "{name}"
+            is_added(rt.alloc(), &mut catalogue, named) == Some(true),
+            "{}",
+            named.0
         );
     }
     assert!(rt; catalogue.has("a") && catalogue.find("b").is_none());

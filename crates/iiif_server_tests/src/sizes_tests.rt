@@ -1,8 +1,9 @@
 //! Every region, every size up to twice the region's, nine turns and four qualities of small pictures, beside a plain evaluation.
 
-use crate::cases::{Ask, LARGER, Setup, Want};
+use crate::cases::{BY_FIVE, BY_ONE, BY_TWO, MOST_BYTES, NODE, Setup, Variant};
 use crate::drawn::{Drawn, STEPS};
-use crate::nodes::are_right;
+use crate::every::images_of;
+use crate::nodes::are_answered;
 use iiif_pixel::Kind;
 use iiif_tiff_write::OutKind;
 use std::process::Abort;
@@ -64,184 +65,207 @@ const DEEP_GRAYS: Drawn<'static> = Drawn {
     samples: &[0, 65_535, 32_768, 257, 255, 40_000],
 };
 
-/// The most bytes that a node keeps of tiles, and of sums.
-const CACHE_BYTES: u64 = 67_108_864;
+/// A name, a picture, up to how many times their regions' sizes its images are, how many they are, and the variants of nodes that answer
+/// them. The images are the regions in each width and each height, in nine turns and four qualities: up to twice their own sizes four times
+/// as many as up to their own.
+type Comparison = (&'static str, Drawn<'static>, u64, usize, &'static [Variant]);
 
-/// A node of one worker, whose cache keeps all, and which may scale up.
-const BY_ONE: Setup<'static> = Setup {
-    workers: 1,
-    bytes: CACHE_BYTES,
-    ..LARGER
-};
-
-/// So many images of a picture up to so many times their regions' sizes are all of them, and as the plain evaluation gives them.
-fn are_all<R: Threads + Wait + Clock + Sync + AllocGlobal>(
+/// Whether the images are so many, and a new node of each of these variants answers all of them as the plain evaluation gives them. It
+/// scales up only where some are above their regions' sizes.
+fn is_compared<R: Threads + Wait + Clock + Sync + AllocGlobal>(
     rt: &R,
-    setup: &Setup<'_>,
-    picture: Drawn<'_>,
-    times: u64,
-    count: u64,
-) -> bool {
-    let Some(file) = picture.file(rt.alloc()) else {
-        return false;
-    };
-    let setup = Setup {
+    comparison: &Comparison,
+) -> Option<bool> {
+    let (_, picture, times, count, variants) = comparison;
+    let file = picture.file(rt.alloc())?;
+    let images = images_of(rt.alloc(), picture.plain(), *times)?;
+    let base = Setup {
         file: &file,
-        ..*setup
+        upscale: *times > 1,
+        ..NODE
     };
-    let case = (Ask::Every(picture.plain(), times), Want::Compared(count));
-    are_right(rt, &setup, &[case])
+    Some(images.len() == *count && are_answered(rt, &base, variants, &images))
 }
 
-/// All images of a picture are as the plain evaluation gives them, in tiles of these edges: up to twice their regions' sizes, of nodes
-/// that scale up, and, a quarter as many, up to their sizes of nodes that don't.
+/// All of these come as they are to.
 fn compared<R: Threads + Wait + Clock + Sync + AllocGlobal + Abort>(
     rt: &R,
-    picture: Drawn<'_>,
-    edges: &[u32],
-    count: u64,
+    comparisons: &[Comparison],
 ) {
-    for edge in edges {
-        let edge = *edge;
-        for (upscale, times, count) in [(true, 2u64, count), (false, 1, count / 4)] {
-            let setup = Setup {
-                edge,
-                upscale,
-                ..BY_ONE
-            };
-            assert!(rt;
-                are_all(rt, &setup, picture, times, count),
-                "{edge} {times}"
-            );
-        }
+    for comparison in comparisons {
+        assert!(rt;
+            is_compared(rt, comparison) == Some(true),
+            "{}",
+            comparison.0
+        );
     }
 }
 
-/// The images of a picture: the regions in each width and each height up to twice their own, in nine turns and four qualities.
-#[test]
-fn gray_picture_of_4_by_4_in_tiles_of_1(rt: HostRuntime) {
-    compared(&rt, STEPS, &[1], 1600 * 36);
-}
+/// Tiles of the edges 1 and 2, of one worker whose cache keeps all.
+const SMALL_TILES: &[Variant] = &[(1, 64, 1, MOST_BYTES), (2, 64, 1, MOST_BYTES)];
+
+/// The same of the edges 3 to 5.
+const LARGE_TILES: &[Variant] = &[
+    (3, 64, 1, MOST_BYTES),
+    (4, 64, 1, MOST_BYTES),
+    (5, 64, 1, MOST_BYTES),
+];
+
+static GRAYS_IN_SMALL_TILES: [Comparison; 2] = [
+    ("grays of 16 places", STEPS, 2, 1600 * 36, SMALL_TILES),
+    ("not above", STEPS, 1, 400 * 36, SMALL_TILES),
+];
 
 #[test]
-fn gray_picture_of_4_by_4_in_tiles_of_2(rt: HostRuntime) {
-    compared(&rt, STEPS, &[2], 1600 * 36);
+fn gray_picture_of_4_by_4_in_small_tiles(rt: HostRuntime) {
+    compared(&rt, &GRAYS_IN_SMALL_TILES);
 }
+
+static GRAYS_IN_LARGE_TILES: [Comparison; 2] = [
+    ("grays of 16 places", STEPS, 2, 1600 * 36, LARGE_TILES),
+    ("not above", STEPS, 1, 400 * 36, LARGE_TILES),
+];
 
 #[test]
-fn gray_picture_of_4_by_4_in_tiles_of_3(rt: HostRuntime) {
-    compared(&rt, STEPS, &[3], 1600 * 36);
+fn gray_picture_of_4_by_4_in_large_tiles(rt: HostRuntime) {
+    compared(&rt, &GRAYS_IN_LARGE_TILES);
 }
+
+static OTHERS_IN_TILES: [Comparison; 12] = [
+    ("colors", REDS, 2, 160 * 36, SMALL_TILES),
+    ("colors", REDS, 2, 160 * 36, LARGE_TILES),
+    ("colors, not above", REDS, 1, 40 * 36, SMALL_TILES),
+    ("colors, not above", REDS, 1, 40 * 36, LARGE_TILES),
+    ("deep colors", DEEP_REDS, 2, 160 * 36, SMALL_TILES),
+    ("deep colors", DEEP_REDS, 2, 160 * 36, LARGE_TILES),
+    ("deep colors, not above", DEEP_REDS, 1, 40 * 36, SMALL_TILES),
+    ("deep colors, not above", DEEP_REDS, 1, 40 * 36, LARGE_TILES),
+    ("deep grays", DEEP_OF_9_PLACES, 2, 400 * 36, SMALL_TILES),
+    ("deep grays", DEEP_OF_9_PLACES, 2, 400 * 36, LARGE_TILES),
+    (
+        "deep grays, not above",
+        DEEP_OF_9_PLACES,
+        1,
+        100 * 36,
+        SMALL_TILES,
+    ),
+    (
+        "deep grays, not above",
+        DEEP_OF_9_PLACES,
+        1,
+        100 * 36,
+        LARGE_TILES,
+    ),
+];
 
 #[test]
-fn gray_picture_of_4_by_4_in_tiles_of_4(rt: HostRuntime) {
-    compared(&rt, STEPS, &[4], 1600 * 36);
+fn colors_and_pictures_of_16_bits_in_tiles(rt: HostRuntime) {
+    compared(&rt, &OTHERS_IN_TILES);
 }
+
+static BITS_IN_TILES: [Comparison; 4] = [
+    ("bits", BITS_OF_12_PLACES, 2, 800 * 36, SMALL_TILES),
+    ("bits", BITS_OF_12_PLACES, 2, 800 * 36, LARGE_TILES),
+    (
+        "bits, not above",
+        BITS_OF_12_PLACES,
+        1,
+        200 * 36,
+        SMALL_TILES,
+    ),
+    (
+        "bits, not above",
+        BITS_OF_12_PLACES,
+        1,
+        200 * 36,
+        LARGE_TILES,
+    ),
+];
 
 #[test]
-fn gray_picture_of_4_by_4_in_tiles_of_5(rt: HostRuntime) {
-    compared(&rt, STEPS, &[5], 1600 * 36);
+fn picture_of_bits_in_tiles(rt: HostRuntime) {
+    compared(&rt, &BITS_IN_TILES);
 }
+
+static GRAYS_BY_ONE: [Comparison; 3] = [
+    ("grays", GRAYS, 2, 160 * 36, BY_ONE),
+    ("bits", BITS, 2, 160 * 36, BY_ONE),
+    ("deep grays", DEEP_GRAYS, 2, 160 * 36, BY_ONE),
+];
 
 #[test]
-fn color_pictures_of_both_depths(rt: HostRuntime) {
-    compared(&rt, REDS, &[1, 2, 3, 4, 5], 160 * 36);
-    compared(&rt, DEEP_REDS, &[1, 2, 3, 4, 5], 160 * 36);
+fn grays_and_bits_by_one_worker(rt: HostRuntime) {
+    compared(&rt, &GRAYS_BY_ONE);
 }
+
+static COLORS_BY_ONE: [Comparison; 2] = [
+    ("colors", REDS, 2, 160 * 36, BY_ONE),
+    ("deep colors", DEEP_REDS, 2, 160 * 36, BY_ONE),
+];
 
 #[test]
-fn picture_of_bits_in_tiles_of_1_and_2(rt: HostRuntime) {
-    compared(&rt, BITS_OF_12_PLACES, &[1, 2], 800 * 36);
+fn colors_by_one_worker(rt: HostRuntime) {
+    compared(&rt, &COLORS_BY_ONE);
 }
+
+static GRAYS_BY_TWO: [Comparison; 2] = [
+    ("grays", GRAYS, 2, 160 * 36, BY_TWO),
+    ("bits", BITS, 2, 160 * 36, BY_TWO),
+];
 
 #[test]
-fn picture_of_bits_in_tiles_of_3_to_5(rt: HostRuntime) {
-    compared(&rt, BITS_OF_12_PLACES, &[3, 4, 5], 800 * 36);
+fn grays_and_bits_by_two_workers(rt: HostRuntime) {
+    compared(&rt, &GRAYS_BY_TWO);
 }
+
+static COLORS_BY_TWO: [Comparison; 2] = [
+    ("colors", REDS, 2, 160 * 36, BY_TWO),
+    ("deep grays", DEEP_GRAYS, 2, 160 * 36, BY_TWO),
+];
 
 #[test]
-fn gray_picture_of_16_bits(rt: HostRuntime) {
-    compared(&rt, DEEP_OF_9_PLACES, &[1, 2, 3, 4, 5], 400 * 36);
+fn colors_and_deep_grays_by_two_workers(rt: HostRuntime) {
+    compared(&rt, &COLORS_BY_TWO);
 }
 
-/// All images of a picture are as the plain evaluation gives them, in bands of 1, 3 and 64 rows, by so many workers, with no cache, with
-/// one that has room for little and with one that has room for all.
-fn banded<R: Threads + Wait + Clock + Sync + AllocGlobal + Abort>(
-    rt: &R,
-    picture: Drawn<'_>,
-    workers: u32,
-) {
-    for rows in [1, 3, 64] {
-        for bytes in [0, 100, CACHE_BYTES] {
-            let setup = Setup {
-                rows,
-                workers,
-                bytes,
-                ..LARGER
-            };
-            assert!(rt;
-                are_all(rt, &setup, picture, 2, 160 * 36),
-                "{rows} {workers} {bytes}"
-            );
-        }
-    }
-}
+static DEEP_COLORS_BY_TWO: [Comparison; 1] = [("deep colors", DEEP_REDS, 2, 160 * 36, BY_TWO)];
 
 #[test]
-fn gray_and_bits_by_one_worker(rt: HostRuntime) {
-    banded(&rt, GRAYS, 1);
-    banded(&rt, BITS, 1);
+fn deep_colors_by_two_workers(rt: HostRuntime) {
+    compared(&rt, &DEEP_COLORS_BY_TWO);
 }
 
-#[test]
-fn color_and_gray_of_16_bits_by_one_worker(rt: HostRuntime) {
-    banded(&rt, REDS, 1);
-    banded(&rt, DEEP_GRAYS, 1);
-}
+static GRAYS_BY_FIVE: [Comparison; 1] = [("grays", GRAYS, 2, 160 * 36, BY_FIVE)];
 
 #[test]
-fn color_of_16_bits_by_one_worker(rt: HostRuntime) {
-    banded(&rt, DEEP_REDS, 1);
+fn grays_by_five_workers(rt: HostRuntime) {
+    compared(&rt, &GRAYS_BY_FIVE);
 }
 
-#[test]
-fn gray_and_bits_by_two_workers(rt: HostRuntime) {
-    banded(&rt, GRAYS, 2);
-    banded(&rt, BITS, 2);
-}
-
-#[test]
-fn color_and_gray_of_16_bits_by_two_workers(rt: HostRuntime) {
-    banded(&rt, REDS, 2);
-    banded(&rt, DEEP_GRAYS, 2);
-}
-
-#[test]
-fn color_of_16_bits_by_two_workers(rt: HostRuntime) {
-    banded(&rt, DEEP_REDS, 2);
-}
-
-#[test]
-fn gray_by_five_workers(rt: HostRuntime) {
-    banded(&rt, GRAYS, 5);
-}
+static BITS_BY_FIVE: [Comparison; 1] = [("bits", BITS, 2, 160 * 36, BY_FIVE)];
 
 #[test]
 fn bits_by_five_workers(rt: HostRuntime) {
-    banded(&rt, BITS, 5);
+    compared(&rt, &BITS_BY_FIVE);
 }
 
-#[test]
-fn color_by_five_workers(rt: HostRuntime) {
-    banded(&rt, REDS, 5);
-}
+static COLORS_BY_FIVE: [Comparison; 1] = [("colors", REDS, 2, 160 * 36, BY_FIVE)];
 
 #[test]
-fn gray_of_16_bits_by_five_workers(rt: HostRuntime) {
-    banded(&rt, DEEP_GRAYS, 5);
+fn colors_by_five_workers(rt: HostRuntime) {
+    compared(&rt, &COLORS_BY_FIVE);
 }
 
+static DEEP_GRAYS_BY_FIVE: [Comparison; 1] = [("deep grays", DEEP_GRAYS, 2, 160 * 36, BY_FIVE)];
+
 #[test]
-fn color_of_16_bits_by_five_workers(rt: HostRuntime) {
-    banded(&rt, DEEP_REDS, 5);
+fn deep_grays_by_five_workers(rt: HostRuntime) {
+    compared(&rt, &DEEP_GRAYS_BY_FIVE);
+}
+
+static DEEP_COLORS_BY_FIVE: [Comparison; 1] = [("deep colors", DEEP_REDS, 2, 160 * 36, BY_FIVE)];
+
+#[test]
+fn deep_colors_by_five_workers(rt: HostRuntime) {
+    compared(&rt, &DEEP_COLORS_BY_FIVE);
 }

@@ -1,6 +1,5 @@
 use Rattle.std.specs.Prelude.{true}
-use Rattle.iiif_images.specs.Named.{gave_of, pictures_of}
-use Rattle.iiif_server.specs.Nodes.{stable_of}
+use Rattle.iiif_images.specs.Named.{gave_of, pictures_of, stable_of}
 use Rattle.iiif_server_tests.specs.Fused.{bytes_of, keeps_of, fused_gave}
 use Rattle.iiif_server_tests.proofs.nodes.right_of.Given as goal
 
