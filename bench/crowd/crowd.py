@@ -17,7 +17,8 @@ The jobs, each on servers that are started anew for it, so that their caches are
   crowd          8 viewers, 100 different requests of such paths, each asked by two viewers at the same time
   viewers        1, 8 and 64 viewers, each somewhere else on such paths
 With --floor a server that reads and writes the bytes of native tiles, and does nothing else, runs too: none whose threads sleep takes less. So does
-one that keeps them as well, in memory that has left the processor's caches: none that keeps takes less.
+one that keeps them as well, in memory that has left the processor's caches: none that keeps takes less. Two more show what is saved where no byte of the file is
+copied into memory of its own: one that writes from the file as it is mapped, and one whose bytes the system sends (sendfile).
 All servers run in turn, --rounds times (the plain one once, as it takes minutes), and medians are printed: how long the viewer waited who waited longest, which is the sum over
 its requests of the time from a request's first byte to its answer's last; processor time of all processes of a server; requests a second of that time; and the 50th and the 99th
 percentile of those times. What a viewer does between an answer and its next request, a check sum of the answer's bytes, is in none of them: of a native tile of 64 KiB that
@@ -51,6 +52,9 @@ from model import Image  # noqa: E402
 SOURCE, EDGE, LIMIT = compare.SOURCES[0], 256, 4096
 OWN, BEFORE, PLAIN, FLOOR = "this program", "the build before", "libvips in C", "reads and writes alone"
 KEEPS = "reads, keeps and writes alone"
+MAPS, SENDS = "maps and writes alone", "sends inside the system alone"
+# The servers that do no more than that.
+BARE = (FLOOR, KEEPS, MAPS, SENDS)
 # The jobs that the servers do which read and write alone, and how many MiB the one has that keeps, as this program by its defaults.
 WITH_FLOOR, KEPT = "native", "64"
 # The jobs of a viewer who looks for its answers.
@@ -166,6 +170,8 @@ class Bench:
         if args.floor:
             found[FLOOR] = lambda: servers.Plain(FLOOR, args.floor, self.source, self.room)
             found[KEEPS] = lambda: servers.Plain(KEEPS, args.floor, self.source, self.room, KEPT)
+            found[MAPS] = lambda: servers.Plain(MAPS, args.floor, self.source, self.room, "map")
+            found[SENDS] = lambda: servers.Plain(SENDS, args.floor, self.source, self.room, "send")
         return found
 
     def lists(self, server, job):
@@ -250,7 +256,7 @@ def measured(bench, jobs, columns):
     for turn in range(bench.args.rounds):
         for job in jobs:
             for column, start in compare.turned(list(columns.items()), turn):
-                if turn and column == PLAIN or column in (FLOOR, KEEPS) and not job.startswith(WITH_FLOOR):
+                if turn and column == PLAIN or column in BARE and not job.startswith(WITH_FLOOR):
                     continue
                 with start() as server:
                     try:
@@ -271,7 +277,7 @@ def table(title, jobs, names, medians, cell):
         return
     print(f"\n**{title}**\n\n| | {' | '.join(names)} |\n|---|{'---|' * len(names)}")
     for job in jobs:
-        print(f"| {job} | {' | '.join(cell(job, name) if (job, name) in medians else '' if name in (FLOOR, KEEPS) else 'gave up' for name in names)} |")
+        print(f"| {job} | {' | '.join(cell(job, name) if (job, name) in medians else '' if name in BARE else 'gave up' for name in names)} |")
 
 
 def limits(jobs, names, medians):
@@ -333,7 +339,7 @@ def main():
         jobs, columns = [job for job in JOBS if re.search(args.jobs, job)], bench.columns()
         with open("/proc/cpuinfo") as info:
             print(f"{os.cpu_count()} processors, {re.search('model name	: (.*)', info.read())[1]}; {args.rounds} rounds; load before: {compare.load()}", flush=True)
-        wrong = [] if args.unchecked else [fault for job in jobs for column, start in columns.items() if column not in (FLOOR, KEEPS) for fault in bench.checked(column, start, job)]
+        wrong = [] if args.unchecked else [fault for job in jobs for column, start in columns.items() if column not in BARE for fault in bench.checked(column, start, job)]
         print(f"{len(wrong)} wrong answers" if not args.unchecked else "answers not compared", flush=True)
         medians, names = measured(bench, jobs, columns), list(columns)
         print(f"load after: {compare.load()}")

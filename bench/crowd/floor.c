@@ -2,11 +2,14 @@
    connection and nothing else. What it answers is no image.
 
        cc -O2 -o floor bench/crowd/floor.c -lpthread
-       ./floor PORT FILE [MIB]
+       ./floor PORT FILE [MIB | map | send]
 
    With a third word it keeps as well: each tile is read into memory of its own, of so many MiB in turn, which are touched at the start, and is written
    from there. That is the least that a server does which keeps what it was asked: the memory of a tile was written last so many MiB ago, so it has
    left the processor's caches. It looks nothing up, and asks again for what it keeps.
+
+   With the word `map` it writes from the file as it is mapped into memory, and with `send` the system sends the file's bytes (sendfile): so no byte
+   of it is copied into memory of its own. That is what a library would save that has one of these.
 
    The bytes are those of the tile of 256 square at /iiif/ANY/x,y,.. of a file of bench/compare, 10,000 wide, whose tiles stand in order. */
 #include <arpa/inet.h>
@@ -18,13 +21,15 @@
 #include <stdlib.h>
 #include <string.h>
 #include <sys/mman.h>
+#include <sys/sendfile.h>
+#include <sys/stat.h>
 #include <sys/uio.h>
 #include <unistd.h>
 
 enum { HEAD = 8192, TILE = 65536, FRONT = 174, ACROSS = 40, EDGE = 256 };
 
-static int file;
-static char *kept;
+static int file, sends;
+static char *kept, *mapped;
 static long slots, used;
 
 /* Writes all of two runs of bytes; whether that went well. */
@@ -40,6 +45,19 @@ static int is_sent(int link, char *front, ssize_t before, char *tile) {
             parts[n].iov_len -= gone;
             more -= gone;
         }
+    }
+    return 1;
+}
+
+/* Has the system send a front and then a tile of the file; whether that went well. */
+static int is_sent_inside(int link, char *front, ssize_t before, off_t at) {
+    if (send(link, front, before, MSG_MORE) != before)
+        return 0;
+    for (ssize_t left = TILE; left > 0;) {
+        ssize_t more = sendfile(link, file, &at, left);
+        if (more <= 0)
+            return 0;
+        left -= more;
     }
     return 1;
 }
@@ -62,8 +80,14 @@ static void *serve(void *given) {
             break;
         held = 0;
         int front = sprintf(answer, "HTTP/1.1 200 OK\r\nContent-Type: image/tiff\r\nContent-Length: %d\r\n\r\n", FRONT + TILE) + FRONT;
+        off_t at = 8 + (off_t)(y / EDGE * ACROSS + x / EDGE) * TILE;
+        if (sends || mapped) {
+            if (sends ? !is_sent_inside(link, answer, front, at) : !is_sent(link, answer, front, mapped + at))
+                break;
+            continue;
+        }
         char *tile = kept ? kept + __sync_fetch_and_add(&used, 1) % slots * TILE : answer + front;
-        if (pread(file, tile, TILE, 8 + (off_t)(y / EDGE * ACROSS + x / EDGE) * TILE) != TILE || !is_sent(link, answer, front, tile))
+        if (pread(file, tile, TILE, at) != TILE || !is_sent(link, answer, front, tile))
             break;
     }
     free(answer);
@@ -77,7 +101,13 @@ int main(int count, char **words) {
     signal(SIGPIPE, SIG_IGN);
     if (count < 3 || count > 4 || (file = open(words[2], O_RDONLY)) < 0)
         return 2;
-    if (count == 4) {
+    if (count == 4 && !strcmp(words[3], "send")) {
+        sends = 1;
+    } else if (count == 4 && !strcmp(words[3], "map")) {
+        struct stat about;
+        if (fstat(file, &about) || (mapped = mmap(0, about.st_size, PROT_READ, MAP_SHARED | MAP_POPULATE, file, 0)) == MAP_FAILED)
+            return 2;
+    } else if (count == 4) {
         size_t size = atol(words[3]) << 20;
         slots = size / TILE;
         kept = mmap(0, size, PROT_READ | PROT_WRITE, MAP_PRIVATE | MAP_ANONYMOUS, -1, 0);
