@@ -1,7 +1,8 @@
 //! The two ends of a connection.
 
 use crate::times::Times;
-use iiif_listener::{Company, Pace, PacedReader, PacedWriter};
+use iiif_listener::{Company, Pace, PacedReader, PacedWriter, Warm};
+use std::alloc::Global;
 use std::io;
 use std::net::TcpStream;
 use std::time::{Clock, Duration};
@@ -9,6 +10,7 @@ use std::time::{Clock, Duration};
 /// What a connection sends and what it is sent, with their limits of time, among those that are open.
 pub(crate) fn ends<'a, R: Clock>(
     rt: &'a R,
+    alloc: Global,
     times: &Times,
     pace: &'a Pace,
     company: &'a Company,
@@ -24,6 +26,7 @@ pub(crate) fn ends<'a, R: Clock>(
         pace,
         idle,
         company,
+        warm: Warm::new(alloc),
     };
     let out = PacedWriter {
         stream: copy,

@@ -4,17 +4,14 @@ ghost use Rattle.std.specs.Prelude.{◌≡◌};
 
 use crate::connections::ends;
 use crate::times::Times;
-use iiif_group::Kept;
 use iiif_keys::System;
 use iiif_listener::{Company, Pace, PacedWriter, close};
 use iiif_metrics::{CacheMetrics, Measure, Metrics, Tally, serve_metrics};
 use iiif_open_files::Opens;
-use iiif_server::Node;
+use iiif_server::{Kept, Node, SumCalls, TileCalls};
 use iiif_source::Source;
 use iiif_start::Stored;
-use iiif_sum_group::SumCalls;
 use iiif_tables::Book;
-use iiif_tile_group::TileCalls;
 use std::alloc::Global;
 use std::net::TcpStream;
 use std::sync::Wait;
@@ -67,7 +64,7 @@ impl<'a, R: Opens + Wait + Clock, J: System, N, T> Statistics<'a, R, J, N, T> {
         };
         // Nobody is counted in it, so the call is waited for at once.
         let company = Company::new();
-        let Ok((reader, mut out)) = ends(rt, &self.times, &pace, &company, stream) else {
+        let Ok((reader, mut out)) = ends(rt, alloc, &self.times, &pace, &company, stream) else {
             return;
         };
         // Where memory is wanting, it is closed unanswered.

@@ -4,15 +4,12 @@ use crate::connections::ends;
 use crate::passes::{give_back, passes_of};
 use crate::times::Times;
 use crate::watcher::Watcher;
-use iiif_group::{Gate, Link};
 use iiif_keys::{SumKey, System, TileKey};
 use iiif_listener::{Company, Pace, PacedWriter, close};
 use iiif_open_files::Opens;
-use iiif_server::Node;
+use iiif_server::{Gate, Link, Node, SumCalls, TileCalls};
 use iiif_source::Source;
 use iiif_start::Stored;
-use iiif_sum_group::SumCalls;
-use iiif_tile_group::TileCalls;
 use std::alloc::Global;
 use std::net::TcpStream;
 use std::sync::Wait;
@@ -63,7 +60,7 @@ impl<
         let Ok(pace) = Pace::new(rt, Duration::from_millis(self.times.whole)) else {
             return false;
         };
-        let Ok((reader, mut out)) = ends(rt, &self.times, &pace, self.company, stream) else {
+        let Ok((reader, mut out)) = ends(rt, alloc, &self.times, &pace, self.company, stream) else {
             return false;
         };
         let Some(mut passes) = passes_of(rt, alloc, self.node, self.workers) else {

@@ -7,6 +7,7 @@ pub use listen::{Serve, serve_both, serve_each, serve_listener, serve_listeners,
 pub use pace::{Pace, PacedReader, PacedWriter};
 pub use places::{Place, Places, Taken};
 pub use retry::{Retry, after_failure};
+pub use warm::Warm;
 
 pub mod closing;
 pub mod company;
@@ -14,3 +15,4 @@ pub mod listen;
 pub mod pace;
 pub mod places;
 pub mod retry;
+pub mod warm;

@@ -3,6 +3,7 @@
 ghost use Rattle.std.specs.Prelude.{◌≤◌, IfOk, IfSome, length};
 
 use crate::company::Company;
+use crate::warm::Warm;
 use iiif_io::{Inlet, Outlet};
 use std::io;
 use std::io::{ErrorKind, Read, Write};
@@ -19,12 +20,13 @@ const MOMENT: u64 = 100;
 const LOOKS: u32 = 1000;
 
 /// When a connection began, how many milliseconds later something was last written there, whether that was since it was last looked at,
-/// and how long a head may take as a whole.
+/// how many bytes of that were a text behind another, and how long a head may take as a whole.
 #[derive(Drop)]
 pub struct Pace {
     start: Instant,
     written: AtomicU64,
     answered: AtomicBool,
+    behind: AtomicU64,
     limit: Duration,
 }
 
@@ -35,6 +37,7 @@ impl Pace {
             start: Instant::now(rt)?,
             written: AtomicU64::new(0),
             answered: AtomicBool::new(false),
+            behind: AtomicU64::new(0),
             limit,
         })
     }
@@ -45,9 +48,10 @@ impl Pace {
         Ok(u64::try_from(millis).unwrap_or(u64::MAX))
     }
 
-    /// Begins the time for a head anew.
-    fn begin<R: Clock>(&self, rt: &R) -> io::Result<()> {
+    /// Begins the time for a head anew, once something was written, of which so many bytes were a text behind another.
+    fn begin<R: Clock>(&self, rt: &R, behind: usize) -> io::Result<()> {
         self.answered.store(true, Ordering::SeqCst);
+        self.behind.store(behind as u64, Ordering::SeqCst);
         self.written.store(self.now(rt)?, Ordering::SeqCst);
         Ok(())
     }
@@ -75,6 +79,8 @@ pub struct PacedReader<'a, R: Clock> {
     pub idle: Duration,
     /// The connections that are open: where this one is alone, the next head is looked for a moment before it is waited for.
     pub company: &'a Company,
+    /// What is written to before it is looked for, as much as stood behind the last answer's head: the next one is likely of that size.
+    pub warm: Warm,
 }
 
 /// Reads what came, without waiting. None where nothing did in a moment.
@@ -112,7 +118,11 @@ impl<'a, R: Clock> Read for PacedReader<'a, R> {
         let left = self.pace.left(self.rt)?;
         // Once for each answer, so that one who drips costs no more than before.
         if self.pace.answered.swap(false, Ordering::SeqCst) && self.company.is_alone() {
-            if let Some(count) = look(self.rt, &mut self.stream, buffer)? {
+            self.warm
+                .take(self.pace.behind.load(Ordering::SeqCst) as usize);
+            let found = look(self.rt, &mut self.stream, buffer);
+            self.warm.give_back();
+            if let Some(count) = found? {
                 return Ok(count);
             }
         }
@@ -142,7 +152,7 @@ impl<'a, R: Clock> Write for PacedWriter<'a, R> {
     fn write(&mut self, bytes: &[u8]) -> io::Result<usize> {
         let count = self.stream.put(bytes)?;
         // Where the clock fails, so does the next read.
-        let _ = self.pace.begin(self.rt);
+        let _ = self.pace.begin(self.rt, 0);
         Ok(count)
     }
 
@@ -157,5 +167,12 @@ impl<'a, R: Clock> Outlet for PacedWriter<'a, R> {
 
     fn put(&mut self, bytes: &[u8]) -> io::Result<usize> {
         self.write(bytes)
+    }
+
+    fn put_both(&mut self, first: &[u8], second: &[u8]) -> io::Result<usize> {
+        let count = self.stream.put_both(first, second)?;
+        // As where one text is written.
+        let _ = self.pace.begin(self.rt, second.len());
+        Ok(count)
     }
 }

@@ -1,8 +1,9 @@
 //! A viewer that drips, one that is silent, one that asks again and again, and one that sends more than is read.
 
 use crate::echo::connected;
-use iiif_io::Inlet;
-use iiif_listener::{Company, Pace, PacedReader, PacedWriter, close};
+use iiif_io::{Inlet, Outlet};
+use iiif_listener::{Company, Pace, PacedReader, PacedWriter, Warm, close};
+use std::alloc::Global;
 use std::io::{Read, Write};
 use std::net::{Net, TcpListener, TcpStream};
 use std::sync::Wait;
@@ -20,7 +21,13 @@ fn company_of(count: u32) -> Company {
 }
 
 /// How many single bytes are read before the time is over, each answered where `answers` is set, of one of so many connections.
-fn read_drops<R: Clock>(rt: &R, stream: TcpStream, answers: bool, open: u32) -> Option<u32> {
+fn read_drops<R: Clock>(
+    rt: &R,
+    alloc: Global,
+    stream: TcpStream,
+    answers: bool,
+    open: u32,
+) -> Option<u32> {
     let company = company_of(open);
     let Ok(pace) = Pace::new(rt, Duration::from_millis(500)) else {
         return None;
@@ -39,12 +46,13 @@ fn read_drops<R: Clock>(rt: &R, stream: TcpStream, answers: bool, open: u32) -> 
         pace: &pace,
         idle: Duration::from_millis(400),
         company: &company,
+        warm: Warm::new(alloc),
     };
     Some(count_drops(&mut reader, &mut out, answers))
 }
 
-/// The same of a reader and a writer that are there.
-fn count_drops<I: Inlet, W: Write>(reader: &mut I, out: &mut W, answers: bool) -> u32 {
+/// The same of a reader and a writer that are there. An answer is a text and one behind it, of a size that is made room for.
+fn count_drops<I: Inlet, W: Outlet>(reader: &mut I, out: &mut W, answers: bool) -> u32 {
     let mut byte = [0u8; 1];
     let mut drops = 0u32;
     for _ in 0..20u32 {
@@ -52,7 +60,7 @@ fn count_drops<I: Inlet, W: Write>(reader: &mut I, out: &mut W, answers: bool) -
             Ok(1) => drops = drops.saturating_add(1),
             _ => return drops,
         }
-        if answers && out.write(b"+").is_err() {
+        if answers && out.put_both(b"+", &[b'-'; 3000]).is_err() {
             return drops;
         }
     }
@@ -110,9 +118,9 @@ enum Viewer {
 type Seen = (Option<u32>, Option<(usize, [u8; 8])>);
 
 /// How many single bytes of a viewer are read, where it drips.
-fn serve<R: Clock>(rt: &R, stream: TcpStream, viewer: Viewer) -> Option<u32> {
+fn serve<R: Clock + AllocGlobal>(rt: &R, stream: TcpStream, viewer: Viewer) -> Option<u32> {
     match viewer {
-        Viewer::Drips(_, answers, open) => read_drops(rt, stream, answers, open),
+        Viewer::Drips(_, answers, open) => read_drops(rt, rt.alloc(), stream, answers, open),
         Viewer::AsksMuch => {
             answer_unread(stream);
             None
@@ -132,20 +140,26 @@ fn view<R: Clock>(rt: &R, stream: &mut TcpStream, viewer: Viewer) -> Option<(usi
 }
 
 /// What is seen of a viewer at both ends of a connection.
-fn seen_at<R: Net<Listener = TcpListener, Stream = TcpStream> + Threads + Wait + Clock + Sync>(
-    rt: &R,
-    viewer: Viewer,
-    near: &mut TcpStream,
-    far: TcpStream,
-) -> Seen {
+fn seen_at<
+    R: Net<Listener = TcpListener, Stream = TcpStream>
+        + Threads
+        + Wait
+        + Clock
+        + Sync
+        + AllocGlobal,
+>(rt: &R, viewer: Viewer, near: &mut TcpStream, far: TcpStream) -> Seen {
     thread::join(rt, || serve(rt, far, viewer), || view(rt, near, viewer))
 }
 
 /// The same where it connects.
-fn seen_of<R: Net<Listener = TcpListener, Stream = TcpStream> + Threads + Wait + Clock + Sync>(
-    rt: &R,
-    viewer: Viewer,
-) -> Seen {
+fn seen_of<
+    R: Net<Listener = TcpListener, Stream = TcpStream>
+        + Threads
+        + Wait
+        + Clock
+        + Sync
+        + AllocGlobal,
+>(rt: &R, viewer: Viewer) -> Seen {
     match connected(rt) {
         Some((mut near, far)) => seen_at(rt, viewer, &mut near, far),
         None => (None, None),
