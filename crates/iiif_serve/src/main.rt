@@ -1,4 +1,47 @@
 //! The program: an IIIF image server over TIFF files.
+//!
+//! # How it is run
+//!
+//! - `iiif_serve --base URL --listen ADDR [OPTION].. NAME=FILE..` serves HTTP until it is stopped.
+//! - `iiif_serve --base URL --one TARGET [OPTION].. NAME=FILE..` writes the body of one answer to standard output and ends.
+//! - `iiif_serve --base URL --check [OPTION].. NAME=FILE..` says of each image what it is and ends.
+//! - With no words at all it writes the image of a built-in picture, 4 by 4 samples, as hexadecimal digits.
+//!
+//! The manual page (`packaging/iiif_serve.1`) has all options, `docs/OPERATING.md` what an operator needs besides.
+//!
+//! # Exit status
+//!
+//! - 0: it was answered, by a refusal too, or each image that was checked can be served.
+//! - 1: it failed while running. Standard error says `run: listen`, `run: memory`, `run: write` or `run: source`.
+//! - 2: a word or an image is at fault. Standard error says which (`line: base`, `image scan: 4`), and in a second line what to do.
+//!
+//! # What it writes
+//!
+//! - Standard output: the body, the digits, or a line for each image that was checked; while it serves, nothing.
+//! - Standard error: what is at fault and, while it serves with `--log`, a line for each answer.
+//!
+//! An answer is a file or a text as a whole, so it may go to a file or a pipe as it is. Where standard output can't take it, the
+//! status is 1, whatever was written before.
+//!
+//! # What is done where
+//!
+//! What stands here is no more than what only a program can do: it takes the words, the two outputs and the process's exit status.
+//!
+//! 1. `iiif_command_line` has the words, and what of them is refused.
+//! 2. `iiif_start` opens the images that they name: a layout of each file, and as many open files as the words allow.
+//! 3. `iiif_program` makes the node of them, with its limits and its caches, and does what the words ask for.
+//! 4. `iiif_services` listens, and `iiif_connections` has a thread for each connection, of viewers and of other nodes.
+//! 5. `iiif_server` answers a connection's calls in order: `iiif_http_front` reads their heads, `iiif_request` and `iiif_canonical` what they
+//!    ask for, `iiif_answers` has the texts of refusals, redirects and information.
+//! 6. `iiif_delivery` sends an image in bands. `iiif_planner` says which tiles and sums a band needs, `iiif_tile_group` and
+//!    `iiif_sum_group` have them in caches with shared flights, and ask the node that owns them. `iiif_assemble` makes the band's rows.
+//! 7. `iiif_tiff_read` reads a tile's samples from its file, `iiif_tiff_write` makes the file that is answered.
+//!
+//! # What is proved of it
+//!
+//! Of an image that is answered whole: that it is region, then size, then rotation, then quality applied to the whole picture that its
+//! file shows, as long as the file's bytes stay as they are (`docs/PROMISES.md` names the clauses). Of `main` itself: that it ends, or serves
+//! on, without a fault of memory, and that its status is one of the three.
 #![tactic(auto)]
 
 use iiif_program::program::program;
