@@ -1,6 +1,6 @@
 //! How many images are made ready at a time.
 
-use iiif_group::Lists;
+use iiif_sum_group::Lists;
 use std::sync::{CondvarTimeouts, Mutex, Wait};
 use std::time::{Clock, Duration};
 

@@ -5,11 +5,9 @@ ghost use Rattle.iiif_outcome.specs.Outcomes.{is_given};
 ghost use Rattle.iiif_group_items.specs.Values.{SumIsNamed, SumMayBe, TileIsNamed, TileMayBe};
 
 use iiif_assemble::Items;
-use iiif_group::{Gate, Link, taken};
 use iiif_keys::{Fault, SumKey, SumVal, System, TileKey, TileVal};
 use iiif_source::Source;
-use iiif_sum_group::{Groups, Passes, SumCalls};
-use iiif_tile_group::TileCalls;
+use iiif_sum_group::{Gate, Groups, Link, Passes, SumCalls, TileCalls, taken};
 use std::sync::ledger::Ledger;
 use std::sync::{Arc, Wait};
 

@@ -26,6 +26,14 @@ given_by gave (Some item) f = gave item.source f
 abbrev pub gave_of : {S : Type 0} → (S → ReadFault → Bool) → List (Item S) → List ℕ → ReadFault → Bool
 gave_of gave items name f = given_by gave (item_named items name) f
 
+-- which names are stable: those of images whose sources keep their bytes
+abbrev pub stable_by : {S : Type 0} → (S → Type 0) → Option (Item S) → Type 0
+stable_by keeps None = ⊥
+stable_by keeps (Some item) = keeps item.source
+
+abbrev pub stable_of : {S : Type 0} → (S → Type 0) → List (Item S) → List ℕ → Type 0
+stable_of keeps items name = stable_by keeps (item_named items name)
+
 -- The image is the one that a name stands for, where names have these pictures, their sources gave these faults, and these are
 -- stable.
 pub record IsImageOf {S : Type 0} (shows : Pictures) (gave : List ℕ → ReadFault → Bool) (stable : List ℕ → Type 0) (bytes : S → List ℕ)

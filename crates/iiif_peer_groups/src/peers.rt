@@ -10,14 +10,12 @@ ghost use Rattle.iiif_peer_wire.specs.Messages.{value_limit};
 
 use crate::keys::key_of;
 use crate::replies::{reply_of, value_bytes};
-use iiif_group::{Gate, Link};
 use iiif_keys::{CacheKey, Fault, Shape, SumKey, System, TileKey};
 use iiif_peer_server::Answers;
 use iiif_peer_wire::{Ask, Version};
 use iiif_pixel::Depth;
 use iiif_source::Source;
-use iiif_sum_group::{Groups, Passes, SumCalls};
-use iiif_tile_group::TileCalls;
+use iiif_sum_group::{Gate, Groups, Link, Passes, SumCalls, TileCalls};
 use std::alloc::Global;
 use std::sync::Wait;
 use std::sync::ledger::Ledger;

@@ -8,9 +8,9 @@ ghost use Rattle.iiif_outcome.specs.Outcomes.{is_given};
 ghost use Rattle.iiif_outcome.specs.Views.{receipt_known};
 ghost use Rattle.iiif_peer_wire.specs.Messages.{value_limit};
 
-use iiif_group::taken;
 use iiif_keys::{CacheKey, Fault, Shape, System};
 use iiif_outcome::Receipt;
+use iiif_sum_group::taken;
 use std::alloc::Global;
 
 /// Status 0 and the value, or the number of a fault and none.

@@ -1,5 +1,5 @@
 //! The program as a library: what its words ask for, done. The words stand in `iiif_command_line`, the images that they name in
-//! `iiif_start`, the node among others in `iiif_linked_node`, the connections that the node serves in `iiif_connections`, the listeners in
+//! `iiif_start`, the node among others and the connections that a node serves in `iiif_connections`, the listeners in
 //! `iiif_services`.
 #![tactic(auto)]
 

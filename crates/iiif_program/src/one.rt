@@ -2,11 +2,10 @@
 
 use crate::hex::write_hex;
 use iiif_connections::passes::{give_back, passes_of};
-use iiif_group::{Gate, Link};
+use iiif_connections::{Cause, Gate, Link, Node};
 use iiif_io::Outlet;
 use iiif_keys::{Fault, SumKey, System, TileKey};
 use iiif_open_files::Opens;
-use iiif_server::{Cause, Node};
 use iiif_start::{Stop, Stored};
 use std::alloc::Global;
 use std::sync::Wait;

@@ -8,7 +8,7 @@ ghost use Rattle.iiif_program.specs.Lines.{settings_in};
 use clap::ArgMatches;
 use iiif_canonical::Limits;
 use iiif_command_line::{LineFault, Options, options_in};
-use iiif_server::{Config, ConfigFault, is_base_url};
+use iiif_connections::{Config, ConfigFault, is_base_url};
 use iiif_start::Stop;
 use std::alloc::Global;
 

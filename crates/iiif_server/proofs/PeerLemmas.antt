@@ -8,7 +8,7 @@ use Rattle.iiif_images.specs.Collection.{Item, item_named}
 use Rattle.iiif_peer_groups.specs.Kinds.{Kind, system, sum_kind, tile_kind}
 use Rattle.iiif_peer_groups.specs.Replying.{HasFault, HasValue, IsReplyTo, MayReply}
 use Rattle.iiif_peer_wire.specs.declared.version.Version.{Version}
-use Rattle.iiif_server.specs.Nodes.{stable_by, stable_of}
+use Rattle.iiif_images.specs.Named.{stable_by, stable_of}
 
 module _ (pictures : Pictures) (edge : ℕ) (gave : List ℕ → ReadFault → Bool) (stable fewer : List ℕ → Type 0) (honest : Bool) (less : (name : List ℕ) → fewer name → stable name) (version : Version)
     (bytes : List ℕ) where

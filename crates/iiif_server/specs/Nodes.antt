@@ -1,5 +1,5 @@
 -- What a node was told, and its images.
-use Rattle.std.specs.Prelude.{◌≡◌, ℕ, List, Option, None, Some}
+use Rattle.std.specs.Prelude.{◌≡◌, ℕ, List, Some}
 use Rattle.iiif_images.specs.Collection.{Item, item_named}
 use Rattle.iiif_answers.specs.Settings.{Settings}
 
@@ -11,11 +11,3 @@ pub record Service (S : Type 0) : Type 0 where
 pub record IsTied {S : Type 0} (keeps : S → Type 0) (stable : List ℕ → Type 0) (edge : ℕ) (settings : Settings) (items : List (Item S)) : Type 0 where
   pub has_edge : settings.edge ≡ edge
   pub kept : (name : List ℕ) (item : Item S) → item_named items name ≡ Some item → keeps item.source → stable name
-
--- which names are stable: those of images whose sources keep their bytes
-abbrev pub stable_by : {S : Type 0} → (S → Type 0) → Option (Item S) → Type 0
-stable_by keeps None = ⊥
-stable_by keeps (Some item) = keeps item.source
-
-abbrev pub stable_of : {S : Type 0} → (S → Type 0) → List (Item S) → List ℕ → Type 0
-stable_of keeps items name = stable_by keeps (item_named items name)

@@ -1,11 +1,11 @@
 -- What a node replies to another node's ask.
 use Rattle.std.specs.Prelude.{ℕ, Bool, List}
 use Rattle.iiif_source.specs.declared.ReadFault.{ReadFault}
-use Rattle.iiif_images.specs.Named.{gave_of, pictures_of}
+use Rattle.iiif_images.specs.Named.{gave_of, pictures_of, stable_of}
 use Rattle.iiif_peer_groups.specs.Kinds.{System, system}
 use Rattle.iiif_peer_groups.specs.Replying.{MayReply}
 use Rattle.iiif_peer_wire.specs.declared.version.Version.{Version}
-use Rattle.iiif_server.specs.Nodes.{Service, stable_of}
+use Rattle.iiif_server.specs.Nodes.{Service}
 
 -- What is known of a node: the pictures that its sources show, the side of a tile that it was told, the faults that its sources gave,
 -- the names whose sources keep their bytes, and whether other nodes are honest.

@@ -2,10 +2,10 @@
 #![tactic(auto)]
 
 pub use iiif_answers::{Cause, Config, ConfigFault, Cut, Part, Sent, is_base_url};
-pub use iiif_group::NoLink;
+pub use iiif_group_items::Admission;
 pub use iiif_images::{AddFault, Catalogue};
 pub use iiif_keys::{Fault, is_name};
-pub use iiif_sum_group::Passes;
+pub use iiif_sum_group::{Gate, Kept, Link, NoGate, NoLink, Passes, SumCalls, TileCalls};
 pub use node::Node;
 pub use stock::Stock;
 pub use watch::Watch;

@@ -8,14 +8,13 @@ ghost use Rattle.iiif_peer_wire.specs.Reading.{IsInput};
 ghost use Rattle.iiif_server.specs.Peers.{RepliesToAsk};
 
 use crate::node::Node;
-use iiif_group::{Gate, Link};
 use iiif_io::{Inlet, Outlet};
 use iiif_keys::{SumKey, System, TileKey};
 use iiif_peer_groups::Peers;
 use iiif_peer_server::{Answers, serve_peer};
 use iiif_peer_wire::Ask;
 use iiif_source::Source;
-use iiif_sum_group::Passes;
+use iiif_sum_group::{Gate, Link, Passes};
 use std::alloc::Global;
 use std::sync::Wait;
 

@@ -3,10 +3,10 @@
 ghost use Rattle.std.specs.Prelude.{◌≡◌, ◌<◌, ◌^◌, ℕ, IfOk, length};
 ghost use Rattle.iiif_server.specs.Stocks.{IsStock};
 
-use iiif_group::{Group, NoGate, NoLink};
 use iiif_keys::{CacheKey, System};
 use iiif_pixel::NoMemory;
 use iiif_ring::Ring;
+use iiif_sum_group::{Group, NoGate, NoLink};
 use std::alloc::{AllocError, Global};
 use std::num::NonZeroUsize;
 use std::sync::ledger::{Blank, Ledger};

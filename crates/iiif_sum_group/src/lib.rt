@@ -2,6 +2,9 @@
 #![tactic(auto)]
 
 pub use groups::Groups;
+// What callers of the groups need of a group and of tiles.
+pub use iiif_group::{Gate, Group, Kept, Link, Lists, NoGate, NoLink, taken};
+pub use iiif_tile_group::{TileCalls, Tiles};
 pub use passes::{Passes, SumCalls};
 
 pub mod groups;

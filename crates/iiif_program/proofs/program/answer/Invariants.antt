@@ -1,6 +1,5 @@
 use Rattle.std.specs.Prelude.{true, false}
-use Rattle.iiif_images.specs.Named.{gave_of, pictures_of}
-use Rattle.iiif_server.specs.Nodes.{stable_of}
+use Rattle.iiif_images.specs.Named.{gave_of, pictures_of, stable_of}
 use Rattle.iiif_start.specs.Stored.{bytes_of, keeps_of, stored_gave}
 use Rattle.iiif_program.proofs.program.answer.Given as goal
 

@@ -7,13 +7,12 @@ ghost use Rattle.iiif_images.specs.Named.{gave_of, pictures_of};
 ghost use Rattle.iiif_start.specs.Stored.{bytes_of, keeps_of, stored_gave};
 ghost use Rattle.iiif_server.specs.Stocks.{IsStock};
 
-use iiif_group::NoGate;
 use iiif_keys::System;
 use iiif_open_files::Opens;
 use iiif_peer_link::TcpLink;
 use iiif_pixel::NoMemory;
 use iiif_ring::Ring;
-use iiif_server::{Catalogue, Config, Node, Stock};
+use iiif_server::{Catalogue, Config, NoGate, Node, Stock};
 use iiif_start::Stored;
 use std::alloc::{AllocError, Global};
 use std::num::NonZeroUsize;
