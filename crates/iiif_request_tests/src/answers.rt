@@ -66,7 +66,7 @@ fn canonical_text(alloc: Global, image: &Image, request: &Request) -> Option<Str
 }
 
 /// The link to a request's canonical form for an image; none where it is refused.
-pub fn link(alloc: Global, image: &Image, id: &str, request: &Request) -> Option<String>
+pub(crate) fn link(alloc: Global, image: &Image, id: &str, request: &Request) -> Option<String>
     requires { HasShortDecimals request.now }
 {
     let Ok(resolved) = resolve(request, image.dim, image.kind, &image.limits) else {
@@ -135,7 +135,10 @@ fn wrong_line(alloc: Global, subject: Subject, list: &'static str) -> Option<&'s
 }
 
 /// The first such line of some lists.
-pub fn first_wrong(alloc: Global, lists: &[(Subject, &'static str)]) -> Option<&'static str> {
+pub(crate) fn first_wrong(
+    alloc: Global,
+    lists: &[(Subject, &'static str)],
+) -> Option<&'static str> {
     for (subject, list) in lists {
         let wrong = wrong_line(alloc, *subject, list);
         if wrong.is_some() {

@@ -122,7 +122,12 @@ fn len_of(samples: &Samples) -> usize
 }
 
 /// The picture with these sides and samples; none where there aren't as many samples as places.
-pub fn of_samples(alloc: Global, dim: Dim, samples: Samples, fails: Failing) -> Option<Shown> {
+pub(crate) fn of_samples(
+    alloc: Global,
+    dim: Dim,
+    samples: Samples,
+    fails: Failing,
+) -> Option<Shown> {
     match Kind::Gray.count(dim) {
         Some(count) if count == len_of(&samples) => {
             let raster = Raster::from_samples(dim, Kind::Gray, samples);
@@ -148,7 +153,7 @@ pub static TENS: [u8; 16] = [
 ];
 
 /// The picture of 4 by 4 places with those samples.
-pub fn tens(alloc: Global, fails: Failing) -> Option<Shown> {
+pub(crate) fn tens(alloc: Global, fails: Failing) -> Option<Shown> {
     match Vec::from_slice(alloc, &TENS) {
         Ok(samples) => of_samples(alloc, Dim { w: 4, h: 4 }, Samples::Eight(samples), fails),
         Err(_) => None,
@@ -156,7 +161,7 @@ pub fn tens(alloc: Global, fails: Failing) -> Option<Shown> {
 }
 
 /// The name `a`.
-pub fn named(alloc: Global) -> Option<Name> {
+pub(crate) fn named(alloc: Global) -> Option<Name> {
     match String::from_str(alloc, "a") {
         Ok(text) if is_name(text.as_str()) => Name::new(text).ok(),
         _ => None,
@@ -195,7 +200,14 @@ fn whole(dim: Dim, size: Dim, turn: Turn) -> Resolved {
 
 /// The whole of a picture of this shape, scaled and turned, of tiles with this edge and blocks with such room; none where a condition
 /// isn't met.
-pub fn job(alloc: Global, shape: Shape, edge: u32, size: Dim, turn: Turn, room: u64) -> Option<Job>
+pub(crate) fn job(
+    alloc: Global,
+    shape: Shape,
+    edge: u32,
+    size: Dim,
+    turn: Turn,
+    room: u64,
+) -> Option<Job>
     ensures job { IfSome result IsJob }
     ensures shape { IfSome result (λ j. j.shape ≡ shape) }
 {

@@ -359,7 +359,7 @@ static PLANS: [Case; 32] = [
 ];
 
 /// Whether keys are those of the tiles of `a` in these columns and rows, in this order.
-pub fn are_tiles(keys: &[TileKey], edge: u32, places: &[(u32, u32)]) -> bool {
+pub(crate) fn are_tiles(keys: &[TileKey], edge: u32, places: &[(u32, u32)]) -> bool {
     for (key, place) in keys.iter().zip(places) {
         let is_of_image = key.name.as_str() == "a" && key.edge == edge;
         if !is_of_image || (key.tx, key.ty) != *place {
@@ -370,7 +370,7 @@ pub fn are_tiles(keys: &[TileKey], edge: u32, places: &[(u32, u32)]) -> bool {
 }
 
 /// Whether keys are those of the blocks of this level in these columns and rows, in this order, for what a request of `a` comes to.
-pub fn are_blocks(
+pub(crate) fn are_blocks(
     keys: &[SumKey],
     edge: u32,
     resolved: &Resolved,
