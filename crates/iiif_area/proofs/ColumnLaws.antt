@@ -5,10 +5,11 @@ use Rattle.iiif_pixel.specs.Picture.{Picture, sample_at, span_of}
 use Rattle.iiif_pixel.proofs.Reading.{get_or-span_of}
 use Rattle.iiif_pixel.proofs.SampleLists.{length-row_of}
 use Rattle.iiif_pixel.specs.Scaling.{sum_from, weight_of, area_sum}
-use Rattle.iiif_pixel.specs.declared.geometry.Dim.{Dim}
 use Rattle.iiif_pixel.specs.declared.geometry.Rect.{Rect}
 use Rattle.iiif_area.specs.declared.columns.Span.{Span}
-use Rattle.iiif_area.specs.Code.{column_sum, span_total, tile_sample, IsSpan}
+use Rattle.iiif_area.specs.declared.places.Share.{Share}
+use Rattle.iiif_area.specs.declared.weights.Axis.{Axis}
+use Rattle.iiif_area.specs.Code.{column_sum, held_of, rows_of, span_total, tile_sample, IsSpan}
 use Rattle.iiif_area.proofs.AreaLaws.{area_from_corner, area-fits}
 use Rattle.iiif_area.proofs.GridLaws.{index_parts}
 use Rattle.iiif_area.proofs.SumLaws.{sum_from-zero, sum_from-same, sum_from-one, sum_from-narrow, sum_from-step, sum_from-end, same_product, three_parts, none_times}
@@ -62,11 +63,16 @@ span_total-is a c from m i n k columns s h =
     (cases_lt s.start s.end)
 
 -- a part's sum, by the sums of its columns
-pub area_from_columns : (region size : Dim) (part : Rect) (tile : Picture) (corner : ℕ × ℕ) (i j k : ℕ) (columns : List ℕ) →
-    ((t : ℕ) → t < part.w → get_or columns (t * tile.channels + k) 0 ≡ column_sum tile corner part region.h size.h j t k) →
-    sum_from 0 part.w (λ t. weight_of i (part.x + t) region.w size.w * get_or columns (t * tile.channels + k) 0) ≡ area_sum region size part (tile_sample tile corner part k) i j
+pub area_from_columns : (share : Share) (tile : Picture) (i j k : ℕ) (columns : List ℕ) →
+    ((t : ℕ) → t < share.part.w → get_or columns (t * tile.channels + k) 0 ≡ column_sum tile (held_of share) (rows_of share) j t k) →
+    sum_from 0 share.part.w (λ t. weight_of i (share.part.x + t) share.region.w share.size.w * get_or columns (t * tile.channels + k) 0)
+    ≡ area_sum share.region share.size share.part (tile_sample tile share.corner share.part k) i j
 unfolding column_sum tile_sample
-area_from_columns region size part tile corner i j k columns h =
+area_from_columns share tile i j k columns h =
+    let region = share.region in
+    let size = share.size in
+    let part = share.part in
+    let corner = share.corner in
     sum_from-same 0 part.w _ _ (λ t _ l.
     ap (λ u. weight_of i (part.x + t) region.w size.w * u)
     (h t (omega arith) ∙ sum_from-same 0 part.h _ _ (λ s _ _.
@@ -115,30 +121,32 @@ pub column_fits : (p : Picture) (cx cy from j b d start n t k m : ℕ) → ((x y
 column_fits p cx cy from j b d start n t k m h = weighted-le_from j b d from start n m (λ s. sample_at p (cx + t) (cy + s) k) (λ s _ _. h (cx + t) (cy + s) k)
 
 -- a row takes nothing of the rows before its first and from past its last on
-pub column_sum-is : (p : Picture) (corner : ℕ × ℕ) (part : Rect) (b d j t k start end at v : ℕ) → start ≤ end → end ≤ part.h → at ≡ end →
-    ((s : ℕ) → s < start → weight_of j (part.y + s) b d ≡ 0) → ((s : ℕ) → end ≤ s → s < part.h → weight_of j (part.y + s) b d ≡ 0) →
-    v ≡ sum_from start (at - start) (λ s. weight_of j (part.y + s) b d * sample_at p (corner.0 + t) (corner.1 + s) k) → v ≡ column_sum p corner part b d j t k
+pub column_sum-is : (p : Picture) (held : Rect) (rows : Axis) (j t k start end at v : ℕ) → start ≤ end → end ≤ rows.count → at ≡ end →
+    ((s : ℕ) → s < start → weight_of j (rows.from + s) rows.a rows.c ≡ 0) → ((s : ℕ) → end ≤ s → s < rows.count → weight_of j (rows.from + s) rows.a rows.c ≡ 0) →
+    v ≡ sum_from start (at - start) (λ s. weight_of j (rows.from + s) rows.a rows.c * sample_at p (held.x + t) (held.y + s) k) → v ≡ column_sum p held rows j t k
 unfolding column_sum
-column_sum-is p corner part b d j t k start end at v ordered within done below above so_far =
-    let f : ℕ → ℕ = λ s. sample_at p (corner.0 + t) (corner.1 + s) k in
+column_sum-is p held rows j t k start end at v ordered within done below above so_far =
+    let f : ℕ → ℕ = λ s. sample_at p (held.x + t) (held.y + s) k in
     sum_from-end _ _ _ _ _ so_far done
-    ∙ sym (sum_from-narrow 0 part.h start end (λ s. weight_of j (part.y + s) b d * f s) (omega arith) ordered (omega (arith, within))
-    (λ s _ m. weighted_before j (part.y + s) b d (f s) (below s m))
-    (λ s l m. weighted_before j (part.y + s) b d (f s) (above s l (omega arith))))
+    ∙ sym (sum_from-narrow 0 rows.count start end (λ s. weight_of j (rows.from + s) rows.a rows.c * f s) (omega arith) ordered (omega (arith, within))
+    (λ s _ m. weighted_before j (rows.from + s) rows.a rows.c (f s) (below s m))
+    (λ s l m. weighted_before j (rows.from + s) rows.a rows.c (f s) (above s l (omega arith))))
 
 -- so what a result place takes of its span is the part's sum
-pub span_total-area : (region size : Dim) (part : Rect) (tile : Picture) (corner : ℕ × ℕ) (i j k n c : ℕ) (columns : List ℕ) (s : Span) →
-    n ≡ tile.channels → c ≡ size.w → IsSpan region.w size.w part.x part.w i s →
-    ((t : ℕ) → t < part.w → get_or columns (t * tile.channels + k) 0 ≡ column_sum tile corner part region.h size.h j t k) →
-    span_total columns n k c s ≡ area_sum region size part (tile_sample tile corner part k) i j
-span_total-area region size part tile corner i j k n c columns s en ec span h =
+pub span_total-area : (share : Share) (tile : Picture) (i j k n c : ℕ) (columns : List ℕ) (s : Span) →
+    n ≡ tile.channels → c ≡ share.size.w → IsSpan share.region.w share.size.w share.part.x share.part.w i s →
+    ((t : ℕ) → t < share.part.w → get_or columns (t * tile.channels + k) 0 ≡ column_sum tile (held_of share) (rows_of share) j t k) →
+    span_total columns n k c s ≡ area_sum share.region share.size share.part (tile_sample tile share.corner share.part k) i j
+span_total-area share tile i j k n c columns s en ec span h =
     ap (λ u. span_total columns u k c s) en ∙ ap (λ u. span_total columns tile.channels k u s) ec
-    ∙ sym (span_total-is region.w size.w part.x part.w i tile.channels k columns s span)
-    ∙ area_from_columns region size part tile corner i j k columns h
+    ∙ sym (span_total-is share.region.w share.size.w share.part.x share.part.w i tile.channels k columns s span)
+    ∙ area_from_columns share tile i j k columns h
 
 -- and it fits
-pub tile_area-fits : (region size : Dim) (part : Rect) (tile : Picture) (corner : ℕ × ℕ) (i j k : ℕ) → region.w * region.h ≤ 2 ^ 32 →
-    ((x y k : ℕ) → sample_at tile x y k ≤ 65535) → area_sum region size part (tile_sample tile corner part k) i j < 2 ^ 64
+pub tile_area-fits : (share : Share) (tile : Picture) (i j k : ℕ) → share.region.w * share.region.h ≤ 2 ^ 32 →
+    ((x y k : ℕ) → sample_at tile x y k ≤ 65535) → area_sum share.region share.size share.part (tile_sample tile share.corner share.part k) i j < 2 ^ 64
 unfolding tile_sample
-tile_area-fits region size part tile corner i j k area h =
-    area-fits region size part (tile_sample tile corner part k) i j area (λ x y _. omega (arith, h (corner.0 + (x - part.x)) (corner.1 + (y - part.y)) k))
+tile_area-fits share tile i j k area h =
+    let corner = share.corner in
+    let part = share.part in
+    area-fits share.region share.size part (tile_sample tile corner part k) i j area (λ x y _. omega (arith, h (corner.0 + (x - part.x)) (corner.1 + (y - part.y)) k))

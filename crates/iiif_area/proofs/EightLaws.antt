@@ -6,6 +6,7 @@ use Rattle.iiif_pixel.specs.Picture.{Picture, sample_at, span_of}
 use Rattle.iiif_pixel.proofs.Reading.{get_or-span_of}
 use Rattle.iiif_pixel.specs.Scaling.{sum_from, weight_of}
 use Rattle.iiif_pixel.specs.declared.geometry.Rect.{Rect}
+use Rattle.iiif_area.specs.declared.weights.Axis.{Axis}
 use Rattle.iiif_area.specs.Code.{column_sum}
 use Rattle.iiif_area.proofs.ColumnLaws.{column_fits, column_sum-is}
 use Rattle.iiif_area.proofs.SumLaws.{sum_from-start, sum_from-one, sum_from-step, same_product, three_parts}
@@ -58,53 +59,53 @@ run_fits j b d from start end h p within (inr few) between =
     (cases_lt 257 n)
 
 -- what a result row takes of column t in channel k, where it takes nothing, of one row, or of more
-pub column_of-none : (p : Picture) (corner : ℕ × ℕ) (part : Rect) (b d j t k start end : ℕ) → start ≡ end → end ≤ part.h →
-    ((s : ℕ) → s < start → weight_of j (part.y + s) b d ≡ 0) → ((s : ℕ) → end ≤ s → s < part.h → weight_of j (part.y + s) b d ≡ 0) →
-    0 ≡ column_sum p corner part b d j t k
-column_of-none p corner part b d j t k start end e within below above =
-    column_sum-is p corner part b d j t k start end end 0 (omega arith) within refl below above (sum_from-start _ _ _ (omega arith))
+pub column_of-none : (p : Picture) (held : Rect) (rows : Axis) (j t k start end : ℕ) → start ≡ end → end ≤ rows.count →
+    ((s : ℕ) → s < start → weight_of j (rows.from + s) rows.a rows.c ≡ 0) → ((s : ℕ) → end ≤ s → s < rows.count → weight_of j (rows.from + s) rows.a rows.c ≡ 0) →
+    0 ≡ column_sum p held rows j t k
+column_of-none p held rows j t k start end e within below above =
+    column_sum-is p held rows j t k start end end 0 (omega arith) within refl below above (sum_from-start _ _ _ (omega arith))
 
-pub column_of-one : (p : Picture) (corner : ℕ × ℕ) (part : Rect) (b d j t k start end w : ℕ) (row : List ℕ) → end - start ≡ 1 → end ≤ part.h →
-    row ≡ span_of p corner.0 (corner.1 + start) part.w → w ≡ weight_of j (part.y + start) b d → t < part.w → k < p.channels →
-    ((s : ℕ) → s < start → weight_of j (part.y + s) b d ≡ 0) → ((s : ℕ) → end ≤ s → s < part.h → weight_of j (part.y + s) b d ≡ 0) →
-    w * get_or row (t * p.channels + k) 0 ≡ column_sum p corner part b d j t k
-column_of-one p corner part b d j t k start end w row one within er ew lt lk below above =
-    let f : ℕ → ℕ = λ s. weight_of j (part.y + s) b d * sample_at p (corner.0 + t) (corner.1 + s) k in
-    let sample = ap (λ u. get_or u (t * p.channels + k) 0) er ∙ get_or-span_of p corner.0 (corner.1 + start) part.w t k 0 lt lk in
-    column_sum-is p corner part b d j t k start end end _ (omega arith) within refl below above
+pub column_of-one : (p : Picture) (held : Rect) (rows : Axis) (j t k start end w : ℕ) (row : List ℕ) → end - start ≡ 1 → end ≤ rows.count →
+    row ≡ span_of p held.x (held.y + start) held.w → w ≡ weight_of j (rows.from + start) rows.a rows.c → t < held.w → k < p.channels →
+    ((s : ℕ) → s < start → weight_of j (rows.from + s) rows.a rows.c ≡ 0) → ((s : ℕ) → end ≤ s → s < rows.count → weight_of j (rows.from + s) rows.a rows.c ≡ 0) →
+    w * get_or row (t * p.channels + k) 0 ≡ column_sum p held rows j t k
+column_of-one p held rows j t k start end w row one within er ew lt lk below above =
+    let f : ℕ → ℕ = λ s. weight_of j (rows.from + s) rows.a rows.c * sample_at p (held.x + t) (held.y + s) k in
+    let sample = ap (λ u. get_or u (t * p.channels + k) 0) er ∙ get_or-span_of p held.x (held.y + start) held.w t k 0 lt lk in
+    column_sum-is p held rows j t k start end end _ (omega arith) within refl below above
     (same_product ew sample ∙ sym (ap (λ u. sum_from start u f) one ∙ sum_from-one start f))
 
-pub column_of-parts : (p : Picture) (corner : ℕ × ℕ) (part : Rect) (b d j t k start end w v i : ℕ) (first last : List ℕ) → start + 1 < end → end ≤ part.h →
-    first ≡ span_of p corner.0 (corner.1 + start) part.w → w ≡ weight_of j (part.y + start) b d →
-    last ≡ span_of p corner.0 (corner.1 + (end - 1)) part.w → v ≡ weight_of j (part.y + (end - 1)) b d →
-    i ≡ sum_from (start + 1) (end - 1 - (start + 1)) (λ s. sample_at p (corner.0 + t) (corner.1 + s) k) → t < part.w → k < p.channels →
-    ((s : ℕ) → s < start → weight_of j (part.y + s) b d ≡ 0) → ((s : ℕ) → start < s → s + 1 < end → weight_of j (part.y + s) b d ≡ d) →
-    ((s : ℕ) → end ≤ s → s < part.h → weight_of j (part.y + s) b d ≡ 0) →
-    w * get_or first (t * p.channels + k) 0 + d * i + v * get_or last (t * p.channels + k) 0 ≡ column_sum p corner part b d j t k
-column_of-parts p corner part b d j t k start end w v i first last more within ef ew el ev ei lt lk below between above =
-    let weights : ℕ → ℕ = λ s. weight_of j (part.y + s) b d in
-    let f : ℕ → ℕ = λ s. sample_at p (corner.0 + t) (corner.1 + s) k in
-    let one = ap (λ u. get_or u (t * p.channels + k) 0) ef ∙ get_or-span_of p corner.0 (corner.1 + start) part.w t k 0 lt lk in
-    let two = ap (λ u. get_or u (t * p.channels + k) 0) el ∙ get_or-span_of p corner.0 (corner.1 + (end - 1)) part.w t k 0 lt lk in
-    let parts = three_parts d start end weights f more between in
+pub column_of-parts : (p : Picture) (held : Rect) (rows : Axis) (j t k start end w v i : ℕ) (first last : List ℕ) → start + 1 < end → end ≤ rows.count →
+    first ≡ span_of p held.x (held.y + start) held.w → w ≡ weight_of j (rows.from + start) rows.a rows.c →
+    last ≡ span_of p held.x (held.y + (end - 1)) held.w → v ≡ weight_of j (rows.from + (end - 1)) rows.a rows.c →
+    i ≡ sum_from (start + 1) (end - 1 - (start + 1)) (λ s. sample_at p (held.x + t) (held.y + s) k) → t < held.w → k < p.channels →
+    ((s : ℕ) → s < start → weight_of j (rows.from + s) rows.a rows.c ≡ 0) → ((s : ℕ) → start < s → s + 1 < end → weight_of j (rows.from + s) rows.a rows.c ≡ rows.c) →
+    ((s : ℕ) → end ≤ s → s < rows.count → weight_of j (rows.from + s) rows.a rows.c ≡ 0) →
+    w * get_or first (t * p.channels + k) 0 + rows.c * i + v * get_or last (t * p.channels + k) 0 ≡ column_sum p held rows j t k
+column_of-parts p held rows j t k start end w v i first last more within ef ew el ev ei lt lk below between above =
+    let weights : ℕ → ℕ = λ s. weight_of j (rows.from + s) rows.a rows.c in
+    let f : ℕ → ℕ = λ s. sample_at p (held.x + t) (held.y + s) k in
+    let one = ap (λ u. get_or u (t * p.channels + k) 0) ef ∙ get_or-span_of p held.x (held.y + start) held.w t k 0 lt lk in
+    let two = ap (λ u. get_or u (t * p.channels + k) 0) el ∙ get_or-span_of p held.x (held.y + (end - 1)) held.w t k 0 lt lk in
+    let parts = three_parts rows.c start end weights f more between in
     let a = same_product ew one in
     let z = same_product ev two in
-    let m = ap (λ u. d * u) ei in
-    column_sum-is p corner part b d j t k start end end _ (omega arith) within refl below above (omega arith)
+    let m = ap (λ u. rows.c * u) ei in
+    column_sum-is p held rows j t k start end end _ (omega arith) within refl below above (omega arith)
 
 -- and of two
-pub column_of-two : (p : Picture) (corner : ℕ × ℕ) (part : Rect) (b d j t k start end w v : ℕ) (first last : List ℕ) → end - start ≡ 2 → end ≤ part.h →
-    first ≡ span_of p corner.0 (corner.1 + start) part.w → w ≡ weight_of j (part.y + start) b d →
-    last ≡ span_of p corner.0 (corner.1 + (end - 1)) part.w → v ≡ weight_of j (part.y + (end - 1)) b d → t < part.w → k < p.channels →
-    ((s : ℕ) → s < start → weight_of j (part.y + s) b d ≡ 0) → ((s : ℕ) → start < s → s + 1 < end → weight_of j (part.y + s) b d ≡ d) →
-    ((s : ℕ) → end ≤ s → s < part.h → weight_of j (part.y + s) b d ≡ 0) →
-    w * get_or first (t * p.channels + k) 0 + v * get_or last (t * p.channels + k) 0 ≡ column_sum p corner part b d j t k
-column_of-two p corner part b d j t k start end w v first last two within ef ew el ev lt lk below between above =
-    let none = sum_from-start (start + 1) (end - 1 - (start + 1)) (λ s. sample_at p (corner.0 + t) (corner.1 + s) k) (omega arith) in
-    let parts = column_of-parts p corner part b d j t k start end w v 0 first last (omega arith) within ef ew el ev none lt lk below between above in
+pub column_of-two : (p : Picture) (held : Rect) (rows : Axis) (j t k start end w v : ℕ) (first last : List ℕ) → end - start ≡ 2 → end ≤ rows.count →
+    first ≡ span_of p held.x (held.y + start) held.w → w ≡ weight_of j (rows.from + start) rows.a rows.c →
+    last ≡ span_of p held.x (held.y + (end - 1)) held.w → v ≡ weight_of j (rows.from + (end - 1)) rows.a rows.c → t < held.w → k < p.channels →
+    ((s : ℕ) → s < start → weight_of j (rows.from + s) rows.a rows.c ≡ 0) → ((s : ℕ) → start < s → s + 1 < end → weight_of j (rows.from + s) rows.a rows.c ≡ rows.c) →
+    ((s : ℕ) → end ≤ s → s < rows.count → weight_of j (rows.from + s) rows.a rows.c ≡ 0) →
+    w * get_or first (t * p.channels + k) 0 + v * get_or last (t * p.channels + k) 0 ≡ column_sum p held rows j t k
+column_of-two p held rows j t k start end w v first last two within ef ew el ev lt lk below between above =
+    let none = sum_from-start (start + 1) (end - 1 - (start + 1)) (λ s. sample_at p (held.x + t) (held.y + s) k) (omega arith) in
+    let parts = column_of-parts p held rows j t k start end w v 0 first last (omega arith) within ef ew el ev none lt lk below between above in
     omega arith
 
 -- it fits
-pub column_of-fits : (p : Picture) (corner : ℕ × ℕ) (part : Rect) (b d j t k m : ℕ) → ((x y k : ℕ) → sample_at p x y k ≤ m) → column_sum p corner part b d j t k ≤ b * m
+pub column_of-fits : (p : Picture) (held : Rect) (rows : Axis) (j t k m : ℕ) → ((x y k : ℕ) → sample_at p x y k ≤ m) → column_sum p held rows j t k ≤ rows.a * m
 unfolding column_sum
-column_of-fits p corner part b d j t k m h = column_fits p corner.0 corner.1 part.y j b d 0 part.h t k m h
+column_of-fits p held rows j t k m h = column_fits p held.x held.y rows.from j rows.a rows.c 0 rows.count t k m h

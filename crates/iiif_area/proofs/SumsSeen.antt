@@ -1,9 +1,8 @@
 -- What the fields of sums say of the grid that contracts see.
 use Rattle.std.proofs.Common.{◌≡◌, ℕ, ◌+◌, ◌-◌, ◌*◌, ◌^◌, ◌<◌, ◌≤◌, length, ap, sym, ◌∙◌, arith}
 use Rattle.std.proofs.lemmas.Nat.{mul-le}
-use Rattle.iiif_pixel.specs.declared.geometry.Kind.{Kind}
-use Rattle.iiif_pixel.specs.declared.geometry.Kind.TheVariants.{Gray, Rgb}
 use Rattle.iiif_pixel.specs.declared.geometry.Rect.{Rect}
+use Rattle.iiif_pixel.proofs.Channels.{channels_some}
 use Rattle.iiif_pixel.proofs.Crops.{part_fits}
 use Rattle.iiif_area.specs.Places.{IsInside}
 use Rattle.iiif_area.proofs.GridLaws.{run-le}
@@ -26,10 +25,6 @@ seen q g e i = record {
   count = rw (← e) i;
 }
 
-pub channels-positive : (kind : Kind) → 0 < channels_of kind
-channels-positive Gray = omega arith
-channels-positive Rgb = omega arith
-
 -- the sums are few enough for an index
 pub count_below : (q : Inside) → the_invariant q → q.rect.w * q.rect.h * channels_of q.kind < 2 ^ 63
 count_below q i = omega (arith, i, q.sums.ok.0, q.sums.ok.1, q.sums.small)
@@ -45,7 +40,7 @@ row_fits_in q n rect y i e inside l =
     let small = count_below q i in
     let end = run-le q.rect.w q.rect.h n (rect.x - q.rect.x) rect.w (rect.y - q.rect.y + y) (omega (arith, inside.left, inside.right)) (omega (arith, inside.upper, inside.lower)) in
     let count : length q.sums.items ≡ q.rect.w * q.rect.h * n = i ∙ ap (λ u. q.rect.w * q.rect.h * u) (sym e) in
-    let positive : 0 < n = rw e (channels-positive q.kind) in
+    let positive : 0 < n = rw e (channels_some q.kind) in
     let at = (rect.y - q.rect.y + y) * q.rect.w + (rect.x - q.rect.x) in
     let most = mul-le at 1 at n (omega arith) positive in
     record { place = omega arith; end = omega arith; small = omega arith }

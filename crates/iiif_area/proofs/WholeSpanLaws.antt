@@ -6,10 +6,9 @@ use Rattle.std.proofs.lemmas.Nat.{same_from_place}
 use Rattle.std.proofs.Math.Nat.{mul-le-mul_right}
 use Rattle.iiif_pixel.specs.Picture.{Picture}
 use Rattle.iiif_pixel.specs.Scaling.{area_sum, sum_from}
-use Rattle.iiif_pixel.specs.declared.geometry.Dim.{Dim}
-use Rattle.iiif_pixel.specs.declared.geometry.Rect.{Rect}
 use Rattle.iiif_area.specs.declared.columns.Span.{Span}
-use Rattle.iiif_area.specs.Code.{column_sum, span_total, tile_sample, IsMore, IsSpan, IsWholeSpan}
+use Rattle.iiif_area.specs.declared.places.Share.{Share}
+use Rattle.iiif_area.specs.Code.{column_sum, held_of, rows_of, span_total, tile_sample, IsMore, IsSpan, IsWholeSpan}
 use Rattle.iiif_area.proofs.ColumnLaws.{span_total-area}
 use Rattle.iiif_area.proofs.GridLaws.{place_index, FilledTo}
 use Rattle.iiif_area.proofs.SumLaws.{sum_from-split, sum_from-one, sum_from-more}
@@ -76,12 +75,12 @@ FilledTo-more w n j m f g xs ys filled start all more same = λ p q r lp lr l.
     (cases_lt (place_index w n p q r) (length xs))
 
 -- what a result place takes of a whole span is the part's sum
-pub whole_area : (region size : Dim) (part : Rect) (tile : Picture) (corner : ℕ × ℕ) (i j k p m n : ℕ) (columns : List ℕ) (s : Span) →
-    1 < m → n ≡ tile.channels → IsSpan region.w size.w part.x part.w i s → IsWholeSpan size.w m p s →
-    ((t : ℕ) → t < part.w → get_or columns (t * tile.channels + k) 0 ≡ column_sum tile corner part region.h size.h j t k) →
-    size.w * sum_from (p * m) m (λ t. get_or columns (t * n + k) 0) ≡ area_sum region size part (tile_sample tile corner part k) i j
-whole_area region size part tile corner i j k p m n columns s many en span whole h =
-    sym (span_total-whole columns n k size.w m p s many whole) ∙ span_total-area region size part tile corner i j k n size.w columns s en refl span h
+pub whole_area : (share : Share) (tile : Picture) (i j k p m n : ℕ) (columns : List ℕ) (s : Span) →
+    1 < m → n ≡ tile.channels → IsSpan share.region.w share.size.w share.part.x share.part.w i s → IsWholeSpan share.size.w m p s →
+    ((t : ℕ) → t < share.part.w → get_or columns (t * tile.channels + k) 0 ≡ column_sum tile (held_of share) (rows_of share) j t k) →
+    share.size.w * sum_from (p * m) m (λ t. get_or columns (t * n + k) 0) ≡ area_sum share.region share.size share.part (tile_sample tile share.corner share.part k) i j
+whole_area share tile i j k p m n columns s many en span whole h =
+    sym (span_total-whole columns n k share.size.w m p s many whole) ∙ span_total-area share tile i j k n share.size.w columns s en refl span h
 
 -- no span of columns
 pub no_span : Span

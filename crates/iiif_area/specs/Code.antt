@@ -4,15 +4,27 @@ use Rattle.iiif_pixel.specs.Picture.{Picture, sample_at}
 use Rattle.iiif_pixel.specs.Scaling.{sum_from, weight_of}
 use Rattle.iiif_pixel.specs.declared.geometry.Rect.{Rect}
 use Rattle.iiif_area.specs.declared.columns.Span.{Span}
+use Rattle.iiif_area.specs.declared.places.Share.{Share}
+use Rattle.iiif_area.specs.declared.weights.Axis.{Axis}
+
+-- the columns of a share's region and part, their rows, and where the part lies in the tile
+abbrev pub columns_of : Share → Axis
+columns_of share = record { a = share.region.w; c = share.size.w; from = share.part.x; count = share.part.w }
+
+abbrev pub rows_of : Share → Axis
+rows_of share = record { a = share.region.h; c = share.size.h; from = share.part.y; count = share.part.h }
+
+abbrev pub held_of : Share → Rect
+held_of share = record { x = share.corner.0; y = share.corner.1; w = share.part.w; h = share.part.h }
 
 -- the sample of a region's place (x, y) in channel k, which the tile that has the part holds from its place `corner` on
 unfoldable pub tile_sample : Picture → ℕ × ℕ → Rect → ℕ → ℕ → ℕ → ℕ
 tile_sample tile corner part k x y = sample_at tile (corner.0 + (x - part.x)) (corner.1 + (y - part.y)) k
 
--- what result row j takes of column t of the part in channel k, where b rows are scaled to d
-unfoldable pub column_sum : Picture → ℕ × ℕ → Rect → ℕ → ℕ → ℕ → ℕ → ℕ → ℕ
-column_sum tile corner part b d j t k =
-    sum_from 0 part.h (λ s. weight_of j (part.y + s) b d * sample_at tile (corner.0 + t) (corner.1 + s) k)
+-- what result row j takes of column t of the part in channel k, where the tile holds the part in the rectangle `held`
+unfoldable pub column_sum : Picture → Rect → Axis → ℕ → ℕ → ℕ → ℕ
+column_sum tile held rows j t k =
+    sum_from 0 rows.count (λ s. weight_of j (rows.from + s) rows.a rows.c * sample_at tile (held.x + t) (held.y + s) k)
 
 -- Of the n source columns from `from` on, result column i takes something of s.start up to s.end, counted from there: all
 -- of each but the first and the last.

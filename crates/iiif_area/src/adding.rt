@@ -9,43 +9,31 @@ ghost use Rattle.iiif_area.specs.Places.{places_of, IsScalable};
 ghost use Rattle.iiif_area.specs.Grid.{grid_of, merged};
 ghost use Rattle.iiif_area.specs.Code.{row_sum, tile_sample};
 
-use crate::places::{corner_of, part_of, places_of};
-use crate::weights::{sources, weight};
-use iiif_pixel::{Dim, Raster, Rect, Span};
+use crate::places::{Share, corner_of, part_of, places_of};
+use crate::weights::{Axis, sources, weight};
+use iiif_pixel::{Raster, Rect, Span};
 
-/// Result columns from `first` on over source columns from `from` on, where `a` columns are scaled to `c`.
+/// So many result columns from `first` on, over source columns.
 #[derive(Clone, Copy)]
 pub struct Stretch {
     first: u32,
     results: u32,
-    from: u32,
-    count: u32,
-    a: u32,
-    c: u32,
+    columns: Axis,
 }
 
-/// Adds to the sums at the places of `mine` what these take of the part of a region that a tile holds from its place `corner`
-/// on.
-pub(crate) fn add_part(
-    mine: Rect,
-    sums: &mut [u64],
-    tile: &Raster,
-    corner: (u32, u32),
-    part: Rect,
-    region: Dim,
-    size: Dim,
-)
-    requires limits { IsScalable region size }
-    requires inside { LiesIn part region }
-    requires held { (corner.0 + part.w ≤ tile.now.width) × (corner.1 + part.h ≤ tile.now.height) }
-    requires corner { corner.1 + part.h < 2 ^ 32 }
+/// Adds to the sums at the places of `mine` what these take of a tile's share of a region.
+pub(crate) fn add_part(mine: Rect, sums: &mut [u64], tile: &Raster, share: Share)
+    requires limits { IsScalable share.region share.size }
+    requires inside { LiesIn share.part share.region }
+    requires held { (share.corner.0 + share.part.w ≤ tile.now.width) × (share.corner.1 + share.part.h ≤ tile.now.height) }
+    requires corner { share.corner.1 + share.part.h < 2 ^ 32 }
     requires small { length sums.old < 2 ^ 60 }
     requires mine { length sums.old ≡ mine.w * mine.h * tile.now.channels }
     ensures { sums.new ≡ (merged (record { rect = mine; channels = tile.now.channels; sums = sums.old })
-        (grid_of (places_of region size part) tile.now.channels (λ i j k. area_sum region size part (tile_sample tile.now corner part k) i j))).sums }
+        (grid_of (places_of share.region share.size share.part) tile.now.channels (λ i j k. area_sum share.region share.size share.part (tile_sample tile.now share.corner share.part k) i j))).sums }
 {
     let channels = tile.kind().channels();
-    let places = places_of(region, size, part);
+    let places = places_of(share.region, share.size, share.part);
     let common = part_of(places, mine);
     let (left, top) = corner_of(places, mine);
     if common.w == 0 {
@@ -60,52 +48,34 @@ pub(crate) fn add_part(
             w: common.w,
             h: 1,
         };
-        add_rows(
-            &mut sums[to..to + run],
-            tile,
-            corner,
-            part,
-            region,
-            size,
-            row,
-        );
+        add_rows(&mut sums[to..to + run], tile, share, row);
     }
 }
 
 /// Adds to the sums at a row of result places what these take of all rows of the part.
-fn add_rows(
-    sums: &mut [u64],
-    tile: &Raster,
-    corner: (u32, u32),
-    part: Rect,
-    region: Dim,
-    size: Dim,
-    row: Rect,
-)
-    requires limits { IsScalable region size }
-    requires inside { LiesIn part region }
-    requires held { (corner.0 + part.w ≤ tile.now.width) × (corner.1 + part.h ≤ tile.now.height) }
-    requires corner { corner.1 + part.h < 2 ^ 32 }
-    requires row { LiesIn row size }
+fn add_rows(sums: &mut [u64], tile: &Raster, share: Share, row: Rect)
+    requires limits { IsScalable share.region share.size }
+    requires inside { LiesIn share.part share.region }
+    requires held { (share.corner.0 + share.part.w ≤ tile.now.width) × (share.corner.1 + share.part.h ≤ tile.now.height) }
+    requires corner { share.corner.1 + share.part.h < 2 ^ 32 }
+    requires row { LiesIn row share.size }
     requires len { length sums.old ≡ row.w * tile.now.channels }
     ensures { (i k : ℕ) → i < row.w → k < tile.now.channels → slice_index sums.new (i * tile.now.channels + k)
         ≡ min (2 ^ 64 - 1) (slice_index sums.old (i * tile.now.channels + k)
-        + area_sum region size part (tile_sample tile.now corner part k) (row.x + i) row.y) }
+        + area_sum share.region share.size share.part (tile_sample tile.now share.corner share.part k) (row.x + i) row.y) }
 {
     let channels = tile.kind().channels();
     let stretch = Stretch {
         first: row.x,
         results: row.w,
-        from: part.x,
-        count: part.w,
-        a: region.w,
-        c: size.w,
+        columns: share.columns(),
     };
-    let (start, end) = sources(row.y, region.h, size.h, part.y, part.h);
+    let (held, rows) = (share.held(), share.rows());
+    let (start, end) = sources(row.y, rows);
     for s in start..end {
-        let samples = tile.span(corner.0, corner.1 + s, part.w);
-        let rows = weight(row.y, part.y + s, region.h, size.h);
-        add_row(sums, stretch, samples, channels, rows);
+        let samples = tile.span(held.x, held.y + s, held.w);
+        let weight = weight(row.y, rows.from + s, rows.a, rows.c);
+        add_row(sums, stretch, samples, channels, weight);
     }
 }
 
@@ -113,20 +83,20 @@ fn add_rows(
 /// columns are walked together: a source column ends where the next begins, and the result column that lies on both is
 /// returned to.
 fn add_row(sums: &mut [u64], stretch: Stretch, samples: Span, channels: usize, rows: u64)
-    requires columns { stretch.from + stretch.count ≤ stretch.a }
-    requires results { stretch.first + stretch.results ≤ stretch.c }
-    requires weights { rows * stretch.a ≤ 2 ^ 32 }
+    requires columns { stretch.columns.from + stretch.columns.count ≤ stretch.columns.a }
+    requires results { stretch.first + stretch.results ≤ stretch.columns.c }
+    requires weights { rows * stretch.columns.a ≤ 2 ^ 32 }
     requires sums { length sums.old ≡ stretch.results * channels }
-    requires samples { length (span_values samples) ≡ stretch.count * channels }
+    requires samples { length (span_values samples) ≡ stretch.columns.count * channels }
     ensures { (i k : ℕ) → i < stretch.results → k < channels → slice_index sums.new (i * channels + k)
         ≡ min (2 ^ 64 - 1) (slice_index sums.old (i * channels + k)
-        + rows * row_sum (span_values samples.entry) channels stretch.from stretch.count stretch.a stretch.c (stretch.first + i) k) }
+        + rows * row_sum (span_values samples.entry) channels stretch.columns.from stretch.columns.count stretch.columns.a stretch.columns.c (stretch.first + i) k) }
 {
-    let (a, c) = (u64::from(stretch.a), u64::from(stretch.c));
+    let (a, c) = (u64::from(stretch.columns.a), u64::from(stretch.columns.c));
     let mut i = 0;
     let mut left = u64::from(stretch.first) * a;
-    let mut begin = u64::from(stretch.from) * c;
-    for t in 0..stretch.count as usize {
+    let mut begin = u64::from(stretch.columns.from) * c;
+    for t in 0..stretch.columns.count as usize {
         let end = begin + c;
         while i < stretch.results as usize && left < end {
             let columns = (left + a).min(end).saturating_sub(left.max(begin));

@@ -8,9 +8,10 @@ ghost use Rattle.iiif_area.specs.Places.{places_of, IsScalable};
 ghost use Rattle.iiif_area.specs.Code.{column_sum, span_total, tile_sample, IsMore, IsSpan, IsWholeSpan};
 
 use crate::eight;
+use crate::places::Share;
 use crate::rows::{add_row, add_sums, sum_row};
-use crate::weights::{sources, weight};
-use iiif_pixel::{Dim, Kind, NoMemory, Raster, Rect};
+use crate::weights::{Axis, sources, weight};
+use iiif_pixel::{Kind, NoMemory, Raster, Rect};
 use std::alloc::{AllocError, Global};
 
 /// Of so few source rows each is added with its weight: adding them up apart costs a pass over all columns.
@@ -29,33 +30,30 @@ pub struct Span {
     pub(crate) last: u64,
 }
 
-/// The sums over the part of a region that a tile holds from its place `corner` on, at the result places `rect`.
+/// The sums over a tile's share of a region, at the result places `rect`.
 pub(crate) fn tile_sums(
     alloc: Global,
     tile: &Raster,
-    corner: (u32, u32),
-    part: Rect,
-    region: Dim,
-    size: Dim,
+    share: Share,
     rect: Rect,
 ) -> Result<Vec<u64>, NoMemory>
-    requires limits { IsScalable region size }
-    requires inside { LiesIn part region }
-    requires held { (corner.0 + part.w ≤ tile.now.width) × (corner.1 + part.h ≤ tile.now.height) }
-    requires corner { corner.1 + part.h < 2 ^ 32 }
-    requires rect { LiesIn rect size }
+    requires limits { IsScalable share.region share.size }
+    requires inside { LiesIn share.part share.region }
+    requires held { (share.corner.0 + share.part.w ≤ tile.now.width) × (share.corner.1 + share.part.h ≤ tile.now.height) }
+    requires corner { share.corner.1 + share.part.h < 2 ^ 32 }
+    requires rect { LiesIn rect share.size }
     ensures { IfOk result (λ v. v.items ≡ samples_of rect.w rect.h tile.now.channels
-        (λ i j k. area_sum region size part (tile_sample tile.now corner part k) (rect.x + i) (rect.y + j))) }
+        (λ i j k. area_sum share.region share.size share.part (tile_sample tile.now share.corner share.part k) (rect.x + i) (rect.y + j))) }
 {
-    if eight::is_short(tile.depth(), part.h, region.h, size.h) {
+    if eight::is_short(tile.depth(), share.rows()) {
         match tile.kind() {
-            Kind::Gray => eight::sums_by(alloc, tile, 1, corner, part, region, size, rect),
-            Kind::Rgb => eight::sums_by(alloc, tile, 3, corner, part, region, size, rect),
+            Kind::Gray => eight::sums_by(alloc, tile, 1, share, rect),
+            Kind::Rgb => eight::sums_by(alloc, tile, 3, share, rect),
         }
     } else {
         match tile.kind() {
-            Kind::Gray => sums_by(alloc, tile, 1, corner, part, region, size, rect),
-            Kind::Rgb => sums_by(alloc, tile, 3, corner, part, region, size, rect),
+            Kind::Gray => sums_by(alloc, tile, 1, share, rect),
+            Kind::Rgb => sums_by(alloc, tile, 3, share, rect),
         }
     }
 }
@@ -67,44 +65,43 @@ fn sums_by(
     alloc: Global,
     tile: &Raster,
     channels: usize,
-    corner: (u32, u32),
-    part: Rect,
-    region: Dim,
-    size: Dim,
+    share: Share,
     rect: Rect,
 ) -> Result<Vec<u64>, NoMemory>
     requires channels { channels ≡ tile.now.channels }
-    requires limits { IsScalable region size }
-    requires inside { LiesIn part region }
-    requires held { (corner.0 + part.w ≤ tile.now.width) × (corner.1 + part.h ≤ tile.now.height) }
-    requires corner { corner.1 + part.h < 2 ^ 32 }
-    requires rect { LiesIn rect size }
+    requires limits { IsScalable share.region share.size }
+    requires inside { LiesIn share.part share.region }
+    requires held { (share.corner.0 + share.part.w ≤ tile.now.width) × (share.corner.1 + share.part.h ≤ tile.now.height) }
+    requires corner { share.corner.1 + share.part.h < 2 ^ 32 }
+    requires rect { LiesIn rect share.size }
     ensures { IfOk result (λ v. v.items ≡ samples_of rect.w rect.h tile.now.channels
-        (λ i j k. area_sum region size part (tile_sample tile.now corner part k) (rect.x + i) (rect.y + j))) }
+        (λ i j k. area_sum share.region share.size share.part (tile_sample tile.now share.corner share.part k) (rect.x + i) (rect.y + j))) }
 {
     // No sample is above 65,535, so the sums fit.
     tile.is_whole();
-    let mut cells = vec![in alloc; 0u64; part.w as usize * channels]?;
+    let (held, rows) = (share.held(), share.rows());
+    let mut cells = vec![in alloc; 0u64; held.w as usize * channels]?;
     let columns = cells.as_mut_slice();
-    let mut scratch = vec![in alloc; 0u32; part.w as usize * channels]?;
+    let mut scratch = vec![in alloc; 0u32; held.w as usize * channels]?;
     let inner = scratch.as_mut_slice();
-    let spans = spans(alloc, rect.x, rect.w, region.w, size.w, part.x, part.w)?;
+    let spans = spans(alloc, rect.x, rect.w, share.columns())?;
     let Some(count) = tile.kind().count(rect.dim()) else {
         return Err(AllocError);
     };
     let mut sums = Vec::with_capacity(alloc, count)?;
-    let whole = whole_columns(&spans, size.w);
+    let c = share.size.w;
+    let whole = whole_columns(&spans, c);
     for j in 0..rect.h {
         let row = rect.y + j;
-        fill_columns(columns, inner, tile, corner, part, region.h, size.h, row);
+        fill_columns(columns, inner, tile, held, rows, row);
         if let Some(n) = whole {
-            sums = with_whole(sums, columns, channels, size.w, n, rect.w as usize);
+            sums = with_whole(sums, columns, channels, c, n, rect.w as usize);
             continue;
         }
         for i in 0..rect.w {
             for k in 0..channels {
                 let span = spans[i as usize];
-                let sum = span_sum(columns, channels, k, u64::from(size.w), span);
+                let sum = span_sum(columns, channels, k, u64::from(c), span);
                 sums.push_reserved(sum);
             }
         }
@@ -112,43 +109,39 @@ fn sums_by(
     Ok(sums)
 }
 
-/// The spans of `results` result columns from `first` on, where `a` columns are scaled to `c`, in the `count` source columns
-/// from `from` on.
+/// The spans of `results` result columns from `first` on.
 pub(crate) fn spans(
     alloc: Global,
     first: u32,
     results: u32,
-    a: u32,
-    c: u32,
-    from: u32,
-    count: u32,
+    axis: Axis,
 ) -> Result<Vec<Span>, NoMemory>
-    requires divides { 0 < c }
-    requires inside { from + count ≤ a }
-    requires results { first + results ≤ c }
+    requires divides { 0 < axis.c }
+    requires inside { axis.from + axis.count ≤ axis.a }
+    requires results { first + results ≤ axis.c }
     ensures len { IfOk result (λ v. vec_len v ≡ results) }
-    ensures each { IfOk result (λ v. (t : ℕ) (d : Span) → t < results → IsSpan a c from count (first + t) (slice_index_or v.items t d)) }
+    ensures each { IfOk result (λ v. (t : ℕ) (d : Span) → t < results → IsSpan axis.a axis.c axis.from axis.count (first + t) (slice_index_or v.items t d)) }
 {
     let mut spans = Vec::with_capacity(alloc, results as usize)?;
     for i in 0..results {
-        spans.push(span_of(first + i, a, c, from, count))?;
+        spans.push(span_of(first + i, axis))?;
     }
     Ok(spans)
 }
 
 /// The span of result column `i`.
-fn span_of(i: u32, a: u32, c: u32, from: u32, count: u32) -> Span
-    requires divides { 0 < c }
-    requires inside { from + count ≤ a }
-    ensures { IsSpan a c from count i result }
+fn span_of(i: u32, axis: Axis) -> Span
+    requires divides { 0 < axis.c }
+    requires inside { axis.from + axis.count ≤ axis.a }
+    ensures { IsSpan axis.a axis.c axis.from axis.count i result }
 {
-    let (start, end) = sources(i, a, c, from, count);
+    let (start, end) = sources(i, axis);
     let (first, last) = match end - start {
         0 => (0, 0),
-        1 => (weight(i, from + start, a, c), 0),
+        1 => (weight(i, axis.from + start, axis.a, axis.c), 0),
         _ => (
-            weight(i, from + start, a, c),
-            weight(i, from + (end - 1), a, c),
+            weight(i, axis.from + start, axis.a, axis.c),
+            weight(i, axis.from + (end - 1), axis.a, axis.c),
         ),
     };
     Span {
@@ -182,46 +175,45 @@ pub(crate) fn whole_columns(spans: &[Span], c: u32) -> Option<usize>
     Some(columns)
 }
 
-/// What result row `j` takes of each column of the part that a tile holds from its place `corner` on, where `b` rows are
-/// scaled to `d`. Rows of weight `d` are added up without it in `inner`, since numbers of 32 bits take less than half of the
-/// time. `inner` is 0 before and after.
+/// What result row `j` takes of each column of the part that a tile holds in its rectangle `held`. Rows that it takes whole
+/// are added up without their weight in `inner`, since numbers of 32 bits take less than half of the time. `inner` is 0 before
+/// and after.
 #[inline(never)]
 fn fill_columns(
     columns: &mut [u64],
     inner: &mut [u32],
     tile: &Raster,
-    corner: (u32, u32),
-    part: Rect,
-    b: u32,
-    d: u32,
+    held: Rect,
+    rows: Axis,
     j: u32,
 )
-    requires divides { 0 < d }
+    requires divides { 0 < rows.c }
     requires samples { (x y k : ℕ) → sample_at tile.now x y k ≤ 65535 }
-    requires inside { part.y + part.h ≤ b }
-    requires held { (corner.0 + part.w ≤ tile.now.width) × (corner.1 + part.h ≤ tile.now.height) }
-    requires corner { corner.1 + part.h < 2 ^ 32 }
-    requires room { length columns.old ≡ part.w * tile.now.channels }
+    requires inside { rows.from + rows.count ≤ rows.a }
+    requires rows { rows.count ≡ held.h }
+    requires held { (held.x + held.w ≤ tile.now.width) × (held.y + held.h ≤ tile.now.height) }
+    requires corner { held.y + held.h < 2 ^ 32 }
+    requires room { length columns.old ≡ held.w * tile.now.channels }
     requires inner { length inner.old ≡ length columns.old }
     requires clear { EachIndex inner.old (λ t. slice_index inner.old t ≡ 0) }
     ensures clear { EachIndex inner.new (λ t. slice_index inner.new t ≡ 0) }
-    ensures sums { (t k : ℕ) → t < part.w → k < tile.now.channels →
-        slice_index columns.new (t * tile.now.channels + k) ≡ column_sum tile.now corner part b d j t k }
+    ensures sums { (t k : ℕ) → t < held.w → k < tile.now.channels →
+        slice_index columns.new (t * tile.now.channels + k) ≡ column_sum tile.now held rows j t k }
 {
     columns.fill(0);
-    let (start, end) = sources(j, b, d, part.y, part.h);
+    let (start, end) = sources(j, rows);
     let many = end - start > FEW;
     for s in start..end {
-        let row = tile.span(corner.0, corner.1 + s, part.w);
-        let rows = weight(j, part.y + s, b, d);
-        if many && rows == u64::from(d) && s - start < RUN {
+        let row = tile.span(held.x, held.y + s, held.w);
+        let weight = weight(j, rows.from + s, rows.a, rows.c);
+        if many && weight == u64::from(rows.c) && s - start < RUN {
             sum_row(inner, row);
         } else {
-            add_row(columns, row, rows as u32);
+            add_row(columns, row, weight as u32);
         }
     }
     if many {
-        add_sums(columns, inner, d);
+        add_sums(columns, inner, rows.c);
         inner.fill(0);
     }
 }

@@ -9,9 +9,10 @@ ghost use Rattle.iiif_area.specs.Places.{IsScalable};
 ghost use Rattle.iiif_area.specs.Code.{column_sum, span_total, tile_sample, IsMore};
 
 use crate::columns::{Span, spans, whole_columns};
+use crate::places::Share;
 use crate::rows::{join_ends, join_rows, row_of, sum_four, sum_one};
-use crate::weights::{sources, weight};
-use iiif_pixel::{Depth, Dim, NoMemory, Raster, Rect};
+use crate::weights::{Axis, sources, weight};
+use iiif_pixel::{Depth, NoMemory, Raster, Rect};
 use std::alloc::{AllocError, Global};
 
 /// So many rows of weight 1 are added up at once.
@@ -33,66 +34,66 @@ fn is_eight(depth: Depth) -> bool
     }
 }
 
-/// Whether the sums of a part of `h` rows may be made here, where `b` rows are scaled to `d`: the samples have 8 bits, and the sums of columns
-/// and of rows between the first and the last of a result row fit.
-pub(crate) fn is_short(depth: Depth, h: u32, b: u32, d: u32) -> bool
+/// Whether the sums of a part with these rows may be made here: the samples have 8 bits, and the sums of columns and of rows
+/// between the first and the last of a result row fit.
+pub(crate) fn is_short(depth: Depth, rows: Axis) -> bool
     ensures depth { result ≡ true → top_of depth ≡ 255 }
-    ensures few { result ≡ true → (b * 255 < 2 ^ 32) × (d < 2 ^ 16) }
-    ensures run { result ≡ true → (h ≤ 257) ⊎ (b ≤ 257 * d) }
+    ensures few { result ≡ true → (rows.a * 255 < 2 ^ 32) × (rows.c < 2 ^ 16) }
+    ensures run { result ≡ true → (rows.count ≤ 257) ⊎ (rows.a ≤ 257 * rows.c) }
 {
+    let (b, d) = (rows.a, rows.c);
     is_eight(depth)
         && b <= SHORT_ROWS
         && d <= u32::from(u16::MAX)
-        && (h <= SHORT_RUN || u64::from(b) <= u64::from(SHORT_RUN) * u64::from(d))
+        && (rows.count <= SHORT_RUN || u64::from(b) <= u64::from(SHORT_RUN) * u64::from(d))
 }
 
-/// The sums over the part of a region that a tile holds from its place `corner` on, at the result places `rect`.
+/// The sums over a tile's share of a region, at the result places `rect`.
 #[inline(always)]
 pub(crate) fn sums_by(
     alloc: Global,
     tile: &Raster,
     channels: usize,
-    corner: (u32, u32),
-    part: Rect,
-    region: Dim,
-    size: Dim,
+    share: Share,
     rect: Rect,
 ) -> Result<Vec<u64>, NoMemory>
     requires channels { channels ≡ tile.now.channels }
     requires depth { tile.now.top ≡ 255 }
-    requires few { (region.h * 255 < 2 ^ 32) × (size.h < 2 ^ 16) }
-    requires run { (part.h ≤ 257) ⊎ (region.h ≤ 257 * size.h) }
-    requires limits { IsScalable region size }
-    requires inside { LiesIn part region }
-    requires held { (corner.0 + part.w ≤ tile.now.width) × (corner.1 + part.h ≤ tile.now.height) }
-    requires corner { corner.1 + part.h < 2 ^ 32 }
-    requires rect { LiesIn rect size }
+    requires few { (share.region.h * 255 < 2 ^ 32) × (share.size.h < 2 ^ 16) }
+    requires run { (share.part.h ≤ 257) ⊎ (share.region.h ≤ 257 * share.size.h) }
+    requires limits { IsScalable share.region share.size }
+    requires inside { LiesIn share.part share.region }
+    requires held { (share.corner.0 + share.part.w ≤ tile.now.width) × (share.corner.1 + share.part.h ≤ tile.now.height) }
+    requires corner { share.corner.1 + share.part.h < 2 ^ 32 }
+    requires rect { LiesIn rect share.size }
     ensures { IfOk result (λ v. v.items ≡ samples_of rect.w rect.h tile.now.channels
-        (λ i j k. area_sum region size part (tile_sample tile.now corner part k) (rect.x + i) (rect.y + j))) }
+        (λ i j k. area_sum share.region share.size share.part (tile_sample tile.now share.corner share.part k) (rect.x + i) (rect.y + j))) }
 {
     // No sample is above 255, so the sums fit.
     tile.is_whole();
-    let mut cells = vec![in alloc; 0u32; part.w as usize * channels]?;
+    let (held, rows) = (share.held(), share.rows());
+    let mut cells = vec![in alloc; 0u32; held.w as usize * channels]?;
     let columns = cells.as_mut_slice();
-    let mut few = vec![in alloc; 0u16; part.w as usize * channels]?;
+    let mut few = vec![in alloc; 0u16; held.w as usize * channels]?;
     let short = few.as_mut_slice();
-    let spans = spans(alloc, rect.x, rect.w, region.w, size.w, part.x, part.w)?;
+    let spans = spans(alloc, rect.x, rect.w, share.columns())?;
     let Some(count) = tile.kind().count(rect.dim()) else {
         return Err(AllocError);
     };
     let mut sums = Vec::with_capacity(alloc, count)?;
-    let whole = whole_columns(&spans, size.w);
+    let c = share.size.w;
+    let whole = whole_columns(&spans, c);
     for j in 0..rect.h {
         let row = rect.y + j;
-        fill_columns(columns, short, tile, corner, part, region.h, size.h, row);
+        fill_columns(columns, short, tile, held, rows, row);
         if let Some(n) = whole {
-            sums = with_whole(sums, columns, channels, size.w, n, rect.w as usize);
+            sums = with_whole(sums, columns, channels, c, n, rect.w as usize);
             continue;
         }
         for i in 0..rect.w {
             for k in 0..channels {
                 let span = spans[i as usize];
-                let sum = span_sum(columns, channels, k, u64::from(size.w), span);
+                let sum = span_sum(columns, channels, k, u64::from(c), span);
                 sums.push_reserved(sum);
             }
         }
@@ -100,77 +101,76 @@ pub(crate) fn sums_by(
     Ok(sums)
 }
 
-/// What result row `j` takes of each column of the part that a tile holds from its place `corner` on, where `b` rows are
-/// scaled to `d`. Rows between the first and the last, which all have the weight `d`, are added up without it in `short`.
+/// What result row `j` takes of each column of the part that a tile holds in its rectangle `held`. Rows between the first and
+/// the last, which it takes whole, are added up without their weight in `short`.
 #[inline(never)]
 fn fill_columns(
     columns: &mut [u32],
     short: &mut [u16],
     tile: &Raster,
-    corner: (u32, u32),
-    part: Rect,
-    b: u32,
-    d: u32,
+    held: Rect,
+    rows: Axis,
     j: u32,
 )
-    requires divides { 0 < d }
+    requires divides { 0 < rows.c }
     requires depth { tile.now.top ≡ 255 }
     requires samples { (x y k : ℕ) → sample_at tile.now x y k ≤ 255 }
-    requires few { (b * 255 < 2 ^ 32) × (d < 2 ^ 16) }
-    requires run { (part.h ≤ 257) ⊎ (b ≤ 257 * d) }
-    requires inside { part.y + part.h ≤ b }
-    requires held { (corner.0 + part.w ≤ tile.now.width) × (corner.1 + part.h ≤ tile.now.height) }
-    requires corner { corner.1 + part.h < 2 ^ 32 }
-    requires room { length columns.old ≡ part.w * tile.now.channels }
+    requires few { (rows.a * 255 < 2 ^ 32) × (rows.c < 2 ^ 16) }
+    requires run { (rows.count ≤ 257) ⊎ (rows.a ≤ 257 * rows.c) }
+    requires inside { rows.from + rows.count ≤ rows.a }
+    requires rows { rows.count ≡ held.h }
+    requires held { (held.x + held.w ≤ tile.now.width) × (held.y + held.h ≤ tile.now.height) }
+    requires corner { held.y + held.h < 2 ^ 32 }
+    requires room { length columns.old ≡ held.w * tile.now.channels }
     requires short { length short.old ≡ length columns.old }
-    ensures sums { (t k : ℕ) → t < part.w → k < tile.now.channels →
-        slice_index columns.new (t * tile.now.channels + k) ≡ column_sum tile.now corner part b d j t k }
+    ensures sums { (t k : ℕ) → t < held.w → k < tile.now.channels →
+        slice_index columns.new (t * tile.now.channels + k) ≡ column_sum tile.now held rows j t k }
 {
-    let (start, end) = sources(j, b, d, part.y, part.h);
+    let (start, end) = sources(j, rows);
     if start == end {
         columns.fill(0);
         return;
     }
-    let first = row_of(tile, corner, part.w, start);
-    let above = weight(j, part.y + start, b, d) as u16;
+    let first = row_of(tile, held, start);
+    let above = weight(j, rows.from + start, rows.a, rows.c) as u16;
     if end - start == 1 {
         join_ends(columns, first, above, first, 0);
         return;
     }
-    let last = row_of(tile, corner, part.w, end - 1);
-    let below = weight(j, part.y + (end - 1), b, d) as u16;
+    let last = row_of(tile, held, end - 1);
+    let below = weight(j, rows.from + (end - 1), rows.a, rows.c) as u16;
     if end - start == 2 {
         join_ends(columns, first, above, last, below);
         return;
     }
-    sum_inner(short, tile, corner, part.w, start + 1, end - 1);
-    join_rows(columns, first, above, last, below, short, d as u16);
+    sum_inner(short, tile, held, start + 1, end - 1);
+    join_rows(columns, first, above, last, below, short, rows.c as u16);
 }
 
-/// The sums of the samples of the rows from `from` up to `to` of the part that a tile of 8 bits holds from its place `corner` on.
-fn sum_inner(short: &mut [u16], tile: &Raster, corner: (u32, u32), w: u32, from: u32, to: u32)
+/// The sums of the samples of the rows from `from` up to `to` of the part that a tile of 8 bits holds in its rectangle `held`.
+fn sum_inner(short: &mut [u16], tile: &Raster, held: Rect, from: u32, to: u32)
     requires depth { tile.now.top ≡ 255 }
     requires samples { (x y k : ℕ) → sample_at tile.now x y k ≤ 255 }
     requires run { to ≤ from + 257 }
     requires in_order { from ≤ to }
-    requires held { (corner.0 + w ≤ tile.now.width) × (corner.1 + to ≤ tile.now.height) }
-    requires corner { corner.1 + to < 2 ^ 32 }
-    requires room { length short.old ≡ w * tile.now.channels }
-    ensures sums { (t k : ℕ) → t < w → k < tile.now.channels →
-        slice_index short.new (t * tile.now.channels + k) ≡ sum_from from (to - from) (λ s. sample_at tile.now (corner.0 + t) (corner.1 + s) k) }
+    requires held { (held.x + held.w ≤ tile.now.width) × (held.y + to ≤ tile.now.height) }
+    requires corner { held.y + to < 2 ^ 32 }
+    requires room { length short.old ≡ held.w * tile.now.channels }
+    ensures sums { (t k : ℕ) → t < held.w → k < tile.now.channels →
+        slice_index short.new (t * tile.now.channels + k) ≡ sum_from from (to - from) (λ s. sample_at tile.now (held.x + t) (held.y + s) k) }
 {
     short.fill(0);
     let mut s = from;
     while s < to {
         if FOUR <= to - s {
-            let first = row_of(tile, corner, w, s);
-            let second = row_of(tile, corner, w, s + 1);
-            let third = row_of(tile, corner, w, s + 2);
-            let fourth = row_of(tile, corner, w, s + 3);
+            let first = row_of(tile, held, s);
+            let second = row_of(tile, held, s + 1);
+            let third = row_of(tile, held, s + 2);
+            let fourth = row_of(tile, held, s + 3);
             sum_four(short, first, second, third, fourth);
             s += FOUR;
         } else {
-            sum_one(short, row_of(tile, corner, w, s));
+            sum_one(short, row_of(tile, held, s));
             s += 1;
         }
     }

@@ -2,10 +2,74 @@
 
 ghost use Rattle.std.specs.Prelude.{◌≡◌, ℕ, ◌+◌, ◌<◌, ◌≤◌, ◌↔◌, IsTrue, ◌-◌, ◌*◌, ◌/◌, min, max};
 ghost use Rattle.std.specs.Int.{div_ceil};
-ghost use Rattle.iiif_pixel.specs.Geometry.{HasPlace, LiesIn};
+ghost use Rattle.iiif_pixel.specs.Geometry.{sides_of, HasPlace, LiesIn};
+ghost use Rattle.iiif_area.specs.Code.{columns_of, held_of, rows_of};
 ghost use Rattle.iiif_area.specs.Places.{corner_of, part_of, places_of, IsInside, IsScalable, Meets};
 
+use crate::weights::Axis;
 use iiif_pixel::{Dim, Rect};
+
+/// A tile's share of a region that is scaled to `size`: the part of the region that the tile holds from its place `corner` on.
+#[derive(Clone, Copy)]
+pub(crate) struct Share {
+    pub corner: (u32, u32),
+    pub part: Rect,
+    pub region: Dim,
+    pub size: Dim,
+}
+
+impl Share {
+    /// That of a tile, where tile and region are given in the columns and rows of one image.
+    pub(crate) fn of(tile: Rect, region: Rect, size: Dim) -> Share
+        ensures corner { result.corner ≡ corner_of tile region }
+        ensures part { result.part ≡ part_of tile region }
+        ensures region { result.region ≡ sides_of region }
+        ensures size { result.size ≡ size }
+    {
+        Share {
+            corner: corner_of(tile, region),
+            part: part_of(tile, region),
+            region: region.dim(),
+            size,
+        }
+    }
+
+    /// The columns of the region, and those of the part.
+    pub(crate) fn columns(self) -> Axis
+        ensures { result ≡ columns_of self }
+    {
+        Axis {
+            a: self.region.w,
+            c: self.size.w,
+            from: self.part.x,
+            count: self.part.w,
+        }
+    }
+
+    /// The rows likewise.
+    pub(crate) fn rows(self) -> Axis
+        ensures { result ≡ rows_of self }
+    {
+        Axis {
+            a: self.region.h,
+            c: self.size.h,
+            from: self.part.y,
+            count: self.part.h,
+        }
+    }
+
+    /// Where the part lies in the tile.
+    pub(crate) fn held(self) -> Rect
+        ensures { result ≡ held_of self }
+    {
+        Rect {
+            x: self.corner.0,
+            y: self.corner.1,
+            w: self.part.w,
+            h: self.part.h,
+        }
+    }
+}
 
 /// The part of a region that a tile has, in the region's own columns and rows: a place of the region is one of the part
 /// where it is one of the tile. Tile and region are given in the columns and rows of one image. Where they have no place

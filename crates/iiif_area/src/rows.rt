@@ -4,7 +4,7 @@ ghost use Rattle.std.specs.Prelude.{◌≡◌, ℕ, ◌+◌, ◌*◌, ◌<◌, �
 ghost use Rattle.iiif_pixel.specs.Depths.{span_values};
 ghost use Rattle.iiif_pixel.specs.Picture.{span_of};
 
-use iiif_pixel::{Raster, Span};
+use iiif_pixel::{Raster, Rect, Span};
 
 /// Adds each sample of `row`, times `weight`, to the number of `columns` at its index.
 pub(crate) fn add_row(columns: &mut [u64], row: Span, weight: u32)
@@ -81,14 +81,14 @@ pub(crate) fn add_sums(columns: &mut [u64], inner: &[u32], weight: u32)
     }
 }
 
-/// A row of the part that a tile of 8 bits holds from its place `corner` on.
-pub(crate) fn row_of<'a>(tile: &'a Raster, corner: (u32, u32), w: u32, s: u32) -> &'a [u8]
+/// Row `s` of the part that a tile of 8 bits holds in its rectangle `held`.
+pub(crate) fn row_of<'a>(tile: &'a Raster, held: Rect, s: u32) -> &'a [u8]
     requires depth { tile.now.top ≡ 255 }
-    requires held { (corner.0 + w ≤ tile.now.width) × (corner.1 + s < tile.now.height) }
-    requires corner { corner.1 + s < 2 ^ 32 }
-    ensures { result.now ≡ span_of tile.now corner.0 (corner.1 + s) w }
+    requires held { (held.x + held.w ≤ tile.now.width) × (held.y + s < tile.now.height) }
+    requires corner { held.y + s < 2 ^ 32 }
+    ensures { result.now ≡ span_of tile.now held.x (held.y + s) held.w }
 {
-    match tile.span(corner.0, corner.1 + s, w) {
+    match tile.span(held.x, held.y + s, held.w) {
         Span::Eight(samples) => samples,
         Span::Sixteen(_) => &[],
     }

@@ -12,7 +12,7 @@ use crate::adding::add_part;
 use crate::averages::push_averages;
 use crate::columns::tile_sums;
 use crate::merging::add_places;
-use crate::places::{corner_of, part_of, places_of};
+use crate::places::{Share, places_of};
 use iiif_pixel::{Depth, Dim, Kind, NoMemory, Raster, Rect, Samples};
 use std::alloc::{AllocError, Global};
 use std::marker::Model;
@@ -76,11 +76,9 @@ impl Sums {
         ensures places { IfOk result (λ s. s.rect ≡ places_of (sides_of region) size (part_of at region)) }
         ensures channels { IfOk result (λ s. s.channels ≡ tile.now.channels) }
     {
-        let sides = region.dim();
-        let part = part_of(at, region);
-        let rect = places_of(sides, size, part);
-        let corner = corner_of(at, region);
-        let sums = tile_sums(alloc, tile, corner, part, sides, size, rect)?;
+        let share = Share::of(at, region, size);
+        let rect = places_of(share.region, share.size, share.part);
+        let sums = tile_sums(alloc, tile, share, rect)?;
         Ok(Sums {
             rect,
             kind: tile.kind(),
@@ -131,16 +129,8 @@ impl Sums {
         ensures rect { self.new.rect ≡ self.old.rect }
         ensures channels { self.new.channels ≡ self.old.channels }
     {
-        let (part, corner) = (part_of(at, region), corner_of(at, region));
-        add_part(
-            self.rect,
-            &mut self.sums,
-            tile,
-            corner,
-            part,
-            region.dim(),
-            size,
-        );
+        let share = Share::of(at, region, size);
+        add_part(self.rect, &mut self.sums, tile, share);
     }
 
     /// The samples of a depth that sums over the whole of a region make at the places of `rect`: the averages, rounded to the

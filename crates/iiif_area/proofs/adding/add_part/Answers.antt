@@ -9,14 +9,14 @@ use Rattle.iiif_area.specs.Places.{corner_of, part_of, places_of}
 use Rattle.iiif_area.proofs.AddingLaws.{part_sums, run_added}
 use Rattle.iiif_area.proofs.MergeLaws.{AddedTo, AddedTo-step, added_is, run_fits_in}
 use Rattle.iiif_area.proofs.PlaceLaws.{part_fits}
-use Rattle.iiif_area.proofs.SumsSeen.{channels-positive}
+use Rattle.iiif_pixel.proofs.Channels.{channels_some}
 use Rattle.iiif_area.proofs.adding.add_part.Goals as goal
 
 pub overflow_mul-to-in-loop-j : goal.overflow_mul-to-in-loop-j
 overflow_mul-to-in-loop-j c =
     let fits = part_fits c.places_of-places.result c.args.mine c.part_of-common.result c.corner_of-left.result c.part_of-common.ensures.part c.corner_of-left.ensures in
     let ch : c.channels-channels.result ≡ c.args.tile.now.channels = c.channels-channels.ensures ∙ c.kind.ensures in
-    let run = run_fits_in c.args.mine c.channels-channels.result c.part_of-common.result.x c.part_of-common.result.y c.part_of-common.result.w c.loop-j.j (length c.args.sums.now) (omega (arith, channels-positive c.kind.result))
+    let run = run_fits_in c.args.mine c.channels-channels.result c.part_of-common.result.x c.part_of-common.result.y c.part_of-common.result.w c.loop-j.j (length c.args.sums.now) (omega (arith, channels_some c.kind.result))
     (fits.columns (omega arith)) (omega (arith, fits.rows (omega arith))) (c.requires.mine ∙ ap (λ u. c.args.mine.w * c.args.mine.h * u) (sym ch)) (omega arith) (omega arith) in
     omega arith
 
@@ -24,7 +24,7 @@ pub overflow_add-to-in-loop-j-2 : goal.overflow_add-to-in-loop-j-2
 overflow_add-to-in-loop-j-2 c =
     let fits = part_fits c.places_of-places.result c.args.mine c.part_of-common.result c.corner_of-left.result c.part_of-common.ensures.part c.corner_of-left.ensures in
     let ch : c.channels-channels.result ≡ c.args.tile.now.channels = c.channels-channels.ensures ∙ c.kind.ensures in
-    let run = run_fits_in c.args.mine c.channels-channels.result c.part_of-common.result.x c.part_of-common.result.y c.part_of-common.result.w c.loop-j.j (length c.args.sums.now) (omega (arith, channels-positive c.kind.result))
+    let run = run_fits_in c.args.mine c.channels-channels.result c.part_of-common.result.x c.part_of-common.result.y c.part_of-common.result.w c.loop-j.j (length c.args.sums.now) (omega (arith, channels_some c.kind.result))
     (fits.columns (omega arith)) (omega (arith, fits.rows (omega arith))) (c.requires.mine ∙ ap (λ u. c.args.mine.w * c.args.mine.h * u) (sym ch)) (omega arith) (omega arith) in
     omega arith
 
@@ -32,7 +32,7 @@ pub offset_bounds-sums-to : goal.offset_bounds-sums-to
 offset_bounds-sums-to c =
     let fits = part_fits c.places_of-places.result c.args.mine c.part_of-common.result c.corner_of-left.result c.part_of-common.ensures.part c.corner_of-left.ensures in
     let ch : c.channels-channels.result ≡ c.args.tile.now.channels = c.channels-channels.ensures ∙ c.kind.ensures in
-    let run = run_fits_in c.args.mine c.channels-channels.result c.part_of-common.result.x c.part_of-common.result.y c.part_of-common.result.w c.loop-j.j (length c.args.sums.now) (omega (arith, channels-positive c.kind.result))
+    let run = run_fits_in c.args.mine c.channels-channels.result c.part_of-common.result.x c.part_of-common.result.y c.part_of-common.result.w c.loop-j.j (length c.args.sums.now) (omega (arith, channels_some c.kind.result))
     (fits.columns (omega arith)) (omega (arith, fits.rows (omega arith))) (c.requires.mine ∙ ap (λ u. c.args.mine.w * c.args.mine.h * u) (sym ch)) (omega arith) (omega arith) in
     omega arith
 
@@ -40,7 +40,7 @@ pub slice_bounds-add_rows-end : goal.slice_bounds-add_rows-end
 slice_bounds-add_rows-end c =
     let fits = part_fits c.places_of-places.result c.args.mine c.part_of-common.result c.corner_of-left.result c.part_of-common.ensures.part c.corner_of-left.ensures in
     let ch : c.channels-channels.result ≡ c.args.tile.now.channels = c.channels-channels.ensures ∙ c.kind.ensures in
-    let run = run_fits_in c.args.mine c.channels-channels.result c.part_of-common.result.x c.part_of-common.result.y c.part_of-common.result.w c.loop-j.j (length c.args.sums.now) (omega (arith, channels-positive c.kind.result))
+    let run = run_fits_in c.args.mine c.channels-channels.result c.part_of-common.result.x c.part_of-common.result.y c.part_of-common.result.w c.loop-j.j (length c.args.sums.now) (omega (arith, channels_some c.kind.result))
     (fits.columns (omega arith)) (omega (arith, fits.rows (omega arith))) (c.requires.mine ∙ ap (λ u. c.args.mine.w * c.args.mine.h * u) (sym ch)) (omega arith) (omega arith) in
     omega (arith, c.loop-j.auto.sums)
 
@@ -53,16 +53,16 @@ loop-j-preserved c =
     let top = c.corner_of-left.result.1 in
     let to = (c.part_of-common.result.y + c.loop-j.j) * c.args.mine.w + c.part_of-common.result.x in
     let from = (top + c.loop-j.j) * places.w + left in
-    let others = part_sums c.args.region c.args.size c.args.part c.args.tile.now c.args.corner n places in
+    let others = part_sums c.args.share.region c.args.share.size c.args.share.part c.args.tile.now c.args.share.corner n places in
     let fits = part_fits places c.args.mine c.part_of-common.result c.corner_of-left.result c.part_of-common.ensures.part c.corner_of-left.ensures in
     let ch : n ≡ c.args.tile.now.channels = c.channels-channels.ensures ∙ c.kind.ensures in
-    let mine = run_fits_in c.args.mine n c.part_of-common.result.x c.part_of-common.result.y w c.loop-j.j (length c.args.sums.now) (omega (arith, channels-positive c.kind.result))
+    let mine = run_fits_in c.args.mine n c.part_of-common.result.x c.part_of-common.result.y w c.loop-j.j (length c.args.sums.now) (omega (arith, channels_some c.kind.result))
     (fits.columns (omega arith)) (omega (arith, fits.rows (omega arith))) (c.requires.mine ∙ ap (λ u. c.args.mine.w * c.args.mine.h * u) (sym ch)) (omega arith) (omega arith) in
     let long : to * n + w * n - to * n ≡ w * n = omega arith in
     let room : to * n + w * n ≤ length c.loop-j.sums = omega (arith, c.loop-j.auto.sums) in
     let kept : length c.add_rows.new.sums ≡ length (take (to * n + w * n - to * n) (drop (to * n) c.loop-j.sums)) = c.add_rows.auto.sums in
     let count : length c.add_rows.new.sums ≡ w * n = kept ∙ (simp (length-take, length-drop) (omega arith)) in
-    let added = run_added c.args.region c.args.size c.args.part places c.args.tile.now c.args.corner n c.args.tile.now.channels left top c.loop-j.j w from
+    let added = run_added c.args.share.region c.args.share.size c.args.share.part places c.args.tile.now c.args.share.corner n c.args.tile.now.channels left top c.loop-j.j w from
     (take (to * n + w * n - to * n) (drop (to * n) c.loop-j.sums)) c.add_rows.new.sums
     (fits.tile_columns (omega arith)) (omega (arith, fits.tile_rows (omega arith))) refl ch c.add_rows.ensures in
     subst (λ u. AddedTo n c.args.mine places c.part_of-common.result left top c.args.sums.now others (put_mid (to * n) u c.loop-j.sums c.add_rows.new.sums) (c.loop-j.j + 1)) (sym long)
@@ -74,7 +74,7 @@ loop-j-preserved c =
 pub returns-then-common-eq0 : goal.returns-then-common-eq0
 returns-then-common-eq0 c =
     let n = c.args.tile.now.channels in
-    let h = grid_of (places_of c.args.region c.args.size c.args.part) n (λ i j k. area_sum c.args.region c.args.size c.args.part (tile_sample c.args.tile.now c.args.corner c.args.part k) i j) in
+    let h = grid_of (places_of c.args.share.region c.args.share.size c.args.share.part) n (λ i j k. area_sum c.args.share.region c.args.share.size c.args.share.part (tile_sample c.args.tile.now c.args.share.corner c.args.share.part k) i j) in
     let e : c.part_of-common.result ≡ part_of h.rect c.args.mine = c.part_of-common.ensures.part ∙ ap (λ (r : Rect). part_of r c.args.mine) c.places_of-places.ensures.places in
     let none : (part_of h.rect c.args.mine).w ≡ 0 = ap (λ (r : Rect). r.w) (sym e) ∙ c.if-common-eq0.true in
     added_is (record { rect = c.args.mine; channels = n; sums = c.args.sums.now }) h c.args.sums.now
@@ -85,10 +85,10 @@ pub returns : goal.returns
 returns c =
     let p = c.args.tile.now in
     let mine = c.args.mine in
-    let region = c.args.region in
-    let size = c.args.size in
-    let part = c.args.part in
-    let corner = c.args.corner in
+    let region = c.args.share.region in
+    let size = c.args.share.size in
+    let part = c.args.share.part in
+    let corner = c.args.share.corner in
     let news = c.loop-j.sums in
     let olds = c.args.sums.now in
     let h = grid_of (places_of region size part) p.channels (λ i j k. area_sum region size part (tile_sample p corner part k) i j) in

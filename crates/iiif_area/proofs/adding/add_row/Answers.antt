@@ -11,8 +11,8 @@ use Rattle.iiif_area.proofs.adding.add_row.Goals.{then-loop-i-test+else-left-end
 pub loop-t-init : goal.loop-t-init
 loop-t-init c =
     let s = c.args.stretch in
-    let left : s.first * s.a ≡ (s.first + 0) * s.a = omega arith in
-    let begin : s.from * s.c ≡ (s.from + 0) * s.c = omega arith in
+    let left : s.first * s.columns.a ≡ (s.first + 0) * s.columns.a = omega arith in
+    let begin : s.columns.from * s.columns.c ≡ (s.columns.from + 0) * s.columns.c = omega arith in
     let small : (e : ℕ) → get_or c.args.sums.now e 0 < 2 ^ 64 = λ e. omega (arith, c.type_inv.sums e) in
     record {
       within = omega arith;
@@ -27,8 +27,8 @@ loop-i-preserved c =
     let s = c.args.stretch in
     let n = c.args.channels in
     let at = c.loop-i.i in
-    let columns : c.saturating_sub-columns.result ≡ weight_of (s.first + at) (s.from + c.loop-t.t) s.a s.c =
-    omega (arith, common_parts s.first at s.from c.loop-t.t s.a s.c c.loop-i.left c.loop-t.begin c.loop-i.invariant.left c.loop-t.invariant.begin) in
+    let columns : c.saturating_sub-columns.result ≡ weight_of (s.first + at) (s.columns.from + c.loop-t.t) s.columns.a s.columns.c =
+    omega (arith, common_parts s.first at s.columns.from c.loop-t.t s.columns.a s.columns.c c.loop-i.left c.loop-t.begin c.loop-i.invariant.left c.loop-t.invariant.begin) in
     record {
       from = omega arith;
       within = omega arith;
@@ -56,12 +56,12 @@ loop-t-preserved c = record {
   left = elim c.if-i-gt0.branch [
     | then-i-gt0+then-left-end-2 w ↦
         let one : c.loop-i.i ≡ c.if-i-gt0.i + 1 = omega arith in
-        let step : (c.args.stretch.first + c.loop-i.i) * c.args.stretch.a ≡ (c.args.stretch.first + (c.if-i-gt0.i + 1)) * c.args.stretch.a =
-        ap (λ u. (c.args.stretch.first + u) * c.args.stretch.a) one in
+        let step : (c.args.stretch.first + c.loop-i.i) * c.args.stretch.columns.a ≡ (c.args.stretch.first + (c.if-i-gt0.i + 1)) * c.args.stretch.columns.a =
+        ap (λ u. (c.args.stretch.first + u) * c.args.stretch.columns.a) one in
         omega arith
     | else-i-gt0 w ↦
-        let same : (c.args.stretch.first + c.loop-i.i) * c.args.stretch.a ≡ (c.args.stretch.first + c.if-i-gt0.i) * c.args.stretch.a =
-        ap (λ u. (c.args.stretch.first + u) * c.args.stretch.a) (let e : c.loop-i.i ≡ c.if-i-gt0.i = omega arith in e) in
+        let same : (c.args.stretch.first + c.loop-i.i) * c.args.stretch.columns.a ≡ (c.args.stretch.first + c.if-i-gt0.i) * c.args.stretch.columns.a =
+        ap (λ u. (c.args.stretch.first + u) * c.args.stretch.columns.a) (let e : c.loop-i.i ≡ c.if-i-gt0.i = omega arith in e) in
         omega arith
   ];
   begin = omega arith;
@@ -72,8 +72,8 @@ loop-t-preserved c = record {
             (λ (walked : c.loop-t.i < c.loop-i.i). let e = c.loop-i.invariant.back walked in omega arith)
             (λ (still : c.loop-i.i ≤ c.loop-t.i).
             let same : c.loop-i.i ≡ c.loop-t.i = omega (arith, c.loop-i.invariant.from) in
-            let at : (c.args.stretch.first + c.loop-i.i) * c.args.stretch.a ≡ (c.args.stretch.first + c.loop-t.i) * c.args.stretch.a =
-            ap (λ u. (c.args.stretch.first + u) * c.args.stretch.a) same in
+            let at : (c.args.stretch.first + c.loop-i.i) * c.args.stretch.columns.a ≡ (c.args.stretch.first + c.loop-t.i) * c.args.stretch.columns.a =
+            ap (λ u. (c.args.stretch.first + u) * c.args.stretch.columns.a) same in
             let e = c.loop-t.invariant.passed (omega arith) in
             omega arith)
             (cases_lt c.loop-t.i c.loop-i.i)
@@ -86,12 +86,12 @@ loop-t-preserved c = record {
       ⊎_elim
       (λ (before : i < c.loop-t.i).
       TakenOf-passed (c.loop-i.invariant.kept i k li lk (inl before))
-      (passed_parts s.first i c.loop-t.i s.from c.loop-t.t s.a s.c before (omega (arith, c.loop-t.invariant.passed (omega arith)))))
+      (passed_parts s.first i c.loop-t.i s.columns.from c.loop-t.t s.columns.a s.columns.c before (omega (arith, c.loop-t.invariant.passed (omega arith)))))
       (λ (from : c.loop-t.i ≤ i). ⊎_elim
       (λ (here : i < at). c.loop-i.invariant.taken i k from here lk)
       (λ (later : at ≤ i).
       TakenOf-passed (c.loop-i.invariant.kept i k li lk (inr later))
-      (later_parts s.first i at s.from c.loop-t.t s.a s.c later
+      (later_parts s.first i at s.columns.from c.loop-t.t s.columns.a s.columns.c later
       (elim c.loop-i-test.branch [ then-loop-i-test+else-left-end w ↦ omega arith | else-loop-i-test w ↦ omega arith ])))
       (cases_lt i at))
       (cases_lt i c.loop-t.i);

@@ -7,8 +7,8 @@ abbrev pub invariant-loop-s : goal.invariant-loop-s
 invariant-loop-s l = record {
   from : l.from ≤ l.s;
   to : l.s ≤ l.to;
-  total : (t k : ℕ) → t < l.w → k < l.tile.channels → get_or l.short (t * l.tile.channels + k) 0
-      ≡ sum_from l.from (l.s - l.from) (λ s. sample_at l.tile (l.corner.0 + t) (l.corner.1 + s) k);
+  total : (t k : ℕ) → t < l.held.w → k < l.tile.channels → get_or l.short (t * l.tile.channels + k) 0
+      ≡ sum_from l.from (l.s - l.from) (λ s. sample_at l.tile (l.held.x + t) (l.held.y + s) k);
   bound : (i : ℕ) → i < length l.short → get_or l.short i 0 ≤ (l.s - l.from) * 255;
 }
 
