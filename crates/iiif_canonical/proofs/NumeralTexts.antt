@@ -15,6 +15,7 @@ use Rattle.std.proofs.lemmas.Str.Parse.{digits_value_short}
 use Rattle.std.proofs.Math.ListN.{length-append}
 use Rattle.std.proofs.Math.Nat.{div-div-eq-div-mul, div-lt_iff_lt-mul}
 use Rattle.iiif_request.proofs.NumeralLemmas.{own}
+use Rattle.iiif_request.proofs.RequestLemmas.{whole_small}
 use Rattle.iiif_request.specs.Requests.{IsShort, IsSmallWhole, IsSmallDecimal}
 use Rattle.iiif_request.specs.Spells.{IsDigits, IsWhole, IsDecimal}
 use Rattle.iiif_request.specs.declared.request.Decimal.{Decimal}
@@ -108,11 +109,6 @@ unfolding decimal_text
 decimal_spelled d short small = decimal_by d _ short small refl
 
 -- what digits spell is small
-pub whole_small : (text : List ℕ) (n : ℕ) → IsWhole text n → IsSmallWhole n
-whole_small text n is =
-    let below : digits_value 10 text < 10 ^ 9 = digits_value_short own text 9 is.0.digits is.0.few in
-    rw (← is.1) below
-
 pub decimal_small : (text : List ℕ) (d : Decimal) → IsDecimal text d → IsShort d × IsSmallDecimal d
 decimal_small text d (inl is) =
     let P : ℕ → Type 0 = λ p. d.digits < 10 ^ (9 + p) in

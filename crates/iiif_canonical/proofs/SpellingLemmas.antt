@@ -7,6 +7,7 @@ use Rattle.iiif_pixel.specs.declared.geometry.Kind.{Kind}
 use Rattle.iiif_pixel.specs.declared.geometry.Rect.{Rect}
 use Rattle.iiif_pixel.specs.declared.geometry.Quality.{Quality}
 use Rattle.iiif_pixel.specs.declared.geometry.Quality.TheVariants.{Default, Color, Gray, Bitonal}
+use Rattle.iiif_request.proofs.RequestLemmas.{whole_small}
 use Rattle.iiif_request.specs.Requests.{IsShortRegion, IsShortForm, HasShortDecimals, IsSmallRegion, IsSmallForm, HasSmallNumbers}
 use Rattle.iiif_request.specs.Spells.{mark, SpellsRegion, SpellsForm, SpellsQuality, IsQuarters, Texts, SpellsRequest}
 use Rattle.iiif_request.specs.declared.request.Region.{Region}
@@ -20,7 +21,7 @@ use Rattle.iiif_canonical.specs.declared.resolved.Limits.{Limits}
 use Rattle.iiif_canonical.specs.declared.resolved.Resolved.{Resolved}
 use Rattle.iiif_canonical.specs.Texts.{decimal_text, region_text, form_text, rotation_text, quality_text, CanBeSpelled}
 use Rattle.iiif_canonical.proofs.CanonicalLemmas.{canonical_short}
-use Rattle.iiif_canonical.proofs.NumeralTexts.{whole_spelled, decimal_spelled, whole_small, decimal_small}
+use Rattle.iiif_canonical.proofs.NumeralTexts.{whole_spelled, decimal_spelled, decimal_small}
 
 -- what is known of a request that some words spell
 pub record IsSpellable (q : Request) : Type 0 where

@@ -10,14 +10,13 @@ use Rattle.std.proofs.lemmas.List.FromFn.{get_or-map-range_with_len, length-map-
 use Rattle.std.proofs.Math.Nat.{mul-le-mul_left, mul-le-mul_right}
 use Rattle.std.proofs.Math.Seq.{take-append_seam, take-append-add}
 use Rattle.iiif_io.specs.Sending.{WasCut}
+use Rattle.iiif_pixel.proofs.Channels.{channels_some}
 use Rattle.iiif_pixel.specs.Geometry.{channels_of}
 use Rattle.iiif_pixel.specs.Operations.{crop, turn, quality}
 use Rattle.iiif_pixel.specs.Picture.{Picture, IsWhole, dim_of}
 use Rattle.iiif_pixel.specs.Scaling.{scale, whole_of}
 use Rattle.iiif_pixel.specs.TurnPlaces.{turned_dim}
 use Rattle.iiif_pixel.specs.declared.geometry.Dim.{Dim}
-use Rattle.iiif_pixel.specs.declared.geometry.Kind.{Kind}
-use Rattle.iiif_pixel.specs.declared.geometry.Kind.TheVariants as kinds
 use Rattle.iiif_pixel.specs.declared.geometry.Rect.{Rect}
 use Rattle.iiif_canonical.specs.Images.{resolved_image}
 use Rattle.iiif_canonical.specs.declared.resolved.Resolved.{Resolved}
@@ -131,10 +130,6 @@ rows_short k w y h some above =
     omega (arith, more, sum, row_some k w some)
 
 -- ---- Counts
-
-channels_some : (k : Kind) → 0 < channels_of k
-channels_some kinds.Gray = omega arith
-channels_some kinds.Rgb = omega arith
 
 -- where something is held a band was made; where nothing is, none was
 pub counted_len : (j : Job) (kind : OutKind) (front rows : ℕ) (text : List ℕ) (sent held y all : ℕ) → HasCounted j kind front rows text sent held y → 0 < held →

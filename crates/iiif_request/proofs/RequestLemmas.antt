@@ -97,7 +97,7 @@ once w q r a b =
     ∙ ap (λ (x : Quality). record { region = r.region; size = r.size; rotation = r.rotation; quality = x }) quality
 
 -- numbers that are spelled
-whole_small : (text : List ℕ) (n : ℕ) → IsWhole text n → n < 10 ^ 9
+pub whole_small : (text : List ℕ) (n : ℕ) → IsWhole text n → n < 10 ^ 9
 whole_small text n s = let P : ℕ → Type 0 = λ m. m < 10 ^ 9 in subst P s.1 (digits_value_short own text 9 s.0.digits s.0.few)
 
 decimal_short : (text : List ℕ) (d : Decimal) → IsDecimal text d → d.places ≤ 10
