@@ -4,7 +4,8 @@ use Rattle.std.specs.Io.KnownBytes.{Appends}
 use Rattle.std.specs.Prelude.{IfOk, IfErr}
 use Rattle.iiif_answers.specs.declared.message.Message.{Message}
 use Rattle.iiif_source.specs.declared.ReadFault.{ReadFault}
-use Rattle.iiif_answers.specs.Sent.{answer_of, text_of, Answer, EndsWith, IsSent, IsStrictPrefix}
+use Rattle.iiif_answers.specs.Sent.{answer_of, text_of, Answer, EndsWith, IsSent}
+use Rattle.iiif_io.specs.Sending.{IsStrictPrefix}
 use Rattle.iiif_answers.specs.Answers.{Reply, given, Replies, no_path, no_item, of_base, of_information, no_request, no_image, of_image}
 use Rattle.iiif_answers.specs.Calls.{RepliesToCall, is_answered, no_method, of_target}
 use Rattle.iiif_images.specs.Collection.{Item}

@@ -13,7 +13,8 @@ use Rattle.iiif_answers.specs.Answers as answers
 use Rattle.iiif_answers.specs.Answers.{Reply, Given, given}
 use Rattle.iiif_images.specs.Collection.{Item}
 use Rattle.iiif_answers.specs.Responses.{Response, refusal_response, redirect_response, information_response, image_response, response_of, source_fault, want_of_memory, written, is_loaded}
-use Rattle.iiif_answers.specs.Sent.{text_of, IsStrictPrefix}
+use Rattle.iiif_answers.specs.Sent.{text_of}
+use Rattle.iiif_io.specs.Sending.{IsStrictPrefix}
 use Rattle.iiif_answers.specs.Settings.{Settings, limits_of}
 use Rattle.iiif_answers.specs.declared.answer.Sent.{Sent}
 use Rattle.iiif_answers.specs.declared.answer.Cut.{Cut}

@@ -1,6 +1,7 @@
 -- What one answer leaves in a writer.
-use Rattle.std.specs.Prelude.{◌≡◌, ℕ, ◌<◌, List, ◌++◌, length, take, Option, Result, Ok, Err}
+use Rattle.std.specs.Prelude.{◌≡◌, ℕ, List, ◌++◌, length, Option, Result, Ok, Err}
 use Rattle.std.specs.Io.KnownBytes.{Appends}
+use Rattle.iiif_io.specs.Sending.{IsStrictPrefix}
 use Rattle.iiif_answers.specs.declared.answer.Sent.{Sent}
 use Rattle.iiif_answers.specs.declared.answer.Cut.{Cut}
 use Rattle.iiif_answers.specs.declared.answer.Cause.TheVariants.{Writer}
@@ -18,10 +19,6 @@ answer_of m = record { status = m.status; head = m.head.items; body = m.body.ite
 
 abbrev pub text_of : Answer → List ℕ
 text_of a = a.head ++ a.body
-
--- a first part of a text, and not all of it
-abbrev pub IsStrictPrefix : List ℕ → List ℕ → Type 0
-IsStrictPrefix part text = (n : ℕ) × (n < length text) × (part ≡ take n text)
 
 -- The text of an answer that is no image that was loaded was sent with that result: the whole answer, or a strict prefix before the writer failed.
 abbrev pub EndsWith : Type 0 → Answer → List ℕ → Result Sent Cut → Type 0

@@ -10,7 +10,8 @@ use Rattle.iiif_answers.specs.Allowed.{Allowed}
 use Rattle.iiif_answers.specs.Calls.{RepliesToCall, part_of}
 use Rattle.iiif_images.specs.Collection.{Item}
 use Rattle.iiif_answers.specs.Responses.{Response, refusal_response, want_of_memory, written}
-use Rattle.iiif_answers.specs.Sent.{text_of, IsStrictPrefix}
+use Rattle.iiif_answers.specs.Sent.{text_of}
+use Rattle.iiif_io.specs.Sending.{IsStrictPrefix}
 use Rattle.iiif_answers.specs.Settings.{Settings}
 use Rattle.iiif_answers.specs.declared.answer.Sent.{Sent}
 use Rattle.iiif_answers.specs.declared.answer.Cut as cut

@@ -2,6 +2,10 @@
 use Rattle.std.specs.Prelude.{◌≡◌, ℕ, ◌+◌, ◌<◌, ◌≤◌, List, length, take, Option, Some}
 use Rattle.std.specs.Io.KnownBytes.{Appends}
 
+-- a first part of a text, and not all of it
+abbrev pub IsStrictPrefix : List ℕ → List ℕ → Type 0
+IsStrictPrefix part text = (n : ℕ) × (n < length text) × (part ≡ take n text)
+
 -- a strict prefix of the text, of that length, was written, and the writer failed at the next byte: the failing write began
 -- where that prefix stood there
 pub record WasCut {W : Type 0} (contents : W → Option (List ℕ)) (fails : W → W → Type 0) (old new : W) (text : List ℕ) (sent : ℕ) : Type 0 where

@@ -5,6 +5,7 @@
 ghost use Rattle.std.specs.Prelude.{◌≡◌, ◌+◌, ◌-◌, ◌^◌, ℕ, ◌<◌, ◌≤◌, min, List, [], length, take, drop, ◌++◌, vec_len, vec_capacity, None, Some, Ok, IfOk, OnErr};
 ghost use Rattle.std.specs.Io.{ReadsAtMost, WritesAtMost};
 ghost use Rattle.std.specs.Io.KnownBytes.{ReadConsumes, WriteAppends};
+ghost use Rattle.iiif_io.specs.Counting.{capped};
 ghost use Rattle.iiif_io.specs.Sending.{IsFull, TakesWhatFits};
 
 use crate::{Inlet, Outlet};
@@ -41,7 +42,7 @@ impl Write for CountingSink {
         ensures bound { WritesAtMost result bytes.now }
         ensures bytes { WriteAppends None None result bytes.now }
         ensures whole { result ≡ Ok (length bytes.now) }
-        ensures written { self.new.written ≡ min (self.old.written + length bytes.now) (2 ^ 64 - 1) }
+        ensures written { self.new.written ≡ capped (self.old.written + length bytes.now) }
     {
         self.written = self.written.saturating_add(bytes.len() as u64);
         Ok(bytes.len())
@@ -61,7 +62,7 @@ impl Outlet for CountingSink {
         ensures err { OnErr result ⊥ }
         ensures none { IfOk result (λ n. n ≡ 0 → 0 < length bytes.now → ⊥) }
         ensures whole { result ≡ Ok (length bytes.now) }
-        ensures written { self.new.written ≡ min (self.old.written + length bytes.now) (2 ^ 64 - 1) }
+        ensures written { self.new.written ≡ capped (self.old.written + length bytes.now) }
     {
         self.write(bytes)
     }

@@ -6,7 +6,8 @@ use Rattle.std.proofs.lemmas.List.{append-nil}
 use Rattle.std.proofs.lemmas.List.Sums.{sum_by_push}
 use Rattle.iiif_log.specs.Laws.{Keeps, CountsAddUp}
 use Rattle.iiif_log.specs.Laws.Keeps.{none, kept, gone, said}
-use Rattle.iiif_log.specs.Waiting.{Told, Waiting, line, capped, lost_behind, next_of, left_of, lines_in, put_behind}
+use Rattle.iiif_io.specs.Counting.{capped}
+use Rattle.iiif_log.specs.Waiting.{Told, Waiting, line, lost_behind, next_of, left_of, lines_in, put_behind}
 
 -- a count that is not the greatest goes up
 capped_is : (n : ℕ) → n < 2 ^ 64 → capped n ≡ n

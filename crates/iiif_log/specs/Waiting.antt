@@ -1,5 +1,6 @@
 -- Lines that wait to be written, and what of them is lost.
-use Rattle.std.specs.Prelude.{ℕ, zero, suc, ◌==◌, ◌+◌, ◌^◌, ◌-◌, min, Bool, true, false, nat_lt, List, [], ◌∷◌, ◌++◌, length, if◌then◌else◌}
+use Rattle.std.specs.Prelude.{ℕ, zero, suc, ◌==◌, ◌+◌, Bool, true, false, nat_lt, List, [], ◌∷◌, ◌++◌, length, if◌then◌else◌}
+use Rattle.iiif_io.specs.Counting.{capped}
 use Rattle.iiif_log.specs.declared.queue.Line.{Line}
 use Rattle.iiif_log.specs.declared.queue.Taken.{Taken}
 use Rattle.iiif_log.specs.declared.queue.Taken.TheVariants as taken
@@ -30,10 +31,6 @@ most = 1024
 
 abbrev pub none_waits : Waiting
 none_waits = record { lines = []; lost = 0; is_open = true }
-
--- a count that stops at the greatest that 64 bits hold
-abbrev pub capped : ℕ → ℕ
-capped n = min n (2 ^ 64 - 1)
 
 -- one more is lost
 abbrev pub lost_behind : Waiting → Waiting

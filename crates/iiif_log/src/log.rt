@@ -4,7 +4,8 @@ ghost use Rattle.std.specs.Prelude.{◌≡◌, ◌+◌, ◌⊎◌, ◌++◌, ℕ
 ghost use Rattle.std.specs.Io.KnownBytes.{Appends};
 ghost use Rattle.iiif_io.specs.Sending.{WasCut};
 ghost use Rattle.iiif_log.specs.Lines.{lost_text};
-ghost use Rattle.iiif_log.specs.Waiting.{capped, line_view, lines_in};
+ghost use Rattle.iiif_io.specs.Counting.{capped};
+ghost use Rattle.iiif_log.specs.Waiting.{line_view, lines_in};
 
 use crate::answered::Answered;
 use crate::line::{line_bytes, lost_line_bytes};

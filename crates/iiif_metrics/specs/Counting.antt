@@ -1,10 +1,7 @@
 -- What is counted of answers and connections.
-use Rattle.std.specs.Prelude.{ℕ, ◌+◌, ◌-◌, ◌^◌, ◌==◌, min, [], ◌∷◌, if◌then◌else◌, slice_index, slice_set}
+use Rattle.std.specs.Prelude.{ℕ, ◌+◌, ◌==◌, [], ◌∷◌, if◌then◌else◌, slice_index, slice_set}
+use Rattle.iiif_io.specs.Counting.{capped}
 use Rattle.iiif_metrics.specs.declared.counts.Counts.{Counts}
-
--- a count that stops at the greatest that 64 bits hold
-abbrev pub capped : ℕ → ℕ
-capped n = min n (2 ^ 64 - 1)
 
 -- the place of a status (RFC 9110, section 15) among the counts: those that the server gives, and last all others
 abbrev pub place_of : ℕ → ℕ

@@ -1,7 +1,8 @@
 //! What is counted of answers and connections.
 
 ghost use Rattle.std.specs.Prelude.{◌≡◌, ◌+◌, ◌-◌};
-ghost use Rattle.iiif_metrics.specs.Counting.{capped, no_counts, place_of, with_answer, with_cut};
+ghost use Rattle.iiif_io.specs.Counting.{capped};
+ghost use Rattle.iiif_metrics.specs.Counting.{no_counts, place_of, with_answer, with_cut};
 
 use std::sync::{Mutex, Wait};
 

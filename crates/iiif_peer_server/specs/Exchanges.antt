@@ -1,5 +1,6 @@
 -- A connection of another node: what is replied to what was asked, and why it ends.
-use Rattle.std.specs.Prelude.{◌≡◌, ℕ, ◌+◌, ◌<◌, List, [], ◌++◌, length, take, Err}
+use Rattle.std.specs.Prelude.{◌≡◌, ℕ, ◌+◌, ◌<◌, List, [], ◌++◌, Err}
+use Rattle.iiif_io.specs.Sending.{IsStrictPrefix}
 use Rattle.iiif_peer_wire.specs.Faults.{IsRefusal}
 use Rattle.iiif_peer_wire.specs.Messages.{ask_text, reply_text, IsAsk, IsReply, IsFrontOfAsk}
 use Rattle.iiif_peer_wire.specs.Reading.{ask_at, IsUnfinishedAsk}
@@ -13,10 +14,6 @@ ask_limit = 1000
 -- what may be replied to an ask: of its version, its group and its key, a status and a value
 abbrev pub Answering : Type 1
 Answering = Version → ℕ → List ℕ → ℕ → List ℕ → Type 0
-
--- a strict prefix
-abbrev pub IsStrictPrefix : List ℕ → List ℕ → Type 0
-IsStrictPrefix text whole = (n : ℕ) × (n < length whole) × (text ≡ take n whole)
 
 -- a reply of the ask's key that may be given to it
 pub record MayReply (answers : Answering) (version : Version) (group : ℕ) (key : List ℕ) (status : ℕ) (value : List ℕ) : Type 0 where

@@ -6,7 +6,7 @@ use Rattle.std.proofs.KnownBytes.{Appends-trans}
 use Rattle.std.proofs.lemmas.List.{length-take-le}
 use Rattle.std.proofs.lemmas.Bool.{false≢true}
 use Rattle.std.proofs.lemmas.Result.{IfOk-weaker}
-use Rattle.iiif_io.specs.Sending.{WasCut}
+use Rattle.iiif_io.specs.Sending.{WasCut, IsStrictPrefix}
 use Rattle.iiif_source.specs.declared.ReadFault.{ReadFault}
 use Rattle.iiif_pixel.specs.Geometry.{channels_of, top_of}
 use Rattle.iiif_pixel.specs.Picture.{Picture, dim_of}
@@ -44,7 +44,7 @@ use Rattle.iiif_answers.specs.declared.message.Message.{Message}
 use Rattle.iiif_answers.specs.Kinds.{depth_of, kind_of}
 use Rattle.iiif_answers.specs.Outcomes.{given_of, IsReady}
 use Rattle.iiif_answers.specs.Responses.{body_in, image_response, is_loaded, response_of, source_fault, want_of_memory, written}
-use Rattle.iiif_answers.specs.Sent.{answer_of, text_of, IsSent, IsStrictPrefix}
+use Rattle.iiif_answers.specs.Sent.{answer_of, text_of, IsSent}
 use Rattle.iiif_answers.specs.Settings.{Settings}
 use Rattle.iiif_answers.specs.declared.accepted.Accepted.{Accepted}
 use Rattle.iiif_answers.specs.declared.answer.Sent.{Sent}
