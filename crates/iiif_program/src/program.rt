@@ -1,6 +1,6 @@
 //! The program's work: what its words ask for, done.
 
-ghost use Rattle.std.specs.Prelude.{◌≡◌, ◌≤◌, ℕ, List, Some, None, false};
+ghost use Rattle.std.specs.Prelude.{◌≡◌, ◌≤◌, ℕ, List, Some, None, false, true};
 ghost use Rattle.iiif_source.specs.declared.ReadFault.{ReadFault};
 ghost use Rattle.iiif_images.specs.Collection.{Item, item_named};
 ghost use Rattle.iiif_images.specs.Named.{gave_of, pictures_of};
@@ -178,6 +178,7 @@ where
     requires stable { (name : List ℕ) (item : Item Stored) → item_named catalogue name ≡ Some item → J.stable name → ∥ keeps_of item.source ∥₁ }
     requires kept { (name : List ℕ) (item : Item Stored) → item_named catalogue name ≡ Some item → keeps_of item.source → J.stable name }
     requires edge { config.edge ≡ J.edge }
+    requires honest { J.honest ≡ true }
     requires tiles { (tiles.name ≡ J.tiles_name) × (tiles.parts ≡ J.tiles_parts) × (J.tiles_parts ≡ 65537) }
     requires sums { (sums.name ≡ J.sums_name) × (sums.parts ≡ J.sums_parts) × (J.sums_parts ≡ 65537) }
 {

@@ -302,7 +302,7 @@ impl<
         }
     }
 
-    /// Sends that part of the answer to an accepted request: for a head nothing is loaded.
+    /// Sends that part of the answer to an accepted request: for a head the passes stay as they are.
     fn send_accepted<W: Outlet>(
         &self,
         rt: &R,
@@ -381,8 +381,8 @@ impl<
         self.answer(rt, alloc, passes, Part::Body, target, out)
     }
 
-    /// Answers a call: to GET with head and body, to HEAD with the same head alone, for which nothing is loaded. Where no image is
-    /// loaded, the passes stay as they are.
+    /// Answers a call: to GET with head and body, to HEAD with the same head alone. Where no image is loaded, as for HEAD, the passes
+    /// stay as they are.
     pub fn serve_one<W: Outlet>(
         &self,
         rt: &R,
