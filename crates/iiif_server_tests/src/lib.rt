@@ -1,7 +1,7 @@
 //! Tests of `iiif_server`, which call only what is public: answers of a node, calls and connections; images made of tiles and blocks
 //! beside those of whole regions, and results above their regions; whole answers beside a plain evaluation of the definitions on whole
 //! pictures, whatever the bands, the workers and the caches; workers that load at the same time; and bands that fail;
-//! jobs that wait for others.
+//! jobs that wait for others; the laws of answers at memory.
 #![tactic(auto)]
 
 #[cfg(test)]
@@ -24,6 +24,8 @@ mod every;
 mod file_tests;
 #[cfg(test)]
 mod files;
+#[cfg(test)]
+mod law_tests;
 #[cfg(test)]
 mod meeting;
 #[cfg(test)]

@@ -38,8 +38,8 @@ fn scaled(alloc: Global, region: &Raster, size: Dim) -> Result<Raster, NoMemory>
     ensures { IfOk result (λ r. r ≡ scale region.now size) }
 {
     let sides = region.dim();
+    // What is known of each raster, and laws of pictures.
     region.is_whole();
-    // Laws of pictures.
     bands_follow();
     whole_stays_whole();
     let sums = Sums::of_tile(alloc, region, whole(sides), whole(sides), size)?;

@@ -1,0 +1,20 @@
+//! The laws of answers, at devices of memory.
+
+use iiif_answers::laws::{
+    allowed_is_framed, calls_are_not_passed_over, fields_are_plain, heads_read_back,
+    whole_over_honest_devices,
+};
+use iiif_io::{CountingSink, FixedBuffer};
+use iiif_source::MemSource;
+use std::marker::Brand;
+
+/// What holds of answers at any devices holds where the bytes of images stand in memory, the reader never fails, and the writer never
+/// fails or where its room is full.
+#[test]
+fn laws_of_answers_stand_at_memory() {
+    calls_are_not_passed_over::<(), MemSource, Brand, &'static [u8], CountingSink>();
+    allowed_is_framed::<(), MemSource, Brand, CountingSink>();
+    fields_are_plain::<(), MemSource>();
+    heads_read_back::<(), MemSource>();
+    whole_over_honest_devices::<(), MemSource, Brand, FixedBuffer<64>>();
+}
