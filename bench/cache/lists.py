@@ -1,6 +1,6 @@
 """The cache in bytes beside an evaluation of its definition in Python, on lists of calls by chance.
 
-    bench/build cache
+    tools/build cache
     /usr/bin/python3 bench/cache/lists.py /tmp/lifthorg-bench/crates/cache_bench/out/cache_bench [COUNT] [SEED]
 
 Both draw the same calls from one seed. Each answer, the bytes, the count, and both lists are compared after each call. The status is 1

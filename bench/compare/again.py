@@ -15,7 +15,7 @@ import time
 
 import compare
 
-sys.path.insert(0, os.path.join(os.path.dirname(os.path.abspath(__file__)), "..", "hostile"))
+sys.path.insert(0, os.path.join(os.path.dirname(os.path.abspath(__file__)), "..", "..", "tests", "hostile"))
 import program as running  # noqa: E402
 
 # What the second answer may take of the first.

@@ -2,7 +2,7 @@
 
     /usr/bin/python3 bench/compare/figures.py --before /work/before [--rounds 7] [--jobs ..] > figures.md
 
-The benchmarks are built first, by `bench/build` (--benches tells where), and iiif_serve by `rt run`. --before is the top of another checkout
+The benchmarks are built first, by `tools/build` (--benches tells where), and iiif_serve by `rt run`. --before is the top of another checkout
 with the programs of both in crates/NAME/out; a benchmark that isn't built before has no column of it. The plain programs are built by `rustc
 -O` first. Then every benchmark is run in turn, --rounds times: this build, the build before, plain Rust, and the two that there are with
 samples of 16 bits; the medians are printed. At last come the whole answers of compare.py. The processor should have nothing else to do.
@@ -136,7 +136,7 @@ def table(title, bench, medians):
 def main():
     parser = argparse.ArgumentParser(description=__doc__, formatter_class=argparse.RawDescriptionHelpFormatter)
     parser.add_argument("--before", help="the top of another checkout, whose programs are built")
-    parser.add_argument("--benches", default="/tmp/lifthorg-bench", help="where bench/build built them")
+    parser.add_argument("--benches", default="/tmp/lifthorg-bench", help="where tools/build built them")
     parser.add_argument("--rounds", type=int, default=7)
     parser.add_argument("--only", default="", help="only benchmarks whose title has this pattern; whole answers are 'Whole answers'")
     parser.add_argument("--jobs", default="", help="only jobs of whole answers whose name has this pattern")

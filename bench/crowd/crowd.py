@@ -25,7 +25,7 @@ percentile of those times. What a viewer does between an answer and its next req
 takes as long as a tenth of the answer, of IIPImage's JPEG nearly nothing. With --nodes, the crowd's viewers go to so many nodes that ask each other, one after another.
 
 In a run before these the answers are kept: those of the program have to be equal, byte for byte, to heads and exact averages worked out by
-bench/hostile and bench/compare from the formula; of the others it is looked whether each is an image of the right sides. In every run equal
+tests/hostile and bench/compare from the formula; of the others it is looked whether each is an image of the right sides. In every run equal
 requests have to be answered by equal bytes. The status is 1 where one of these isn't so, and with --strict where a limit of LIMITS is passed.
 """
 import argparse
@@ -42,7 +42,7 @@ import servers
 from PIL import Image as Pillow
 
 HERE = os.path.dirname(os.path.abspath(__file__))
-for folder in ("compare", "scale", "hostile"):
+for folder in ("compare", "scale", "../tests/hostile"):
     sys.path.insert(0, os.path.join(HERE, "..", folder))
 import compare  # noqa: E402
 import images  # noqa: E402

@@ -6,7 +6,7 @@ import subprocess
 import sys
 import time
 
-for folder in ("hostile", "compare"):
+for folder in ("../tests/hostile", "compare"):
     sys.path.insert(0, os.path.join(os.path.dirname(os.path.abspath(__file__)), "..", folder))
 import program as running  # noqa: E402
 from warming import touch  # noqa: E402

@@ -1,5 +1,5 @@
 //! Information and plans that are asked for again once a growth of memory was refused: the answer is want of memory, and the second call
-//! gives the case's own answer. `bench/refused` runs each test with the first growth refused, with the second, and so on; with ample
+//! gives the case's own answer. `tests/refused` runs each test with the first growth refused, with the second, and so on; with ample
 //! memory each call answers at once.
 
 use crate::pictures::{ROOM, UPRIGHT};

@@ -1,5 +1,5 @@
 //! Messages that are read again once a growth of memory was refused: the answer is want of memory, and on a connection that is made anew
-//! the second call gives the case's own answer. `bench/refused` runs each test with the first growth refused, with the second, and so
+//! the second call gives the case's own answer. `tests/refused` runs each test with the first growth refused, with the second, and so
 //! on; with ample memory each call answers at once.
 
 use crate::message_tests::{ASK, KEY, Message, REPLIED, REPLY, Want, is_heard, is_refused, sevens};

@@ -1,6 +1,6 @@
 """Viewers for some minutes over a file larger than the caches, beside clients that stop reading, drip, and vanish.
 
-    /usr/bin/python3 bench/soak/soak.py --program crates/iiif_serve/out/iiif_serve --viewers 64 --seconds 600
+    /usr/bin/python3 tests/soak/soak.py --program crates/iiif_serve/out/iiif_serve --viewers 64 --seconds 600
 
 First the caches are filled: eight viewers ask for twice as many tiles, and for twice as many overviews, as they hold. Then the --seconds
 begin. Each whole answer of an honest viewer is compared by SHA-256 with one that `pictures` works out without the program. Where the program

@@ -1,6 +1,6 @@
 """Whether the lists by chance would show a wrong rule: one rule at a time of the evaluation is turned, and its lists are replayed.
 
-    /usr/bin/python3 bench/machine/mutants.py crates/iiif_replay/out/iiif_replay [--count N] [--jobs N]
+    /usr/bin/python3 tests/machine/mutants.py crates/iiif_replay/out/iiif_replay [--count N] [--jobs N]
 
 Each turned rule has to be reported: by a line that differs in one of N lists (seed 1, all rows after every event), the long ones
 too. Prints for each in which lists it was. The status is 1 where one isn't, or where the turned evaluation can't go on.

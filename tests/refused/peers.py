@@ -19,7 +19,7 @@ import threading
 import starts
 from streams import HERE, MOST, STREAMS, Node, count, files, images, running, tiff
 
-sys.path.insert(0, os.path.join(HERE, "..", "scale"))
+sys.path.insert(0, os.path.join(HERE, "..", "..", "bench", "scale"))
 import wire  # noqa: E402
 from model import TILE, Image, Rect, Request, Ring  # noqa: E402
 

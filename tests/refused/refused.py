@@ -1,7 +1,7 @@
 """Each growth of memory refused in turn, to the built program and to built tests.
 
-    /usr/bin/python3 bench/refused/refused.py --program crates/iiif_serve/out/iiif_serve
-    /usr/bin/python3 bench/refused/refused.py --tests crates/*/out/*_tests
+    /usr/bin/python3 tests/refused/refused.py --program crates/iiif_serve/out/iiif_serve
+    /usr/bin/python3 tests/refused/refused.py --tests crates/*/out/*_tests
 
 Needs `cc`. `refuse.c` is built and loaded in front of the C library; it refuses the first, the second and so on of the growths that
 the program's own code asks for, until a run meets none.

@@ -1,6 +1,6 @@
 """The running program beside an independent evaluation, on hostile input by chance.
 
-    /usr/bin/python3 bench/hostile/hostile.py --program crates/iiif_serve/out/iiif_serve --files 100000 --targets 100000 --inputs 20000 --messages 20000
+    /usr/bin/python3 tests/hostile/hostile.py --program crates/iiif_serve/out/iiif_serve --files 100000 --targets 100000 --inputs 20000 --messages 20000
 
 Four parts, each with its count (0 leaves it out): TIFF files with changed, cut and extreme bytes, each opened and, where the standard
 accepts it, asked for an image; targets, valid ones, nearly valid ones and garbage, over connections that stay; inputs of connections,

@@ -1,6 +1,6 @@
 """What a text of lists comes to, by the evaluation of the definitions in Python: writes what `iiif_replay` has to write for it.
 
-    /usr/bin/python3 bench/machine/text.py < crates/iiif_replay/stdin
+    /usr/bin/python3 tests/machine/text.py < crates/iiif_replay/stdin
 
 The words of each line are those of docs/MACHINE.md, Replaying a list. A line that is no setting and no event ends it with status 2.
 """

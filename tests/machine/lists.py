@@ -1,6 +1,6 @@
 """Lists of events by chance, replayed by the built program and by an evaluation of the definitions in Python.
 
-    /usr/bin/python3 bench/machine/lists.py crates/iiif_replay/out/iiif_replay [--count N] [--seed N] [--each N] [--jobs N]
+    /usr/bin/python3 tests/machine/lists.py crates/iiif_replay/out/iiif_replay [--count N] [--seed N] [--each N] [--jobs N]
 
 The outcome of each event, the answers, and at the end all rows of each world are compared; of each EACHth list all rows after each
 event too. Of twenty lists one is long: its nodes ask one another again and again, so that tenth values of a peer are kept, and leaders
