@@ -1,0 +1,253 @@
+"""What the tools read of this tree: crates and their sections, functions with their contracts, definitions of specs/."""
+import functools
+import re
+import subprocess
+from dataclasses import dataclass, field
+from pathlib import Path
+
+TOP = Path(__file__).resolve().parents[1]
+# Crates of tests that aren't named so.
+TESTS = ("iiif_sample_keys", "iiif_program_cases")
+
+
+def is_test(crate):
+    return crate.endswith("_tests") or crate in TESTS
+
+
+@functools.cache
+def sections():
+    """The crates of each section of crates.txt, in its order: a section begins with a line `# == NAME`."""
+    found, here = {}, "Crates"
+    for line in (TOP / "crates.txt").read_text().splitlines():
+        if line.startswith("# == "):
+            here = line[5:].strip()
+        elif line and not line.startswith("#"):
+            found.setdefault(here, []).append(line.split(":")[0].split()[0])
+    return found
+
+
+@functools.cache
+def crates():
+    """Each crate and the libraries that its line names, the crates of this tree and others."""
+    lines = [line for line in (TOP / "crates.txt").read_text().splitlines() if line and not line.startswith("#")]
+    return {line.split(":")[0].split()[0]: line.split(":")[1].split() for line in lines}
+
+
+@functools.cache
+def tracked():
+    """The files of the tree: those of the last commit and new ones that git doesn't ignore."""
+    names = subprocess.run(["git", "ls-files", "-co", "--exclude-standard", "-z"], cwd=TOP, capture_output=True, check=True).stdout.decode().split("\0")
+    return sorted(name for name in names if name and (TOP / name).exists())
+
+
+def below(crate):
+    """The crate and all of this tree that it stands on."""
+    found = [crate]
+    for it in found:
+        found += [low for low in crates()[it] if low in crates() and low not in found]
+    return found
+
+
+def sentence(lines):
+    """The first sentence of a comment's lines."""
+    text = re.sub(r"\s+", " ", " ".join(lines)).strip()
+    found = re.match(r"(.*?[.:?!])(?= [A-Z(`]|$)", text)
+    return found[1] if found else text
+
+
+def head(path):
+    """The first sentence of a file's own comment (`//!` or `--`)."""
+    lines = []
+    for line in path.read_text().splitlines():
+        if not line.startswith(("//! ", "-- ")):
+            break
+        lines.append(line[3:].strip())
+    return sentence(lines)
+
+
+@dataclass
+class Clause:
+    label: str  # "" where it is the only one
+    text: str
+    words: str  # the comment above it
+
+
+@dataclass
+class Function:
+    crate: str
+    path: str  # the name as it is called, such as iiif_ring::Ring::owner
+    file: str
+    words: str
+    public: bool
+    clauses: list = field(default_factory=list)
+
+    @property
+    def name(self):
+        return self.path.rsplit("::", 1)[1]
+
+
+def without_generics(text):
+    """The text without what stands in balanced angle brackets."""
+    out, depth, last = [], 0, ""
+    for it in text:
+        if it == "<":
+            depth += 1
+        elif it == ">" and last != "-":
+            depth -= 1
+        elif depth == 0:
+            out.append(it)
+        last = it
+    return "".join(out)
+
+
+def owner_of(header):
+    """The type that an `impl` or a `trait` is of."""
+    text = without_generics(re.sub(r"\s+", " ", header).replace("impl", "impl ", 1))
+    text = text.split(" where ")[0].split("{")[0]
+    if " for " in text:
+        text = text.split(" for ", 1)[1]
+    text = re.sub(r"^(pub(\([^)]*\))? )?(impl|trait)\b", "", text.strip()).split(":")[0]
+    words = re.findall(r"[A-Za-z_]\w*", text)
+    return words[0] if words else ""
+
+
+def modules(crate):
+    """The modules that are public, and the names that the crate hands on, each with how it is called: from lib.rt, as deep as it goes."""
+    source = TOP / "crates" / crate / "src"
+    public, handed = {""}, {}
+    lib = source / "lib.rt"
+    if not lib.exists():
+        return public, handed
+    text = lib.read_text()
+    public |= set(re.findall(r"^pub mod (\w+);", text, re.M))
+    for path, names in re.findall(r"^pub use (?:crate::)?([\w:]+)::\{([^}]*)\};", text, re.M):
+        handed |= {name.split(" as ")[0].strip(): f"{crate}::{name.split(' as ')[-1].strip()}" for name in names.split(",") if name.strip()}
+    for path, name in re.findall(r"^pub use (?:crate::)?([\w:]+)::(\w+);", text, re.M):
+        handed[name] = f"{crate}::{name}"
+    return public, handed
+
+
+FUNCTION = re.compile(r"^(\s*)(pub(?:\([^)]*\))? )?(?:const )?(?:unsafe )?fn (\w+)")
+CLAUSE = re.compile(r"^\s*(ensures|requires)\*?\s*(\w*)\s*\{")
+
+
+def balanced(lines, at, column):
+    """What stands from the brace at that place to the one that closes it; and the line where it ends."""
+    depth, text = 0, []
+    while at < len(lines):
+        for n, it in enumerate(lines[at][column:]):
+            if it == "{":
+                depth += 1
+            elif it == "}":
+                depth -= 1
+                if depth == 0:
+                    return "".join(text)[1:].strip(), at, lines[at][column + n + 1:]
+            text.append(it)
+        text.append(" ")
+        at, column = at + 1, 0
+    return "".join(text), at, ""
+
+
+def functions_in(crate, file, module):
+    """The functions of a file, each with its contract."""
+    lines = file.read_text().splitlines()
+    public_modules, handed = modules(crate)
+    found, docs, owner, is_trait, at = [], [], "", False, 0
+    while at < len(lines):
+        line = lines[at]
+        text = line.strip()
+        if text.startswith("///"):
+            docs.append(text[3:].strip())
+        elif re.match(r"(pub(\([^)]*\))? )?(impl|trait)\b", line):
+            end = at
+            while "{" not in lines[end] and not lines[end].endswith(";"):
+                end += 1
+            owner = owner_of(" ".join(lines[at:end + 1]))
+            is_trait, docs, at = bool(re.match(r"(pub(\([^)]*\))? )?trait\b", line)) and line.startswith("pub"), [], end
+            if lines[end].rstrip().endswith("}"):
+                owner = ""
+        elif line == "}":
+            owner, is_trait, docs = "", False, []
+        elif FUNCTION.match(line):
+            indent, visible, name = FUNCTION.match(line).groups()
+            public = visible == "pub " or (is_trait and bool(indent))
+            if owner and indent:
+                path = f"{handed.get(owner, f'{crate}::{owner}')}::{name}"
+            elif name in handed:
+                path = handed[name]
+            else:
+                path = f"{crate}::{module}::{name}" if module else f"{crate}::{name}"
+                public = public and (module.split("::")[0] if module else "") in public_modules
+            clauses, comment = [], []
+            # The signature ends where a line opens the body or the item is closed.
+            while at < len(lines):
+                here = lines[at]
+                match = CLAUSE.match(here)
+                if match:
+                    said, at, rest = balanced(lines, at, match.end() - 1)
+                    if match[1] == "ensures":
+                        clauses.append(Clause(match[2], re.sub(r"\s+", " ", said), sentence(comment)))
+                    comment = []
+                    if rest.strip().startswith(";") or "{" in rest:
+                        break
+                elif here.strip().startswith("//"):
+                    comment.append(here.strip()[2:].strip())
+                elif here == f"{indent}{{" or here.rstrip().endswith((" {", ";", "{}")) or here.rstrip() == f"{indent}{{}}":
+                    break
+                at += 1
+            found.append(Function(crate, path, str(file.relative_to(TOP)), sentence(docs), public, clauses))
+            docs = []
+        elif text and not text.startswith(("#[", "//")):
+            docs = []
+        at += 1
+    return found
+
+
+@functools.cache
+def functions(crate):
+    source, found = TOP / "crates" / crate / "src", []
+    for file in sorted(source.rglob("*.rt")):
+        parts = file.relative_to(source).with_suffix("").parts
+        module = "::".join(part for part in parts if part not in ("lib", "main", "mod"))
+        found += functions_in(crate, file, module)
+    return found
+
+
+@dataclass
+class Definition:
+    crate: str
+    module: str
+    name: str
+    words: str
+    file: str
+
+
+DEFINITION = re.compile(r"^\s*(?:(?:abbrev|unfoldable|irreducible|partial) )?pub (?:record |data |abbrev )?([^\s:({]+)")
+
+
+@functools.cache
+def definitions(crate):
+    """The definitions of specs/, each with the comment above it, and the comment at each module's head."""
+    specs, found, heads = TOP / "crates" / crate / "specs", [], {}
+    for file in sorted(specs.rglob("*.antt")) if specs.exists() else []:
+        module = ".".join(file.relative_to(specs).with_suffix("").parts)
+        comment, fields = [], False
+        lines = file.read_text().splitlines()
+        head_lines = []
+        for line in lines:
+            if not line.startswith("-- "):
+                break
+            head_lines.append(line[3:])
+        heads[module] = re.sub(r"\s+", " ", " ".join(head_lines)).strip()
+        for at, line in enumerate(lines):
+            match = DEFINITION.match(line)
+            if re.match(r"\s*-- ", line) and at >= len(head_lines):
+                comment.append(line.strip()[3:])
+            elif match and not re.match(r"\s*pub (mod|use)\b|\s*unfoldable pub use\b", line):
+                inner = line.startswith(" ") and not re.match(r"\s+(abbrev|unfoldable|irreducible) pub", line)
+                if not inner:
+                    found.append(Definition(crate, module, match[1], re.sub(r"\s+", " ", " ".join(comment)).strip(), str(file.relative_to(TOP))))
+                comment = []
+            elif line.strip():
+                comment = []
+    return found, heads
