@@ -13,7 +13,7 @@ uncompressed TIFF scaled in libvips' way, and IIPImage JPEG, as it knows nothing
 The jobs, each on servers that are started anew for it, so that their caches are empty and the files are in the page cache:
   native tiles   whole tiles of 256, all different, asked by 1, 8 or 64 viewers, and by one who looks for each answer in place of sleeping until
                  it comes, whichever the server: no thread of the viewer's has to be woken then
-  zoom path      200 requests of one viewer of demo/index.html who opens the picture, zooms in and moves, as bench/scale records it
+  zoom path      200 requests of one viewer of viewers/own.html who opens the picture, zooms in and moves, as bench/scale records it
   crowd          8 viewers, 100 different requests of such paths, each asked by two viewers at the same time
   viewers        1, 8 and 64 viewers, each somewhere else on such paths
 With --floor a server that reads and writes the bytes of native tiles, and does nothing else, runs too: none whose threads sleep takes less. So does

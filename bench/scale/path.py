@@ -2,7 +2,7 @@
 
     /usr/bin/python3 bench/scale/path.py --program crates/iiif_serve/out/iiif_serve [--sides 2480,3508]
 
-Starts the program on a blank picture with these sides, serves demo/index.html before it, and lets Chromium open it in a canvas of 1,280
+Starts the program on a blank picture with these sides, serves viewers/own.html before it, and lets Chromium open it in a canvas of 1,280
 by 720, zoom in about one place and move three times, each step once all tiles of the one before are there. The status is 1 where the
 list of requests isn't that of scale.py, in its order.
 """
@@ -21,7 +21,7 @@ from pathlib import Path
 import scale
 from model import Image
 
-DEMO = (Path(__file__).resolve().parents[2] / "demo" / "index.html").read_bytes()
+PAGE = (Path(__file__).resolve().parents[2] / "viewers" / "own.html").read_bytes()
 PLACE, MOVES = (0.3, 0.6), (1, -1, 1)
 DRIVE = """<iframe id="page" style="width:1400px;height:1100px" src="/viewer"></iframe><script>
 const page = document.getElementById("page"), wait = (ms) => new Promise((go) => setTimeout(go, ms));
@@ -79,7 +79,7 @@ class Before(http.server.BaseHTTPRequestHandler):
         if not self.path.startswith("/iiif/"):
             words = {"info": f"http://localhost:{server.server_port}/iiif/page/info.json", "place": json.dumps(PLACE),
                      "moves": json.dumps([[640 * MOVES[0], 0], [0, 360 * MOVES[1]], [640 * MOVES[2], 0]])}
-            return self.answer((DRIVE % words).encode() if self.path == "/drive" else DEMO, "text/html")
+            return self.answer((DRIVE % words).encode() if self.path == "/drive" else PAGE, "text/html")
         there = http.client.HTTPConnection("127.0.0.1", server.behind)
         there.request(self.command, self.path)
         answer = there.getresponse()

@@ -11,7 +11,7 @@
 Prints Markdown tables. Everything is drawn from one seed (--seed, 1 if left out), so a run says the same each time.
 
 The catalogue: of 20 images 15 are pages (RGB, 2,480 by 3,508), 4 newspapers (gray, 5,000 by 7,000), 1 a map (RGB, 12,000 by 9,000), in
-tiles of 256. A viewer picks an image by Zipf's law (weight 1 / rank), opens it as demo/index.html does in a canvas of 1,280 by 720, zooms
+tiles of 256. A viewer picks an image by Zipf's law (weight 1 / rank), opens it as viewers/own.html does in a canvas of 1,280 by 720, zooms
 in by steps of 1.5 about one place until one sample is one dot, moves three times by half a canvas, and leaves. It asks for each tile once
 and one after another, all of one node, which is picked by chance. So many viewers are there at a time, and each request comes from one of
 them by chance. A first part of the viewers only fills the caches; what the others do is counted.
