@@ -68,10 +68,10 @@ LOADED = """const tiles = [...document.querySelectorAll(".leaflet-tile")], movin
     return tiles.map((tile) => { const { x, y, width, height } = tile.getBoundingClientRect(); return [tile.src, x, y, width, height]; });"""
 
 
-def wanted_tiles(base, picture, factor, quality):
+def wanted_tiles(base, picture, edge, factor, quality):
     """Each tile's address at a scale factor: its place in the grid, and its pixels."""
     wanted = {}
-    for place, rect, (w, h) in pictures.tiles(picture.width, picture.height, EDGE, factor):
+    for place, rect, (w, h) in pictures.tiles(picture.width, picture.height, edge, factor):
         wanted[f"{base}/{','.join(map(str, rect))}/{w},{h}/0/{quality}.jpg"] = place, (w, h, picture.shown(*rect, w, h, quality))
     return wanted
 
@@ -96,14 +96,14 @@ def tiles_equal(browser, wanted):
         equal(unpacked(found), wanted[address][1], f"the canvas of {address}")
 
 
-def screen_equals(browser, wanted, where):
+def screen_equals(browser, wanted, where, edge):
     """That each tile stands at its place in the grid, and the screen shows its pixels there."""
     width, height, screen = browser.screen("#map")
     places = {wanted[address][0]: corner for address, corner in where.items()}
     left, top = places[0, 0][:2]
     for address, ((column, row), (w, h, data)) in wanted.items():
         x, y, shown_w, shown_h = where[address]
-        same((x - left, y - top, shown_w, shown_h), (column * EDGE, row * EDGE, w, h), f"the place of {address}")
+        same((x - left, y - top, shown_w, shown_h), (column * edge, row * edge, w, h), f"the place of {address}")
         if x < 0 or y < 0 or x + w > width or y + h > height or x % 1 or y % 1:
             raise Failed(f"{address} isn't wholly on the screen: {x},{y}")
         rows = [screen[4 * ((int(y) + n) * width + int(x)):][:4 * w] for n in range(h)]
@@ -119,23 +119,23 @@ def pressed(browser, which):
         return true;""")
 
 
-def through_zooms(tried, browser, base, picture, name, quality="default"):
+def through_zooms(tried, browser, base, picture, name, quality="default", edge=EDGE):
     """The page at its nearest zoom, which has the tiles of the factor 1, and then farther and farther away."""
-    factors = pictures.factors(picture.width, picture.height, EDGE)
-    wanted = wanted_tiles(base, picture, 1, quality)
+    factors = pictures.factors(picture.width, picture.height, edge)
+    wanted = wanted_tiles(base, picture, edge, 1, quality)
     while True:
         looked_at(browser, wanted)
         if not pressed(browser, "in"):
             break
     zooms = [1, 1, *factors]  # two beyond the image's own size
     for number, factor in enumerate(zooms):
-        wanted = wanted_tiles(base, picture, factor, quality)
+        wanted = wanted_tiles(base, picture, edge, factor, quality)
 
         def judge():
             where = looked_at(browser, wanted)
             tiles_equal(browser, wanted)
             if number >= 2:
-                screen_equals(browser, wanted, where)
+                screen_equals(browser, wanted, where, edge)
             same(browser.text("#fault"), "", "what the page says is wrong")
             return f"{len(wanted)} tiles" + (" and the screen" if number >= 2 else "")
 
