@@ -1,6 +1,6 @@
-// startIiif({ bases }) resolves once tiff-worker.js, which stands beside this file, controls the page, at the first visit too: await it before a
-// viewer's first request. Where that can't be it fails with an Error that says in words what is wrong. `bases` are the addresses of servers
-// that answer TIFF, as https://HOST/iiif; with none the worker takes all image requests. It controls this page, and no other of the origin.
+// startIiif({ bases }) resolves once tiff-worker.js, which stands beside this file, controls the page, at the first visit too: await it
+// before a viewer's first request. Where that can't be it fails with an Error that says in words what is wrong. `bases` are the addresses of
+// servers that answer TIFF, as https://HOST/iiif; with none the worker takes all image requests. It controls this page, and no other one.
 "use strict";
 const WORKER = new URL("tiff-worker.js", document.currentScript.src);
 
@@ -14,7 +14,8 @@ async function startIiif({ bases = [], seconds = 20 } = {}) {
   });
   for (const end = Date.now() + 1000 * seconds; workers.controller?.scriptURL !== url.href; ) {
     if (Date.now() > end) throw new Error(`the service worker ${url} doesn't start`);
-    registration.active?.postMessage("claim");
+    // A worker of another list, which this one follows, isn't asked: it would be kept from ending.
+    if (registration.active?.scriptURL === url.href) registration.active.postMessage("claim");
     await new Promise((resolve) => setTimeout(resolve, 20));
   }
 }

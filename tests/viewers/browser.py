@@ -6,6 +6,8 @@ from selenium import webdriver
 from selenium.common.exceptions import JavascriptException
 from selenium.webdriver.chrome.service import Service
 
+from judge import Failed
+
 # What the tests ask of a page. `pixels` draws a picture on a canvas and reads that.
 HELPERS = """
 const pixels = (source, width = source.naturalWidth ?? source.width, height = source.naturalHeight ?? source.height) => {
@@ -42,10 +44,6 @@ const by = {
   }),
 };
 """
-
-
-class Failed(Exception):
-    """What was seen isn't what had to be."""
 
 
 def unpacked(found):

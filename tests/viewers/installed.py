@@ -1,11 +1,12 @@
 """The pages of an installed package, through its proxy, in a real browser. packaging/check calls it.
 
     tests/viewers/installed.py --make FOLDER     writes the scans one.tif, two.tif and wide.tif there
-    tests/viewers/installed.py --site https://localhost:8443 [--crowd]
+    tests/viewers/installed.py --site https://localhost:8443 [--crowd SIDE]
 
-Goes through each zoom of the scans `one` and `two` in Leaflet's page and compares tiles and screen with the exact image, opens own.html, and asks
-for the base URI. With --crowd it asks for 100 different overviews of `wide` at once in place of these, and each has to come with 200. Any
-certificate will do. Ends with `N passed, M failed`, status 1 where one failed.
+Goes through each zoom of the scans `one` and `two` in Leaflet's page and compares tiles and screen with the exact image, opens own.html,
+and registers the worker for another folder of the host. With --crowd it asks for 100 different overviews of `wide` at once in place of
+these, each of a region with this side and more, and each has to come with 200. Any certificate will do. Ends with `N passed, M failed`,
+status 1 where one failed.
 """
 import argparse
 import collections
@@ -18,8 +19,9 @@ import threading
 from urllib.parse import urlsplit
 
 import pictures
-from browser import Browser, Failed
-from viewers import Tried, same, through_zooms
+from browser import Browser
+from judge import Failed, Tried, same
+from leaflet import through_zooms
 
 EDGE = 256  # as the service has it
 SCANS = {"one": pictures.Picture(600, 400, 3, 8, False, 1), "two": pictures.Picture(520, 300, 1, 16, True, 2)}
@@ -63,7 +65,7 @@ def pages(tried, site):
         tried.case("the worker for pages elsewhere on the host", other)
 
 
-def crowd(tried, site, count=100):
+def crowd(tried, site, side, count=100):
     host, got, meet = urlsplit(site).netloc, collections.Counter(), threading.Barrier(count)
 
     def one(number):
@@ -71,7 +73,8 @@ def crowd(tried, site, count=100):
         link.connect()
         meet.wait()
         try:
-            link.request("GET", f"/iiif/wide/{number},{number},{1024 + number},{1024 + number}/64,64/0/default.tif", headers={"Cookie": "a" * 4500, "X-Other": "b" * 4500})
+            target = f"/iiif/wide/{number},{number},{side + number},{side + number}/64,64/0/default.tif"
+            link.request("GET", target, headers={"Cookie": "a" * 4500, "X-Other": "b" * 4500}) # which the server would refuse
             answer = link.getresponse()
             got[answer.status, len(answer.read())] += 1
         except (OSError, http.client.HTTPException) as error:
@@ -94,15 +97,17 @@ def main():
     parser = argparse.ArgumentParser(description=__doc__, formatter_class=argparse.RawDescriptionHelpFormatter)
     parser.add_argument("--make")
     parser.add_argument("--site")
-    parser.add_argument("--crowd", action="store_true")
+    parser.add_argument("--crowd", type=int)
     args = parser.parse_args()
     if args.make:
         make(args.make)
         return 0
     tried = Tried()
-    (crowd if args.crowd else pages)(tried, args.site)
-    print(f"{tried.passed} passed, {tried.failed} failed")
-    return 1 if tried.failed else 0
+    if args.crowd:
+        crowd(tried, args.site, args.crowd)
+    else:
+        pages(tried, args.site)
+    return tried.told()
 
 
 if __name__ == "__main__":

@@ -28,7 +28,11 @@ class Picture:
     def __init__(self, width, height, channels, bits, white, seed=1):
         self.width, self.height, self.channels, self.bits, self.white = width, height, channels, bits, white
         chance, top = random.Random(seed), 2 ** bits - 1
-        self.rows = [[[chance.choice([0, top, chance.randint(0, top)]) for _ in range(channels)] for _ in range(width)] for _ in range(height)]
+
+        def sample():
+            return chance.choice([0, top, chance.randint(0, top)])
+
+        self.rows = [[[sample() for _ in range(channels)] for _ in range(width)] for _ in range(height)]
 
     @property
     def kind(self):
@@ -56,16 +60,23 @@ def rgba(strip, width, height, channels, bits):
     for y in range(height):
         row = strip[y * row_bytes:(y + 1) * row_bytes]
         for x in range(width):
-            samples = [255 * (row[x // 8] >> (7 - x % 8) & 1)] if bits == 1 else [row[(x * channels + c + 1) * bits // 8 - 1] for c in range(channels)]
+            if bits == 1:
+                samples = [255 * (row[x // 8] >> (7 - x % 8) & 1)]
+            else:
+                samples = [row[(x * channels + c + 1) * bits // 8 - 1] for c in range(channels)]
             out += bytes(samples * (3 // channels) + [255])
     return bytes(out)
 
 
 def kinds(width, height):
     """A picture of each kind that the server reads."""
-    yield from (Picture(width, height, channels, bits, white, seed)
-                for seed, (channels, bits, white) in enumerate([(1, 8, False), (1, 8, True), (1, 16, False), (1, 16, True), (3, 8, False), (3, 16, False),
-                                                                (1, 1, False), (1, 1, True)]))
+    sorts = (1, 8, False), (1, 8, True), (1, 16, False), (1, 16, True), (3, 8, False), (3, 16, False), (1, 1, False), (1, 1, True)
+    for seed, (channels, bits, white) in enumerate(sorts):
+        yield Picture(width, height, channels, bits, white, seed)
+
+
+def named(order):
+    return "low byte first" if order == "<" else "high byte first"
 
 
 def tiles(width, height, edge, factor):
@@ -86,7 +97,8 @@ def factors(width, height, edge):
 
 
 def layout(picture, order, strip, planes):
-    """The picture as a file that the server wouldn't write: in either byte order, in strips of so many rows, its channels side by side or in planes."""
+    """The picture as a file that the server wouldn't write: in either byte order, in strips of so many rows, its channels side by side or
+    in planes, with gaps between its parts."""
     top, apart = 2 ** picture.bits - 1, range(picture.channels) if planes else [None]
     rows = [[[top - s for s in place] if picture.white else place for place in row] for row in picture.rows]
 
@@ -103,9 +115,9 @@ def layout(picture, order, strip, planes):
         places.append(8 + len(data))
         data += piece + b"gap"
     color = 2 if picture.channels == 3 else 0 if picture.white else 1
-    fields = [(256, "H", [picture.width]), (257, "I", [picture.height]), (258, "H", [picture.bits] * picture.channels), (259, "H", [1]), (262, "H", [color]),
-              (273, "I", places), (277, "H", [picture.channels]), (278, "H", [strip]), (279, "I", [len(piece) for piece in pieces]),
-              (284, "H", [2 if planes else 1]), (305, "s", b"a text\0")]
+    fields = [(256, "H", [picture.width]), (257, "I", [picture.height]), (258, "H", [picture.bits] * picture.channels), (259, "H", [1]),
+              (262, "H", [color]), (273, "I", places), (277, "H", [picture.channels]), (278, "H", [strip]),
+              (279, "I", [len(piece) for piece in pieces]), (284, "H", [2 if planes else 1]), (305, "s", b"a text\0")]
     entries = b""
     for tag, kind, values in fields:
         stored = values if kind == "s" else struct.pack(f"{order}{len(values)}{kind}", *values)

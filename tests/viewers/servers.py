@@ -82,11 +82,16 @@ def send(handler, status, kind, body, told=None, cut=None):
 
 
 class Pages(Loopback):
-    """The viewers' folder below /viewers/, with bare.html of the tests beside its pages and Debian's Leaflet in it."""
+    """The viewers' folder below /viewers/, with bare.html of the tests beside its pages and Debian's Leaflet in it. Where a page's library
+    can't be had, `stand_ins` has a script in its place, by its path."""
 
     def __init__(self, folder):
+        self.stand_ins = {}
+
         def answer(handler):
             name = handler.path.split("?")[0].removeprefix("/viewers/")
+            if name in self.stand_ins:
+                return send(handler, 200, "text/javascript", self.stand_ins[name].encode())
             path = os.path.join(HERE, name) if name == "bare.html" else os.path.join(folder, name)
             if name.startswith("leaflet/"):
                 path = os.path.join("/usr/share/javascript", name)
