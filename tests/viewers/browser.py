@@ -1,10 +1,11 @@
-"""Chromium without a window, and the pixels that it has."""
+"""A browser without a window, and the pixels that it has."""
 import base64
 import time
 
 from selenium import webdriver
 from selenium.common.exceptions import JavascriptException
 from selenium.webdriver.chrome.service import Service
+from selenium.webdriver.webkitgtk.options import Options as WebKitOptions
 
 from judge import Failed
 
@@ -52,18 +53,33 @@ def unpacked(found):
     return width, height, base64.b64decode(text)
 
 
+def chromium(flags, prefs, size):
+    options = webdriver.ChromeOptions()
+    options.binary_location = "/usr/bin/chromium"
+    for flag in ("--headless=new", "--no-sandbox", "--disable-gpu", "--disable-dev-shm-usage", "--force-color-profile=srgb",
+                 "--force-device-scale-factor=1", "--hide-scrollbars", f"--window-size={size}", *flags):
+        options.add_argument(flag)
+    if prefs:
+        options.add_experimental_option("prefs", prefs)
+    return webdriver.Chrome(options=options, service=Service("/usr/bin/chromedriver"))
+
+
+def webkit(_flags, _prefs, size):
+    options = WebKitOptions()
+    options.binary_location = "/usr/lib/x86_64-linux-gnu/webkit2gtk-4.1/MiniBrowser"
+    options.add_argument("--automation")
+    driver = webdriver.WebKitGTK(executable_path="/usr/bin/WebKitWebDriver", options=options)
+    driver.set_window_size(*map(int, size.split(",")))
+    return driver
+
+
 class Browser:
     """A browser with a profile of its own, so that each begins with its first visit."""
 
+    start_one = staticmethod(chromium)
+
     def __init__(self, flags=(), prefs=None, size="1000,800"):
-        options = webdriver.ChromeOptions()
-        options.binary_location = "/usr/bin/chromium"
-        for flag in ("--headless=new", "--no-sandbox", "--disable-gpu", "--disable-dev-shm-usage", "--force-color-profile=srgb",
-                     "--force-device-scale-factor=1", "--hide-scrollbars", f"--window-size={size}", *flags):
-            options.add_argument(flag)
-        if prefs:
-            options.add_experimental_option("prefs", prefs)
-        self.driver = webdriver.Chrome(options=options, service=Service("/usr/bin/chromedriver"))
+        self.driver = self.start_one(flags, prefs, size)
         self.driver.set_script_timeout(60)
 
     def __enter__(self):
@@ -103,6 +119,11 @@ class Browser:
         except Failed as failed:
             return str(failed)
         raise Failed(f"a picture by {way}")
+
+    @property
+    def sees_screen(self):
+        """WebKit's driver gives no picture of the screen under Xvfb."""
+        return self.start_one is chromium
 
     def screen(self, selector):
         """What an element shows."""

@@ -12,14 +12,21 @@ LOADED = """const tiles = [...document.querySelectorAll(".leaflet-tile")];
     if (document.querySelector(".leaflet-zoom-anim") || !tiles.every(settled)) return null;
     const placed = (tile) => { const { x, y, width, height } = tile.getBoundingClientRect(); return [tile.src, x, y, width, height]; };
     return tiles.map(placed);"""
-CANVAS = """const tiles = [...document.querySelectorAll(".leaflet-tile")];
+CANVAS = """const tiles = [...document.querySelectorAll(".leaflet-tile")].filter((tile) => words[0].includes(tile.src));
     return tiles.map((tile) => [tile.src, ...pixels(tile)]);"""
 STATE = """const tiles = [...document.querySelectorAll(".leaflet-tile")], moving = !!document.querySelector(".leaflet-zoom-anim");
     return [moving, tiles.map((tile) => `${tile.src} ${tile.complete} ${getComputedStyle(tile).opacity} ${tile.className}`)];"""
+# A press while the map moves is lost, so that each waits until its own movement has begun and ended.
 PRESS = """const button = document.querySelector(".leaflet-control-zoom-" + words[0]);
     if (button.classList.contains("leaflet-disabled")) return false;
     button.click();
-    await new Promise((resolve) => setTimeout(resolve, 300)); // while it moves Leaflet takes no other press
+    for (const moving of [true, false]) {
+      const end = Date.now() + 10000;
+      while (!!document.querySelector(".leaflet-zoom-anim") !== moving) {
+        if (Date.now() > end) throw new Error("the map " + (moving ? "doesn't move" : "moves on"));
+        await new Promise((resolve) => setTimeout(resolve, 5));
+      }
+    }
     return true;"""
 
 
@@ -33,19 +40,19 @@ def wanted_tiles(base, picture, edge, factor, quality):
 
 
 def looked_at(browser, wanted):
-    """The tiles of this zoom once they are there and no others: where each stands."""
+    """The tiles of this zoom once they are there: where each stands. Those of the zoom before may still lie below them."""
     def there():
-        found = browser.run(LOADED)
-        return found if found is not None and {tile[0] for tile in found} == set(wanted) else None
+        found = {tile[0]: tile[1:] for tile in browser.run(LOADED) or ()}
+        return {address: found[address] for address in wanted} if set(wanted) <= set(found) else None
 
     try:
-        return {tile[0]: tile[1:] for tile in browser.wait(f"{len(wanted)} tiles of the zoom", there)}
+        return browser.wait(f"{len(wanted)} tiles of the zoom", there)
     except Failed as failed:
         raise Failed(f"{failed}; there are {browser.run(STATE)}") from None
 
 
 def canvas_equals(browser, wanted):
-    for address, *found in browser.run(CANVAS):
+    for address, *found in browser.run(CANVAS, list(wanted)):
         equal(unpacked(found), wanted[address][1], f"the canvas of {address}")
 
 
@@ -77,15 +84,15 @@ def through_zooms(tried, browser, base, picture, name, quality="default", edge=E
             break
     zooms = [1, 1, *pictures.factors(picture.width, picture.height, edge)]  # two beyond the image's own size
     for number, factor in enumerate(zooms):
-        wanted = wanted_tiles(base, picture, edge, factor, quality)
+        wanted, screen = wanted_tiles(base, picture, edge, factor, quality), number >= 2 and browser.sees_screen
 
         def judge():
             where = looked_at(browser, wanted)
             canvas_equals(browser, wanted)
-            if number >= 2:
+            if screen:
                 screen_equals(browser, wanted, where, edge)
             same(browser.text("#fault"), "", "what the page says is wrong")
-            return f"{len(wanted)} tiles" + (" and the screen" if number >= 2 else "")
+            return f"{len(wanted)} tiles" + (" and the screen" if screen else "")
 
         tried.case(f"leaflet, {name}, zoom {len(zooms) - 1 - number}, factor {factor}", judge)
         pressed(browser, "out")

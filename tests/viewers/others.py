@@ -34,7 +34,7 @@ def own(tried, args, folder, pages):
                     equal(found, (W, H, picture.shown(0, 0, W, H, W, H, quality)), quality)
                 browser.wait("the canonical URI", lambda: browser.text("#uri") or None)
                 same(browser.text("#fault"), "", "what the page says is wrong")
-                width, height, data = browser.screen("#canvas")
+                width, height, data = unpacked(browser.run("return pixels(canvas);"))
                 if len(set(struct.unpack(f"{width * height}I", data))) < 3:
                     raise Failed("the canvas is blank")
                 return browser.text("#uri").removeprefix(program.base)
@@ -82,7 +82,8 @@ def others(tried, args, folder, pages):
         pages.stand_ins.clear()
 
 
-LAND = [(86, 134, 110), (120, 160, 110), (160, 184, 118), (200, 200, 136), (216, 190, 134), (200, 160, 110), (176, 132, 98), (224, 216, 208)]
+LAND = [(86, 134, 110), (120, 160, 110), (160, 184, 118), (200, 200, 136),
+        (216, 190, 134), (200, 160, 110), (176, 132, 98), (224, 216, 208)]
 
 
 def scene(width, height):

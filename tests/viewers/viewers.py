@@ -15,14 +15,16 @@ Needs Debian's python3-selenium, chromium, chromium-driver and libjs-leaflet, an
   own        own.html
   others     what the pages for OpenSeadragon and Mirador do beside their libraries, which Debian lacks
 
---only WORD tries the groups whose name has that word, --viewers FOLDER another folder of pages (such as a copy with an error planted), and
---pictures FOLDER writes a picture of each page that could be run, in place of trying. Prints what it tried and ends with `N passed, M
-failed`, status 1 where one failed.
+--browser webkit tries WebKitGTK in place of Chromium, by Debian's webkit2gtk-driver under `xvfb-run -a` (xvfb, xauth), and leaves
+`visits` and the screen out. --only WORD tries the groups whose name has that word, --viewers FOLDER another folder of pages (such as a
+copy with an error planted), and --pictures FOLDER writes a picture of each page that could be run, in place of trying. Prints what it
+tried and ends with `N passed, M failed`, status 1 where one failed.
 """
 import argparse
 import sys
 import tempfile
 
+from browser import Browser, webkit
 from judge import Tried
 from leaflet import leaflet
 from others import others, own, take_pictures
@@ -37,14 +39,17 @@ def main():
     parser.add_argument("--program", required=True)
     parser.add_argument("--viewers", default=VIEWERS)
     parser.add_argument("--only", default="")
+    parser.add_argument("--browser", default="chromium", choices=["chromium", "webkit"])
     parser.add_argument("--pictures")
     args = parser.parse_args()
-    tried = Tried()
+    tried, groups = Tried(), GROUPS
+    if args.browser == "webkit":
+        Browser.start_one, groups = staticmethod(webkit), [group for group in GROUPS if group is not visits]
     with tempfile.TemporaryDirectory() as folder, Pages(args.viewers) as pages:
         if args.pictures:
             take_pictures(args, folder, pages)
             return 0
-        for group in GROUPS:
+        for group in groups:
             if args.only in group.__name__:
                 group(tried, args, folder, pages)
     return tried.told()
