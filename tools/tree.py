@@ -49,7 +49,8 @@ def below(crate):
 
 
 def sentence(lines):
-    """The first sentence of a comment's lines."""
+    """The first sentence of a comment's lines: what stands above a line that has nothing, at most."""
+    lines = lines[:lines.index("")] if "" in lines else lines
     text = re.sub(r"\s+", " ", " ".join(lines)).strip()
     found = re.match(r"(.*?[.:?!])(?= [A-Z(`]|$)", text)
     return found[1] if found else text

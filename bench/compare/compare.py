@@ -13,14 +13,17 @@ job that keeps its size, or whose larger result is 1,024 wide at most, is so sho
 do it ten times a round. An overview of 100 megapixels is made by one worker and by four, too, each also with the settings of ALONE, which
 docs/OPERATING.md has for a single large image; and an overview from strips with tiles of 1,024. The peak of the resident memory is taken in
 seven runs of its own (of the others three). With --before, another build of the program runs beside it, on the jobs of 8 bits and of bits
-that aren't scaled up. Right before each program, whichever it is, --warm MiB of memory are touched and given back (`touch`). With --tuned both run in the environment
-that the manual has for one large image. With --reads, `strace` counts the reads of the source that a job takes, in a run of its own.
+that aren't scaled up. Right before each program, whichever it is, --warm MiB of memory are touched and given back (`touch`). No program has
+an environment of its own, but the column "this program, tuned": it has the one that the manual has for one large image. With --tuned all
+columns of this program, and the build before, have it, and that column is left out. With --reads, `strace` counts the reads of the source
+that a job takes, in a run of its own. With --results what is printed becomes a new file of bench/results, from which tools/tables makes the
+table of docs/PERFORMANCE.md.
 
 The status is 1 where an answer of the program differs or a program fails, and with --strict also where a limit is passed. Memory: what
 docs/OPERATING.md says, which is the caches and a band (`memory.py`), with the program's defaults, with no cache, with a small one and a
-single worker, and with four workers. Wall clock: an overview of 100 megapixels from tiles 1.15 of the build before by one worker, and 0.6 by four, by the defaults and with the settings of ALONE;
-from strips GDAL's average, by two; on 16 bits 1.5 of plain Rust's and 1.0 of GDAL's average, by the defaults, which are two workers, where the others have one
-thread. Processor time: 1.5 of plain Rust's where a result is above its region. The other ratios of processor time are printed and not judged.
+single worker, and with four workers. Wall clock: an overview of 100 megapixels from tiles 1.15 of the build before by one worker, and 0.6 by
+four, by the defaults and with the settings of ALONE; from strips GDAL's average, by two; on 16 bits 1.5 of plain Rust's and 1.0 of GDAL's
+average, by the defaults, which are two workers, where the others have one thread. Processor time: 1.5 of plain Rust's where a result is above its region. The other ratios of processor time are printed and not judged.
 """
 import argparse
 import concurrent.futures
@@ -109,6 +112,7 @@ class Source:
 
 # What starts the program in the package, and sets its environment; and what says in which one an image is made from the command line.
 PACKAGING = os.path.join(os.path.dirname(os.path.abspath(__file__)), "..", "..", "packaging")
+RESULTS = os.path.join(os.path.dirname(os.path.abspath(__file__)), "..", "results")
 UNIT, MANUAL = os.path.join(PACKAGING, "iiif-serve.service"), os.path.join(PACKAGING, "iiif_serve.1")
 
 SOURCES = [
@@ -121,8 +125,11 @@ SOURCES = [
     Source("rgb16-tiles", 8_000, 4, channels=3, bits=16, tile=256),
 ]
 
+# This program, run in the environment that the manual has for one large image; every other column runs without one, but with --tuned.
+TUNED = "this program, tuned"
+
 # The programs whose answers are to be equal to the exact averages.
-OWN = ("this program", "one worker", "four workers", "one worker, no caches", "four workers, no caches", "--edge 1024", "the build before", "plain Rust")
+OWN = ("this program", TUNED, "one worker", "four workers", "one worker, no caches", "four workers, no caches", "--edge 1024", "the build before", "plain Rust")
 
 # For one answer from the command line: no caches, as nothing is asked again, so that an image touches few new pages; and one band of all rows, so
 # that each block is made once. The build before keeps nothing, either.
@@ -229,6 +236,7 @@ def programs(args, job):
     factor = repr(rect[2] / size)
     lines = {
         "this program": [own(args, target, path, larger, [])],
+        TUNED: [own(args, target, path, larger, [])],
         "one worker": [own(args, target, path, larger, ["--workers", "1"])],
         "four workers": [own(args, target, path, larger, ["--workers", "4"])],
         "one worker, no caches": [own(args, target, path, larger, ["--workers", "1", *ALONE])],
@@ -237,10 +245,12 @@ def programs(args, job):
         "the build before": [[args.before, "--base", "http://localhost/iiif", "--one", target, "a=" + path]],
         "plain Rust": [[args.plain, path, x, y, w, h, str(size), str(size), answer_path(args, job, "plain Rust")]],
     }
+    if args.tuned:
+        del lines[TUNED]
     if not args.before or source.bits == 16 or larger:
         del lines["the build before"]
     if not is_overview(job):
-        lines = {name: line for name, line in lines.items() if " worker" not in name}
+        lines = {name: line for name, line in lines.items() if " worker" not in name or name == TUNED}
     if rect[2] != source.side or source.tile:
         del lines["--edge 1024"]
     out, between = answer_path(args, job, "libvips"), answer_path(args, job, "libvips") + ".v"
@@ -391,7 +401,7 @@ def turned(programs, turn):
 def measured(args, jobs, wanted):
     """The medians of each job and program (wall clock, processor time, peak memory), and whether an answer was wrong."""
     times, peaks, wrong = {}, {}, False
-    environment = one_image() if args.tuned else None
+    manual = one_image()
     for turn in range(args.rounds):
         for job in jobs:
             for name, commands in turned(list(programs(args, job).items()), turn):
@@ -400,7 +410,7 @@ def measured(args, jobs, wanted):
                 out = answer_path(args, job, name)
                 touch(args.warm)
                 short = name in OWN and JOBS[job][2][2] <= JOBS[job][3] <= 1024
-                times.setdefault((job, name), []).extend(run(commands, out, 10 if short else 1, environment))
+                times.setdefault((job, name), []).extend(run(commands, out, 10 if short else 1, manual if args.tuned or name == TUNED else None))
                 if turn == 0 and name in OWN:
                     with open(out, "rb") as file:
                         if file.read() != answer_file(wanted[job]):
@@ -481,8 +491,28 @@ def limits_of_memory(args, jobs):
     return passed
 
 
+class Kept:
+    """Standard output, and beside it a new file of bench/results."""
+
+    def __init__(self, kind):
+        day = time.strftime("%Y-%m-%d")
+        commit = subprocess.run(["git", "rev-parse", "--short", "HEAD"], cwd=RESULTS, capture_output=True, text=True).stdout.strip()
+        self.file, self.screen = open(os.path.join(RESULTS, f"{day}-{kind}.md"), "x"), sys.stdout
+        self.file.write(f"# Whole answers beside other programs\n\n- Date: {day}\n- Commit: {commit}\n- Command: `bench/compare/compare.py {' '.join(sys.argv[1:])}`\n- Host: ")
+
+    def write(self, text):
+        self.screen.write(text)
+        self.file.write(text)
+
+    def flush(self):
+        self.screen.flush()
+        self.file.flush()
+
+
 def compare(args):
     os.makedirs(args.work, exist_ok=True)
+    if args.results:
+        sys.stdout = Kept("compare")
     jobs = [job for job, (name, *_) in enumerate(JOBS) if re.search(args.jobs, name)]
     wanted = prepared(args, jobs)
     with open("/proc/cpuinfo") as info:
@@ -519,8 +549,9 @@ def main():
     parser.add_argument("--without", nargs="*", default=[], help="libvips, GDAL, plain: programs to leave out")
     parser.add_argument("--reads", action="store_true", help="count the reads of the source")
     parser.add_argument("--warm", type=int, default=512, metavar="MIB", help="how much memory is touched right before each program is run, whichever it is")
-    parser.add_argument("--tuned", action="store_true", help="run the program, and the build before, in the environment that the manual has for one image, but for peaks of memory")
+    parser.add_argument("--tuned", action="store_true", help="run the program, and the build before, in the manual's environment, but for peaks of memory")
     parser.add_argument("--strict", action="store_true", help="status 1 where a limit is passed")
+    parser.add_argument("--results", action="store_true", help="write a new file of bench/results besides")
     return compare(parser.parse_args())
 
 

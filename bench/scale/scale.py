@@ -191,7 +191,7 @@ def settled(args, *words, **limits):
 
 def nodes(args):
     table(["images", "nodes"], [*HEAD, "a cache of answers"])
-    for images in (10**3, 10**4, 10**5, 10**6):
+    for images in args.images:
         for count in (1, 2, 4, 8, 16, 32, 64):
             c = settled(args, count, images)
             row([f"{images:,}", str(count)], c, f"{c.fronted:.0f}%")
@@ -253,6 +253,7 @@ def main():
     parser.add_argument("what", choices=["nodes", "caches", "parted", "lost", "rows", "viewers", "ring"])
     parser.add_argument("--seed", type=int, default=1)
     parser.add_argument("--visits", type=int, default=400)
+    parser.add_argument("--images", type=int, nargs="+", default=[10**3, 10**4, 10**5, 10**6], help="sizes of the catalogue, for nodes")
     args = parser.parse_args()
     globals()[args.what](args)
 

@@ -1,4 +1,4 @@
-"""What a connection of another node is replied, by the definitions of messages, keys and values (docs/DEFINITIONS.md).
+"""What a connection of another node is replied, by the definitions of messages, keys and values (docs/generated/DEFINITIONS.md).
 
 `replies` gives the outputs that are allowed for a whole input: more than one where a key has two faults, of which either may be told.
 Tiles and sums are worked out from the pictures place by place.
