@@ -36,7 +36,11 @@ def crates():
 @functools.cache
 def tracked():
     """The files of the tree: those of the last commit and new ones that git doesn't ignore."""
-    names = subprocess.run(["git", "ls-files", "-co", "--exclude-standard", "-z"], cwd=TOP, capture_output=True, check=True).stdout.decode().split("\0")
+    names = (
+        subprocess.run(["git", "ls-files", "-co", "--exclude-standard", "-z"], cwd=TOP, capture_output=True, check=True)
+        .stdout.decode()
+        .split("\0")
+    )
     return sorted(name for name in names if name and (TOP / name).exists())
 
 
@@ -50,7 +54,7 @@ def below(crate):
 
 def sentence(lines):
     """The first sentence of a comment's lines: what stands above a line that has nothing, at most."""
-    lines = lines[:lines.index("")] if "" in lines else lines
+    lines = lines[: lines.index("")] if "" in lines else lines
     text = re.sub(r"\s+", " ", " ".join(lines)).strip()
     found = re.match(r"(.*?[.:?!])(?= [A-Z(`]|$)", text)
     return found[1] if found else text
@@ -142,7 +146,7 @@ def balanced(lines, at, column):
             elif it == "}":
                 depth -= 1
                 if depth == 0:
-                    return "".join(text)[1:].strip(), at, lines[at][column + n + 1:]
+                    return "".join(text)[1:].strip(), at, lines[at][column + n + 1 :]
             text.append(it)
         text.append(" ")
         at, column = at + 1, 0
@@ -163,7 +167,7 @@ def functions_in(crate, file, module):
             end = at
             while "{" not in lines[end] and not lines[end].endswith(";"):
                 end += 1
-            owner = owner_of(" ".join(lines[at:end + 1]))
+            owner = owner_of(" ".join(lines[at : end + 1]))
             is_trait, docs, at = bool(re.match(r"(pub(\([^)]*\))? )?trait\b", line)) and line.startswith("pub"), [], end
             if lines[end].rstrip().endswith("}"):
                 owner = ""
@@ -247,7 +251,9 @@ def definitions(crate):
             elif match and not re.match(r"\s*pub (mod|use)\b|\s*unfoldable pub use\b", line):
                 inner = line.startswith(" ") and not re.match(r"\s+(abbrev|unfoldable|irreducible) pub", line)
                 if not inner:
-                    found.append(Definition(crate, module, match[1], re.sub(r"\s+", " ", " ".join(comment)).strip(), str(file.relative_to(TOP))))
+                    found.append(
+                        Definition(crate, module, match[1], re.sub(r"\s+", " ", " ".join(comment)).strip(), str(file.relative_to(TOP)))
+                    )
                 comment = []
             elif line.strip():
                 comment = []
