@@ -224,6 +224,7 @@ class Definition:
     module: str
     name: str
     words: str
+    type: str
     file: str
 
 
@@ -251,9 +252,9 @@ def definitions(crate):
             elif match and not re.match(r"\s*pub (mod|use)\b|\s*unfoldable pub use\b", line):
                 inner = line.startswith(" ") and not re.match(r"\s+(abbrev|unfoldable|irreducible) pub", line)
                 if not inner:
-                    found.append(
-                        Definition(crate, module, match[1], re.sub(r"\s+", " ", " ".join(comment)).strip(), str(file.relative_to(TOP)))
-                    )
+                    words = re.sub(r"\s+", " ", " ".join(comment)).strip()
+                    kind = line[match.end() :].partition(" : ")[2].strip()
+                    found.append(Definition(crate, module, match[1], words, kind, str(file.relative_to(TOP))))
                 comment = []
             elif line.strip():
                 comment = []
