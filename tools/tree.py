@@ -41,7 +41,7 @@ def tracked():
         .stdout.decode()
         .split("\0")
     )
-    return sorted(name for name in names if name and (TOP / name).exists())
+    return sorted(name for name in names if name and (TOP / name).is_file())
 
 
 def below(crate):
