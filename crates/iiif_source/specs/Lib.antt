@@ -1,2 +1,3 @@
 pub mod Cause
+pub mod Files
 pub mod Runs

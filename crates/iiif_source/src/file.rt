@@ -1,46 +1,49 @@
 //! A file as a source.
 
-ghost use Rattle.std.specs.Prelude.{◌||◌, ◌==◌, ◌≡◌, ◌≢◌, ◌≤◌, ◌*◌, ◌^◌, ℕ, IfErr, IsTrue, length, replicate};
-ghost use Rattle.std.specs.declared.io.ErrorKind.TheVariants.{UnexpectedEof};
+ghost use Rattle.std.specs.Prelude.{◌||◌, ◌==◌, ◌≡◌, IfOk, IfSome, IsTrue, length, string_bytes};
+ghost use Rattle.std.specs.Arc.{arc_value};
 ghost use Rattle.iiif_source.specs.Cause.{failed, ended};
+ghost use Rattle.iiif_source.specs.Files.{fitted, Named};
 
-use crate::{ReadFault, Runs, Source};
-use std::fs::File;
+use crate::opened::{OpenFile, Opened};
+use crate::{Opens, ReadFault, Runs, Source};
 use std::io;
-use std::io::ErrorKind;
 use std::marker::Model;
-use std::os::unix::fs::FileExt;
-use std::sync::{RwLock, Wait};
+use std::sync::{Arc, RwLock, Wait};
 
-/// A file behind a lock that readers share. Its length is taken once, when the source is made. It is seen as that length: nothing
-/// can be known of what a file holds, so its bytes stand for any, and that it keeps them is never promised.
+/// A file behind a lock that readers share. It is seen as its path and its length, which is taken once, when the source is made.
 #[derive(Drop)]
-pub struct FileSource {
-    file: RwLock<File>,
+pub struct FileSource<R: Opens> {
+    path: Arc<String>,
+    file: RwLock<OpenFile<R>>,
     len: u64,
 }
 
-impl Model for FileSource {
-    ghost Value = { ℕ };
+impl<R: Opens> Model for FileSource<R> {
+    ghost Value = { Named };
 
-    ghost view = { λ s. s.len };
+    ghost view = { λ s. record { path = string_bytes (arc_value s.path); len = s.len } };
 }
 
-impl FileSource {
+impl<R: Opens> FileSource<R> {
     /// A source of an open file, of the length that it has now.
-    pub fn new(file: File) -> io::Result<FileSource> {
-        let len = file.metadata()?.len();
+    pub fn new(rt: &R, file: OpenFile<R>) -> io::Result<FileSource<R>>
+        ensures path { IfOk result (λ s. s.path ≡ string_bytes (arc_value file.path)) }
+        ensures length { R.keeps (string_bytes (arc_value file.path)) → IfOk result (λ s. s.len ≡ length (R.holds (string_bytes (arc_value file.path)))) }
+    {
+        let len = file.metadata(rt)?.len();
         Ok(FileSource {
+            path: file.path.clone()?,
             file: RwLock::new(file),
             len,
         })
     }
 }
 
-impl<R: Wait> Source<R> for FileSource {
-    ghost bytes = { λ len. replicate len 0 };
+impl<R: Opens + Wait> Source<R> for FileSource<R> {
+    ghost bytes = { λ s. fitted s.len (R.holds s.path) };
 
-    ghost keeps = { λ _. ⊥ };
+    ghost keeps = { λ s. R.keeps s.path };
 
     ghost gave = { λ _ f. f.cause == failed || f.cause == ended };
 
@@ -49,54 +52,38 @@ impl<R: Wait> Source<R> for FileSource {
     }
 
     fn read_at(&self, rt: &R, at: u64, buffer: &mut [u8]) -> Result<(), ReadFault> {
-        fill(&self.file.read(rt), at, buffer)
+        match opened(self.path.as_str(), self.len, &self.file.read(rt)) {
+            Some(source) => source.read_at(rt, at, buffer),
+            None => Err(astray(at)),
+        }
     }
 
     fn read_runs(&self, rt: &R, runs: Runs, buffer: &mut [u8]) -> Result<(), ReadFault> {
-        fill_runs(&self.file.read(rt), runs, buffer)
+        match opened(self.path.as_str(), self.len, &self.file.read(rt)) {
+            Some(source) => source.read_runs(rt, runs, buffer),
+            None => Err(astray(runs.at)),
+        }
     }
 }
 
-/// Reads a file's bytes from a place on, as many as the buffer has room for.
-pub fn fill(file: &File, at: u64, buffer: &mut [u8]) -> Result<(), ReadFault>
-    ensures place { IfErr result (λ f. f.place ≡ at) }
-    ensures cause { IfErr result (λ f. IsTrue (f.cause == failed || f.cause == ended)) }
+/// A file behind a lock, where it was opened under the path.
+fn opened<'a, R: Opens>(path: &str, len: u64, file: &'a OpenFile<R>) -> Option<Opened<'a, R>>
+    ensures path { IfSome result (λ s. s.path ≡ path.now) }
+    ensures len { IfSome result (λ s. s.len ≡ len) }
 {
-    match file.read_exact_at(buffer, at) {
-        Ok(()) => Ok(()),
-        Err(error) => Err(ReadFault {
-            place: at,
-            cause: cause_of(error.kind()),
-        }),
+    if file.path.as_str() != path {
+        return None;
     }
+    Some(Opened { file, len })
 }
 
-/// Reads runs of a file's bytes, one after another into the buffer.
-pub fn fill_runs(file: &File, runs: Runs, buffer: &mut [u8]) -> Result<(), ReadFault>
-    requires small { (runs.at ≤ 2 ^ 61) × (runs.stride ≤ 2 ^ 23) }
-    requires length { length buffer.old ≡ runs.count * runs.len }
-    ensures length { length buffer.new ≡ length buffer.old }
-    ensures cause { IfErr result (λ f. IsTrue (f.cause == failed || f.cause == ended)) }
+/// The fault of a read where the file behind the lock isn't the source's, which can't be.
+fn astray(at: u64) -> ReadFault
+    ensures place { result.place ≡ at }
+    ensures cause { IsTrue (result.cause == failed || result.cause == ended) }
 {
-    if runs.len as u64 == runs.stride {
-        return fill(file, runs.at, buffer);
-    }
-    for j in 0..runs.count {
-        let start = j as usize * runs.len;
-        let run = &mut buffer[start..start + runs.len];
-        fill(file, runs.at + j as u64 * runs.stride, run)?;
-    }
-    Ok(())
-}
-
-/// The cause of a read's fault: the file ended, or the read failed.
-fn cause_of(kind: ErrorKind) -> u8
-    ensures ended { kind ≡ UnexpectedEof → result ≡ ended }
-    ensures failed { kind ≢ UnexpectedEof → result ≡ failed }
-    ensures known { IsTrue (result == failed || result == ended) }
-{
-    match kind {
-        ErrorKind::UnexpectedEof => ReadFault::ENDED,
-        _ => ReadFault::FAILED,
+    ReadFault {
+        place: at,
+        cause: ReadFault::FAILED,
     }
 }

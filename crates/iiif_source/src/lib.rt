@@ -5,13 +5,18 @@ ghost use Rattle.std.specs.Prelude.{◌≡◌, ◌+◌, ◌*◌, ◌≤◌, ℕ,
 ghost use Rattle.iiif_source.specs.declared.ReadFault.{ReadFault};
 ghost use Rattle.iiif_source.specs.Runs.{AreIn, HoldsRuns};
 
-pub use file::{FileSource, fill, fill_runs};
+pub use file::FileSource;
 pub use fuse::FuseSource;
 pub use memory::MemSource;
+pub use opened::{OpenFile, Opened};
+pub use opens::Opens;
 
 mod file;
 mod fuse;
 mod memory;
+mod opened;
+mod opens;
+mod system;
 
 /// Why a read failed: the place in the source, in bytes, where the read began, and one of the causes below.
 #[derive(Clone, Copy, Debug, PartialEq, Eq)]

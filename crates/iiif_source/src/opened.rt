@@ -1,0 +1,100 @@
+//! Open files.
+
+ghost use Rattle.std.specs.Prelude.{◌||◌, ◌==◌, ◌≡◌, ◌≢◌, ℕ, IfErr, IfOk, IsTrue, length, string_bytes};
+ghost use Rattle.std.specs.Arc.{arc_value};
+ghost use Rattle.std.specs.Fs.{metadata_len};
+ghost use Rattle.std.specs.declared.io.ErrorKind.TheVariants.{UnexpectedEof};
+ghost use Rattle.iiif_source.specs.Cause.{failed, ended};
+ghost use Rattle.iiif_source.specs.Files.{fitted, Named};
+
+use crate::{Opens, ReadFault, Source};
+use std::fs::Metadata;
+use std::io;
+use std::io::{Error, ErrorKind};
+use std::marker::Model;
+use std::sync::Arc;
+
+/// An open file, and the path that it was opened under.
+#[derive(Drop)]
+pub struct OpenFile<R: Opens> {
+    pub path: Arc<String>,
+    pub handle: R::Handle,
+    pub ghost of: { IsTrue (R.is_of handle (string_bytes (arc_value path))) },
+}
+
+/// The error of what is no plain file. Its kind is that of an argument that can't be used.
+fn not_plain() -> Error {
+    Error::new(ErrorKind::InvalidInput, "not a plain file")
+}
+
+impl<R: Opens> OpenFile<R> {
+    /// Opens a plain file. What is none, such as a folder, a pipe or a device, is refused by [`ErrorKind::InvalidInput`]. It is looked
+    /// at before it is opened, since the opening of a pipe waits until somebody writes into it; and afterwards, since something else may
+    /// have taken its name meanwhile.
+    pub fn open(rt: &R, path: Arc<String>) -> io::Result<OpenFile<R>>
+        ensures { IfOk result (λ f. f.path ≡ path) }
+    {
+        if !rt.look(path.as_str())?.is_file() {
+            return Err(not_plain());
+        }
+        let handle = rt.open(path.as_str())?;
+        if !rt.metadata(path.as_str(), &handle)?.is_file() {
+            return Err(not_plain());
+        }
+        Ok(OpenFile { path, handle })
+    }
+
+    /// What the system says of the file now.
+    pub fn metadata(&self, rt: &R) -> io::Result<Metadata>
+        ensures { R.keeps (string_bytes (arc_value self.now.path)) → IfOk result (λ m. metadata_len m ≡ length (R.holds (string_bytes (arc_value self.now.path)))) }
+    {
+        rt.metadata(self.path.as_str(), &self.handle)
+    }
+}
+
+/// A file that someone holds open, seen as its path and the length that it is known to have.
+#[derive(Drop)]
+pub struct Opened<'a, R: Opens> {
+    pub file: &'a OpenFile<R>,
+    pub len: u64,
+}
+
+impl<'a, R: Opens> Model for Opened<'a, R> {
+    ghost Value = { Named };
+
+    ghost view = { λ s. record { path = string_bytes (arc_value s.file.now.path); len = s.len } };
+}
+
+impl<R: Opens> Source<R> for Opened<'_, R> {
+    ghost bytes = { λ s. fitted s.len (R.holds s.path) };
+
+    ghost keeps = { λ s. R.keeps s.path };
+
+    ghost gave = { λ _ f. f.cause == failed || f.cause == ended };
+
+    fn len(&self) -> u64 {
+        self.len
+    }
+
+    fn read_at(&self, rt: &R, at: u64, buffer: &mut [u8]) -> Result<(), ReadFault> {
+        match rt.read(self.file.path.as_str(), &self.file.handle, at, buffer) {
+            Ok(()) => Ok(()),
+            Err(error) => Err(ReadFault {
+                place: at,
+                cause: cause_of(error.kind()),
+            }),
+        }
+    }
+}
+
+/// The cause of a read's fault: the file ended, or the read failed.
+fn cause_of(kind: ErrorKind) -> u8
+    ensures ended { kind ≡ UnexpectedEof → result ≡ ended }
+    ensures failed { kind ≢ UnexpectedEof → result ≡ failed }
+    ensures known { IsTrue (result == failed || result == ended) }
+{
+    match kind {
+        ErrorKind::UnexpectedEof => ReadFault::ENDED,
+        _ => ReadFault::FAILED,
+    }
+}
