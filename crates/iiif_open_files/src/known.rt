@@ -1,6 +1,7 @@
 //! How a file is known again when it is opened once more.
 
 ghost use Rattle.std.specs.Prelude.{◌≡◌};
+ghost use Rattle.std.specs.Fs.{metadata_len};
 ghost use Rattle.iiif_open_files.specs.Files.{change_of};
 
 use iiif_source::ReadFault;
@@ -32,7 +33,9 @@ fn born(file: &Metadata) -> u64 {
 
 impl Known {
     /// What the system says of a file.
-    pub fn of(file: &Metadata) -> Known {
+    pub fn of(file: &Metadata) -> Known
+        ensures { result.len ≡ metadata_len file.now }
+    {
         Known {
             device: file.dev(),
             node: file.ino(),

@@ -3,21 +3,21 @@
 //! each row is read at once and kept for what is asked for beside them.
 #![tactic(auto)]
 
+pub use iiif_source::Opens;
 pub use known::Known;
 pub use open_files::OpenFiles;
-pub use opens::Opens;
 pub use path_source::PathSource;
 pub use row_shelf::RowShelf;
 pub use shelf::{Opening, Shelf};
+pub use texts::Texts;
 pub use wide_rows::WideRows;
 pub use widening::wider;
 
 pub mod known;
 pub mod open_files;
-mod opened;
-pub mod opens;
 pub mod path_source;
 pub mod row_shelf;
 pub mod shelf;
+pub mod texts;
 pub mod wide_rows;
 pub mod widening;

@@ -1,45 +1,44 @@
 //! A file as a source, opened when it is read.
 
-ghost use Rattle.std.specs.Prelude.{◌||◌, ◌==◌, ◌≡◌, ◌*◌, ℕ, IfErr, IsTrue, length, replicate};
+ghost use Rattle.std.specs.Prelude.{◌||◌, ◌==◌, ◌≡◌, ◌≤◌, ◌+◌, ◌*◌, take, drop, IfErr, IfOk, OnOk, IsTrue, length, string_bytes};
+ghost use Rattle.std.specs.Arc.{arc_value};
 ghost use Rattle.iiif_source.specs.Cause.{failed, ended};
-ghost use Rattle.iiif_source.specs.Runs.{AreIn};
+ghost use Rattle.iiif_source.specs.Files.{fitted, Named};
+ghost use Rattle.iiif_source.specs.Runs.{AreIn, HoldsRuns};
 
 use crate::known::Known;
 use crate::open_files::OpenFiles;
-use crate::opened::Opened;
-use crate::opens::Opens;
 use crate::shelf::Opening;
-use iiif_source::{ReadFault, Runs, Source, fill, fill_runs};
-use std::fs::File;
+use iiif_source::{OpenFile, Opened, Opens, ReadFault, Runs, Source};
 use std::io;
 use std::marker::Model;
 use std::sync::{Arc, Wait};
 
-/// A file by its path. It is seen as the length that it had when the source was made: nothing can be known of what a file holds,
-/// so its bytes stand for any, and that it keeps them is never promised.
+/// A file by its path, opened when it is read. It is seen as its path and the length that it had when the source was made.
 #[derive(Drop)]
-pub struct PathSource {
-    files: Arc<OpenFiles>,
+pub struct PathSource<R: Opens> {
+    files: Arc<OpenFiles<R>>,
     number: u64,
-    path: String,
+    path: Arc<String>,
     known: Known,
 }
 
-impl Model for PathSource {
-    ghost Value = { ℕ };
+impl<R: Opens> Model for PathSource<R> {
+    ghost Value = { Named };
 
-    ghost view = { λ s. s.known.len };
+    ghost view = { λ s. record { path = string_bytes (arc_value s.path); len = s.known.len } };
 }
 
-impl PathSource {
-    /// The source of a file, which has to be there: it is opened, its length is taken, and it is kept open as those are that
-    /// were read.
-    pub fn open<R>(rt: &R, files: Arc<OpenFiles>, path: String) -> io::Result<PathSource>
-    where
-        R: Opens + Wait,
+impl<R: Opens + Wait> PathSource<R> {
+    /// The source of a file, which has to be there and a plain one: it is opened, its length is taken, and it is kept open as those
+    /// are that were read.
+    pub fn open(rt: &R, files: Arc<OpenFiles<R>>, path: String) -> io::Result<PathSource<R>>
+        ensures path { IfOk result (λ s. s.path ≡ string_bytes path) }
+        ensures length { R.keeps (string_bytes path) → IfOk result (λ s. s.len ≡ length (R.holds (string_bytes path))) }
     {
-        let file = rt.open(path.as_str())?;
-        let known = Known::of(&file.metadata()?);
+        let path = files.shared(path)?;
+        let file = OpenFile::open(rt, path.clone()?)?;
+        let known = Known::of(&file.metadata(rt)?);
         let opening = Opening {
             number: files.number(),
             file,
@@ -56,13 +55,17 @@ impl PathSource {
 
     /// The file, opened again, or the cause of the fault of a read: it is gone, it can't be opened, or it isn't what it was. The
     /// opening has a number of its own, so nothing that was read ahead of an earlier one is used for it.
-    fn opened<R: Opens>(&self, rt: &R) -> Result<Opening, u8>
-        ensures { IfErr result (λ cause. IsTrue (cause == failed || cause == ended)) }
+    fn opened(&self, rt: &R) -> Result<Opening<R>, u8>
+        ensures path { IfOk result (λ o. string_bytes (arc_value o.file.path) ≡ self.now.path) }
+        ensures cause { IfErr result (λ cause. IsTrue (cause == failed || cause == ended)) }
     {
-        let Ok(file) = rt.open(self.path.as_str()) else {
+        let Ok(path) = self.path.clone() else {
             return Err(ReadFault::FAILED);
         };
-        let Ok(now) = file.metadata() else {
+        let Ok(file) = OpenFile::open(rt, path) else {
+            return Err(ReadFault::FAILED);
+        };
+        let Ok(now) = file.metadata(rt) else {
             return Err(ReadFault::FAILED);
         };
         match self.known.change(&Known::of(&now)) {
@@ -75,8 +78,8 @@ impl PathSource {
     }
 
     /// Whether an open file is what it was.
-    fn is_unchanged(&self, file: &File) -> bool {
-        match file.metadata() {
+    fn is_unchanged(&self, rt: &R, file: &OpenFile<R>) -> bool {
+        match file.metadata(rt) {
             Ok(now) => self.known.change(&Known::of(&now)).is_none(),
             Err(_) => false,
         }
@@ -85,40 +88,63 @@ impl PathSource {
     /// Reads runs of the open file. Where they lie apart, and the file is what it was, they are taken from rows that were read ahead
     /// of this opening, or their rows are read ahead. Where nothing can be read ahead they are read alone: so a fault is one of these
     /// runs' own.
-    fn runs_of<R: Wait>(
+    fn runs_of(
         &self,
         rt: &R,
-        opening: &Opening,
+        opening: &Opening<R>,
         runs: Runs,
         buffer: &mut [u8],
     ) -> Result<(), ReadFault>
-        requires runs { AreIn self.now runs }
+        requires path { string_bytes (arc_value opening.now.file.path) ≡ self.now.path }
+        requires runs { AreIn self.now.len runs }
         requires length { length buffer.old ≡ runs.count * runs.len }
         ensures length { length buffer.new ≡ length buffer.old }
+        ensures runs { R.keeps self.now.path → OnOk result (HoldsRuns (fitted self.now.len (R.holds self.now.path)) runs runs.count buffer.new) }
         ensures cause { IfErr result (λ f. IsTrue (f.cause == failed || f.cause == ended)) }
     {
         if runs.count > 1 && (runs.len as u64) < runs.stride {
-            let source = Opened {
-                file: &opening.file,
-                len: self.known.len,
-            };
-            if !self.is_unchanged(&opening.file) {
+            if !self.is_unchanged(rt, &opening.file) {
                 self.files.forget_rows(rt, opening.number);
             } else if self
                 .files
-                .read_ahead(rt, &source, opening.number, runs, buffer)
+                .read_ahead(rt, opening, self.known.len, runs, buffer)
             {
                 return Ok(());
             }
         }
-        fill_runs(&opening.file, runs, buffer)
+        let source = Opened {
+            file: &opening.file,
+            len: self.known.len,
+        };
+        source.read_runs(rt, runs, buffer)
+    }
+
+    /// Reads bytes of the open file.
+    fn fill(
+        &self,
+        rt: &R,
+        opening: &Opening<R>,
+        at: u64,
+        buffer: &mut [u8],
+    ) -> Result<(), ReadFault>
+        requires path { string_bytes (arc_value opening.now.file.path) ≡ self.now.path }
+        requires within { at + length buffer.old ≤ self.now.len }
+        ensures bytes { R.keeps self.now.path → OnOk result (buffer.new ≡ take (length buffer.old) (drop at (fitted self.now.len (R.holds self.now.path)))) }
+        ensures place { IfErr result (λ f. f.place ≡ at) }
+        ensures cause { IfErr result (λ f. IsTrue (f.cause == failed || f.cause == ended)) }
+    {
+        let source = Opened {
+            file: &opening.file,
+            len: self.known.len,
+        };
+        source.read_at(rt, at, buffer)
     }
 }
 
-impl<R: Opens + Wait> Source<R> for PathSource {
-    ghost bytes = { λ len. replicate len 0 };
+impl<R: Opens + Wait> Source<R> for PathSource<R> {
+    ghost bytes = { λ s. fitted s.len (R.holds s.path) };
 
-    ghost keeps = { λ _. ⊥ };
+    ghost keeps = { λ s. R.keeps s.path };
 
     ghost gave = { λ _ f. f.cause == failed || f.cause == ended };
 
@@ -127,20 +153,20 @@ impl<R: Opens + Wait> Source<R> for PathSource {
     }
 
     fn read_at(&self, rt: &R, at: u64, buffer: &mut [u8]) -> Result<(), ReadFault> {
-        if let Some(opening) = self.files.find(rt, self.number) {
-            return fill(&opening.file, at, buffer);
+        if let Some(opening) = self.files.find(rt, self.number, self.path.as_str()) {
+            return self.fill(rt, &opening, at, buffer);
         }
         let opening = match self.opened(rt) {
             Ok(opening) => opening,
             Err(cause) => return Err(ReadFault { place: at, cause }),
         };
-        let read = fill(&opening.file, at, buffer);
+        let read = self.fill(rt, &opening, at, buffer);
         self.files.keep(rt, self.number, opening);
         read
     }
 
     fn read_runs(&self, rt: &R, runs: Runs, buffer: &mut [u8]) -> Result<(), ReadFault> {
-        if let Some(opening) = self.files.find(rt, self.number) {
+        if let Some(opening) = self.files.find(rt, self.number, self.path.as_str()) {
             return self.runs_of(rt, &opening, runs, buffer);
         }
         let opening = match self.opened(rt) {

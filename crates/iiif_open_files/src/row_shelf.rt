@@ -1,6 +1,6 @@
 //! A bounded number of rows that were read ahead.
 
-ghost use Rattle.std.specs.Prelude.{◌≡◌, ◌==◌, ◌<◌, ◌≤◌, ◌⊎◌, ◌++◌, ◌∷◌, [], if◌then◌else◌, filter, not, IfSome};
+ghost use Rattle.std.specs.Prelude.{◌≡◌, ◌==◌, ◌<◌, ◌≤◌, ◌⊎◌, ◌++◌, ◌∷◌, [], if◌then◌else◌, filter, not, string_bytes, IfSome};
 ghost use Rattle.std.specs.Arc.{arc_value};
 ghost use Rattle.std.specs.Vec.{vec_len};
 ghost use Rattle.std.specs.List.{remove};
@@ -8,22 +8,22 @@ ghost use Rattle.iiif_open_files.specs.declared.wide_rows.WideRows.{WideRows};
 ghost use Rattle.iiif_open_files.specs.Rows.{AreAmong};
 
 use crate::wide_rows::WideRows;
-use iiif_source::Runs;
+use iiif_source::{Opens, Runs};
 use std::alloc::Global;
 use std::sync::Arc;
 
 /// Rows that were read ahead, so many at most, the ones that were used last behind all others.
 #[derive(Drop)]
-pub struct RowShelf {
-    rows: Vec<Arc<WideRows>>,
+pub struct RowShelf<R: Opens> {
+    rows: Vec<Arc<WideRows<R>>>,
     most: usize,
     ghost some: { 0 < most },
     ghost few: { vec_len rows ≤ most },
 }
 
-impl RowShelf {
+impl<R: Opens> RowShelf<R> {
     /// No rows, and room for so many.
-    pub fn new(alloc: Global, most: usize) -> RowShelf
+    pub fn new(alloc: Global, most: usize) -> RowShelf<R>
         requires { 0 < most }
         ensures rows { result.rows.items ≡ [] }
         ensures most { result.most ≡ most }
@@ -42,16 +42,17 @@ impl RowShelf {
         self.rows.len()
     }
 
-    /// Rows of the source of a number that have these runs, and their place: those that were used last are looked at first.
-    fn placed(&self, number: u64, runs: Runs) -> Option<(usize, Arc<WideRows>)>
+    /// Rows of the file of a path, of the opening of a number, that have these runs, and their place: those that were used last are looked at first.
+    fn placed(&self, path: &str, number: u64, runs: Runs) -> Option<(usize, Arc<WideRows<R>>)>
         ensures place { IfSome result (λ p. p.0 < vec_len self.now.rows) }
+        ensures path { IfSome result (λ p. string_bytes (arc_value (arc_value p.1).path) ≡ path.now) }
         ensures number { IfSome result (λ p. (arc_value p.1).number ≡ number) }
         ensures among { IfSome result (λ p. AreAmong (arc_value p.1).runs runs) }
     {
         for newer in 0..self.rows.len() {
             let place = self.rows.len() - 1 - newer;
             let rows = &self.rows[place];
-            if rows.have(number, runs) {
+            if rows.have(path, number, runs) {
                 return match rows.clone() {
                     Ok(rows) => Some((place, rows)),
                     Err(_) => None,
@@ -61,13 +62,14 @@ impl RowShelf {
         None
     }
 
-    /// Rows of the source of a number that have these runs; they are then the ones that were used last.
-    pub fn find(&mut self, number: u64, runs: Runs) -> Option<Arc<WideRows>>
+    /// Rows of the file of a path, of the opening of a number, that have these runs; they are then the ones that were used last.
+    pub fn find(&mut self, path: &str, number: u64, runs: Runs) -> Option<Arc<WideRows<R>>>
+        ensures path { IfSome result (λ w. string_bytes (arc_value (arc_value w).path) ≡ path.now) }
         ensures number { IfSome result (λ w. (arc_value w).number ≡ number) }
         ensures among { IfSome result (λ w. AreAmong (arc_value w).runs runs) }
         ensures most { self.new.most ≡ self.old.most }
     {
-        match self.placed(number, runs) {
+        match self.placed(path, number, runs) {
             Some((place, found)) => {
                 let rows = self.rows.remove(place);
                 // One was taken out, so there is room; and rows that are lost are read again.
@@ -91,7 +93,7 @@ impl RowShelf {
 
     /// Keeps rows, and lets go the ones that were used longest ago where there is no room. Where memory is wanting these are let go
     /// too.
-    pub fn keep(&mut self, rows: Arc<WideRows>)
+    pub fn keep(&mut self, rows: Arc<WideRows<R>>)
         ensures most { self.new.most ≡ self.old.most }
         ensures rows { let rest = (if vec_len self.old.rows == self.old.most then remove self.old.rows.items 0 else self.old.rows.items) in (self.new.rows.items ≡ rest ++ (rows ∷ [])) ⊎ (self.new.rows.items ≡ rest) }
     {
@@ -99,7 +101,7 @@ impl RowShelf {
         let _ = self.rows.push(rows);
     }
 
-    /// Lets go all rows of the source of a number.
+    /// Lets go all rows of the opening of a number.
     pub fn forget(&mut self, number: u64)
         ensures most { self.new.most ≡ self.old.most }
         ensures rows { self.new.rows.items ≡ filter (λ w. not ((arc_value {X = WideRows} w).number == number)) self.old.rows.items }

@@ -6,29 +6,29 @@ ghost use Rattle.std.specs.Map.{lookup};
 ghost use Rattle.std.specs.NonZero.{non_zero_usize_get};
 ghost use Rattle.lru.specs.LruCache.{lru_cache, promoted, put_entries};
 
+use iiif_source::{OpenFile, Opens};
 use lru::LruCache;
 use std::alloc::{AllocError, Global};
-use std::fs::File;
 use std::num::NonZeroUsize;
 use std::sync::Arc;
 
 /// A file that was opened, and the number of that opening, which no other one has: what is read ahead is of one opening.
 #[derive(Drop)]
-pub struct Opening {
+pub struct Opening<R: Opens> {
     pub number: u64,
-    pub file: File,
+    pub file: OpenFile<R>,
 }
 
 /// Open files by the numbers of their sources, the one that was used last first. The one that was used longest ago is closed where
 /// there is no room for another, once no read holds it.
 #[derive(Drop)]
-pub struct Shelf {
-    files: LruCache<u64, Arc<Opening>>,
+pub struct Shelf<R: Opens> {
+    files: LruCache<u64, Arc<Opening<R>>>,
 }
 
-impl Shelf {
+impl<R: Opens> Shelf<R> {
     /// No file, and room for so many.
-    pub fn new(alloc: Global, most: NonZeroUsize) -> Result<Shelf, AllocError>
+    pub fn new(alloc: Global, most: NonZeroUsize) -> Result<Shelf<R>, AllocError>
         ensures { IfOk result (λ s. s.files ≡ lru_cache [] (non_zero_usize_get most)) }
     {
         Ok(Shelf {
@@ -45,7 +45,7 @@ impl Shelf {
     }
 
     /// The file of a number, which is then the one that was used last. The file stays open while it is held.
-    pub fn find(&mut self, number: u64) -> Option<Arc<Opening>>
+    pub fn find(&mut self, number: u64) -> Option<Arc<Opening<R>>>
         ensures file { IfSome result (λ f. IsSomeAnd (lookup (nat_eq number) self.old.files.entries) (λ kept. arc_value f ≡ arc_value kept)) }
         ensures used { self.new.files ≡ lru_cache (promoted (nat_eq number) self.old.files.entries) self.old.files.cap }
     {
@@ -58,7 +58,7 @@ impl Shelf {
     }
 
     /// Keeps the file of a number. Where memory is wanting the shelf stays as it was, and the file is let go.
-    pub fn keep(&mut self, number: u64, file: Arc<Opening>)
+    pub fn keep(&mut self, number: u64, file: Arc<Opening<R>>)
         ensures { (self.new.files ≡ lru_cache (put_entries nat_eq self.old.files number file) self.old.files.cap) ⊎ (self.new.files ≡ self.old.files) }
     {
         let _ = self.files.put(number, file);

@@ -1,76 +1,92 @@
 //! Rows of bytes that were read ahead.
 
-ghost use Rattle.std.specs.Prelude.{◌≡◌, ◌+◌, ◌*◌, ◌^◌, ◌<◌, ◌≤◌, ℕ, List, length, IfSome, IsTrue};
+ghost use Rattle.std.specs.Prelude.{◌≡◌, ◌+◌, ◌*◌, ◌^◌, ◌<◌, ◌≤◌, ℕ, List, length, IfSome, IsTrue, string_bytes};
+ghost use Rattle.std.specs.Arc.{arc_value};
 ghost use Rattle.iiif_source.specs.Runs.{AreIn, HoldsRuns};
 ghost use Rattle.iiif_open_files.specs.Rows.{AreAmong, room_of};
 
+use crate::shelf::Opening;
 use crate::widening::wider;
-use iiif_source::{MemSource, Runs, Source};
+use iiif_source::{MemSource, Opened, Opens, Runs, Source};
 use std::alloc::Global;
+use std::marker::PhantomData;
+use std::sync::Arc;
 
-/// Bytes of the source of a number: where its rows stand there, and their bytes, one row after another.
+/// Bytes of the file of a path, read by the opening of a number: where its rows stand there, and their bytes, one row after another.
 #[derive(Drop)]
-pub struct WideRows {
+pub struct WideRows<R: Opens> {
+    pub path: Arc<String>,
     pub number: u64,
     pub runs: Runs,
     pub bytes: MemSource,
+    pub of: PhantomData<R::Handle>,
     pub ghost small: { (runs.at ≤ 2 ^ 61) × (runs.len ≤ 2 ^ 23) },
     pub ghost some: { 0 < runs.count },
     pub ghost held: { length bytes ≡ runs.count * runs.len },
+    pub ghost there: { R.keeps (string_bytes (arc_value path)) → HoldsRuns (R.holds (string_bytes (arc_value path))) runs runs.count bytes },
 }
 
-impl WideRows {
-    /// Reads rows of a source. None where it can't be read, or memory is wanting.
-    pub fn read<R, S: Source<R>>(
+impl<R: Opens> WideRows<R> {
+    /// Reads rows of an open file of so many bytes. None where it can't be read, or memory is wanting.
+    pub fn read(
         rt: &R,
         alloc: Global,
-        source: &S,
-        number: u64,
+        opening: &Opening<R>,
+        len: u64,
         runs: Runs,
-    ) -> Option<WideRows>
-        requires { AreIn (length (S.bytes source.now)) runs }
-        ensures number { IfSome result (λ w. w.number ≡ number) }
+    ) -> Option<WideRows<R>>
+        requires { AreIn len runs }
+        ensures path { IfSome result (λ w. w.path ≡ opening.now.file.path) }
+        ensures number { IfSome result (λ w. w.number ≡ opening.now.number) }
         ensures runs { IfSome result (λ w. w.runs ≡ runs) }
-        ensures bytes { IfSome result (λ w. S.keeps source.now → HoldsRuns (S.bytes source.now) runs runs.count w.bytes) }
     {
         let Ok(mut bytes) = vec![in alloc; 0u8; runs.count as usize * runs.len] else {
             return None;
+        };
+        let Ok(path) = opening.file.path.clone() else {
+            return None;
+        };
+        let source = Opened {
+            file: &opening.file,
+            len,
         };
         let Ok(()) = source.read_runs(rt, runs, &mut bytes) else {
             return None;
         };
         Some(WideRows {
-            number,
+            path,
+            number: opening.number,
             runs,
             bytes: MemSource::new(bytes),
+            of: PhantomData,
         })
     }
 
-    /// Reads longer runs of a source at the places of those that are asked for. None where there is no room for longer ones, where
-    /// the source can't be read, or memory is wanting.
-    pub fn ahead<R, S: Source<R>>(
+    /// Reads longer runs of an open file of so many bytes at the places of those that are asked for. None where there is no room for
+    /// longer ones, where the file can't be read, or memory is wanting.
+    pub fn ahead(
         rt: &R,
         alloc: Global,
-        source: &S,
-        number: u64,
+        opening: &Opening<R>,
+        len: u64,
         runs: Runs,
-    ) -> Option<WideRows>
-        requires { AreIn (length (S.bytes source.now)) runs }
-        ensures number { IfSome result (λ w. w.number ≡ number) }
+    ) -> Option<WideRows<R>>
+        requires { AreIn len runs }
+        ensures path { IfSome result (λ w. w.path ≡ opening.now.file.path) }
+        ensures number { IfSome result (λ w. w.number ≡ opening.now.number) }
         ensures among { IfSome result (λ w. AreAmong w.runs runs) }
         ensures room { IfSome result (λ w. length w.bytes ≤ room_of w.runs.count) }
-        ensures bytes { IfSome result (λ w. S.keeps source.now → HoldsRuns (S.bytes source.now) w.runs w.runs.count w.bytes) }
     {
-        match wider(runs, source.len()) {
-            Some(rows) => WideRows::read(rt, alloc, source, number, rows),
+        match wider(runs, len) {
+            Some(rows) => WideRows::read(rt, alloc, opening, len, rows),
             None => None,
         }
     }
 
-    /// Whether these are rows of the source of a number, and have these runs of it.
-    pub fn have(&self, number: u64, runs: Runs) -> bool
-        ensures right { IsTrue result → (self.now.number ≡ number) × AreAmong self.now.runs runs }
-        ensures all { self.now.number ≡ number → AreAmong self.now.runs runs → IsTrue result }
+    /// Whether these are rows of the file of the path, of the opening of the number, and have these runs of it.
+    pub fn have(&self, path: &str, number: u64, runs: Runs) -> bool
+        ensures right { IsTrue result → (string_bytes (arc_value self.now.path) ≡ path.now) × (self.now.number ≡ number) × AreAmong self.now.runs runs }
+        ensures all { string_bytes (arc_value self.now.path) ≡ path.now → self.now.number ≡ number → AreAmong self.now.runs runs → IsTrue result }
     {
         let rows = self.runs;
         if self.number != number || rows.stride != runs.stride || rows.count != runs.count {
@@ -79,11 +95,11 @@ impl WideRows {
         if runs.at < rows.at || runs.len > rows.len {
             return false;
         }
-        runs.at - rows.at <= (rows.len - runs.len) as u64
+        runs.at - rows.at <= (rows.len - runs.len) as u64 && self.path.as_str() == path
     }
 
     /// Copies runs that the rows have, one after another into the buffer.
-    pub fn copy<R>(&self, rt: &R, runs: Runs, buffer: &mut [u8])
+    pub fn copy(&self, rt: &R, runs: Runs, buffer: &mut [u8])
         requires among { AreAmong self.now.runs runs }
         requires length { length buffer.old ≡ runs.count * runs.len }
         ensures length { length buffer.new ≡ length buffer.old }
