@@ -4,7 +4,7 @@ ghost use Rattle.std.specs.Prelude.{◌≡◌, ◌==◌, ◌<◌, ◌≤◌, ◌
 ghost use Rattle.std.specs.Arc.{arc_value};
 ghost use Rattle.std.specs.Vec.{vec_len};
 ghost use Rattle.std.specs.List.{remove};
-ghost use Rattle.iiif_open_files.specs.declared.wide_rows.WideRows.{WideRows};
+ghost use Rattle.iiif_open_files.specs.Kept.{number_of};
 ghost use Rattle.iiif_open_files.specs.Rows.{AreAmong};
 
 use crate::wide_rows::WideRows;
@@ -104,7 +104,7 @@ impl<R: Opens> RowShelf<R> {
     /// Lets go all rows of the opening of a number.
     pub fn forget(&mut self, number: u64)
         ensures most { self.new.most ≡ self.old.most }
-        ensures rows { self.new.rows.items ≡ filter (λ w. not ((arc_value {X = WideRows} w).number == number)) self.old.rows.items }
+        ensures rows { self.new.rows.items ≡ filter (λ w. not (number_of (arc_value w) == number)) self.old.rows.items }
     {
         self.rows.retain(|rows| rows.number != number);
     }

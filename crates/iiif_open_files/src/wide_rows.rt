@@ -2,6 +2,7 @@
 
 ghost use Rattle.std.specs.Prelude.{◌≡◌, ◌+◌, ◌*◌, ◌^◌, ◌<◌, ◌≤◌, ℕ, List, length, IfSome, IsTrue, string_bytes};
 ghost use Rattle.std.specs.Arc.{arc_value};
+ghost use Rattle.iiif_source.specs.Files.{fitted};
 ghost use Rattle.iiif_source.specs.Runs.{AreIn, HoldsRuns};
 ghost use Rattle.iiif_open_files.specs.Rows.{AreAmong, room_of};
 
@@ -27,23 +28,19 @@ pub struct WideRows<R: Opens> {
 }
 
 impl<R: Opens> WideRows<R> {
-    /// Reads rows of an open file of so many bytes. None where it can't be read, or memory is wanting.
-    pub fn read(
+    /// Reads runs of an open file of so many bytes. None where it can't be read, or memory is wanting.
+    fn bytes_of(
         rt: &R,
         alloc: Global,
         opening: &Opening<R>,
         len: u64,
         runs: Runs,
-    ) -> Option<WideRows<R>>
+    ) -> Option<MemSource>
         requires { AreIn len runs }
-        ensures path { IfSome result (λ w. w.path ≡ opening.now.file.path) }
-        ensures number { IfSome result (λ w. w.number ≡ opening.now.number) }
-        ensures runs { IfSome result (λ w. w.runs ≡ runs) }
+        ensures length { IfSome result (λ bytes. length bytes ≡ runs.count * runs.len) }
+        ensures there { IfSome result (λ bytes. R.keeps (string_bytes (arc_value opening.now.file.path)) → HoldsRuns (fitted len (R.holds (string_bytes (arc_value opening.now.file.path)))) runs runs.count bytes) }
     {
         let Ok(mut bytes) = vec![in alloc; 0u8; runs.count as usize * runs.len] else {
-            return None;
-        };
-        let Ok(path) = opening.file.path.clone() else {
             return None;
         };
         let source = Opened {
@@ -53,11 +50,31 @@ impl<R: Opens> WideRows<R> {
         let Ok(()) = source.read_runs(rt, runs, &mut bytes) else {
             return None;
         };
+        Some(MemSource::new(bytes))
+    }
+
+    /// Reads rows of an open file of so many bytes. None where it can't be read, or memory is wanting.
+    pub fn read(
+        rt: &R,
+        alloc: Global,
+        opening: &Opening<R>,
+        len: u64,
+        runs: Runs,
+    ) -> Option<WideRows<R>>
+        requires { AreIn len runs }
+        ensures path { IfSome result (λ w. arc_value w.path ≡ arc_value opening.now.file.path) }
+        ensures number { IfSome result (λ w. w.number ≡ opening.now.number) }
+        ensures runs { IfSome result (λ w. w.runs ≡ runs) }
+    {
+        let Ok(path) = opening.file.path.clone() else {
+            return None;
+        };
+        let bytes = WideRows::bytes_of(rt, alloc, opening, len, runs)?;
         Some(WideRows {
             path,
             number: opening.number,
             runs,
-            bytes: MemSource::new(bytes),
+            bytes,
             of: PhantomData,
         })
     }
@@ -72,7 +89,7 @@ impl<R: Opens> WideRows<R> {
         runs: Runs,
     ) -> Option<WideRows<R>>
         requires { AreIn len runs }
-        ensures path { IfSome result (λ w. w.path ≡ opening.now.file.path) }
+        ensures path { IfSome result (λ w. arc_value w.path ≡ arc_value opening.now.file.path) }
         ensures number { IfSome result (λ w. w.number ≡ opening.now.number) }
         ensures among { IfSome result (λ w. AreAmong w.runs runs) }
         ensures room { IfSome result (λ w. length w.bytes ≤ room_of w.runs.count) }

@@ -3,4 +3,4 @@ use Rattle.std.proofs.lemmas.Fn.{filter_same}
 use Rattle.iiif_open_files.proofs.row_shelf.RowShelf.forget.Goals as goal
 
 pub returns-clause-rows : goal.returns-clause-rows
-returns-clause-rows c = filter_same _ _ _ (λ x b f' k. search rules) _ _ c.retain.ensures.filtered
+returns-clause-rows g c = filter_same _ _ _ (λ x b f' k. search rules) _ _ c.retain.ensures.filtered
