@@ -1,3 +1,4 @@
 pub mod Files
 pub mod Kept
+pub mod Memory
 pub mod Rows

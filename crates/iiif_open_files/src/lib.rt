@@ -5,6 +5,8 @@
 
 pub use iiif_source::Opens;
 pub use known::Known;
+pub use mem_file::{Contents, MemFile};
+pub use mem_files::{Failing, MemFiles};
 pub use open_files::OpenFiles;
 pub use path_source::PathSource;
 pub use row_shelf::RowShelf;
@@ -14,6 +16,8 @@ pub use wide_rows::WideRows;
 pub use widening::wider;
 
 pub mod known;
+pub mod mem_file;
+pub mod mem_files;
 pub mod open_files;
 pub mod path_source;
 pub mod row_shelf;

@@ -1,6 +1,6 @@
 //! A file as a source, opened when it is read.
 
-ghost use Rattle.std.specs.Prelude.{◌||◌, ◌==◌, ◌≡◌, ◌≤◌, ◌+◌, ◌*◌, take, drop, IfErr, IfOk, OnOk, IsTrue, length, string_bytes};
+ghost use Rattle.std.specs.Prelude.{◌||◌, ◌==◌, ◌≡◌, ◌≤◌, ◌+◌, ◌*◌, take, drop, IfErr, IfOk, IfSome, OnOk, IsTrue, length, string_bytes};
 ghost use Rattle.std.specs.Arc.{arc_value};
 ghost use Rattle.iiif_source.specs.Cause.{failed, ended};
 ghost use Rattle.iiif_source.specs.Files.{fitted, Named};
@@ -51,6 +51,13 @@ impl<R: Opens + Wait> PathSource<R> {
             path,
             known,
         })
+    }
+
+    /// The file, where it is kept open.
+    fn kept(&self, rt: &R) -> Option<Arc<Opening<R>>>
+        ensures { IfSome result (λ o. string_bytes (arc_value (arc_value o).file.path) ≡ self.now.path) }
+    {
+        self.files.find(rt, self.number, self.path.as_str())
     }
 
     /// The file, opened again, or the cause of the fault of a read: it is gone, it can't be opened, or it isn't what it was. The
@@ -153,7 +160,7 @@ impl<R: Opens + Wait> Source<R> for PathSource<R> {
     }
 
     fn read_at(&self, rt: &R, at: u64, buffer: &mut [u8]) -> Result<(), ReadFault> {
-        if let Some(opening) = self.files.find(rt, self.number, self.path.as_str()) {
+        if let Some(opening) = self.kept(rt) {
             return self.fill(rt, &opening, at, buffer);
         }
         let opening = match self.opened(rt) {
@@ -166,7 +173,7 @@ impl<R: Opens + Wait> Source<R> for PathSource<R> {
     }
 
     fn read_runs(&self, rt: &R, runs: Runs, buffer: &mut [u8]) -> Result<(), ReadFault> {
-        if let Some(opening) = self.files.find(rt, self.number, self.path.as_str()) {
+        if let Some(opening) = self.kept(rt) {
             return self.runs_of(rt, &opening, runs, buffer);
         }
         let opening = match self.opened(rt) {
