@@ -1,7 +1,7 @@
 //! Sources of files, with room for fewer open files than there are.
 
 use crate::rows_tests;
-use crate::steps::{Ask, Bytes, Change, Shared, Step, both_answer, open_files, play, run};
+use crate::steps::{Ask, Bytes, Change, Outcome, Shared, Step, both_answer, open_files, play, run};
 use iiif_open_files::Known;
 use iiif_source::ReadFault;
 use std::test::Fail;
@@ -117,6 +117,42 @@ const CUT: &[Step] = &[
     Step::Change("open_files_cut", Change::Removed),
 ];
 
+/// Two files of one length, asked in turn where one of them alone is open.
+const BY_NAME: &[Step] = &[
+    Step::Open("open_files_name_3", Bytes::Numbered(3, 4000)),
+    Step::Open("open_files_name_4", Bytes::Numbered(4, 4000)),
+    Step::Ask(0, Ask::Two(1, Ok([2, 1]))),
+    Step::Ask(1, Ask::Two(1, Ok([5, 6]))),
+    Step::Ask(0, Ask::Runs(3, (0, 100, 4, 8), Outcome::Right)),
+    Step::Ask(1, Ask::Runs(4, (0, 100, 4, 8), Outcome::Right)),
+    Step::Ask(0, Ask::Runs(3, (4, 100, 4, 8), Outcome::Right)),
+    Step::Ask(1, Ask::Runs(4, (4, 100, 4, 8), Outcome::Right)),
+    Step::Ask(1, Ask::Two(1, Ok([5, 6]))),
+    Step::Ask(0, Ask::Two(1, Ok([2, 1]))),
+    Step::Kept(1),
+    Step::Change("open_files_name_3", Change::Removed),
+    Step::Change("open_files_name_4", Change::Removed),
+];
+
+/// A file whose name another takes while it is open: as long as it is, it is read; then what has its name isn't it.
+const REPLACED: &[Step] = &[
+    Step::Open("open_files_replaced", Bytes::These(&[1, 2, 3])),
+    Step::Change("open_files_replaced", Change::Replaced(&[7, 8, 9])),
+    Step::Ask(0, Ask::Two(1, Ok([2, 3]))),
+    Step::Open("open_files_behind", Bytes::These(&[4, 5])),
+    Step::Ask(0, Ask::Two(1, Err(ReadFault::FAILED))),
+    Step::Ask(1, Ask::Two(0, Ok([4, 5]))),
+    Step::Change("open_files_replaced", Change::Removed),
+    Step::Change("open_files_behind", Change::Removed),
+];
+
+/// A file of no bytes is a source of none.
+const EMPTY: &[Step] = &[
+    Step::Open("open_files_empty", Bytes::These(&[])),
+    Step::Ask(0, Ask::Len(0)),
+    Step::Change("open_files_empty", Change::Removed),
+];
+
 const TWO: &[Step] = &[
     Step::Open("open_files_one", Bytes::These(&[1, 2, 3])),
     Step::Open("open_files_two", Bytes::These(&[4, 5])),
@@ -195,7 +231,10 @@ fn threads_share_the_open_files(rt: HostRuntime) -> Result<(), Fail> {
 }
 
 /// How many files are kept open, and what is done.
-static LISTS: [(usize, &[(u32, &[Step])]); 5] = [
+static LISTS: [(usize, &[(u32, &[Step])]); 8] = [
+    (1, &[(1, BY_NAME)]),
+    (1, &[(1, REPLACED)]),
+    (1, &[(1, EMPTY)]),
     (2, AGAIN),
     (1, &[(1, NOWHERE)]),
     (1, FAULTS),

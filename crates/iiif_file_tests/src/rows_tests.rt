@@ -1,9 +1,10 @@
 //! Runs of files that are read ahead: the bytes are those of the file, in whatever order they are asked for.
 
 use crate::steps::{Ask, Bytes, Change, Outcome, Place, Shared, Step, fit, run};
-use iiif_open_files::{RowShelf, WideRows, wider};
-use iiif_source::{MemSource, ReadFault, Runs};
+use iiif_open_files::{Opening, Opens, RowShelf, WideRows, wider};
+use iiif_source::{OpenFile, ReadFault, Runs};
 use std::alloc::Global;
+use std::fs;
 use std::sync::Arc;
 use std::test::Fail;
 
@@ -213,27 +214,42 @@ const SMALL: Runs = Runs {
     count: 2,
 };
 
-/// Small rows of the source of a number.
-fn small_rows<R>(rt: &R, alloc: Global, number: u64) -> Result<Arc<WideRows>, Fail> {
-    let source = MemSource::new(vec![in alloc; 7u8; 8]?);
-    let rows = WideRows::read(rt, alloc, &source, number, SMALL).ok_or("no rows")?;
+/// An opening of a file, with a number.
+fn opening<R: Opens>(rt: &R, alloc: Global, path: &str, number: u64) -> Result<Opening<R>, Fail> {
+    let path = Arc::new(alloc, String::from_str(alloc, path)?)?;
+    let file = OpenFile::open(rt, path)?;
+    Ok(Opening { number, file })
+}
+
+/// Small rows of a file, read by the opening of a number.
+fn small_rows<R: Opens>(
+    rt: &R,
+    alloc: Global,
+    path: &str,
+    number: u64,
+) -> Result<Arc<WideRows<R>>, Fail> {
+    let opening = opening(rt, alloc, path, number)?;
+    let rows = WideRows::read(rt, alloc, &opening, 8, SMALL).ok_or("no rows")?;
     Ok(Arc::new(alloc, rows)?)
 }
 
 /// A call of a shelf, and what is to come of it.
 #[derive(Clone, Copy)]
 enum Shelved {
-    /// Rows of the sources from a number to another are kept, one after another.
+    /// Rows of the openings from a number to another are kept, one after another.
     Keep(u64, u64),
-    /// The shelf has the rows of the source of a number, or not.
+    /// The shelf has the rows of the opening of a number, or not.
     Has(u64, bool),
+    /// It has none of another file, though the opening has this number.
+    HasNoOther(u64),
     Forget(u64),
     /// It has so many rows.
     Len(usize),
 }
 
-static SHELVED: [Shelved; 12] = [
+static SHELVED: [Shelved; 13] = [
     Shelved::Keep(0, 16),
+    Shelved::HasNoOther(0),
     Shelved::Len(16),
     Shelved::Has(0, true),
     Shelved::Keep(16, 17),
@@ -247,15 +263,22 @@ static SHELVED: [Shelved; 12] = [
     Shelved::Has(2, true),
 ];
 
-/// Whether a call of a shelf comes to what it is to.
-fn is_shelved<R>(rt: &R, alloc: Global, shelf: &mut RowShelf, call: Shelved) -> Result<bool, Fail> {
+/// Whether a call of a shelf, of rows of a file, comes to what it is to.
+fn is_shelved<R: Opens>(
+    rt: &R,
+    alloc: Global,
+    path: &str,
+    shelf: &mut RowShelf<R>,
+    call: Shelved,
+) -> Result<bool, Fail> {
     match call {
         Shelved::Keep(from, to) => {
             for number in from..to {
-                shelf.keep(small_rows(rt, alloc, number)?);
+                shelf.keep(small_rows(rt, alloc, path, number)?);
             }
         }
-        Shelved::Has(number, kept) => return Ok(shelf.find(number, SMALL).is_some() == kept),
+        Shelved::Has(number, kept) => return Ok(shelf.find(path, number, SMALL).is_some() == kept),
+        Shelved::HasNoOther(number) => return Ok(shelf.find("rows_other", number, SMALL).is_none()),
         Shelved::Forget(number) => shelf.forget(number),
         Shelved::Len(len) => return Ok(shelf.len() == len),
     }
@@ -264,12 +287,14 @@ fn is_shelved<R>(rt: &R, alloc: Global, shelf: &mut RowShelf, call: Shelved) -> 
 
 #[test]
 fn rows_that_were_used_longest_ago_go_first(rt: HostRuntime) -> Result<(), Fail> {
+    let path = "rows_small";
+    fs::write(&rt, path, &[7; 8])?;
     let mut shelf = RowShelf::new(rt.alloc(), 16);
     for (place, call) in SHELVED.iter().enumerate() {
         assert!(rt;
-            is_shelved(&rt, rt.alloc(), &mut shelf, *call)?,
+            is_shelved(&rt, rt.alloc(), path, &mut shelf, *call)?,
             "call {place}"
         );
     }
-    Ok(())
+    Ok(fs::remove_file(&rt, path)?)
 }

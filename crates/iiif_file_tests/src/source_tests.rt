@@ -1,10 +1,10 @@
 //! Sources in memory, of files, and those that fail when told.
 
-use iiif_source::{FileSource, FuseSource, MemSource, ReadFault, Source};
+use iiif_source::{FileSource, FuseSource, MemSource, OpenFile, ReadFault, Source};
 use std::alloc::Global;
 use std::fs::File;
 use std::rt::Files;
-use std::sync::Wait;
+use std::sync::{Arc, Wait};
 use std::{fs, io};
 
 /// A place, and the two bytes that are read from there on, or the cause of the fault of that read.
@@ -160,25 +160,30 @@ fn open_file<R: Files<File = File>>(rt: &R, file: &Opened) -> io::Result<File> {
 }
 
 /// A source of a file, which is cut then.
-fn cut<R: Files<File = File>>(rt: &R, file: &Opened) -> io::Result<FileSource> {
-    let open = open_file(rt, file)?;
-    let second = open.try_clone()?;
-    let source = FileSource::new(open)?;
+fn cut<R: Files<File = File>>(rt: &R, alloc: Global, file: &Opened) -> io::Result<FileSource<R>> {
+    let handle = open_file(rt, file)?;
+    let second = handle.try_clone()?;
+    let path = Arc::new(alloc, String::from_str(alloc, file.name)?)?;
+    let source = FileSource::new(rt, OpenFile { path, handle })?;
     second.set_len(file.len)?;
     Ok(source)
 }
 
 /// Whether a file gives its reads.
-fn file_gives<R: Files<File = File> + Wait>(rt: &R, file: &Opened) -> bool {
-    match cut(rt, file) {
+fn file_gives<R: Files<File = File> + Wait + AllocGlobal>(rt: &R, file: &Opened) -> bool {
+    match cut(rt, rt.alloc(), file) {
         Ok(source) => gives(rt, &source, file.bytes.len() as u64, file.reads),
         Err(_) => false,
     }
 }
 
 /// Whether a source that fails from the ninth read on gives the first fault of what is inside.
-fn fuse_gives<R: Files<File = File> + Wait>(rt: &R, file: &Opened, reads: &[Read]) -> bool {
-    match cut(rt, file) {
+fn fuse_gives<R: Files<File = File> + Wait + AllocGlobal>(
+    rt: &R,
+    file: &Opened,
+    reads: &[Read],
+) -> bool {
+    match cut(rt, rt.alloc(), file) {
         Ok(source) => gives(rt, &FuseSource::new(source, 9), 5, reads),
         Err(_) => false,
     }

@@ -8,7 +8,7 @@ use iiif_source::{ReadFault, Runs, Source};
 use std::alloc::Global;
 use std::fs::File;
 use std::io::ErrorKind;
-use std::marker::Sync;
+use std::marker::{Send, Sync};
 use std::num::NonZeroUsize;
 use std::process::Abort;
 use std::rt::Files;
@@ -89,7 +89,7 @@ fn byte_at(file: u8, place: u64) -> u8 {
 }
 
 /// The bytes of a file.
-fn bytes_of(alloc: Global, bytes: Bytes) -> Result<Vec<u8>, Fail> {
+pub(crate) fn bytes_of(alloc: Global, bytes: Bytes) -> Result<Vec<u8>, Fail> {
     match bytes {
         Bytes::These(bytes) => Ok(Vec::from_slice(alloc, bytes)?),
         Bytes::Numbered(file, len) => {
@@ -135,7 +135,7 @@ pub(crate) fn fit(source: u64, runs: Runs, room: usize) -> bool
 }
 
 /// Reads runs of a source, and compares them with those of the file of a number.
-fn came<R>(rt: &R, source: &PathSource, file: u8, runs: Runs) -> Outcome
+fn came<R>(rt: &R, source: &PathSource<R>, file: u8, runs: Runs) -> Outcome
 where
     R: Opens + Wait,
 {
@@ -152,7 +152,7 @@ where
 }
 
 /// Two bytes of a source from a place on, where it has them.
-fn two_at<R>(rt: &R, source: &PathSource, at: u64) -> Result<[u8; 2], ReadFault>
+fn two_at<R>(rt: &R, source: &PathSource<R>, at: u64) -> Result<[u8; 2], ReadFault>
 where
     R: Opens + Wait,
 {
@@ -165,7 +165,7 @@ where
 }
 
 /// Whether a source answers what it is to. Runs are asked so many bytes further on.
-fn is_answered<R>(rt: &R, source: &PathSource, ask: Ask, further: u32) -> bool
+pub(crate) fn is_answered<R>(rt: &R, source: &PathSource<R>, ask: Ask, further: u32) -> bool
 where
     R: Opens + Wait,
 {
@@ -187,7 +187,7 @@ where
 }
 
 /// Whether the source of a number answers what it is to.
-fn answers<R>(rt: &R, sources: &[PathSource], number: usize, ask: Ask, further: u32) -> bool
+fn answers<R>(rt: &R, sources: &[PathSource<R>], number: usize, ask: Ask, further: u32) -> bool
 where
     R: Opens + Wait,
 {
@@ -198,7 +198,12 @@ where
 }
 
 /// Whether sources answer what they are to, so many times over: runs from one byte further on each time, up to 63.
-fn all_answer<R>(rt: &R, sources: &[PathSource], asks: &[(usize, Ask)], turns: u32) -> bool
+pub(crate) fn all_answer<R>(
+    rt: &R,
+    sources: &[PathSource<R>],
+    asks: &[(usize, Ask)],
+    turns: u32,
+) -> bool
 where
     R: Opens + Wait,
 {
@@ -224,9 +229,10 @@ pub(crate) struct Shared {
 }
 
 /// Whether sources answer two threads what they are to.
-pub(crate) fn both_answer<R>(rt: &R, sources: &[PathSource], shared: Shared) -> bool
+pub(crate) fn both_answer<R>(rt: &R, sources: &[PathSource<R>], shared: Shared) -> bool
 where
     R: Opens + Wait + Threads + Sync,
+    R::Handle: Send + Sync,
 {
     let (asks, (one, other)) = (shared.asks, shared.turns);
     let both = thread::join(
@@ -238,11 +244,16 @@ where
 }
 
 /// A source of a file.
-fn open<R>(rt: &R, files: &Arc<OpenFiles>, path: &str) -> Result<io::Result<PathSource>, Fail>
+pub(crate) fn open<R>(
+    rt: &R,
+    alloc: Global,
+    files: &Arc<OpenFiles<R>>,
+    path: &str,
+) -> Result<io::Result<PathSource<R>>, Fail>
 where
-    R: Opens + Wait + AllocGlobal,
+    R: Opens + Wait,
 {
-    let path = String::from_str(rt.alloc(), path)?;
+    let path = String::from_str(alloc, path)?;
     Ok(PathSource::open(rt, files.clone()?, path))
 }
 
@@ -296,11 +307,11 @@ where
 }
 
 /// Whether no source is opened of a file that is not there.
-fn is_nowhere<R>(rt: &R, files: &Arc<OpenFiles>, path: &str) -> Result<bool, Fail>
+fn is_nowhere<R>(rt: &R, files: &Arc<OpenFiles<R>>, path: &str) -> Result<bool, Fail>
 where
     R: Opens + Wait + AllocGlobal,
 {
-    match open(rt, files, path)? {
+    match open(rt, rt.alloc(), files, path)? {
         Ok(_) => Ok(false),
         Err(error) => Ok(error.kind() == ErrorKind::NotFound),
     }
@@ -309,8 +320,8 @@ where
 /// Whether a step comes to what it is to.
 fn is_right<R>(
     rt: &R,
-    files: &Arc<OpenFiles>,
-    sources: &mut Vec<PathSource>,
+    files: &Arc<OpenFiles<R>>,
+    sources: &mut Vec<PathSource<R>>,
     step: Step,
 ) -> Result<bool, Fail>
 where
@@ -319,7 +330,7 @@ where
     match step {
         Step::Open(path, bytes) => {
             write(rt, path, bytes)?;
-            sources.push(open(rt, files, path)??)?;
+            sources.push(open(rt, rt.alloc(), files, path)??)?;
         }
         Step::Change(path, how) => change_file(rt, path, how)?,
         Step::Nowhere(path) => return is_nowhere(rt, files, path),
@@ -331,7 +342,7 @@ where
 }
 
 /// So many open files, of no source yet.
-pub(crate) fn open_files(alloc: Global, most: usize) -> Result<Arc<OpenFiles>, Fail> {
+pub(crate) fn open_files<R: Opens>(alloc: Global, most: usize) -> Result<Arc<OpenFiles<R>>, Fail> {
     let room = NonZeroUsize::new(most).ok_or("no room")?;
     Ok(Arc::new(alloc, OpenFiles::new(alloc, room)?)?)
 }
@@ -339,8 +350,8 @@ pub(crate) fn open_files(alloc: Global, most: usize) -> Result<Arc<OpenFiles>, F
 /// Each step comes to what it is to.
 pub(crate) fn play<R>(
     rt: &R,
-    files: &Arc<OpenFiles>,
-    sources: &mut Vec<PathSource>,
+    files: &Arc<OpenFiles<R>>,
+    sources: &mut Vec<PathSource<R>>,
     steps: &[Step],
 ) -> Result<(), Fail>
 where

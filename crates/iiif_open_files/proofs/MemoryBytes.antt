@@ -1,5 +1,5 @@
 -- Bytes in memory.
-use Rattle.std.proofs.Common.{◌≡◌, ℕ, ◌<◌, ◌≤◌, List, [], ◌∷◌, All, length, get_or, map, min, ap, ◌∙◌, refl, suc, arith}
+use Rattle.std.proofs.Common.{◌≡◌, ℕ, ◌≤◌, List, [], ◌∷◌, All, min, ap, ◌∙◌, refl, suc, arith}
 use Rattle.iiif_open_files.specs.Memory.{as_bytes}
 
 -- numbers that are bytes are themselves as bytes
