@@ -24,8 +24,17 @@ static BY_NAME: [(usize, Ask); 8] = [
     (0, Ask::Len(4000)),
 ];
 
-/// Whether two files in memory, of which one alone is kept open, answer what they are to.
-fn two_answer<W: Wait, C: Contents>(
+/// Whether the files "1" and "2", of which one alone is kept open, answer what they are to.
+fn two_answer<R: Opens + Wait>(rt: &R, alloc: Global) -> Result<bool, Fail> {
+    let files = open_files(alloc, 1)?;
+    let mut sources = Vec::new(alloc);
+    sources.push(open(rt, alloc, &files, "1")??)?;
+    sources.push(open(rt, alloc, &files, "2")??)?;
+    Ok(all_answer(rt, &sources, &BY_NAME, 1) && files.kept(rt) == 1)
+}
+
+/// The same of files in memory.
+fn two_in_memory<W: Wait, C: Contents>(
     host: &W,
     alloc: Global,
     one: Vec<u8>,
@@ -37,19 +46,14 @@ fn two_answer<W: Wait, C: Contents>(
     let mut held = Vec::new(alloc);
     held.push(MemFile::<C>::new(String::from_str(alloc, "1")?, one))?;
     held.push(MemFile::<C>::new(String::from_str(alloc, "2")?, two))?;
-    let rt = MemFiles::new(host, held, Failing::Never);
-    let files = open_files(alloc, 1)?;
-    let mut sources = Vec::new(alloc);
-    sources.push(open(&rt, alloc, &files, "1")??)?;
-    sources.push(open(&rt, alloc, &files, "2")??)?;
-    Ok(all_answer(&rt, &sources, &BY_NAME, 1) && files.kept(&rt) == 1)
+    two_answer(&MemFiles::new(host, held, Failing::Never), alloc)
 }
 
 #[test]
 fn two_files_in_memory_are_told_apart(rt: HostRuntime) -> Result<(), Fail> {
     let one = bytes_of(rt.alloc(), Bytes::Numbered(3, 4000))?;
     let two = bytes_of(rt.alloc(), Bytes::Numbered(4, 4000))?;
-    assert!(rt; two_answer::<_, Brand>(&rt, rt.alloc(), one, two)?);
+    assert!(rt; two_in_memory::<_, Brand>(&rt, rt.alloc(), one, two)?);
     Ok(())
 }
 
@@ -105,7 +109,19 @@ struct Faulty {
     cause: u8,
 }
 
-/// Whether a file in memory of which one read fails has those asks at fault, and no other.
+/// Whether those asks of the file "1" are at fault, and no other.
+fn are_alone_at_fault<R: Opens + Wait>(
+    rt: &R,
+    alloc: Global,
+    faulty: Faulty,
+) -> Result<bool, Fail> {
+    let files = open_files(alloc, 1)?;
+    let source = open(rt, alloc, &files, "1")??;
+    let first = is_alone_at_fault(rt, &source, faulty.first, faulty.cause);
+    Ok(first && is_alone_at_fault(rt, &source, faulty.second, faulty.cause))
+}
+
+/// The same of a file in memory of which one read fails.
 fn one_fails<W: Wait, C: Contents>(
     host: &W,
     alloc: Global,
@@ -117,11 +133,7 @@ fn one_fails<W: Wait, C: Contents>(
 {
     let mut held = Vec::new(alloc);
     held.push(MemFile::<C>::new(String::from_str(alloc, "1")?, bytes))?;
-    let rt = MemFiles::new(host, held, failing);
-    let files = open_files(alloc, 1)?;
-    let source = open(&rt, alloc, &files, "1")??;
-    let first = is_alone_at_fault(&rt, &source, faulty.first, faulty.cause);
-    Ok(first && is_alone_at_fault(&rt, &source, faulty.second, faulty.cause))
+    are_alone_at_fault(&MemFiles::new(host, held, failing), alloc, faulty)
 }
 
 /// The same of a file of numbered bytes.

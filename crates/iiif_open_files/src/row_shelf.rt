@@ -42,7 +42,8 @@ impl<R: Opens> RowShelf<R> {
         self.rows.len()
     }
 
-    /// Rows of the file of a path, of the opening of a number, that have these runs, and their place: those that were used last are looked at first.
+    /// Rows of the file of a path, of the opening of a number, that have these runs, and their place: those that were used last are
+    /// looked at first.
     fn placed(&self, path: &str, number: u64, runs: Runs) -> Option<(usize, Arc<WideRows<R>>)>
         ensures place { IfSome result (λ p. p.0 < vec_len self.now.rows) }
         ensures path { IfSome result (λ p. string_bytes (arc_value (arc_value p.1).path) ≡ path.now) }
