@@ -153,7 +153,7 @@ request_add w q p h is =
 
 -- calls that are made one after another are of their keys
 
-length_more : {A : Type 0} (xs : List A) (y : A) → length (xs ++ y ∷ []) ≡ suc (length xs)
+pub length_more : {A : Type 0} (xs : List A) (y : A) → length (xs ++ y ∷ []) ≡ suc (length xs)
 length_more [] y = refl
 length_more (x ∷ xs) y = ap suc (length_more xs y)
 

@@ -14,6 +14,9 @@ pub mod Apart
 pub mod Subjects
 pub mod Tabled
 pub mod Opened
+pub mod Effects
+pub mod EventEffects
+pub mod Origins
 pub mod Promised
 pub mod Listed
 pub mod WorkedLists
@@ -22,3 +25,5 @@ pub mod RingOwners
 pub mod Allowed
 pub mod EventLaws
 pub mod Giving
+pub mod Leaving
+pub mod RunsRight

@@ -11,8 +11,8 @@ use Rattle.iiif_machine.specs.Types.{Key, Request, Refusal, Resolved, Picture}
 use Rattle.iiif_machine.specs.Tables.{Class, Table, Holds, IsOpen, Lists}
 use Rattle.iiif_machine.specs.Rows.{Node, Wish, Refused, Answered}
 use Rattle.iiif_machine.specs.Worlds.{World, ◌>>=◌, table_at}
-use Rattle.iiif_machine.specs.Steps.{after_want, step, run}
-use Rattle.iiif_machine.specs.Sound.{IsApart, IsListed, NodeIsHonest, TableIsHonest, caller_of}
+use Rattle.iiif_machine.specs.Steps.{Event, Want, after_want, step, run}
+use Rattle.iiif_machine.specs.Sound.{IsApart, IsListed, AwaitsItsOwn, NodeIsHonest, TableIsHonest, caller_of}
 use Rattle.iiif_machine.specs.Promises.{Follows, After}
 use Rattle.iiif_machine.proofs.Words.{SubjectLaws, Next, Stays}
 use Rattle.iiif_machine.specs.Worlds.{new_world, version_shown, speaker}
@@ -29,30 +29,41 @@ use Rattle.iiif_machine.proofs.Steps.{step_kept}
 use Rattle.iiif_machine.proofs.Apart.{step_apart}
 use Rattle.iiif_machine.proofs.Placed.{step_placed}
 use Rattle.iiif_machine.proofs.Listed.{step_listed}
+use Rattle.iiif_machine.proofs.Effects.{HasEffect}
+use Rattle.iiif_machine.proofs.EventEffects.{step_effect}
+use Rattle.iiif_machine.proofs.Origins.{stays_own}
 use Rattle.iiif_machine.proofs.Subjects.{subject_laws}
 use Rattle.iiif_machine.proofs.Opened.{table_laws}
 
 abbrev KeepsOn : World → World → Type 0
 KeepsOn w v = Follows w v × IsSound v
 
-join : (w : World) (x : Option World) → After (Next w) x → After IsApart x → After IsListed x → After (Stays w) x → After (KeepsOn w) x
-join w None a b c d = tt
-join w (Some v) a b c d = (
-  record { scene = a.follows.scene; cards = d.cards; given = a.follows.given; answers = a.follows.answers; ended = d.ended },
-  record { honest = a.honest; apart = b; listed = c; placed = d.placed },
+join : (w : World) (e : Event) (x : Option World) → AwaitsItsOwn w → After (Next w) x → After IsApart x → After IsListed x → After (Stays w) x → After (HasEffect w e) x →
+    After (KeepsOn w) x
+join w e None own a b c d f = tt
+join w e (Some v) own a b c d f = (
+  record { scene = a.follows.scene; cards = d.cards; rows = f.rows; given = a.follows.given; answers = a.follows.answers; ended = d.ended },
+  record { honest = a.honest; apart = b; listed = c; placed = d.placed; own = stays_own w v e f own },
 )
 
 pub each_step : EachStep
-each_step w e proper h = join w (step w e) (step_kept w e (subject_laws w.scene proper) table_laws h.honest) (step_apart w e (subject_laws w.scene proper) table_laws h.apart)
-    (step_listed w e h.apart h.listed) (step_placed w e h.placed)
+each_step w e proper h = join w e (step w e) h.own (step_kept w e (subject_laws w.scene proper) table_laws h.honest) (step_apart w e (subject_laws w.scene proper) table_laws h.apart)
+    (step_listed w e h.apart h.listed) (step_placed w e h.placed) (step_effect w e)
 
 pub follows_itself : (w : World) → Follows w w
-follows_itself w = record { scene = refl; cards = refl; given = λ i g at. at; answers = λ i q a at. at; ended = λ f l o at. at }
+follows_itself w = record { scene = refl; cards = refl; rows = record { wishes = λ i x at. at; callers = λ i x at. at; leads = λ i x at. at; asks = λ i x at. at; replies = λ i x at. at }; given = λ i g at. at; answers = λ i q a at. at; ended = λ f l o at. at }
 
 pub follows_further : (w v u : World) → Follows w v → Follows v u → Follows w u
 follows_further w v u first second = record {
   scene = second.scene ∙ first.scene;
   cards = second.cards ∙ first.cards;
+  rows = record {
+    wishes = λ i x at. second.rows.wishes i x (first.rows.wishes i x at);
+    callers = λ i x at. second.rows.callers i x (first.rows.callers i x at);
+    leads = λ i x at. second.rows.leads i x (first.rows.leads i x at);
+    asks = λ i x at. second.rows.asks i x (first.rows.asks i x at);
+    replies = λ i x at. second.rows.replies i x (first.rows.replies i x at);
+  };
   given = λ i g at. second.given i g (first.given i g at);
   answers = λ i q a at. second.answers i q a (first.answers i q a at);
   ended = λ f l o at. second.ended f l o (first.ended f l o at);
@@ -113,10 +124,11 @@ each_run s nodes es proper new named =
       apart = record { registered = λ f x at o. absurd (none-some x at); apart = λ f g x y at there o p same. absurd (none-some x at) };
       listed = record { all = λ i n k c m at o. absurd (new_open n k c m (new i n at) o) };
       placed = record { rings = named; callers = each_nil _; leads = each_nil _; asks = each_nil _ };
+      own = record { flights = λ f x at. absurd (none-some x at); requests = λ r x at. absurd (none-some x at) };
     }))
 
 pub answers_are_right : AnswersAreRight
-answers_are_right w i q a h at = h.honest.requests i _ at
+answers_are_right w h i q a at = h.honest.requests i _ at
 
 pub values_are_meanings : ValuesAreMeanings
 values_are_meanings w h = (
@@ -126,7 +138,7 @@ values_are_meanings w h = (
 )
 
 pub no_fault_no_failure : NoFaultNoFailure
-no_fault_no_failure w i q f h none at =
+no_fault_no_failure w h none i q f at =
     let is = h.honest.requests i _ at in
     none-some _ (subst (λ gs. slice_get gs is.0 ≡ Some (record { node = q.node; name = q.name; fault = f })) none is.1)
 
@@ -138,7 +150,7 @@ unfolding image
 image_of s p o q a name at there is = subst (λ x. images.image x q s.limits ≡ Ok a) (same_Some o p (sym at ∙ there)) is
 
 pub canonical_forms_agree : CanonicalFormsAgree
-canonical_forms_agree w i j q r a b p proper h at there name shown form =
+canonical_forms_agree w proper h i j q r a b p at there name shown form =
     let s = w.scene in
     let first = h.honest.requests i _ at in
     let second = h.honest.requests j _ there in
@@ -163,7 +175,8 @@ refused_by w n p q (Ok r) e laws shown is h = absurd (no_image (image w.scene p 
 
 pub refused_at_once : RefusedAtOnce
 unfolding step
-refused_at_once w v i name q p e proper shown h stepped =
+refused_at_once w v x proper is i name q p e same_event shown h =
+    let stepped : step w (Want i name q) ≡ Some v = ap (step w) (sym same_event) ∙ is in
     let n = bind_inv (slice_get w.nodes i) _ v stepped in
     let o = bind_inv (w.scene.shows name) _ v n.2 in
     let m = bind_inv (speaker n.0 (version_shown o.0)) _ v o.2 in

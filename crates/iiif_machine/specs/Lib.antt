@@ -7,4 +7,7 @@ pub mod Steps
 pub mod Faults
 pub mod Sound
 pub mod Promises
+pub mod Origins
+pub mod Leaving
+pub mod Headline
 pub mod Worked

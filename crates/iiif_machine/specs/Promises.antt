@@ -1,5 +1,6 @@
 -- The promises, of every list of events, in the images' own words.
-use Rattle.std.specs.Prelude.{◌≡◌, ◌↔◌, ◌⊎◌, ℕ, ◌<◌, ◌≤◌, List, [], ◌∷◌, ◌++◌, Bool, true, false, ◌||◌, Option, Some, None, Ok, Err, map, length, slice_get}
+use Rattle.std.specs.Prelude.{◌≡◌, ◌↔◌, ◌⊎◌, ℕ, suc, ◌<◌, ◌≤◌, List, [], ◌∷◌, ◌++◌, Bool, true, false, ◌||◌, Option, Some, None, Ok, Err, map, length, slice_get}
+use Prim.Native.Nat.{zero}
 use Rattle.iiif_pixel.specs.Picture.{dim_of}
 use Rattle.iiif_canonical.specs.Canonical.{canonical}
 use Rattle.iiif_ring.specs.Owner.{IsOwner}
@@ -13,7 +14,7 @@ use Rattle.iiif_scene.specs.Images.{image}
 use Rattle.iiif_machine.specs.Types.{Key, Value, Picture, Request, Refusal, Resolved, ReadFault}
 use Rattle.iiif_machine.specs.Owners.{owner}
 use Rattle.iiif_machine.specs.Tables.{Class, Wide, Local, Place, Outcome, Holds}
-use Rattle.iiif_machine.specs.Rows.{Node, Purpose, ForRequest, ForPart, ForFallback, ForAsk, Caller, Call, Fresh, In, Lead, Stage, New, Looked, Asking, Fallback, Parts, Ready, Ended, Ask, Reply, Wish, Answer, Refused, Image, Failed, Answered, Waiting, Gone}
+use Rattle.iiif_machine.specs.Rows.{Node, Purpose, ForRequest, ForPart, ForFallback, ForAsk, Caller, Call, Fresh, In, Lead, Stage, New, Looked, Asking, Fallback, Parts, Ready, Ended, Ask, Reply, Wish, Answer, Refused, Image, Failed, Answered, Waiting, Gone, Wanted}
 use Rattle.iiif_machine.specs.Worlds.{World, new_world, version_shown, learned, all_learned, collected}
 use Rattle.iiif_machine.specs.Steps.{Event, Want, Enter, Again, AskPeer, Serve, Take, Lose, GoLocal, Load, SourceFault, Land, Evict, Stop, is_open, step, run}
 use Rattle.iiif_machine.specs.declared.events.Event.TheVariants as event
@@ -38,11 +39,23 @@ abbrev pub EndedStay : World → World → Type 0
 EndedStay w v = (f : ℕ) (l : Lead) (o : Option Outcome) → slice_get w.flights f ≡ Some (record { lead = l; stage = Ended o }) →
     slice_get v.flights f ≡ Some (record { lead = l; stage = Ended o })
 
--- The scene and the nodes' names and rings stay, a fault that was given is not taken back, and what was answered, or has ended,
--- stays so.
+abbrev pub wish_of : Wanted → Wish
+wish_of q = q.wish
+
+-- No request, call, flight, ask or reply is taken away, and what of it never changes stays.
+pub record RowsStay (w v : World) : Type 0 where
+  pub wishes : Kept (map wish_of w.requests) (map wish_of v.requests)
+  pub callers : Kept (facts w).callers (facts v).callers
+  pub leads : Kept (facts w).leads (facts v).leads
+  pub asks : Kept w.asks v.asks
+  pub replies : Kept w.replies v.replies
+
+-- The scene and the nodes' names and rings stay, no row is taken away, a fault that was given is not taken back, and what was
+-- answered, or has ended, stays so.
 pub record Follows (w v : World) : Type 0 where
   pub scene : v.scene ≡ w.scene
   pub cards : cards v ≡ cards w
+  pub rows : RowsStay w v
   pub given : Kept w.given v.given
   pub answers : AnswersStay w v
   pub ended : EndedStay w v
@@ -61,22 +74,34 @@ EachRun = (s : Scene) (nodes : List Node) (es : List Event) → IsProper s → E
     After IsSound (run (new_world s nodes) es)
 
 -- Then an answered request has its image, its refusal, or a fault that was given at its node by the source of its name.
+abbrev pub AnswersRight : World → Type 0
+AnswersRight w = (i : ℕ) (q : Wish) (a : Answer) → slice_get w.requests i ≡ Some (record { wish = q; progress = Answered a }) → AnswerIsRight w.scene w.given q a
+
 abbrev pub AnswersAreRight : Type 0
-AnswersAreRight = (w : World) (i : ℕ) (q : Wish) (a : Answer) → IsSound w → slice_get w.requests i ≡ Some (record { wish = q; progress = Answered a }) →
-    AnswerIsRight w.scene w.given q a
+AnswersAreRight = (w : World) → IsSound w → AnswersRight w
 
--- A request that has no image, but a refusal, is answered so at once.
+-- A request that has no image, but a refusal, is answered so at once, by the event with which it comes.
+abbrev pub RefusedNow : World → Event → World → Type 0
+RefusedNow w e v = (i : ℕ) (name : List ℕ) (q : Request) (p : Picture) (r : Refusal) → e ≡ Want i name q → w.scene.shows name ≡ Some p → image w.scene p q ≡ Err r →
+    slice_get v.requests (length w.requests) ≡ Some (record { wish = record { node = i; name = name; request = q }; progress = Answered (Refused r) })
+
 abbrev pub RefusedAtOnce : Type 0
-RefusedAtOnce = (w v : World) (i : ℕ) (name : List ℕ) (q : Request) (p : Picture) (e : Refusal) → IsProper w.scene → w.scene.shows name ≡ Some p →
-    image w.scene p q ≡ Err e → step w (Want i name q) ≡ Some v →
-    slice_get v.requests (length w.requests) ≡ Some (record { wish = record { node = i; name = name; request = q }; progress = Answered (Refused e) })
+RefusedAtOnce = (w v : World) (e : Event) → IsProper w.scene → step w e ≡ Some v → RefusedNow w e v
 
--- a value that is kept, known or replied is its key's meaning; a fault that is known was given
+-- a value that is kept is its key's meaning
+abbrev pub KeptRight : World → Type 0
+KeptRight w = (i : ℕ) (n : Node) (k : Key) (v : Value) → slice_get w.nodes i ≡ Some n → (Holds n.tiles k v → v ≡ meaning w.scene k) × (Holds n.sums k v → v ≡ meaning w.scene k)
+
+-- what a call knows is its key's meaning, or a fault that was given at its node by the source of its key's name
+abbrev pub KnownRight : World → Type 0
+KnownRight w = (c : ℕ) (call : Call) (o : Outcome) → slice_get w.calls c ≡ Some call → learned w c ≡ Some o → IsHonest w.scene w.given call.caller.node call.caller.key o
+
+-- a value that is replied is its key's meaning
+abbrev pub RepliedRight : World → Type 0
+RepliedRight w = (i : ℕ) (r : Reply) (v : Value) → slice_get w.replies i ≡ Some r → r.outcome ≡ Ok v → v ≡ meaning w.scene r.key
+
 abbrev pub ValuesAreMeanings : Type 0
-ValuesAreMeanings = (w : World) → IsSound w →
-    ((i : ℕ) (n : Node) (k : Key) (v : Value) → slice_get w.nodes i ≡ Some n → (Holds n.tiles k v → v ≡ meaning w.scene k) × (Holds n.sums k v → v ≡ meaning w.scene k))
-    × ((c : ℕ) (call : Call) (o : Outcome) → slice_get w.calls c ≡ Some call → learned w c ≡ Some o → IsHonest w.scene w.given call.caller.node call.caller.key o)
-    × ((i : ℕ) (r : Reply) (v : Value) → slice_get w.replies i ≡ Some r → r.outcome ≡ Ok v → v ≡ meaning w.scene r.key)
+ValuesAreMeanings = (w : World) → IsSound w → KeptRight w × KnownRight w × RepliedRight w
 
 -- whether the read of a source fails in a list of events
 abbrev pub fails_read : Event → Bool
@@ -92,8 +117,11 @@ abbrev pub OnlySourcesGive : Type 0
 OnlySourcesGive = (w : World) (es : List Event) → reads_fail es ≡ false → After (λ v. v.given ≡ w.given) (run w es)
 
 -- where no source gave a fault, no answer is one
+abbrev pub NoneFailed : World → Type 0
+NoneFailed w = (i : ℕ) (q : Wish) (f : ReadFault) → ¬ (slice_get w.requests i ≡ Some (record { wish = q; progress = Answered (Failed f) }))
+
 abbrev pub NoFaultNoFailure : Type 0
-NoFaultNoFailure = (w : World) (i : ℕ) (q : Wish) (f : ReadFault) → IsSound w → w.given ≡ [] → ¬ (slice_get w.requests i ≡ Some (record { wish = q; progress = Answered (Failed f) }))
+NoFaultNoFailure = (w : World) → IsSound w → w.given ≡ [] → NoneFailed w
 
 -- a flight is at a stage
 abbrev pub IsAt : World → ℕ → Stage → Type 0
@@ -132,10 +160,13 @@ abbrev pub AllowedExactly : Type 0
 AllowedExactly = (w : World) (e : Event) → IsSound w → IsAllowed w e ↔ ((v : World) × (step w e ≡ Some v))
 
 -- a request and its canonical form, where both are answered with images, have one image
+abbrev pub FormsAgree : World → Type 0
+FormsAgree w = (i j : ℕ) (q r : Wish) (a b p : Picture) → slice_get w.requests i ≡ Some (record { wish = q; progress = Answered (Image a) }) →
+    slice_get w.requests j ≡ Some (record { wish = r; progress = Answered (Image b) }) → r.name ≡ q.name → w.scene.shows q.name ≡ Some p →
+    canonical q.request (dim_of p) (kind_of p) w.scene.limits ≡ Ok r.request → a ≡ b
+
 abbrev pub CanonicalFormsAgree : Type 0
-CanonicalFormsAgree = (w : World) (i j : ℕ) (q r : Wish) (a b p : Picture) → IsProper w.scene → IsSound w →
-    slice_get w.requests i ≡ Some (record { wish = q; progress = Answered (Image a) }) → slice_get w.requests j ≡ Some (record { wish = r; progress = Answered (Image b) }) →
-    r.name ≡ q.name → w.scene.shows q.name ≡ Some p → canonical q.request (dim_of p) (kind_of p) w.scene.limits ≡ Ok r.request → a ≡ b
+CanonicalFormsAgree = (w : World) → IsProper w.scene → IsSound w → FormsAgree w
 
 -- The number of a flight: each waits only for flights of smaller numbers.
 abbrev pub number_of : Lead → ℕ
@@ -148,22 +179,54 @@ IsOf w f (ForPart e) = e ≡ f
 IsOf w f (ForFallback e) = e ≡ f
 IsOf w f (ForAsk a) = (q : Ask) × (slice_get w.asks a ≡ Some q) × (q.flight ≡ f)
 
--- the first flight waits for the second: a call of the first is in the second
+-- a stage waits for what this call will know
+abbrev pub AwaitedAt : Stage → ℕ → Type 0
+AwaitedAt New c = ⊥
+AwaitedAt Looked c = ⊥
+AwaitedAt Asking c = ⊥
+AwaitedAt (Fallback None) c = ⊥
+AwaitedAt (Fallback (Some d)) c = c ≡ d
+AwaitedAt (Parts cs) c = (i : ℕ) × (slice_get cs i ≡ Some c)
+AwaitedAt (Ready o p) c = ⊥
+AwaitedAt (Ended o) c = ⊥
+
+-- so does a flight at its stage
+abbrev pub IsAwaited : World → ℕ → ℕ → Type 0
+IsAwaited w f c = (l : Lead) × (s : Stage) × (slice_get w.flights f ≡ Some (record { lead = l; stage = s })) × AwaitedAt s c
+
+-- The first flight waits for the second: a call that it waits for, one that it made, or one that serves an ask of it, is in the second.
 pub record Waits (w : World) (f g : ℕ) : Type 0 where
   pub number : ℕ
   pub who : Caller
   pub call : slice_get w.calls number ≡ Some (record { caller = who; state = In g })
-  pub purpose : IsOf w f who.purpose
+  pub for : IsAwaited w f number ⊎ IsOf w f who.purpose
 
--- no circle of waits
+-- each wait goes to a smaller number
+abbrev pub WaitsGoDown : World → Type 0
+WaitsGoDown w = (f g : ℕ) (l m : Lead) → Waits w f g → slice_get (facts w).leads f ≡ Some l → slice_get (facts w).leads g ≡ Some m → number_of m < number_of l
+
 abbrev pub WaitsFall : Type 0
-WaitsFall = (w : World) (f g : ℕ) (l m : Lead) → IsSound w → Waits w f g → slice_get (facts w).leads f ≡ Some l → slice_get (facts w).leads g ≡ Some m →
-    number_of m < number_of l
+WaitsFall = (w : World) → IsSound w → WaitsGoDown w
+
+-- the first flight waits for the second, over so many others
+abbrev pub WaitsOver : World → ℕ → ℕ → ℕ → Type 0
+WaitsOver w zero f g = Waits w f g
+WaitsOver w (suc n) f g = (h : ℕ) × Waits w f h × WaitsOver w n h g
+
+-- no flight waits for itself, over however many others
+abbrev pub NoCircle : World → Type 0
+NoCircle w = (n f : ℕ) → ¬ WaitsOver w n f f
+
+abbrev pub NoneWaitsForItself : Type 0
+NoneWaitsForItself = (w : World) → IsSound w → NoCircle w
 
 -- calls of one flight that know anything know one outcome
-abbrev pub OneOutcome : Type 0
-OneOutcome = (w : World) (c d f : ℕ) (who that : Caller) → slice_get w.calls c ≡ Some (record { caller = who; state = In f }) →
+abbrev pub ShareOutcomes : World → Type 0
+ShareOutcomes w = (c d f : ℕ) (who that : Caller) → slice_get w.calls c ≡ Some (record { caller = who; state = In f }) →
     slice_get w.calls d ≡ Some (record { caller = that; state = In f }) → learned w c ≡ learned w d
+
+abbrev pub OneOutcome : Type 0
+OneOutcome = (w : World) → ShareOutcomes w
 
 -- the owner that a node asks is the ring's
 abbrev pub OwnerIsTheRings : Type 0

@@ -6,7 +6,7 @@ use Rattle.iiif_scene.specs.Plans.{resolved, items}
 use Rattle.iiif_scene.specs.Images.{image}
 use Rattle.iiif_machine.specs.Types.{Key, Value, Picture}
 use Rattle.iiif_machine.specs.Tables.{Class, Wide, Local, Table, Outcome, Holds, IsOpen}
-use Rattle.iiif_machine.specs.Rows.{Node, Given, Purpose, ForRequest, ForPart, ForFallback, ForAsk, Caller, CallState, Fresh, Hit, In, Gone, Call, Lead, Stage, New, Looked, Asking, Fallback, Parts, Ready, Ended, Flight, Ask, Reply, Wish, Answer, Refused, Image, Failed, Progress, Waiting, Answered, Dropped}
+use Rattle.iiif_machine.specs.Rows.{Node, Given, Purpose, ForRequest, ForPart, ForFallback, ForAsk, Caller, CallState, Fresh, Hit, In, Gone, Call, Lead, Stage, New, Looked, Asking, Fallback, Parts, Ready, Ended, Flight, Ask, Reply, Wish, Answer, Refused, Image, Failed, Progress, Waiting, Answered, Dropped, Wanted}
 use Rattle.iiif_machine.specs.Worlds.{World, table_at, version_at}
 use Rattle.iiif_machine.specs.Steps.{is_open}
 
@@ -178,9 +178,37 @@ pub record IsPlaced (w : World) : Type 0 where
   pub leads : Each (λ l. IsThere (cards w) l.node) (facts w).leads
   pub asks : Each (λ q. IsThere (cards w) q.node) w.asks
 
+-- each of these calls was made for this purpose
+abbrev pub AreFor : List Caller → Purpose → List ℕ → Type 0
+AreFor callers p [] = Unit {0}
+AreFor callers p (c ∷ cs) = ((who : Caller) × (slice_get callers c ≡ Some who) × (who.purpose ≡ p)) × AreFor callers p cs
+
+-- the calls that a flight of this number waits for were made for it
+abbrev pub StageIsOwn : List Caller → ℕ → Stage → Type 0
+StageIsOwn callers f New = Unit {0}
+StageIsOwn callers f Looked = Unit {0}
+StageIsOwn callers f Asking = Unit {0}
+StageIsOwn callers f (Fallback None) = Unit {0}
+StageIsOwn callers f (Fallback (Some c)) = AreFor callers (ForFallback f) (c ∷ [])
+StageIsOwn callers f (Parts cs) = AreFor callers (ForPart f) cs
+StageIsOwn callers f (Ready o p) = Unit {0}
+StageIsOwn callers f (Ended o) = Unit {0}
+
+-- the calls that a request of this number waits for were made for it
+abbrev pub ProgressIsOwn : List Caller → ℕ → Progress → Type 0
+ProgressIsOwn callers r (Waiting x cs) = AreFor callers (ForRequest r) cs
+ProgressIsOwn callers r (Answered a) = Unit {0}
+ProgressIsOwn callers r Dropped = Unit {0}
+
+-- each flight and each request waits for its own calls
+pub record AwaitsItsOwn (w : World) : Type 0 where
+  pub flights : (f : ℕ) (x : Flight) → slice_get w.flights f ≡ Some x → StageIsOwn (facts w).callers f x.stage
+  pub requests : (r : ℕ) (x : Wanted) → slice_get w.requests r ≡ Some x → ProgressIsOwn (facts w).callers r x.progress
+
 -- what holds at all times
 pub record IsSound (w : World) : Type 0 where
   pub honest : IsHonestWorld w
   pub apart : IsApart w
   pub listed : IsListed w
   pub placed : IsPlaced w
+  pub own : AwaitsItsOwn w

@@ -1,5 +1,5 @@
 -- Worked lists of events: what they come to.
-use Rattle.std.specs.Prelude.{◌≡◌, ℕ, List, [], ◌∷◌, ◌++◌, Bool, true, false, Option, Some, None, slice_get, if◌then◌else◌}
+use Rattle.std.specs.Prelude.{◌≡◌, ◌+◌, ℕ, Ok, List, [], ◌∷◌, ◌++◌, Bool, true, false, Option, Some, None, slice_get, if◌then◌else◌}
 use Rattle.std.specs.Str.{bytes_eq}
 use Rattle.iiif_pixel.specs.declared.geometry.Quality.TheVariants.{Default}
 use Rattle.iiif_request.specs.declared.request.Region.{Region}
@@ -9,10 +9,13 @@ use Rattle.iiif_request.specs.declared.request.Form.TheVariants.{Max, Width, Bot
 use Rattle.iiif_tables.specs.Flights as tables
 use Rattle.iiif_tables.specs.declared.table.Book.{Book}
 use Rattle.iiif_scene.specs.Scenes.{Scene}
-use Rattle.iiif_machine.specs.Types.{Picture, Request, ReadFault}
+use Rattle.iiif_scene.specs.Keys.{meaning}
+use Rattle.iiif_scene.specs.declared.keys.Key.TheVariants as key
+use Rattle.iiif_machine.specs.Types.{Key, Picture, Request, ReadFault}
+use Rattle.iiif_machine.specs.Tables.{Wide, Table, Peer, enter, land}
 use Rattle.iiif_machine.specs.Rows.{Node, Answer, Image, Failed}
 use Rattle.iiif_machine.specs.Worlds.{World, ◌>>=◌, new_world, answers}
-use Rattle.iiif_machine.specs.Steps.{Event, Want, Enter, Again, AskPeer, Serve, Take, Lose, GoLocal, Load, SourceFault, Land, Stop, step, run}
+use Rattle.iiif_machine.specs.Steps.{Event, Want, Enter, Again, AskPeer, Serve, Take, Lose, GoLocal, Load, SourceFault, Land, Stop, node_without, step, run}
 use Rattle.iiif_machine.specs.declared.events.Event.TheVariants as event
 
 -- Pictures, requests and nodes
@@ -335,3 +338,37 @@ two_faults = four_calls ++ Again 0 ∷ Load 0 ∷ Land 0 true ∷ Again 3 ∷ So
 
 abbrev pub FirstFaultIsAnswered : Type 0
 FirstFaultIsAnswered = answers_after graded alone two_faults ≡ Some (Some (Failed (fault_at 8)) ∷ [])
+
+-- Ten values of a peer land at a node's table: the tenth is kept, in hot, and none before it. An eviction takes what hot keeps, of
+-- tiles and of sums.
+
+abbrev pub seven_key : Key
+seven_key = key.Tile (record { name = p_name; edge = 1; tx = 0; ty = 0 })
+
+-- a flight for the key is led, and lands with a peer's value
+abbrev pub with_peer_value : Table → Table
+with_peer_value t = land (enter t seven_key Wide).1 seven_key Wide (t.book.leads + 1) (Ok (meaning tiny seven_key)) Peer true
+
+abbrev pub nine_times : (Table → Table) → Table → Table
+nine_times f t = f (f (f (f (f (f (f (f (f t))))))))
+
+abbrev pub of_nine : Table
+of_nine = nine_times with_peer_value (tables.empty_table 1000 8)
+
+abbrev pub of_ten : Table
+of_ten = with_peer_value of_nine
+
+abbrev pub NineAreNotKept : Type 0
+NineAreNotKept = of_nine.cache ≡ (tables.empty_table 1000 8).cache
+
+abbrev pub in_hot : Table
+in_hot = record (tables.empty_table 1000 8) { cache = record (tables.empty_table 1000 8).cache { hot = (seven_key, record { value = meaning tiny seven_key; ticket = 10 }) ∷ [] } }
+
+abbrev pub TenthIsKept : Type 0
+TenthIsKept = of_ten.cache ≡ in_hot.cache
+
+abbrev pub after_eviction : Node
+after_eviction = node_without (record (node_on 0 0) { tiles = in_hot; sums = in_hot }) (seven_key ∷ [])
+
+abbrev pub EvictedFromBoth : Type 0
+EvictedFromBoth = (after_eviction.tiles.cache.hot ≡ []) × (after_eviction.sums.cache.hot ≡ [])

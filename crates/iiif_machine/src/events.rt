@@ -1,8 +1,8 @@
 //! The events.
 
+use crate::short_request::ShortRequest;
 use iiif_keys::Name;
 use iiif_pixel::NoMemory;
-use iiif_request::Request;
 use iiif_scene::Key;
 use iiif_source::ReadFault;
 use thiserror::Error;
@@ -12,7 +12,7 @@ use thiserror::Error;
 #[derive(Drop)]
 pub enum Event {
     /// A request comes to a node, for the image of a name: it is refused, or makes a call for each item of its plan.
-    Want(usize, Name, Request),
+    Want(usize, Name, ShortRequest),
     /// A call enters its node's table: it finds a value, joins an open flight, or leads a new one.
     Enter(usize),
     /// A flight's leader looks whether the value is kept by now.

@@ -1,7 +1,10 @@
 //! What holds of every world. The functions compute nothing: their contracts are the laws.
 
-ghost use Rattle.iiif_machine.specs.Promises.{AllowedExactly, AnswersAreRight, CanonicalFormsAgree, EachRun, EachRunFollows, EachStep, FirstFaultCounts, NoFaultIsTaken, NoFaultNoFailure, NotKeptStays, OneOutcome, OnlySourcesGive, OwnerIsTheRings, RefusedAtOnce, StopTakesAll, ValuesAreMeanings, WaitsFall};
-ghost use Rattle.iiif_machine.specs.Worked.{AskIsServed, BothAreAnswered, BothStayAnswered, CutOutIs, DeepAskIsAnswered, DeepAskIsNotServed, DeepHalvedIs, DeepIsNotWanted, EnlargedIs, FailingRead, FaultIsNotKept, FaultOfAPeerIsNotAnswered, FirstFaultIsAnswered, FoundAgainIsAnswered, FoundAgainIsCounted, HalvedIs, KeptIsFound, LateRepeatChangesNothing, LostAskIsAnswered, NoneIsAnsweredYet, NotAgain, NotKeptIsNotFound, ReplyOfAnotherKeyIsNotTaken, ReplyToAStoppedFlightChangesNothing, SevenIsWanted, StoppedCallsAreGone, StoppedNode, TwoShareAFault, TwoShareAValue, WaitsForItsCalls};
+ghost use Rattle.iiif_machine.specs.Promises.{AllowedExactly, AnswersAreRight, CanonicalFormsAgree, EachRun, EachRunFollows, EachStep, FirstFaultCounts, NoFaultIsTaken, NoFaultNoFailure, NoneWaitsForItself, NotKeptStays, OneOutcome, OnlySourcesGive, OwnerIsTheRings, RefusedAtOnce, StopTakesAll, ValuesAreMeanings, WaitsFall};
+ghost use Rattle.iiif_machine.specs.Origins.{EventsGive, FaultsHaveOrigins, FlightsBecomeReady, JoinsOpen};
+ghost use Rattle.iiif_machine.specs.Headline.{EachRunIsRight};
+ghost use Rattle.iiif_machine.specs.Leaving.{EvictTakesEntries, KnowsAtItsEnd, StopTakesItsOwn};
+ghost use Rattle.iiif_machine.specs.Worked.{AskIsServed, BothAreAnswered, BothStayAnswered, CutOutIs, DeepAskIsAnswered, DeepAskIsNotServed, DeepHalvedIs, DeepIsNotWanted, EnlargedIs, EvictedFromBoth, FailingRead, FaultIsNotKept, FaultOfAPeerIsNotAnswered, FirstFaultIsAnswered, FoundAgainIsAnswered, FoundAgainIsCounted, HalvedIs, KeptIsFound, LateRepeatChangesNothing, LostAskIsAnswered, NineAreNotKept, NoneIsAnsweredYet, NotAgain, NotKeptIsNotFound, ReplyOfAnotherKeyIsNotTaken, ReplyToAStoppedFlightChangesNothing, SevenIsWanted, StoppedCallsAreGone, StoppedNode, TenthIsKept, TwoShareAFault, TwoShareAValue, WaitsForItsCalls};
 
 /// After every list of events that is allowed, the world is sound; each event, and each list of events, keeps it so, and takes
 /// back nothing that was given or answered.
@@ -12,9 +15,8 @@ pub fn worlds_are_sound()
 {}
 
 /// In a sound world an answered request has its image, its refusal, or a fault that was given, and a refused one is answered at
-/// once; values that are kept, known or
-/// replied are their keys' meanings, and faults that are known were given. With no fault given no answer is one, and only a failing
-/// read gives one.
+/// once; values that are kept, known or replied are their keys' meanings, and faults that are known were given. With no fault given
+/// no answer is one, and only a failing read gives one.
 pub fn sound_worlds_answer_right()
     ensures answers { AnswersAreRight }
     ensures refused { RefusedAtOnce }
@@ -24,9 +26,10 @@ pub fn sound_worlds_answer_right()
     ensures given { OnlySourcesGive }
 {}
 
-/// Each wait goes to a smaller number; and calls of one flight know one outcome.
+/// Each wait goes to a smaller number, so no flight waits for itself over others; and calls of one flight know one outcome.
 pub fn flights_are_in_order()
     ensures waits { WaitsFall }
+    ensures circle { NoneWaitsForItself }
     ensures outcome { OneOutcome }
 {}
 
@@ -36,12 +39,16 @@ pub fn events_are_allowed_exactly()
 {}
 
 /// Of several faults the first counts, in the order of a plan or of a sum's parts; no reply makes a flight fail; a landing that isn't
-/// to be kept keeps nothing; and a node that stops keeps no call, no open flight, no waiting request and no entry.
+/// to be kept keeps nothing; a node that stops keeps no call, no open flight, no waiting request and no entry, and takes nothing of
+/// another's; an eviction takes entries of its node alone; and a call knows what its flight has ended with, and nothing before.
 pub fn events_change_no_more()
     ensures first { FirstFaultCounts }
     ensures taken { NoFaultIsTaken }
     ensures not_kept { NotKeptStays }
     ensures stopped { StopTakesAll }
+    ensures others { StopTakesItsOwn }
+    ensures evicted { EvictTakesEntries }
+    ensures known { KnowsAtItsEnd }
 {}
 
 /// The owner that a node asks is the ring's.
@@ -82,4 +89,22 @@ pub fn worked_lists_compute()
     ensures ask_is_served { AskIsServed }
     ensures deep_is_not_wanted { DeepIsNotWanted }
     ensures seven_is_wanted { SevenIsWanted }
+    ensures nine_are_not_kept { NineAreNotKept }
+    ensures tenth_is_kept { TenthIsKept }
+    ensures evicted_from_both { EvictedFromBoth }
+{}
+
+/// A flight becomes ready by an event of its own, or with what its own local call knows; so it gets a fault only where its own read
+/// fails, of its parts the first that is known, or its own call's. A call joins a flight that is open. Each fault that stands in a
+/// world after a list of events stood there before, or was given by one of them.
+pub fn outcomes_have_origins()
+    ensures ready { FlightsBecomeReady }
+    ensures faults { FaultsHaveOrigins }
+    ensures joins { JoinsOpen }
+    ensures given { EventsGive }
+{}
+
+/// The headline: what holds after every list of events that is allowed.
+pub fn each_run_is_right()
+    ensures { EachRunIsRight }
 {}

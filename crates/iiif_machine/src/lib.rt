@@ -8,8 +8,10 @@ pub use rows::{
     Answer, Ask, Call, CallState, Caller, Flight, Given, Lead, Progress, Purpose, Reply, Stage,
     Wanted, Wish,
 };
+pub use short_request::ShortRequest;
 
 pub mod events;
 pub mod laws;
 pub mod numbers;
 pub mod rows;
+pub mod short_request;

@@ -4,6 +4,7 @@ pub mod Gathered
 pub mod Stepped
 pub mod Found
 pub mod Run
+pub mod Right
 pub mod Meant
 pub mod Named
 pub mod Settled

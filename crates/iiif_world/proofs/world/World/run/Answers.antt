@@ -1,9 +1,11 @@
-use Rattle.std.proofs.Common.{Some, refl, sym, ap, ◌∙◌}
+use Rattle.std.proofs.Common.{Some, refl, sym, ap, ◌∙◌, arith}
+use Rattle.std.proofs.lemmas.List.{take_all}
 use Rattle.std.proofs.lemmas.Option.{slice_get-get_or}
 use Rattle.iiif_machine.specs.Steps.{run}
 use Rattle.iiif_machine.specs.declared.events.Event.{Event}
 use Rattle.iiif_machine.proofs.Promised.{follows_itself, follows_further}
 use Rattle.iiif_world.specs.Code.{world_of}
+use Rattle.iiif_world.proofs.Right.{run_is_right}
 use Rattle.iiif_world.proofs.Run.{run_next}
 use Rattle.iiif_world.proofs.stepping.run.Goals as goal
 
@@ -28,3 +30,8 @@ loop-place-preserved c = (
   c.in-Ok.ensures.sound,
   follows_further (world_of c.args.world) (world_of c.loop-place.world) (world_of c.step.new.self) c.loop-place.invariant.2 c.in-Ok.ensures.follows,
 )
+
+pub returns-clause-headline : goal.returns-clause-headline
+returns-clause-headline c =
+    run_is_right (world_of c.args.world) (world_of c.loop-place.world) c.args.events.now c.requires.sound
+    (ap (run (world_of c.args.world)) (sym (take_all c.loop-place.place c.args.events.now (omega (arith, c.loop-place-test.false)))) ∙ c.loop-place.invariant.0)
