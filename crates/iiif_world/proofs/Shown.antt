@@ -7,7 +7,7 @@ use Rattle.std.proofs.lemmas.List.Quantifiers.{position-Some}
 use Rattle.std.proofs.lemmas.List.Sums.{fails_before_first}
 use Rattle.std.proofs.lemmas.Bool.{ltb-false}
 use Rattle.iiif_plain_tables.proofs.Mixed.{past}
-use Rattle.iiif_world.specs.declared.world.Item.{Item}
+use Rattle.iiif_world.specs.declared.contents.Item.{Item}
 use Rattle.iiif_world.specs.Code.{has_name, shown_in}
 
 shown_at : (name : List ℕ) (is : List Item) (n : ℕ) (e : Item) → slice_get is n ≡ Some e → has_name name e ≡ true

@@ -17,7 +17,7 @@ use Rattle.iiif_machine.specs.Worlds.{new_world}
 use Rattle.iiif_machine.proofs.Lists.{each_map, each_as}
 use Rattle.iiif_machine.proofs.Promised.{each_run}
 use Rattle.iiif_world.specs.declared.starting.Setup.{Setup}
-use Rattle.iiif_world.specs.declared.world.Item.{Item}
+use Rattle.iiif_world.specs.declared.contents.Item.{Item}
 use Rattle.iiif_world.specs.Code.{IsSoundWorld, scene_of, shown_in}
 use Rattle.iiif_world.specs.Starting.{IsNamed, node_for}
 

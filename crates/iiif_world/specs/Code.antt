@@ -7,8 +7,8 @@ use Rattle.iiif_scene.specs.Scenes.{Scene, IsProper}
 use Rattle.iiif_machine.specs.Worlds.{World}
 use Rattle.iiif_machine.specs.Sound.{IsSound}
 use Rattle.iiif_plain_tables.specs.Nodes.{node_of}
-use Rattle.iiif_world.specs.declared.world.Item.{Item}
-use Rattle.iiif_world.specs.declared.world.World as code_world
+use Rattle.iiif_world.specs.declared.contents.Item.{Item}
+use Rattle.iiif_world.specs.declared.contents.Contents.{Contents}
 
 -- the item has the name
 abbrev pub has_name : List ℕ → Item → Bool
@@ -23,7 +23,7 @@ abbrev pub scene_of : List Item → ℕ → Limits → ℕ → Scene
 scene_of items edge limits room = record { shows = shown_in items; edge = edge; limits = limits; room = room }
 
 -- the world that the code's lists are
-abbrev pub world_of : code_world.World → World
+abbrev pub world_of : Contents → World
 world_of w = record {
   scene = scene_of w.catalogue.items w.edge w.limits w.room;
   nodes = map node_of w.nodes.items;

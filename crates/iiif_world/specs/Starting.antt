@@ -8,7 +8,7 @@ use Rattle.iiif_machine.specs.Sound.{Each}
 use Rattle.iiif_world.specs.declared.starting.Setup.{Setup}
 use Rattle.iiif_world.specs.declared.starting.SetupFault.{SetupFault}
 use Rattle.iiif_world.specs.declared.starting.SetupFault.TheVariants.{Edge, Room, Picture, Ring, NoMemory}
-use Rattle.iiif_world.specs.declared.world.Item.{Item}
+use Rattle.iiif_world.specs.declared.contents.Item.{Item}
 
 -- the node that is made of its name, its ring, its version and the limits of its tables
 abbrev pub node_for : Setup → Node
@@ -26,10 +26,15 @@ NamesNodes setups s = (0 < length s.ring) × Each (IsNamed setups) s.ring
 abbrev pub AreSources : List Item → Type 0
 AreSources items = Each (λ i. IsSource i.picture) items
 
+-- a plan has room for a sum, and for 65,536 at most
+pub record IsRoom (room : ℕ) : Type 0 where
+  pub some : 0 < room
+  pub within : room ≤ 65536
+
 -- why a world can't begin so: the first that applies
 abbrev pub IsSetupFault : List Item → ℕ → ℕ → List Setup → SetupFault → Type 0
 IsSetupFault items edge room setups Edge = ¬ IsEdge edge
-IsSetupFault items edge room setups Room = IsEdge edge × (65536 < room)
-IsSetupFault items edge room setups Picture = IsEdge edge × (room ≤ 65536) × ¬ AreSources items
-IsSetupFault items edge room setups Ring = IsEdge edge × (room ≤ 65536) × AreSources items × ¬ Each (NamesNodes setups) setups
-IsSetupFault items edge room setups NoMemory = IsEdge edge × (room ≤ 65536) × AreSources items × Each (NamesNodes setups) setups
+IsSetupFault items edge room setups Room = IsEdge edge × ¬ IsRoom room
+IsSetupFault items edge room setups Picture = IsEdge edge × IsRoom room × ¬ AreSources items
+IsSetupFault items edge room setups Ring = IsEdge edge × IsRoom room × AreSources items × ¬ Each (NamesNodes setups) setups
+IsSetupFault items edge room setups NoMemory = IsEdge edge × IsRoom room × AreSources items × Each (NamesNodes setups) setups

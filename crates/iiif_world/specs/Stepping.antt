@@ -1,22 +1,14 @@
--- Events and lists of events that the code is called with.
-use Rattle.iiif_request.specs.Requests.{HasShortDecimals}
-use Rattle.iiif_machine.specs.declared.events.Event.{Event}
-use Rattle.iiif_machine.specs.declared.events.Event.TheVariants.{Want, Enter, Again, AskPeer, Serve, Take, Lose, GoLocal, Load, SourceFault, Land, Evict, Stop}
-use Rattle.iiif_machine.specs.declared.events.Event.TheVariants as event
+-- What the answers are that the code gives.
+use Rattle.std.specs.Prelude.{◌≡◌, ℕ, List, Option, Some, slice_get}
+use Rattle.iiif_machine.specs.declared.rows.Answer.{Answer}
+use Rattle.iiif_machine.specs.declared.rows.Wanted.{Wanted}
+use Rattle.iiif_machine.specs.Sound.{AnswerIsRight}
+use Rattle.iiif_machine.specs.Worlds.{World}
 
--- the decimals of a request are short enough to be computed with, as those of each request that is read from text are
-abbrev pub IsShortEvent : Event → Type 0
-IsShortEvent (Want i name q) = HasShortDecimals q
-IsShortEvent (Enter c) = Unit {0}
-IsShortEvent (Again f) = Unit {0}
-IsShortEvent (AskPeer f) = Unit {0}
-IsShortEvent (Serve a) = Unit {0}
-IsShortEvent (event.Reply c) = Unit {0}
-IsShortEvent (Take f r) = Unit {0}
-IsShortEvent (Lose f) = Unit {0}
-IsShortEvent (GoLocal f) = Unit {0}
-IsShortEvent (Load f) = Unit {0}
-IsShortEvent (SourceFault f e) = Unit {0}
-IsShortEvent (Land f kept) = Unit {0}
-IsShortEvent (Evict i keys) = Unit {0}
-IsShortEvent (Stop i) = Unit {0}
+-- The answer to a request is the request's image, its refusal, or a fault that was given at its node by the source of its name.
+abbrev pub IsRightAnswer : World → ℕ → Answer → Type 0
+IsRightAnswer w request a = (q : Wanted) × (slice_get w.requests request ≡ Some q) × AnswerIsRight w.scene w.given q.wish a
+
+-- so is each of a list of answers, by the requests' numbers
+abbrev pub AreRightAnswers : World → List (Option Answer) → Type 0
+AreRightAnswers w all = (i : ℕ) (a : Answer) → slice_get all i ≡ Some (Some a) → IsRightAnswer w i a

@@ -6,7 +6,7 @@ ghost use Rattle.iiif_machine.specs.declared.events.Event.{Event};
 ghost use Rattle.iiif_machine.specs.declared.events.WorldFault.{WorldFault};
 ghost use Rattle.iiif_world.specs.Code.{world_of};
 
-use crate::world::World;
+use crate::contents::Contents;
 use iiif_machine::{Caller, Purpose, Reply, Stage, WorldFault};
 use iiif_pixel::NoMemory;
 use iiif_plain_tables::keys::{copied, same};
@@ -30,9 +30,9 @@ fn taken(alloc: Global, key: &Key, reply: &Reply) -> Result<Stage, NoMemory>
     }
 }
 
-impl World {
+impl Contents {
     /// The asked node, where it speaks the ask's version, serves it by a local call.
-    pub fn serve(&mut self, ask: usize) -> Result<(), WorldFault>
+    pub(crate) fn serve(&mut self, ask: usize) -> Result<(), WorldFault>
         ensures ok { OnOk result (step (world_of self.old) (Event.Serve ask) ≡ Some (world_of self.new)) }
         ensures not_now { IfErr result (λ f. f ≡ WorldFault.NotNow → step (world_of self.old) (Event.Serve ask) ≡ None) }
         ensures no_memory { IfErr result (λ f. f ≡ WorldFault.NoMemory → ¬ (step (world_of self.old) (Event.Serve ask) ≡ None)) }
@@ -59,7 +59,7 @@ impl World {
     }
 
     /// A call that serves an ask replies what it knows.
-    pub fn reply(&mut self, call: usize) -> Result<(), WorldFault>
+    pub(crate) fn reply(&mut self, call: usize) -> Result<(), WorldFault>
         ensures ok { OnOk result (step (world_of self.old) (Event.Reply call) ≡ Some (world_of self.new)) }
         ensures not_now { IfErr result (λ f. f ≡ WorldFault.NotNow → step (world_of self.old) (Event.Reply call) ≡ None) }
         ensures no_memory { IfErr result (λ f. f ≡ WorldFault.NoMemory → ¬ (step (world_of self.old) (Event.Reply call) ≡ None)) }
@@ -80,7 +80,7 @@ impl World {
     }
 
     /// A flight gets a reply.
-    pub fn take(&mut self, flight: usize, reply: usize) -> Result<(), WorldFault>
+    pub(crate) fn take(&mut self, flight: usize, reply: usize) -> Result<(), WorldFault>
         ensures ok { OnOk result (step (world_of self.old) (Event.Take flight reply) ≡ Some (world_of self.new)) }
         ensures not_now { IfErr result (λ f. f ≡ WorldFault.NotNow → step (world_of self.old) (Event.Take flight reply) ≡ None) }
         ensures no_memory { IfErr result (λ f. f ≡ WorldFault.NoMemory → ¬ (step (world_of self.old) (Event.Take flight reply) ≡ None)) }
@@ -103,7 +103,7 @@ impl World {
     }
 
     /// An ask gets no reply.
-    pub fn lose(&mut self, flight: usize) -> Result<(), WorldFault>
+    pub(crate) fn lose(&mut self, flight: usize) -> Result<(), WorldFault>
         ensures ok { OnOk result (step (world_of self.old) (Event.Lose flight) ≡ Some (world_of self.new)) }
         ensures not_now { IfErr result (λ f. f ≡ WorldFault.NotNow → step (world_of self.old) (Event.Lose flight) ≡ None) }
         ensures no_memory { IfErr result (λ f. f ≡ WorldFault.NoMemory → ¬ (step (world_of self.old) (Event.Lose flight) ≡ None)) }
@@ -120,7 +120,7 @@ impl World {
     }
 
     /// A flight that asked in vain makes a local call of its own key.
-    pub fn go_local(&mut self, flight: usize) -> Result<(), WorldFault>
+    pub(crate) fn go_local(&mut self, flight: usize) -> Result<(), WorldFault>
         ensures ok { OnOk result (step (world_of self.old) (Event.GoLocal flight) ≡ Some (world_of self.new)) }
         ensures not_now { IfErr result (λ f. f ≡ WorldFault.NotNow → step (world_of self.old) (Event.GoLocal flight) ≡ None) }
         ensures no_memory { IfErr result (λ f. f ≡ WorldFault.NoMemory → ¬ (step (world_of self.old) (Event.GoLocal flight) ≡ None)) }

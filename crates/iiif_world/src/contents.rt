@@ -1,4 +1,4 @@
-//! The world, in code.
+//! What a world is made of.
 
 ghost use Rattle.std.specs.Prelude.{[], ◌∷◌, ◌++◌, ◌≡◌, ◌<◌, length, slice_get, Some, None, OnErr, OnOk, MatchOption, position};
 ghost use Rattle.iiif_machine.specs.declared.rows.Lead.{Lead};
@@ -24,9 +24,9 @@ pub struct Item {
     pub picture: Raster,
 }
 
-/// A world: pictures and limits, nodes, the faults that sources gave, and rows. A row's number is its place.
+/// What a world is made of: pictures and limits, nodes, the faults that sources gave, and rows. A row's number is its place.
 #[derive(Drop)]
-pub struct World {
+pub struct Contents {
     pub catalogue: Vec<Item>,
     pub edge: u32,
     pub limits: Limits,
@@ -64,7 +64,7 @@ fn row_of(nodes: &[Node], node: usize) -> Option<&Node>
     nodes.get(node)
 }
 
-impl World {
+impl Contents {
     /// The picture of a name.
     pub(crate) fn picture(&self, name: &Name) -> Option<&Raster>
         ensures { MatchOption result ((world_of self.now).scene.shows name.now ≡ None) (λ r. (world_of self.now).scene.shows name.now ≡ Some r.now) }

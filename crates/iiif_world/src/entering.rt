@@ -16,14 +16,14 @@ ghost use Rattle.iiif_plain_tables.specs.Nodes.{entered_of};
 ghost use Rattle.iiif_world.specs.Code.{world_of, IsSoundWorld};
 ghost use Rattle.iiif_world.specs.Entering.{HasCall, IsFresh};
 
-use crate::world::World;
+use crate::contents::Contents;
 use iiif_machine::{CallState, Caller, Flight, Lead, Stage, WorldFault};
 use iiif_pixel::NoMemory;
 use iiif_plain_tables::flights::open_for;
 use iiif_plain_tables::table::Entered;
 use iiif_scene::Value;
 
-impl World {
+impl Contents {
     /// A call enters the table of its node. After an error all is as before.
     fn enter_at(&mut self, call: usize) -> Result<Entered, NoMemory>
         requires { (who : Caller) × (n : Node) × HasCall (world_of self.old) call who n }
@@ -161,7 +161,7 @@ impl World {
     }
 
     /// A call enters its node's table.
-    pub fn enter(&mut self, call: usize) -> Result<(), WorldFault>
+    pub(crate) fn enter(&mut self, call: usize) -> Result<(), WorldFault>
         requires sound { IsSoundWorld (world_of self.old) }
         ensures ok { OnOk result (step (world_of self.old) (Event.Enter call) ≡ Some (world_of self.new)) }
         ensures not_now { IfErr result (λ f. f ≡ WorldFault.NotNow → step (world_of self.old) (Event.Enter call) ≡ None) }

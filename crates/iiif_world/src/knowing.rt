@@ -6,7 +6,7 @@ ghost use Rattle.iiif_machine.specs.Worlds.{all_learned, known_by, learned};
 ghost use Rattle.iiif_world.specs.Code.{world_of};
 ghost use Rattle.iiif_plain_tables.specs.Heard.{heard, heard_all};
 
-use crate::world::World;
+use crate::contents::Contents;
 use iiif_machine::{CallState, Stage};
 use iiif_pixel::NoMemory;
 use iiif_plain_tables::hearing::{Heard, copied_outcome, first_of, heard_of};
@@ -14,7 +14,7 @@ use iiif_plain_tables::keys::copied;
 use iiif_scene::Value;
 use iiif_source::ReadFault;
 
-impl World {
+impl Contents {
     /// The outcome that a flight ended with, if it has.
     fn outcome_in(&self, flight: usize) -> Option<&Result<Value, ReadFault>>
         ensures { MatchOption result (known_by (world_of self.now).flights (CallState.In flight) ≡ None)

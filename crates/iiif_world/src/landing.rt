@@ -15,7 +15,7 @@ ghost use Rattle.iiif_tables.specs.declared.table.Place.{Place};
 ghost use Rattle.iiif_world.specs.Code.{world_of, IsSoundWorld};
 ghost use Rattle.iiif_world.specs.Entering.{HasFlight};
 
-use crate::world::World;
+use crate::contents::Contents;
 use iiif_machine::{Lead, Stage, WorldFault};
 use iiif_pixel::NoMemory;
 use iiif_plain_tables::flights::{end_flight, reopen_flight, value_in};
@@ -23,7 +23,7 @@ use iiif_scene::Value;
 use iiif_source::ReadFault;
 use iiif_tables::Place;
 
-impl World {
+impl Contents {
     /// What a flight has that is ready.
     fn ready(&self, flight: usize) -> Option<(&Lead, &Result<Value, ReadFault>, Place)>
         ensures { MatchOption result ((keep : Bool) → step (world_of self.now) (Event.Land flight keep) ≡ None)
@@ -97,7 +97,7 @@ impl World {
     }
 
     /// A flight that is ready ends, and its calls know.
-    pub fn land(&mut self, flight: usize, keep: bool) -> Result<(), WorldFault>
+    pub(crate) fn land(&mut self, flight: usize, keep: bool) -> Result<(), WorldFault>
         requires sound { IsSoundWorld (world_of self.old) }
         ensures ok { OnOk result (step (world_of self.old) (Event.Land flight keep) ≡ Some (world_of self.new)) }
         ensures not_now { IfErr result (λ f. f ≡ WorldFault.NotNow → step (world_of self.old) (Event.Land flight keep) ≡ None) }

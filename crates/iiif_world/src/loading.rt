@@ -16,7 +16,7 @@ ghost use Rattle.iiif_world.specs.Code.{world_of, IsSoundWorld};
 ghost use Rattle.iiif_world.specs.Loads.{IsLoading, IsLocalAt};
 ghost use Rattle.iiif_plain_tables.specs.declared.hearing.Heard.{Heard};
 
-use crate::world::World;
+use crate::contents::Contents;
 use iiif_machine::{Call, Given, Numbers, Purpose, Stage, WorldFault};
 use iiif_pixel::NoMemory;
 use iiif_plain_tables::calling::{calls_of, numbers_of, parts_in};
@@ -39,9 +39,9 @@ pub enum Loading {
     Merge(Heard),
 }
 
-impl World {
+impl Contents {
     /// The read of a local flight's tile fails.
-    pub fn source_fault(&mut self, flight: usize, fault: ReadFault) -> Result<(), WorldFault>
+    pub(crate) fn source_fault(&mut self, flight: usize, fault: ReadFault) -> Result<(), WorldFault>
         ensures ok { OnOk result (step (world_of self.old) (Event.SourceFault flight fault) ≡ Some (world_of self.new)) }
         ensures not_now { IfErr result (λ f. f ≡ WorldFault.NotNow → step (world_of self.old) (Event.SourceFault flight fault) ≡ None) }
         ensures no_memory { IfErr result (λ f. f ≡ WorldFault.NoMemory → ¬ (step (world_of self.old) (Event.SourceFault flight fault) ≡ None)) }
@@ -176,7 +176,7 @@ impl World {
 
     /// A local flight reads its tile; or asks the parts of its sum, and then merges them. In a sound world what the parts' values
     /// make is what the key names, and so it is made of the whole picture.
-    pub fn load(&mut self, flight: usize) -> Result<(), WorldFault>
+    pub(crate) fn load(&mut self, flight: usize) -> Result<(), WorldFault>
         requires sound { IsSoundWorld (world_of self.old) }
         ensures ok { OnOk result (step (world_of self.old) (Event.Load flight) ≡ Some (world_of self.new)) }
         ensures not_now { IfErr result (λ f. f ≡ WorldFault.NotNow → step (world_of self.old) (Event.Load flight) ≡ None) }

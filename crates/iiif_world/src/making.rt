@@ -5,12 +5,12 @@ ghost use Rattle.iiif_scene.specs.Keys.{Fits, meaning};
 ghost use Rattle.iiif_scene.specs.Scenes.{IsProper};
 ghost use Rattle.iiif_world.specs.Code.{world_of};
 
-use crate::world::World;
+use crate::contents::Contents;
 use iiif_pixel::NoMemory;
 use iiif_plain_tables::making::{sums, tile};
 use iiif_scene::{Key, Value};
 
-impl World {
+impl Contents {
     /// The value that a key names, made of the whole picture. The only error is want of memory.
     #[tactic(auto, unfolding(iiif_scene::specs::Keys::meaning))]
     pub(crate) fn meaning(&self, key: &Key) -> Result<Value, NoMemory>

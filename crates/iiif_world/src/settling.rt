@@ -7,7 +7,7 @@ ghost use Rattle.iiif_machine.specs.Worlds.{settled};
 ghost use Rattle.iiif_world.specs.Code.{world_of};
 ghost use Rattle.iiif_world.specs.Settling.{answer_due, answered_if, due, joined, ready_if};
 
-use crate::world::World;
+use crate::contents::Contents;
 use iiif_machine::{Answer, Flight, Progress, Stage, Wanted};
 use iiif_pixel::NoMemory;
 use iiif_plain_tables::hearing::Heard;
@@ -63,7 +63,7 @@ fn put_answers(requests: &mut Vec<Wanted>, answers: Vec<Option<Answer>>)
     }
 }
 
-impl World {
+impl Contents {
     /// The outcome that a flight which asked in vain has by now.
     fn outcome_due(&self, flight: &Flight) -> Result<Option<Result<Value, ReadFault>>, NoMemory>
         ensures { IfOk result (λ o. o ≡ due (world_of self.now) flight.now) }

@@ -10,7 +10,8 @@ ghost use Rattle.iiif_plain_tables.specs.Nodes.{node_of};
 ghost use Rattle.iiif_world.specs.Code.{scene_of, world_of, IsSoundWorld};
 ghost use Rattle.iiif_world.specs.Starting.{node_for, AreSources, IsNamed, IsSetupFault, NamesNodes};
 
-use crate::world::{Item, World};
+use crate::contents::{Contents, Item};
+use crate::world::World;
 use iiif_canonical::Limits;
 use iiif_keys::Name;
 use iiif_pixel::{Dim, NoMemory, Raster};
@@ -36,7 +37,7 @@ pub struct Setup {
 pub enum SetupFault {
     /// A tile's side isn't 1 to 1,024.
     Edge,
-    /// A plan has room for more than 65,536 sums.
+    /// A plan has room for no sum, or for more than 65,536.
     Room,
     /// A picture has more than 1,000,000 columns or rows, or more than 2^32 places, or none.
     Picture,
@@ -44,6 +45,24 @@ pub enum SetupFault {
     Ring,
     /// Memory was refused.
     NoMemory,
+}
+
+impl SetupFault {
+    ghost use Rattle.std.specs.Prelude.{◌≡◌};
+    ghost use Rattle.iiif_world.specs.Faults.{number_of};
+
+    /// The number by which the fault is known outside, 1 to 5.
+    pub const fn number(self) -> u8
+        ensures { result ≡ number_of self }
+    {
+        match self {
+            SetupFault::Edge => 1,
+            SetupFault::Room => 2,
+            SetupFault::Picture => 3,
+            SetupFault::Ring => 4,
+            SetupFault::NoMemory => 5,
+        }
+    }
 }
 
 /// Whether these are sides of an image that is read.
@@ -139,7 +158,7 @@ fn nodes_of(alloc: Global, setups: Vec<Setup>) -> Result<Vec<Node>, NoMemory>
     Ok(nodes)
 }
 
-/// The world of these images and nodes in which nothing has happened.
+/// The contents of a world of these images and nodes in which nothing has happened.
 fn begun(
     alloc: Global,
     catalogue: Vec<Item>,
@@ -147,10 +166,10 @@ fn begun(
     limits: Limits,
     room: u64,
     nodes: Vec<Node>,
-) -> World
+) -> Contents
     ensures { world_of result ≡ new_world (scene_of catalogue.items edge limits room) (map node_of nodes.items) }
 {
-    World {
+    Contents {
         catalogue,
         edge,
         limits,
@@ -186,7 +205,7 @@ impl World {
         if edge == 0 || 1024 < edge {
             return Err(SetupFault::Edge);
         }
-        if 65_536 < room {
+        if room == 0 || 65_536 < room {
             return Err(SetupFault::Room);
         }
         if !are_sources(&catalogue) {
@@ -196,7 +215,7 @@ impl World {
             return Err(SetupFault::Ring);
         }
         match nodes_of(alloc, setups) {
-            Ok(nodes) => Ok(begun(alloc, catalogue, edge, limits, room, nodes)),
+            Ok(nodes) => Ok(World::of(begun(alloc, catalogue, edge, limits, room, nodes))),
             Err(_) => Err(SetupFault::NoMemory),
         }
     }

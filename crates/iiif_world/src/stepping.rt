@@ -1,17 +1,14 @@
-//! One event, and lists of events.
+//! One event, and what came of the requests.
 
-ghost use Rattle.std.specs.Prelude.{◌≡◌, ◌<◌, ℕ, All, length, take, slice_get, Some, None, IfErr, IfOk, OnErr, OnOk, MatchOption};
-ghost use Rattle.iiif_machine.specs.Steps.{run, step};
+ghost use Rattle.std.specs.Prelude.{◌≡◌, slice_get, Some, None, IfErr, IfOk, OnErr, OnOk, MatchOption};
+ghost use Rattle.iiif_machine.specs.Steps.{step};
 ghost use Rattle.iiif_machine.specs.Worlds.{answer_in, answers};
-ghost use Rattle.iiif_machine.specs.Worlds as worlds;
 ghost use Rattle.iiif_machine.specs.Promises.{Follows};
-ghost use Rattle.iiif_machine.specs.declared.events.Event.{Event};
 ghost use Rattle.iiif_machine.specs.declared.rows.Answer.{Answer};
 ghost use Rattle.iiif_machine.specs.declared.events.WorldFault.{WorldFault};
 ghost use Rattle.iiif_world.specs.Code.{world_of, IsSoundWorld};
-ghost use Rattle.iiif_world.specs.Stepping.{IsShortEvent};
 
-use crate::world::World;
+use crate::contents::Contents;
 use iiif_machine::{Answer, Event, Progress, WorldFault};
 use iiif_pixel::NoMemory;
 
@@ -36,11 +33,10 @@ fn answer_in(progress: &Progress) -> Result<Option<Answer>, NoMemory>
     }
 }
 
-impl World {
+impl Contents {
     /// What an event does.
     fn happen(&mut self, event: &Event) -> Result<(), WorldFault>
         requires sound { IsSoundWorld (world_of self.old) }
-        requires short { IsShortEvent event.now }
         ensures ok { OnOk result (step (world_of self.old) event.now ≡ Some (world_of self.new)) }
         ensures not_now { IfErr result (λ f. f ≡ WorldFault.NotNow → step (world_of self.old) event.now ≡ None) }
         ensures no_memory { IfErr result (λ f. f ≡ WorldFault.NoMemory → ¬ (step (world_of self.old) event.now ≡ None)) }
@@ -64,14 +60,9 @@ impl World {
         }
     }
 
-    /// One event.
-    ///
-    /// # Errors
-    ///
-    /// `NotNow` where it isn't allowed; and `NoMemory` where it is, and memory was refused. The world is as it was.
-    pub fn step(&mut self, event: &Event) -> Result<(), WorldFault>
+    /// One event, which keeps the world sound.
+    pub(crate) fn step(&mut self, event: &Event) -> Result<(), WorldFault>
         requires sound { IsSoundWorld (world_of self.old) }
-        requires short { IsShortEvent event.now }
         ensures ok { OnOk result (step (world_of self.old) event.now ≡ Some (world_of self.new)) }
         ensures not_now { IfErr result (λ f. f ≡ WorldFault.NotNow → step (world_of self.old) event.now ≡ None) }
         ensures no_memory { IfErr result (λ f. f ≡ WorldFault.NoMemory → ¬ (step (world_of self.old) event.now ≡ None)) }
@@ -86,7 +77,7 @@ impl World {
     }
 
     /// The answer to a request: none where it waits, or went with its node.
-    pub fn answer(&self, request: usize) -> Option<&Answer>
+    pub(crate) fn answer(&self, request: usize) -> Option<&Answer>
         ensures { MatchOption result ((a : Answer) → slice_get (answers (world_of self.now)) request ≡ Some (Some a) → ⊥)
             (λ a. slice_get (answers (world_of self.now)) request ≡ Some (Some a.now)) }
     {
@@ -99,8 +90,8 @@ impl World {
         }
     }
 
-    /// The answers, by the requests' numbers: none where a request waits, or went with its node. The only error is want of memory.
-    pub fn answers(&self) -> Result<Vec<Option<Answer>>, NoMemory>
+    /// The answers, by the requests' numbers.
+    pub(crate) fn answers(&self) -> Result<Vec<Option<Answer>>, NoMemory>
         ensures { IfOk result (λ v. v.items ≡ answers (world_of self.now)) }
     {
         let mut all = Vec::new(*self.calls.allocator());
@@ -109,29 +100,4 @@ impl World {
         }
         Ok(all)
     }
-}
-
-/// Events, one after another.
-///
-/// # Errors
-///
-/// The place of the first event that was not allowed, with `NotNow`; or of one that was, and for which memory was refused, with
-/// `NoMemory`.
-pub fn run(world: World, events: &[Event]) -> Result<World, (usize, WorldFault)>
-    requires sound { IsSoundWorld (world_of world) }
-    requires short { All IsShortEvent events.now }
-    ensures ok { IfOk result (λ w. run (world_of world) events.now ≡ Some (world_of w)) }
-    ensures err { IfErr result (λ e. (v : worlds.World) × (x : Event) × (run (world_of world) (take e.0 events.now) ≡ Some v)
-        × (slice_get events.now e.0 ≡ Some x) × (e.1 ≡ WorldFault.NotNow → step v x ≡ None) × (e.1 ≡ WorldFault.NoMemory → ¬ (step v x ≡ None))) }
-    ensures follows { IfOk result (λ w. Follows (world_of world) (world_of w)) }
-    ensures sound { IfOk result (λ w. IsSoundWorld (world_of w)) }
-{
-    let mut world = world;
-    for (place, event) in events.iter().enumerate() {
-        match world.step(event) {
-            Ok(()) => {}
-            Err(fault) => return Err((place, fault)),
-        }
-    }
-    Ok(world)
 }

@@ -14,7 +14,7 @@ ghost use Rattle.iiif_tables.specs.declared.table.Class.{Class};
 ghost use Rattle.iiif_world.specs.Code.{world_of, IsSoundWorld};
 ghost use Rattle.iiif_world.specs.Entering.{HasFlight};
 
-use crate::world::World;
+use crate::contents::Contents;
 use iiif_machine::{Ask, Lead, Stage, WorldFault};
 use iiif_pixel::NoMemory;
 use iiif_plain_tables::node::Node;
@@ -39,7 +39,7 @@ fn stage_found(found: Option<Value>) -> Stage
     }
 }
 
-impl World {
+impl Contents {
     /// What of a new flight never changes.
     fn new_lead(&self, flight: usize) -> Option<&Lead>
         ensures { MatchOption result (step (world_of self.now) (Event.Again flight) ≡ None)
@@ -86,7 +86,7 @@ impl World {
     }
 
     /// The leader of a new flight looks in its node's table again.
-    pub fn again(&mut self, flight: usize) -> Result<(), WorldFault>
+    pub(crate) fn again(&mut self, flight: usize) -> Result<(), WorldFault>
         ensures ok { OnOk result (step (world_of self.old) (Event.Again flight) ≡ Some (world_of self.new)) }
         ensures not_now { IfErr result (λ f. f ≡ WorldFault.NotNow → step (world_of self.old) (Event.Again flight) ≡ None) }
         ensures no_memory { IfErr result (λ f. f ≡ WorldFault.NoMemory → ¬ (step (world_of self.old) (Event.Again flight) ≡ None)) }
@@ -104,7 +104,7 @@ impl World {
     }
 
     /// A wide flight asks the node that owns its key.
-    pub fn ask_peer(&mut self, flight: usize) -> Result<(), WorldFault>
+    pub(crate) fn ask_peer(&mut self, flight: usize) -> Result<(), WorldFault>
         requires sound { IsSoundWorld (world_of self.old) }
         ensures ok { OnOk result (step (world_of self.old) (Event.AskPeer flight) ≡ Some (world_of self.new)) }
         ensures not_now { IfErr result (λ f. f ≡ WorldFault.NotNow → step (world_of self.old) (Event.AskPeer flight) ≡ None) }
@@ -134,7 +134,7 @@ impl World {
     }
 
     /// A node loses kept values.
-    pub fn evict(&mut self, node: usize, keys: &Vec<Key>) -> Result<(), WorldFault>
+    pub(crate) fn evict(&mut self, node: usize, keys: &Vec<Key>) -> Result<(), WorldFault>
         ensures ok { OnOk result (step (world_of self.old) (Event.Evict node keys.now) ≡ Some (world_of self.new)) }
         ensures not_now { IfErr result (λ f. f ≡ WorldFault.NotNow → step (world_of self.old) (Event.Evict node keys.now) ≡ None) }
         ensures no_memory { IfErr result (λ f. f ≡ WorldFault.NoMemory → ¬ (step (world_of self.old) (Event.Evict node keys.now) ≡ None)) }
@@ -148,7 +148,7 @@ impl World {
     }
 
     /// A node ends, with all that it had, and begins anew.
-    pub fn stop(&mut self, node: usize) -> Result<(), WorldFault>
+    pub(crate) fn stop(&mut self, node: usize) -> Result<(), WorldFault>
         ensures ok { OnOk result (step (world_of self.old) (Event.Stop node) ≡ Some (world_of self.new)) }
         ensures not_now { IfErr result (λ f. f ≡ WorldFault.NotNow → step (world_of self.old) (Event.Stop node) ≡ None) }
         ensures no_memory { IfErr result (λ f. f ≡ WorldFault.NoMemory → ¬ (step (world_of self.old) (Event.Stop node) ≡ None)) }

@@ -12,10 +12,12 @@ ghost use Rattle.iiif_machine.specs.declared.events.WorldFault.{WorldFault};
 ghost use Rattle.iiif_plain_tables.specs.Nodes.{node_of};
 ghost use Rattle.iiif_world.specs.Code.{world_of};
 
-use crate::world::{World, version_shown};
+use crate::contents::{Contents, version_shown};
 use iiif_canonical::{Resolved, resolve};
 use iiif_keys::Name;
-use iiif_machine::{Answer, Call, Numbers, Progress, Purpose, Wanted, Wish, WorldFault};
+use iiif_machine::{
+    Answer, Call, Numbers, Progress, Purpose, ShortRequest, Wanted, Wish, WorldFault,
+};
 use iiif_pixel::{Dim, Kind, NoMemory, Raster};
 use iiif_plain_tables::calling::{calls_of, keys_of, numbers_of};
 use iiif_plain_tables::node::Node;
@@ -37,7 +39,7 @@ fn kind_of(picture: &Raster) -> Kind
     picture.kind()
 }
 
-impl World {
+impl Contents {
     /// A request more, and its calls. After an error all is as before.
     fn add_request(&mut self, wanted: Wanted, calls: Vec<Call>) -> Result<(), NoMemory>
         ensures ok { OnOk result (world_of self.new ≡ record (with_request (world_of self.old) wanted.wish wanted.progress) { calls = (world_of self.old).calls ++ calls.items }) }
@@ -138,15 +140,19 @@ impl World {
     }
 
     /// A request comes to a node.
-    pub fn want(&mut self, node: usize, name: &Name, request: &Request) -> Result<(), WorldFault>
+    pub(crate) fn want(
+        &mut self,
+        node: usize,
+        name: &Name,
+        request: &ShortRequest,
+    ) -> Result<(), WorldFault>
         requires proper { IsProper (world_of self.old).scene }
-        requires short { HasShortDecimals request.now }
         ensures ok { OnOk result (step (world_of self.old) (Event.Want node name.now request.now) ≡ Some (world_of self.new)) }
         ensures not_now { IfErr result (λ f. f ≡ WorldFault.NotNow → step (world_of self.old) (Event.Want node name.now request.now) ≡ None) }
         ensures no_memory { IfErr result (λ f. f ≡ WorldFault.NoMemory → ¬ (step (world_of self.old) (Event.Want node name.now request.now) ≡ None)) }
         ensures same { OnErr result (world_of self.new ≡ world_of self.old) }
     {
-        let Some((wanted, calls)) = self.wanted(node, name, request)? else {
+        let Some((wanted, calls)) = self.wanted(node, name, request.request())? else {
             return Err(WorldFault::NotNow);
         };
         self.add_request(wanted, calls)?;

@@ -1,7 +1,7 @@
 use Rattle.std.proofs.Common.{Some, sym, ap, ◌∙◌, arith}
 use Rattle.std.proofs.lemmas.Option.{slice_get-get_or}
 use Rattle.iiif_keys.specs.Names.{IsSource}
-use Rattle.iiif_world.specs.declared.world.Item.{Item}
+use Rattle.iiif_world.specs.declared.contents.Item.{Item}
 use Rattle.iiif_world.proofs.Changed.{each_more, each_all}
 use Rattle.iiif_world.proofs.starting.are_sources.Goals as goal
 

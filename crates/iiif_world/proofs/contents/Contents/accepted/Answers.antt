@@ -4,7 +4,7 @@ use Rattle.iiif_machine.specs.declared.rows.Purpose.TheVariants.{ForRequest}
 use Rattle.iiif_plain_tables.specs.Nodes.{node_of}
 use Rattle.iiif_world.specs.Code.{world_of}
 use Rattle.iiif_world.proofs.Wanted.{accepted_done}
-use Rattle.iiif_world.proofs.world.World.accepted.Goals as goal
+use Rattle.iiif_world.proofs.contents.Contents.accepted.Goals as goal
 
 pub returns : goal.returns
 returns c =

@@ -3,7 +3,7 @@ use Rattle.iiif_machine.specs.declared.rows.Call.{Call}
 use Rattle.iiif_machine.specs.declared.rows.Wanted.{Wanted}
 use Rattle.iiif_world.specs.Code.{world_of}
 use Rattle.iiif_world.proofs.Tabled.{on_err}
-use Rattle.iiif_world.proofs.world.World.add_request.Goals as goal
+use Rattle.iiif_world.proofs.contents.Contents.add_request.Goals as goal
 
 pub returns-in_err-reserve-clause-err : goal.returns-in_err-reserve-clause-err
 returns-in_err-reserve-clause-err c =

@@ -10,7 +10,7 @@ use Rattle.iiif_world.specs.Code.{world_of}
 use Rattle.iiif_world.specs.Entering.{HasFlight}
 use Rattle.iiif_world.proofs.Asked.{memory_wanted}
 use Rattle.iiif_world.proofs.Stepped.{again_is, again_lost, again_done}
-use Rattle.iiif_world.proofs.world.World.again.Goals as goal
+use Rattle.iiif_world.proofs.contents.Contents.again.Goals as goal
 
 pub set_stage-requires : goal.set_stage-requires
 set_stage-requires c =

@@ -1,7 +1,7 @@
 use Rattle.std.proofs.Common.{◌≡◌, map, take}
 use Rattle.iiif_machine.specs.Worlds.{answer_in}
 use Rattle.iiif_machine.specs.declared.rows.Wanted.{Wanted}
-use Rattle.iiif_world.proofs.world.World.answers.Given as goal
+use Rattle.iiif_world.proofs.contents.Contents.answers.Given as goal
 
 -- those of the requests so far
 abbrev pub invariant-loop-wanted : goal.invariant-loop-wanted

@@ -9,7 +9,7 @@ use Rattle.iiif_world.specs.Code.{world_of}
 use Rattle.iiif_world.proofs.Allowing.{wants_memory}
 use Rattle.iiif_world.proofs.Named.{placed_by}
 use Rattle.iiif_world.proofs.Stepped.{ask_done, ask_lost, ask_none}
-use Rattle.iiif_world.proofs.world.World.ask_peer.Goals as goal
+use Rattle.iiif_world.proofs.contents.Contents.ask_peer.Goals as goal
 
 pub returns-in_default-place_of-clause-not_now : goal.returns-in_default-place_of-clause-not_now
 returns-in_default-place_of-clause-not_now c = λ same.

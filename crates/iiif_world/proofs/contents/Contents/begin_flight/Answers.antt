@@ -3,7 +3,7 @@ use Rattle.std.specs.Prelude.{slice_get}
 use Rattle.iiif_machine.specs.Worlds.{World, with_flight, with_state}
 use Rattle.iiif_machine.specs.declared.rows.CallState.TheVariants.{In}
 use Rattle.iiif_world.specs.Code.{world_of}
-use Rattle.iiif_world.proofs.world.World.begin_flight.Goals as goal
+use Rattle.iiif_world.proofs.contents.Contents.begin_flight.Goals as goal
 
 pub set_state-requires : goal.set_state-requires
 set_state-requires c = omega (arith, ap (λ (z : World). length z.calls) c.add_flight.ensures, c.requires.there)

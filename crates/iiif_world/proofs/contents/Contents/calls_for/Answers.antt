@@ -7,7 +7,7 @@ use Rattle.iiif_world.specs.Code.{world_of}
 use Rattle.iiif_world.proofs.Loaded.{calls_done}
 use Rattle.iiif_world.proofs.Meant.{has_parts}
 use Rattle.iiif_world.proofs.Tabled.{row_at}
-use Rattle.iiif_world.proofs.world.World.calls_for.Goals as goal
+use Rattle.iiif_world.proofs.contents.Contents.calls_for.Goals as goal
 
 pub unreachable-requires : goal.unreachable-requires
 unreachable-requires c =

@@ -5,7 +5,7 @@ use Rattle.iiif_world.specs.Code.{world_of}
 use Rattle.iiif_plain_tables.specs.Rows.{kept_of}
 use Rattle.iiif_world.proofs.Allowing.{wants_memory}
 use Rattle.iiif_world.proofs.Stepped.{enter_lost}
-use Rattle.iiif_world.proofs.world.World.enter.Goals as goal
+use Rattle.iiif_world.proofs.contents.Contents.enter.Goals as goal
 
 pub find-requires-clause-fresh : goal.find-requires-clause-fresh
 find-requires-clause-fresh c = record {

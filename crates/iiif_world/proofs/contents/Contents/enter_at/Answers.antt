@@ -8,7 +8,7 @@ use Rattle.iiif_machine.specs.declared.rows.Call.{Call}
 use Rattle.iiif_plain_tables.specs.Nodes.{node_of}
 use Rattle.iiif_world.specs.Code.{world_of}
 use Rattle.iiif_world.proofs.Tabled.{row_at, found_at, node_put, node_kept, on_err}
-use Rattle.iiif_world.proofs.world.World.enter_at.Goals as goal
+use Rattle.iiif_world.proofs.contents.Contents.enter_at.Goals as goal
 
 pub returns-clause-met : goal.returns-clause-met
 returns-clause-met c = λ who n has.

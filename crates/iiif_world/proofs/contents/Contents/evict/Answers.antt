@@ -8,7 +8,7 @@ use Rattle.iiif_world.specs.Code.{world_of}
 use Rattle.iiif_world.proofs.Changed.{missing_map, map-set}
 use Rattle.iiif_world.proofs.Stepped.{evict_done}
 use Rattle.iiif_world.proofs.Refused.{evict_gone}
-use Rattle.iiif_world.proofs.world.World.evict.Goals as goal
+use Rattle.iiif_world.proofs.contents.Contents.evict.Goals as goal
 
 pub returns-clause-ok : goal.returns-clause-ok
 unfolding step

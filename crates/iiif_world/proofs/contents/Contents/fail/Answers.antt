@@ -1,7 +1,7 @@
 use Rattle.std.proofs.lemmas.Option.{slice_get_within}
 use Rattle.iiif_world.specs.Code.{world_of}
 use Rattle.iiif_world.proofs.Loaded.{fail_done}
-use Rattle.iiif_world.proofs.world.World.fail.Goals as goal
+use Rattle.iiif_world.proofs.contents.Contents.fail.Goals as goal
 
 pub set_stage-requires : goal.set_stage-requires
 set_stage-requires c = slice_get_within (world_of c.args.self.now).flights c.args.flight _ c.requires.1.flight

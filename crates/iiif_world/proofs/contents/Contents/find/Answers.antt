@@ -11,7 +11,7 @@ use Rattle.iiif_world.specs.Entering.{HasCall}
 use Rattle.iiif_world.proofs.Changed.{length_set}
 use Rattle.iiif_world.proofs.Found.{found_honest, state_back}
 use Rattle.iiif_world.proofs.Stepped.{find_done}
-use Rattle.iiif_world.proofs.world.World.find.Goals as goal
+use Rattle.iiif_world.proofs.contents.Contents.find.Goals as goal
 
 pub settle_entered-requires-clause-proper : goal.settle_entered-requires-clause-proper
 settle_entered-requires-clause-proper c =

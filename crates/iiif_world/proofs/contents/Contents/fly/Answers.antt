@@ -14,7 +14,7 @@ use Rattle.iiif_world.specs.Code.{world_of}
 use Rattle.iiif_world.specs.Entering.{HasCall}
 use Rattle.iiif_world.proofs.Tabled.{row_at}
 use Rattle.iiif_world.proofs.Stepped.{entering, lead_by, join_by, join_none}
-use Rattle.iiif_world.proofs.world.World.fly.Goals as goal
+use Rattle.iiif_world.proofs.contents.Contents.fly.Goals as goal
 
 pub unreachable-requires : goal.unreachable-requires
 unreachable-requires c =

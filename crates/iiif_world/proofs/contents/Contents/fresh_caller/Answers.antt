@@ -1,7 +1,7 @@
 use Rattle.iiif_machine.specs.declared.rows.CallState.TheVariants.{Fresh}
 use Rattle.iiif_world.specs.Code.{world_of}
 use Rattle.iiif_world.proofs.Refused.{caller_at, enter_gone, enter_other}
-use Rattle.iiif_world.proofs.world.World.fresh_caller.Goals as goal
+use Rattle.iiif_world.proofs.contents.Contents.fresh_caller.Goals as goal
 
 pub returns-in_default : goal.returns-in_default
 returns-in_default c = enter_gone (world_of c.args.self.now) c.args.call c.in_default.ensures

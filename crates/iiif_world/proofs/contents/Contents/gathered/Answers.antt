@@ -4,7 +4,7 @@ use Rattle.iiif_world.specs.Code.{world_of}
 use Rattle.iiif_plain_tables.specs.Heard.{heard_all, heard_first}
 use Rattle.iiif_plain_tables.specs.declared.hearing.Heard.{Heard}
 use Rattle.iiif_world.proofs.Gathered.{one_more}
-use Rattle.iiif_world.proofs.world.World.gathered.Goals as goal
+use Rattle.iiif_world.proofs.contents.Contents.gathered.Goals as goal
 
 pub loop-call-preserved : goal.loop-call-preserved
 loop-call-preserved c =

@@ -5,7 +5,7 @@ use Rattle.iiif_machine.specs.Worlds.{World}
 use Rattle.iiif_machine.specs.declared.events.Event.TheVariants.{GoLocal}
 use Rattle.iiif_world.specs.Code.{world_of}
 use Rattle.iiif_world.proofs.Asked.{memory_wanted, no_want, local_none, local_other, local_called, local_is, local_done}
-use Rattle.iiif_world.proofs.world.World.go_local.Goals as goal
+use Rattle.iiif_world.proofs.contents.Contents.go_local.Goals as goal
 
 pub returns-in_default-clause-not_now : goal.returns-in_default-clause-not_now
 returns-in_default-clause-not_now c = λ same. local_none (world_of c.args.self.now) c.args.flight c.in_default.ensures

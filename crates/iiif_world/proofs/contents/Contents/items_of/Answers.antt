@@ -1,7 +1,7 @@
 use Rattle.std.proofs.Common.{◌∙◌}
 use Rattle.iiif_world.specs.Code.{world_of}
 use Rattle.iiif_world.proofs.Wanted.{planned, resolves_at}
-use Rattle.iiif_world.proofs.world.World.items_of.Goals as goal
+use Rattle.iiif_world.proofs.contents.Contents.items_of.Goals as goal
 
 pub plan-requires-clause-inside : goal.plan-requires-clause-inside
 plan-requires-clause-inside c =

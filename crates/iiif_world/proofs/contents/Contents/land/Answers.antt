@@ -14,7 +14,7 @@ use Rattle.iiif_world.proofs.Changed.{length_set}
 use Rattle.iiif_world.proofs.Found.{ended_honest, stage_back}
 use Rattle.iiif_world.proofs.Asked.{memory_wanted}
 use Rattle.iiif_world.proofs.Stepped.{land_is, land_lost, land_done}
-use Rattle.iiif_world.proofs.world.World.land.Goals as goal
+use Rattle.iiif_world.proofs.contents.Contents.land.Goals as goal
 
 pub end-requires : goal.end-requires
 end-requires c = slice_get_within (world_of c.args.self.now).flights c.args.flight _ c.in-Some.ensures

@@ -7,7 +7,7 @@ use Rattle.iiif_machine.specs.declared.rows.Flight.{Flight}
 use Rattle.iiif_plain_tables.specs.Nodes.{node_of}
 use Rattle.iiif_world.specs.Code.{world_of}
 use Rattle.iiif_world.proofs.Tabled.{row_at, found_at, node_put, node_kept, on_err}
-use Rattle.iiif_world.proofs.world.World.land_at.Goals as goal
+use Rattle.iiif_world.proofs.contents.Contents.land_at.Goals as goal
 
 pub returns-clause-ok : goal.returns-clause-ok
 returns-clause-ok c = λ l n o has val.

@@ -3,7 +3,7 @@ use Rattle.iiif_machine.specs.declared.events.Event.TheVariants.{Load}
 use Rattle.iiif_world.specs.Code.{world_of}
 use Rattle.iiif_world.proofs.Allowing.{wants_memory, looked_allowed, merge_allowed}
 use Rattle.iiif_world.proofs.Loaded.{wait_done}
-use Rattle.iiif_world.proofs.world.World.load.Goals as goal
+use Rattle.iiif_world.proofs.contents.Contents.load.Goals as goal
 
 pub returns-in-Merge-Nothing-clause-not_now : goal.returns-in-Merge-Nothing-clause-not_now
 returns-in-Merge-Nothing-clause-not_now c = λ same.

@@ -8,7 +8,7 @@ use Rattle.iiif_world.specs.Code.{world_of}
 use Rattle.iiif_plain_tables.specs.Heard.{heard_all}
 use Rattle.iiif_world.proofs.Loaded.{local_at}
 use Rattle.iiif_world.proofs.Stepped.{load_none, no_load}
-use Rattle.iiif_world.proofs.world.World.loading.Goals as goal
+use Rattle.iiif_world.proofs.contents.Contents.loading.Goals as goal
 
 pub returns-in-Looked-Tile : goal.returns-in-Looked-Tile
 unfolding parts_of

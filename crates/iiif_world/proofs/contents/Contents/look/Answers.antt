@@ -7,7 +7,7 @@ use Rattle.iiif_machine.specs.declared.rows.Flight.{Flight}
 use Rattle.iiif_plain_tables.specs.Nodes.{node_of}
 use Rattle.iiif_world.specs.Code.{world_of}
 use Rattle.iiif_world.proofs.Tabled.{row_at, found_at, node_put, node_kept, on_err}
-use Rattle.iiif_world.proofs.world.World.look.Goals as goal
+use Rattle.iiif_world.proofs.contents.Contents.look.Goals as goal
 
 pub returns-clause-found : goal.returns-clause-found
 returns-clause-found c = λ l n has.

@@ -2,7 +2,7 @@ use Rattle.std.proofs.Common.{refl}
 use Rattle.std.proofs.lemmas.Option.{slice_get_within}
 use Rattle.iiif_world.specs.Code.{world_of}
 use Rattle.iiif_world.proofs.Asked.{no_want, lose_none, lose_other, lose_done}
-use Rattle.iiif_world.proofs.world.World.lose.Goals as goal
+use Rattle.iiif_world.proofs.contents.Contents.lose.Goals as goal
 
 pub returns-in_default-clause-not_now : goal.returns-in_default-clause-not_now
 returns-in_default-clause-not_now c = λ same. lose_none (world_of c.args.self.now) c.args.flight c.in_default.ensures

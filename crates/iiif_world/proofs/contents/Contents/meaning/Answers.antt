@@ -2,7 +2,7 @@ use Rattle.std.proofs.Common.{subst}
 use Rattle.iiif_scene.specs.Keys.{Fits}
 use Rattle.iiif_world.specs.Code.{world_of}
 use Rattle.iiif_world.proofs.Meant.{tile_fits, tile_known, sum_fits, sum_known}
-use Rattle.iiif_world.proofs.world.World.meaning.Goals as goal
+use Rattle.iiif_world.proofs.contents.Contents.meaning.Goals as goal
 
 pub tile-requires : goal.tile-requires
 tile-requires c =

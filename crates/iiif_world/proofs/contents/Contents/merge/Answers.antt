@@ -1,7 +1,7 @@
 use Rattle.std.proofs.lemmas.Option.{slice_get_within}
 use Rattle.iiif_world.specs.Code.{world_of}
 use Rattle.iiif_world.proofs.Loaded.{merge_done}
-use Rattle.iiif_world.proofs.world.World.merge.Goals as goal
+use Rattle.iiif_world.proofs.contents.Contents.merge.Goals as goal
 
 pub value_of-requires-clause-there : goal.value_of-requires-clause-there
 value_of-requires-clause-there c = slice_get_within (world_of c.args.self.now).flights c.args.flight _ c.requires.loading.1.flight

@@ -4,7 +4,7 @@ use Rattle.iiif_scene.proofs.Lists.{get_map}
 use Rattle.iiif_plain_tables.specs.Nodes.{node_of}
 use Rattle.iiif_plain_tables.specs.declared.node.Node.{Node}
 use Rattle.iiif_world.proofs.Changed.{missing_map}
-use Rattle.iiif_world.proofs.world.World.node_at.Goals as goal
+use Rattle.iiif_world.proofs.contents.Contents.node_at.Goals as goal
 
 pub returns-in-Some : goal.returns-in-Some
 returns-in-Some c =

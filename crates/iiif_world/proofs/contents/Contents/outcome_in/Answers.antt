@@ -1,5 +1,5 @@
 use Rattle.iiif_world.proofs.Refused.{flight_gone, flight_open, flight_ended}
-use Rattle.iiif_world.proofs.world.World.outcome_in.Goals as goal
+use Rattle.iiif_world.proofs.contents.Contents.outcome_in.Goals as goal
 
 pub returns-in_default : goal.returns-in_default
 returns-in_default c = flight_gone c.args.self.now.flights.items c.args.flight c.in_default.ensures

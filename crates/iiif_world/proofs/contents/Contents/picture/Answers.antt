@@ -1,7 +1,7 @@
 use Rattle.std.proofs.Common.{position, sym, ap, ◌∙◌}
 use Rattle.iiif_world.proofs.Shown.{shown_found, shown_missing}
 use Rattle.iiif_world.specs.Code.{has_name}
-use Rattle.iiif_world.proofs.world.World.picture.Goals as goal
+use Rattle.iiif_world.proofs.contents.Contents.picture.Goals as goal
 
 pub returns-in-Some : goal.returns-in-Some
 returns-in-Some c =

@@ -1,7 +1,7 @@
 use Rattle.std.proofs.lemmas.Option.{slice_get_within}
 use Rattle.iiif_world.specs.Code.{world_of}
 use Rattle.iiif_world.proofs.Loaded.{read_done}
-use Rattle.iiif_world.proofs.world.World.read.Goals as goal
+use Rattle.iiif_world.proofs.contents.Contents.read.Goals as goal
 
 pub value_of-requires-clause-there : goal.value_of-requires-clause-there
 value_of-requires-clause-there c = slice_get_within (world_of c.args.self.now).flights c.args.flight _ c.requires.loading.0.flight

@@ -1,7 +1,7 @@
 use Rattle.iiif_machine.specs.declared.rows.Stage.TheVariants.{Ready}
 use Rattle.iiif_world.specs.Code.{world_of}
 use Rattle.iiif_world.proofs.Refused.{land_gone, land_other, lead_at}
-use Rattle.iiif_world.proofs.world.World.ready.Goals as goal
+use Rattle.iiif_world.proofs.contents.Contents.ready.Goals as goal
 
 pub returns-in_default : goal.returns-in_default
 returns-in_default c = λ keep. land_gone (world_of c.args.self.now) c.args.flight keep c.in_default.ensures

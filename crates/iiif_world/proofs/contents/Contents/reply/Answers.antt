@@ -2,7 +2,7 @@ use Rattle.std.proofs.Common.{refl, sym, ◌∙◌}
 use Rattle.iiif_machine.specs.declared.events.Event.TheVariants as event
 use Rattle.iiif_world.specs.Code.{world_of}
 use Rattle.iiif_world.proofs.Asked.{memory_wanted, no_want, reply_none, reply_other, reply_unknown, reply_memory, reply_is, reply_done}
-use Rattle.iiif_world.proofs.world.World.reply.Goals as goal
+use Rattle.iiif_world.proofs.contents.Contents.reply.Goals as goal
 
 pub returns-in_default-clause-not_now : goal.returns-in_default-clause-not_now
 returns-in_default-clause-not_now c = λ same. reply_none (world_of c.args.self.now) c.args.call c.in_default.ensures

@@ -1,7 +1,7 @@
 use Rattle.std.proofs.Common.{List, ap, arith}
 use Rattle.iiif_machine.specs.declared.rows.Flight.{Flight}
 use Rattle.iiif_world.specs.Code.{world_of}
-use Rattle.iiif_world.proofs.world.World.reserve_flight.Goals as goal
+use Rattle.iiif_world.proofs.contents.Contents.reserve_flight.Goals as goal
 
 pub returns-clause-room : goal.returns-clause-room
 returns-clause-room c = omega (arith, c.in_ok-reserve.ensures.ok)

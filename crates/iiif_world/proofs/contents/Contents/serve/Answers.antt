@@ -3,7 +3,7 @@ use Rattle.iiif_machine.specs.declared.events.Event.TheVariants.{Serve}
 use Rattle.iiif_plain_tables.specs.Nodes.{node_of}
 use Rattle.iiif_world.specs.Code.{world_of}
 use Rattle.iiif_world.proofs.Asked.{memory_wanted, serve_none, serve_lost, serve_mute, serve_is, serve_done}
-use Rattle.iiif_world.proofs.world.World.serve.Goals as goal
+use Rattle.iiif_world.proofs.contents.Contents.serve.Goals as goal
 
 pub returns-in_default-clause-not_now : goal.returns-in_default-clause-not_now
 returns-in_default-clause-not_now c = λ same. serve_none (world_of c.args.self.now) c.args.ask c.in_default.ensures

@@ -3,7 +3,7 @@ use Rattle.std.specs.Prelude.{slice_set}
 use Rattle.iiif_machine.specs.declared.rows.Flight.{Flight}
 use Rattle.iiif_world.specs.Code.{world_of}
 use Rattle.iiif_world.proofs.Tabled.{row_at}
-use Rattle.iiif_world.proofs.world.World.set_stage.Goals as goal
+use Rattle.iiif_world.proofs.contents.Contents.set_stage.Goals as goal
 
 pub returns : goal.returns
 returns c = λ l x at.

@@ -1,6 +1,6 @@
 use Rattle.iiif_world.specs.Code.{world_of}
 use Rattle.iiif_world.proofs.Settled.{settled_is}
-use Rattle.iiif_world.proofs.world.World.settle.Goals as goal
+use Rattle.iiif_world.proofs.contents.Contents.settle.Goals as goal
 
 pub returns : goal.returns
 returns c =

@@ -1,7 +1,7 @@
 use Rattle.std.proofs.Common.{◌∙◌}
 use Rattle.iiif_world.specs.Code.{world_of}
 use Rattle.iiif_world.proofs.Tabled.{dues_stay, answers_stay, outcome_with}
-use Rattle.iiif_world.proofs.world.World.settle_landed.Goals as goal
+use Rattle.iiif_world.proofs.contents.Contents.settle_landed.Goals as goal
 
 pub settle-requires-clause-outcomes : goal.settle-requires-clause-outcomes
 settle-requires-clause-outcomes c =

@@ -6,7 +6,7 @@ use Rattle.iiif_machine.specs.declared.events.Event.TheVariants.{SourceFault}
 use Rattle.iiif_world.specs.Code.{world_of}
 use Rattle.iiif_world.proofs.Asked.{memory_wanted}
 use Rattle.iiif_world.proofs.Refused.{fault_gone, fault_other, fault_wide, fault_sum, fault_is, fault_done}
-use Rattle.iiif_world.proofs.world.World.source_fault.Goals as goal
+use Rattle.iiif_world.proofs.contents.Contents.source_fault.Goals as goal
 
 pub returns-in_default-clause-not_now : goal.returns-in_default-clause-not_now
 returns-in_default-clause-not_now c = λ same. fault_gone (world_of c.args.self.now) c.args.flight c.args.fault c.in_default.ensures

@@ -4,7 +4,7 @@ use Rattle.iiif_machine.specs.Worlds.{World}
 use Rattle.iiif_machine.specs.declared.rows.Stage.TheVariants.{Looked}
 use Rattle.iiif_world.specs.Code.{world_of}
 use Rattle.iiif_world.proofs.Loaded.{split_done}
-use Rattle.iiif_world.proofs.world.World.split.Goals as goal
+use Rattle.iiif_world.proofs.contents.Contents.split.Goals as goal
 
 pub returns-clause-ok : goal.returns-clause-ok
 returns-clause-ok c =

@@ -1,6 +1,6 @@
 use Rattle.iiif_world.specs.Code.{world_of}
 use Rattle.iiif_world.proofs.Run.{follows, stays_sound, same_sound}
-use Rattle.iiif_world.proofs.world.World.step.Goals as goal
+use Rattle.iiif_world.proofs.contents.Contents.step.Goals as goal
 
 pub returns-in-Ok-clause-follows : goal.returns-in-Ok-clause-follows
 returns-in-Ok-clause-follows c = follows (world_of c.args.self.now) (world_of c.happen.new.self) c.args.event.now c.requires.sound c.in-Ok.ensures.ok

@@ -8,7 +8,7 @@ use Rattle.iiif_world.specs.Code.{world_of}
 use Rattle.iiif_world.proofs.Changed.{missing_map, map-set, made_is}
 use Rattle.iiif_world.proofs.Stepped.{stop_done}
 use Rattle.iiif_world.proofs.Refused.{stop_gone}
-use Rattle.iiif_world.proofs.world.World.stop.Goals as goal
+use Rattle.iiif_world.proofs.contents.Contents.stop.Goals as goal
 
 pub returns-clause-ok : goal.returns-clause-ok
 returns-clause-ok c =

@@ -3,7 +3,7 @@ use Rattle.std.proofs.lemmas.Option.{slice_get_within}
 use Rattle.iiif_machine.specs.declared.events.Event.TheVariants.{Take}
 use Rattle.iiif_world.specs.Code.{world_of}
 use Rattle.iiif_world.proofs.Asked.{memory_wanted, no_want, take_none, take_unsent, take_other, take_ended, take_is, take_done}
-use Rattle.iiif_world.proofs.world.World.take.Goals as goal
+use Rattle.iiif_world.proofs.contents.Contents.take.Goals as goal
 
 pub returns-in_default-clause-not_now : goal.returns-in_default-clause-not_now
 returns-in_default-clause-not_now c = λ same. take_none (world_of c.args.self.now) c.args.flight c.args.reply c.in_default.ensures

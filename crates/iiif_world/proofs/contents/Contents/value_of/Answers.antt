@@ -3,7 +3,7 @@ use Rattle.std.proofs.lemmas.Option.{slice_get-get_or, get_or_from_slice_get}
 use Rattle.iiif_scene.specs.Keys.{meaning}
 use Rattle.iiif_machine.specs.declared.rows.Flight.{Flight}
 use Rattle.iiif_world.specs.Code.{world_of}
-use Rattle.iiif_world.proofs.world.World.value_of.Goals as goal
+use Rattle.iiif_world.proofs.contents.Contents.value_of.Goals as goal
 
 pub meaning-requires-clause-fits : goal.meaning-requires-clause-fits
 meaning-requires-clause-fits c =

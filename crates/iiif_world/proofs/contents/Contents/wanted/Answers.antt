@@ -6,7 +6,7 @@ use Rattle.iiif_world.proofs.Allowing.{want_allowed}
 use Rattle.iiif_world.proofs.Stepped.{want_none, want_lost, want_mute}
 use Rattle.iiif_world.proofs.Tabled.{on_err}
 use Rattle.iiif_world.proofs.Wanted.{refused_done, resolves_to}
-use Rattle.iiif_world.proofs.world.World.wanted.Goals as goal
+use Rattle.iiif_world.proofs.contents.Contents.wanted.Goals as goal
 
 pub returns-in_default-clause-ok : goal.returns-in_default-clause-ok
 returns-in_default-clause-ok c = want_none (world_of c.args.self.now) c.args.node c.args.name.now c.args.request.now c.in_default.ensures

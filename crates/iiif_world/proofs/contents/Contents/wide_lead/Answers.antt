@@ -1,7 +1,7 @@
 use Rattle.iiif_machine.specs.declared.rows.Stage.TheVariants.{Looked}
 use Rattle.iiif_world.specs.Code.{world_of}
 use Rattle.iiif_world.proofs.Refused.{ask_gone, ask_other, ask_own, lead_at}
-use Rattle.iiif_world.proofs.world.World.wide_lead.Goals as goal
+use Rattle.iiif_world.proofs.contents.Contents.wide_lead.Goals as goal
 
 pub returns-in_default : goal.returns-in_default
 returns-in_default c = ask_gone (world_of c.args.self.now) c.args.flight c.in_default.ensures

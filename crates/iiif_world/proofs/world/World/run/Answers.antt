@@ -7,11 +7,11 @@ use Rattle.iiif_machine.proofs.Promised.{follows_itself, follows_further}
 use Rattle.iiif_world.specs.Code.{world_of}
 use Rattle.iiif_world.proofs.Right.{run_is_right}
 use Rattle.iiif_world.proofs.Run.{run_next}
-use Rattle.iiif_world.proofs.stepping.run.Goals as goal
+use Rattle.iiif_world.proofs.world.World.run.Goals as goal
 
 pub loop-place-init : goal.loop-place-init
 unfolding run
-loop-place-init c = (refl, c.requires.sound, follows_itself (world_of c.args.world))
+loop-place-init c = (refl, c.contents.ensures.sound, follows_itself (world_of c.args.self))
 
 pub returns-in-Err-clause-err : goal.returns-in-Err-clause-err
 returns-in-Err-clause-err c = (
@@ -25,13 +25,13 @@ returns-in-Err-clause-err c = (
 
 pub loop-place-preserved : goal.loop-place-preserved
 loop-place-preserved c = (
-  run_next (world_of c.args.world) (world_of c.loop-place.world) (world_of c.step.new.self) c.args.events.now c.loop-place.place c.index-events-place.result c.loop-place-test.true
+  run_next (world_of c.args.self) (world_of c.loop-place.world) (world_of c.step.new.self) c.args.events.now c.loop-place.place c.index-events-place.result c.loop-place-test.true
       c.index-events-place.is c.loop-place.invariant.0 c.in-Ok.ensures.ok,
   c.in-Ok.ensures.sound,
-  follows_further (world_of c.args.world) (world_of c.loop-place.world) (world_of c.step.new.self) c.loop-place.invariant.2 c.in-Ok.ensures.follows,
+  follows_further (world_of c.args.self) (world_of c.loop-place.world) (world_of c.step.new.self) c.loop-place.invariant.2 c.in-Ok.ensures.follows,
 )
 
 pub returns-clause-headline : goal.returns-clause-headline
 returns-clause-headline c =
-    run_is_right (world_of c.args.world) (world_of c.loop-place.world) c.args.events.now c.requires.sound
-    (ap (run (world_of c.args.world)) (sym (take_all c.loop-place.place c.args.events.now (omega (arith, c.loop-place-test.false)))) ∙ c.loop-place.invariant.0)
+    run_is_right (world_of c.args.self) (world_of c.loop-place.world) c.args.events.now c.contents.ensures.sound
+    (ap (run (world_of c.args.self)) (sym (take_all c.loop-place.place c.args.events.now (omega (arith, c.loop-place-test.false)))) ∙ c.loop-place.invariant.0)
