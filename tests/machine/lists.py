@@ -130,7 +130,7 @@ def a_world(chance, is_long):
     edge = chance.randint(1, 3)
     side = chance.choice((8, 8, 8, 3))
     limits = (side, side, chance.random() < 0.5)
-    room = chance.choice((65536, 65536, 12, 0))
+    room = chance.choice((65536, 65536, 12, 1))
     names = chance.choice((["a", "b"], ["a", "b"], ["a", "b", "c"], ["a", "b", "c"], ["a", "b", "b"]))
     known = sorted(set(names))
     nodes = [Node(name, chance.sample(known, chance.randint(1, len(known))), chance.choice((1, 2, 2)), chance.choice((25, 28, 60, 65, 120, 1000)),
