@@ -3,7 +3,7 @@
 ghost use Rattle.std.specs.Prelude.{◌≡◌, length, map, IfOk};
 ghost use Rattle.iiif_machine.specs.Worlds.{new_world};
 ghost use Rattle.iiif_pixel.specs.Depths.{values_of};
-ghost use Rattle.iiif_world.specs.Code.{scene_of, world_of, IsSoundWorld};
+ghost use Rattle.iiif_world.specs.Code.{scene_of, world_of};
 ghost use Rattle.iiif_world.specs.Starting.{node_for};
 
 use crate::fault::LineFault;
@@ -11,8 +11,9 @@ use crate::reading::{count, name, number, side, word};
 use iiif_canonical::Limits;
 use iiif_pixel::{Dim, Kind, NoMemory, Raster, Samples};
 use iiif_ring::{Ring, RingFault};
+use iiif_world::contents::Item;
 use iiif_world::starting::{Setup, SetupFault};
-use iiif_world::world::{Item, World};
+use iiif_world::world::World;
 use std::alloc::Global;
 
 /// Of what a world is made.
@@ -206,8 +207,7 @@ impl Description {
 
     /// The world that was described, in which nothing has happened. `Bad`, where no world can begin so.
     pub fn begin(self, alloc: Global) -> Result<World, LineFault>
-        ensures new { IfOk result (λ w. world_of w ≡ new_world (scene_of self.items.items self.edge self.limits self.room) (map node_for self.setups.items)) }
-        ensures sound { IfOk result (λ w. IsSoundWorld (world_of w)) }
+        ensures { IfOk result (λ w. world_of w ≡ new_world (scene_of self.items.items self.edge self.limits self.room) (map node_for self.setups.items)) }
     {
         let Description {
             edge,

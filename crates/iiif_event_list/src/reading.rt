@@ -1,14 +1,12 @@
 //! Events, read from the words of a line.
 
-ghost use Rattle.std.specs.Prelude.{◌+◌, ◌<◌, ◌^◌, IfOk};
-ghost use Rattle.iiif_request.specs.Requests.{HasShortDecimals};
-ghost use Rattle.iiif_world.specs.Stepping.{IsShortEvent};
+ghost use Rattle.std.specs.Prelude.{◌+◌, ◌<◌, ◌^◌};
 
 use crate::fault::LineFault;
 use iiif_keys::{Name, SumKey, TileKey, is_name};
-use iiif_machine::Event;
+use iiif_machine::{Event, ShortRequest};
 use iiif_pixel::{Dim, NoMemory, Rect};
-use iiif_request::{Request, Words, parse};
+use iiif_request::{Words, parse};
 use iiif_scene::Key;
 use iiif_source::ReadFault;
 use std::alloc::Global;
@@ -79,9 +77,8 @@ fn one(words: &[&str]) -> Result<usize, LineFault> {
 }
 
 /// The request of four words from a place on: region, size, rotation and quality.
-fn request(alloc: Global, words: &[&str], at: usize) -> Result<Request, LineFault>
+fn request(alloc: Global, words: &[&str], at: usize) -> Result<ShortRequest, LineFault>
     requires { at + 4 < 2 ^ 32 }
-    ensures { IfOk result HasShortDecimals }
 {
     let words = Words {
         region: text(alloc, words, at)?,
@@ -90,16 +87,17 @@ fn request(alloc: Global, words: &[&str], at: usize) -> Result<Request, LineFaul
         quality: text(alloc, words, at + 3)?,
         format: String::from_str(alloc, "tif")?,
     };
-    match parse(&words) {
-        Ok(request) => Ok(request),
-        Err(_) => Err(LineFault::Bad),
+    let Ok(request) = parse(&words) else {
+        return Err(LineFault::Bad);
+    };
+    match ShortRequest::new(request) {
+        Some(request) => Ok(request),
+        None => Err(LineFault::Bad),
     }
 }
 
 /// `want NODE NAME REGION SIZE ROTATION QUALITY`
-fn want(alloc: Global, words: &[&str]) -> Result<Event, LineFault>
-    ensures { IfOk result IsShortEvent }
-{
+fn want(alloc: Global, words: &[&str]) -> Result<Event, LineFault> {
     if words.len() != 7 {
         return Err(LineFault::Bad);
     }
@@ -169,9 +167,7 @@ fn add(keys: &mut Vec<Key>, key: Key) -> Result<(), NoMemory> {
 }
 
 /// `evict NODE KEY..`
-fn evict(alloc: Global, words: &[&str]) -> Result<Event, LineFault>
-    ensures { IfOk result IsShortEvent }
-{
+fn evict(alloc: Global, words: &[&str]) -> Result<Event, LineFault> {
     let node = count(words, 1)?;
     let mut keys = Vec::new(alloc);
     let mut at = 2usize;
@@ -187,9 +183,7 @@ fn evict(alloc: Global, words: &[&str]) -> Result<Event, LineFault>
 }
 
 /// `take FLIGHT REPLY`
-fn take(words: &[&str]) -> Result<Event, LineFault>
-    ensures { IfOk result IsShortEvent }
-{
+fn take(words: &[&str]) -> Result<Event, LineFault> {
     if words.len() != 3 {
         return Err(LineFault::Bad);
     }
@@ -197,9 +191,7 @@ fn take(words: &[&str]) -> Result<Event, LineFault>
 }
 
 /// `source_fault FLIGHT PLACE CAUSE`
-fn source_fault(words: &[&str]) -> Result<Event, LineFault>
-    ensures { IfOk result IsShortEvent }
-{
+fn source_fault(words: &[&str]) -> Result<Event, LineFault> {
     if words.len() != 4 {
         return Err(LineFault::Bad);
     }
@@ -211,9 +203,7 @@ fn source_fault(words: &[&str]) -> Result<Event, LineFault>
 }
 
 /// `land FLIGHT kept` or `land FLIGHT dropped`
-fn land(words: &[&str]) -> Result<Event, LineFault>
-    ensures { IfOk result IsShortEvent }
-{
+fn land(words: &[&str]) -> Result<Event, LineFault> {
     if words.len() != 3 {
         return Err(LineFault::Bad);
     }
@@ -226,9 +216,7 @@ fn land(words: &[&str]) -> Result<Event, LineFault>
 }
 
 /// The event of this name that has a number alone.
-fn numbered(name: &str, number: usize) -> Result<Event, LineFault>
-    ensures { IfOk result IsShortEvent }
-{
+fn numbered(name: &str, number: usize) -> Result<Event, LineFault> {
     match name {
         "enter" => Ok(Event::Enter(number)),
         "again" => Ok(Event::Again(number)),
@@ -245,9 +233,7 @@ fn numbered(name: &str, number: usize) -> Result<Event, LineFault>
 
 /// The event of a line's words, in the numbers of the world that it is meant for. `Bad`, where they are no event; whether the world allows
 /// it is not asked.
-pub fn event(alloc: Global, words: &[&str]) -> Result<Event, LineFault>
-    ensures { IfOk result IsShortEvent }
-{
+pub fn event(alloc: Global, words: &[&str]) -> Result<Event, LineFault> {
     match word(words, 0)? {
         "want" => want(alloc, words),
         "take" => take(words),

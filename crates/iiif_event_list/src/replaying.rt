@@ -1,9 +1,8 @@
 //! Worlds and their events, line by line.
 
 ghost use Rattle.std.specs.Prelude.{OnOk};
-ghost use Rattle.iiif_event_list.specs.Replays.{IsSoundReplay, IsOutcome};
-ghost use Rattle.iiif_world.specs.Code.{world_of, IsSoundWorld};
-ghost use Rattle.iiif_world.specs.Stepping.{IsShortEvent};
+ghost use Rattle.iiif_event_list.specs.Replays.{IsOutcome};
+ghost use Rattle.iiif_world.specs.Code.{world_of};
 
 use crate::describing::Description;
 use crate::fault::LineFault;
@@ -25,10 +24,7 @@ fn outcome(
     line: &str,
     event: &Event,
 ) -> Result<String, LineFault>
-    requires sound { IsSoundWorld (world_of world.old) }
-    requires short { IsShortEvent event.now }
-    ensures sound { IsSoundWorld (world_of world.new) }
-    ensures done { OnOk result (IsOutcome (world_of world.old) event.now (world_of world.new)) }
+    ensures { OnOk result (IsOutcome (world_of world.old) event.now (world_of world.new)) }
 {
     let words = line.trim();
     match world.step(event) {
@@ -41,7 +37,7 @@ fn outcome(
 /// The answers of a world, a line a request, in the order of their numbers: `none`, where it has no answer.
 pub fn answers(alloc: Global, world: &World) -> Result<String, NoMemory> {
     let mut text = String::new(alloc);
-    for request in 0..world.requests.len() {
+    for request in 0..world.request_count() {
         write!(text, "request {}: ", request)?;
         match world.answer(request) {
             Some(answer) => put_answer(&mut text, answer)?,
@@ -61,19 +57,14 @@ pub fn rows(alloc: Global, world: &World) -> Result<String, NoMemory> {
 
 impl Replay {
     /// Nothing was read.
-    pub fn new(alloc: Global) -> Replay
-        ensures { IsSoundReplay result }
-    {
+    pub fn new(alloc: Global) -> Replay {
         Replay {
             state: State::Described(Description::new(alloc)),
         }
     }
 
     /// The world begins, where it has not.
-    fn begin(&mut self, alloc: Global) -> Result<(), LineFault>
-        requires { IsSoundReplay self.old }
-        ensures { IsSoundReplay self.new }
-    {
+    fn begin(&mut self, alloc: Global) -> Result<(), LineFault> {
         match replace(&mut self.state, State::Lost) {
             State::Described(description) => {
                 self.state = State::Begun(description.begin(alloc)?);
@@ -96,10 +87,7 @@ impl Replay {
     }
 
     /// All rows of the world that has begun.
-    fn shown(&mut self, alloc: Global) -> Result<String, LineFault>
-        requires { IsSoundReplay self.old }
-        ensures { IsSoundReplay self.new }
-    {
+    fn shown(&mut self, alloc: Global) -> Result<String, LineFault> {
         self.begin(alloc)?;
         match &self.state {
             State::Begun(world) => Ok(rows(alloc, world)?),
@@ -108,10 +96,7 @@ impl Replay {
     }
 
     /// The next world: the answers of the last one.
-    fn next_world(&mut self, alloc: Global) -> Result<String, LineFault>
-        requires { IsSoundReplay self.old }
-        ensures { IsSoundReplay self.new }
-    {
+    fn next_world(&mut self, alloc: Global) -> Result<String, LineFault> {
         let text = self.ended(alloc)?;
         self.state = State::Described(Description::new(alloc));
         Ok(text)
@@ -124,10 +109,7 @@ impl Replay {
         number: u64,
         line: &str,
         words: &[&str],
-    ) -> Result<String, LineFault>
-        requires { IsSoundReplay self.old }
-        ensures { IsSoundReplay self.new }
-    {
+    ) -> Result<String, LineFault> {
         let event = event(alloc, words)?;
         self.begin(alloc)?;
         match &mut self.state {
@@ -137,10 +119,7 @@ impl Replay {
     }
 
     /// Whether words set something of the world that is described.
-    fn set(&mut self, alloc: Global, words: &[&str]) -> Result<bool, LineFault>
-        requires { IsSoundReplay self.old }
-        ensures { IsSoundReplay self.new }
-    {
+    fn set(&mut self, alloc: Global, words: &[&str]) -> Result<bool, LineFault> {
         match &mut self.state {
             State::Described(description) => description.set(alloc, words),
             _ => Ok(false),
@@ -154,10 +133,7 @@ impl Replay {
         number: u64,
         line: &str,
         words: &[&str],
-    ) -> Result<String, LineFault>
-        requires { IsSoundReplay self.old }
-        ensures { IsSoundReplay self.new }
-    {
+    ) -> Result<String, LineFault> {
         if self.set(alloc, words)? {
             return Ok(String::new(alloc));
         }
@@ -167,10 +143,7 @@ impl Replay {
     /// What a line, of a number, comes to: an event's outcome, behind the number and the words; at `world` the answers of the last one; at
     /// `rows` all rows; else nothing. `Bad`, where it is no setting and no event, sets something of a world that has begun, or comes where
     /// the world can't begin: then each further event is `Bad` until `world`. After `NoMemory` an event may be done, or the world lost.
-    pub fn line(&mut self, alloc: Global, number: u64, line: &str) -> Result<String, LineFault>
-        requires { IsSoundReplay self.old }
-        ensures { IsSoundReplay self.new }
-    {
+    pub fn line(&mut self, alloc: Global, number: u64, line: &str) -> Result<String, LineFault> {
         let words: Vec<&str> = line.split_whitespace().collect(alloc)?;
         match words.first() {
             None => Ok(String::new(alloc)),

@@ -239,11 +239,12 @@ fn put_replies(text: &mut String, replies: &[Reply]) -> Result<(), NoMemory> {
 
 /// All rows, one a line.
 pub(crate) fn put_rows(text: &mut String, world: &World) -> Result<(), NoMemory> {
-    put_nodes(text, &world.nodes)?;
-    put_all_given(text, &world.given)?;
-    put_requests(text, &world.requests)?;
-    put_calls(text, &world.calls)?;
-    put_flights(text, &world.flights)?;
-    put_asks(text, &world.asks)?;
-    put_replies(text, &world.replies)
+    let all = world.contents();
+    put_nodes(text, &all.nodes)?;
+    put_all_given(text, &all.given)?;
+    put_requests(text, &all.requests)?;
+    put_calls(text, &all.calls)?;
+    put_flights(text, &all.flights)?;
+    put_asks(text, &all.asks)?;
+    put_replies(text, &all.replies)
 }

@@ -1,6 +1,7 @@
-//! Each public function of `iiif_machine` once.
+//! Each public function of `iiif_machine` once, and the numbers of faults.
 
 use iiif_machine::{Numbers, WorldFault, laws};
+use iiif_world::starting::SetupFault;
 use std::alloc::Global;
 
 /// Whether numbers are as given.
@@ -21,6 +22,8 @@ fn numbers_are_as_given(rt: HostRuntime) {
     laws::events_change_no_more();
     laws::the_owner_is_asked();
     laws::worked_lists_compute();
+    laws::outcomes_have_origins();
+    laws::each_run_is_right();
 }
 
 /// Whether a fault has this number and is written so.
@@ -35,4 +38,9 @@ fn is_said(alloc: Global, fault: WorldFault, number: u8, text: &str) -> bool {
 fn numbers_and_texts_of_the_faults(rt: HostRuntime) {
     assert!(rt; is_said(rt.alloc(), WorldFault::NotNow, 1, "not now"));
     assert!(rt; is_said(rt.alloc(), WorldFault::NoMemory, 2, "out of memory"));
+}
+
+#[test]
+fn numbers_of_the_faults_of_a_beginning(rt: HostRuntime) {
+    assert!(rt; SetupFault::Room.number() == 2 && SetupFault::NoMemory.number() == 5);
 }

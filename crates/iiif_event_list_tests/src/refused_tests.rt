@@ -1,9 +1,5 @@
 //! Lists of events of which a growth of memory is refused: the world is as it was, and the list goes on to its own answers.
 
-ghost use Rattle.std.specs.Prelude.{IfOk};
-ghost use Rattle.iiif_world.specs.Code.{world_of, IsSoundWorld};
-ghost use Rattle.iiif_world.specs.Stepping.{IsShortEvent};
-
 use iiif_event_list::describing::Description;
 use iiif_event_list::fault::LineFault;
 use iiif_event_list::reading::event;
@@ -15,9 +11,7 @@ use std::alloc::Global;
 use std::test::Fail;
 
 /// The world that lines describe.
-pub(crate) fn begun(alloc: Global, lines: &str) -> Result<World, LineFault>
-    ensures { IfOk result (λ w. IsSoundWorld (world_of w)) }
-{
+pub(crate) fn begun(alloc: Global, lines: &str) -> Result<World, LineFault> {
     let mut description = Description::new(alloc);
     for line in lines.split(';') {
         let words: Vec<&str> = line.split_whitespace().collect(alloc)?;
@@ -29,9 +23,7 @@ pub(crate) fn begun(alloc: Global, lines: &str) -> Result<World, LineFault>
 }
 
 /// The same, once more where memory was refused.
-fn begun_again(alloc: Global, lines: &str) -> Result<World, LineFault>
-    ensures { IfOk result (λ w. IsSoundWorld (world_of w)) }
-{
+fn begun_again(alloc: Global, lines: &str) -> Result<World, LineFault> {
     match begun(alloc, lines) {
         Ok(world) => Ok(world),
         Err(LineFault::Bad) => Err(LineFault::Bad),
@@ -40,9 +32,7 @@ fn begun_again(alloc: Global, lines: &str) -> Result<World, LineFault>
 }
 
 /// The event of a line.
-pub(crate) fn event_of(alloc: Global, line: &str) -> Result<Event, LineFault>
-    ensures { IfOk result IsShortEvent }
-{
+pub(crate) fn event_of(alloc: Global, line: &str) -> Result<Event, LineFault> {
     let words: Vec<&str> = line.split_whitespace().collect(alloc)?;
     event(alloc, &words)
 }
@@ -61,11 +51,7 @@ fn has_rows(alloc: Global, world: &World, before: &str) -> Result<bool, NoMemory
 }
 
 /// Whether an event is done that is allowed. Where memory is refused nothing has changed, and it is done when it comes again.
-fn is_done(alloc: Global, world: &mut World, event: &Event) -> Result<bool, NoMemory>
-    requires sound { IsSoundWorld (world_of world.old) }
-    requires short { IsShortEvent event.now }
-    ensures { IsSoundWorld (world_of world.new) }
-{
+fn is_done(alloc: Global, world: &mut World, event: &Event) -> Result<bool, NoMemory> {
     let before = rows_again(alloc, world)?;
     match world.step(event) {
         Ok(()) => Ok(true),

@@ -1,8 +1,5 @@
 //! Lists of events run as one, and worlds that can't begin.
 
-ghost use Rattle.std.specs.Prelude.{All, IfOk};
-ghost use Rattle.iiif_world.specs.Stepping.{IsShortEvent};
-
 use crate::refused_tests::{CROSSED, DEEP, begun, event_of};
 use iiif_canonical::Limits;
 use iiif_event_list::fault::LineFault;
@@ -11,24 +8,18 @@ use iiif_keys::{Name, is_name};
 use iiif_machine::{Answer, Event, WorldFault};
 use iiif_pixel::{Dim, Kind, NoMemory, Raster, Samples};
 use iiif_ring::Ring;
+use iiif_world::contents::Item;
 use iiif_world::starting::{Setup, SetupFault};
-use iiif_world::stepping::run;
-use iiif_world::world::{Item, World};
+use iiif_world::world::World;
 use std::alloc::Global;
 
-fn add(events: &mut Vec<Event>, event: Event) -> Result<(), NoMemory>
-    requires so_far { All IsShortEvent events.old.items }
-    requires short { IsShortEvent event }
-    ensures { All IsShortEvent events.new.items }
-{
+fn add(events: &mut Vec<Event>, event: Event) -> Result<(), NoMemory> {
     events.push(event)?;
     Ok(())
 }
 
 /// The events of lines.
-fn events_of(alloc: Global, lines: &str) -> Result<Vec<Event>, LineFault>
-    ensures { IfOk result (λ v. All IsShortEvent v.items) }
-{
+fn events_of(alloc: Global, lines: &str) -> Result<Vec<Event>, LineFault> {
     let mut events = Vec::new(alloc);
     for line in lines.split(';') {
         add(&mut events, event_of(alloc, line)?)?;
@@ -57,7 +48,7 @@ fn ran(
 ) -> Result<Result<String, (usize, WorldFault)>, LineFault> {
     let world = begun(alloc, world)?;
     let events = events_of(alloc, events)?;
-    match run(world, &events) {
+    match world.run(&events) {
         Ok(world) => Ok(Ok(text_of(alloc, &world.answers()?)?)),
         Err(stopped) => Ok(Err(stopped)),
     }
@@ -206,7 +197,7 @@ fn is_right(alloc: Global, start: &Start) -> bool {
     }
 }
 
-static STARTS: [Start; 7] = [
+static STARTS: [Start; 8] = [
     Start {
         edge: 1,
         room: 65_536,
@@ -216,10 +207,17 @@ static STARTS: [Start; 7] = [
     },
     Start {
         edge: 1024,
-        room: 0,
+        room: 1,
         empty: false,
         other: false,
         fault: None,
+    },
+    Start {
+        edge: 1,
+        room: 0,
+        empty: true,
+        other: true,
+        fault: Some(SetupFault::Room),
     },
     Start {
         edge: 0,
