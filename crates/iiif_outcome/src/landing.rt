@@ -1,6 +1,6 @@
 //! Opening a flight, and ending it.
 
-ghost use Rattle.std.specs.Prelude.{◌≡◌, IfOk, IfSome, IsTrue, MatchOption};
+ghost use Rattle.std.specs.Prelude.{◌≡◌, ◌≢◌, ◌⊎◌, IfOk, IfSome, IsFalse, IsTrue, MatchOption};
 ghost use Rattle.std.specs.Result.{ForOk, ForErr};
 ghost use Rattle.std.specs.declared.option.Option.TheVariants.{None};
 ghost use Rattle.std.specs.Arc.{arc_value};
@@ -80,7 +80,8 @@ impl<K: CacheKey, J: System> Lead<K, J> {
     }
 
     /// Ends the flight with a value that is its key's meaning, or with a fault that its source gave. The receipt has this
-    /// outcome where the cell took it, else the one that stands there. It takes no memory.
+    /// outcome where the cell took it, else the one that stands there, which is of this flight unless the cell was given to two.
+    /// It takes no memory.
     pub fn set(self, outcome: Result<Arc<K::Value>, Fault>) -> Ended<K, J>
         requires meant { J.stable (K.name_of (lead_key self)) → IsTrue J.honest → ForOk outcome (λ v. arc_value v ≡ K.meaning J.pictures (lead_key self)) }
         requires shaped { ForOk outcome (λ v. IsTrue (K.is_shaped J.pictures (lead_key self) (arc_value v))) }
@@ -89,6 +90,9 @@ impl<K: CacheKey, J: System> Lead<K, J> {
         ensures key { arc_value result.key ≡ lead_key self }
         ensures refused { MatchOption result.refused (IsTrue result.taken) (λ b. (b.value.outcome ≡ outcome) × (arc_value b.value.key ≡ lead_key self) × (b.value.ticket ≡ lead_ticket self)) }
         ensures taken { IsTrue result.taken → IfSome (receipt_known result.receipt) (λ x. (x.outcome ≡ outcome) × (arc_value x.key ≡ lead_key self)) × (receipt_ticket result.receipt ≡ lead_ticket self) }
+        ensures taken_is_own { IsTrue result.taken → IsTrue result.own }
+        ensures own { IsTrue result.own → (receipt_ticket result.receipt ≡ lead_ticket self) × IfSome (receipt_known result.receipt) (λ x. arc_value x.key ≡ lead_key self) }
+        ensures foreign { IsFalse result.own → IfSome (receipt_known result.receipt) (λ x. (x.ticket ≢ lead_ticket self) ⊎ IsFalse (K.eq (arc_value x.key) (lead_key self))) }
     {
         let Lead {
             flight,
@@ -102,10 +106,10 @@ impl<K: CacheKey, J: System> Lead<K, J> {
             mut note,
         } = flight;
         room.outcome = outcome;
-        let (ticket, refused) = match cell.set_as(room, &mut note) {
-            Ok(()) => (ticket, None),
+        let (ticket, own, refused) = match cell.set_as(room, &mut note) {
+            Ok(()) => (ticket, true, None),
             Err(back) => match cell.get_as(&mut note) {
-                Some(landed) => (landed.ticket, Some(back)),
+                Some(landed) => (landed.ticket, landed.is_of(&key, ticket), Some(back)),
                 None => unreachable!(),
             },
         };
@@ -114,7 +118,18 @@ impl<K: CacheKey, J: System> Lead<K, J> {
             receipt: Receipt { cell, note, ticket },
             key,
             taken,
+            own,
             refused,
         }
+    }
+}
+
+impl<K: CacheKey, J: System> Landed<K, J> {
+    /// Whether the outcome is that of the flight of this key and ticket.
+    fn is_of(&self, key: &K, ticket: u64) -> bool
+        ensures yes { IsTrue result → (arc_value self.now.key ≡ key.now) × (self.now.ticket ≡ ticket) }
+        ensures no { IsFalse result → (self.now.ticket ≢ ticket) ⊎ IsFalse (K.eq (arc_value self.now.key) key.now) }
+    {
+        self.ticket == ticket && *self.key == *key
     }
 }

@@ -27,6 +27,8 @@ pub struct Ended<K: CacheKey, J: System> {
     pub key: Arc<K>,
     /// Whether the cell took the outcome that its lead was given. It refuses it only where another stands in it.
     pub taken: bool,
+    /// Whether the outcome that stands in the cell is of this flight.
+    pub own: bool,
     /// The outcome back, in the room that its lead had, where the cell refused it.
     pub refused: Option<Box<Landed<K, J>>>,
 }
