@@ -3,3 +3,4 @@ pub mod Held
 pub mod Meeting
 pub mod Seen
 pub mod View
+pub mod Views

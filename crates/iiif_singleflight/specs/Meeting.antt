@@ -8,37 +8,37 @@ use Rattle.iiif_tables.specs.declared.table.Class.{Class}
 use Rattle.iiif_outcome.specs.Outcomes.{value_of}
 use Rattle.iiif_outcome.specs.Views.{flight_cell, flight_key, flight_ticket, lead_cell, lead_class, lead_key, lead_known, lead_ticket, receipt_known, receipt_ticket}
 use Rattle.iiif_singleflight.specs.Seen.{with_at}
-use Rattle.iiif_singleflight.specs.declared.entered.Entered.{Entered}
-use Rattle.iiif_singleflight.specs.declared.entered.Entered.TheVariants.{Hit, Joined, Lead}
+use Rattle.iiif_singleflight.specs.declared.met.Met.{Met}
+use Rattle.iiif_singleflight.specs.declared.met.Met.TheVariants.{Hit, Joined, Lead}
 
 module _ {K J V : Type 0} {a b c d : _} where
   -- What the definition gives: a receipt of the entry's ticket whose outcome is the entry's value; the open flight; or the lead of a
   -- new one, of whose outcome nothing is known.
-  abbrev pub Meets : Class → K → Plain V → Entered K J V a b c d → Type 0
+  abbrev pub Meets : Class → K → Plain V → Met K J V a b c d → Type 0
   Meets class k p (Hit r) = (e : Kept _) × (p ≡ hit e) × (receipt_ticket r ≡ e.ticket) × IfSome (receipt_known r) (λ x. value_of x.outcome ≡ Some e.value)
   Meets class k p (Joined f) = (p ≡ joined (flight_ticket f)) × (flight_key f ≡ k)
   Meets class k p (Lead l) = (p ≡ led (lead_ticket l)) × (lead_key l ≡ k) × (lead_class l ≡ class) × (lead_known l ≡ None)
 
   -- One who joins has the cell of the open flight, and no other; a new flight has a cell, and the others have theirs.
-  abbrev pub CellsMeet : (K → K → Bool) → Class → K → (Class → K → Option ℕ) → (Class → K → Option ℕ) → Entered K J V a b c d → Type 0
+  abbrev pub CellsMeet : (K → K → Bool) → Class → K → (Class → K → Option ℕ) → (Class → K → Option ℕ) → Met K J V a b c d → Type 0
   CellsMeet eq class k old new (Hit r) = new ≡ old
   CellsMeet eq class k old new (Joined f) = (new ≡ old) × (old class k ≡ Some (flight_cell f))
   CellsMeet eq class k old new (Lead l) = new ≡ with_at eq class k (Some (lead_cell l)) old
 
   -- under this premise the outcome of a hit is this value
-  abbrev pub HitMeans : Type 0 → V → Entered K J V a b c d → Type 0
+  abbrev pub HitMeans : Type 0 → V → Met K J V a b c d → Type 0
   HitMeans premise m (Hit r) = premise → IfSome (receipt_known r) (λ x. value_of x.outcome ≡ Some m)
   HitMeans premise m (Joined f) = Unit {0}
   HitMeans premise m (Lead l) = Unit {0}
 
   -- the value of a hit passes this test
-  abbrev pub HitPasses : (V → Bool) → Entered K J V a b c d → Type 0
+  abbrev pub HitPasses : (V → Bool) → Met K J V a b c d → Type 0
   HitPasses test (Hit r) = IfSome (receipt_known r) (λ x. ForOk x.outcome (λ v. IsTrue (test (arc_value v))))
   HitPasses test (Joined f) = Unit {0}
   HitPasses test (Lead l) = Unit {0}
 
   -- the outcome of a hit is that of a flight for this key
-  abbrev pub HitOf : K → Entered K J V a b c d → Type 0
+  abbrev pub HitOf : K → Met K J V a b c d → Type 0
   HitOf k (Hit r) = IfSome (receipt_known r) (λ x. arc_value x.key ≡ k)
   HitOf k (Joined f) = Unit {0}
   HitOf k (Lead l) = Unit {0}

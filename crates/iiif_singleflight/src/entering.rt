@@ -5,7 +5,7 @@ ghost use Rattle.iiif_tables.specs.Flights.{enter as entered};
 ghost use Rattle.iiif_singleflight.specs.Meeting.{CellsMeet, HitMeans, HitOf, HitPasses, Meets};
 ghost use Rattle.iiif_singleflight.specs.View.{cells_of, table_of};
 
-use crate::entered::Entered;
+use crate::met::Met;
 use crate::pass::Pass;
 use crate::table::Table;
 use iiif_keys::{CacheKey, System};
@@ -15,14 +15,13 @@ use std::alloc::AllocError;
 use std::sync::ledger::Ledger;
 
 impl<K: CacheKey, J: System, L: Ledger> Table<K, J, L> {
-    /// A call for a key enters: it hits, joins or leads, and its pass has one call more. The only error is want of memory, or that
-    /// 2^64 - 1 calls have entered.
-    pub fn enter(
+    /// A call for a key enters: `enter`, before its answer says whose table this is.
+    pub(crate) fn meet(
         &mut self,
         pass: &mut Pass<L>,
         key: &K,
         class: Class,
-    ) -> Result<Entered<K, J>, NoMemory>
+    ) -> Result<Met<K, J>, NoMemory>
         ensures table { OnOk result (table_of K.eq self.new ≡ (entered K.eq class key.now (table_of K.eq self.old)).1) }
         ensures met { IfOk result (λ e. Meets class key.now (entered K.eq class key.now (table_of K.eq self.old)).0 e) }
         ensures known { IfOk result (λ e. HitOf key.now e) }
@@ -40,14 +39,14 @@ impl<K: CacheKey, J: System, L: Ledger> Table<K, J, L> {
             self.book.gets += 1;
             self.book.hits += 1;
             pass.count(&mut self.tally);
-            return Ok(Entered::Hit(hit.into_receipt()));
+            return Ok(Met::Hit(hit.into_receipt()));
         }
         if let Some(flight) = self.opens.join(class, key) {
             let flight = flight?;
             self.book.gets += 1;
             self.book.joins += 1;
             pass.count(&mut self.tally);
-            return Ok(Entered::Joined(flight));
+            return Ok(Met::Joined(flight));
         }
         let lead = self
             .opens
@@ -55,6 +54,6 @@ impl<K: CacheKey, J: System, L: Ledger> Table<K, J, L> {
         self.book.gets += 1;
         self.book.leads += 1;
         pass.count(&mut self.tally);
-        Ok(Entered::Lead(lead))
+        Ok(Met::Lead(lead))
     }
 }

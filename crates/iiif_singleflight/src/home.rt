@@ -1,6 +1,6 @@
 //! What stands behind a group's lock.
 
-ghost use Rattle.std.specs.Prelude.{◌≡◌, ◌≢◌, ◌^◌, ℕ, ◌+◌, ◌<◌, ◌≤◌, IfSome, IfOk, IfErr, IfNone};
+ghost use Rattle.std.specs.Prelude.{◌≡◌, ◌≢◌, ◌^◌, ℕ, ◌+◌, ◌<◌, ◌≤◌, IfSome, IfOk, IfErr, IfNone, OnOk};
 ghost use Rattle.std.specs.List.{sum_by};
 ghost use Rattle.iiif_singleflight.specs.View.{cells_of, table_of};
 
@@ -91,10 +91,11 @@ impl<K: CacheKey, J: System, L: Ledger> Home<K, J, L> {
         self.gets += gets;
     }
 
-    /// The book, and the share that was home, where all passes are handed in. Else the passes back.
+    /// The book, and the share that was home, where all passes are handed in: then all of the ledger is home. Else the passes back.
     pub fn gather(&mut self, passes: Vec<Pass<L>>) -> Result<(Book, u64), Vec<Pass<L>>>
         ensures ok { IfOk result (λ r. (r.0.gets ≡ r.1 + sum_by (λ p. p.gets) passes.items) × (r.1 ≡ self.old.gets)) }
         ensures book { IfOk result (λ r. r.0 ≡ (table_of K.eq self.old.table).book) }
+        ensures home { OnOk result ((self.new.parts ≡ 65537) × (self.new.gets ≡ (table_of K.eq self.new.table).book.gets)) }
         ensures err { IfErr result (λ ps. (ps.items ≡ passes.items) × (self.new.parts ≡ self.old.parts) × (self.new.gets ≡ self.old.gets)) }
         ensures missing { IfErr result (λ ps. self.old.parts + sum_by (λ p. p.parts) passes.items ≢ 65537) }
         ensures table { table_of K.eq self.new.table ≡ table_of K.eq self.old.table }

@@ -1,17 +1,13 @@
 //! What came of a landing.
 
+use crate::down::Down;
 use iiif_keys::{CacheKey, System};
-use iiif_outcome::{Landed, Receipt};
+use std::marker::PhantomData;
+use std::sync::ledger::Ledger;
 
-/// What came of a landing.
+/// What came of a landing. The table of this ledger alone makes it.
 #[derive(Drop)]
-pub struct Landing<K: CacheKey, J: System> {
-    /// It has the outcome that was landed where the cell took it, else the one that stands in the cell.
-    pub receipt: Receipt<K, J>,
-    /// Whether the cell took the outcome.
-    pub taken: bool,
-    /// The outcome back, where the cell refused it.
-    pub refused: Option<Box<Landed<K, J>>>,
-    /// Whether a value was put.
-    pub kept: bool,
+pub struct Landing<K: CacheKey, J: System, L: Ledger> {
+    pub(crate) inner: Down<K, J>,
+    pub(crate) of: PhantomData<L>,
 }

@@ -10,8 +10,8 @@ ghost use Rattle.iiif_singleflight.specs.Seen.{the_flight, with_at};
 ghost use Rattle.iiif_singleflight.specs.Held.{open_at};
 ghost use Rattle.iiif_singleflight.specs.View.{cells_of, table_of};
 
+use crate::down::Down;
 use crate::keeping::{count, keep_outcome, share_of};
-use crate::landed::Landing;
 use crate::table::Table;
 use iiif_keys::{CacheKey, Fault, System};
 use iiif_outcome::{Ended, Lead};
@@ -20,19 +20,20 @@ use std::sync::Arc;
 use std::sync::ledger::Ledger;
 
 impl<K: CacheKey, J: System, L: Ledger> Table<K, J, L> {
-    /// Ends a flight: it closes and is counted, and its value is kept by its place. It never refuses: where memory is wanting the
-    /// value isn't kept. Where the cell refuses the outcome, because another stands in it, the outcome comes back.
-    pub fn land(
+    /// Ends a flight: `land`, of a lead that doesn't say whose it is.
+    pub(crate) fn end(
         &mut self,
         lead: Lead<K, J>,
         outcome: Result<Arc<K::Value>, Fault>,
         place: Place,
-    ) -> Landing<K, J>
+    ) -> Down<K, J>
         requires meant { J.stable (K.name_of (lead_key lead)) → IsTrue J.honest → ForOk outcome (λ v. arc_value v ≡ K.meaning J.pictures (lead_key lead)) }
         requires shaped { ForOk outcome (λ v. IsTrue (K.is_shaped J.pictures (lead_key lead) (arc_value v))) }
         requires given { ForErr outcome (λ f. IsTrue (is_given (J.gave (K.name_of (lead_key lead))) f)) }
         ensures table { table_of K.eq self.new ≡ landed K.eq (entry_size K.key_bytes K.val_bytes) result.kept (lead_class lead) (lead_key lead) (lead_ticket lead) (value_of outcome) place (table_of K.eq self.old) }
         ensures taken { IsTrue result.taken → (receipt_ticket result.receipt ≡ lead_ticket lead) × IfSome (receipt_known result.receipt) (λ x. (x.outcome ≡ outcome) × (arc_value x.key ≡ lead_key lead)) }
+        ensures taken_is_own { IsTrue result.taken → IsTrue result.own }
+        ensures own { IsTrue result.own → (receipt_ticket result.receipt ≡ lead_ticket lead) × IfSome (receipt_known result.receipt) (λ x. arc_value x.key ≡ lead_key lead) }
         ensures kept { IsTrue result.kept → IsTrue result.taken }
         ensures refused { MatchOption result.refused (IsTrue result.taken) (λ b. (b.value.outcome ≡ outcome) × (arc_value b.value.key ≡ lead_key lead) × (b.value.ticket ≡ lead_ticket lead)) }
         ensures cell { receipt_cell result.receipt ≡ lead_cell lead }
@@ -46,13 +47,15 @@ impl<K: CacheKey, J: System, L: Ledger> Table<K, J, L> {
             mut receipt,
             key,
             taken,
+            own,
             refused,
         } = lead.set(outcome);
         let name = &*key;
         let Some(found) = self.opens.close(class, name, ticket) else {
-            return Landing {
+            return Down {
                 receipt,
                 taken,
+                own,
                 refused,
                 kept: false,
             };
@@ -67,9 +70,10 @@ impl<K: CacheKey, J: System, L: Ledger> Table<K, J, L> {
             value,
             &mut receipt,
         );
-        Landing {
+        Down {
             receipt,
             taken,
+            own,
             refused,
             kept,
         }

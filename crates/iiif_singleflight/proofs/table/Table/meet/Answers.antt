@@ -12,7 +12,7 @@ use Rattle.iiif_byte_cache.specs.View.{cache_of}
 use Rattle.iiif_singleflight.specs.View.{table_of}
 use Rattle.iiif_singleflight.proofs.Laws.{enter-hit, enter-joined, enter-led, if_some, some_of, same_table, at_some}
 use Rattle.iiif_singleflight.proofs.Known.{known_key, value_meant}
-use Rattle.iiif_singleflight.proofs.table.Table.enter.Goals as goal
+use Rattle.iiif_singleflight.proofs.table.Table.meet.Goals as goal
 
 pub invariant_of-self-in-Some : goal.invariant_of-self-in-Some
 invariant_of-self-in-Some g c =

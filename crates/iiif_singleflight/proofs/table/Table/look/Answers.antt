@@ -12,7 +12,7 @@ use Rattle.iiif_singleflight.specs.View.{table_of}
 use Rattle.iiif_singleflight.proofs.Functions.{each-with, with-same}
 use Rattle.iiif_singleflight.proofs.Known.{known_key, value_has}
 use Rattle.iiif_singleflight.proofs.Laws.{again-open, again-away, at_some, if_some, same_table, some_of, ticket_of}
-use Rattle.iiif_singleflight.proofs.table.Table.again.Goals as goal
+use Rattle.iiif_singleflight.proofs.table.Table.look.Goals as goal
 
 pub returns-then-not-is_open-clause-table : goal.returns-then-not-is_open-clause-table
 returns-then-not-is_open-clause-table g c =

@@ -11,7 +11,7 @@ use Rattle.iiif_singleflight.specs.View.{table_of}
 use Rattle.iiif_singleflight.proofs.Functions.{each-with}
 use Rattle.iiif_singleflight.proofs.Laws.{land-open, land-away, same_table, some_and, at_some}
 use Rattle.iiif_singleflight.proofs.LandingLaws.{same_tables, counted_is, counted_gets, counted_book, kept_is}
-use Rattle.iiif_singleflight.proofs.table.Table.land.Goals as goal
+use Rattle.iiif_singleflight.proofs.table.Table.end.Goals as goal
 
 pub returns-in_default-clause-table : goal.returns-in_default-clause-table
 returns-in_default-clause-table g c =
