@@ -25,7 +25,7 @@ impl<K: CacheKey, J: System, L: Ledger, N, T> Group<K, J, L, N, T> {
         pass: &mut Pass<L>,
         key: &K,
         shape: &Shape,
-    ) -> Result<Begun<K, J>, NoMemory>
+    ) -> Result<Begun<K, J, L>, NoMemory>
     where
         N: Link<K, J, R>,
         T: Gate<R>,
@@ -50,7 +50,7 @@ impl<K: CacheKey, J: System, L: Ledger, N, T> Group<K, J, L, N, T> {
         rt: &R,
         pass: &mut Pass<L>,
         key: &K,
-    ) -> Result<Begun<K, J>, NoMemory>
+    ) -> Result<Begun<K, J, L>, NoMemory>
     where
         T: Gate<R>,
         ensures begun { IfOk result (λ b. BegunFor key.now (J.stable (K.name_of key.now)) J.honest (K.meaning J.pictures key.now) (K.is_shaped J.pictures key.now) (J.gave (K.name_of key.now)) b) }

@@ -5,7 +5,7 @@ ghost use Rattle.std.specs.Option.{ForSome};
 ghost use Rattle.std.specs.Arc.{arc_value};
 ghost use Rattle.iiif_keys.specs.Shapes.{HasPicture};
 ghost use Rattle.iiif_tables.specs.declared.table.Class.TheVariants.{Local, Wide};
-ghost use Rattle.iiif_outcome.specs.Views.{flight_key, lead_class, lead_key, receipt_known};
+ghost use Rattle.iiif_singleflight.specs.Views.{flight_key, lead_cell, lead_class, lead_key, receipt_cell, receipt_known};
 ghost use Rattle.iiif_ring.specs.Owner.{IsOwner};
 ghost use Rattle.iiif_group.specs.Beginning.{BegunFor, gate_of, LoadsIf, outcome_of};
 
@@ -15,10 +15,10 @@ use crate::group::Group;
 use crate::link::Link;
 use crate::outcomes::{boxed, shared};
 use crate::steps::Origin;
+use crate::told::Told;
 use iiif_keys::{CacheKey, Fault, Shape, System};
-use iiif_outcome::{Flight, Lead, Receipt};
 use iiif_pixel::NoMemory;
-use iiif_singleflight::{Entered, Pass};
+use iiif_singleflight::{Entered, Flight, Lead, Pass, Receipt};
 use iiif_tables::Class;
 use std::sync::Wait;
 use std::sync::ledger::Ledger;
@@ -36,42 +36,48 @@ impl<K: CacheKey, J: System, L: Ledger, N, T> Group<K, J, L, N, T> {
         Some(&self.links[owner])
     }
 
-    /// A flight ends with the outcome of another of its key, and whether it has that: want of memory where the value refuses it a
-    /// share. A fault is always told as it is.
+    /// A flight ends with the outcome of another of its key, and whether it was given that: want of memory where the value refuses it
+    /// a share. A fault is always told as it is.
     fn relay<R: Wait>(
         &self,
         rt: &R,
-        lead: Lead<K, J>,
-        mut receipt: Receipt<K, J>,
-    ) -> (Receipt<K, J>, bool)
+        lead: Lead<K, J, L>,
+        mut receipt: Receipt<K, J, L>,
+    ) -> (Told<K, J, L>, bool)
         requires { IfSome (receipt_known receipt) (λ x. arc_value x.key ≡ lead_key lead) }
-        ensures key { IfSome (receipt_known result.0) (λ x. arc_value x.key ≡ lead_key lead) }
-        ensures exact { IsTrue result.1 → IfSome (receipt_known receipt) (λ x. IfSome (receipt_known result.0) (λ y. outcome_of y.outcome ≡ outcome_of x.outcome)) }
-        ensures wanting { IsFalse result.1 → IfSome (receipt_known result.0) (λ x. outcome_of x.outcome ≡ Err Fault.NoMemory) }
+        ensures key { IfSome (receipt_known result.0.receipt) (λ x. arc_value x.key ≡ lead_key lead) }
+        ensures exact { IsTrue result.1 → IfNone result.0.refused (IfSome (receipt_known receipt) (λ x. IfSome (receipt_known result.0.receipt) (λ y. outcome_of y.outcome ≡ outcome_of x.outcome))) }
+        ensures wanting { IsFalse result.1 → IfNone result.0.refused (IfSome (receipt_known result.0.receipt) (λ x. outcome_of x.outcome ≡ Err Fault.NoMemory)) }
         ensures fault { IfSome (receipt_known receipt) (λ x. OnErr x.outcome (IsTrue result.1)) }
+        ensures cell { receipt_cell result.0.receipt ≡ lead_cell lead }
     {
         let (outcome, exact) = shared(receipt.outcome());
-        let receipt = self.finish(rt, lead, outcome, Origin::Flight);
-        (receipt, exact)
+        let told = self.finish(rt, lead, outcome, Origin::Flight);
+        (told, exact)
     }
 
     /// A flight ends with the outcome of one that was joined for its key.
-    fn follow<R: Wait>(&self, rt: &R, lead: Lead<K, J>, flight: Flight<K, J>) -> Receipt<K, J>
+    fn follow<R: Wait>(
+        &self,
+        rt: &R,
+        lead: Lead<K, J, L>,
+        flight: Flight<K, J, L>,
+    ) -> Receipt<K, J, L>
         requires { flight_key flight ≡ lead_key lead }
         ensures { IfSome (receipt_known result) (λ x. arc_value x.key ≡ lead_key lead) }
     {
         let receipt = self.meet(rt, flight);
-        self.relay(rt, lead, receipt).0
+        self.relay(rt, lead, receipt).0.receipt
     }
 
     /// What the leader of a local flight does, and of a wide one too whose owner was asked in vain.
     fn lead_local<R: Wait>(
         &self,
         rt: &R,
-        local: Lead<K, J>,
-        wide: Option<Lead<K, J>>,
+        local: Lead<K, J, L>,
+        wide: Option<Lead<K, J, L>>,
         bytes: &[u8],
-    ) -> Begun<K, J>
+    ) -> Begun<K, J, L>
     where
         T: Gate<R>,
         requires local { lead_class local ≡ Local }
@@ -86,7 +92,7 @@ impl<K: CacheKey, J: System, L: Ledger, N, T> Group<K, J, L, N, T> {
                 Begun::Load(Open { local, wide })
             }
             Ok(receipt) => match wide {
-                Some(wide) => Begun::Known(self.relay(rt, wide, receipt).0),
+                Some(wide) => Begun::Known(self.relay(rt, wide, receipt).0.receipt),
                 None => Begun::Known(receipt),
             },
         }
@@ -99,7 +105,7 @@ impl<K: CacheKey, J: System, L: Ledger, N, T> Group<K, J, L, N, T> {
         pass: &mut Pass<L>,
         key: &K,
         bytes: &[u8],
-    ) -> Result<Begun<K, J>, NoMemory>
+    ) -> Result<Begun<K, J, L>, NoMemory>
     where
         T: Gate<R>,
         ensures begun { IfOk result (λ b. BegunFor key.now (J.stable (K.name_of key.now)) J.honest (K.meaning J.pictures key.now) (K.is_shaped J.pictures key.now) (J.gave (K.name_of key.now)) b) }
@@ -129,10 +135,10 @@ impl<K: CacheKey, J: System, L: Ledger, N, T> Group<K, J, L, N, T> {
     fn ask<R: Wait>(
         &self,
         rt: &R,
-        lead: Lead<K, J>,
+        lead: Lead<K, J, L>,
         shape: &Shape,
         link: &N,
-    ) -> Result<Receipt<K, J>, Lead<K, J>>
+    ) -> Result<Receipt<K, J, L>, Lead<K, J, L>>
     where
         N: Link<K, J, R>,
         requires known { HasPicture J.pictures (K.name_of (lead_key lead)) shape.now }
@@ -143,7 +149,7 @@ impl<K: CacheKey, J: System, L: Ledger, N, T> Group<K, J, L, N, T> {
         match link.ask(rt, lead.key(), shape) {
             Ok(value) if self.is_shaped(lead.key(), shape, &value) => {
                 let outcome = boxed(self.alloc, value);
-                Ok(self.finish(rt, lead, outcome, Origin::Peer))
+                Ok(self.finish(rt, lead, outcome, Origin::Peer).receipt)
             }
             _ => Err(lead),
         }
@@ -156,8 +162,8 @@ impl<K: CacheKey, J: System, L: Ledger, N, T> Group<K, J, L, N, T> {
         pass: &mut Pass<L>,
         key: &K,
         bytes: &[u8],
-        wide: Lead<K, J>,
-    ) -> Begun<K, J>
+        wide: Lead<K, J, L>,
+    ) -> Begun<K, J, L>
     where
         T: Gate<R>,
         requires key { lead_key wide ≡ key.now }
@@ -168,8 +174,11 @@ impl<K: CacheKey, J: System, L: Ledger, N, T> Group<K, J, L, N, T> {
         ensures gated { LoadsIf (T.passed (gate_of self.now) bytes.now) result }
     {
         match self.enter(rt, pass, key, Class::Local) {
-            Err(_) => Begun::Known(self.finish(rt, wide, Err(Fault::NoMemory), Origin::Flight)),
-            Ok(Entered::Hit(receipt)) => Begun::Known(self.relay(rt, wide, receipt).0),
+            Err(_) => Begun::Known(
+                self.finish(rt, wide, Err(Fault::NoMemory), Origin::Flight)
+                    .receipt,
+            ),
+            Ok(Entered::Hit(receipt)) => Begun::Known(self.relay(rt, wide, receipt).0.receipt),
             Ok(Entered::Joined(flight)) => Begun::Known(self.follow(rt, wide, flight)),
             Ok(Entered::Lead(local)) => self.lead_local(rt, local, Some(wide), bytes),
         }
@@ -184,8 +193,8 @@ impl<K: CacheKey, J: System, L: Ledger, N, T> Group<K, J, L, N, T> {
         bytes: &[u8],
         shape: &Shape,
         link: &N,
-        wide: Lead<K, J>,
-    ) -> Begun<K, J>
+        wide: Lead<K, J, L>,
+    ) -> Begun<K, J, L>
     where
         N: Link<K, J, R>,
         T: Gate<R>,
@@ -217,7 +226,7 @@ impl<K: CacheKey, J: System, L: Ledger, N, T> Group<K, J, L, N, T> {
         bytes: &[u8],
         shape: &Shape,
         link: &N,
-    ) -> Result<Begun<K, J>, NoMemory>
+    ) -> Result<Begun<K, J, L>, NoMemory>
     where
         N: Link<K, J, R>,
         T: Gate<R>,

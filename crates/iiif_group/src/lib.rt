@@ -20,4 +20,5 @@ pub mod link;
 pub mod lists;
 pub mod outcomes;
 mod steps;
+mod told;
 mod waiting;

@@ -6,13 +6,14 @@ ghost use Rattle.std.specs.Arc.{arc_value};
 ghost use Rattle.iiif_source.specs.declared.ReadFault.{ReadFault};
 ghost use Rattle.iiif_keys.specs.declared.fault.Fault.{Fault};
 ghost use Rattle.iiif_outcome.specs.Outcomes.{is_given, value_of};
-ghost use Rattle.iiif_outcome.specs.Views.{receipt_known};
+ghost use Rattle.iiif_singleflight.specs.Views.{receipt_known};
 ghost use Rattle.iiif_group.specs.Beginning.{outcome_of};
 
 use iiif_keys::{CacheKey, Fault, System};
-use iiif_outcome::Receipt;
+use iiif_singleflight::Receipt;
 use std::alloc::Global;
 use std::sync::Arc;
+use std::sync::ledger::Ledger;
 
 /// A share of an outcome, and whether it is that: want of memory where the value refuses another share. A fault is always told as it is.
 pub fn shared<V: Drop>(outcome: &Result<Arc<V>, Fault>) -> (Result<Arc<V>, Fault>, bool)
@@ -43,8 +44,8 @@ pub fn boxed<V: Drop>(alloc: Global, value: V) -> Result<Arc<V>, Fault>
 }
 
 /// A share of the outcome of a receipt of this key, or want of memory.
-pub fn taken<K: CacheKey, J: System>(
-    mut receipt: Receipt<K, J>,
+pub fn taken<K: CacheKey, J: System, L: Ledger>(
+    mut receipt: Receipt<K, J, L>,
     key: &K,
 ) -> Result<Arc<K::Value>, Fault>
     requires { IfSome (receipt_known receipt) (λ x. arc_value x.key ≡ key.now) }
