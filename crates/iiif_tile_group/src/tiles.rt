@@ -8,7 +8,7 @@ ghost use Rattle.iiif_keys.specs.Blocks.{NamesPart, TileFitsIn};
 ghost use Rattle.iiif_keys.specs.Meaning.{tile_is_shaped, tile_meaning};
 ghost use Rattle.iiif_keys.specs.Shapes.{shape_of};
 ghost use Rattle.iiif_outcome.specs.Outcomes.{is_given};
-ghost use Rattle.iiif_outcome.specs.Views.{receipt_known};
+ghost use Rattle.iiif_singleflight.specs.Views.{receipt_known};
 ghost use Rattle.iiif_group.specs.Beginning.{OutcomeIs};
 ghost use Rattle.iiif_images.specs.Faults.{IsGetFault, IsLoadFault};
 ghost use Rattle.iiif_images.specs.Items.{item_of};
@@ -20,8 +20,7 @@ use crate::calls::TileCalls;
 use iiif_group::{Begun, Gate, Group, Link, boxed};
 use iiif_images::{Entry, Images};
 use iiif_keys::{Fault, Shape, System, TileKey, TileVal};
-use iiif_outcome::Receipt;
-use iiif_singleflight::Pass;
+use iiif_singleflight::{Pass, Receipt};
 use iiif_source::Source;
 use std::alloc::Global;
 use std::sync::ledger::Ledger;
@@ -113,7 +112,7 @@ impl<R: Wait, S: Source<R> + Drop, J: System, N: Link<TileKey, J, R>, T: Gate<R>
         rt: &R,
         pass: &mut Pass<TileCalls<J>>,
         key: &TileKey,
-    ) -> Result<Receipt<TileKey, J>, Fault>
+    ) -> Result<Receipt<TileKey, J, TileCalls<J>>, Fault>
         ensures outcome { IfOk result (λ r. IfSome (receipt_known r) (λ x. (arc_value x.key ≡ key.now)
             × OutcomeIs (J.stable key.now.name) J.honest (tile_meaning J.pictures key.now) (tile_is_shaped J.pictures key.now) (J.gave key.now.name) x.outcome)) }
         ensures counted { OnOk result ((pass.old.gets + 1 ≤ pass.new.gets) × (pass.new.gets ≤ pass.old.gets + 2)) }
@@ -132,14 +131,17 @@ impl<R: Wait, S: Source<R> + Drop, J: System, N: Link<TileKey, J, R>, T: Gate<R>
             Err(_) => Err(Fault::NoMemory),
         }
     }
+}
 
+// Here nothing is known of the way to other nodes, so none can be asked.
+impl<R: Wait, S: Source<R> + Drop, J: System, N, T: Gate<R>> Tiles<R, S, J, N, T> {
     /// The same by this node alone, whoever owns the key. So is served what another node asks.
     pub fn get_local(
         &self,
         rt: &R,
         pass: &mut Pass<TileCalls<J>>,
         key: &TileKey,
-    ) -> Result<Receipt<TileKey, J>, Fault>
+    ) -> Result<Receipt<TileKey, J, TileCalls<J>>, Fault>
         ensures outcome { IfOk result (λ r. IfSome (receipt_known r) (λ x. (arc_value x.key ≡ key.now)
             × OutcomeIs (J.stable key.now.name) J.honest (tile_meaning J.pictures key.now) (tile_is_shaped J.pictures key.now) (J.gave key.now.name) x.outcome)) }
         ensures counted { OnOk result (pass.new.gets ≡ pass.old.gets + 1) }
