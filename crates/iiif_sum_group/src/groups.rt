@@ -5,21 +5,37 @@ ghost use Rattle.std.specs.Arc.{arc_value};
 ghost use Rattle.iiif_pixel.specs.Geometry.{channels_of};
 ghost use Rattle.iiif_keys.specs.Blocks.{NamesPart, SumFitsIn};
 ghost use Rattle.iiif_keys.specs.Meaning.{sum_is_shaped, sum_meaning};
-ghost use Rattle.iiif_outcome.specs.Views.{receipt_known};
+ghost use Rattle.iiif_singleflight.specs.Views.{receipt_known};
 ghost use Rattle.iiif_group.specs.Beginning.{OutcomeIs};
 ghost use Rattle.iiif_images.specs.Faults.{IsGetFault, IsLoadFault};
 ghost use Rattle.iiif_tile_group.specs.Views.{items_tiled};
 ghost use Rattle.iiif_sum_group.specs.Views.{items_served};
 
 use crate::passes::{Passes, SumCalls};
+use iiif_area::Sums;
 use iiif_group::{Begun, Gate, Group, Link};
 use iiif_keys::{Fault, SumKey, SumVal, System, TileKey};
-use iiif_outcome::Receipt;
+use iiif_singleflight::Receipt;
 use iiif_source::Source;
 use iiif_tile_group::{TileCalls, Tiles};
 use std::alloc::Global;
 use std::sync::Wait;
 use std::sync::ledger::Ledger;
+
+/// The same sums, for one caller. The only fault is want of memory.
+fn copied(alloc: Global, value: &SumVal) -> Result<SumVal, Fault>
+    ensures value { IfOk result (λ v. v ≡ value.now) }
+    ensures fault { IfErr result (λ f. f ≡ Fault.NoMemory) }
+{
+    let from = &value.sums;
+    let mut sums = Vec::new(alloc);
+    match sums.extend_from_slice(from.sums()) {
+        Ok(()) => Ok(SumVal {
+            sums: Sums::from_parts(from.rect(), from.kind(), sums),
+        }),
+        Err(_) => Err(Fault::NoMemory),
+    }
+}
 
 /// Tiles and sums of the images that a node has, shared by all that ask. J says what the names of the images stand for, and which
 /// ledgers count the calls; N is the way to other nodes, and T what each load passes.
@@ -67,6 +83,7 @@ impl<
     T: Gate<R>,
 > Groups<R, S, J, N, T> {
     /// The sums that a key names, made of the sums and the tiles below it. They aren't kept; those below are asked of the groups.
+    #[tactic(auto, using(crate::proofs::SumLemmas::load_fault))]
     pub fn load(&self, rt: &R, passes: &mut Passes<J>, key: &SumKey) -> Result<SumVal, Fault>
         ensures meant { J.stable key.now.name → IsTrue J.honest → IfOk result (λ v. v ≡ sum_meaning J.pictures key.now) }
         ensures shaped { IfOk result (λ v. IsTrue (sum_is_shaped J.pictures key.now v)) }
@@ -76,7 +93,10 @@ impl<
         ensures parts { (passes.new.tile.parts ≡ passes.old.tile.parts) × (passes.new.sum.parts ≡ passes.old.sum.parts) }
     {
         let (_entry, shape) = self.tiles.images().image_of(key)?;
-        self.made(rt, passes, &shape, key)
+        match self.made(rt, passes, &shape, key) {
+            Ok(value) => copied(self.alloc, &*value),
+            Err(fault) => Err(fault),
+        }
     }
 
     /// What a flight of the key ended with: the sums that it names, or a fault of its source or want of memory. Where another node
@@ -86,7 +106,7 @@ impl<
         rt: &R,
         passes: &mut Passes<J>,
         key: &SumKey,
-    ) -> Result<Receipt<SumKey, J>, Fault>
+    ) -> Result<Receipt<SumKey, J, SumCalls<J>>, Fault>
         ensures outcome { IfOk result (λ r. IfSome (receipt_known r) (λ x. (arc_value x.key ≡ key.now)
             × OutcomeIs (J.stable key.now.name) J.honest (sum_meaning J.pictures key.now) (sum_is_shaped J.pictures key.now) (J.gave key.now.name) x.outcome)) }
         ensures risen { OnOk result (passes.old.sum.gets + 1 ≤ passes.new.sum.gets) }
@@ -106,7 +126,7 @@ impl<
         rt: &R,
         passes: &mut Passes<J>,
         key: &SumKey,
-    ) -> Result<Receipt<SumKey, J>, Fault>
+    ) -> Result<Receipt<SumKey, J, SumCalls<J>>, Fault>
         ensures outcome { IfOk result (λ r. IfSome (receipt_known r) (λ x. (arc_value x.key ≡ key.now)
             × OutcomeIs (J.stable key.now.name) J.honest (sum_meaning J.pictures key.now) (sum_is_shaped J.pictures key.now) (J.gave key.now.name) x.outcome)) }
         ensures risen { OnOk result (passes.old.sum.gets + 1 ≤ passes.new.sum.gets) }

@@ -1,45 +1,81 @@
 //! How sums are made of their parts.
 
-ghost use Rattle.std.specs.Prelude.{◌≡◌, ◌+◌, ◌≤◌, IfErr, IfOk, IfSome, IsTrue, OnErr, OnOk};
+ghost use Rattle.std.specs.Prelude.{◌≡◌, ◌⊎◌, ◌+◌, ◌<◌, ◌≤◌, ◌++◌, ◌∷◌, [], All, Err, IfErr, IfOk, IfSome, IsTrue, Ok, OnErr, OnOk, fold, length, map};
 ghost use Rattle.std.specs.Arc.{arc_value};
+ghost use Rattle.std.specs.Result.{ForErr, ForOk};
 ghost use Rattle.iiif_pixel.specs.Geometry.{channels_of};
 ghost use Rattle.iiif_area.specs.Grid.{merged};
-ghost use Rattle.iiif_keys.specs.Blocks.{SumFitsIn};
-ghost use Rattle.iiif_keys.specs.Meaning.{sum_is_shaped, sum_meaning, tile_below};
+ghost use Rattle.iiif_keys.specs.Blocks.{places_in, IsOfBlock, SumFitsIn};
+ghost use Rattle.iiif_keys.specs.Laws.{IsBelow};
+ghost use Rattle.iiif_keys.specs.Meaning.{no_sums, sum_is_shaped, sum_meaning, sums_below, tile_below};
 ghost use Rattle.iiif_keys.specs.Names.{named, IsSource};
 ghost use Rattle.iiif_keys.specs.Shapes.{HasPicture};
 ghost use Rattle.iiif_outcome.specs.Outcomes.{is_given};
-ghost use Rattle.iiif_outcome.specs.Views.{receipt_known};
+ghost use Rattle.iiif_singleflight.specs.Views.{receipt_known};
 ghost use Rattle.iiif_group.specs.Beginning.{open_key, OutcomeIs};
+ghost use Rattle.iiif_sum_group.specs.Values.{sums_in, ArePlaces, AreSums};
 
 use crate::groups::Groups;
-use crate::passes::Passes;
+use crate::passes::{Passes, SumCalls};
 use iiif_group::{Begun, Gate, Link, Open, boxed, taken};
 use iiif_keys::laws::{fitting_keys_have_parts, parts_are_exact, parts_make_the_meaning};
 use iiif_keys::{CacheKey, Fault, Parts, Shape, SumKey, SumVal, System, TileKey, parts};
-use iiif_outcome::Receipt;
+use iiif_singleflight::Receipt;
 use iiif_source::Source;
-use std::sync::Wait;
+use std::alloc::Global;
+use std::sync::{Arc, Wait};
 
-/// Adds the sums that a part's flight ended with.
-fn add_part<J: System>(
-    total: &mut SumVal,
-    receipt: Receipt<SumKey, J>,
-    shape: &Shape,
-    part: &SumKey,
-) -> Result<(), Fault>
-    requires known { HasPicture J.pictures part.now.name shape.now }
-    requires channels { total.old.sums.channels ≡ channels_of shape.now.kind }
-    requires key { IfSome (receipt_known receipt) (λ x. arc_value x.key ≡ part.now) }
-    ensures places { (total.new.sums.rect ≡ total.old.sums.rect) × (total.new.sums.channels ≡ total.old.sums.channels) }
-    ensures merged { J.stable part.now.name → IsTrue J.honest → OnOk result (total.new.sums ≡ merged total.old.sums (sum_meaning J.pictures part.now).sums) }
-    ensures given { IfErr result (λ f. IsTrue (is_given (J.gave part.now.name) f)) }
+/// Appends a value.
+fn keep(values: &mut Vec<Arc<SumVal>>, value: Arc<SumVal>) -> Result<(), Fault>
+    ensures ok { OnOk result (values.new.items ≡ values.old.items ++ value ∷ []) }
+    ensures err { IfErr result (λ f. f ≡ Fault.NoMemory) }
 {
-    // Laws of keys.
-    SumKey::laws();
-    let sums = taken(receipt, part)?;
-    total.merge(&*sums);
-    Ok(())
+    match values.push(value) {
+        Ok(()) => Ok(()),
+        Err(_) => Err(Fault::NoMemory),
+    }
+}
+
+/// What was made, for all that wait.
+fn for_all(alloc: Global, made: Result<SumVal, Fault>) -> Result<Arc<SumVal>, Fault>
+    ensures ok { ForOk result (λ v. made ≡ Ok (arc_value v)) }
+    ensures err { ForErr result (λ f. (f ≡ Fault.NoMemory) ⊎ (made ≡ Err f)) }
+{
+    match made {
+        Ok(value) => boxed(alloc, value),
+        Err(fault) => Err(fault),
+    }
+}
+
+/// The only value of a list.
+fn only(mut values: Vec<Arc<SumVal>>) -> Arc<SumVal>
+    requires { length values.items ≡ 1 }
+    ensures { values.items ≡ result ∷ [] }
+{
+    values.remove(0)
+}
+
+/// The sums of a block, of the values of its parts. They are made once all of these are there, so that no block holds sums of its
+/// own while it waits for those below.
+fn total(
+    alloc: Global,
+    shape: &Shape,
+    key: &SumKey,
+    values: &[Arc<SumVal>],
+) -> Result<SumVal, Fault>
+    requires block { IsOfBlock shape.now.dim key.now }
+    requires channels { All (λ x. (sums_in x).channels ≡ channels_of shape.now.kind) values.now }
+    ensures sums { IfOk result (λ v. v.sums ≡ fold merged (no_sums shape.now.dim (channels_of shape.now.kind) key.now) (map sums_in values.now)) }
+    ensures places { IfOk result (λ v. (v.sums.rect ≡ places_in shape.now.dim key.now) × (v.sums.channels ≡ channels_of shape.now.kind)) }
+    ensures fault { IfErr result (λ f. f ≡ Fault.NoMemory) }
+{
+    let Ok(mut total) = SumVal::zero(alloc, key, shape) else {
+        return Err(Fault::NoMemory);
+    };
+    for value in values {
+        total.merge(&**value);
+    }
+    Ok(total)
 }
 
 impl<
@@ -86,26 +122,21 @@ impl<
     pub(crate) fn end(
         &self,
         rt: &R,
-        load: Open<SumKey, J>,
+        load: Open<SumKey, J, SumCalls<J>>,
         key: &SumKey,
-        made: Result<SumVal, Fault>,
-    ) -> Receipt<SumKey, J>
+        made: Result<Arc<SumVal>, Fault>,
+    ) -> Receipt<SumKey, J, SumCalls<J>>
         requires key { open_key load ≡ key.now }
-        requires meant { J.stable key.now.name → IsTrue J.honest → IfOk made (λ v. v ≡ sum_meaning J.pictures key.now) }
-        requires shaped { IfOk made (λ v. IsTrue (sum_is_shaped J.pictures key.now v)) }
-        requires given { IfErr made (λ f. IsTrue (is_given (J.gave key.now.name) f)) }
+        requires meant { J.stable key.now.name → IsTrue J.honest → ForOk made (λ v. arc_value v ≡ sum_meaning J.pictures key.now) }
+        requires shaped { ForOk made (λ v. IsTrue (sum_is_shaped J.pictures key.now (arc_value v))) }
+        requires given { ForErr made (λ f. IsTrue (is_given (J.gave key.now.name) f)) }
         ensures { IfSome (receipt_known result) (λ x. (arc_value x.key ≡ key.now)
             × OutcomeIs (J.stable key.now.name) J.honest (sum_meaning J.pictures key.now) (sum_is_shaped J.pictures key.now) (J.gave key.now.name) x.outcome) }
     {
-        let outcome = match made {
-            Ok(value) => boxed(self.alloc, value),
-            Err(fault) => Err(fault),
-        };
-        self.sums.complete(rt, load, key, outcome).receipt
+        self.sums.complete(rt, load, key, made).receipt
     }
 
-    /// The value of a key that fits, made of its parts: of one tile, or of sums of the level below. The parts are asked one after
-    /// another, and each is waited for.
+    /// The value of a key that fits, made of its parts: of one tile, or of sums of the level below.
     #[cycle(sums)]
     pub(crate) fn made(
         &self,
@@ -113,35 +144,90 @@ impl<
         passes: &mut Passes<J>,
         shape: &Shape,
         key: &SumKey,
-    ) -> Result<SumVal, Fault>
+    ) -> Result<Arc<SumVal>, Fault>
         requires known { HasPicture J.pictures key.now.name shape.now }
         requires source { IsSource (named J.pictures key.now.name) }
         requires fits { SumFitsIn shape.now.dim (channels_of shape.now.kind) key.now }
-        ensures meant { J.stable key.now.name → IsTrue J.honest → IfOk result (λ v. v ≡ sum_meaning J.pictures key.now) }
-        ensures shaped { IfOk result (λ v. IsTrue (sum_is_shaped J.pictures key.now v)) }
-        ensures given { IfErr result (λ f. IsTrue (is_given (J.gave key.now.name) f)) }
+        ensures meant { J.stable key.now.name → IsTrue J.honest → ForOk result (λ v. arc_value v ≡ sum_meaning J.pictures key.now) }
+        ensures shaped { ForOk result (λ v. IsTrue (sum_is_shaped J.pictures key.now (arc_value v))) }
+        ensures given { ForErr result (λ f. IsTrue (is_given (J.gave key.now.name) f)) }
+        ensures counted { (passes.old.tile.gets ≤ passes.new.tile.gets) × (passes.old.sum.gets ≤ passes.new.sum.gets) }
+        ensures parts { (passes.new.tile.parts ≡ passes.old.tile.parts) × (passes.new.sum.parts ≡ passes.old.sum.parts) }
+    {
+        // A law of keys.
+        fitting_keys_have_parts();
+        match parts(self.alloc, key) {
+            Ok(Parts::Tile(tile)) => {
+                for_all(self.alloc, self.of_tile(rt, passes, shape, key, &tile))
+            }
+            Ok(Parts::Sums(quarters)) => self.of_parts(rt, passes, shape, key, &quarters),
+            Err(_) => Err(Fault::NoMemory),
+        }
+    }
+
+    /// The value of a block above level 0, made of its quarters. Where it has one alone, that one's sums are its own: they are taken
+    /// as they are.
+    #[cycle(sums)]
+    fn of_parts(
+        &self,
+        rt: &R,
+        passes: &mut Passes<J>,
+        shape: &Shape,
+        key: &SumKey,
+        quarters: &[SumKey],
+    ) -> Result<Arc<SumVal>, Fault>
+        requires known { HasPicture J.pictures key.now.name shape.now }
+        requires source { IsSource (named J.pictures key.now.name) }
+        requires fits { SumFitsIn shape.now.dim (channels_of shape.now.kind) key.now }
+        requires level { 0 < key.now.level }
+        requires quarters { quarters.now ≡ sums_below key.now }
+        ensures meant { J.stable key.now.name → IsTrue J.honest → ForOk result (λ v. arc_value v ≡ sum_meaning J.pictures key.now) }
+        ensures shaped { ForOk result (λ v. IsTrue (sum_is_shaped J.pictures key.now (arc_value v))) }
+        ensures given { ForErr result (λ f. IsTrue (is_given (J.gave key.now.name) f)) }
         ensures counted { (passes.old.tile.gets ≤ passes.new.tile.gets) × (passes.old.sum.gets ≤ passes.new.sum.gets) }
         ensures parts { (passes.new.tile.parts ≡ passes.old.tile.parts) × (passes.new.sum.parts ≡ passes.old.sum.parts) }
     {
         // Laws of parts and of keys.
         parts_are_exact();
         parts_make_the_meaning();
-        fitting_keys_have_parts();
         SumKey::laws();
-        match parts(self.alloc, key) {
-            Ok(Parts::Tile(tile)) => self.of_tile(rt, passes, shape, key, &tile),
-            Ok(Parts::Sums(quarters)) => {
-                let Ok(mut total) = SumVal::zero(self.alloc, key, shape) else {
-                    return Err(Fault::NoMemory);
-                };
-                for quarter in &quarters {
-                    let receipt = self.part(rt, passes, shape, quarter)?;
-                    add_part(&mut total, receipt, shape, quarter)?;
-                }
-                Ok(total)
-            }
-            Err(_) => Err(Fault::NoMemory),
+        let values = self.values(rt, passes, shape, key, quarters)?;
+        if values.len() == 1 {
+            return Ok(only(values));
         }
+        for_all(self.alloc, total(self.alloc, shape, key, &values))
+    }
+
+    /// The values of a block's parts, in their order. They are asked one after another, and each is waited for.
+    #[cycle(sums)]
+    fn values(
+        &self,
+        rt: &R,
+        passes: &mut Passes<J>,
+        shape: &Shape,
+        key: &SumKey,
+        keys: &[SumKey],
+    ) -> Result<Vec<Arc<SumVal>>, Fault>
+        requires known { HasPicture J.pictures key.now.name shape.now }
+        requires source { IsSource (named J.pictures key.now.name) }
+        requires below { All (IsBelow key.now) keys.now }
+        requires fits { All (SumFitsIn shape.now.dim (channels_of shape.now.kind)) keys.now }
+        ensures meant { J.stable key.now.name → IsTrue J.honest → IfOk result (λ v. AreSums J.pictures keys.now v.items) }
+        ensures places { IfOk result (λ v. ArePlaces shape.now.dim keys.now v.items) }
+        ensures channels { IfOk result (λ v. All (λ x. (sums_in x).channels ≡ channels_of shape.now.kind) v.items) }
+        ensures given { IfErr result (λ f. IsTrue (is_given (J.gave key.now.name) f)) }
+        ensures counted { (passes.old.tile.gets ≤ passes.new.tile.gets) × (passes.old.sum.gets ≤ passes.new.sum.gets) }
+        ensures parts { (passes.new.tile.parts ≡ passes.old.tile.parts) × (passes.new.sum.parts ≡ passes.old.sum.parts) }
+    {
+        // Laws of keys.
+        SumKey::laws();
+        let mut values = Vec::new(self.alloc);
+        for part in keys {
+            let receipt = self.part(rt, passes, shape, part)?;
+            let value = taken(receipt, part)?;
+            keep(&mut values, value)?;
+        }
+        Ok(values)
     }
 
     /// What a flight of a key that fits ended with.
@@ -152,7 +238,7 @@ impl<
         passes: &mut Passes<J>,
         shape: &Shape,
         key: &SumKey,
-    ) -> Result<Receipt<SumKey, J>, Fault>
+    ) -> Result<Receipt<SumKey, J, SumCalls<J>>, Fault>
         requires known { HasPicture J.pictures key.now.name shape.now }
         requires source { IsSource (named J.pictures key.now.name) }
         requires fits { SumFitsIn shape.now.dim (channels_of shape.now.kind) key.now }
