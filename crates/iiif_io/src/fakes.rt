@@ -42,6 +42,10 @@ impl Outlet for FailingWriter {
     fn put(&mut self, bytes: &[u8]) -> io::Result<usize> {
         self.write(bytes)
     }
+
+    fn is_gone(&self) -> bool {
+        self.room == 0
+    }
 }
 
 /// A reader of known bytes that gives at most `piece` bytes a read, and fails from its last allowed read on.

@@ -3,7 +3,7 @@
 
 pub use inlet::Inlet;
 pub use memory::{CountingSink, FixedBuffer};
-pub use outlet::{Outlet, send, send_both};
+pub use outlet::{Outlet, is_ended, is_reset, look, send, send_both};
 
 pub mod fakes;
 pub mod inlet;
