@@ -1,0 +1,3 @@
+pub mod Breaking
+pub mod Counting
+pub mod Laws

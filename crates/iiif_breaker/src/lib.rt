@@ -1,0 +1,14 @@
+//! When a link to another node is asked, and when it is left alone since it failed; and how its asks ended. Moments are milliseconds from any
+//! beginning, handed in.
+#![tactic(auto)]
+
+pub use breaker::{Breaker, State};
+pub use counts::Asks;
+pub use outcome::Outcome;
+pub use record::LinkRecord;
+
+pub mod breaker;
+pub mod counts;
+pub mod laws;
+pub mod outcome;
+pub mod record;
