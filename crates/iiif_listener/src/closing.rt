@@ -2,27 +2,46 @@
 
 use std::io::Read;
 use std::net::{Shutdown, TcpStream};
-use std::time::Duration;
+use std::time::{Clock, Duration, Instant};
 
-/// How long, in milliseconds, a viewer whose connection is closed may go on to send before it is left alone.
+/// How long, in milliseconds, a viewer whose connection is closed may send nothing before it is left alone.
 const LINGER: u64 = 200;
+
+/// How long, in milliseconds, it may go on to send as a whole.
+const LONGEST: u64 = 2_000;
 
 /// How many blocks of 4,096 bytes are read and dropped behind the last answer.
 const UNREAD_BLOCKS: u32 = 64;
 
 /// Closes a connection whose answers are sent. Input that was left unread would make the kernel reset the connection and drop
-/// what it has not sent yet, so the sending side is closed first, and then a bounded amount of input is read and dropped.
-pub fn close(mut stream: TcpStream) {
+/// what it has not sent yet, so the sending side is closed first, and then a bounded amount of input is read and dropped, in a bounded
+/// time.
+pub fn close<R: Clock>(rt: &R, mut stream: TcpStream) {
     if stream.shutdown(Shutdown::Write).is_err() {
         return;
     }
-    // Where it can't be set, the bound on what is read is enough.
-    let _ = stream.set_read_timeout(Some(Duration::from_millis(LINGER)));
+    let Ok(begun) = Instant::now(rt) else {
+        return;
+    };
     let mut block = [0u8; 4096];
     for _ in 0..UNREAD_BLOCKS {
+        let Some(left) = left_since(rt, begun) else {
+            return;
+        };
+        // Where it can't be set, the bound on what is read is enough.
+        let _ = stream.set_read_timeout(Some(left.min(Duration::from_millis(LINGER))));
         match stream.read(&mut block) {
             Ok(0) | Err(_) => return,
             Ok(_) => {}
         }
+    }
+}
+
+/// The time that is left to a connection that is being closed since then. None where none is.
+fn left_since<R: Clock>(rt: &R, begun: Instant) -> Option<Duration> {
+    let passed = begun.elapsed(rt).ok()?;
+    match Duration::from_millis(LONGEST).checked_sub(passed) {
+        Some(left) if !left.is_zero() => Some(left),
+        _ => None,
     }
 }

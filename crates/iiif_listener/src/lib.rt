@@ -3,6 +3,7 @@
 
 pub use closing::close;
 pub use company::Company;
+pub use flow::{Flow, Rate};
 pub use listen::{Serve, serve_both, serve_each, serve_listener, serve_listeners, stop};
 pub use pace::{Pace, PacedReader, PacedWriter};
 pub use places::{Place, Places, Taken};
@@ -11,6 +12,8 @@ pub use warm::Warm;
 
 pub mod closing;
 pub mod company;
+pub mod flow;
+pub mod laws;
 pub mod listen;
 pub mod pace;
 pub mod places;

@@ -3,8 +3,9 @@
 ghost use Rattle.std.specs.Prelude.{◌≤◌, IfOk, IfSome, length};
 
 use crate::company::Company;
+use crate::flow::Flow;
 use crate::warm::Warm;
-use iiif_io::{Inlet, Outlet};
+use iiif_io::{Inlet, Outlet, is_ended, is_reset};
 use std::io;
 use std::io::{ErrorKind, Read, Write};
 use std::net::TcpStream;
@@ -19,11 +20,12 @@ const MOMENT: u64 = 100;
 /// How often it is looked at in that time, at most.
 const LOOKS: u32 = 1000;
 
-/// When a connection began, how many milliseconds later something was last written there, whether that was since it was last looked at,
-/// how many bytes of that were a text behind another, and how long a head may take as a whole.
+/// When a connection began, how many milliseconds later something was last read and last written there, whether it was written since it was
+/// last looked at, how many bytes of that were a text behind another, and how long a head may take as a whole.
 #[derive(Drop)]
 pub struct Pace {
     start: Instant,
+    read: AtomicU64,
     written: AtomicU64,
     answered: AtomicBool,
     behind: AtomicU64,
@@ -35,6 +37,7 @@ impl Pace {
     pub fn new<R: Clock>(rt: &R, limit: Duration) -> io::Result<Pace> {
         Ok(Pace {
             start: Instant::now(rt)?,
+            read: AtomicU64::new(0),
             written: AtomicU64::new(0),
             answered: AtomicBool::new(false),
             behind: AtomicU64::new(0),
@@ -54,6 +57,21 @@ impl Pace {
         self.behind.store(behind as u64, Ordering::SeqCst);
         self.written.store(self.now(rt)?, Ordering::SeqCst);
         Ok(())
+    }
+
+    /// Something was read.
+    fn hear<R: Clock>(&self, rt: &R) -> io::Result<()> {
+        self.read.store(self.now(rt)?, Ordering::SeqCst);
+        Ok(())
+    }
+
+    /// How long an answer is in the making: since something was last read or written.
+    fn making<R: Clock>(&self, rt: &R) -> io::Result<Duration> {
+        let last = self
+            .read
+            .load(Ordering::SeqCst)
+            .max(self.written.load(Ordering::SeqCst));
+        Ok(Duration::from_millis(self.now(rt)?.saturating_sub(last)))
     }
 
     /// The time that is left for the head, an error where none is.
@@ -123,11 +141,14 @@ impl<'a, R: Clock> Read for PacedReader<'a, R> {
             let found = look(self.rt, &mut self.stream, buffer);
             self.warm.give_back();
             if let Some(count) = found? {
+                self.pace.hear(self.rt)?;
                 return Ok(count);
             }
         }
         self.stream.set_read_timeout(Some(left.min(self.idle)))?;
-        self.stream.pull(buffer)
+        let count = self.stream.pull(buffer)?;
+        self.pace.hear(self.rt)?;
+        Ok(count)
     }
 }
 
@@ -140,19 +161,41 @@ impl<'a, R: Clock> Inlet for PacedReader<'a, R> {
     }
 }
 
-/// What a connection is sent. Each write begins the time for the next head anew, so it doesn't run while an answer is made.
+/// What a connection is sent. Each write begins the time for the next head anew, so it doesn't run while an answer is made. A write fails
+/// where the answer is taken slower than the least rate.
 #[derive(Drop)]
 pub struct PacedWriter<'a, R: Clock> {
     pub stream: TcpStream,
     pub rt: &'a R,
     pub pace: &'a Pace,
+    /// How long an answer may be in the making until one who sends no more is taken for gone. Such a one may read on, but a proxy that closes
+    /// looks the same.
+    pub patience: Duration,
+    /// How fast the answer is to be taken, and was so far.
+    pub flow: Flow,
+}
+
+impl<'a, R: Clock> PacedWriter<'a, R> {
+    /// Takes in a write of so many bytes that began at a moment, where there is a clock: where that fails, so does the next read. An error where
+    /// the answer is taken too slowly.
+    fn count(&mut self, begun: io::Result<u64>, bytes: usize, behind: usize) -> io::Result<()> {
+        let _ = self.pace.begin(self.rt, behind);
+        let (Ok(begun), Ok(now)) = (begun, self.pace.now(self.rt)) else {
+            return Ok(());
+        };
+        if self.flow.take(now.saturating_sub(begun), bytes as u64) {
+            Ok(())
+        } else {
+            Err(io::Error::from(ErrorKind::TimedOut))
+        }
+    }
 }
 
 impl<'a, R: Clock> Write for PacedWriter<'a, R> {
     fn write(&mut self, bytes: &[u8]) -> io::Result<usize> {
+        let begun = self.pace.now(self.rt);
         let count = self.stream.put(bytes)?;
-        // Where the clock fails, so does the next read.
-        let _ = self.pace.begin(self.rt, 0);
+        self.count(begun, count, 0)?;
         Ok(count)
     }
 
@@ -161,7 +204,7 @@ impl<'a, R: Clock> Write for PacedWriter<'a, R> {
     }
 }
 
-/// Nothing is known but that a write failed.
+/// Nothing is known but that a write failed, or that who reads was found to be gone.
 impl<'a, R: Clock> Outlet for PacedWriter<'a, R> {
     ghost fails = { λ _ _. Unit {0} };
 
@@ -169,10 +212,22 @@ impl<'a, R: Clock> Outlet for PacedWriter<'a, R> {
         self.write(bytes)
     }
 
+    /// One who reset the connection is gone at once. One who sends no more is, once the answer is in the making for longer than is waited.
+    fn is_gone(&self) -> bool {
+        if is_reset(&self.stream) {
+            return true;
+        }
+        match self.pace.making(self.rt) {
+            Ok(making) => making >= self.patience && is_ended(&self.stream),
+            Err(_) => false,
+        }
+    }
+
     fn put_both(&mut self, first: &[u8], second: &[u8]) -> io::Result<usize> {
+        let begun = self.pace.now(self.rt);
         let count = self.stream.put_both(first, second)?;
         // As where one text is written.
-        let _ = self.pace.begin(self.rt, second.len());
+        self.count(begun, count, second.len())?;
         Ok(count)
     }
 }

@@ -1,0 +1,54 @@
+//! The least rate at which an answer is to be taken.
+
+ghost use Rattle.std.specs.Prelude.{◌≡◌};
+ghost use Rattle.iiif_listener.specs.Flow.{begun, goes_on, taken_by};
+
+/// How fast an answer is to be taken: so many bytes a second, over each time of so many milliseconds for which it was waited.
+#[derive(Clone, Copy, Debug, PartialEq, Eq)]
+pub struct Rate {
+    pub bytes: u32,
+    pub period: u32,
+}
+
+/// How an answer is taken: what was written, and how long that was waited for, since it was last looked at.
+#[derive(Clone, Copy, Debug, PartialEq, Eq, Drop)]
+pub struct Flow {
+    rate: Rate,
+    waited: u64,
+    taken: u64,
+}
+
+impl Flow {
+    /// Of a connection to which nothing was written yet.
+    pub fn new(rate: Rate) -> Flow
+        ensures { result ≡ begun rate }
+    {
+        Flow {
+            rate,
+            waited: 0,
+            taken: 0,
+        }
+    }
+
+    /// Takes in a write that took so many milliseconds, and says whether the answer goes on. What is written at once was taken by memory of
+    /// the system, and says nothing of who reads: it counts for neither. Once it was waited for as long as the period, the rate is looked at, and
+    /// all begins anew.
+    pub fn take(&mut self, waited: u64, bytes: u64) -> bool
+        ensures value { result ≡ goes_on self.old waited bytes }
+        ensures state { self.new ≡ taken_by self.old waited bytes }
+    {
+        if waited == 0 {
+            return true;
+        }
+        let waited = self.waited.saturating_add(waited);
+        let taken = self.taken.saturating_add(bytes);
+        if waited < u64::from(self.rate.period) {
+            self.waited = waited;
+            self.taken = taken;
+            return true;
+        }
+        self.waited = 0;
+        self.taken = 0;
+        u128::from(self.rate.bytes) * u128::from(waited) <= 1000 * u128::from(taken)
+    }
+}
