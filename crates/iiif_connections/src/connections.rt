@@ -1,7 +1,7 @@
 //! The two ends of a connection.
 
 use crate::times::Times;
-use iiif_listener::{Company, Pace, PacedReader, PacedWriter, Warm};
+use iiif_listener::{Company, Flow, Pace, PacedReader, PacedWriter, Warm};
 use std::alloc::Global;
 use std::io;
 use std::net::TcpStream;
@@ -32,6 +32,8 @@ pub(crate) fn ends<'a, R: Clock>(
         stream: copy,
         rt,
         pace,
+        patience: Duration::from_millis(times.gone),
+        flow: Flow::new(times.rate),
     };
     Ok((reader, out))
 }

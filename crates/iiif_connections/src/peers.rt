@@ -66,7 +66,7 @@ impl<
             .serve_peer(rt, alloc, &mut passes, &mut reader, &mut out);
         self.node.give_back(rt, passes);
         let PacedWriter { stream, .. } = out;
-        close(stream);
+        close(rt, stream);
         true
     }
 }

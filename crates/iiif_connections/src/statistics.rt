@@ -70,6 +70,6 @@ impl<'a, R: Opens + Wait + Clock, J: System, N, T> Statistics<'a, R, J, N, T> {
         // Where memory is wanting, it is closed unanswered.
         let _ = serve_metrics(rt, alloc, self, reader, &mut out);
         let PacedWriter { stream, .. } = out;
-        close(stream);
+        close(rt, stream);
     }
 }

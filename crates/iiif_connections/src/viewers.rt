@@ -70,7 +70,7 @@ impl<
             .serve_watched(rt, alloc, &mut passes, reader, &mut out, self.watcher);
         give_back(rt, self.node, passes);
         let PacedWriter { stream, .. } = out;
-        close(stream);
+        close(rt, stream);
         true
     }
 }

@@ -5,6 +5,7 @@ use crate::nodes::{SAMPLE, Scene, are_known};
 use crate::viewers::{Sends, Text};
 use crate::visits::{Visit, served};
 use iiif_connections::Times;
+use iiif_listener::Rate;
 use std::alloc::Global;
 use std::fs;
 use std::test::Fail;
@@ -114,6 +115,12 @@ fn large(alloc: Global) -> Result<Vec<u8>, Fail> {
 /// No limit that a busy machine passes before the test itself has to end, in milliseconds.
 const AMPLE: u64 = 600_000;
 
+/// However slowly an answer is taken.
+const NO_RATE: Rate = Rate {
+    bytes: 0,
+    period: 60_000,
+};
+
 /// The large image, and all the time that it takes.
 const LARGE: Scene<'static, 'static> = Scene {
     images: &[("a", "large.tif")],
@@ -123,6 +130,8 @@ const LARGE: Scene<'static, 'static> = Scene {
         whole: AMPLE,
         stalled: AMPLE,
         ask: AMPLE,
+        gone: AMPLE,
+        rate: NO_RATE,
     },
     ..SAMPLE
 };

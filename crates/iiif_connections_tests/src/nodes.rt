@@ -45,7 +45,11 @@ pub(crate) const SAMPLE: Scene<'static, 'static> = Scene {
     images: &[("a", ":sample")],
     edge: 2,
     owner: None,
-    times: USUAL,
+    times: Times {
+        // However busy the machine is, a viewer who sends no more is answered.
+        gone: 600_000,
+        ..USUAL
+    },
     statistics: None,
     logs: false,
 };
