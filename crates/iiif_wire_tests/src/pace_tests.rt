@@ -2,7 +2,7 @@
 
 use crate::echo::connected;
 use iiif_io::{Inlet, Outlet};
-use iiif_listener::{Company, Pace, PacedReader, PacedWriter, Warm, close};
+use iiif_listener::{Company, Flow, Pace, PacedReader, PacedWriter, Rate, Warm, close};
 use std::alloc::Global;
 use std::io::{Read, Write};
 use std::net::{Net, TcpListener, TcpStream};
@@ -39,6 +39,11 @@ fn read_drops<R: Clock>(
         stream: answering,
         rt,
         pace: &pace,
+        patience: Duration::from_millis(1_000),
+        flow: Flow::new(Rate {
+            bytes: 4_096,
+            period: 30_000,
+        }),
     };
     let mut reader = PacedReader {
         stream,
@@ -78,9 +83,9 @@ fn drip<R: Clock>(rt: &R, viewer: &mut TcpStream, pause: u64) {
 }
 
 /// Answers without reading, and closes.
-fn answer_unread(mut stream: TcpStream) {
+fn answer_unread<R: Clock>(rt: &R, mut stream: TcpStream) {
     if stream.write_all(b"answer").is_ok() {
-        close(stream);
+        close(rt, stream);
     }
 }
 
@@ -122,7 +127,7 @@ fn serve<R: Clock + AllocGlobal>(rt: &R, stream: TcpStream, viewer: Viewer) -> O
     match viewer {
         Viewer::Drips(_, answers, open) => read_drops(rt, rt.alloc(), stream, answers, open),
         Viewer::AsksMuch => {
-            answer_unread(stream);
+            answer_unread(rt, stream);
             None
         }
     }

@@ -1,0 +1,96 @@
+//! A link that fails and comes back, moment by moment.
+
+use iiif_breaker::{LinkRecord, Outcome, State};
+use std::rt::HostRuntime;
+
+/// Whether a link is asked at a moment, and that ask ends so.
+fn ends(link: &mut LinkRecord, now: u64, outcome: Outcome) -> bool {
+    match link.may_ask(now) {
+        Some(number) => {
+            link.report(now, number, outcome);
+            true
+        }
+        None => false,
+    }
+}
+
+/// A link that is opened at 100 by an ask that nothing came of.
+fn opened() -> LinkRecord {
+    let mut link = LinkRecord::new();
+    let _ = ends(&mut link, 100, Outcome::TimedOut);
+    link
+}
+
+/// Moments of asks and how they end, and whether the link is asked then.
+type Steps = &'static [(u64, Outcome, bool)];
+
+/// Whether a link is asked at these moments as they say.
+fn goes(link: &mut LinkRecord, steps: Steps) -> bool {
+    for (now, outcome, asked) in steps.iter() {
+        if ends(link, *now, *outcome) != *asked {
+            return false;
+        }
+    }
+    true
+}
+
+/// Two faults, an answer, and three faults: then a second of rest.
+const FAULTS_IN_A_ROW: Steps = &[
+    (1, Outcome::Failed, true),
+    (2, Outcome::Failed, true),
+    (3, Outcome::Answered, true),
+    (4, Outcome::Failed, true),
+    (5, Outcome::Failed, true),
+    (6, Outcome::Failed, true),
+    (1_005, Outcome::Answered, false),
+    (1_006, Outcome::Answered, true),
+    (1_006, Outcome::Answered, true),
+];
+
+/// Each failure doubles the rest, up to a minute.
+const RESTS: Steps = &[
+    (1_099, Outcome::TimedOut, false),
+    (1_100, Outcome::TimedOut, true),
+    (3_099, Outcome::TimedOut, false),
+    (3_100, Outcome::TimedOut, true),
+    (7_100, Outcome::Failed, true),
+    (15_100, Outcome::TimedOut, true),
+    (31_099, Outcome::TimedOut, false),
+    (31_100, Outcome::TimedOut, true),
+    (63_099, Outcome::TimedOut, false),
+    (63_100, Outcome::TimedOut, true),
+    (123_099, Outcome::TimedOut, false),
+    (123_100, Outcome::TimedOut, true),
+    (183_099, Outcome::Answered, false),
+    (183_100, Outcome::Answered, true),
+    (183_100, Outcome::Answered, true),
+];
+
+#[test]
+fn faults_in_a_row_open_a_link_and_rests_double(rt: HostRuntime) {
+    assert!(rt; goes(&mut LinkRecord::new(), FAULTS_IN_A_ROW));
+    assert!(rt; goes(&mut opened(), RESTS));
+}
+
+#[test]
+fn one_asks_a_period_and_late_faults_change_nothing(rt: HostRuntime) {
+    let mut link = LinkRecord::new();
+    let first = link.may_ask(100);
+    let second = link.may_ask(100);
+    assert!(rt; first == Some(0) && second == Some(0));
+    link.report(5_100, 0, Outcome::TimedOut);
+    assert!(rt; link.may_ask(6_099).is_none());
+    assert!(rt; link.may_ask(6_100) == Some(1));
+    assert!(rt; link.may_ask(7_099).is_none());
+    link.report(6_500, 0, Outcome::TimedOut);
+    assert!(rt;
+        link.state()
+            == State::HalfOpen {
+                since: 6_100,
+                wait: 1_000
+            }
+    );
+    assert!(rt; link.may_ask(7_100) == Some(1));
+    let asks = link.asks();
+    assert!(rt; asks.timed_out == 2 && asks.skipped == 2 && asks.answered == 0 && asks.failed == 0);
+}
