@@ -17,7 +17,7 @@ use crate::rows::{laws_of_bands, put_band};
 use crate::tile::send_tile;
 use iiif_assemble::{Items, Job};
 use iiif_bands::laws::bands_cut_results;
-use iiif_io::{Outlet, send};
+use iiif_io::{Outlet, look, send};
 use iiif_keys::{Fault, SumKey, SumVal, TileKey, TileVal};
 use iiif_pixel::{Dim, NoMemory};
 use iiif_tiff_write::{OutKind, head, total_len};
@@ -152,6 +152,10 @@ fn send_bands<
     let mut left = bands.as_slice();
     let mut kept = Vec::new(alloc);
     for band in &bands {
+        // Nothing is made for one who is gone. Where no rows wait, some were just written.
+        if let Err(more) = look(out, &text) {
+            return Err(Stopped::Writer(sent + more));
+        }
         match put_band(
             rt, alloc, tiles, sums, passes, job, kind, band, left, before, &mut kept, &mut text,
         ) {

@@ -79,7 +79,7 @@ returns-then-held-eq0-clause-fault g c =
     let of_job : IsBandOf j b = subst (IsBandOf j) (sym c.band-item.is) (each i b c.loop-band-test.true) in (
       y,
       counted_before j c.args.kind front c.args.rows c.loop-band.text.items c.loop-band.sent c.loop-band.held y c.loop-band.invariant.counted c.if-held-eq0.true some,
-      ⊎_elim (λ e. inl e) (λ f. inr (b, here, of_job, f)) c.in-Err.ensures.fault,
+      ⊎_elim (λ e. inl e) (λ f. inr (b, here, of_job, f)) c.in-Err-put_band.ensures.fault,
     )
 
 pub flush-requires : goal.flush-requires
@@ -99,7 +99,7 @@ flush-requires g c =
     let first : length c.in-Ok.text.items ≡ length c.args.start.now + length (head_of c.args.kind c.turned-dim.result) =
     ap length c.in-Ok.ensures ∙ length-append c.args.start.now (head_of c.args.kind c.turned-dim.result) in
     let within = sent_within j c.args.kind c.args.start.now c.args.rows c.loop-band.text.items c.loop-band.sent c.loop-band.held y c.loop-band.invariant.counted (omega arith) in
-    omega (arith, within, ap length c.in-Err.ensures.none, small, long.0, long.1, first, c.requires.len)
+    omega (arith, within, ap length c.in-Err-put_band.ensures.none, small, long.0, long.1, first, c.requires.len)
 
 pub returns-in-Ok-flush-clause-stopped : goal.returns-in-Ok-flush-clause-stopped
 returns-in-Ok-flush-clause-stopped g c =
@@ -114,7 +114,7 @@ returns-in-Ok-flush-clause-stopped g c =
     let y = min (i * c.args.rows) d.h in
     let above = band_above j.resolved j.plan c.args.rows bs i c.requires.rows are c.loop-band-test.true in
     let some = (result_some j c.requires.job.scalable.result_columns c.requires.job.scalable.result_rows).0 in
-    let same = c.in-Err.ensures.none in
+    let same = c.in-Err-put_band.ensures.none in
     let count = c.in-Ok-flush.ensures.count ∙ ap (λ (t : List ℕ). c.loop-band.sent + length t) same in
     let begun = (counted_len j c.args.kind front c.args.rows c.loop-band.text.items c.loop-band.sent c.loop-band.held y c.in-Ok-flush.all c.loop-band.invariant.counted
     (omega (arith, c.if-held-eq0.false)) count).0 in
@@ -145,11 +145,11 @@ returns-in-Ok-flush-clause-fault g c =
     let row : i * c.args.rows ≡ y = omega (arith, above) in
     let here : b.rect ≡ band_from d c.args.rows y = at ∙ ap (band_from d c.args.rows) row in
     let of_job : IsBandOf j b = subst (IsBandOf j) (sym c.band-item.is) (each i b c.loop-band-test.true) in
-    let same = c.in-Err.ensures.none in
+    let same = c.in-Err-put_band.ensures.none in
     let count = c.in-Ok-flush.ensures.count ∙ ap (λ (t : List ℕ). c.loop-band.sent + length t) same in (
       y,
       (counted_len j c.args.kind front c.args.rows c.loop-band.text.items c.loop-band.sent c.loop-band.held y c.in-Ok-flush.all c.loop-band.invariant.counted (omega (arith, c.if-held-eq0.false)) count).1,
-      ⊎_elim (λ e. inl e) (λ f. inr (b, here, of_job, f)) c.in-Err.ensures.fault,
+      ⊎_elim (λ e. inl e) (λ f. inr (b, here, of_job, f)) c.in-Err-put_band.ensures.fault,
     )
 
 pub returns-in-Err-flush-clause-stopped : goal.returns-in-Err-flush-clause-stopped
@@ -164,7 +164,7 @@ returns-in-Err-flush-clause-stopped g c =
     let are = subst (AreBands j.resolved j.plan c.args.rows) (sym c.deref-band-items.ensures.value) c.in-Ok-bands.ensures.bands in
     let y = min (i * c.args.rows) d.h in
     let cut = c.in-Err-flush.ensures.cut in
-    let was = subst (λ (t : List ℕ). WasCut g.W.Write.contents g.W.Outlet.fails c.loop-band.out c.flush.new.out t cut.0) c.in-Err.ensures.none cut.2 in
+    let was = subst (λ (t : List ℕ). WasCut g.W.Write.contents g.W.Outlet.fails c.loop-band.out c.flush.new.out t cut.0) c.in-Err-put_band.ensures.none cut.2 in
     λ shows has source.
     let w = writer_stopped c.laws_of_bands.ensures j tm sm c.args.kind c.args.start.now c.requires.job.quarters c.requires.channels g.W.Write.contents g.W.Outlet.fails c.args.out.now c.loop-band.out c.flush.new.out c.loop-band.text.items c.loop-band.sent y cut.0 (omega arith) was shows has source
     (c.loop-band.invariant.rows shows has source) in
@@ -350,3 +350,19 @@ returns-clause-stopped g c =
     let w = writer_stopped c.laws_of_bands.ensures j tm sm c.args.kind c.args.start.now c.requires.job.quarters c.requires.channels g.W.Write.contents g.W.Outlet.fails c.args.out.now c.loop-band.out c.flush-2.new.out c.loop-band.text.items c.loop-band.sent y cut.0 (omega arith) cut.2 shows has source
     (c.loop-band.invariant.rows shows has source) in
     (w.0, w.1, subst (λ (s : Stopped). Stops g.W.Write.contents g.W.Outlet.fails c.args.out.now c.flush-2.new.out front (c.args.start.now ++ file w.0 c.args.kind) s) (sym cut.1) w.2)
+
+pub returns-in-Err-clause-stopped : goal.returns-in-Err-clause-stopped
+returns-in-Err-clause-stopped g c =
+    let j = c.args.job.now in
+    let d = result_dim j in
+    let tm = g.T.Items.means c.args.tiles.now in
+    let sm = g.S.Items.means c.args.sums.now in
+    let i = c.loop-band.band-index in
+    let bs = c.deref-band-items.result.now in
+    let are = subst (AreBands j.resolved j.plan c.args.rows) (sym c.deref-band-items.ensures.value) c.in-Ok-bands.ensures.bands in
+    let y = min (i * c.args.rows) d.h in
+    let above = band_above j.resolved j.plan c.args.rows bs i c.requires.rows are c.loop-band-test.true in
+    let cut = subst (λ (t : List ℕ). WasCut g.W.Write.contents g.W.Outlet.fails c.loop-band.out c.loop-band.out t c.in-Err.more) c.deref.ensures.value c.in-Err.ensures.cut in
+    λ shows has source.
+    writer_stopped c.laws_of_bands.ensures j tm sm c.args.kind c.args.start.now c.requires.job.quarters c.requires.channels g.W.Write.contents g.W.Outlet.fails c.args.out.now c.loop-band.out c.loop-band.out c.loop-band.text.items c.loop-band.sent y c.in-Err.more (omega (arith, above)) cut
+    shows has source (c.loop-band.invariant.rows shows has source)
