@@ -1,0 +1,119 @@
+"""Attacks by whom many places are held: each runs against a server of its own for so many seconds, while others ask once a second."""
+import socket
+import threading
+import time
+
+from places import Server, answered, asked_once, connected, get, picture
+
+PLACES = 64
+LARGE = "/iiif/big/full/max/0/default.tif"
+SMALL = "/iiif/s/info.json"
+
+
+def others_answered(server, seconds):
+    """How many of as many requests as there are seconds, one a second, are answered."""
+    right = 0
+    for _ in range(seconds):
+        begun = time.monotonic()
+        right += asked_once(server.port, SMALL, timeout=1) is not None
+        time.sleep(max(0, begun + 1 - time.monotonic()))
+    return right
+
+
+def keep_up(server, over, act, buffer=None):
+    """Connects and acts, and connects anew where the connection is closed."""
+    while not over.is_set():
+        try:
+            with connected(server.port, 5, buffer) as link:
+                act(link, over)
+        except OSError:
+            pass
+        over.wait(0.2)
+
+
+def read_slowly(link, over):
+    """Takes 230 bytes a second of an answer of 50 MB."""
+    link.sendall(get(LARGE))
+    while not over.wait(1):
+        if not link.recv(230):
+            return
+
+
+def stay_idle(link, over):
+    """Says nothing."""
+    while not over.is_set():
+        try:
+            if not link.recv(1):
+                return
+        except TimeoutError:
+            pass
+
+
+def ask_now_and_then(link, over):
+    """A HEAD each 4.5 seconds."""
+    while not over.is_set():
+        link.sendall(get(SMALL, "HEAD"))
+        if not link.recv(65536):
+            return
+        over.wait(4.5)
+
+
+def crowd(program, room, act, seconds, buffer=None):
+    """How many of others are answered while 64 connections act so, and come again where they are closed."""
+    images = [f"big={room}/big.tif", "s=:sample"]
+    with Server(program, images, ["--max", 8192]) as server:
+        over = threading.Event()
+        threads = [threading.Thread(target=keep_up, args=(server, over, act, buffer), daemon=True) for _ in range(PLACES)]
+        for thread in threads:
+            thread.start()
+        time.sleep(2)
+        right = others_answered(server, seconds)
+        over.set()
+        return right
+
+
+def held_by_drips(server):
+    """How long a connection lasts whose head comes in single bytes, one each 150 ms."""
+    begun = time.monotonic()
+    with connected(server.port, 30) as link:
+        link.setblocking(False)
+        while time.monotonic() - begun < 40:
+            try:
+                link.send(b"G")
+                if link.recv(4096) == b"":
+                    # Closed for writing; it is over where what is sent comes to nothing.
+                    pass
+            except BlockingIOError:
+                pass
+            except OSError:
+                return time.monotonic() - begun
+            time.sleep(0.15)
+    return 40.0
+
+
+def cut_after(server):
+    """How long an answer lasts that is taken at 230 bytes a second: until its connection is reset or its thread is gone."""
+    before = server.threads()
+    begun = time.monotonic()
+    with connected(server.port, 30, 2048) as link:
+        link.sendall(get(LARGE))
+        time.sleep(1)
+        while time.monotonic() - begun < 120 and server.threads() > before:
+            link.recv(230)
+            time.sleep(1)
+    return time.monotonic() - begun
+
+
+def fast_enough(server):
+    """Whether one who takes 20 kB a second of an answer is still served after 75 seconds."""
+    begun = time.monotonic()
+    with connected(server.port, 30, 4096) as link:
+        link.sendall(get(LARGE))
+        while time.monotonic() - begun < 75:
+            try:
+                if not link.recv(2000):
+                    return False
+            except OSError:
+                return False
+            time.sleep(0.1)
+    return True

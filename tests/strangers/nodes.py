@@ -1,0 +1,186 @@
+"""Attacks on and by other nodes."""
+import random
+import signal
+import socket
+import struct
+import threading
+import time
+
+from places import Peak, Server, answered, connected, free_ports, get
+
+SIDE, EDGE = 4096, 256
+
+
+class Cluster:
+    """Nodes that share the keys of one picture."""
+
+    def __init__(self, program, room, names, options=()):
+        ports = free_ports(2 * len(names))
+        listen = dict(zip(names, ports))
+        peers = dict(zip(names, ports[len(names):]))
+        self.nodes = {}
+        for name in names:
+            words = [word for other in names if other != name for word in ("--peer", f"{other}=127.0.0.1:{peers[other]}")]
+            words += ["--name", name, "--peer-listen", f"127.0.0.1:{peers[name]}", *options]
+            self.nodes[name] = Server(program, [f"p={room}/peers.tif"], words, listen[name])
+
+    def __enter__(self):
+        return self
+
+    def __exit__(self, *_):
+        for node in self.nodes.values():
+            node.stop()
+
+    def __getitem__(self, name):
+        return self.nodes[name]
+
+
+def tile_target(chance):
+    x, y = (chance.randrange(SIDE // EDGE) * EDGE for _ in range(2))
+    return f"/iiif/p/{x},{y},{EDGE},{EDGE}/{EDGE},/0/default.tif"
+
+
+def view(port, ends, seed, times):
+    """Asks for tiles by chance until a moment, and notes when each began and how long it took."""
+    chance = random.Random(seed)
+    while time.monotonic() < ends:
+        try:
+            with connected(port, 20) as link:
+                while time.monotonic() < ends:
+                    begun = time.monotonic()
+                    link.sendall(get(tile_target(chance)))
+                    if answered(link) != (200, True):
+                        break
+                    times.append((begun, time.monotonic() - begun))
+        except OSError:
+            pass
+
+
+def throughput(server, seconds, viewers=24):
+    """Tiles a second, and the time within which 99 of 100 come that are asked after the first second."""
+    times, begun = [], time.monotonic()
+    threads = [threading.Thread(target=view, args=(server.port, begun + seconds, seed, times)) for seed in range(viewers)]
+    for thread in threads:
+        thread.start()
+    for thread in threads:
+        thread.join()
+    late = sorted(took for at, took in times if at > begun + 1)
+    return len(times) / seconds, late[len(late) * 99 // 100] if late else float("inf")
+
+
+def hung_beside_dead(program, room):
+    """Throughput at one of three nodes while another hangs, and then while it is dead, and the time of 99 in 100 of each."""
+    with Cluster(program, room, ["a", "b", "c"], ["--cache-bytes", 0]) as nodes:
+        throughput(nodes["a"], 1)
+        nodes["c"].send_signal(signal.SIGSTOP)
+        hung, slow = throughput(nodes["a"], 8)
+        nodes["c"].stop()
+        time.sleep(2)
+        throughput(nodes["a"], 2)
+        dead, usual = throughput(nodes["a"], 8)
+        return (hung, slow), (dead, usual)
+
+
+def overview(server):
+    """Seconds of an overview of 256 tiles."""
+    begun = time.monotonic()
+    with connected(server.port, 120) as link:
+        link.sendall(get("/iiif/p/full/512,/0/default.tif"))
+        if answered(link) != (200, True):
+            return float("inf")
+    return time.monotonic() - begun
+
+
+def silent_beside_dead(program, room):
+    """Seconds of an overview at one of two nodes while the other hangs, and while it is dead."""
+    took = []
+    for act in (lambda node: node.send_signal(signal.SIGSTOP), lambda node: node.stop()):
+        with Cluster(program, room, ["a", "b"], ["--cache-bytes", 0]) as nodes:
+            act(nodes["b"])
+            took.append(overview(nodes["a"]))
+    return took
+
+
+def sum_ask(level, width, height):
+    """An ask for the sums of a whole picture in its own size."""
+    key = struct.pack(">H", 1) + b"p" + struct.pack(">7I", EDGE, 0, 0, width, height, width, height) + bytes([level]) + struct.pack(">2I", 0, 0)
+    return b"IGA1\x02" + struct.pack(">I", len(key)) + key
+
+
+def one_ask(program, room, side=2890):
+    """How far memory grows by one ask of level 20, and how long its value is."""
+    port = free_ports(1)[0]
+    options = ["--name", "a", "--peer-listen", f"127.0.0.1:{port}", "--cache-bytes", 0]
+    with Server(program, [f"p={room}/peers.tif"], options) as server, Peak(server) as peak:
+        with connected(port, 100) as link:
+            link.sendall(sum_ask(20, side, side))
+            while link.recv(1 << 20):
+                if peak.server.process.poll() is not None:
+                    break
+                if not waits(link):
+                    break
+    return peak.grown(), 17 + 8 * side * side
+
+
+def waits(link):
+    """Whether more comes within two seconds."""
+    link.settimeout(2)
+    try:
+        return bool(link.recv(1, socket.MSG_PEEK))
+    except TimeoutError:
+        return False
+    finally:
+        link.settimeout(100)
+
+
+def announce(listener, over, sent):
+    """A node that replies to each ask with a value of 64 MiB, of which all is sent but a little."""
+    block = bytes(1 << 20)
+
+    def reply(link):
+        with link:
+            head = link.recv(9)
+            key = link.recv(struct.unpack(">I", head[5:9])[0])
+            link.sendall(b"IGR" + head[3:4] + struct.pack(">I", len(key)) + key + b"\0" + struct.pack(">I", 1 << 26))
+            for _ in range(63):
+                link.sendall(block)
+                sent.append(len(block))
+            over.wait(3)
+
+    def replying(link):
+        try:
+            reply(link)
+        except OSError:
+            pass
+
+    listener.settimeout(0.2)
+    while not over.is_set():
+        try:
+            link, _ = listener.accept()
+        except TimeoutError:
+            continue
+        except OSError:
+            return
+        link.settimeout(20)
+        threading.Thread(target=replying, args=(link,), daemon=True).start()
+
+
+def grown_beside(program, room, port, asks):
+    """How far memory grows at a node that asks for tiles at a port, so many at once, for four seconds."""
+    options = ["--name", "a", "--peer", f"b=127.0.0.1:{port}", "--cache-bytes", 0]
+    with Server(program, [f"p={room}/peers.tif"], options) as server, Peak(server) as peak:
+        throughput(server, 4, asks)
+    return peak.grown()
+
+
+def announced(program, room, asks=12):
+    """How far memory grows at a node whose peer announces 64 MiB for each tile, so many at once; and at one whose peer is dead."""
+    dead = grown_beside(program, room, free_ports(1)[0], asks)
+    with socket.create_server(("127.0.0.1", 0)) as listener:
+        over, sent = threading.Event(), []
+        replying = threading.Thread(target=announce, args=(listener, over, sent), daemon=True)
+        replying.start()
+        grown = grown_beside(program, room, listener.getsockname()[1], asks)
+        over.set()
+        replying.join()
+    return grown, dead, len(sent)

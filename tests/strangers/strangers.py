@@ -1,0 +1,171 @@
+"""What strangers can do to the running program: clients, other nodes, and what operators hand it. Each attack runs against the built program over
+loopback, bounded in time, and is judged by ratios and limits that don't depend on the machine.
+
+    python3 tests/strangers/strangers.py PROGRAM [ATTACK ..]
+
+A line an attack: what was measured, the bound, and `ok` or `FAILED`. A bound that isn't met yet is `open`, with the reason that stands in OPEN: it
+fails nothing. One that is met though it stands there is told too, so that it is taken out. The status is 1 where an attack FAILED. It takes some
+four minutes.
+"""
+import os
+import subprocess
+import sys
+import tempfile
+import threading
+import time
+
+import crowds
+import nodes
+from places import Server, asked_once, connected, get, picture, reset
+
+MIB = 2 ** 20
+
+# Bounds that aren't met yet, and why.
+OPEN = {
+    "64 slow readers": "all places are held until the least rate is looked at, 30 to 80 s; no bound of places for one address yet",
+    "64 idle connections": "an idle connection holds its place for 5 s, and comes again; none is closed for the one who comes yet",
+    "a HEAD each 4.5 s on 64 connections": "a connection between requests isn't closed for the one who comes yet",
+    "64 large requests whose clients reset": "the blocks of an image are made before its first band, without a look at who reads",
+    "one ask of level 20": "the total of a block is made before its parts are there",
+    "a FIFO as an image": "the opening of a FIFO waits for who writes to it",
+    "names with escapes": "names are written as they are",
+}
+
+
+def hung(program, room):
+    (rate, slow), (dead, usual) = nodes.hung_beside_dead(program, room)
+    measured = f"{rate:.0f} tiles/s, {rate / dead:.2f} of those with it dead, 99 in 100 within {slow:.2f} s, with it dead {usual:.2f} s"
+    return measured, "0.80; 1 s, or twice that with it dead", rate >= 0.8 * dead and slow <= max(1, 2 * usual)
+
+
+def silent(program, room):
+    hangs, dead = nodes.silent_beside_dead(program, room)
+    return f"{hangs:.2f} s, {hangs / dead:.1f} times as long as with it dead", "3 times, or 2.5 s", hangs <= max(3 * dead, 2.5)
+
+
+def resets(program, room):
+    with Server(program, [f"huge={room}/huge.tif", "s=:sample"]) as server:
+        for place in range(64):
+            link = connected(server.port)
+            link.sendall(get(f"/iiif/huge/{place},0,{20_000 - place},20000/64,/0/default.tif"))
+            reset(link)
+        begun, took = time.monotonic(), None
+        while took is None and time.monotonic() - begun < 30:
+            if asked_once(server.port, "/iiif/s/info.json", 2) is not None:
+                took = time.monotonic() - begun
+        return "not in 30 s" if took is None else f"after {took:.1f} s", "2 s", took is not None and took <= 2
+
+
+def of_others(act, seconds=100, buffer=None):
+    def attack(program, room):
+        right = crowds.crowd(program, room, act, seconds, buffer)
+        return f"{right} of {seconds} others answered", "90", right * 100 >= 90 * seconds
+    return attack
+
+
+def drips(program, room):
+    with Server(program, ["s=:sample"]) as server:
+        took = crowds.held_by_drips(server)
+    return f"held for {took:.1f} s", "14 s", took <= 14
+
+
+def slow_reader(program, room):
+    with Server(program, [f"big={room}/big.tif"], ["--max", 8192]) as server:
+        took = crowds.cut_after(server)
+    return f"cut after {took:.0f} s", "90 s", took <= 90
+
+
+def steady_reader(program, room):
+    with Server(program, [f"big={room}/big.tif"], ["--max", 8192]) as server:
+        served = crowds.fast_enough(server)
+    return "served" if served else "cut", "served for 75 s", served
+
+
+def one_ask(program, room):
+    grown, value = nodes.one_ask(program, room)
+    return f"{grown / MIB:.0f} MiB for a value of {value / MIB:.0f}", f"{(2 * value) / MIB + 16:.0f} MiB", grown <= 2 * value + 16 * MIB
+
+
+def announced(program, room):
+    grown, dead, sent = nodes.announced(program, room)
+    return f"{grown / MIB:.0f} MiB, {sent} MiB sent; {dead / MIB:.0f} MiB beside a dead node", "16 MiB more than that", grown <= dead + 16 * MIB
+
+
+def ended(words, seconds=10):
+    """What the program says and its status. None where it doesn't end."""
+    try:
+        ran = subprocess.run(words, stdin=subprocess.DEVNULL, capture_output=True, timeout=seconds)
+        return ran.stdout + ran.stderr, ran.returncode
+    except subprocess.TimeoutExpired:
+        return None
+
+
+def fifo(program, room):
+    os.mkfifo(f"{room}/fifo")
+    ran = ended([program, "--base", "http://localhost/iiif", "--check", f"x={room}/fifo"])
+    return "hangs" if ran is None else f"status {ran[1]}", "ends with status 2", ran is not None and ran[1] == 2
+
+
+def escapes(program, room):
+    with open(f"{room}/list", "wb") as file:
+        file.write(b"a\x1b]0;owned\x07=" + os.fsencode(room) + b"/none\nb\ry=:sample\n")
+    ran = ended([program, "--base", "http://localhost/iiif", "--check", "--images", f"{room}/list"])
+    said = b"" if ran is None else ran[0]
+    raw = sum(byte < 32 and byte != 10 for byte in said)
+    return f"{raw} raw controls", "0", ran is not None and raw == 0
+
+
+ATTACKS = {
+    "a hung node beside a dead one": hung,
+    "an overview beside a silent node": silent,
+    "one ask of level 20": one_ask,
+    "a node that announces 64 MiB": announced,
+    "64 large requests whose clients reset": resets,
+    "a FIFO as an image": fifo,
+    "names with escapes": escapes,
+}
+
+# These take a hundred seconds and little else, so they run side by side.
+LONG = {
+    "64 slow readers": of_others(crowds.read_slowly, buffer=2048),
+    "64 idle connections": of_others(crowds.stay_idle),
+    "a HEAD each 4.5 s on 64 connections": of_others(crowds.ask_now_and_then),
+    "a head in drips": drips,
+    "one slow reader": slow_reader,
+    "a reader of 20 kB a second": steady_reader,
+}
+
+
+def told(name, attack, program, room, found):
+    """Runs an attack, and tells what came of it."""
+    try:
+        measured, bound, is_met = attack(program, room)
+    except Exception as error:
+        measured, bound, is_met = f"not tried: {error!r}", "tried", False
+    word = "ok" if is_met else "FAILED"
+    if name in OPEN:
+        word = f"ok, though it stands among the open ones: {OPEN[name]}" if is_met else f"open: {OPEN[name]}"
+    found.append(is_met or name in OPEN)
+    print(f"{name}: {measured}; bound: {bound}; {word}", flush=True)
+
+
+def main():
+    program, chosen = os.path.abspath(sys.argv[1]), sys.argv[2:]
+    with tempfile.TemporaryDirectory() as room:
+        picture(f"{room}/big.tif", 7000, 7000)
+        picture(f"{room}/peers.tif", nodes.SIDE, nodes.SIDE)
+        picture(f"{room}/huge.tif", 20_000, 20_000, channels=3)
+        found = []
+        for name, attack in ATTACKS.items():
+            if not chosen or name in chosen:
+                told(name, attack, program, room, found)
+        threads = [threading.Thread(target=told, args=(name, attack, program, room, found)) for name, attack in LONG.items() if not chosen or name in chosen]
+        for thread in threads:
+            thread.start()
+        for thread in threads:
+            thread.join()
+    return 0 if all(found) else 1
+
+
+if __name__ == "__main__":
+    sys.exit(main())
