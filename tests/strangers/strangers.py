@@ -25,7 +25,6 @@ OPEN = {
     "64 slow readers": "all places are held until the least rate is looked at, 30 to 80 s; no bound of places for one address yet",
     "64 idle connections": "an idle connection holds its place for 5 s, and comes again; none is closed for the one who comes yet",
     "a HEAD each 4.5 s on 64 connections": "a connection between requests isn't closed for the one who comes yet",
-    "64 large requests whose clients reset": "the blocks of an image are made before its first band, without a look at who reads",
     "one ask of level 20": "the total of a block is made before its parts are there",
     "a FIFO as an image": "the opening of a FIFO waits for who writes to it",
     "names with escapes": "names are written as they are",
