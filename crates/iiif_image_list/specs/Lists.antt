@@ -1,5 +1,5 @@
 -- Lists of images as text: a line names an image and its file, as NAME=FILE.
-use Rattle.std.specs.Prelude.{◌≡◌, ℕ, ◌+◌, ◌-◌, ◌<◌, ◌≤◌, ◌==◌, ◌||◌, ◌++◌, Bool, not, List, [], filter, map, length, take, slice_index, slice_index_or, Option, Some, None, Result, Ok, Err, if◌then◌else◌, bytes_eq}
+use Rattle.std.specs.Prelude.{◌≡◌, ℕ, ◌+◌, ◌-◌, ◌<◌, ◌≤◌, ◌==◌, ◌||◌, ◌&&◌, ◌++◌, ◌∷◌, Bool, not, List, [], filter, map, length, take, drop, slice_index, slice_index_or, Option, Some, None, Result, Ok, Err, if◌then◌else◌, bytes_eq}
 use Rattle.std.specs.List.{list_any, count_by, before_first, after_first, position_or_len}
 use Rattle.std.specs.Str.{IsUtf8}
 use Rattle.std.specs.Str.Lines.{lines}
@@ -7,7 +7,7 @@ use Rattle.std.specs.Str.Lossy.{utf8_valid_len}
 use denote.Ref.{Bor}
 use Rattle.iiif_keys.specs.Names.{is_name}
 use Rattle.iiif_image_list.specs.declared.fault.Fault.{Fault}
-use Rattle.iiif_image_list.specs.declared.fault.Fault.TheVariants.{Encoding, Parts, Name, Twice, NoMemory}
+use Rattle.iiif_image_list.specs.declared.fault.Fault.TheVariants.{Encoding, Parts, Blank, Name, Twice, NoMemory}
 
 -- an image: its name, and its file's
 pub record Image : Type 0 where
@@ -59,13 +59,25 @@ Takes refusal (Err fault) = IsRefusal refusal fault
 abbrev pub is_silent : List ℕ → Bool
 is_silent line = length line == 0 || slice_index line 0 == 35
 
+-- a space, or a tab
+abbrev pub is_blank : ℕ → Bool
+is_blank b = b == 32 || b == 9
+
+-- a name that begins or ends with a blank
+abbrev pub has_blank_around : List ℕ → Bool
+has_blank_around name = not (length name == 0) && (is_blank (slice_index name 0) || is_blank (slice_index name (length name - 1)))
+
+-- a line with a blank around its name
+abbrev pub is_loose : List ℕ → Bool
+is_loose line = not (position_or_len is_between line == length line) && has_blank_around (image_of line).name
+
 -- the images that lines name
 abbrev pub images_of : List (List ℕ) → List Image
 images_of lines = map image_of (filter (λ line. not (is_silent line)) lines)
 
 -- why a line has no place in a list, where these images are there
 abbrev pub refusal_of_line : List Image → List ℕ → Option Fault
-refusal_of_line images line = if is_silent line then None else refusal_of images line
+refusal_of_line images line = if is_silent line then None else (if is_loose line then Some Blank else refusal_of images line)
 
 -- the images that are there before a line: the earlier ones, and those of the lines above
 abbrev pub images_above : List Image → List (List ℕ) → ℕ → List Image
@@ -96,6 +108,10 @@ pub record EndsAtByte (images : List Image) (text : List ℕ) (line : ℕ) (faul
   pub encoding : fault ≡ Encoding
   pub line_is : line ≡ line_at text (utf8_valid_len text)
   pub taken : after ≡ images
+
+-- a text behind its byte order mark, where it begins with one (RFC 3629, section 6)
+abbrev pub unmarked : List ℕ → List ℕ
+unmarked text = if bytes_eq (take 3 text) (239 ∷ 187 ∷ 191 ∷ []) then drop 3 text else text
 
 -- A text is a list of images: UTF-8, and each line has its place. Its images come behind those that are there.
 pub record IsList (images : List Image) (text : List ℕ) (after : List Image) : Type 0 where

@@ -9,6 +9,8 @@ pub enum Fault {
     Encoding,
     #[error("there is no = between a name and a file")]
     Parts,
+    #[error("there is a blank before or behind the name")]
+    Blank,
     #[error("a name has 1 to 1,024 bytes")]
     Name,
     #[error("there is an image of that name")]

@@ -3,7 +3,7 @@
 ghost use Rattle.std.specs.Prelude.{◌≡◌, ◌++◌, ◌∷◌, [], is_some, ◌<◌, OnOk, OnErr, IfOk, IfErr, length};
 ghost use Rattle.std.specs.Str.{IsUtf8};
 ghost use Rattle.std.specs.Str.Lines.{lines};
-ghost use Rattle.iiif_image_list.specs.Lists.{image_of, images_of, has_name, line_at, refusal_of, refusal_of_line, shown, AreTaken, EndsAtByte, EndsAtLine, IsList, Takes};
+ghost use Rattle.iiif_image_list.specs.Lists.{image_of, images_of, has_blank_around, has_name, is_blank, is_loose, line_at, refusal_of, refusal_of_line, shown, unmarked, AreTaken, EndsAtByte, EndsAtLine, IsList, Takes};
 
 use crate::fault::{Fault, LineFault};
 use iiif_keys::is_name;
@@ -12,6 +12,9 @@ use indexmap::map::Iter;
 use std::alloc::{AllocError, Global};
 use std::marker::Model;
 use std::str;
+
+/// A byte order mark, as some programs write it at the head of a text.
+const MARK: &[u8] = b"\xEF\xBB\xBF";
 
 /// Images with names of their own, in the order in which they were named. The texts are borrowed from what named them.
 #[derive(Drop)]
@@ -67,9 +70,19 @@ impl<'a> ImageList<'a> {
         }
     }
 
-    /// Takes the images of a text: of each line, which a line feed ends, or a carriage return and a line feed. A line that is
-    /// empty or begins with `#` names none. It ends at the first line with a fault, counted from 1.
+    /// Takes the images of a text, behind its byte order mark where it begins with one: of each line, which a line feed ends, or a
+    /// carriage return and a line feed. A line that is empty or begins with `#` names none. It ends at the first line with a fault,
+    /// counted from 1.
     pub fn add_text(&mut self, text: &'a [u8]) -> Result<(), LineFault>
+        ensures list { OnOk result (IsList self.old (unmarked text.now) self.new) }
+        ensures line { IsUtf8 (unmarked text.now) → IfErr result (λ f. EndsAtLine self.old (lines (unmarked text.now)) f.line f.fault self.new) }
+        ensures byte { ¬ (IsUtf8 (unmarked text.now)) → IfErr result (λ f. EndsAtByte self.old (unmarked text.now) f.line f.fault self.new) }
+    {
+        self.add_unmarked(without_mark(text))
+    }
+
+    /// Takes the images of a text without a byte order mark.
+    fn add_unmarked(&mut self, text: &'a [u8]) -> Result<(), LineFault>
         ensures list { OnOk result (IsList self.old text.now self.new) }
         ensures line { IsUtf8 text.now → IfErr result (λ f. EndsAtLine self.old (lines text.now) f.line f.fault self.new) }
         ensures byte { ¬ (IsUtf8 text.now) → IfErr result (λ f. EndsAtByte self.old text.now f.line f.fault self.new) }
@@ -109,6 +122,9 @@ impl<'a> ImageList<'a> {
         if line.is_empty() || line.starts_with('#') {
             return Ok(());
         }
+        if is_loose(line) {
+            return Err(Fault::Blank);
+        }
         self.add(line)
     }
 
@@ -124,6 +140,44 @@ impl<'a> ImageList<'a> {
         ensures { IfOk result (λ pairs. shown pairs.items ≡ self.entry) }
     {
         self.files.into_iter().collect(alloc)
+    }
+}
+
+/// A text behind its byte order mark, where it begins with one.
+fn without_mark(text: &[u8]) -> &[u8]
+    ensures { result.now ≡ unmarked text.now }
+{
+    match text.strip_prefix(MARK) {
+        Some(rest) => rest,
+        None => text,
+    }
+}
+
+/// Whether a byte is a space or a tab.
+fn is_blank(byte: u8) -> bool
+    ensures { result ≡ is_blank byte }
+{
+    byte == b' ' || byte == b'\t'
+}
+
+/// Whether a name begins or ends with a blank.
+fn has_blank_around(name: &str) -> bool
+    ensures { result ≡ has_blank_around name.now }
+{
+    let bytes = name.as_bytes();
+    if bytes.is_empty() {
+        return false;
+    }
+    is_blank(bytes[0]) || is_blank(bytes[bytes.len() - 1])
+}
+
+/// Whether there is a blank around the name of a line.
+fn is_loose(line: &str) -> bool
+    ensures { result ≡ is_loose line.now }
+{
+    match line.split_once('=') {
+        Some((name, _)) => has_blank_around(name),
+        None => false,
     }
 }
 

@@ -150,16 +150,22 @@ fn name_has_up_to_1024_bytes(rt: HostRuntime) {
 }
 
 /// Texts, and the images that their lines name.
-static TEXTS: [(&str, &[(&str, &str)]); 7] = [
+static TEXTS: [(&str, &[(&str, &str)]); 10] = [
     ("", &[]),
     ("\n\r\n\n", &[]),
     ("# a=b\n#", &[]),
     ("a=b", &[("a", "b")]),
     ("a=b\r\nc=d e\r\n", &[("a", "b"), ("c", "d e")]),
     (
-        "# scans\n\nä=ü.tif\n#c=d\n c=d\r\n",
-        &[("ä", "ü.tif"), (" c", "d")],
+        "# scans\n\nä=ü.tif\n#c=d\nc d= e \r\n",
+        &[("ä", "ü.tif"), ("c d", " e ")],
     ),
+    ("\u{feff}", &[]),
+    (
+        "\u{feff}a=b\n\u{feff}c=d",
+        &[("a", "b"), ("\u{feff}c", "d")],
+    ),
+    ("\u{feff}# a=b\nc=d", &[("c", "d")]),
     ("a=b\rc=d\r\n\re=f\r", &[("a", "b\rc=d"), ("\re", "f\r")]),
 ];
 
@@ -177,7 +183,7 @@ fn lines_of_a_text_name_images(rt: HostRuntime) {
 }
 
 /// Texts, their first line at fault, and why it is, where there is an image named `first`.
-static FAULTS: [(&[u8], u64, Fault); 9] = [
+static FAULTS: [(&[u8], u64, Fault); 16] = [
     (b"first=x\n", 1, Fault::Twice),
     (b"a", 1, Fault::Parts),
     (b"a=b\n\n \nc=d", 3, Fault::Parts),
@@ -187,6 +193,13 @@ static FAULTS: [(&[u8], u64, Fault); 9] = [
     (b"\xff", 1, Fault::Encoding),
     (b"d\nd\n# \xc3\n", 3, Fault::Encoding),
     (b"a=b\n\xc3", 2, Fault::Encoding),
+    (b" a=b", 1, Fault::Blank),
+    (b"a=b\n\n# c\nc =d", 4, Fault::Blank),
+    (b"a=b\nc\t=d", 2, Fault::Blank),
+    (b"a=b\r\n =d\r\n", 2, Fault::Blank),
+    (b"\xef\xbb\xbfa=b\n\tc=d", 2, Fault::Blank),
+    (b"\xef\xbb\xbfa", 1, Fault::Parts),
+    (b"\xef\xbba=b", 1, Fault::Encoding),
 ];
 
 /// Whether a text's line is refused so behind an image named `first`, which stays. The lines before it name images, of a text that is
@@ -221,6 +234,17 @@ fn faults_are_said_in_words(rt: HostRuntime) {
         fault: Fault::Twice,
     };
     assert!(rt; is_said(rt.alloc(), fault, "line 12: there is an image of that name"));
+    let fault = LineFault {
+        line: 3,
+        fault: Fault::Blank,
+    };
+    assert!(rt;
+        is_said(
+            rt.alloc(),
+            fault,
+            "line 3: there is a blank before or behind the name"
+        )
+    );
 }
 
 static WORDS_AGAIN: [Step; 4] = [

@@ -2,7 +2,7 @@ use Rattle.std.proofs.Common.{subst}
 use Rattle.std.specs.Prelude.{IfErr}
 use Rattle.std.specs.Str.Lines.{lines}
 use Rattle.iiif_image_list.specs.Lists.{EndsAtLine}
-use Rattle.iiif_image_list.proofs.list.ImageList.add_text.Goals as goal
+use Rattle.iiif_image_list.proofs.list.ImageList.add_unmarked.Goals as goal
 
 pub returns-in-Ok-clause-line : goal.returns-in-Ok-clause-line
 returns-in-Ok-clause-line c utf8 =
