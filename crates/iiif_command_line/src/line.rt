@@ -25,6 +25,11 @@ const CACHE_BYTES: u64 = 67_108_864;
 
 const MOST_CACHE_BYTES: u64 = 1 << 40;
 
+/// How many bytes a file that is held in memory has at most where none are given, and the most that may be.
+const HOLD: u64 = 0;
+
+const MOST_HOLD: u64 = 1 << 40;
+
 /// The rows of a band where none are given, and the most that may be.
 const BAND: u64 = 64;
 
@@ -57,7 +62,7 @@ const MOST_PORT: u64 = 65_535;
 const MOST_PEERS: usize = 63;
 
 /// The options that take one text each: the name, what the text is, and the help.
-const OPTIONS: [(&str, &str, &str); 13] = [
+const OPTIONS: [(&str, &str, &str); 14] = [
     ("base", "URL", "the URL that begins each image's"),
     ("edge", "PIXELS", "the edge of a tile, 256 if left out"),
     (
@@ -69,6 +74,11 @@ const OPTIONS: [(&str, &str, &str); 13] = [
         "cache-bytes",
         "BYTES",
         "the bytes kept of tiles, and of sums, 67108864 each if left out",
+    ),
+    (
+        "hold",
+        "BYTES",
+        "a file of at most so many bytes is held in memory, 0 if left out",
     ),
     (
         "band",
@@ -132,6 +142,8 @@ pub enum LineFault {
     Max,
     #[error("cache")]
     Cache,
+    #[error("hold")]
+    Hold,
     #[error("band")]
     Band,
     #[error("workers")]
@@ -184,6 +196,8 @@ pub struct Options<'a> {
     pub upscale: bool,
     /// The bytes of each group's cache.
     pub cache_bytes: u64,
+    /// The bytes of an image's file up to which it is held in memory.
+    pub hold: u64,
     /// The rows of a band.
     pub band: u32,
     /// The workers of a request.
@@ -404,9 +418,10 @@ fn peers<'t, 'a: 't>(
     Ok(peers)
 }
 
-/// What a node may take of the machine: the rows of a band, the workers of a request, the files that stay open, and the memory that is
-/// written to at the start.
+/// What a node may take of the machine: the bytes of a file that is held in memory, the rows of a band, the workers of a request, the files
+/// that stay open, and the memory that is written to at the start.
 struct Shares {
+    hold: u64,
     band: u32,
     workers: u32,
     open_files: NonZeroUsize,
@@ -416,6 +431,9 @@ struct Shares {
 
 /// What a node may take of the machine, or the first of it that is wrong.
 fn shares_in(matches: &ArgMatches<'_>) -> Result<Shares, LineFault> {
+    let Some(hold) = bytes(matches.get_str("hold"), HOLD, MOST_HOLD) else {
+        return Err(LineFault::Hold);
+    };
     let Some(band) = number(matches.get_str("band"), BAND, MOST_BAND) else {
         return Err(LineFault::Band);
     };
@@ -433,6 +451,7 @@ fn shares_in(matches: &ArgMatches<'_>) -> Result<Shares, LineFault> {
         return Err(LineFault::Touch);
     };
     Ok(Shares {
+        hold,
         band,
         workers,
         open_files,
@@ -485,6 +504,7 @@ pub fn options_in<'t, 'a: 't>(
         return Err(LineFault::Cache);
     };
     let Shares {
+        hold,
         band,
         workers,
         open_files,
@@ -499,6 +519,7 @@ pub fn options_in<'t, 'a: 't>(
         max,
         upscale: matches.get_flag("upscale"),
         cache_bytes,
+        hold,
         band,
         workers,
         open_files,

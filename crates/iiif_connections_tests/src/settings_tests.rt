@@ -4,13 +4,13 @@ use iiif_command_line::{Options, matches, options_in};
 
 const BASE: &str = "http://localhost/iiif";
 
-/// What is set where the words name the images and a target alone: the edge, the greatest side, the bytes of a cache, the rows of a band,
-/// the workers, the files that stay open, and the memory that is written to at the start.
+/// What is set where the words name the images and a target alone: the edge, the greatest side, the bytes of a cache, those of a file that is
+/// held, the rows of a band, the workers, the files that stay open, and the memory that is written to at the start.
 fn are_left_out(options: &Options<'_>) -> bool {
     let sides = (options.edge, options.max) == (256, 4096);
     let shares = (options.band, options.workers) == (64, 2);
     let bounds = (options.cache_bytes, options.open_files.get()) == (67_108_864, 256);
-    let memory = bounds && options.touch_bytes == 0;
+    let memory = bounds && (options.hold, options.touch_bytes) == (0, 0);
     sides && shares && memory && !options.upscale && options.name == "self"
 }
 
