@@ -4,6 +4,7 @@ use Rattle.std.specs.Prelude.{ℕ, List, [], ◌∷◌, ◌++◌, codes, decimal
 use Rattle.std.specs.List.{flat_map}
 use Rattle.iiif_metrics.specs.declared.counts.Counts.{Counts}
 use Rattle.iiif_metrics.specs.declared.metrics.CacheMetrics.{CacheMetrics}
+use Rattle.iiif_metrics.specs.declared.metrics.HeldMetrics.{HeldMetrics}
 use Rattle.iiif_metrics.specs.declared.metrics.Metrics.{Metrics}
 use Rattle.iiif_metrics.specs.declared.text.Kind.{Kind}
 use Rattle.iiif_metrics.specs.declared.text.Kind.TheVariants.{Counter, Gauge}
@@ -58,6 +59,13 @@ cache_families front c =
     ∷ single (front ++ codes "entries") (codes "Kept values.") Gauge c.entries
     ∷ []
 
+-- the images whose files are held in memory, under names with this front
+abbrev pub held_families : List ℕ → HeldMetrics → List Family
+held_families front h =
+    single (front ++ codes "bytes") (codes "Bytes of the images' files that are held in memory.") Gauge h.bytes
+    ∷ single (front ++ codes "images") (codes "Images whose files are held in memory.") Gauge h.images
+    ∷ []
+
 -- what was counted of connections and answers, under names with this front
 abbrev pub server_families : List ℕ → Counts → List Family
 server_families front c =
@@ -92,6 +100,7 @@ abbrev pub text_of : Metrics → List ℕ
 text_of m =
     families_text (cache_families (codes "iiif_tile_cache_") m.tiles)
     ++ families_text (cache_families (codes "iiif_sum_cache_") m.sums)
+    ++ families_text (held_families (codes "iiif_held_") m.held)
     ++ families_text (server_families (codes "iiif_") m.counts)
     ++ family_text (answer_family m.counts.whole)
 

@@ -2,7 +2,7 @@
 #![tactic(auto)]
 
 pub use counts::{Counts, STATUSES, Tally};
-pub use metrics::{CacheMetrics, Metrics};
+pub use metrics::{CacheMetrics, HeldMetrics, Metrics};
 pub use serve::{Measure, serve_metrics};
 pub use text::{NoMemory, metrics_text};
 

@@ -13,10 +13,20 @@ pub struct CacheMetrics {
     pub entries: u64,
 }
 
-/// What a server counted since it was started.
+/// The images whose files are held in memory.
+#[derive(Clone, Copy, Debug)]
+pub struct HeldMetrics {
+    /// The bytes of these files.
+    pub bytes: u64,
+    /// How many images they are.
+    pub images: u64,
+}
+
+/// What a server counted since it was started, and what it holds.
 #[derive(Clone, Copy, Debug)]
 pub struct Metrics {
     pub tiles: CacheMetrics,
     pub sums: CacheMetrics,
+    pub held: HeldMetrics,
     pub counts: Counts,
 }

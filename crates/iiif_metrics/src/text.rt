@@ -2,10 +2,10 @@
 
 ghost use Rattle.std.specs.Prelude.{◌≡◌, ◌++◌, ℕ, List, IfOk, OnOk, map, string_bytes};
 ghost use Rattle.std.specs.List.{flat_map};
-ghost use Rattle.iiif_metrics.specs.Exposition.{answer_family, cache_families, family_text, families_text, help_line, kind_word, row_family, sample_line, sample_view, server_families, single, status_samples, text_of, type_line};
+ghost use Rattle.iiif_metrics.specs.Exposition.{answer_family, cache_families, family_text, families_text, held_families, help_line, kind_word, row_family, sample_line, sample_view, server_families, single, status_samples, text_of, type_line};
 
 use crate::counts::Counts;
-use crate::metrics::{CacheMetrics, Metrics};
+use crate::metrics::{CacheMetrics, HeldMetrics, Metrics};
 pub use std::alloc::AllocError as NoMemory;
 use std::alloc::Global;
 use std::fmt::Write;
@@ -180,6 +180,26 @@ fn cache_rows(cache: &CacheMetrics) -> [Row<'static>; 11]
     ]
 }
 
+/// The images whose files are held in memory.
+fn held_rows(held: &HeldMetrics) -> [Row<'static>; 2]
+    ensures { (front : List ℕ) → map (row_family front) result ≡ held_families front held.now }
+{
+    [
+        row_of(
+            Kind::Gauge,
+            "bytes",
+            "Bytes of the images' files that are held in memory.",
+            held.bytes,
+        ),
+        row_of(
+            Kind::Gauge,
+            "images",
+            "Images whose files are held in memory.",
+            held.images,
+        ),
+    ]
+}
+
 /// What was counted of connections and answers.
 fn server_rows(counts: &Counts) -> [Row<'static>; 4]
     ensures { (front : List ℕ) → map (row_family front) result ≡ server_families front counts.now }
@@ -272,6 +292,7 @@ pub fn metrics_text(alloc: Global, metrics: &Metrics) -> Result<Vec<u8>, NoMemor
     let mut text = String::with_capacity(alloc, USUAL_LENGTH)?;
     push_rows(&mut text, "iiif_tile_cache_", &cache_rows(&metrics.tiles))?;
     push_rows(&mut text, "iiif_sum_cache_", &cache_rows(&metrics.sums))?;
+    push_rows(&mut text, "iiif_held_", &held_rows(&metrics.held))?;
     push_rows(&mut text, "iiif_", &server_rows(&metrics.counts))?;
     push_answers(&mut text, &metrics.counts.whole)?;
     Ok(text.into_bytes())

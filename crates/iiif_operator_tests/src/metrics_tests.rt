@@ -1,7 +1,9 @@
 //! The answers to who asks for the counters.
 
 use iiif_io::fakes::{FailingReader, FailingWriter};
-use iiif_metrics::{CacheMetrics, Counts, Measure, Metrics, metrics_text, serve_metrics};
+use iiif_metrics::{
+    CacheMetrics, Counts, HeldMetrics, Measure, Metrics, metrics_text, serve_metrics,
+};
 use iiif_tables::Book;
 use std::alloc::Global;
 
@@ -33,6 +35,10 @@ fn metrics() -> Metrics {
     Metrics {
         tiles: cache(100),
         sums: cache(200),
+        held: HeldMetrics {
+            bytes: 13,
+            images: 14,
+        },
         counts: Counts {
             whole: [1, 2, 3, 4, 5, 6, 7, 8],
             cut: 9,
@@ -56,7 +62,13 @@ iiif_tile_cache_gets_total 100
 ";
 
 /// The end of it.
-const END: &str = "# HELP iiif_connections_open Connections that are open.
+const END: &str = "# HELP iiif_held_bytes Bytes of the images' files that are held in memory.
+# TYPE iiif_held_bytes gauge
+iiif_held_bytes 13
+# HELP iiif_held_images Images whose files are held in memory.
+# TYPE iiif_held_images gauge
+iiif_held_images 14
+# HELP iiif_connections_open Connections that are open.
 # TYPE iiif_connections_open gauge
 iiif_connections_open 11
 # HELP iiif_connections_refused_total Connections that were closed unanswered.

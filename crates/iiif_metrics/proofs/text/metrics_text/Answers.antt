@@ -5,8 +5,10 @@ pub returns : goal.returns
 returns c = rw (
   c.into_bytes.ensures.value,
   c.in_ok-push_answers.ensures,
-  c.in_ok-push_rows-3.ensures,
+  c.in_ok-push_rows-4.ensures,
   c.server_rows.ensures (codes "iiif_"),
+  c.in_ok-push_rows-3.ensures,
+  c.held_rows.ensures (codes "iiif_held_"),
   c.in_ok-push_rows-2.ensures,
   c.cache_rows-2.ensures (codes "iiif_sum_cache_"),
   c.in_ok-push_rows.ensures,
