@@ -1,5 +1,6 @@
 -- What is made of the items of a list, one after another.
-use Rattle.std.proofs.Common.{◌≡◌, ℕ, ◌+◌, ◌<◌, List, [], ◌∷◌, ◌++◌, map, length, take, get_or, sym, ap, ◌∙◌}
+use Rattle.std.proofs.Common.{◌≡◌, ℕ, ◌+◌, ◌<◌, List, [], ◌∷◌, ◌++◌, map, length, take, get_or, sym, ap, subst, ◌∙◌}
+use Rattle.std.specs.List.{AllZip}
 use Rattle.std.proofs.lemmas.List.{map-append, take_more}
 use Rattle.iiif_images.proofs.ItemLemmas.{same_more}
 
@@ -9,3 +10,15 @@ pub names_more : {A B C : Type 0} (f : A → C) (g : B → C) (xs : List A) (x :
 names_more f g xs x ys n y so lt same =
     map-append f xs (x ∷ [])
     ∙ (same_more _ _ _ _ so same ∙ sym (ap (map g) (take_more ys n y lt) ∙ map-append g (take n ys) (get_or ys n y ∷ [])))
+
+-- what holds of two lists place by place does so with one more of each
+zip_push : {A B : Type 0} (P : A → B → Type 0) (xs : List A) (ys : List B) (x : A) (y : B) → AllZip P xs ys → P x y → AllZip P (xs ++ x ∷ []) (ys ++ y ∷ [])
+zip_push P [] [] x y all more = (more, tt)
+zip_push P [] (b ∷ ys) x y all more = absurd all
+zip_push P (a ∷ xs) [] x y all more = absurd all
+zip_push P (a ∷ xs) (b ∷ ys) x y all more = (all.0, zip_push P xs ys x y all.1 more)
+
+pub zip_more : {A B : Type 0} (P : A → B → Type 0) (xs : List A) (n : ℕ) (x : A) (ys : List B) (y : B)
+    → AllZip P (take n xs) ys → n < length xs → P (get_or xs n x) y → AllZip P (take (n + 1) xs) (ys ++ y ∷ [])
+zip_more P xs n x ys y all lt more =
+    subst (λ front. AllZip P front (ys ++ y ∷ [])) (sym (take_more xs n x lt)) (zip_push P (take n xs) ys (get_or xs n x) y all more)

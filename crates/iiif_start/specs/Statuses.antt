@@ -9,7 +9,7 @@ use Rattle.iiif_command_line.specs.declared.line.LineFault.TheVariants.{NoMemory
 use Rattle.iiif_start.specs.declared.stop.Stop.{Stop}
 use Rattle.iiif_start.specs.declared.stop.Stop.TheVariants.{Image, Faulty, Memory, Write, Source, Listen}
 use Rattle.iiif_start.specs.declared.unfit.Unfit.{Unfit}
-use Rattle.iiif_start.specs.declared.unfit.Unfit.TheVariants.{Closed, Refused}
+use Rattle.iiif_start.specs.declared.unfit.Unfit.TheVariants.{Closed, NotPlain, Refused}
 
 -- 2 where an image is at fault, and 1 where the program failed while running
 abbrev pub status_of : Stop → ℕ
@@ -25,9 +25,10 @@ abbrev pub status_of_words : LineFault → ℕ
 status_of_words NoMemory = 1
 status_of_words fault = 2
 
--- the number of an image's fault: 0 where its file can't be opened, else the reader's
+-- the number of an image's fault: 0 where its file can't be opened or is none, else the reader's
 abbrev pub unfit_number : Unfit → ℕ
 unfit_number Closed = 0
+unfit_number NotPlain = 0
 unfit_number (Refused fault) = open_number fault
 
 -- whether one of the images that were looked at can't be served

@@ -3,6 +3,7 @@
 ghost use Rattle.std.specs.Prelude.{◌≡◌, IfOk, map};
 ghost use Rattle.iiif_start.specs.Statuses.{end_of, has_unfit};
 
+use crate::name::word_of;
 use crate::opening::{opened, shelf};
 use crate::stop::Stop;
 use crate::unfit::Unfit;
@@ -13,21 +14,29 @@ use iiif_open_files::{OpenFiles, Opens};
 use iiif_pixel::{Depth, Kind};
 use std::alloc::Global;
 use std::io;
+use std::io::ErrorKind;
 use std::sync::{Arc, Wait};
+
+/// What an image is, and whether its file would be held in memory.
+#[derive(Clone, Copy, Debug)]
+pub struct Found {
+    pub shape: Shape,
+    pub is_held: bool,
+}
 
 /// An image that was opened once: its name, and what it is, or why it can't be served.
 #[derive(Clone, Copy, Debug)]
 pub struct Checked<'a> {
     pub name: &'a str,
-    pub found: Result<Shape, Unfit>,
+    pub found: Result<Found, Unfit>,
 }
 
 impl<'a> Checked<'a> {
     /// Says in a line what the image is, or as at a start why it can't be served.
-    fn told<O: Outlet>(&self, out: &mut O) -> io::Result<()> {
-        let shape = match &self.found {
-            Ok(shape) => shape,
-            Err(unfit) => return unfit.told(out, self.name),
+    fn told<O: Outlet>(&self, alloc: Global, out: &mut O) -> io::Result<()> {
+        let Found { shape, is_held } = match &self.found {
+            Ok(found) => found,
+            Err(unfit) => return unfit.told(alloc, out, self.name),
         };
         let kind = match shape.kind {
             Kind::Gray => "gray",
@@ -37,8 +46,9 @@ impl<'a> Checked<'a> {
             Depth::Eight => 8,
             Depth::Sixteen => 16,
         };
-        let (name, w, h) = (self.name, shape.dim.w, shape.dim.h);
-        writeln!(out, "{name}: {w} by {h}, {kind}, {bits} bits")
+        let held = if *is_held { ", held" } else { "" };
+        let (name, w, h) = (word_of(alloc, self.name)?, shape.dim.w, shape.dim.h);
+        writeln!(out, "{name}: {w} by {h}, {kind}, {bits} bits{held}")
     }
 }
 
@@ -46,19 +56,23 @@ impl<'a> Checked<'a> {
 fn look<'a, R>(
     rt: &R,
     alloc: Global,
-    files: &Arc<OpenFiles>,
-    name: &'a str,
-    file: &str,
+    files: &Arc<OpenFiles<R>>,
+    image: (&'a str, &str),
+    hold: u64,
 ) -> Result<Checked<'a>, Stop<'a>>
 where
-    R: Opens + Wait + AllocGlobal,
-    ensures { IfOk result (λ c. c.name.now ≡ name.now) }
+    R: Opens + Wait,
+    ensures { IfOk result (λ c. c.name.now ≡ image.entry.0.now) }
 {
-    let found = match opened(rt, alloc, files, name, file) {
-        Ok((_source, layout)) => Ok(Shape {
-            dim: layout.dim(),
-            kind: layout.kind(),
-            depth: layout.depth(),
+    let (name, path) = image;
+    let found = match opened(rt, alloc, files, name, path, hold) {
+        Ok((source, layout)) => Ok(Found {
+            shape: Shape {
+                dim: layout.dim(),
+                kind: layout.kind(),
+                depth: layout.depth(),
+            },
+            is_held: source.is_held(),
         }),
         Err(Stop::Image(_name, unfit)) => Err(unfit),
         Err(stop) => return Err(stop),
@@ -71,21 +85,23 @@ where
 fn looked_at<'a, R, O>(
     rt: &R,
     alloc: Global,
-    files: &Arc<OpenFiles>,
+    files: &Arc<OpenFiles<R>>,
     images: &[(&'a str, &'a str)],
+    hold: u64,
     out: &mut O,
 ) -> Result<Vec<Checked<'a>>, Stop<'a>>
 where
-    R: Opens + Wait + AllocGlobal,
+    R: Opens + Wait,
     O: Outlet,
     ensures names { IfOk result (λ all. map (λ c. c.name.now) all.items ≡ map (λ i. i.0.now) images.now) }
 {
     let mut all = Vec::new(alloc);
     for image in images {
-        let (name, file) = *image;
-        let image = look(rt, alloc, files, name, file)?;
-        if image.told(out).is_err() {
-            return Err(Stop::Write);
+        let image = look(rt, alloc, files, *image, hold)?;
+        match image.told(alloc, out) {
+            Ok(()) => {}
+            Err(error) if error.kind() == ErrorKind::OutOfMemory => return Err(Stop::Memory),
+            Err(_) => return Err(Stop::Write),
         }
         if all.push(image).is_err() {
             return Err(Stop::Memory);
@@ -120,10 +136,10 @@ pub fn check<'a, R, O>(
     out: &mut O,
 ) -> Result<(), Stop<'a>>
 where
-    R: Opens + Wait + AllocGlobal,
+    R: Opens + Wait,
     O: Outlet,
 {
     let files = shelf(alloc, options.open_files)?;
-    let all = looked_at(rt, alloc, &files, &options.images, out)?;
+    let all = looked_at(rt, alloc, &files, &options.images, options.hold, out)?;
     end_of(&all)
 }

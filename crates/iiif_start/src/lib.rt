@@ -2,7 +2,8 @@
 //! are at fault.
 #![tactic(auto)]
 
-pub use check::Checked;
+pub use check::{Checked, Found};
+pub use held::Held;
 pub use opening::{catalogue, list_of};
 pub use stop::{Stop, ended};
 pub use stored::Stored;
@@ -11,6 +12,9 @@ pub use unfit::Unfit;
 pub use wrong::refused;
 
 pub mod check;
+pub mod held;
+mod holding;
+mod name;
 pub mod opening;
 mod sample;
 pub mod stop;

@@ -1,10 +1,13 @@
 //! The images that the words name.
 
-ghost use Rattle.std.specs.Prelude.{◌≡◌, IfOk, None, length, map};
+ghost use Rattle.std.specs.Prelude.{◌≡◌, IfOk, IfSome, None, length, map, string_bytes, true};
+ghost use Rattle.std.specs.Arc.{arc_value};
+ghost use Rattle.std.specs.List.{AllZip};
 ghost use Rattle.iiif_tiff.specs.Tiff.{refusal_of, scheme};
 ghost use Rattle.iiif_tiff_read.specs.Layouts.{FitsIn};
-ghost use Rattle.iiif_start.specs.Stored.{bytes_of, keeps_of};
+ghost use Rattle.iiif_start.specs.Stored.{bytes_of, is_held, keeps_of, IsItemOf, IsSourceOf};
 
+use crate::holding::{HoldFault, held};
 use crate::sample::sample;
 use crate::stop::Stop;
 use crate::stored::Stored;
@@ -12,38 +15,34 @@ use crate::unfit::Unfit;
 use clap::ArgMatches;
 use iiif_command_line::LineFault;
 use iiif_images::Catalogue;
-use iiif_open_files::{OpenFiles, Opens, PathSource};
-use iiif_tiff_read::{Layout, open};
-use std::alloc::Global;
-use std::io;
-use std::io::{ErrorKind, Read};
+use iiif_open_files::{OpenFiles, Opens, PathSource, Texts};
+use iiif_source::{MemSource, OpenFile, Opened, ReadFault, Source};
+use iiif_tiff_read::{Layout, OpenFault, open};
+use std::alloc::{AllocError, Global};
+use std::io::{Error, ErrorKind};
 use std::num::NonZeroUsize;
 use std::sync::{Arc, Wait};
 
 /// The text of the list of images, empty where none is named.
 pub fn list_of<R>(rt: &R, alloc: Global, matches: &ArgMatches<'_>) -> Result<Vec<u8>, LineFault>
 where
-    R: Opens + AllocGlobal,
+    R: Texts,
 {
     let Some(file) = matches.get_str("list") else {
         return Ok(Vec::new(alloc));
     };
-    match text_of(rt, alloc, file) {
+    match rt.text(alloc, file) {
         Ok(text) => Ok(text),
         Err(error) if error.kind() == ErrorKind::OutOfMemory => Err(LineFault::NoMemory),
         Err(_) => Err(LineFault::Unread),
     }
 }
 
-/// All bytes of a file.
-fn text_of<R: Opens>(rt: &R, alloc: Global, file: &str) -> io::Result<Vec<u8>> {
-    let mut text = Vec::new(alloc);
-    rt.open(file)?.read_to_end(&mut text)?;
-    Ok(text)
-}
-
 /// Where the images' files stay open, so many of them.
-pub(crate) fn shelf<'a>(alloc: Global, most: NonZeroUsize) -> Result<Arc<OpenFiles>, Stop<'a>> {
+pub(crate) fn shelf<'a, R: Opens>(
+    alloc: Global,
+    most: NonZeroUsize,
+) -> Result<Arc<OpenFiles<R>>, Stop<'a>> {
     let Ok(files) = OpenFiles::new(alloc, most) else {
         return Err(Stop::Memory);
     };
@@ -54,52 +53,160 @@ pub(crate) fn shelf<'a>(alloc: Global, most: NonZeroUsize) -> Result<Arc<OpenFil
 }
 
 /// The built-in source.
-fn sampled<'a>(alloc: Global) -> Result<Stored, Stop<'a>> {
+fn sampled<'a, R: Opens>(alloc: Global) -> Result<Stored<R>, Stop<'a>>
+    ensures { IfOk result (λ s. is_held s ≡ true) }
+{
     match sample(alloc) {
         Ok(source) => Ok(Stored::Memory(source)),
         Err(_) => Err(Stop::Memory),
     }
 }
 
-/// A file as the source of an image of this name.
-fn filed<'a, R>(
+/// Why the image of a name isn't served whose file can't be opened.
+fn closed<'a>(name: &'a str, error: &Error) -> Stop<'a> {
+    match error.kind() {
+        ErrorKind::OutOfMemory => Stop::Memory,
+        ErrorKind::InvalidInput => Stop::Image(name, Unfit::NotPlain),
+        _ => Stop::Image(name, Unfit::Closed),
+    }
+}
+
+/// Why the image of a name isn't served whose file can't be read.
+fn unread<'a>(name: &'a str, fault: ReadFault) -> Stop<'a> {
+    Stop::Image(name, Unfit::Refused(OpenFault::Source(fault)))
+}
+
+/// Why the image of a name isn't served whose file has become shorter while it was opened.
+fn shortened<'a>(name: &'a str) -> Stop<'a> {
+    let cause = ReadFault::ENDED;
+    unread(name, ReadFault { place: 0, cause })
+}
+
+/// A path that is shared.
+fn shared(alloc: Global, path: &str) -> Result<Arc<String>, AllocError>
+    ensures { IfOk result (λ p. string_bytes (arc_value p) ≡ path.now) }
+{
+    let path = String::from_str(alloc, path)?;
+    match Arc::new(alloc, path) {
+        Ok(path) => Ok(path),
+        Err(_) => Err(AllocError),
+    }
+}
+
+/// The file of an image of this name, opened, and how many bytes it has.
+fn opened_file<'a, R: Opens>(
     rt: &R,
     alloc: Global,
-    files: &Arc<OpenFiles>,
     name: &'a str,
-    file: &str,
-) -> Result<Stored, Stop<'a>>
-where
-    R: Opens + Wait + AllocGlobal,
+    path: &str,
+) -> Result<(OpenFile<R>, u64), Stop<'a>>
+    ensures path { IfOk result (λ f. string_bytes (arc_value f.0.path) ≡ path.now) }
+    ensures length { R.keeps path.now → IfOk result (λ f. f.1 ≡ length (R.holds path.now)) }
 {
-    let Ok(path) = String::from_str(alloc, file) else {
+    let Ok(path) = shared(alloc, path) else {
+        return Err(Stop::Memory);
+    };
+    let file = match OpenFile::open(rt, path) {
+        Ok(file) => file,
+        Err(error) => return Err(closed(name, &error)),
+    };
+    match file.metadata(rt) {
+        Ok(found) => Ok((file, found.len())),
+        Err(error) => Err(closed(name, &error)),
+    }
+}
+
+/// A file of at most so many bytes as a source in memory. It is read once, and then closed. None of a longer one.
+#[tactic(auto, using(crate::proofs::SourceLemmas::whole))]
+fn small<'a, R: Opens>(
+    rt: &R,
+    alloc: Global,
+    name: &'a str,
+    path: &str,
+    hold: u64,
+) -> Result<Option<MemSource>, Stop<'a>>
+    ensures { R.keeps path.now → IfOk result (λ found. IfSome found (λ s. s ≡ R.holds path.now)) }
+{
+    let (file, len) = opened_file(rt, alloc, name, path)?;
+    if len > hold {
+        return Ok(None);
+    }
+    let source = Opened { file: &file, len };
+    match held(rt, alloc, &source) {
+        Ok(source) => Ok(Some(source)),
+        Err(HoldFault::NoMemory) => Err(Stop::Memory),
+        Err(HoldFault::Read(fault)) => Err(unread(name, fault)),
+    }
+}
+
+/// A file as a source that is opened when it is read.
+fn large<'a, R>(
+    rt: &R,
+    alloc: Global,
+    files: &Arc<OpenFiles<R>>,
+    name: &'a str,
+    path: &str,
+) -> Result<PathSource<R>, Stop<'a>>
+where
+    R: Opens + Wait,
+    ensures path { IfOk result (λ s. s.path ≡ path.now) }
+    ensures length { R.keeps path.now → IfOk result (λ s. s.len ≡ length (R.holds path.now)) }
+{
+    let Ok(path) = String::from_str(alloc, path) else {
         return Err(Stop::Memory);
     };
     let Ok(files) = files.clone() else {
         return Err(Stop::Memory);
     };
     match PathSource::open(rt, files, path) {
-        Ok(source) => Ok(Stored::File(source)),
-        Err(error) if error.kind() == ErrorKind::OutOfMemory => Err(Stop::Memory),
-        Err(_) => Err(Stop::Image(name, Unfit::Closed)),
+        Ok(source) => Ok(source),
+        Err(error) => Err(closed(name, &error)),
     }
+}
+
+/// A file as the source of an image of this name. With a hold above 0 one of at most so many bytes is held in memory.
+#[tactic(auto, using(crate::proofs::SourceLemmas::whole))]
+fn filed<'a, R>(
+    rt: &R,
+    alloc: Global,
+    files: &Arc<OpenFiles<R>>,
+    name: &'a str,
+    path: &str,
+    hold: u64,
+) -> Result<Stored<R>, Stop<'a>>
+where
+    R: Opens + Wait,
+    ensures { IfOk result (λ s. IsSourceOf R.holds R.keeps hold path.now s) }
+{
+    if hold > 0 {
+        if let Some(source) = small(rt, alloc, name, path, hold)? {
+            return Ok(Stored::Memory(source));
+        }
+    }
+    let source = large(rt, alloc, files, name, path)?;
+    if hold > 0 && source.len() <= hold {
+        return Err(shortened(name));
+    }
+    Ok(Stored::File(source))
 }
 
 /// The source of a file's name.
 fn stored<'a, R>(
     rt: &R,
     alloc: Global,
-    files: &Arc<OpenFiles>,
+    files: &Arc<OpenFiles<R>>,
     name: &'a str,
-    file: &str,
-) -> Result<Stored, Stop<'a>>
+    path: &str,
+    hold: u64,
+) -> Result<Stored<R>, Stop<'a>>
 where
-    R: Opens + Wait + AllocGlobal,
+    R: Opens + Wait,
+    ensures { IfOk result (λ s. IsSourceOf R.holds R.keeps hold path.now s) }
 {
-    if file == ":sample" {
+    if path == ":sample" {
         sampled(alloc)
     } else {
-        filed(rt, alloc, files, name, file)
+        filed(rt, alloc, files, name, path, hold)
     }
 }
 
@@ -107,40 +214,45 @@ where
 pub(crate) fn opened<'a, R>(
     rt: &R,
     alloc: Global,
-    files: &Arc<OpenFiles>,
+    files: &Arc<OpenFiles<R>>,
     name: &'a str,
-    file: &str,
-) -> Result<(Stored, Layout), Stop<'a>>
+    path: &str,
+    hold: u64,
+) -> Result<(Stored<R>, Layout), Stop<'a>>
 where
-    R: Opens + Wait + AllocGlobal,
-    ensures in_file { IfOk result (λ o. FitsIn o.1 (length (bytes_of o.0))) }
-    ensures accepted { IfOk result (λ o. keeps_of o.0 → refusal_of (bytes_of o.0) ≡ None) }
-    ensures shown { IfOk result (λ o. keeps_of o.0 → o.1 ≡ scheme (bytes_of o.0)) }
+    R: Opens + Wait,
+    ensures source { IfOk result (λ o. IsSourceOf R.holds R.keeps hold path.now o.0) }
+    ensures in_file { IfOk result (λ o. FitsIn o.1 (length (bytes_of R.holds o.0))) }
+    ensures accepted { IfOk result (λ o. keeps_of R.keeps o.0 → refusal_of (bytes_of R.holds o.0) ≡ None) }
+    ensures shown { IfOk result (λ o. keeps_of R.keeps o.0 → o.1 ≡ scheme (bytes_of R.holds o.0)) }
 {
-    let source = stored(rt, alloc, files, name, file)?;
+    let source = stored(rt, alloc, files, name, path, hold)?;
     match open(rt, alloc, &source) {
         Ok(layout) => Ok((source, layout)),
         Err(fault) => Err(Stop::Image(name, Unfit::Refused(fault))),
     }
 }
 
-/// The images, opened in the order given. So many of their files stay open.
-#[tactic(auto, using(crate::proofs::Names::names_more))]
+/// The images, opened in the order given. Where `hold` is above 0, each file of at most so many bytes is read once, held in memory, and
+/// closed; of the others so many stay open.
+#[tactic(auto, using(crate::proofs::Names::names_more, crate::proofs::Names::zip_more))]
 pub fn catalogue<'a, R>(
     rt: &R,
     alloc: Global,
     images: &[(&'a str, &'a str)],
     open_files: NonZeroUsize,
-) -> Result<Catalogue<R, Stored>, Stop<'a>>
+    hold: u64,
+) -> Result<Catalogue<R, Stored<R>>, Stop<'a>>
 where
-    R: Opens + Wait + AllocGlobal,
+    R: Opens + Wait,
     ensures names { IfOk result (λ c. map (λ i. i.name) c ≡ map (λ i. i.0.now) images.now) }
+    ensures items { IfOk result (λ c. AllZip (IsItemOf R.holds R.keeps hold) images.now c) }
 {
     let files = shelf(alloc, open_files)?;
     let mut catalogue = Catalogue::new(alloc);
     for image in images {
-        let (name, file) = *image;
-        let (source, layout) = opened(rt, alloc, &files, name, file)?;
+        let (name, path) = *image;
+        let (source, layout) = opened(rt, alloc, &files, name, path, hold)?;
         let Ok(text) = String::from_str(alloc, name) else {
             return Err(Stop::Memory);
         };

@@ -5,8 +5,10 @@ ghost use Rattle.std.specs.List.{list_all};
 ghost use Rattle.iiif_advice.specs.Lines.{is_line_byte};
 ghost use Rattle.iiif_start.specs.Statuses.{unfit_number};
 
+use crate::name::word_of;
 use iiif_advice::advice;
 use iiif_tiff_read::OpenFault;
+use std::alloc::Global;
 use std::io;
 use std::io::Write;
 
@@ -15,6 +17,8 @@ use std::io::Write;
 pub enum Unfit {
     /// Its file can't be opened.
     Closed,
+    /// What stands under its path is no plain file.
+    NotPlain,
     /// Its file isn't one that is read.
     Refused(OpenFault),
 }
@@ -25,7 +29,7 @@ impl Unfit {
         ensures { result ≡ unfit_number self.now }
     {
         match self {
-            Unfit::Closed => 0,
+            Unfit::Closed | Unfit::NotPlain => 0,
             Unfit::Refused(fault) => fault.number(),
         }
     }
@@ -39,12 +43,14 @@ impl Unfit {
             Unfit::Closed => {
                 "it can't be opened: look at the path and at the rights of the user that the server runs as"
             }
+            Unfit::NotPlain => "it is no plain file: a folder, a pipe or a device is none",
             Unfit::Refused(fault) => advice(fault),
         }
     }
 
-    /// Says of an image why it can't be served, and in a second line what to do.
-    pub(crate) fn told<W: Write>(&self, out: &mut W, name: &str) -> io::Result<()> {
+    /// Says of an image why it can't be served, and in a second line what to do. The name is escaped as in the log.
+    pub(crate) fn told<W: Write>(&self, alloc: Global, out: &mut W, name: &str) -> io::Result<()> {
+        let name = word_of(alloc, name)?;
         writeln!(out, "image {name}: {}", self.number())?;
         writeln!(out, "{}", self.remedy())
     }
