@@ -6,13 +6,14 @@ ghost use Rattle.iiif_outcome.specs.Outcomes.{is_given};
 
 use crate::cache_tests::sample;
 use iiif_keys::Fault;
-use iiif_outcome::{Flight, Lead, Receipt, learned_apart};
+use iiif_outcome::learned_apart;
 use iiif_sample_keys::{Lax, Sample};
 use iiif_singleflight::entered::Entered;
 use iiif_singleflight::home::Home;
 use iiif_singleflight::pass::Pass;
 use iiif_singleflight::table::Table;
 use iiif_singleflight::whole::Whole;
+use iiif_singleflight::{Flight, Lead, Receipt};
 use iiif_source::ReadFault;
 use iiif_tables::{Book, Class, Place};
 use std::alloc::Global;
@@ -40,7 +41,7 @@ fn made<L: Ledger>(alloc: Global, bytes: u32, blank: Blank) -> Option<Shared<L>>
 }
 
 /// What a flight ended with, by its receipt.
-fn told(receipt: &mut Receipt<Sample, Lax>) -> Told {
+fn told<L: Ledger>(receipt: &mut Receipt<Sample, Lax, L>) -> Told {
     match receipt.outcome() {
         Ok(value) => Ok(**value),
         Err(fault) => Err(*fault),
@@ -62,10 +63,10 @@ fn landing_of(alloc: Global, tells: Told) -> Result<Arc<u16>, Fault>
 }
 
 /// Learns what is landed.
-fn learned<R: Wait + Clock>(
+fn learned<L: Ledger, R: Wait + Clock>(
     rt: &R,
-    mut flight: Flight<Sample, Lax>,
-) -> Option<Receipt<Sample, Lax>> {
+    mut flight: Flight<Sample, Lax, L>,
+) -> Option<Receipt<Sample, Lax, L>> {
     for _ in 0..10_000u32 {
         match flight.learn() {
             Ok(receipt) => return Some(receipt),
@@ -87,9 +88,9 @@ fn landed<L: Ledger, R: Wait + Clock>(
     rt: &R,
     alloc: Global,
     home: &Mutex<Shared<L>>,
-    lead: Lead<Sample, Lax>,
+    lead: Lead<Sample, Lax, L>,
     tells: Told,
-) -> Receipt<Sample, Lax> {
+) -> Receipt<Sample, Lax, L> {
     for _ in 0..10_000u32 {
         if counted(rt, home).0.joins == 1 {
             break;
@@ -97,7 +98,11 @@ fn landed<L: Ledger, R: Wait + Clock>(
         thread::sleep(rt, Duration::from_millis(1));
     }
     let outcome = landing_of(alloc, tells);
-    home.lock(rt).table.land(lead, outcome, Place::Main).receipt
+    home.lock(rt)
+        .table
+        .land(lead, outcome, Place::Main)
+        .into_receipt()
+        .0
 }
 
 /// What a call of the wide class meets that enters with this pass.
@@ -106,7 +111,7 @@ fn entered<L: Ledger, R: Wait>(
     alloc: Global,
     home: &Mutex<Shared<L>>,
     pass: &mut Pass<L>,
-) -> Option<Entered<Sample, Lax>> {
+) -> Option<Entered<Sample, Lax, L>> {
     let key = sample(alloc, 7)?;
     home.lock(rt).table.enter(pass, &key, Class::Wide).ok()
 }
@@ -118,7 +123,7 @@ fn ask<L: Ledger, R: Wait + Clock>(
     home: &Mutex<Shared<L>>,
     mut pass: Pass<L>,
     tells: Told,
-) -> Option<(Receipt<Sample, Lax>, Pass<L>)> {
+) -> Option<(Receipt<Sample, Lax, L>, Pass<L>)> {
     let receipt = match entered(rt, alloc, home, &mut pass)? {
         Entered::Hit(receipt) => receipt,
         Entered::Joined(flight) => learned(rt, flight)?,
@@ -143,8 +148,8 @@ fn third<L: Ledger, R: Wait + Clock>(
     alloc: Global,
     home: &Mutex<Shared<L>>,
     pass: Pass<L>,
-    leads: &mut Receipt<Sample, Lax>,
-    joins: &mut Receipt<Sample, Lax>,
+    leads: &mut Receipt<Sample, Lax, L>,
+    joins: &mut Receipt<Sample, Lax, L>,
 ) -> Option<Met> {
     let before = counted(rt, home);
     let (mut third, _pass) = ask(rt, alloc, home, pass, Ok(42))?;
@@ -195,12 +200,19 @@ fn land_beside<L: Ledger>(
 }
 
 /// A leader looks again, and lands what it finds, or else a fault.
-fn look_and_land<L: Ledger>(alloc: Global, home: &mut Shared<L>, lead: Lead<Sample, Lax>) -> Look {
+fn look_and_land<L: Ledger>(
+    alloc: Global,
+    home: &mut Shared<L>,
+    lead: Lead<Sample, Lax, L>,
+) -> Look {
     let outcome = match home.table.again(&lead) {
         Ok(Some(value)) => Ok(value),
         _ => landing_of(alloc, Err(Fault::Source(FAULT))),
     };
-    let mut receipt = home.table.land(lead, outcome, Place::Nowhere).receipt;
+    let (mut receipt, _) = home
+        .table
+        .land(lead, outcome, Place::Nowhere)
+        .into_receipt();
     (told(&mut receipt), home.table.book())
 }
 
@@ -406,14 +418,18 @@ fn leader_that_looks_again_finds_values_alone_and_two_threads_share_one_load(rt:
 }
 
 /// The ticket of a receipt, and what it tells.
-fn ticket_of(receipt: &mut Receipt<Sample, Lax>) -> (u64, Told) {
-    (receipt.ticket(), told(receipt))
+fn ticket_of(receipt: &mut iiif_outcome::Receipt<Sample, Lax>) -> (u64, Told) {
+    let ticket = receipt.ticket();
+    match receipt.outcome() {
+        Ok(value) => (ticket, Ok(**value)),
+        Err(fault) => (ticket, Err(*fault)),
+    }
 }
 
-/// A flight with the ticket 5, which ended with that fault. None where this wasn't taken.
-fn ended(alloc: Global) -> Option<Flight<Sample, Lax>> {
+/// A flight of no table with the ticket 5, which ended with that fault. None where this wasn't taken.
+fn ended(alloc: Global) -> Option<iiif_outcome::Flight<Sample, Lax>> {
     let key = sample(alloc, 7)?;
-    let (lead, flight) = Lead::open(alloc, &key, Class::Wide, 5).ok()?;
+    let (lead, flight) = iiif_outcome::Lead::open(alloc, &key, Class::Wide, 5).ok()?;
     if !lead.set(landing_of(alloc, READ)).taken {
         return None;
     }

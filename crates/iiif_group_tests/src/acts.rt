@@ -41,6 +41,32 @@ where
     thread::join(rt, || two(rt, one, other), || third.act(rt))
 }
 
+/// The same by four threads.
+fn by_four<R, A>(rt: &R, one: &A) -> ((A::Came, A::Came), (A::Came, A::Came))
+where
+    R: Threads + Sync,
+    A: Act<R> + Sync,
+    A::Came: Send + Drop,
+{
+    thread::join(rt, || two(rt, one, one), || two(rt, one, one))
+}
+
+/// Four times the same, and another at once.
+pub(crate) fn five<R, A, B>(
+    rt: &R,
+    one: &A,
+    other: &B,
+) -> (((A::Came, A::Came), (A::Came, A::Came)), B::Came)
+where
+    R: Threads + Sync,
+    A: Act<R> + Sync,
+    B: Act<R> + Sync,
+    A::Came: Send + Drop,
+    B::Came: Send + Drop,
+{
+    thread::join(rt, || by_four(rt, one), || other.act(rt))
+}
+
 /// One beside a listener's service, which ends where it is stopped.
 pub(crate) fn served_beside<R, D, A>(
     rt: &R,

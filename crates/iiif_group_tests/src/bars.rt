@@ -1,19 +1,20 @@
 //! Bars, at which threads meet.
 
 use iiif_group::Gate;
-use std::sync::atomic::{AtomicBool, Ordering};
+use std::sync::atomic::{AtomicBool, AtomicU64, Ordering};
 use std::thread;
 use std::time::{Clock, Duration};
 
 /// How often a turn of 1 ms is waited before a test fails.
 pub(crate) const TURNS: u32 = 10_000;
 
-/// Holds the first to come until it is lifted, and no other.
+/// Holds the first to come until it is lifted, and no other. As a gate it counts what passes.
 #[derive(Drop)]
 pub(crate) struct Bar {
     came: AtomicBool,
     lifted: AtomicBool,
     left: AtomicBool,
+    passings: AtomicU64,
 }
 
 impl Bar {
@@ -22,7 +23,13 @@ impl Bar {
             came: AtomicBool::new(false),
             lifted: AtomicBool::new(lifted),
             left: AtomicBool::new(false),
+            passings: AtomicU64::new(0),
         }
+    }
+
+    /// How many loads came to it as a gate.
+    pub(crate) fn passings(&self) -> u64 {
+        self.passings.load(Ordering::SeqCst)
     }
 
     pub(crate) fn lift(&self) {
@@ -63,6 +70,7 @@ impl<R: Clock> Gate<R> for Bar {
     ghost passed = { λ _ _. ⊤ };
 
     fn pass(&self, rt: &R, _key_bytes: &[u8]) {
+        self.passings.fetch_add(1, Ordering::SeqCst);
         self.holds(rt);
     }
 }

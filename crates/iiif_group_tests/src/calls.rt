@@ -12,10 +12,9 @@ use crate::keys::{block_twice, tile};
 use crate::nodes::Node;
 use iiif_group::{Begun, Open, boxed};
 use iiif_keys::{Fault, SumKey, SumVal, System, TileKey, TileVal};
-use iiif_outcome::Receipt;
 use iiif_pixel::Span;
-use iiif_singleflight::Pass;
-use iiif_sum_group::{Passes, TileCalls};
+use iiif_singleflight::{Pass, Receipt};
+use iiif_sum_group::{Passes, SumCalls, TileCalls};
 use std::alloc::Global;
 use std::net::{Net, TcpStream};
 use std::sync::{Arc, Wait};
@@ -88,7 +87,7 @@ fn sums_of(value: &SumVal) -> Numbers {
 }
 
 /// What a receipt tells, or why there is none.
-fn told<J: System>(came: Result<Receipt<TileKey, J>, Fault>) -> Told {
+fn told<J: System>(came: Result<Receipt<TileKey, J, TileCalls<J>>, Fault>) -> Told {
     let mut receipt = match came {
         Ok(receipt) => receipt,
         Err(fault) => return (0, Err(fault)),
@@ -101,7 +100,7 @@ fn told<J: System>(came: Result<Receipt<TileKey, J>, Fault>) -> Told {
 }
 
 /// The same of sums.
-fn sums_told<J: System>(came: Result<Receipt<SumKey, J>, Fault>) -> Answer {
+fn sums_told<J: System>(came: Result<Receipt<SumKey, J, SumCalls<J>>, Fault>) -> Answer {
     match came?.outcome() {
         Ok(value) => Ok(sums_of(value)),
         Err(fault) => Err(*fault),
@@ -130,9 +129,9 @@ fn ended<R: Wait + Clock, J: System>(
     rt: &R,
     alloc: Global,
     node: &Node<'_, R, J>,
-    load: Open<TileKey, J>,
+    load: Open<TileKey, J, TileCalls<J>>,
     key: &TileKey,
-) -> Result<Receipt<TileKey, J>, Fault>
+) -> Result<Receipt<TileKey, J, TileCalls<J>>, Fault>
     requires { open_key load ≡ key.now }
 {
     let outcome = loaded(rt, alloc, node, key);
@@ -152,7 +151,7 @@ fn begun<R: Net<Stream = TcpStream> + Wait + Clock, J: System>(
     pass: &mut Pass<TileCalls<J>>,
     is_local: bool,
     key: &TileKey,
-) -> Result<Receipt<TileKey, J>, Fault> {
+) -> Result<Receipt<TileKey, J, TileCalls<J>>, Fault> {
     let tiles = node.tiles();
     if is_local {
         return match tiles.group().begin_local(rt, pass, key) {

@@ -40,7 +40,7 @@ fn is_seen<R>(rt: &R, alloc: Global, case: &Case) -> bool
 where
     R: Net<Listener = TcpListener, Stream = TcpStream> + Threads + Wait + Clock + Send + Sync,
 {
-    let gate = Bar::new(!matches!(case.scene, Scene::Meets(_)));
+    let gate = Bar::new(!matches!(case.scene, Scene::Meets(_) | Scene::Crowds(_)));
     let asks = Bar::new(!case.asks_meet);
     let setup = set_up(case, &gate, &asks);
     match played(rt, alloc, &setup, &case.scene) {

@@ -15,6 +15,7 @@ use iiif_pixel::{Depth, Dim, Kind};
 use std::alloc::Global;
 use std::io::{ErrorKind, Read, Write};
 use std::net::{Net, TcpListener, TcpStream};
+use std::sync::Wait;
 use std::test::Fail;
 use std::thread;
 use std::thread::Threads;
@@ -175,7 +176,7 @@ impl<'a, R: Clock, N: Link<TileKey, Deep, R>> Act<R> for Asker<'a, N> {
 /// What a link gives whose node answers in this way; and whether the node was well asked.
 fn answered<R>(rt: &R, alloc: Global, way: &Way) -> Option<(Came, bool)>
 where
-    R: Net<Listener = TcpListener, Stream = TcpStream> + Threads + Clock + Sync,
+    R: Net<Listener = TcpListener, Stream = TcpStream> + Threads + Wait + Clock + Sync,
 {
     let (listener, link) = linked(rt, alloc)?;
     let taker = Taker {
@@ -255,7 +256,7 @@ fn is_answered<R>(
     other: Result<bool, LinkFault>,
 ) -> bool
 where
-    R: Net<Listener = TcpListener, Stream = TcpStream> + Threads + Clock + Sync,
+    R: Net<Listener = TcpListener, Stream = TcpStream> + Threads + Wait + Clock + Sync,
 {
     match answered(rt, alloc, way) {
         Some(((value, true), true)) => value == wanted || value == other,

@@ -50,6 +50,7 @@ static MEETINGS: [Case; 5] = [
                 },
                 0,
             ),
+            done: ([1, 0, 0, 0], 1),
             ..QUIET
         },
     },
@@ -76,6 +77,7 @@ static MEETINGS: [Case; 5] = [
                 },
                 0,
             ),
+            done: ([1, 1, 0, 0], 2),
             ..QUIET
         },
     },
@@ -111,6 +113,7 @@ static MEETINGS: [Case; 5] = [
                 },
                 0,
             ),
+            done: ([0, 1, 0, 0], 1),
             ..QUIET
         },
     },
@@ -167,6 +170,7 @@ static MEETINGS: [Case; 5] = [
                 },
                 0,
             ),
+            done: ([2, 0, 0, 0], 2),
             ..QUIET
         },
     },
@@ -175,6 +179,60 @@ static MEETINGS: [Case; 5] = [
 #[test]
 fn calls_that_meet_share_one_load_and_no_other_waits(rt: HostRuntime) {
     let wrong = first_wrong(&rt, rt.alloc(), &MEETINGS);
+    assert!(rt; wrong.is_empty(), "{wrong}");
+}
+
+/// Four calls, of which three join the one that leads.
+const CROWD: Book = Book {
+    gets: 4,
+    joins: 3,
+    ..ONE
+};
+
+static CROWDS: [Case; 2] = [
+    Case {
+        what: "Three calls that join a load read nothing, and pass no gate.",
+        owner: Owner::Itself,
+        fuse: 99,
+        reads_meet: false,
+        asks_meet: false,
+        scene: Scene::Crowds(Meeting {
+            call: Call::Get,
+            columns: (1, 1),
+            joins: true,
+            mends: false,
+            answers: (Ok(SECOND), Ok(SECOND), Ok(SECOND)),
+        }),
+        seen: Seen {
+            books: (CROWD, NO_COUNTS),
+            done: ([0, 1, 0, 0], 1),
+            ..QUIET
+        },
+    },
+    Case {
+        what: "Three calls that join a load are told its fault, and the source is read once.",
+        owner: Owner::Itself,
+        fuse: 1,
+        reads_meet: false,
+        asks_meet: false,
+        scene: Scene::Crowds(Meeting {
+            call: Call::Get,
+            columns: (0, 0),
+            joins: true,
+            mends: false,
+            answers: (FUSED, FUSED, FUSED),
+        }),
+        seen: Seen {
+            books: (Book { faults: 1, ..CROWD }, NO_COUNTS),
+            done: ([1, 0, 0, 0], 1),
+            ..QUIET
+        },
+    },
+];
+
+#[test]
+fn calls_that_join_read_nothing_themselves(rt: HostRuntime) {
+    let wrong = first_wrong(&rt, rt.alloc(), &CROWDS);
     assert!(rt; wrong.is_empty(), "{wrong}");
 }
 
@@ -191,6 +249,7 @@ static AT_ONCE: [Case; 2] = [
         ]),
         seen: Seen {
             books: (TWO, NO_COUNTS),
+            done: ([1, 1, 0, 0], 2),
             ..QUIET
         },
     },
@@ -207,6 +266,7 @@ static AT_ONCE: [Case; 2] = [
         ]),
         seen: Seen {
             books: (TWO, TWO),
+            done: ([1, 1, 0, 0], 4),
             ..QUIET
         },
     },

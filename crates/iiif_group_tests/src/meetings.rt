@@ -1,12 +1,12 @@
 //! Calls of two threads that meet at a node.
 
-use crate::acts::{Act, three, two};
+use crate::acts::{Act, five, three, two};
 use crate::bars::{Bar, TURNS};
 use crate::calls::{Answer, Call, Step, Told, asked, called, source};
 use crate::crossings::Crossing;
 use crate::doorways::Doorway;
 use crate::nodes::{Node, books, passes};
-use crate::runs::{Steps, handed_in};
+use crate::runs::{Steps, done, handed_in};
 use crate::scenes::{ODD, QUIET, Seen};
 use iiif_keys::{Fault, System};
 use iiif_listener::stop;
@@ -65,7 +65,7 @@ impl<'a, 'b, R: Net<Stream = TcpStream> + Wait + Clock, J: System> Act<R> for Ca
     }
 }
 
-/// Who lifts the gate once the other call has joined. Where it is held for an answer it is left to the thread that is answered.
+/// Who lifts the gate once so many calls have joined. Where it is held for an answer it is left to the thread that is answered.
 #[derive(Drop)]
 struct Lifter<'a, 'b, R, J: System>
 where
@@ -76,20 +76,22 @@ where
     node: &'a Node<'b, R, J>,
     gate: &'a Bar,
     meeting: &'a Meeting,
+    joins: u64,
 }
 
 impl<'a, 'b, R: Wait + Clock, J: System> Act<R> for Lifter<'a, 'b, R, J> {
     type Came = bool;
 
-    /// False where the other call doesn't join.
+    /// False where they don't join, or another load comes to the gate.
     fn act(&self, rt: &R) -> bool {
         if !self.meeting.joins {
             return true;
         }
         for _ in 0..TURNS {
-            if self.node.tiles().group().book(rt).joins == 1 {
+            if self.node.tiles().group().book(rt).joins == self.joins {
+                let alone = self.gate.passings() < 2;
                 self.gate.lift();
-                return true;
+                return alone;
             }
             thread::sleep(rt, Duration::from_millis(1));
         }
@@ -129,6 +131,7 @@ where
         node,
         gate,
         meeting,
+        joins: 1,
     };
     let ((one, other), is_lifted) = three(rt, &one, &other, &lifter);
     if !is_lifted {
@@ -166,6 +169,57 @@ where
         are_same: (one.0 == two.0, third.0 == two.0),
         books,
         tiles,
+        done: done(node, gate),
+        ..QUIET
+    })
+}
+
+/// Gives passes of tiles back, and says what their calls came to. None where a pass was wanting.
+fn returned<R: Wait + Clock, J: System>(
+    rt: &R,
+    node: &Node<'_, R, J>,
+    came: (Came<J>, Came<J>),
+) -> Option<(Told, Told)> {
+    let (one, pass) = came.0?;
+    node.tiles().group().give_back(rt, pass);
+    let (two, other) = came.1?;
+    node.tiles().group().give_back(rt, other);
+    Some((one, two))
+}
+
+/// What is seen of four calls at once for one tile, of which one leads and is held at the gate until the three others have joined it.
+pub(crate) fn crowded<R, J>(
+    rt: &R,
+    alloc: Global,
+    node: &Node<'_, R, J>,
+    gate: &Bar,
+    meeting: &Meeting,
+) -> Result<Seen, Fault>
+where
+    R: Net<Listener = TcpListener, Stream = TcpStream> + Threads + Wait + Clock + Send + Sync,
+    J: System + Send + Sync,
+{
+    let caller = Caller {
+        alloc,
+        node,
+        gate,
+        meeting,
+        column: meeting.columns.0,
+    };
+    let lifter = Lifter {
+        node,
+        gate,
+        meeting,
+        joins: 3,
+    };
+    let ((first, last), is_lifted) = five(rt, &caller, &lifter);
+    let (one, two) = returned(rt, node, first).ok_or(ODD)?;
+    let (three, four) = returned(rt, node, last).ok_or(ODD)?;
+    let told = (one.0, meeting.answers.0);
+    Ok(Seen {
+        is_right: is_lifted && [one, two, three, four] == [told, told, told, told],
+        books: books(rt, node),
+        done: done(node, gate),
         ..QUIET
     })
 }
@@ -207,6 +261,7 @@ pub(crate) fn overlapped<R, J>(
     rt: &R,
     alloc: Global,
     node: &Node<'_, R, J>,
+    gate: &Bar,
     steps: Steps,
 ) -> Result<Seen, Fault>
 where
@@ -233,6 +288,7 @@ where
     Ok(Seen {
         is_right: answers == (*came, *others) && is_met,
         books: books(rt, node),
+        done: done(node, gate),
         ..QUIET
     })
 }

@@ -13,6 +13,7 @@ use iiif_pixel::{Dim, Kind, Raster, Samples};
 use std::alloc::Global;
 use std::marker::PhantomData;
 use std::net::{Net, TcpListener, TcpStream};
+use std::sync::Wait;
 use std::time::{Clock, Duration};
 
 /// How long an ask over TCP may take, in milliseconds. Where a node passed an ask on, its asker would wait for itself, so long.
@@ -111,7 +112,7 @@ fn given(alloc: Global, is_wide: bool) -> Result<TileVal, LinkFault> {
     Ok(TileVal { raster })
 }
 
-impl<'a, J: System, R: Net<Stream = TcpStream> + Clock> Link<TileKey, J, R> for Peer<'a, J> {
+impl<'a, J: System, R: Net<Stream = TcpStream> + Clock + Wait> Link<TileKey, J, R> for Peer<'a, J> {
     fn ask(&self, rt: &R, key: &TileKey, shape: &Shape) -> Result<TileVal, LinkFault> {
         match self.way {
             Way::Refuses(bar) => {
@@ -131,7 +132,7 @@ impl<'a, J: System, R: Net<Stream = TcpStream> + Clock> Link<TileKey, J, R> for 
     }
 }
 
-impl<'a, J: System, R: Net<Stream = TcpStream> + Clock> Link<SumKey, J, R> for Peer<'a, J> {
+impl<'a, J: System, R: Net<Stream = TcpStream> + Clock + Wait> Link<SumKey, J, R> for Peer<'a, J> {
     fn ask(&self, rt: &R, key: &SumKey, shape: &Shape) -> Result<SumVal, LinkFault> {
         match self.way {
             Way::Refuses(_) | Way::Gives { .. } => {

@@ -1,9 +1,9 @@
 //! Steps of one thread at a node: each public call, owners that are asked, sources that fail, and growths of memory that are refused.
 
 use crate::bars::Bar;
-use crate::calls::{Call, FIRST, HALVED, NONE, SECOND, Step, WHOLE};
+use crate::calls::{Call, FIRST, HALVED, LAST, NONE, SECOND, Step, WHOLE};
 use crate::cases::{Case, first_wrong};
-use crate::nodes::{FIVE, FOUR, NO_COUNTS, ONE, Owner, SEVEN, SIX, Setup, TWO, way_to};
+use crate::nodes::{FIVE, FOUR, NO_COUNTS, ONE, Owner, SEVEN, SIX, Setup, THREE, TWO, way_to};
 use crate::peers::GIVEN;
 use crate::runs::Stages;
 use crate::scenes::{QUIET, Scene, Seen, played};
@@ -18,7 +18,41 @@ const FUSED: Fault = Fault::Source(ReadFault {
     cause: ReadFault::FUSE,
 });
 
-static EACH_CALL: [Case; 3] = [
+static EACH_CALL: [Case; 4] = [
+    Case {
+        what: "Tiles that are kept aren't read again, however they are called for.",
+        owner: Owner::Itself,
+        fuse: 99,
+        reads_meet: false,
+        asks_meet: false,
+        scene: Scene::Runs(Stages {
+            first: &[
+                (Step::Tile(Call::Get, (0, 0)), Ok(FIRST)),
+                (Step::Tile(Call::Begin, (1, 0)), Ok(SECOND)),
+                (Step::Tile(Call::GetLocal, (1, 1)), Ok(LAST)),
+            ],
+            then: &[
+                (Step::Tile(Call::Begin, (0, 0)), Ok(FIRST)),
+                (Step::Tile(Call::GetLocal, (1, 0)), Ok(SECOND)),
+                (Step::Tile(Call::Get, (1, 1)), Ok(LAST)),
+                (Step::Tile(Call::Get, (0, 0)), Ok(FIRST)),
+            ],
+            hands_in: false,
+        }),
+        seen: Seen {
+            books: (THREE, NO_COUNTS),
+            tiles: (
+                Book {
+                    gets: 7,
+                    hits: 4,
+                    ..THREE
+                },
+                7,
+            ),
+            done: ([1, 1, 0, 1], 3),
+            ..QUIET
+        },
+    },
     Case {
         what: "Each part of sums is asked once, and then the sums are kept.",
         owner: Owner::Itself,
@@ -41,6 +75,7 @@ static EACH_CALL: [Case; 3] = [
                 },
                 6,
             ),
+            done: ([1, 1, 1, 1], 9),
             ..QUIET
         },
     },
@@ -60,6 +95,7 @@ static EACH_CALL: [Case; 3] = [
             books: (Book { faults: 1, ..ONE }, Book { faults: 2, ..TWO }),
             tiles: (Book { faults: 1, ..FIVE }, 5),
             sums: (Book { faults: 2, ..SEVEN }, 7),
+            done: ([2, 1, 1, 1], 12),
             ..QUIET
         },
     },
@@ -100,6 +136,7 @@ static EACH_CALL: [Case; 3] = [
                 },
                 9,
             ),
+            done: ([1, 2, 1, 1], 9),
             ..QUIET
         },
     },
@@ -127,6 +164,7 @@ static OWNERS: [Case; 5] = [
         seen: Seen {
             books: (ONE, NO_COUNTS),
             tiles: (ONE, 1),
+            done: ([1, 0, 0, 0], 1),
             ..QUIET
         },
     },
@@ -161,6 +199,7 @@ static OWNERS: [Case; 5] = [
         seen: Seen {
             books: (ONE, NO_COUNTS),
             tiles: (ONE, 1),
+            done: ([1, 0, 0, 0], 1),
             ..QUIET
         },
     },
@@ -178,6 +217,7 @@ static OWNERS: [Case; 5] = [
         seen: Seen {
             books: (TWO, NO_COUNTS),
             tiles: (TWO, 2),
+            done: ([1, 0, 0, 0], 1),
             ..QUIET
         },
     },
@@ -195,6 +235,7 @@ static OWNERS: [Case; 5] = [
         seen: Seen {
             books: (TWO, NO_COUNTS),
             tiles: (TWO, 2),
+            done: ([1, 0, 0, 0], 1),
             ..QUIET
         },
     },
@@ -237,14 +278,15 @@ const ANEW: Book = Book {
     ..SIX
 };
 
-/// Whether all is right; some of the sums were hit by the second call; no answer wanted memory, or the books are those of that; and the
-/// calls' pass had its share when both were handed in, where none had come home before.
-fn facts(seen: &Seen) -> [bool; 4] {
+/// Whether all is right; some of the sums were hit by the second call; no answer wanted memory, or the books are those of that; each
+/// tile was read once then; and the calls' pass had its share when both were handed in, where none had come home before.
+fn facts(seen: &Seen) -> [bool; 5] {
     let (tiles, sums) = (&seen.tiles.0, &seen.sums.0);
     [
         seen.is_right && is_settled(tiles) && is_settled(sums),
         seen.books.1.hits < sums.hits,
         seen.is_refused || *tiles == FOUR && (*sums == KEPT || *sums == ANEW),
+        seen.is_refused || seen.done.0 == [1, 1, 1, 1],
         seen.sums.1 == 0,
     ]
 }
@@ -261,6 +303,6 @@ fn sums_and_books_are_right_after_a_refused_growth(rt: HostRuntime) -> Result<()
         crossing: None,
     };
     let facts = facts(&played(&rt, rt.alloc(), &setup, &TWICE)?);
-    assert!(rt; facts == [true; 4], "{facts:?}");
+    assert!(rt; facts == [true; 5], "{facts:?}");
     Ok(())
 }

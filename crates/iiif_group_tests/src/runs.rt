@@ -1,8 +1,9 @@
 //! Steps of one thread at a node.
 
-use crate::calls::{Answer, Step, asked};
+use crate::bars::Bar;
+use crate::calls::{Answer, Step, asked, source};
 use crate::nodes::{Node, books, passes};
-use crate::scenes::{ODD, QUIET, Seen};
+use crate::scenes::{Done, ODD, QUIET, Seen};
 use iiif_group::Group;
 use iiif_keys::{CacheKey, Fault, System};
 use iiif_singleflight::Pass;
@@ -46,6 +47,22 @@ fn stepped<R: Net<Stream = TcpStream> + Wait + Clock, J: System>(
     (is_right, is_refused)
 }
 
+/// What was counted, and the share that was home, where all passes but these are. Then all is home: gathered again it is the same.
+fn gathered<K: CacheKey, J: System, L: Ledger, N, T, R: Wait>(
+    rt: &R,
+    alloc: Global,
+    group: &Group<K, J, L, N, T>,
+    passes: Vec<Pass<L>>,
+) -> Result<(Book, u64), Fault> {
+    let Ok(all) = group.gather(rt, passes) else {
+        return Err(ODD);
+    };
+    match group.gather(rt, Vec::new(alloc)) {
+        Ok(again) if again == (all.0, all.0.gets) => Ok(all),
+        _ => Err(ODD),
+    }
+}
+
 /// What was counted, and the share that came home: in vain with one pass kept back, and then with both handed in.
 pub(crate) fn handed_in<K: CacheKey, J: System, L: Ledger, N, T, R: Wait>(
     rt: &R,
@@ -63,10 +80,7 @@ pub(crate) fn handed_in<K: CacheKey, J: System, L: Ledger, N, T, R: Wait>(
     if back.push(two).is_err() {
         return Err(Fault::NoMemory);
     }
-    match group.gather(rt, back) {
-        Ok(all) => Ok(all),
-        Err(_) => Err(ODD),
-    }
+    gathered(rt, alloc, group, back)
 }
 
 /// What was counted, and the share that came home with a pass that is given back, where no other is out; or that is handed in beside
@@ -85,9 +99,14 @@ fn home<K: CacheKey, J: System, L: Ledger, N, T, R: Wait>(
         };
     }
     group.give_back(rt, pass);
-    match group.gather(rt, Vec::new(alloc)) {
-        Ok(all) => Ok(all),
-        Err(_) => Err(ODD),
+    gathered(rt, alloc, group, Vec::new(alloc))
+}
+
+/// What was read and passed so far.
+pub(crate) fn done<R: Clock, J: System>(node: &Node<'_, R, J>, gate: &Bar) -> Done {
+    match source(node) {
+        Some(source) => (source.reads(), gate.passings()),
+        None => QUIET.done,
     }
 }
 
@@ -96,6 +115,7 @@ pub(crate) fn ran<R: Net<Stream = TcpStream> + Wait + Clock, J: System>(
     rt: &R,
     alloc: Global,
     node: &Node<'_, R, J>,
+    gate: &Bar,
     stages: &Stages,
 ) -> Result<Seen, Fault> {
     let mut passes = passes(rt, node).ok_or(ODD)?;
@@ -113,6 +133,7 @@ pub(crate) fn ran<R: Net<Stream = TcpStream> + Wait + Clock, J: System>(
         books: between,
         tiles,
         sums,
+        done: done(node, gate),
         ..QUIET
     })
 }

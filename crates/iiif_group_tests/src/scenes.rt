@@ -6,8 +6,8 @@ ghost use Rattle.iiif_images.specs.Collection.{Item, item_named};
 ghost use Rattle.iiif_images.specs.Named.{gave_of, pictures_of};
 
 use crate::crossings::{crossed, serves};
-use crate::doorways::Doorway;
-use crate::meetings::{Meeting, met, overlapped};
+use crate::doorways::{Doorway, Reads};
+use crate::meetings::{Meeting, crowded, met, overlapped};
 use crate::nodes::{NO_COUNTS, Node, Setup, catalogue, shared};
 use crate::runs::{Stages, Steps, gives_out, ran};
 use iiif_images::{Catalogue, Images};
@@ -29,6 +29,8 @@ pub(crate) enum Scene {
     Runs(Stages),
     /// Two calls for tiles that meet, and a third.
     Meets(Meeting),
+    /// Four calls for one tile that meet.
+    Crowds(Meeting),
     /// Two steps at once, and what each comes to. Their reads of the source overlap.
     Overlaps(Steps),
     /// All asks of other nodes are replied to.
@@ -54,7 +56,12 @@ pub(crate) struct Seen {
     pub tiles: (Book, u64),
     /// The same of the sums.
     pub sums: (Book, u64),
+    /// What was read and passed in the end, which no book has counted.
+    pub done: Done,
 }
+
+/// What loads do: how often each tile of `a` was read, and how often the gate was passed.
+pub(crate) type Done = (Reads, u64);
 
 /// Says of a scene that no pass or thread came as it has to: no image is without a name there.
 pub(crate) const ODD: Fault = Fault::UnknownName;
@@ -67,6 +74,7 @@ pub(crate) const QUIET: Seen = Seen {
     books: (NO_COUNTS, NO_COUNTS),
     tiles: (NO_COUNTS, 0),
     sums: (NO_COUNTS, 0),
+    done: ([0, 0, 0, 0], 0),
 };
 
 /// What is seen of a scene at a node.
@@ -82,9 +90,10 @@ where
     J: System + Send + Sync,
 {
     match scene {
-        Scene::Runs(stages) => ran(rt, alloc, node, stages),
+        Scene::Runs(stages) => ran(rt, alloc, node, setup.gate, stages),
         Scene::Meets(meeting) => met(rt, alloc, node, setup.gate, meeting),
-        Scene::Overlaps(steps) => overlapped(rt, alloc, node, steps),
+        Scene::Crowds(meeting) => crowded(rt, alloc, node, setup.gate, meeting),
+        Scene::Overlaps(steps) => overlapped(rt, alloc, node, setup.gate, steps),
         Scene::Replies => serves(rt, alloc, node),
         Scene::GivesOut(count) => Ok(gives_out(rt, node, *count)),
         Scene::Crosses => crossed(rt, alloc, node, setup),

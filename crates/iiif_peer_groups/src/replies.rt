@@ -5,13 +5,14 @@ ghost use Rattle.std.specs.Arc.{arc_value};
 ghost use Rattle.iiif_keys.specs.Faults.{fault_number};
 ghost use Rattle.iiif_keys.specs.Shapes.{HasPicture};
 ghost use Rattle.iiif_outcome.specs.Outcomes.{is_given};
-ghost use Rattle.iiif_outcome.specs.Views.{receipt_known};
+ghost use Rattle.iiif_singleflight.specs.Views.{receipt_known};
 ghost use Rattle.iiif_peer_wire.specs.Messages.{value_limit};
 
 use iiif_keys::{CacheKey, Fault, Shape, System};
-use iiif_outcome::Receipt;
+use iiif_singleflight::Receipt;
 use iiif_sum_group::taken;
 use std::alloc::Global;
+use std::sync::ledger::Ledger;
 
 /// Status 0 and the value, or the number of a fault and none.
 pub(crate) fn reply_of(alloc: Global, outcome: Result<Vec<u8>, Fault>) -> (u8, Vec<u8>)
@@ -24,11 +25,11 @@ pub(crate) fn reply_of(alloc: Global, outcome: Result<Vec<u8>, Fault>) -> (u8, V
 }
 
 /// The bytes of the value that a flight of this key ended with, which are few enough to be sent.
-pub(crate) fn value_bytes<K: CacheKey, J: System>(
+pub(crate) fn value_bytes<K: CacheKey, J: System, L: Ledger>(
     alloc: Global,
     key: &K,
     shape: &Shape,
-    receipt: Receipt<K, J>,
+    receipt: Receipt<K, J, L>,
 ) -> Result<Vec<u8>, Fault>
     requires known { HasPicture J.pictures (K.name_of key.now) shape.now }
     requires fits { K.fits_in shape.now key.now }

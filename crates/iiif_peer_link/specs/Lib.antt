@@ -1,2 +1,4 @@
 pub mod Asking
+pub mod Ends
+pub mod Lengths
 pub mod Versions

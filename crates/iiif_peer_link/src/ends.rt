@@ -1,0 +1,20 @@
+//! How an ask ended, as the link takes it in.
+
+ghost use Rattle.std.specs.Prelude.{◌≡◌};
+ghost use Rattle.iiif_peer_link.specs.Ends.{ask_end};
+
+use iiif_breaker::Outcome;
+use iiif_group::LinkFault;
+use iiif_peer_wire::WireFault;
+
+/// What an ask says of the node, `late` where its time was over. A node that refuses is there. Want of memory here says nothing of it.
+pub fn outcome_of<V>(came: &Result<V, LinkFault>, late: bool) -> Option<Outcome>
+    ensures { result ≡ ask_end came.now late }
+{
+    match came {
+        Ok(_) | Err(LinkFault::Refused(_)) => Some(Outcome::Answered),
+        Err(LinkFault::Wire(WireFault::NoMemory)) => None,
+        Err(_) if late => Some(Outcome::TimedOut),
+        Err(_) => Some(Outcome::Failed),
+    }
+}
