@@ -14,7 +14,7 @@ use std::sync::Wait;
 pub fn passes_of<R: Opens + Wait, J: System, N, T>(
     rt: &R,
     alloc: Global,
-    node: &Node<R, Stored, J, N, T>,
+    node: &Node<R, Stored<R>, J, N, T>,
     workers: u32,
 ) -> Option<Vec<Passes<J>>>
     ensures count { IfSome result (λ ps. length ps.items ≡ workers) }
@@ -42,7 +42,7 @@ pub fn passes_of<R: Opens + Wait, J: System, N, T>(
 /// Gives passes back to the node that they are of.
 pub fn give_back<R: Opens + Wait, J: System, N, T>(
     rt: &R,
-    node: &Node<R, Stored, J, N, T>,
+    node: &Node<R, Stored<R>, J, N, T>,
     all: Vec<Passes<J>>,
 ) {
     for passes in all {

@@ -7,7 +7,6 @@ use iiif_listener::{Company, Pace, PacedWriter, close};
 use iiif_metrics::Tally;
 use iiif_open_files::Opens;
 use iiif_server::{Gate, Link, Node, SumCalls, TileCalls};
-use iiif_source::Source;
 use iiif_start::Stored;
 use std::alloc::Global;
 use std::net::TcpStream;
@@ -17,13 +16,12 @@ use std::time::{Clock, Duration};
 
 /// A node as other nodes have it.
 #[derive(Drop)]
-pub struct PeerCalls<'a, R, J: System, N, T>
+pub struct PeerCalls<'a, R: Opens + Wait, J: System, N, T>
 where
-    Stored: Source<R>,
     TileCalls<J>: Ledger,
     SumCalls<J>: Ledger,
 {
-    pub node: &'a Node<R, Stored, J, N, T>,
+    pub node: &'a Node<R, Stored<R>, J, N, T>,
     pub times: Times,
     /// Where the connections are counted.
     pub tally: &'a Tally,

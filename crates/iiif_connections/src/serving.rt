@@ -25,7 +25,7 @@ use std::time::Clock;
 pub fn serve<'x, R, J, N, T, E>(
     rt: &R,
     alloc: Global,
-    node: &'x Node<R, Stored, J, N, T>,
+    node: &'x Node<R, Stored<R>, J, N, T>,
     workers: u32,
     times: Times,
     watcher: &'x Watcher,
@@ -34,6 +34,7 @@ pub fn serve<'x, R, J, N, T, E>(
 ) -> io::Result<()>
 where
     R: Opens + Net<Listener = TcpListener, Stream = TcpStream> + Threads + Wait + Clock + Sync,
+    R::Handle: Send + Sync,
     J: System + Send + Sync,
     N: Link<TileKey, J, R> + Link<SumKey, J, R> + Sync,
     T: Gate<R> + Sync,
@@ -54,7 +55,12 @@ where
         tally,
         company: &company,
     };
-    let statistics = Statistics { node, times, tally };
+    let statistics = Statistics {
+        node,
+        times,
+        tally,
+        held: watcher.held,
+    };
     let serve_viewer = |stream: TcpStream| viewers.serve(rt, alloc, stream);
     let serve_peer = |stream: TcpStream| peers.serve(rt, alloc, stream);
     let serve_reader = |stream: TcpStream| statistics.serve(rt, alloc, stream);
@@ -70,31 +76,29 @@ where
 }
 
 /// Serves at these addresses by a node, within the usual limits of time, with so many workers for each viewer's connection, and writes a
-/// line for each answer to a viewer where it logs. It ends where a listener does: an address is none, or the listener was stopped. Where
-/// memory is wanting before it listens, the error is `Stop::Memory`, else `Stop::Listen`.
+/// line for each answer to a viewer where the watcher has a log. It ends where a listener does: an address is none, or the listener was
+/// stopped.
 pub fn listen<'a, R, J, N, T, E>(
     rt: &R,
     alloc: Global,
-    node: &Node<R, Stored, J, N, T>,
+    node: &Node<R, Stored<R>, J, N, T>,
     workers: u32,
     addresses: &Addresses<'_>,
-    logs: bool,
+    watcher: &Watcher,
     err: &mut E,
 ) -> Result<(), Stop<'a>>
 where
     R: Opens + Net<Listener = TcpListener, Stream = TcpStream> + Threads + Wait + Clock + Sync,
+    R::Handle: Send + Sync,
     J: System + Send + Sync,
     N: Link<TileKey, J, R> + Link<SumKey, J, R> + Sync,
     T: Gate<R> + Sync,
     E: Outlet + Send,
 {
-    let Ok(watcher) = Watcher::new(alloc, logs) else {
-        return Err(Stop::Memory);
-    };
     let Ok(listeners) = Listeners::bind(rt, addresses) else {
         return Err(Stop::Listen);
     };
-    match serve(rt, alloc, node, workers, USUAL, &watcher, &listeners, err) {
+    match serve(rt, alloc, node, workers, USUAL, watcher, &listeners, err) {
         Ok(()) => Ok(()),
         Err(_) => Err(Stop::Listen),
     }

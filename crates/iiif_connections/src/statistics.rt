@@ -6,11 +6,10 @@ use crate::connections::ends;
 use crate::times::Times;
 use iiif_keys::System;
 use iiif_listener::{Company, Pace, PacedWriter, close};
-use iiif_metrics::{CacheMetrics, Measure, Metrics, Tally, serve_metrics};
+use iiif_metrics::{CacheMetrics, HeldMetrics, Measure, Metrics, Tally, serve_metrics};
 use iiif_open_files::Opens;
 use iiif_server::{Kept, Node, SumCalls, TileCalls};
-use iiif_source::Source;
-use iiif_start::Stored;
+use iiif_start::{Held, Stored};
 use iiif_tables::Book;
 use std::alloc::Global;
 use std::net::TcpStream;
@@ -20,15 +19,16 @@ use std::time::{Clock, Duration};
 
 /// A node, and what is counted of its connections and answers, as who asks for the statistics has them.
 #[derive(Drop)]
-pub struct Statistics<'a, R, J: System, N, T>
+pub struct Statistics<'a, R: Opens + Wait, J: System, N, T>
 where
-    Stored: Source<R>,
     TileCalls<J>: Ledger,
     SumCalls<J>: Ledger,
 {
-    pub node: &'a Node<R, Stored, J, N, T>,
+    pub node: &'a Node<R, Stored<R>, J, N, T>,
     pub times: Times,
     pub tally: &'a Tally,
+    /// What is held in memory of the images' files.
+    pub held: Held,
 }
 
 /// What a group counted, and how much it keeps.
@@ -44,6 +44,17 @@ fn cache_metrics(book: Book, kept: Kept) -> CacheMetrics
     }
 }
 
+/// What is held in memory of the images' files.
+fn held_metrics(held: Held) -> HeldMetrics
+    ensures bytes { result.bytes ≡ held.bytes }
+    ensures images { result.images ≡ held.images }
+{
+    HeldMetrics {
+        bytes: held.bytes,
+        images: held.images,
+    }
+}
+
 impl<'a, R: Opens + Wait, J: System, N, T> Measure<R> for Statistics<'a, R, J, N, T> {
     fn measure(&self, rt: &R) -> Metrics {
         let tiles = self.node.groups().tiles().group();
@@ -51,6 +62,7 @@ impl<'a, R: Opens + Wait, J: System, N, T> Measure<R> for Statistics<'a, R, J, N
         Metrics {
             tiles: cache_metrics(tiles.book(rt), tiles.kept(rt)),
             sums: cache_metrics(sums.book(rt), sums.kept(rt)),
+            held: held_metrics(self.held),
             counts: self.tally.counts(rt),
         }
     }

@@ -8,24 +8,27 @@ use iiif_log::{Answered, Log, Moment, Outcome};
 use iiif_metrics::Tally;
 use iiif_pixel::NoMemory;
 use iiif_server::{Cut, Sent, Watch};
+use iiif_start::Held;
 use std::alloc::Global;
 use std::sync::Wait;
 use std::time::{Clock, Instant};
 
-/// What is counted of connections and answers, and the log of the answers, where one is wanted.
+/// What is counted of connections and answers, what is held of the images, and the log of the answers, where one is wanted.
 #[derive(Drop)]
 pub struct Watcher {
     pub log: Option<Log>,
     pub tally: Tally,
+    pub held: Held,
 }
 
 impl Watcher {
     /// Nothing was counted yet. The only error is want of memory.
-    pub fn new(alloc: Global, logs: bool) -> Result<Watcher, NoMemory> {
+    pub fn new(alloc: Global, logs: bool, held: Held) -> Result<Watcher, NoMemory> {
         let log = if logs { Some(Log::new(alloc)?) } else { None };
         Ok(Watcher {
             log,
             tally: Tally::new(),
+            held,
         })
     }
 }

@@ -60,16 +60,27 @@ fn long_list(rt: &HostRuntime) -> Result<String, Fail> {
     Ok(list)
 }
 
+/// How many files of the list stay open, and of how many bytes one is held in memory: a few, one alone, one byte less than a file has, and
+/// as many as it has, so that all are held.
+static ROOMS: [(usize, u64); 4] = [(4, 0), (1, 0), (1, 189), (1, 190)];
+
 #[test]
-fn images_of_a_long_list_under_four_open_files(rt: HostRuntime) -> Result<(), Fail> {
+fn images_of_a_long_list_in_little_room(rt: HostRuntime) -> Result<(), Fail> {
     let list = long_list(&rt)?;
     let mut images = ImageList::new(rt.alloc());
     assert!(rt; images.add_text(list.as_bytes()).is_ok());
     let images = images.into_pairs(rt.alloc())?;
-    let scene = Scene {
-        images: &images,
-        ..SAMPLE
-    };
-    assert!(rt; served(&rt, &rt, &scene, Visit::ForAll).is_some());
+    for (open_files, hold) in ROOMS.iter() {
+        let scene = Scene {
+            images: &images,
+            open_files: *open_files,
+            hold: *hold,
+            ..SAMPLE
+        };
+        assert!(rt;
+            served(&rt, &rt, &scene, Visit::ForAll).is_some(),
+            "{open_files}, {hold}"
+        );
+    }
     Ok(())
 }

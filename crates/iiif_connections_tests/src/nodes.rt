@@ -2,7 +2,7 @@
 
 ghost use Rattle.std.specs.Prelude.{◌≡◌, ℕ, List, Some, false};
 ghost use Rattle.iiif_source.specs.declared.ReadFault.{ReadFault};
-ghost use Rattle.iiif_images.specs.Collection.{Item, item_named};
+ghost use Rattle.iiif_images.specs.Collection.{item_named};
 ghost use Rattle.iiif_images.specs.Named.{gave_of, pictures_of};
 ghost use Rattle.iiif_start.specs.Stored.{bytes_of, keeps_of, stored_gave};
 
@@ -27,12 +27,14 @@ use std::time::Clock;
 /// The base URL of each node.
 const BASE: &str = "http://localhost/iiif";
 
-/// What a server is made of: each image's name and file, of which four stay open, the side of its tiles, the address of the node that
-/// owns each key, where there is one, and its limits of time; where its statistics are asked for, and whether it logs. Its own name is
-/// `self`.
+/// What a server is made of: each image's name and file, how many of these stay open, and of how many bytes one is held in memory; the side
+/// of its tiles, the address of the node that owns each key, where there is one, and its limits of time; where its statistics are asked
+/// for, and whether it logs. Its own name is `self`.
 #[derive(Clone, Copy)]
 pub(crate) struct Scene<'i, 'o> {
     pub images: &'i [(&'i str, &'i str)],
+    pub open_files: usize,
+    pub hold: u64,
     pub edge: u32,
     pub owner: Option<&'o str>,
     pub times: Times,
@@ -43,6 +45,8 @@ pub(crate) struct Scene<'i, 'o> {
 /// The sample under the name `a`, and no other node.
 pub(crate) const SAMPLE: Scene<'static, 'static> = Scene {
     images: &[("a", ":sample")],
+    open_files: 4,
+    hold: 0,
     edge: 2,
     owner: None,
     times: Times {
@@ -94,7 +98,7 @@ pub(crate) struct Stage<'a> {
 /// What a node, and who is told of its answers, counted so far.
 fn counted<R: Opens + Wait, J: System, N>(
     rt: &R,
-    node: &Node<R, Stored, J, N>,
+    node: &Node<R, Stored<R>, J, N>,
     watcher: &Watcher,
 ) -> Counts {
     let tiles = node.groups().tiles().group().book(rt);
@@ -113,7 +117,7 @@ fn counted<R: Opens + Wait, J: System, N>(
 fn are_home<R: Opens + Wait, J: System, N>(
     rt: &R,
     alloc: Global,
-    node: &Node<R, Stored, J, N>,
+    node: &Node<R, Stored<R>, J, N>,
 ) -> bool {
     let groups = node.groups();
     groups.tiles().group().gather(rt, Vec::new(alloc)).is_ok()
@@ -125,12 +129,13 @@ fn are_home<R: Opens + Wait, J: System, N>(
 fn serve_by<R, J, N>(
     rt: &R,
     alloc: Global,
-    node: &Node<R, Stored, J, N>,
+    node: &Node<R, Stored<R>, J, N>,
     times: Times,
     stage: Stage<'_>,
 ) -> Option<Counts>
 where
     R: Opens + Net<Listener = TcpListener, Stream = TcpStream> + Threads + Wait + Clock + Sync,
+    R::Handle: Send + Sync,
     J: System + Send + Sync,
     N: Link<TileKey, J, R> + Link<SumKey, J, R> + Sync,
 {
@@ -158,7 +163,7 @@ fn serve_alone<R, J>(
     rt: &R,
     alloc: Global,
     config: Config,
-    catalogue: Catalogue<R, Stored>,
+    catalogue: Catalogue<R, Stored<R>>,
     tiles: Blank,
     sums: Blank,
     times: Times,
@@ -166,16 +171,17 @@ fn serve_alone<R, J>(
 ) -> Option<Counts>
 where
     R: Opens + Net<Listener = TcpListener, Stream = TcpStream> + Threads + Wait + Clock + Sync,
+    R::Handle: Send + Sync,
     J: System + Send + Sync,
-    requires pictures { (name : List ℕ) → J.pictures name ≡ pictures_of bytes_of catalogue name }
+    requires pictures { (name : List ℕ) → J.pictures name ≡ pictures_of (bytes_of R.holds) catalogue name }
     requires gave { (name : List ℕ) (f : ReadFault) → J.gave name f ≡ gave_of stored_gave catalogue name f }
-    requires stable { (name : List ℕ) (item : Item Stored) → item_named catalogue name ≡ Some item → J.stable name → ∥ keeps_of item.source ∥₁ }
-    requires kept { (name : List ℕ) (item : Item Stored) → item_named catalogue name ≡ Some item → keeps_of item.source → J.stable name }
+    requires stable { (name : List ℕ) (item : _) → item_named catalogue name ≡ Some item → J.stable name → ∥ keeps_of R.keeps item.source ∥₁ }
+    requires kept { (name : List ℕ) (item : _) → item_named catalogue name ≡ Some item → keeps_of R.keeps item.source → J.stable name }
     requires edge { config.edge ≡ J.edge }
     requires tiles { (tiles.name ≡ J.tiles_name) × (tiles.parts ≡ J.tiles_parts) × (J.tiles_parts ≡ 65537) }
     requires sums { (sums.name ≡ J.sums_name) × (sums.parts ≡ J.sums_parts) × (J.sums_parts ≡ 65537) }
 {
-    let node = Node::<R, Stored, J>::alone(alloc, config, catalogue, ROOM, tiles, sums).ok()?;
+    let node = Node::<R, Stored<R>, J>::alone(alloc, config, catalogue, ROOM, tiles, sums).ok()?;
     serve_by(rt, alloc, &node, times, stage)
 }
 
@@ -184,7 +190,7 @@ fn serve_among<R, J>(
     rt: &R,
     alloc: Global,
     config: Config,
-    catalogue: Catalogue<R, Stored>,
+    catalogue: Catalogue<R, Stored<R>>,
     nodes: &Nodes<'_>,
     tiles: Blank,
     sums: Blank,
@@ -193,11 +199,12 @@ fn serve_among<R, J>(
 ) -> Option<Counts>
 where
     R: Opens + Net<Listener = TcpListener, Stream = TcpStream> + Threads + Wait + Clock + Sync,
+    R::Handle: Send + Sync,
     J: System + Send + Sync,
-    requires pictures { (name : List ℕ) → J.pictures name ≡ pictures_of bytes_of catalogue name }
+    requires pictures { (name : List ℕ) → J.pictures name ≡ pictures_of (bytes_of R.holds) catalogue name }
     requires gave { (name : List ℕ) (f : ReadFault) → J.gave name f ≡ gave_of stored_gave catalogue name f }
-    requires stable { (name : List ℕ) (item : Item Stored) → item_named catalogue name ≡ Some item → J.stable name → ∥ keeps_of item.source ∥₁ }
-    requires kept { (name : List ℕ) (item : Item Stored) → item_named catalogue name ≡ Some item → keeps_of item.source → J.stable name }
+    requires stable { (name : List ℕ) (item : _) → item_named catalogue name ≡ Some item → J.stable name → ∥ keeps_of R.keeps item.source ∥₁ }
+    requires kept { (name : List ℕ) (item : _) → item_named catalogue name ≡ Some item → keeps_of R.keeps item.source → J.stable name }
     requires edge { config.edge ≡ J.edge }
     requires honest { J.honest ≡ false }
     requires tiles { (tiles.name ≡ J.tiles_name) × (tiles.parts ≡ J.tiles_parts) × (J.tiles_parts ≡ 65537) }
@@ -217,6 +224,7 @@ where
         + Clock
         + Sync
         + AllocGlobal,
+    R::Handle: Send + Sync,
 {
     let alloc = rt.alloc();
     let limits = Limits {
@@ -226,7 +234,8 @@ where
     };
     let times = scene.times;
     let config = Config::new(alloc, BASE, scene.edge, limits, 64, 2).ok()?;
-    let catalogue = catalogue(rt, alloc, scene.images, NonZeroUsize::new(4)?).ok()?;
+    let open_files = NonZeroUsize::new(scene.open_files)?;
+    let catalogue = catalogue(rt, alloc, scene.images, open_files, scene.hold).ok()?;
     let (tiles, sums) = (Blank::new(65_537), Blank::new(65_537));
     let Some(owner) = scene.owner else {
         return serve_alone::<R, Brand>(rt, alloc, config, catalogue, tiles, sums, times, stage);

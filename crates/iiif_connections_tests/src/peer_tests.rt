@@ -5,7 +5,7 @@ use crate::nodes::{Counts, SAMPLE, Scene, Stage, are_known, serve_told};
 use crate::peers::{Asked, CHANGED, HALVED, LIMIT, OTHER, RIGHT, WIDE, Way};
 use crate::pipe::new_pipe;
 use crate::viewers::{Sends, Text, address_of};
-use crate::visits::{ANY, Visit, listeners_of, served, visited};
+use crate::visits::{ANY, HELD, Visit, listeners_of, served, visited};
 use iiif_connections::times::USUAL;
 use iiif_connections::{Times, Watcher};
 use iiif_listener::stop;
@@ -34,6 +34,7 @@ where
         + Clock
         + Sync
         + AllocGlobal,
+    R::Handle: Send + Sync,
 {
     let (first, second) = scenes;
     let (at_first, at_second) = stages;
@@ -69,9 +70,10 @@ where
         + Clock
         + Sync
         + AllocGlobal,
+    R::Handle: Send + Sync,
 {
     let pipe = new_pipe(rt.alloc(), true);
-    let watcher = Watcher::new(rt.alloc(), false).ok()?;
+    let watcher = Watcher::new(rt.alloc(), false, HELD).ok()?;
     let first = Scene {
         owner: Some(addresses.1),
         ..SAMPLE
@@ -105,6 +107,7 @@ where
         + Clock
         + Sync
         + AllocGlobal,
+    R::Handle: Send + Sync,
 {
     let first = listeners_of(host, None)?;
     let second = listeners_of(host, None)?;
@@ -193,6 +196,7 @@ where
         + Clock
         + Sync
         + AllocGlobal,
+    R::Handle: Send + Sync,
 {
     let owner = TcpListener::bind(host, ANY).ok()?;
     let address = address_of(rt.alloc(), &owner)?;
@@ -230,6 +234,7 @@ where
         + Clock
         + Sync
         + AllocGlobal,
+    R::Handle: Send + Sync,
 {
     let gone = TcpListener::bind(host, ANY).ok()?;
     stop(&gone);

@@ -48,7 +48,7 @@ fn told(rt: &HostRuntime, listeners: &Listeners, lines: &[&str]) -> Option<Vec<u
 }
 
 /// What is told once that was answered. The image has four tiles, each of which is loaded once and then found.
-static LINES: [&str; 17] = [
+static LINES: [&str; 19] = [
     "\niiif_tile_cache_gets_total 8\n",
     "\niiif_tile_cache_hits_total 4\n",
     "\niiif_tile_cache_joins_total 0\n",
@@ -61,6 +61,8 @@ static LINES: [&str; 17] = [
     "\niiif_sum_cache_gets_total 0\n",
     "\niiif_sum_cache_bytes 0\n",
     "\niiif_sum_cache_entries 0\n",
+    "\niiif_held_bytes 456\n",
+    "\niiif_held_images 3\n",
     "\niiif_connections_refused_total 0\n",
     "\niiif_answers_total{status=\"200\"} 2\n",
     "\niiif_answers_total{status=\"303\"} 0\n",

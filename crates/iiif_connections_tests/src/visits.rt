@@ -12,11 +12,18 @@ use iiif_connections::Watcher;
 use iiif_listener::stop;
 use iiif_open_files::Opens;
 use iiif_services::{Addresses, Listeners};
+use iiif_start::Held;
 use std::net::{Net, TcpListener, TcpStream};
 use std::sync::Wait;
 use std::thread;
 use std::thread::Threads;
 use std::time::Clock;
+
+/// What is told to be held.
+pub(crate) const HELD: Held = Held {
+    images: 3,
+    bytes: 456,
+};
 
 /// One of a node's listeners.
 #[derive(Clone, Copy)]
@@ -130,6 +137,7 @@ where
         + Clock
         + Sync
         + AllocGlobal,
+    R::Handle: Send + Sync,
 {
     thread::join(
         rt,
@@ -154,8 +162,9 @@ where
         + Clock
         + Sync
         + AllocGlobal,
+    R::Handle: Send + Sync,
 {
-    let watcher = Watcher::new(rt.alloc(), scene.logs).ok()?;
+    let watcher = Watcher::new(rt.alloc(), scene.logs, HELD).ok()?;
     let listeners = listeners_of(host, scene.statistics)?;
     let stage = Stage {
         watcher: &watcher,
@@ -183,6 +192,7 @@ where
         + Clock
         + Sync
         + AllocGlobal,
+    R::Handle: Send + Sync,
 {
     let pipe = new_pipe(rt.alloc(), true);
     let counts = logged(rt, host, scene, visit, &pipe);

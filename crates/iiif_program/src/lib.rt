@@ -5,6 +5,7 @@
 
 pub use iiif_start::stop;
 
+pub mod alone;
 mod hex;
 mod one;
 pub mod program;

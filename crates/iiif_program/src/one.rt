@@ -25,13 +25,14 @@ fn stop_by<'a>(cause: Cause) -> Stop<'a> {
 pub(crate) fn answer_one<'a, R, O, J, N, T>(
     rt: &R,
     alloc: Global,
-    node: &Node<R, Stored, J, N, T>,
+    node: &Node<R, Stored<R>, J, N, T>,
     workers: u32,
     target: &str,
     out: &mut O,
 ) -> Result<(), Stop<'a>>
 where
     R: Opens + Threads + Wait + Clock + Sync,
+    R::Handle: Send + Sync,
     O: Outlet,
     J: System + Send + Sync,
     N: Link<TileKey, J, R> + Link<SumKey, J, R> + Sync,
@@ -52,25 +53,36 @@ where
 pub(crate) fn answer_in_hex<'a, R, O, J, N, T>(
     rt: &R,
     alloc: Global,
-    node: &Node<R, Stored, J, N, T>,
+    node: &Node<R, Stored<R>, J, N, T>,
     workers: u32,
     target: &str,
     out: &mut O,
 ) -> Result<(), Stop<'a>>
 where
     R: Opens + Threads + Wait + Clock + Sync,
+    R::Handle: Send + Sync,
     O: Outlet,
     J: System + Send + Sync,
     N: Link<TileKey, J, R> + Link<SumKey, J, R> + Sync,
     T: Gate<R> + Sync,
 {
     let mut body = Vec::new(alloc);
-    match answer_one(rt, alloc, node, workers, target, &mut body) {
+    let answered = answer_one(rt, alloc, node, workers, target, &mut body);
+    written_in_hex(answered, &body, out)
+}
+
+/// Writes a body as hexadecimal digits, where its answer wasn't cut off. In memory the writer fails for want of it alone.
+pub(crate) fn written_in_hex<'a, O: Outlet>(
+    answered: Result<(), Stop<'a>>,
+    body: &[u8],
+    out: &mut O,
+) -> Result<(), Stop<'a>> {
+    match answered {
         Ok(()) => {}
         Err(Stop::Write) => return Err(Stop::Memory),
         Err(stop) => return Err(stop),
     }
-    match write_hex(out, &body) {
+    match write_hex(out, body) {
         Ok(()) => Ok(()),
         Err(_) => Err(Stop::Write),
     }

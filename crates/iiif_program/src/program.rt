@@ -1,27 +1,28 @@
 //! The program's work: what its words ask for, done.
 
-ghost use Rattle.std.specs.Prelude.{◌≡◌, ◌≤◌, ℕ, List, Some, None, false, true};
+ghost use Rattle.std.specs.Prelude.{◌≡◌, ◌<◌, ◌≤◌, ◌^◌, ℕ, List, Some, None, false, true};
 ghost use Rattle.iiif_source.specs.declared.ReadFault.{ReadFault};
-ghost use Rattle.iiif_images.specs.Collection.{Item, item_named};
+ghost use Rattle.iiif_images.specs.Collection.{item_named};
 ghost use Rattle.iiif_images.specs.Named.{gave_of, pictures_of};
 ghost use Rattle.iiif_start.specs.Stored.{bytes_of, keeps_of, stored_gave};
 ghost use Rattle.iiif_answers.specs.Settings.{refusal_of};
 ghost use Rattle.iiif_program.specs.Lines.{settings_in};
 
-use crate::one::{answer_in_hex, answer_one};
+use crate::alone::{Alone, answer_alone};
+use crate::one::{answer_in_hex, answer_one, written_in_hex};
 use crate::settings::{config, options_of};
 use clap::ArgMatches;
 use clap::error::ErrorKind;
 use iiif_command_line::{Mode, Options, matches};
 use iiif_connections::serving::listen;
 use iiif_connections::times::USUAL;
-use iiif_connections::{Catalogue, Config, Gate, Link, Node, Nodes, among};
+use iiif_connections::{Catalogue, Config, Gate, Link, Node, Nodes, Watcher, among};
 use iiif_io::Outlet;
 use iiif_keys::{SumKey, System, TileKey};
-use iiif_open_files::Opens;
+use iiif_open_files::{Opens, Texts};
 use iiif_services::Addresses;
 use iiif_start::check::check;
-use iiif_start::{Stop, Stored, catalogue, ended, list_of, refused, touch};
+use iiif_start::{Held, Stop, Stored, catalogue, ended, list_of, refused, touch};
 use std::alloc::Global;
 use std::convert::AsStr;
 use std::marker::Brand;
@@ -48,12 +49,14 @@ const SAMPLE_WORDS: [&str; 8] = [
 pub fn program<R, S, O, E>(rt: &R, words: &[S], out: &mut O, err: &mut E) -> u8
 where
     R: Opens
+        + Texts
         + Net<Listener = TcpListener, Stream = TcpStream>
         + Threads
         + Wait
         + Clock
         + Sync
         + AllocGlobal,
+    R::Handle: Send + Sync,
     S: AsStr,
     O: Outlet,
     E: Outlet + Send,
@@ -92,12 +95,14 @@ fn with_matches<R, O, E>(
 ) -> u8
 where
     R: Opens
+        + Texts
         + Net<Listener = TcpListener, Stream = TcpStream>
         + Threads
         + Wait
         + Clock
         + Sync
         + AllocGlobal,
+    R::Handle: Send + Sync,
     O: Outlet,
     E: Outlet + Send,
     ensures { result ≤ 2 }
@@ -113,7 +118,7 @@ where
     };
     match answer(rt, alloc, &options, out, err) {
         Ok(()) => 0,
-        Err(stop) => stop.told(err),
+        Err(stop) => stop.told(alloc, err),
     }
 }
 
@@ -133,6 +138,7 @@ where
         + Clock
         + Sync
         + AllocGlobal,
+    R::Handle: Send + Sync,
     O: Outlet,
     E: Outlet + Send,
     requires { refusal_of (settings_in options.now) ≡ None }
@@ -142,22 +148,54 @@ where
         return check(rt, alloc, options, out);
     }
     let config = config(alloc, options)?;
-    let catalogue = catalogue(rt, alloc, &options.images, options.open_files)?;
+    let (images, hold) = (&options.images, options.hold);
+    let catalogue = catalogue(rt, alloc, images, options.open_files, hold)?;
     let (tiles, sums) = (Blank::new(65_537), Blank::new(65_537));
     if options.peers.is_empty() {
-        answer_alone::<R, O, E, Brand>(rt, alloc, options, config, catalogue, tiles, sums, out, err)
+        if let Mode::One { target, hex } = options.mode {
+            let alone = Alone {
+                config,
+                catalogue,
+                cache_bytes: options.cache_bytes,
+            };
+            return one_alone(rt, alloc, alone, target, hex, out);
+        }
+        serve_alone::<R, O, E, Brand>(rt, alloc, options, config, catalogue, tiles, sums, out, err)
     } else {
         answer_among::<R, O, E, Brand>(rt, alloc, options, config, catalogue, tiles, sums, out, err)
     }
 }
 
+/// Writes the body of the answer to a target by a node that asks no other, perhaps as hexadecimal digits.
+fn one_alone<'a, R, O>(
+    rt: &R,
+    alloc: Global,
+    alone: Alone<R>,
+    target: &str,
+    hex: bool,
+    out: &mut O,
+) -> Result<(), Stop<'a>>
+where
+    R: Opens + Threads + Wait + Clock + Sync,
+    R::Handle: Send + Sync,
+    O: Outlet,
+    requires bytes { alone.cache_bytes < 2 ^ 63 }
+{
+    if !hex {
+        return answer_alone(rt, alloc, alone, target, out);
+    }
+    let mut body = Vec::new(alloc);
+    let answered = answer_alone(rt, alloc, alone, target, &mut body);
+    written_in_hex(answered, &body, out)
+}
+
 /// Answers by a node of these settings and images that asks no other.
-fn answer_alone<'a, R, O, E, J: System + Send + Sync>(
+fn serve_alone<'a, R, O, E, J: System + Send + Sync>(
     rt: &R,
     alloc: Global,
     options: &Options<'a>,
     config: Config,
-    catalogue: Catalogue<R, Stored>,
+    catalogue: Catalogue<R, Stored<R>>,
     tiles: Blank,
     sums: Blank,
     out: &mut O,
@@ -171,19 +209,21 @@ where
         + Clock
         + Sync
         + AllocGlobal,
+    R::Handle: Send + Sync,
     O: Outlet,
     E: Outlet + Send,
-    requires pictures { (name : List ℕ) → J.pictures name ≡ pictures_of bytes_of catalogue name }
+    requires pictures { (name : List ℕ) → J.pictures name ≡ pictures_of (bytes_of R.holds) catalogue name }
     requires gave { (name : List ℕ) (f : ReadFault) → J.gave name f ≡ gave_of stored_gave catalogue name f }
-    requires stable { (name : List ℕ) (item : Item Stored) → item_named catalogue name ≡ Some item → J.stable name → ∥ keeps_of item.source ∥₁ }
-    requires kept { (name : List ℕ) (item : Item Stored) → item_named catalogue name ≡ Some item → keeps_of item.source → J.stable name }
+    requires stable { (name : List ℕ) (item : _) → item_named catalogue name ≡ Some item → J.stable name → ∥ keeps_of R.keeps item.source ∥₁ }
+    requires kept { (name : List ℕ) (item : _) → item_named catalogue name ≡ Some item → keeps_of R.keeps item.source → J.stable name }
     requires edge { config.edge ≡ J.edge }
     requires honest { J.honest ≡ true }
     requires tiles { (tiles.name ≡ J.tiles_name) × (tiles.parts ≡ J.tiles_parts) × (J.tiles_parts ≡ 65537) }
     requires sums { (sums.name ≡ J.sums_name) × (sums.parts ≡ J.sums_parts) × (J.sums_parts ≡ 65537) }
 {
     let bytes = options.cache_bytes;
-    let Ok(node) = Node::<R, Stored, J>::alone(alloc, config, catalogue, bytes, tiles, sums) else {
+    let Ok(node) = Node::<R, Stored<R>, J>::alone(alloc, config, catalogue, bytes, tiles, sums)
+    else {
         return Err(Stop::Memory);
     };
     answer_by(rt, alloc, options, &node, out, err)
@@ -195,7 +235,7 @@ fn answer_among<'a, R, O, E, J: System + Send + Sync>(
     alloc: Global,
     options: &Options<'a>,
     config: Config,
-    catalogue: Catalogue<R, Stored>,
+    catalogue: Catalogue<R, Stored<R>>,
     tiles: Blank,
     sums: Blank,
     out: &mut O,
@@ -209,12 +249,13 @@ where
         + Clock
         + Sync
         + AllocGlobal,
+    R::Handle: Send + Sync,
     O: Outlet,
     E: Outlet + Send,
-    requires pictures { (name : List ℕ) → J.pictures name ≡ pictures_of bytes_of catalogue name }
+    requires pictures { (name : List ℕ) → J.pictures name ≡ pictures_of (bytes_of R.holds) catalogue name }
     requires gave { (name : List ℕ) (f : ReadFault) → J.gave name f ≡ gave_of stored_gave catalogue name f }
-    requires stable { (name : List ℕ) (item : Item Stored) → item_named catalogue name ≡ Some item → J.stable name → ∥ keeps_of item.source ∥₁ }
-    requires kept { (name : List ℕ) (item : Item Stored) → item_named catalogue name ≡ Some item → keeps_of item.source → J.stable name }
+    requires stable { (name : List ℕ) (item : _) → item_named catalogue name ≡ Some item → J.stable name → ∥ keeps_of R.keeps item.source ∥₁ }
+    requires kept { (name : List ℕ) (item : _) → item_named catalogue name ≡ Some item → keeps_of R.keeps item.source → J.stable name }
     requires edge { config.edge ≡ J.edge }
     requires honest { J.honest ≡ false }
     requires tiles { (tiles.name ≡ J.tiles_name) × (tiles.parts ≡ J.tiles_parts) × (J.tiles_parts ≡ 65537) }
@@ -237,7 +278,7 @@ fn answer_by<'a, R, O, E, J, N, T>(
     rt: &R,
     alloc: Global,
     options: &Options<'a>,
-    node: &Node<R, Stored, J, N, T>,
+    node: &Node<R, Stored<R>, J, N, T>,
     out: &mut O,
     err: &mut E,
 ) -> Result<(), Stop<'a>>
@@ -249,6 +290,7 @@ where
         + Clock
         + Sync
         + AllocGlobal,
+    R::Handle: Send + Sync,
     O: Outlet,
     E: Outlet + Send,
     J: System + Send + Sync,
@@ -273,7 +315,12 @@ where
                 peers,
                 statistics: stats,
             };
-            listen(rt, alloc, node, workers, &addresses, log, err)
+            let images = node.groups().tiles().images().catalogue();
+            let held = Held::among(images, &options.images);
+            let Ok(watcher) = Watcher::new(alloc, log, held) else {
+                return Err(Stop::Memory);
+            };
+            listen(rt, alloc, node, workers, &addresses, &watcher, err)
         }
         Mode::Check => check(rt, alloc, options, out),
     }

@@ -2,7 +2,7 @@
 
 use crate::line::{Case, Shown};
 use iiif_io::fakes::FailingWriter;
-use iiif_open_files::Opens;
+use iiif_open_files::{Opens, Texts};
 use iiif_program::program::program;
 use std::io;
 use std::io::{Read, Write};
@@ -24,12 +24,14 @@ pub(crate) struct Outcome {
 pub(crate) fn outcome_of<R>(rt: &R, case: &Case<'_>) -> Outcome
 where
     R: Opens
+        + Texts
         + Net<Listener = TcpListener, Stream = TcpStream>
         + Threads
         + Wait
         + Clock
         + Sync
         + AllocGlobal,
+    R::Handle: Send + Sync,
 {
     let (room, piece) = match case.shown {
         Shown::Room => (case.count, 5),

@@ -28,9 +28,10 @@
 //! What stands here is no more than what only a program can do: it takes the words, the two outputs and the process's exit status.
 //!
 //! 1. `iiif_command_line` has the words, and what of them is refused.
-//! 2. `iiif_start` opens the images that they name: a layout of each file, and as many open files as the words allow.
+//! 2. `iiif_start` opens the images that they name: a layout of each file, as many open files as the words allow, and the files that
+//!    are held in memory.
 //! 3. `iiif_program` makes the node of them, with its limits and its caches, and does what the words ask for.
-//! 4. `iiif_services` listens, and `iiif_connections` has a thread for each connection, of viewers and of other nodes.
+//! 4. `iiif_services` listens, `iiif_listener` starts a thread for each connection, and `iiif_connections` serves it.
 //! 5. `iiif_server` answers a connection's calls in order: `iiif_http_front` reads their heads, `iiif_request` and `iiif_canonical` what they
 //!    ask for, `iiif_answers` has the texts of refusals, redirects and information.
 //! 6. `iiif_delivery` sends an image in bands. `iiif_planner` says which tiles and sums a band needs, `iiif_tile_group` and
@@ -40,8 +41,11 @@
 //! # What is proved of it
 //!
 //! Of an image that is answered whole: that it is region, then size, then rotation, then quality applied to the whole picture that its
-//! file shows, as long as the file's bytes stay as they are (`docs/PROMISES.md` names the clauses). Of `main` itself: that it ends, or serves
-//! on, without a fault of memory, and that its status is one of the three.
+//! source shows, where the source keeps its bytes and other nodes are honest. An image that is held in memory (`--hold`) keeps those that one
+//! read of its file gave at the start. Of a file that is read when it is asked for, it is proved for each runtime whose files keep their
+//! bytes; that the system is one can't be proved. Of other nodes it is assumed that they are honest.
+//! `docs/PROMISES.md` names the clauses. Of `main` itself: that it ends, or serves on, without a fault of memory, and that its status is one of
+//! the three.
 #![tactic(auto)]
 
 use iiif_program::program::program;

@@ -4,12 +4,12 @@ use Rattle.iiif_start.specs.Stored.{bytes_of, keeps_of, stored_gave}
 use Rattle.iiif_program.proofs.program.answer.Given as goal
 
 -- what the catalogue shows, and the ledgers that were just made; no other node is asked
-abbrev pub ghosts-answer_alone : goal.ghosts-answer_alone
-ghosts-answer_alone g a = record {
-  pictures = pictures_of bytes_of a.catalogue;
+abbrev pub ghosts-serve_alone : goal.ghosts-serve_alone
+ghosts-serve_alone g a = record {
+  pictures = pictures_of (bytes_of g.R.Opens.holds) a.catalogue;
   edge = a.config.edge;
   gave = gave_of stored_gave a.catalogue;
-  stable = stable_of keeps_of a.catalogue;
+  stable = stable_of (keeps_of g.R.Opens.keeps) a.catalogue;
   honest = true;
   tiles_name = a.tiles.name;
   tiles_parts = a.tiles.parts;
@@ -20,10 +20,10 @@ ghosts-answer_alone g a = record {
 -- the same; of other nodes nothing is promised
 abbrev pub ghosts-answer_among : goal.ghosts-answer_among
 ghosts-answer_among g a = record {
-  pictures = pictures_of bytes_of a.catalogue;
+  pictures = pictures_of (bytes_of g.R.Opens.holds) a.catalogue;
   edge = a.config.edge;
   gave = gave_of stored_gave a.catalogue;
-  stable = stable_of keeps_of a.catalogue;
+  stable = stable_of (keeps_of g.R.Opens.keeps) a.catalogue;
   honest = false;
   tiles_name = a.tiles.name;
   tiles_parts = a.tiles.parts;

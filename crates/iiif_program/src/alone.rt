@@ -1,0 +1,89 @@
+//! The answer to one target by a node that asks no other.
+
+ghost use Rattle.std.specs.Prelude.{◌≡◌, ◌<◌, ◌^◌, ℕ, List, Some, true};
+ghost use Rattle.iiif_source.specs.declared.ReadFault.{ReadFault};
+ghost use Rattle.iiif_images.specs.Collection.{item_named};
+ghost use Rattle.iiif_images.specs.Named.{gave_of, pictures_of};
+ghost use Rattle.iiif_start.specs.Stored.{bytes_of, keeps_of, stored_gave};
+
+use crate::one::answer_one;
+use iiif_connections::{Catalogue, Config, Node};
+use iiif_io::Outlet;
+use iiif_keys::System;
+use iiif_open_files::Opens;
+use iiif_start::{Stop, Stored};
+use std::alloc::Global;
+use std::marker::Brand;
+use std::sync::Wait;
+use std::sync::ledger::Blank;
+use std::thread::Threads;
+use std::time::Clock;
+
+/// What a node that asks no other is made of: what it was told, its images, and the bytes of each group's cache.
+#[derive(Drop)]
+pub struct Alone<R: Opens + Wait> {
+    pub config: Config,
+    pub catalogue: Catalogue<R, Stored<R>>,
+    pub cache_bytes: u64,
+}
+
+/// Makes a node that asks no other, and writes the body of its answer to a target.
+pub fn answer_alone<'a, R, O>(
+    rt: &R,
+    alloc: Global,
+    alone: Alone<R>,
+    target: &str,
+    out: &mut O,
+) -> Result<(), Stop<'a>>
+where
+    R: Opens + Threads + Wait + Clock + Sync,
+    R::Handle: Send + Sync,
+    O: Outlet,
+    requires bytes { alone.cache_bytes < 2 ^ 63 }
+{
+    let (tiles, sums) = (Blank::new(65_537), Blank::new(65_537));
+    answer_counted::<R, O, Brand>(rt, alloc, alone, (tiles, sums), target, out)
+}
+
+/// The same, where J says what the images' names stand for, and which ledgers count the calls.
+fn answer_counted<'a, R, O, J: System + Send + Sync>(
+    rt: &R,
+    alloc: Global,
+    alone: Alone<R>,
+    blanks: (Blank, Blank),
+    target: &str,
+    out: &mut O,
+) -> Result<(), Stop<'a>>
+where
+    R: Opens + Threads + Wait + Clock + Sync,
+    R::Handle: Send + Sync,
+    O: Outlet,
+    requires bytes { alone.cache_bytes < 2 ^ 63 }
+    requires pictures { (name : List ℕ) → J.pictures name ≡ pictures_of (bytes_of R.holds) alone.catalogue name }
+    requires gave { (name : List ℕ) (f : ReadFault) → J.gave name f ≡ gave_of stored_gave alone.catalogue name f }
+    requires stable { (name : List ℕ) (item : _) → item_named alone.catalogue name ≡ Some item → J.stable name → ∥ keeps_of R.keeps item.source ∥₁ }
+    requires kept { (name : List ℕ) (item : _) → item_named alone.catalogue name ≡ Some item → keeps_of R.keeps item.source → J.stable name }
+    requires edge { alone.config.edge ≡ J.edge }
+    requires honest { J.honest ≡ true }
+    requires tiles { (blanks.0.name ≡ J.tiles_name) × (blanks.0.parts ≡ J.tiles_parts) × (J.tiles_parts ≡ 65537) }
+    requires sums { (blanks.1.name ≡ J.sums_name) × (blanks.1.parts ≡ J.sums_parts) × (J.sums_parts ≡ 65537) }
+{
+    let Alone {
+        config,
+        catalogue,
+        cache_bytes,
+    } = alone;
+    let workers = config.workers();
+    let (tiles, sums) = blanks;
+    let Ok(node) = Node::<R, Stored<R>, J>::alone(
+        alloc,
+        config,
+        catalogue,
+        cache_bytes,
+        tiles,
+        sums,
+    ) else {
+        return Err(Stop::Memory);
+    };
+    answer_one(rt, alloc, &node, workers, target, out)
+}
