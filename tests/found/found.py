@@ -7,6 +7,7 @@ convert. Six small pictures (gray and RGB of 8 and of 16 bits, bilevel, and gray
 no tile divides) are handed to each writer without loss, so that the samples that each file must show are known from the start; Pillow,
 or libvips where a sample has 16 bits, decodes each accepted file too. An accepted file is asked for the whole image, for a region, for
 a scaled image and for bits, and each answer is compared with the known samples, cut, averaged and packed by numpy over whole numbers.
+Each file is asked for twice, read from the disk and held in memory (--hold), and both runs must end alike.
 A refused file must end the program with status 2, nothing on standard output and the line `image a: N` first on standard error. What must be
 refused, and by which number, stands in the tables below, by the reading rules of docs/OPERATING.md. Prints Markdown tables of what was
 right (all files by writer, and those of 16 bits by how their samples stand in them), names on standard error what wasn't, and ends
@@ -185,9 +186,12 @@ def files(folder, sources, samples):
 
 
 def ask(program, words, path):
-    """Status, standard output and standard error of the program for one target."""
-    done = subprocess.run([program, "--base", "http://localhost/iiif", "--one", f"/iiif/a/{words}", "a=" + path], capture_output=True)
-    return done.returncode, done.stdout, done.stderr.decode(errors="replace")
+    """Status, standard output and standard error of the program for one target, the same whether the file is held in memory or not."""
+    command = [program, "--base", "http://localhost/iiif", "--one", f"/iiif/a/{words}", "a=" + path]
+    read, held = (subprocess.run(command + hold, capture_output=True) for hold in ([], ["--hold", str(2**40)]))
+    if (read.returncode, read.stdout, read.stderr) != (held.returncode, held.stdout, held.stderr):
+        return -1, b"", f"held in memory it ends with {held.returncode}, {len(held.stdout)} bytes and other words or bytes"
+    return read.returncode, read.stdout, read.stderr.decode(errors="replace")
 
 
 def shown(body, like):

@@ -1,7 +1,7 @@
 """Whether the answers of replayed lists are those of the plain evaluation: of the whole picture first the region, then the size, the
 rotation and the quality, with no tile, no sum, no table and no event.
 
-    /usr/bin/python3 bench/machine/plain.py crates/iiif_replay/stdin crates/iiif_replay/stdout
+    /usr/bin/python3 tests/machine/plain.py crates/iiif_replay/stdin crates/iiif_replay/stdout
 
 The first file is the text of the lists, the second what `iiif_replay` wrote for it. An answer that differs is written, and ends it with status 1.
 """

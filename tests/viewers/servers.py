@@ -7,7 +7,7 @@ import time
 
 from pictures import TOP, module_of
 
-PROGRAM = module_of("bench/hostile/program.py")
+PROGRAM = module_of("tests/hostile/program.py")
 TYPES = {".html": "text/html", ".js": "text/javascript", ".css": "text/css", ".png": "image/png"}
 HERE = os.path.dirname(os.path.abspath(__file__))
 
