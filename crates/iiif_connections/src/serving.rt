@@ -61,18 +61,36 @@ where
         tally,
         held: watcher.held,
     };
-    let serve_viewer = |stream: TcpStream| viewers.serve(rt, alloc, stream);
-    let serve_peer = |stream: TcpStream| peers.serve(rt, alloc, stream);
-    let serve_reader = |stream: TcpStream| statistics.serve(rt, alloc, stream);
-    let refused = || tally.refused(rt);
-    let work = || {
-        let all = (&serve_viewer, &serve_peer, &serve_reader);
-        serve_all(rt, listeners, all, &refused)
-    };
+    let work = || serve_all_of(rt, alloc, listeners, &viewers, &peers, &statistics);
     match &watcher.log {
         Some(log) => logged(rt, alloc, log, err, &work),
         None => work(),
     }
+}
+
+/// Serves the connections of all listeners, each by what stands for its kind.
+fn serve_all_of<R, J, N, T>(
+    rt: &R,
+    alloc: Global,
+    listeners: &Listeners,
+    viewers: &Viewers<'_, R, J, N, T>,
+    peers: &PeerCalls<'_, R, J, N, T>,
+    statistics: &Statistics<'_, R, J, N, T>,
+) -> io::Result<()>
+where
+    R: Opens + Net<Listener = TcpListener, Stream = TcpStream> + Threads + Wait + Clock + Sync,
+    R::Handle: Send + Sync,
+    J: System + Send + Sync,
+    N: Link<TileKey, J, R> + Link<SumKey, J, R> + Sync,
+    T: Gate<R> + Sync,
+{
+    let tally = statistics.tally;
+    let serve_viewer = |stream: TcpStream| viewers.serve(rt, alloc, stream);
+    let serve_peer = |stream: TcpStream| peers.serve(rt, alloc, stream);
+    let serve_reader = |stream: TcpStream| statistics.serve(rt, alloc, stream);
+    let refused = || tally.refused(rt);
+    let all = (&serve_viewer, &serve_peer, &serve_reader);
+    serve_all(rt, listeners, all, &refused)
 }
 
 /// Serves at these addresses by a node, within the usual limits of time, with so many workers for each viewer's connection, and writes a
