@@ -27,6 +27,12 @@ pub struct Alone<R: Opens + Wait> {
     pub cache_bytes: u64,
 }
 
+/// The target that is asked for. It has a type of its own, since ghost members can't be picked at a call that takes a `&str`.
+#[derive(Drop)]
+struct Asked<'t> {
+    target: &'t str,
+}
+
 /// Makes a node that asks no other, and writes the body of its answer to a target.
 pub fn answer_alone<'a, R, O>(
     rt: &R,
@@ -42,7 +48,8 @@ where
     requires bytes { alone.cache_bytes < 2 ^ 63 }
 {
     let (tiles, sums) = (Blank::new(65_537), Blank::new(65_537));
-    answer_counted::<R, O, Brand>(rt, alloc, alone, (tiles, sums), target, out)
+    let asked = Asked { target };
+    answer_counted::<R, O, Brand>(rt, alloc, alone, (tiles, sums), &asked, out)
 }
 
 /// The same, where J says what the images' names stand for, and which ledgers count the calls.
@@ -51,7 +58,7 @@ fn answer_counted<'a, R, O, J: System + Send + Sync>(
     alloc: Global,
     alone: Alone<R>,
     blanks: (Blank, Blank),
-    target: &str,
+    asked: &Asked<'_>,
     out: &mut O,
 ) -> Result<(), Stop<'a>>
 where
@@ -85,5 +92,5 @@ where
     ) else {
         return Err(Stop::Memory);
     };
-    answer_one(rt, alloc, &node, workers, target, out)
+    answer_one(rt, alloc, &node, workers, asked.target, out)
 }
