@@ -1,0 +1,4 @@
+pub mod Lines
+pub mod SoFar
+pub mod Keys
+pub mod Words

@@ -1,1 +1,4 @@
+pub mod Texts
+pub mod Spellings
+pub mod Described
 pub mod Replays

@@ -1,9 +1,125 @@
--- What events come to.
-use Rattle.std.specs.Prelude.{◌≡◌, ◌⊎◌, Some, None}
-use Rattle.iiif_machine.specs.Worlds.{World}
+-- What the lines of a text come to.
+use Rattle.std.specs.Prelude.{◌≡◌, ◌⊎◌, ◌<◌, ◌+◌, ◌-◌, ◌^◌, ◌++◌, ℕ, List, [], ◌∷◌, codes, Option, Some, None, length, min, slice_get}
+use Rattle.std.specs.Char.{is_not_whitespace, is_whitespace}
+use Rattle.std.specs.Str.{EmptyOrStartsWithPassing, NoCharPasses}
+use Rattle.std.specs.Io.BufRead.{drop_through, first_line}
+use Rattle.iiif_machine.specs.Worlds.{World, answers}
 use Rattle.iiif_machine.specs.Steps.{step}
 use Rattle.iiif_machine.specs.declared.events.Event.{Event}
+use Rattle.iiif_world.specs.Code.{world_of}
+use Rattle.iiif_event_list.specs.Texts.{answers_text, outcome_text}
+use Rattle.iiif_event_list.specs.Spellings.{LineWords, WordAt, IsEventOf, IsSetting}
+use Rattle.iiif_event_list.specs.Described.{first_of, plain_world}
+use Rattle.iiif_event_list.specs.declared.state.State.{State}
+use Rattle.iiif_event_list.specs.declared.state.State.TheVariants.{Described, Begun, Lost}
 
--- An event makes of a world what it does by the machine's rules; where it isn't allowed the world stays as it was.
-abbrev pub IsOutcome : World → Event → World → Type 0
-IsOutcome before e after = (step before e ≡ Some after) ⊎ ((step before e ≡ None) × (after ≡ before))
+-- the world in which the next event happens: none, where it can't begin
+abbrev pub world_in : State → Option World
+world_in (Described d) = Some (first_of d)
+world_in (Begun w) = Some (world_of w)
+world_in Lost = None
+
+-- the answers of the world that has begun; nothing, if none has
+abbrev pub ended_text : State → List ℕ
+ended_text (Described d) = []
+ended_text (Begun w) = answers_text (answers (world_of w))
+ended_text Lost = []
+
+abbrev pub IsDescribed : State → Type 0
+IsDescribed (Described d) = Unit {0}
+IsDescribed (Begun w) = ⊥
+IsDescribed Lost = ⊥
+
+-- nothing was said of the world yet
+abbrev pub IsNew : State → Type 0
+IsNew (Described d) = first_of d ≡ plain_world
+IsNew (Begun w) = ⊥
+IsNew Lost = ⊥
+
+-- An event makes of a world what it does by the machine's rules, and its line is done; where it isn't allowed the world stays as it
+-- was, and its line is not now.
+abbrev pub IsOutcome : ℕ → List ℕ → World → Event → World → List ℕ → Type 0
+IsOutcome number line before e after text =
+    ((step before e ≡ Some after) × (text ≡ outcome_text number line (codes "done")))
+    ⊎ ((step before e ≡ None) × (after ≡ before) × (text ≡ outcome_text number line (codes "not now")))
+
+-- The words are an event, which happens in the world that has begun, or begins by it.
+pub record Happens (number : ℕ) (line : List ℕ) (ws : LineWords) (before after : State) (text : List ℕ) : Type 0 where
+  pub event : Event
+  pub spelled : IsEventOf ws event
+  pub old : World
+  pub new : World
+  pub begun : world_in before ≡ Some old
+  pub stands : world_in after ≡ Some new
+  pub outcome : IsOutcome number line old event new text
+
+-- the words set something of a world that is described, and nothing is written
+pub record IsSet (ws : LineWords) (before after : State) (text : List ℕ) : Type 0 where
+  pub word : IsSetting ws
+  pub described : IsDescribed before × IsDescribed after
+  pub nothing : text ≡ []
+
+-- a comment begins with a number sign
+abbrev pub IsComment : LineWords → Type 0
+IsComment ws = (w : List ℕ) × WordAt ws 0 w × (slice_get w 0 ≡ Some 35)
+
+-- the words are one word alone
+abbrev pub IsAlone : LineWords → List ℕ → Type 0
+IsAlone ws w = (length ws ≡ 1) × WordAt ws 0 w
+
+-- What a line's words come to: nothing, where there are none, or it is a comment; at `world` the answers of the last world; at `rows` all
+-- rows of the world that has begun, or begins (their text is read in the code); else a setting, or an event.
+pub data Comes (number : ℕ) (line : List ℕ) (ws : LineWords) (before after : State) (text : List ℕ) : Type 0 where
+  blank : (none : length ws ≡ 0) (same : after ≡ before) (nothing : text ≡ []) → Comes number line ws before after text
+  comment : (is : IsComment ws) (same : after ≡ before) (nothing : text ≡ []) → Comes number line ws before after text
+  next : (is : IsAlone ws (codes "world")) (new : IsNew after) (ended : text ≡ ended_text before) → Comes number line ws before after text
+  shown : (is : IsAlone ws (codes "rows")) (stands : world_in after ≡ world_in before) → Comes number line ws before after text
+  set : (is : IsSet ws before after text) → Comes number line ws before after text
+  happened : (is : Happens number line ws before after text) → Comes number line ws before after text
+
+-- White space may stand before the word, which has none, and behind which white space stands, or nothing.
+pub record IsFirstWord (line word rest : List ℕ) : Type 0 where
+  pub gap : List ℕ
+  pub parts : line ≡ gap ++ (word ++ rest)
+  pub some : 0 < length word
+  pub space : NoCharPasses is_not_whitespace gap
+  pub dense : NoCharPasses is_whitespace word
+  pub ends : (more : List ℕ) × EmptyOrStartsWithPassing is_whitespace rest more
+
+-- the words of a line, in their order
+abbrev pub AreWordsOf : List ℕ → LineWords → Type 0
+AreWordsOf line [] = NoCharPasses is_not_whitespace line
+AreWordsOf line (w ∷ ws) = (rest : List ℕ) × IsFirstWord line w.now rest × AreWordsOf rest ws
+
+-- A line comes to what its words come to.
+abbrev pub LineComes : ℕ → List ℕ → State → State → List ℕ → Type 0
+LineComes number line before after text = (ws : LineWords) × AreWordsOf line ws × Comes number line ws before after text
+
+-- the number of the line behind one, which stops at the greatest
+abbrev pub number_behind : ℕ → ℕ
+number_behind n = min (n + 1) (2 ^ 64 - 1)
+
+-- What lines come to that stand behind one of this number: each what it comes to, and at the end the answers of the last world.
+abbrev pub LinesCome : ℕ → List (List ℕ) → State → List ℕ → Type 0
+LinesCome n [] s text = text ≡ ended_text s
+LinesCome n (line ∷ more) s text =
+    (t : State) × (front : List ℕ) × (rest : List ℕ) × LineComes (number_behind n) line s t front
+    × LinesCome (number_behind n) more t rest × (text ≡ front ++ rest)
+
+-- the lines of a text, each without the line feed, or carriage return and line feed, that ends it
+abbrev pub AreLinesOf : List ℕ → List (List ℕ) → Type 0
+AreLinesOf input [] = input ≡ []
+AreLinesOf input (line ∷ more) = (0 < length input) × (line ≡ first_line input) × AreLinesOf (drop_through 10 input) more
+
+-- the lines of a reader's bytes, where these are known
+abbrev pub AreLinesIn : Option (List ℕ) → List (List ℕ) → Type 0
+AreLinesIn None lines = Unit {0}
+AreLinesIn (Some input) lines = AreLinesOf input lines
+
+-- What the replay of a reader writes: what its lines come to, from a world on of which nothing was said.
+pub record Replays (known : Option (List ℕ)) (text : List ℕ) : Type 0 where
+  pub lines : List (List ℕ)
+  pub read : AreLinesIn known lines
+  pub start : State
+  pub new : IsNew start
+  pub come : LinesCome 0 lines start text

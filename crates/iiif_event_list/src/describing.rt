@@ -1,10 +1,10 @@
 //! Worlds, as the lines before their first event describe them.
 
-ghost use Rattle.std.specs.Prelude.{◌≡◌, length, map, IfOk};
-ghost use Rattle.iiif_machine.specs.Worlds.{new_world};
+ghost use Rattle.std.specs.Prelude.{◌≡◌, true, false, length, IfOk};
 ghost use Rattle.iiif_pixel.specs.Depths.{values_of};
-ghost use Rattle.iiif_world.specs.Code.{scene_of, world_of};
-ghost use Rattle.iiif_world.specs.Starting.{node_for};
+ghost use Rattle.iiif_world.specs.Code.{world_of};
+ghost use Rattle.iiif_event_list.specs.Described.{first_of, plain_world};
+ghost use Rattle.iiif_event_list.specs.Spellings.{IsSetting};
 
 use crate::fault::LineFault;
 use crate::reading::{count, name, number, side, word};
@@ -167,7 +167,9 @@ fn limits(words: &[&str]) -> Result<Limits, LineFault> {
 impl Description {
     /// A world without pictures and nodes: tiles of 256 places a side, images of at most 4096 by 4096 that aren't scaled up, and a room of
     /// 65,536 sums for a plan.
-    pub fn new(alloc: Global) -> Description {
+    pub fn new(alloc: Global) -> Description
+        ensures { first_of result ≡ plain_world }
+    {
         Description {
             edge: 256,
             limits: Limits {
@@ -193,7 +195,10 @@ impl Description {
 
     /// What the words of a line set; `false`, where they are no setting, and `Bad`, where they are one that can't be read. It is as it was
     /// after `false` and after an `Err`.
-    pub fn set(&mut self, alloc: Global, words: &[&str]) -> Result<bool, LineFault> {
+    pub fn set(&mut self, alloc: Global, words: &[&str]) -> Result<bool, LineFault>
+        ensures yes { IfOk result (λ set. set ≡ true → IsSetting words.now) }
+        ensures no { IfOk result (λ set. set ≡ false → self.new ≡ self.old) }
+    {
         match word(words, 0)? {
             "edge" if words.len() == 2 => self.edge = side(words, 1)?,
             "room" if words.len() == 2 => self.room = number(words, 1)?,
@@ -207,7 +212,7 @@ impl Description {
 
     /// The world that was described, in which nothing has happened. `Bad`, where no world can begin so.
     pub fn begin(self, alloc: Global) -> Result<World, LineFault>
-        ensures { IfOk result (λ w. world_of w ≡ new_world (scene_of self.items.items self.edge self.limits self.room) (map node_for self.setups.items)) }
+        ensures { IfOk result (λ w. world_of w ≡ first_of self) }
     {
         let Description {
             edge,

@@ -1,6 +1,10 @@
 //! Lists of events as text: what describes a world, events, their outcomes and answers.
 #![tactic(auto)]
 
+ghost use Rattle.std.specs.Prelude.{ℕ, List, string_bytes, IsOk, IfOk, OnOk};
+ghost use Rattle.std.specs.Io.KnownBytes.{Appends};
+ghost use Rattle.iiif_event_list.specs.Replays.{LineComes, Replays, ended_text};
+
 pub mod describing;
 pub mod fault;
 pub mod reading;
@@ -44,7 +48,10 @@ impl From<io::Error> for Stop {
 }
 
 /// Writes what a line came to.
-fn put<W: Write>(out: &mut W, number: u64, text: Result<String, LineFault>) -> Result<(), Stop> {
+fn put<W: Write>(out: &mut W, number: u64, text: Result<String, LineFault>) -> Result<(), Stop>
+    ensures came { OnOk result (IsOk text) }
+    ensures written { OnOk result (IfOk text (λ t. Appends (W.contents out.old) (W.contents out.new) (string_bytes t))) }
+{
     match text {
         Ok(text) => {
             out.write_all(text.as_bytes())?;
@@ -55,12 +62,39 @@ fn put<W: Write>(out: &mut W, number: u64, text: Result<String, LineFault>) -> R
     }
 }
 
+/// Writes what a line comes to.
+fn put_line<W: Write>(
+    alloc: Global,
+    out: &mut W,
+    replay: &mut Replay,
+    number: u64,
+    line: &str,
+) -> Result<(), Stop>
+    ensures { OnOk result ((text : List ℕ) × LineComes number line.now replay.old.state replay.new.state text
+        × Appends (W.contents out.old) (W.contents out.new) text) }
+{
+    let text = replay.line(alloc, number, line);
+    put(out, number, text)
+}
+
+/// Writes the answers of the last world, and flushes.
+fn put_end<W: Write>(alloc: Global, out: &mut W, replay: &Replay, number: u64) -> Result<(), Stop>
+    ensures { OnOk result (Appends (W.contents out.old) (W.contents out.new) (ended_text replay.now.state)) }
+{
+    let text = replay.ended(alloc);
+    put(out, number, text)?;
+    out.flush()?;
+    Ok(())
+}
+
 /// Replays the lines of a reader: writes what each line comes to before it reads the next, at the end the answers of the last world, and
 /// flushes. Where it stops at a line, what came of those before it was written, but not flushed.
+#[tactic(auto, using(crate::proofs::SoFar::begun))]
 pub fn replay<R, W>(alloc: Global, reader: R, out: &mut W) -> Result<(), Stop>
 where
     R: BufRead + Drop,
     W: Write,
+    ensures { OnOk result ((text : List ℕ) × Replays (R.remaining reader) text × Appends (W.contents out.old) (W.contents out.new) text) }
 {
     let mut replay = Replay::new(alloc);
     let mut number = 0u64;
@@ -69,9 +103,7 @@ where
             return Err(Stop::Read);
         };
         number = number.saturating_add(1);
-        put(out, number, replay.line(alloc, number, line.as_str()))?;
+        put_line(alloc, out, &mut replay, number, line.as_str())?;
     }
-    put(out, number, replay.ended(alloc))?;
-    out.flush()?;
-    Ok(())
+    put_end(alloc, out, &replay, number)
 }

@@ -1,6 +1,7 @@
 //! Events, read from the words of a line.
 
-ghost use Rattle.std.specs.Prelude.{◌+◌, ◌<◌, ◌^◌};
+ghost use Rattle.std.specs.Prelude.{◌+◌, ◌++◌, ◌∷◌, [], ◌<◌, ◌≤◌, ◌^◌, ◌≡◌, codes, length, string_bytes, IfOk, OnOk};
+ghost use Rattle.iiif_event_list.specs.Spellings.{AddsKey, AreKeys, IsDimAt, IsEventOf, IsKey, IsNumbered, IsRectAt, IsRequestAt, LineWords, NumberAt, WordAt, count_of};
 
 use crate::fault::LineFault;
 use iiif_keys::{Name, SumKey, TileKey, is_name};
@@ -12,7 +13,9 @@ use iiif_source::ReadFault;
 use std::alloc::Global;
 
 /// The number at a place.
-pub(crate) fn number(words: &[&str], at: usize) -> Result<u64, LineFault> {
+pub(crate) fn number(words: &[&str], at: usize) -> Result<u64, LineFault>
+    ensures { IfOk result (NumberAt words.now at) }
+{
     let Some(word) = words.get(at) else {
         return Err(LineFault::Bad);
     };
@@ -23,7 +26,9 @@ pub(crate) fn number(words: &[&str], at: usize) -> Result<u64, LineFault> {
 }
 
 /// The number at a place, where it is a side or a column.
-pub(crate) fn side(words: &[&str], at: usize) -> Result<u32, LineFault> {
+pub(crate) fn side(words: &[&str], at: usize) -> Result<u32, LineFault>
+    ensures { IfOk result (NumberAt words.now at) }
+{
     match u32::try_from(number(words, at)?) {
         Ok(side) => Ok(side),
         Err(_) => Err(LineFault::Bad),
@@ -31,7 +36,9 @@ pub(crate) fn side(words: &[&str], at: usize) -> Result<u32, LineFault> {
 }
 
 /// The number at a place, where it counts rows.
-pub(crate) fn count(words: &[&str], at: usize) -> Result<usize, LineFault> {
+pub(crate) fn count(words: &[&str], at: usize) -> Result<usize, LineFault>
+    ensures { IfOk result (NumberAt words.now at) }
+{
     match usize::try_from(number(words, at)?) {
         Ok(count) => Ok(count),
         Err(_) => Err(LineFault::Bad),
@@ -39,7 +46,9 @@ pub(crate) fn count(words: &[&str], at: usize) -> Result<usize, LineFault> {
 }
 
 /// The number at a place, where it is a byte.
-fn byte(words: &[&str], at: usize) -> Result<u8, LineFault> {
+fn byte(words: &[&str], at: usize) -> Result<u8, LineFault>
+    ensures { IfOk result (NumberAt words.now at) }
+{
     match u8::try_from(number(words, at)?) {
         Ok(byte) => Ok(byte),
         Err(_) => Err(LineFault::Bad),
@@ -47,7 +56,9 @@ fn byte(words: &[&str], at: usize) -> Result<u8, LineFault> {
 }
 
 /// The word at a place.
-pub(crate) fn word<'a>(words: &[&'a str], at: usize) -> Result<&'a str, LineFault> {
+pub(crate) fn word<'a>(words: &[&'a str], at: usize) -> Result<&'a str, LineFault>
+    ensures { IfOk result (λ w. WordAt words.now at w.now) }
+{
     match words.get(at) {
         Some(word) => Ok(*word),
         None => Err(LineFault::Bad),
@@ -55,12 +66,16 @@ pub(crate) fn word<'a>(words: &[&'a str], at: usize) -> Result<&'a str, LineFaul
 }
 
 /// The text of the word at a place.
-fn text(alloc: Global, words: &[&str], at: usize) -> Result<String, LineFault> {
+fn text(alloc: Global, words: &[&str], at: usize) -> Result<String, LineFault>
+    ensures { IfOk result (λ t. WordAt words.now at (string_bytes t)) }
+{
     Ok(String::from_str(alloc, word(words, at)?)?)
 }
 
 /// The name at a place.
-pub(crate) fn name(alloc: Global, words: &[&str], at: usize) -> Result<Name, LineFault> {
+pub(crate) fn name(alloc: Global, words: &[&str], at: usize) -> Result<Name, LineFault>
+    ensures { IfOk result (WordAt words.now at) }
+{
     let text = text(alloc, words, at)?;
     if !is_name(text.as_str()) {
         return Err(LineFault::Bad);
@@ -69,7 +84,9 @@ pub(crate) fn name(alloc: Global, words: &[&str], at: usize) -> Result<Name, Lin
 }
 
 /// The number of an event that has one.
-fn one(words: &[&str]) -> Result<usize, LineFault> {
+fn one(words: &[&str]) -> Result<usize, LineFault>
+    ensures { IfOk result (λ n. (length words.now ≡ 2) × NumberAt words.now 1 n) }
+{
     if words.len() != 2 {
         return Err(LineFault::Bad);
     }
@@ -79,6 +96,7 @@ fn one(words: &[&str]) -> Result<usize, LineFault> {
 /// The request of four words from a place on: region, size, rotation and quality.
 fn request(alloc: Global, words: &[&str], at: usize) -> Result<ShortRequest, LineFault>
     requires { at + 4 < 2 ^ 32 }
+    ensures { IfOk result (IsRequestAt words.now at) }
 {
     let words = Words {
         region: text(alloc, words, at)?,
@@ -97,7 +115,10 @@ fn request(alloc: Global, words: &[&str], at: usize) -> Result<ShortRequest, Lin
 }
 
 /// `want NODE NAME REGION SIZE ROTATION QUALITY`
-fn want(alloc: Global, words: &[&str]) -> Result<Event, LineFault> {
+fn want(alloc: Global, words: &[&str]) -> Result<Event, LineFault>
+    requires { WordAt words.now 0 (codes "want") }
+    ensures { IfOk result (IsEventOf words.now) }
+{
     if words.len() != 7 {
         return Err(LineFault::Bad);
     }
@@ -108,7 +129,10 @@ fn want(alloc: Global, words: &[&str]) -> Result<Event, LineFault> {
 }
 
 /// `tile NAME EDGE COLUMN ROW`
-fn tile(alloc: Global, words: &[&str]) -> Result<Key, LineFault> {
+fn tile(alloc: Global, words: &[&str]) -> Result<Key, LineFault>
+    requires { WordAt words.now 0 (codes "tile") }
+    ensures { IfOk result (IsKey words.now) }
+{
     Ok(Key::Tile(TileKey {
         name: name(alloc, words, 1)?,
         edge: side(words, 2)?,
@@ -120,6 +144,7 @@ fn tile(alloc: Global, words: &[&str]) -> Result<Key, LineFault> {
 /// The rectangle of four numbers from a place on.
 fn rect(words: &[&str], at: usize) -> Result<Rect, LineFault>
     requires { at + 3 < 2 ^ 32 }
+    ensures { IfOk result (IsRectAt words.now at) }
 {
     Ok(Rect {
         x: side(words, at)?,
@@ -132,6 +157,7 @@ fn rect(words: &[&str], at: usize) -> Result<Rect, LineFault>
 /// The sides of two numbers from a place on.
 fn dim(words: &[&str], at: usize) -> Result<Dim, LineFault>
     requires { at + 1 < 2 ^ 32 }
+    ensures { IfOk result (IsDimAt words.now at) }
 {
     Ok(Dim {
         w: side(words, at)?,
@@ -140,7 +166,10 @@ fn dim(words: &[&str], at: usize) -> Result<Dim, LineFault>
 }
 
 /// `sum NAME EDGE X Y W H COLUMNS ROWS LEVEL COLUMN ROW`
-fn sum(alloc: Global, words: &[&str]) -> Result<Key, LineFault> {
+fn sum(alloc: Global, words: &[&str]) -> Result<Key, LineFault>
+    requires { WordAt words.now 0 (codes "sum") }
+    ensures { IfOk result (IsKey words.now) }
+{
     Ok(Key::Sum(SumKey {
         name: name(alloc, words, 1)?,
         edge: side(words, 2)?,
@@ -152,38 +181,81 @@ fn sum(alloc: Global, words: &[&str]) -> Result<Key, LineFault> {
     }))
 }
 
-/// The key that words begin with, and how many they are.
-fn key(alloc: Global, words: &[&str]) -> Result<(Key, usize), LineFault> {
+/// The key that words begin with.
+fn key(alloc: Global, words: &[&str]) -> Result<Key, LineFault>
+    ensures { IfOk result (IsKey words.now) }
+{
     match word(words, 0)? {
-        "tile" => Ok((tile(alloc, words)?, 5)),
-        "sum" => Ok((sum(alloc, words)?, 12)),
+        "tile" => tile(alloc, words),
+        "sum" => sum(alloc, words),
         _ => Err(LineFault::Bad),
     }
 }
 
-fn add(keys: &mut Vec<Key>, key: Key) -> Result<(), NoMemory> {
+/// How many words a key has.
+fn count_of(key: &Key) -> usize
+    ensures count { result ≡ count_of key.now }
+    ensures some { 0 < result }
+    ensures within { result ≤ 12 }
+{
+    match key {
+        Key::Tile(_) => 5,
+        Key::Sum(_) => 12,
+    }
+}
+
+fn push(keys: &mut Vec<Key>, key: Key) -> Result<(), NoMemory>
+    ensures { OnOk result (keys.new.items ≡ keys.old.items ++ key ∷ []) }
+{
     keys.push(key)?;
     Ok(())
 }
 
-/// `evict NODE KEY..`
-fn evict(alloc: Global, words: &[&str]) -> Result<Event, LineFault> {
-    let node = count(words, 1)?;
+/// Adds the key that words begin with, and says how many of them it has.
+fn add_key(alloc: Global, words: &[&str], keys: &mut Vec<Key>) -> Result<usize, LineFault>
+    ensures key { IfOk result (AddsKey words.now keys.old.items keys.new.items) }
+    ensures some { IfOk result (λ count. 0 < count) }
+    ensures within { IfOk result (λ count. count ≤ 12) }
+{
+    let key = key(alloc, words)?;
+    let count = count_of(&key);
+    push(keys, key)?;
+    Ok(count)
+}
+
+/// The keys of words that are keys, one behind the other.
+#[tactic(auto, using(crate::proofs::Keys::no_key_yet, crate::proofs::Keys::one_key_more, crate::proofs::Keys::all_keys))]
+fn keys_of(alloc: Global, words: &[&str]) -> Result<Vec<Key>, LineFault>
+    ensures { IfOk result (λ keys. AreKeys words.now keys.items) }
+{
     let mut keys = Vec::new(alloc);
-    let mut at = 2usize;
-    for _ in 0..words.len() {
-        if at >= words.len() {
-            return Ok(Event::Evict(node, keys));
-        }
-        let (key, count) = key(alloc, &words[at..])?;
-        add(&mut keys, key)?;
-        at = at.saturating_add(count);
+    let mut at = 0usize;
+    while at < words.len() {
+        let (_, rest) = words.split_at(at);
+        at += add_key(alloc, rest, &mut keys)?;
     }
-    Err(LineFault::Bad)
+    Ok(keys)
+}
+
+/// `evict NODE KEY..`
+fn evict(alloc: Global, words: &[&str]) -> Result<Event, LineFault>
+    requires { WordAt words.now 0 (codes "evict") }
+    ensures { IfOk result (IsEventOf words.now) }
+{
+    if words.len() < 2 {
+        return Err(LineFault::Bad);
+    }
+    let node = count(words, 1)?;
+    let (_, rest) = words.split_at(2);
+    let keys = keys_of(alloc, rest)?;
+    Ok(Event::Evict(node, keys))
 }
 
 /// `take FLIGHT REPLY`
-fn take(words: &[&str]) -> Result<Event, LineFault> {
+fn take(words: &[&str]) -> Result<Event, LineFault>
+    requires { WordAt words.now 0 (codes "take") }
+    ensures { IfOk result (IsEventOf words.now) }
+{
     if words.len() != 3 {
         return Err(LineFault::Bad);
     }
@@ -191,7 +263,10 @@ fn take(words: &[&str]) -> Result<Event, LineFault> {
 }
 
 /// `source_fault FLIGHT PLACE CAUSE`
-fn source_fault(words: &[&str]) -> Result<Event, LineFault> {
+fn source_fault(words: &[&str]) -> Result<Event, LineFault>
+    requires { WordAt words.now 0 (codes "source_fault") }
+    ensures { IfOk result (IsEventOf words.now) }
+{
     if words.len() != 4 {
         return Err(LineFault::Bad);
     }
@@ -203,7 +278,10 @@ fn source_fault(words: &[&str]) -> Result<Event, LineFault> {
 }
 
 /// `land FLIGHT kept` or `land FLIGHT dropped`
-fn land(words: &[&str]) -> Result<Event, LineFault> {
+fn land(words: &[&str]) -> Result<Event, LineFault>
+    requires { WordAt words.now 0 (codes "land") }
+    ensures { IfOk result (IsEventOf words.now) }
+{
     if words.len() != 3 {
         return Err(LineFault::Bad);
     }
@@ -216,7 +294,9 @@ fn land(words: &[&str]) -> Result<Event, LineFault> {
 }
 
 /// The event of this name that has a number alone.
-fn numbered(name: &str, number: usize) -> Result<Event, LineFault> {
+fn numbered(name: &str, number: usize) -> Result<Event, LineFault>
+    ensures { IfOk result (λ e. (ws : LineWords) → IsNumbered name.now ws number → IsEventOf ws e) }
+{
     match name {
         "enter" => Ok(Event::Enter(number)),
         "again" => Ok(Event::Again(number)),
@@ -233,7 +313,9 @@ fn numbered(name: &str, number: usize) -> Result<Event, LineFault> {
 
 /// The event of a line's words, in the numbers of the world that it is meant for. `Bad`, where they are no event; whether the world allows
 /// it is not asked.
-pub fn event(alloc: Global, words: &[&str]) -> Result<Event, LineFault> {
+pub fn event(alloc: Global, words: &[&str]) -> Result<Event, LineFault>
+    ensures { IfOk result (IsEventOf words.now) }
+{
     match word(words, 0)? {
         "want" => want(alloc, words),
         "take" => take(words),

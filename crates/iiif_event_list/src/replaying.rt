@@ -1,20 +1,42 @@
 //! Worlds and their events, line by line.
 
-ghost use Rattle.std.specs.Prelude.{OnOk};
-ghost use Rattle.iiif_event_list.specs.Replays.{IsOutcome};
+ghost use Rattle.std.specs.Prelude.{◌≡◌, ◌++◌, ◌<◌, true, false, codes, decimal, length, option_copied, slice_get, string_bytes, Some, IfOk, OnOk};
+ghost use Rattle.iiif_machine.specs.Worlds.{answers};
+ghost use Rattle.iiif_machine.specs.declared.events.WorldFault.{WorldFault};
 ghost use Rattle.iiif_world.specs.Code.{world_of};
+ghost use Rattle.iiif_event_list.specs.Texts.{answer_line, answers_text, outcome_text, text_of};
+ghost use Rattle.iiif_event_list.specs.Spellings.{IsSetting};
+ghost use Rattle.iiif_event_list.specs.Replays.{AreWordsOf, Comes, Happens, IsAlone, IsComment, IsDescribed, IsNew, IsOutcome, LineComes, ended_text, world_in};
 
 use crate::describing::Description;
 use crate::fault::LineFault;
-use crate::reading::event;
+use crate::reading::{event, word};
 use crate::rows::put_rows;
 use crate::state::{Replay, State};
 use crate::values::put_answer;
-use iiif_machine::{Event, WorldFault};
+use iiif_machine::{Answer, Event, WorldFault};
 use iiif_pixel::NoMemory;
 use iiif_world::world::World;
 use std::alloc::Global;
 use std::mem::replace;
+
+/// The line of an event: its line's number, its words, and what it came to.
+fn outcome_line(alloc: Global, number: u64, line: &str, word: &str) -> Result<String, LineFault>
+    ensures { IfOk result (λ text. string_bytes text ≡ outcome_text number line.now word.now) }
+{
+    let words = line.trim();
+    Ok(format!(in alloc; "{number} {words}: {word}\n")?)
+}
+
+/// The line of an event that isn't allowed now.
+fn not_done(alloc: Global, number: u64, line: &str, fault: WorldFault) -> Result<String, LineFault>
+    ensures { IfOk result (λ text. (fault ≡ WorldFault.NotNow) × (string_bytes text ≡ outcome_text number line.now (codes "not now"))) }
+{
+    match fault {
+        WorldFault::NotNow => outcome_line(alloc, number, line, "not now"),
+        WorldFault::NoMemory => Err(LineFault::NoMemory),
+    }
+}
 
 /// What an event came to, behind its line's number and its words.
 fn outcome(
@@ -24,26 +46,49 @@ fn outcome(
     line: &str,
     event: &Event,
 ) -> Result<String, LineFault>
-    ensures { OnOk result (IsOutcome (world_of world.old) event.now (world_of world.new)) }
+    ensures { IfOk result (λ text. IsOutcome number line.now (world_of world.old) event.now (world_of world.new) (string_bytes text)) }
 {
-    let words = line.trim();
     match world.step(event) {
-        Ok(()) => Ok(format!(in alloc; "{number} {words}: done\n")?),
-        Err(WorldFault::NotNow) => Ok(format!(in alloc; "{number} {words}: not now\n")?),
-        Err(WorldFault::NoMemory) => Err(LineFault::NoMemory),
+        Ok(()) => outcome_line(alloc, number, line, "done"),
+        Err(fault) => not_done(alloc, number, line, fault),
     }
 }
 
+/// What a request has: an answer, or none.
+fn put_answer_or_none(text: &mut String, answer: Option<&Answer>) -> Result<(), NoMemory>
+    ensures { OnOk result (string_bytes text.new ≡ string_bytes text.old ++ text_of (option_copied answer.entry)) }
+{
+    match answer {
+        Some(answer) => put_answer(text, answer),
+        None => text.push_str("none"),
+    }
+}
+
+/// The line of a request of this number.
+fn put_line(text: &mut String, number: usize, answer: Option<&Answer>) -> Result<(), NoMemory>
+    ensures { OnOk result (string_bytes text.new ≡ string_bytes text.old ++ answer_line number (option_copied answer.entry)) }
+{
+    write!(text, "request {number}: ")?;
+    put_answer_or_none(text, answer)?;
+    text.push_str("\n")
+}
+
+/// The answer of a request that is there.
+fn answer_of(world: &World, request: usize) -> Option<&Answer>
+    requires { request < length (answers (world_of world.now)) }
+    ensures { slice_get (answers (world_of world.now)) request ≡ Some (option_copied result) }
+{
+    world.answer(request)
+}
+
 /// The answers of a world, a line a request, in the order of their numbers: `none`, where it has no answer.
-pub fn answers(alloc: Global, world: &World) -> Result<String, NoMemory> {
+#[tactic(auto, using(crate::proofs::Lines::lines_next))]
+pub fn answers(alloc: Global, world: &World) -> Result<String, NoMemory>
+    ensures { IfOk result (λ text. string_bytes text ≡ answers_text (answers (world_of world.now))) }
+{
     let mut text = String::new(alloc);
     for request in 0..world.request_count() {
-        write!(text, "request {}: ", request)?;
-        match world.answer(request) {
-            Some(answer) => put_answer(&mut text, answer)?,
-            None => text.push_str("none")?,
-        }
-        text.push_str("\n")?;
+        put_line(&mut text, request, answer_of(world, request))?;
     }
     Ok(text)
 }
@@ -55,16 +100,60 @@ pub fn rows(alloc: Global, world: &World) -> Result<String, NoMemory> {
     Ok(text)
 }
 
+/// Whether the first word begins with a number sign.
+fn is_comment(words: &[&str]) -> bool
+    ensures { result ≡ true → IsComment words.now }
+{
+    let Some(word) = words.first() else {
+        return false;
+    };
+    match word.as_bytes().first() {
+        Some(byte) => *byte == b'#',
+        None => false,
+    }
+}
+
+/// Whether two words are the same.
+fn is_same(left: &str, right: &str) -> bool
+    ensures { result ≡ true → left.now ≡ right.now }
+{
+    left == right
+}
+
+/// Whether this word is the only one.
+fn is_alone(words: &[&str], name: &str) -> bool
+    ensures { result ≡ true → IsAlone words.now name.now }
+{
+    if words.len() != 1 {
+        return false;
+    }
+    match word(words, 0) {
+        Ok(first) => is_same(first, name),
+        Err(_) => false,
+    }
+}
+
+/// The words of a line.
+fn words_of<'a>(alloc: Global, line: &'a str) -> Result<Vec<&'a str>, NoMemory>
+    ensures { IfOk result (λ words. AreWordsOf line.now words.items) }
+{
+    Ok(line.split_whitespace().collect(alloc)?)
+}
+
 impl Replay {
     /// Nothing was read.
-    pub fn new(alloc: Global) -> Replay {
+    pub fn new(alloc: Global) -> Replay
+        ensures { IsNew result.state }
+    {
         Replay {
             state: State::Described(Description::new(alloc)),
         }
     }
 
     /// The world begins, where it has not.
-    fn begin(&mut self, alloc: Global) -> Result<(), LineFault> {
+    fn begin(&mut self, alloc: Global) -> Result<(), LineFault>
+        ensures { OnOk result (world_in self.new.state ≡ world_in self.old.state) }
+    {
         match replace(&mut self.state, State::Lost) {
             State::Described(description) => {
                 self.state = State::Begun(description.begin(alloc)?);
@@ -79,24 +168,31 @@ impl Replay {
     }
 
     /// The answers of the world that has begun, a line a request; nothing, if none has.
-    pub fn ended(&self, alloc: Global) -> Result<String, LineFault> {
+    pub fn ended(&self, alloc: Global) -> Result<String, LineFault>
+        ensures { IfOk result (λ text. string_bytes text ≡ ended_text self.now.state) }
+    {
         match &self.state {
             State::Begun(world) => Ok(answers(alloc, world)?),
-            _ => Ok(String::new(alloc)),
+            State::Described(_) | State::Lost => Ok(String::new(alloc)),
         }
     }
 
     /// All rows of the world that has begun.
-    fn shown(&mut self, alloc: Global) -> Result<String, LineFault> {
+    fn shown(&mut self, alloc: Global) -> Result<String, LineFault>
+        ensures { OnOk result (world_in self.new.state ≡ world_in self.old.state) }
+    {
         self.begin(alloc)?;
         match &self.state {
             State::Begun(world) => Ok(rows(alloc, world)?),
-            _ => Err(LineFault::Bad),
+            State::Described(_) | State::Lost => Err(LineFault::Bad),
         }
     }
 
     /// The next world: the answers of the last one.
-    fn next_world(&mut self, alloc: Global) -> Result<String, LineFault> {
+    fn next_world(&mut self, alloc: Global) -> Result<String, LineFault>
+        ensures new { OnOk result (IsNew self.new.state) }
+        ensures ended { IfOk result (λ text. string_bytes text ≡ ended_text self.old.state) }
+    {
         let text = self.ended(alloc)?;
         self.state = State::Described(Description::new(alloc));
         Ok(text)
@@ -109,20 +205,25 @@ impl Replay {
         number: u64,
         line: &str,
         words: &[&str],
-    ) -> Result<String, LineFault> {
+    ) -> Result<String, LineFault>
+        ensures { IfOk result (λ text. Happens number line.now words.now self.old.state self.new.state (string_bytes text)) }
+    {
         let event = event(alloc, words)?;
         self.begin(alloc)?;
         match &mut self.state {
             State::Begun(world) => outcome(alloc, world, number, line, &event),
-            _ => Err(LineFault::Bad),
+            State::Described(_) | State::Lost => Err(LineFault::Bad),
         }
     }
 
     /// Whether words set something of the world that is described.
-    fn set(&mut self, alloc: Global, words: &[&str]) -> Result<bool, LineFault> {
+    fn set(&mut self, alloc: Global, words: &[&str]) -> Result<bool, LineFault>
+        ensures yes { IfOk result (λ set. set ≡ true → IsSetting words.now × IsDescribed self.old.state × IsDescribed self.new.state) }
+        ensures no { IfOk result (λ set. set ≡ false → world_in self.new.state ≡ world_in self.old.state) }
+    {
         match &mut self.state {
             State::Described(description) => description.set(alloc, words),
-            _ => Ok(false),
+            State::Begun(_) | State::Lost => Ok(false),
         }
     }
 
@@ -133,24 +234,44 @@ impl Replay {
         number: u64,
         line: &str,
         words: &[&str],
-    ) -> Result<String, LineFault> {
+    ) -> Result<String, LineFault>
+        ensures { IfOk result (λ text. Comes number line.now words.now self.old.state self.new.state (string_bytes text)) }
+    {
         if self.set(alloc, words)? {
             return Ok(String::new(alloc));
         }
         self.event(alloc, number, line, words)
     }
 
+    /// What words come to, which are those of a line.
+    fn come(
+        &mut self,
+        alloc: Global,
+        number: u64,
+        line: &str,
+        words: &[&str],
+    ) -> Result<String, LineFault>
+        ensures { IfOk result (λ text. Comes number line.now words.now self.old.state self.new.state (string_bytes text)) }
+    {
+        if words.is_empty() || is_comment(words) {
+            return Ok(String::new(alloc));
+        }
+        if is_alone(words, "world") {
+            return self.next_world(alloc);
+        }
+        if is_alone(words, "rows") {
+            return self.shown(alloc);
+        }
+        self.worded(alloc, number, line, words)
+    }
+
     /// What a line, of a number, comes to: an event's outcome, behind the number and the words; at `world` the answers of the last one; at
     /// `rows` all rows; else nothing. `Bad`, where it is no setting and no event, sets something of a world that has begun, or comes where
     /// the world can't begin: then each further event is `Bad` until `world`. After `NoMemory` an event may be done, or the world lost.
-    pub fn line(&mut self, alloc: Global, number: u64, line: &str) -> Result<String, LineFault> {
-        let words: Vec<&str> = line.split_whitespace().collect(alloc)?;
-        match words.first() {
-            None => Ok(String::new(alloc)),
-            Some(word) if word.starts_with('#') => Ok(String::new(alloc)),
-            Some(&"world") if words.len() == 1 => self.next_world(alloc),
-            Some(&"rows") if words.len() == 1 => self.shown(alloc),
-            Some(_) => self.worded(alloc, number, line, &words),
-        }
+    pub fn line(&mut self, alloc: Global, number: u64, line: &str) -> Result<String, LineFault>
+        ensures { IfOk result (λ text. LineComes number line.now self.old.state self.new.state (string_bytes text)) }
+    {
+        let words = words_of(alloc, line)?;
+        self.come(alloc, number, line, &words)
     }
 }

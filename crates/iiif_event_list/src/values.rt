@@ -1,8 +1,15 @@
 //! Keys, values and answers, as text.
 
+ghost use Rattle.std.specs.Prelude.{◌≡◌, ◌++◌, OnOk, string_bytes};
+ghost use Rattle.std.specs.List.{flat_map};
+ghost use Rattle.iiif_pixel.specs.Geometry.{channels_of, top_of};
+ghost use Rattle.iiif_pixel.specs.Depths.{span_values};
+ghost use Rattle.iiif_event_list.specs.Texts.{answer_text, bits_word, fault_text, kind_word, picture_text, refusal_word, spaced};
+
 use iiif_keys::{SumKey, SumVal, TileKey, TileVal};
 use iiif_machine::{Answer, Numbers};
-use iiif_pixel::{Kind, NoMemory, Raster, Rect, Span};
+use iiif_pixel::{Depth, Kind, NoMemory, Raster, Rect, Span};
+use iiif_request::Refusal;
 use iiif_scene::{Key, Value};
 use iiif_source::ReadFault;
 use iiif_tables::Class;
@@ -43,7 +50,9 @@ pub(crate) fn put_key(text: &mut String, key: &Key) -> Result<(), NoMemory> {
 }
 
 /// Gray or RGB.
-fn kind_word(kind: Kind) -> &'static str {
+fn kind_word(kind: Kind) -> &'static str
+    ensures { result.now ≡ kind_word (channels_of kind) }
+{
     match kind {
         Kind::Gray => "gray",
         Kind::Rgb => "rgb",
@@ -51,7 +60,9 @@ fn kind_word(kind: Kind) -> &'static str {
 }
 
 /// Samples of 8 bits, each behind a space.
-fn put_bytes(text: &mut String, samples: &[u8]) -> Result<(), NoMemory> {
+fn put_bytes(text: &mut String, samples: &[u8]) -> Result<(), NoMemory>
+    ensures { OnOk result (string_bytes text.new ≡ string_bytes text.old ++ flat_map spaced samples.now) }
+{
     for sample in samples {
         write!(text, " {}", sample)?;
     }
@@ -59,29 +70,43 @@ fn put_bytes(text: &mut String, samples: &[u8]) -> Result<(), NoMemory> {
 }
 
 /// Samples of 16 bits, each behind a space.
-fn put_words(text: &mut String, samples: &[u16]) -> Result<(), NoMemory> {
+fn put_words(text: &mut String, samples: &[u16]) -> Result<(), NoMemory>
+    ensures { OnOk result (string_bytes text.new ≡ string_bytes text.old ++ flat_map spaced samples.now) }
+{
     for sample in samples {
         write!(text, " {}", sample)?;
     }
     Ok(())
 }
 
-/// A picture, in the words of a setting.
-pub(crate) fn put_raster(text: &mut String, raster: &Raster) -> Result<(), NoMemory> {
-    let dim = raster.dim();
-    text.push_str(kind_word(raster.kind()))?;
-    match raster.samples() {
-        Span::Eight(samples) => {
-            text.push_str(" 8")?;
-            put_sides(text, &[dim.w, dim.h])?;
-            put_bytes(text, samples)
-        }
-        Span::Sixteen(samples) => {
-            text.push_str(" 16")?;
-            put_sides(text, &[dim.w, dim.h])?;
-            put_words(text, samples)
-        }
+/// How many bits a sample has, behind a space.
+fn bits_word(depth: Depth) -> &'static str
+    ensures { result.now ≡ bits_word (top_of depth) }
+{
+    match depth {
+        Depth::Eight => " 8",
+        Depth::Sixteen => " 16",
     }
+}
+
+fn put_samples(text: &mut String, samples: Span<'_>) -> Result<(), NoMemory>
+    ensures { OnOk result (string_bytes text.new ≡ string_bytes text.old ++ flat_map spaced (span_values samples.entry)) }
+{
+    match samples {
+        Span::Eight(samples) => put_bytes(text, samples),
+        Span::Sixteen(samples) => put_words(text, samples),
+    }
+}
+
+/// A picture, in the words of a setting.
+pub(crate) fn put_raster(text: &mut String, raster: &Raster) -> Result<(), NoMemory>
+    ensures { OnOk result (string_bytes text.new ≡ string_bytes text.old ++ picture_text raster.now) }
+{
+    text.push_str(kind_word(raster.kind()))?;
+    text.push_str(bits_word(raster.depth()))?;
+    let dim = raster.dim();
+    write!(text, " {} {}", dim.w, dim.h)?;
+    put_samples(text, raster.samples())
 }
 
 /// Sums: where they stand, and each of them.
@@ -102,7 +127,9 @@ pub(crate) fn put_value(text: &mut String, value: &Value) -> Result<(), NoMemory
     }
 }
 
-pub(crate) fn put_fault(text: &mut String, fault: &ReadFault) -> Result<(), NoMemory> {
+pub(crate) fn put_fault(text: &mut String, fault: &ReadFault) -> Result<(), NoMemory>
+    ensures { OnOk result (string_bytes text.new ≡ string_bytes text.old ++ fault_text fault.now) }
+{
     write!(text, "fault {} {}", fault.place, fault.cause)
 }
 
@@ -117,10 +144,37 @@ pub(crate) fn put_outcome(
     }
 }
 
+/// Why a request is refused.
+fn refusal_word(refusal: Refusal) -> &'static str
+    ensures { result.now ≡ refusal_word refusal }
+{
+    match refusal {
+        Refusal::Head => "Head",
+        Refusal::Method => "Method",
+        Refusal::Path => "Path",
+        Refusal::Identifier => "Identifier",
+        Refusal::Region => "Region",
+        Refusal::Size => "Size",
+        Refusal::Rotation => "Rotation",
+        Refusal::Quality => "Quality",
+        Refusal::Format => "Format",
+        Refusal::Empty => "Empty",
+        Refusal::Zero => "Zero",
+        Refusal::Larger => "Larger",
+        Refusal::Upscale => "Upscale",
+        Refusal::Limit => "Limit",
+    }
+}
+
 /// Adds an answer: `refused` and why, `image` and the picture in the words of a setting, or `fault`, its place and its cause.
-pub fn put_answer(text: &mut String, answer: &Answer) -> Result<(), NoMemory> {
+pub fn put_answer(text: &mut String, answer: &Answer) -> Result<(), NoMemory>
+    ensures { OnOk result (string_bytes text.new ≡ string_bytes text.old ++ answer_text answer.now) }
+{
     match answer {
-        Answer::Refused(refusal) => write!(text, "refused {:?}", refusal),
+        Answer::Refused(refusal) => {
+            text.push_str("refused ")?;
+            text.push_str(refusal_word(*refusal))
+        }
         Answer::Image(raster) => {
             text.push_str("image ")?;
             put_raster(text, raster)

@@ -1,0 +1,61 @@
+-- How the replay of a reader goes on line by line.
+use Rattle.std.proofs.Common.{◌≡◌, ◌++◌, ◌<◌, append_assoc, ℕ, List, [], ◌∷◌, length, Option, Some, None, refl, sym, ap, subst}
+use Rattle.std.specs.Prelude.{IfSome, OnOk, Result, Ok, Err}
+use Rattle.std.specs.Io.BufRead.{DropsThrough, first_line}
+use Rattle.std.specs.Io.KnownBytes.{Appends, IsAtEnd}
+use Rattle.std.proofs.KnownBytes.{Appends-trans}
+use Rattle.iiif_event_list.specs.declared.state.State.{State}
+use Rattle.iiif_event_list.specs.Replays.{AreLinesIn, IsNew, LineComes, LinesCome, Replays, ended_text, number_behind}
+
+-- what was written so far; and whatever lines may come yet, what they come to ends the replay
+pub record WrittenSoFar (input left : Option (List ℕ)) (n : ℕ) (s : State) (old new : Option (List ℕ)) : Type 0 where
+  pub text : List ℕ
+  pub written : Appends old new text
+  pub more : (lines : List (List ℕ)) (rest : List ℕ) → AreLinesIn left lines → LinesCome n lines s rest → Replays input (text ++ rest)
+
+nothing_appended : (a : Option (List ℕ)) → Appends a a []
+nothing_appended None = tt
+nothing_appended (Some xs) = sym (append_nothing xs)
+  where
+    append_nothing : (ys : List ℕ) → ys ++ [] ≡ ys
+    append_nothing [] = refl
+    append_nothing (y ∷ ys) = ap (λ zs. y ∷ zs) (append_nothing ys)
+
+pub begun : (input left : Option (List ℕ)) (s : State) (old : Option (List ℕ)) → left ≡ input → IsNew s → WrittenSoFar input left 0 s old old
+begun input left s old same new = record {
+  text = [];
+  written = nothing_appended old;
+  more = λ lines rest read come. record { lines = lines; read = subst (λ o. AreLinesIn o lines) same read; start = s; new = new; come = come };
+}
+
+line_read : (old new : Option (List ℕ)) (line : List ℕ) (lines : List (List ℕ))
+    → IfSome old (λ xs. (0 < length xs) × (line ≡ first_line xs)) → DropsThrough old new 10 → AreLinesIn new lines → AreLinesIn old (line ∷ lines)
+line_read None new line lines is drops read = tt
+line_read (Some xs) new line lines is drops read = (is.0, is.1, subst (λ o. AreLinesIn o lines) drops read)
+
+pub went_on : (input left next : Option (List ℕ)) (n m : ℕ) (s t : State) (old mid new : Option (List ℕ)) (line bytes front : List ℕ)
+    → WrittenSoFar input left n s old mid → IfSome left (λ xs. (0 < length xs) × (bytes ≡ first_line xs)) × DropsThrough left next 10
+    → line ≡ bytes → m ≡ number_behind n → LineComes m line s t front → Appends mid new front → WrittenSoFar input next m t old new
+went_on input left next n m s t old mid new line bytes front so_far is same behind comes written =
+    let comes_so : LineComes m bytes s t front = subst (λ l. LineComes m l s t front) same comes in
+    let comes_behind : LineComes (number_behind n) bytes s t front = subst (λ k. LineComes k bytes s t front) behind comes_so in
+    record {
+      text = so_far.text ++ front;
+      written = Appends-trans old mid new so_far.text front so_far.written written;
+      more = λ lines rest read come. subst (Replays input) (sym (append_assoc so_far.text front rest))
+          (so_far.more (bytes ∷ lines) (front ++ rest) (line_read left next bytes lines is.0 is.1 read)
+          (t, front, rest, comes_behind, subst (λ k. LinesCome k lines t rest) behind come, refl));
+    }
+
+nothing_left : (left : Option (List ℕ)) → IsAtEnd left → AreLinesIn left []
+nothing_left None at_end = tt
+nothing_left (Some xs) at_end = at_end
+
+pub finished : (input left : Option (List ℕ)) (n : ℕ) (s : State) (old mid new : Option (List ℕ))
+    → WrittenSoFar input left n s old mid → IsAtEnd left → Appends mid new (ended_text s) → (text : List ℕ) × Replays input text × Appends old new text
+finished input left n s old mid new so_far at_end written =
+    (so_far.text ++ ended_text s, so_far.more [] (ended_text s) (nothing_left left at_end) refl, Appends-trans old mid new so_far.text (ended_text s) so_far.written written)
+
+pub on_ok_then : {A E P Q : Type 0} (r : Result A E) → (P → Q) → OnOk r P → OnOk r Q
+on_ok_then (Ok x) f p = f p
+on_ok_then (Err e) f p = tt

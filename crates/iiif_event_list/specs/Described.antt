@@ -1,0 +1,19 @@
+-- Worlds that are described.
+use Rattle.std.specs.Prelude.{[], false, map}
+use Rattle.iiif_canonical.specs.declared.resolved.Limits.{Limits}
+use Rattle.iiif_machine.specs.Worlds.{World, new_world}
+use Rattle.iiif_world.specs.Code.{scene_of}
+use Rattle.iiif_world.specs.Starting.{node_for}
+use Rattle.iiif_event_list.specs.declared.describing.Description.{Description}
+
+-- the world that was described, in which nothing has happened
+abbrev pub first_of : Description → World
+first_of d = new_world (scene_of d.items.items d.edge d.limits d.room) (map node_for d.setups.items)
+
+-- images of at most 4096 by 4096 that aren't scaled up
+abbrev pub plain_limits : Limits
+plain_limits = record { max_w = 4096; max_h = 4096; upscale = false }
+
+-- the world of which no line says anything: tiles of 256 places a side, and a room of 65,536 sums for a plan
+abbrev pub plain_world : World
+plain_world = new_world (scene_of [] 256 plain_limits 65536) []
