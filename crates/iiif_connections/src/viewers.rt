@@ -1,6 +1,10 @@
 //! Connections of viewers.
 
-ghost use Rattle.std.specs.Prelude.{◌≡◌, false};
+ghost use Rattle.std.specs.Prelude.{◌≡◌, ℕ, List, IfSome, true, false};
+ghost use Rattle.std.specs.Io.KnownBytes.{Appends};
+ghost use Rattle.iiif_answers.specs.Streams.{IsCame, IsConnection};
+ghost use Rattle.iiif_connections.specs.Held.{AllHeld, terms_of_held};
+ghost use Rattle.iiif_start.specs.Stored.{bytes_of};
 
 use crate::connections::ends;
 use crate::passes::{give_back, passes_of};
@@ -76,7 +80,8 @@ where
     }
 
     /// Answers the calls of a connection in order, over any reader and writer. It says whether passes for its workers were there: where they
-    /// are wanting, nothing is answered.
+    /// are wanting, nothing is answered. Of a node that holds all its images in memory and asks no other, nothing is assumed in what is said
+    /// of its answers.
     pub fn serve_over<I: Inlet + Drop, W: Outlet>(
         &self,
         rt: &R,
@@ -84,6 +89,19 @@ where
         reader: I,
         out: &mut W,
     ) -> bool
+        // Where the bytes that the reader has left are known, the output is that for what came of them: all, or a first part where
+        // the reader failed.
+        ensures serves { AllHeld self.now.node.now.items → J.honest ≡ true → result ≡ true
+            → IfSome (I.remaining reader) (λ input. (output : List ℕ) × Appends (W.contents out.old) (W.contents out.new) output
+            × ((came : List ℕ) × IsCame ((before after : I) × I.fails before after) input came
+            × IsConnection (terms_of_held (bytes_of R.holds) self.now.node.now.settings self.now.node.now.items ((before after : I) × I.fails before after) ((before : W) × W.fails before out.new))
+            came output)) }
+
+        // Where they are not, as at a socket, it is that for the bytes that came.
+        ensures came { AllHeld self.now.node.now.items → J.honest ≡ true → result ≡ true
+            → (came : List ℕ) × (output : List ℕ) × Appends (W.contents out.old) (W.contents out.new) output
+            × IsConnection (terms_of_held (bytes_of R.holds) self.now.node.now.settings self.now.node.now.items ((before after : I) × I.fails before after) ((before : W) × W.fails before out.new))
+            came output }
         ensures unanswered { result ≡ false → out.new ≡ out.old }
     {
         let Some(mut passes) = passes_of(rt, alloc, self.node, self.workers) else {
