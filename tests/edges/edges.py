@@ -1,0 +1,116 @@
+"""The built program at its edges: words that aren't UTF-8, outputs that take nothing, and reads that fail while it answers.
+
+    /usr/bin/python3 tests/edges/edges.py --program crates/iiif_serve/out/iiif_serve
+
+Needs `cc`: `fail.c` is built and loaded in front of the C library, and fails the first, the second and so on of the reads of an image's
+file, until a run meets none. Then the start has to be refused, the answer has to be `L1 source`, or it is cut, the status 1 and the line
+`run: source`. What must be said stands here, in the words of the manual page and docs/OPERATING.md. Prints how many runs there were; each
+that was wrong is named on standard error, and then the status is 1.
+"""
+import argparse
+import os
+import subprocess
+import sys
+import tempfile
+
+HERE = os.path.dirname(os.path.abspath(__file__))
+sys.path.insert(0, os.path.join(HERE, "..", "hostile"))
+import files  # noqa: E402
+
+BASE = ["--base", "http://localhost/iiif"]
+IMAGE = [*BASE, "--edge", "2", "--band", "1", "--one", "/iiif/a/full/max/0/default.tif"]
+NOT_UTF8 = b"line: not UTF-8\neach word has to be UTF-8: rename a file whose name isn't\n"
+FULL = b"run: write\n"
+
+
+def run(program, words, **how):
+    """The status of a run, and what it wrote to its two outputs, where these are pipes."""
+    pipes = {"stdin": subprocess.DEVNULL, "stdout": subprocess.PIPE, "stderr": subprocess.PIPE}
+    done = subprocess.run([program, *words], timeout=60, **{**pipes, **how})
+    return done.returncode, done.stdout, done.stderr
+
+
+def words(program, path):
+    """Words that aren't UTF-8, wherever they stand."""
+    target = b"/iiif/\xe9/full/max/0/default.tif"
+    for given in ([b"\xff"], [*BASE, b"--one", target, "a=:sample"], [*IMAGE, b"\xc3=" + path.encode()], [b"--help", b"\x80"]):
+        got = run(program, given)
+        yield f"{given}", got, got == (2, b"", NOT_UTF8)
+
+
+def outputs(program, path):
+    """Outputs that take nothing: a full disk, and a pipe that nobody reads."""
+    image = "a=" + path
+    for given in ([], ["--help"], ["--version"], [*IMAGE, image], [*IMAGE, "--hex", image], [*IMAGE, image, "--peer", "p=127.0.0.1:1"],
+                  [*BASE, "--one", "/iiif/zz/full/max/0/default.tif", image], [*BASE, "--check", image]):
+        with open("/dev/full", "wb") as full:
+            got = run(program, given, stdout=full)
+        yield f"{given} to /dev/full", got, got == (1, None, FULL)
+        read, write = os.pipe()
+        os.close(read)
+        got = run(program, given, stdout=write)
+        os.close(write)
+        yield f"{given} to a closed pipe", got, got == (1, None, FULL)
+    for given, status in (([*BASE, "--band", "0"], 2), ([b"\xff"], 2), ([*IMAGE, "a=" + path + ".none"], 2), (["--edgy"], 2)):
+        with open("/dev/full", "wb") as full:
+            got = run(program, given, stderr=full)
+        yield f"{given}, standard error to /dev/full", got, got == (status, b"", None)
+    with open("/dev/full", "wb") as full:
+        got = run(program, [*IMAGE, image], stdout=full, stderr=full)
+    yield "both to /dev/full", got, got == (1, None, None)
+
+
+def kind_of(got, own, in_hex):
+    """What a run with a failed read came to, or None where it may not."""
+    if got == own:
+        return "own"
+    if got[0] == 2 and got[1] == b"" and got[2].startswith(b"image a: "):
+        return "start refused"
+    text = b"L1 source\n"
+    if got == (0, b" ".join(b"%02x" % byte for byte in text) + b"\n" if in_hex else text, b""):
+        return "L1 source"
+    is_cut = got[1] == b"" if in_hex else 0 < len(got[1]) < len(own[1]) and own[1].startswith(got[1])
+    return "run: source" if got[0] == 1 and got[2] == b"run: source\n" and is_cut else None
+
+
+def reads(program, path):
+    """Each read of the image's file failed in turn: each kind has to come, and no other."""
+    with tempfile.TemporaryDirectory() as room:
+        library, mark = os.path.join(room, "fail.so"), os.path.join(room, "mark")
+        subprocess.run(["cc", "-O2", "-shared", "-fPIC", "-o", library, os.path.join(HERE, "fail.c"), "-ldl"], check=True)
+        for more in ([], ["--hex"], ["--peer", "p=127.0.0.1:1"]):
+            given = [*IMAGE, *more, "--workers", "1", "--cache-bytes", "0", "a=" + path]
+            own, kinds = run(program, given), set()
+            for n in range(1, 1000):
+                got = run(program, given, env={"LD_PRELOAD": library, "FAIL_READ": str(n), "FAIL_MARK": mark})
+                if not os.path.exists(mark):
+                    break
+                os.remove(mark)
+                kind = kind_of(got, own, "--hex" in more)
+                kinds.add(kind)
+                yield f"{more}, read {n} failed", got, kind is not None
+            lacking = {"start refused", "L1 source", "run: source"} - kinds
+            yield f"{more}: kinds that never came", lacking, not lacking
+
+
+def main():
+    parser = argparse.ArgumentParser(description=__doc__, formatter_class=argparse.RawDescriptionHelpFormatter)
+    parser.add_argument("--program", required=True)
+    program = os.path.abspath(parser.parse_args().program)
+    runs = wrong = 0
+    with tempfile.TemporaryDirectory() as room:
+        path = os.path.join(room, "sample.tif")
+        with open(path, "wb") as file:
+            file.write(files.SAMPLE)
+        for part in (words, outputs, reads):
+            for what, got, is_right in part(program, path):
+                runs += 1
+                wrong += not is_right
+                if not is_right:
+                    print(f"wrong: {what}: {got}", file=sys.stderr)
+    print(f"edges: {runs} runs, {wrong} wrong")
+    return 1 if wrong else 0
+
+
+if __name__ == "__main__":
+    sys.exit(main())
