@@ -7,7 +7,7 @@ from pathlib import Path
 
 TOP = Path(__file__).resolve().parents[1]
 # Crates of tests that aren't named so.
-TESTS = ("iiif_sample_keys", "iiif_program_cases")
+TESTS = ("iiif_sample_keys", "iiif_program_cases", "iiif_matrix")
 
 
 def is_test(crate):
@@ -42,6 +42,35 @@ def tracked():
         .split("\0")
     )
     return sorted(name for name in names if name and (TOP / name).is_file())
+
+
+# The edits of a crate that stand beside the gate; rt takes any file of must-fail/ for a bad edit but `*.edit` and `*.md`.
+MORE = "more.edits.md"
+
+
+@dataclass
+class Edit:
+    name: str
+    words: str  # what it turns
+    text: str  # its lines `file:`, `old:`, `new:`, as an .edit has them
+
+
+@functools.cache
+def more_edits(crate):
+    """The edits of a crate's file MORE: a line `edit NAME: what it turns`, and below it the lines of an .edit, each four columns in."""
+    path, found = TOP / "crates" / crate / "must-fail" / MORE, []
+    for line in path.read_text().splitlines() if path.exists() else []:
+        begun = re.fullmatch(r"edit ([\w-]+): (.+)", line)
+        if begun:
+            found.append(Edit(begun[1], begun[2], ""))
+        elif line.startswith("    ") and found:
+            found[-1].text += f"{line[4:]}\n"
+    return found
+
+
+def gate_edits(crate):
+    """The edits of a crate that `rt ci` tries."""
+    return sorted((TOP / "crates" / crate / "must-fail").glob("*.edit"))
 
 
 def below(crate):
