@@ -40,17 +40,18 @@ def main():
     parser.add_argument("--batch", type=int, default=150, help="accepted files a server opens at once")
     parser.add_argument("--found", default="/tmp/iiif_hostile", help="where files are kept that something disagreed on")
     args = parser.parse_args()
-    wrong = 0
+    wrong = asked = 0
     with tempfile.TemporaryDirectory() as room:
         for name, count, run in parts(args):
             if not count:
                 continue
             start = time.monotonic()
             said, found = run(args, room)
-            wrong += len(found)
+            wrong, asked = wrong + len(found), asked + count
             print(f"{name}: {said}; {len(found)} wrong; {time.monotonic() - start:.0f} s, seed {args.seed}", flush=True)
             for line in found[:40]:
                 print(f"wrong: {name}: {line}", file=sys.stderr)
+    print(f"hostile: {asked} inputs by chance, and those by hand, {wrong} wrong")
     return 1 if wrong else 0
 
 

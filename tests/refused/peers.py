@@ -17,14 +17,14 @@ import sys
 import threading
 
 import starts
-from streams import HERE, MOST, STREAMS, Node, count, files, images, running, tiff
+from streams import HERE, STREAMS, Node, count, files, images, running, tiff
 
 sys.path.insert(0, os.path.join(HERE, "..", "..", "bench", "scale"))
 import wire  # noqa: E402
 from model import TILE, Image, Rect, Request, Ring  # noqa: E402
 
 EDGE, OTHERS, WANT = 2, 7, 2
-CASES = ["sample's image", "half width", "turned bits", "two images", "plans of tiles, of blocks, and the same again"]
+CASES = ["sample's image", "first tile", "half width", "turned bits", "two images", "plans of tiles, of blocks, and the same again"]
 
 
 def keys_of(calls):
@@ -74,7 +74,7 @@ class Crossed:
     def run(self, refusing, once, tried):
         """Each growth of one node refused by `tried`, on new servers or on one; what came, and what is wrong."""
         kinds, wrong, servers = {}, [], None
-        for n in range(1, MOST):
+        for n in self.control.growths():
             if servers is None or not once:
                 stop(servers)
                 servers, ports = self.started(refusing)
@@ -219,7 +219,13 @@ class Misled(Node):
         return met, kind, wrong
 
 
-def lied_to(program, control, path, options):
+def rows(program, control, room, options):
+    """A tile and an image that a node which lies is asked for, on one server."""
+    for name, kinds, wrong in lied_to(program, control, sample_in(room), options, ["first tile", "half width"], ["one server"], []):
+        yield name, kinds, wrong
+
+
+def lied_to(program, control, path, options, cases=CASES, places=("new servers", "one server"), started=STREAMS["two images"]):
     """Each growth refused to a node that asks a liar: at a listening server, and at a start by `--one`."""
     values = wire.Values({"a": tiff.judge(files.SAMPLE)}, EDGE)
     own, others = names_without(set().union(*(keys_of(STREAMS[case]) for case in CASES)), b"a")
@@ -227,10 +233,11 @@ def lied_to(program, control, path, options):
         with Liar(values, lie) as liar:
             asks = [*options, "--name", own] + [word for name in others for word in ("--peer", f"{name}=127.0.0.1:{liar.server_address[1]}")]
             node = Misled(program, control, path, asks)
-            for case in CASES:
-                for where, tried in (("new servers", node.cold), ("one server", node.warm)):
+            for case in cases:
+                for where in places:
+                    tried = node.cold if where == "new servers" else node.warm
                     yield f"{where}, {what}, {case}", *seen(liar, *tried(STREAMS[case]))
-            for _, target in STREAMS["two images"]:
+            for _, target in started:
                 control.refuse(0)
                 right = starts.one(program, control.env, target.decode(), path, options)
                 kinds, wrong = starts.each(program, control, target.decode(), path, right, asks)
@@ -245,13 +252,19 @@ def seen(liar, kinds, wrong):
     return kinds, wrong if liar.lately() else wrong + ["the node that lies wasn't asked"]
 
 
+def sample_in(room):
+    """The sample's file."""
+    path = os.path.join(room, "sample.tif")
+    with open(path, "wb") as file:
+        file.write(files.SAMPLE)
+    return path
+
+
 def runs(program, control, room, options):
     """All runs, where the program has peers."""
     if "--peer-listen" not in running.options_of(program):
         return
-    path = os.path.join(room, "sample.tif")
-    with open(path, "wb") as file:
-        file.write(files.SAMPLE)
+    path = sample_in(room)
     crossed = Crossed(program, control, path, options)
     for where, once in (("new servers", False), ("one pair", True)):
         for case in CASES:

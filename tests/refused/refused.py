@@ -2,6 +2,7 @@
 
     /usr/bin/python3 tests/refused/refused.py --program crates/iiif_serve/out/iiif_serve
     /usr/bin/python3 tests/refused/refused.py --tests crates/*/out/*_tests
+    /usr/bin/python3 tests/refused/refused.py --rows --seconds 300 --program .. --tests ..    # a part, as .ci/run has it
 
 Needs `cc`. `refuse.c` is built and loaded in front of the C library; it refuses the first, the second and so on of the growths that
 the program's own code asks for, until a run meets none.
@@ -28,7 +29,7 @@ import tempfile
 import peers
 import starts as begun
 import streams
-from streams import MOST, Control, count, files, said, tiff
+from streams import Control, count, files, said, tiff
 
 MARK = "after_a_refused_growth"
 # What a test ends with whose own preparation was refused.
@@ -54,14 +55,22 @@ def odd_files():
 TARGETS = ["full/max/0/default.tif", "full/2,/0/default.tif", "full/3,3/!90/bitonal.tif", "0,0,2,2/max/0/default.tif", "info.json", "zz/0/0/x"]
 
 
-def starts(program, control, room):
+# The files and targets of --rows: those whose answers the tests of the tree have, too.
+ROWS = ["sample", "cut to 23 bytes", "cut to 133 bytes", "17 bytes in the strip", "compression 5"]
+ROW_TARGETS = ["full/max/0/default.tif", "full/2,/0/default.tif"]
+ROW_STREAMS = ["three requests", "info.json", "half width", "plans of tiles, of blocks, and the same again"]
+
+
+def starts(program, control, room, names=None, targets=TARGETS):
     """Each refusal of a start with `--one`."""
     for name, data in odd_files().items():
+        if names is not None and name not in names:
+            continue
         path = os.path.join(room, "odd.tif")
         with open(path, "wb") as file:
             file.write(data)
         accepted = isinstance(tiff.judge(data), tiff.Picture)
-        for target in TARGETS if name == "sample" else TARGETS[:1]:
+        for target in targets if name == "sample" else targets[:1]:
             words = "/iiif/a/" + target
             control.refuse(0)
             own = begun.one(program, control.env, words, path)
@@ -72,13 +81,20 @@ def starts(program, control, room):
 
 
 def connections(program, control, room, options):
-    path = os.path.join(room, "sample.tif")
-    with open(path, "wb") as file:
-        file.write(files.SAMPLE)
-    node = streams.Node(program, control, path, options)
+    node = streams.Node(program, control, peers.sample_in(room), options)
     for name, calls in streams.STREAMS.items():
         yield f"new servers, {name}", *node.cold(calls)
         yield f"one server, {name}", *node.warm(calls)
+
+
+def rows(program, control, room, options):
+    """A part of the program's cases that takes few minutes: starts, one server, and one that asks a node which lies."""
+    yield from starts(program, control, room, ROWS, ROW_TARGETS)
+    node = streams.Node(program, control, peers.sample_in(room), options)
+    for name in ROW_STREAMS:
+        yield f"one server, {name}", *node.warm(streams.STREAMS[name])
+    yield f"new servers, {ROW_STREAMS[2]}", *node.cold(streams.STREAMS[ROW_STREAMS[2]])
+    yield from peers.rows(program, control, room, options)
 
 
 def tests_of(binary, control):
@@ -93,7 +109,7 @@ def tests(binaries, control, everything):
             if not judged and not everything:
                 continue
             kinds, wrong = {}, []
-            for n in range(1, MOST):
+            for n in control.growths():
                 control.refuse(n)
                 done = subprocess.run([binary, name], capture_output=True, text=True, env=control.env, timeout=120)
                 if not control.refused():
@@ -115,21 +131,25 @@ def main():
     parser.add_argument("--options", default="", help="more options of the program, in one word")
     parser.add_argument("--tests", nargs="*", default=[])
     parser.add_argument("--all", action="store_true")
+    parser.add_argument("--rows", action="store_true", help="a part of the program's cases alone, which takes few minutes")
+    parser.add_argument("--seconds", type=int, help="ends after so long, whatever was tried")
     args = parser.parse_args()
     bad = total = 0
     with tempfile.TemporaryDirectory() as room:
-        control = Control(room)
-        runs = [tests(args.tests, control, args.all)]
-        if args.program:
-            options = args.options.split()
-            runs = [starts(args.program, control, room), connections(args.program, control, room, options), peers.runs(args.program, control, room, options)] + runs
+        control = Control(room, args.seconds)
+        runs, options = [tests(args.tests, control, args.all)], args.options.split()
+        if args.program and args.rows:
+            runs = [rows(args.program, control, room, options)] + runs
+        elif args.program:
+            served = [connections(args.program, control, room, options), peers.runs(args.program, control, room, options)]
+            runs = [starts(args.program, control, room)] + served + runs
         for name, kinds, wrong in itertools.chain.from_iterable(runs):
             total += sum(kinds.values())
             bad += len(wrong)
             print(f"{name}: {sum(kinds.values())} refusals: {said(kinds)}", flush=True)
             for line in wrong[:5]:
                 print(f"wrong: {name}: {line}", file=sys.stderr)
-    print(f"{total} refusals, {bad} wrong")
+    print(f"refused: {total} growths, {bad} wrong{'; the time ended before all were tried' if control.is_cut else ''}")
     return 1 if bad else 0
 
 

@@ -1,7 +1,7 @@
 """A start by `--one`, of which growths of memory are refused one by one, and what may come of it."""
 import subprocess
 
-from streams import MOST, count, running
+from streams import count, running
 
 
 def one(program, env, words, path, options=()):
@@ -28,7 +28,7 @@ def start_kind(own, got):
 def each(program, control, words, path, own, options=()):
     """Each growth of such a start refused, where `own` is its answer: what came, and what is wrong."""
     kinds, wrong = {}, []
-    for n in range(1, MOST):
+    for n in control.growths():
         control.refuse(n)
         got = one(program, control.env, words, path, options)
         if not control.refused():

@@ -4,6 +4,7 @@ import os
 import struct
 import subprocess
 import sys
+import time
 
 HERE = os.path.dirname(os.path.abspath(__file__))
 sys.path.insert(0, os.path.join(HERE, "..", "hostile"))
@@ -18,7 +19,9 @@ MOST = 20_000
 class Control:
     """The file by which a program is told which growth is refused."""
 
-    def __init__(self, room):
+    def __init__(self, room, seconds=None):
+        self.end = None if seconds is None else time.monotonic() + seconds
+        self.is_cut = False
         self.library = os.path.join(room, "refuse.so")
         subprocess.run(["cc", "-O2", "-shared", "-fPIC", "-o", self.library, os.path.join(HERE, "refuse.c"), "-ldl"], check=True)
         path = os.path.join(room, "control")
@@ -27,6 +30,14 @@ class Control:
         self.file = open(path, "r+b")
         self.shared = mmap.mmap(self.file.fileno(), 24)
         self.env = {"LD_PRELOAD": self.library, "REFUSE_CONTROL": path}
+
+    def growths(self):
+        """The growths to be refused, one after another, until the time ends."""
+        for n in range(1, MOST):
+            if self.end is not None and time.monotonic() > self.end:
+                self.is_cut = True
+                return
+            yield n
 
     def refuse(self, n):
         """The n-th growth from now on is refused; none with 0."""
@@ -50,6 +61,7 @@ STREAMS = {"three requests": THREE, "sample's image": [(b"GET", b"/iiif/a/full/m
            "a broken escape and an unknown name": [(b"GET", b"/iiif/a%2/full/max/0/default.tif"), (b"GET", b"/iiif/zz/bad/max/0/default.tif")],
            "plans of tiles, of blocks, and the same again": [(b"GET", b"/iiif/a/" + words + b"/0/default.tif") for words in
                                                             (b"full/max", b"full/1,1", b"1,1,3,3/2,2", b"full/1,1", b"full/max")],
+           "first tile": [(b"GET", b"/iiif/a/0,0,2,2/max/0/default.tif")],
            "two images": [(b"GET", b"/iiif/a/full/2,/0/default.tif"), (b"GET", b"/iiif/a/full/max/0/gray.tif")]}
 
 
@@ -131,7 +143,7 @@ class Node:
 
     def cold(self, calls):
         kinds, wrong = {}, []
-        for n in range(1, MOST):
+        for n in self.control.growths():
             with self.start() as server:
                 met, kind, faults = self.tried(server, calls, n)
             wrong += faults
@@ -143,7 +155,7 @@ class Node:
     def warm(self, calls):
         kinds, wrong = {}, []
         with self.start() as server:
-            for n in range(1, MOST):
+            for n in self.control.growths():
                 met, kind, faults = self.tried(server, calls, n)
                 wrong += faults
                 if not met or not server.alive():
