@@ -1,7 +1,7 @@
 """Gives a copy of the tree the libraries that `rt ci` keeps on this machine, so that an `rt must-fail` there proves none of them again.
 
-`rt` has no command for it, so this calls what `rt` itself does at the start of a crate: it computes the sum of all that a library is made from,
-and takes it where an earlier run proved the very same. Where the toolchain's scripts are others, nothing is given, and `rt` proves it all.
+`rt` has no command for it, so this calls what `rt` itself does at the start of a crate: it computes the sum of all that a library is made
+from, and takes it where an earlier run proved the very same. Where the toolchain's scripts are others, nothing is given, and `rt` proves all.
 """
 import contextlib
 import importlib.machinery

@@ -4,8 +4,8 @@
     python3 tools/reasons.py LOG     # a line for each edit whose refusal doesn't count, and its reason; status 1 where there is one
 
 A refusal counts where a goal of what a function `ensures` fails, or where two values differ. A goal's name says what it is of
-(`returns..` is of an `ensures`; `CALL-requires`, `overflow_add-X`, `bounds-..`, `LOOP-preserved` are of other things). A search that gave up
-at a limit says nothing, nor does a written proof that no longer fits: a body that means the same is refused so, too.
+(`returns..` is of an `ensures`; `CALL-requires`, `overflow_add-X`, `bounds-..`, `LOOP-preserved` are of other things). A search that gave
+up at a limit says nothing, nor does a written proof that doesn't fit: a body that means the same is refused so, too.
 """
 import re
 import sys

@@ -3,10 +3,10 @@
     /usr/bin/python3 tests/matrix/matrix.py            # whether the crate's stdin and stdout are what is worked out here
     /usr/bin/python3 tests/matrix/matrix.py --write    # writes them
 
-Every region of the built-in picture of 4 by 4 samples, in every size up to the region's own, in eight turns and four qualities, with each of
-three sizes of caches, three of bands and three numbers of workers. An answer is worked out by `images` of tests/hostile: exact averages over
-the whole region, turned and packed, and the file around them. Nothing there knows of tiles, blocks, bands, caches or workers, so the digests
-are the same with each setting.
+Every region of the built-in picture of 4 by 4 samples, in every size up to the region's own, in eight turns and four qualities, with each
+of three sizes of caches, three of bands and three numbers of workers. An answer is worked out by `images` of tests/hostile: exact averages
+over the whole region, turned and packed, and the file around them. Nothing there knows of tiles, blocks, bands, caches or workers, so the
+digests are the same with each setting.
 """
 import hashlib
 import os
