@@ -33,7 +33,7 @@ from streams import Control, count, files, said, tiff
 
 MARK = "after_a_refused_growth"
 # What a test ends with whose own preparation was refused.
-WANTS = ("error: AllocError", "error: AllocFailed", "error: NoMemory", "error: out of memory")
+WANTS = ("error: AllocError", "error: AllocFailed", "error: NoMemory", "error: out of memory", "error: Kind(OutOfMemory)")
 
 
 def edited(at, new):
