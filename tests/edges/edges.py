@@ -2,8 +2,8 @@
 
     /usr/bin/python3 tests/edges/edges.py --program crates/iiif_serve/out/iiif_serve
 
-Needs `cc`: `fail.c` is built and loaded in front of the C library, and fails the first, the second and so on of the reads of an image's
-file, until a run meets none. Then the start has to be refused, the answer has to be `L1 source`, or it is cut, the status 1 and the line
+Needs `cc`: `fail.c` is built and loaded in front of the C library, and fails the reads of an image's file from the first, the second and so
+on, until a run meets none. Then the start has to be refused, the answer has to be `L1 source`, or it is cut, the status 1 and the line
 `run: source`. What must be said stands here, in the words of the manual page and docs/OPERATING.md. Prints how many runs there were; each
 that was wrong is named on standard error, and then the status is 1.
 """
@@ -14,11 +14,14 @@ import sys
 import tempfile
 
 HERE = os.path.dirname(os.path.abspath(__file__))
-sys.path.insert(0, os.path.join(HERE, "..", "hostile"))
+sys.path[:0] = [os.path.join(HERE, "..", "hostile"), os.path.join(HERE, "..", "found")]
 import files  # noqa: E402
+from requests import plain  # noqa: E402
 
 BASE = ["--base", "http://localhost/iiif"]
 IMAGE = [*BASE, "--edge", "2", "--band", "1", "--one", "/iiif/a/full/max/0/default.tif"]
+# An image of many bands, whose rows no cache keeps.
+LARGE = [*BASE, "--edge", "64", "--band", "16", "--workers", "1", "--cache-bytes", "0", "--one", "/iiif/a/full/max/0/default.tif"]
 NOT_UTF8 = b"line: not UTF-8\neach word has to be UTF-8: rename a file whose name isn't\n"
 FULL = b"run: write\n"
 
@@ -74,21 +77,24 @@ def kind_of(got, own, in_hex):
 
 
 def reads(program, path):
-    """Each read of the image's file failed in turn: each kind has to come, and no other."""
+    """The reads of a larger image's file failed from each one on: each kind has to come, and no other."""
     with tempfile.TemporaryDirectory() as room:
+        large = os.path.join(room, "large.tif")
+        with open(large, "wb") as file:
+            file.write(plain([[[(3 * x + 5 * y) % 256] for x in range(300)] for y in range(300)], 1, 8, 0, 1, "<", False))
         library, mark = os.path.join(room, "fail.so"), os.path.join(room, "mark")
         subprocess.run(["cc", "-O2", "-shared", "-fPIC", "-o", library, os.path.join(HERE, "fail.c"), "-ldl"], check=True)
         for more in ([], ["--hex"], ["--peer", "p=127.0.0.1:1"]):
-            given = [*IMAGE, *more, "--workers", "1", "--cache-bytes", "0", "a=" + path]
+            given = [*LARGE, *more, "a=" + large]
             own, kinds = run(program, given), set()
-            for n in range(1, 1000):
+            for n in range(1, 4000):
                 got = run(program, given, env={"LD_PRELOAD": library, "FAIL_READ": str(n), "FAIL_MARK": mark})
                 if not os.path.exists(mark):
                     break
                 os.remove(mark)
                 kind = kind_of(got, own, "--hex" in more)
                 kinds.add(kind)
-                yield f"{more}, read {n} failed", got, kind is not None
+                yield f"{more}, reads failed from {n} on", got[:1] + got[2:], kind is not None
             lacking = {"start refused", "L1 source", "run: source"} - kinds
             yield f"{more}: kinds that never came", lacking, not lacking
 
