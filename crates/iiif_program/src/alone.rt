@@ -1,9 +1,12 @@
 //! The answer to one target by a node that asks no other.
 
 ghost use Rattle.std.specs.Prelude.{◌≡◌, ◌<◌, ◌^◌, ℕ, List, Some, true};
+ghost use Rattle.std.specs.Io.KnownBytes.{Appends};
 ghost use Rattle.iiif_source.specs.declared.ReadFault.{ReadFault};
 ghost use Rattle.iiif_images.specs.Collection.{item_named};
 ghost use Rattle.iiif_images.specs.Named.{gave_of, pictures_of};
+ghost use Rattle.iiif_connections.specs.Held.{AllHeld};
+ghost use Rattle.iiif_program.specs.Alone.{IsAnswerOfHeld};
 ghost use Rattle.iiif_start.specs.Stored.{bytes_of, keeps_of, stored_gave};
 
 use crate::one::answer_one;
@@ -33,7 +36,8 @@ struct Asked<'t> {
     target: &'t str,
 }
 
-/// Makes a node that asks no other, and writes the body of its answer to a target.
+/// Makes a node that asks no other, and writes the body of its answer to a target. Where all its images are held in memory, nothing is
+/// assumed in what is said of the answer: an image that is written is, pixel for pixel, the one that is asked for, of the bytes in memory.
 pub fn answer_alone<'a, R, O>(
     rt: &R,
     alloc: Global,
@@ -46,6 +50,8 @@ where
     R::Handle: Send + Sync,
     O: Outlet,
     requires bytes { alone.cache_bytes < 2 ^ 63 }
+    ensures held { AllHeld alone.catalogue → (text : List ℕ) × Appends (O.contents out.old) (O.contents out.new) text
+        × IsAnswerOfHeld (bytes_of R.holds) alone.config alone.catalogue target.now ((before : O) × O.fails before out.new) text result }
 {
     let (tiles, sums) = (Blank::new(65_537), Blank::new(65_537));
     let asked = Asked { target };
@@ -74,6 +80,8 @@ where
     requires honest { J.honest ≡ true }
     requires tiles { (blanks.0.name ≡ J.tiles_name) × (blanks.0.parts ≡ J.tiles_parts) × (J.tiles_parts ≡ 65537) }
     requires sums { (blanks.1.name ≡ J.sums_name) × (blanks.1.parts ≡ J.sums_parts) × (J.sums_parts ≡ 65537) }
+    ensures held { AllHeld alone.catalogue → (text : List ℕ) × Appends (O.contents out.old) (O.contents out.new) text
+        × IsAnswerOfHeld (bytes_of R.holds) alone.config alone.catalogue asked.now.target.now ((before : O) × O.fails before out.new) text result }
 {
     let Alone {
         config,

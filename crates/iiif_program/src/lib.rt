@@ -10,3 +10,4 @@ mod hex;
 mod one;
 pub mod program;
 mod settings;
+mod work;

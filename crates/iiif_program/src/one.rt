@@ -1,5 +1,11 @@
 //! The answer to one target.
 
+ghost use Rattle.std.specs.Prelude.{◌≡◌, ℕ, List, true};
+ghost use Rattle.std.specs.Io.KnownBytes.{Appends};
+ghost use Rattle.iiif_connections.specs.Held.{AllHeld};
+ghost use Rattle.iiif_program.specs.Alone.{IsAnswerOfHeld};
+ghost use Rattle.iiif_start.specs.Stored.{bytes_of};
+
 use crate::hex::write_hex;
 use iiif_connections::passes::{give_back, passes_of};
 use iiif_connections::{Cause, Gate, Link, Node};
@@ -21,7 +27,7 @@ fn stop_by<'a>(cause: Cause) -> Stop<'a> {
     }
 }
 
-/// Writes the body of the answer to a target.
+/// Writes the body of the answer to a target. Nothing of it is assumed where the node holds all its images in memory and asks no other.
 pub(crate) fn answer_one<'a, R, O, J, N, T>(
     rt: &R,
     alloc: Global,
@@ -37,6 +43,8 @@ where
     J: System + Send + Sync,
     N: Link<TileKey, J, R> + Link<SumKey, J, R> + Sync,
     T: Gate<R> + Sync,
+    ensures held { AllHeld node.now.items → J.honest ≡ true → (text : List ℕ) × Appends (O.contents out.old) (O.contents out.new) text
+        × IsAnswerOfHeld (bytes_of R.holds) node.now.settings node.now.items target.now ((before : O) × O.fails before out.new) text result }
 {
     let Some(mut passes) = passes_of(rt, alloc, node, workers) else {
         return Err(Stop::Memory);

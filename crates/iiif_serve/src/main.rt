@@ -41,9 +41,10 @@
 //! # What is proved of it
 //!
 //! Of an image that is answered whole: that it is region, then size, then rotation, then quality applied to the whole picture that its
-//! source shows, where the source keeps its bytes and other nodes are honest. An image that is held in memory (`--hold`) keeps those that one
-//! read of its file gave at the start. Of a file that is read when it is asked for, it is proved for each runtime whose files keep their
-//! bytes; that the system is one can't be proved. Of other nodes it is assumed that they are honest.
+//! source shows. Where all images are held in memory (`--hold`) and no other node is asked, nothing is assumed in this: it is a clause of
+//! `answer_alone` in `iiif_program`, which answers `--one`, and of `Viewers::serve_over` in `iiif_connections`, which answers a connection.
+//! Their sources are then the bytes that one read of each file gave at the start. Of a file that is read when it is asked for, it is proved
+//! for each runtime whose files keep their bytes; that the system is one can't be proved. Of other nodes it is assumed that they are honest.
 //! `docs/PROMISES.md` names the clauses. Of `main` itself: that it ends, or serves on, without a fault of memory, and that its status is one of
 //! the three.
 #![tactic(auto)]
@@ -61,7 +62,8 @@ const GIVEN_BACK: usize = 4 << 20;
 const NOT_UTF8: &str = "line: not UTF-8\neach word has to be UTF-8: rename a file whose name isn't";
 
 /// Lets the C library's allocator keep what is given back, up to twice the size of the largest piece that was: from then on the
-/// memory of one tile serves for the next, where it would else go back to the system each time, and come back page by page.
+/// memory of one tile serves for the next, where it would else go back to the system each time, and come back page by page. glibc's does so
+/// at the first piece that was mapped by itself and is given back. Where `GLIBC_TUNABLES` say how much it keeps, this changes nothing.
 fn keep_memory(alloc: Global) {
     let _ = Vec::<u8>::with_capacity(alloc, GIVEN_BACK);
 }
