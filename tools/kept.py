@@ -31,6 +31,8 @@ def give(room, wanted):
             rt.Crate.allowed = rt.handles_of(room)
             crates = rt.crates_of(room)
             kept = rt.Kept(crates)
+            # What doesn't fit here may fit a run of `rt ci`: nothing is dropped.
+            kept.drop = lambda path: None
             plain = next(it for it in rt.Crate.__mro__ if it.__module__ != rt.__name__)
             rt.rtlib.Crate = plain
             lacking = []
