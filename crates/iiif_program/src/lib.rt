@@ -10,4 +10,3 @@ mod hex;
 mod one;
 pub mod program;
 mod settings;
-mod work;

@@ -11,16 +11,16 @@ ghost use Rattle.iiif_program.specs.Lines.{settings_in};
 use crate::alone::{Alone, answer_alone};
 use crate::one::{answer_in_hex, answer_one, written_in_hex};
 use crate::settings::{config, options_of};
-use crate::work::{Listening, Work};
 use clap::ArgMatches;
 use clap::error::ErrorKind;
-use iiif_command_line::{Options, matches};
+use iiif_command_line::{Mode, Options, matches};
 use iiif_connections::serving::listen;
 use iiif_connections::times::USUAL;
 use iiif_connections::{Catalogue, Config, Gate, Link, Node, Nodes, Watcher, among};
 use iiif_io::Outlet;
 use iiif_keys::{SumKey, System, TileKey};
 use iiif_open_files::{Opens, Texts};
+use iiif_services::Addresses;
 use iiif_start::check::check;
 use iiif_start::{Held, Stop, Stored, catalogue, ended, list_of, refused, touch};
 use std::alloc::Global;
@@ -144,30 +144,25 @@ where
     requires { refusal_of (settings_in options.now) ≡ None }
 {
     // A check goes on where an image is at fault, and needs no node.
-    let Some(work) = Work::of(options.mode) else {
+    if options.mode == Mode::Check {
         return check(rt, alloc, options, out);
-    };
+    }
     let config = config(alloc, options)?;
     let (images, hold) = (&options.images, options.hold);
     let catalogue = catalogue(rt, alloc, images, options.open_files, hold)?;
     let (tiles, sums) = (Blank::new(65_537), Blank::new(65_537));
-    if !options.peers.is_empty() {
-        return answer_among::<R, O, E, Brand>(
-            rt, alloc, options, &work, config, catalogue, tiles, sums, out, err,
-        );
-    }
-    match work {
-        Work::One { target, hex } => {
+    if options.peers.is_empty() {
+        if let Mode::One { target, hex } = options.mode {
             let alone = Alone {
                 config,
                 catalogue,
                 cache_bytes: options.cache_bytes,
             };
-            one_alone(rt, alloc, alone, target, hex, out)
+            return one_alone(rt, alloc, alone, target, hex, out);
         }
-        Work::Listen(listening) => serve_alone::<R, E, Brand>(
-            rt, alloc, options, &listening, config, catalogue, tiles, sums, err,
-        ),
+        serve_alone::<R, O, E, Brand>(rt, alloc, options, config, catalogue, tiles, sums, out, err)
+    } else {
+        answer_among::<R, O, E, Brand>(rt, alloc, options, config, catalogue, tiles, sums, out, err)
     }
 }
 
@@ -194,16 +189,16 @@ where
     written_in_hex(answered, &body, out)
 }
 
-/// Serves by a node of these settings and images that asks no other.
-fn serve_alone<'a, R, E, J: System + Send + Sync>(
+/// Answers by a node of these settings and images that asks no other.
+fn serve_alone<'a, R, O, E, J: System + Send + Sync>(
     rt: &R,
     alloc: Global,
     options: &Options<'a>,
-    listening: &Listening<'_>,
     config: Config,
     catalogue: Catalogue<R, Stored<R>>,
     tiles: Blank,
     sums: Blank,
+    out: &mut O,
     err: &mut E,
 ) -> Result<(), Stop<'a>>
 where
@@ -215,6 +210,7 @@ where
         + Sync
         + AllocGlobal,
     R::Handle: Send + Sync,
+    O: Outlet,
     E: Outlet + Send,
     requires pictures { (name : List ℕ) → J.pictures name ≡ pictures_of (bytes_of R.holds) catalogue name }
     requires gave { (name : List ℕ) (f : ReadFault) → J.gave name f ≡ gave_of stored_gave catalogue name f }
@@ -230,7 +226,7 @@ where
     else {
         return Err(Stop::Memory);
     };
-    serve_by(rt, alloc, options, listening, &node, err)
+    answer_by(rt, alloc, options, &node, out, err)
 }
 
 /// Answers by a node of these settings and images among others.
@@ -238,7 +234,6 @@ fn answer_among<'a, R, O, E, J: System + Send + Sync>(
     rt: &R,
     alloc: Global,
     options: &Options<'a>,
-    work: &Work<'_>,
     config: Config,
     catalogue: Catalogue<R, Stored<R>>,
     tiles: Blank,
@@ -272,24 +267,19 @@ where
         ask: USUAL.ask,
     };
     let bytes = options.cache_bytes;
-    let Ok(node) = among::<R, J>(alloc, config, catalogue, &nodes, bytes, tiles, sums) else {
-        return Err(Stop::Memory);
-    };
-    let workers = options.workers;
-    match *work {
-        Work::One { target, hex: false } => answer_one(rt, alloc, &node, workers, target, out),
-        Work::One { target, hex: true } => answer_in_hex(rt, alloc, &node, workers, target, out),
-        Work::Listen(listening) => serve_by(rt, alloc, options, &listening, &node, err),
+    match among::<R, J>(alloc, config, catalogue, &nodes, bytes, tiles, sums) {
+        Ok(node) => answer_by(rt, alloc, options, &node, out, err),
+        Err(_) => Err(Stop::Memory),
     }
 }
 
-/// Serves by a node, as the options ask for.
-fn serve_by<'a, R, E, J, N, T>(
+/// Answers by a node what the options ask for.
+fn answer_by<'a, R, O, E, J, N, T>(
     rt: &R,
     alloc: Global,
     options: &Options<'a>,
-    listening: &Listening<'_>,
     node: &Node<R, Stored<R>, J, N, T>,
+    out: &mut O,
     err: &mut E,
 ) -> Result<(), Stop<'a>>
 where
@@ -301,19 +291,37 @@ where
         + Sync
         + AllocGlobal,
     R::Handle: Send + Sync,
+    O: Outlet,
     E: Outlet + Send,
     J: System + Send + Sync,
     N: Link<TileKey, J, R> + Link<SumKey, J, R> + Sync,
     T: Gate<R> + Sync,
 {
-    if touch(alloc, options.touch_bytes).is_err() {
-        return Err(Stop::Memory);
+    let workers = options.workers;
+    match options.mode {
+        Mode::One { target, hex: false } => answer_one(rt, alloc, node, workers, target, out),
+        Mode::One { target, hex: true } => answer_in_hex(rt, alloc, node, workers, target, out),
+        Mode::Listen {
+            viewers,
+            peers,
+            log,
+            stats,
+        } => {
+            if touch(alloc, options.touch_bytes).is_err() {
+                return Err(Stop::Memory);
+            }
+            let addresses = Addresses {
+                viewers,
+                peers,
+                statistics: stats,
+            };
+            let images = node.groups().tiles().images().catalogue();
+            let held = Held::among(images, &options.images);
+            let Ok(watcher) = Watcher::new(alloc, log, held) else {
+                return Err(Stop::Memory);
+            };
+            listen(rt, alloc, node, workers, &addresses, &watcher, err)
+        }
+        Mode::Check => check(rt, alloc, options, out),
     }
-    let Listening { addresses, log } = *listening;
-    let images = node.groups().tiles().images().catalogue();
-    let held = Held::among(images, &options.images);
-    let Ok(watcher) = Watcher::new(alloc, log, held) else {
-        return Err(Stop::Memory);
-    };
-    listen(rt, alloc, node, options.workers, &addresses, &watcher, err)
 }
