@@ -6,6 +6,8 @@ import time
 from places import Server, answered, asked_once, connected, get, picture
 
 PLACES = 64
+# Where the crowd comes from. Others come from 127.0.0.1.
+CROWD = "127.0.0.2"
 LARGE = "/iiif/big/full/max/0/default.tif"
 SMALL = "/iiif/s/info.json"
 
@@ -24,7 +26,7 @@ def keep_up(server, over, act, buffer=None):
     """Connects and acts, and connects anew where the connection is closed."""
     while not over.is_set():
         try:
-            with connected(server.port, 5, buffer) as link:
+            with connected(server.port, 5, buffer, CROWD) as link:
                 act(link, over)
         except OSError:
             pass
@@ -58,10 +60,10 @@ def ask_now_and_then(link, over):
         over.wait(4.5)
 
 
-def crowd(program, room, act, seconds, buffer=None):
+def crowd(program, room, act, seconds, buffer=None, options=()):
     """How many of others are answered while 64 connections act so, and come again where they are closed."""
     images = [f"big={room}/big.tif", "s=:sample"]
-    with Server(program, images, ["--max", 8192]) as server:
+    with Server(program, images, ["--max", 8192, *options]) as server:
         over = threading.Event()
         threads = [threading.Thread(target=keep_up, args=(server, over, act, buffer), daemon=True) for _ in range(PLACES)]
         for thread in threads:

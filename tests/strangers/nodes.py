@@ -91,14 +91,39 @@ def overview(server):
     return time.monotonic() - begun
 
 
-def silent_beside_dead(program, room):
+def silent_beside_dead(program, room, options=()):
     """Seconds of an overview at one of two nodes while the other hangs, and while it is dead."""
     took = []
     for act in (lambda node: node.send_signal(signal.SIGSTOP), lambda node: node.stop()):
-        with Cluster(program, room, ["a", "b"], ["--cache-bytes", 0]) as nodes:
+        with Cluster(program, room, ["a", "b"], ["--cache-bytes", 0, *options]) as nodes:
             act(nodes["b"])
             took.append(overview(nodes["a"]))
     return took
+
+
+def page(port, target):
+    """The status and the body of what is told at a listener."""
+    told = b""
+    with connected(port) as link:
+        link.sendall(get(target))
+        while part := link.recv(65536):
+            told += part
+    head, body = told.split(b"\r\n\r\n", 1)
+    return int(head.split()[1]), body.decode()
+
+
+def told_of_hung(program, room):
+    """What a node tells of one that hangs, once an overview was asked for: its page of counters, its health, and its log."""
+    statistics, peers = free_ports(2)
+    with Server(program, [f"p={room}/peers.tif"], ["--peer-listen", f"127.0.0.1:{peers}", "--name", 'b"\\b']) as hung:
+        hung.send_signal(signal.SIGSTOP)
+        words = ["--log", "--stats-listen", f"127.0.0.1:{statistics}", "--peer-timeout", 100, "--peer", f'b"\\b=127.0.0.1:{peers}']
+        with Server(program, [f"p={room}/peers.tif"], words) as server:
+            overview(server)
+            metrics, health = page(statistics, "/metrics"), page(statistics, "/health")
+            time.sleep(0.5)
+            server.said.seek(0)
+            return metrics, health, server.said.read().decode()
 
 
 def sum_ask(level, width, height):
@@ -184,3 +209,19 @@ def announced(program, room, asks=12):
         over.set()
         replying.join()
     return grown, dead, len(sent)
+
+
+def stranger(program):
+    """Whether who comes from no other node's address is closed by a node that takes those alone, and how many such it counted."""
+    peers, statistics = free_ports(2)
+    words = ["--peer-listen", f"127.0.0.1:{peers}", "--stats-listen", f"127.0.0.1:{statistics}", "--peer", "b=127.0.0.9:1", "--peer-only"]
+    with Server(program, ["s=:sample"], words):
+        with connected(peers) as link:
+            closed = link.recv(1) == b""
+        text = b""
+        with connected(statistics) as link:
+            link.sendall(get("/metrics"))
+            while part := link.recv(65536):
+                text += part
+    counted = next(line for line in text.decode().splitlines() if line.startswith('iiif_connections_refused_total{listener="peers"}'))
+    return closed, int(counted.split()[1])

@@ -128,8 +128,10 @@ class Peak:
         return self.most - self.first
 
 
-def connected(port, timeout=10, buffer=None):
+def connected(port, timeout=10, buffer=None, source=None):
     link = socket.socket()
+    if source:
+        link.bind((source, 0))
     if buffer:
         link.setsockopt(socket.SOL_SOCKET, socket.SO_RCVBUF, buffer)
     link.settimeout(timeout)

@@ -22,9 +22,6 @@ MIB = 2 ** 20
 
 # Bounds that aren't met yet, and why.
 OPEN = {
-    "64 slow readers": "all places are held until the least rate is looked at, 30 to 80 s; no bound of places for one address yet",
-    "64 idle connections": "an idle connection holds its place for 5 s, and comes again; none is closed for the one who comes yet",
-    "a HEAD each 4.5 s on 64 connections": "a connection between requests isn't closed for the one who comes yet",
     "one ask of level 20": "the total of a block is made before its parts are there",
     "a FIFO as an image": "the opening of a FIFO waits for who writes to it",
     "names with escapes": "names are written as they are",
@@ -42,6 +39,23 @@ def silent(program, room):
     return f"{hangs:.2f} s, {hangs / dead:.1f} times as long as with it dead", "3 times, or 2.5 s", hangs <= max(3 * dead, 2.5)
 
 
+def silent_in_short(program, room):
+    hangs, dead = nodes.silent_beside_dead(program, room, ["--peer-timeout", 100])
+    return f"{hangs:.2f} s, {hangs / dead:.1f} times as long as with it dead", "3 times, or 0.5 s", hangs <= max(3 * dead, 0.5)
+
+
+def told_of(program, room):
+    (status, metrics), (well, health), log = nodes.told_of_hung(program, room)
+    lines = metrics.splitlines()
+    asks = {line.split('outcome="')[1].split('"')[0]: int(line.split()[-1]) for line in lines if line.startswith('iiif_peer_asks_total{peer="b\\"\\\\b",')}
+    state = [int(line.split()[-1]) for line in lines if line.startswith('iiif_peer_state{peer="b\\"\\\\b"}')]
+    seconds = [line for line in lines if line.startswith('iiif_peer_ask_seconds_bucket{le="+Inf"}')]
+    alone = " peer b\\x22\\x5Cb left-alone\n" in log
+    measured = f"{status} with {asks}, state {state}; {well} with {health.splitlines()}; {'told' if alone else 'untold'} by the log"
+    right = status == 200 and asks.get("late", 0) > 0 and asks.get("left_alone", 0) > 0 and state and state[0] > 0 and len(seconds) == 1
+    return measured, "late and left alone, 200, told", right and well == 200 and health == "viewers ok\nstatistics ok\nlog ok\n" and alone
+
+
 def resets(program, room):
     with Server(program, [f"huge={room}/huge.tif", "s=:sample"]) as server:
         for place in range(64):
@@ -55,9 +69,9 @@ def resets(program, room):
         return "not in 30 s" if took is None else f"after {took:.1f} s", "2 s", took is not None and took <= 2
 
 
-def of_others(act, seconds=100, buffer=None):
+def of_others(act, seconds=100, buffer=None, options=()):
     def attack(program, room):
-        right = crowds.crowd(program, room, act, seconds, buffer)
+        right = crowds.crowd(program, room, act, seconds, buffer, options)
         return f"{right} of {seconds} others answered", "90", right * 100 >= 90 * seconds
     return attack
 
@@ -114,19 +128,27 @@ def escapes(program, room):
     return f"{raw} raw controls", "0", ran is not None and raw == 0
 
 
+def no_node(program, room):
+    closed, refused = nodes.stranger(program)
+    return f"{'closed' if closed else 'let in'}, {refused} counted", "closed, 1 counted", closed and refused == 1
+
+
 ATTACKS = {
     "a hung node beside a dead one": hung,
     "an overview beside a silent node": silent,
+    "the same where an ask may take 0.1 s": silent_in_short,
+    "what is told of a hung node": told_of,
     "one ask of level 20": one_ask,
     "a node that announces 64 MiB": announced,
     "64 large requests whose clients reset": resets,
     "a FIFO as an image": fifo,
     "names with escapes": escapes,
+    "one who is no node": no_node,
 }
 
 # These take a hundred seconds and little else, so they run side by side.
 LONG = {
-    "64 slow readers": of_others(crowds.read_slowly, buffer=2048),
+    "64 slow readers": of_others(crowds.read_slowly, buffer=2048, options=["--per-address", 32]),
     "64 idle connections": of_others(crowds.stay_idle),
     "a HEAD each 4.5 s on 64 connections": of_others(crowds.ask_now_and_then),
     "a head in drips": drips,

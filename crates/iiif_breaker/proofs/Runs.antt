@@ -4,10 +4,10 @@ use Rattle.iiif_breaker.specs.declared.breaker.Breaker.{Breaker}
 use Rattle.iiif_breaker.specs.declared.breaker.State.{State}
 use Rattle.iiif_breaker.specs.declared.breaker.State.TheVariants.{Closed, Open, HalfOpen}
 use Rattle.iiif_breaker.specs.declared.outcome.Outcome.{Outcome}
-use Rattle.iiif_breaker.specs.declared.outcome.Outcome.TheVariants.{Answered, Failed, TimedOut}
-use Rattle.iiif_breaker.specs.Breaking.{asked, asked_state, failed, faulted, first, is_asked, longest, opened, reported, unknown}
+use Rattle.iiif_breaker.specs.declared.outcome.Outcome.TheVariants.{Answered, Refused, Failed, TimedOut}
+use Rattle.iiif_breaker.specs.Breaking.{asked, asked_state, failed, faulted, first, is_asked, is_closed, longest, reported, unknown}
 use Rattle.std.proofs.lemmas.List.Elements.{All-tail}
-use Rattle.iiif_breaker.specs.Laws.{Event, Would, Ended, happens, run, is_answer, is_late, IsBefore, AreBefore, IsAskedAgain, is_closed, is_open, period, IsUnanswered, IsAskedOnceAPeriod, HasPeriod, IsClosedByAnAnswer, IsLeftAlone, IsUnmovedByLateFaults}
+use Rattle.iiif_breaker.specs.Laws.{Event, Would, Ended, happens, run, is_answer, IsBefore, AreBefore, IsAskedAgain, is_open, period, IsUnanswered, IsAskedOnceAPeriod, HasPeriod, IsClosedByAnAnswer, IsLeftAlone, IsUnmovedByLateFaults}
 
 -- what holds of a link, and is kept by a fault that counts, is kept by a fault of any number
 kept_if : (P : Breaker → Type 0) (b c : Breaker) (same : Bool) → P b → P c → P (if same then c else b)
@@ -36,6 +36,7 @@ within_failed last m openings late (HalfOpen since wait) w before = grind arith
 within_step : (last : ℕ) (b : Breaker) (e : Event) → Within last b.state → IsBefore last b e → Within last (happens b e).state
 within_step last b (Would m) w before = within_asked last m b.state w before
 within_step last b (Ended m number Answered) w before = record {}
+within_step last b (Ended m number Refused) w before = record {}
 within_step last b (Ended m number Failed) w before = kept (λ c. Within last c.state) b m number false w (within_failed last m b.openings false b.state w (before refl))
 within_step last b (Ended m number TimedOut) w before = kept (λ c. Within last c.state) b m number true w (within_failed last m b.openings true b.state w (before refl))
 
@@ -70,6 +71,7 @@ periods_failed m openings late (HalfOpen since wait) p = grind arith
 periods_step : (b : Breaker) (e : Event) → Periods b.state → Periods (happens b e).state
 periods_step b (Would m) p = periods_asked m b.state p
 periods_step b (Ended m number Answered) p = record {}
+periods_step b (Ended m number Refused) p = record {}
 periods_step b (Ended m number Failed) p = kept (λ c. Periods c.state) b m number false p (periods_failed m b.openings false b.state p)
 periods_step b (Ended m number TimedOut) p = kept (λ c. Periods c.state) b m number true p (periods_failed m b.openings true b.state p)
 
@@ -104,6 +106,7 @@ rests_failed from p m openings late (HalfOpen since wait) most small least r = g
 rests_step : (from p : ℕ) (b : Breaker) (e : Event) → p ≤ longest → from + p < 2 ^ 64 → IsUnanswered from e → Rests from p b.state → Rests from p (happens b e).state
 rests_step from p b (Would m) most small un r = rests_asked from p m b.state un r
 rests_step from p b (Ended m number Answered) most small un r = grind arith
+rests_step from p b (Ended m number Refused) most small un r = grind arith
 rests_step from p b (Ended m number Failed) most small un r = kept (λ c. Rests from p c.state) b m number false r (rests_failed from p m b.openings false b.state most small un.0 r)
 rests_step from p b (Ended m number TimedOut) most small un r = kept (λ c. Rests from p c.state) b m number true r (rests_failed from p m b.openings true b.state most small un.0 r)
 
@@ -130,7 +133,10 @@ pub once_a_period : IsAskedOnceAPeriod
 once_a_period before between from to shut now un small allowed_then = once (run unknown before) from to between (has_period before shut) shut now un small allowed_then
 
 pub closed_by : IsClosedByAnAnswer
-closed_by b moment number now = (refl, refl)
+closed_by b moment number now Answered answers = (refl, refl)
+closed_by b moment number now Refused answers = (refl, refl)
+closed_by b moment number now Failed answers = grind arith
+closed_by b moment number now TimedOut answers = grind arith
 
 -- the same number
 same : (n : ℕ) → (n == n) ≡ true
@@ -147,6 +153,7 @@ left_by faults openings moment now false third small asked_now = grind (arith, t
 
 pub left_alone : IsLeftAlone
 left_alone faults openings moment now Answered fault third small asked_now = grind arith
+left_alone faults openings moment now Refused fault third small asked_now = grind arith
 left_alone faults openings moment now Failed fault third small asked_now =
     left_by faults openings moment now false third small (sym (ap (λ (b : Breaker). is_asked b.state now) (counts (record { state = Closed faults; openings = openings }) moment false)) ∙ asked_now)
 left_alone faults openings moment now TimedOut fault third small asked_now =
@@ -164,6 +171,7 @@ reached_failed n m openings late (HalfOpen since wait) small r = grind arith
 reached_step : (n : ℕ) (b : Breaker) (e : Event) → n < 2 ^ 64 → Reached n b → Reached n (happens b e)
 reached_step n b (Would m) small r = r
 reached_step n b (Ended m number Answered) small r = r
+reached_step n b (Ended m number Refused) small r = r
 reached_step n b (Ended m number Failed) small r = kept (Reached n) b m number false r (reached_failed n m b.openings false b.state small r)
 reached_step n b (Ended m number TimedOut) small r = kept (Reached n) b m number true r (reached_failed n m b.openings true b.state small r)
 
@@ -185,6 +193,7 @@ counts_faulted b m late small was is =
 
 counts_reported : (b : Breaker) (m : ℕ) (outcome : Outcome) → b.openings + 1 < 2 ^ 64 → is_open b.state ≡ false → is_open (reported b m b.openings outcome).state ≡ true → b.openings + 1 ≤ (reported b m b.openings outcome).openings
 counts_reported b m Answered small was is = grind arith
+counts_reported b m Refused small was is = grind arith
 counts_reported b m Failed small was is = counts_faulted b m false small was is
 counts_reported b m TimedOut small was is = counts_faulted b m true small was is
 
@@ -197,6 +206,7 @@ unmoved_faulted b m number late below = ap (λ is. if is then failed b.state b.o
 
 unmoved : (b : Breaker) (m number : ℕ) (late : Outcome) → is_answer late ≡ false → number < b.openings → reported b m number late ≡ b
 unmoved b m number Answered fault below = grind arith
+unmoved b m number Refused fault below = grind arith
 unmoved b m number Failed fault below = unmoved_faulted b m number false below
 unmoved b m number TimedOut fault below = unmoved_faulted b m number true below
 

@@ -1,10 +1,12 @@
 -- When a link is asked: what is known of it after each ask and each end of one. Moments are in milliseconds.
-use Rattle.std.specs.Prelude.{ℕ, ◌+◌, ◌-◌, ◌*◌, ◌^◌, ◌==◌, Bool, true, false, min, nat_lt, if◌then◌else◌}
+use Rattle.std.specs.Prelude.{ℕ, ◌+◌, ◌-◌, ◌*◌, ◌^◌, ◌==◌, Bool, true, false, Option, Some, None, min, nat_lt, if◌then◌else◌}
 use Rattle.iiif_breaker.specs.declared.breaker.Breaker.{Breaker}
 use Rattle.iiif_breaker.specs.declared.breaker.State.{State}
 use Rattle.iiif_breaker.specs.declared.breaker.State.TheVariants.{Closed, Open, HalfOpen}
+use Rattle.iiif_breaker.specs.declared.change.Change.{Change}
+use Rattle.iiif_breaker.specs.declared.change.Change.TheVariants.{LeftAlone, AskedAgain}
 use Rattle.iiif_breaker.specs.declared.outcome.Outcome.{Outcome}
-use Rattle.iiif_breaker.specs.declared.outcome.Outcome.TheVariants.{Answered, Failed, TimedOut}
+use Rattle.iiif_breaker.specs.declared.outcome.Outcome.TheVariants.{Answered, Refused, Failed, TimedOut}
 
 -- how long a link is left alone at first, and how long at most
 abbrev pub first : ℕ
@@ -51,5 +53,17 @@ faulted b now number late = if number == b.openings then failed b.state b.openin
 -- what is known once the ask of a number ended so
 abbrev pub reported : Breaker → ℕ → ℕ → Outcome → Breaker
 reported b now number Answered = record { state = Closed 0; openings = b.openings }
+reported b now number Refused = record { state = Closed 0; openings = b.openings }
 reported b now number Failed = faulted b now number false
 reported b now number TimedOut = faulted b now number true
+
+abbrev pub is_closed : State → Bool
+is_closed (Closed faults) = true
+is_closed (Open until wait) = false
+is_closed (HalfOpen since wait) = false
+
+-- what is told of a link that was so and is so now: that it is left alone, or asked by all again
+abbrev pub change_of : State → State → Option Change
+change_of was now =
+    if is_closed was then (if is_closed now then None else Some LeftAlone)
+    else (if is_closed now then Some AskedAgain else None)

@@ -2,7 +2,7 @@
 use Rattle.std.specs.Prelude.{ℕ, ◌+◌, ◌-◌, ◌^◌, min}
 use Rattle.iiif_breaker.specs.declared.counts.Asks.{Asks}
 use Rattle.iiif_breaker.specs.declared.outcome.Outcome.{Outcome}
-use Rattle.iiif_breaker.specs.declared.outcome.Outcome.TheVariants.{Answered, Failed, TimedOut}
+use Rattle.iiif_breaker.specs.declared.outcome.Outcome.TheVariants.{Answered, Refused, Failed, TimedOut}
 
 -- one more
 abbrev pub more : ℕ → ℕ
@@ -10,14 +10,15 @@ more n = min (n + 1) (2 ^ 64 - 1)
 
 -- none was made
 abbrev pub none : Asks
-none = record { answered = 0; failed = 0; timed_out = 0; skipped = 0 }
+none = record { answered = 0; refused = 0; failed = 0; timed_out = 0; skipped = 0 }
 
 -- one more ended so
 abbrev pub counted : Asks → Outcome → Asks
-counted a Answered = record { answered = more a.answered; failed = a.failed; timed_out = a.timed_out; skipped = a.skipped }
-counted a Failed = record { answered = a.answered; failed = more a.failed; timed_out = a.timed_out; skipped = a.skipped }
-counted a TimedOut = record { answered = a.answered; failed = a.failed; timed_out = more a.timed_out; skipped = a.skipped }
+counted a Answered = record { answered = more a.answered; refused = a.refused; failed = a.failed; timed_out = a.timed_out; skipped = a.skipped }
+counted a Refused = record { answered = a.answered; refused = more a.refused; failed = a.failed; timed_out = a.timed_out; skipped = a.skipped }
+counted a Failed = record { answered = a.answered; refused = a.refused; failed = more a.failed; timed_out = a.timed_out; skipped = a.skipped }
+counted a TimedOut = record { answered = a.answered; refused = a.refused; failed = a.failed; timed_out = more a.timed_out; skipped = a.skipped }
 
 -- one more wasn't made, since the link was left alone
 abbrev pub skipped : Asks → Asks
-skipped a = record { answered = a.answered; failed = a.failed; timed_out = a.timed_out; skipped = more a.skipped }
+skipped a = record { answered = a.answered; refused = a.refused; failed = a.failed; timed_out = a.timed_out; skipped = more a.skipped }

@@ -4,8 +4,8 @@ use Rattle.iiif_breaker.specs.declared.breaker.Breaker.{Breaker}
 use Rattle.iiif_breaker.specs.declared.breaker.State.{State}
 use Rattle.iiif_breaker.specs.declared.breaker.State.TheVariants.{Closed, Open, HalfOpen}
 use Rattle.iiif_breaker.specs.declared.outcome.Outcome.{Outcome}
-use Rattle.iiif_breaker.specs.declared.outcome.Outcome.TheVariants.{Answered, Failed, TimedOut}
-use Rattle.iiif_breaker.specs.Breaking.{asked, first, is_asked, longest, reported, unknown}
+use Rattle.iiif_breaker.specs.declared.outcome.Outcome.TheVariants.{Answered, Refused, Failed, TimedOut}
+use Rattle.iiif_breaker.specs.Breaking.{asked, first, is_asked, is_closed, longest, reported, unknown}
 
 -- what comes at a moment: somebody would ask, or the ask of a number ended so
 pub data Event : Type 0 where
@@ -22,14 +22,16 @@ abbrev pub run : Breaker → List Event → Breaker
 run b [] = b
 run b (e ∷ es) = run (happens b e) es
 
--- an ask that ended with a reply, and one of which nothing came in its time
+-- an ask that ended with a reply, be it a value or a refusal, and one of which nothing came in its time
 abbrev pub is_answer : Outcome → Bool
 is_answer Answered = true
+is_answer Refused = true
 is_answer Failed = false
 is_answer TimedOut = false
 
 abbrev pub is_late : Outcome → Bool
 is_late Answered = false
+is_late Refused = false
 is_late Failed = false
 is_late TimedOut = true
 
@@ -45,11 +47,6 @@ AreBefore last b (e ∷ es) = IsBefore last b e × AreBefore last (happens b e) 
 -- a link is asked again at the latest so long after the last failure and the last ask
 abbrev pub IsAskedAgain : Type 0
 IsAskedAgain = (events : List Event) (last now : ℕ) → AreBefore last unknown events → last + longest ≤ now → is_asked (run unknown events).state now ≡ true
-
-abbrev pub is_closed : State → Bool
-is_closed (Closed faults) = true
-is_closed (Open until wait) = false
-is_closed (HalfOpen since wait) = false
 
 abbrev pub is_open : State → Bool
 is_open (Closed faults) = false
@@ -79,8 +76,8 @@ HasPeriod = (events : List Event) → is_closed (run unknown events).state ≡ f
 
 -- whatever came before, after an answer of any ask it is closed, and then it is asked at any moment
 abbrev pub IsClosedByAnAnswer : Type 0
-IsClosedByAnAnswer = (b : Breaker) (moment number now : ℕ) → ((reported b moment number Answered).state ≡ Closed 0)
-    × (is_asked (reported b moment number Answered).state now ≡ true)
+IsClosedByAnAnswer = (b : Breaker) (moment number now : ℕ) (outcome : Outcome) → is_answer outcome ≡ true
+    → ((reported b moment number outcome).state ≡ Closed 0) × (is_asked (reported b moment number outcome).state now ≡ true)
 
 -- a closed link is left alone for a second after an ask of its number that nothing came of in its time, and after a third fault in a row
 abbrev pub IsLeftAlone : Type 0

@@ -92,12 +92,12 @@ impl Breaker {
         Some(self.openings)
     }
 
-    /// Takes in how the ask of a number ended. An answer closes the link, whenever it was asked for; a fault counts only where the link
-    /// wasn't opened since.
+    /// Takes in how the ask of a number ended. An answer, a refusal too, closes the link, whenever it was asked for; a fault counts only
+    /// where the link wasn't opened since.
     pub fn report(&mut self, now: u64, number: u64, outcome: Outcome)
         ensures { self.new ≡ reported self.old now number outcome }
     {
-        if outcome == Outcome::Answered {
+        if matches!(outcome, Outcome::Answered | Outcome::Refused) {
             self.state = State::Closed { faults: 0 };
             return;
         }

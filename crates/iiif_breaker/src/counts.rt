@@ -8,8 +8,10 @@ use crate::outcome::Outcome;
 /// How many asks of a link ended how, and how many weren't made.
 #[derive(Clone, Copy, Debug, PartialEq, Eq)]
 pub struct Asks {
-    /// A reply came, be it a value or a refusal.
+    /// A value came.
     pub answered: u64,
+    /// The node refused.
+    pub refused: u64,
     /// There was no connection, or no reply of the key.
     pub failed: u64,
     /// No whole reply came in its time.
@@ -25,6 +27,7 @@ impl Asks {
     {
         Asks {
             answered: 0,
+            refused: 0,
             failed: 0,
             timed_out: 0,
             skipped: 0,
@@ -37,6 +40,7 @@ impl Asks {
     {
         match outcome {
             Outcome::Answered => self.answered = self.answered.saturating_add(1),
+            Outcome::Refused => self.refused = self.refused.saturating_add(1),
             Outcome::Failed => self.failed = self.failed.saturating_add(1),
             Outcome::TimedOut => self.timed_out = self.timed_out.saturating_add(1),
         }

@@ -3,12 +3,16 @@
 #![tactic(auto)]
 
 pub use breaker::{Breaker, State};
+pub use change::Change;
 pub use counts::Asks;
+pub use durations::Durations;
 pub use outcome::Outcome;
 pub use record::LinkRecord;
 
 pub mod breaker;
+pub mod change;
 pub mod counts;
+pub mod durations;
 pub mod laws;
 pub mod outcome;
 pub mod record;

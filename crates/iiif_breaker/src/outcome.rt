@@ -3,8 +3,10 @@
 /// How an ask of another node ended.
 #[derive(Clone, Copy, Debug, PartialEq, Eq)]
 pub enum Outcome {
-    /// A reply of the key came, be it a value or a refusal: the node is there.
+    /// A value of the key came.
     Answered,
+    /// The node refused: it is there.
+    Refused,
     /// There was no connection, or what came was no reply of the key.
     Failed,
     /// No whole reply came in its time.

@@ -1,12 +1,20 @@
 //! What is kept of a link.
 
 ghost use Rattle.std.specs.Prelude.{◌≡◌, IfNone, IfSome, true, false};
-ghost use Rattle.iiif_breaker.specs.Breaking.{asked, is_asked, reported, unknown};
+ghost use Rattle.iiif_breaker.specs.Breaking.{asked, change_of, is_asked, is_closed, reported, unknown};
 ghost use Rattle.iiif_breaker.specs.Counting.{counted, none, skipped};
 
 use crate::breaker::{Breaker, State};
+use crate::change::Change;
 use crate::counts::Asks;
 use crate::outcome::Outcome;
+
+/// Whether a link is asked by all.
+fn is_closed(state: State) -> bool
+    ensures { result ≡ is_closed state }
+{
+    matches!(state, State::Closed { .. })
+}
 
 /// What is known of a link, and how its asks ended so far.
 #[derive(Clone, Copy, Debug, PartialEq, Eq)]
@@ -55,12 +63,19 @@ impl LinkRecord {
         number
     }
 
-    /// Takes in how the ask of a number ended.
-    pub fn report(&mut self, now: u64, number: u64, outcome: Outcome)
+    /// Takes in how the ask of a number ended, and says what becomes of the link.
+    pub fn report(&mut self, now: u64, number: u64, outcome: Outcome) -> Option<Change>
+        ensures change { result ≡ change_of self.old.breaker.state self.new.breaker.state }
         ensures breaker { self.new.breaker ≡ reported self.old.breaker now number outcome }
         ensures asks { self.new.asks ≡ counted self.old.asks outcome }
     {
+        let was_closed = is_closed(self.breaker.state());
         self.breaker.report(now, number, outcome);
         self.asks.count(outcome);
+        match (was_closed, is_closed(self.breaker.state())) {
+            (true, false) => Some(Change::LeftAlone),
+            (false, true) => Some(Change::AskedAgain),
+            _ => None,
+        }
     }
 }

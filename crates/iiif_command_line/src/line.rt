@@ -50,6 +50,23 @@ const TOUCH_BYTES: u64 = 0;
 
 const MOST_TOUCH_BYTES: u64 = 1 << 40;
 
+/// How long an ask of another node may take where nothing is given, in milliseconds, and the least and the most that may be.
+const PEER_TIMEOUT: u64 = 1000;
+
+const LEAST_PEER_TIMEOUT: u64 = 10;
+
+const MOST_PEER_TIMEOUT: u64 = 60_000;
+
+/// The least rate of an answer where none is given, in bytes a second, and the most that may be.
+const MIN_RATE: u64 = 4096;
+
+const MOST_MIN_RATE: u64 = 1 << 40;
+
+/// How many connections one address may have at a time where no number is given, 0 for any number, and the most that may be.
+const PER_ADDRESS: u64 = 0;
+
+const MOST_PER_ADDRESS: u64 = 64;
+
 /// The name of a node where none is given, and the most bytes of one.
 const OWN_NAME: &str = "self";
 
@@ -62,7 +79,7 @@ const MOST_PORT: u64 = 65_535;
 const MOST_PEERS: usize = 63;
 
 /// The options that take one text each: the name, what the text is, and the help.
-const OPTIONS: [(&str, &str, &str); 14] = [
+const OPTIONS: [(&str, &str, &str); 17] = [
     ("base", "URL", "the URL that begins each image's"),
     ("edge", "PIXELS", "the edge of a tile, 256 if left out"),
     (
@@ -101,6 +118,21 @@ const OPTIONS: [(&str, &str, &str); 14] = [
         "the memory that is written to before it listens, 0 if left out",
     ),
     (
+        "peer-timeout",
+        "MS",
+        "the milliseconds that an ask of another node may take, 1000 if left out",
+    ),
+    (
+        "min-rate",
+        "BYTES",
+        "the bytes a second below which an answer is cut, 4096 if left out, 0 for none",
+    ),
+    (
+        "per-address",
+        "COUNT",
+        "the connections that one address may have at a time, any number if left out",
+    ),
+    (
         "name",
         "NAME",
         "this node's name among others, self if left out",
@@ -124,11 +156,15 @@ const OPTIONS: [(&str, &str, &str); 14] = [
 ];
 
 /// The options that take nothing: the name, and the help.
-const FLAGS: [(&str, &str); 4] = [
+const FLAGS: [(&str, &str); 5] = [
     ("upscale", "answer sizes with ^ above the region's"),
     ("hex", "write the answer's bytes as hexadecimal digits"),
     ("check", "open all images, write a line for each, and end"),
     ("log", "write a line for each answer to standard error"),
+    (
+        "peer-only",
+        "close connections of other nodes that come from no --peer's address",
+    ),
 ];
 
 /// The first thing that is wrong with the words, in this order.
@@ -152,6 +188,12 @@ pub enum LineFault {
     OpenFiles,
     #[error("touch")]
     Touch,
+    #[error("peer-timeout")]
+    PeerTimeout,
+    #[error("min-rate")]
+    MinRate,
+    #[error("per-address")]
+    PerAddress,
     #[error("image")]
     Image,
     /// The file of the list of images can't be read.
@@ -183,8 +225,21 @@ pub enum Mode<'a> {
         log: bool,
         /// Where the numbers are asked for.
         stats: Option<&'a str>,
+        /// Whether connections of other nodes are closed that come from no other node's address.
+        peer_only: bool,
     },
     Check,
+}
+
+/// What bounds those whom a node serves and asks.
+#[derive(Clone, Copy, Debug, PartialEq, Eq)]
+pub struct Limits {
+    /// How long an ask of another node may take as a whole, in milliseconds, from 10 to 60,000.
+    pub peer_timeout: u32,
+    /// The bytes a second below which an answer is cut, or 0 for none.
+    pub min_rate: u64,
+    /// How many connections of one address a listener has at a time, or 0 for any number.
+    pub per_address: usize,
 }
 
 /// What the words ask for.
@@ -206,6 +261,7 @@ pub struct Options<'a> {
     pub open_files: NonZeroUsize,
     /// How much memory is written to before the program listens, in bytes.
     pub touch_bytes: u64,
+    pub limits: Limits,
     /// Each image's name and file: those of the words, and behind them those of the list.
     pub images: Vec<(&'a str, &'a str)>,
     /// This node's name, and each other node's name and address.
@@ -459,6 +515,37 @@ fn shares_in(matches: &ArgMatches<'_>) -> Result<Shares, LineFault> {
     })
 }
 
+/// How long an ask of another node may take: a whole number of milliseconds within its limits.
+fn peer_timeout(text: Option<&str>) -> Option<u32> {
+    let timeout = number(text, PEER_TIMEOUT, MOST_PEER_TIMEOUT)?;
+    if u64::from(timeout) < LEAST_PEER_TIMEOUT {
+        return None;
+    }
+    Some(timeout)
+}
+
+/// What bounds those whom a node serves and asks, or the first of it that is wrong.
+fn limits_in(matches: &ArgMatches<'_>) -> Result<Limits, LineFault> {
+    let Some(peer_timeout) = peer_timeout(matches.get_str("peer-timeout")) else {
+        return Err(LineFault::PeerTimeout);
+    };
+    let Some(min_rate) = bytes(matches.get_str("min-rate"), MIN_RATE, MOST_MIN_RATE) else {
+        return Err(LineFault::MinRate);
+    };
+    let Some(per_address) = bytes(
+        matches.get_str("per-address"),
+        PER_ADDRESS,
+        MOST_PER_ADDRESS,
+    ) else {
+        return Err(LineFault::PerAddress);
+    };
+    Ok(Limits {
+        peer_timeout,
+        min_rate,
+        per_address: per_address as usize,
+    })
+}
+
 /// The names and files of the images of the words, and of the list behind them.
 fn images_in<'t, 'a: 't>(
     alloc: Global,
@@ -510,6 +597,7 @@ pub fn options_in<'t, 'a: 't>(
         open_files,
         touch_bytes,
     } = shares_in(matches)?;
+    let limits = limits_in(matches)?;
     let images = images_in(alloc, matches, list)?;
     let name = name_in(matches);
     let peers = peers_in(alloc, matches, name)?;
@@ -524,6 +612,7 @@ pub fn options_in<'t, 'a: 't>(
         workers,
         open_files,
         touch_bytes,
+        limits,
         images,
         name,
         peers,
@@ -537,16 +626,20 @@ fn mode_in<'t, 'a: 't>(matches: &ArgMatches<'a>) -> Result<Mode<'t>, LineFault> 
     let log = matches.get_flag("log");
     let peers = matches.get_str("peer-listen");
     let stats = matches.get_str("stats-listen");
-    let listens = log || peers.is_some() || stats.is_some();
+    let peer_only = matches.get_flag("peer-only");
+    let listens = log || peers.is_some() || stats.is_some() || peer_only;
     let check = matches.get_flag("check");
     match (matches.get_str("one"), matches.get_str("listen")) {
         (Some(target), None) if !check && !listens => Ok(Mode::One { target, hex }),
-        (None, Some(viewers)) if !check && !hex => Ok(Mode::Listen {
-            viewers,
-            peers,
-            log,
-            stats,
-        }),
+        (None, Some(viewers)) if !check && !hex && (!peer_only || peers.is_some()) => {
+            Ok(Mode::Listen {
+                viewers,
+                peers,
+                log,
+                stats,
+                peer_only,
+            })
+        }
         (None, None) if check && !hex && !listens => Ok(Mode::Check),
         _ => Err(LineFault::Mode),
     }

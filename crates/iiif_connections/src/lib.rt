@@ -6,7 +6,8 @@
 pub use iiif_server::{
     Catalogue, Cause, Config, ConfigFault, Cut, Gate, Link, Node, Sent, Watch, is_base_url,
 };
-pub use nodes::{Nodes, among};
+pub use neighbours::{Neighbours, Nodes};
+pub use nodes::among;
 pub use peers::PeerCalls;
 pub use statistics::Statistics;
 pub use times::Times;
@@ -14,6 +15,7 @@ pub use viewers::Viewers;
 pub use watcher::Watcher;
 
 mod connections;
+pub mod neighbours;
 mod nodes;
 pub mod passes;
 pub mod peers;

@@ -7,9 +7,10 @@ ghost use Rattle.iiif_images.specs.Named.{gave_of, pictures_of};
 ghost use Rattle.iiif_start.specs.Stored.{bytes_of, keeps_of, stored_gave};
 ghost use Rattle.iiif_server.specs.Stocks.{IsStock};
 
+use crate::watcher::Watcher;
 use iiif_keys::System;
 use iiif_open_files::Opens;
-use iiif_peer_link::TcpLink;
+use iiif_peer_link::{Peer, TcpLink};
 use iiif_pixel::NoMemory;
 use iiif_ring::Ring;
 use iiif_server::{Catalogue, Config, NoGate, Node, Stock};
@@ -18,50 +19,43 @@ use std::alloc::{AllocError, Global};
 use std::num::NonZeroUsize;
 use std::sync::Wait;
 use std::sync::ledger::Blank;
-use std::time::Duration;
 
 /// The most entries of a list of a cache.
 const ENTRIES: usize = 4096;
 
-/// The nodes of a ring, and how they are reached.
-#[derive(Clone, Copy, Debug)]
-pub struct Nodes<'a> {
-    /// This node's name.
-    pub own: &'a str,
-    /// The others' names and addresses.
-    pub peers: &'a [(&'a str, &'a str)],
-    /// How long an ask may take, in milliseconds.
-    pub ask: u64,
-}
-
 /// Names, and a link to each.
 #[derive(Drop)]
-struct Ways<J: System> {
+struct Ways<'p, J: System> {
     names: Vec<String>,
-    links: Vec<TcpLink<J>>,
+    links: Vec<TcpLink<'p, J>>,
     ghost one_each: { vec_len names ≡ vec_len links },
 }
 
-impl<J: System> Ways<J> {
+impl<'p, J: System> Ways<'p, J> {
     /// None.
-    fn new(alloc: Global) -> Ways<J> {
+    fn new(alloc: Global) -> Ways<'p, J> {
         Ways {
             names: Vec::new(alloc),
             links: Vec::new(alloc),
         }
     }
 
-    /// One more.
-    fn with(self, alloc: Global, name: &str, address: &str, ask: u64) -> Result<Ways<J>, NoMemory>
+    /// One more, of whose asks the watcher is told.
+    fn with(
+        self,
+        alloc: Global,
+        peer: &'p Peer,
+        watcher: &'p Watcher,
+    ) -> Result<Ways<'p, J>, NoMemory>
         requires { J.honest ≡ false }
     {
         let Ways {
             mut names,
             mut links,
         } = self;
-        let address = String::from_str(alloc, address)?;
-        let link = TcpLink::new(alloc, address, Duration::from_millis(ask));
-        names.push(String::from_str(alloc, name)?)?;
+        let log = watcher.log.as_ref();
+        let link = TcpLink::new(alloc, peer, &watcher.neighbours.watch, log);
+        names.push(String::from_str(alloc, peer.name())?)?;
         links.push(link)?;
         Ok(Ways { names, links })
     }
@@ -69,12 +63,12 @@ impl<J: System> Ways<J> {
 
 /// What a group of a node among others is made with, with room for so many bytes. This node stands first in the ring, and its own link is
 /// never asked. The only error is want of memory.
-fn stock<J: System>(
+fn stock<'p, J: System>(
     alloc: Global,
-    nodes: &Nodes<'_>,
+    watcher: &'p Watcher,
     bytes: u64,
     blank: Blank,
-) -> Result<Stock<TcpLink<J>, NoGate>, NoMemory>
+) -> Result<Stock<TcpLink<'p, J>, NoGate>, NoMemory>
     requires honest { J.honest ≡ false }
     requires bytes { bytes < 2 ^ 63 }
     ensures { (name parts : ℕ) → blank.name ≡ name → blank.parts ≡ parts → parts ≡ 65537 → IfOk result (IsStock name parts) }
@@ -82,10 +76,10 @@ fn stock<J: System>(
     let Some(entries) = NonZeroUsize::new(ENTRIES) else {
         return Err(AllocError);
     };
-    let mut ways = Ways::new(alloc).with(alloc, nodes.own, "", nodes.ask)?;
-    for peer in nodes.peers {
-        let (name, address) = *peer;
-        ways = ways.with(alloc, name, address, nodes.ask)?;
+    let neighbours = &watcher.neighbours;
+    let mut ways = Ways::new(alloc).with(alloc, &neighbours.own, watcher)?;
+    for peer in &neighbours.others {
+        ways = ways.with(alloc, peer, watcher)?;
     }
     let Ways { names, links } = ways;
     let Ok(ring) = Ring::new(alloc, names) else {
@@ -102,17 +96,17 @@ fn stock<J: System>(
     })
 }
 
-/// A node that asks others for the values of the keys that they own, whose groups have room for so many bytes each. The names of the
-/// nodes are at most 64, and each stands once. The only error is want of memory.
-pub fn among<R: Opens + Wait, J: System>(
+/// A node that asks the watcher's others for the values of the keys that they own, whose groups have room for so many bytes each. The names of
+/// the nodes are at most 64, and each stands once. The watcher is told of the asks. The only error is want of memory.
+pub fn among<'p, R: Opens + Wait, J: System>(
     alloc: Global,
     config: Config,
     catalogue: Catalogue<R, Stored<R>>,
-    nodes: &Nodes<'_>,
+    watcher: &'p Watcher,
     bytes: u64,
     tiles: Blank,
     sums: Blank,
-) -> Result<Node<R, Stored<R>, J, TcpLink<J>>, NoMemory>
+) -> Result<Node<R, Stored<R>, J, TcpLink<'p, J>>, NoMemory>
     requires pictures { (name : List ℕ) → J.pictures name ≡ pictures_of (bytes_of R.holds) catalogue name }
     requires gave { (name : List ℕ) (f : ReadFault) → J.gave name f ≡ gave_of stored_gave catalogue name f }
     requires stable { (name : List ℕ) (item : _) → item_named catalogue name ≡ Some item → J.stable name → ∥ keeps_of R.keeps item.source ∥₁ }
@@ -125,7 +119,7 @@ pub fn among<R: Opens + Wait, J: System>(
     ensures settings { IfOk result (λ n. n.settings ≡ config) }
     ensures items { IfOk result (λ n. n.items ≡ catalogue) }
 {
-    let tiles = stock(alloc, nodes, bytes, tiles)?;
-    let sums = stock(alloc, nodes, bytes, sums)?;
+    let tiles = stock(alloc, watcher, bytes, tiles)?;
+    let sums = stock(alloc, watcher, bytes, sums)?;
     Node::new(alloc, config, catalogue, tiles, sums)
 }

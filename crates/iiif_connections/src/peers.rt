@@ -3,13 +3,12 @@
 use crate::connections::ends;
 use crate::times::Times;
 use iiif_keys::{SumKey, System, TileKey};
-use iiif_listener::{Company, Pace, PacedWriter, close};
-use iiif_metrics::Tally;
+use iiif_listener::{Company, Pace, PacedWriter, Visit, close};
+use iiif_metrics::{Tally, Visitors};
 use iiif_open_files::Opens;
 use iiif_server::{Gate, Link, Node, SumCalls, TileCalls};
 use iiif_start::Stored;
 use std::alloc::Global;
-use std::net::TcpStream;
 use std::sync::Wait;
 use std::sync::ledger::Ledger;
 use std::time::{Clock, Duration};
@@ -36,25 +35,22 @@ impl<
     N: Link<TileKey, J, R> + Link<SumKey, J, R>,
     T: Gate<R>,
 > PeerCalls<'a, R, J, N, T> {
-    /// Answers the asks of a connection in order, and closes it. Where a pass is wanting, it is closed unanswered. The connection is
-    /// counted.
-    pub fn serve(&self, rt: &R, alloc: Global, stream: TcpStream) {
-        self.tally.opened(rt);
-        self.company.enter();
-        if !self.answer(rt, alloc, stream) {
-            self.tally.refused(rt);
-        }
-        self.company.leave();
-        self.tally.closed(rt);
-    }
-
-    /// The same, but for the count. It says whether the connection was served.
-    fn answer(&self, rt: &R, alloc: Global, stream: TcpStream) -> bool {
+    /// Answers the asks of a connection in order, and closes it. It says whether the connection was served: where a pass is wanting, it is
+    /// closed unanswered.
+    fn answer(&self, rt: &R, alloc: Global, visit: Visit<'_, R>) -> bool {
+        let Visit { stream, place } = visit;
         let Ok(pace) = Pace::new(rt, Duration::from_millis(self.times.whole)) else {
             return false;
         };
-        let Ok((mut reader, mut out)) = ends(rt, alloc, &self.times, &pace, self.company, stream)
-        else {
+        let connection = (&place, stream);
+        let Ok((mut reader, mut out)) = ends(
+            rt,
+            alloc,
+            &self.times,
+            &pace,
+            self.company,
+            connection,
+        ) else {
             return false;
         };
         let Some(mut passes) = self.node.pass(rt) else {
@@ -64,7 +60,23 @@ impl<
             .serve_peer(rt, alloc, &mut passes, &mut reader, &mut out);
         self.node.give_back(rt, passes);
         let PacedWriter { stream, .. } = out;
-        close(rt, stream);
+        close(rt, &place, stream);
         true
+    }
+
+    /// Answers the asks of a connection in order, and closes it. The connection is counted.
+    pub fn serve(&self, rt: &R, alloc: Global, visit: Visit<'_, R>) {
+        self.tally.opened(rt, Visitors::Peers);
+        self.company.enter();
+        if !self.answer(rt, alloc, visit) {
+            self.refused(rt);
+        }
+        self.company.leave();
+        self.tally.closed(rt, Visitors::Peers);
+    }
+
+    /// Counts a connection that was closed unanswered.
+    pub fn refused(&self, rt: &R) {
+        self.tally.refused(rt, Visitors::Peers);
     }
 }

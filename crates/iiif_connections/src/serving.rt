@@ -2,12 +2,12 @@
 
 use crate::peers::PeerCalls;
 use crate::statistics::Statistics;
-use crate::times::{Times, USUAL};
+use crate::times::Times;
 use crate::viewers::Viewers;
 use crate::watcher::Watcher;
 use iiif_io::Outlet;
 use iiif_keys::{SumKey, System, TileKey};
-use iiif_listener::Company;
+use iiif_listener::{Company, Visit};
 use iiif_open_files::Opens;
 use iiif_server::{Gate, Link, Node};
 use iiif_services::{Addresses, Listeners, logged, serve_all};
@@ -29,7 +29,7 @@ pub fn serve<'x, R, J, N, T, E>(
     workers: u32,
     times: Times,
     watcher: &'x Watcher,
-    listeners: &Listeners,
+    listeners: &'x Listeners,
     err: &mut E,
 ) -> io::Result<()>
 where
@@ -58,8 +58,8 @@ where
     let statistics = Statistics {
         node,
         times,
-        tally,
-        held: watcher.held,
+        watcher,
+        listeners,
     };
     let work = || serve_all_of(rt, alloc, listeners, &viewers, &peers, &statistics);
     match &watcher.log {
@@ -84,16 +84,23 @@ where
     N: Link<TileKey, J, R> + Link<SumKey, J, R> + Sync,
     T: Gate<R> + Sync,
 {
-    let tally = statistics.tally;
-    let serve_viewer = |stream: TcpStream| viewers.serve(rt, alloc, stream);
-    let serve_peer = |stream: TcpStream| peers.serve(rt, alloc, stream);
-    let serve_reader = |stream: TcpStream| statistics.serve(rt, alloc, stream);
-    let refused = || tally.refused(rt);
-    let all = (&serve_viewer, &serve_peer, &serve_reader);
-    serve_all(rt, listeners, all, &refused)
+    let serve_viewer = |visit: Visit<'_, R>| viewers.serve(rt, alloc, visit);
+    let refused_viewer = || viewers.refused(rt);
+    let serve_peer = |visit: Visit<'_, R>| peers.serve(rt, alloc, visit);
+    let refused_peer = || peers.refused(rt);
+    let serve_reader = |visit: Visit<'_, R>| statistics.serve(rt, alloc, visit);
+    let refused_reader = || statistics.refused(rt);
+    serve_all(
+        rt,
+        alloc,
+        listeners,
+        (&serve_viewer, &refused_viewer),
+        (&serve_peer, &refused_peer),
+        (&serve_reader, &refused_reader),
+    )
 }
 
-/// Serves at these addresses by a node, within the usual limits of time, with so many workers for each viewer's connection, and writes a
+/// Serves at these addresses by a node, within these limits of time, with so many workers for each viewer's connection, and writes a
 /// line for each answer to a viewer where the watcher has a log. It ends where a listener does: an address is none, or the listener was
 /// stopped.
 pub fn listen<'a, R, J, N, T, E>(
@@ -101,6 +108,7 @@ pub fn listen<'a, R, J, N, T, E>(
     alloc: Global,
     node: &Node<R, Stored<R>, J, N, T>,
     workers: u32,
+    times: Times,
     addresses: &Addresses<'_>,
     watcher: &Watcher,
     err: &mut E,
@@ -113,10 +121,10 @@ where
     T: Gate<R> + Sync,
     E: Outlet + Send,
 {
-    let Ok(listeners) = Listeners::bind(rt, addresses) else {
+    let Ok(listeners) = Listeners::bind(rt, alloc, addresses) else {
         return Err(Stop::Listen);
     };
-    match serve(rt, alloc, node, workers, USUAL, watcher, &listeners, err) {
+    match serve(rt, alloc, node, workers, times, watcher, &listeners, err) {
         Ok(()) => Ok(()),
         Err(_) => Err(Stop::Listen),
     }

@@ -1,23 +1,29 @@
 //! Connections of who asks for the statistics.
 
 ghost use Rattle.std.specs.Prelude.{◌≡◌};
+ghost use Rattle.iiif_connections.specs.Telling.{service_of};
 
 use crate::connections::ends;
 use crate::times::Times;
+use crate::watcher::Watcher;
 use iiif_keys::System;
-use iiif_listener::{Company, Pace, PacedWriter, close};
-use iiif_metrics::{CacheMetrics, HeldMetrics, Measure, Metrics, Tally, serve_metrics};
+use iiif_listener::{Company, Pace, PacedWriter, Visit, close};
+use iiif_metrics::{
+    CacheMetrics, HeldMetrics, Measure, Metrics, PeerMetrics, Service, Services, Visitors,
+    serve_metrics,
+};
 use iiif_open_files::Opens;
+use iiif_pixel::NoMemory;
 use iiif_server::{Kept, Node, SumCalls, TileCalls};
+use iiif_services::Listeners;
 use iiif_start::{Held, Stored};
 use iiif_tables::Book;
 use std::alloc::Global;
-use std::net::TcpStream;
 use std::sync::Wait;
 use std::sync::ledger::Ledger;
 use std::time::{Clock, Duration};
 
-/// A node, and what is counted of its connections and answers, as who asks for the statistics has them.
+/// A node, what is counted of its connections, answers and asks, and its listeners, as who asks for the statistics has them.
 #[derive(Drop)]
 pub struct Statistics<'a, R: Opens + Wait, J: System, N, T>
 where
@@ -26,9 +32,9 @@ where
 {
     pub node: &'a Node<R, Stored<R>, J, N, T>,
     pub times: Times,
-    pub tally: &'a Tally,
-    /// What is held in memory of the images' files.
-    pub held: Held,
+    /// What is counted.
+    pub watcher: &'a Watcher,
+    pub listeners: &'a Listeners,
 }
 
 /// What a group counted, and how much it keeps.
@@ -41,6 +47,17 @@ fn cache_metrics(book: Book, kept: Kept) -> CacheMetrics
         book,
         bytes: kept.bytes,
         entries: kept.entries as u64,
+    }
+}
+
+/// What is told of a service that is wanted or isn't, and is gone or isn't.
+fn service_of(is_wanted: bool, is_gone: bool) -> Service
+    ensures { result ≡ service_of is_wanted is_gone }
+{
+    match (is_wanted, is_gone) {
+        (false, _) => Service::Unwanted,
+        (true, false) => Service::GoesOn,
+        (true, true) => Service::Gone,
     }
 }
 
@@ -62,26 +79,63 @@ impl<'a, R: Opens + Wait, J: System, N, T> Measure<R> for Statistics<'a, R, J, N
         Metrics {
             tiles: cache_metrics(tiles.book(rt), tiles.kept(rt)),
             sums: cache_metrics(sums.book(rt), sums.kept(rt)),
-            held: held_metrics(self.held),
-            counts: self.tally.counts(rt),
+            held: held_metrics(self.watcher.held),
+            counts: self.watcher.tally.counts(rt),
+        }
+    }
+
+    fn peers(&self, rt: &R, alloc: Global) -> Result<PeerMetrics, NoMemory> {
+        self.watcher.neighbours.metrics(rt, alloc)
+    }
+
+    fn services(&self, rt: &R) -> Services {
+        let is_over = self.listeners.is_over(rt);
+        let log = match &self.watcher.log {
+            Some(log) => service_of(true, !log.is_written(rt)),
+            None => Service::Unwanted,
+        };
+        Services {
+            viewers: service_of(true, is_over),
+            peers: service_of(self.listeners.peers.is_some(), is_over),
+            statistics: service_of(self.listeners.statistics.is_some(), is_over),
+            log,
         }
     }
 }
 
 impl<'a, R: Opens + Wait + Clock, J: System, N, T> Statistics<'a, R, J, N, T> {
-    /// Answers the one call of a connection, and closes it.
-    pub fn serve(&self, rt: &R, alloc: Global, stream: TcpStream) {
+    /// Answers the one call of a connection, and closes it. It says whether the connection was served: where memory is wanting, it is closed
+    /// unanswered.
+    fn answer(&self, rt: &R, alloc: Global, visit: Visit<'_, R>) -> bool {
+        let Visit { stream, place } = visit;
         let Ok(pace) = Pace::new(rt, Duration::from_millis(self.times.whole)) else {
-            return;
+            return false;
         };
         // Nobody is counted in it, so the call is waited for at once.
         let company = Company::new();
-        let Ok((reader, mut out)) = ends(rt, alloc, &self.times, &pace, &company, stream) else {
-            return;
+        let connection = (&place, stream);
+        let Ok((reader, mut out)) = ends(rt, alloc, &self.times, &pace, &company, connection) else {
+            return false;
         };
-        // Where memory is wanting, it is closed unanswered.
-        let _ = serve_metrics(rt, alloc, self, reader, &mut out);
+        if serve_metrics(rt, alloc, self, reader, &mut out).is_err() {
+            return false;
+        }
         let PacedWriter { stream, .. } = out;
-        close(rt, stream);
+        close(rt, &place, stream);
+        true
+    }
+
+    /// Answers the one call of a connection, and closes it. The connection is counted.
+    pub fn serve(&self, rt: &R, alloc: Global, visit: Visit<'_, R>) {
+        self.watcher.tally.opened(rt, Visitors::Statistics);
+        if !self.answer(rt, alloc, visit) {
+            self.refused(rt);
+        }
+        self.watcher.tally.closed(rt, Visitors::Statistics);
+    }
+
+    /// Counts a connection that was closed unanswered.
+    pub fn refused(&self, rt: &R) {
+        self.watcher.tally.refused(rt, Visitors::Statistics);
     }
 }

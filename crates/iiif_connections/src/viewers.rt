@@ -12,12 +12,12 @@ use crate::times::Times;
 use crate::watcher::Watcher;
 use iiif_io::{Inlet, Outlet};
 use iiif_keys::{SumKey, System, TileKey};
-use iiif_listener::{Company, Pace, PacedWriter, close};
+use iiif_listener::{Company, Pace, PacedWriter, Visit, close};
+use iiif_metrics::Visitors;
 use iiif_open_files::Opens;
 use iiif_server::{Gate, Link, Node, SumCalls, TileCalls};
 use iiif_start::Stored;
 use std::alloc::Global;
-use std::net::TcpStream;
 use std::sync::Wait;
 use std::sync::ledger::Ledger;
 use std::thread::Threads;
@@ -52,30 +52,38 @@ where
 {
     /// Answers the calls of a connection in order, and closes it. Where passes for its workers are wanting, it is closed unanswered. The
     /// watcher is told of it, and of each answer once it ended.
-    pub fn serve(&self, rt: &R, alloc: Global, stream: TcpStream) {
+    pub fn serve(&self, rt: &R, alloc: Global, visit: Visit<'_, R>) {
         let tally = &self.watcher.tally;
-        tally.opened(rt);
+        tally.opened(rt, Visitors::Viewers);
         self.company.enter();
-        if !self.answer(rt, alloc, stream) {
-            tally.refused(rt);
+        if !self.answer(rt, alloc, visit) {
+            self.refused(rt);
         }
         self.company.leave();
-        tally.closed(rt);
+        tally.closed(rt, Visitors::Viewers);
+    }
+
+    /// Counts a connection that was closed unanswered.
+    pub fn refused(&self, rt: &R) {
+        self.watcher.tally.refused(rt, Visitors::Viewers);
     }
 
     /// The same, but for the connection's being told. It says whether the connection was served.
-    fn answer(&self, rt: &R, alloc: Global, stream: TcpStream) -> bool {
+    fn answer(&self, rt: &R, alloc: Global, visit: Visit<'_, R>) -> bool {
+        let Visit { stream, place } = visit;
         let Ok(pace) = Pace::new(rt, Duration::from_millis(self.times.whole)) else {
             return false;
         };
-        let Ok((reader, mut out)) = ends(rt, alloc, &self.times, &pace, self.company, stream) else {
+        let connection = (&place, stream);
+        let Ok((reader, mut out)) = ends(rt, alloc, &self.times, &pace, self.company, connection)
+        else {
             return false;
         };
         if !self.serve_over(rt, alloc, reader, &mut out) {
             return false;
         }
         let PacedWriter { stream, .. } = out;
-        close(rt, stream);
+        close(rt, &place, stream);
         true
     }
 

@@ -1,8 +1,9 @@
-//! Who is told of each answer of a viewer's connection: the log, and what is counted.
+//! Who is told of each answer of a viewer's connection, and of the asks of other nodes: the log, and what is counted.
 
 ghost use Rattle.std.specs.Prelude.{◌≡◌, [], IfNone, IfSome};
 ghost use Rattle.iiif_connections.specs.Telling.{bytes_of, outcome_of};
 
+use crate::neighbours::{Neighbours, Nodes};
 use iiif_http_front::Call;
 use iiif_log::{Answered, Log, Moment, Outcome};
 use iiif_metrics::Tally;
@@ -13,22 +14,30 @@ use std::alloc::Global;
 use std::sync::Wait;
 use std::time::{Clock, Instant};
 
-/// What is counted of connections and answers, what is held of the images, and the log of the answers, where one is wanted.
+/// What is counted of connections and answers, what is held of the images, what is known of other nodes, and the log of the answers and the
+/// other nodes, where one is wanted.
 #[derive(Drop)]
 pub struct Watcher {
     pub log: Option<Log>,
     pub tally: Tally,
     pub held: Held,
+    pub neighbours: Neighbours,
 }
 
 impl Watcher {
     /// Nothing was counted yet. The only error is want of memory.
-    pub fn new(alloc: Global, logs: bool, held: Held) -> Result<Watcher, NoMemory> {
+    pub fn new(
+        alloc: Global,
+        logs: bool,
+        held: Held,
+        nodes: &Nodes<'_>,
+    ) -> Result<Watcher, NoMemory> {
         let log = if logs { Some(Log::new(alloc)?) } else { None };
         Ok(Watcher {
             log,
             tally: Tally::new(),
             held,
+            neighbours: Neighbours::new(alloc, nodes)?,
         })
     }
 }

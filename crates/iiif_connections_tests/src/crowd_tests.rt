@@ -13,7 +13,7 @@ use std::test::Fail;
 use std::time::{Duration, Instant};
 use std::{fs, thread};
 
-/// Whether sixty-four viewers who stay are answered, one more isn't, and one is once they have gone.
+/// Whether sixty-four viewers who stay and ask again are answered, one more isn't, and one is once they have gone.
 pub(crate) fn are_let_in_again(rt: &HostRuntime, viewers: &TcpListener) -> bool {
     let mut open = Vec::new(rt.alloc());
     let is_full = is_full(rt, viewers, &mut open);
@@ -39,6 +39,11 @@ fn sixty_four_viewers_are_served_and_one_more_is_closed(rt: HostRuntime) {
         are_known(counts, &[Some(0), None, None, None]),
         "{counts:?}"
     );
+}
+
+#[test]
+fn who_waits_longest_is_closed_for_one_more(rt: HostRuntime) {
+    assert!(rt; served(&rt, &rt, &LASTING, Visit::Idle).is_some());
 }
 
 /// The side of a gray image, in samples.

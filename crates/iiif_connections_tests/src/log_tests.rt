@@ -5,7 +5,7 @@ use crate::pipe::{Pipe, given_to, new_pipe, read_from_now, wait_for_line};
 use crate::viewers::{Sends, Text, connected, is_answered, is_redirected};
 use crate::visits::{ANY, HELD, Visit, logged};
 use http::Method;
-use iiif_connections::{Cause, Cut, Sent, Watch, Watcher};
+use iiif_connections::{Cause, Cut, Nodes, Sent, Watch, Watcher};
 use iiif_http_front::Call;
 use iiif_log::write_lines;
 use std::alloc::Global;
@@ -89,7 +89,12 @@ fn log_of<R: Wait + Clock>(
     target: &[u8],
     outcomes: &[Result<Sent, Cut>],
 ) -> Result<Vec<u8>, Fail> {
-    let watcher = Watcher::new(alloc, true, HELD)?;
+    let nodes = Nodes {
+        own: "self",
+        peers: &[],
+        ask: 1_000,
+    };
+    let watcher = Watcher::new(alloc, true, HELD, &nodes)?;
     let call = call_of(alloc, target)?;
     for outcome in outcomes {
         Watch::<R>::answered(&watcher, rt, None, Some(&call), outcome);

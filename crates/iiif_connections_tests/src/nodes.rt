@@ -14,7 +14,7 @@ use iiif_connections::{Catalogue, Config, Link, Node, Nodes, Times, Watcher, amo
 use iiif_keys::{SumKey, System, TileKey};
 use iiif_open_files::Opens;
 use iiif_services::Listeners;
-use iiif_start::{Stored, catalogue};
+use iiif_start::{Held, Stored, catalogue};
 use std::alloc::Global;
 use std::marker::Brand;
 use std::net::{Net, TcpListener, TcpStream};
@@ -61,6 +61,20 @@ pub(crate) const SAMPLE: Scene<'static, 'static> = Scene {
 /// A node that owns each key of the sample, and of `g`, at tiles of 2 by 2, beside one of the name `self`: Python's `hashlib` worked
 /// it out.
 const OWNER: &str = "other85";
+
+/// Who is told of what a scene's node does, with these files held in memory.
+pub(crate) fn watcher_of(alloc: Global, scene: &Scene<'_, '_>, held: Held) -> Option<Watcher> {
+    let mut peers = Vec::new(alloc);
+    if let Some(owner) = scene.owner {
+        peers.push((OWNER, owner)).ok()?;
+    }
+    let nodes = Nodes {
+        own: "self",
+        peers: &peers,
+        ask: scene.times.ask,
+    };
+    Watcher::new(alloc, scene.logs, held, &nodes).ok()
+}
 
 /// How much a group keeps.
 const ROOM: u64 = 1 << 26;
@@ -191,7 +205,6 @@ fn serve_among<R, J>(
     alloc: Global,
     config: Config,
     catalogue: Catalogue<R, Stored<R>>,
-    nodes: &Nodes<'_>,
     tiles: Blank,
     sums: Blank,
     times: Times,
@@ -210,7 +223,8 @@ where
     requires tiles { (tiles.name ≡ J.tiles_name) × (tiles.parts ≡ J.tiles_parts) × (J.tiles_parts ≡ 65537) }
     requires sums { (sums.name ≡ J.sums_name) × (sums.parts ≡ J.sums_parts) × (J.sums_parts ≡ 65537) }
 {
-    let node = among::<R, J>(alloc, config, catalogue, nodes, ROOM, tiles, sums).ok()?;
+    let watcher = stage.watcher;
+    let node = among::<R, J>(alloc, config, catalogue, watcher, ROOM, tiles, sums).ok()?;
     serve_by(rt, alloc, &node, times, stage)
 }
 
@@ -237,17 +251,9 @@ where
     let open_files = NonZeroUsize::new(scene.open_files)?;
     let catalogue = catalogue(rt, alloc, scene.images, open_files, scene.hold).ok()?;
     let (tiles, sums) = (Blank::new(65_537), Blank::new(65_537));
-    let Some(owner) = scene.owner else {
+    if scene.owner.is_none() {
         return serve_alone::<R, Brand>(rt, alloc, config, catalogue, tiles, sums, times, stage);
-    };
-    let mut peers = Vec::new(alloc);
-    peers.push((OWNER, owner)).ok()?;
-    let nodes = Nodes {
-        own: "self",
-        peers: &peers,
-        ask: times.ask,
-    };
-    serve_among::<R, Brand>(
-        rt, alloc, config, catalogue, &nodes, tiles, sums, times, stage,
-    )
+    }
+    stage.watcher.neighbours.look_up(rt, alloc);
+    serve_among::<R, Brand>(rt, alloc, config, catalogue, tiles, sums, times, stage)
 }

@@ -1,13 +1,13 @@
 //! Nodes that ask each other, and nodes whose peers lie, drip, are silent or gone.
 
 use crate::files::DEEP;
-use crate::nodes::{Counts, SAMPLE, Scene, Stage, are_known, serve_told};
+use crate::nodes::{Counts, SAMPLE, Scene, Stage, are_known, serve_told, watcher_of};
 use crate::peers::{Asked, CHANGED, HALVED, LIMIT, OTHER, RIGHT, WIDE, Way};
 use crate::pipe::new_pipe;
 use crate::viewers::{Sends, Text, address_of};
 use crate::visits::{ANY, HELD, Visit, listeners_of, served, visited};
+use iiif_connections::Times;
 use iiif_connections::times::USUAL;
-use iiif_connections::{Times, Watcher};
 use iiif_listener::stop;
 use iiif_open_files::Opens;
 use iiif_services::Listeners;
@@ -73,7 +73,6 @@ where
     R::Handle: Send + Sync,
 {
     let pipe = new_pipe(rt.alloc(), true);
-    let watcher = Watcher::new(rt.alloc(), false, HELD).ok()?;
     let first = Scene {
         owner: Some(addresses.1),
         ..SAMPLE
@@ -82,12 +81,15 @@ where
         owner: Some(addresses.0),
         ..SAMPLE
     };
+    let watcher = watcher_of(rt.alloc(), &first, HELD)?;
+    let other = watcher_of(rt.alloc(), &second, HELD)?;
     let at_first = Stage {
         watcher: &watcher,
         listeners: all.0,
         pipe: &pipe,
     };
     let at_second = Stage {
+        watcher: &other,
         listeners: all.1,
         ..at_first
     };

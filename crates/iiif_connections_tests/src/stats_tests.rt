@@ -48,7 +48,8 @@ fn told(rt: &HostRuntime, listeners: &Listeners, lines: &[&str]) -> Option<Vec<u
 }
 
 /// What is told once that was answered. The image has four tiles, each of which is loaded once and then found.
-static LINES: [&str; 19] = [
+static LINES: [&str; 20] = [
+    "\niiif_peer_ask_seconds_count 0\n",
     "\niiif_tile_cache_gets_total 8\n",
     "\niiif_tile_cache_hits_total 4\n",
     "\niiif_tile_cache_joins_total 0\n",
@@ -63,7 +64,7 @@ static LINES: [&str; 19] = [
     "\niiif_sum_cache_entries 0\n",
     "\niiif_held_bytes 456\n",
     "\niiif_held_images 3\n",
-    "\niiif_connections_refused_total 0\n",
+    "\niiif_connections_refused_total{listener=\"viewers\"} 0\n",
     "\niiif_answers_total{status=\"200\"} 2\n",
     "\niiif_answers_total{status=\"303\"} 0\n",
     "\niiif_answers_total{status=\"405\"} 1\n",
@@ -91,7 +92,11 @@ pub(crate) fn are_counted(rt: &HostRuntime, listeners: &Listeners) -> bool {
     let Some(bytes) = bytes_of_three(rt, listeners) else {
         return false;
     };
-    match told(rt, listeners, &["\niiif_connections_open 0\n"]) {
+    match told(
+        rt,
+        listeners,
+        &["\niiif_connections_open{listener=\"viewers\"} 0\n"],
+    ) {
         Some(told) => tells(rt.alloc(), &told, bytes),
         None => false,
     }
@@ -102,33 +107,47 @@ fn counts_are_those_of_the_answers(rt: HostRuntime) {
     assert!(rt; served(&rt, &rt, &WATCHED, Visit::Counted).is_some());
 }
 
-/// Other requests, and the front of what they are answered.
-static OTHERS: [(&[u8], &[u8]); 5] = [
+/// Other requests, the front of what they are answered, and the end.
+static OTHERS: [(&[u8], &[u8], &[u8]); 6] = [
+    (
+        b"GET /health HTTP/1.1\r\nHost: localhost\r\n\r\n",
+        b"HTTP/1.1 200 OK\r\nContent-Type: text/plain\r\n",
+        b"\r\n\r\nviewers ok\npeers ok\nstatistics ok\n",
+    ),
     (
         b"GET / HTTP/1.1\r\nHost: localhost\r\n\r\n",
         b"HTTP/1.1 404 Not Found\r\n",
+        b"",
     ),
     (
         b"GET /metrics?a HTTP/1.1\r\nHost: localhost\r\n\r\n",
         b"HTTP/1.1 404 Not Found\r\n",
+        b"",
     ),
     (
         b"HEAD /metrics HTTP/1.1\r\nHost: localhost\r\n\r\n",
         b"HTTP/1.1 405 Method Not Allowed\r\nContent-Type: text/plain\r\nAllow: GET\r\n",
+        b"",
     ),
     (
         b"POST /metrics HTTP/1.1\r\nHost: localhost\r\n\r\n",
         b"HTTP/1.1 405 Method Not Allowed\r\nContent-Type: text/plain\r\nAllow: GET\r\n",
+        b"",
     ),
-    (b"metrics\r\n\r\n", b"HTTP/1.1 400 Bad Request\r\n"),
+    (b"metrics\r\n\r\n", b"HTTP/1.1 400 Bad Request\r\n", b""),
 ];
 
-/// Whether what a request is answered begins so.
-fn is_begun_so(rt: &HostRuntime, statistics: &TcpListener, request: &[u8], front: &[u8]) -> bool {
+/// Whether what a request is answered begins and ends so.
+fn is_framed_so(
+    rt: &HostRuntime,
+    statistics: &TcpListener,
+    request: &[u8],
+    frame: (&[u8], &[u8]),
+) -> bool {
     let sends = Sends {
         request,
         ends: false,
-        wanted: Text::Framed(front, b""),
+        wanted: Text::Framed(frame.0, frame.1),
     };
     is_sent(rt, statistics, &sends)
 }
@@ -138,8 +157,8 @@ pub(crate) fn are_others_refused(rt: &HostRuntime, listeners: &Listeners) -> boo
     let Some(statistics) = &listeners.statistics else {
         return false;
     };
-    for (request, front) in &OTHERS {
-        if !is_begun_so(rt, statistics, request, front) {
+    for (request, front, end) in &OTHERS {
+        if !is_framed_so(rt, statistics, request, (front, end)) {
             return false;
         }
     }
@@ -147,7 +166,7 @@ pub(crate) fn are_others_refused(rt: &HostRuntime, listeners: &Listeners) -> boo
 }
 
 #[test]
-fn other_targets_and_methods_are_refused(rt: HostRuntime) {
+fn health_is_told_and_other_targets_and_methods_are_refused(rt: HostRuntime) {
     // Those who ask for the statistics are no viewers.
     match served(&rt, &rt, &WATCHED, Visit::ForOthers) {
         Some(counts) => assert!(rt; counts.whole == [0; 8]),
@@ -157,12 +176,15 @@ fn other_targets_and_methods_are_refused(rt: HostRuntime) {
 
 /// What is told once 64 viewers are connected and were answered. An answer is counted behind its last byte.
 static CROWD: [&str; 2] = [
-    "\niiif_connections_open 64\n",
+    "\niiif_connections_open{listener=\"viewers\"} 64\n",
     "\niiif_answers_total{status=\"303\"} 64\n",
 ];
 
 /// What is told with it of one more who was closed: that is counted before it is closed, so nobody waits for it.
-static REFUSED: [&str; 1] = ["\niiif_connections_refused_total 1\n"];
+static REFUSED: [&str; 2] = [
+    "\niiif_connections_refused_total{listener=\"viewers\"} 1\n",
+    "\niiif_connections_refused_total{listener=\"peers\"} 0\n",
+];
 
 /// Whether who asks for the statistics while they stay is told of them.
 pub(crate) fn are_counted_when_full(rt: &HostRuntime, listeners: &Listeners) -> bool {

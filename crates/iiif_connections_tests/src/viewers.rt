@@ -4,6 +4,7 @@ use std::alloc::Global;
 use std::fmt::Write as _;
 use std::io::{Read, Write};
 use std::net::{Shutdown, TcpListener, TcpStream};
+use std::thread;
 use std::time::Duration;
 
 /// What bytes are to be.
@@ -131,7 +132,41 @@ fn answered_of_64(
     Some(served)
 }
 
-/// Whether 64 viewers are answered that stay, and one more isn't.
+/// Whether the beginning of a further request is sent on each connection, and was read, but on a machine that is busy beyond reason.
+fn all_begin(rt: &HostRuntime, open: &mut Vec<TcpStream>) -> bool {
+    for viewer in open.iter_mut() {
+        if viewer.write_all(b"H").is_err() {
+            return false;
+        }
+    }
+    thread::sleep(rt, Duration::from_millis(1000));
+    true
+}
+
+/// Whether 64 viewers are answered that stay and begin to ask again, and one more isn't.
 pub(crate) fn is_full(rt: &HostRuntime, listener: &TcpListener, open: &mut Vec<TcpStream>) -> bool {
-    answered_of_64(rt, listener, open) == Some(64) && is_let_in(rt, listener) == Some(false)
+    answered_of_64(rt, listener, open) == Some(64)
+        && all_begin(rt, open)
+        && is_let_in(rt, listener) == Some(false)
+}
+
+/// Whether a connection is closed.
+fn is_closed(viewer: &mut TcpStream) -> bool {
+    let mut byte = [0u8; 1];
+    viewer.read(&mut byte).is_ok_and(|count| count == 0)
+}
+
+/// Whether 64 viewers are answered that stay, and one more is answered, for whom the first one's connection is closed and the last one's
+/// isn't.
+pub(crate) fn give_way(rt: &HostRuntime, listener: &TcpListener) -> bool {
+    let mut open = Vec::new(rt.alloc());
+    if answered_of_64(rt, listener, &mut open) != Some(64)
+        || is_let_in(rt, listener) != Some(true)
+    {
+        return false;
+    }
+    match open.as_mut_slice() {
+        [first, .., last] => is_closed(first) && is_redirected(last),
+        _ => false,
+    }
 }

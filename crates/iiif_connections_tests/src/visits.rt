@@ -3,12 +3,11 @@
 use crate::crowd_tests::{are_let_in_again, are_served_beside_stalled};
 use crate::list_tests::are_all_answered;
 use crate::log_tests::are_served_before_a_reader;
-use crate::nodes::{Counts, Scene, Stage, serve_told};
+use crate::nodes::{Counts, Scene, Stage, serve_told, watcher_of};
 use crate::peers::{Asked, are_asked_and_answered, are_both_halved, are_replied_and_sent};
 use crate::pipe::{Pipe, given_to, new_pipe};
 use crate::stats_tests::{are_counted, are_counted_when_full, are_others_refused};
-use crate::viewers::{Sends, is_sent};
-use iiif_connections::Watcher;
+use crate::viewers::{Sends, give_way, is_sent};
 use iiif_listener::stop;
 use iiif_open_files::Opens;
 use iiif_services::{Addresses, Listeners};
@@ -38,8 +37,10 @@ pub(crate) enum One {
 pub(crate) enum Visit<'a> {
     /// A viewer sends this, and is sent back what is wanted.
     Sends(&'a Sends<'a>),
-    /// Sixty-four viewers who stay, one more, who isn't answered, and one who is, once they have gone.
+    /// Sixty-four viewers who stay and ask, one more, who isn't answered, and one who is, once they have gone.
     Crowd,
+    /// Sixty-four viewers who stay and don't ask, and one more, for whom one of them is closed.
+    Idle,
     /// Viewers beside one who takes nothing.
     BesideStalled,
     /// A viewer asks for each of many images.
@@ -48,7 +49,7 @@ pub(crate) enum Visit<'a> {
     BeforeReader,
     /// A viewer, and who asks for the statistics once no connection is open.
     Counted,
-    /// Sixty-four viewers and one more, and who asks for the statistics meanwhile.
+    /// Sixty-four viewers who ask and one more, and who asks for the statistics meanwhile.
     CountedWhenFull,
     /// Who asks where the statistics are for something else.
     ForOthers,
@@ -69,6 +70,7 @@ fn is_right<R: Wait>(rt: &R, host: &HostRuntime, stage: Stage<'_>, visit: Visit<
     match visit {
         Visit::Sends(sends) => is_sent(host, viewers, sends),
         Visit::Crowd => are_let_in_again(host, viewers),
+        Visit::Idle => give_way(host, viewers),
         Visit::BesideStalled => are_served_beside_stalled(host, viewers),
         Visit::ForAll => are_all_answered(host, viewers),
         Visit::BeforeReader => are_served_before_a_reader(rt, host, viewers, stage.pipe),
@@ -117,8 +119,10 @@ pub(crate) fn listeners_of(rt: &HostRuntime, statistics: Option<&str>) -> Option
         viewers: ANY,
         peers: Some(ANY),
         statistics,
+        per_address: 0,
+        known: None,
     };
-    Listeners::bind(rt, &addresses).ok()
+    Listeners::bind(rt, rt.alloc(), &addresses).ok()
 }
 
 /// Serves by a scene's node during a visit, and says what it counted, and whether the visit went as it was to.
@@ -164,7 +168,7 @@ where
         + AllocGlobal,
     R::Handle: Send + Sync,
 {
-    let watcher = Watcher::new(rt.alloc(), scene.logs, HELD).ok()?;
+    let watcher = watcher_of(rt.alloc(), scene, HELD)?;
     let listeners = listeners_of(host, scene.statistics)?;
     let stage = Stage {
         watcher: &watcher,

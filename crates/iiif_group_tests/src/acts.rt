@@ -1,6 +1,6 @@
 //! What threads do at once. Each is a value of a type of its own, so that no scene has a closure.
 
-use iiif_listener::{Serve, serve_listener};
+use iiif_listener::{Admission, Serve, serve_listener};
 use std::alloc::Global;
 use std::net::TcpListener;
 use std::sync::Wait;
@@ -67,6 +67,12 @@ where
     thread::join(rt, || by_four(rt, one), || other.act(rt))
 }
 
+/// Whoever comes.
+const ANYBODY: Admission<'static> = Admission {
+    per_address: 0,
+    known: None,
+};
+
 /// One beside a listener's service, which ends where it is stopped.
 pub(crate) fn served_beside<R, D, A>(
     rt: &R,
@@ -83,7 +89,7 @@ where
 {
     let (_served, came) = thread::join(
         rt,
-        || serve_listener(rt, alloc, door, listener).is_ok(),
+        || serve_listener(rt, alloc, door, listener, ANYBODY).is_ok(),
         || one.act(rt),
     );
     came

@@ -11,7 +11,7 @@ use crate::peers::LIMIT;
 use crate::scenes::{ODD, QUIET, Seen};
 use iiif_io::fakes::FailingReader;
 use iiif_keys::{Fault, System};
-use iiif_listener::Serve;
+use iiif_listener::{Serve, Visit};
 use iiif_peer_groups::Peers;
 use iiif_peer_server::serve_peer;
 use iiif_source::Source;
@@ -45,7 +45,11 @@ where
 }
 
 impl<'a, 'b, R: Net<Stream = TcpStream> + Wait + Clock, J: System> Serve<R> for Door<'a, 'b, R, J> {
-    fn serve(&self, rt: &R, alloc: Global, mut stream: TcpStream) {
+    fn serve(&self, rt: &R, alloc: Global, visit: Visit<'_, R>) {
+        let Visit {
+            mut stream,
+            place: _place,
+        } = visit;
         let _ = stream.set_read_timeout(Some(Duration::from_millis(LIMIT)));
         let Some(mut passes) = passes(rt, self.node) else {
             return;

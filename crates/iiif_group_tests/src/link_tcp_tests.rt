@@ -7,9 +7,11 @@ use crate::acts::{Act, two};
 use crate::keys::{
     DEEP_REPLY, DEEP_REPLY_ONE, DEEP_VALUE, OTHER_REPLY, SHORT_VALUE_REPLY, UNKNOWN_REPLY, tile,
 };
+use iiif_breaker::Asks;
 use iiif_group::{Link, LinkFault, NoLink};
 use iiif_keys::{CacheKey, Shape, System, TileKey};
-use iiif_peer_link::{Deadline, TcpLink};
+use iiif_log::{Log, write_lines};
+use iiif_peer_link::{Deadline, Peer, Stopwatch, TcpLink};
 use iiif_peer_wire::{Version, WireFault, read_ask};
 use iiif_pixel::{Depth, Dim, Kind};
 use std::alloc::Global;
@@ -17,9 +19,9 @@ use std::io::{ErrorKind, Read, Write};
 use std::net::{Net, TcpListener, TcpStream};
 use std::sync::Wait;
 use std::test::Fail;
-use std::thread;
 use std::thread::Threads;
 use std::time::{Clock, Duration, Instant};
+use std::{str, thread};
 
 /// Each name has the picture of two gray places of 16 bits, and no node is relied on.
 struct Deep;
@@ -125,19 +127,30 @@ impl<'a, R: Clock> Act<R> for Taker<'a> {
     }
 }
 
-/// A link to an address.
-fn link_to(alloc: Global, address: String) -> TcpLink<Deep> {
-    TcpLink::new(alloc, address, Duration::from_millis(LIMIT))
+/// A link to a node.
+fn link_to<'p>(
+    alloc: Global,
+    peer: &'p Peer,
+    watch: &'p Stopwatch,
+    log: Option<&'p Log>,
+) -> TcpLink<'p, Deep> {
+    TcpLink::new(alloc, peer, watch, log)
 }
 
-/// A listener, and a link to it.
-fn linked<R>(rt: &R, alloc: Global) -> Option<(TcpListener, TcpLink<Deep>)>
+/// A node at an address that wasn't looked up.
+fn node_at(alloc: Global, address: &str) -> Option<Peer> {
+    Peer::new(alloc, "node two", address, Duration::from_millis(LIMIT)).ok()
+}
+
+/// A listener, and the node there, which wasn't looked up.
+fn listening<R>(rt: &R, alloc: Global) -> Option<(TcpListener, Peer)>
 where
     R: Net<Listener = TcpListener, Stream = TcpStream>,
 {
     let listener = TcpListener::bind(rt, "127.0.0.1:0").ok()?;
     let address = format!(in alloc; "{}", listener.local_addr().ok()?).ok()?;
-    Some((listener, link_to(alloc, address)))
+    let node = node_at(alloc, address.as_str())?;
+    Some((listener, node))
 }
 
 /// Whether what a link gave is the tile, or the fault; and whether it came in time.
@@ -178,7 +191,10 @@ fn answered<R>(rt: &R, alloc: Global, way: &Way) -> Option<(Came, bool)>
 where
     R: Net<Listener = TcpListener, Stream = TcpStream> + Threads + Wait + Clock + Sync,
 {
-    let (listener, link) = linked(rt, alloc)?;
+    let (listener, node) = listening(rt, alloc)?;
+    node.look_up(rt, alloc);
+    let watch = Stopwatch::new();
+    let link = link_to(alloc, &node, &watch, None);
     let taker = Taker {
         alloc,
         listener: &listener,
@@ -277,21 +293,92 @@ fn right_reply_is_the_tile_and_each_failure_a_fault_in_time(rt: HostRuntime) {
 /// A fault of the connection, in time.
 const LOST: Option<Came> = Some((Err(LinkFault::Wire(WireFault::Io)), true));
 
+/// Whether an ask of a node comes to that.
+fn is_lost(rt: &HostRuntime, alloc: Global, node: &Peer) -> bool {
+    let watch = Stopwatch::new();
+    let link = link_to(alloc, node, &watch, None);
+    Asker { alloc, link: &link }.act(rt) == LOST
+}
+
 #[test]
 fn dead_node_is_a_fault_of_the_connection(rt: HostRuntime) -> Result<(), Fail> {
     let alloc = rt.alloc();
-    let (listener, dead) = linked(&rt, alloc).ok_or("no listener")?;
+    let (listener, dead) = listening(&rt, alloc).ok_or("no listener")?;
+    dead.look_up(&rt, alloc);
     drop(listener);
-    let nowhere = link_to(alloc, String::from_str(alloc, "no port")?);
-    assert!(rt; Asker { alloc, link: &dead }.act(&rt) == LOST);
-    assert!(rt;
-        Asker {
-            alloc,
-            link: &nowhere
+    let nowhere = node_at(alloc, "no port").ok_or("no memory")?;
+    nowhere.look_up(&rt, alloc);
+    assert!(rt; is_lost(&rt, alloc, &dead));
+    assert!(rt; is_lost(&rt, alloc, &nowhere));
+    Ok(())
+}
+
+/// What the log says of a node that was left alone and then answered.
+const TURNS: (&str, &str) = (
+    " peer node\\x20two left-alone\n",
+    " peer node\\x20two asked-again\n",
+);
+
+/// Whether the log of a link says that.
+fn are_turns(log: &[u8]) -> bool {
+    match str::from_utf8(log) {
+        Ok(text) => text.contains(TURNS.0) && text.ends_with(TURNS.1),
+        Err(_) => false,
+    }
+}
+
+/// What is written to a log.
+fn written(rt: &HostRuntime, log: &Log) -> Vec<u8> {
+    let mut lines = Vec::new(rt.alloc());
+    log.close(rt);
+    write_lines(rt, rt.alloc(), log, &mut lines);
+    lines
+}
+
+/// Asks over a link to a node whose name isn't known, four times, and a second later once more, where the node is looked up and answers.
+fn is_left_alone_and_tried(
+    rt: &HostRuntime,
+    listener: &TcpListener,
+    link: &TcpLink<'_, Deep>,
+) -> bool {
+    let alloc = rt.alloc();
+    let asker = Asker { alloc, link };
+    for _ in 0..4u32 {
+        if asker.act(rt) != LOST {
+            return false;
         }
-        .act(&rt)
-            == LOST
-    );
+    }
+    thread::sleep(rt, Duration::from_millis(1_100));
+    let way = Way::Sends(DEEP_REPLY);
+    let taker = Taker {
+        alloc,
+        listener,
+        way: &way,
+    };
+    two(rt, &taker, &asker) == (true, Some((Ok(true), true)))
+}
+
+/// How these asks ended.
+const ENDS: Asks = Asks {
+    answered: 1,
+    refused: 0,
+    failed: 3,
+    timed_out: 0,
+    skipped: 1,
+};
+
+#[test]
+fn node_that_fails_is_left_alone_and_looked_up_by_the_ask_that_tries_it(
+    rt: HostRuntime,
+) -> Result<(), Fail> {
+    let alloc = rt.alloc();
+    let (listener, node) = listening(&rt, alloc).ok_or("no listener")?;
+    let (watch, log) = (Stopwatch::new(), Log::new(alloc)?);
+    let link = link_to(alloc, &node, &watch, Some(&log));
+    assert!(rt; is_left_alone_and_tried(&rt, &listener, &link));
+    assert!(rt; node.health().asks(&rt) == ENDS);
+    assert!(rt; watch.durations(&rt).all == 4);
+    assert!(rt; are_turns(&written(&rt, &log)));
     Ok(())
 }
 

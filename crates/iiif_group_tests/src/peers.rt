@@ -7,7 +7,7 @@ use crate::calls::Numbers;
 use iiif_group::{Link, LinkFault, NoLink};
 use iiif_io::fakes::{FailingReader, FailingWriter};
 use iiif_keys::{Shape, SumKey, SumVal, System, TileKey, TileVal};
-use iiif_peer_link::{TcpLink, sum_over, tile_over};
+use iiif_peer_link::{Peer as Node, Stopwatch, TcpLink, sum_over, tile_over};
 use iiif_peer_wire::WireFault;
 use iiif_pixel::{Dim, Kind, Raster, Samples};
 use std::alloc::Global;
@@ -66,15 +66,20 @@ impl<'a, J: System> Peer<'a, J> {
         }
     }
 
-    /// A link to the node behind that listener.
-    fn over_tcp(&self, listener: &TcpListener) -> Result<TcpLink<J>, LinkFault> {
+    /// The node behind that listener.
+    fn behind<R: Net + Wait>(&self, rt: &R, listener: &TcpListener) -> Result<Node, LinkFault> {
         let Ok(address) = listener.local_addr() else {
             return Err(LinkFault::Wire(WireFault::Io));
         };
-        match format!(in self.alloc; "{address}") {
-            Ok(address) => Ok(TcpLink::new(self.alloc, address, Duration::from_millis(LIMIT))),
-            Err(_) => Err(LinkFault::Wire(WireFault::NoMemory)),
-        }
+        let Ok(address) = format!(in self.alloc; "{address}") else {
+            return Err(LinkFault::Wire(WireFault::NoMemory));
+        };
+        let limit = Duration::from_millis(LIMIT);
+        let Ok(node) = Node::new(self.alloc, "owner", address.as_str(), limit) else {
+            return Err(LinkFault::Wire(WireFault::NoMemory));
+        };
+        node.look_up(rt, self.alloc);
+        Ok(node)
     }
 }
 
@@ -127,7 +132,12 @@ impl<'a, J: System, R: Net<Stream = TcpStream> + Clock + Wait> Link<TileKey, J, 
                 let (mut reader, mut out) = ends(self.alloc, reply, *reads, *room);
                 tile_over(self.alloc, &mut reader, &mut out, key, shape)
             }
-            Way::Tcp(listener) => self.over_tcp(listener)?.ask(rt, key, shape),
+            Way::Tcp(listener) => {
+                let node = self.behind(rt, listener)?;
+                let watch = Stopwatch::new();
+                let link: TcpLink<'_, J> = TcpLink::new(self.alloc, &node, &watch, None);
+                link.ask(rt, key, shape)
+            }
         }
     }
 }
@@ -142,7 +152,12 @@ impl<'a, J: System, R: Net<Stream = TcpStream> + Clock + Wait> Link<SumKey, J, R
                 let (mut reader, mut out) = ends(self.alloc, reply, *reads, *room);
                 sum_over(self.alloc, &mut reader, &mut out, key, shape)
             }
-            Way::Tcp(listener) => self.over_tcp(listener)?.ask(rt, key, shape),
+            Way::Tcp(listener) => {
+                let node = self.behind(rt, listener)?;
+                let watch = Stopwatch::new();
+                let link: TcpLink<'_, J> = TcpLink::new(self.alloc, &node, &watch, None);
+                link.ask(rt, key, shape)
+            }
         }
     }
 }

@@ -1,1 +1,2 @@
 mod Flows
+mod IdleLemmas

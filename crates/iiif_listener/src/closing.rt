@@ -1,7 +1,9 @@
 //! The end of a connection.
 
+use crate::places::Place;
 use std::io::Read;
 use std::net::{Shutdown, TcpStream};
+use std::sync::Wait;
 use std::time::{Clock, Duration, Instant};
 
 /// How long, in milliseconds, a viewer whose connection is closed may send nothing before it is left alone.
@@ -15,9 +17,9 @@ const UNREAD_BLOCKS: u32 = 64;
 
 /// Closes a connection whose answers are sent. Input that was left unread would make the kernel reset the connection and drop
 /// what it has not sent yet, so the sending side is closed first, and then a bounded amount of input is read and dropped, in a bounded
-/// time.
-pub fn close<R: Clock>(rt: &R, mut stream: TcpStream) {
-    if stream.shutdown(Shutdown::Write).is_err() {
+/// time. One whose place another has was ended then, and nothing is read.
+pub fn close<R: Clock + Wait>(rt: &R, place: &Place<'_, R>, mut stream: TcpStream) {
+    if !place.is_kept() || stream.shutdown(Shutdown::Write).is_err() {
         return;
     }
     let Ok(begun) = Instant::now(rt) else {

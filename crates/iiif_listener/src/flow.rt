@@ -3,10 +3,11 @@
 ghost use Rattle.std.specs.Prelude.{◌≡◌};
 ghost use Rattle.iiif_listener.specs.Flow.{begun, goes_on, taken_by};
 
-/// How fast an answer is to be taken: so many bytes a second, over each time of so many milliseconds for which it was waited.
+/// How fast an answer is to be taken: so many bytes a second, over each time of so many milliseconds for which it was waited. At 0 bytes it
+/// may be taken as slowly as one likes.
 #[derive(Clone, Copy, Debug, PartialEq, Eq)]
 pub struct Rate {
-    pub bytes: u32,
+    pub bytes: u64,
     pub period: u32,
 }
 

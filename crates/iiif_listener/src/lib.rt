@@ -1,21 +1,33 @@
 //! Listeners whose connections have a thread each, up to 64 of each listener, and limits of time for what a connection sends.
 #![tactic(auto)]
 
+pub use address::address_of;
+pub use admission::Admission;
 pub use closing::close;
 pub use company::Company;
 pub use flow::{Flow, Rate};
-pub use listen::{Serve, serve_both, serve_each, serve_listener, serve_listeners, stop};
+pub use idle::longest_idle;
+pub use listen::{Serve, serve_each, serve_listener, stop};
 pub use pace::{Pace, PacedReader, PacedWriter};
-pub use places::{Place, Places, Taken};
+pub use places::{Place, Places, Visit};
 pub use retry::{Retry, after_failure};
+pub use seat::{Seat, Standing};
+pub use table::Table;
+pub use ticket::Ticket;
 pub use warm::Warm;
 
+pub mod address;
+pub mod admission;
 pub mod closing;
 pub mod company;
 pub mod flow;
+pub mod idle;
 pub mod laws;
 pub mod listen;
 pub mod pace;
 pub mod places;
 pub mod retry;
+pub mod seat;
+pub mod table;
+pub mod ticket;
 pub mod warm;

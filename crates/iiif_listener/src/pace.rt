@@ -4,11 +4,13 @@ ghost use Rattle.std.specs.Prelude.{◌≤◌, IfOk, IfSome, length};
 
 use crate::company::Company;
 use crate::flow::Flow;
+use crate::places::Place;
 use crate::warm::Warm;
 use iiif_io::{Inlet, Outlet, is_ended, is_reset};
 use std::io;
 use std::io::{ErrorKind, Read, Write};
 use std::net::TcpStream;
+use std::sync::Wait;
 use std::sync::atomic::{AtomicBool, AtomicU64, Ordering};
 use std::thread::yield_now;
 use std::time::{Clock, Duration, Instant};
@@ -21,13 +23,15 @@ const MOMENT: u64 = 100;
 const LOOKS: u32 = 1000;
 
 /// When a connection began, how many milliseconds later something was last read and last written there, whether it was written since it was
-/// last looked at, how many bytes of that were a text behind another, and how long a head may take as a whole.
+/// last looked at, whether nothing was read since then or since it began, how many bytes of that were a text behind another, and how long
+/// a head may take as a whole.
 #[derive(Drop)]
 pub struct Pace {
     start: Instant,
     read: AtomicU64,
     written: AtomicU64,
     answered: AtomicBool,
+    between: AtomicBool,
     behind: AtomicU64,
     limit: Duration,
 }
@@ -40,6 +44,7 @@ impl Pace {
             read: AtomicU64::new(0),
             written: AtomicU64::new(0),
             answered: AtomicBool::new(false),
+            between: AtomicBool::new(true),
             behind: AtomicU64::new(0),
             limit,
         })
@@ -54,6 +59,7 @@ impl Pace {
     /// Begins the time for a head anew, once something was written, of which so many bytes were a text behind another.
     fn begin<R: Clock>(&self, rt: &R, behind: usize) -> io::Result<()> {
         self.answered.store(true, Ordering::SeqCst);
+        self.between.store(true, Ordering::SeqCst);
         self.behind.store(behind as u64, Ordering::SeqCst);
         self.written.store(self.now(rt)?, Ordering::SeqCst);
         Ok(())
@@ -87,14 +93,16 @@ impl Pace {
 }
 
 /// What a connection sends. A read fails where nothing comes for `idle`, or where the time since the last write is over, however
-/// few bytes come at once.
+/// few bytes come at once. While nothing of a request came, the place may be given to another connection: then this one's input ends.
 #[derive(Drop)]
-pub struct PacedReader<'a, R: Clock> {
+pub struct PacedReader<'a, R: Clock + Wait> {
     pub stream: TcpStream,
     pub rt: &'a R,
     pub pace: &'a Pace,
     /// How long nothing may come.
     pub idle: Duration,
+    /// Its place.
+    pub place: &'a Place<'a, R>,
     /// The connections that are open: where this one is alone, the next head is looked for a moment before it is waited for.
     pub company: &'a Company,
     /// What is written to before it is looked for, as much as stood behind the last answer's head: the next one is likely of that size.
@@ -131,9 +139,11 @@ fn look<R: Clock>(rt: &R, stream: &mut TcpStream, buffer: &mut [u8]) -> io::Resu
     found
 }
 
-impl<'a, R: Clock> Read for PacedReader<'a, R> {
-    fn read(&mut self, buffer: &mut [u8]) -> io::Result<usize> {
-        let left = self.pace.left(self.rt)?;
+impl<'a, R: Clock + Wait> PacedReader<'a, R> {
+    /// Reads, where so much time is left for it.
+    fn receive(&mut self, left: Duration, buffer: &mut [u8]) -> io::Result<usize>
+        ensures { IfOk result (λ n. n ≤ length buffer.new) }
+    {
         // Once for each answer, so that one who drips costs no more than before.
         if self.pace.answered.swap(false, Ordering::SeqCst) && self.company.is_alone() {
             self.warm
@@ -141,19 +151,33 @@ impl<'a, R: Clock> Read for PacedReader<'a, R> {
             let found = look(self.rt, &mut self.stream, buffer);
             self.warm.give_back();
             if let Some(count) = found? {
-                self.pace.hear(self.rt)?;
                 return Ok(count);
             }
         }
         self.stream.set_read_timeout(Some(left.min(self.idle)))?;
-        let count = self.stream.pull(buffer)?;
+        self.stream.pull(buffer)
+    }
+}
+
+impl<'a, R: Clock + Wait> Read for PacedReader<'a, R> {
+    fn read(&mut self, buffer: &mut [u8]) -> io::Result<usize> {
+        let left = self.pace.left(self.rt)?;
+        let begins = self.pace.between.swap(false, Ordering::SeqCst);
+        if begins {
+            self.place.rest();
+        }
+        let count = self.receive(left, buffer)?;
         self.pace.hear(self.rt)?;
+        // Where the input has ended, the place may be taken until the connection is closed.
+        if begins && count > 0 && !self.place.work() {
+            return Ok(0);
+        }
         Ok(count)
     }
 }
 
 /// Nothing is known but that a read failed.
-impl<'a, R: Clock> Inlet for PacedReader<'a, R> {
+impl<'a, R: Clock + Wait> Inlet for PacedReader<'a, R> {
     ghost fails = { λ _ _. Unit {0} };
 
     fn pull(&mut self, buffer: &mut [u8]) -> io::Result<usize> {

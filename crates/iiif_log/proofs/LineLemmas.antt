@@ -14,9 +14,13 @@ use Rattle.iiif_log.specs.Escapes.{escaped}
 use Rattle.iiif_log.specs.Laws.{HasNumbers, LinesAreLines, LinesTellAnswers, last_words}
 use Rattle.iiif_log.specs.Lines.{cut_word, outcome_word, words_of}
 use Rattle.iiif_log.specs.Moments.{IsMomentText, three_digits}
+use Rattle.iiif_log.specs.PeerLines.{PeerLinesAreLines, PeerLinesTellTurns, peer_words, turn_word}
 use Rattle.iiif_log.specs.declared.answered.Answered.{Answered}
 use Rattle.iiif_log.specs.declared.answered.Outcome.{Outcome}
 use Rattle.iiif_log.specs.declared.answered.Outcome.TheVariants.{Whole, Cut}
+use Rattle.iiif_log.specs.declared.peer.PeerTurn.{PeerTurn}
+use Rattle.iiif_log.specs.declared.peer.Turn.{Turn}
+use Rattle.iiif_log.specs.declared.peer.Turn.TheVariants.{LeftAlone, AskedAgain}
 use Rattle.iiif_log.proofs.EscapeLemmas.{Seen, escaped_is_seen, escapes_differ}
 
 -- a word: each of its bytes is visible
@@ -151,3 +155,42 @@ lines_tell_answers a b text h k am bm at bt x y =
       decimal_injective a.bytes b.bytes h.bytes k.bytes bytes,
       decimal_injective a.millis b.millis h.millis k.millis times,
     )
+
+-- these bytes are visible
+all_seen : (bs : List ℕ) → AllByRecursion (λ b. 32 < b) bs → Word bs
+all_seen [] v = none_seen
+all_seen (b ∷ bs) v = one_more b bs v.0 (all_seen bs v.1)
+
+peer_seen : Word (codes "peer")
+peer_seen = all_seen (codes "peer") (omega arith, (omega arith, (omega arith, (omega arith, tt))))
+
+turn_seen : (t : Turn) → Word (turn_word t)
+turn_seen LeftAlone = all_seen (codes "left-alone") (omega arith, (omega arith, (omega arith, (omega arith, (omega arith, (omega arith, (omega arith, (omega arith, (omega arith, (omega arith, tt))))))))))
+turn_seen AskedAgain = all_seen (codes "asked-again") (omega arith, (omega arith, (omega arith, (omega arith, (omega arith, (omega arith, (omega arith, (omega arith, (omega arith, (omega arith, (omega arith, tt)))))))))))
+
+pub peer_lines_are_lines : PeerLinesAreLines
+peer_lines_are_lines p text (time, moment, is) =
+    let word = moment_seen p.at.millis time moment in
+    let rest = codes "peer" ∷ escaped p.name.now ∷ turn_word p.turn ∷ [] in
+    let behind : AllByRecursion Word rest = (peer_seen, (escaped_word p.name.now, (turn_seen p.turn, tt))) in
+    (time, join_with_byte 32 (time ∷ rest), moment, is, join_above time rest word behind, split_join time rest word behind)
+
+abbrev first_of : List ℕ → ℕ
+first_of [] = 0
+first_of (b ∷ bs) = b
+
+turns_differ : (t u : Turn) → turn_word t ≡ turn_word u → t ≡ u
+turns_differ LeftAlone LeftAlone e = refl
+turns_differ LeftAlone AskedAgain e = let firsts : 108 ≡ 97 = ap first_of e in grind (arith, firsts)
+turns_differ AskedAgain LeftAlone e = let firsts : 97 ≡ 108 = ap first_of e in grind (arith, firsts)
+turns_differ AskedAgain AskedAgain e = refl
+
+pub peer_lines_tell_turns : PeerLinesTellTurns
+peer_lines_tell_turns a b text an bn x y =
+    let p = peer_lines_are_lines a text x in
+    let q = peer_lines_are_lines b text y in
+    let fronts : p.1 ≡ q.1 = append_cancel_right p.1 q.1 (10 ∷ []) (sym p.3 ∙ q.3) in
+    let words : peer_words p.0 a ≡ peer_words q.0 b = sym p.5 ∙ ap (slice_split (λ c. c == 32)) fronts ∙ q.5 in
+    let names : escaped a.name.now ≡ escaped b.name.now = cc in
+    let turns : turn_word a.turn ≡ turn_word b.turn = cc in
+    (escapes_differ _ _ an bn names, turns_differ a.turn b.turn turns)

@@ -2,4 +2,5 @@ pub mod Escapes
 pub mod Laws
 pub mod Lines
 pub mod Moments
+pub mod PeerLines
 pub mod Waiting

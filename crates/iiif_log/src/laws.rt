@@ -1,6 +1,7 @@
 //! What holds of every line and of every queue. The functions compute nothing: their contracts are the laws.
 
 ghost use Rattle.iiif_log.specs.Laws.{CountsAddUp, EscapesDiffer, LinesAreLines, LinesTellAnswers, QueuesKeepLines};
+ghost use Rattle.iiif_log.specs.PeerLines.{PeerLinesAreLines, PeerLinesTellTurns};
 
 /// So different targets are told apart.
 pub fn escapes_differ()
@@ -15,6 +16,12 @@ pub fn lines_are_lines()
 /// So a line tells the method, the target and the numbers of its answer.
 pub fn lines_tell_answers()
     ensures { LinesTellAnswers }
+{}
+
+/// So a line of a link is one line, and is none of an answer, which has more words; and it tells the node's name and what became of the link.
+pub fn peer_lines_are_lines()
+    ensures lines { PeerLinesAreLines }
+    ensures turns { PeerLinesTellTurns }
 {}
 
 /// So each line that is put is taken once and in order, or counted where it is lost.

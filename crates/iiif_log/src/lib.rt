@@ -1,4 +1,4 @@
-//! A line for each answer, and the queue over which lines come to a thread of their own that writes them.
+//! A line for each answer and for each turn of a link to another node, and the queue over which lines come to a thread of their own that writes them.
 #![tactic(auto)]
 
 pub use answered::{Answered, Outcome};
@@ -6,6 +6,7 @@ pub use escape::push_escaped;
 pub use line::{line_bytes, lost_line_bytes};
 pub use log::{Log, write_lines};
 pub use moment::{Moment, NoMemory, push_moment};
+pub use peer::{PeerTurn, Turn, peer_line_bytes};
 pub use queue::{Line, Queue, Taken};
 
 pub mod answered;
@@ -14,4 +15,5 @@ pub mod laws;
 pub mod line;
 pub mod log;
 pub mod moment;
+pub mod peer;
 pub mod queue;

@@ -10,18 +10,20 @@ ghost use Rattle.iiif_log.specs.Waiting.{line_view, lines_in};
 use crate::answered::Answered;
 use crate::line::{line_bytes, lost_line_bytes};
 use crate::moment::NoMemory;
+use crate::peer::{PeerTurn, peer_line_bytes};
 use crate::queue::{Line, Queue, Taken};
 use iiif_io::{Outlet, send};
 use std::alloc::Global;
 use std::sync::{Condvar, Mutex, Wait};
 
-/// A log: a queue under a lock, as [`Queue`] says, and who waits for its next line. Whoever puts a line waits for that lock alone,
-/// which nobody holds while a line is written.
+/// A log: a queue under a lock, as [`Queue`] says, who waits for its next line, and whether somebody writes its lines. Whoever puts a line
+/// waits for that lock alone, which nobody holds while a line is written.
 #[derive(Drop)]
 pub struct Log {
     alloc: Global,
     queue: Mutex<Queue>,
     more: Condvar,
+    is_written: Mutex<bool>,
 }
 
 impl Log {
@@ -31,16 +33,32 @@ impl Log {
             alloc,
             queue: Mutex::new(Queue::new(alloc)?),
             more: Condvar::new(),
+            is_written: Mutex::new(false),
         })
     }
 
     /// Puts the line of an answer behind the others. Where there is no room or no memory for it, it is lost, which is counted.
     pub fn tell<R: Wait>(&self, rt: &R, answered: &Answered<'_>) {
-        match line_bytes(self.alloc, answered) {
+        self.put(rt, line_bytes(self.alloc, answered));
+    }
+
+    /// The same of the line of a link to another node.
+    pub fn tell_turn<R: Wait>(&self, rt: &R, told: &PeerTurn<'_>) {
+        self.put(rt, peer_line_bytes(self.alloc, told));
+    }
+
+    /// Puts a line behind the others, or counts one that couldn't be made.
+    fn put<R: Wait>(&self, rt: &R, line: Result<Vec<u8>, NoMemory>) {
+        match line {
             Ok(text) => self.queue.lock(rt).put(text),
             Err(_) => self.queue.lock(rt).lose(),
         }
         self.more.notify_one();
+    }
+
+    /// Whether somebody writes its lines now.
+    pub fn is_written<R: Wait>(&self, rt: &R) -> bool {
+        *self.is_written.lock(rt)
     }
 
     /// The next line, for which it waits. None once the log is closed and all lines are taken.
@@ -107,9 +125,11 @@ pub fn write_line<W: Outlet>(
 /// Writes the lines of a log as they come, until it is closed. Where the writer fails, the lines that it didn't take are lost, which the
 /// next that is written tells.
 pub fn write_lines<R: Wait, W: Outlet>(rt: &R, alloc: Global, log: &Log, out: &mut W) {
+    *log.is_written.lock(rt) = true;
     let mut unsaid = 0;
     for _ in rt.forever() {
         let Some(line) = log.next(rt) else {
+            *log.is_written.lock(rt) = false;
             return;
         };
         unsaid = match write_line(alloc, out, unsaid, &line) {

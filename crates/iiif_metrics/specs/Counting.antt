@@ -1,7 +1,9 @@
 -- What is counted of answers and connections.
-use Rattle.std.specs.Prelude.{ℕ, ◌+◌, ◌==◌, [], ◌∷◌, if◌then◌else◌, slice_index, slice_set}
+use Rattle.std.specs.Prelude.{ℕ, ◌+◌, ◌-◌, ◌==◌, [], ◌∷◌, if◌then◌else◌, slice_index, slice_set}
 use Rattle.iiif_io.specs.Counting.{capped}
 use Rattle.iiif_metrics.specs.declared.counts.Counts.{Counts}
+use Rattle.iiif_metrics.specs.declared.counts.Visitors.{Visitors}
+use Rattle.iiif_metrics.specs.declared.counts.Visitors.TheVariants.{Viewers, Peers, Statistics}
 
 -- the place of a status (RFC 9110, section 15) among the counts: those that the server gives, and last all others
 abbrev pub place_of : ℕ → ℕ
@@ -11,7 +13,7 @@ place_of s =
 
 -- nothing yet
 abbrev pub no_counts : Counts
-no_counts = record { whole = 0 ∷ 0 ∷ 0 ∷ 0 ∷ 0 ∷ 0 ∷ 0 ∷ 0 ∷ []; cut = 0; bytes = 0; open_now = 0; refused = 0 }
+no_counts = record { whole = 0 ∷ 0 ∷ 0 ∷ 0 ∷ 0 ∷ 0 ∷ 0 ∷ 0 ∷ []; cut = 0; bytes = 0; open_now = 0 ∷ 0 ∷ 0 ∷ []; refused = 0 ∷ 0 ∷ 0 ∷ [] }
 
 -- one more whole answer of a status, of so many bytes
 abbrev pub with_answer : ℕ → ℕ → Counts → Counts
@@ -23,3 +25,21 @@ with_answer status bytes c = record c {
 -- one more answer that was cut off behind so many bytes
 abbrev pub with_cut : ℕ → Counts → Counts
 with_cut bytes c = record c { cut = capped (c.cut + 1); bytes = capped (c.bytes + bytes) }
+
+-- the place of these visitors' connections among the counts
+abbrev pub listener_place : Visitors → ℕ
+listener_place Viewers = 0
+listener_place Peers = 1
+listener_place Statistics = 2
+
+-- one more connection of theirs is open
+abbrev pub with_opened : Visitors → Counts → Counts
+with_opened v c = record c { open_now = slice_set c.open_now (listener_place v) (capped (slice_index c.open_now (listener_place v) + 1)) }
+
+-- one is open no more
+abbrev pub with_closed : Visitors → Counts → Counts
+with_closed v c = record c { open_now = slice_set c.open_now (listener_place v) (slice_index c.open_now (listener_place v) - 1) }
+
+-- one more was closed unanswered
+abbrev pub with_refused : Visitors → Counts → Counts
+with_refused v c = record c { refused = slice_set c.refused (listener_place v) (capped (slice_index c.refused (listener_place v) + 1)) }

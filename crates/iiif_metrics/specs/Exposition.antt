@@ -1,13 +1,12 @@
 -- The text format of Prometheus, version 0.0.4: families of samples, each with a line of help, a line that says its type, and a line
 -- for each sample.
-use Rattle.std.specs.Prelude.{ℕ, List, [], ◌∷◌, ◌++◌, codes, decimal, slice_index}
+use Rattle.std.specs.Prelude.{ℕ, List, [], ◌∷◌, ◌++◌, codes, decimal, map, slice_index}
 use Rattle.std.specs.List.{flat_map}
 use Rattle.iiif_metrics.specs.declared.counts.Counts.{Counts}
 use Rattle.iiif_metrics.specs.declared.metrics.CacheMetrics.{CacheMetrics}
 use Rattle.iiif_metrics.specs.declared.metrics.HeldMetrics.{HeldMetrics}
-use Rattle.iiif_metrics.specs.declared.metrics.Metrics.{Metrics}
 use Rattle.iiif_metrics.specs.declared.text.Kind.{Kind}
-use Rattle.iiif_metrics.specs.declared.text.Kind.TheVariants.{Counter, Gauge}
+use Rattle.iiif_metrics.specs.declared.text.Kind.TheVariants.{Counter, Gauge, Histogram}
 use Rattle.iiif_metrics.specs.declared.text.Row.{Row}
 use Rattle.iiif_metrics.specs.declared.text.Sample.{Sample}
 
@@ -22,6 +21,7 @@ pub record Family : Type 0 where
 abbrev pub kind_word : Kind → List ℕ
 kind_word Counter = codes "counter"
 kind_word Gauge = codes "gauge"
+kind_word Histogram = codes "histogram"
 
 -- the line of help of a family of this name
 unfoldable pub help_line : List ℕ → List ℕ → List ℕ
@@ -66,12 +66,27 @@ held_families front h =
     ∷ single (front ++ codes "images") (codes "Images whose files are held in memory.") Gauge h.images
     ∷ []
 
--- what was counted of connections and answers, under names with this front
+-- what was counted at each listener
+abbrev pub listener_samples : List ℕ → List (List ℕ × ℕ)
+listener_samples counts =
+    (codes "{listener=\"viewers\"}", slice_index counts 0)
+    ∷ (codes "{listener=\"peers\"}", slice_index counts 1)
+    ∷ (codes "{listener=\"statistics\"}", slice_index counts 2)
+    ∷ []
+
+-- the connections that are open
+abbrev pub open_family : List ℕ → Family
+open_family counts = record { name = codes "iiif_connections_open"; help = codes "Connections that are open."; kind = Gauge; samples = listener_samples counts }
+
+-- those that were closed unanswered
+abbrev pub refused_family : List ℕ → Family
+refused_family counts =
+    record { name = codes "iiif_connections_refused_total"; help = codes "Connections that were closed unanswered."; kind = Counter; samples = listener_samples counts }
+
+-- what was counted of answers, whatever their status, under names with this front
 abbrev pub server_families : List ℕ → Counts → List Family
 server_families front c =
-    single (front ++ codes "connections_open") (codes "Connections that are open.") Gauge c.open_now
-    ∷ single (front ++ codes "connections_refused_total") (codes "Connections that were closed unanswered.") Counter c.refused
-    ∷ single (front ++ codes "answers_cut_total") (codes "Answers that were cut off.") Counter c.cut
+    single (front ++ codes "answers_cut_total") (codes "Answers that were cut off.") Counter c.cut
     ∷ single (front ++ codes "answer_bytes_total") (codes "Bytes of answers and their heads.") Counter c.bytes
     ∷ []
 
@@ -95,15 +110,6 @@ answer_family whole = record { name = codes "iiif_answers_total"; help = codes "
 abbrev pub families_text : List Family → List ℕ
 families_text fs = flat_map family_text fs
 
--- all that is told
-abbrev pub text_of : Metrics → List ℕ
-text_of m =
-    families_text (cache_families (codes "iiif_tile_cache_") m.tiles)
-    ++ families_text (cache_families (codes "iiif_sum_cache_") m.sums)
-    ++ families_text (held_families (codes "iiif_held_") m.held)
-    ++ families_text (server_families (codes "iiif_") m.counts)
-    ++ family_text (answer_family m.counts.whole)
-
 -- a row as a family, under a name with this front
 abbrev pub row_family : List ℕ → Row → Family
 row_family front r = single (front ++ r.name.now) r.help.now r.kind r.value
@@ -111,3 +117,7 @@ row_family front r = single (front ++ r.name.now) r.help.now r.kind r.value
 -- labels and a value
 abbrev pub sample_view : Sample → List ℕ × ℕ
 sample_view s = (s.labels.now, s.value)
+
+-- samples as a family
+abbrev pub family_of : List ℕ → List ℕ → Kind → List Sample → Family
+family_of name help kind samples = record { name = name; help = help; kind = kind; samples = map sample_view samples }

@@ -1,3 +1,6 @@
 pub mod Counting
 pub mod Exposition
+pub mod Health
+pub mod Links
+pub mod Page
 pub mod Serving

@@ -5,8 +5,12 @@ use Rattle.iiif_http_front.specs.Reading.{Answers}
 use Rattle.iiif_http_front.specs.declared.call.Call.{Call}
 use Rattle.iiif_http_front.specs.declared.call.HeadFault.{HeadFault}
 use Rattle.iiif_http_front.specs.declared.call.HeadFault.TheVariants.{Bad, TooLong, Cut, Io, NoMemory}
-use Rattle.iiif_metrics.specs.Exposition.{text_of}
+use Rattle.iiif_metrics.specs.Page.{text_of}
+use Rattle.iiif_metrics.specs.Health.{all_go_on, health_text}
+use Rattle.iiif_metrics.specs.declared.health.Services.{Services}
+use Rattle.iiif_metrics.specs.declared.metrics.PeerMetrics.{PeerMetrics}
 use Rattle.iiif_metrics.specs.declared.metrics.Metrics.{Metrics}
+use Rattle.iiif_metrics.specs.declared.metrics.Telling.{Telling}
 
 -- the media type of a body
 abbrev pub content_type : List ℕ → List ℕ × List ℕ
@@ -17,16 +21,26 @@ abbrev pub refusal_text : ℕ → List (List ℕ × List ℕ) → List ℕ
 refusal_text status more = head_text status (content_type (codes "text/plain") ∷ more) 0 true
 
 -- the answer that tells these counters
-abbrev pub metrics_answer : Metrics → List ℕ
-metrics_answer m = head_text 200 (content_type (codes "text/plain; version=0.0.4") ∷ []) (length (text_of m)) true ++ text_of m
+abbrev pub metrics_answer : Metrics → PeerMetrics → List ℕ
+metrics_answer m p = head_text 200 (content_type (codes "text/plain; version=0.0.4") ∷ []) (length (text_of m p)) true ++ text_of m p
 
--- to GET of /metrics the counters, to GET of another target 404, to another method 405 and which is answered
-abbrev pub answer_text : List ℕ → List ℕ → Metrics → List ℕ
-answer_text method target m =
+-- 200 where each service goes on that the node was started with, 503 where one is gone
+abbrev pub health_status : Services → ℕ
+health_status s = if all_go_on s then 200 else 503
+
+-- the answer that tells of the services
+abbrev pub health_answer : Services → List ℕ
+health_answer s = head_text (health_status s) (content_type (codes "text/plain") ∷ []) (length (health_text s)) true ++ health_text s
+
+-- to GET of /metrics the counters, to GET of /health the services, to GET of another target 404, to another method 405 and which is answered
+abbrev pub answer_text : List ℕ → List ℕ → Telling → List ℕ
+answer_text method target t =
     if bytes_eq method (codes "GET")
     then (if bytes_eq target (codes "/metrics")
-    then metrics_answer m
-    else refusal_text 404 [])
+    then metrics_answer t.metrics t.peers
+    else (if bytes_eq target (codes "/health")
+    then health_answer t.services
+    else refusal_text 404 []))
     else refusal_text 405 ((codes "Allow", codes "GET") ∷ [])
 
 -- the answer to what is no head
@@ -37,9 +51,9 @@ bad_text = refusal_text 400 []
 abbrev pub Sends : Type 0 → List ℕ → List ℕ → Type 0
 Sends writer text output = (output ≡ text) ⊎ (writer × ((n : ℕ) × (n < length text) × (output ≡ take n text)))
 
--- what is sent for what was read: for a call the answer at some counters
+-- what is sent for what was read: for a call the answer at some counters and some services
 abbrev pub Replies : Type 0 → Result (Option Call) HeadFault → List ℕ → Type 0
-Replies writer (Ok (Some call)) output = (m : Metrics) × Sends writer (answer_text call.method call.target.items m) output
+Replies writer (Ok (Some call)) output = (t : Telling) × Sends writer (answer_text call.method call.target.items t) output
 Replies writer (Ok None) output = output ≡ []
 Replies writer (Err Bad) output = Sends writer bad_text output
 Replies writer (Err TooLong) output = Sends writer bad_text output

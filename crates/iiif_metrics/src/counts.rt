@@ -2,12 +2,22 @@
 
 ghost use Rattle.std.specs.Prelude.{◌≡◌, ◌+◌, ◌-◌};
 ghost use Rattle.iiif_io.specs.Counting.{capped};
-ghost use Rattle.iiif_metrics.specs.Counting.{no_counts, place_of, with_answer, with_cut};
+ghost use Rattle.iiif_metrics.specs.Counting.{no_counts, place_of, listener_place, with_answer, with_closed, with_cut, with_opened, with_refused};
 
 use std::sync::{Mutex, Wait};
 
 /// The statuses that are counted each by itself. All others are counted together.
 pub const STATUSES: [u16; 7] = [200, 303, 400, 404, 405, 500, 501];
+
+/// Whose connections a listener takes.
+#[derive(Clone, Copy, Debug, PartialEq, Eq)]
+pub enum Visitors {
+    Viewers,
+    /// Other nodes.
+    Peers,
+    /// Who asks for the statistics.
+    Statistics,
+}
 
 /// How many answers and connections there were. A count stops at the greatest that its type holds.
 #[derive(Clone, Copy, Debug, PartialEq, Eq)]
@@ -18,10 +28,10 @@ pub struct Counts {
     pub cut: u64,
     /// The bytes of all answers.
     pub bytes: u64,
-    /// The connections that are open.
-    pub open_now: u64,
-    /// The connections that were closed unanswered, since too many were open.
-    pub refused: u64,
+    /// The connections that are open, by whose they are, in the order of [`Visitors`].
+    pub open_now: [u64; 3],
+    /// The connections that were closed unanswered, in the same order.
+    pub refused: [u64; 3],
 }
 
 /// The place of a status among the counts.
@@ -40,6 +50,17 @@ fn place_of(status: u16) -> usize
     }
 }
 
+/// The place of some visitors' connections among the counts.
+fn listener_place(visitors: Visitors) -> usize
+    ensures { result ≡ listener_place visitors }
+{
+    match visitors {
+        Visitors::Viewers => 0,
+        Visitors::Peers => 1,
+        Visitors::Statistics => 2,
+    }
+}
+
 impl Counts {
     /// Nothing yet.
     pub fn new() -> Counts
@@ -49,8 +70,8 @@ impl Counts {
             whole: [0; 8],
             cut: 0,
             bytes: 0,
-            open_now: 0,
-            refused: 0,
+            open_now: [0; 3],
+            refused: [0; 3],
         }
     }
 
@@ -72,24 +93,27 @@ impl Counts {
     }
 
     /// A connection was opened.
-    pub fn opened(&mut self)
-        ensures { self.new ≡ record self.old { open_now = capped (self.old.open_now + 1) } }
+    pub fn opened(&mut self, visitors: Visitors)
+        ensures { self.new ≡ with_opened visitors self.old }
     {
-        self.open_now = self.open_now.saturating_add(1);
+        let place = listener_place(visitors);
+        self.open_now[place] = self.open_now[place].saturating_add(1);
     }
 
     /// A connection was closed.
-    pub fn closed(&mut self)
-        ensures { self.new ≡ record self.old { open_now = self.old.open_now - 1 } }
+    pub fn closed(&mut self, visitors: Visitors)
+        ensures { self.new ≡ with_closed visitors self.old }
     {
-        self.open_now = self.open_now.saturating_sub(1);
+        let place = listener_place(visitors);
+        self.open_now[place] = self.open_now[place].saturating_sub(1);
     }
 
     /// A connection was closed unanswered.
-    pub fn refused(&mut self)
-        ensures { self.new ≡ record self.old { refused = capped (self.old.refused + 1) } }
+    pub fn refused(&mut self, visitors: Visitors)
+        ensures { self.new ≡ with_refused visitors self.old }
     {
-        self.refused = self.refused.saturating_add(1);
+        let place = listener_place(visitors);
+        self.refused[place] = self.refused[place].saturating_add(1);
     }
 }
 
@@ -118,18 +142,18 @@ impl Tally {
     }
 
     /// A connection was opened.
-    pub fn opened<R: Wait>(&self, rt: &R) {
-        self.counts.lock(rt).opened();
+    pub fn opened<R: Wait>(&self, rt: &R, visitors: Visitors) {
+        self.counts.lock(rt).opened(visitors);
     }
 
     /// A connection was closed.
-    pub fn closed<R: Wait>(&self, rt: &R) {
-        self.counts.lock(rt).closed();
+    pub fn closed<R: Wait>(&self, rt: &R, visitors: Visitors) {
+        self.counts.lock(rt).closed(visitors);
     }
 
     /// A connection was closed unanswered.
-    pub fn refused<R: Wait>(&self, rt: &R) {
-        self.counts.lock(rt).refused();
+    pub fn refused<R: Wait>(&self, rt: &R, visitors: Visitors) {
+        self.counts.lock(rt).refused(visitors);
     }
 
     /// What was counted so far.

@@ -1,12 +1,15 @@
-//! What a server counted, as Prometheus reads it, and the answer to who asks for it.
+//! What a server counted, as Prometheus reads it, and which of its services go on; and the answers to who asks for these.
 #![tactic(auto)]
 
-pub use counts::{Counts, STATUSES, Tally};
-pub use metrics::{CacheMetrics, HeldMetrics, Metrics};
+pub use counts::{Counts, STATUSES, Tally, Visitors};
+pub use health::{Service, Services, services_text};
+pub use metrics::{CacheMetrics, HeldMetrics, LinkMetrics, Metrics, PeerMetrics, Telling};
 pub use serve::{Measure, serve_metrics};
 pub use text::{NoMemory, metrics_text};
 
 pub mod counts;
+pub mod health;
+mod links;
 pub mod metrics;
 pub mod serve;
 pub mod text;

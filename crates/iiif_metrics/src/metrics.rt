@@ -1,6 +1,8 @@
 //! What is told.
 
 use crate::counts::Counts;
+use crate::health::Services;
+use iiif_breaker::{Asks, Durations, State};
 use iiif_tables::Book;
 
 /// What a cache and its flights counted, and what is kept.
@@ -29,4 +31,29 @@ pub struct Metrics {
     pub sums: CacheMetrics,
     pub held: HeldMetrics,
     pub counts: Counts,
+}
+
+/// How the asks of a node ended, and whether it is asked.
+#[derive(Debug, Drop)]
+pub struct LinkMetrics {
+    /// The node's name.
+    pub name: String,
+    pub asks: Asks,
+    pub state: State,
+}
+
+/// What is told of all links: of each by itself, and how long the asks of all took. One histogram serves for all, since one for each link
+/// would be eleven lines a node, and a node that is slow is found by how its asks end.
+#[derive(Debug, Drop)]
+pub struct PeerMetrics {
+    pub links: Vec<LinkMetrics>,
+    pub durations: Durations,
+}
+
+/// All that may be told.
+#[derive(Debug, Drop)]
+pub struct Telling {
+    pub metrics: Metrics,
+    pub peers: PeerMetrics,
+    pub services: Services,
 }

@@ -2,9 +2,11 @@
 
 ghost use Rattle.std.specs.Prelude.{◌≡◌, ◌∷◌, ◌++◌, [], ℕ, List, IfOk, IfSome, OnOk, bytes_eq, codes};
 ghost use Rattle.std.specs.Io.KnownBytes.{Appends};
-ghost use Rattle.iiif_metrics.specs.Serving.{IsExchange, Replies, Sends, answer_text, bad_text, metrics_answer, refusal_text};
+ghost use Rattle.iiif_metrics.specs.declared.metrics.Telling.{Telling};
+ghost use Rattle.iiif_metrics.specs.Serving.{IsExchange, Replies, Sends, answer_text, bad_text, health_answer, health_status, metrics_answer, refusal_text};
 
-use crate::metrics::Metrics;
+use crate::health::{Services, all_go_on, services_text};
+use crate::metrics::{Metrics, PeerMetrics, Telling};
 use crate::text::{NoMemory, metrics_text};
 use http::StatusCode;
 use iiif_http_front::{Call, Field, HeadFault, Heads, head_bytes};
@@ -30,6 +32,12 @@ const ALLOW: Field<'static> = Field {
 pub trait Measure<R> {
     /// What was counted so far.
     fn measure(&self, rt: &R) -> Metrics;
+
+    /// What was counted so far of asks of other nodes. The only error is want of memory.
+    fn peers(&self, rt: &R, alloc: Global) -> Result<PeerMetrics, NoMemory>;
+
+    /// Which services go on.
+    fn services(&self, rt: &R) -> Services;
 }
 
 /// A head and a body.
@@ -52,6 +60,13 @@ fn is_metrics(target: &[u8]) -> bool
     ensures { result ≡ bytes_eq target.now (codes "/metrics") }
 {
     target == b"/metrics".as_slice()
+}
+
+/// Whether a target is that of the services.
+fn is_health(target: &[u8]) -> bool
+    ensures { result ≡ bytes_eq target.now (codes "/health") }
+{
+    target == b"/health".as_slice()
 }
 
 /// An answer without a body to a call of another target.
@@ -82,10 +97,10 @@ fn no_head(alloc: Global) -> Result<Vec<u8>, NoMemory>
 }
 
 /// The answer that tells the counters.
-fn told(alloc: Global, metrics: &Metrics) -> Result<Vec<u8>, NoMemory>
-    ensures { IfOk result (λ text. text.items ≡ metrics_answer metrics.now) }
+fn told(alloc: Global, metrics: &Metrics, peers: &PeerMetrics) -> Result<Vec<u8>, NoMemory>
+    ensures { IfOk result (λ text. text.items ≡ metrics_answer metrics.now peers.now) }
 {
-    let body = metrics_text(alloc, metrics)?;
+    let body = metrics_text(alloc, metrics, peers)?;
     let text = body.as_slice();
     let head = head_bytes(
         alloc,
@@ -97,18 +112,48 @@ fn told(alloc: Global, metrics: &Metrics) -> Result<Vec<u8>, NoMemory>
     joined(head, text)
 }
 
-/// The answer to a call: to GET of `/metrics` the counters, 404 to GET of another target, 405 to another method. The only error is
-/// want of memory.
-pub fn answer_bytes(alloc: Global, call: &Call, metrics: &Metrics) -> Result<Vec<u8>, NoMemory>
-    ensures { IfOk result (λ text. text.items ≡ answer_text call.now.method call.now.target.items metrics.now) }
+/// The status that says whether all services go on.
+fn health_status(services: &Services) -> StatusCode
+    ensures { result ≡ health_status services.now }
+{
+    if all_go_on(services) {
+        StatusCode::OK
+    } else {
+        StatusCode::SERVICE_UNAVAILABLE
+    }
+}
+
+/// The answer that tells which services go on.
+fn told_health(alloc: Global, services: &Services) -> Result<Vec<u8>, NoMemory>
+    ensures { IfOk result (λ text. text.items ≡ health_answer services.now) }
+{
+    let body = services_text(alloc, services)?;
+    let text = body.as_slice();
+    let head = head_bytes(
+        alloc,
+        health_status(services),
+        &[PLAIN],
+        text.len() as u64,
+        true,
+    )?;
+    joined(head, text)
+}
+
+/// The answer to a call: to GET of `/metrics` the counters, to GET of `/health` the services, 404 to GET of another target, 405 to another
+/// method. The only error is want of memory.
+pub fn answer_bytes(alloc: Global, call: &Call, telling: &Telling) -> Result<Vec<u8>, NoMemory>
+    ensures { IfOk result (λ text. text.items ≡ answer_text call.now.method call.now.target.items telling.now) }
 {
     if !is_get(call) {
         return other_method(alloc);
     }
-    if !is_metrics(&call.target) {
-        return other_target(alloc);
+    if is_metrics(&call.target) {
+        return told(alloc, &telling.metrics, &telling.peers);
     }
-    told(alloc, metrics)
+    if is_health(&call.target) {
+        return told_health(alloc, &telling.services);
+    }
+    other_target(alloc)
 }
 
 /// Sends a text.
@@ -116,6 +161,36 @@ fn send_text<W: Outlet>(out: &mut W, text: &[u8])
     ensures { (output : List ℕ) × Appends (W.contents out.old) (W.contents out.new) output × Sends ((before : W) × W.fails before out.new) text.now output }
 {
     let _ = send(out, text);
+}
+
+/// Answers what is no head.
+fn send_bad<W: Outlet>(alloc: Global, out: &mut W) -> Result<(), NoMemory>
+    ensures { OnOk result ((output : List ℕ) × Appends (W.contents out.old) (W.contents out.new) output × Sends ((before : W) × W.fails before out.new) bad_text output) }
+{
+    let text = no_head(alloc)?;
+    send_text(out, text.as_slice());
+    Ok(())
+}
+
+/// Answers a call by what may be told now.
+fn send_answer<R, M: Measure<R>, W: Outlet>(
+    rt: &R,
+    alloc: Global,
+    source: &M,
+    call: &Call,
+    out: &mut W,
+) -> Result<(), NoMemory>
+    ensures { OnOk result ((output : List ℕ) × Appends (W.contents out.old) (W.contents out.new) output
+        × ((t : Telling) × Sends ((before : W) × W.fails before out.new) (answer_text call.now.method call.now.target.items t) output)) }
+{
+    let telling = Telling {
+        metrics: source.measure(rt),
+        peers: source.peers(rt, alloc)?,
+        services: source.services(rt),
+    };
+    let text = answer_bytes(alloc, call, &telling)?;
+    send_text(out, text.as_slice());
+    Ok(())
 }
 
 /// Answers what was read at the front of a connection.
@@ -128,14 +203,12 @@ fn reply<R, M: Measure<R>, W: Outlet>(
 ) -> Result<(), NoMemory>
     ensures { OnOk result ((output : List ℕ) × Appends (W.contents out.old) (W.contents out.new) output × Replies ((before : W) × W.fails before out.new) read.now output) }
 {
-    let text = match read {
-        Ok(None) | Err(HeadFault::Cut | HeadFault::Io) => return Ok(()),
-        Err(HeadFault::NoMemory) => return Err(NoMemory),
-        Err(HeadFault::Bad | HeadFault::TooLong) => no_head(alloc)?,
-        Ok(Some(call)) => answer_bytes(alloc, call, &source.measure(rt))?,
-    };
-    send_text(out, &text);
-    Ok(())
+    match read {
+        Ok(None) | Err(HeadFault::Cut | HeadFault::Io) => Ok(()),
+        Err(HeadFault::NoMemory) => Err(NoMemory),
+        Err(HeadFault::Bad | HeadFault::TooLong) => send_bad(alloc, out),
+        Ok(Some(call)) => send_answer(rt, alloc, source, call, out),
+    }
 }
 
 /// Answers the one call of a connection, which closes behind it. A head that is none is answered by 400. Where memory is wanting, nothing

@@ -2,10 +2,12 @@
 
 ghost use Rattle.std.specs.Prelude.{◌≡◌, ◌++◌, ℕ, List, IfOk, OnOk, map, string_bytes};
 ghost use Rattle.std.specs.List.{flat_map};
-ghost use Rattle.iiif_metrics.specs.Exposition.{answer_family, cache_families, family_text, families_text, held_families, help_line, kind_word, row_family, sample_line, sample_view, server_families, single, status_samples, text_of, type_line};
+ghost use Rattle.iiif_metrics.specs.Exposition.{answer_family, cache_families, family_of, family_text, families_text, held_families, help_line, kind_word, listener_samples, open_family, refused_family, row_family, sample_line, sample_view, server_families, single, status_samples, type_line};
+ghost use Rattle.iiif_metrics.specs.Page.{text_of};
 
 use crate::counts::Counts;
-use crate::metrics::{CacheMetrics, HeldMetrics, Metrics};
+use crate::links::{push_links, push_seconds};
+use crate::metrics::{CacheMetrics, HeldMetrics, Metrics, PeerMetrics};
 pub use std::alloc::AllocError as NoMemory;
 use std::alloc::Global;
 use std::fmt::Write;
@@ -19,6 +21,8 @@ pub enum Kind {
     /// It never falls while the server runs.
     Counter,
     Gauge,
+    /// How many took at most so long, for some limits.
+    Histogram,
 }
 
 /// A family of one sample.
@@ -57,12 +61,18 @@ fn kind_text(kind: Kind) -> &'static str
     match kind {
         Kind::Counter => "counter",
         Kind::Gauge => "gauge",
+        Kind::Histogram => "histogram",
     }
 }
 
 /// Writes the line of help of a family of that name.
 #[tactic(auto, unfolding(crate::specs::Exposition::help_line))]
-fn push_help(text: &mut String, front: &str, name: &str, help: &str) -> Result<(), NoMemory>
+pub(crate) fn push_help(
+    text: &mut String,
+    front: &str,
+    name: &str,
+    help: &str,
+) -> Result<(), NoMemory>
     ensures { OnOk result (string_bytes text.new ≡ string_bytes text.old ++ help_line (front.now ++ name.now) help.now) }
 {
     write!(text, "# HELP {front}{name} {help}\n")
@@ -70,7 +80,12 @@ fn push_help(text: &mut String, front: &str, name: &str, help: &str) -> Result<(
 
 /// Writes the line of type of a family of that name.
 #[tactic(auto, unfolding(crate::specs::Exposition::type_line))]
-fn push_type(text: &mut String, front: &str, name: &str, kind: Kind) -> Result<(), NoMemory>
+pub(crate) fn push_type(
+    text: &mut String,
+    front: &str,
+    name: &str,
+    kind: Kind,
+) -> Result<(), NoMemory>
     ensures { OnOk result (string_bytes text.new ≡ string_bytes text.old ++ type_line (front.now ++ name.now) kind) }
 {
     let word = kind_text(kind);
@@ -79,7 +94,7 @@ fn push_type(text: &mut String, front: &str, name: &str, kind: Kind) -> Result<(
 
 /// Writes the line of a sample.
 #[tactic(auto, unfolding(crate::specs::Exposition::sample_line))]
-fn push_sample(
+pub(crate) fn push_sample(
     text: &mut String,
     front: &str,
     name: &str,
@@ -200,23 +215,11 @@ fn held_rows(held: &HeldMetrics) -> [Row<'static>; 2]
     ]
 }
 
-/// What was counted of connections and answers.
-fn server_rows(counts: &Counts) -> [Row<'static>; 4]
+/// What was counted of answers, whatever their status.
+fn server_rows(counts: &Counts) -> [Row<'static>; 2]
     ensures { (front : List ℕ) → map (row_family front) result ≡ server_families front counts.now }
 {
     [
-        row_of(
-            Kind::Gauge,
-            "connections_open",
-            "Connections that are open.",
-            counts.open_now,
-        ),
-        row_of(
-            Kind::Counter,
-            "connections_refused_total",
-            "Connections that were closed unanswered.",
-            counts.refused,
-        ),
         row_of(
             Kind::Counter,
             "answers_cut_total",
@@ -233,7 +236,7 @@ fn server_rows(counts: &Counts) -> [Row<'static>; 4]
 }
 
 /// Writes the lines of samples of one family.
-fn push_samples(
+pub(crate) fn push_samples(
     text: &mut String,
     front: &str,
     name: &str,
@@ -248,7 +251,7 @@ fn push_samples(
 }
 
 /// A sample with these labels.
-fn sample_of(labels: &'static str, value: u64) -> Sample<'static>
+pub(crate) fn sample_of(labels: &'static str, value: u64) -> Sample<'static>
     ensures { sample_view result ≡ (labels.now, value) }
 {
     Sample { labels, value }
@@ -270,30 +273,90 @@ fn status_samples_in(whole: &[u64; 8]) -> [Sample<'static>; 8]
     ]
 }
 
+/// What was counted at each listener.
+fn listener_samples_in(counts: &[u64; 3]) -> [Sample<'static>; 3]
+    ensures { map sample_view result ≡ listener_samples counts.now }
+{
+    [
+        sample_of("{listener=\"viewers\"}", counts[0]),
+        sample_of("{listener=\"peers\"}", counts[1]),
+        sample_of("{listener=\"statistics\"}", counts[2]),
+    ]
+}
+
+/// Writes the lines of a family of samples with labels.
+fn push_family(
+    text: &mut String,
+    name: &str,
+    help: &str,
+    kind: Kind,
+    samples: &[Sample<'_>],
+) -> Result<(), NoMemory>
+    ensures { OnOk result (string_bytes text.new ≡ string_bytes text.old ++ family_text (family_of name.now help.now kind samples.now)) }
+{
+    push_help(text, "", name, help)?;
+    push_type(text, "", name, kind)?;
+    push_samples(text, "", name, samples)?;
+    Ok(())
+}
+
+/// Writes the connections that are open, by listener.
+fn push_open(text: &mut String, open_now: &[u64; 3]) -> Result<(), NoMemory>
+    ensures { OnOk result (string_bytes text.new ≡ string_bytes text.old ++ family_text (open_family open_now.now)) }
+{
+    push_family(
+        text,
+        "iiif_connections_open",
+        "Connections that are open.",
+        Kind::Gauge,
+        &listener_samples_in(open_now),
+    )
+}
+
+/// Writes those that were closed unanswered, by listener.
+fn push_refused(text: &mut String, refused: &[u64; 3]) -> Result<(), NoMemory>
+    ensures { OnOk result (string_bytes text.new ≡ string_bytes text.old ++ family_text (refused_family refused.now)) }
+{
+    push_family(
+        text,
+        "iiif_connections_refused_total",
+        "Connections that were closed unanswered.",
+        Kind::Counter,
+        &listener_samples_in(refused),
+    )
+}
+
 /// Writes the answers by status.
 fn push_answers(text: &mut String, whole: &[u64; 8]) -> Result<(), NoMemory>
     ensures { OnOk result (string_bytes text.new ≡ string_bytes text.old ++ family_text (answer_family whole.now)) }
 {
-    push_help(
+    push_family(
         text,
-        "iiif_",
-        "answers_total",
+        "iiif_answers_total",
         "Answers that were sent whole.",
-    )?;
-    push_type(text, "iiif_", "answers_total", Kind::Counter)?;
-    push_samples(text, "iiif_", "answers_total", &status_samples_in(whole))?;
-    Ok(())
+        Kind::Counter,
+        &status_samples_in(whole),
+    )
 }
 
 /// All that is told, in the text format of version 0.0.4. The only error is want of memory.
-pub fn metrics_text(alloc: Global, metrics: &Metrics) -> Result<Vec<u8>, NoMemory>
-    ensures { IfOk result (λ bytes. bytes.items ≡ text_of metrics.now) }
+pub fn metrics_text(
+    alloc: Global,
+    metrics: &Metrics,
+    peers: &PeerMetrics,
+) -> Result<Vec<u8>, NoMemory>
+    ensures { IfOk result (λ bytes. bytes.items ≡ text_of metrics.now peers.now) }
 {
     let mut text = String::with_capacity(alloc, USUAL_LENGTH)?;
     push_rows(&mut text, "iiif_tile_cache_", &cache_rows(&metrics.tiles))?;
     push_rows(&mut text, "iiif_sum_cache_", &cache_rows(&metrics.sums))?;
     push_rows(&mut text, "iiif_held_", &held_rows(&metrics.held))?;
+    push_open(&mut text, &metrics.counts.open_now)?;
+    push_refused(&mut text, &metrics.counts.refused)?;
     push_rows(&mut text, "iiif_", &server_rows(&metrics.counts))?;
     push_answers(&mut text, &metrics.counts.whole)?;
-    Ok(text.into_bytes())
+    push_seconds(&mut text, &peers.durations)?;
+    let mut text = text.into_bytes();
+    push_links(alloc, &mut text, peers.links.as_slice())?;
+    Ok(text)
 }

@@ -1,19 +1,22 @@
 //! Counts.
 
-use iiif_metrics::{Counts, Tally};
+use iiif_metrics::{Counts, Tally, Visitors};
 use std::sync::Wait;
 
-/// The counts once two connections were opened, one closed and one refused, and three answers were sent and one cut off.
+/// The counts once two viewers' connections were opened and one closed, one of another node's and two of others were refused, and three
+/// answers were sent and one cut off.
 fn counted<R: Wait>(rt: &R) -> Counts {
     let tally = Tally::new();
-    tally.opened(rt);
-    tally.opened(rt);
-    tally.refused(rt);
+    tally.opened(rt, Visitors::Viewers);
+    tally.opened(rt, Visitors::Viewers);
+    tally.refused(rt, Visitors::Peers);
+    tally.refused(rt, Visitors::Statistics);
+    tally.refused(rt, Visitors::Statistics);
     tally.answered(rt, 200, 1000);
     tally.answered(rt, 501, 10);
     tally.answered(rt, 418, 1);
     tally.cut_off(rt, 100);
-    tally.closed(rt);
+    tally.closed(rt, Visitors::Viewers);
     tally.counts(rt)
 }
 
@@ -23,8 +26,8 @@ fn answers_and_connections_are_counted(rt: HostRuntime) {
         whole: [1, 0, 0, 0, 0, 0, 1, 1],
         cut: 1,
         bytes: 1111,
-        open_now: 1,
-        refused: 1,
+        open_now: [1, 0, 0],
+        refused: [0, 1, 2],
     };
     assert!(rt; counted(&rt) == wanted);
 }

@@ -1,15 +1,39 @@
 //! The answers to who asks for the counters.
 
+use iiif_breaker::{Asks, Durations, State};
 use iiif_io::fakes::{FailingReader, FailingWriter};
 use iiif_metrics::{
-    CacheMetrics, Counts, HeldMetrics, Measure, Metrics, metrics_text, serve_metrics,
+    CacheMetrics, Counts, HeldMetrics, LinkMetrics, Measure, Metrics, NoMemory, PeerMetrics,
+    Service, Services, metrics_text, serve_metrics,
 };
 use iiif_tables::Book;
 use std::alloc::Global;
 
-/// Counters of which each has another value.
+/// Counters of which each has another value, and these services.
 #[derive(Drop)]
-struct Fixed;
+struct Fixed {
+    services: Services,
+}
+
+/// Those of a node that asks others and isn't asked.
+const WELL: Fixed = Fixed {
+    services: Services {
+        viewers: Service::GoesOn,
+        peers: Service::Unwanted,
+        statistics: Service::GoesOn,
+        log: Service::GoesOn,
+    },
+};
+
+/// The same where the log's thread is gone.
+const ILL: Fixed = Fixed {
+    services: Services {
+        viewers: Service::GoesOn,
+        peers: Service::Unwanted,
+        statistics: Service::GoesOn,
+        log: Service::Gone,
+    },
+};
 
 /// A cache's counters, from a first value on.
 fn cache(first: u64) -> CacheMetrics {
@@ -43,15 +67,55 @@ fn metrics() -> Metrics {
             whole: [1, 2, 3, 4, 5, 6, 7, 8],
             cut: 9,
             bytes: 10,
-            open_now: 11,
-            refused: 12,
+            open_now: [11, 12, 13],
+            refused: [14, 15, 16],
         },
     }
+}
+
+/// The link to a node of an odd name.
+fn link(alloc: Global) -> Result<LinkMetrics, NoMemory> {
+    Ok(LinkMetrics {
+        name: String::from_str(alloc, "b\"\\\n\u{e9}")?,
+        asks: Asks {
+            answered: 31,
+            refused: 32,
+            failed: 33,
+            timed_out: 34,
+            skipped: 35,
+        },
+        state: State::Open {
+            until: 1,
+            wait: 1_000,
+        },
+    })
+}
+
+/// That link, and how long asks took.
+fn peers(alloc: Global) -> Result<PeerMetrics, NoMemory> {
+    let mut links = Vec::new(alloc);
+    links.push(link(alloc)?)?;
+    Ok(PeerMetrics {
+        links,
+        durations: Durations {
+            within: [21, 22, 23, 24, 25, 26, 27, 28],
+            all: 29,
+            micros: 1_500_030,
+        },
+    })
 }
 
 impl<R> Measure<R> for Fixed {
     fn measure(&self, _rt: &R) -> Metrics {
         metrics()
+    }
+
+    fn peers(&self, _rt: &R, alloc: Global) -> Result<PeerMetrics, NoMemory> {
+        peers(alloc)
+    }
+
+    fn services(&self, _rt: &R) -> Services {
+        self.services
     }
 }
 
@@ -70,10 +134,14 @@ iiif_held_bytes 13
 iiif_held_images 14
 # HELP iiif_connections_open Connections that are open.
 # TYPE iiif_connections_open gauge
-iiif_connections_open 11
+iiif_connections_open{listener=\"viewers\"} 11
+iiif_connections_open{listener=\"peers\"} 12
+iiif_connections_open{listener=\"statistics\"} 13
 # HELP iiif_connections_refused_total Connections that were closed unanswered.
 # TYPE iiif_connections_refused_total counter
-iiif_connections_refused_total 12
+iiif_connections_refused_total{listener=\"viewers\"} 14
+iiif_connections_refused_total{listener=\"peers\"} 15
+iiif_connections_refused_total{listener=\"statistics\"} 16
 # HELP iiif_answers_cut_total Answers that were cut off.
 # TYPE iiif_answers_cut_total counter
 iiif_answers_cut_total 9
@@ -90,18 +158,44 @@ iiif_answers_total{status=\"405\"} 5
 iiif_answers_total{status=\"500\"} 6
 iiif_answers_total{status=\"501\"} 7
 iiif_answers_total{status=\"other\"} 8
+# HELP iiif_peer_ask_seconds How long asks of other nodes took.
+# TYPE iiif_peer_ask_seconds histogram
+iiif_peer_ask_seconds_bucket{le=\"0.001\"} 21
+iiif_peer_ask_seconds_bucket{le=\"0.005\"} 22
+iiif_peer_ask_seconds_bucket{le=\"0.01\"} 23
+iiif_peer_ask_seconds_bucket{le=\"0.05\"} 24
+iiif_peer_ask_seconds_bucket{le=\"0.1\"} 25
+iiif_peer_ask_seconds_bucket{le=\"0.5\"} 26
+iiif_peer_ask_seconds_bucket{le=\"1\"} 27
+iiif_peer_ask_seconds_bucket{le=\"10\"} 28
+iiif_peer_ask_seconds_bucket{le=\"+Inf\"} 29
+iiif_peer_ask_seconds_sum 1500030e-6
+iiif_peer_ask_seconds_count 29
+# HELP iiif_peer_asks_total Asks of another node by how they ended, and those that weren't made.
+# TYPE iiif_peer_asks_total counter
+iiif_peer_asks_total{peer=\"b\\\"\\\\\\n\u{e9}\",outcome=\"answered\"} 31
+iiif_peer_asks_total{peer=\"b\\\"\\\\\\n\u{e9}\",outcome=\"refused\"} 32
+iiif_peer_asks_total{peer=\"b\\\"\\\\\\n\u{e9}\",outcome=\"failed\"} 33
+iiif_peer_asks_total{peer=\"b\\\"\\\\\\n\u{e9}\",outcome=\"late\"} 34
+iiif_peer_asks_total{peer=\"b\\\"\\\\\\n\u{e9}\",outcome=\"left_alone\"} 35
+# HELP iiif_peer_state 0 where another node is asked, 1 where one ask tries it, 2 where it is left alone.
+# TYPE iiif_peer_state gauge
+iiif_peer_state{peer=\"b\\\"\\\\\\n\u{e9}\"} 2
 ";
 
 /// What is written for this input.
 fn answered<R>(rt: &R, alloc: Global, input: &[u8]) -> Vec<u8> {
     let mut out = Vec::new(alloc);
-    let _ = serve_metrics(rt, alloc, &Fixed, input, &mut out);
+    let _ = serve_metrics(rt, alloc, &WELL, input, &mut out);
     out
 }
 
 /// Whether the text begins and ends so.
 fn is_text(alloc: Global, begin: &[u8], end: &[u8]) -> bool {
-    match metrics_text(alloc, &metrics()) {
+    let Ok(peers) = peers(alloc) else {
+        return false;
+    };
+    match metrics_text(alloc, &metrics(), &peers) {
         Ok(text) => text.starts_with(begin) && text.ends_with(end),
         Err(_) => false,
     }
@@ -126,6 +220,24 @@ fn is_answered<R>(rt: &R, alloc: Global, input: &[u8], begin: &[u8], end: &[u8])
 fn get_of_the_counters(rt: HostRuntime) {
     let input = b"GET /metrics HTTP/1.1\r\nHost: a\r\n\r\n".as_slice();
     assert!(rt; is_answered(&rt, rt.alloc(), input, HEAD, END.as_bytes()));
+}
+
+/// Whether who asks for the health of these is answered so.
+fn is_health<R>(rt: &R, alloc: Global, source: &Fixed, wanted: &[u8]) -> bool {
+    let input = b"GET /health HTTP/1.1\r\nHost: a\r\n\r\n".as_slice();
+    let mut out = Vec::new(alloc);
+    let _ = serve_metrics(rt, alloc, source, input, &mut out);
+    out.as_slice() == wanted
+}
+
+#[test]
+fn get_of_the_health(rt: HostRuntime) {
+    let well =
+        b"HTTP/1.1 200 OK\r\nContent-Type: text/plain\r\nContent-Length: 32\r\nConnection: close\r\n\r\nviewers ok\nstatistics ok\nlog ok\n".as_slice();
+    let ill =
+        b"HTTP/1.1 503 Service Unavailable\r\nContent-Type: text/plain\r\nContent-Length: 34\r\nConnection: close\r\n\r\nviewers ok\nstatistics ok\nlog gone\n".as_slice();
+    assert!(rt; is_health(&rt, rt.alloc(), &WELL, well));
+    assert!(rt; is_health(&rt, rt.alloc(), &ILL, ill));
 }
 
 /// Calls of another target, by another method and of no HTTP, and what is written for each.
@@ -164,7 +276,7 @@ fn is_unanswered<R>(rt: &R, alloc: Global) -> bool {
         reads: 2,
     };
     let mut out = Vec::new(alloc);
-    serve_metrics(rt, alloc, &Fixed, reader, &mut out).is_ok() && out.is_empty()
+    serve_metrics(rt, alloc, &WELL, reader, &mut out).is_ok() && out.is_empty()
 }
 
 /// Whether a device with room for 20 bytes takes the first 20 of an answer.
@@ -175,7 +287,7 @@ fn is_cut<R>(rt: &R, alloc: Global) -> bool {
         piece: 7,
     };
     let input = b"GET / HTTP/1.1\r\n\r\n".as_slice();
-    serve_metrics(rt, alloc, &Fixed, input, &mut out).is_ok()
+    serve_metrics(rt, alloc, &WELL, input, &mut out).is_ok()
         && out.taken.as_slice() == b"HTTP/1.1 404 Not Fou".as_slice()
 }
 

@@ -1,7 +1,7 @@
 -- How an ask ended, as the link takes it in.
 use Rattle.std.specs.Prelude.{ℕ, Bool, true, false, Option, Some, None, Result, Ok, Err, if◌then◌else◌}
 use Rattle.iiif_breaker.specs.declared.outcome.Outcome.{Outcome}
-use Rattle.iiif_breaker.specs.declared.outcome.Outcome.TheVariants.{Answered, Failed, TimedOut}
+use Rattle.iiif_breaker.specs.declared.outcome.Outcome.TheVariants.{Answered, Refused as Refuses, Failed, TimedOut}
 use Rattle.iiif_peer_wire.specs.declared.fault.WireFault.{WireFault}
 use Rattle.iiif_peer_wire.specs.declared.fault.WireFault.TheVariants.{Magic, Short, Long, Key, Digest, Status, Io, NoMemory}
 use Rattle.iiif_group.specs.declared.link.LinkFault.{LinkFault}
@@ -13,7 +13,7 @@ faulty late = if late then Some TimedOut else Some Failed
 
 -- A node that refuses is there, and answers. Want of memory here says nothing of the node.
 abbrev pub fault_end : LinkFault → Bool → Option Outcome
-fault_end (Refused status) late = Some Answered
+fault_end (Refused status) late = Some Refuses
 fault_end Value late = faulty late
 fault_end (Wire NoMemory) late = None
 fault_end (Wire Magic) late = faulty late

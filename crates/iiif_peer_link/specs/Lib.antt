@@ -1,4 +1,5 @@
 pub mod Asking
 pub mod Ends
 pub mod Lengths
+pub mod Places
 pub mod Versions

@@ -12,7 +12,8 @@ pub fn outcome_of<V>(came: &Result<V, LinkFault>, late: bool) -> Option<Outcome>
     ensures { result ≡ ask_end came.now late }
 {
     match came {
-        Ok(_) | Err(LinkFault::Refused(_)) => Some(Outcome::Answered),
+        Ok(_) => Some(Outcome::Answered),
+        Err(LinkFault::Refused(_)) => Some(Outcome::Refused),
         Err(LinkFault::Wire(WireFault::NoMemory)) => None,
         Err(_) if late => Some(Outcome::TimedOut),
         Err(_) => Some(Outcome::Failed),

@@ -1,33 +1,43 @@
-//! What a link remembers of its node from one ask to the next.
+//! What is known of a node from one ask to the next.
 
-use iiif_breaker::{Asks, LinkRecord, Outcome, State};
+use crate::addresses::Addresses;
+use iiif_breaker::{Asks, Change, LinkRecord, Outcome, State};
+use std::alloc::Global;
 use std::net::SocketAddr;
 use std::sync::{Mutex, Wait};
 use std::time::{Clock, Instant};
 
-/// When the link was first asked, the address that its node answered at last, and how its asks ended.
+/// When the node was first asked, its addresses, whether they are to be looked up, and how its asks ended.
 #[derive(Drop)]
 struct Memory {
     start: Option<Instant>,
-    address: Option<SocketAddr>,
+    addresses: Addresses,
+    is_to_look_up: bool,
     record: LinkRecord,
 }
 
-/// An ask that is made: its number, and the address at which the node answered last, if it did.
+/// An ask that is made.
 #[derive(Clone, Copy)]
 pub struct Turn {
     pub number: u64,
+    /// Whether the node was left alone until now, and this is the one ask that tries it.
+    pub is_probe: bool,
+    /// Whether the node's name is to be looked up first.
+    pub is_to_look_up: bool,
+    /// The place of its address, and the address, where one is known.
+    pub place: usize,
     pub address: Option<SocketAddr>,
 }
 
-/// What a link remembers. Each ask that is made begins with its turn and ends with a report. All is done under a lock, as [`LinkRecord`] says.
+/// What is known of a node. Each ask that is made begins with its turn and ends with a report. All is done under a lock, as [`LinkRecord`] and
+/// [`Addresses`] say.
 #[derive(Drop)]
 pub struct Health {
     memory: Mutex<Memory>,
 }
 
 impl Memory {
-    /// The milliseconds since the link was first asked, which is now where it wasn't yet. The last moment of all where there is no clock.
+    /// The milliseconds since the node was first asked, which is now where it wasn't yet. The last moment of all where there is no clock.
     fn moment<R: Clock>(&mut self, rt: &R) -> u64 {
         let Ok(now) = Instant::now(rt) else {
             return u64::MAX;
@@ -35,49 +45,73 @@ impl Memory {
         let start = *self.start.get_or_insert(now);
         u64::try_from(now.duration_since(start).as_millis()).unwrap_or(u64::MAX)
     }
+
+    /// An ask of this number.
+    fn turn(&self, number: u64) -> Turn {
+        let is_probe = !matches!(self.record.state(), State::Closed { .. });
+        Turn {
+            number,
+            is_probe,
+            is_to_look_up: is_probe && self.is_to_look_up,
+            place: self.addresses.place(),
+            address: self.addresses.asked(),
+        }
+    }
 }
 
 impl Health {
-    /// Of a link that wasn't asked yet.
-    pub fn new() -> Health {
+    /// Of a node that wasn't asked yet, whose name is to be looked up.
+    pub fn new(alloc: Global) -> Health {
         Health {
             memory: Mutex::new(Memory {
                 start: None,
-                address: None,
+                addresses: Addresses::unknown(alloc),
+                is_to_look_up: true,
                 record: LinkRecord::new(),
             }),
         }
     }
 
-    /// The turn of an ask that is made now. None where the link is left alone.
+    /// The turn of an ask that is made now. None where the node is left alone.
     pub fn begin<R: Clock + Wait>(&self, rt: &R) -> Option<Turn> {
         let mut guard = self.memory.lock(rt);
         let memory = &mut *guard;
         let now = memory.moment(rt);
         let number = memory.record.may_ask(now)?;
-        Some(Turn {
-            number,
-            address: memory.address,
-        })
+        Some(memory.turn(number))
     }
 
-    /// Takes in how the ask of a turn ended. The address of a node that answered is kept, and forgotten once an ask fails, so that its name
-    /// is looked up again.
-    pub fn report<R: Clock + Wait>(
-        &self,
-        rt: &R,
-        turn: &Turn,
-        outcome: Outcome,
-        at: Option<SocketAddr>,
-    ) {
+    /// The same turn with the address that is known by now.
+    pub fn again<R: Wait>(&self, rt: &R, turn: &Turn) -> Turn {
+        let guard = self.memory.lock(rt);
+        let mut again = *turn;
+        again.place = guard.addresses.place();
+        again.address = guard.addresses.asked();
+        again
+    }
+
+    /// Takes in what a look-up found, unless that is nothing.
+    pub fn found<R: Wait>(&self, rt: &R, found: Vec<SocketAddr>) {
+        if found.is_empty() {
+            return;
+        }
+        let mut guard = self.memory.lock(rt);
+        let memory = &mut *guard;
+        memory.is_to_look_up = false;
+        memory.addresses.renew(found);
+    }
+
+    /// Takes in how the ask of a turn ended, and says what becomes of the link. After a fault the next address is asked; after one of an ask
+    /// that was to try the node the next of these looks its name up.
+    pub fn report<R: Clock + Wait>(&self, rt: &R, turn: &Turn, outcome: Outcome) -> Option<Change> {
         let mut guard = self.memory.lock(rt);
         let memory = &mut *guard;
         let now = memory.moment(rt);
-        memory.record.report(now, turn.number, outcome);
-        memory.address = match outcome {
-            Outcome::Answered => at,
-            Outcome::Failed | Outcome::TimedOut => None,
-        };
+        if matches!(outcome, Outcome::Failed | Outcome::TimedOut) {
+            memory.addresses.leave(turn.place);
+            memory.is_to_look_up = memory.is_to_look_up || turn.is_probe;
+        }
+        memory.record.report(now, turn.number, outcome)
     }
 
     /// How its asks ended so far.

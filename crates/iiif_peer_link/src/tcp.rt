@@ -3,108 +3,100 @@
 ghost use Rattle.std.specs.Prelude.{◌≡◌, false};
 
 use crate::ends::outcome_of;
-use crate::health::{Health, Turn};
+use crate::health::Turn;
 use crate::lengths::{sum_reply_len, tile_reply_len};
+use crate::peer::{Peer, Stopwatch};
 use crate::timed::{Deadline, Timed};
 use crate::values::{sum_over, tile_over};
 use crate::within::Within;
+use iiif_breaker::Change;
 use iiif_group::{Link, LinkFault};
 use iiif_keys::{Shape, SumKey, SumVal, System, TileKey, TileVal};
+use iiif_log::{Log, Moment, PeerTurn, Turn as Told};
 use iiif_peer_wire::WireFault;
 use std::alloc::Global;
 use std::io;
 use std::io::ErrorKind;
 use std::marker::PhantomData;
-use std::net::{Net, SocketAddr, TcpStream, ToSocketAddrs};
+use std::net::{Net, TcpStream};
 use std::sync::Wait;
-use std::time::{Clock, Duration};
+use std::time::Clock;
 
-/// A way to a node that listens at an address and a port. Each ask connects anew, reads one reply and closes, all within a limit of
-/// time, and no more of it than the key's value can have. A node that fails is left alone for a while, as its [`Health`] says: then an ask
-/// fails at once. A host's name is looked up without a limit, where no ask was answered since it last failed. What the node says is never
-/// promised to be right, so a system that has links of this kind relies on no other node.
+/// A way to a node that listens at an address and a port. Each ask connects anew, reads one reply and closes, all within the node's limit of
+/// time, and no more of it than the key's value can have. A node that fails is left alone for a while, as its [`Health`](crate::Health)
+/// says: then an ask fails at once. Its name is looked up where whoever made the node says so, and again, without a limit, by an ask that
+/// is to try it after another one did in vain. What the node says is never promised to be right, so a system that has links of this kind
+/// relies on no other node.
 #[derive(Drop)]
-pub struct TcpLink<J: System> {
-    address: String,
-    limit: Duration,
+pub struct TcpLink<'p, J: System> {
+    peer: &'p Peer,
+    watch: &'p Stopwatch,
+    log: Option<&'p Log>,
     alloc: Global,
-    health: Health,
     of: PhantomData<J>,
     pub ghost unsure: { J.honest ≡ false },
 }
 
-/// A connection's two ends, within one limit of time, and the address that it goes to.
+/// A connection's two ends, within one limit of time.
 #[derive(Drop)]
 struct Open<'a, R: Clock> {
     reader: Within<Timed<'a, R>>,
     out: Timed<'a, R>,
-    at: SocketAddr,
 }
 
-impl<J: System> TcpLink<J> {
-    /// A link to an address, as `host:port`, with so much time for each ask.
-    pub fn new(alloc: Global, address: String, limit: Duration) -> TcpLink<J>
+/// A connection to the address of a turn, where one is known, to read at most so many bytes from.
+fn connect<'a, R: Net<Stream = TcpStream> + Clock>(
+    rt: &'a R,
+    deadline: &Deadline<'a, R>,
+    turn: &Turn,
+    most: u64,
+) -> io::Result<Open<'a, R>> {
+    let Some(address) = turn.address else {
+        return Err(io::Error::from(ErrorKind::NotFound));
+    };
+    let stream = TcpStream::connect_timeout(rt, &address, deadline.left()?)?;
+    stream.set_nodelay(true)?;
+    let copy = stream.try_clone()?;
+    Ok(Open {
+        reader: Within {
+            inner: Timed {
+                stream,
+                deadline: deadline.again(),
+            },
+            left: most as usize,
+        },
+        out: Timed {
+            stream: copy,
+            deadline: deadline.again(),
+        },
+    })
+}
+
+/// The log's word for what became of a link.
+fn told_of(change: Change) -> Told {
+    match change {
+        Change::LeftAlone => Told::LeftAlone,
+        Change::AskedAgain => Told::AskedAgain,
+    }
+}
+
+impl<'p, J: System> TcpLink<'p, J> {
+    /// A link to a node. How long its asks take is counted by the stopwatch, and what becomes of it is told to the log, where there is one.
+    pub fn new(
+        alloc: Global,
+        peer: &'p Peer,
+        watch: &'p Stopwatch,
+        log: Option<&'p Log>,
+    ) -> TcpLink<'p, J>
         requires { J.honest ≡ false }
     {
         TcpLink {
-            address,
-            limit,
+            peer,
+            watch,
+            log,
             alloc,
-            health: Health::new(),
             of: PhantomData,
         }
-    }
-
-    /// What it remembers of its node.
-    pub fn health(&self) -> &Health {
-        &self.health
-    }
-
-    /// A connection to the address that is known, or else to the first of the name's that takes one.
-    fn connect<R: Net<Stream = TcpStream> + Clock>(
-        &self,
-        rt: &R,
-        deadline: &Deadline<'_, R>,
-        known: Option<SocketAddr>,
-    ) -> io::Result<(TcpStream, SocketAddr)> {
-        if let Some(address) = known {
-            let stream = TcpStream::connect_timeout(rt, &address, deadline.left()?)?;
-            stream.set_nodelay(true)?;
-            return Ok((stream, address));
-        }
-        for address in self.address.as_str().to_socket_addrs(rt)? {
-            if let Ok(stream) = TcpStream::connect_timeout(rt, &address, deadline.left()?) {
-                stream.set_nodelay(true)?;
-                return Ok((stream, address));
-            }
-        }
-        Err(io::Error::from(ErrorKind::ConnectionRefused))
-    }
-
-    /// A connection, to read at most so many bytes from.
-    fn open<'a, R: Net<Stream = TcpStream> + Clock>(
-        &self,
-        rt: &'a R,
-        deadline: &Deadline<'a, R>,
-        turn: &Turn,
-        most: u64,
-    ) -> io::Result<Open<'a, R>> {
-        let (stream, at) = self.connect(rt, deadline, turn.address)?;
-        let copy = stream.try_clone()?;
-        Ok(Open {
-            reader: Within {
-                inner: Timed {
-                    stream,
-                    deadline: deadline.again(),
-                },
-                left: most as usize,
-            },
-            out: Timed {
-                stream: copy,
-                deadline: deadline.again(),
-            },
-            at,
-        })
     }
 
     /// Takes in how the ask of a turn ended.
@@ -114,10 +106,21 @@ impl<J: System> TcpLink<J> {
         turn: &Turn,
         deadline: &Deadline<'_, R>,
         came: &Result<V, LinkFault>,
-        at: Option<SocketAddr>,
     ) {
-        if let Some(outcome) = outcome_of(came, deadline.left().is_err()) {
-            self.health.report(rt, turn, outcome, at);
+        let Some(outcome) = outcome_of(came, deadline.left().is_err()) else {
+            return;
+        };
+        self.watch.count(rt, deadline.micros());
+        let change = self.peer.health().report(rt, turn, outcome);
+        if let (Some(change), Some(log)) = (change, self.log) {
+            log.tell_turn(
+                rt,
+                &PeerTurn {
+                    at: Moment::now(rt),
+                    name: self.peer.name().as_bytes(),
+                    turn: told_of(change),
+                },
+            );
         }
     }
 }
@@ -125,44 +128,42 @@ impl<J: System> TcpLink<J> {
 /// The fault of an ask that came to nothing.
 const LOST: LinkFault = LinkFault::Wire(WireFault::Io);
 
-impl<J: System, R: Net<Stream = TcpStream> + Clock + Wait> Link<TileKey, J, R> for TcpLink<J> {
+impl<'p, J: System, R: Net<Stream = TcpStream> + Clock + Wait> Link<TileKey, J, R>
+    for TcpLink<'p, J> {
     fn ask(&self, rt: &R, key: &TileKey, shape: &Shape) -> Result<TileVal, LinkFault> {
-        let turn = self.health.begin(rt).ok_or(LOST)?;
-        let deadline = Deadline::new(rt, self.limit).map_err(|_| LOST)?;
-        let (came, at) = match self.open(rt, &deadline, &turn, tile_reply_len(key, shape)) {
+        let turn = self.peer.begin(rt, self.alloc).ok_or(LOST)?;
+        let deadline = Deadline::new(rt, self.peer.limit()).map_err(|_| LOST)?;
+        let came = match connect(rt, &deadline, &turn, tile_reply_len(key, shape)) {
             Ok(open) => {
                 let Open {
                     mut reader,
                     mut out,
-                    at,
                 } = open;
-                let came = tile_over(self.alloc, &mut reader, &mut out, key, shape);
-                (came, Some(at))
+                tile_over(self.alloc, &mut reader, &mut out, key, shape)
             }
-            Err(_) => (Err(LOST), None),
+            Err(_) => Err(LOST),
         };
-        self.report(rt, &turn, &deadline, &came, at);
+        self.report(rt, &turn, &deadline, &came);
         came
     }
 }
 
-impl<J: System, R: Net<Stream = TcpStream> + Clock + Wait> Link<SumKey, J, R> for TcpLink<J> {
+impl<'p, J: System, R: Net<Stream = TcpStream> + Clock + Wait> Link<SumKey, J, R>
+    for TcpLink<'p, J> {
     fn ask(&self, rt: &R, key: &SumKey, shape: &Shape) -> Result<SumVal, LinkFault> {
-        let turn = self.health.begin(rt).ok_or(LOST)?;
-        let deadline = Deadline::new(rt, self.limit).map_err(|_| LOST)?;
-        let (came, at) = match self.open(rt, &deadline, &turn, sum_reply_len(key, shape)) {
+        let turn = self.peer.begin(rt, self.alloc).ok_or(LOST)?;
+        let deadline = Deadline::new(rt, self.peer.limit()).map_err(|_| LOST)?;
+        let came = match connect(rt, &deadline, &turn, sum_reply_len(key, shape)) {
             Ok(open) => {
                 let Open {
                     mut reader,
                     mut out,
-                    at,
                 } = open;
-                let came = sum_over(self.alloc, &mut reader, &mut out, key, shape);
-                (came, Some(at))
+                sum_over(self.alloc, &mut reader, &mut out, key, shape)
             }
-            Err(_) => (Err(LOST), None),
+            Err(_) => Err(LOST),
         };
-        self.report(rt, &turn, &deadline, &came, at);
+        self.report(rt, &turn, &deadline, &came);
         came
     }
 }

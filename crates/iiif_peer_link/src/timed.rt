@@ -33,6 +33,14 @@ impl<'a, R: Clock> Deadline<'a, R> {
         }
     }
 
+    /// The microseconds since its beginning, 0 where there is no clock.
+    pub fn micros(&self) -> u64 {
+        match self.start.elapsed(self.rt) {
+            Ok(passed) => u64::try_from(passed.as_micros()).unwrap_or(u64::MAX),
+            Err(_) => 0,
+        }
+    }
+
     /// The time that is left, an error where none is.
     pub fn left(&self) -> io::Result<Duration> {
         match self.limit.checked_sub(self.start.elapsed(self.rt)?) {

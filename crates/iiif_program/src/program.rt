@@ -15,8 +15,7 @@ use clap::ArgMatches;
 use clap::error::ErrorKind;
 use iiif_command_line::{Mode, Options, matches};
 use iiif_connections::serving::listen;
-use iiif_connections::times::USUAL;
-use iiif_connections::{Catalogue, Config, Gate, Link, Node, Nodes, Watcher, among};
+use iiif_connections::{Catalogue, Config, Gate, Link, Node, Nodes, Times, Watcher, among};
 use iiif_io::Outlet;
 use iiif_keys::{SumKey, System, TileKey};
 use iiif_open_files::{Opens, Texts};
@@ -150,6 +149,7 @@ where
     let config = config(alloc, options)?;
     let (images, hold) = (&options.images, options.hold);
     let catalogue = catalogue(rt, alloc, images, options.open_files, hold)?;
+    let watcher = watcher_of(alloc, options, Held::among(&catalogue, images))?;
     let (tiles, sums) = (Blank::new(65_537), Blank::new(65_537));
     if options.peers.is_empty() {
         if let Mode::One { target, hex } = options.mode {
@@ -160,9 +160,28 @@ where
             };
             return one_alone(rt, alloc, alone, target, hex, out);
         }
-        serve_alone::<R, O, E, Brand>(rt, alloc, options, config, catalogue, tiles, sums, out, err)
+        serve_alone::<R, O, E, Brand>(
+            rt, alloc, options, &watcher, config, catalogue, tiles, sums, out, err,
+        )
     } else {
-        answer_among::<R, O, E, Brand>(rt, alloc, options, config, catalogue, tiles, sums, out, err)
+        watcher.neighbours.look_up(rt, alloc);
+        answer_among::<R, O, E, Brand>(
+            rt, alloc, options, &watcher, config, catalogue, tiles, sums, out, err,
+        )
+    }
+}
+
+/// Who is told of the answers, and of the asks of the other nodes of the options. The only error is want of memory.
+fn watcher_of<'a>(alloc: Global, options: &Options<'a>, held: Held) -> Result<Watcher, Stop<'a>> {
+    let nodes = Nodes {
+        own: options.name,
+        peers: &options.peers,
+        ask: Times::within(options.limits).ask,
+    };
+    let logs = matches!(options.mode, Mode::Listen { log: true, .. });
+    match Watcher::new(alloc, logs, held, &nodes) {
+        Ok(watcher) => Ok(watcher),
+        Err(_) => Err(Stop::Memory),
     }
 }
 
@@ -194,6 +213,7 @@ fn serve_alone<'a, R, O, E, J: System + Send + Sync>(
     rt: &R,
     alloc: Global,
     options: &Options<'a>,
+    watcher: &Watcher,
     config: Config,
     catalogue: Catalogue<R, Stored<R>>,
     tiles: Blank,
@@ -226,7 +246,7 @@ where
     else {
         return Err(Stop::Memory);
     };
-    answer_by(rt, alloc, options, &node, out, err)
+    answer_by(rt, options, watcher, &node, out, err)
 }
 
 /// Answers by a node of these settings and images among others.
@@ -234,6 +254,7 @@ fn answer_among<'a, R, O, E, J: System + Send + Sync>(
     rt: &R,
     alloc: Global,
     options: &Options<'a>,
+    watcher: &Watcher,
     config: Config,
     catalogue: Catalogue<R, Stored<R>>,
     tiles: Blank,
@@ -261,14 +282,9 @@ where
     requires tiles { (tiles.name ≡ J.tiles_name) × (tiles.parts ≡ J.tiles_parts) × (J.tiles_parts ≡ 65537) }
     requires sums { (sums.name ≡ J.sums_name) × (sums.parts ≡ J.sums_parts) × (J.sums_parts ≡ 65537) }
 {
-    let nodes = Nodes {
-        own: options.name,
-        peers: &options.peers,
-        ask: USUAL.ask,
-    };
     let bytes = options.cache_bytes;
-    match among::<R, J>(alloc, config, catalogue, &nodes, bytes, tiles, sums) {
-        Ok(node) => answer_by(rt, alloc, options, &node, out, err),
+    match among::<R, J>(alloc, config, catalogue, watcher, bytes, tiles, sums) {
+        Ok(node) => answer_by(rt, options, watcher, &node, out, err),
         Err(_) => Err(Stop::Memory),
     }
 }
@@ -276,8 +292,8 @@ where
 /// Answers by a node what the options ask for.
 fn answer_by<'a, R, O, E, J, N, T>(
     rt: &R,
-    alloc: Global,
     options: &Options<'a>,
+    watcher: &Watcher,
     node: &Node<R, Stored<R>, J, N, T>,
     out: &mut O,
     err: &mut E,
@@ -297,15 +313,16 @@ where
     N: Link<TileKey, J, R> + Link<SumKey, J, R> + Sync,
     T: Gate<R> + Sync,
 {
-    let workers = options.workers;
+    let (alloc, workers) = (rt.alloc(), options.workers);
     match options.mode {
         Mode::One { target, hex: false } => answer_one(rt, alloc, node, workers, target, out),
         Mode::One { target, hex: true } => answer_in_hex(rt, alloc, node, workers, target, out),
         Mode::Listen {
             viewers,
             peers,
-            log,
+            log: _,
             stats,
+            peer_only,
         } => {
             if touch(alloc, options.touch_bytes).is_err() {
                 return Err(Stop::Memory);
@@ -314,13 +331,15 @@ where
                 viewers,
                 peers,
                 statistics: stats,
+                per_address: options.limits.per_address,
+                known: if peer_only {
+                    Some(options.peers.as_slice())
+                } else {
+                    None
+                },
             };
-            let images = node.groups().tiles().images().catalogue();
-            let held = Held::among(images, &options.images);
-            let Ok(watcher) = Watcher::new(alloc, log, held) else {
-                return Err(Stop::Memory);
-            };
-            listen(rt, alloc, node, workers, &addresses, &watcher, err)
+            let times = Times::within(options.limits);
+            listen(rt, alloc, node, workers, times, &addresses, watcher, err)
         }
         Mode::Check => check(rt, alloc, options, out),
     }

@@ -1,30 +1,41 @@
 //! The addresses that are listened on, and what goes on beside them.
 
 use iiif_io::Outlet;
-use iiif_listener::{serve_each, stop};
+use iiif_listener::{Admission, Visit, serve_each, stop};
 use iiif_log::{Log, write_lines};
-use std::alloc::Global;
+use std::alloc::{AllocError, Global};
 use std::io::ErrorKind;
-use std::net::{Net, TcpListener, TcpStream};
-use std::sync::Wait;
+use std::net::{IpAddr, Net, TcpListener, TcpStream, ToSocketAddrs};
+use std::sync::{Mutex, Wait};
 use std::thread::Threads;
 use std::time::Clock;
 use std::{io, thread};
 
-/// Addresses and ports.
+/// Addresses and ports, and who may come there.
 #[derive(Clone, Copy, Debug)]
 pub struct Addresses<'a> {
     pub viewers: &'a str,
     pub peers: Option<&'a str>,
     pub statistics: Option<&'a str>,
+    /// How many connections one address may have at a time at each listener: 0 stands for any number.
+    pub per_address: usize,
+    /// The names and addresses of the only nodes whose connections are taken, where not all are.
+    pub known: Option<&'a [(&'a str, &'a str)]>,
 }
 
-/// The listeners of a node: one for viewers, and perhaps one for other nodes and one for who asks for the statistics.
+/// The listeners of a node: one for viewers, and perhaps one for other nodes and one for who asks for the statistics. And who may come
+/// there.
 #[derive(Drop)]
 pub struct Listeners {
     pub viewers: TcpListener,
     pub peers: Option<TcpListener>,
     pub statistics: Option<TcpListener>,
+    /// How many connections one address may have at a time at each of them: 0 stands for any number.
+    pub per_address: usize,
+    /// The only addresses from which other nodes' connections are taken, where not all are.
+    pub known: Option<Vec<IpAddr>>,
+    /// Whether one of them ended, which ends all.
+    is_over: Mutex<bool>,
 }
 
 /// A listener at an address, where there is one.
@@ -38,17 +49,80 @@ fn bind_some<R: Net<Listener = TcpListener, Stream = TcpStream>>(
     }
 }
 
+/// The IP addresses of nodes. A name of which none is found has none.
+fn addresses_of<R: Net>(
+    rt: &R,
+    alloc: Global,
+    nodes: &[(&str, &str)],
+) -> Result<Vec<IpAddr>, AllocError> {
+    let mut all = Vec::new(alloc);
+    for (_, address) in nodes {
+        if let Ok(found) = address.to_socket_addrs(rt) {
+            for one in found {
+                all.push(one.ip())?;
+            }
+        }
+    }
+    Ok(all)
+}
+
+/// The only IP addresses from which other nodes' connections are taken, where not all are.
+fn known_in<R: Net>(
+    rt: &R,
+    alloc: Global,
+    addresses: &Addresses<'_>,
+) -> Result<Option<Vec<IpAddr>>, AllocError> {
+    match addresses.known {
+        Some(nodes) => Ok(Some(addresses_of(rt, alloc, nodes)?)),
+        None => Ok(None),
+    }
+}
+
 impl Listeners {
-    /// Listeners at these addresses.
+    /// Listeners at these addresses. The names of other nodes are looked up now, where they are the only ones whose connections are taken.
     pub fn bind<R: Net<Listener = TcpListener, Stream = TcpStream>>(
         rt: &R,
+        alloc: Global,
         addresses: &Addresses<'_>,
     ) -> io::Result<Listeners> {
+        let Ok(known) = known_in(rt, alloc, addresses) else {
+            return Err(io::Error::from(ErrorKind::OutOfMemory));
+        };
         Ok(Listeners {
             viewers: TcpListener::bind(rt, addresses.viewers)?,
             peers: bind_some(rt, addresses.peers)?,
             statistics: bind_some(rt, addresses.statistics)?,
+            per_address: addresses.per_address,
+            known,
+            is_over: Mutex::new(false),
         })
+    }
+
+    /// Whether one of them ended, which ends all.
+    pub fn is_over<R: Wait>(&self, rt: &R) -> bool {
+        *self.is_over.lock(rt)
+    }
+
+    /// Ends all, since one ended.
+    fn end<R: Wait>(&self, rt: &R) {
+        *self.is_over.lock(rt) = true;
+        self.stop();
+    }
+
+    /// Who may come to the listeners, and which other nodes to theirs.
+    fn admissions(&self) -> (Admission<'_>, Admission<'_>) {
+        let all = Admission {
+            per_address: self.per_address,
+            known: None,
+        };
+        let nodes = match &self.known {
+            Some(known) => Admission {
+                known: Some(known.as_slice()),
+                ..all
+            },
+            None => all,
+        };
+        (all, nodes)
     }
 
     /// Ends what each of them waits for.
@@ -63,77 +137,100 @@ impl Listeners {
     }
 }
 
-/// Serves a listener by a function until it ends, and then stops all.
-fn serve_beside<R, F, G>(rt: &R, serve: &F, refused: &G, listener: &TcpListener, all: &Listeners)
-where
-    R: Threads + Wait + Clock + Sync,
-    F: Fn(TcpStream) + Sync,
-    G: Fn(),
-    requires serve { F.IsAlwaysCallable serve.now }
-    requires refused { G.IsAlwaysCallable refused.now }
-{
-    // However it ended, all others are stopped.
-    let _ = serve_each(rt, serve, refused, listener);
-    all.stop();
-}
-
-/// Where no thread can be started.
-fn no_thread() -> io::Error {
-    io::Error::from(ErrorKind::WouldBlock)
-}
-
-/// Serves viewers, other nodes and who asks for the statistics by a function each, where they have listeners, until a listener ends,
-/// which then stops the others; and answers once all connections have ended. Where a thread is wanting for one of the listeners, it
-/// ends at once. The last function is told of each connection of a viewer or another node that was closed unanswered.
-pub fn serve_all<R, F, G, H, K>(
+/// Serves a listener by a function until it ends, and then stops all. The second function is told of each connection that was closed
+/// unanswered.
+fn serve_beside<R, F, G>(
     rt: &R,
-    listeners: &Listeners,
-    serve: (&F, &G, &H),
-    refused: &K,
+    alloc: Global,
+    serve: (&F, &G),
+    listener: &TcpListener,
+    admission: Admission<'_>,
+    all: &Listeners,
 ) -> io::Result<()>
 where
     R: Threads + Wait + Clock + Sync,
-    F: Fn(TcpStream) + Sync,
-    G: Fn(TcpStream) + Sync,
-    H: Fn(TcpStream) + Sync,
-    K: Fn() + Sync,
-    requires viewer { F.IsAlwaysCallable serve.0.now }
-    requires peer { G.IsAlwaysCallable serve.1.now }
-    requires reader { H.IsAlwaysCallable serve.2.now }
-    requires refused { K.IsAlwaysCallable refused.now }
+    F: Fn(Visit<'_, R>) + Sync,
+    G: Fn(),
+    requires serve { F.IsAlwaysCallable serve.0.now }
+    requires refused { G.IsAlwaysCallable serve.1.now }
 {
-    let (serve_viewer, serve_peer, serve_reader) = serve;
-    let nobody = &|| {};
+    let (serve, refused) = serve;
+    // However it ended, all others are stopped.
+    let ended = serve_each(rt, alloc, serve, refused, listener, admission);
+    all.end(rt);
+    ended
+}
+
+/// Where no thread can be started.
+fn no_thread(listeners: &Listeners) -> io::Result<()> {
+    listeners.stop();
+    Err(io::Error::from(ErrorKind::WouldBlock))
+}
+
+/// Serves viewers, other nodes and who asks for the statistics by two functions each, where they have listeners, until a listener ends,
+/// which then stops the others; and answers once all connections have ended. Where a thread is wanting for one of the listeners, it
+/// ends at once. The second function of each is told of the connections of that listener that were closed unanswered.
+pub fn serve_all<R, F, G, H, K, L, M>(
+    rt: &R,
+    alloc: Global,
+    listeners: &Listeners,
+    viewers: (&F, &K),
+    peers: (&G, &L),
+    readers: (&H, &M),
+) -> io::Result<()>
+where
+    R: Threads + Wait + Clock + Sync,
+    F: Fn(Visit<'_, R>) + Sync,
+    G: Fn(Visit<'_, R>) + Sync,
+    H: Fn(Visit<'_, R>) + Sync,
+    K: Fn() + Sync,
+    L: Fn() + Sync,
+    M: Fn() + Sync,
+    requires viewer { F.IsAlwaysCallable viewers.0.now }
+    requires refused_viewer { K.IsAlwaysCallable viewers.1.now }
+    requires peer { G.IsAlwaysCallable peers.0.now }
+    requires refused_peer { L.IsAlwaysCallable peers.1.now }
+    requires reader { H.IsAlwaysCallable readers.0.now }
+    requires refused_reader { M.IsAlwaysCallable readers.1.now }
+{
+    let (serve_viewer, refused_viewer) = viewers;
+    let (serve_peer, refused_peer) = peers;
+    let (serve_reader, refused_reader) = readers;
+    let (all, nodes) = listeners.admissions();
     thread::scope(
         thread::scope_env(),
         rt,
         |scope|
-            requires { F.IsAlwaysCallable serve_viewer.now × G.IsAlwaysCallable serve_peer.now × H.IsAlwaysCallable serve_reader.now × K.IsAlwaysCallable refused.now }
+            requires { F.IsAlwaysCallable serve_viewer.now × K.IsAlwaysCallable refused_viewer.now × G.IsAlwaysCallable serve_peer.now × L.IsAlwaysCallable refused_peer.now × H.IsAlwaysCallable serve_reader.now × M.IsAlwaysCallable refused_reader.now }
         {
-            if let Some(peers) = &listeners.peers {
+            if let Some(listener) = &listeners.peers {
                 let started = scope.spawn(
                     move ||
-                        requires { G.IsAlwaysCallable serve_peer.now × K.IsAlwaysCallable refused.now }
-                    { serve_beside(rt, serve_peer, refused, peers, listeners) },
+                        requires { G.IsAlwaysCallable serve_peer.now × L.IsAlwaysCallable refused_peer.now }
+                    {
+                        let both = (serve_peer, refused_peer);
+                        let _ = serve_beside(rt, alloc, both, listener, nodes, listeners);
+                    },
                 );
                 if started.is_err() {
-                    return Err(no_thread());
+                    return no_thread(listeners);
                 }
             }
-            if let Some(statistics) = &listeners.statistics {
+            if let Some(listener) = &listeners.statistics {
                 let started = scope.spawn(
                     move ||
-                        requires { H.IsAlwaysCallable serve_reader.now }
-                    { serve_beside(rt, serve_reader, nobody, statistics, listeners) },
+                        requires { H.IsAlwaysCallable serve_reader.now × M.IsAlwaysCallable refused_reader.now }
+                    {
+                        let both = (serve_reader, refused_reader);
+                        let _ = serve_beside(rt, alloc, both, listener, all, listeners);
+                    },
                 );
                 if started.is_err() {
-                    listeners.stop();
-                    return Err(no_thread());
+                    return no_thread(listeners);
                 }
             }
-            let ended = serve_each(rt, serve_viewer, refused, &listeners.viewers);
-            listeners.stop();
-            ended
+            let both = (serve_viewer, refused_viewer);
+            serve_beside(rt, alloc, both, &listeners.viewers, all, listeners)
         },
     )
 }

@@ -27,6 +27,9 @@ fn remedy(fault: LineFault) -> &'static str
         LineFault::Workers => "--workers is a number of threads, 1 to 16",
         LineFault::OpenFiles => "--open-files is a number of files, 1 to 65536",
         LineFault::Touch => "--touch-bytes is a number of bytes, 0 to 1099511627776",
+        LineFault::PeerTimeout => "--peer-timeout is a number of milliseconds, 10 to 60000",
+        LineFault::MinRate => "--min-rate is a number of bytes a second, 0 to 1099511627776",
+        LineFault::PerAddress => "--per-address is a number of connections, 0 to 64",
         LineFault::Image => {
             "at least one NAME=FILE, here or in the file of --images, with a name of 1 to 1024 bytes that stands once"
         }
@@ -36,7 +39,7 @@ fn remedy(fault: LineFault) -> &'static str
             "--peer is NAME=ADDR with a port at its end, at most 63 times; it and --name have names of 1 to 255 bytes that stand once"
         }
         LineFault::Mode => {
-            "one of --listen ADDR, --one TARGET and --check; --hex only with --one; --peer-listen, --log and --stats-listen only with --listen"
+            "one of --listen ADDR, --one TARGET and --check; --hex only with --one; --peer-listen, --log and --stats-listen only with --listen; --peer-only only with --peer-listen"
         }
         LineFault::NoMemory => "memory was refused: give the process more",
     }

@@ -1,6 +1,6 @@
 //! A link that fails and comes back, moment by moment.
 
-use iiif_breaker::{LinkRecord, Outcome, State};
+use iiif_breaker::{Change, Durations, LinkRecord, Outcome, State};
 use std::rt::HostRuntime;
 
 /// Whether a link is asked at a moment, and that ask ends so.
@@ -93,4 +93,26 @@ fn one_asks_a_period_and_late_faults_change_nothing(rt: HostRuntime) {
     assert!(rt; link.may_ask(7_100) == Some(1));
     let asks = link.asks();
     assert!(rt; asks.timed_out == 2 && asks.skipped == 2 && asks.answered == 0 && asks.failed == 0);
+}
+
+#[test]
+fn turns_are_told_and_refusals_counted_apart(rt: HostRuntime) {
+    let mut link = LinkRecord::new();
+    assert!(rt; link.report(100, 0, Outcome::TimedOut) == Some(Change::LeftAlone));
+    assert!(rt; link.report(101, 1, Outcome::TimedOut).is_none());
+    assert!(rt; link.report(200, 1, Outcome::Refused) == Some(Change::AskedAgain));
+    assert!(rt; link.report(201, 1, Outcome::Answered).is_none());
+    let asks = link.asks();
+    assert!(rt; asks.timed_out == 2 && asks.refused == 1 && asks.answered == 1 && asks.failed == 0);
+}
+
+#[test]
+fn durations_count_in_each_bucket_that_is_long_enough(rt: HostRuntime) {
+    let mut durations = Durations::new();
+    durations.count(1_000);
+    durations.count(1_001);
+    durations.count(600_000);
+    durations.count(20_000_000);
+    assert!(rt; durations.within == [1, 2, 2, 2, 2, 2, 3, 3]);
+    assert!(rt; durations.all == 4 && durations.micros == 20_602_001);
 }

@@ -1,49 +1,51 @@
 //! A service for tests.
 
-use iiif_listener::Serve;
+use iiif_listener::{Serve, Visit};
 use std::alloc::Global;
 use std::io::{Read, Write};
 use std::net::{Net, TcpListener, TcpStream};
+use std::sync::Wait;
 use std::sync::atomic::{AtomicU64, Ordering};
 use std::time::Duration;
 
 /// How long a viewer may send or take nothing, in milliseconds.
 const IDLE: u64 = 2000;
 
-/// Greets with a byte, and sends back one byte after another until the viewer ends or is silent. To the byte `L` it sends a mebibyte
-/// 64 times.
+/// Greets with a byte, and sends back one byte after another until the viewer ends or is silent.
 #[derive(Drop)]
 pub struct Echo {
     /// How many connections were served.
     pub served: AtomicU64,
+    /// How many were closed unanswered.
+    pub turned_away: AtomicU64,
 }
 
 impl Echo {
     pub(crate) fn new() -> Echo {
         Echo {
             served: AtomicU64::new(0),
+            turned_away: AtomicU64::new(0),
         }
     }
 
-    /// How many connections were served so far.
-    pub(crate) fn count(&self) -> u64 {
-        self.served.load(Ordering::SeqCst)
+    /// How many connections were served so far, and how many weren't.
+    pub(crate) fn counts(&self) -> (u64, u64) {
+        let served = self.served.load(Ordering::SeqCst);
+        (served, self.turned_away.load(Ordering::SeqCst))
     }
 }
 
-/// Sends a long answer.
-fn send_long(stream: &mut TcpStream) -> bool {
-    let block = [b'x'; 65_536];
-    for _ in 0..1024u32 {
-        if stream.write_all(&block).is_err() {
-            return false;
-        }
+impl<R: Wait> Serve<R> for Echo {
+    fn refused(&self, _rt: &R) {
+        self.turned_away.fetch_add(1, Ordering::SeqCst);
     }
-    true
-}
 
-impl<R> Serve<R> for Echo {
-    fn serve(&self, _rt: &R, _alloc: Global, mut stream: TcpStream) {
+    fn serve(&self, _rt: &R, _alloc: Global, visit: Visit<'_, R>) {
+        // The place is kept until the connection has ended.
+        let Visit {
+            mut stream,
+            place: _place,
+        } = visit;
         let _ = stream.set_read_timeout(Some(Duration::from_millis(IDLE)));
         let _ = stream.set_write_timeout(Some(Duration::from_millis(IDLE)));
         self.served.fetch_add(1, Ordering::SeqCst);
@@ -54,9 +56,6 @@ impl<R> Serve<R> for Echo {
         for _ in 0..1000u32 {
             match stream.read(&mut byte) {
                 Ok(1) => {
-                    if byte[0] == b'L' && !send_long(&mut stream) {
-                        return;
-                    }
                     if stream.write_all(&byte).is_err() {
                         return;
                     }

@@ -1,28 +1,24 @@
 //! Many connections at once.
 
 use crate::echo::{Echo, greeted};
-use iiif_listener::{serve_listener, serve_listeners, stop};
+use iiif_listener::{Admission, serve_listener, stop};
 use std::alloc::Global;
-use std::io::{ErrorKind, Read, Write};
-use std::net::{Net, TcpListener, TcpStream};
+use std::io::ErrorKind;
+use std::net::{IpAddr, Ipv4Addr, Net, TcpListener, TcpStream};
 use std::sync::Wait;
 use std::thread::Threads;
 use std::time::{Clock, Duration};
 use std::{io, thread};
 
-/// What happens while listeners are served.
+/// What happens while a listener is served.
 #[derive(Clone, Copy)]
 enum Scene {
-    /// One listener: 64 viewers stay, one more comes, and one when they are gone.
-    Crowd,
-    /// One listener that waits for nobody, and fails each time that nobody has come: a viewer comes in a while.
+    /// So many viewers stay, as many as there may be, one more comes, and one when they are gone.
+    Crowd(u32),
+    /// It waits for nobody, and fails each time that nobody has come: a viewer comes in a while.
     Failing,
-    /// Two listeners, of which the first is stopped.
-    First,
-    /// Two listeners, of which the second is stopped.
-    Second,
-    /// Viewers come to the first of two listeners, one of whom stops reading, and a peer to the second.
-    Stalled,
+    /// A viewer comes from an address that isn't known.
+    Unknown,
 }
 
 /// What is seen of a scene.
@@ -30,12 +26,10 @@ enum Scene {
 enum Seen {
     /// Nobody came, or a connection failed.
     Nothing,
-    /// Of 64 connections so many are greeted; whether one more isn't; whether one is again, once they are closed.
+    /// Of so many connections so many are greeted; whether one more isn't; whether one is again, once they are closed.
     Crowd(u32, bool, bool),
     /// A viewer was greeted.
     Greeted,
-    /// What a viewer got, and whether a peer was greeted.
-    Byte(u8, bool),
 }
 
 /// Whether a server ended as one does whose listener was stopped.
@@ -102,14 +96,15 @@ fn is_closed<R: Net<Listener = TcpListener, Stream = TcpStream>>(
     }
 }
 
-/// Of 64 connections that stay open how many are greeted, and whether one more isn't.
+/// Of so many connections that stay open how many are greeted, and whether one more isn't.
 fn stay_and_close<R: Net<Listener = TcpListener, Stream = TcpStream>>(
     rt: &R,
     alloc: Global,
     listener: &TcpListener,
+    most: u32,
 ) -> (u32, bool) {
     let mut open = Vec::new(alloc);
-    let count = stay(rt, listener, &mut open, 64);
+    let count = stay(rt, listener, &mut open, most);
     (count, is_closed(rt, listener))
 }
 
@@ -118,8 +113,9 @@ fn crowd<R: Net<Listener = TcpListener, Stream = TcpStream> + Clock>(
     rt: &R,
     alloc: Global,
     listener: &TcpListener,
+    most: u32,
 ) -> Seen {
-    let (count, refused) = stay_and_close(rt, alloc, listener);
+    let (count, refused) = stay_and_close(rt, alloc, listener, most);
     thread::sleep(rt, Duration::from_millis(200));
     Seen::Crowd(count, refused, visit(rt, listener).is_some())
 }
@@ -136,110 +132,65 @@ fn late<R: Net<Listener = TcpListener, Stream = TcpStream> + Clock>(
     }
 }
 
-/// What a viewer gets that asks for a byte.
-fn answer_to(viewer: &mut TcpStream) -> Option<u8> {
-    let mut byte = [0u8; 1];
-    if viewer.write_all(b"v").is_ok() && viewer.read_exact(&mut byte).is_ok() {
-        Some(byte[0])
-    } else {
-        None
-    }
-}
-
-/// What a viewer gets that asks for a byte, and whether a peer is greeted meanwhile.
-fn beside<R: Net<Listener = TcpListener, Stream = TcpStream>>(
-    rt: &R,
-    viewers: &TcpListener,
-    peers: &TcpListener,
-) -> Seen {
-    let Some(mut viewer) = visit(rt, viewers) else {
-        return Seen::Nothing;
-    };
-    match answer_to(&mut viewer) {
-        Some(byte) => Seen::Byte(byte, visit(rt, peers).is_some()),
-        None => Seen::Nothing,
-    }
-}
-
-/// What is seen of a viewer and a peer while another viewer is silent.
-fn beside_a_silent_one<R: Net<Listener = TcpListener, Stream = TcpStream>>(
-    rt: &R,
-    viewers: &TcpListener,
-    peers: &TcpListener,
-) -> Seen {
-    match visit(rt, viewers) {
-        Some(_silent) => beside(rt, viewers, peers),
-        None => Seen::Nothing,
-    }
-}
-
-/// The same while one more asks for much and reads nothing of it.
-fn beside_a_stalled_one<R: Net<Listener = TcpListener, Stream = TcpStream>>(
-    rt: &R,
-    viewers: &TcpListener,
-    peers: &TcpListener,
-) -> Seen {
-    let Some(mut stalled) = visit(rt, viewers) else {
-        return Seen::Nothing;
-    };
-    if stalled.write_all(b"L").is_err() {
-        return Seen::Nothing;
-    }
-    beside_a_silent_one(rt, viewers, peers)
-}
-
-/// What is seen of a scene. At its end a listener is stopped.
+/// What is seen of a scene. At its end the listener is stopped.
 fn play<R: Net<Listener = TcpListener, Stream = TcpStream> + Clock>(
     rt: &R,
     alloc: Global,
     scene: Scene,
-    first: &TcpListener,
-    second: &TcpListener,
+    listener: &TcpListener,
 ) -> Seen {
     let seen = match scene {
-        Scene::Crowd => crowd(rt, alloc, first),
-        Scene::Failing => late(rt, first),
-        Scene::First | Scene::Second => Seen::Nothing,
-        Scene::Stalled => beside_a_stalled_one(rt, first, second),
+        Scene::Crowd(most) => crowd(rt, alloc, listener, most),
+        Scene::Failing => late(rt, listener),
+        Scene::Unknown => {
+            if is_closed(rt, listener) {
+                Seen::Nothing
+            } else {
+                Seen::Greeted
+            }
+        }
     };
-    match scene {
-        Scene::Second => stop(second),
-        _ => stop(first),
-    }
+    stop(listener);
     seen
 }
 
-/// Serves the first listener, or both, and says whether that ends as it does where one is stopped.
+/// Who may come in a scene: as many as stay of one address, where they are fewer than there are places.
+fn admission(scene: Scene) -> Admission<'static> {
+    match scene {
+        Scene::Crowd(most) if most < 64 => Admission {
+            per_address: most as usize,
+            known: None,
+        },
+        Scene::Unknown => Admission {
+            per_address: 0,
+            known: Some(&[IpAddr::V4(Ipv4Addr::BROADCAST)]),
+        },
+        _ => Admission {
+            per_address: 0,
+            known: None,
+        },
+    }
+}
+
+/// Serves the listener, and says whether that ends as it does where it is stopped.
 fn serve<R: Net<Listener = TcpListener, Stream = TcpStream> + Threads + Wait + Clock + Sync>(
     rt: &R,
     alloc: Global,
     scene: Scene,
     echo: &Echo,
-    first: &TcpListener,
-    second: &TcpListener,
+    listener: &TcpListener,
 ) -> bool {
-    let ended = match scene {
-        Scene::Crowd | Scene::Failing => serve_listener(rt, alloc, echo, first),
-        _ => serve_listeners(rt, alloc, (echo, first), (echo, second)),
-    };
-    was_stopped(&ended)
+    was_stopped(&serve_listener(rt, alloc, echo, listener, admission(scene)))
 }
 
-/// Whether listeners that are served during a scene end as stopped ones, and what is seen of it.
+/// Whether a listener that is served during a scene ends as a stopped one, and what is seen of it.
 fn served_during<
     R: Net<Listener = TcpListener, Stream = TcpStream> + Threads + Wait + Clock + Sync,
->(
-    rt: &R,
-    alloc: Global,
-    scene: Scene,
-    echo: &Echo,
-    first: &TcpListener,
-    second: &TcpListener,
-) -> (bool, Seen) {
+>(rt: &R, alloc: Global, scene: Scene, echo: &Echo, listener: &TcpListener) -> (bool, Seen) {
     thread::join(
         rt,
-        || serve(rt, alloc, scene, echo, first, second),
-        || play(rt, alloc, scene, first, second),
+        || serve(rt, alloc, scene, echo, listener),
+        || play(rt, alloc, scene, listener),
     )
 }
 
@@ -257,18 +208,17 @@ fn listener<R: Net<Listener = TcpListener, Stream = TcpStream>>(
     Some(listener)
 }
 
-/// What is seen of a scene whose listeners end as stopped ones, and how many connections were served.
+/// What is seen of a scene whose listener ends as a stopped one, and how many connections were served and how many weren't.
 fn seen_of<R: Net<Listener = TcpListener, Stream = TcpStream> + Threads + Wait + Clock + Sync>(
     rt: &R,
     alloc: Global,
     scene: Scene,
-) -> Option<(Seen, u64)> {
-    let first = listener(rt, scene)?;
-    let second = listener(rt, scene)?;
+) -> Option<(Seen, (u64, u64))> {
+    let listener = listener(rt, scene)?;
     let echo = Echo::new();
-    let (stopped, seen) = served_during(rt, alloc, scene, &echo, &first, &second);
+    let (stopped, seen) = served_during(rt, alloc, scene, &echo, &listener);
     if stopped {
-        Some((seen, echo.count()))
+        Some((seen, echo.counts()))
     } else {
         None
     }
@@ -276,27 +226,24 @@ fn seen_of<R: Net<Listener = TcpListener, Stream = TcpStream> + Threads + Wait +
 
 #[test]
 fn sixty_four_are_served_and_one_more_is_closed(rt: HostRuntime) {
-    let seen = seen_of(&rt, rt.alloc(), Scene::Crowd);
-    assert!(rt; matches!(seen, Some((Seen::Crowd(64, true, true), 65))));
+    let seen = seen_of(&rt, rt.alloc(), Scene::Crowd(64));
+    assert!(rt; matches!(seen, Some((Seen::Crowd(64, true, true), (65, 1)))));
+}
+
+#[test]
+fn three_of_an_address_are_served_and_one_more_is_closed(rt: HostRuntime) {
+    let seen = seen_of(&rt, rt.alloc(), Scene::Crowd(3));
+    assert!(rt; matches!(seen, Some((Seen::Crowd(3, true, true), (4, 1)))));
+}
+
+#[test]
+fn who_is_not_known_is_closed(rt: HostRuntime) {
+    let seen = seen_of(&rt, rt.alloc(), Scene::Unknown);
+    assert!(rt; matches!(seen, Some((Seen::Nothing, (0, 1)))));
 }
 
 #[test]
 fn listener_that_failed_again_and_again_takes_the_next(rt: HostRuntime) {
     let seen = seen_of(&rt, rt.alloc(), Scene::Failing);
-    assert!(rt; matches!(seen, Some((Seen::Greeted, 1))));
-}
-
-/// Of the viewers one is stalled, one silent and one asks, beside one peer: four connections.
-#[test]
-fn viewer_that_stops_reading_holds_nobody(rt: HostRuntime) {
-    let seen = seen_of(&rt, rt.alloc(), Scene::Stalled);
-    assert!(rt; matches!(seen, Some((Seen::Byte(b'v', true), 4))));
-}
-
-#[test]
-fn each_listener_stops_the_other(rt: HostRuntime) {
-    for scene in [Scene::First, Scene::Second] {
-        let seen = seen_of(&rt, rt.alloc(), scene);
-        assert!(rt; matches!(seen, Some((Seen::Nothing, 0))));
-    }
+    assert!(rt; matches!(seen, Some((Seen::Greeted, (1, 0)))));
 }

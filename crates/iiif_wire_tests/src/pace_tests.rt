@@ -2,10 +2,12 @@
 
 use crate::echo::connected;
 use iiif_io::{Inlet, Outlet};
-use iiif_listener::{Company, Flow, Pace, PacedReader, PacedWriter, Rate, Warm, close};
+use iiif_listener::{
+    Company, Flow, Pace, PacedReader, PacedWriter, Places, Rate, Visit, Warm, close,
+};
 use std::alloc::Global;
 use std::io::{Read, Write};
-use std::net::{Net, TcpListener, TcpStream};
+use std::net::{IpAddr, Ipv4Addr, Net, TcpListener, TcpStream};
 use std::sync::Wait;
 use std::thread;
 use std::thread::Threads;
@@ -21,13 +23,14 @@ fn company_of(count: u32) -> Company {
 }
 
 /// How many single bytes are read before the time is over, each answered where `answers` is set, of one of so many connections.
-fn read_drops<R: Clock>(
+fn read_drops<R: Clock + Wait>(
     rt: &R,
     alloc: Global,
-    stream: TcpStream,
+    visit: Visit<'_, R>,
     answers: bool,
     open: u32,
 ) -> Option<u32> {
+    let Visit { stream, place } = visit;
     let company = company_of(open);
     let Ok(pace) = Pace::new(rt, Duration::from_millis(500)) else {
         return None;
@@ -50,6 +53,7 @@ fn read_drops<R: Clock>(
         rt,
         pace: &pace,
         idle: Duration::from_millis(400),
+        place: &place,
         company: &company,
         warm: Warm::new(alloc),
     };
@@ -83,9 +87,10 @@ fn drip<R: Clock>(rt: &R, viewer: &mut TcpStream, pause: u64) {
 }
 
 /// Answers without reading, and closes.
-fn answer_unread<R: Clock>(rt: &R, mut stream: TcpStream) {
+fn answer_unread<R: Clock + Wait>(rt: &R, visit: Visit<'_, R>) {
+    let Visit { mut stream, place } = visit;
     if stream.write_all(b"answer").is_ok() {
-        close(rt, stream);
+        close(rt, &place, stream);
     }
 }
 
@@ -123,11 +128,13 @@ enum Viewer {
 type Seen = (Option<u32>, Option<(usize, [u8; 8])>);
 
 /// How many single bytes of a viewer are read, where it drips.
-fn serve<R: Clock + AllocGlobal>(rt: &R, stream: TcpStream, viewer: Viewer) -> Option<u32> {
+fn serve<R: Clock + Wait + AllocGlobal>(rt: &R, stream: TcpStream, viewer: Viewer) -> Option<u32> {
+    let places = Places::new(rt.alloc(), 0).ok()?;
+    let visit = places.enter(rt, stream, IpAddr::V4(Ipv4Addr::LOCALHOST))?;
     match viewer {
-        Viewer::Drips(_, answers, open) => read_drops(rt, rt.alloc(), stream, answers, open),
+        Viewer::Drips(_, answers, open) => read_drops(rt, rt.alloc(), visit, answers, open),
         Viewer::AsksMuch => {
-            answer_unread(rt, stream);
+            answer_unread(rt, visit);
             None
         }
     }

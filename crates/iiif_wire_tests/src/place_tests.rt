@@ -1,44 +1,132 @@
-//! Places, and what a listener does that failed.
+//! Places, who is given one, and what a listener does that failed.
 
 use crate::echo::connected;
-use iiif_listener::{Places, Retry, Taken, after_failure};
+use iiif_listener::{
+    Admission, Places, Retry, Seat, Standing, Table, Ticket, address_of, after_failure,
+    longest_idle,
+};
+use std::alloc::Global;
 use std::io::{ErrorKind, Read};
-use std::net::{Net, TcpListener, TcpStream};
+use std::net::{IpAddr, Ipv4Addr, Net, TcpListener, TcpStream};
 use std::sync::Wait;
+use std::test::Fail;
 use std::thread;
 use std::thread::{Builder, Threads};
 use std::time::Duration;
 
-#[test]
-fn sixty_four_places(rt: HostRuntime) {
-    let mut taken = Taken::new();
-    let mut free = 0u32;
-    for _ in 0..70u32 {
-        if taken.take() {
-            free = free.saturating_add(1);
+/// The tickets of so many connections of one address, of which each may have any number of places.
+fn entered(alloc: Global, table: &mut Table, count: u32) -> Result<Vec<Ticket>, Fail> {
+    let mut tickets = Vec::new(alloc);
+    for _ in 0..count {
+        if let Some(ticket) = table.enter(1, 0) {
+            tickets.push(ticket)?;
         }
     }
-    assert!(rt; free == 64 && taken.count() == 64, "{free}");
-    taken.give_back();
-    assert!(rt; taken.count() == 63 && taken.take() && !taken.take());
-}
-
-/// Whether two places are taken, and how many are before and after each of them is dropped.
-fn taken_by_two<R: Wait>(rt: &R) -> (bool, [u32; 3]) {
-    let places = Places::new();
-    let first = places.take(rt);
-    let second = places.take(rt);
-    let both = first.is_some() && second.is_some();
-    let two = places.taken(rt);
-    drop(first);
-    let one = places.taken(rt);
-    drop(second);
-    (both, [two, one, places.taken(rt)])
+    Ok(tickets)
 }
 
 #[test]
-fn dropped_place_is_free_again(rt: HostRuntime) {
-    assert!(rt; taken_by_two(&rt) == (true, [2, 1, 0]));
+fn sixty_four_places(rt: HostRuntime) -> Result<(), Fail> {
+    let mut table = Table::new();
+    let tickets = entered(rt.alloc(), &mut table, 70)?;
+    assert!(rt; tickets.len() == 64 && table.taken() == 64);
+    let gone = *tickets.get(7).ok_or("no ticket")?;
+    assert!(rt; table.leave(gone) && table.taken() == 63 && !table.keeps(gone));
+    assert!(rt; table.enter(2, 0).is_some() && table.enter(2, 0).is_none());
+    Ok(())
+}
+
+/// Of 64 connections the second waits longest; the first waited longer, and is at work again.
+#[test]
+fn who_waits_longest_makes_room(rt: HostRuntime) -> Result<(), Fail> {
+    let mut table = Table::new();
+    let tickets = entered(rt.alloc(), &mut table, 64)?;
+    let (first, second, third) = match tickets.as_slice() {
+        [first, second, third, ..] => (*first, *second, *third),
+        _ => return Err(Fail::from("no tickets")),
+    };
+    assert!(rt; table.rest(first) && table.rest(second) && table.rest(third) && table.work(first));
+    let one_more = table.enter(2, 0).ok_or("no place")?;
+    assert!(rt; table.keeps(first) && !table.keeps(second) && table.keeps(third));
+    assert!(rt; !table.work(second) && !table.leave(second) && table.keeps(one_more));
+    assert!(rt; table.enter(2, 0).is_some() && !table.keeps(third) && table.enter(2, 0).is_none());
+    Ok(())
+}
+
+#[test]
+fn an_address_has_as_many_as_it_may(rt: HostRuntime) -> Result<(), Fail> {
+    let mut table = Table::new();
+    let first = table.enter(1, 2).ok_or("no place")?;
+    assert!(rt; table.enter(1, 2).is_some() && table.enter(1, 2).is_none());
+    assert!(rt; table.enter(2, 2).is_some() && table.leave(first) && table.enter(1, 2).is_some());
+    Ok(())
+}
+
+/// A place whose connection does this.
+fn seat(standing: Standing) -> Seat {
+    Seat {
+        number: 1,
+        address: 1,
+        standing,
+    }
+}
+
+#[test]
+fn the_longest_idle(rt: HostRuntime) {
+    let seats = [
+        seat(Standing::Free),
+        seat(Standing::Idle(9)),
+        seat(Standing::AtWork),
+        seat(Standing::Idle(4)),
+        seat(Standing::Idle(4)),
+    ];
+    assert!(rt; longest_idle(&seats) == Some(3) && longest_idle(&seats[..2]) == Some(1));
+    assert!(rt; longest_idle(&seats[..1]).is_none() && longest_idle(&[]).is_none());
+}
+
+/// Addresses, and whether connections of both are counted together.
+static ADDRESSES: [(&str, &str, bool); 5] = [
+    ("10.0.0.1", "10.0.0.1", true),
+    ("10.0.0.1", "10.0.0.2", false),
+    ("10.0.0.1", "::ffff:10.0.0.1", true),
+    ("2001:db8::1", "2001:db8::2", true),
+    ("2001:db8::1", "2001:db8:0:1::1", false),
+];
+
+#[test]
+fn addresses_of_one(rt: HostRuntime) -> Result<(), Fail> {
+    for (one, other, same) in ADDRESSES.iter() {
+        let one: IpAddr = one.parse().map_err(|_| "no address")?;
+        let other: IpAddr = other.parse().map_err(|_| "no address")?;
+        assert!(rt; (address_of(one) == address_of(other)) == *same);
+    }
+    Ok(())
+}
+
+#[test]
+fn known_addresses(rt: HostRuntime) -> Result<(), Fail> {
+    let (one, other) = ("10.0.0.1", "::ffff:10.0.0.1");
+    let one: IpAddr = one.parse().map_err(|_| "no address")?;
+    let other: IpAddr = other.parse().map_err(|_| "no address")?;
+    let known = [one];
+    for (known, from, is_known) in [
+        (None, one, true),
+        (Some(known.as_slice()), one, true),
+        (Some(known.as_slice()), other, true),
+        (
+            Some(known.as_slice()),
+            IpAddr::V4(Ipv4Addr::LOCALHOST),
+            false,
+        ),
+        (Some([].as_slice()), one, false),
+    ] {
+        let admission = Admission {
+            per_address: 0,
+            known,
+        };
+        assert!(rt; admission.is_known(from) == is_known);
+    }
+    Ok(())
 }
 
 /// A failure's kind, and what is done.
@@ -60,18 +148,18 @@ fn listener_that_failed_goes_on_unless_it_is_stopped(rt: HostRuntime) {
     }
 }
 
+/// Where all connections of a test come from.
+const HERE: IpAddr = IpAddr::V4(Ipv4Addr::LOCALHOST);
+
 /// A connection whose thread is refused: whether it was started, and the places that are then taken.
-fn refused<R: Threads + Wait + Sync>(rt: &R, places: &Places, stream: TcpStream) -> (bool, u32) {
-    let Some(place) = places.take(rt) else {
+fn refused<R: Threads + Wait + Sync>(rt: &R, places: &Places, stream: TcpStream) -> (bool, usize) {
+    let Some(visit) = places.enter(rt, stream, HERE) else {
         return (false, 64);
     };
     let started = thread::scope(thread::scope_env(), rt, |scope| {
         Builder::new()
             .stack_size(usize::MAX)
-            .spawn_scoped(scope, move || {
-                drop(stream);
-                drop(place);
-            })
+            .spawn_scoped(scope, move || drop(visit))
             .is_ok()
     });
     (started, places.taken(rt))
@@ -95,16 +183,16 @@ fn is_closed(viewer: &mut TcpStream) -> bool {
 /// Whether a connection whose thread is refused is closed.
 fn is_closed_where_refused<
     R: Net<Listener = TcpListener, Stream = TcpStream> + Threads + Wait + Sync,
->(rt: &R) -> bool {
-    match connected(rt) {
-        Some((mut viewer, stream)) => {
-            refused(rt, &Places::new(), stream) == (false, 0) && is_closed(&mut viewer)
+>(rt: &R, alloc: Global) -> bool {
+    match (connected(rt), Places::new(alloc, 0)) {
+        (Some((mut viewer, stream)), Ok(places)) => {
+            refused(rt, &places, stream) == (false, 0) && is_closed(&mut viewer)
         }
-        None => false,
+        _ => false,
     }
 }
 
 #[test]
 fn connection_without_a_thread_is_closed(rt: HostRuntime) {
-    assert!(rt; is_closed_where_refused(&rt));
+    assert!(rt; is_closed_where_refused(&rt, rt.alloc()));
 }

@@ -1,0 +1,22 @@
+//! What a listener knows of a connection.
+
+/// What a connection does at its place.
+#[derive(Clone, Copy, Debug, PartialEq, Eq)]
+pub enum Standing {
+    /// No connection is there.
+    Free,
+    /// A request of it is read or answered, or it is closed.
+    AtWork,
+    /// It waits for the first byte of a request, since that turn of its listener's table.
+    Idle(u64),
+}
+
+/// A place, and the connection that has it.
+#[derive(Clone, Copy, Debug, PartialEq, Eq)]
+pub struct Seat {
+    /// What tells the connection from those that had the place before. 0 where it is free.
+    pub number: u64,
+    /// Where it comes from, as [`crate::address_of`] has it.
+    pub address: u128,
+    pub standing: Standing,
+}

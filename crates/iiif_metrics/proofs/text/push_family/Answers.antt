@@ -1,0 +1,5 @@
+use Rattle.std.proofs.Common.{append_assoc}
+use Rattle.iiif_metrics.proofs.text.push_family.Goals as goal
+
+pub returns : goal.returns
+returns c = rw (c.in_ok-push_samples.ensures, c.in_ok-push_type.ensures, c.in_ok-push_help.ensures) (simp append_assoc)

@@ -1,0 +1,18 @@
+-- All that is told to who asks for the counters.
+use Rattle.std.specs.Prelude.{ℕ, List, ◌++◌, codes}
+use Rattle.iiif_metrics.specs.Exposition.{answer_family, cache_families, families_text, family_text, held_families, open_family, refused_family, server_families}
+use Rattle.iiif_metrics.specs.Links.{links_text, seconds_text}
+use Rattle.iiif_metrics.specs.declared.metrics.PeerMetrics.{PeerMetrics}
+use Rattle.iiif_metrics.specs.declared.metrics.Metrics.{Metrics}
+
+abbrev pub text_of : Metrics → PeerMetrics → List ℕ
+text_of m p =
+    families_text (cache_families (codes "iiif_tile_cache_") m.tiles)
+    ++ families_text (cache_families (codes "iiif_sum_cache_") m.sums)
+    ++ families_text (held_families (codes "iiif_held_") m.held)
+    ++ family_text (open_family m.counts.open_now)
+    ++ family_text (refused_family m.counts.refused)
+    ++ families_text (server_families (codes "iiif_") m.counts)
+    ++ family_text (answer_family m.counts.whole)
+    ++ seconds_text p.durations
+    ++ links_text p.links.items

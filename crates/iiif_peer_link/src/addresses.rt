@@ -1,0 +1,70 @@
+//! The addresses of a node.
+
+ghost use Rattle.std.specs.Prelude.{◌≡◌, ◌<◌, [], length, slice_get};
+ghost use Rattle.iiif_peer_link.specs.Places.{left_at, next_place};
+
+use std::alloc::Global;
+use std::net::SocketAddr;
+
+/// What a node's name stood for where it was looked up last, and which of these addresses is asked.
+#[derive(Drop)]
+pub struct Addresses {
+    found: Vec<SocketAddr>,
+    place: usize,
+}
+
+/// The place behind this one, and behind the last the first.
+fn next_place(place: usize, count: usize) -> usize
+    ensures { result ≡ next_place place count }
+{
+    match count.checked_sub(place) {
+        Some(left) if left > 1 => place + 1,
+        _ => 0,
+    }
+}
+
+impl Addresses {
+    /// None is known yet.
+    pub fn unknown(alloc: Global) -> Addresses
+        ensures { result.found.items ≡ [] }
+    {
+        Addresses {
+            found: Vec::new(alloc),
+            place: 0,
+        }
+    }
+
+    /// The place of the one that is asked.
+    pub fn place(&self) -> usize
+        ensures { result ≡ self.now.place }
+    {
+        self.place
+    }
+
+    /// The one that is asked, where any is known.
+    pub fn asked(&self) -> Option<SocketAddr>
+        ensures { result ≡ slice_get self.now.found.items self.now.place }
+    {
+        self.found.get(self.place).copied()
+    }
+
+    /// Leaves the one at a place, where an ask failed, for the next, unless another one is asked already.
+    pub fn leave(&mut self, place: usize)
+        ensures { self.new ≡ left_at self.old place }
+    {
+        if self.place == place {
+            self.place = next_place(place, self.found.len());
+        }
+    }
+
+    /// What was found takes the place of what was known.
+    pub fn renew(&mut self, found: Vec<SocketAddr>)
+        ensures found { self.new.found ≡ found }
+        ensures asked { 0 < length found.items → self.new.place < length found.items }
+    {
+        if self.place >= found.len() {
+            self.place = 0;
+        }
+        self.found = found;
+    }
+}
