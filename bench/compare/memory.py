@@ -9,8 +9,6 @@ ENTRIES = 4 * 4096
 PROGRAM = 4 * MIB
 # What the C library keeps for each thread of the memory that was given back.
 KEPT = 24 * MIB
-# So many blocks are asked ahead for each worker, where there are several: those of bands that follow.
-FOR_EACH = 8
 # The C library maps a block of at least so many bytes in pages of its own: up to so many bytes more than it was asked for.
 MAPPED, PAGE = 128 * 2 ** 10, 4096 + 16
 # So many bytes of rows wait at most to be written with those of the next band.
@@ -62,10 +60,7 @@ def bound(channels, depth, image, rect, size, edge=256, cache=64 * MIB, band=64,
     else:
         blocks = [8 * most for most in levels(channels, image, rect, size, edge)]
         counts = [squares(edge << level)[0] for level in range(len(blocks))]
-        all_blocks, of_band = squares(edge << len(blocks) - 1)
-        enough = workers * FOR_EACH if workers > 1 else 0
-        held = of_band if of_band >= enough else min(all_blocks, enough + of_band)
-        made, items = 2 * sample + 8, held * blocks[-1]
+        made, items = 2 * sample + 8, squares(edge << len(blocks) - 1)[1] * blocks[-1]
         sums, values = sum(count * most for count, most in zip(counts, blocks)), tiles + sum(counts)
         own += pages(zip(counts, blocks), cache)
         tile += sum(blocks)

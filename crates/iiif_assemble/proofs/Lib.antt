@@ -9,5 +9,5 @@ pub mod HeldLemmas
 pub mod WholeLemmas
 pub mod JobLemmas
 pub mod GrowLemmas
-pub mod AheadLemmas
+pub mod KeptLemmas
 pub mod TileLemmas

@@ -16,6 +16,12 @@ IsBandFault tile tile_failed sum sum_failed (Copy keys) items fault = IsItemFaul
 IsBandFault tile tile_failed sum sum_failed (Grow keys) items fault = IsItemFault tile tile_failed keys.items items fault
 IsBandFault tile tile_failed sum sum_failed (Sum keys) items fault = IsItemFault sum sum_failed keys.items items fault
 
+-- the same of a plan of blocks alone
+abbrev pub IsSumsFault : (SumKey → SumVal → Type 0) → (SumKey → Fault → Type 0) → Plan → List ℕ → Fault → Type 0
+IsSumsFault sum sum_failed (Copy keys) items fault = ⊥
+IsSumsFault sum sum_failed (Grow keys) items fault = ⊥
+IsSumsFault sum sum_failed (Sum keys) items fault = IsItemFault sum sum_failed keys.items items fault
+
 -- the same of all items of a plan
 abbrev pub IsPlanFault : (TileKey → TileVal → Type 0) → (TileKey → Fault → Type 0) → (SumKey → SumVal → Type 0) → (SumKey → Fault → Type 0) → Plan → Fault → Type 0
 IsPlanFault tile tile_failed sum sum_failed (Copy keys) fault = IsItemFault tile tile_failed keys.items (range_with_len 0 (length keys.items)) fault

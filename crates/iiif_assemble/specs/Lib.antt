@@ -2,5 +2,5 @@ pub mod Gathering
 pub mod Jobs
 pub mod Faults
 pub mod Code
-pub mod Ahead
+pub mod Kept
 pub mod Lone

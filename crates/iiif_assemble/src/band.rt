@@ -26,6 +26,7 @@ use iiif_pixel::laws::{bands_follow, quality_of_crop, whole_stays_whole};
 use iiif_pixel::{Quality, Rect, Turn, unturn_rect};
 use iiif_planner::Plan;
 use std::alloc::Global;
+use std::sync::Wait;
 use std::thread::Threads;
 
 /// The part in `from` of the scaled result.
@@ -33,7 +34,7 @@ fn scaled_part<
     T: Items<TileKey, TileVal, P, R> + Sync,
     S: Items<SumKey, SumVal, P, R> + Sync,
     P: Send,
-    R: Threads + Sync,
+    R: Threads + Wait + Sync,
 >(
     rt: &R,
     alloc: Global,
@@ -117,7 +118,7 @@ pub fn assemble_band<
     T: Items<TileKey, TileVal, P, R> + Sync,
     S: Items<SumKey, SumVal, P, R> + Sync,
     P: Send,
-    R: Threads + Sync,
+    R: Threads + Wait + Sync,
 >(
     rt: &R,
     alloc: Global,
@@ -163,7 +164,7 @@ pub fn assemble<
     T: Items<TileKey, TileVal, P, R> + Sync,
     S: Items<SumKey, SumVal, P, R> + Sync,
     P: Send,
-    R: Threads + Sync,
+    R: Threads + Wait + Sync,
 >(rt: &R, alloc: Global, tiles: &T, sums: &S, passes: &mut [P], job: &Job) -> Result<Made, Fault>
     requires some { 0 < length passes.old }
     requires job { IsJob job.now }

@@ -1,6 +1,6 @@
 //! The items of a band, asked by several workers.
 
-ghost use Rattle.std.specs.Prelude.{◌≡◌, ℕ, ◌<◌, ◌≤◌, ◌++◌, ◌∷◌, [], List, All, IfOk, IfErr, OnOk, OnErr, length, map};
+ghost use Rattle.std.specs.Prelude.{◌≡◌, ℕ, ◌+◌, ◌<◌, ◌≤◌, ◌++◌, ◌∷◌, [], List, All, IfOk, IfErr, IfSome, IsNone, OnOk, OnErr, length, map, take, vec_len};
 ghost use Rattle.std.specs.Arc.{arc_value};
 ghost use Rattle.iiif_keys.specs.declared.fault.Fault.TheVariants as Fault;
 ghost use Rattle.iiif_assemble.specs.Gathering.{AreValues, IsItemFault};
@@ -8,8 +8,9 @@ ghost use denote.Param.Send.{IsSync};
 
 use crate::items::Items;
 use iiif_keys::Fault;
+use iiif_workers::{Helper, Idle};
 use std::alloc::Global;
-use std::sync::Arc;
+use std::sync::{Arc, Wait};
 use std::thread::{Threads, join};
 
 /// Appends a value.
@@ -34,73 +35,126 @@ fn joined<V: Drop>(mut first: Vec<Arc<V>>, rest: Vec<Arc<V>>) -> Result<Vec<Arc<
     Ok(first)
 }
 
-/// The values of the items of one worker, asked one after another; or the first fault.
-fn run_one<G: Items<K, V, P, R>, K, V: Drop, P, R>(
+/// What one worker came to.
+struct SoFar<'a, V, P> {
+    /// The values of the first items, as far as it came.
+    values: Vec<Arc<V>>,
+    /// Another worker, which had nothing to do where more than one item was left. None where none is.
+    helper: Option<Helper<'a, P>>,
+}
+
+/// The values of items, asked one after another until more than one is left and another worker has nothing to do; or the first fault.
+fn begun<'a, G: Items<K, V, P, R>, K, V: Drop, P, R: Wait>(
     rt: &R,
     alloc: Global,
     group: &G,
-    pass: &mut P,
+    own: &mut P,
+    idle: &Idle<'a, P>,
     keys: &[K],
     items: &[usize],
-) -> Result<Vec<Arc<V>>, Fault>
+) -> Result<SoFar<'a, V, P>, Fault>
     requires within { All (λ i. i < length keys.now) items.now }
     requires fits { All (G.fits group.now) keys.now }
-    ensures values { IfOk result (λ v. AreValues (G.means group.now) keys.now items.now (map arc_value v.items)) }
+    ensures left { IfOk result (λ b. IfSome b.helper (λ h. vec_len b.values + 2 ≤ length items.now)) }
+    ensures all { IfOk result (λ b. IsNone b.helper → vec_len b.values ≡ length items.now) }
+    ensures values { IfOk result (λ b. AreValues (G.means group.now) keys.now (take (vec_len b.values) items.now) (map arc_value b.values.items)) }
     ensures fault { IfErr result (IsItemFault (G.means group.now) (G.failed group.now) keys.now items.now) }
 {
     let mut values = Vec::new(alloc);
-    for item in items {
-        match group.get(rt, pass, &keys[*item]) {
+    for n in 0..items.len() {
+        if items.len() - n > 1 {
+            if let Some(helper) = idle.take(rt) {
+                return Ok(SoFar {
+                    values,
+                    helper: Some(helper),
+                });
+            }
+        }
+        match group.get(rt, own, idle, &keys[items[n]]) {
             Ok(value) => keep(&mut values, value)?,
             Err(fault) => return Err(fault),
         }
     }
-    Ok(values)
+    Ok(SoFar {
+        values,
+        helper: None,
+    })
 }
 
-/// The values of all items, in their order: one worker for each pass, each with a run of items that follow one another, `run` of
-/// them, and the last with the rest. Where a worker can't be started the calling thread does its share. The fault is that of the
-/// first item that failed, whichever worker met one first. The number of passes is in no clause but that there is one.
-fn gathered_at_once<
+/// The values of all items, in their order. While this worker asks for one after another, it gives the back half of those that are left
+/// to another that has nothing to do, which does the same with them. Where a worker can't be started the calling thread does its share. The
+/// fault is that of the first item that failed, whichever worker met one first. The number of workers is in no clause.
+#[cycle(shares)]
+fn shared_out<
     G: Items<K, V, P, R> + Sync,
     K: Sync,
     V: Drop + Send + Sync,
     P: Send,
-    R: Threads + Sync,
+    R: Threads + Wait + Sync,
 >(
     rt: &R,
     alloc: Global,
     group: &G,
-    passes: &mut [P],
+    own: &mut P,
+    idle: &Idle<'_, P>,
     keys: &[K],
     items: &[usize],
-    run: usize,
 ) -> Result<Vec<Arc<V>>, Fault>
-    requires some { 0 < length passes.old }
     requires within { All (λ i. i < length keys.now) items.now }
     requires fits { All (G.fits group.now) keys.now }
     ensures values { IfOk result (λ v. AreValues (G.means group.now) keys.now items.now (map arc_value v.items)) }
     ensures fault { IfErr result (IsItemFault (G.means group.now) (G.failed group.now) keys.now items.now) }
 {
-    let Some((pass, others)) = passes.split_first_mut() else {
-        return Err(Fault::NoMemory);
+    let SoFar { values, helper } = begun(rt, alloc, group, own, idle, keys, items)?;
+    let Some(helper) = helper else {
+        return Ok(values);
     };
-    if others.is_empty() || items.len() <= run {
-        return run_one(rt, alloc, group, pass, keys, items);
+    let (_done, left) = items.split_at(values.len());
+    match halved(rt, alloc, group, own, helper, idle, keys, left) {
+        Ok(rest) => joined(values, rest),
+        Err(fault) => Err(fault),
     }
-    let (mine, theirs) = items.split_at(run);
+}
+
+/// The same by two workers, each with half of the items.
+#[cycle(shares)]
+fn halved<
+    'a,
+    G: Items<K, V, P, R> + Sync,
+    K: Sync,
+    V: Drop + Send + Sync,
+    P: Send,
+    R: Threads + Wait + Sync,
+>(
+    rt: &R,
+    alloc: Global,
+    group: &G,
+    own: &mut P,
+    helper: Helper<'a, P>,
+    idle: &Idle<'a, P>,
+    keys: &[K],
+    items: &[usize],
+) -> Result<Vec<Arc<V>>, Fault>
+    requires some { 2 ≤ length items.now }
+    requires within { All (λ i. i < length keys.now) items.now }
+    requires fits { All (G.fits group.now) keys.now }
+    ensures values { IfOk result (λ v. AreValues (G.means group.now) keys.now items.now (map arc_value v.items)) }
+    ensures fault { IfErr result (IsItemFault (G.means group.now) (G.failed group.now) keys.now items.now) }
+{
+    let half = items.len() / 2;
+    let (mine, theirs) = items.split_at(half);
     let (first, rest) = join(
         rt,
         || -> Result<Vec<Arc<V>>, Fault>
-            requires { All (λ i. i < length keys.now) mine.now × All (G.fits group.now) keys.now }
+            requires { IsSync R.row × All (λ i. i < length keys.now) mine.now × All (G.fits group.now) keys.now }
             ensures { IfOk result (λ v. AreValues (G.means group.entry.now) keys.entry.now mine.entry.now (map arc_value v.items))
                 × IfErr result (IsItemFault (G.means group.entry.now) (G.failed group.entry.now) keys.entry.now mine.entry.now) }
-        { run_one(rt, alloc, group, pass, keys, mine) },
+        { shared_out(rt, alloc, group, own, idle, keys, mine) },
         || -> Result<Vec<Arc<V>>, Fault>
-            requires { IsSync R.row × (0 < length others.now) × All (λ i. i < length keys.now) theirs.now × All (G.fits group.now) keys.now }
+            requires { IsSync R.row × All (λ i. i < length keys.now) theirs.now × All (G.fits group.now) keys.now }
             ensures { IfOk result (λ v. AreValues (G.means group.entry.now) keys.entry.now theirs.entry.now (map arc_value v.items))
                 × IfErr result (IsItemFault (G.means group.entry.now) (G.failed group.entry.now) keys.entry.now theirs.entry.now) }
-        { gathered_at_once(rt, alloc, group, others, keys, theirs, run) },
+        { helped(rt, alloc, group, helper, idle, keys, theirs) },
     );
     match first {
         Ok(first) => match rest {
@@ -111,47 +165,52 @@ fn gathered_at_once<
     }
 }
 
-/// The values of all items, in their order, each worker with `run` of them at a time. The items that aren't at hand mostly stand side
-/// by side in the list, behind those that the band above had too: so they fall to all workers, and not to the last.
-fn gathered_in_turns<
+/// The same by a worker that had nothing to do, and has nothing to do again then.
+#[cycle(shares)]
+fn helped<
+    'a,
     G: Items<K, V, P, R> + Sync,
     K: Sync,
     V: Drop + Send + Sync,
     P: Send,
-    R: Threads + Sync,
+    R: Threads + Wait + Sync,
 >(
     rt: &R,
     alloc: Global,
     group: &G,
-    passes: &mut [P],
+    mut helper: Helper<'a, P>,
+    idle: &Idle<'a, P>,
     keys: &[K],
     items: &[usize],
-    run: usize,
 ) -> Result<Vec<Arc<V>>, Fault>
-    requires some { 0 < length passes.old }
     requires within { All (λ i. i < length keys.now) items.now }
     requires fits { All (G.fits group.now) keys.now }
     ensures values { IfOk result (λ v. AreValues (G.means group.now) keys.now items.now (map arc_value v.items)) }
     ensures fault { IfErr result (IsItemFault (G.means group.now) (G.failed group.now) keys.now items.now) }
 {
-    let turn = run.saturating_mul(passes.len());
-    if turn == 0 || items.len() <= turn {
-        return gathered_at_once(rt, alloc, group, passes, keys, items, run);
-    }
-    let (front, back) = items.split_at(turn);
-    match gathered_at_once(rt, alloc, group, passes, keys, front, run) {
-        Ok(before) => match gathered_in_turns(rt, alloc, group, passes, keys, back, run) {
-            Ok(after) => joined(before, after),
-            Err(fault) => Err(fault),
-        },
-        Err(fault) => Err(fault),
-    }
+    let values = shared_out(rt, alloc, group, helper.pass, idle, keys, items);
+    idle.put(rt, helper);
+    values
 }
 
-/// How many turns each worker gets at most.
-const TURNS: usize = 8;
+/// Whether all items are at hand.
+fn are_at_hand<G: Items<K, V, P, R>, K, V, P, R>(
+    rt: &R,
+    group: &G,
+    keys: &[K],
+    items: &[usize],
+) -> bool {
+    for item in items {
+        match keys.get(*item) {
+            Some(key) if group.is_at_hand(rt, key) => {}
+            _ => return false,
+        }
+    }
+    true
+}
 
-/// The values of all items, in their order, asked by one worker for each pass.
+/// The values of all items, in their order, asked by one worker for each pass: by the first alone where all are at hand, so that no thread
+/// is started for what is found at once.
 ///
 /// # Errors
 ///
@@ -161,7 +220,7 @@ pub(crate) fn gathered<
     K: Sync,
     V: Drop + Send + Sync,
     P: Send,
-    R: Threads + Sync,
+    R: Threads + Wait + Sync,
 >(
     rt: &R,
     alloc: Global,
@@ -176,6 +235,18 @@ pub(crate) fn gathered<
     ensures values { IfOk result (λ v. AreValues (G.means group.now) keys.now items.now (map arc_value v.items)) }
     ensures fault { IfErr result (IsItemFault (G.means group.now) (G.failed group.now) keys.now items.now) }
 {
-    let run = items.len().div_ceil(passes.len().saturating_mul(TURNS));
-    gathered_in_turns(rt, alloc, group, passes, keys, items, run)
+    let Some((own, others)) = passes.split_first_mut() else {
+        return Err(Fault::NoMemory);
+    };
+    if others.is_empty() || are_at_hand(rt, group, keys, items) {
+        let idle = Idle::none(alloc);
+        return shared_out(rt, alloc, group, own, &idle, keys, items);
+    }
+    let Ok(idle) = Idle::of(alloc, others) else {
+        return Err(Fault::NoMemory);
+    };
+    group.begin(rt);
+    let values = shared_out(rt, alloc, group, own, &idle, keys, items);
+    group.end(rt);
+    values
 }

@@ -28,7 +28,7 @@ use iiif_keys::{Fault, Shape, TileKey, TileVal};
 use iiif_pixel::laws::whole_stays_whole;
 use iiif_pixel::{Dim, Rect};
 use std::alloc::Global;
-use std::sync::Arc;
+use std::sync::{Arc, Wait};
 use std::thread::Threads;
 
 /// Adds what a tile has of a region that is scaled to `size`.
@@ -79,7 +79,7 @@ fn add_all(
 
 /// The part in `from` of a result that has a side above its region's, of the tiles that have samples for a place of it. Nothing
 /// is held of the result but its sums at these places, and then the samples.
-pub(crate) fn grown<T: Items<TileKey, TileVal, P, R> + Sync, P: Send, R: Threads + Sync>(
+pub(crate) fn grown<T: Items<TileKey, TileVal, P, R> + Sync, P: Send, R: Threads + Wait + Sync>(
     rt: &R,
     alloc: Global,
     group: &T,

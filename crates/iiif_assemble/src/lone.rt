@@ -17,7 +17,7 @@ use iiif_pixel::Quality;
 use iiif_pixel::laws::whole_stays_whole;
 use iiif_planner::Plan;
 use std::alloc::Global;
-use std::sync::Arc;
+use std::sync::{Arc, Wait};
 use std::thread::Threads;
 
 /// Whether the region of a job is that of a tile, and nothing is turned or made gray.
@@ -40,7 +40,7 @@ fn is_itself(job: &Job, key: &TileKey) -> bool
 /// # Errors
 ///
 /// The fault of that band, or `NoMemory`.
-pub fn lone_tile<T: Items<TileKey, TileVal, P, R> + Sync, P: Send, R: Threads + Sync>(
+pub fn lone_tile<T: Items<TileKey, TileVal, P, R> + Sync, P: Send, R: Threads + Wait + Sync>(
     rt: &R,
     alloc: Global,
     tiles: &T,

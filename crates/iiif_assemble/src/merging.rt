@@ -27,7 +27,7 @@ use iiif_keys::{Fault, SumKey, SumVal};
 use iiif_pixel::Rect;
 use iiif_pixel::laws::whole_stays_whole;
 use std::alloc::Global;
-use std::sync::Arc;
+use std::sync::{Arc, Wait};
 use std::thread::Threads;
 
 /// Adds a value's sums.
@@ -150,7 +150,7 @@ fn made_of<R: Threads + Sync>(
 /// The part in `from` of a region that is scaled down, of the sums of the blocks that have a place of it. Nothing is held of the
 /// result but its sums at these places, and then the samples. Where that is one block, which has all these places, and they are few,
 /// nothing is held of the result but the samples.
-pub(crate) fn summed<S: Items<SumKey, SumVal, P, R> + Sync, P: Send, R: Threads + Sync>(
+pub(crate) fn summed<S: Items<SumKey, SumVal, P, R> + Sync, P: Send, R: Threads + Wait + Sync>(
     rt: &R,
     alloc: Global,
     group: &S,

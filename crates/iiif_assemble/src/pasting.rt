@@ -25,7 +25,7 @@ use iiif_keys::{Fault, Shape, TileKey, TileVal};
 use iiif_pixel::laws::{crop_of_crop, whole_stays_whole};
 use iiif_pixel::{Raster, Rect};
 use std::alloc::Global;
-use std::sync::Arc;
+use std::sync::{Arc, Wait};
 use std::thread::Threads;
 
 /// Puts a part of a tile, from its place `corner` on, in its place in a picture.
@@ -155,7 +155,7 @@ fn picture_of(
 
 /// The part in `from` of a region that keeps its sides, of the tiles that have a place of it. Nothing is held of the result but
 /// this part.
-pub(crate) fn pasted<T: Items<TileKey, TileVal, P, R> + Sync, P: Send, R: Threads + Sync>(
+pub(crate) fn pasted<T: Items<TileKey, TileVal, P, R> + Sync, P: Send, R: Threads + Wait + Sync>(
     rt: &R,
     alloc: Global,
     group: &T,

@@ -1,3 +1,4 @@
 pub mod RowLemmas
 pub mod StepLemmas
 pub mod TileLemmas
+pub mod FaultLemmas

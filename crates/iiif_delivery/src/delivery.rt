@@ -22,6 +22,7 @@ use iiif_keys::{Fault, SumKey, SumVal, TileKey, TileVal};
 use iiif_pixel::{Dim, NoMemory};
 use iiif_tiff_write::{OutKind, head, total_len};
 use std::alloc::Global;
+use std::sync::Wait;
 use std::thread::Threads;
 
 /// An image that was sent whole.
@@ -104,7 +105,7 @@ fn send_bands<
     T: Items<TileKey, TileVal, P, R> + Sync,
     S: Items<SumKey, SumVal, P, R> + Sync,
     P: Send,
-    R: Threads + Sync,
+    R: Threads + Wait + Sync,
     W: Outlet,
 >(
     rt: &R,
@@ -148,8 +149,6 @@ fn send_bands<
     };
     let mut sent = 0u64;
     let mut held = 0u64;
-    let mut before: &[usize] = &[];
-    let mut left = bands.as_slice();
     let mut kept = Vec::new(alloc);
     for band in &bands {
         // Nothing is made for one who is gone. Where no rows wait, some were just written.
@@ -157,7 +156,7 @@ fn send_bands<
             return Err(Stopped::Writer(sent + more));
         }
         match put_band(
-            rt, alloc, tiles, sums, passes, job, kind, band, left, before, &mut kept, &mut text,
+            rt, alloc, tiles, sums, passes, job, kind, band, &mut kept, &mut text,
         ) {
             Ok(most) => held = held.max(most),
             Err(fault) => {
@@ -171,8 +170,6 @@ fn send_bands<
                 }
             }
         }
-        before = band.items.as_slice();
-        left = left.get(1..).unwrap_or(&[]);
         if text.len() >= PIECE {
             match flush(out, &mut text, sent) {
                 Ok(all) => sent = all,
@@ -192,9 +189,8 @@ fn send_bands<
 /// An image of 8 bits that is a tile as it stands is not made in bands: the tile's samples are its rows, and go out as they are. Then
 /// `held` counts a band of them.
 ///
-/// Of an image that is made of blocks, the sums of those of a band are held while it is made. With several workers blocks of the bands
-/// that follow are asked in the same turns, and their sums are held until their bands are made: up to 8 blocks for each worker, or those
-/// of one band where these are more, plus those of the last band that was taken in.
+/// Of an image that is made of blocks, the sums of those of a band are held until those of the next are asked for, of 64 at most. None is
+/// asked for before its band is made.
 ///
 /// # Errors
 ///
@@ -203,7 +199,7 @@ pub fn send_image<
     T: Items<TileKey, TileVal, P, R> + Sync,
     S: Items<SumKey, SumVal, P, R> + Sync,
     P: Send,
-    R: Threads + Sync,
+    R: Threads + Wait + Sync,
     W: Outlet,
 >(
     rt: &R,

@@ -4,20 +4,21 @@ ghost use Rattle.std.specs.Prelude.{◌≡◌, ◌<◌, ◌⊎◌, ◌++◌, IfO
 ghost use Rattle.iiif_pixel.specs.Geometry.{channels_of, sides_of, top_of};
 ghost use Rattle.iiif_pixel.specs.Picture.{Picture};
 ghost use Rattle.iiif_keys.specs.declared.fault.Fault.TheVariants as Fault;
-ghost use Rattle.iiif_assemble.specs.Ahead.{AreKept};
+ghost use Rattle.iiif_assemble.specs.Kept.{AreKept};
 ghost use Rattle.iiif_assemble.specs.Faults.{IsBandFault};
 ghost use Rattle.iiif_assemble.specs.Jobs.{channels_in, top_in, IsBandOf, IsHeldFor, IsJob, SumsServe, TilesServe};
 ghost use Rattle.iiif_tiff_write.specs.File.{strip};
 ghost use Rattle.iiif_tiff_write.specs.OutKind.{out_depth, samples_per_pixel};
 ghost use Rattle.iiif_delivery.specs.Code.{IsBandFor, Laws};
 
-use iiif_assemble::{Items, Job, KeptSum, SumsAhead, assemble_band, keep_ahead};
+use iiif_assemble::{Items, Job, KeptSum, WithKept, assemble_band, keep_band};
 use iiif_bands::Band;
 use iiif_keys::{Fault, SumKey, SumVal, TileKey, TileVal};
 use iiif_pixel::laws::{bands_follow, whole_stays_whole};
 use iiif_tiff_write::laws::bands_join;
 use iiif_tiff_write::{OutKind, put_rows};
 use std::alloc::Global;
+use std::sync::Wait;
 use std::thread::Threads;
 
 /// Computes nothing: its contract has the laws of pictures and of files that are sent band by band.
@@ -30,15 +31,14 @@ pub(crate) fn laws_of_bands()
     bands_join();
 }
 
-/// Makes a band of the image of a job, the first of these that are left, and appends its rows to a text; says how many samples and sums
-/// were held at once. The band is gone then, but for its rows. Sums of the bands behind it may be kept for them. Where it is made of what
-/// is kept, or of the items of the band `before`, which are at hand then, one worker asks for them, so that no thread is started for what
-/// is found at once.
+/// Makes a band of the image of a job and appends its rows to a text; says how many samples and sums were held at once. The band is gone
+/// then, but for its rows; the sums of its blocks are kept until those of the band behind it are.
+#[tactic(auto, using(crate::proofs::FaultLemmas::blocks_fault))]
 pub(crate) fn put_band<
     T: Items<TileKey, TileVal, P, R> + Sync,
     S: Items<SumKey, SumVal, P, R> + Sync,
     P: Send,
-    R: Threads + Sync,
+    R: Threads + Wait + Sync,
 >(
     rt: &R,
     alloc: Global,
@@ -48,8 +48,6 @@ pub(crate) fn put_band<
     job: &Job,
     kind: OutKind,
     band: &Band,
-    left: &[Band],
-    before: &[usize],
     kept: &mut Vec<KeptSum>,
     text: &mut Vec<u8>,
 ) -> Result<u64, Fault>
@@ -69,21 +67,15 @@ pub(crate) fn put_band<
     ensures fault { IfErr result (λ f. (f ≡ Fault.NoMemory)
         ⊎ IsBandFault (T.means tiles.now) (T.failed tiles.now) (S.means sums.now) (S.failed sums.now) job.now.plan band.now.items.items f) }
 {
-    let is_kept = match keep_ahead(rt, alloc, sums, passes, job, left, before, kept) {
-        Ok(is_kept) => is_kept,
-        // The band that the fault is for fails, once it is made.
-        Err(_) => false,
-    };
-    let workers = if is_kept || band.items.as_slice() == before {
-        1
-    } else {
-        passes.len()
-    };
-    let ahead = SumsAhead {
+    match keep_band(rt, alloc, sums, passes, job, band, kept) {
+        Ok(()) => {}
+        Err(fault) => return Err(fault),
+    }
+    let sums = WithKept {
         sums,
         kept: kept.as_slice(),
     };
-    match assemble_band(rt, alloc, tiles, &ahead, &mut passes[..workers], job, band) {
+    match assemble_band(rt, alloc, tiles, &sums, passes, job, band) {
         Ok(made) => {
             // Whole, so that its top is known from its depth.
             made.raster.is_whole();

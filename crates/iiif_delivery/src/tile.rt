@@ -18,6 +18,7 @@ use iiif_keys::{Fault, TileKey, TileVal};
 use iiif_pixel::{Dim, NoMemory, Raster};
 use iiif_tiff_write::{OutKind, byte_rows, head};
 use std::alloc::Global;
+use std::sync::Wait;
 use std::thread::Threads;
 
 /// A text, and the head of a file.
@@ -62,7 +63,7 @@ fn send_raster<W: Outlet>(
 pub(crate) fn send_tile<
     T: Items<TileKey, TileVal, P, R> + Sync,
     P: Send,
-    R: Threads + Sync,
+    R: Threads + Wait + Sync,
     W: Outlet,
 >(
     rt: &R,

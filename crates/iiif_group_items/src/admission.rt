@@ -34,15 +34,14 @@ impl Admission {
         }
     }
 
-    /// Waits until a job may begin, or for half a second. Its number, which no other has.
-    pub fn enter<R: Wait + Clock>(&self, rt: &R) -> u64 {
+    /// Waits until a job may begin, or for half a second.
+    pub fn enter<R: Wait + Clock>(&self, rt: &R) {
         let mut order = self.order.lock(rt);
         let number = order.came;
         order.came = number.saturating_add(1);
         let begun = self.waiting.of(number);
         let patience = Duration::from_millis(PATIENCE);
         drop(begun.wait_timeout_while(rt, order, patience, |order| order.admitted <= number));
-        number
     }
 
     /// A job is done that was admitted, or went on unadmitted. One more may begin.

@@ -5,6 +5,5 @@ pub use admission::Admission;
 pub use items::GroupItems;
 
 pub mod admission;
-mod early;
 pub mod items;
 pub mod laws;

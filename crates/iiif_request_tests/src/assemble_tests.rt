@@ -9,6 +9,7 @@ use iiif_bands::Band;
 use iiif_keys::Fault;
 use iiif_pixel::{Depth, Dim, Raster, Samples, Span, Turn};
 use std::alloc::{AllocError, Global};
+use std::sync::Wait;
 use std::thread::Threads;
 
 /// The samples of a raster of 8 bits; none of another.
@@ -20,7 +21,7 @@ fn bytes(raster: &Raster) -> &[u8] {
 }
 
 /// The image of a job, by so many workers.
-fn image<R: Threads + Sync>(
+fn image<R: Threads + Wait + Sync>(
     rt: &R,
     alloc: Global,
     shown: &Shown,
@@ -54,7 +55,7 @@ fn is_wanted(raster: &Raster, wanted: Wanted) -> bool {
 }
 
 /// Whether the image of a job, by so many workers, or its fault is what it is to be.
-fn is_made<R: Threads + Sync>(
+fn is_made<R: Threads + Wait + Sync>(
     rt: &R,
     alloc: Global,
     shown: &Shown,
@@ -169,7 +170,7 @@ static IMAGES: [Case; 7] = [
 ];
 
 /// Whether one, two and five workers make of a job what they are to make.
-fn are_alike<R: Threads + Sync>(
+fn are_alike<R: Threads + Wait + Sync>(
     rt: &R,
     alloc: Global,
     shown: &Shown,
@@ -188,7 +189,7 @@ fn are_alike<R: Threads + Sync>(
 }
 
 /// Whether they make of what is shown what is wanted.
-fn are_made<R: Threads + Sync>(rt: &R, alloc: Global, shown: &Shown, case: &Case) -> bool {
+fn are_made<R: Threads + Wait + Sync>(rt: &R, alloc: Global, shown: &Shown, case: &Case) -> bool {
     match job(alloc, shown.shape, case.1, case.2, case.3, ROOM) {
         Some(job) => are_alike(rt, alloc, shown, &job, case.4),
         None => false,
@@ -196,7 +197,7 @@ fn are_made<R: Threads + Sync>(rt: &R, alloc: Global, shown: &Shown, case: &Case
 }
 
 /// Whether the image of a case is made as it is wanted.
-fn is_right<R: Threads + Sync>(rt: &R, alloc: Global, case: &Case) -> bool {
+fn is_right<R: Threads + Wait + Sync>(rt: &R, alloc: Global, case: &Case) -> bool {
     match picture(alloc, case.0) {
         Some(shown) => are_made(rt, alloc, &shown, case),
         None => false,
@@ -219,7 +220,7 @@ static ROWS: [[u8; 4]; 4] = [
 ];
 
 /// A band of a job's image, by one worker.
-fn rows<R: Threads + Sync>(
+fn rows<R: Threads + Wait + Sync>(
     rt: &R,
     alloc: Global,
     shown: &Shown,
@@ -235,7 +236,7 @@ fn rows<R: Threads + Sync>(
 }
 
 /// Whether a band of a job's image is this row, of two of the four tiles, and 4 to 8 samples were held for it.
-fn is_row<R: Threads + Sync>(
+fn is_row<R: Threads + Wait + Sync>(
     rt: &R,
     alloc: Global,
     shown: &Shown,
@@ -257,7 +258,7 @@ fn is_row<R: Threads + Sync>(
 }
 
 /// Whether the bands of a row of a job's image are those rows.
-fn are_rows<R: Threads + Sync>(rt: &R, alloc: Global, shown: &Shown, job: &Job) -> bool
+fn are_rows<R: Threads + Wait + Sync>(rt: &R, alloc: Global, shown: &Shown, job: &Job) -> bool
     requires job { IsJob job.now }
     requires shape { job.now.shape ≡ shown.now.shape }
 {
@@ -273,7 +274,7 @@ fn are_rows<R: Threads + Sync>(rt: &R, alloc: Global, shown: &Shown, job: &Job) 
 }
 
 /// Whether the picture of 8 bits that is turned by a quarter, of tiles with edge 2, has those rows as its bands.
-fn is_turned<R: Threads + Sync>(rt: &R, alloc: Global) -> bool {
+fn is_turned<R: Threads + Wait + Sync>(rt: &R, alloc: Global) -> bool {
     let Some(shown) = tens(alloc, Failing::Nothing) else {
         return false;
     };
@@ -352,7 +353,12 @@ fn are_means(samples: Span) -> bool {
 }
 
 /// Whether the wide picture, halved by so many workers, has the sides and the samples that it is to have.
-fn is_halved<R: Threads + Sync>(rt: &R, alloc: Global, shown: &Shown, workers: usize) -> bool {
+fn is_halved<R: Threads + Wait + Sync>(
+    rt: &R,
+    alloc: Global,
+    shown: &Shown,
+    workers: usize,
+) -> bool {
     let Some(job) = job(alloc, shown.shape, 1_024, MANY, UPRIGHT, ROOM) else {
         return false;
     };

@@ -10,6 +10,7 @@ use iiif_keys::Fault;
 use iiif_pixel::{Depth, Dim, Kind, Quality, Samples, Turn};
 use iiif_tiff_write::{OutKind, fits};
 use std::alloc::{AllocError, Global};
+use std::sync::Wait;
 use std::thread::Threads;
 
 /// The samples 0 to 199, twice.
@@ -23,11 +24,11 @@ fn samples(alloc: Global) -> Result<Vec<u8>, AllocError> {
     Ok(samples)
 }
 
-/// The gray picture of 20 by 20 places with those samples, of which a row of blocks may fail, and no tile is asked for.
-fn sample(alloc: Global, fails: Option<u32>) -> Option<Shown> {
+/// The gray picture of 20 by 20 places with those samples, of which blocks may fail, and no tile is asked for.
+fn sample(alloc: Global, fails: Failing) -> Option<Shown> {
     let samples = samples(alloc).ok()?;
     let dim = Dim { w: 20, h: 20 };
-    of_samples(alloc, dim, Samples::Eight(samples), Failing::Blocks(fails))
+    of_samples(alloc, dim, Samples::Eight(samples), fails)
 }
 
 /// How an image was sent.
@@ -40,7 +41,7 @@ struct Answer {
 }
 
 /// An image that is sent in bands of one row by so many workers.
-fn send<R: Threads + Sync>(
+fn send<R: Threads + Wait + Sync>(
     rt: &R,
     alloc: Global,
     shown: &Shown,
@@ -83,7 +84,7 @@ fn send<R: Threads + Sync>(
 }
 
 /// A picture scaled to 7 by 7, sent of blocks with a side of 2 by so many workers.
-fn scaled<R: Threads + Sync>(
+fn scaled<R: Threads + Wait + Sync>(
     rt: &R,
     alloc: Global,
     shown: &Shown,
@@ -95,11 +96,11 @@ fn scaled<R: Threads + Sync>(
     }
 }
 
-/// The picture of which this row of blocks fails, sent so.
-fn sent<R: Threads + Sync>(
+/// The picture, of which these blocks fail, sent so.
+fn sent<R: Threads + Wait + Sync>(
     rt: &R,
     alloc: Global,
-    fails: Option<u32>,
+    fails: Failing,
     workers: usize,
 ) -> Option<Answer> {
     match sample(alloc, fails) {
@@ -111,17 +112,22 @@ fn sent<R: Threads + Sync>(
 /// The length of a file of 7 rows of 7 bytes, and of what stands before them.
 const LEN: u64 = 174 + 49;
 
-/// Whether so many workers send what one sends. There are 100 blocks, in rows of 10, and a band has a place in three rows at most: less
-/// than 8 for each of four workers, which ask for each block once.
-fn is_same<R: Threads + Sync>(rt: &R, alloc: Global, alone: &Answer, workers: usize) -> bool {
-    match sent(rt, alloc, None, workers) {
-        Some(answer) => answer.bytes == alone.bytes && (workers < 4 || answer.asks == 100),
+/// Whether so many workers send what one sends, and ask for each block once. There are 100 blocks, in rows of 10, and a band has a place in
+/// three rows at most.
+fn is_same<R: Threads + Wait + Sync>(
+    rt: &R,
+    alloc: Global,
+    alone: &Answer,
+    workers: usize,
+) -> bool {
+    match sent(rt, alloc, Failing::Blocks(None), workers) {
+        Some(answer) => answer.bytes == alone.bytes && answer.asks == 100,
         None => false,
     }
 }
 
 /// Whether the bands above this one are sent, where this row of blocks fails.
-fn ends_above<R: Threads + Sync>(
+fn ends_above<R: Threads + Wait + Sync>(
     rt: &R,
     alloc: Global,
     whole: &Answer,
@@ -132,7 +138,7 @@ fn ends_above<R: Threads + Sync>(
         1..=7 => 174 + 7 * band,
         _ => 0,
     };
-    match sent(rt, alloc, Some(row), workers) {
+    match sent(rt, alloc, Failing::Blocks(Some(row)), workers) {
         Some(answer) => {
             answer.end == Err(Stopped::Load(count, Fault::UnknownName))
                 && answer.bytes.len() as u64 == count
@@ -143,8 +149,8 @@ fn ends_above<R: Threads + Sync>(
 }
 
 /// Whether several workers send what one sends.
-fn are_same<R: Threads + Sync>(rt: &R, alloc: Global, alone: &Answer) -> bool {
-    for workers in [2, 3, 4, 16] {
+fn are_same<R: Threads + Wait + Sync>(rt: &R, alloc: Global, alone: &Answer) -> bool {
+    for workers in [1, 2, 3, 4, 16] {
         if !is_same(rt, alloc, alone, workers) {
             return false;
         }
@@ -156,7 +162,7 @@ fn are_same<R: Threads + Sync>(rt: &R, alloc: Global, alone: &Answer) -> bool {
 static FAILING: [(u32, u64); 4] = [(0, 0), (3, 2), (5, 3), (9, 6)];
 
 /// Whether any number of them sends the bands above, where blocks fail.
-fn end_above<R: Threads + Sync>(rt: &R, alloc: Global, whole: &Answer) -> bool {
+fn end_above<R: Threads + Wait + Sync>(rt: &R, alloc: Global, whole: &Answer) -> bool {
     for failing in &FAILING {
         for workers in [1, 4, 16] {
             if !ends_above(rt, alloc, whole, *failing, workers) {
@@ -169,7 +175,7 @@ fn end_above<R: Threads + Sync>(rt: &R, alloc: Global, whole: &Answer) -> bool {
 
 #[test]
 fn each_block_is_asked_for_once_and_bands_above_a_fault_are_sent(rt: HostRuntime) {
-    let alone = sent(&rt, rt.alloc(), None, 1);
+    let alone = sent(&rt, rt.alloc(), Failing::Blocks(None), 1);
     assert!(rt; alone.is_some());
     if let Some(alone) = &alone {
         assert!(rt; alone.bytes.len() as u64 == LEN);
@@ -178,8 +184,39 @@ fn each_block_is_asked_for_once_and_bands_above_a_fault_are_sent(rt: HostRuntime
     }
 }
 
+/// Whether a block that fails as it is asked for, and wouldn't fail again, ends the image, whichever of all it is in time.
+fn ends_at_once<R: Threads + Wait + Sync>(rt: &R, alloc: Global, whole: &Answer) -> bool {
+    for place in [0, 1, 2, 9, 10, 29, 30, 50, 98, 99] {
+        for workers in [1, 2, 4, 16] {
+            let Some(answer) = sent(rt, alloc, Failing::Once(place), workers) else {
+                return false;
+            };
+            let is_cut = matches!(answer.end, Err(Stopped::Load(_, Fault::UnknownName)));
+            if !is_cut || !whole.bytes.as_slice().starts_with(&answer.bytes) {
+                return false;
+            }
+        }
+    }
+    true
+}
+
+#[test]
+fn fault_that_is_met_once_ends_the_image(rt: HostRuntime) {
+    let whole = sent(&rt, rt.alloc(), Failing::Blocks(None), 1);
+    assert!(rt; whole.is_some());
+    if let Some(whole) = &whole {
+        assert!(rt; whole.bytes.len() as u64 == LEN && whole.asks == 100);
+        assert!(rt; ends_at_once(&rt, rt.alloc(), whole));
+    }
+}
+
 /// The picture of 4 by 4 places, which is one tile, turned and sent by one worker.
-fn alone<R: Threads + Sync>(rt: &R, alloc: Global, fails: Failing, turn: Turn) -> Option<Answer> {
+fn alone<R: Threads + Wait + Sync>(
+    rt: &R,
+    alloc: Global,
+    fails: Failing,
+    turn: Turn,
+) -> Option<Answer> {
     match tens(alloc, fails) {
         Some(shown) => match job(alloc, shown.shape, 4, Dim { w: 4, h: 4 }, turn, 1) {
             Some(job) => send(rt, alloc, &shown, &job, 1),
@@ -246,7 +283,7 @@ static LONE: [Lone; 4] = [
 ];
 
 /// Whether the picture is sent so.
-fn is_lone<R: Threads + Sync>(
+fn is_lone<R: Threads + Wait + Sync>(
     rt: &R,
     alloc: Global,
     (fails, turn, asks, end, rows): &Lone,
@@ -283,7 +320,7 @@ fn many(alloc: Global) -> Result<Vec<u8>, AllocError> {
 }
 
 /// The picture with these samples as one tile, sent.
-fn large<R: Threads + Sync>(rt: &R, alloc: Global, samples: Vec<u8>) -> Option<Answer> {
+fn large<R: Threads + Wait + Sync>(rt: &R, alloc: Global, samples: Vec<u8>) -> Option<Answer> {
     let dim = Dim { w: 300, h: 300 };
     match of_samples(alloc, dim, Samples::Eight(samples), Failing::Nothing) {
         Some(shown) => match job(alloc, shown.shape, 300, dim, UPRIGHT, 1) {
@@ -295,7 +332,7 @@ fn large<R: Threads + Sync>(rt: &R, alloc: Global, samples: Vec<u8>) -> Option<A
 }
 
 /// Whether it is sent whole.
-fn is_large_sent<R: Threads + Sync>(rt: &R, alloc: Global, rows: &[u8]) -> bool {
+fn is_large_sent<R: Threads + Wait + Sync>(rt: &R, alloc: Global, rows: &[u8]) -> bool {
     let Ok(samples) = many(alloc) else {
         return false;
     };

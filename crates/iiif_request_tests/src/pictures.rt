@@ -14,8 +14,10 @@ use iiif_assemble::{Items, Job};
 use iiif_canonical::Resolved;
 use iiif_keys::{Fault, Name, Shape, SumKey, SumVal, TileKey, TileVal, is_name};
 use iiif_pixel::{Dim, Kind, Quality, Raster, Rect, Samples, Turn};
+use iiif_workers::Idle;
 use std::alloc::Global;
 use std::sync::Arc;
+use std::sync::atomic::{AtomicU64, Ordering};
 
 /// Which items of a picture fail. Of tiles two do, of which the second fails otherwise: of four, in a row they are asked for in one turn
 /// of two workers.
@@ -26,6 +28,8 @@ pub enum Failing {
     FirstRow,
     /// All tiles, which aren't to be asked for, and the blocks in this row.
     Blocks(Option<u32>),
+    /// The block that is asked for as this one in time, from 0 on. Asked for again it doesn't fail.
+    Once(u64),
 }
 
 impl Failing {
@@ -44,10 +48,11 @@ impl Failing {
         })
     }
 
-    /// Whether a block fails.
-    fn has_block(self, key: &SumKey) -> bool {
+    /// Whether a block fails that so many were asked for before.
+    fn has_block(self, key: &SumKey, before: u64) -> bool {
         match self {
             Failing::Blocks(row) => row == Some(key.by),
+            Failing::Once(place) => place == before,
             _ => false,
         }
     }
@@ -59,6 +64,8 @@ pub struct Shown {
     raster: Raster,
     pub shape: Shape,
     fails: Failing,
+    /// How many blocks were asked for.
+    asks: AtomicU64,
     alloc: Global,
     ghost sides: { dim_of raster ≡ shape.dim },
     ghost samples_a_place: { raster.channels ≡ channels_of shape.kind },
@@ -72,7 +79,13 @@ impl<R> Items<TileKey, TileVal, u64, R> for Shown {
 
     ghost failed = { λ s k f. Unit {0} };
 
-    fn get(&self, _rt: &R, pass: &mut u64, key: &TileKey) -> Result<Arc<TileVal>, Fault> {
+    fn get(
+        &self,
+        _rt: &R,
+        pass: &mut u64,
+        _idle: &Idle<'_, u64>,
+        key: &TileKey,
+    ) -> Result<Arc<TileVal>, Fault> {
         *pass = pass.wrapping_add(1);
         if let Some(fault) = self.fails.of_tile(key) {
             return Err(fault);
@@ -84,6 +97,14 @@ impl<R> Items<TileKey, TileVal, u64, R> for Shown {
             Err(_) => Err(Fault::NoMemory),
         }
     }
+
+    fn is_at_hand(&self, _rt: &R, _key: &TileKey) -> bool {
+        false
+    }
+
+    fn begin(&self, _rt: &R) {}
+
+    fn end(&self, _rt: &R) {}
 }
 
 impl<R> Items<SumKey, SumVal, u64, R> for Shown {
@@ -93,9 +114,16 @@ impl<R> Items<SumKey, SumVal, u64, R> for Shown {
 
     ghost failed = { λ s k f. Unit {0} };
 
-    fn get(&self, _rt: &R, pass: &mut u64, key: &SumKey) -> Result<Arc<SumVal>, Fault> {
+    fn get(
+        &self,
+        _rt: &R,
+        pass: &mut u64,
+        _idle: &Idle<'_, u64>,
+        key: &SumKey,
+    ) -> Result<Arc<SumVal>, Fault> {
         *pass = pass.wrapping_add(1);
-        if self.fails.has_block(key) {
+        let before = self.asks.fetch_add(1, Ordering::SeqCst);
+        if self.fails.has_block(key, before) {
             return Err(Fault::UnknownName);
         }
         let at = key.block_in(self.shape.dim);
@@ -109,6 +137,14 @@ impl<R> Items<SumKey, SumVal, u64, R> for Shown {
             Err(_) => Err(Fault::NoMemory),
         }
     }
+
+    fn is_at_hand(&self, _rt: &R, _key: &SumKey) -> bool {
+        false
+    }
+
+    fn begin(&self, _rt: &R) {}
+
+    fn end(&self, _rt: &R) {}
 }
 
 /// How many samples there are.
@@ -140,6 +176,7 @@ pub(crate) fn of_samples(
                 raster,
                 shape,
                 fails,
+                asks: AtomicU64::new(0),
                 alloc,
             })
         }

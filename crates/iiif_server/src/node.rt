@@ -62,7 +62,7 @@ where
 {
     config: Config,
     groups: Groups<R, S, J, N, T>,
-    /// Who may make the blocks of an image now.
+    /// Who may make blocks by several workers now.
     admission: Admission,
 }
 
@@ -263,17 +263,14 @@ impl<
         // Laws of images and of groups.
         picture_is_shown(entry);
         groups_serve_jobs::<J>(job);
-        let items = GroupItems(&self.groups);
-        let is_kept = items.keep_blocks(rt, alloc, passes, job, &self.admission);
-        // One worker finds what is kept, and starts no thread.
-        let workers = if is_kept { 1 } else { passes.len() };
+        let items = GroupItems(&self.groups, &self.admission);
         let rows = self.config.band();
         match send_image(
             rt,
             alloc,
             &items,
             &items,
-            &mut passes[..workers],
+            passes,
             job,
             rows,
             accepted.kind,

@@ -90,12 +90,6 @@ const SAMPLE_SENT: &[Case<'static>] = &[SAMPLE_IS_WHOLE, MENDED, SAMPLE_IS_WHOLE
 
 const HALF_REFUSED: &[Case<'static>] = &[(Ask::Body(HALF), FAULT), MENDED, HALF_IS_WHOLE];
 
-const HALF_CUT: &[Case<'static>] = &[
-    (Ask::Body(HALF), Want::Front(&HALVED_FILE)),
-    MENDED,
-    HALF_IS_WHOLE,
-];
-
 const HALF_SENT: &[Case<'static>] = &[HALF_IS_WHOLE, MENDED, HALF_IS_WHOLE];
 
 /// A name, a node, and how a body ends there: first where one of the first reads fails, then where one of later ones does.
@@ -112,7 +106,7 @@ static FAILING: [Failing; 4] = [
         SLOWLY,
         &[SAMPLE_REFUSED, SAMPLE_CUT, SAMPLE_SENT],
     ),
-    ("half, slowly", SLOWLY, &[HALF_REFUSED, HALF_CUT, HALF_SENT]),
+    ("half, slowly", SLOWLY, &[HALF_REFUSED, HALF_SENT]),
     ("whole, at once", AT_ONCE, &[SAMPLE_REFUSED, SAMPLE_SENT]),
     ("half, at once", AT_ONCE, &[HALF_REFUSED, HALF_SENT]),
 ];
@@ -213,9 +207,8 @@ const MEAN: Case<'static> = (
     Want::Whole(200, Text::Long(175, &[75])),
 );
 
-/// At one place and an edge of 1 the sample is one block of level 2. Below it stand 4 of level 1 and 16 of level 0: 21 in all, each loaded
-/// once. One worker asks for each once. Of three two ask for the 16 before, and then for the block, which asks for 20: at least 37 asks, and
-/// one more for the band.
+/// At one place and an edge of 1 the sample is one block of level 2. Below it stand 4 of level 1 and 16 of level 0: 21 in all, each asked for
+/// once, by one worker or by three.
 static ASKED: [Table; 2] = [
     (
         "by one",
@@ -229,11 +222,11 @@ static ASKED: [Table; 2] = [
             workers: 3,
             ..AT_ONCE
         },
-        &[MEAN, (Ask::Sums, Want::Booked(38, u64::MAX, 21))],
+        &[MEAN, (Ask::Sums, Want::Booked(21, 21, 21))],
     ),
 ];
 
 #[test]
-fn parts_are_asked_first(rt: HostRuntime) {
+fn parts_are_asked_for_once(rt: HostRuntime) {
     all_are(&rt, &ASKED);
 }

@@ -1,9 +1,11 @@
-//! Sums of blocks that are asked before the bands that they are for are made.
+//! Sums of blocks that are kept from band to band.
 
-ghost use Rattle.std.specs.Prelude.{◌≡◌, ◌<◌, All, Contains, IfOk, IfSome, OnOk, length};
+ghost use Rattle.std.specs.Prelude.{◌≡◌, ◌<◌, All, Contains, IfErr, IfOk, IfSome, OnOk, length};
 ghost use Rattle.std.specs.Arc.{arc_value};
-ghost use Rattle.iiif_assemble.specs.Ahead.{AreKept, IsKeptToo};
-ghost use Rattle.iiif_assemble.specs.Jobs.{IsJob, SumsServe};
+ghost use Rattle.iiif_assemble.specs.Faults.{IsSumsFault};
+ghost use Rattle.iiif_assemble.specs.Gathering.{IsItemFault};
+ghost use Rattle.iiif_assemble.specs.Kept.{AreKept, IsKeptToo};
+ghost use Rattle.iiif_assemble.specs.Jobs.{IsBandOf, IsJob, SumsServe};
 
 use crate::crew::gathered;
 use crate::items::Items;
@@ -12,8 +14,9 @@ use iiif_bands::Band;
 use iiif_keys::{CacheKey, Fault, SumKey, SumVal};
 use iiif_pixel::NoMemory;
 use iiif_planner::Plan;
+use iiif_workers::Idle;
 use std::alloc::Global;
-use std::sync::Arc;
+use std::sync::{Arc, Wait};
 use std::thread::Threads;
 
 /// The sums of a block that are kept.
@@ -25,7 +28,7 @@ pub struct KeptSum {
 
 /// What has sums, with some of them kept in front of it: these are answered at once, and it is asked for the others alone.
 #[derive(Drop)]
-pub struct SumsAhead<'a, S> {
+pub struct WithKept<'a, S> {
     /// What has the sums.
     pub sums: &'a S,
     /// The sums that are kept.
@@ -45,21 +48,39 @@ fn kept_for<'a>(kept: &'a [KeptSum], key: &SumKey) -> Option<&'a KeptSum>
 }
 
 /// What is kept is what may be answered for its key: a key may be asked for where this holds.
-impl<'a, S: Items<SumKey, SumVal, P, R>, P, R> Items<SumKey, SumVal, P, R> for SumsAhead<'a, S> {
+impl<'a, S: Items<SumKey, SumVal, P, R>, P, R> Items<SumKey, SumVal, P, R> for WithKept<'a, S> {
     ghost fits = { λ a k. S.fits a.sums.now k × AreKept (S.means a.sums.now) a.kept.now };
 
     ghost means = { λ a k v. S.means a.sums.now k v };
 
     ghost failed = { λ a k f. S.failed a.sums.now k f };
 
-    fn get(&self, rt: &R, pass: &mut P, key: &SumKey) -> Result<Arc<SumVal>, Fault> {
+    fn get(
+        &self,
+        rt: &R,
+        pass: &mut P,
+        idle: &Idle<'_, P>,
+        key: &SumKey,
+    ) -> Result<Arc<SumVal>, Fault> {
         match kept_for(self.kept, key) {
             Some(sum) => match Arc::try_clone(&sum.value) {
                 Ok(value) => Ok(value),
                 Err(_) => Err(Fault::NoMemory),
             },
-            None => self.sums.get(rt, pass, key),
+            None => self.sums.get(rt, pass, idle, key),
         }
+    }
+
+    fn is_at_hand(&self, rt: &R, key: &SumKey) -> bool {
+        kept_for(self.kept, key).is_some() || self.sums.is_at_hand(rt, key)
+    }
+
+    fn begin(&self, rt: &R) {
+        self.sums.begin(rt)
+    }
+
+    fn end(&self, rt: &R) {
+        self.sums.end(rt)
     }
 }
 
@@ -100,7 +121,7 @@ fn keep(kept: &mut Vec<KeptSum>, key: &SumKey, value: &Arc<SumVal>) -> Result<()
     Ok(())
 }
 
-impl<'a, S> SumsAhead<'a, S> {
+impl<'a, S> WithKept<'a, S> {
     /// Of the sums that are kept those of the items. The only error is want of memory.
     fn kept_of<P, R>(
         &self,
@@ -123,40 +144,8 @@ impl<'a, S> SumsAhead<'a, S> {
     }
 }
 
-/// Appends the items to a list that doesn't have them yet, in their order, of those below `count`.
-fn take_in(list: &mut Vec<usize>, items: &[usize], count: usize) -> Result<(), NoMemory>
-    requires { All (λ i. i < count) list.old.items }
-    ensures { All (λ i. i < count) list.new.items }
-{
-    for item in items {
-        if *item < count && !list.contains(item) {
-            list.push(*item)?;
-        }
-    }
-    Ok(())
-}
-
-/// The items of bands that follow one another, each once and in the order in which they are met first: those of the first band, and of
-/// as many more as it takes until the list has `enough`.
-fn items_ahead(
-    alloc: Global,
-    bands: &[Band],
-    count: usize,
-    enough: usize,
-) -> Result<Vec<usize>, NoMemory>
-    ensures { IfOk result (λ v. All (λ i. i < count) v.items) }
-{
-    let mut list = Vec::new(alloc);
-    for band in bands {
-        if list.len() < enough {
-            take_in(&mut list, &band.items, count)?;
-        }
-    }
-    Ok(list)
-}
-
 /// The sums of the items, to be kept: those that are kept already, and the others asked by a worker for each pass.
-fn asked<S: Items<SumKey, SumVal, P, R> + Sync, P: Send, R: Threads + Sync>(
+fn asked<S: Items<SumKey, SumVal, P, R> + Sync, P: Send, R: Threads + Wait + Sync>(
     rt: &R,
     alloc: Global,
     sums: &S,
@@ -169,10 +158,11 @@ fn asked<S: Items<SumKey, SumVal, P, R> + Sync, P: Send, R: Threads + Sync>(
     requires within { All (λ i. i < length keys.now) items.now }
     requires fits { All (S.fits sums.now) keys.now }
     requires kept { AreKept (S.means sums.now) kept.now }
-    ensures { IfOk result (λ v. AreKept (S.means sums.now) v.items) }
+    ensures kept { IfOk result (λ v. AreKept (S.means sums.now) v.items) }
+    ensures fault { IfErr result (IsItemFault (S.means sums.now) (S.failed sums.now) keys.now items.now) }
 {
-    let ahead = SumsAhead { sums, kept };
-    let values = gathered(rt, alloc, &ahead, passes, keys, items)?;
+    let before = WithKept { sums, kept };
+    let values = gathered(rt, alloc, &before, passes, keys, items)?;
     let mut asked = Vec::new(alloc);
     for n in 0..items.len() {
         keep(&mut asked, &keys[items[n]], &values[n])?;
@@ -180,60 +170,55 @@ fn asked<S: Items<SumKey, SumVal, P, R> + Sync, P: Send, R: Threads + Sync>(
     Ok(asked)
 }
 
-/// How many blocks are asked ahead for each worker. An overview has rows of few blocks, and the last of a row leaves all workers but one
-/// idle: of so many for each, little of the time.
-const FOR_EACH: usize = 8;
+/// Of how many blocks of a band the sums are kept at most. A band of more is so wide that its rows take longer than its blocks.
+const MOST: usize = 64;
 
-/// Sees to it that the sums of the first of these bands of a job are kept, where the job's plan is of sums and there are several workers:
-/// where one isn't, those of the bands that follow are asked too, until there are 8 for each worker. Says whether all that the first
-/// band is made of is kept. What is kept of bands that are gone is dropped before.
+/// Sees to it that the sums of a band's blocks are kept, where the job's plan is of blocks: those that are kept already, and the others,
+/// for which a worker for each pass asks. What is kept of bands that are gone is dropped before. So each block of a job is asked for once,
+/// also where it has places of several bands, however little a cache keeps.
 ///
-/// Nothing is asked ahead for a band that has as many items of its own, which is no better made that way, nor for one that has the items
-/// of the band `before`.
+/// Where a band has more than 64 blocks, none is kept: they are asked for once it is made.
 ///
 /// # Errors
 ///
-/// The fault of an item, which may be of a later band; or `NoMemory`. Then nothing is kept, and the band that it is for fails once it is
-/// made.
-pub fn keep_ahead<S: Items<SumKey, SumVal, P, R> + Sync, P: Send, R: Threads + Sync>(
+/// The fault of the first block of the band, in the plan's order, that failed; or `NoMemory`. Then nothing is kept.
+pub fn keep_band<S: Items<SumKey, SumVal, P, R> + Sync, P: Send, R: Threads + Wait + Sync>(
     rt: &R,
     alloc: Global,
     sums: &S,
     passes: &mut [P],
     job: &Job,
-    bands: &[Band],
-    before: &[usize],
+    band: &Band,
     kept: &mut Vec<KeptSum>,
-) -> Result<bool, Fault>
+) -> Result<(), Fault>
     requires some { 0 < length passes.old }
     requires job { IsJob job.now }
+    requires band { IsBandOf job.now band.now }
     requires sums { SumsServe job.now (S.fits sums.now) (S.means sums.now) }
     requires kept { AreKept (S.means sums.now) kept.old.items }
-    ensures { AreKept (S.means sums.now) kept.new.items }
+    ensures kept { AreKept (S.means sums.now) kept.new.items }
+    ensures fault { IfErr result (IsSumsFault (S.means sums.now) (S.failed sums.now) job.now.plan band.now.items.items) }
 {
     let Plan::Sum(keys) = &job.plan else {
-        return Ok(false);
-    };
-    let Some(band) = bands.first() else {
-        return Ok(false);
+        return Ok(());
     };
     let items = band.items.as_slice();
     if has_all(kept, keys, items) {
-        return Ok(true);
+        return Ok(());
     }
-    let enough = passes.len().saturating_mul(FOR_EACH);
-    if passes.len() < 2 || items.len() >= enough || items == before {
-        kept.clear();
-        return Ok(false);
-    }
-    let ahead = SumsAhead {
+    let before = WithKept {
         sums,
         kept: kept.as_slice(),
     };
-    let own = ahead.kept_of::<P, R>(alloc, keys, items);
+    let own = before.kept_of::<P, R>(alloc, keys, items);
     kept.clear();
-    let own = own?;
-    let list = items_ahead(alloc, bands, keys.len(), enough)?;
-    *kept = asked(rt, alloc, sums, passes, keys, &list, &own)?;
-    Ok(true)
+    let Ok(own) = own else {
+        return Err(Fault::NoMemory);
+    };
+    if items.len() > MOST {
+        *kept = own;
+        return Ok(());
+    }
+    *kept = asked(rt, alloc, sums, passes, keys, items, &own)?;
+    Ok(())
 }

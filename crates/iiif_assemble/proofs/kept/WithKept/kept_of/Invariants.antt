@@ -1,5 +1,5 @@
-use Rattle.iiif_assemble.specs.Ahead.{AreKept}
-use Rattle.iiif_assemble.proofs.ahead.SumsAhead.kept_of.Given as goal
+use Rattle.iiif_assemble.specs.Kept.{AreKept}
+use Rattle.iiif_assemble.proofs.kept.WithKept.kept_of.Given as goal
 
 -- those so far
 abbrev pub invariant-loop-sum : goal.invariant-loop-sum

@@ -1,5 +1,5 @@
-use Rattle.iiif_assemble.specs.Ahead.{AreKept}
-use Rattle.iiif_assemble.proofs.ahead.asked.Given as goal
+use Rattle.iiif_assemble.specs.Kept.{AreKept}
+use Rattle.iiif_assemble.proofs.kept.asked.Given as goal
 
 -- those so far
 abbrev pub invariant-loop-n : goal.invariant-loop-n

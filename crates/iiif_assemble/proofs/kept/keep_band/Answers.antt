@@ -4,7 +4,7 @@ use Rattle.iiif_pixel.specs.Geometry.{channels_of}
 use Rattle.iiif_keys.specs.declared.keys.SumKey.{SumKey}
 use Rattle.iiif_planner.specs.Plans.{IsBlockFor, IsPlan}
 use Rattle.iiif_planner.specs.declared.plans.Plan.{Plan}
-use Rattle.iiif_assemble.proofs.ahead.keep_ahead.Goals as goal
+use Rattle.iiif_assemble.proofs.kept.keep_band.Goals as goal
 
 pub asked-requires-clause-fits : goal.asked-requires-clause-fits
 asked-requires-clause-fits g c κs within =

@@ -1,9 +1,9 @@
--- What is kept of sums that were asked before.
+-- What is kept of the sums of a band's blocks.
 use Rattle.std.specs.Prelude.{◌≡◌, List, [], ◌∷◌, ◌++◌, All}
 use Rattle.std.specs.Arc.{arc_value}
 use Rattle.iiif_keys.specs.declared.keys.SumKey.{SumKey}
 use Rattle.iiif_keys.specs.declared.values.SumVal.{SumVal}
-use Rattle.iiif_assemble.specs.declared.ahead.KeptSum.{KeptSum}
+use Rattle.iiif_assemble.specs.declared.kept.KeptSum.{KeptSum}
 
 -- each value that is kept may be answered for its key
 abbrev pub AreKept : (SumKey → SumVal → Type 0) → List KeptSum → Type 0

@@ -1,8 +1,8 @@
 use Rattle.std.proofs.Common.{arith, sym}
 use Rattle.std.specs.Arc.{arc_value}
-use Rattle.iiif_assemble.proofs.AheadLemmas.{kept_more}
+use Rattle.iiif_assemble.proofs.KeptLemmas.{kept_more}
 use Rattle.iiif_assemble.proofs.ZipLemmas.{value_at, values_len}
-use Rattle.iiif_assemble.proofs.ahead.asked.Goals as goal
+use Rattle.iiif_assemble.proofs.kept.asked.Goals as goal
 
 pub index-requires : goal.index-requires
 index-requires g c =

@@ -4,8 +4,8 @@ use Rattle.std.specs.Arc.{arc_value}
 use Rattle.std.proofs.lemmas.List.Elements.{All-push, All-same}
 use Rattle.iiif_keys.specs.declared.keys.SumKey.{SumKey}
 use Rattle.iiif_keys.specs.declared.values.SumVal.{SumVal}
-use Rattle.iiif_assemble.specs.Ahead.{AreKept, IsKeptToo}
-use Rattle.iiif_assemble.specs.declared.ahead.KeptSum.{KeptSum}
+use Rattle.iiif_assemble.specs.Kept.{AreKept, IsKeptToo}
+use Rattle.iiif_assemble.specs.declared.kept.KeptSum.{KeptSum}
 
 -- one more
 pub kept_more : (means : SumKey → SumVal → Type 0) (old new : List KeptSum) (k : SumKey) (v : SumVal) → AreKept means old → means k v → IsKeptToo k v old new → AreKept means new
