@@ -1,6 +1,7 @@
 -- Lines of text that say what is wrong with a file, and what to do.
 use Rattle.std.specs.Prelude.{ℕ, Bool, ◌&&◌, List, codes, nat_eq, nat_lt, if◌then◌else◌}
-use Rattle.iiif_tiff.specs.Tiff.Tags.{BitsPerSample, Compression, PhotometricInterpretation, FillOrder, Orientation, SamplesPerPixel, PlanarConfiguration, ExtraSamples, SampleFormat}
+use Rattle.iiif_tiff.specs.Tiff.Tags.{BitsPerSample, Compression, PhotometricInterpretation, FillOrder, Orientation, SamplesPerPixel}
+use Rattle.iiif_tiff.specs.Tiff.Tags.{PlanarConfiguration, ExtraSamples, SampleFormat}
 use Rattle.iiif_tiff_read.specs.declared.fault.OpenFault.{OpenFault}
 use Rattle.iiif_tiff_read.specs.declared.fault.OpenFault.TheVariants as opens
 

@@ -8,7 +8,8 @@ use Rattle.iiif_answers.specs.Answers.{Reply}
 use Rattle.iiif_answers.specs.Settings.{Settings}
 use Rattle.iiif_request.specs.Refusals.{status_of, line_of}
 use Rattle.iiif_request.specs.declared.request.Refusal.{Refusal}
-use Rattle.iiif_request.specs.declared.request.Refusal.TheVariants.{Head, Method, Path, Identifier, Region, Size, Rotation, Quality, Format, Empty, Zero, Larger, Upscale, Limit}
+use Rattle.iiif_request.specs.declared.request.Refusal.TheVariants.{Head, Method, Path, Identifier, Region, Size, Rotation, Quality}
+use Rattle.iiif_request.specs.declared.request.Refusal.TheVariants.{Format, Empty, Zero, Larger, Upscale, Limit}
 use Rattle.iiif_answers.specs.Sent.{answer_of}
 use Rattle.iiif_answers.specs.Responses.{Response, written, line, content_type, any_origin, allowed_methods, refusal_response}
 use Rattle.iiif_answers.specs.declared.message.Message.{Message}
@@ -32,14 +33,17 @@ no_methods Upscale other = refl
 no_methods Limit other = refl
 
 -- an answer made of a refusal's status, fields and line
-pub refusal_made : {E : Type 0} (r : Result Message E) (part : Part) (e : Refusal) (status : ℕ) (more : List (List ℕ × List ℕ)) (body : List ℕ)
+pub refusal_made : {E : Type 0} (r : Result Message E) (part : Part) (e : Refusal) (status : ℕ) (more : List (List ℕ × List ℕ))
+    (body : List ℕ)
     → status ≡ status_of e → more ≡ allowed_methods e → body ≡ line (line_of e)
-    → IfOk r (λ m. answer_of m ≡ written part (record { status = status; fields = content_type (codes "text/plain") ∷ any_origin ∷ more; body = body }))
+    → IfOk r (λ m. answer_of m ≡ written part (record
+    { status = status; fields = content_type (codes "text/plain") ∷ any_origin ∷ more; body = body }))
     → IfOk r (λ m. answer_of m ≡ written part (refusal_response e))
 refusal_made r part e status more body s f b made = rw (s, f, b) at made
 
 -- an answer that may be given, and of which nothing is held, was made
-pub may_be_given : {S E : Type 0} (s : Settings) (part : Part) (gave : S → ReadFault → Bool) (Reaches : Reply S → Type 0) (r : Result Message E) (a : Response)
+pub may_be_given : {S E : Type 0} (s : Settings) (part : Part) (gave : S → ReadFault → Bool) (Reaches : Reply S → Type 0)
+    (r : Result Message E) (a : Response)
     → MayTell s part gave Reaches a → IfOk r (λ m. answer_of m ≡ written part a)
     → IfOk r (λ m. (x : Response) × MayTell s part gave Reaches x × (answer_of m ≡ written part x))
 may_be_given s part gave Reaches r a tell made = IfOk-weaker r (λ m. answer_of m ≡ written part a)

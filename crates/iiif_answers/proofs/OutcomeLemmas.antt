@@ -16,7 +16,8 @@ use Rattle.iiif_pixel.specs.declared.geometry.Kind.{Kind}
 use Rattle.iiif_pixel.specs.declared.geometry.Kind.TheVariants as kinds
 use Rattle.iiif_pixel.specs.declared.geometry.Quality.{Quality}
 use Rattle.iiif_pixel.specs.declared.geometry.Quality.TheVariants as q
-use Rattle.iiif_tiff.specs.Tiff.{IsReadable, Scheme, Shows, ShowsOnePicture, width, height, channels, bits, scheme, shown, refusal_of, white_of}
+use Rattle.iiif_tiff.specs.Tiff.{IsReadable, Scheme, Shows, ShowsOnePicture, width, height, channels, bits, scheme, shown, refusal_of}
+use Rattle.iiif_tiff.specs.Tiff.{white_of}
 use Rattle.iiif_tiff_write.specs.File.{file_len}
 use Rattle.iiif_tiff_write.specs.Laws.{ResultsFit}
 use Rattle.iiif_tiff_write.specs.OutKind as out
@@ -54,7 +55,8 @@ depth_is : (p : Picture) (d : Depth) → p.top ≡ top_of d → depth_of p ≡ d
 depth_is p depths.Eight e = rw e refl
 depth_is p depths.Sixteen e = rw e refl
 
-canonical_found : (x : Request) (d : Dim) (k : Kind) (l : Limits) (r : Resolved) → Ok r ≡ resolved_of x d k l → canonical x d k l ≡ Ok (canonical_of r d l)
+canonical_found : (x : Request) (d : Dim) (k : Kind) (l : Limits) (r : Resolved) → Ok r ≡ resolved_of x d k l →
+    canonical x d k l ≡ Ok (canonical_of r d l)
 unfolding canonical
 canonical_found x d k l r e = ap (λ (a : Result Resolved Refusal). a >>= (λ (b : Resolved). Ok (canonical_of b d l))) (sym e)
 
@@ -66,7 +68,8 @@ pictured bytes layout = picture_of layout.width layout.height layout.channels (w
 shown_le : (bytes : List ℕ) (p : Picture) → Shows bytes p → (x y k : ℕ) → x < width bytes → y < height bytes → k < channels bytes
     → shown bytes (scheme bytes) x y k ≤ white_of (bits bytes)
 shown_le bytes p shows x y k lx ly lk =
-    let at : sample_at p x y k ≡ shown bytes (scheme bytes) x y k = shows.places x y k (rw (shows.width_is) lx) (rw (shows.height_is) ly) (rw (shows.channels_is) lk) in
+    let at : sample_at p x y k ≡ shown bytes (scheme bytes) x y k =
+    shows.places x y k (rw (shows.width_is) lx) (rw (shows.height_is) ly) (rw (shows.channels_is) lk) in
     let below : sample_at p x y k ≤ p.top = sample_at-le p shows.whole x y k in
     subst (λ n. shown bytes (scheme bytes) x y k ≤ n) shows.top_is (subst (λ n. n ≤ p.top) at below)
 
@@ -83,10 +86,12 @@ pictured_shows bytes one =
       height_is = refl;
       channels_is = refl;
       top_is = refl;
-      whole = whole_picture_of (width bytes) (height bytes) (channels bytes) (white_of (bits bytes)) f (one_or_three one.0 (channels bytes) one.1.channels_is one.1.whole)
+      whole = whole_picture_of (width bytes) (height bytes) (channels bytes) (white_of (bits bytes)) f
+          (one_or_three one.0 (channels bytes) one.1.channels_is one.1.whole)
           (subst (λ n. (n ≡ 255) ⊎ (n ≡ 65535)) one.1.top_is one.1.whole.top)
           (λ x y k lx ly lk. shown_le bytes one.0 one.1 x y k lx ly lk);
-      places = λ x y k lx ly lk. sample_at-picture_of (width bytes) (height bytes) (channels bytes) (white_of (bits bytes)) f x y k lx ly lk;
+      places = λ x y k lx ly lk. sample_at-picture_of (width bytes) (height bytes) (channels bytes) (white_of (bits bytes)) f x y k lx ly
+          lk;
     }
 
 -- what is known of an item's file: where its source keeps its bytes, no check refuses them, and the layout is theirs
@@ -109,7 +114,8 @@ pictured_item bytes keeps item opened = record {
 }
 
 -- which is the one that the bytes show, where they are kept
-pub picture_same : {S : Type 0} (bytes : S → List ℕ) (keeps : S → Type 0) (item : Item S) → IsOpened bytes keeps item → (p : Picture) → keeps item.source →
+pub picture_same : {S : Type 0} (bytes : S → List ℕ) (keeps : S → Type 0) (item : Item S) → IsOpened bytes keeps item → (p : Picture) →
+    keeps item.source →
     IsPictureOf bytes keeps item p → picture_in bytes item ≡ p
 unfolding pictured picture_in
 picture_same bytes keeps item opened p kept is =
@@ -120,7 +126,8 @@ picture_same bytes keeps item opened p kept is =
 -- a picture of an item, with the sides, the channels and the depth that its layout says
 pub item_picture : {S : Type 0} (bytes : S → List ℕ) (keeps : S → Type 0) (item : Item S) (dim : Dim) → IsOpened bytes keeps item
     → dim.w ≡ item.layout.width → dim.h ≡ item.layout.height
-    → (p : Picture) × IsPictureOf bytes keeps item p × (dim_of p ≡ dim) × (p.channels ≡ item.layout.channels) × (p.top ≡ white_of item.layout.bits)
+    → (p : Picture) × IsPictureOf bytes keeps item p × (dim_of p ≡ dim) × (p.channels ≡ item.layout.channels) ×
+    (p.top ≡ white_of item.layout.bits)
 item_picture bytes keeps item dim opened w h =
     let p : Picture = pictured (bytes item.source) item.layout in
     let is = pictured_item bytes keeps item opened in
@@ -128,13 +135,16 @@ item_picture bytes keeps item dim opened w h =
     (p, is, sides, is.channels, is.top)
 
 -- what a request comes to for an item's picture
-pub comes : {S : Type 0} (bytes : S → List ℕ) (keeps : S → Type 0) (item : Item S) (limits : Limits) (w : Texts) (r c : Request) (dim : Dim) (k : Kind) (d : Depth) (resolved : Resolved)
-    (kind : OutKind) → IsOpened bytes keeps item → Says w (Ok r) → dim.w ≡ item.layout.width → dim.h ≡ item.layout.height → channels_of k ≡ item.layout.channels
+pub comes : {S : Type 0} (bytes : S → List ℕ) (keeps : S → Type 0) (item : Item S) (limits : Limits) (w : Texts) (r c : Request) (dim : Dim)
+    (k : Kind) (d : Depth) (resolved : Resolved)
+    (kind : OutKind) → IsOpened bytes keeps item → Says w (Ok r) → dim.w ≡ item.layout.width → dim.h ≡ item.layout.height →
+    channels_of k ≡ item.layout.channels
     → top_of d ≡ white_of item.layout.bits
     → ((p : Picture) → dim_of p ≡ dim → p.channels ≡ channels_of k → images.image p r limits ≡ image_from p (Ok resolved))
     → Ok resolved ≡ resolved_of r dim k limits → c ≡ canonical_of resolved dim limits → CanBeSpelled c → kind ≡ out_kind_of k d r.quality
     → Comes bytes keeps item limits w (record { resolved = resolved; canonical = c; kind = kind })
-comes bytes keeps item limits w r c dim k d resolved kind opened says width height channels top image resolves is_canonical spelled is_kind =
+comes bytes keeps item limits w r c dim k d resolved kind opened says width height channels top image resolves is_canonical spelled is_kind
+    =
     let found = item_picture bytes keeps item dim opened width height in
     let p = found.0 in
     let count : p.channels ≡ channels_of k = found.3 ∙ sym channels in
@@ -150,11 +160,14 @@ comes bytes keeps item limits w r c dim k d resolved kind opened says width heig
       is_image = image p found.2 count;
       is_canonical = first ∙ canonical_found r dim k limits resolved resolves ∙ ap Ok (sym is_canonical);
       spelled = spelled;
-      is_kind = is_kind ∙ ap (λ (x : Kind). out_kind_of x d r.quality) (sym of_kind) ∙ ap (λ (x : Depth). out_kind_of (kind_of p) x r.quality) (sym of_depth);
+      is_kind = is_kind ∙ ap (λ (x : Kind). out_kind_of x d r.quality) (sym of_kind) ∙
+          ap (λ (x : Depth). out_kind_of (kind_of p) x r.quality) (sym of_depth);
     }
 
-pub refused_comes : {S : Type 0} (bytes : S → List ℕ) (keeps : S → Type 0) (item : Item S) (limits : Limits) (w : Texts) (r : Request) (dim : Dim) (k : Kind) (e : Refusal)
-    → IsOpened bytes keeps item → Says w (Ok r) → dim.w ≡ item.layout.width → dim.h ≡ item.layout.height → channels_of k ≡ item.layout.channels
+pub refused_comes : {S : Type 0} (bytes : S → List ℕ) (keeps : S → Type 0) (item : Item S) (limits : Limits) (w : Texts) (r : Request)
+    (dim : Dim) (k : Kind) (e : Refusal)
+    → IsOpened bytes keeps item → Says w (Ok r) → dim.w ≡ item.layout.width → dim.h ≡ item.layout.height →
+    channels_of k ≡ item.layout.channels
     → ((p : Picture) → dim_of p ≡ dim → p.channels ≡ channels_of k → images.image p r limits ≡ image_from p (Err e))
     → IsRefused bytes keeps item limits w e
 refused_comes bytes keeps item limits w r dim k e opened says width height channels image =
@@ -174,7 +187,8 @@ kind_top kinds.Rgb depths.Eight = refl
 kind_top kinds.Rgb depths.Sixteen = refl
 
 -- the channels of an image are those of its file
-plain_channels : (k : Kind) (d : Depth) (to : Quality) → channels_in (plain_quality k to) (channels_of k) ≡ samples_per_pixel (out_kind_of k d to)
+plain_channels : (k : Kind) (d : Depth) (to : Quality) →
+    channels_in (plain_quality k to) (channels_of k) ≡ samples_per_pixel (out_kind_of k d to)
 plain_channels kinds.Gray d q.Default = kind_channels kinds.Gray d
 plain_channels kinds.Gray d q.Color = kind_channels kinds.Gray d
 plain_channels kinds.Gray d q.Gray = kind_channels kinds.Gray d
@@ -197,7 +211,8 @@ plain_top kinds.Rgb d q.Bitonal = refl
 
 size_quality : (rect : Rect) (b : Result Dim Refusal) (t : Turn) (u : Quality) (r : Resolved)
     → (b >>= (λ size. Ok (record { rect = rect; size = size; turn = t; quality = u }))) ≡ Ok r → r.quality ≡ u
-size_quality rect (Ok size) t u r e = let same : record { rect = rect; size = size; turn = t; quality = u } ≡ r = cc in ap (λ (x : Resolved). x.quality) (sym same)
+size_quality rect (Ok size) t u r e = let same : record { rect = rect; size = size; turn = t; quality = u } ≡ r = cc in
+    ap (λ (x : Resolved). x.quality) (sym same)
 size_quality rect (Err x) t u r e = cc
 
 rect_quality : (a : Result Rect Refusal) (s : Rect → Result Dim Refusal) (t : Turn) (u : Quality) (r : Resolved)
@@ -205,28 +220,35 @@ rect_quality : (a : Result Rect Refusal) (s : Rect → Result Dim Refusal) (t : 
 rect_quality (Ok rect) s t u r e = size_quality rect (s rect) t u r e
 rect_quality (Err x) s t u r e = cc
 
-pub quality_is : (x : Request) (d : Dim) (k : Kind) (l : Limits) (r : Resolved) → Ok r ≡ resolved_of x d k l → r.quality ≡ plain_quality k x.quality
+pub quality_is : (x : Request) (d : Dim) (k : Kind) (l : Limits) (r : Resolved) → Ok r ≡ resolved_of x d k l →
+    r.quality ≡ plain_quality k x.quality
 unfolding resolved_of
-quality_is x d k l r e = rect_quality (region_of x.region d) (λ rect. size_of x.size rect.w rect.h l) (turn_of x.rotation) (plain_quality k x.quality) r (sym e)
+quality_is x d k l r e = rect_quality (region_of x.region d) (λ rect. size_of x.size rect.w rect.h l) (turn_of x.rotation)
+    (plain_quality k x.quality) r (sym e)
 
 pub file_fits : ResultsFit → (kind : OutKind) (t : Turn) (size : Dim) (l : Limits)
     → (size.w ≤ l.max_w) × (size.h ≤ l.max_h) → l.max_w ≤ 16384 → l.max_h ≤ 16384 → file_len kind (turned_dim t size) < 2 ^ 32
 file_fits law kind t size l within width height =
     let w : size.w ≤ 16384 = omega (arith, within.0, width) in
     let h : size.h ≤ 16384 = omega (arith, within.1, height) in
-    law kind (turned_dim t size) (chosen_le (t.quarters % 2 == 0) size.w size.h 16384 w h) (chosen_le (t.quarters % 2 == 0) size.h size.w 16384 h w)
+    law kind (turned_dim t size) (chosen_le (t.quarters % 2 == 0) size.w size.h 16384 w h)
+    (chosen_le (t.quarters % 2 == 0) size.h size.w 16384 h w)
 
 -- the channels of an image are those of its file
-pub channels_fit : (k : Kind) (d : Depth) (to plain : Quality) (n : ℕ) (kind : OutKind) → plain ≡ plain_quality k to → channels_of k ≡ n → kind ≡ out_kind_of k d to
+pub channels_fit : (k : Kind) (d : Depth) (to plain : Quality) (n : ℕ) (kind : OutKind) → plain ≡ plain_quality k to → channels_of k ≡ n →
+    kind ≡ out_kind_of k d to
     → channels_in plain n ≡ samples_per_pixel kind
 channels_fit k d to plain n kind e m of =
-    ap (λ (u : Quality). channels_in u n) e ∙ ap (channels_in (plain_quality k to)) (sym m) ∙ plain_channels k d to ∙ ap samples_per_pixel (sym of)
+    ap (λ (u : Quality). channels_in u n) e ∙ ap (channels_in (plain_quality k to)) (sym m) ∙ plain_channels k d to ∙
+    ap samples_per_pixel (sym of)
 
 -- and so is its depth
-pub top_fits : (k : Kind) (d : Depth) (to plain : Quality) (n : ℕ) (kind : OutKind) → plain ≡ plain_quality k to → top_of d ≡ n → kind ≡ out_kind_of k d to
+pub top_fits : (k : Kind) (d : Depth) (to plain : Quality) (n : ℕ) (kind : OutKind) → plain ≡ plain_quality k to → top_of d ≡ n →
+    kind ≡ out_kind_of k d to
     → top_in plain n ≡ top_of (out_depth kind)
 top_fits k d to plain n kind e m of =
-    ap (λ (u : Quality). top_in u n) e ∙ ap (top_in (plain_quality k to)) (sym m) ∙ plain_top k d to ∙ ap (λ (x : OutKind). top_of (out_depth x)) (sym of)
+    ap (λ (u : Quality). top_in u n) e ∙ ap (top_in (plain_quality k to)) (sym m) ∙ plain_top k d to ∙
+    ap (λ (x : OutKind). top_of (out_depth x)) (sym of)
 
 pub lies_in_layout : (r : Rect) (d e : Dim) → d.w ≡ e.w → d.h ≡ e.h → LiesIn r d → LiesIn r e
 lies_in_layout r d e w h lies = record {
@@ -238,7 +260,8 @@ area_within : (a b w h : ℕ) → a ≤ w → b ≤ h → w * h ≤ 2 ^ 32 → a
 area_within a b w h columns rows area = omega (arith, mul-le-mul columns rows, area)
 
 -- what a request comes to is small enough to be averaged
-pub sizes_within : (r : Resolved) (d : Dim) (k : Kind) (l : Limits) → IsResolved d k l r → IsReadable d → IsScalable (sides_of r.rect) r.size
+pub sizes_within : (r : Resolved) (d : Dim) (k : Kind) (l : Limits) → IsResolved d k l r → IsReadable d →
+    IsScalable (sides_of r.rect) r.size
 sizes_within r d k l resolved limits = record {
   columns = omega (arith, resolved.not_empty.0);
   rows = omega (arith, resolved.not_empty.1);
@@ -248,6 +271,7 @@ sizes_within r d k l resolved limits = record {
 }
 
 -- a refusal that is passed on
-pub refused_exit : {S : Type 0} (bytes : S → List ℕ) (keeps : S → Type 0) (item : Item S) (limits : Limits) (w : Texts) (r : Result Accepted Refusal) (e f : Refusal)
+pub refused_exit : {S : Type 0} (bytes : S → List ℕ) (keeps : S → Type 0) (item : Item S) (limits : Limits) (w : Texts)
+    (r : Result Accepted Refusal) (e f : Refusal)
     → r ≡ Err e → e ≡ f → IsRefused bytes keeps item limits w f → Accepts bytes keeps item limits w r
 refused_exit bytes keeps item limits w r e f is same refused = rw (is, same) refused

@@ -1,5 +1,6 @@
 -- Fields of answers are plain: their values are fixed, or of visible bytes.
-use Rattle.std.proofs.Common.{◌≡◌, ℕ, suc, ◌+◌, ◌/◌, ◌%◌, ◌^◌, ◌<◌, Bool, true, false, ◌&&◌, nat_le, nat_lt, List, [], ◌∷◌, ◌++◌, length, take, drop, refl, subst, ◌∙◌, arith, bytes_eq, Some, None, decimal}
+use Rattle.std.proofs.Common.{◌≡◌, ℕ, suc, ◌+◌, ◌/◌, ◌%◌, ◌^◌, ◌<◌, Bool, true, false, ◌&&◌, nat_le, nat_lt, List, [], ◌∷◌, ◌++◌, length}
+use Rattle.std.proofs.Common.{take, drop, refl, subst, ◌∙◌, arith, bytes_eq, Some, None, decimal}
 use Rattle.std.specs.Prelude.{All, codes, if◌then◌else◌, ◌==◌, is_some, position, nat_eq}
 use Rattle.std.specs.Char.{is_ascii_digit}
 use Rattle.std.specs.Fmt.{digit_glyph}
@@ -31,11 +32,13 @@ use Rattle.iiif_request.specs.declared.request.Region.{Region}
 use Rattle.iiif_request.specs.declared.request.Region.TheVariants as region
 use Rattle.iiif_request.specs.declared.request.Request.{Request}
 use Rattle.iiif_canonical.specs.Escapes.{is_unreserved, escape_of, escaped}
-use Rattle.iiif_canonical.specs.Texts.{last_digits, decimal_text, region_text, form_text, size_text, rotation_text, quality_text, text_of, image_uri_of, uri_of, CanBeSpelled}
+use Rattle.iiif_canonical.specs.Texts.{last_digits, decimal_text, region_text, form_text, size_text, rotation_text, quality_text, text_of}
+use Rattle.iiif_canonical.specs.Texts.{image_uri_of, uri_of, CanBeSpelled}
 use Rattle.iiif_canonical.proofs.NumeralTexts.{decimal_digits, last_digits_are, whole_part_small}
 use Rattle.iiif_canonical.proofs.SpellingLemmas.{spellable}
 use Rattle.iiif_answers.specs.Allowed.{IsFramed, refusal, redirect, information, an_image, failed_read, no_memory}
-use Rattle.iiif_answers.specs.BaseUrl.{is_authority, is_base_url, is_colon, is_hierarchy, is_host, is_host_byte, is_path, is_port, is_segment, is_slash, behind_scheme}
+use Rattle.iiif_answers.specs.BaseUrl.{is_authority, is_base_url, is_colon, is_hierarchy, is_host, is_host_byte, is_path, is_port}
+use Rattle.iiif_answers.specs.BaseUrl.{is_segment, is_slash, behind_scheme}
 use Rattle.iiif_answers.specs.Responses.{Response, allowed_methods, any_origin, canonical_link, content_type, information_uri, json_ld}
 use Rattle.iiif_answers.specs.Settings.{Settings, IsLegal}
 
@@ -72,7 +75,8 @@ decimal_by d true small is =
     whole_visible d.digits (subst P none small)
 decimal_by d false small is =
     joined_visible (decimal (d.digits / 10 ^ d.places) ++ codes ".") (last_digits d.places d.digits)
-    (joined_visible (decimal (d.digits / 10 ^ d.places)) (codes ".") (whole_visible (d.digits / 10 ^ d.places) (whole_part_small d small)) refl)
+    (joined_visible (decimal (d.digits / 10 ^ d.places)) (codes ".") (whole_visible (d.digits / 10 ^ d.places) (whole_part_small d small))
+    refl)
     (digits_visible (last_digits d.places d.digits) (last_digits_are d.places d.digits))
 
 decimal_visible : (d : Decimal) → IsSmallDecimal d → IsVisible (decimal_text d)
@@ -88,12 +92,14 @@ region_visible region.Square small = refl
 region_visible (region.Pixels x y w h) small =
     comma_visible (decimal x ++ codes "," ++ decimal y ++ codes "," ++ decimal w) (decimal h)
     (comma_visible (decimal x ++ codes "," ++ decimal y) (decimal w)
-    (comma_visible (decimal x) (decimal y) (whole_visible x small.0) (whole_visible y small.1)) (whole_visible w small.2)) (whole_visible h small.3)
+    (comma_visible (decimal x) (decimal y) (whole_visible x small.0) (whole_visible y small.1)) (whole_visible w small.2))
+    (whole_visible h small.3)
 region_visible (region.Percents x y w h) small =
     let a = codes "pct:" ++ decimal_text x in
     comma_visible (a ++ codes "," ++ decimal_text y ++ codes "," ++ decimal_text w) (decimal_text h)
     (comma_visible (a ++ codes "," ++ decimal_text y) (decimal_text w)
-    (comma_visible a (decimal_text y) (joined_visible (codes "pct:") (decimal_text x) refl (decimal_visible x small.0)) (decimal_visible y small.1)) (decimal_visible w small.2))
+    (comma_visible a (decimal_text y) (joined_visible (codes "pct:") (decimal_text x) refl (decimal_visible x small.0))
+    (decimal_visible y small.1)) (decimal_visible w small.2))
     (decimal_visible h small.3)
 
 form_visible : (f : Form) → IsSmallForm f → IsVisible (form_text f)
@@ -103,7 +109,8 @@ form_visible (form.Height h) small = joined_visible (codes ",") (decimal h) refl
 form_visible (form.Percent n) small = joined_visible (codes "pct:") (decimal_text n) refl (decimal_visible n small)
 form_visible (form.Both w h) small = comma_visible (decimal w) (decimal h) (whole_visible w small.0) (whole_visible h small.1)
 form_visible (form.Within w h) small =
-    comma_visible (codes "!" ++ decimal w) (decimal h) (joined_visible (codes "!") (decimal w) refl (whole_visible w small.0)) (whole_visible h small.1)
+    comma_visible (codes "!" ++ decimal w) (decimal h) (joined_visible (codes "!") (decimal w) refl (whole_visible w small.0))
+    (whole_visible h small.1)
 
 mark_visible : (t : Bool) (text : List ℕ) → IsVisible text → IsVisible (mark t text)
 mark_visible true text is = is
@@ -119,15 +126,21 @@ text_visible : (q : Request) → CanBeSpelled q → IsVisible (text_of q)
 unfolding text_of
 text_visible q can =
     let small = (spellable q can).small in
-    let size = joined_visible (mark q.size.up (codes "%5E")) (form_text q.size.form) (mark_visible q.size.up (codes "%5E") refl) (form_visible q.size.form small.size) in
-    let rotation = joined_visible (mark q.rotation.mirror (codes "!")) (decimal_text q.rotation.degrees) (mark_visible q.rotation.mirror (codes "!") refl)
+    let size = joined_visible (mark q.size.up (codes "%5E")) (form_text q.size.form) (mark_visible q.size.up (codes "%5E") refl)
+    (form_visible q.size.form small.size) in
+    let rotation = joined_visible (mark q.rotation.mirror (codes "!")) (decimal_text q.rotation.degrees)
+    (mark_visible q.rotation.mirror (codes "!") refl)
     (decimal_visible q.rotation.degrees small.degrees) in
-    let first = joined_visible (region_text q.region ++ codes "/") (size_text q.size) (joined_visible (region_text q.region) (codes "/") (region_visible q.region small.region) refl) size in
+    let first = joined_visible (region_text q.region ++ codes "/") (size_text q.size)
+    (joined_visible (region_text q.region) (codes "/") (region_visible q.region small.region) refl) size in
     let second = joined_visible (region_text q.region ++ codes "/" ++ size_text q.size ++ codes "/") (rotation_text q.rotation)
     (joined_visible (region_text q.region ++ codes "/" ++ size_text q.size) (codes "/") first refl) rotation in
-    let third = joined_visible (region_text q.region ++ codes "/" ++ size_text q.size ++ codes "/" ++ rotation_text q.rotation ++ codes "/") (quality_text q.quality)
-    (joined_visible (region_text q.region ++ codes "/" ++ size_text q.size ++ codes "/" ++ rotation_text q.rotation) (codes "/") second refl) (quality_visible q.quality) in
-    joined_visible (region_text q.region ++ codes "/" ++ size_text q.size ++ codes "/" ++ rotation_text q.rotation ++ codes "/" ++ quality_text q.quality) (codes ".tif") third refl
+    let third = joined_visible (region_text q.region ++ codes "/" ++ size_text q.size ++ codes "/" ++ rotation_text q.rotation ++ codes "/")
+    (quality_text q.quality)
+    (joined_visible (region_text q.region ++ codes "/" ++ size_text q.size ++ codes "/" ++ rotation_text q.rotation) (codes "/") second
+    refl) (quality_visible q.quality) in
+    joined_visible (region_text q.region ++ codes "/" ++ size_text q.size ++ codes "/" ++ rotation_text q.rotation ++ codes "/" ++
+    quality_text q.quality) (codes ".tif") third refl
 
 -- ---- An identifier
 
@@ -186,7 +199,8 @@ host_visible : (text : List ℕ) → is_host text ≡ true → IsVisible text
 unfolding is_host
 host_visible text is = weaker is_host_byte is_uri_byte host_byte_visible text (and_parts _ _ is).1
 
-port_by : (text : List ℕ) (t : Bool) → list_all is_ascii_digit text ≡ t → option_map_or (λ n. nat_le n 65535) (numeral_of 5 text) false ≡ true → list_all is_ascii_digit text ≡ true
+port_by : (text : List ℕ) (t : Bool) → list_all is_ascii_digit text ≡ t →
+    option_map_or (λ n. nat_le n 65535) (numeral_of 5 text) false ≡ true → list_all is_ascii_digit text ≡ true
 unfolding is_numeral
 port_by text true is port = is
 port_by text false is port =
@@ -207,7 +221,8 @@ authority_by : (text : List ℕ) (t : Bool)
     → (if t then is_host (before_first is_colon text) && is_port (after_first is_colon text) else is_host text) ≡ true → IsVisible text
 authority_by text true is =
     let both = and_parts _ _ is in
-    parted_visible is_colon text colon_visible (host_visible (before_first is_colon text) both.0) (port_visible (after_first is_colon text) both.1)
+    parted_visible is_colon text colon_visible (host_visible (before_first is_colon text) both.0)
+    (port_visible (after_first is_colon text) both.1)
 authority_by text false is = host_visible text is
 
 authority_visible : (text : List ℕ) → is_authority text ≡ true → IsVisible text
@@ -231,10 +246,12 @@ path_visible text is =
     (segments_joined (slice_split is_slash text) (weaker is_segment (list_all is_uri_byte) segment_visible (slice_split is_slash text) is))
 
 hierarchy_by : (rest : List ℕ) (t : Bool)
-    → (if t then is_authority (before_first is_slash rest) && is_path (after_first is_slash rest) else is_authority rest) ≡ true → IsVisible rest
+    → (if t then is_authority (before_first is_slash rest) && is_path (after_first is_slash rest) else is_authority rest) ≡ true →
+    IsVisible rest
 hierarchy_by rest true is =
     let both = and_parts _ _ is in
-    parted_visible is_slash rest slash_visible (authority_visible (before_first is_slash rest) both.0) (path_visible (after_first is_slash rest) both.1)
+    parted_visible is_slash rest slash_visible (authority_visible (before_first is_slash rest) both.0)
+    (path_visible (after_first is_slash rest) both.1)
 hierarchy_by rest false is = authority_visible rest is
 
 hierarchy_visible : (rest : List ℕ) → is_hierarchy rest ≡ true → IsVisible rest
@@ -242,7 +259,8 @@ unfolding is_hierarchy
 hierarchy_visible rest is = hierarchy_by rest (is_some (position is_slash rest)) is
 
 -- a text that begins with visible bytes, and whose rest is visible
-begun_visible : (url needle : List ℕ) (n : ℕ) → bytes_eq needle (take n url) ≡ true → IsVisible needle → IsVisible (drop n url) → IsVisible url
+begun_visible : (url needle : List ℕ) (n : ℕ) → bytes_eq needle (take n url) ≡ true → IsVisible needle → IsVisible (drop n url) →
+    IsVisible url
 begun_visible url needle n begins front back =
     let same : needle ≡ take n url = (bytes_eq-Decides needle (take n url)).0 begins in
     subst IsVisible (take-append-drop n url) (joined_visible (take n url) (drop n url) (subst IsVisible same front) back)
@@ -253,7 +271,8 @@ secure_by url true begins is = begun_visible url (codes "https://") 8 begins ref
 secure_by url false begins is = cc
 
 scheme_by : (url : List ℕ) (t : Bool) → starts_with nat_eq url (codes "http://") ≡ t
-    → option_map_or is_hierarchy (if t then Some (drop 7 url) else (if starts_with nat_eq url (codes "https://") then Some (drop 8 url) else None)) false ≡ true
+    → option_map_or is_hierarchy (if t then Some (drop 7 url) else
+    (if starts_with nat_eq url (codes "https://") then Some (drop 8 url) else None)) false ≡ true
     → IsVisible url
 scheme_by url true begins is = begun_visible url (codes "http://") 7 begins refl (hierarchy_visible (drop 7 url) is)
 scheme_by url false begins is = secure_by url _ refl is
@@ -272,8 +291,10 @@ image_uri_visible base name is =
 link_visible : (base name : List ℕ) (q : Request) → IsVisible base → CanBeSpelled q → IsVisible (canonical_link (uri_of base name q))
 unfolding uri_of
 link_visible base name q is can =
-    let uri = joined_visible (image_uri_of base name ++ codes "/") (text_of q) (joined_visible (image_uri_of base name) (codes "/") (image_uri_visible base name is) refl) (text_visible q can) in
-    joined_visible (codes "<" ++ uri_of base name q) (codes ">;rel=\"canonical\"") (joined_visible (codes "<") (uri_of base name q) refl uri) refl
+    let uri = joined_visible (image_uri_of base name ++ codes "/") (text_of q)
+    (joined_visible (image_uri_of base name) (codes "/") (image_uri_visible base name is) refl) (text_visible q can) in
+    joined_visible (codes "<" ++ uri_of base name q) (codes ">;rel=\"canonical\"")
+    (joined_visible (codes "<") (uri_of base name q) refl uri) refl
 
 location_visible : (base name : List ℕ) → IsVisible base → IsVisible (information_uri base name)
 location_visible base name is = joined_visible (image_uri_of base name) (codes "/info.json") (image_uri_visible base name is) refl
@@ -322,7 +343,8 @@ methods_plain refused.Larger = All-nil IsPlainField
 methods_plain refused.Upscale = All-nil IsPlainField
 methods_plain refused.Limit = All-nil IsPlainField
 
-two_plain : (f : List ℕ × List ℕ) (more : List (List ℕ × List ℕ)) → IsPlainField f → All IsPlainField more → All IsPlainField (f ∷ any_origin ∷ more)
+two_plain : (f : List ℕ × List ℕ) (more : List (List ℕ × List ℕ)) → IsPlainField f → All IsPlainField more →
+    All IsPlainField (f ∷ any_origin ∷ more)
 two_plain f more first rest = All-cons IsPlainField f (any_origin ∷ more) first (All-cons IsPlainField any_origin more origin_plain rest)
 
 -- the fields of each answer are plain where the base URL is one
@@ -331,7 +353,8 @@ fields_plain S s _ legal (refusal e) = two_plain (content_type (codes "text/plai
 fields_plain S s _ legal (redirect item) =
     All-cons IsPlainField any_origin ((codes "Location", information_uri s.base item.name) ∷ []) origin_plain
     (All-cons IsPlainField (codes "Location", information_uri s.base item.name) []
-    (plain_visible (codes "Location") (information_uri s.base item.name) location_name (location_visible s.base item.name (base_visible s.base legal.base))) (All-nil IsPlainField))
+    (plain_visible (codes "Location") (information_uri s.base item.name) location_name
+    (location_visible s.base item.name (base_visible s.base legal.base))) (All-nil IsPlainField))
 fields_plain S s _ legal (information item) = two_plain (content_type json_ld) [] json_plain (All-nil IsPlainField)
 fields_plain S s _ legal (an_image item q canonical p asked image kind sides is_image same spelled) =
     let link : List ℕ × List ℕ = (codes "Link", canonical_link (uri_of s.base item.name canonical)) in

@@ -12,7 +12,8 @@ use Rattle.iiif_delivery.specs.Delivery.{IsHeldInBands}
 use Rattle.iiif_answers.specs.Answers as answers
 use Rattle.iiif_answers.specs.Answers.{Reply, Given, given}
 use Rattle.iiif_images.specs.Collection.{Item}
-use Rattle.iiif_answers.specs.Responses.{Response, refusal_response, redirect_response, information_response, image_response, response_of, source_fault, want_of_memory, written, is_loaded}
+use Rattle.iiif_answers.specs.Responses.{Response, refusal_response, redirect_response, information_response, image_response, response_of}
+use Rattle.iiif_answers.specs.Responses.{source_fault, want_of_memory, written, is_loaded}
 use Rattle.iiif_answers.specs.Sent.{text_of}
 use Rattle.iiif_io.specs.Sending.{IsStrictPrefix}
 use Rattle.iiif_answers.specs.Settings.{Settings, limits_of}
@@ -28,7 +29,8 @@ use Rattle.iiif_answers.specs.declared.part.Part.TheVariants.{Body, Whole, Head}
 -- Which answers may be given. Reaches: the call reaches that reply. gave: the faults of reads that a source gave. The call's
 -- own; where it reaches an image that is loaded for it, that of a fault that the image's source gave; and that of want of
 -- memory.
-pub data MayAnswer {S : Type 0} (settings : Settings) (part : Part) (gave : S → ReadFault → Bool) (Reaches : Reply S → Type 0) : Response → Type 0 where
+pub data MayAnswer {S : Type 0} (settings : Settings) (part : Part) (gave : S → ReadFault → Bool) (Reaches : Reply S → Type 0) : Response →
+    Type 0 where
   own : (r : Reply S) → Reaches r → MayAnswer settings part gave Reaches (response_of settings r)
   source_failed : (g : Given S) (f : ReadFault) → Reaches (given g) → is_loaded part ≡ true → IsTrue (gave g.item.source f)
       → MayAnswer settings part gave Reaches source_fault
@@ -45,7 +47,8 @@ HoldsFor settings (Whole close) (given g) held = IsHeldInBands (dim_of g.image) 
 HoldsFor settings (Head close) (given g) held = held ≡ 0
 
 -- the same of an answer
-abbrev pub Holds : {S : Type 0} (settings : Settings) (part : Part) (gave : S → ReadFault → Bool) (Reaches : Reply S → Type 0) (a : Response)
+abbrev pub Holds : {S : Type 0} (settings : Settings) (part : Part) (gave : S → ReadFault → Bool) (Reaches : Reply S → Type 0)
+    (a : Response)
     → MayAnswer settings part gave Reaches a → ℕ → Type 0
 Holds settings part gave Reaches _ (own r reached) held = HoldsFor settings part r held
 Holds settings part gave Reaches _ (source_failed g f reached loaded failed) held = held ≡ 0
@@ -75,7 +78,8 @@ IsCut {S} settings part gave Reaches writer text (Load fault) =
     (g : Given S) × Reaches (given g) × MayFail gave g.item.source fault × EndsInBody settings part g text
 
 -- The text may be what is sent of that part of an answer, with that result.
-abbrev pub Allowed : {S : Type 0} → Settings → Part → (S → ReadFault → Bool) → (Reply S → Type 0) → Type 0 → List ℕ → Result Sent Cut → Type 0
+abbrev pub Allowed : {S : Type 0} → Settings → Part → (S → ReadFault → Bool) → (Reply S → Type 0) → Type 0 → List ℕ → Result Sent Cut →
+    Type 0
 Allowed settings part gave Reaches writer text (Ok sent) =
     (a : Response) × (may : MayAnswer settings part gave Reaches a) × (text ≡ text_of (written part a)) × (sent.status ≡ a.status)
     × (sent.bytes ≡ length text) × Holds settings part gave Reaches a may sent.held

@@ -56,7 +56,8 @@ identifier_of (image id words) = id
 
 -- The words ask for this image of its item's picture. It is the one that is sent where the item's source keeps its bytes and other
 -- nodes, from which values may come, are honest.
-pub record IsGiven {S : Type 0} (bytes : S → List ℕ) (keeps : S → Type 0) (honest : Bool) (limits : Limits) (w : Texts) (g : Given S) : Type 0 where
+pub record IsGiven {S : Type 0} (bytes : S → List ℕ) (keeps : S → Type 0) (honest : Bool) (limits : Limits) (w : Texts) (g : Given S) : Type
+    0 where
   pub is_picture : IsPictureOf bytes keeps g.item g.picture
   pub says : Says w (Ok g.request)
   pub is_image : images.image g.picture g.request limits ≡ Ok g.asked
@@ -67,18 +68,22 @@ pub record IsGiven {S : Type 0} (bytes : S → List ℕ) (keeps : S → Type 0) 
 -- bytes: those of a source. keeps: they don't change, and a read that succeeds gives them; where a source doesn't, its item is
 -- still answered by the sides that its file said. honest: the values that other nodes answer are right; no case but that of images
 -- asks for it. Each case has its premises; the refusals come in the order of the checks.
-pub data Replies {S : Type 0} (bytes : S → List ℕ) (keeps : S → Type 0) (honest : Bool) (settings : Settings) (items : List (Item S)) (target : List ℕ) : Reply S → Type 0 where
-  no_path : ((r : Resource) → ¬ (AsksFor (path_of settings.base) target r)) → Replies bytes keeps honest settings items target (refused Path)
+pub data Replies {S : Type 0} (bytes : S → List ℕ) (keeps : S → Type 0) (honest : Bool) (settings : Settings) (items : List (Item S))
+    (target : List ℕ) : Reply S → Type 0 where
+  no_path : ((r : Resource) → ¬ (AsksFor (path_of settings.base) target r)) →
+      Replies bytes keeps honest settings items target (refused Path)
   no_item : (r : Resource) → AsksFor (path_of settings.base) target r → item_named items (identifier_of r) ≡ None
       → Replies bytes keeps honest settings items target (refused Identifier)
   of_base : (id : List ℕ) (item : Item S) → AsksFor (path_of settings.base) target (base id) → item_named items id ≡ Some item
       → Replies bytes keeps honest settings items target (redirect item)
   of_information : (id : List ℕ) (item : Item S) (p : Picture) → AsksFor (path_of settings.base) target (information id)
-      → item_named items id ≡ Some item → IsPictureOf bytes keeps item p → Replies bytes keeps honest settings items target (described item (dim_of p))
+      → item_named items id ≡ Some item → IsPictureOf bytes keeps item p →
+      Replies bytes keeps honest settings items target (described item (dim_of p))
   no_request : (id : List ℕ) (w : Texts) (item : Item S) (e : Refusal) → AsksFor (path_of settings.base) target (image id w)
       → item_named items id ≡ Some item → Says w (Err e) → Replies bytes keeps honest settings items target (refused e)
   no_image : (id : List ℕ) (w : Texts) (item : Item S) (p : Picture) (q : Request) (e : Refusal)
       → AsksFor (path_of settings.base) target (image id w) → item_named items id ≡ Some item → IsPictureOf bytes keeps item p
       → Says w (Ok q) → images.image p q (limits_of settings) ≡ Err e → Replies bytes keeps honest settings items target (refused e)
   of_image : (id : List ℕ) (w : Texts) (g : Given S) → AsksFor (path_of settings.base) target (image id w)
-      → item_named items id ≡ Some g.item → IsGiven bytes keeps honest (limits_of settings) w g → Replies bytes keeps honest settings items target (given g)
+      → item_named items id ≡ Some g.item → IsGiven bytes keeps honest (limits_of settings) w g →
+      Replies bytes keeps honest settings items target (given g)

@@ -1,6 +1,7 @@
 -- The base URL of a server: RFC 3986, sections 3.1 to 3.3, in the profile that a scheme, a host, perhaps a port, and path
 -- segments of unreserved characters stand there.
-use Rattle.std.specs.Prelude.{ℕ, Bool, false, ◌&&◌, ◌||◌, ◌==◌, List, [], length, drop, codes, nat_eq, nat_lt, nat_le, if◌then◌else◌, Option, None, Some, is_some, position}
+use Rattle.std.specs.Prelude.{ℕ, Bool, false, ◌&&◌, ◌||◌, ◌==◌, List, [], length, drop, codes, nat_eq, nat_lt, nat_le, if◌then◌else◌}
+use Rattle.std.specs.Prelude.{Option, None, Some, is_some, position}
 use Rattle.std.specs.Option.{option_map_or}
 use Rattle.std.specs.List.{before_first, after_first, slice_split, starts_with, list_all}
 use Rattle.std.specs.Char.{is_ascii_alphanumeric}

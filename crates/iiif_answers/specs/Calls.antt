@@ -20,6 +20,8 @@ abbrev pub part_of : List ℕ → Bool → Part
 part_of method close = if is_head method then Head close else Whole close
 
 -- bytes, keeps: those of a source. honest: other nodes are. Another method is refused before the target is looked at.
-pub data RepliesToCall {S : Type 0} (bytes : S → List ℕ) (keeps : S → Type 0) (honest : Bool) (settings : Settings) (items : List (Item S)) (method target : List ℕ) : Reply S → Type 0 where
+pub data RepliesToCall {S : Type 0} (bytes : S → List ℕ) (keeps : S → Type 0) (honest : Bool) (settings : Settings) (items : List (Item S))
+    (method target : List ℕ) : Reply S → Type 0 where
   no_method : is_answered method ≡ false → RepliesToCall bytes keeps honest settings items method target (refused Method)
-  of_target : (r : Reply S) → is_answered method ≡ true → Replies bytes keeps honest settings items target r → RepliesToCall bytes keeps honest settings items method target r
+  of_target : (r : Reply S) → is_answered method ≡ true → Replies bytes keeps honest settings items target r →
+      RepliesToCall bytes keeps honest settings items method target r

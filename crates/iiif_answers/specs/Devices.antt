@@ -26,11 +26,13 @@ IsWholeOrWanting {S} settings part Reaches text (Err cut) =
 -- Where the source of an image that the call reaches gave no fault and the writer didn't fail, what is sent for the call is nothing else.
 abbrev pub IsImageAlone : {S : Type 0} → (S → ReadFault → Bool) → Type 0 → Settings → (Reply S → Type 0) → Type 0
 IsImageAlone {S} gave writer settings Reaches =
-    (part : Part) (g : Given S) (text : List ℕ) (result : Result Sent Cut) → ((h : Given S) (f : ReadFault) → Reaches (given h) → ¬ IsTrue (gave h.item.source f)) → ¬ writer
+    (part : Part) (g : Given S) (text : List ℕ) (result : Result Sent Cut) →
+    ((h : Given S) (f : ReadFault) → Reaches (given h) → ¬ IsTrue (gave h.item.source f)) → ¬ writer
     → Reaches (given g) → Allowed settings part gave Reaches writer text result → IsWholeOrWanting settings part Reaches text result
 
 -- So it is of each target and of each call.
 abbrev pub WholeOverHonestDevices : {S : Type 0} → (S → List ℕ) → (S → Type 0) → Bool → (S → ReadFault → Bool) → Type 0 → Type 0
 WholeOverHonestDevices {S} bytes keeps honest gave writer =
-    (settings : Settings) (items : List (Item S)) (target : List ℕ) → IsImageAlone gave writer settings (Replies bytes keeps honest settings items target)
+    (settings : Settings) (items : List (Item S)) (target : List ℕ) →
+    IsImageAlone gave writer settings (Replies bytes keeps honest settings items target)
     × ((method : List ℕ) → IsImageAlone gave writer settings (RepliesToCall bytes keeps honest settings items method target))

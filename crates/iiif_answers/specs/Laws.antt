@@ -26,7 +26,8 @@ NoSilence {S} bytes keeps honest gave reader writer =
 abbrev pub AllowedIsFramed : {S : Type 0} → (S → List ℕ) → (S → Type 0) → Bool → (S → ReadFault → Bool) → Type 0 → Type 0
 AllowedIsFramed {S} bytes keeps honest gave writer =
     (settings : Settings) (items : List (Item S)) (part : Part) (method target text : List ℕ) (result : Result Sent Cut)
-    → Allowed settings part gave (RepliesToCall bytes keeps honest settings items method target) writer text result → IsFramedText S settings part text result
+    → Allowed settings part gave (RepliesToCall bytes keeps honest settings items method target) writer text result →
+    IsFramedText S settings part text result
 
 -- The fields of each answer are plain where the settings are legal.
 abbrev pub FieldsArePlain : Type 0 → Type 0
@@ -37,5 +38,6 @@ FieldsArePlain S = (settings : Settings) (a : Response) → IsLegal settings →
 abbrev pub HeadsReadBack : Type 0 → Type 0
 HeadsReadBack S =
     (settings : Settings) (a : Response) (close : Bool) → IsLegal settings → IsFramed S settings a → length a.body < 2 ^ 64
-    → (h : ResponseHead) × ReadsResponse (head_text a.status a.fields (length a.body) close) h [] × (h.minor ≡ 1) × (status_code h ≡ a.status)
+    → (h : ResponseHead) × ReadsResponse (head_text a.status a.fields (length a.body) close) h [] × (h.minor ≡ 1) ×
+    (status_code h ≡ a.status)
     × (map name_and_value h.fields ≡ a.fields ++ (codes "Content-Length", decimal (length a.body)) ∷ close_fields close)

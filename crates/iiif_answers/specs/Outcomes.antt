@@ -27,7 +27,8 @@ use Rattle.iiif_answers.specs.declared.outcome.Outcome.{Outcome}
 use Rattle.iiif_answers.specs.declared.outcome.Outcome.TheVariants.{Refused, Redirect, Information, Image, NoMemory}
 
 -- a request of the words, for an item's picture, comes to these values
-pub record Comes {S : Type 0} (bytes : S → List ℕ) (keeps : S → Type 0) (item : Item S) (limits : Limits) (w : Texts) (a : Accepted) : Type 0 where
+pub record Comes {S : Type 0} (bytes : S → List ℕ) (keeps : S → Type 0) (item : Item S) (limits : Limits) (w : Texts) (a : Accepted) : Type
+    0 where
   pub request : Request
   pub picture : Picture
   pub is_picture : IsPictureOf bytes keeps item picture
@@ -38,7 +39,8 @@ pub record Comes {S : Type 0} (bytes : S → List ℕ) (keeps : S → Type 0) (i
   pub is_kind : a.kind ≡ out_kind_of (kind_of picture) (depth_of picture) request.quality
 
 -- the words are refused, or the request that they spell
-pub data IsRefused {S : Type 0} (bytes : S → List ℕ) (keeps : S → Type 0) (item : Item S) (limits : Limits) (w : Texts) (e : Refusal) : Type 0 where
+pub data IsRefused {S : Type 0} (bytes : S → List ℕ) (keeps : S → Type 0) (item : Item S) (limits : Limits) (w : Texts) (e : Refusal) : Type
+    0 where
   no_request : Says w (Err e) → IsRefused bytes keeps item limits w e
   no_image : (q : Request) (p : Picture) → IsPictureOf bytes keeps item p → Says w (Ok q) → images.image p q limits ≡ Err e
       → IsRefused bytes keeps item limits w e
@@ -69,8 +71,10 @@ ComesTo bytes keeps honest Reaches (Refused e) = Reaches (refused e)
 ComesTo bytes keeps honest Reaches (Redirect entry) = Reaches (redirect (item_of entry.now))
 ComesTo bytes keeps honest Reaches (Information entry d) = Reaches (described (item_of entry.now) d)
 ComesTo bytes keeps honest Reaches (Image entry a) =
-    (q : Request) × (p : Picture) × IsPictureOf bytes keeps (item_of entry.now) p × (a.kind ≡ out_kind_of (kind_of p) (depth_of p) q.quality)
-    × ((image : Picture) → IsSentFor (keeps entry.now.source × IsTrue honest) (resolved_image p a.resolved) image → Reaches (given (given_of (item_of entry.now) q a p image)))
+    (q : Request) × (p : Picture) × IsPictureOf bytes keeps (item_of entry.now) p ×
+    (a.kind ≡ out_kind_of (kind_of p) (depth_of p) q.quality)
+    × ((image : Picture) → IsSentFor (keeps entry.now.source × IsTrue honest) (resolved_image p a.resolved) image →
+    Reaches (given (given_of (item_of entry.now) q a p image)))
 ComesTo bytes keeps honest Reaches NoMemory = Unit {0}
 
 -- an image that is accepted is the one of its name

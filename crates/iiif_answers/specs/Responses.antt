@@ -93,7 +93,8 @@ abbrev pub response_of : {S : Type 0} → Settings → Reply S → Response
 response_of s (refused e) = refusal_response e
 response_of s (redirect item) = redirect_response s.base item.name
 response_of s (described item d) = information_response s item.name d
-response_of s (given g) = image_response s.base g.item.name g.canonical g.image (out_kind_of (kind_of g.picture) (depth_of g.picture) g.request.quality)
+response_of s (given g) = image_response s.base g.item.name g.canonical g.image
+    (out_kind_of (kind_of g.picture) (depth_of g.picture) g.request.quality)
 
 -- the answers where a read of the image's source failed, and where memory was wanting
 abbrev pub source_fault : Response

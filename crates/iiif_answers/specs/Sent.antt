@@ -20,7 +20,8 @@ answer_of m = record { status = m.status; head = m.head.items; body = m.body.ite
 abbrev pub text_of : Answer → List ℕ
 text_of a = a.head ++ a.body
 
--- The text of an answer that is no image that was loaded was sent with that result: the whole answer, or a strict prefix before the writer failed.
+-- The text of an answer that is no image that was loaded was sent with that result: the whole answer, or a strict prefix before the writer
+-- failed.
 abbrev pub EndsWith : Type 0 → Answer → List ℕ → Result Sent Cut → Type 0
 EndsWith writer a text (Ok sent) = (text ≡ text_of a) × (sent.status ≡ a.status) × (sent.bytes ≡ length text) × (sent.held ≡ 0)
 EndsWith writer a text (Err cut) = (cut.sent ≡ length text) × (cut.cause ≡ Writer) × writer × IsStrictPrefix text (text_of a)

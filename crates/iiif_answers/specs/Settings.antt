@@ -1,5 +1,6 @@
 -- What a server is told before it starts.
-use Rattle.std.specs.Prelude.{◌≡◌, ℕ, ◌≤◌, Bool, ◌&&◌, not, true, List, nat_lt, nat_le, if◌then◌else◌, Option, None, Some, Result, Ok, Err, ⊤}
+use Rattle.std.specs.Prelude.{◌≡◌, ℕ, ◌≤◌, Bool, ◌&&◌, not, true, List, nat_lt, nat_le, if◌then◌else◌, Option, None, Some, Result, Ok, Err}
+use Rattle.std.specs.Prelude.{⊤}
 use Rattle.iiif_answers.specs.BaseUrl.{is_base_url}
 use Rattle.iiif_answers.specs.declared.config.ConfigFault.{ConfigFault}
 use Rattle.iiif_canonical.specs.declared.resolved.Limits.{Limits}

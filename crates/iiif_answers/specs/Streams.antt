@@ -59,12 +59,15 @@ pub data Stream (t : Terms) : ℕ → List ℕ → List ℕ → Type 0 where
   no_memory : (n : ℕ) (input text : List ℕ) → IsClosing t.writer want_of_memory text → Stream t n input text
 
 -- The terms of a server: each call is answered as the rule of answers allows.
-abbrev pub terms : {S : Type 0} → (S → List ℕ) → (S → Type 0) → Bool → (S → ReadFault → Bool) → Settings → List (Item S) → Type 0 → Type 0 → Terms
+abbrev pub terms : {S : Type 0} → (S → List ℕ) → (S → Type 0) → Bool → (S → ReadFault → Bool) → Settings → List (Item S) → Type 0 → Type 0 →
+    Terms
 terms bytes keeps honest gave settings items reader writer = record {
   whole = λ h close text.
-      (sent : Sent) × Allowed settings (part_of h.method close) gave (RepliesToCall bytes keeps honest settings items h.method h.target) writer text (Ok sent);
+      (sent : Sent) × Allowed settings (part_of h.method close) gave (RepliesToCall bytes keeps honest settings items h.method h.target)
+      writer text (Ok sent);
   part = λ h close text.
-      (c : cut.Cut) × Allowed settings (part_of h.method close) gave (RepliesToCall bytes keeps honest settings items h.method h.target) writer text (Err c);
+      (c : cut.Cut) × Allowed settings (part_of h.method close) gave (RepliesToCall bytes keeps honest settings items h.method h.target)
+      writer text (Err c);
   reader = reader;
   writer = writer;
 }

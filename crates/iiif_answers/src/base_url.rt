@@ -1,7 +1,8 @@
 //! Base URLs.
 
 ghost use Rattle.std.specs.Prelude.{◌≡◌, option_map, position};
-ghost use Rattle.iiif_answers.specs.BaseUrl.{is_authority, is_base_url, is_hierarchy, is_host, is_host_byte, is_path, is_port, is_segment, is_slash, behind_scheme, path_of, path_in};
+ghost use Rattle.iiif_answers.specs.BaseUrl.{is_authority, is_base_url, is_hierarchy, is_host, is_host_byte, is_path, is_port, is_segment};
+ghost use Rattle.iiif_answers.specs.BaseUrl.{is_slash, behind_scheme, path_of, path_in};
 ghost use Rattle.iiif_canonical.specs.Escapes.{is_unreserved};
 
 use iiif_request::numerals::numeral;

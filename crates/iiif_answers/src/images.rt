@@ -151,7 +151,8 @@ pub fn job_of<R, S: Source<R>>(
 
 /// Computes nothing: its contract says that the picture which the bytes of an image show is the one of its name, where they are kept.
 pub fn picture_is_shown<R, S: Source<R>>(entry: &Entry<R, S>)
-    ensures { (p : Picture) → S.keeps entry.now.source → IsPictureOf S.bytes S.keeps (item_of entry.now) p → picture_in S.bytes (item_of entry.now) ≡ p }
+    ensures { (p : Picture) → S.keeps entry.now.source → IsPictureOf S.bytes S.keeps (item_of entry.now) p →
+        picture_in S.bytes (item_of entry.now) ≡ p }
 {
     // A law of files.
     shows_one_picture();

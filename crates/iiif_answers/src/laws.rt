@@ -12,7 +12,8 @@ use iiif_source::Source;
 
 /// So a server's `serve_stream` never lets a call go without a byte of an answer, where the writer doesn't fail.
 pub fn calls_are_not_passed_over<R, S: Source<R>, J: System, I: Inlet, W: Outlet>()
-    ensures { (last : W) → NoSilence S.bytes S.keeps J.honest S.gave ((before after : I) × I.fails before after) ((before : W) × W.fails before last) }
+    ensures { (last : W) → NoSilence S.bytes S.keeps J.honest S.gave ((before after : I) × I.fails before after)
+        ((before : W) × W.fails before last) }
 {}
 
 /// So each answer of a connection is framed, whatever the sources' reads give, as what may be sent for a call is.

@@ -9,7 +9,8 @@ ghost use Rattle.iiif_answers.specs.Answers.{Replies};
 ghost use Rattle.iiif_answers.specs.Outcomes.{ComesTo};
 ghost use Rattle.iiif_answers.specs.Sent.{answer_of};
 ghost use Rattle.iiif_answers.specs.declared.part.Part.TheVariants.{Whole};
-ghost use Rattle.iiif_answers.specs.Responses.{Response, head_in, body_in, line, line_response, refusal_response, redirect_response, information_response, information_uri, source_fault, want_of_memory, written};
+ghost use Rattle.iiif_answers.specs.Responses.{Response, head_in, body_in, line, line_response, refusal_response, redirect_response};
+ghost use Rattle.iiif_answers.specs.Responses.{information_response, information_uri, source_fault, want_of_memory, written};
 
 use crate::config::Config;
 use crate::outcome::Outcome;
@@ -97,7 +98,8 @@ fn make_message(
     fields: &[Field<'_>],
     body: Vec<u8>,
 ) -> Result<Message, NoMemory>
-    ensures { IfOk result (λ m. answer_of m ≡ written part (record { status = status; fields = map name_and_value fields.now; body = body.items })) }
+    ensures { IfOk result (λ m. answer_of m ≡ written part
+        (record { status = status; fields = map name_and_value fields.now; body = body.items })) }
 {
     let head = head_in(alloc, part, status, fields, body.len() as u64)?;
     Ok(Message {
@@ -206,8 +208,10 @@ pub fn message_of<R, S: Source<R>>(
     config: &Config,
     outcome: &Outcome<'_, R, S>,
 ) -> Result<Message, NoMemory>
-    ensures { (honest : Bool) (items : List (Item S)) (target : List ℕ) → ComesTo S.bytes S.keeps honest (Replies S.bytes S.keeps honest config.now items target) outcome.now
-        → IfOk result (λ m. (a : Response) × MayTell config.now part S.gave (Replies S.bytes S.keeps honest config.now items target) a × (answer_of m ≡ written part a)) }
+    ensures { (honest : Bool) (items : List (Item S)) (target : List ℕ) →
+        ComesTo S.bytes S.keeps honest (Replies S.bytes S.keeps honest config.now items target) outcome.now
+        → IfOk result (λ m. (a : Response) × MayTell config.now part S.gave (Replies S.bytes S.keeps honest config.now items target) a ×
+        (answer_of m ≡ written part a)) }
 {
     match outcome {
         Outcome::Refused(refusal) => refusal_message(alloc, part, *refusal),

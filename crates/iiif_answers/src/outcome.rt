@@ -81,7 +81,8 @@ pub fn outcome_of<'a, R, S: Source<R> + Drop>(
     images: &'a Catalogue<R, S>,
     target: &[u8],
 ) -> Outcome<'a, R, S>
-    ensures comes { (honest : Bool) → ComesTo S.bytes S.keeps honest (Replies S.bytes S.keeps honest config.now images.now target.now) result }
+    ensures comes { (honest : Bool) → ComesTo S.bytes S.keeps honest (Replies S.bytes S.keeps honest config.now images.now target.now)
+        result }
     ensures made { CanBeMade result }
     ensures found { IsFound images.now result }
 {

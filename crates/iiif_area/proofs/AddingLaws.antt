@@ -14,7 +14,8 @@ use Rattle.iiif_area.specs.Grid.{Grid, grid_of, merged, sums_of}
 use Rattle.iiif_area.specs.Places.{corner_of, part_of, places_of}
 use Rattle.iiif_area.proofs.AreaLaws.{area_from_rows}
 use Rattle.iiif_area.proofs.GridLaws.{index_parts, part_at}
-use Rattle.iiif_area.proofs.SumLaws.{sum_from-same, sum_from-more, sum_from-none, sum_from-start, sum_from-step, sum_from-narrow, same_product}
+use Rattle.iiif_area.proofs.SumLaws.{sum_from-same, sum_from-more, sum_from-none, sum_from-start, sum_from-step, sum_from-narrow}
+use Rattle.iiif_area.proofs.SumLaws.{same_product}
 use Rattle.iiif_area.proofs.TileLaws.{tile_grid-is}
 use Rattle.iiif_area.proofs.WeightLaws.{weight_after, weight_before, weighted_before}
 
@@ -22,7 +23,8 @@ row_sum-none : (row : List ℕ) (n from a c i k : ℕ) → row_sum row n from 0 
 unfolding row_sum
 row_sum-none row n from a c i k = sum_from-none 0 _
 
-row_sum-more : (row : List ℕ) (n from t a c i k : ℕ) → row_sum row n from (t + 1) a c i k ≡ row_sum row n from t a c i k + weight_of i (from + t) a c * get_or row (t * n + k) 0
+row_sum-more : (row : List ℕ) (n from t a c i k : ℕ) →
+    row_sum row n from (t + 1) a c i k ≡ row_sum row n from t a c i k + weight_of i (from + t) a c * get_or row (t * n + k) 0
 unfolding row_sum
 row_sum-more row n from t a c i k = sum_from-more 0 t t _ (omega arith)
 
@@ -32,18 +34,22 @@ pub record TakenOf (first from a c n weight : ℕ) (row olds news : List ℕ) (t
   pub is : get_or news (i * n + k) 0 ≡ min (2 ^ 64 - 1) (get_or olds (i * n + k) 0 + weight * row_sum row n from t a c (first + i) k)
 
 -- of none
-pub TakenOf-none : {first from a c n weight : ℕ} {row olds : List ℕ} {i k : ℕ} → get_or olds (i * n + k) 0 < 2 ^ 64 → TakenOf first from a c n weight row olds olds 0 i k
+pub TakenOf-none : {first from a c n weight : ℕ} {row olds : List ℕ} {i k : ℕ} → get_or olds (i * n + k) 0 < 2 ^ 64 →
+    TakenOf first from a c n weight row olds olds 0 i k
 TakenOf-none {first} {from} {a} {c} {n} {weight} {row} {olds} {i} {k} small =
-    let z : weight * row_sum row n from 0 a c (first + i) k ≡ weight * 0 = ap (λ u. weight * u) (row_sum-none row n from a c (first + i) k) in
+    let z : weight * row_sum row n from 0 a c (first + i) k ≡ weight * 0 =
+    ap (λ u. weight * u) (row_sum-none row n from a c (first + i) k) in
     record { is = omega arith }
 
 -- of no more, where the sum is as it was
-pub TakenOf-kept : {first from a c n weight : ℕ} {row olds mids news : List ℕ} {t i k : ℕ} → TakenOf first from a c n weight row olds mids t i k →
+pub TakenOf-kept : {first from a c n weight : ℕ} {row olds mids news : List ℕ} {t i k : ℕ} →
+    TakenOf first from a c n weight row olds mids t i k →
     get_or news (i * n + k) 0 ≡ get_or mids (i * n + k) 0 → TakenOf first from a c n weight row olds news t i k
 TakenOf-kept m e = record { is = e ∙ m.is }
 
 -- of the next too, of which it takes nothing
-pub TakenOf-passed : {first from a c n weight : ℕ} {row olds news : List ℕ} {t i k : ℕ} → TakenOf first from a c n weight row olds news t i k →
+pub TakenOf-passed : {first from a c n weight : ℕ} {row olds news : List ℕ} {t i k : ℕ} →
+    TakenOf first from a c n weight row olds news t i k →
     weight_of (first + i) (from + t) a c ≡ 0 → TakenOf first from a c n weight row olds news (t + 1) i k
 TakenOf-passed {first} {from} {a} {c} {n} {weight} {row} {olds} {news} {t} {i} {k} m e =
     let more = row_sum-more row n from t a c (first + i) k in
@@ -52,14 +58,16 @@ TakenOf-passed {first} {from} {a} {c} {n} {weight} {row} {olds} {news} {t} {i} {
     record { is = m.is ∙ ap (λ u. min (2 ^ 64 - 1) (get_or olds (i * n + k) 0 + weight * u)) (sym same) }
 
 -- of the next too, which was added
-pub TakenOf-more : {first from a c n weight : ℕ} {row olds mids news : List ℕ} {t i k : ℕ} (columns : ℕ) → TakenOf first from a c n weight row olds mids t i k →
+pub TakenOf-more : {first from a c n weight : ℕ} {row olds mids news : List ℕ} {t i k : ℕ} (columns : ℕ) →
+    TakenOf first from a c n weight row olds mids t i k →
     columns ≡ weight_of (first + i) (from + t) a c →
     get_or news (i * n + k) 0 ≡ min (2 ^ 64 - 1) (get_or mids (i * n + k) 0 + weight * columns * get_or row (t * n + k) 0) →
     TakenOf first from a c n weight row olds news (t + 1) i k
 TakenOf-more {first} {from} {a} {c} {n} {weight} {row} {olds} {mids} {news} {t} {i} {k} columns m e added =
     let v = get_or row (t * n + k) 0 in
     let s = row_sum row n from t a c (first + i) k in
-    let more : row_sum row n from (t + 1) a c (first + i) k ≡ s + columns * v = row_sum-more row n from t a c (first + i) k ∙ ap (λ u. s + u * v) (sym e) in
+    let more : row_sum row n from (t + 1) a c (first + i) k ≡ s + columns * v = row_sum-more row n from t a c (first + i) k ∙
+    ap (λ u. s + u * v) (sym e) in
     let times : weight * row_sum row n from (t + 1) a c (first + i) k ≡ weight * (s + columns * v) = ap (λ u. weight * u) more in
     let was = m.is in
     record { is = omega arith }
@@ -89,9 +97,11 @@ row_part tile corner part row region size i k s =
     * sum_from 0 part.w (λ t. weight_of (row.x + i) (part.x + t) region.w size.w * sample_at tile (corner.0 + t) (corner.1 + s) k)
 
 -- The sums of a result row have grown by what they take of the rows from `start` to s of a part.
-pub record RowsTaken (tile : Picture) (corner : ℕ × ℕ) (part row : Rect) (region size : Dim) (n : ℕ) (olds news : List ℕ) (start s : ℕ) : Type 0 where
+pub record RowsTaken (tile : Picture) (corner : ℕ × ℕ) (part row : Rect) (region size : Dim) (n : ℕ) (olds news : List ℕ) (start s : ℕ) :
+    Type 0 where
   pub is : (i k : ℕ) → i < row.w → k < n →
-      get_or news (i * n + k) 0 ≡ min (2 ^ 64 - 1) (get_or olds (i * n + k) 0 + sum_from start (s - start) (row_part tile corner part row region size i k))
+      get_or news (i * n + k) 0 ≡ min (2 ^ 64 - 1)
+      (get_or olds (i * n + k) 0 + sum_from start (s - start) (row_part tile corner part row region size i k))
 
 pub RowsTaken-none : {tile : Picture} {corner : ℕ × ℕ} {part row : Rect} {region size : Dim} {n : ℕ} {olds : List ℕ} {start : ℕ} →
     ((e : ℕ) → get_or olds e 0 < 2 ^ 64) → RowsTaken tile corner part row region size n olds olds start start
@@ -103,38 +113,43 @@ RowsTaken-none {tile} {corner} {part} {row} {region} {size} {n} {olds} {start} s
 }
 
 -- one row more
-pub RowsTaken-more : {tile : Picture} {corner : ℕ × ℕ} {part row : Rect} {region size : Dim} {n : ℕ} {olds mids news : List ℕ} {start s : ℕ} (samples : List ℕ) (rows : ℕ) →
-    start ≤ s → n ≡ tile.channels → samples ≡ span_of tile corner.0 (corner.1 + s) part.w → rows ≡ weight_of row.y (part.y + s) region.h size.h →
+pub RowsTaken-more : {tile : Picture} {corner : ℕ × ℕ} {part row : Rect} {region size : Dim} {n : ℕ} {olds mids news : List ℕ} {start s : ℕ}
+    (samples : List ℕ) (rows : ℕ) →
+    start ≤ s → n ≡ tile.channels → samples ≡ span_of tile corner.0 (corner.1 + s) part.w →
+    rows ≡ weight_of row.y (part.y + s) region.h size.h →
     ((i k : ℕ) → i < row.w → k < n → get_or news (i * n + k) 0
     ≡ min (2 ^ 64 - 1) (get_or mids (i * n + k) 0 + rows * row_sum samples n part.x part.w region.w size.w (row.x + i) k)) →
     RowsTaken tile corner part row region size n olds mids start s → RowsTaken tile corner part row region size n olds news start (s + 1)
 unfolding row_part row_sum
-RowsTaken-more {tile} {corner} {part} {row} {region} {size} {n} {olds} {mids} {news} {start} {s} samples rows l ch span weight added m = record {
-  is = λ i k li lk.
-      let f : ℕ → ℕ = row_part tile corner part row region size i k in
-      let own : row_sum samples n part.x part.w region.w size.w (row.x + i) k
-      ≡ sum_from 0 part.w (λ t. weight_of (row.x + i) (part.x + t) region.w size.w * sample_at tile (corner.0 + t) (corner.1 + s) k) =
-      sum_from-same 0 part.w _ _ (λ t _ lt.
-      ap (λ u. weight_of (row.x + i) (part.x + t) region.w size.w * u)
-      (ap (λ u. get_or samples (t * u + k) 0) ch ∙ ap (λ u. get_or u (t * tile.channels + k) 0) span
-      ∙ get_or-span_of tile corner.0 (corner.1 + s) part.w t k 0 (omega arith) (omega arith))) in
-      let here : rows * row_sum samples n part.x part.w region.w size.w (row.x + i) k ≡ f s = same_product weight own in
-      let so_far = sum_from-step start s f (sum_from start (s - start) f) (f s) l refl refl in
-      let was = m.is i k li lk in
-      let now = added i k li lk in
-      omega (arith, so_far, here, was, now);
-}
+RowsTaken-more {tile} {corner} {part} {row} {region} {size} {n} {olds} {mids} {news} {start} {s} samples rows l ch span weight added m =
+    record {
+      is = λ i k li lk.
+          let f : ℕ → ℕ = row_part tile corner part row region size i k in
+          let own : row_sum samples n part.x part.w region.w size.w (row.x + i) k
+          ≡ sum_from 0 part.w (λ t. weight_of (row.x + i) (part.x + t) region.w size.w * sample_at tile (corner.0 + t) (corner.1 + s) k) =
+          sum_from-same 0 part.w _ _ (λ t _ lt.
+          ap (λ u. weight_of (row.x + i) (part.x + t) region.w size.w * u)
+          (ap (λ u. get_or samples (t * u + k) 0) ch ∙ ap (λ u. get_or u (t * tile.channels + k) 0) span
+          ∙ get_or-span_of tile corner.0 (corner.1 + s) part.w t k 0 (omega arith) (omega arith))) in
+          let here : rows * row_sum samples n part.x part.w region.w size.w (row.x + i) k ≡ f s = same_product weight own in
+          let so_far = sum_from-step start s f (sum_from start (s - start) f) (f s) l refl refl in
+          let was = m.is i k li lk in
+          let now = added i k li lk in
+          omega (arith, so_far, here, was, now);
+    }
 
 -- so all its rows give the part's sum
 pub RowsTaken-all : {tile : Picture} {corner : ℕ × ℕ} {part row : Rect} {region size : Dim} {n : ℕ} {olds news : List ℕ} {start end : ℕ} →
     start ≤ end → end ≤ part.h → ((s : ℕ) → s < start → weight_of row.y (part.y + s) region.h size.h ≡ 0) →
     ((s : ℕ) → end ≤ s → s < part.h → weight_of row.y (part.y + s) region.h size.h ≡ 0) →
     RowsTaken tile corner part row region size n olds news start end → (i k : ℕ) → i < row.w → k < n →
-    get_or news (i * n + k) 0 ≡ min (2 ^ 64 - 1) (get_or olds (i * n + k) 0 + area_sum region size part (tile_sample tile corner part k) (row.x + i) row.y)
+    get_or news (i * n + k) 0 ≡ min (2 ^ 64 - 1)
+    (get_or olds (i * n + k) 0 + area_sum region size part (tile_sample tile corner part k) (row.x + i) row.y)
 unfolding row_part tile_sample
 RowsTaken-all {tile} {corner} {part} {row} {region} {size} {n} {olds} {news} {start} {end} order within below above m i k li lk =
     let f : ℕ → ℕ = row_part tile corner part row region size i k in
-    let g : ℕ → ℕ = λ s. sum_from 0 part.w (λ t. weight_of (row.x + i) (part.x + t) region.w size.w * sample_at tile (corner.0 + t) (corner.1 + s) k) in
+    let g : ℕ → ℕ = λ s. sum_from 0 part.w (λ t.
+    weight_of (row.x + i) (part.x + t) region.w size.w * sample_at tile (corner.0 + t) (corner.1 + s) k) in
     let narrow = sum_from-narrow 0 part.h start end f (omega arith) order (omega arith)
     (λ s _ l. weighted_before row.y (part.y + s) region.h size.h (g s) (below s l))
     (λ s l q. weighted_before row.y (part.y + s) region.h size.h (g s) (above s l (omega arith))) in
@@ -157,7 +172,8 @@ part_sums region size part tile corner n places =
 pub run_added : (region size : Dim) (part places : Rect) (tile : Picture) (corner : ℕ × ℕ) (n m left top j w b : ℕ) (olds news : List ℕ) →
     left + w ≤ places.w → top + j < places.h → b ≡ (top + j) * places.w + left → n ≡ m →
     ((i k : ℕ) → i < w → k < m → get_or news (i * m + k) 0
-    ≡ min (2 ^ 64 - 1) (get_or olds (i * m + k) 0 + area_sum region size part (tile_sample tile corner part k) (places.x + left + i) (places.y + top + j))) →
+    ≡ min (2 ^ 64 - 1) (get_or olds (i * m + k) 0 + area_sum region size part (tile_sample tile corner part k) (places.x + left + i)
+    (places.y + top + j))) →
     (t : ℕ) → t < w * n → get_or news t 0
     ≡ min (2 ^ 64 - 1) (get_or olds t 0 + get_or (take (w * n) (drop (b * n) (part_sums region size part tile corner n places))) t 0)
 run_added region size part places tile corner n m left top j w b olds news columns row eb ch added t lt =
@@ -180,7 +196,8 @@ run_added region size part places tile corner n m left top j w b olds news colum
     ∙ ap (λ u. min (2 ^ 64 - 1) (get_or olds t 0 + u)) (sym theirs)
 
 -- what was added in place is what merging adds
-pub tile_merged : (p : Picture) (at region : Rect) (size : Dim) (g : Grid) (rect : Rect) (n : ℕ) (olds news : List ℕ) (sides : Dim) (part : Rect) (corner : ℕ × ℕ) (tile : Picture) →
+pub tile_merged : (p : Picture) (at region : Rect) (size : Dim) (g : Grid) (rect : Rect) (n : ℕ) (olds news : List ℕ) (sides : Dim)
+    (part : Rect) (corner : ℕ × ℕ) (tile : Picture) →
     rect ≡ g.rect → n ≡ g.channels → olds ≡ g.sums → tile.channels ≡ g.channels →
     sides ≡ sides_of region → part ≡ part_of at region → corner ≡ corner_of at region → tile ≡ crop p at →
     news ≡ (merged (record { rect = rect; channels = tile.channels; sums = olds })
@@ -188,7 +205,8 @@ pub tile_merged : (p : Picture) (at region : Rect) (size : Dim) (g : Grid) (rect
     ◌≡◌ {A = Grid} (record { rect = rect; channels = n; sums = news }) (merged g (sums_of (crop p region) size (part_of at region)))
 tile_merged p at region size g rect n olds news sides part corner tile er en es et esides epart ecorner etile e =
     let G : Rect → ℕ → List ℕ → Grid = λ r m s. record { rect = r; channels = m; sums = s } in
-    let T : Dim → Rect → ℕ × ℕ → Picture → Grid = λ d q k t. grid_of (places_of d size q) t.channels (λ i j c. area_sum d size q (tile_sample t k q c) i j) in
+    let T : Dim → Rect → ℕ × ℕ → Picture → Grid = λ d q k t.
+    grid_of (places_of d size q) t.channels (λ i j c. area_sum d size q (tile_sample t k q c) i j) in
     ap (λ m. G rect m news) (en ∙ sym et)
     ∙ ap (G rect tile.channels) e
     ∙ ap (λ (r : Rect). merged (G r tile.channels olds) (T sides part corner tile)) er

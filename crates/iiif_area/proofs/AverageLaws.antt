@@ -1,6 +1,7 @@
 -- Averages by the reciprocal of the area, counted in parts of `one`.
 use Rattle.std.proofs.Common.{◌≡◌, ℕ, ◌+◌, ◌-◌, ◌*◌, ◌/◌, ◌%◌, ◌^◌, ◌<◌, ◌≤◌, min, sym, ap, ◌∙◌, arith, ⊎_elim}
-use Rattle.std.proofs.Math.Nat.{add-mul-div_right, div-div-eq-div-mul, div-mul-le_self, lt-div-mul-add, lt_of_mul-lt-mul_left, le_of_mul-le-mul_left, mul-le-mul_left}
+use Rattle.std.proofs.Math.Nat.{add-mul-div_right, div-div-eq-div-mul, div-mul-le_self, lt-div-mul-add, lt_of_mul-lt-mul_left}
+use Rattle.std.proofs.Math.Nat.{le_of_mul-le-mul_left, mul-le-mul_left}
 use Rattle.std.proofs.lemmas.Nat.{div_below, le-div, one_shl, pow-add}
 use Rattle.std.proofs.lemmas.Bool.{cases_lt}
 use Rattle.iiif_area.specs.Grid.{average_within}
@@ -65,7 +66,8 @@ capped n area top some =
     (cases_lt n ((top + 1) * area))
 
 -- The average of a sum, of which no more than a word counts.
-pub average_is : (s area top word sum most parts q : ℕ) → 0 < area → (top + 1) * area ≤ word → sum ≡ min (s + area / 2) (word - 1) → most ≡ top →
+pub average_is : (s area top word sum most parts q : ℕ) → 0 < area → (top + 1) * area ≤ word → sum ≡ min (s + area / 2) (word - 1) →
+    most ≡ top →
     parts ≡ min sum ((most + 1) * area - 1) → q ≡ parts / area → q ≡ average_within area top s
 average_is s area top word sum most parts q some fits sum_is most_is parts_are is =
     let above : (most + 1) * area ≡ (top + 1) * area = ap (λ u. (u + 1) * area) most_is in
@@ -93,7 +95,8 @@ average_by_halves s half top some =
     least ∙ ap (λ u. min top u) (sym same)
 
 -- A reciprocal that is rounded up gives the quotient too, of numbers that times the area are below one ..
-pub quotient_by_more : (n area reciprocal one : ℕ) → 0 < area → n * area < one → reciprocal ≡ one / area + 1 → n * reciprocal / one ≡ n / area
+pub quotient_by_more : (n area reciprocal one : ℕ) → 0 < area → n * area < one → reciprocal ≡ one / area + 1 →
+    n * reciprocal / one ≡ n / area
 quotient_by_more n area m one some small is =
     let q = n / area in
     let under : one < one / area * area + area = lt-div-mul-add some in

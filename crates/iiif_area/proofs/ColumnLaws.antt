@@ -12,7 +12,8 @@ use Rattle.iiif_area.specs.declared.weights.Axis.{Axis}
 use Rattle.iiif_area.specs.Code.{column_sum, held_of, rows_of, span_total, tile_sample, IsSpan}
 use Rattle.iiif_area.proofs.AreaLaws.{area_from_corner, area-fits}
 use Rattle.iiif_area.proofs.GridLaws.{index_parts}
-use Rattle.iiif_area.proofs.SumLaws.{sum_from-zero, sum_from-same, sum_from-one, sum_from-narrow, sum_from-step, sum_from-end, same_product, three_parts, none_times}
+use Rattle.iiif_area.proofs.SumLaws.{sum_from-zero, sum_from-same, sum_from-one, sum_from-narrow, sum_from-step, sum_from-end}
+use Rattle.iiif_area.proofs.SumLaws.{same_product, three_parts, none_times}
 use Rattle.iiif_area.proofs.WeightLaws.{weighted-le_from, weighted_before}
 
 no_terms : (u n : ℕ) (f : ℕ → ℕ) → n ≡ 0 → sum_from u n f ≡ 0
@@ -22,7 +23,8 @@ zero_times : {m : ℕ} (n : ℕ) → m ≡ 0 → n * m ≡ 0
 zero_times n e = ap (λ u. n * u) e ∙ omega arith
 
 -- a span that has no column
-pub span_total-none : (columns : List ℕ) (n k c : ℕ) (s : Span) → s.start ≡ s.end → s.first ≡ 0 → s.last ≡ 0 → span_total columns n k c s ≡ 0
+pub span_total-none : (columns : List ℕ) (n k c : ℕ) (s : Span) → s.start ≡ s.end → s.first ≡ 0 → s.last ≡ 0 →
+    span_total columns n k c s ≡ 0
 unfolding span_total
 span_total-none columns n k c s e first last =
     let a = none_times (get_or columns (s.start * n + k) 0) first in
@@ -39,7 +41,8 @@ span_total-is a c from m i n k columns s h =
     let f : ℕ → ℕ = λ t. get_or columns (t * n + k) 0 in
     let g : ℕ → ℕ = λ t. w t * f t in
     let narrow = sum_from-narrow 0 m s.start s.end g (omega arith) h.in_order (omega (arith, h.within))
-    (λ t _ l. weighted_before i (from + t) a c (f t) (h.below t l)) (λ t l q. weighted_before i (from + t) a c (f t) (h.above t l (omega arith))) in
+    (λ t _ l. weighted_before i (from + t) a c (f t) (h.below t l))
+    (λ t l q. weighted_before i (from + t) a c (f t) (h.above t l (omega arith))) in
     ⊎_elim
     (λ (some : s.start < s.end). ⊎_elim
     (λ (more : s.start + 1 < s.end).
@@ -78,7 +81,8 @@ area_from_columns share tile i j k columns h =
     (h t (omega arith) ∙ sum_from-same 0 part.h _ _ (λ s _ _.
     let x : corner.0 + t ≡ corner.0 + (part.x + t - part.x) = omega arith in
     let y : corner.1 + s ≡ corner.1 + (part.y + s - part.y) = omega arith in
-    ap (λ u. weight_of j (part.y + s) region.h size.h * u) (ap (λ u. sample_at tile u (corner.1 + s) k) x ∙ ap (λ u. sample_at tile (corner.0 + (part.x + t - part.x)) u k) y))))
+    ap (λ u. weight_of j (part.y + s) region.h size.h * u)
+    (ap (λ u. sample_at tile u (corner.1 + s) k) x ∙ ap (λ u. sample_at tile (corner.0 + (part.x + t - part.x)) u k) y))))
     ∙ sym (area_from_corner region size part (tile_sample tile corner part k) i j)
 
 -- one row more of the sum at column t and channel k, which is v so far, where a row of the tile is added
@@ -118,17 +122,21 @@ row-le p x y w i m row e h l =
 -- what a result row takes of some rows fits
 pub column_fits : (p : Picture) (cx cy from j b d start n t k m : ℕ) → ((x y k : ℕ) → sample_at p x y k ≤ m) →
     sum_from start n (λ s. weight_of j (from + s) b d * sample_at p (cx + t) (cy + s) k) ≤ b * m
-column_fits p cx cy from j b d start n t k m h = weighted-le_from j b d from start n m (λ s. sample_at p (cx + t) (cy + s) k) (λ s _ _. h (cx + t) (cy + s) k)
+column_fits p cx cy from j b d start n t k m h =
+    weighted-le_from j b d from start n m (λ s. sample_at p (cx + t) (cy + s) k) (λ s _ _. h (cx + t) (cy + s) k)
 
 -- a row takes nothing of the rows before its first and from past its last on
 pub column_sum-is : (p : Picture) (held : Rect) (rows : Axis) (j t k start end at v : ℕ) → start ≤ end → end ≤ rows.count → at ≡ end →
-    ((s : ℕ) → s < start → weight_of j (rows.from + s) rows.a rows.c ≡ 0) → ((s : ℕ) → end ≤ s → s < rows.count → weight_of j (rows.from + s) rows.a rows.c ≡ 0) →
-    v ≡ sum_from start (at - start) (λ s. weight_of j (rows.from + s) rows.a rows.c * sample_at p (held.x + t) (held.y + s) k) → v ≡ column_sum p held rows j t k
+    ((s : ℕ) → s < start → weight_of j (rows.from + s) rows.a rows.c ≡ 0) →
+    ((s : ℕ) → end ≤ s → s < rows.count → weight_of j (rows.from + s) rows.a rows.c ≡ 0) →
+    v ≡ sum_from start (at - start) (λ s. weight_of j (rows.from + s) rows.a rows.c * sample_at p (held.x + t) (held.y + s) k) →
+    v ≡ column_sum p held rows j t k
 unfolding column_sum
 column_sum-is p held rows j t k start end at v ordered within done below above so_far =
     let f : ℕ → ℕ = λ s. sample_at p (held.x + t) (held.y + s) k in
     sum_from-end _ _ _ _ _ so_far done
-    ∙ sym (sum_from-narrow 0 rows.count start end (λ s. weight_of j (rows.from + s) rows.a rows.c * f s) (omega arith) ordered (omega (arith, within))
+    ∙ sym (sum_from-narrow 0 rows.count start end (λ s. weight_of j (rows.from + s) rows.a rows.c * f s) (omega arith) ordered
+    (omega (arith, within))
     (λ s _ m. weighted_before j (rows.from + s) rows.a rows.c (f s) (below s m))
     (λ s l m. weighted_before j (rows.from + s) rows.a rows.c (f s) (above s l (omega arith))))
 
@@ -144,9 +152,11 @@ span_total-area share tile i j k n c columns s en ec span h =
 
 -- and it fits
 pub tile_area-fits : (share : Share) (tile : Picture) (i j k : ℕ) → share.region.w * share.region.h ≤ 2 ^ 32 →
-    ((x y k : ℕ) → sample_at tile x y k ≤ 65535) → area_sum share.region share.size share.part (tile_sample tile share.corner share.part k) i j < 2 ^ 64
+    ((x y k : ℕ) → sample_at tile x y k ≤ 65535) →
+    area_sum share.region share.size share.part (tile_sample tile share.corner share.part k) i j < 2 ^ 64
 unfolding tile_sample
 tile_area-fits share tile i j k area h =
     let corner = share.corner in
     let part = share.part in
-    area-fits share.region share.size part (tile_sample tile corner part k) i j area (λ x y _. omega (arith, h (corner.0 + (x - part.x)) (corner.1 + (y - part.y)) k))
+    area-fits share.region share.size part (tile_sample tile corner part k) i j area
+    (λ x y _. omega (arith, h (corner.0 + (x - part.x)) (corner.1 + (y - part.y)) k))

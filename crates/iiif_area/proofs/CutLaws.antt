@@ -70,8 +70,10 @@ rects_sum region size f i j n (r ∷ rs) h =
     let others = rects_sum region size f i j n rs (omega arith) in
     let first = rect_sum n r g (omega arith) (omega arith) in
     let both = window_sum-add n (λ x y. mark r x y * g x y) (λ x y. count_by (λ q. has_place q x y) rs * g x y) in
-    let count = window_sum-same n (λ x y. mark r x y * g x y + count_by (λ q. has_place q x y) rs * g x y) (λ x y. count_by (λ q. has_place q x y) (r ∷ rs) * g x y) (λ x y.
-    let e : count_by (λ q. has_place q x y) (r ∷ rs) ≡ mark r x y + count_by (λ q. has_place q x y) rs = sum_by-cons (λ q. mark q x y) r rs in
+    let count = window_sum-same n (λ x y. mark r x y * g x y + count_by (λ q. has_place q x y) rs * g x y)
+    (λ x y. count_by (λ q. has_place q x y) (r ∷ rs) * g x y) (λ x y.
+    let e : count_by (λ q. has_place q x y) (r ∷ rs) ≡ mark r x y + count_by (λ q. has_place q x y) rs =
+    sum_by-cons (λ q. mark q x y) r rs in
     sym (ap (λ u. u * g x y) e ∙ omega arith)) in
     sum_by-cons (λ q. area_sum region size q f i j) r rs ∙ omega arith
 
@@ -81,5 +83,6 @@ cuts_add_up region size part rects f i j cut =
     let n = part.x + part.w + (part.y + part.h) + reach rects in
     let g : ℕ → ℕ → ℕ = λ x y. weight_of i x region.w size.w * weight_of j y region.h size.h * f x y in
     rect_sum n part g (omega arith) (omega arith)
-    ∙ window_sum-same n (λ x y. mark part x y * g x y) (λ x y. count_by (λ r. has_place r x y) rects * g x y) (λ x y. ap (λ u. u * g x y) (sym (cut x y)))
+    ∙ window_sum-same n (λ x y. mark part x y * g x y) (λ x y. count_by (λ r. has_place r x y) rects * g x y)
+    (λ x y. ap (λ u. u * g x y) (sym (cut x y)))
     ∙ sym (rects_sum region size f i j n rects (omega arith))

@@ -14,7 +14,8 @@ use Rattle.iiif_area.proofs.WeightLaws.{weighted-le_from}
 
 -- one row more of the sum at column t and channel k, which is v so far
 pub next_sample : (p : Picture) (cx cy start s w t k v : ℕ) (row : List ℕ) →
-    start ≤ s → row ≡ span_of p cx (cy + s) w → t < w → k < p.channels → v ≡ sum_from start (s - start) (λ s. sample_at p (cx + t) (cy + s) k) →
+    start ≤ s → row ≡ span_of p cx (cy + s) w → t < w → k < p.channels →
+    v ≡ sum_from start (s - start) (λ s. sample_at p (cx + t) (cy + s) k) →
     v + get_or row (t * p.channels + k) 0 ≡ sum_from start (s + 1 - start) (λ s. sample_at p (cx + t) (cy + s) k)
 next_sample p cx cy start s w t k v row l e lt lk so_far =
     let sample = ap (λ u. get_or u (t * p.channels + k) 0) e ∙ get_or-span_of p cx (cy + s) w t k 0 lt lk in
@@ -22,17 +23,21 @@ next_sample p cx cy start s w t k v row l e lt lk so_far =
 
 -- and four rows more
 pub next_samples : (p : Picture) (cx cy start s w t k v : ℕ) (r0 r1 r2 r3 : List ℕ) →
-    start ≤ s → r0 ≡ span_of p cx (cy + s) w → r1 ≡ span_of p cx (cy + (s + 1)) w → r2 ≡ span_of p cx (cy + (s + 2)) w → r3 ≡ span_of p cx (cy + (s + 3)) w →
+    start ≤ s → r0 ≡ span_of p cx (cy + s) w → r1 ≡ span_of p cx (cy + (s + 1)) w → r2 ≡ span_of p cx (cy + (s + 2)) w →
+    r3 ≡ span_of p cx (cy + (s + 3)) w →
     t < w → k < p.channels → v ≡ sum_from start (s - start) (λ s. sample_at p (cx + t) (cy + s) k) →
-    v + (get_or r0 (t * p.channels + k) 0 + get_or r1 (t * p.channels + k) 0 + get_or r2 (t * p.channels + k) 0 + get_or r3 (t * p.channels + k) 0)
+    v + (get_or r0 (t * p.channels + k) 0 + get_or r1 (t * p.channels + k) 0 + get_or r2 (t * p.channels + k) 0 + get_or r3
+    (t * p.channels + k) 0)
     ≡ sum_from start (s + 4 - start) (λ s. sample_at p (cx + t) (cy + s) k)
 next_samples p cx cy start s w t k v r0 r1 r2 r3 l e0 e1 e2 e3 lt lk so_far =
     let f : ℕ → ℕ = λ s. sample_at p (cx + t) (cy + s) k in
-    let step : (m n v : ℕ) → m ≡ n → v ≡ sum_from start (m - start) f → v ≡ sum_from start (n - start) f = λ m n v e h. h ∙ ap (λ u. sum_from start (u - start) f) e in
+    let step : (m n v : ℕ) → m ≡ n → v ≡ sum_from start (m - start) f → v ≡ sum_from start (n - start) f = λ m n v e h. h ∙
+    ap (λ u. sum_from start (u - start) f) e in
     let one = next_sample p cx cy start s w t k v r0 (omega arith) e0 lt lk so_far in
     let two = next_sample p cx cy start (s + 1) w t k _ r1 (omega arith) e1 lt lk one in
     let three = next_sample p cx cy start (s + 2) w t k _ r2 (omega arith) e2 lt lk (step (s + 1 + 1) (s + 2) _ (omega arith) two) in
-    let four = step (s + 3 + 1) (s + 4) _ (omega arith) (next_sample p cx cy start (s + 3) w t k _ r3 (omega arith) e3 lt lk (step (s + 2 + 1) (s + 3) _ (omega arith) three)) in
+    let four = step (s + 3 + 1) (s + 4) _ (omega arith)
+    (next_sample p cx cy start (s + 3) w t k _ r3 (omega arith) e3 lt lk (step (s + 2 + 1) (s + 3) _ (omega arith) three)) in
     omega (arith, four)
 
 -- a sum of equal terms
@@ -45,7 +50,8 @@ sum_from-equal u (suc n) d f h =
     omega arith
 
 -- where no more than 257 rows go into a result row, or a part has no more, no more lie between the first and the last
-pub run_fits : (j b d from start end h : ℕ) → 0 < d → end ≤ h → (h ≤ 257) ⊎ (b ≤ 257 * d) → ((s : ℕ) → start < s → s + 1 < end → weight_of j (from + s) b d ≡ d) →
+pub run_fits : (j b d from start end h : ℕ) → 0 < d → end ≤ h → (h ≤ 257) ⊎ (b ≤ 257 * d) →
+    ((s : ℕ) → start < s → s + 1 < end → weight_of j (from + s) b d ≡ d) →
     end - 1 ≤ start + 1 + 257
 run_fits j b d from start end h p within (inl few) between = omega arith
 run_fits j b d from start end h p within (inr few) between =
@@ -60,14 +66,16 @@ run_fits j b d from start end h p within (inr few) between =
 
 -- what a result row takes of column t in channel k, where it takes nothing, of one row, or of more
 pub column_of-none : (p : Picture) (held : Rect) (rows : Axis) (j t k start end : ℕ) → start ≡ end → end ≤ rows.count →
-    ((s : ℕ) → s < start → weight_of j (rows.from + s) rows.a rows.c ≡ 0) → ((s : ℕ) → end ≤ s → s < rows.count → weight_of j (rows.from + s) rows.a rows.c ≡ 0) →
+    ((s : ℕ) → s < start → weight_of j (rows.from + s) rows.a rows.c ≡ 0) →
+    ((s : ℕ) → end ≤ s → s < rows.count → weight_of j (rows.from + s) rows.a rows.c ≡ 0) →
     0 ≡ column_sum p held rows j t k
 column_of-none p held rows j t k start end e within below above =
     column_sum-is p held rows j t k start end end 0 (omega arith) within refl below above (sum_from-start _ _ _ (omega arith))
 
 pub column_of-one : (p : Picture) (held : Rect) (rows : Axis) (j t k start end w : ℕ) (row : List ℕ) → end - start ≡ 1 → end ≤ rows.count →
     row ≡ span_of p held.x (held.y + start) held.w → w ≡ weight_of j (rows.from + start) rows.a rows.c → t < held.w → k < p.channels →
-    ((s : ℕ) → s < start → weight_of j (rows.from + s) rows.a rows.c ≡ 0) → ((s : ℕ) → end ≤ s → s < rows.count → weight_of j (rows.from + s) rows.a rows.c ≡ 0) →
+    ((s : ℕ) → s < start → weight_of j (rows.from + s) rows.a rows.c ≡ 0) →
+    ((s : ℕ) → end ≤ s → s < rows.count → weight_of j (rows.from + s) rows.a rows.c ≡ 0) →
     w * get_or row (t * p.channels + k) 0 ≡ column_sum p held rows j t k
 column_of-one p held rows j t k start end w row one within er ew lt lk below above =
     let f : ℕ → ℕ = λ s. weight_of j (rows.from + s) rows.a rows.c * sample_at p (held.x + t) (held.y + s) k in
@@ -75,11 +83,13 @@ column_of-one p held rows j t k start end w row one within er ew lt lk below abo
     column_sum-is p held rows j t k start end end _ (omega arith) within refl below above
     (same_product ew sample ∙ sym (ap (λ u. sum_from start u f) one ∙ sum_from-one start f))
 
-pub column_of-parts : (p : Picture) (held : Rect) (rows : Axis) (j t k start end w v i : ℕ) (first last : List ℕ) → start + 1 < end → end ≤ rows.count →
+pub column_of-parts : (p : Picture) (held : Rect) (rows : Axis) (j t k start end w v i : ℕ) (first last : List ℕ) → start + 1 < end →
+    end ≤ rows.count →
     first ≡ span_of p held.x (held.y + start) held.w → w ≡ weight_of j (rows.from + start) rows.a rows.c →
     last ≡ span_of p held.x (held.y + (end - 1)) held.w → v ≡ weight_of j (rows.from + (end - 1)) rows.a rows.c →
     i ≡ sum_from (start + 1) (end - 1 - (start + 1)) (λ s. sample_at p (held.x + t) (held.y + s) k) → t < held.w → k < p.channels →
-    ((s : ℕ) → s < start → weight_of j (rows.from + s) rows.a rows.c ≡ 0) → ((s : ℕ) → start < s → s + 1 < end → weight_of j (rows.from + s) rows.a rows.c ≡ rows.c) →
+    ((s : ℕ) → s < start → weight_of j (rows.from + s) rows.a rows.c ≡ 0) →
+    ((s : ℕ) → start < s → s + 1 < end → weight_of j (rows.from + s) rows.a rows.c ≡ rows.c) →
     ((s : ℕ) → end ≤ s → s < rows.count → weight_of j (rows.from + s) rows.a rows.c ≡ 0) →
     w * get_or first (t * p.channels + k) 0 + rows.c * i + v * get_or last (t * p.channels + k) 0 ≡ column_sum p held rows j t k
 column_of-parts p held rows j t k start end w v i first last more within ef ew el ev ei lt lk below between above =
@@ -94,18 +104,23 @@ column_of-parts p held rows j t k start end w v i first last more within ef ew e
     column_sum-is p held rows j t k start end end _ (omega arith) within refl below above (omega arith)
 
 -- and of two
-pub column_of-two : (p : Picture) (held : Rect) (rows : Axis) (j t k start end w v : ℕ) (first last : List ℕ) → end - start ≡ 2 → end ≤ rows.count →
+pub column_of-two : (p : Picture) (held : Rect) (rows : Axis) (j t k start end w v : ℕ) (first last : List ℕ) → end - start ≡ 2 →
+    end ≤ rows.count →
     first ≡ span_of p held.x (held.y + start) held.w → w ≡ weight_of j (rows.from + start) rows.a rows.c →
-    last ≡ span_of p held.x (held.y + (end - 1)) held.w → v ≡ weight_of j (rows.from + (end - 1)) rows.a rows.c → t < held.w → k < p.channels →
-    ((s : ℕ) → s < start → weight_of j (rows.from + s) rows.a rows.c ≡ 0) → ((s : ℕ) → start < s → s + 1 < end → weight_of j (rows.from + s) rows.a rows.c ≡ rows.c) →
+    last ≡ span_of p held.x (held.y + (end - 1)) held.w → v ≡ weight_of j (rows.from + (end - 1)) rows.a rows.c → t < held.w →
+    k < p.channels →
+    ((s : ℕ) → s < start → weight_of j (rows.from + s) rows.a rows.c ≡ 0) →
+    ((s : ℕ) → start < s → s + 1 < end → weight_of j (rows.from + s) rows.a rows.c ≡ rows.c) →
     ((s : ℕ) → end ≤ s → s < rows.count → weight_of j (rows.from + s) rows.a rows.c ≡ 0) →
     w * get_or first (t * p.channels + k) 0 + v * get_or last (t * p.channels + k) 0 ≡ column_sum p held rows j t k
 column_of-two p held rows j t k start end w v first last two within ef ew el ev lt lk below between above =
     let none = sum_from-start (start + 1) (end - 1 - (start + 1)) (λ s. sample_at p (held.x + t) (held.y + s) k) (omega arith) in
-    let parts = column_of-parts p held rows j t k start end w v 0 first last (omega arith) within ef ew el ev none lt lk below between above in
+    let parts = column_of-parts p held rows j t k start end w v 0 first last (omega arith) within ef ew el ev none lt lk below between above
+    in
     omega arith
 
 -- it fits
-pub column_of-fits : (p : Picture) (held : Rect) (rows : Axis) (j t k m : ℕ) → ((x y k : ℕ) → sample_at p x y k ≤ m) → column_sum p held rows j t k ≤ rows.a * m
+pub column_of-fits : (p : Picture) (held : Rect) (rows : Axis) (j t k m : ℕ) → ((x y k : ℕ) → sample_at p x y k ≤ m) →
+    column_sum p held rows j t k ≤ rows.a * m
 unfolding column_sum
 column_of-fits p held rows j t k m h = column_fits p held.x held.y rows.from j rows.a rows.c 0 rows.count t k m h

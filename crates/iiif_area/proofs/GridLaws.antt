@@ -1,5 +1,6 @@
 -- The laws of grids of places.
-use Rattle.std.proofs.Common.{◌≡◌, ℕ, ◌+◌, ◌-◌, ◌*◌, ◌/◌, ◌%◌, ◌<◌, ◌≤◌, List, [], ◌∷◌, ◌++◌, true, false, length, get_or, take, drop, ◌⊎◌, inl, inr, sym, ap, ◌∙◌, arith, ⊎_elim}
+use Rattle.std.proofs.Common.{◌≡◌, ℕ, ◌+◌, ◌-◌, ◌*◌, ◌/◌, ◌%◌, ◌<◌, ◌≤◌, List, [], ◌∷◌, ◌++◌, true, false, length, get_or, take, drop, ◌⊎◌}
+use Rattle.std.proofs.Common.{inl, inr, sym, ap, ◌∙◌, arith, ⊎_elim}
 use Rattle.std.proofs.lemmas.Nat.{same_from_place, div-add-mod', div_below, mod_below}
 use Rattle.std.proofs.lemmas.Bool.{false≢true, cases_lt, cases_order, and_from, le-leb, lt-ltb}
 use Rattle.std.proofs.lemmas.Bool.Decides.{nat_tests}
@@ -23,21 +24,24 @@ abbrev pub FilledTo : ℕ → ℕ → (ℕ → ℕ → ℕ → ℕ) → List ℕ
 FilledTo w n f xs = (i j k : ℕ) → i < w → k < n → place_index w n i j k < length xs → get_or xs (place_index w n i j k) 0 ≡ f i j k
 
 -- two places with one index are one
-pub same_place : (w n i j k p q r : ℕ) → i < w → p < w → k < n → r < n → place_index w n i j k ≡ place_index w n p q r → (i ≡ p) × (j ≡ q) × (k ≡ r)
+pub same_place : (w n i j k p q r : ℕ) → i < w → p < w → k < n → r < n → place_index w n i j k ≡ place_index w n p q r → (i ≡ p) × (j ≡ q) ×
+    (k ≡ r)
 same_place w n i j k p q r a b c d e =
     let s = same_from_place (j * w + i) k (q * w + p) r n c d e in
     let t = same_from_place j i q p w a b s.0 in
     (t.1, t.0, s.1)
 
 -- the next entry
-pub FilledTo-push : (w n : ℕ) (f : ℕ → ℕ → ℕ → ℕ) (xs : List ℕ) (i j k v : ℕ) → FilledTo w n f xs → i < w → k < n → length xs ≡ place_index w n i j k → v ≡ f i j k → FilledTo w n f (xs ++ v ∷ [])
+pub FilledTo-push : (w n : ℕ) (f : ℕ → ℕ → ℕ → ℕ) (xs : List ℕ) (i j k v : ℕ) → FilledTo w n f xs → i < w → k < n →
+    length xs ≡ place_index w n i j k → v ≡ f i j k → FilledTo w n f (xs ++ v ∷ [])
 FilledTo-push w n f xs i j k v filled a b e d = λ p q r m o s.
     ⊎_elim
     (λ (l : place_index w n p q r < length xs). get_or_append_left xs (v ∷ []) 0 (place_index w n p q r) l ∙ filled p q r m o l)
     (λ (g : length xs ≤ place_index w n p q r).
     let same : place_index w n p q r ≡ length xs = omega (arith, length_push xs v) in
     let t = same_place w n p q r i j k m a o b (same ∙ e) in
-    get_or_push xs v 0 (place_index w n p q r) (sym same) ∙ d ∙ ap (λ u. f u j k) (sym t.0) ∙ ap (λ u. f p u k) (sym t.1) ∙ ap (λ u. f p q u) (sym t.2))
+    get_or_push xs v 0 (place_index w n p q r) (sym same) ∙ d ∙ ap (λ u. f u j k) (sym t.0) ∙ ap (λ u. f p u k) (sym t.1) ∙
+    ap (λ u. f p q u) (sym t.2))
     (cases_lt (place_index w n p q r) (length xs))
 
 -- what FilledTo says of all places
@@ -55,7 +59,8 @@ sum_at-grid_of r n f i j k p l =
     ∙ ap (λ u. f u (r.y + (j - r.y)) k) x ∙ ap (λ u. f i u k) y
 
 -- two grids that agree at each place are equal
-pub grid_of-same : (r : Rect) (n : ℕ) (f g : ℕ → ℕ → ℕ → ℕ) → ((i j k : ℕ) → HasPlace r i j → k < n → f i j k ≡ g i j k) → grid_of r n f ≡ grid_of r n g
+pub grid_of-same : (r : Rect) (n : ℕ) (f g : ℕ → ℕ → ℕ → ℕ) → ((i j k : ℕ) → HasPlace r i j → k < n → f i j k ≡ g i j k) →
+    grid_of r n f ≡ grid_of r n g
 grid_of-same r n f g h =
     ap (λ (s : List ℕ). let d : Grid = record { rect = r; channels = n; sums = s } in d)
     (samples_of-same r.w r.h n _ _ (λ x y k lx ly lk. h (r.x + x) (r.y + y) k (omega arith, omega arith, omega arith, omega arith) lk))
@@ -80,7 +85,8 @@ place_cases r i j =
 -- and the test says which
 pub has_place-yes : (r : Rect) (i j : ℕ) → HasPlace r i j → has_place r i j ≡ true
 unfolding has_place
-has_place-yes r i j p = and_from _ _ (and_from _ _ (le-leb r.x i p.0) (lt-ltb i (r.x + r.w) p.1)) (and_from _ _ (le-leb r.y j p.2) (lt-ltb j (r.y + r.h) p.3))
+has_place-yes r i j p = and_from _ _ (and_from _ _ (le-leb r.x i p.0) (lt-ltb i (r.x + r.w) p.1))
+    (and_from _ _ (le-leb r.y j p.2) (lt-ltb j (r.y + r.h) p.3))
 
 pub has_place-no : (r : Rect) (i j : ℕ) → ¬ (HasPlace r i j) → has_place r i j ≡ false
 unfolding has_place
@@ -123,7 +129,8 @@ pub part_at : (a k : ℕ) (xs : List ℕ) (t : ℕ) → t < k → get_or (take k
 part_at a k xs t h = get_or-take k (drop a xs) t 0 h ∙ get_or-drop a xs t 0
 
 -- The row q of a grid after a write to its places from column l on, m places long: there it is what was written.
-pub get_or-row_written : (xs ys : List ℕ) (w n l m q i k : ℕ) → length ys ≡ m * n → (q * w + l) * n + m * n ≤ length xs → l ≤ i → i < l + m → k < n →
+pub get_or-row_written : (xs ys : List ℕ) (w n l m q i k : ℕ) → length ys ≡ m * n → (q * w + l) * n + m * n ≤ length xs → l ≤ i →
+    i < l + m → k < n →
     get_or (put_mid ((q * w + l) * n) (m * n) xs ys) (place_index w n i q k) 0 ≡ get_or ys ((i - l) * n + k) 0
 get_or-row_written xs ys w n l m q i k e f a b c =
     let d = entry-lt (i - l) m n k (omega arith) c in
@@ -134,10 +141,12 @@ get_or-row_written xs ys w n l m q i k e f a b c =
     ∙ get_or-put_inside ((q * w + l) * n) (m * n) xs ys ((i - l) * n + k) (omega arith) (omega arith)
 
 -- every other place has what it had
-pub get_or-row_kept : (xs ys : List ℕ) (w n l m q i j k : ℕ) → length ys ≡ m * n → (q * w + l) * n + m * n ≤ length xs → l + m ≤ w → i < w → k < n → (j ≡ q → l ≤ i → i < l + m → ⊥) →
+pub get_or-row_kept : (xs ys : List ℕ) (w n l m q i j k : ℕ) → length ys ≡ m * n → (q * w + l) * n + m * n ≤ length xs → l + m ≤ w → i < w →
+    k < n → (j ≡ q → l ≤ i → i < l + m → ⊥) →
     get_or (put_mid ((q * w + l) * n) (m * n) xs ys) (place_index w n i j k) 0 ≡ get_or xs (place_index w n i j k) 0
 get_or-row_kept xs ys w n l m q i j k e f a b c apart =
-    let before = λ (h : j * w + i < q * w + l). get_or-put_below ((q * w + l) * n) (m * n) xs ys (place_index w n i j k) (omega arith) (entry-lt (j * w + i) (q * w + l) n k h c) in
+    let before = λ (h : j * w + i < q * w + l).
+    get_or-put_below ((q * w + l) * n) (m * n) xs ys (place_index w n i j k) (omega arith) (entry-lt (j * w + i) (q * w + l) n k h c) in
     let after = λ (h : q * w + l + m ≤ j * w + i).
     (let s : (q * w + l + m) * n ≤ (j * w + i) * n = mul-le-mul_right n h in
     get_or-put_above ((q * w + l) * n) (m * n) xs ys (place_index w n i j k) (omega arith) e (omega arith)) in

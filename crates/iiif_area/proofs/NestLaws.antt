@@ -22,7 +22,8 @@ counts_join {X} test f g (x ∷ xs) each =
     ap (count_by test) (flat_map-cons g x xs) ∙ sum_by-append (λ r. one_if (test r)) (g x) (flat_map g xs) in
     let first : count_by test (g x) ≡ one_if (test (f x)) = All-head P x xs each in
     let others = counts_join test f g xs (All-tail P x xs each) in
-    let both : count_by test (map f (x ∷ xs)) ≡ one_if (test (f x)) + count_by test (map f xs) = sum_by-cons (λ r. one_if (test r)) (f x) (map f xs) in
+    let both : count_by test (map f (x ∷ xs)) ≡ one_if (test (f x)) + count_by test (map f xs) =
+    sum_by-cons (λ r. one_if (test r)) (f x) (map f xs) in
     omega (arith, all, first, others, both)
 
 -- where a part is cut into rectangles, and each of these into pieces, it is cut into the pieces
@@ -30,7 +31,8 @@ pub cuts_join : {X : Type 0} (part : Rect) (f : X → Rect) (g : X → List Rect
     All (λ x. IsCutInto (f x) (g x)) xs → IsCutInto part (flat_map g xs)
 cuts_join {X} part f g xs cut each = λ x y.
     counts_join (λ r. has_place r x y) f g xs
-    (All-weaker (λ (z : X). IsCutInto (f z) (g z)) (λ z. count_by (λ r. has_place r x y) (g z) ≡ one_if (has_place (f z) x y)) (λ z h. h x y) xs each)
+    (All-weaker (λ (z : X). IsCutInto (f z) (g z)) (λ z. count_by (λ r. has_place r x y) (g z) ≡ one_if (has_place (f z) x y))
+    (λ z h. h x y) xs each)
     ∙ cut x y
 
 pub cuts_nest : CutsNest

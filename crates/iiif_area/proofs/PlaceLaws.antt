@@ -61,9 +61,11 @@ part_of_fits tile region = record {
   tile_rows = λ h. omega arith;
 }
 
-pub part_fits : (tile region part : Rect) (corner : ℕ × ℕ) → part ≡ part_of tile region → corner ≡ corner_of tile region → PartFits tile region part corner
+pub part_fits : (tile region part : Rect) (corner : ℕ × ℕ) → part ≡ part_of tile region → corner ≡ corner_of tile region →
+    PartFits tile region part corner
 part_fits tile region part corner e f =
-    subst (λ (p : Rect). PartFits tile region p corner) (sym e) (subst (λ (k : ℕ × ℕ). PartFits tile region (part_of tile region) k) (sym f) (part_of_fits tile region))
+    subst (λ (p : Rect). PartFits tile region p corner) (sym e)
+    (subst (λ (k : ℕ × ℕ). PartFits tile region (part_of tile region) k) (sym f) (part_of_fits tile region))
 
 pub part_is_common : PartIsCommon
 part_is_common tile region x y = (

@@ -69,7 +69,8 @@ sum_from-le-longer u m n f h =
     omega (arith, rw d at e)
 
 -- the order of two sums is free
-pub sum_from_swap : (u m v n : ℕ) (f : ℕ → ℕ → ℕ) → sum_from v n (λ y. sum_from u m (λ x. f x y)) ≡ sum_from u m (λ x. sum_from v n (λ y. f x y))
+pub sum_from_swap : (u m v n : ℕ) (f : ℕ → ℕ → ℕ) →
+    sum_from v n (λ y. sum_from u m (λ x. f x y)) ≡ sum_from u m (λ x. sum_from v n (λ y. f x y))
 unfolding sum_from
 sum_from_swap u m v zero f = sym (sum_from-zero u m (λ x. sum_from v 0 (λ y. f x y)) (λ k _ _. refl))
 sum_from_swap u m v (suc n) f =
@@ -78,7 +79,8 @@ sum_from_swap u m v (suc n) f =
     omega arith
 
 -- a sum whose terms are 0 outside of lo to hi
-pub sum_from-narrow : (u n lo hi : ℕ) (f : ℕ → ℕ) → u ≤ lo → lo ≤ hi → hi ≤ u + n → ((k : ℕ) → u ≤ k → k < lo → f k ≡ 0) → ((k : ℕ) → hi ≤ k → k < u + n → f k ≡ 0) → sum_from u n f ≡ sum_from lo (hi - lo) f
+pub sum_from-narrow : (u n lo hi : ℕ) (f : ℕ → ℕ) → u ≤ lo → lo ≤ hi → hi ≤ u + n → ((k : ℕ) → u ≤ k → k < lo → f k ≡ 0) →
+    ((k : ℕ) → hi ≤ k → k < u + n → f k ≡ 0) → sum_from u n f ≡ sum_from lo (hi - lo) f
 sum_from-narrow u n lo hi f a b c below above =
     let e1 = sum_from-split u (lo - u) (n - (lo - u)) f in
     let e2 = sum_from-split lo (hi - lo) (u + n - hi) f in
@@ -116,7 +118,12 @@ unfolding sum_from
 sum_from-std u zero f = refl
 sum_from-std u (suc n) f =
     let e : suc n ≡ n + 1 = omega arith in
-    omega (arith, sum_from-std u n f, ap (λ k. sum (map f (range_with_len u k))) e, sum_by-map-range_with_len_more (λ x. x) f u n (u + n) refl)
+    omega (
+      arith,
+      sum_from-std u n f,
+      ap (λ k. sum (map f (range_with_len u k))) e,
+      sum_by-map-range_with_len_more (λ x. x) f u n (u + n) refl,
+    )
 
 -- a sum over a range, counted from 0
 pub sum_from-shift : (u n : ℕ) (f : ℕ → ℕ) → sum_from u n f ≡ sum_from 0 n (λ t. f (u + t))
@@ -127,7 +134,8 @@ sum_from-shift u (suc n) f =
     omega (arith, sum_from-shift u n f, ap f e)
 
 -- where the weights add up to at most a, and no number is above m, their weighted sum is at most a by m
-pub weighted_sum-le : (u n a m : ℕ) (w f : ℕ → ℕ) → sum_from u n w ≤ a → ((x : ℕ) → u ≤ x → x < u + n → f x ≤ m) → sum_from u n (λ x. w x * f x) ≤ a * m
+pub weighted_sum-le : (u n a m : ℕ) (w f : ℕ → ℕ) → sum_from u n w ≤ a → ((x : ℕ) → u ≤ x → x < u + n → f x ≤ m) →
+    sum_from u n (λ x. w x * f x) ≤ a * m
 weighted_sum-le u n a m w f total h =
     let e = sum_from-le u n (λ x. w x * f x) (λ x. m * w x) (λ x l k. omega (arith, mul-le-mul_left (w x) (h x l k))) in
     let d = sum_from-mul u n m w in

@@ -35,10 +35,12 @@ pub record RowFits (q : Inside) (n : ℕ) (rect : Rect) (y : ℕ) : Type 0 where
   pub end : ((rect.y - q.rect.y + y) * q.rect.w + (rect.x - q.rect.x)) * n + rect.w * n ≤ length q.sums.items
   pub small : length q.sums.items < 2 ^ 63
 
-pub row_fits_in : (q : Inside) (n : ℕ) (rect : Rect) (y : ℕ) → the_invariant q → n ≡ channels_of q.kind → IsInside rect q.rect → y < rect.h → RowFits q n rect y
+pub row_fits_in : (q : Inside) (n : ℕ) (rect : Rect) (y : ℕ) → the_invariant q → n ≡ channels_of q.kind → IsInside rect q.rect →
+    y < rect.h → RowFits q n rect y
 row_fits_in q n rect y i e inside l =
     let small = count_below q i in
-    let end = run-le q.rect.w q.rect.h n (rect.x - q.rect.x) rect.w (rect.y - q.rect.y + y) (omega (arith, inside.left, inside.right)) (omega (arith, inside.upper, inside.lower)) in
+    let end = run-le q.rect.w q.rect.h n (rect.x - q.rect.x) rect.w (rect.y - q.rect.y + y) (omega (arith, inside.left, inside.right))
+    (omega (arith, inside.upper, inside.lower)) in
     let count : length q.sums.items ≡ q.rect.w * q.rect.h * n = i ∙ ap (λ u. q.rect.w * q.rect.h * u) (sym e) in
     let positive : 0 < n = rw e (channels_some q.kind) in
     let at = (rect.y - q.rect.y + y) * q.rect.w + (rect.x - q.rect.x) in
@@ -46,9 +48,11 @@ row_fits_in q n rect y i e inside l =
     record { place = omega arith; end = omega arith; small = omega arith }
 
 -- and so do all its rows
-pub rows_fit_in : (q : Inside) (n : ℕ) (rect : Rect) → the_invariant q → n ≡ channels_of q.kind → IsInside rect q.rect → rect.w * n * rect.h < 2 ^ 63
+pub rows_fit_in : (q : Inside) (n : ℕ) (rect : Rect) → the_invariant q → n ≡ channels_of q.kind → IsInside rect q.rect →
+    rect.w * n * rect.h < 2 ^ 63
 rows_fit_in q n rect i e inside =
     let small = count_below q i in
-    let part = part_fits rect.w rect.h n q.rect.w q.rect.h (omega (arith, inside.left, inside.right)) (omega (arith, inside.upper, inside.lower)) in
+    let part = part_fits rect.w rect.h n q.rect.w q.rect.h (omega (arith, inside.left, inside.right))
+    (omega (arith, inside.upper, inside.lower)) in
     let count : q.rect.w * q.rect.h * n ≡ q.rect.w * q.rect.h * channels_of q.kind = ap (λ u. q.rect.w * q.rect.h * u) e in
     omega arith

@@ -38,6 +38,7 @@ tile_grid region size rect part corner tile =
     grid_of rect tile.channels (λ i j k. area_sum (sides_of region) size part (tile_sample tile corner part k) i j)
 
 pub tile_grid-is : (p : Picture) (at region : Rect) (size : Dim) →
-    tile_grid region size (places_of (sides_of region) size (part_of at region)) (part_of at region) (corner_of at region) (crop p at) ≡ sums_of (crop p region) size (part_of at region)
+    tile_grid region size (places_of (sides_of region) size (part_of at region)) (part_of at region) (corner_of at region) (crop p at) ≡
+    sums_of (crop p region) size (part_of at region)
 tile_grid-is p at region size =
     grid_of-same (places_of (sides_of region) size (part_of at region)) p.channels _ _ (λ i j k _ lk. tile_area p at region size i j k lk)

@@ -87,16 +87,19 @@ weight_between i x a c p l h =
     omega arith
 
 -- where no number is above m, what a result column takes is at most a by m
-pub weighted-le : (i a c u n m : ℕ) (f : ℕ → ℕ) → ((x : ℕ) → u ≤ x → x < u + n → f x ≤ m) → sum_from u n (λ x. weight_of i x a c * f x) ≤ a * m
+pub weighted-le : (i a c u n m : ℕ) (f : ℕ → ℕ) → ((x : ℕ) → u ≤ x → x < u + n → f x ≤ m) →
+    sum_from u n (λ x. weight_of i x a c * f x) ≤ a * m
 weighted-le i a c u n m f h = weighted_sum-le u n a m (λ x. weight_of i x a c) f (weights-le i a c u n) h
 
 -- the same of columns that are counted from `from`
-pub weighted-le_from : (i a c from u n m : ℕ) (f : ℕ → ℕ) → ((x : ℕ) → u ≤ x → x < u + n → f x ≤ m) → sum_from u n (λ x. weight_of i (from + x) a c * f x) ≤ a * m
+pub weighted-le_from : (i a c from u n m : ℕ) (f : ℕ → ℕ) → ((x : ℕ) → u ≤ x → x < u + n → f x ≤ m) →
+    sum_from u n (λ x. weight_of i (from + x) a c * f x) ≤ a * m
 weighted-le_from i a c from u n m f h =
     let w : ℕ → ℕ = λ x. weight_of i (from + x) a c in
     let e = sum_from-shift (from + u) n (λ x. weight_of i x a c) in
     let d = sum_from-shift u n w in
-    let same = sum_from-same 0 n (λ t. weight_of i (from + u + t) a c) (λ t. weight_of i (from + (u + t)) a c) (λ t _ _. ap (λ z. weight_of i z a c) (omega arith)) in
+    let same = sum_from-same 0 n (λ t. weight_of i (from + u + t) a c) (λ t. weight_of i (from + (u + t)) a c)
+    (λ t _ _. ap (λ z. weight_of i z a c) (omega arith)) in
     weighted_sum-le u n a m w f (omega (arith, weights-le i a c (from + u) n)) h
 
 pub weighted_before : (i x a c v : ℕ) → weight_of i x a c ≡ 0 → weight_of i x a c * v ≡ 0

@@ -29,11 +29,13 @@ IsMore-push xs ys n m i k v p f so_far below at is next = record {
   kept = λ t l. get_or_append_left ys (v ∷ []) 0 t (omega (arith, so_far.count)) ∙ so_far.kept t l;
   added = λ q r l h.
       ⊎_elim
-      (λ (before : q * n + r < m). get_or_append_left ys (v ∷ []) 0 (length xs + (q * n + r)) (omega (arith, so_far.count)) ∙ so_far.added q r l before)
+      (λ (before : q * n + r < m). get_or_append_left ys (v ∷ []) 0 (length xs + (q * n + r)) (omega (arith, so_far.count)) ∙
+      so_far.added q r l before)
       (λ (here : m ≤ q * n + r).
       let e : q * n + r ≡ i * n + k = omega arith in
       let same = same_from_place q r i k n l below e in
-      get_or_push ys v 0 (length xs + (q * n + r)) (omega (arith, so_far.count)) ∙ is ∙ ap (λ u. f u k) (sym same.0) ∙ ap (λ u. f q u) (sym same.1))
+      get_or_push ys v 0 (length xs + (q * n + r)) (omega (arith, so_far.count)) ∙ is ∙ ap (λ u. f u k) (sym same.0) ∙
+      ap (λ u. f q u) (sym same.1))
       (cases_lt (q * n + r) m);
 }
 
@@ -60,15 +62,18 @@ span_total-whole columns channels k c n i s many whole =
     omega arith
 
 -- a row more of entries of which each is what f says of its place
-pub FilledTo-more : (w n j m : ℕ) (f : ℕ → ℕ → ℕ → ℕ) (g : ℕ → ℕ → ℕ) (xs ys : List ℕ) → FilledTo w n f xs → length xs ≡ place_index w n 0 j 0 → m ≡ w * n →
+pub FilledTo-more : (w n j m : ℕ) (f : ℕ → ℕ → ℕ → ℕ) (g : ℕ → ℕ → ℕ) (xs ys : List ℕ) → FilledTo w n f xs →
+    length xs ≡ place_index w n 0 j 0 → m ≡ w * n →
     IsMore xs ys n m g → ((i k : ℕ) → i < w → k < n → g i k ≡ f i j k) → FilledTo w n f ys
 FilledTo-more w n j m f g xs ys filled start all more same = λ p q r lp lr l.
     ⊎_elim
     (λ (before : place_index w n p q r < length xs). more.kept (place_index w n p q r) before ∙ filled p q r lp lr before)
     (λ (after : length xs ≤ place_index w n p q r).
     let row : (p + 1) * n ≤ w * n = mul-le-mul_right n (omega arith) in
-    let least : j ≤ q = ⊎_elim (λ (h : q < j). let d : (q + 1) * (w * n) ≤ j * (w * n) = mul-le-mul_right (w * n) (omega arith) in absurd (omega arith)) (λ h. h) (cases_lt q j) in
-    let most : q ≤ j = ⊎_elim (λ (h : j < q). let d : (j + 1) * (w * n) ≤ q * (w * n) = mul-le-mul_right (w * n) (omega arith) in absurd (omega (arith, more.count))) (λ h. h) (cases_lt j q) in
+    let least : j ≤ q = ⊎_elim (λ (h : q < j). let d : (q + 1) * (w * n) ≤ j * (w * n) = mul-le-mul_right (w * n) (omega arith) in
+    absurd (omega arith)) (λ h. h) (cases_lt q j) in
+    let most : q ≤ j = ⊎_elim (λ (h : j < q). let d : (j + 1) * (w * n) ≤ q * (w * n) = mul-le-mul_right (w * n) (omega arith) in
+    absurd (omega (arith, more.count))) (λ h. h) (cases_lt j q) in
     let e : q ≡ j = omega arith in
     let index : place_index w n p q r ≡ length xs + (p * n + r) = ap (λ y. place_index w n p y r) e ∙ omega arith in
     ap (λ t. get_or ys t 0) index ∙ more.added p r lr (omega arith) ∙ same p r lp lr ∙ ap (λ y. f p y r) (sym e))
@@ -78,16 +83,19 @@ FilledTo-more w n j m f g xs ys filled start all more same = λ p q r lp lr l.
 pub whole_area : (share : Share) (tile : Picture) (i j k p m n : ℕ) (columns : List ℕ) (s : Span) →
     1 < m → n ≡ tile.channels → IsSpan share.region.w share.size.w share.part.x share.part.w i s → IsWholeSpan share.size.w m p s →
     ((t : ℕ) → t < share.part.w → get_or columns (t * tile.channels + k) 0 ≡ column_sum tile (held_of share) (rows_of share) j t k) →
-    share.size.w * sum_from (p * m) m (λ t. get_or columns (t * n + k) 0) ≡ area_sum share.region share.size share.part (tile_sample tile share.corner share.part k) i j
+    share.size.w * sum_from (p * m) m (λ t. get_or columns (t * n + k) 0) ≡ area_sum share.region share.size share.part
+    (tile_sample tile share.corner share.part k) i j
 whole_area share tile i j k p m n columns s many en span whole h =
-    sym (span_total-whole columns n k share.size.w m p s many whole) ∙ span_total-area share tile i j k n share.size.w columns s en refl span h
+    sym (span_total-whole columns n k share.size.w m p s many whole) ∙
+    span_total-area share tile i j k n share.size.w columns s en refl span h
 
 -- no span of columns
 pub no_span : Span
 no_span = record { start = 0; end = 0; first = 0; last = 0 }
 
 -- so many whole spans have no more columns than there are
-pub whole_within : (a c from n first w m : ℕ) (spans : List Span) → ((t : ℕ) (d : Span) → t < w → IsSpan a c from n (first + t) (get_or spans t d)) →
+pub whole_within : (a c from n first w m : ℕ) (spans : List Span) →
+    ((t : ℕ) (d : Span) → t < w → IsSpan a c from n (first + t) (get_or spans t d)) →
     ((t : ℕ) (d : Span) → t < w → IsWholeSpan c m t (get_or spans t d)) → w * m ≤ n
 whole_within a c from n first w m spans each whole =
     ⊎_elim

@@ -44,7 +44,8 @@ pub record OneTile (p : Picture) (size : Dim) (g : Grid) : Type 0 where
   pub sums : g ≡ sums_at g.rect p size (whole_of (dim_of p))
 
 pub one_tile : AllRows → (p : Picture) (size : Dim) (g : Grid) → IsWhole p → 0 < p.width → 0 < p.height
-    → ((q : Picture) → p ≡ crop q (whole_of (dim_of p)) → g ≡ sums_of (crop q (whole_of (dim_of p))) size (part_of (whole_of (dim_of p)) (whole_of (dim_of p))))
+    → ((q : Picture) → p ≡ crop q (whole_of (dim_of p)) →
+    g ≡ sums_of (crop q (whole_of (dim_of p))) size (part_of (whole_of (dim_of p)) (whole_of (dim_of p))))
     → OneTile p size g
 one_tile law p size g whole columns rows made =
     let same = whole_crop law p whole in
@@ -79,7 +80,8 @@ tile_from law p size sides at at' g whole columns rows same is is' made =
     let first : (q : Picture) → p ≡ crop q (whole_of (dim_of p)) → g ≡ sums_of (crop q at') size (part_of (whole_of (dim_of p)) at') =
     λ q. subst (λ (r : Rect). p ≡ crop q r → g ≡ sums_of (crop q at') size (part_of r at')) place (made q) in
     one_tile law p size g whole columns rows
-    (λ q. subst (λ (r : Rect). p ≡ crop q (whole_of (dim_of p)) → g ≡ sums_of (crop q r) size (part_of (whole_of (dim_of p)) r)) place' (first q))
+    (λ q. subst (λ (r : Rect). p ≡ crop q (whole_of (dim_of p)) → g ≡ sums_of (crop q r) size (part_of (whole_of (dim_of p)) r)) place'
+    (first q))
 
 pub all_lies : (size : Dim) (r : Rect) → r ≡ whole_of size → LiesIn r size
 all_lies size r e = record {

@@ -1,5 +1,6 @@
 -- Sums at a rectangle of result places.
-use Rattle.std.specs.Prelude.{◌≡◌, ℕ, ◌+◌, ◌-◌, ◌*◌, ◌/◌, ◌^◌, ◌<◌, List, Bool, All, length, slice_index, min, nat_lt, nat_le, ◌&&◌, if◌then◌else◌}
+use Rattle.std.specs.Prelude.{◌≡◌, ℕ, ◌+◌, ◌-◌, ◌*◌, ◌/◌, ◌^◌, ◌<◌, List, Bool, All, length, slice_index, min, nat_lt, nat_le, ◌&&◌}
+use Rattle.std.specs.Prelude.{if◌then◌else◌}
 use Rattle.iiif_pixel.specs.Picture.{Picture, dim_of, picture_of, samples_of, sample_at}
 use Rattle.iiif_pixel.specs.Scaling.{area_sum}
 use Rattle.iiif_pixel.specs.declared.geometry.Dim.{Dim}

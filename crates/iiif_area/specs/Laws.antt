@@ -1,5 +1,6 @@
 -- The laws of weights and of sums over parts.
-use Rattle.std.specs.Prelude.{◌≡◌, ℕ, ◌+◌, ◌*◌, ◌/◌, ◌^◌, ◌<◌, ◌≤◌, ◌↔◌, true, List, Bool, sum, sum_by, count_by, map, fold, All, if◌then◌else◌}
+use Rattle.std.specs.Prelude.{◌≡◌, ℕ, ◌+◌, ◌*◌, ◌/◌, ◌^◌, ◌<◌, ◌≤◌, ◌↔◌, true, List, Bool, sum, sum_by, count_by, map, fold, All}
+use Rattle.std.specs.Prelude.{if◌then◌else◌}
 use Rattle.std.specs.Int.{div_ceil}
 use Rattle.std.specs.List.{filter, flat_map, range_with_len}
 use Rattle.iiif_pixel.specs.Geometry.{HasPlace, LiesIn}
@@ -27,13 +28,15 @@ NoWeightFrom = (i x v a c : ℕ) → 0 < a → x < v → div_ceil (v * c) a ≤ 
 abbrev pub SplitsAtColumn : Type 0
 SplitsAtColumn = (region size : Dim) (x y m n h : ℕ) (f : ℕ → ℕ → ℕ) (i j : ℕ) →
     area_sum region size (record { x = x; y = y; w = m + n; h = h }) f i j
-    ≡ area_sum region size (record { x = x; y = y; w = m; h = h }) f i j + area_sum region size (record { x = x + m; y = y; w = n; h = h }) f i j
+    ≡ area_sum region size (record { x = x; y = y; w = m; h = h }) f i j + area_sum region size (record { x = x + m; y = y; w = n; h = h })
+    f i j
 
 -- and of its rows above a cut, and of the others
 abbrev pub SplitsAtRow : Type 0
 SplitsAtRow = (region size : Dim) (x y w m n : ℕ) (f : ℕ → ℕ → ℕ) (i j : ℕ) →
     area_sum region size (record { x = x; y = y; w = w; h = m + n }) f i j
-    ≡ area_sum region size (record { x = x; y = y; w = w; h = m }) f i j + area_sum region size (record { x = x; y = y + m; w = w; h = n }) f i j
+    ≡ area_sum region size (record { x = x; y = y; w = w; h = m }) f i j + area_sum region size (record { x = x; y = y + m; w = w; h = n })
+    f i j
 
 -- a part has no sum at the result places that it does not meet
 abbrev pub IsZeroElsewhere : Type 0
@@ -97,7 +100,8 @@ PassesMet p size rect test = (r : Rect) (i j : ℕ) → HasPlace (places_of (dim
 
 -- The other parts add nothing there: what passes such a test, merged into sums of 0, is what all are.
 abbrev pub OthersAddNothing : Type 0
-OthersAddNothing = (p : Picture) (size : Dim) (part rect : Rect) (rects : List Rect) (test : Rect → Bool) → IsWhole p → 0 < p.width → 0 < p.height →
+OthersAddNothing = (p : Picture) (size : Dim) (part rect : Rect) (rects : List Rect) (test : Rect → Bool) → IsWhole p → 0 < p.width →
+    0 < p.height →
     p.width * p.height ≤ 2 ^ 32 → IsCutInto part rects → PassesMet p size rect test →
     fold merged (grid_of rect p.channels (λ i j k. 0)) (map (λ r. sums_of p size r) (filter test rects)) ≡ sums_at rect p size part
 

@@ -30,7 +30,8 @@ pub(crate) fn add_part(mine: Rect, sums: &mut [u64], tile: &Raster, share: Share
     requires small { length sums.old < 2 ^ 60 }
     requires mine { length sums.old ≡ mine.w * mine.h * tile.now.channels }
     ensures { sums.new ≡ (merged (record { rect = mine; channels = tile.now.channels; sums = sums.old })
-        (grid_of (places_of share.region share.size share.part) tile.now.channels (λ i j k. area_sum share.region share.size share.part (tile_sample tile.now share.corner share.part k) i j))).sums }
+        (grid_of (places_of share.region share.size share.part) tile.now.channels
+        (λ i j k. area_sum share.region share.size share.part (tile_sample tile.now share.corner share.part k) i j))).sums }
 {
     let channels = tile.kind().channels();
     let places = places_of(share.region, share.size, share.part);
@@ -90,7 +91,8 @@ fn add_row(sums: &mut [u64], stretch: Stretch, samples: Span, channels: usize, r
     requires samples { length (span_values samples) ≡ stretch.columns.count * channels }
     ensures { (i k : ℕ) → i < stretch.results → k < channels → slice_index sums.new (i * channels + k)
         ≡ min (2 ^ 64 - 1) (slice_index sums.old (i * channels + k)
-        + rows * row_sum (span_values samples.entry) channels stretch.columns.from stretch.columns.count stretch.columns.a stretch.columns.c (stretch.first + i) k) }
+        + rows * row_sum (span_values samples.entry) channels stretch.columns.from stretch.columns.count stretch.columns.a stretch.columns.c
+        (stretch.first + i) k) }
 {
     let (a, c) = (u64::from(stretch.columns.a), u64::from(stretch.columns.c));
     let mut i = 0;

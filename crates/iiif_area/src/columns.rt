@@ -1,6 +1,7 @@
 //! The sums over a tile: each result row adds up the tile's columns, and each result place takes its part of them.
 
-ghost use Rattle.std.specs.Prelude.{◌≡◌, ℕ, ◌+◌, ◌*◌, ◌<◌, ◌≤◌, ◌^◌, length, slice_index, slice_index_or, true, vec_len, vec_capacity, EachIndex, IfOk, IfSome};
+ghost use Rattle.std.specs.Prelude.{◌≡◌, ℕ, ◌+◌, ◌*◌, ◌<◌, ◌≤◌, ◌^◌, length, slice_index, slice_index_or, true, vec_len, vec_capacity};
+ghost use Rattle.std.specs.Prelude.{EachIndex, IfOk, IfSome};
 ghost use Rattle.iiif_pixel.specs.Geometry.{LiesIn, top_of};
 ghost use Rattle.iiif_pixel.specs.Picture.{samples_of, sample_at};
 ghost use Rattle.iiif_pixel.specs.Scaling.{area_sum, sum_from};
@@ -120,7 +121,8 @@ pub(crate) fn spans(
     requires inside { axis.from + axis.count ≤ axis.a }
     requires results { first + results ≤ axis.c }
     ensures len { IfOk result (λ v. vec_len v ≡ results) }
-    ensures each { IfOk result (λ v. (t : ℕ) (d : Span) → t < results → IsSpan axis.a axis.c axis.from axis.count (first + t) (slice_index_or v.items t d)) }
+    ensures each { IfOk result (λ v. (t : ℕ) (d : Span) → t < results →
+        IsSpan axis.a axis.c axis.from axis.count (first + t) (slice_index_or v.items t d)) }
 {
     let mut spans = Vec::with_capacity(alloc, results as usize)?;
     for i in 0..results {
@@ -255,8 +257,10 @@ fn with_whole(
     requires room { vec_len sums + count * channels ≤ vec_capacity sums }
     requires within { count * n * channels ≤ length columns.now }
     requires takes { 0 < c }
-    requires fits { (i k : ℕ) → i < count → k < channels → c * sum_from (i * n) n (λ t. slice_index columns.now (t * channels + k)) < 2 ^ 64 }
-    ensures row { IsMore sums.items result.items channels (count * channels) (λ i k. c * sum_from (i * n) n (λ t. slice_index columns.now (t * channels + k))) }
+    requires fits { (i k : ℕ) → i < count → k < channels →
+        c * sum_from (i * n) n (λ t. slice_index columns.now (t * channels + k)) < 2 ^ 64 }
+    ensures row { IsMore sums.items result.items channels (count * channels)
+        (λ i k. c * sum_from (i * n) n (λ t. slice_index columns.now (t * channels + k))) }
     ensures capacity { vec_capacity result ≡ vec_capacity sums }
 {
     match n {
@@ -280,8 +284,10 @@ fn with_whole_of(
     requires room { vec_len sums + count * channels ≤ vec_capacity sums }
     requires within { count * n * channels ≤ length columns.now }
     requires takes { 0 < c }
-    requires fits { (i k : ℕ) → i < count → k < channels → c * sum_from (i * n) n (λ t. slice_index columns.now (t * channels + k)) < 2 ^ 64 }
-    ensures row { IsMore sums.items result.items channels (count * channels) (λ i k. c * sum_from (i * n) n (λ t. slice_index columns.now (t * channels + k))) }
+    requires fits { (i k : ℕ) → i < count → k < channels →
+        c * sum_from (i * n) n (λ t. slice_index columns.now (t * channels + k)) < 2 ^ 64 }
+    ensures row { IsMore sums.items result.items channels (count * channels)
+        (λ i k. c * sum_from (i * n) n (λ t. slice_index columns.now (t * channels + k))) }
     ensures capacity { vec_capacity result ≡ vec_capacity sums }
 {
     for i in 0..count {

@@ -157,7 +157,8 @@ fn sum_inner(short: &mut [u16], tile: &Raster, held: Rect, from: u32, to: u32)
     requires corner { held.y + to < 2 ^ 32 }
     requires room { length short.old ≡ held.w * tile.now.channels }
     ensures sums { (t k : ℕ) → t < held.w → k < tile.now.channels →
-        slice_index short.new (t * tile.now.channels + k) ≡ sum_from from (to - from) (λ s. sample_at tile.now (held.x + t) (held.y + s) k) }
+        slice_index short.new (t * tile.now.channels + k) ≡ sum_from from (to - from)
+        (λ s. sample_at tile.now (held.x + t) (held.y + s) k) }
 {
     short.fill(0);
     let mut s = from;
@@ -213,8 +214,10 @@ fn with_whole(
     requires room { vec_len sums + count * channels ≤ vec_capacity sums }
     requires within { count * n * channels ≤ length columns.now }
     requires takes { 0 < c }
-    requires fits { (i k : ℕ) → i < count → k < channels → c * sum_from (i * n) n (λ t. slice_index columns.now (t * channels + k)) < 2 ^ 64 }
-    ensures row { IsMore sums.items result.items channels (count * channels) (λ i k. c * sum_from (i * n) n (λ t. slice_index columns.now (t * channels + k))) }
+    requires fits { (i k : ℕ) → i < count → k < channels →
+        c * sum_from (i * n) n (λ t. slice_index columns.now (t * channels + k)) < 2 ^ 64 }
+    ensures row { IsMore sums.items result.items channels (count * channels)
+        (λ i k. c * sum_from (i * n) n (λ t. slice_index columns.now (t * channels + k))) }
     ensures capacity { vec_capacity result ≡ vec_capacity sums }
 {
     match n {
@@ -238,8 +241,10 @@ fn with_whole_of(
     requires room { vec_len sums + count * channels ≤ vec_capacity sums }
     requires within { count * n * channels ≤ length columns.now }
     requires takes { 0 < c }
-    requires fits { (i k : ℕ) → i < count → k < channels → c * sum_from (i * n) n (λ t. slice_index columns.now (t * channels + k)) < 2 ^ 64 }
-    ensures row { IsMore sums.items result.items channels (count * channels) (λ i k. c * sum_from (i * n) n (λ t. slice_index columns.now (t * channels + k))) }
+    requires fits { (i k : ℕ) → i < count → k < channels →
+        c * sum_from (i * n) n (λ t. slice_index columns.now (t * channels + k)) < 2 ^ 64 }
+    ensures row { IsMore sums.items result.items channels (count * channels)
+        (λ i k. c * sum_from (i * n) n (λ t. slice_index columns.now (t * channels + k))) }
     ensures capacity { vec_capacity result ≡ vec_capacity sums }
 {
     for i in 0..count {

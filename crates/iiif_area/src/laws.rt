@@ -1,7 +1,9 @@
 //! What holds of weights and of sums over parts at every argument. The functions compute nothing: their contracts are the
 //! laws, for the crates above.
 
-ghost use Rattle.iiif_area.specs.Laws.{WeightsAddUp, NoWeightBefore, NoWeightFrom, SplitsAtColumn, SplitsAtRow, CutsAddUp, IsZeroElsewhere, PartIsCommon, PlaceIsTested, IsOfPart, PlacesGrow, IsBounded, SumsFit, MergingAdds, PiecesMerge, OthersAddNothing, BandsAreCut, CutsNest, SameSidesChangeNothing, IsSumOverRange};
+ghost use Rattle.iiif_area.specs.Laws.{WeightsAddUp, NoWeightBefore, NoWeightFrom, SplitsAtColumn, SplitsAtRow, CutsAddUp, IsZeroElsewhere};
+ghost use Rattle.iiif_area.specs.Laws.{PartIsCommon, PlaceIsTested, IsOfPart, PlacesGrow, IsBounded, SumsFit, MergingAdds, PiecesMerge};
+ghost use Rattle.iiif_area.specs.Laws.{OthersAddNothing, BandsAreCut, CutsNest, SameSidesChangeNothing, IsSumOverRange};
 
 /// So the average of samples is at most the greatest of them.
 pub fn weights_add_up()

@@ -10,7 +10,8 @@ use iiif_pixel::{Raster, Rect, Span};
 pub(crate) fn add_row(columns: &mut [u64], row: Span, weight: u32)
     requires same { length columns.old ≡ length (span_values row) }
     requires room { (t : ℕ) → t < length columns.old → slice_index columns.old t + weight * slice_index (span_values row) t < 2 ^ 64 }
-    ensures { EachIndex columns.new (λ t. slice_index columns.new t ≡ slice_index columns.old t + weight * slice_index (span_values row.entry) t) }
+    ensures { EachIndex columns.new (λ t. slice_index columns.new t ≡ slice_index columns.old t + weight * slice_index
+        (span_values row.entry) t) }
 {
     match row {
         Span::Eight(row) => add_eight(columns, row, weight),
@@ -96,7 +97,8 @@ pub(crate) fn row_of<'a>(tile: &'a Raster, held: Rect, s: u32) -> &'a [u8]
 
 /// Adds the samples of four rows to the number of `short` at their index.
 pub(crate) fn sum_four(short: &mut [u16], a: &[u8], b: &[u8], c: &[u8], d: &[u8])
-    requires same { (length a.now ≡ length short.old) × (length b.now ≡ length short.old) × (length c.now ≡ length short.old) × (length d.now ≡ length short.old) }
+    requires same { (length a.now ≡ length short.old) × (length b.now ≡ length short.old) × (length c.now ≡ length short.old) ×
+        (length d.now ≡ length short.old) }
     requires room { (t : ℕ) → t < length short.old → slice_index short.old t + 1020 < 2 ^ 16 }
     ensures { EachIndex short.new (λ t. slice_index short.new t
         ≡ slice_index short.old t + (slice_index a.now t + slice_index b.now t + slice_index c.now t + slice_index d.now t)) }
@@ -137,7 +139,8 @@ pub(crate) fn join_rows(
     short: &[u16],
     weight: u16,
 )
-    requires same { (length first.now ≡ length columns.old) × (length last.now ≡ length columns.old) × (length short.now ≡ length columns.old) }
+    requires same { (length first.now ≡ length columns.old) × (length last.now ≡ length columns.old) ×
+        (length short.now ≡ length columns.old) }
     requires room { (t : ℕ) → t < length columns.old
         → above * slice_index first.now t + weight * slice_index short.now t + below * slice_index last.now t < 2 ^ 32 }
     ensures { EachIndex columns.new (λ t. slice_index columns.new t

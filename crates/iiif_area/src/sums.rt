@@ -125,7 +125,8 @@ impl Sums {
         requires kind { tile.now.channels ≡ self.old.channels }
         requires meets { Meets at region }
         requires limits { IsScalable (sides_of region) size }
-        ensures sums { (p : Picture) → tile.now ≡ crop p at → self.new ≡ merged self.old (sums_of (crop p region) size (part_of at region)) }
+        ensures sums { (p : Picture) → tile.now ≡ crop p at →
+            self.new ≡ merged self.old (sums_of (crop p region) size (part_of at region)) }
         ensures rect { self.new.rect ≡ self.old.rect }
         ensures channels { self.new.channels ≡ self.old.channels }
     {
@@ -148,7 +149,8 @@ impl Sums {
         requires area { region.w * region.h ≤ 2 ^ 32 }
         requires inside { IsInside rect self.now.rect }
         ensures samples { IfOk result (λ r. r ≡ finished self.now region (top_of depth) rect) }
-        ensures scaled { IfOk result (λ r. (p : Picture) (size : Dim) → IsWhole p → p.top ≡ top_of depth → dim_of p ≡ region → LiesIn rect size
+        ensures scaled { IfOk result (λ r. (p : Picture) (size : Dim) → IsWhole p → p.top ≡ top_of depth → dim_of p ≡ region →
+            LiesIn rect size
             → self.now ≡ sums_at self.now.rect p size (whole_of (dim_of p)) → r ≡ crop (scale p size) rect) }
     {
         let area = u64::from(region.w) * u64::from(region.h);

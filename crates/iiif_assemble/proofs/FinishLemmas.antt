@@ -12,13 +12,15 @@ zipped_len a t [] (x ∷ xs) h = absurd h
 zipped_len a t (s ∷ ss) [] h = absurd h
 zipped_len a t (s ∷ ss) (x ∷ xs) h = let e = zipped_len a t ss xs h.1 in omega arith
 
-zipped_at : (a t : ℕ) (sums xs : List ℕ) (i : ℕ) → AllZip (λ s b. b ≡ average_within a t s) sums xs → i < length sums → get_or xs i 0 ≡ average_within a t (get_or sums i 0)
+zipped_at : (a t : ℕ) (sums xs : List ℕ) (i : ℕ) → AllZip (λ s b. b ≡ average_within a t s) sums xs → i < length sums →
+    get_or xs i 0 ≡ average_within a t (get_or sums i 0)
 zipped_at a t [] xs i h within = absurd (omega arith)
 zipped_at a t (s ∷ ss) [] i h within = absurd h
 zipped_at a t (s ∷ ss) (x ∷ xs) zero h within = h.0
 zipped_at a t (s ∷ ss) (x ∷ xs) (suc i) h within = zipped_at a t ss xs i h.1 (omega arith)
 
-pub all_finished : (g : Grid) (region : Dim) (a t : ℕ) (xs : List ℕ) → a ≡ region.w * region.h → length g.sums ≡ g.rect.w * g.rect.h * g.channels →
+pub all_finished : (g : Grid) (region : Dim) (a t : ℕ) (xs : List ℕ) → a ≡ region.w * region.h →
+    length g.sums ≡ g.rect.w * g.rect.h * g.channels →
     AllZip (λ s b. b ≡ average_within a t s) g.sums xs → xs ≡ (finished g region t g.rect).samples
 unfolding sum_at
 all_finished g region a t xs area count zipped =

@@ -26,10 +26,14 @@ places_same image region q size k lies sides =
     ∙ ap (λ (d : Dim). places_of d size (part_of (tile_of image k) region)) (sym sides)
 
 -- The sums of the tiles that have samples for a place of a part of a result are, merged, those of the region there.
-pub grown_total : PiecesMerge → PlacesAreThose TileKey → (image : Dim) (region : Rect) (q : Picture) (size : Dim) (from : Rect) (keys : List TileKey) (items : List ℕ) (x : TileKey) → IsWhole q →
-    IsScalable (dim_of q) size → dim_of q ≡ sides_of region → LiesIn region image → IsCutInto (whole_of (dim_of q)) (map (λ k. part_of (tile_of image k) region) keys) →
+pub grown_total : PiecesMerge → PlacesAreThose TileKey →
+    (image : Dim) (region : Rect) (q : Picture) (size : Dim) (from : Rect) (keys : List TileKey) (items : List ℕ) (x : TileKey) →
+    IsWhole q →
+    IsScalable (dim_of q) size → dim_of q ≡ sides_of region → LiesIn region image →
+    IsCutInto (whole_of (dim_of q)) (map (λ k. part_of (tile_of image k) region) keys) →
     ListsMet (grown_places region size) from keys items →
-    fold merged (grid_of from q.channels (λ i j k. 0)) (map (λ i. sums_of q size (part_of (tile_of image (get_or keys i x)) region)) items) ≡ sums_at from q size (whole_of (dim_of q))
+    fold merged (grid_of from q.channels (λ i j k. 0)) (map (λ i. sums_of q size (part_of (tile_of image (get_or keys i x)) region)) items)
+    ≡ sums_at from q size (whole_of (dim_of q))
 grown_total merge those image region q size from keys items x whole limits sides lies cut lists =
     let part : TileKey → Rect = λ k. part_of (tile_of image k) region in
     let g : TileKey → Grid = λ k. sums_of q size (part k) in
@@ -37,7 +41,8 @@ grown_total merge those image region q size from keys items x whole limits sides
     let test = lists.0 in
     let Off : TileKey → Type 0 = λ k. test k ≡ false → (i j : ℕ) → HasPlace from i j → ¬ (HasPlace (g k).rect i j) in
     let each : (k : TileKey) → Off k = λ k f i j here there.
-    (let at : HasPlace (grown_places region size k) i j = subst (λ (r : Rect). HasPlace r i j) (sym (places_same image region q size k lies sides)) there in
+    (let at : HasPlace (grown_places region size k) i j =
+    subst (λ (r : Rect). HasPlace r i j) (sym (places_same image region q size k lies sides)) there in
     both_ways (test k) f (lists.1 k i j at here)) in
     let off : All Off keys = λ i d h. each (get_or keys i d) in
     let chosen : map (λ i. get_or keys i x) items ≡ filter test keys = ap (map (λ i. get_or keys i x)) lists.2 ∙ those test keys x in
@@ -47,8 +52,10 @@ grown_total merge those image region q size from keys items x whole limits sides
     ∙ merge q size (whole_of (dim_of q)) from (map part keys) whole limits.columns limits.rows limits.area cut
 
 -- the total of a band
-pub grown_is : (from : Rect) (n : ℕ) (q : Picture) (size : Dim) (none new : Grid) (gs : List Grid) → none ≡ grid_of from n (λ i j k. 0) → q.channels ≡ n → new ≡ fold merged none gs → new.rect ≡ none.rect →
-    fold merged (grid_of from q.channels (λ i j k. 0)) gs ≡ sums_at from q size (whole_of (dim_of q)) → new ≡ sums_at new.rect q size (whole_of (dim_of q))
+pub grown_is : (from : Rect) (n : ℕ) (q : Picture) (size : Dim) (none new : Grid) (gs : List Grid) → none ≡ grid_of from n (λ i j k. 0) →
+    q.channels ≡ n → new ≡ fold merged none gs → new.rect ≡ none.rect →
+    fold merged (grid_of from q.channels (λ i j k. 0)) gs ≡ sums_at from q size (whole_of (dim_of q)) →
+    new ≡ sums_at new.rect q size (whole_of (dim_of q))
 grown_is from n q size none new gs is_none channels made places total =
     let rect : new.rect ≡ from = places ∙ ap (λ (g : Grid). g.rect) is_none in
     made

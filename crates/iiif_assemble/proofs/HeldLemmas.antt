@@ -28,7 +28,8 @@ prepared_count n true p few = turned_count n (mirrored p) few
 prepared_count n false p few = turned_count n p few
 
 -- a picture and what it becomes, turned, held at once
-pub held_turned : (t : Turn) (p r : Picture) (held old new most : ℕ) → t.quarters < 4 → r ≡ turn p t → old ≡ count_of p → new ≡ count_of r → most ≡ max held (old + new) →
+pub held_turned : (t : Turn) (p r : Picture) (held old new most : ℕ) → t.quarters < 4 → r ≡ turn p t → old ≡ count_of p → new ≡ count_of r →
+    most ≡ max held (old + new) →
     IsWithin (count_of p) held → IsWithin (count_of r) most
 held_turned t p r held old new most few is of_old of_new are within =
     let n = count_of p in

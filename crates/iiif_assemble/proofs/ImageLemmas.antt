@@ -35,13 +35,15 @@ turned_by_sides (suc (suc (suc zero))) p few = (refl, refl)
 turned_by_sides (suc (suc (suc (suc n)))) p few = absurd (omega (arith, few))
 
 prepared_sides : (n : ℕ) (m : Bool) (p : Picture) → n < 4 →
-    (dim_of (turned_by n (if m then mirrored p else p)) ≡ record { w = turned_width n p.width p.height; h = turned_height n p.width p.height })
+    (dim_of (turned_by n (if m then mirrored p else p)) ≡ record
+    { w = turned_width n p.width p.height; h = turned_height n p.width p.height })
     × ((turned_by n (if m then mirrored p else p)).channels ≡ p.channels)
 prepared_sides n true p few = turned_by_sides n (mirrored p) few
 prepared_sides n false p few = turned_by_sides n p few
 
 -- the part of the scaled result, turned and in its quality, is the band
-pub band_image : (p : Picture) (r : Resolved) (from rect : Rect) (scaled turned image : Picture) → TurnsInto r.turn r.size from rect → QualityOfCrop →
+pub band_image : (p : Picture) (r : Resolved) (from rect : Rect) (scaled turned image : Picture) → TurnsInto r.turn r.size from rect →
+    QualityOfCrop →
     r.turn.quarters < 4 → 0 < p.channels → LiesIn rect (turned_dim r.turn r.size) → scaled ≡ crop (scale (crop p r.rect) r.size) from →
     turned ≡ turn scaled r.turn → image ≡ quality turned r.quality → image ≡ crop (resolved_image p r) rect
 unfolding resolved_image
@@ -67,10 +69,13 @@ met_from {K} t d places from rect keys items lies same lists = (
 
 -- the items of a band are those of the part that is turned into it
 pub items_met : (r : Resolved) (plan : Plan) (from rect : Rect) (items : List ℕ) → LiesIn from r.size →
-    ((x y : ℕ) → x < r.size.w → y < r.size.h → HasPlace from x y ↔ HasPlace rect (turned_place r.turn r.size x y).0 (turned_place r.turn r.size x y).1) →
+    ((x y : ℕ) → x < r.size.w → y < r.size.h →
+    HasPlace from x y ↔ HasPlace rect (turned_place r.turn r.size x y).0 (turned_place r.turn r.size x y).1) →
     ListsItems r plan rect items → ListsMetItems r from plan items
-items_met r (Copy keys) from rect items lies same lists = met_from r.turn r.size (tile_places r.rect) from rect keys.items items lies same lists
-items_met r (Grow keys) from rect items lies same lists = met_from r.turn r.size (grown_places r.rect r.size) from rect keys.items items lies same lists
+items_met r (Copy keys) from rect items lies same lists =
+    met_from r.turn r.size (tile_places r.rect) from rect keys.items items lies same lists
+items_met r (Grow keys) from rect items lies same lists =
+    met_from r.turn r.size (grown_places r.rect r.size) from rect keys.items items lies same lists
 items_met r (Sum keys) from rect items lies same lists = met_from r.turn r.size block_places from rect keys.items items lies same lists
 
 pub quality_sides : (p : Picture) (to : Quality) → dim_of (quality p to) ≡ dim_of p
@@ -87,7 +92,8 @@ resolved_sides p r few =
     quality_sides (turn s r.turn) r.quality ∙ (prepared_sides r.turn.quarters r.turn.mirror s few).0
 
 -- the band of all rows is the image
-pub all_rows : AllRows → CropIsWhole → ScaleIsWhole → TurnIsWhole → QualityIsWhole → (p : Picture) (r : Resolved) (rect : Rect) → IsWhole p → r.turn.quarters < 4 →
+pub all_rows : AllRows → CropIsWhole → ScaleIsWhole → TurnIsWhole → QualityIsWhole → (p : Picture) (r : Resolved) (rect : Rect) →
+    IsWhole p → r.turn.quarters < 4 →
     rect ≡ whole_of (turned_dim r.turn r.size) → crop (resolved_image p r) rect ≡ resolved_image p r
 unfolding resolved_image
 all_rows law crops scales turns qualities p r rect whole few is =
@@ -121,13 +127,15 @@ quality_top p q.Gray = refl
 quality_top p q.Bitonal = refl
 
 -- a part, turned and in its quality, has the greatest sample of that quality
-pub image_top : (scaled turned image : Picture) (t : Turn) (to : Quality) (top : ℕ) → scaled.top ≡ top → turned ≡ turn scaled t → image ≡ quality turned to → image.top ≡ top_in to top
+pub image_top : (scaled turned image : Picture) (t : Turn) (to : Quality) (top : ℕ) → scaled.top ≡ top → turned ≡ turn scaled t →
+    image ≡ quality turned to → image.top ≡ top_in to top
 image_top scaled turned image t to top is by in_quality =
     ap (λ (p : Picture). p.top) in_quality ∙ quality_top turned to
     ∙ ap (top_in to) (ap (λ (p : Picture). p.top) by ∙ prepared_top t.quarters t.mirror scaled ∙ is)
 
 -- a part that is turned into a rectangle has its sides then
-pub band_sides : (t : Turn) (d : Dim) (from rect : Rect) (p : Picture) → TurnsInto t d from rect → t.quarters < 4 → dim_of p ≡ sides_of from → dim_of (turn p t) ≡ sides_of rect
+pub band_sides : (t : Turn) (d : Dim) (from rect : Rect) (p : Picture) → TurnsInto t d from rect → t.quarters < 4 →
+    dim_of p ≡ sides_of from → dim_of (turn p t) ≡ sides_of rect
 band_sides t d from rect p turns few sides =
     let blank : Picture = picture_of d.w d.h 1 255 (λ x y k. 0) in
     let same : turn (crop blank from) t ≡ crop (turn blank t) rect = turns blank refl refl in
@@ -137,7 +145,8 @@ band_sides t d from rect p turns few sides =
     ∙ ap dim_of same
 
 -- the picture that a job's name has
-pub picture_shown : (shows : Pictures) (j : Job) → HasPicture shows j.name j.shape → IsSource (named shows j.name) → IsPictureOf shows j (named shows j.name)
+pub picture_shown : (shows : Pictures) (j : Job) → HasPicture shows j.name j.shape → IsSource (named shows j.name) →
+    IsPictureOf shows j (named shows j.name)
 picture_shown shows j has source =
     let p = named shows j.name in
     record {

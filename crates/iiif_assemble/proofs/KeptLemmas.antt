@@ -8,7 +8,8 @@ use Rattle.iiif_assemble.specs.Kept.{AreKept, IsKeptToo}
 use Rattle.iiif_assemble.specs.declared.kept.KeptSum.{KeptSum}
 
 -- one more
-pub kept_more : (means : SumKey → SumVal → Type 0) (old new : List KeptSum) (k : SumKey) (v : SumVal) → AreKept means old → means k v → IsKeptToo k v old new → AreKept means new
+pub kept_more : (means : SumKey → SumVal → Type 0) (old new : List KeptSum) (k : SumKey) (v : SumVal) → AreKept means old → means k v →
+    IsKeptToo k v old new → AreKept means new
 kept_more means old new k v all meant too =
     let P : KeptSum → Type 0 = λ t. means t.key (arc_value t.value) in
     let s = too.0 in

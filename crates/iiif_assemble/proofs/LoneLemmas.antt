@@ -23,13 +23,16 @@ sum_at-lt g i j k grid =
     (cases_lt n (length g.sums))
 
 -- so it is the sum that stays where it is added to 0
-sum_at-alone : (r : Rect) (n : ℕ) (g : Grid) (i j k : ℕ) → IsGrid g → HasPlace r i j → HasPlace g.rect i j → k < n → sum_at (merged (grid_of r n (λ i j k. 0)) g) i j k ≡ sum_at g i j k
+sum_at-alone : (r : Rect) (n : ℕ) (g : Grid) (i j k : ℕ) → IsGrid g → HasPlace r i j → HasPlace g.rect i j → k < n →
+    sum_at (merged (grid_of r n (λ i j k. 0)) g) i j k ≡ sum_at g i j k
 sum_at-alone r n g i j k grid mine theirs ch =
     let zeros = grid_of r n (λ i j k. 0) in
     let none : sum_at zeros i j k ≡ 0 = sum_at-grid_of r n (λ i j k. 0) i j k mine ch in
     let small = sum_at-lt g i j k grid in
-    sum_at-grid_of r n (λ i j k. if has_place g.rect i j then min (2 ^ 64 - 1) (sum_at zeros i j k + sum_at g i j k) else sum_at zeros i j k) i j k mine ch
-    ∙ ap (λ (b : Bool). if b then min (2 ^ 64 - 1) (sum_at zeros i j k + sum_at g i j k) else sum_at zeros i j k) (has_place-yes g.rect i j theirs)
+    sum_at-grid_of r n (λ i j k. if has_place g.rect i j then min (2 ^ 64 - 1) (sum_at zeros i j k + sum_at g i j k) else sum_at zeros i j
+    k) i j k mine ch
+    ∙ ap (λ (b : Bool). if b then min (2 ^ 64 - 1) (sum_at zeros i j k + sum_at g i j k) else sum_at zeros i j k)
+    (has_place-yes g.rect i j theirs)
     ∙ omega arith
 
 -- Sums that have each place of a rectangle make the samples there that they make merged into sums of 0.
@@ -40,5 +43,6 @@ finished-alone from n g region top grid channels inside =
     ap (λ m. picture_of from.w from.h m top (λ x y k. average_within area top (sum_at g (from.x + x) (from.y + y) k))) channels
     ∙ same_built from.w from.h n top _ _ (λ x y k lx ly lk.
     let mine : HasPlace from (from.x + x) (from.y + y) = (omega arith, omega arith, omega arith, omega arith) in
-    let theirs : HasPlace g.rect (from.x + x) (from.y + y) = (omega (arith, inside.left), omega (arith, inside.right), omega (arith, inside.upper), omega (arith, inside.lower)) in
+    let theirs : HasPlace g.rect (from.x + x) (from.y + y) =
+    (omega (arith, inside.left), omega (arith, inside.right), omega (arith, inside.upper), omega (arith, inside.lower)) in
     ap (average_within area top) (sym (sum_at-alone from n g (from.x + x) (from.y + y) k grid mine theirs lk)))

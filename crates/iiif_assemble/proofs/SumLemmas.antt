@@ -1,5 +1,6 @@
 -- The sums of a part of a result, of the blocks that have a place of it.
-use Rattle.std.proofs.Common.{◌≡◌, ℕ, ◌+◌, ◌-◌, ◌*◌, ◌^◌, ◌<◌, ◌≤◌, min, List, [], ◌∷◌, ◌++◌, Bool, true, false, cond, All, length, get_or, map, fold, take, Some, refl, sym, subst, ap, ◌∙◌, if◌then◌else◌}
+use Rattle.std.proofs.Common.{◌≡◌, ℕ, ◌+◌, ◌-◌, ◌*◌, ◌^◌, ◌<◌, ◌≤◌, min, List, [], ◌∷◌, ◌++◌, Bool, true, false, cond, All, length, get_or}
+use Rattle.std.proofs.Common.{map, fold, take, Some, refl, sym, subst, ap, ◌∙◌, if◌then◌else◌}
 use Rattle.std.specs.List.{filter}
 use Rattle.std.proofs.lemmas.Bool.{both_ways}
 use Rattle.std.proofs.lemmas.List.Elements.{All-head, All-tail, All-weaker}
@@ -32,14 +33,17 @@ use Rattle.iiif_assemble.specs.Gathering.{AreValues}
 use Rattle.iiif_assemble.specs.Code.{sums_in, tile_in, total_of, ListsMet}
 
 -- sums at no place of a grid change nothing in it
-pub apart : (r : Rect) (n : ℕ) (f : ℕ → ℕ → ℕ → ℕ) (h : Grid) → ((i j : ℕ) → HasPlace r i j → ¬ (HasPlace h.rect i j)) → merged (grid_of r n f) h ≡ grid_of r n f
+pub apart : (r : Rect) (n : ℕ) (f : ℕ → ℕ → ℕ → ℕ) (h : Grid) → ((i j : ℕ) → HasPlace r i j → ¬ (HasPlace h.rect i j)) →
+    merged (grid_of r n f) h ≡ grid_of r n f
 apart r n f h off =
     let g = grid_of r n f in
     grid_of-same r n _ f (λ i j k place ch.
-    ap (λ (b : Bool). if b then min (2 ^ 64 - 1) (sum_at g i j k + sum_at h i j k) else sum_at g i j k) (has_place-no h.rect i j (off i j place))
+    ap (λ (b : Bool). if b then min (2 ^ 64 - 1) (sum_at g i j k + sum_at h i j k) else sum_at g i j k)
+    (has_place-no h.rect i j (off i j place))
     ∙ sum_at-grid_of r n f i j k place ch)
 
-fold_if : (b : Bool) (start : Grid) (x : Grid) (xs : List Grid) → (b ≡ false → merged start x ≡ start) → fold merged start (cond b (x ∷ xs) xs) ≡ fold merged (merged start x) xs
+fold_if : (b : Bool) (start : Grid) (x : Grid) (xs : List Grid) → (b ≡ false → merged start x ≡ start) →
+    fold merged start (cond b (x ∷ xs) xs) ≡ fold merged (merged start x) xs
 fold_if true start x xs none = refl
 fold_if false start x xs none = ap (λ (g : Grid). fold merged g xs) (sym (none refl))
 
@@ -56,13 +60,15 @@ only_those {K} test g r n (k ∷ ks) f off =
     let P : K → Type 0 = λ q. test q ≡ false → (i j : ℕ) → HasPlace r i j → ¬ (HasPlace (g q).rect i j) in
     let start = grid_of r n f in
     let none : test k ≡ false → merged start (g k) ≡ start = λ e. apart r n f (g k) (All-head P k ks off e) in
-    let next : ℕ → ℕ → ℕ → ℕ = λ i j c. if has_place (g k).rect i j then min (2 ^ 64 - 1) (sum_at start i j c + sum_at (g k) i j c) else sum_at start i j c in
+    let next : ℕ → ℕ → ℕ → ℕ = λ i j c. if has_place (g k).rect i j then min (2 ^ 64 - 1) (sum_at start i j c + sum_at (g k) i j c) else
+    sum_at start i j c in
     ap (λ (gs : List Grid). fold merged start gs) (map_cond g (test k) k (filter test ks))
     ∙ fold_if (test k) start (g k) (map g (filter test ks)) none
     ∙ only_those test g r n ks next (All-tail P k ks off)
 
 -- the values of items, as those of their keys
-pub values_are : {K V G : Type 0} (f : V → G) (g : K → G) (means : K → V → Type 0) (keys : List K) (x : K) (items : List ℕ) (values : List V) →
+pub values_are : {K V G : Type 0} (f : V → G) (g : K → G) (means : K → V → Type 0) (keys : List K) (x : K) (items : List ℕ)
+    (values : List V) →
     AreValues means keys items values → All (λ (k : K). (v : V) → means k v → f v ≡ g k) keys →
     map f values ≡ map g (map (λ i. get_or keys i x) items)
 values_are f g means keys x [] [] h each = refl
@@ -86,7 +92,8 @@ pub record IsFor (region : Rect) (size : Dim) (k : SumKey) : Type 0 where
   pub to_size : k.size ≡ size
 
 -- where a block's sums stand
-places_same : (image : Dim) (region : Rect) (q : Picture) (size : Dim) (k : SumKey) → IsFor region size k → LiesIn region image → dim_of q ≡ sides_of region →
+places_same : (image : Dim) (region : Rect) (q : Picture) (size : Dim) (k : SumKey) → IsFor region size k → LiesIn region image →
+    dim_of q ≡ sides_of region →
     block_places k ≡ places_of (dim_of q) size (part_in image k)
 places_same image region q size k b lies sides =
     let s = square (2 ^ k.level * k.edge) k.bx k.by in
@@ -97,8 +104,10 @@ places_same image region q size k b lies sides =
     ∙ ap (λ (d : Dim). places_of d size (part_in image k)) (sym sides)
 
 -- The sums of the blocks that have a place of a part of a result are, merged, those of the region there.
-pub band_total : PiecesMerge → PlacesAreThose SumKey → (image : Dim) (region : Rect) (q : Picture) (size : Dim) (from : Rect) (keys : List SumKey) (items : List ℕ) (values : List SumVal)
-    (means : SumKey → SumVal → Type 0) → IsWhole q → IsScalable (dim_of q) size → dim_of q ≡ sides_of region → LiesIn region image → All (IsFor region size) keys →
+pub band_total : PiecesMerge → PlacesAreThose SumKey →
+    (image : Dim) (region : Rect) (q : Picture) (size : Dim) (from : Rect) (keys : List SumKey) (items : List ℕ) (values : List SumVal)
+    (means : SumKey → SumVal → Type 0) → IsWhole q → IsScalable (dim_of q) size → dim_of q ≡ sides_of region → LiesIn region image →
+    All (IsFor region size) keys →
     IsCutInto (whole_of (dim_of q)) (map (part_in image) keys) → ListsMet block_places from keys items → AreValues means keys items values →
     All (λ (k : SumKey). (v : SumVal) → means k v → sums_in v ≡ sums_of q size (part_in image k)) keys →
     fold merged (grid_of from q.channels (λ i j k. 0)) (map sums_in values) ≡ sums_at from q size (whole_of (dim_of q))
@@ -110,7 +119,8 @@ band_total merge those image region q size from keys items values means whole li
     let off : All (λ k. test k ≡ false → (i j : ℕ) → HasPlace from i j → ¬ (HasPlace (g k).rect i j)) keys =
     All-weaker (IsFor region size) (λ k. test k ≡ false → (i j : ℕ) → HasPlace from i j → ¬ (HasPlace (g k).rect i j))
     (λ k b f i j here there.
-    let at : HasPlace (block_places k) i j = subst (λ (r : Rect). HasPlace r i j) (sym (places_same image region q size k b lies sides)) there in
+    let at : HasPlace (block_places k) i j = subst (λ (r : Rect). HasPlace r i j) (sym (places_same image region q size k b lies sides))
+    there in
     both_ways (test k) f (lists.1 k i j at here)) keys each in
     let chosen : map (λ i. get_or keys i x) items ≡ filter test keys = ap (map (λ i. get_or keys i x)) lists.2 ∙ those test keys x in
     ap (λ (gs : List Grid). fold merged start gs) (values_are sums_in g means keys x items values are meant ∙ ap (map g) chosen)
@@ -119,7 +129,8 @@ band_total merge those image region q size from keys items values means whole li
     ∙ merge q size (whole_of (dim_of q)) from (map (part_in image) keys) whole limits.columns limits.rows limits.area cut
 
 -- what a block's value has where it is meant
-pub block_meant : (shows : Pictures) (name : List ℕ) (p : Picture) (image : Dim) (region : Rect) (size : Dim) (k : SumKey) (v : SumVal) → shows name ≡ Some p → dim_of p ≡ image →
+pub block_meant : (shows : Pictures) (name : List ℕ) (p : Picture) (image : Dim) (region : Rect) (size : Dim) (k : SumKey) (v : SumVal) →
+    shows name ≡ Some p → dim_of p ≡ image →
     k.name ≡ name → IsFor region size k → v ≡ sum_meaning shows k → sums_in v ≡ sums_of (crop p region) size (part_in image k)
 block_meant shows name p image region size k v known sides same b made =
     let of_name : named shows k.name ≡ p = ap (named shows) same ∙ picture_is shows name p known in
@@ -130,7 +141,8 @@ block_meant shows name p image region size k v known sides same b made =
     ∙ ap (λ (d : Dim). sums_of (crop p region) d (part_in image k)) b.to_size
 
 -- one value more is added
-pub merged_more : {A : Type 0} (f : A → Grid) (values : List A) (i : ℕ) (a : A) (start old new : Grid) → i < length values → get_or values i a ≡ a →
+pub merged_more : {A : Type 0} (f : A → Grid) (values : List A) (i : ℕ) (a : A) (start old new : Grid) → i < length values →
+    get_or values i a ≡ a →
     old ≡ fold merged start (map f (take i values)) → new ≡ merged old (f a) → new ≡ fold merged start (map f (take (i + 1) values))
 merged_more {A} f values i a start old new within is before made =
     let taken : take (i + 1) values ≡ take i values ++ a ∷ [] = take_more values i a within ∙ ap (λ (x : A). take i values ++ x ∷ []) is in
@@ -139,12 +151,15 @@ merged_more {A} f values i a start old new within is before made =
     ∙ ap (λ gs. fold merged start gs) (sym (map-append f (take i values) (a ∷ [])))
     ∙ ap (λ (xs : List A). fold merged start (map f xs)) (sym taken)
 
-pub merged_all : {A : Type 0} (f : A → Grid) (values : List A) (i : ℕ) (start new : Grid) → length values ≤ i → new ≡ fold merged start (map f (take i values)) → new ≡ fold merged start (map f values)
+pub merged_all : {A : Type 0} (f : A → Grid) (values : List A) (i : ℕ) (start new : Grid) → length values ≤ i →
+    new ≡ fold merged start (map f (take i values)) → new ≡ fold merged start (map f values)
 merged_all {A} f values i start new end made = made ∙ ap (λ (xs : List A). fold merged start (map f xs)) (take_all i values end)
 
 -- the samples of a band
-pub total_finished : (from : Rect) (q : Picture) (size : Dim) (n top : ℕ) (values : List SumVal) → IsWhole q → LiesIn from size → q.channels ≡ n → q.top ≡ top →
-    total_of from q.channels values ≡ sums_at from q size (whole_of (dim_of q)) → finished (total_of from n values) (dim_of q) top from ≡ crop (scale q size) from
+pub total_finished : (from : Rect) (q : Picture) (size : Dim) (n top : ℕ) (values : List SumVal) → IsWhole q → LiesIn from size →
+    q.channels ≡ n → q.top ≡ top →
+    total_of from q.channels values ≡ sums_at from q size (whole_of (dim_of q)) →
+    finished (total_of from n values) (dim_of q) top from ≡ crop (scale q size) from
 total_finished from q size n top values whole lies channels depth total =
     ap (λ (c : ℕ). finished (total_of from c values) (dim_of q) top from) (sym channels)
     ∙ ap (λ (t : Grid). finished t (dim_of q) top from) total
@@ -152,7 +167,8 @@ total_finished from q size n top values whole lies channels depth total =
     ∙ finished-scaled from from q size whole (inside_itself from from refl) lies
 
 -- what a tile's value has where it is meant
-pub tile_meant : (shows : Pictures) (name : List ℕ) (p : Picture) (image : Dim) (k : TileKey) (v : TileVal) → shows name ≡ Some p → dim_of p ≡ image → k.name ≡ name →
+pub tile_meant : (shows : Pictures) (name : List ℕ) (p : Picture) (image : Dim) (k : TileKey) (v : TileVal) → shows name ≡ Some p →
+    dim_of p ≡ image → k.name ≡ name →
     v ≡ tile_meaning shows k → tile_in v ≡ crop p (tile_of image k)
 tile_meant shows name p image k v known sides same made =
     let of_name : named shows k.name ≡ p = ap (named shows) same ∙ picture_is shows name p known in

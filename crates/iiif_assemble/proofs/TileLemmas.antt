@@ -1,5 +1,6 @@
 -- A tile that is an image as it stands.
-use Rattle.std.proofs.Common.{◌≡◌, ℕ, ◌+◌, ◌<◌, ◌⊎◌, inl, inr, List, [], ◌∷◌, ◌++◌, All, false, Option, Some, None, IfSome, length, get_or, map, refl, sym, subst, ap, ◌∙◌, arith}
+use Rattle.std.proofs.Common.{◌≡◌, ℕ, ◌+◌, ◌<◌, ◌⊎◌, inl, inr, List, [], ◌∷◌, ◌++◌, All, false, Option, Some, None, IfSome, length, get_or}
+use Rattle.std.proofs.Common.{map, refl, sym, subst, ap, ◌∙◌, arith}
 use Rattle.std.proofs.lemmas.List.{map-append}
 use Rattle.std.proofs.lemmas.List.Elements.{All-weaker}
 use Rattle.std.specs.List.{AllZip}
@@ -40,7 +41,8 @@ last_zipped R (x ∷ xs) [] y h = (x, h.0)
 last_zipped R (x ∷ xs) (z ∷ zs) y h = last_zipped R xs zs y h.1
 
 -- an item of a list of one key is that key
-pub only_key : {K V : Type 0} (means : K → V → Type 0) (keys : List K) (k : K) (v : V) (i : ℕ) → length keys ≡ 1 → get_or keys 0 k ≡ k → HasItem keys (λ q. means q v) i → means k v
+pub only_key : {K V : Type 0} (means : K → V → Type 0) (keys : List K) (k : K) (v : V) (i : ℕ) → length keys ≡ 1 → get_or keys 0 k ≡ k →
+    HasItem keys (λ q. means q v) i → means k v
 only_key means [] k v i one is h = absurd (omega (arith, one))
 only_key {K} {V} means (x ∷ []) k v i one is h =
     let within = h.1 in
@@ -68,21 +70,25 @@ top_itself to n (inl is) = rw is refl
 top_itself to n (inr is) = rw is refl
 
 -- what a region comes to whose sides are kept, and which is neither turned nor made gray
-image_itself : CropIsWhole → SameSidesChangeNothing → (shows : Pictures) (j : Job) (k : TileKey) → IsJob j → IsTileItself j k → j.resolved.size ≡ sides_of j.resolved.rect →
-    HasPicture shows j.name j.shape → IsSource (named shows j.name) → crop (named shows j.name) j.resolved.rect ≡ resolved_image (named shows j.name) j.resolved
+image_itself : CropIsWhole → SameSidesChangeNothing → (shows : Pictures) (j : Job) (k : TileKey) → IsJob j → IsTileItself j k →
+    j.resolved.size ≡ sides_of j.resolved.rect →
+    HasPicture shows j.name j.shape → IsSource (named shows j.name) →
+    crop (named shows j.name) j.resolved.rect ≡ resolved_image (named shows j.name) j.resolved
 unfolding resolved_image
 image_itself crops law shows j k job itself kept has source =
     let p = named shows j.name in
     let r = j.resolved in
     let part = crop p r.rect in
     let of = picture_shown shows j has source in
-    let same : part ≡ scale part r.size = sym (law part (crops p r.rect of.whole) job.scalable.columns job.scalable.rows) ∙ ap (scale part) (sym kept) in
+    let same : part ≡ scale part r.size = sym (law part (crops p r.rect of.whole) job.scalable.columns job.scalable.rows) ∙
+    ap (scale part) (sym kept) in
     same
     ∙ sym (picture_itself r.turn (scale part r.size) itself.quarters itself.mirror)
     ∙ sym (quality_itself r.quality (turn (scale part r.size) r.turn) itself.keeps)
 
 -- The tile's value is the image.
-pub tile_image : CropIsWhole → SameSidesChangeNothing → (j : Job) (means : TileKey → TileVal → Type 0) (k : TileKey) (v : TileVal) → IsJob j → IsTileItself j k →
+pub tile_image : CropIsWhole → SameSidesChangeNothing → (j : Job) (means : TileKey → TileVal → Type 0) (k : TileKey) (v : TileVal) →
+    IsJob j → IsTileItself j k →
     j.resolved.size ≡ sides_of j.resolved.rect → k.name ≡ j.name → TileHasShape j.shape k v → means k v → IsTileImage j means (tile_in v)
 tile_image crops law j means k v job itself kept of_name shape meant =
     let r = j.resolved in
@@ -110,7 +116,8 @@ if_some (Some v) F f = f v refl
 if_some None F f = tt
 
 -- the last of the values of a plan of one tile is that tile's
-pub last_value : {A : Type 0} (value : A → TileVal) (means : TileKey → TileVal → Type 0) (keys : List TileKey) (items : List ℕ) (old new : List A) (k : TileKey) (a : A) → length keys ≡ 1 →
+pub last_value : {A : Type 0} (value : A → TileVal) (means : TileKey → TileVal → Type 0) (keys : List TileKey) (items : List ℕ)
+    (old new : List A) (k : TileKey) (a : A) → length keys ≡ 1 →
     get_or keys 0 k ≡ k → AreValues means keys items (map value old) → old ≡ new ++ a ∷ [] → means k (value a)
 last_value value means keys items old new k a one is values last =
     let R : ℕ → TileVal → Type 0 = λ i v. HasItem keys (λ q. means q v) i in
@@ -119,7 +126,9 @@ last_value value means keys items old new k a one is values last =
     only_key means keys k (value a) found.0 one is found.1
 
 -- the places of a band's items are places of the plan
-pub those_within : {K : Type 0} (P : K → Type 0) (keys : List K) (items : List ℕ) → ListsThose P keys items → All (λ i. i < length keys) items
+pub those_within : {K : Type 0} (P : K → Type 0) (keys : List K) (items : List ℕ) → ListsThose P keys items →
+    All (λ i. i < length keys) items
 those_within {K} P keys items lists =
     subst (λ (js : List ℕ). All (λ i. i < length keys) js) (sym lists.2)
-    (All-weaker (λ i. i < 0 + length keys) (λ i. i < length keys) (λ i h. omega arith) (places_from 0 lists.0 keys) (within_list 0 lists.0 keys))
+    (All-weaker (λ i. i < 0 + length keys) (λ i. i < length keys) (λ i h. omega arith) (places_from 0 lists.0 keys)
+    (within_list 0 lists.0 keys))

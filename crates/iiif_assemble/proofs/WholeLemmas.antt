@@ -1,5 +1,6 @@
 -- The band of all rows lists each item of a plan.
-use Rattle.std.proofs.Common.{◌≡◌, ℕ, zero, suc, ◌+◌, ◌-◌, ◌*◌, ◌/◌, ◌^◌, ◌<◌, ◌≤◌, List, [], ◌∷◌, Bool, true, false, All, length, refl, sym, subst, ap, ◌∙◌, arith, ⊎_elim, if◌then◌else◌}
+use Rattle.std.proofs.Common.{◌≡◌, ℕ, zero, suc, ◌+◌, ◌-◌, ◌*◌, ◌/◌, ◌^◌, ◌<◌, ◌≤◌, List, [], ◌∷◌, Bool, true, false, All, length, refl}
+use Rattle.std.proofs.Common.{sym, subst, ap, ◌∙◌, arith, ⊎_elim, if◌then◌else◌}
 use Rattle.std.specs.Int.{div_ceil}
 use Rattle.std.specs.List.{range_with_len}
 use Rattle.std.proofs.Math.Nat.{one-le-mul, mul-le-mul_right}
@@ -32,7 +33,8 @@ use Rattle.iiif_assemble.specs.Gathering.{IsItemFault}
 
 -- a turn sends each place of a result to one of the turned result
 placed : (n w h u v : ℕ) → n < 4 → u < w → v < h →
-    HasPlace (whole_of (record { w = turned_width n w h; h = turned_height n w h })) (place_after n w h (u, v)).0 (place_after n w h (u, v)).1
+    HasPlace (whole_of (record { w = turned_width n w h; h = turned_height n w h })) (place_after n w h (u, v)).0
+    (place_after n w h (u, v)).1
 placed zero w h u v few lu lv = (omega arith, omega arith, omega arith, omega arith)
 placed (suc zero) w h u v few lu lv = (omega arith, omega arith, omega arith, omega arith)
 placed (suc (suc zero)) w h u v few lu lv = (omega arith, omega arith, omega arith, omega arith)
@@ -53,8 +55,10 @@ reaches_whole : (t : Turn) (d : Dim) (places : Rect) → t.quarters < 4 → 0 < 
 reaches_whole t d places few w h lx ly =
     (places.x, places.y, lx, ly, (omega arith, omega arith, omega arith, omega arith), turned_within t d places.x places.y few lx ly)
 
-tile_reaches : (name : List ℕ) (edge : ℕ) (image : Dim) (channels : ℕ) (region : Rect) (t : Turn) (k : TileKey) → t.quarters < 4 → LiesIn region image →
-    IsTileFor name edge image channels region k → ReachesInto t (sides_of region) (tile_places region k) (whole_of (turned_dim t (sides_of region)))
+tile_reaches : (name : List ℕ) (edge : ℕ) (image : Dim) (channels : ℕ) (region : Rect) (t : Turn) (k : TileKey) → t.quarters < 4 →
+    LiesIn region image →
+    IsTileFor name edge image channels region k →
+    ReachesInto t (sides_of region) (tile_places region k) (whole_of (turned_dim t (sides_of region)))
 tile_reaches name edge image channels region t k few lies b =
     let s = square k.edge k.tx k.ty in
     let m = meets_square image s region lies b.meets in
@@ -80,7 +84,8 @@ column_met x n a c p q some within =
     absurd (omega (arith, first, last, more, sum, times)))
     (cases_lt (x * c / a) (div_ceil ((x + n) * c) a))
 
-block_reaches : (name : List ℕ) (edge : ℕ) (image : Dim) (channels : ℕ) (region : Rect) (size : Dim) (level : ℕ) (t : Turn) (k : SumKey) → t.quarters < 4 →
+block_reaches : (name : List ℕ) (edge : ℕ) (image : Dim) (channels : ℕ) (region : Rect) (size : Dim) (level : ℕ) (t : Turn) (k : SumKey) →
+    t.quarters < 4 →
     IsBlockFor name edge image channels region size level k → ReachesInto t size (block_places k) (whole_of (turned_dim t size))
 block_reaches name edge image channels region size level t k few b =
     let of_block = b.fits.block in
@@ -88,12 +93,14 @@ block_reaches name edge image channels region size level t k few b =
     let m = meets_square image s k.rect of_block.rect of_block.meets in
     let part = part_of s k.rect in
     let inside = part_lies s k.rect m in
-    let columns = column_met part.x part.w k.rect.w k.size.w (let l = b.fits.columns in omega arith) b.fits.columns.0 m.columns inside.columns in
+    let columns = column_met part.x part.w k.rect.w k.size.w (let l = b.fits.columns in omega arith) b.fits.columns.0 m.columns
+    inside.columns in
     let rows = column_met part.y part.h k.rect.h k.size.h (let l = b.fits.rows in omega arith) b.fits.rows.0 m.rows inside.rows in
     subst (λ (d : Dim). ReachesInto t d (block_places k) (whole_of (turned_dim t d))) b.to_size
     (reaches_whole t k.size (block_places k) few columns.0 rows.0 columns.1 rows.1)
 
-grown_reaches : (name : List ℕ) (edge : ℕ) (image : Dim) (channels : ℕ) (region : Rect) (size : Dim) (t : Turn) (k : TileKey) → t.quarters < 4 → LiesIn region image → 0 < size.w → 0 < size.h →
+grown_reaches : (name : List ℕ) (edge : ℕ) (image : Dim) (channels : ℕ) (region : Rect) (size : Dim) (t : Turn) (k : TileKey) →
+    t.quarters < 4 → LiesIn region image → 0 < size.w → 0 < size.h →
     IsTileFor name edge image channels region k → ReachesInto t size (grown_places region size k) (whole_of (turned_dim t size))
 grown_reaches name edge image channels region size t k few lies w h b =
     let s = square k.edge k.tx k.ty in
@@ -107,7 +114,8 @@ grown_reaches name edge image channels region size t k few lies w h b =
     reaches_whole t size (grown_places region size k) few columns.0 rows.0 columns.1 rows.1
 
 -- where each passes the places are all
-places_all : {K : Type 0} (n : ℕ) (test : K → Bool) (keys : List K) → All (λ k. test k ≡ true) keys → places_from n test keys ≡ range_with_len n (length keys)
+places_all : {K : Type 0} (n : ℕ) (test : K → Bool) (keys : List K) → All (λ k. test k ≡ true) keys →
+    places_from n test keys ≡ range_with_len n (length keys)
 unfolding places_from
 places_all n test [] h = refl
 places_all {K} n test (k ∷ ks) h =
@@ -115,14 +123,17 @@ places_all {K} n test (k ∷ ks) h =
     ap (λ (b : Bool). if b then n ∷ places_from (n + 1) test ks else places_from (n + 1) test ks) (All-head P k ks h)
     ∙ ap (λ xs. n ∷ xs) (places_all (n + 1) test ks (All-tail P k ks h))
 
-lists_all : {K : Type 0} (P : K → Type 0) (keys : List K) (items : List ℕ) → All P keys → ListsThose P keys items → items ≡ range_with_len 0 (length keys)
+lists_all : {K : Type 0} (P : K → Type 0) (keys : List K) (items : List ℕ) → All P keys → ListsThose P keys items →
+    items ≡ range_with_len 0 (length keys)
 lists_all {K} P keys items each lists =
     let test = lists.0 in
     lists.2 ∙ places_all 0 test keys (All-weaker P (λ k. test k ≡ true) (λ k h. (lists.1 k).1 h) keys each)
 
 -- the fault of the band of all rows is that of the plan
-pub plan_fault : (tile : TileKey → TileVal → Type 0) (tile_failed : TileKey → Fault → Type 0) (sum : SumKey → SumVal → Type 0) (sum_failed : SumKey → Fault → Type 0)
-    (name : List ℕ) (edge : ℕ) (image : Dim) (channels room : ℕ) (r : Resolved) (plan : Plan) (items : List ℕ) (fault : Fault) → r.turn.quarters < 4 → LiesIn r.rect image → 0 < r.size.w → 0 < r.size.h →
+pub plan_fault : (tile : TileKey → TileVal → Type 0) (tile_failed : TileKey → Fault → Type 0) (sum : SumKey → SumVal → Type 0)
+    (sum_failed : SumKey → Fault → Type 0)
+    (name : List ℕ) (edge : ℕ) (image : Dim) (channels room : ℕ) (r : Resolved) (plan : Plan) (items : List ℕ) (fault : Fault) →
+    r.turn.quarters < 4 → LiesIn r.rect image → 0 < r.size.w → 0 < r.size.h →
     IsPlan name edge image channels room r plan → ListsItems r plan (whole_of (turned_dim r.turn r.size)) items →
     IsBandFault tile tile_failed sum sum_failed plan items fault → IsPlanFault tile tile_failed sum sum_failed plan fault
 plan_fault tile tile_failed sum sum_failed name edge image channels room r (Copy keys) items fault few lies w h planned lists of_band =

@@ -47,7 +47,8 @@ IsWithin count held = (count ≤ held) × (held ≤ 2 * count)
 -- the places in a list of elements among which are all that have a place of a rectangle
 abbrev pub ListsMet : {K : Type 0} → (K → Rect) → Rect → List K → List ℕ → Type 0
 ListsMet {K} places rect keys items =
-    (test : K → Bool) × ((k : K) (x y : ℕ) → HasPlace (places k) x y → HasPlace rect x y → test k ≡ true) × (items ≡ places_from 0 test keys)
+    (test : K → Bool) × ((k : K) (x y : ℕ) → HasPlace (places k) x y → HasPlace rect x y → test k ≡ true) ×
+    (items ≡ places_from 0 test keys)
 
 -- At the places of a part the new picture has the samples f x y k, and at all others what the old one had.
 pub record Copies (part : Rect) (f : ℕ → ℕ → ℕ → ℕ) (old new : Picture) : Type 0 where
@@ -56,7 +57,8 @@ pub record Copies (part : Rect) (f : ℕ → ℕ → ℕ → ℕ) (old new : Pic
   pub channels : new.channels ≡ old.channels
   pub top : new.top ≡ old.top
   pub copied : (x y k : ℕ) → HasPlace part x y → k < old.channels → sample_at new x y k ≡ f x y k
-  pub kept : (x y k : ℕ) → x < old.width → y < old.height → k < old.channels → ¬ (HasPlace part x y) → sample_at new x y k ≡ sample_at old x y k
+  pub kept : (x y k : ℕ) → x < old.width → y < old.height → k < old.channels → ¬ (HasPlace part x y) →
+      sample_at new x y k ≡ sample_at old x y k
 
 -- at each place of these rectangles the picture p has the sample of another
 abbrev pub HasCopied : Picture → List Rect → Picture → Type 0

@@ -32,18 +32,21 @@ pub record IsBandOf (j : Job) (b : Band) : Type 0 where
   pub items : ListsItems j.resolved j.plan b.rect b.items.items
 
 -- The keys of a plan may be asked for, and what is answered for one has the shape of its meaning.
-pub record Serves {K V : Type 0} (is_planned : K → Type 0) (has_shape : K → V → Type 0) (fits : K → Type 0) (means : K → V → Type 0) : Type 0 where
+pub record Serves {K V : Type 0} (is_planned : K → Type 0) (has_shape : K → V → Type 0) (fits : K → Type 0) (means : K → V → Type 0) : Type
+    0 where
   pub asked : (k : K) → is_planned k → fits k
   pub shaped : (k : K) (v : V) → is_planned k → means k v → has_shape k v
 
 -- so it is of the tiles that a plan of the job may have
 abbrev pub TilesServe : Job → (TileKey → Type 0) → (TileKey → TileVal → Type 0) → Type 0
-TilesServe j fits means = Serves (IsTileFor j.name j.edge j.shape.dim (channels_of j.shape.kind) j.resolved.rect) (TileHasShape j.shape) fits means
+TilesServe j fits means = Serves (IsTileFor j.name j.edge j.shape.dim (channels_of j.shape.kind) j.resolved.rect) (TileHasShape j.shape)
+    fits means
 
 -- and of the blocks
 abbrev pub SumsServe : Job → (SumKey → Type 0) → (SumKey → SumVal → Type 0) → Type 0
 SumsServe j fits means =
-    (level : ℕ) → Serves (IsBlockFor j.name j.edge j.shape.dim (channels_of j.shape.kind) j.resolved.rect j.resolved.size level) (SumHasShape j.shape) fits means
+    (level : ℕ) → Serves (IsBlockFor j.name j.edge j.shape.dim (channels_of j.shape.kind) j.resolved.rect j.resolved.size level)
+    (SumHasShape j.shape) fits means
 
 -- What is answered for a tile of the job's image is what it means, where names have these pictures. So it is where the image's
 -- source is stable and peers are honest.
@@ -56,11 +59,12 @@ SumsAreMeant shows j means = (k : SumKey) (v : SumVal) → k.name ≡ j.name →
 
 -- The job's name has a picture as a source holds it, of the job's shape, and what is answered for its tiles and its sums is what
 -- they mean.
-pub record IsShown (shows : Pictures) (j : Job) (tile_means : TileKey → TileVal → Type 0) (sum_means : SumKey → SumVal → Type 0) : Type 0 where
-  pub picture : HasPicture shows j.name j.shape
-  pub source : IsSource (named shows j.name)
-  pub tiles : TilesAreMeant shows j tile_means
-  pub sums : SumsAreMeant shows j sum_means
+pub record IsShown (shows : Pictures) (j : Job) (tile_means : TileKey → TileVal → Type 0) (sum_means : SumKey → SumVal → Type 0) : Type 0
+  where
+    pub picture : HasPicture shows j.name j.shape
+    pub source : IsSource (named shows j.name)
+    pub tiles : TilesAreMeant shows j tile_means
+    pub sums : SumsAreMeant shows j sum_means
 
 -- the channels of a picture in a quality: IIIF Image API 3.0, section 4.4
 abbrev pub channels_in : Quality → ℕ → ℕ

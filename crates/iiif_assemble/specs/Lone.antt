@@ -46,4 +46,5 @@ IsTilesFault means failed (Sum keys) b f = f ≡ NoMemory
 abbrev pub IsFirstFault : Job → (TileKey → TileVal → Type 0) → (TileKey → Fault → Type 0) → ℕ → Fault → Type 0
 IsFirstFault j means failed rows f =
     (f ≡ NoMemory)
-    ⊎ ((b : Band) × (b.rect ≡ band_rect (turned_dim j.resolved.turn j.resolved.size) rows 0) × IsBandOf j b × IsTilesFault means failed j.plan b f)
+    ⊎ ((b : Band) × (b.rect ≡ band_rect (turned_dim j.resolved.turn j.resolved.size) rows 0) × IsBandOf j b ×
+    IsTilesFault means failed j.plan b f)

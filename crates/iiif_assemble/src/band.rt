@@ -9,7 +9,8 @@ ghost use Rattle.iiif_pixel.specs.TurnPlaces.{turned_dim};
 ghost use Rattle.iiif_canonical.specs.Images.{resolved_image};
 ghost use Rattle.iiif_keys.specs.Names.{named, Pictures};
 ghost use Rattle.iiif_keys.specs.declared.fault.Fault.TheVariants as Fault;
-ghost use Rattle.iiif_assemble.specs.Jobs.{channels_in, top_in, IsBandOf, IsHeldFor, IsJob, IsShown, SumsAreMeant, SumsServe, TilesAreMeant, TilesServe};
+ghost use Rattle.iiif_assemble.specs.Jobs.{channels_in, top_in, IsBandOf, IsHeldFor, IsJob, IsShown, SumsAreMeant, SumsServe};
+ghost use Rattle.iiif_assemble.specs.Jobs.{TilesAreMeant, TilesServe};
 ghost use Rattle.iiif_assemble.specs.Code.{count_of, IsPictureOf, IsWithin, ListsMetItems};
 ghost use Rattle.iiif_assemble.specs.Faults.{IsBandFault, IsPlanFault};
 
@@ -58,7 +59,8 @@ fn scaled_part<
     ensures channels { IfOk result (λ m. m.raster.channels ≡ channels_of job.now.shape.kind) }
     ensures top { IfOk result (λ m. m.raster.top ≡ top_of job.now.shape.depth) }
     ensures held { IfOk result (λ m. IsWithin (count_of m.raster) m.held) }
-    ensures fault { IfErr result (IsBandFault (T.means tiles.now) (T.failed tiles.now) (S.means sums.now) (S.failed sums.now) job.now.plan items.now) }
+    ensures fault { IfErr result (IsBandFault (T.means tiles.now) (T.failed tiles.now) (S.means sums.now) (S.failed sums.now) job.now.plan
+        items.now) }
 {
     // Laws of scaling and of pictures.
     same_sides_change_nothing();
@@ -175,8 +177,10 @@ pub fn assemble<
     ensures sides { IfOk result (λ m. dim_of m.raster ≡ turned_dim job.now.resolved.turn job.now.resolved.size) }
     ensures channels { IfOk result (λ m. m.raster.channels ≡ channels_in job.now.resolved.quality (channels_of job.now.shape.kind)) }
     ensures top { IfOk result (λ m. m.raster.top ≡ top_in job.now.resolved.quality (top_of job.now.shape.depth)) }
-    ensures held { IfOk result (λ m. IsHeldFor (turned_dim job.now.resolved.turn job.now.resolved.size) (channels_of job.now.shape.kind) m.held) }
-    ensures fault { IfErr result (IsPlanFault (T.means tiles.now) (T.failed tiles.now) (S.means sums.now) (S.failed sums.now) job.now.plan) }
+    ensures held { IfOk result (λ m. IsHeldFor (turned_dim job.now.resolved.turn job.now.resolved.size) (channels_of job.now.shape.kind)
+        m.held) }
+    ensures fault { IfErr result (IsPlanFault (T.means tiles.now) (T.failed tiles.now) (S.means sums.now) (S.failed sums.now)
+        job.now.plan) }
 {
     // Laws of pictures and of bands.
     whole_stays_whole();

@@ -1,6 +1,7 @@
 //! The items of a band, asked by several workers.
 
-ghost use Rattle.std.specs.Prelude.{◌≡◌, ℕ, ◌+◌, ◌<◌, ◌≤◌, ◌++◌, ◌∷◌, [], List, All, IfOk, IfErr, IfSome, IsNone, OnOk, OnErr, length, map, take, vec_len};
+ghost use Rattle.std.specs.Prelude.{◌≡◌, ℕ, ◌+◌, ◌<◌, ◌≤◌, ◌++◌, ◌∷◌, [], List, All, IfOk, IfErr, IfSome, IsNone, OnOk, OnErr, length, map};
+ghost use Rattle.std.specs.Prelude.{take, vec_len};
 ghost use Rattle.std.specs.Arc.{arc_value};
 ghost use Rattle.iiif_keys.specs.declared.fault.Fault.TheVariants as Fault;
 ghost use Rattle.iiif_assemble.specs.Gathering.{AreValues, IsItemFault};
@@ -57,7 +58,8 @@ fn begun<'a, G: Items<K, V, P, R>, K, V: Drop, P, R: Wait>(
     requires fits { All (G.fits group.now) keys.now }
     ensures left { IfOk result (λ b. IfSome b.helper (λ h. vec_len b.values + 2 ≤ length items.now)) }
     ensures all { IfOk result (λ b. IsNone b.helper → vec_len b.values ≡ length items.now) }
-    ensures values { IfOk result (λ b. AreValues (G.means group.now) keys.now (take (vec_len b.values) items.now) (map arc_value b.values.items)) }
+    ensures values { IfOk result (λ b. AreValues (G.means group.now) keys.now (take (vec_len b.values) items.now)
+        (map arc_value b.values.items)) }
     ensures fault { IfErr result (IsItemFault (G.means group.now) (G.failed group.now) keys.now items.now) }
 {
     let mut values = Vec::new(alloc);

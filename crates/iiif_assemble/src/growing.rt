@@ -67,7 +67,8 @@ fn add_all(
     requires shaped { AreValues (TileHasShape shape.now) keys.now items.now (map arc_value values.now) }
     requires channels { total.old.channels ≡ channels_of shape.now.kind }
     requires limits { IsScalable (sides_of region) size }
-    ensures sums { (p : Picture) (x : TileKey) → AreValues (λ k v. tile_in v ≡ crop p (tile_of shape.now.dim k)) keys.now items.now (map arc_value values.now)
+    ensures sums { (p : Picture) (x : TileKey) →
+        AreValues (λ k v. tile_in v ≡ crop p (tile_of shape.now.dim k)) keys.now items.now (map arc_value values.now)
         → total.new ≡ fold merged total.old (map (λ i. tile_adds p shape.now.dim region size (slice_index_or keys.now i x)) items.now) }
     ensures rect { total.new.rect ≡ total.old.rect }
     ensures channels { total.new.channels ≡ total.old.channels }
@@ -96,7 +97,8 @@ pub(crate) fn grown<T: Items<TileKey, TileVal, P, R> + Sync, P: Send, R: Threads
     requires inside { LiesIn from job.now.resolved.size }
     requires lists { ListsMet (grown_places job.now.resolved.rect job.now.resolved.size) from keys.now items.now }
     ensures image { IfOk result (λ m. (shows : Pictures) (p : Picture) → IsPictureOf shows job.now p
-        → TilesAreMeant shows job.now (T.means group.now) → m.raster ≡ crop (scale (crop p job.now.resolved.rect) job.now.resolved.size) from) }
+        → TilesAreMeant shows job.now (T.means group.now) →
+        m.raster ≡ crop (scale (crop p job.now.resolved.rect) job.now.resolved.size) from) }
     ensures sides { IfOk result (λ m. dim_of m.raster ≡ sides_of from) }
     ensures channels { IfOk result (λ m. m.raster.channels ≡ channels_of job.now.shape.kind) }
     ensures top { IfOk result (λ m. m.raster.top ≡ top_of job.now.shape.depth) }

@@ -167,7 +167,8 @@ pub(crate) fn summed<S: Items<SumKey, SumVal, P, R> + Sync, P: Send, R: Threads 
     requires inside { LiesIn from job.now.resolved.size }
     requires lists { ListsMet block_places from keys.now items.now }
     ensures image { IfOk result (λ m. (shows : Pictures) (p : Picture) → IsPictureOf shows job.now p
-        → SumsAreMeant shows job.now (S.means group.now) → m.raster ≡ crop (scale (crop p job.now.resolved.rect) job.now.resolved.size) from) }
+        → SumsAreMeant shows job.now (S.means group.now) →
+        m.raster ≡ crop (scale (crop p job.now.resolved.rect) job.now.resolved.size) from) }
     ensures sides { IfOk result (λ m. dim_of m.raster ≡ sides_of from) }
     ensures channels { IfOk result (λ m. m.raster.channels ≡ channels_of job.now.shape.kind) }
     ensures top { IfOk result (λ m. m.raster.top ≡ top_of job.now.shape.depth) }

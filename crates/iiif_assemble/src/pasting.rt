@@ -57,7 +57,8 @@ fn put_tile(picture: &mut Raster, shape: &Shape, rect: Rect, key: &TileKey, valu
     ensures sides { dim_of picture.new ≡ dim_of picture.old }
     ensures channels { picture.new.channels ≡ picture.old.channels }
     ensures top { picture.new.top ≡ picture.old.top }
-    ensures copies { (p : Picture) → p.channels ≡ channels_of shape.now.kind → tile_in (arc_value value.now) ≡ crop p (tile_of shape.now.dim key.now)
+    ensures copies { (p : Picture) → p.channels ≡ channels_of shape.now.kind →
+        tile_in (arc_value value.now) ≡ crop p (tile_of shape.now.dim key.now)
         → Copies (part_of (tile_of shape.now.dim key.now) rect) (λ x y k. sample_at (crop p rect) x y k) picture.old picture.new }
 {
     let at = key.rect_in(shape.dim);
@@ -102,7 +103,8 @@ fn cut_out(shape: &Shape, rect: Rect, key: &TileKey, value: &Arc<TileVal>) -> Re
     ensures sides { IfOk result (λ r. dim_of r ≡ sides_of rect) }
     ensures channels { IfOk result (λ r. r.channels ≡ channels_of shape.now.kind) }
     ensures top { IfOk result (λ r. r.top ≡ top_of shape.now.depth) }
-    ensures image { IfOk result (λ r. (p : Picture) → tile_in (arc_value value.now) ≡ crop p (tile_of shape.now.dim key.now) → r ≡ crop p rect) }
+    ensures image { IfOk result (λ r. (p : Picture) → tile_in (arc_value value.now) ≡ crop p (tile_of shape.now.dim key.now) →
+        r ≡ crop p rect) }
     ensures fault { IfErr result (λ f. f ≡ Fault.NoMemory) }
 {
     // A law of crops.

@@ -1,5 +1,6 @@
 -- The items of a band.
-use Rattle.std.proofs.Common.{◌≡◌, ℕ, ◌+◌, ◌*◌, ◌^◌, ◌<◌, ◌↔◌, List, [], ◌∷◌, ◌++◌, Bool, true, false, All, length, get_or, take, max, refl, sym, subst, ap, ◌∙◌, arith, if◌then◌else◌, IsTrue}
+use Rattle.std.proofs.Common.{◌≡◌, ℕ, ◌+◌, ◌*◌, ◌^◌, ◌<◌, ◌↔◌, List, [], ◌∷◌, ◌++◌, Bool, true, false, All, length, get_or, take, max}
+use Rattle.std.proofs.Common.{refl, sym, subst, ap, ◌∙◌, arith, if◌then◌else◌, IsTrue}
 use Rattle.std.specs.Prelude.{nat_lt}
 use Rattle.std.proofs.lemmas.Bool.{and_from, lt-ltb, ltb-true, and_parts}
 use Rattle.std.proofs.lemmas.List.{take_more, length-take-le}
@@ -23,17 +24,20 @@ placed true n q p t e = ap (λ ys. n ∷ ys) e
 placed false n q p t e = e
 
 -- one element more
-pub places_from-push : {K : Type 0} (n : ℕ) (test : K → Bool) (keys : List K) (k : K) → places_from n test (keys ++ k ∷ []) ≡ places_from n test keys ++ one_if (test k) (n + length keys)
+pub places_from-push : {K : Type 0} (n : ℕ) (test : K → Bool) (keys : List K) (k : K) →
+    places_from n test (keys ++ k ∷ []) ≡ places_from n test keys ++ one_if (test k) (n + length keys)
 unfolding places_from
 places_from-push n test [] k =
     let e : n ≡ n + 0 = omega arith in
     ap (λ m. one_if (test k) m) e
 places_from-push n test (x ∷ xs) k =
     let e : n + 1 + length xs ≡ n + length (x ∷ xs) = omega arith in
-    placed (test x) n _ _ _ (places_from-push (n + 1) test xs k) ∙ ap (λ m. (if test x then n ∷ places_from (n + 1) test xs else places_from (n + 1) test xs) ++ one_if (test k) m) e
+    placed (test x) n _ _ _ (places_from-push (n + 1) test xs k) ∙
+    ap (λ m. (if test x then n ∷ places_from (n + 1) test xs else places_from (n + 1) test xs) ++ one_if (test k) m) e
 
 -- one element more of a list that is gone through
-pub places_next : {K : Type 0} (test : K → Bool) (keys : List K) (i : ℕ) (k : K) (old new : List ℕ) (b : Bool) → i < length keys → get_or keys i k ≡ k → old ≡ places_from 0 test (take i keys) →
+pub places_next : {K : Type 0} (test : K → Bool) (keys : List K) (i : ℕ) (k : K) (old new : List ℕ) (b : Bool) → i < length keys →
+    get_or keys i k ≡ k → old ≡ places_from 0 test (take i keys) →
     b ≡ test k → new ≡ old ++ one_if b i → new ≡ places_from 0 test (take (i + 1) keys)
 places_next {K} test keys i k old new b within is before tested made =
     let len : length (take i keys) ≡ i = length-take-le i keys (omega arith) in
@@ -92,17 +96,21 @@ unfolding places_from
 places_none test keys = refl
 
 -- an item that is tested so is listed so
-pub lists_those : {K : Type 0} (t : Turn) (d : Dim) (places : K → Rect) (from rect : Rect) (keys : List K) (items : List ℕ) → LiesIn from d →
+pub lists_those : {K : Type 0} (t : Turn) (d : Dim) (places : K → Rect) (from rect : Rect) (keys : List K) (items : List ℕ) →
+    LiesIn from d →
     ((x y : ℕ) → x < d.w → y < d.h → HasPlace from x y ↔ HasPlace rect (turned_place t d x y).0 (turned_place t d x y).1) →
     items ≡ places_from 0 (λ k. have_common (places k) from) keys → ListsThose (λ k. ReachesInto t d (places k) rect) keys items
-lists_those t d places from rect keys items lies same are = (λ k. have_common (places k) from, λ k. reaches t d (places k) from rect lies same, are)
+lists_those t d places from rect keys items lies same are =
+    (λ k. have_common (places k) from, λ k. reaches t d (places k) from rect lies same, are)
 
 -- the numbers of a plan's keys are small
-pub tiles_small : (name : List ℕ) (edge : ℕ) (image : Dim) (channels : ℕ) (region : Rect) (keys : List TileKey) → image.w < 2 ^ 32 → image.h < 2 ^ 32 →
+pub tiles_small : (name : List ℕ) (edge : ℕ) (image : Dim) (channels : ℕ) (region : Rect) (keys : List TileKey) → image.w < 2 ^ 32 →
+    image.h < 2 ^ 32 →
     TilesCover name edge image channels region keys → All TileIsSmall keys
 tiles_small name edge image channels region keys w h cover =
     All-weaker (IsTileFor name edge image channels region) TileIsSmall
-    (λ k t. let c = t.fits.column in let r = t.fits.row in record { edge = t.fits.edge.within; column = omega arith; row = omega arith }) keys cover.tiles
+    (λ k t. let c = t.fits.column in let r = t.fits.row in record { edge = t.fits.edge.within; column = omega arith; row = omega arith })
+    keys cover.tiles
 
 pub meets_square : (image : Dim) (r g : Rect) → LiesIn g image → Meets (clipped image r) g → Meets r g
 meets_square image r g h m =
@@ -110,7 +118,8 @@ meets_square image r g h m =
     record { columns = subst (λ (p : Rect). 0 < p.w) e m.columns; rows = subst (λ (p : Rect). 0 < p.h) e m.rows }
 
 -- the numbers of tiles that meet a region are small
-pub tiles_reach : (name : List ℕ) (edge : ℕ) (image : Dim) (channels : ℕ) (region : Rect) (keys : List TileKey) → image.w < 2 ^ 32 → image.h < 2 ^ 32 → LiesIn region image →
+pub tiles_reach : (name : List ℕ) (edge : ℕ) (image : Dim) (channels : ℕ) (region : Rect) (keys : List TileKey) → image.w < 2 ^ 32 →
+    image.h < 2 ^ 32 → LiesIn region image →
     TilesCover name edge image channels region keys → All (TileReaches region) keys
 tiles_reach name edge image channels region keys w h lies cover =
     All-weaker (IsTileFor name edge image channels region) (TileReaches region)
@@ -131,7 +140,8 @@ tiles_reach name edge image channels region keys w h lies cover =
 begins : (image : Dim) (r g : Rect) → LiesIn g image → Meets r g → (r.x < image.w) × (r.y < image.h)
 begins image r g h m = let a = h.columns in let b = h.rows in let c = m.columns in let d = m.rows in (omega arith, omega arith)
 
-pub blocks_small : (name : List ℕ) (edge : ℕ) (image : Dim) (channels : ℕ) (region : Rect) (size : Dim) (level : ℕ) (keys : List SumKey) → image.w < 2 ^ 32 → image.h < 2 ^ 32 →
+pub blocks_small : (name : List ℕ) (edge : ℕ) (image : Dim) (channels : ℕ) (region : Rect) (size : Dim) (level : ℕ) (keys : List SumKey) →
+    image.w < 2 ^ 32 → image.h < 2 ^ 32 →
     BlocksCover name edge image channels region size level keys → All BlockIsSmall keys
 blocks_small name edge image channels region size level keys w h cover =
     All-weaker (IsBlockFor name edge image channels region size level) BlockIsSmall

@@ -1,5 +1,6 @@
 -- Bands cut a picture.
-use Rattle.std.proofs.Common.{◌≡◌, ℕ, zero, suc, ◌+◌, ◌-◌, ◌*◌, ◌<◌, ◌≤◌, min, List, [], ◌∷◌, ◌++◌, All, map, refl, sym, subst, ap, ◌∙◌, arith}
+use Rattle.std.proofs.Common.{◌≡◌, ℕ, zero, suc, ◌+◌, ◌-◌, ◌*◌, ◌<◌, ◌≤◌, min, List, [], ◌∷◌, ◌++◌, All, map, refl, sym, subst, ap, ◌∙◌}
+use Rattle.std.proofs.Common.{arith}
 use Rattle.std.specs.Int.{div_ceil}
 use Rattle.std.specs.List.{range_with_len, flat_map}
 use Rattle.std.proofs.lemmas.Grind.{flat_map-append}
@@ -63,7 +64,8 @@ module _ (after : RowsAfterRows) (p : Picture) (d : Dim) (rows : ℕ) (some : 0 
   all_bands : AllRows → IsWhole p → flat_map piece (map (band_rect d rows) (range_with_len 0 (div_ceil d.h rows))) ≡ p.samples
   all_bands all whole =
       let n = div_ceil d.h rows in
-      let end : min (n * rows) d.h ≡ p.height = let e = div_ceil-times d.h rows some in let h : d.h ≡ p.height = sym (ap (λ (e : Dim). e.h) same) in omega (arith, e, h) in
+      let end : min (n * rows) d.h ≡ p.height = let e = div_ceil-times d.h rows some in let h : d.h ≡ p.height =
+      sym (ap (λ (e : Dim). e.h) same) in omega (arith, e, h) in
       first_bands n (omega arith) ∙ ap (λ m. piece (rows_from p 0 m)) end ∙ ap (λ (q : Picture). q.samples) (all p whole)
 
 pub bands_cut : RowsAfterRows → AllRows → BandsCutPictures
@@ -79,8 +81,15 @@ low d rows (suc m) n some is within =
     let f = band_rect d rows in
     let more : suc m ≡ m + 1 = omega arith in
     let above = last_met rows d.h m some (omega arith) in
-    let here : IsLow d rows (f m) = record { inside = record { columns = omega arith; rows = omega arith }; columns = refl; some = omega arith; few = omega arith } in
-    subst (λ (rs : List Rect). All (IsLow d rows) rs) (sym (map-range_with_len_more f 0 m m (omega arith)) ∙ ap (λ k. map f (range_with_len 0 k)) (sym more))
+    let here : IsLow d rows (f m) = record {
+      inside = record { columns = omega arith; rows = omega arith };
+      columns = refl;
+      some =
+          omega arith;
+      few = omega arith;
+    } in
+    subst (λ (rs : List Rect). All (IsLow d rows) rs)
+    (sym (map-range_with_len_more f 0 m m (omega arith)) ∙ ap (λ k. map f (range_with_len 0 k)) (sym more))
     (All-push (IsLow d rows) (map f (range_with_len 0 m)) (f m) (low d rows m n some is (omega arith)) here)
 
 of_rects : (P : Rect → Type 0) (bs : List Band) → All P (map (λ b. b.rect) bs) → All (λ b. P b.rect) bs
@@ -93,4 +102,5 @@ pub bands_are_low : BandsAreLow
 bands_are_low r plan rows bs some are =
     let d = turned_dim r.turn r.size in
     of_rects (IsLow d rows) bs
-    (subst (λ (rs : List Rect). All (IsLow d rows) rs) (sym are.rects) (low d rows (div_ceil d.h rows) (div_ceil d.h rows) some refl (omega arith)))
+    (subst (λ (rs : List Rect). All (IsLow d rows) rs) (sym are.rects)
+    (low d rows (div_ceil d.h rows) (div_ceil d.h rows) some refl (omega arith)))

@@ -23,7 +23,8 @@ PlacesAreThose K = (test : K → Bool) (keys : List K) (x : K) → map (λ i. ge
 -- Of a picture with the turned result's sides, the parts in the bands, one below the other, are the picture.
 abbrev pub BandsCutPictures : Type 0
 BandsCutPictures =
-    (r : Resolved) (plan : Plan) (rows : ℕ) (bs : List Band) (p : Picture) → 0 < rows → AreBands r plan rows bs → IsWhole p → dim_of p ≡ turned_dim r.turn r.size →
+    (r : Resolved) (plan : Plan) (rows : ℕ) (bs : List Band) (p : Picture) → 0 < rows → AreBands r plan rows bs → IsWhole p →
+    dim_of p ≡ turned_dim r.turn r.size →
     flat_map (λ b. (crop p b.rect).samples) bs ≡ p.samples
 
 -- A band lies in a result, and has all its columns, at least one row, and at most so many.
@@ -35,4 +36,5 @@ pub record IsLow (d : Dim) (rows : ℕ) (rect : Rect) : Type 0 where
 
 -- Each band is so.
 abbrev pub BandsAreLow : Type 0
-BandsAreLow = (r : Resolved) (plan : Plan) (rows : ℕ) (bs : List Band) → 0 < rows → AreBands r plan rows bs → All (λ b. IsLow (turned_dim r.turn r.size) rows b.rect) bs
+BandsAreLow = (r : Resolved) (plan : Plan) (rows : ℕ) (bs : List Band) → 0 < rows → AreBands r plan rows bs →
+    All (λ b. IsLow (turned_dim r.turn r.size) rows b.rect) bs

@@ -1,5 +1,6 @@
 -- Runs of a link.
-use Rattle.std.proofs.Common.{◌≡◌, ℕ, ◌+◌, ◌≤◌, ◌<◌, ◌^◌, ◌==◌, true, false, Bool, List, [], ◌∷◌, All, if◌then◌else◌, arith, refl, ap, sym, ◌∙◌}
+use Rattle.std.proofs.Common.{◌≡◌, ℕ, ◌+◌, ◌≤◌, ◌<◌, ◌^◌, ◌==◌, true, false, Bool, List, [], ◌∷◌, All, if◌then◌else◌, arith, refl, ap, sym}
+use Rattle.std.proofs.Common.{◌∙◌}
 use Rattle.iiif_breaker.specs.declared.breaker.Breaker.{Breaker}
 use Rattle.iiif_breaker.specs.declared.breaker.State.{State}
 use Rattle.iiif_breaker.specs.declared.breaker.State.TheVariants.{Closed, Open, HalfOpen}
@@ -7,14 +8,16 @@ use Rattle.iiif_breaker.specs.declared.outcome.Outcome.{Outcome}
 use Rattle.iiif_breaker.specs.declared.outcome.Outcome.TheVariants.{Answered, Refused, Failed, TimedOut}
 use Rattle.iiif_breaker.specs.Breaking.{asked, asked_state, failed, faulted, first, is_asked, is_closed, longest, reported, unknown}
 use Rattle.std.proofs.lemmas.List.Elements.{All-tail}
-use Rattle.iiif_breaker.specs.Laws.{Event, Would, Ended, happens, run, is_answer, IsBefore, AreBefore, IsAskedAgain, is_open, period, IsUnanswered, IsAskedOnceAPeriod, HasPeriod, IsClosedByAnAnswer, IsLeftAlone, IsUnmovedByLateFaults}
+use Rattle.iiif_breaker.specs.Laws.{Event, Would, Ended, happens, run, is_answer, IsBefore, AreBefore, IsAskedAgain, is_open, period}
+use Rattle.iiif_breaker.specs.Laws.{IsUnanswered, IsAskedOnceAPeriod, HasPeriod, IsClosedByAnAnswer, IsLeftAlone, IsUnmovedByLateFaults}
 
 -- what holds of a link, and is kept by a fault that counts, is kept by a fault of any number
 kept_if : (P : Breaker → Type 0) (b c : Breaker) (same : Bool) → P b → P c → P (if same then c else b)
 kept_if P b c true was is = is
 kept_if P b c false was is = was
 
-kept : (P : Breaker → Type 0) (b : Breaker) (now number : ℕ) (late : Bool) → P b → P (failed b.state b.openings now late) → P (faulted b now number late)
+kept : (P : Breaker → Type 0) (b : Breaker) (now number : ℕ) (late : Bool) → P b → P (failed b.state b.openings now late) →
+    P (faulted b now number late)
 kept P b now number late was is = kept_if P b (failed b.state b.openings now late) (number == b.openings) was is
 
 -- a link is left alone no longer than a minute from that moment on
@@ -37,8 +40,10 @@ within_step : (last : ℕ) (b : Breaker) (e : Event) → Within last b.state →
 within_step last b (Would m) w before = within_asked last m b.state w before
 within_step last b (Ended m number Answered) w before = record {}
 within_step last b (Ended m number Refused) w before = record {}
-within_step last b (Ended m number Failed) w before = kept (λ c. Within last c.state) b m number false w (within_failed last m b.openings false b.state w (before refl))
-within_step last b (Ended m number TimedOut) w before = kept (λ c. Within last c.state) b m number true w (within_failed last m b.openings true b.state w (before refl))
+within_step last b (Ended m number Failed) w before =
+    kept (λ c. Within last c.state) b m number false w (within_failed last m b.openings false b.state w (before refl))
+within_step last b (Ended m number TimedOut) w before =
+    kept (λ c. Within last c.state) b m number true w (within_failed last m b.openings true b.state w (before refl))
 
 within_run : (last : ℕ) (b : Breaker) (es : List Event) → Within last b.state → AreBefore last b es → Within last (run b es).state
 within_run last b [] w before = w
@@ -50,7 +55,8 @@ allowed last now (Open until wait) w late = grind arith
 allowed last now (HalfOpen since wait) w late = grind arith
 
 pub asked_again : IsAskedAgain
-asked_again events last now before late = allowed last now (run unknown events).state (within_run last unknown events (record {}) before) late
+asked_again events last now before late = allowed last now (run unknown events).state (within_run last unknown events (record {}) before)
+    late
 
 -- the periods of a link
 abbrev Periods : State → Type 0
@@ -98,21 +104,27 @@ rests_asked from p m (Closed faults) least r = absurd r
 rests_asked from p m (Open until wait) least r = grind arith
 rests_asked from p m (HalfOpen since wait) least r = grind arith
 
-rests_failed : (from p m openings : ℕ) (late : Bool) (s : State) → p ≤ longest → from + p < 2 ^ 64 → from ≤ m → Rests from p s → Rests from p (failed s openings m late).state
+rests_failed : (from p m openings : ℕ) (late : Bool) (s : State) → p ≤ longest → from + p < 2 ^ 64 → from ≤ m → Rests from p s →
+    Rests from p (failed s openings m late).state
 rests_failed from p m openings late (Closed faults) most small least r = absurd r
 rests_failed from p m openings late (Open until wait) most small least r = r
 rests_failed from p m openings late (HalfOpen since wait) most small least r = grind arith
 
-rests_step : (from p : ℕ) (b : Breaker) (e : Event) → p ≤ longest → from + p < 2 ^ 64 → IsUnanswered from e → Rests from p b.state → Rests from p (happens b e).state
+rests_step : (from p : ℕ) (b : Breaker) (e : Event) → p ≤ longest → from + p < 2 ^ 64 → IsUnanswered from e → Rests from p b.state →
+    Rests from p (happens b e).state
 rests_step from p b (Would m) most small un r = rests_asked from p m b.state un r
 rests_step from p b (Ended m number Answered) most small un r = grind arith
 rests_step from p b (Ended m number Refused) most small un r = grind arith
-rests_step from p b (Ended m number Failed) most small un r = kept (λ c. Rests from p c.state) b m number false r (rests_failed from p m b.openings false b.state most small un.0 r)
-rests_step from p b (Ended m number TimedOut) most small un r = kept (λ c. Rests from p c.state) b m number true r (rests_failed from p m b.openings true b.state most small un.0 r)
+rests_step from p b (Ended m number Failed) most small un r =
+    kept (λ c. Rests from p c.state) b m number false r (rests_failed from p m b.openings false b.state most small un.0 r)
+rests_step from p b (Ended m number TimedOut) most small un r =
+    kept (λ c. Rests from p c.state) b m number true r (rests_failed from p m b.openings true b.state most small un.0 r)
 
-rests_run : (from p : ℕ) (b : Breaker) (es : List Event) → p ≤ longest → from + p < 2 ^ 64 → All (IsUnanswered from) es → Rests from p b.state → Rests from p (run b es).state
+rests_run : (from p : ℕ) (b : Breaker) (es : List Event) → p ≤ longest → from + p < 2 ^ 64 → All (IsUnanswered from) es →
+    Rests from p b.state → Rests from p (run b es).state
 rests_run from p b [] most small un r = r
-rests_run from p b (e ∷ es) most small un r = rests_run from p (happens b e) es most small (All-tail (IsUnanswered from) e es un) (rests_step from p b e most small (un 0 e (omega arith)) r)
+rests_run from p b (e ∷ es) most small un r = rests_run from p (happens b e) es most small (All-tail (IsUnanswered from) e es un)
+    (rests_step from p b e most small (un 0 e (omega arith)) r)
 
 rests_end : (from p to : ℕ) (s : State) → 0 < p → Rests from p s → is_asked s to ≡ true → from + p ≤ to
 rests_end from p to (Closed faults) some r now = absurd r
@@ -124,13 +136,16 @@ rests_begin from (Closed faults) shut now = grind arith
 rests_begin from (Open until wait) shut now = grind arith
 rests_begin from (HalfOpen since wait) shut now = grind arith
 
-once : (b : Breaker) (from to : ℕ) (between : List Event) → (first ≤ period b.state) × (period b.state ≤ longest) → is_closed b.state ≡ false → is_asked b.state from ≡ true → All (IsUnanswered from) between
+once : (b : Breaker) (from to : ℕ) (between : List Event) → (first ≤ period b.state) × (period b.state ≤ longest) →
+    is_closed b.state ≡ false → is_asked b.state from ≡ true → All (IsUnanswered from) between
     → from + period b.state < 2 ^ 64 → is_asked (run (asked b from) between).state to ≡ true → from + period b.state ≤ to
 once b from to between p shut now un small allowed_then =
-    rests_end from (period b.state) to (run (asked b from) between).state (omega (arith, p.0)) (rests_run from (period b.state) (asked b from) between p.1 small un (rests_begin from b.state shut now)) allowed_then
+    rests_end from (period b.state) to (run (asked b from) between).state (omega (arith, p.0))
+    (rests_run from (period b.state) (asked b from) between p.1 small un (rests_begin from b.state shut now)) allowed_then
 
 pub once_a_period : IsAskedOnceAPeriod
-once_a_period before between from to shut now un small allowed_then = once (run unknown before) from to between (has_period before shut) shut now un small allowed_then
+once_a_period before between from to shut now un small allowed_then =
+    once (run unknown before) from to between (has_period before shut) shut now un small allowed_then
 
 pub closed_by : IsClosedByAnAnswer
 closed_by b moment number now Answered answers = (refl, refl)
@@ -155,9 +170,13 @@ pub left_alone : IsLeftAlone
 left_alone faults openings moment now Answered fault third small asked_now = grind arith
 left_alone faults openings moment now Refused fault third small asked_now = grind arith
 left_alone faults openings moment now Failed fault third small asked_now =
-    left_by faults openings moment now false third small (sym (ap (λ (b : Breaker). is_asked b.state now) (counts (record { state = Closed faults; openings = openings }) moment false)) ∙ asked_now)
+    left_by faults openings moment now false third small
+    (sym (ap (λ (b : Breaker). is_asked b.state now) (counts (record { state = Closed faults; openings = openings }) moment false)) ∙
+    asked_now)
 left_alone faults openings moment now TimedOut fault third small asked_now =
-    left_by faults openings moment now true third small (sym (ap (λ (b : Breaker). is_asked b.state now) (counts (record { state = Closed faults; openings = openings }) moment true)) ∙ asked_now)
+    left_by faults openings moment now true third small
+    (sym (ap (λ (b : Breaker). is_asked b.state now) (counts (record { state = Closed faults; openings = openings }) moment true)) ∙
+    asked_now)
 
 -- the number of openings never falls
 abbrev Reached : ℕ → Breaker → Type 0
@@ -180,18 +199,21 @@ reached_run n b [] small r = r
 reached_run n b (e ∷ es) small r = reached_run n (happens b e) es small (reached_step n b e small r)
 
 -- a fault that opens a link counts the opening
-counts_opening : (m openings : ℕ) (late : Bool) (s : State) → openings + 1 < 2 ^ 64 → is_open s ≡ false → is_open (failed s openings m late).state ≡ true → openings + 1 ≤ (failed s openings m late).openings
+counts_opening : (m openings : ℕ) (late : Bool) (s : State) → openings + 1 < 2 ^ 64 → is_open s ≡ false →
+    is_open (failed s openings m late).state ≡ true → openings + 1 ≤ (failed s openings m late).openings
 counts_opening m openings late (Closed faults) small was is = grind arith
 counts_opening m openings late (Open until wait) small was is = grind arith
 counts_opening m openings late (HalfOpen since wait) small was is = grind arith
 
-counts_faulted : (b : Breaker) (m : ℕ) (late : Bool) → b.openings + 1 < 2 ^ 64 → is_open b.state ≡ false → is_open (faulted b m b.openings late).state ≡ true → b.openings + 1 ≤ (faulted b m b.openings late).openings
+counts_faulted : (b : Breaker) (m : ℕ) (late : Bool) → b.openings + 1 < 2 ^ 64 → is_open b.state ≡ false →
+    is_open (faulted b m b.openings late).state ≡ true → b.openings + 1 ≤ (faulted b m b.openings late).openings
 counts_faulted b m late small was is =
     let same = counts b m late in
     let by = counts_opening m b.openings late b.state small was (sym (ap (λ (c : Breaker). is_open c.state) same) ∙ is) in
     omega (arith, by, ap (λ (c : Breaker). c.openings) same)
 
-counts_reported : (b : Breaker) (m : ℕ) (outcome : Outcome) → b.openings + 1 < 2 ^ 64 → is_open b.state ≡ false → is_open (reported b m b.openings outcome).state ≡ true → b.openings + 1 ≤ (reported b m b.openings outcome).openings
+counts_reported : (b : Breaker) (m : ℕ) (outcome : Outcome) → b.openings + 1 < 2 ^ 64 → is_open b.state ≡ false →
+    is_open (reported b m b.openings outcome).state ≡ true → b.openings + 1 ≤ (reported b m b.openings outcome).openings
 counts_reported b m Answered small was is = grind arith
 counts_reported b m Refused small was is = grind arith
 counts_reported b m Failed small was is = counts_faulted b m false small was is

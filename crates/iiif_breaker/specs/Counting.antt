@@ -14,10 +14,38 @@ none = record { answered = 0; refused = 0; failed = 0; timed_out = 0; skipped = 
 
 -- one more ended so
 abbrev pub counted : Asks → Outcome → Asks
-counted a Answered = record { answered = more a.answered; refused = a.refused; failed = a.failed; timed_out = a.timed_out; skipped = a.skipped }
-counted a Refused = record { answered = a.answered; refused = more a.refused; failed = a.failed; timed_out = a.timed_out; skipped = a.skipped }
-counted a Failed = record { answered = a.answered; refused = a.refused; failed = more a.failed; timed_out = a.timed_out; skipped = a.skipped }
-counted a TimedOut = record { answered = a.answered; refused = a.refused; failed = a.failed; timed_out = more a.timed_out; skipped = a.skipped }
+counted a Answered = record {
+  answered = more a.answered;
+  refused = a.refused;
+  failed = a.failed;
+  timed_out = a.timed_out;
+  skipped =
+      a.skipped;
+}
+counted a Refused = record {
+  answered = a.answered;
+  refused = more a.refused;
+  failed = a.failed;
+  timed_out = a.timed_out;
+  skipped =
+      a.skipped;
+}
+counted a Failed = record {
+  answered = a.answered;
+  refused = a.refused;
+  failed = more a.failed;
+  timed_out = a.timed_out;
+  skipped =
+      a.skipped;
+}
+counted a TimedOut = record {
+  answered = a.answered;
+  refused = a.refused;
+  failed = a.failed;
+  timed_out = more a.timed_out;
+  skipped =
+      a.skipped;
+}
 
 -- one more wasn't made, since the link was left alone
 abbrev pub skipped : Asks → Asks

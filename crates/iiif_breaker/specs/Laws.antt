@@ -46,7 +46,8 @@ AreBefore last b (e ∷ es) = IsBefore last b e × AreBefore last (happens b e) 
 
 -- a link is asked again at the latest so long after the last failure and the last ask
 abbrev pub IsAskedAgain : Type 0
-IsAskedAgain = (events : List Event) (last now : ℕ) → AreBefore last unknown events → last + longest ≤ now → is_asked (run unknown events).state now ≡ true
+IsAskedAgain = (events : List Event) (last now : ℕ) → AreBefore last unknown events → last + longest ≤ now →
+    is_asked (run unknown events).state now ≡ true
 
 abbrev pub is_open : State → Bool
 is_open (Closed faults) = false
@@ -63,7 +64,8 @@ abbrev pub IsUnanswered : ℕ → Event → Type 0
 IsUnanswered from (Would moment) = from ≤ moment
 IsUnanswered from (Ended moment number outcome) = (from ≤ moment) × (is_answer outcome ≡ false)
 
--- of a link that is left alone for so long: this is a second at least, and a minute at most; and where an ask was allowed, none is for as long, unless an answer came
+-- of a link that is left alone for so long: this is a second at least, and a minute at most; and where an ask was allowed, none is for as
+-- long, unless an answer came
 abbrev pub IsAskedOnceAPeriod : Type 0
 IsAskedOnceAPeriod = (before between : List Event) (from to : ℕ) → is_closed (run unknown before).state ≡ false
     → is_asked (run unknown before).state from ≡ true → All (IsUnanswered from) between
@@ -81,11 +83,14 @@ IsClosedByAnAnswer = (b : Breaker) (moment number now : ℕ) (outcome : Outcome)
 
 -- a closed link is left alone for a second after an ask of its number that nothing came of in its time, and after a third fault in a row
 abbrev pub IsLeftAlone : Type 0
-IsLeftAlone = (faults openings moment now : ℕ) (outcome : Outcome) → is_answer outcome ≡ false → (is_late outcome ≡ false → 2 ≤ faults) → moment + first < 2 ^ 64
-    → is_asked (reported (record { state = Closed faults; openings = openings }) moment openings outcome).state now ≡ true → moment + first ≤ now
+IsLeftAlone = (faults openings moment now : ℕ) (outcome : Outcome) → is_answer outcome ≡ false → (is_late outcome ≡ false → 2 ≤ faults) →
+    moment + first < 2 ^ 64
+    → is_asked (reported (record { state = Closed faults; openings = openings }) moment openings outcome).state now ≡ true →
+    moment + first ≤ now
 
 -- once a fault opened a link, whatever comes then, a fault of an ask from before changes nothing: it is no fault of a later ask
 abbrev pub IsUnmovedByLateFaults : Type 0
 IsUnmovedByLateFaults = (b : Breaker) (moment later : ℕ) (outcome late : Outcome) (between : List Event) → b.openings + 1 < 2 ^ 64
     → is_open b.state ≡ false → is_open (reported b moment b.openings outcome).state ≡ true → is_answer late ≡ false
-    → reported (run (reported b moment b.openings outcome) between) later b.openings late ≡ run (reported b moment b.openings outcome) between
+    → reported (run (reported b moment b.openings outcome) between) later b.openings late ≡ run (reported b moment b.openings outcome)
+    between

@@ -1,4 +1,5 @@
-//! When a link to another node is asked, and when it is left alone since it failed; and how its asks ended. Moments are milliseconds from any
+//! When a link to another node is asked, and when it is left alone since it failed; and how its asks ended. Moments are milliseconds from
+//! any
 //! beginning, handed in.
 #![tactic(auto)]
 

@@ -1,5 +1,6 @@
 -- what holds of each entry with its key stays true
-use Rattle.std.proofs.Common.{◌≡◌, ℕ, zero, suc, ◌-◌, Bool, true, false, cond, List, [], ◌∷◌, length, take, Option, Some, None, IfSome, refl, sym, ◌∙◌, subst, inl, inr}
+use Rattle.std.proofs.Common.{◌≡◌, ℕ, zero, suc, ◌-◌, Bool, true, false, cond, List, [], ◌∷◌, length, take, Option, Some, None, IfSome}
+use Rattle.std.proofs.Common.{refl, sym, ◌∙◌, subst, inl, inr}
 use Rattle.std.proofs.lemmas.Bool.{cases_Bool}
 use Rattle.std.specs.List.{All, AllByRecursion}
 use Rattle.std.specs.Map.{lookup, lookup_entry, remove_entry, set_value}
@@ -27,30 +28,36 @@ module _ {K X : Type 0} (P : K × X → Type 0) where
     | false ↦ each-found t es a.1
   ])
 
-  front-of : (o : Option (K × X)) (es rest : List (K × X)) → IfSome o P → AllByRecursion P es → AllByRecursion P rest → AllByRecursion P (option_map_or (λ e. e ∷ rest) o es)
+  front-of : (o : Option (K × X)) (es rest : List (K × X)) → IfSome o P → AllByRecursion P es → AllByRecursion P rest →
+      AllByRecursion P (option_map_or (λ e. e ∷ rest) o es)
   front-of None es rest h a b = a
   front-of (Some e) es rest h a b = (h, b)
 
-  each-set : (t : K → Bool) (es : List (K × X)) (v w : X) → lookup t es ≡ Some v → ((k : K) → P (k, v) → P (k, w)) → AllByRecursion P es → AllByRecursion P (set_value t es w)
+  each-set : (t : K → Bool) (es : List (K × X)) (v w : X) → lookup t es ≡ Some v → ((k : K) → P (k, v) → P (k, w)) → AllByRecursion P es →
+      AllByRecursion P (set_value t es w)
   each-set t [] v w h to a = a
-  each-set t (e ∷ es) v w h to a = (elim (t e.0) as (λ y. cond y (Some e.1) (lookup t es) ≡ Some v → AllByRecursion P (cond y ((e.0, w) ∷ es) (e ∷ set_value t es w))) [
-    | true ↦ λ h. let is : e.1 ≡ v = cc in let Q : X → Type 0 = λ x. P (e.0, x) in (to e.0 (subst Q is a.0), a.1)
-    | false ↦ λ h. (a.0, each-set t es v w h to a.1)
-  ]) h
+  each-set t (e ∷ es) v w h to a = (elim (t e.0) as
+      (λ y. cond y (Some e.1) (lookup t es) ≡ Some v → AllByRecursion P (cond y ((e.0, w) ∷ es) (e ∷ set_value t es w))) [
+        | true ↦ λ h. let is : e.1 ≡ v = cc in let Q : X → Type 0 = λ x. P (e.0, x) in (to e.0 (subst Q is a.0), a.1)
+        | false ↦ λ h. (a.0, each-set t es v w h to a.1)
+      ]) h
 
-  put-of : (o : Option (K × X)) (k : K) (v : X) (rest less : List (K × X)) → IfSome o (λ e. k ≡ e.0) → P (k, v) → AllByRecursion P rest → AllByRecursion P less
+  put-of : (o : Option (K × X)) (k : K) (v : X) (rest less : List (K × X)) → IfSome o (λ e. k ≡ e.0) → P (k, v) → AllByRecursion P rest →
+      AllByRecursion P less
       → AllByRecursion P (option_map_or (λ e. (e.0, v) ∷ rest) o ((k, v) ∷ less))
   put-of None k v rest less h p a b = (p, b)
   put-of (Some e) k v rest less h p a b = let Q : K → Type 0 = λ x. P (x, v) in (subst Q h p, a)
 
-  same-found : (eq : K → K → Bool) → ((a b : K) → eq a b ≡ true → a ≡ b) → (k : K) (es : List (K × X)) → IfSome (lookup_entry (eq k) es) (λ e. k ≡ e.0)
+  same-found : (eq : K → K → Bool) → ((a b : K) → eq a b ≡ true → a ≡ b) → (k : K) (es : List (K × X)) →
+      IfSome (lookup_entry (eq k) es) (λ e. k ≡ e.0)
   same-found eq ident k [] = tt
   same-found eq ident k (e ∷ es) = elim (cases_Bool (eq k e.0)) [
     | inl t ↦ rw t (ident k e.0 t)
     | inr f ↦ rw f (same-found eq ident k es)
   ]
 
-  lookup-of : (eq : K → K → Bool) → ((a b : K) → eq a b ≡ true → a ≡ b) → (k : K) (es : List (K × X)) (v : X) → lookup (eq k) es ≡ Some v → AllByRecursion P es → P (k, v)
+  lookup-of : (eq : K → K → Bool) → ((a b : K) → eq a b ≡ true → a ≡ b) → (k : K) (es : List (K × X)) (v : X) → lookup (eq k) es ≡ Some v →
+      AllByRecursion P es → P (k, v)
   lookup-of eq ident k [] v h a = cc
   lookup-of eq ident k (e ∷ es) v h a = elim (cases_Bool (eq k e.0)) [
     | inl t ↦
@@ -68,15 +75,20 @@ module _ {K X : Type 0} (P : K × X → Type 0) where
   all-less es a = All-from_recursion P _ (each-take (length es - 1) es (recursion_from_All P es a))
 
   pub all-promoted : (t : K → Bool) (es : List (K × X)) → All P es → All P (promoted t es)
-  all-promoted t es a = let r = recursion_from_All P es a in All-from_recursion P _ (front-of (lookup_entry t es) es (remove_entry t es) (each-found t es r) r (each-remove t es r))
+  all-promoted t es a = let r = recursion_from_All P es a in
+      All-from_recursion P _ (front-of (lookup_entry t es) es (remove_entry t es) (each-found t es r) r (each-remove t es r))
 
-  pub all-set : (t : K → Bool) (es : List (K × X)) (v w : X) → lookup t es ≡ Some v → ((k : K) → P (k, v) → P (k, w)) → All P es → All P (set_value t es w)
+  pub all-set : (t : K → Bool) (es : List (K × X)) (v w : X) → lookup t es ≡ Some v → ((k : K) → P (k, v) → P (k, w)) → All P es →
+      All P (set_value t es w)
   all-set t es v w h to a = All-from_recursion P _ (each-set t es v w h to (recursion_from_All P es a))
 
-  pub all-put : (eq : K → K → Bool) → ((a b : K) → eq a b ≡ true → a ≡ b) → (c : LruCache K X) (k : K) (v : X) → P (k, v) → All P c.entries → All P (put_entries eq c k v)
+  pub all-put : (eq : K → K → Bool) → ((a b : K) → eq a b ≡ true → a ≡ b) → (c : LruCache K X) (k : K) (v : X) → P (k, v) →
+      All P c.entries → All P (put_entries eq c k v)
   all-put eq ident c k v p a =
       let r = recursion_from_All P c.entries a in
-      All-from_recursion P _ (put-of (lookup_entry (eq k) c.entries) k v (remove_entry (eq k) c.entries) (take (c.cap - 1) c.entries) (same-found eq ident k c.entries) p (each-remove (eq k) c.entries r) (each-take (c.cap - 1) c.entries r))
+      All-from_recursion P _ (put-of (lookup_entry (eq k) c.entries) k v (remove_entry (eq k) c.entries) (take (c.cap - 1) c.entries)
+      (same-found eq ident k c.entries) p (each-remove (eq k) c.entries r) (each-take (c.cap - 1) c.entries r))
 
-  pub all-lookup : (eq : K → K → Bool) → ((a b : K) → eq a b ≡ true → a ≡ b) → (k : K) (es : List (K × X)) (v : X) → lookup (eq k) es ≡ Some v → All P es → P (k, v)
+  pub all-lookup : (eq : K → K → Bool) → ((a b : K) → eq a b ≡ true → a ≡ b) → (k : K) (es : List (K × X)) (v : X) →
+      lookup (eq k) es ≡ Some v → All P es → P (k, v)
   all-lookup eq ident k es v h a = lookup-of eq ident k es v h (recursion_from_All P es a)

@@ -8,7 +8,8 @@ use Rattle.iiif_byte_cache.specs.Rows.{pushed}
 use Rattle.iiif_byte_cache.specs.View.{side}
 
 module _ {K V : Type 0} (eq : K → K → Bool) (k : K) (e : Kept V) (c : Cache K V) where
-  by_cases : (a b h : Bool) → (if a then record c { main = replaced eq k e c.main } else if b then record c { hot = replaced eq k e c.hot } else added_to eq k (side h) e c)
+  by_cases : (a b h : Bool) → (if a then record c { main = replaced eq k e c.main } else if b then record c { hot = replaced eq k e c.hot }
+      else added_to eq k (side h) e c)
       ≡ (if not a && (h || b)
       then record c { hot = if b then replaced eq k e c.hot else added c.room (k, e) c.hot }
       else record c { main = if a then replaced eq k e c.main else added c.room (k, e) c.main })
@@ -26,10 +27,12 @@ module _ {K V : Type 0} (eq : K → K → Bool) (k : K) (e : Kept V) (c : Cache 
   unfolding placed pushed
   goes h = by_cases (is_some (lookup (eq k) c.main)) (is_some (lookup (eq k) c.hot)) h
 
-  pub goes_to_hot : (h : Bool) → (not (is_some (lookup (eq k) c.main)) && (h || is_some (lookup (eq k) c.hot))) ≡ true → placed eq k (side h) e c ≡ record c { hot = pushed eq c.room k e c.hot }
+  pub goes_to_hot : (h : Bool) → (not (is_some (lookup (eq k) c.main)) && (h || is_some (lookup (eq k) c.hot))) ≡ true →
+      placed eq k (side h) e c ≡ record c { hot = pushed eq c.room k e c.hot }
   goes_to_hot h is = goes h ∙ rw is refl
 
-  pub goes_to_main : (h : Bool) → (not (is_some (lookup (eq k) c.main)) && (h || is_some (lookup (eq k) c.hot))) ≡ false → placed eq k (side h) e c ≡ record c { main = pushed eq c.room k e c.main }
+  pub goes_to_main : (h : Bool) → (not (is_some (lookup (eq k) c.main)) && (h || is_some (lookup (eq k) c.hot))) ≡ false →
+      placed eq k (side h) e c ≡ record c { main = pushed eq c.room k e c.main }
   goes_to_main h is = goes h ∙ rw is refl
 
 -- a test that would make something false true is false

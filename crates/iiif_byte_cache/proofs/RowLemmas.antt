@@ -12,22 +12,26 @@ module _ {K X Y : Type 0} (f : X → Y) (test : K → Bool) where
 
   pub remove_entry-turned : (es : List (K × X)) → remove_entry test (turned es) ≡ turned (remove_entry test es)
   remove_entry-turned [] = refl
-  remove_entry-turned (e ∷ es) = elim (test e.0) as (λ y. cond y (turned es) ((e.0, f e.1) ∷ remove_entry test (turned es)) ≡ turned (cond y es (e ∷ remove_entry test es))) [
-    | true ↦ refl
-    | false ↦ ap (λ l. (e.0, f e.1) ∷ l) (remove_entry-turned es)
-  ]
+  remove_entry-turned (e ∷ es) = elim (test e.0) as
+      (λ y. cond y (turned es) ((e.0, f e.1) ∷ remove_entry test (turned es)) ≡ turned (cond y es (e ∷ remove_entry test es))) [
+        | true ↦ refl
+        | false ↦ ap (λ l. (e.0, f e.1) ∷ l) (remove_entry-turned es)
+      ]
 
   pub lookup_entry-turned : (es : List (K × X)) → lookup_entry test (turned es) ≡ option_map (λ e. (e.0, f e.1)) (lookup_entry test es)
   lookup_entry-turned [] = refl
-  lookup_entry-turned (e ∷ es) = elim (test e.0) as (λ y. cond y (Some (e.0, f e.1)) (lookup_entry test (turned es)) ≡ option_map (λ e. (e.0, f e.1)) (cond y (Some e) (lookup_entry test es))) [
-    | true ↦ refl
-    | false ↦ lookup_entry-turned es
-  ]
+  lookup_entry-turned (e ∷ es) = elim (test e.0) as
+      (λ y. cond y (Some (e.0, f e.1)) (lookup_entry test (turned es)) ≡ option_map (λ e. (e.0, f e.1))
+      (cond y (Some e) (lookup_entry test es))) [
+        | true ↦ refl
+        | false ↦ lookup_entry-turned es
+      ]
 
   abbrev to_front : List (K × X) → Option (K × X) → List (K × X)
   to_front es o = option_map_or (λ e. e ∷ remove_entry test es) o es
 
-  front : (es : List (K × X)) (o : Option (K × X)) → option_map_or (λ e. e ∷ remove_entry test (turned es)) (option_map (λ e. (e.0, f e.1)) o) (turned es) ≡ turned (to_front es o)
+  front : (es : List (K × X)) (o : Option (K × X)) →
+      option_map_or (λ e. e ∷ remove_entry test (turned es)) (option_map (λ e. (e.0, f e.1)) o) (turned es) ≡ turned (to_front es o)
   front es None = refl
   front es (Some e) = ap (λ l. (e.0, f e.1) ∷ l) (remove_entry-turned es)
 
@@ -37,27 +41,31 @@ module _ {K X Y : Type 0} (f : X → Y) (test : K → Bool) where
   -- a value that turns into the same one changes nothing
   pub set_value-turned : (es : List (K × X)) (v w : X) → lookup test es ≡ Some v → f v ≡ f w → turned (set_value test es w) ≡ turned es
   set_value-turned [] v w h same = refl
-  set_value-turned (e ∷ es) v w h same = (elim (test e.0) as (λ y. cond y (Some e.1) (lookup test es) ≡ Some v → turned (cond y ((e.0, w) ∷ es) (e ∷ set_value test es w)) ≡ turned (e ∷ es)) [
-    | true ↦ λ h. let is : e.1 ≡ v = cc in let to : f w ≡ f e.1 = cc in ap (λ x. (e.0, x) ∷ turned es) to
-    | false ↦ λ h. ap (λ l. (e.0, f e.1) ∷ l) (set_value-turned es v w h same)
-  ]) h
+  set_value-turned (e ∷ es) v w h same = (elim (test e.0) as
+      (λ y. cond y (Some e.1) (lookup test es) ≡ Some v → turned (cond y ((e.0, w) ∷ es) (e ∷ set_value test es w)) ≡ turned (e ∷ es)) [
+        | true ↦ λ h. let is : e.1 ≡ v = cc in let to : f w ≡ f e.1 = cc in ap (λ x. (e.0, x) ∷ turned es) to
+        | false ↦ λ h. ap (λ l. (e.0, f e.1) ∷ l) (set_value-turned es v w h same)
+      ]) h
 
 module _ {K X : Type 0} (test : K → Bool) where
   pub lookup-entry : (es : List (K × X)) → option_map (λ e. e.1) (lookup_entry test es) ≡ lookup test es
   lookup-entry [] = refl
-  lookup-entry (e ∷ es) = elim (test e.0) as (λ y. option_map (λ f. f.1) (cond y (Some e) (lookup_entry test es)) ≡ cond y (Some e.1) (lookup test es)) [
-    | true ↦ refl
-    | false ↦ lookup-entry es
-  ]
+  lookup-entry (e ∷ es) = elim (test e.0) as (λ y.
+      option_map (λ f. f.1) (cond y (Some e) (lookup_entry test es)) ≡ cond y (Some e.1) (lookup test es)) [
+        | true ↦ refl
+        | false ↦ lookup-entry es
+      ]
 
-  at_front : (es : List (K × X)) (o : Option (K × X)) → lookup_entry test es ≡ o → lookup test (option_map_or (λ e. e ∷ remove_entry test es) o es) ≡ option_map (λ e. e.1) o
+  at_front : (es : List (K × X)) (o : Option (K × X)) → lookup_entry test es ≡ o →
+      lookup test (option_map_or (λ e. e ∷ remove_entry test es) o es) ≡ option_map (λ e. e.1) o
   at_front es None h = sym (lookup-entry es) ∙ ap (option_map (λ e. e.1)) h
   at_front es (Some e) h = rw (Contains-lookup_entry test es e h).1 refl
 
   pub lookup-promoted : (es : List (K × X)) → lookup test (promoted test es) ≡ lookup test es
   lookup-promoted es = at_front es (lookup_entry test es) refl ∙ lookup-entry es
 
-  missed : (es : List (K × X)) (o : Option (K × X)) → option_map (λ e. e.1) o ≡ None → option_map_or (λ e. e ∷ remove_entry test es) o es ≡ es
+  missed : (es : List (K × X)) (o : Option (K × X)) → option_map (λ e. e.1) o ≡ None →
+      option_map_or (λ e. e ∷ remove_entry test es) o es ≡ es
   missed es None h = refl
   missed es (Some e) h = cc
 
@@ -75,10 +83,11 @@ module _ {K X : Type 0} (test : K → Bool) where
 module _ {K X Y : Type 0} (f : X → Y) (test : K → Bool) where
   pub lookup-turned : (es : List (K × X)) → lookup test (map (λ e. (e.0, f e.1)) es) ≡ option_map f (lookup test es)
   lookup-turned [] = refl
-  lookup-turned (e ∷ es) = elim (test e.0) as (λ y. cond y (Some (f e.1)) (lookup test (map (λ e. (e.0, f e.1)) es)) ≡ option_map f (cond y (Some e.1) (lookup test es))) [
-    | true ↦ refl
-    | false ↦ lookup-turned es
-  ]
+  lookup-turned (e ∷ es) = elim (test e.0) as (λ y.
+      cond y (Some (f e.1)) (lookup test (map (λ e. (e.0, f e.1)) es)) ≡ option_map f (cond y (Some e.1) (lookup test es))) [
+        | true ↦ refl
+        | false ↦ lookup-turned es
+      ]
 
   same_is_some : (o : Option X) → is_some (option_map f o) ≡ is_some o
   same_is_some None = refl
@@ -101,6 +110,7 @@ second_of_two None p h = refl
 second_of_two (Some x) p h = cc
 
 -- a list of entries has the keys of its rows
-pub keys-turned : {K X Y : Type 0} (f : X → Y) (es : List (K × X)) → map (λ (r : K × Y). r.0) (map (λ e. (e.0, f e.1)) es) ≡ map (λ e. e.0) es
+pub keys-turned : {K X Y : Type 0} (f : X → Y) (es : List (K × X)) →
+    map (λ (r : K × Y). r.0) (map (λ e. (e.0, f e.1)) es) ≡ map (λ e. e.0) es
 keys-turned f [] = refl
 keys-turned f (e ∷ es) = ap (λ l. e.0 ∷ l) (keys-turned f es)

@@ -10,7 +10,13 @@ use Rattle.iiif_byte_cache.specs.declared.cache.PutFault.TheVariants.{TooBig, No
 
 -- two lists with a limit
 abbrev pub lists_of : {K J V : Type 0} {a b c d : _} → Recent K J V a b c d → Recent K J V a b c d → ℕ → Cache K V
-lists_of main hot limit = record { main = rows kept_of main.list.entries; hot = rows kept_of hot.list.entries; limit = limit; room = main.list.cap }
+lists_of main hot limit = record {
+  main = rows kept_of main.list.entries;
+  hot = rows kept_of hot.list.entries;
+  limit = limit;
+  room =
+      main.list.cap;
+}
 
 -- its two lists, what they may take, and how many entries each may have
 abbrev pub cache_of : {K J V : Type 0} {a b c d : _} → ByteCache K J V a b c d → Cache K V

@@ -16,7 +16,8 @@ pub struct ByteCache<K: CacheKey, J: System> {
     pub(crate) limit: u64,
     pub ghost within: { main.bytes + hot.bytes ≤ limit },
     pub ghost small: { limit < 2 ^ 63 },
-    pub ghost single: { (q : K) → entries_of K.eq q (rows kept_of main.list.entries) + entries_of K.eq q (rows kept_of hot.list.entries) ≤ 1 },
+    pub ghost single: { (q : K) → entries_of K.eq q (rows kept_of main.list.entries) + entries_of K.eq q (rows kept_of hot.list.entries)
+        ≤ 1 },
     pub ghost room: { hot.list.cap ≡ main.list.cap },
 }
 

@@ -1,8 +1,10 @@
 //! The calls of a cache.
 
-ghost use Rattle.std.specs.Prelude.{◌≡◌, ◌+◌, ◌^◌, ◌<◌, ◌≤◌, false, length, map, option_map, is_some, IfErr, IfNone, IfOk, IfSome, IsTrue, OnErr, OnOk};
+ghost use Rattle.std.specs.Prelude.{◌≡◌, ◌+◌, ◌^◌, ◌<◌, ◌≤◌, false, length, map, option_map, is_some, IfErr, IfNone, IfOk, IfSome, IsTrue};
+ghost use Rattle.std.specs.Prelude.{OnErr, OnOk};
 ghost use Rattle.std.specs.NonZero.{non_zero_usize_get};
-ghost use Rattle.iiif_tables.specs.Cache.{bytes_in, empty_cache, evict as evicted, hot_side, is_too_big, kept_for, main_side, put as with_entry, touch as touched, victim};
+ghost use Rattle.iiif_tables.specs.Cache.{bytes_in, empty_cache, evict as evicted, hot_side, is_too_big, kept_for, main_side};
+ghost use Rattle.iiif_tables.specs.Cache.{put as with_entry, touch as touched, victim};
 ghost use Rattle.iiif_outcome.specs.Views.{entry_size, is_of, kept_of};
 ghost use Rattle.iiif_byte_cache.specs.View.{cache_of, side, IsRefusal};
 
@@ -84,10 +86,13 @@ impl<K: CacheKey, J: System> ByteCache<K, J> {
     /// many bytes, this one too if need be. A key that is there takes no memory.
     pub fn put_main(&mut self, key: K, entry: Entry<K, J>) -> Result<(), PutFault<K, Entry<K, J>>>
         requires { IsTrue (is_of K.eq key entry) }
-        ensures ok { OnOk result (cache_of self.new ≡ with_entry (entry_size K.key_bytes K.val_bytes) K.eq main_side key (kept_of entry) (cache_of self.old)) }
+        ensures ok { OnOk result (cache_of self.new ≡ with_entry (entry_size K.key_bytes K.val_bytes) K.eq main_side key (kept_of entry)
+            (cache_of self.old)) }
         ensures fits { OnOk result (is_too_big (entry_size K.key_bytes K.val_bytes) key (kept_of entry).value (cache_of self.old) ≡ false) }
         ensures err { OnErr result (cache_of self.new ≡ cache_of self.old) }
-        ensures back { IfErr result (IsRefusal key entry (is_too_big (entry_size K.key_bytes K.val_bytes) key (kept_of entry).value (cache_of self.old)) (is_some (kept_for K.eq key (cache_of self.old)))) }
+        ensures back { IfErr result (IsRefusal key entry
+            (is_too_big (entry_size K.key_bytes K.val_bytes) key (kept_of entry).value (cache_of self.old))
+            (is_some (kept_for K.eq key (cache_of self.old)))) }
     {
         self.put(false, key, entry)
     }
@@ -95,10 +100,13 @@ impl<K: CacheKey, J: System> ByteCache<K, J> {
     /// The same for the hot list.
     pub fn put_hot(&mut self, key: K, entry: Entry<K, J>) -> Result<(), PutFault<K, Entry<K, J>>>
         requires { IsTrue (is_of K.eq key entry) }
-        ensures ok { OnOk result (cache_of self.new ≡ with_entry (entry_size K.key_bytes K.val_bytes) K.eq hot_side key (kept_of entry) (cache_of self.old)) }
+        ensures ok { OnOk result (cache_of self.new ≡ with_entry (entry_size K.key_bytes K.val_bytes) K.eq hot_side key (kept_of entry)
+            (cache_of self.old)) }
         ensures fits { OnOk result (is_too_big (entry_size K.key_bytes K.val_bytes) key (kept_of entry).value (cache_of self.old) ≡ false) }
         ensures err { OnErr result (cache_of self.new ≡ cache_of self.old) }
-        ensures back { IfErr result (IsRefusal key entry (is_too_big (entry_size K.key_bytes K.val_bytes) key (kept_of entry).value (cache_of self.old)) (is_some (kept_for K.eq key (cache_of self.old)))) }
+        ensures back { IfErr result (IsRefusal key entry
+            (is_too_big (entry_size K.key_bytes K.val_bytes) key (kept_of entry).value (cache_of self.old))
+            (is_some (kept_for K.eq key (cache_of self.old)))) }
     {
         self.put(true, key, entry)
     }
@@ -106,10 +114,13 @@ impl<K: CacheKey, J: System> ByteCache<K, J> {
     /// Into the hot list, or into main.
     fn put(&mut self, hot: bool, key: K, entry: Entry<K, J>) -> Result<(), PutFault<K, Entry<K, J>>>
         requires { IsTrue (is_of K.eq key entry) }
-        ensures ok { OnOk result (cache_of self.new ≡ with_entry (entry_size K.key_bytes K.val_bytes) K.eq (side hot) key (kept_of entry) (cache_of self.old)) }
+        ensures ok { OnOk result (cache_of self.new ≡ with_entry (entry_size K.key_bytes K.val_bytes) K.eq (side hot) key (kept_of entry)
+            (cache_of self.old)) }
         ensures fits { OnOk result (is_too_big (entry_size K.key_bytes K.val_bytes) key (kept_of entry).value (cache_of self.old) ≡ false) }
         ensures err { OnErr result (cache_of self.new ≡ cache_of self.old) }
-        ensures back { IfErr result (IsRefusal key entry (is_too_big (entry_size K.key_bytes K.val_bytes) key (kept_of entry).value (cache_of self.old)) (is_some (kept_for K.eq key (cache_of self.old)))) }
+        ensures back { IfErr result (IsRefusal key entry
+            (is_too_big (entry_size K.key_bytes K.val_bytes) key (kept_of entry).value (cache_of self.old))
+            (is_some (kept_for K.eq key (cache_of self.old)))) }
     {
         let size = entry.size(&key);
         if size > self.limit {

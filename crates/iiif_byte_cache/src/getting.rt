@@ -15,7 +15,9 @@ use iiif_outcome::Entry;
 impl<K: CacheKey, J: System> ByteCache<K, J> {
     /// What is kept for the key, in main, else in hot. Its entry goes to the front of its list. It takes no memory.
     pub fn get(&mut self, key: &K) -> Option<&Entry<K, J>>
-        ensures* touched { sem 𝓛 (follows_so (the_row K.row J.row K.Value.row K.CacheKey.own K.PartialEq K.Hash.own J.System K.Eq.own) (the_row K.row J.row K.Value.row K.CacheKey.own K.PartialEq K.Hash.own J.System K.Eq.own) self.entry.ghost_name none (λ _ _. ⊤) (λ n. cache_of n ≡ touched K.eq key.now (cache_of self.old))) }
+        ensures* touched { sem 𝓛 (follows_so (the_row K.row J.row K.Value.row K.CacheKey.own K.PartialEq K.Hash.own J.System K.Eq.own)
+            (the_row K.row J.row K.Value.row K.CacheKey.own K.PartialEq K.Hash.own J.System K.Eq.own) self.entry.ghost_name none (λ _ _. ⊤)
+            (λ n. cache_of n ≡ touched K.eq key.now (cache_of self.old))) }
         ensures value { option_map (λ e. kept_of e.now) result ≡ kept_for K.eq key.now (cache_of self.old) }
     {
         if self.main.touch(key) {

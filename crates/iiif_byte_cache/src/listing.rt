@@ -58,7 +58,8 @@ impl<K: CacheKey, J: System> Recent<K, J> {
         requires of_key { IsTrue (is_of K.eq key entry) }
         requires size { size ≡ entry_size K.key_bytes K.val_bytes key (kept_of entry).value }
         requires fits { self.old.bytes + size < 2 ^ 64 }
-        ensures ok { OnOk result (rows kept_of self.new.list.entries ≡ pushed K.eq self.old.list.cap key (kept_of entry) (rows kept_of self.old.list.entries)) }
+        ensures ok { OnOk result (rows kept_of self.new.list.entries ≡ pushed K.eq self.old.list.cap key (kept_of entry)
+            (rows kept_of self.old.list.entries)) }
         ensures bytes { OnOk result (self.new.bytes ≤ self.old.bytes + size) }
         ensures err { OnErr result (rows kept_of self.new.list.entries ≡ rows kept_of self.old.list.entries) }
         ensures same { OnErr result (self.new.bytes ≡ self.old.bytes) }

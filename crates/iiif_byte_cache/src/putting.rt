@@ -14,8 +14,10 @@ pub(crate) fn evict<K: CacheKey, J: System>(
     main: &mut Recent<K, J>,
     hot: &mut Recent<K, J>,
 ) -> Option<(K, Entry<K, J>)>
-    ensures victim { (limit : _) → option_map (λ e. (e.0, kept_of e.1)) result ≡ victim (entry_size K.key_bytes K.val_bytes) (lists_of main.old hot.old limit) }
-    ensures rest { (limit : _) → lists_of main.new hot.new limit ≡ evicted (entry_size K.key_bytes K.val_bytes) (lists_of main.old hot.old limit) }
+    ensures victim { (limit : _) → option_map (λ e. (e.0, kept_of e.1)) result ≡ victim (entry_size K.key_bytes K.val_bytes)
+        (lists_of main.old hot.old limit) }
+    ensures rest { (limit : _) → lists_of main.new hot.new limit ≡ evicted (entry_size K.key_bytes K.val_bytes)
+        (lists_of main.old hot.old limit) }
     ensures room { (main.new.list.cap ≡ main.old.list.cap) × (hot.new.list.cap ≡ hot.old.list.cap) }
     ensures bytes { main.new.bytes + hot.new.bytes ≤ main.old.bytes + hot.old.bytes }
 {
@@ -39,7 +41,8 @@ pub(crate) fn place<K: CacheKey, J: System>(
     requires size { size ≡ entry_size K.key_bytes K.val_bytes key (kept_of entry).value }
     requires fits { main.old.bytes + hot.old.bytes + size < 2 ^ 64 }
     requires room { hot.old.list.cap ≡ main.old.list.cap }
-    ensures ok { (limit : ℕ) → OnOk result (lists_of main.new hot.new limit ≡ placed K.eq key (side for_hot) (kept_of entry) (lists_of main.old hot.old limit)) }
+    ensures ok { (limit : ℕ) → OnOk result (lists_of main.new hot.new limit ≡ placed K.eq key (side for_hot) (kept_of entry)
+        (lists_of main.old hot.old limit)) }
     ensures bytes { OnOk result (main.new.bytes + hot.new.bytes ≤ main.old.bytes + hot.old.bytes + size) }
     ensures err { (limit : ℕ) → OnErr result (lists_of main.new hot.new limit ≡ lists_of main.old hot.old limit) }
     ensures err_bytes { OnErr result ((main.new.bytes ≡ main.old.bytes) × (hot.new.bytes ≡ hot.old.bytes)) }

@@ -33,7 +33,8 @@ clipped_part d r part =
     rw (a, b, e, f, m, n) refl
 
 -- the region that is written for a rectangle is that rectangle
-region_by : (d : Dim) (r : Rect) (t : Bool) → IsPart d r → r.x == 0 && r.y == 0 && r.w == d.w && r.h == d.h ≡ t → region_of (if t then Full else Pixels r.x r.y r.w r.h) d ≡ Ok r
+region_by : (d : Dim) (r : Rect) (t : Bool) → IsPart d r → r.x == 0 && r.y == 0 && r.w == d.w && r.h == d.h ≡ t →
+    region_of (if t then Full else Pixels r.x r.y r.w r.h) d ≡ Ok r
 unfolding region_of
 region_by d r true part e =
     let x : r.x ≡ 0 = grind (arith, nat_tests) in
@@ -43,7 +44,8 @@ region_by d r true part e =
     let whole : Rect = record { x = 0; y = 0; w = d.w; h = d.h } in
     let same : whole ≡ r = sym (same_rect r whole x y w h) in
     let inside : LiesIn whole d = record { columns = omega arith; rows = omega arith } in
-    clipped_part d whole (record { inside = inside; not_empty = (omega (arith, part.not_empty, w), omega (arith, part.not_empty, h)) }) ∙ ap Ok same
+    clipped_part d whole (record { inside = inside; not_empty = (omega (arith, part.not_empty, w), omega (arith, part.not_empty, h)) }) ∙
+    ap Ok same
 region_by d r false part e = clipped_part d r part
 
 region_back : (d : Dim) (r : Rect) → IsPart d r → region_of (canonical_region r d) d ≡ Ok r
@@ -51,14 +53,16 @@ unfolding canonical_region
 region_back d r part = region_by d r _ part refl
 
 -- a size above the region's isn't refused where the server scales up
-larger_allowed : (may : Bool) (a b : ℕ) (l : Limits) (s : Dim) → l.upscale ≡ may → IsWithin a b l s → is_larger a b (s.w, s.h) ≡ true → l.upscale ≡ true
+larger_allowed : (may : Bool) (a b : ℕ) (l : Limits) (s : Dim) → l.upscale ≡ may → IsWithin a b l s → is_larger a b (s.w, s.h) ≡ true →
+    l.upscale ≡ true
 larger_allowed true a b l s u within larger = u
 larger_allowed false a b l s u within larger =
     let region = within.not_larger u in
     grind (arith, nat_tests, region.0, region.1)
 
 -- sides within the limits, written with `^` just where one is above the region's, aren't refused
-checked_back : (up : Bool) (a b : ℕ) (l : Limits) (s : Dim) → IsWithin a b l s → is_larger a b (s.w, s.h) ≡ up → checked up false a b l (s.w, s.h) ≡ Ok s
+checked_back : (up : Bool) (a b : ℕ) (l : Limits) (s : Dim) → IsWithin a b l s → is_larger a b (s.w, s.h) ≡ up →
+    checked up false a b l (s.w, s.h) ≡ Ok s
 unfolding checked
 checked_back false a b l s within larger =
     let region = sides_not_larger a b (s.w, s.h) larger in
@@ -98,11 +102,13 @@ pub resolves_back : (r : Resolved) (d : Dim) (k : Kind) (l : Limits) → IsResol
 unfolding resolved_of canonical_of
 resolves_back r d k l is =
     let part : IsPart d r.rect = record { inside = is.inside; not_empty = is.not_empty } in
-    let within : IsWithin r.rect.w r.rect.h l r.size = record { not_zero = is.not_zero; not_larger = is.not_larger; within_limits = is.within_limits } in
+    let within : IsWithin r.rect.w r.rect.h l r.size =
+    record { not_zero = is.not_zero; not_larger = is.not_larger; within_limits = is.within_limits } in
     rw (region_back d r.rect part, size_back r.rect.w r.rect.h l r.size within, quarters_back r.turn.quarters is.quarters, is.quality) refl
 
 -- and is its own canonical form
-pub fixed_back : (r : Resolved) (d : Dim) (k : Kind) (l : Limits) → IsResolved d k l r → canonical (canonical_of r d l) d k l ≡ Ok (canonical_of r d l)
+pub fixed_back : (r : Resolved) (d : Dim) (k : Kind) (l : Limits) → IsResolved d k l r →
+    canonical (canonical_of r d l) d k l ≡ Ok (canonical_of r d l)
 unfolding canonical
 fixed_back r d k l is = rw (resolves_back r d k l is) refl
 

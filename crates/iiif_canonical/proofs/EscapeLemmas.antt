@@ -20,7 +20,8 @@ unfolding should_percent_encode
 agree = refl
 
 -- one byte
-by_test : (b : ℕ) (t : Bool) → is_unreserved b ≡ t → should_percent_encode RESERVED b ≡ not (is_unreserved b) → encode_byte RESERVED b ≡ escape_of b
+by_test : (b : ℕ) (t : Bool) → is_unreserved b ≡ t → should_percent_encode RESERVED b ≡ not (is_unreserved b) →
+    encode_byte RESERVED b ≡ escape_of b
 unfolding percent_encode_byte
 by_test b true e a = let s : should_percent_encode RESERVED b ≡ false = a ∙ ap not e in rw (s, e) refl
 by_test b false e a = let s : should_percent_encode RESERVED b ≡ true = a ∙ ap not e in rw (s, e) refl
@@ -75,7 +76,8 @@ escaped_decodes bs small = (map escape_of bs, units_joined bs, units_stand bs sm
 lacks_by : (c b : ℕ) (t : Bool) → c ≢ 37 → is_unreserved c ≡ false → ((d : ℕ) → d < 16 → digit_glyph true d ≢ c) → is_unreserved b ≡ t
     → Lacks c (if t then b ∷ [] else (37 ∷ digit_glyph true (b / 16 % 16) ∷ digit_glyph true (b % 16) ∷ []))
 lacks_by c b true percent other digit is =
-    All-cons (λ x. x ≢ c) b [] (λ same. absurd (let no : is_unreserved b ≡ false = ap is_unreserved same ∙ other in cc)) (All-nil (λ x. x ≢ c))
+    All-cons (λ x. x ≢ c) b [] (λ same. absurd (let no : is_unreserved b ≡ false = ap is_unreserved same ∙ other in cc))
+    (All-nil (λ x. x ≢ c))
 lacks_by c b false percent other digit is =
     let high = digit_glyph true (b / 16 % 16) in
     let low = digit_glyph true (b % 16) in
@@ -83,7 +85,8 @@ lacks_by c b false percent other digit is =
     (All-cons (λ x. x ≢ c) high (low ∷ []) (digit (b / 16 % 16) (omega arith))
     (All-cons (λ x. x ≢ c) low [] (digit (b % 16) (omega arith)) (All-nil (λ x. x ≢ c))))
 
-escaped_lacks : (c : ℕ) (bs : List ℕ) → c ≢ 37 → is_unreserved c ≡ false → ((d : ℕ) → d < 16 → digit_glyph true d ≢ c) → Lacks c (escaped bs)
+escaped_lacks : (c : ℕ) (bs : List ℕ) → c ≢ 37 → is_unreserved c ≡ false → ((d : ℕ) → d < 16 → digit_glyph true d ≢ c) →
+    Lacks c (escaped bs)
 unfolding escaped
 escaped_lacks c [] percent other digit = All-nil (λ x. x ≢ c)
 escaped_lacks c (b ∷ bs) percent other digit =

@@ -1,5 +1,6 @@
 -- Requests that come to the same have equal images.
-use Rattle.std.proofs.Common.{◌≡◌, ℕ, zero, suc, ◌+◌, ◌*◌, Bool, true, false, length, refl, sym, ap, ◌∙◌, subst, arith, Result, Ok, Err, if◌then◌else◌, get_or, ◌==◌}
+use Rattle.std.proofs.Common.{◌≡◌, ℕ, zero, suc, ◌+◌, ◌*◌, Bool, true, false, length, refl, sym, ap, ◌∙◌, subst, arith, Result, Ok, Err}
+use Rattle.std.proofs.Common.{if◌then◌else◌, get_or, ◌==◌}
 use Rattle.iiif_pixel.specs.Geometry.{channels_of}
 use Rattle.iiif_pixel.specs.Picture.{Picture, dim_of, samples_of, sample_at}
 use Rattle.iiif_pixel.specs.Operations.{crop, mirrored, turned_by, turn, gray, gray_at, quality}
@@ -72,12 +73,14 @@ module _ (p : Picture) (k : Kind) (channels : p.channels ≡ channels_of k) (t :
   found (Err f) s = refl
 
 -- the image of a request is that of what it comes to
-pub image_is : (p : Picture) (q : Request) (d : Dim) (k : Kind) (l : Limits) → dim_of p ≡ d → p.channels ≡ channels_of k → image p q l ≡ image_from p (resolved_of q d k l)
+pub image_is : (p : Picture) (q : Request) (d : Dim) (k : Kind) (l : Limits) → dim_of p ≡ d → p.channels ≡ channels_of k →
+    image p q l ≡ image_from p (resolved_of q d k l)
 unfolding image resolved_of
 image_is p q d k l sides channels =
     subst (λ (s : Dim). image p q l ≡ image_from p (resolved_of q s k l)) sides
     (found p k channels (turn_of q.rotation) q.quality (region_of q.region (dim_of p)) (λ rect. size_of q.size rect.w rect.h l))
 
 -- requests that come to the same have the image of what they come to
-pub image_resolved : (p : Picture) (q : Request) (d : Dim) (k : Kind) (l : Limits) (x : Result Resolved Refusal) → dim_of p ≡ d → p.channels ≡ channels_of k → x ≡ resolved_of q d k l → image p q l ≡ image_from p x
+pub image_resolved : (p : Picture) (q : Request) (d : Dim) (k : Kind) (l : Limits) (x : Result Resolved Refusal) → dim_of p ≡ d →
+    p.channels ≡ channels_of k → x ≡ resolved_of q d k l → image p q l ≡ image_from p x
 image_resolved p q d k l x sides channels e = image_is p q d k l sides channels ∙ ap (image_from p) (sym e)

@@ -1,6 +1,7 @@
 -- The texts of numbers spell them.
 use Rattle.std.proofs.lemmas.Bool.{and_from}
-use Rattle.std.proofs.Common.{◌≡◌, ℕ, zero, suc, ◌+◌, ◌*◌, ◌/◌, ◌%◌, ◌^◌, ◌<◌, ◌≤◌, inl, inr, Bool, true, false, List, [], ◌∷◌, ◌++◌, length, refl, sym, ap, subst, ◌∙◌, arith, decimal, append_assoc}
+use Rattle.std.proofs.Common.{◌≡◌, ℕ, zero, suc, ◌+◌, ◌*◌, ◌/◌, ◌%◌, ◌^◌, ◌<◌, ◌≤◌, inl, inr, Bool, true, false, List, [], ◌∷◌, ◌++◌}
+use Rattle.std.proofs.Common.{length, refl, sym, ap, subst, ◌∙◌, arith, decimal, append_assoc}
 use Rattle.std.specs.Prelude.{codes, if◌then◌else◌, ◌==◌}
 use Rattle.std.specs.List.{list_all}
 use Rattle.std.specs.Char.{is_ascii_digit, digit_value}
@@ -69,7 +70,13 @@ value-last_digits (suc n) v front is =
     let rest : digits_value 10 front ≡ v / 10 / 10 ^ n = is ∙ ap (λ k. v / k) ten ∙ sym (div-div-eq-div-mul v 10 (10 ^ n)) in
     let before = value-last_digits n (v / 10) front rest in
     let last : digit_value (48 + v % 10) ≡ v % 10 = digit_value_of (v % 10) (omega arith) in
-    rw (last_digit v, ← append_assoc front (last_digits n (v / 10)) ((48 + v % 10) ∷ []), digits_value_push 10 (front ++ last_digits n (v / 10)) (48 + v % 10), before, last) (omega arith)
+    rw (
+      last_digit v,
+      ← append_assoc front (last_digits n (v / 10)) ((48 + v % 10) ∷ []),
+      digits_value_push 10 (front ++ last_digits n (v / 10)) (48 + v % 10),
+      before,
+      last,
+    ) (omega arith)
 
 -- its whole part is below 10 ^ 9
 pub whole_part_small : (d : Decimal) → IsSmallDecimal d → d.digits / 10 ^ d.places < 10 ^ 9
@@ -114,7 +121,8 @@ decimal_small text d (inl is) =
     let P : ℕ → Type 0 = λ p. d.digits < 10 ^ (9 + p) in
     (omega (arith, is.1), subst P (sym is.1) (whole_small text d.digits is.0))
 decimal_small text d (inr is) =
-    let all : list_all is_ascii_digit (is.0 ++ is.1) ≡ true = list_all-append is_ascii_digit is.0 is.1 ∙ and_from _ _ is.2.digits is.3.digits in
+    let all : list_all is_ascii_digit (is.0 ++ is.1) ≡ true = list_all-append is_ascii_digit is.0 is.1 ∙
+    and_from _ _ is.2.digits is.3.digits in
     let few : length (is.0 ++ is.1) ≤ 9 + d.places = omega (arith, length-append is.0 is.1, is.2.few, is.6) in
     let below : digits_value 10 (is.0 ++ is.1) < 10 ^ (9 + d.places) = digits_value_short own (is.0 ++ is.1) (9 + d.places) all few in
     (omega (arith, is.3.few, is.6), rw is.5 below)

@@ -1,6 +1,7 @@
 -- The texts of a request's parts need no escape, but for the `^` of a size.
 use Rattle.std.proofs.lemmas.Bool.{and_parts, and_from}
-use Rattle.std.proofs.Common.{◌≡◌, ◌≢◌, ℕ, ◌+◌, ◌/◌, ◌^◌, ◌<◌, ◌⊎◌, inl, inr, Bool, true, false, not, ◌&&◌, nat_lt, List, [], ◌∷◌, ◌++◌, refl, ap, subst, ◌∙◌, arith, map, decimal}
+use Rattle.std.proofs.Common.{◌≡◌, ◌≢◌, ℕ, ◌+◌, ◌/◌, ◌^◌, ◌<◌, ◌⊎◌, inl, inr, Bool, true, false, not, ◌&&◌, nat_lt, List, [], ◌∷◌, ◌++◌}
+use Rattle.std.proofs.Common.{refl, ap, subst, ◌∙◌, arith, map, decimal}
 use Rattle.std.specs.Prelude.{codes, if◌then◌else◌, ◌==◌, All, IsUtf8}
 use Rattle.std.specs.Char.{is_ascii_digit}
 use Rattle.std.specs.List.{AllZip, concat, list_all}
@@ -54,7 +55,8 @@ decimal_by d true small is =
 decimal_by d false small is =
     let whole = whole_plain (d.digits / 10 ^ d.places) (whole_part_small d small) in
     joined_plain (decimal (d.digits / 10 ^ d.places) ++ codes ".") (last_digits d.places d.digits)
-    (joined_plain (decimal (d.digits / 10 ^ d.places)) (codes ".") whole refl) (digits_plain (last_digits d.places d.digits) (last_digits_are d.places d.digits))
+    (joined_plain (decimal (d.digits / 10 ^ d.places)) (codes ".") whole refl)
+    (digits_plain (last_digits d.places d.digits) (last_digits_are d.places d.digits))
 
 decimal_plain : (d : Decimal) → IsSmallDecimal d → IsPlain (decimal_text d)
 unfolding decimal_text
@@ -74,7 +76,8 @@ region_plain (Percents x y w h) small =
     let a = codes "pct:" ++ decimal_text x in
     comma_plain (a ++ codes "," ++ decimal_text y ++ codes "," ++ decimal_text w) (decimal_text h)
     (comma_plain (a ++ codes "," ++ decimal_text y) (decimal_text w)
-    (comma_plain a (decimal_text y) (joined_plain (codes "pct:") (decimal_text x) refl (decimal_plain x small.0)) (decimal_plain y small.1)) (decimal_plain w small.2)) (decimal_plain h small.3)
+    (comma_plain a (decimal_text y) (joined_plain (codes "pct:") (decimal_text x) refl (decimal_plain x small.0)) (decimal_plain y small.1))
+    (decimal_plain w small.2)) (decimal_plain h small.3)
 
 pub form_plain : (f : Form) → IsSmallForm f → IsPlain (form_text f)
 form_plain Max small = refl
@@ -83,14 +86,16 @@ form_plain (Height h) small = joined_plain (codes ",") (decimal h) refl (whole_p
 form_plain (Percent n) small = joined_plain (codes "pct:") (decimal_text n) refl (decimal_plain n small)
 form_plain (Both w h) small = comma_plain (decimal w) (decimal h) (whole_plain w small.0) (whole_plain h small.1)
 form_plain (Within w h) small =
-    comma_plain (codes "!" ++ decimal w) (decimal h) (joined_plain (codes "!") (decimal w) refl (whole_plain w small.0)) (whole_plain h small.1)
+    comma_plain (codes "!" ++ decimal w) (decimal h) (joined_plain (codes "!") (decimal w) refl (whole_plain w small.0))
+    (whole_plain h small.1)
 
 mark_plain : (t : Bool) → IsPlain (mark t (codes "!"))
 mark_plain true = refl
 mark_plain false = refl
 
 pub rotation_plain : (t : Rotation) → IsSmallDecimal t.degrees → IsPlain (rotation_text t)
-rotation_plain t small = joined_plain (mark t.mirror (codes "!")) (decimal_text t.degrees) (mark_plain t.mirror) (decimal_plain t.degrees small)
+rotation_plain t small = joined_plain (mark t.mirror (codes "!")) (decimal_text t.degrees) (mark_plain t.mirror)
+    (decimal_plain t.degrees small)
 
 quality_plain : (q : Quality) → IsPlain (quality_text q)
 quality_plain Default = refl
@@ -145,8 +150,10 @@ caret_utf8 form plain = plain_utf8 (codes "^" ++ form) (joined_plain (codes "^")
 
 -- `%5E` stands for `^`
 pub size_segment : (up : Bool) (form : List ℕ) → IsPlain form → IsSegmentOf (mark up (codes "%5E") ++ form) (mark up (codes "^") ++ form)
-size_segment true form plain =
-    ((codes "%5E" ∷ map single form, ap (λ (t : List ℕ). codes "%5E" ++ t) (singles_joined form), (caret_stands, singles_stand form plain)), caret_utf8 form plain)
+size_segment true form plain = (
+  (codes "%5E" ∷ map single form, ap (λ (t : List ℕ). codes "%5E" ++ t) (singles_joined form), (caret_stands, singles_stand form plain)),
+  caret_utf8 form plain,
+)
 size_segment false form plain = plain_segment form plain
 
 pub size_lacks : (c : ℕ) → (c ≡ 47) ⊎ (c ≡ 63) → (up : Bool) (form : List ℕ) → IsPlain form → Lacks c (mark up (codes "%5E") ++ form)

@@ -1,5 +1,6 @@
 -- What holds of each request that isn't refused.
-use Rattle.std.proofs.Common.{◌≡◌, ℕ, ◌-◌, ◌<◌, ◌≤◌, Bool, true, false, ◌&&◌, ◌||◌, nat_lt, refl, subst, arith, Result, Ok, Err, if◌then◌else◌}
+use Rattle.std.proofs.Common.{◌≡◌, ℕ, ◌-◌, ◌<◌, ◌≤◌, Bool, true, false, ◌&&◌, ◌||◌, nat_lt, refl, subst, arith, Result, Ok, Err}
+use Rattle.std.proofs.Common.{if◌then◌else◌}
 use Rattle.std.specs.Prelude.{min, ◌==◌, not}
 use Rattle.std.proofs.lemmas.Bool.Decides.{nat_tests}
 use Rattle.iiif_pixel.specs.Geometry.{LiesIn}
@@ -69,7 +70,8 @@ sides_not_larger a b s e =
     let h : s.1 ≤ b = grind (arith, nat_tests) in
     (w, h)
 
-sides_within : (a b : ℕ) (l : Limits) (s : ℕ × ℕ) → (s.0 == 0 || s.1 == 0) ≡ false → (l.upscale ≡ false → is_larger a b s ≡ false) → is_above_limits l s ≡ false → (r : Dim)
+sides_within : (a b : ℕ) (l : Limits) (s : ℕ × ℕ) → (s.0 == 0 || s.1 == 0) ≡ false → (l.upscale ≡ false → is_larger a b s ≡ false) →
+    is_above_limits l s ≡ false → (r : Dim)
     → s.0 ≡ r.w → s.1 ≡ r.h → IsWithin a b l r
 sides_within a b l s z e m r w_is h_is =
     let w_some : 0 < s.0 = grind (arith, nat_tests) in
@@ -86,7 +88,8 @@ sides_within a b l s z e m r w_is h_is =
 
 checked_by : (up above may zero_side larger above_limits : Bool) (a b : ℕ) (l : Limits) (s : ℕ × ℕ) → l.upscale ≡ may
     → (s.0 == 0 || s.1 == 0) ≡ zero_side → is_larger a b s ≡ larger → is_above_limits l s ≡ above_limits → (r : Dim)
-    → (if zero_side then Err Zero else (if not up && (larger || above) then Err Larger else (if up && not may && larger then Err Upscale else (
+    → (if zero_side then Err Zero else (if not up && (larger || above) then Err Larger else
+    (if up && not may && larger then Err Upscale else (
     if above_limits then Err Limit else Ok (record { w = s.0; h = s.1 }))))) ≡ Ok r → IsWithin a b l r
 checked_by up above may true larger above_limits a b l s u z e m r is = cc
 checked_by false true may false true above_limits a b l s u z e m r is = cc
@@ -124,7 +127,8 @@ plain_plain k Bitonal = refl
 
 by_size : (d : Dim) (k : Kind) (l : Limits) (q : Request) (rect : Rect) (s : Result Dim Refusal) (r : Resolved) → IsPart d rect
     → ((size : Dim) → s ≡ Ok size → IsWithin rect.w rect.h l size)
-    → (s >>= (λ size. Ok (record { rect = rect; size = size; turn = turn_of q.rotation; quality = plain_quality k q.quality }))) ≡ Ok r → IsResolved d k l r
+    → (s >>= (λ size. Ok (record { rect = rect; size = size; turn = turn_of q.rotation; quality = plain_quality k q.quality }))) ≡ Ok r →
+    IsResolved d k l r
 by_size d k l q rect (Err e) r part within is = cc
 by_size d k l q rect (Ok size) r part within is =
     let found : Resolved = record { rect = rect; size = size; turn = turn_of q.rotation; quality = plain_quality k q.quality } in
@@ -143,11 +147,13 @@ by_size d k l q rect (Ok size) r part within is =
 
 by_region : (d : Dim) (k : Kind) (l : Limits) (q : Request) (g : Result Rect Refusal) (r : Resolved)
     → ((rect : Rect) → g ≡ Ok rect → IsPart d rect)
-    → (g >>= (λ rect. size_of q.size rect.w rect.h l >>= (λ size. Ok (record { rect = rect; size = size; turn = turn_of q.rotation; quality = plain_quality k q.quality })))) ≡ Ok r
+    → (g >>= (λ rect. size_of q.size rect.w rect.h l >>=
+    (λ size. Ok (record { rect = rect; size = size; turn = turn_of q.rotation; quality = plain_quality k q.quality })))) ≡ Ok r
     → IsResolved d k l r
 by_region d k l q (Err e) r part is = cc
 by_region d k l q (Ok rect) r part is =
-    by_size d k l q rect (size_of q.size rect.w rect.h l) r (part rect refl) (λ size found. size_within q.size rect.w rect.h l size found) is
+    by_size d k l q rect (size_of q.size rect.w rect.h l) r (part rect refl) (λ size found. size_within q.size rect.w rect.h l size found)
+    is
 
 -- what a request comes to, where it isn't refused
 pub resolved_is : (q : Request) (d : Dim) (k : Kind) (l : Limits) (r : Resolved) → resolved_of q d k l ≡ Ok r → IsResolved d k l r

@@ -17,7 +17,8 @@ use Rattle.iiif_canonical.proofs.ImageLemmas.{image_resolved}
 use Rattle.iiif_canonical.proofs.ResolutionLemmas.{resolved_is}
 
 -- the image of the canonical form is that of what it was written for
-pub image_canonical_of : (p : Picture) (r : Resolved) (d : Dim) (k : Kind) (l : Limits) → IsResolved d k l r → dim_of p ≡ d → p.channels ≡ channels_of k
+pub image_canonical_of : (p : Picture) (r : Resolved) (d : Dim) (k : Kind) (l : Limits) → IsResolved d k l r → dim_of p ≡ d →
+    p.channels ≡ channels_of k
     → image p (canonical_of r d l) l ≡ Ok (resolved_image p r)
 image_canonical_of p r d k l is sides channels =
     image_resolved p (canonical_of r d l) d k l (Ok r) sides channels (sym (resolves_back r d k l is))

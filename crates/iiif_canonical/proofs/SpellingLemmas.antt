@@ -121,7 +121,8 @@ spelled q is = record {
   format = refl;
 }
 
-region_by : (d : Dim) (r : Rect) (t : Bool) → LiesIn r d → d.w < 10 ^ 9 → d.h < 10 ^ 9 → IsSmallRegion (if t then Full else Pixels r.x r.y r.w r.h)
+region_by : (d : Dim) (r : Rect) (t : Bool) → LiesIn r d → d.w < 10 ^ 9 → d.h < 10 ^ 9 →
+    IsSmallRegion (if t then Full else Pixels r.x r.y r.w r.h)
 region_by d r true inside w h = tt
 region_by d r false inside w h =
     (omega (arith, inside.columns), omega (arith, inside.rows), omega (arith, inside.columns), omega (arith, inside.rows))
@@ -131,7 +132,8 @@ form_by s true w h = tt
 form_by s false w h = (w, h)
 
 -- the sides of a result have nine digits at most
-sides_short : (may : Bool) (r : Resolved) (d : Dim) (k : Kind) (l : Limits) → l.upscale ≡ may → IsResolved d k l r → HasShortSides d l → (r.size.w < 10 ^ 9) × (r.size.h < 10 ^ 9)
+sides_short : (may : Bool) (r : Resolved) (d : Dim) (k : Kind) (l : Limits) → l.upscale ≡ may → IsResolved d k l r → HasShortSides d l →
+    (r.size.w < 10 ^ 9) × (r.size.h < 10 ^ 9)
 sides_short true r d k l u is short =
     let limits = short.limits u in
     (omega (arith, limits.0, is.within_limits), omega (arith, limits.1, is.within_limits))
@@ -140,7 +142,8 @@ sides_short false r d k l u is short =
     (omega (arith, region.0, is.inside.columns, short.image), omega (arith, region.1, is.inside.rows, short.image))
 
 -- the canonical form of a request, where no side has more than nine digits
-pub canonical_spelled : (r : Resolved) (d : Dim) (k : Kind) (l : Limits) → IsResolved d k l r → HasShortSides d l → CanBeSpelled (canonical_of r d l)
+pub canonical_spelled : (r : Resolved) (d : Dim) (k : Kind) (l : Limits) → IsResolved d k l r → HasShortSides d l →
+    CanBeSpelled (canonical_of r d l)
 unfolding canonical_of canonical_region canonical_size
 canonical_spelled r d k l is sides =
     let c = canonical_of r d l in

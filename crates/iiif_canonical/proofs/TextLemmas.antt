@@ -12,9 +12,11 @@ use Rattle.iiif_request.specs.Spells.{mark}
 use Rattle.iiif_request.specs.Targets.{Lacks, IsSegmentOf, IsCut, image, AsksFor}
 use Rattle.iiif_request.specs.declared.request.Request.{Request}
 use Rattle.iiif_canonical.specs.Escapes.{escaped}
-use Rattle.iiif_canonical.specs.Texts.{region_text, form_text, size_text, rotation_text, quality_text, text_of, image_uri_of, uri_of, CanBeSpelled, IsTextOf, LeadsTo}
+use Rattle.iiif_canonical.specs.Texts.{region_text, form_text, size_text, rotation_text, quality_text, text_of, image_uri_of, uri_of}
+use Rattle.iiif_canonical.specs.Texts.{CanBeSpelled, IsTextOf, LeadsTo}
 use Rattle.iiif_canonical.proofs.EscapeLemmas.{escaped_no_slash, escaped_no_query, escaped_decodes}
-use Rattle.iiif_canonical.proofs.PlainTexts.{all_from, region_plain, form_plain, rotation_plain, last_plain, plain_lacks, plain_segment, size_segment, size_lacks}
+use Rattle.iiif_canonical.proofs.PlainTexts.{all_from, region_plain, form_plain, rotation_plain, last_plain, plain_lacks, plain_segment}
+use Rattle.iiif_canonical.proofs.PlainTexts.{size_segment, size_lacks}
 use Rattle.iiif_canonical.proofs.SpellingLemmas.{IsSpellable, spellable, words_of, spelled}
 
 -- the last segment, and what it stands for
@@ -23,12 +25,15 @@ last_text q = quality_text q ++ codes ".tif"
 
 last_segment : (q : Quality) → IsSegmentOf (last_text q) (quality_text q ++ codes "." ++ codes "tif")
 last_segment q =
-    subst (λ (t : List ℕ). IsSegmentOf (last_text q) t) (sym (append_assoc (quality_text q) (codes ".") (codes "tif"))) (plain_segment (last_text q) (last_plain q))
+    subst (λ (t : List ℕ). IsSegmentOf (last_text q) t) (sym (append_assoc (quality_text q) (codes ".") (codes "tif")))
+    (plain_segment (last_text q) (last_plain q))
 
-text_joined : (q : Request) → text_of q ≡ region_text q.region ++ codes "/" ++ size_text q.size ++ codes "/" ++ rotation_text q.rotation ++ codes "/" ++ last_text q.quality
+text_joined : (q : Request) → text_of q ≡ region_text q.region ++ codes "/" ++ size_text q.size ++ codes "/" ++ rotation_text q.rotation ++
+    codes "/" ++ last_text q.quality
 unfolding text_of
 text_joined q =
-    append_assoc (region_text q.region ++ codes "/" ++ size_text q.size ++ codes "/" ++ rotation_text q.rotation ++ codes "/") (quality_text q.quality) (codes ".tif")
+    append_assoc (region_text q.region ++ codes "/" ++ size_text q.size ++ codes "/" ++ rotation_text q.rotation ++ codes "/")
+    (quality_text q.quality) (codes ".tif")
 
 text_is : (q : Request) → IsSpellable q → IsTextOf q (text_of q)
 text_is q is =
@@ -90,22 +95,27 @@ path_lacks prefix id q is prefix_lacks =
     let last = plain_lacks 63 (inr (inr refl)) (last_text q.quality) (last_plain q.quality) in
     let turned = between (rotation_text q.rotation) (last_text q.quality) rotation last in
     let sized = between (size_text q.size) (rotation_text q.rotation ++ (47 ∷ last_text q.quality)) size turned in
-    let cropped = between (region_text q.region) (size_text q.size ++ (47 ∷ (rotation_text q.rotation ++ (47 ∷ last_text q.quality)))) region sized in
-    let named = between (escaped id) (region_text q.region ++ (47 ∷ (size_text q.size ++ (47 ∷ (rotation_text q.rotation ++ (47 ∷ last_text q.quality)))))) (escaped_no_query id) cropped in
-    let slash : prefix ++ codes "/" ++ join_with_byte 47 (segments_of id q) ≡ prefix ++ (47 ∷ join_with_byte 47 (segments_of id q)) = append_assoc prefix (codes "/") (join_with_byte 47 (segments_of id q)) in
+    let cropped = between (region_text q.region) (size_text q.size ++ (47 ∷ (rotation_text q.rotation ++ (47 ∷ last_text q.quality))))
+    region sized in
+    let named = between (escaped id) (region_text q.region ++
+    (47 ∷ (size_text q.size ++ (47 ∷ (rotation_text q.rotation ++ (47 ∷ last_text q.quality)))))) (escaped_no_query id) cropped in
+    let slash : prefix ++ codes "/" ++ join_with_byte 47 (segments_of id q) ≡ prefix ++ (47 ∷ join_with_byte 47 (segments_of id q)) =
+    append_assoc prefix (codes "/") (join_with_byte 47 (segments_of id q)) in
     subst (Lacks 63) (sym slash) (between prefix (join_with_byte 47 (segments_of id q)) prefix_lacks named)
 
 segments_part : (id : List ℕ) (q : Request) → IsSpellable q → All (Lacks 47) (segments_of id q)
 unfolding segments_of
 segments_part id q is =
-    All-cons (Lacks 47) (escaped id) (region_text q.region ∷ size_text q.size ∷ rotation_text q.rotation ∷ last_text q.quality ∷ []) (escaped_no_slash id)
+    All-cons (Lacks 47) (escaped id) (region_text q.region ∷ size_text q.size ∷ rotation_text q.rotation ∷ last_text q.quality ∷ [])
+    (escaped_no_slash id)
     (All-cons (Lacks 47) (region_text q.region) (size_text q.size ∷ rotation_text q.rotation ∷ last_text q.quality ∷ [])
     (plain_lacks 47 (inr (inl refl)) (region_text q.region) (region_plain q.region is.small.region))
     (All-cons (Lacks 47) (size_text q.size) (rotation_text q.rotation ∷ last_text q.quality ∷ [])
     (size_lacks 47 (inl refl) q.size.up (form_text q.size.form) (form_plain q.size.form is.small.size))
     (All-cons (Lacks 47) (rotation_text q.rotation) (last_text q.quality ∷ [])
     (plain_lacks 47 (inr (inl refl)) (rotation_text q.rotation) (rotation_plain q.rotation is.small.degrees))
-    (All-cons (Lacks 47) (last_text q.quality) [] (plain_lacks 47 (inr (inl refl)) (last_text q.quality) (last_plain q.quality)) (All-nil (Lacks 47))))))
+    (All-cons (Lacks 47) (last_text q.quality) [] (plain_lacks 47 (inr (inl refl)) (last_text q.quality) (last_plain q.quality))
+    (All-nil (Lacks 47))))))
 
 -- a base is an origin and a prefix: the URI is the origin and the path
 regrouped : (o p e r s t l : List ℕ)
@@ -129,7 +139,8 @@ leads base id q is bytes utf8 some origin prefix parts no_query =
     } in
     let asks : AsksFor prefix path (image id (words_of q)) = record {
       raw = segments_of id q;
-      segments = id ∷ region_text q.region ∷ (mark q.size.up (codes "^") ++ form_text q.size.form) ∷ rotation_text q.rotation ∷ (quality_text q.quality ++ codes "." ++ codes "tif") ∷ [];
+      segments = id ∷ region_text q.region ∷ (mark q.size.up (codes "^") ++ form_text q.size.form) ∷ rotation_text q.rotation ∷
+          (quality_text q.quality ++ codes "." ++ codes "tif") ∷ [];
       cut = cut;
       decoded = (
         (escaped_decodes id bytes, utf8),
@@ -152,5 +163,7 @@ leads base id q is bytes utf8 some origin prefix parts no_query =
     ∙ regrouped origin prefix (escaped id) (region_text q.region) (size_text q.size) (rotation_text q.rotation) (last_text q.quality) in
     (path, whole, (words_of q, asks, spelled q is))
 
-pub written_leads : (base id : List ℕ) (q : Request) (uri : List ℕ) → CanBeSpelled q → All IsByte id → IsUtf8 id → id ≢ [] → uri ≡ uri_of base id q → LeadsTo base id q uri
-written_leads base id q uri can bytes utf8 some is = subst (λ (t : List ℕ). LeadsTo base id q t) (sym is) (leads base id q (spellable q can) bytes utf8 some)
+pub written_leads : (base id : List ℕ) (q : Request) (uri : List ℕ) → CanBeSpelled q → All IsByte id → IsUtf8 id → id ≢ [] →
+    uri ≡ uri_of base id q → LeadsTo base id q uri
+written_leads base id q uri can bytes utf8 some is =
+    subst (λ (t : List ℕ). LeadsTo base id q t) (sym is) (leads base id q (spellable q can) bytes utf8 some)

@@ -1,7 +1,8 @@
 //! The text of a request: IIIF Image API 3.0, sections 2.1 and 9.
 ghost use Rattle.std.specs.Prelude.{◌≡◌, ◌++◌, IfOk, OnOk, string_bytes};
 ghost use Rattle.iiif_request.specs.Requests.{IsShort, IsShortRegion, IsShortForm, HasShortDecimals};
-ghost use Rattle.iiif_canonical.specs.Texts.{last_digits, decimal_text, region_text, form_text, size_text, rotation_text, quality_text, text_of, CanBeSpelled, IsTextOf};
+ghost use Rattle.iiif_canonical.specs.Texts.{last_digits, decimal_text, region_text, form_text, size_text, rotation_text, quality_text};
+ghost use Rattle.iiif_canonical.specs.Texts.{text_of, CanBeSpelled, IsTextOf};
 
 use iiif_pixel::{NoMemory, Quality};
 use iiif_request::{Decimal, Form, Region, Request, Rotation, Size};

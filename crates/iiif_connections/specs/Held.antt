@@ -31,12 +31,14 @@ RepliesOfHeld bytes settings items target = Replies bytes always true settings i
 
 -- The text may be sent of that part of the answer to a target, with that result: of an accepted request's image nothing else than
 -- the image, or what is said where memory is wanting.
-abbrev pub AllowedOfHeld : {S : Type 0} → (S → List ℕ) → Settings → List (Item S) → Part → List ℕ → Type 0 → List ℕ → Result Sent cut.Cut → Type 0
+abbrev pub AllowedOfHeld : {S : Type 0} → (S → List ℕ) → Settings → List (Item S) → Part → List ℕ → Type 0 → List ℕ → Result Sent cut.Cut →
+    Type 0
 AllowedOfHeld bytes settings items part target writer text result =
     Allowed settings part never (RepliesOfHeld bytes settings items target) writer text result
 
 -- the same of the answer to a call
-abbrev pub AllowedOfHeldCall : {S : Type 0} → (S → List ℕ) → Settings → List (Item S) → List ℕ → List ℕ → Bool → Type 0 → List ℕ → Result Sent cut.Cut → Type 0
+abbrev pub AllowedOfHeldCall : {S : Type 0} → (S → List ℕ) → Settings → List (Item S) → List ℕ → List ℕ → Bool → Type 0 → List ℕ →
+    Result Sent cut.Cut → Type 0
 AllowedOfHeldCall bytes settings items method target close writer text result =
     Allowed settings (part_of method close) never (RepliesToCall bytes always true settings items method target) writer text result
 

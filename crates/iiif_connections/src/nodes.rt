@@ -96,7 +96,8 @@ fn stock<'p, J: System>(
     })
 }
 
-/// A node that asks the watcher's others for the values of the keys that they own, whose groups have room for so many bytes each. The names of
+/// A node that asks the watcher's others for the values of the keys that they own, whose groups have room for so many bytes each. The names
+/// of
 /// the nodes are at most 64, and each stands once. The watcher is told of the asks. The only error is want of memory.
 pub fn among<'p, R: Opens + Wait, J: System>(
     alloc: Global,
@@ -109,7 +110,8 @@ pub fn among<'p, R: Opens + Wait, J: System>(
 ) -> Result<Node<R, Stored<R>, J, TcpLink<'p, J>>, NoMemory>
     requires pictures { (name : List ℕ) → J.pictures name ≡ pictures_of (bytes_of R.holds) catalogue name }
     requires gave { (name : List ℕ) (f : ReadFault) → J.gave name f ≡ gave_of stored_gave catalogue name f }
-    requires stable { (name : List ℕ) (item : _) → item_named catalogue name ≡ Some item → J.stable name → ∥ keeps_of R.keeps item.source ∥₁ }
+    requires stable { (name : List ℕ) (item : _) → item_named catalogue name ≡ Some item → J.stable name →
+        ∥ keeps_of R.keeps item.source ∥₁ }
     requires kept { (name : List ℕ) (item : _) → item_named catalogue name ≡ Some item → keeps_of R.keeps item.source → J.stable name }
     requires edge { config.edge ≡ J.edge }
     requires honest { J.honest ≡ false }

@@ -87,8 +87,10 @@ where
         true
     }
 
-    /// Answers the calls of a connection in order, over any reader and writer. It says whether passes for its workers were there: where they
-    /// are wanting, nothing is answered. Of a node that holds all its images in memory and asks no other, nothing is assumed in what is said
+    /// Answers the calls of a connection in order, over any reader and writer. It says whether passes for its workers were there: where
+    /// they
+    /// are wanting, nothing is answered. Of a node that holds all its images in memory and asks no other, nothing is assumed in what is
+    /// said
     /// of its answers.
     pub fn serve_over<I: Inlet + Drop, W: Outlet>(
         &self,
@@ -102,13 +104,15 @@ where
         ensures serves { AllHeld self.now.node.now.items → J.honest ≡ true → result ≡ true
             → IfSome (I.remaining reader) (λ input. (output : List ℕ) × Appends (W.contents out.old) (W.contents out.new) output
             × ((came : List ℕ) × IsCame ((before after : I) × I.fails before after) input came
-            × IsConnection (terms_of_held (bytes_of R.holds) self.now.node.now.settings self.now.node.now.items ((before after : I) × I.fails before after) ((before : W) × W.fails before out.new))
+            × IsConnection (terms_of_held (bytes_of R.holds) self.now.node.now.settings self.now.node.now.items
+            ((before after : I) × I.fails before after) ((before : W) × W.fails before out.new))
             came output)) }
 
         // Where they are not, as at a socket, it is that for the bytes that came.
         ensures came { AllHeld self.now.node.now.items → J.honest ≡ true → result ≡ true
             → (came : List ℕ) × (output : List ℕ) × Appends (W.contents out.old) (W.contents out.new) output
-            × IsConnection (terms_of_held (bytes_of R.holds) self.now.node.now.settings self.now.node.now.items ((before after : I) × I.fails before after) ((before : W) × W.fails before out.new))
+            × IsConnection (terms_of_held (bytes_of R.holds) self.now.node.now.settings self.now.node.now.items
+            ((before after : I) × I.fails before after) ((before : W) × W.fails before out.new))
             came output }
         ensures unanswered { result ≡ false → out.new ≡ out.old }
     {

@@ -189,7 +189,8 @@ where
     J: System + Send + Sync,
     requires pictures { (name : List ℕ) → J.pictures name ≡ pictures_of (bytes_of R.holds) catalogue name }
     requires gave { (name : List ℕ) (f : ReadFault) → J.gave name f ≡ gave_of stored_gave catalogue name f }
-    requires stable { (name : List ℕ) (item : _) → item_named catalogue name ≡ Some item → J.stable name → ∥ keeps_of R.keeps item.source ∥₁ }
+    requires stable { (name : List ℕ) (item : _) → item_named catalogue name ≡ Some item → J.stable name →
+        ∥ keeps_of R.keeps item.source ∥₁ }
     requires kept { (name : List ℕ) (item : _) → item_named catalogue name ≡ Some item → keeps_of R.keeps item.source → J.stable name }
     requires edge { config.edge ≡ J.edge }
     requires tiles { (tiles.name ≡ J.tiles_name) × (tiles.parts ≡ J.tiles_parts) × (J.tiles_parts ≡ 65537) }
@@ -216,7 +217,8 @@ where
     J: System + Send + Sync,
     requires pictures { (name : List ℕ) → J.pictures name ≡ pictures_of (bytes_of R.holds) catalogue name }
     requires gave { (name : List ℕ) (f : ReadFault) → J.gave name f ≡ gave_of stored_gave catalogue name f }
-    requires stable { (name : List ℕ) (item : _) → item_named catalogue name ≡ Some item → J.stable name → ∥ keeps_of R.keeps item.source ∥₁ }
+    requires stable { (name : List ℕ) (item : _) → item_named catalogue name ≡ Some item → J.stable name →
+        ∥ keeps_of R.keeps item.source ∥₁ }
     requires kept { (name : List ℕ) (item : _) → item_named catalogue name ≡ Some item → keeps_of R.keeps item.source → J.stable name }
     requires edge { config.edge ≡ J.edge }
     requires honest { J.honest ≡ false }

@@ -10,7 +10,8 @@ use Rattle.iiif_planner.specs.declared.plans.Plan.TheVariants.{Copy, Grow, Sum}
 use Rattle.iiif_assemble.specs.Faults.{IsBandFault, IsSumsFault}
 
 -- that of a plan of blocks is one of the band
-pub blocks_fault : (tile : TileKey → TileVal → Type 0) (tile_failed : TileKey → Fault → Type 0) (sum : SumKey → SumVal → Type 0) (sum_failed : SumKey → Fault → Type 0) (plan : Plan) (items : List ℕ) (fault : Fault)
+pub blocks_fault : (tile : TileKey → TileVal → Type 0) (tile_failed : TileKey → Fault → Type 0) (sum : SumKey → SumVal → Type 0)
+    (sum_failed : SumKey → Fault → Type 0) (plan : Plan) (items : List ℕ) (fault : Fault)
     → IsSumsFault sum sum_failed plan items fault → IsBandFault tile tile_failed sum sum_failed plan items fault
 blocks_fault tile tile_failed sum sum_failed (Copy keys) items fault h = absurd h
 blocks_fault tile tile_failed sum sum_failed (Grow keys) items fault h = absurd h

@@ -28,7 +28,8 @@ use Rattle.iiif_delivery.specs.Code.{with_rows, HasText, IsBandFor}
 -- ---- A picture with other rows
 
 -- above them it has its own
-sample_above : (p : Picture) (y : ℕ) (b : Picture) (u v k : ℕ) → u < p.width → v < p.height → k < p.channels → v < y → sample_at (with_rows p y b) u v k ≡ sample_at p u v k
+sample_above : (p : Picture) (y : ℕ) (b : Picture) (u v k : ℕ) → u < p.width → v < p.height → k < p.channels → v < y →
+    sample_at (with_rows p y b) u v k ≡ sample_at p u v k
 unfolding with_rows
 sample_above p y b u v k lu lv lk above =
     let first : ltb v y ≡ true = lt-ltb _ _ above in
@@ -52,7 +53,8 @@ rows_above p y b within =
     (λ u v k lu lv lk. sample_above p y b (0 + u) (0 + v) k (omega arith) (omega arith) lk (omega arith))
 
 -- and there are the others
-rows_there : (p : Picture) (y : ℕ) (b : Picture) → IsWhole b → b.width ≡ p.width → b.channels ≡ p.channels → b.top ≡ p.top → y + b.height ≤ p.height →
+rows_there : (p : Picture) (y : ℕ) (b : Picture) → IsWhole b → b.width ≡ p.width → b.channels ≡ p.channels → b.top ≡ p.top →
+    y + b.height ≤ p.height →
     band (with_rows p y b) y b.height ≡ b
 unfolding with_rows crop_at
 rows_there p y b whole width channels top within =
@@ -62,7 +64,8 @@ rows_there p y b whole width channels top within =
 
 -- its own rows in place of its own change nothing
 own_sample : (p : Picture) (y n u v k : ℕ) → u < p.width → k < p.channels →
-    (if ltb v y then sample_at p u v k else (if ltb v (y + n) then sample_at (crop p (record { x = 0; y = y; w = p.width; h = n })) u (v - y) k else sample_at p u v k)) ≡ sample_at p u v k
+    (if ltb v y then sample_at p u v k else (if ltb v (y + n) then sample_at (crop p (record { x = 0; y = y; w = p.width; h = n })) u
+    (v - y) k else sample_at p u v k)) ≡ sample_at p u v k
 own_sample p y n u v k lu lk = elim (cases_lt v y) [
   | inl above ↦ let first : ltb v y ≡ true = lt-ltb _ _ above in rw first refl
   | inr below ↦
@@ -85,10 +88,12 @@ rows_same p y n whole =
 
 -- ---- Texts
 
-module _ (shows : Pictures) (j : Job) (tile_means : TileKey → TileVal → Type 0) (sum_means : SumKey → SumVal → Type 0) (kind : OutKind) (start : List ℕ)
+module _ (shows : Pictures) (j : Job) (tile_means : TileKey → TileVal → Type 0) (sum_means : SumKey → SumVal → Type 0) (kind : OutKind)
+    (start : List ℕ)
     (fits : channels_in j.resolved.quality (channels_of j.shape.kind) ≡ samples_per_pixel kind)
     (more : StripOfMoreRows) (all_rows : StripOfAllRows)
-    (whole : IsWhole (resolved_image (named shows j.name) j.resolved)) (sides : dim_of (resolved_image (named shows j.name) j.resolved) ≡ result_dim j) where
+    (whole : IsWhole (resolved_image (named shows j.name) j.resolved))
+    (sides : dim_of (resolved_image (named shows j.name) j.resolved) ≡ result_dim j) where
   asked : Picture
   asked = resolved_image (named shows j.name) j.resolved
 
@@ -114,7 +119,8 @@ module _ (shows : Pictures) (j : Job) (tile_means : TileKey → TileVal → Type
   }
 
   -- a band behind the rows above it
-  pub more_text : (all : List ℕ) (b : Picture) (y n : ℕ) → y + n ≤ (result_dim j).h → HasText shows j tile_means sum_means kind start all y →
+  pub more_text : (all : List ℕ) (b : Picture) (y n : ℕ) → y + n ≤ (result_dim j).h →
+      HasText shows j tile_means sum_means kind start all y →
       IsBandFor j tile_means sum_means (record { x = 0; y = y; w = (result_dim j).w; h = n }) b →
       HasText shows j tile_means sum_means kind start (all ++ strip kind b) (y + n)
   more_text all b y n within has is_band =
@@ -127,7 +133,8 @@ module _ (shows : Pictures) (j : Job) (tile_means : TileKey → TileVal → Type
       let wide : b.width ≡ image.width = ap (λ (d : Dim). d.w) is_band.sides ∙ sym width in
       let above : band next 0 y ≡ band image 0 y = rows_above image y b (omega arith) in
       let there : band next y b.height ≡ b =
-      rows_there image y b is_band.whole wide (is_band.channels ∙ sym has.is_for.channels) (is_band.top ∙ sym has.is_for.top) (omega arith) in
+      rows_there image y b is_band.whole wide (is_band.channels ∙ sym has.is_for.channels) (is_band.top ∙ sym has.is_for.top) (omega arith)
+      in
       let down : band next (0 + y) n ≡ b = ap (λ i. band next i n) (omega arith) ∙ ap (band next y) (sym tall) ∙ there in
       let cut : strip kind (band next 0 (y + n)) ≡ strip kind (band image 0 y) ++ strip kind b =
       more next kind 0 y n (is_for.channels ∙ fits) ∙ ap (λ p. strip kind p ++ strip kind (band next (0 + y) n)) above
@@ -151,7 +158,8 @@ module _ (shows : Pictures) (j : Job) (tile_means : TileKey → TileVal → Type
       let rest = strip kind (band image (0 + y) n) in
       let total : image.height ≡ y + n = omega arith in
       let cut : strip kind image ≡ strip kind (band image 0 y) ++ rest =
-      sym (all_rows image kind (has.is_for.channels ∙ fits)) ∙ ap (λ m. strip kind (band image 0 m)) total ∙ more image kind 0 y n (has.is_for.channels ∙ fits) in
+      sym (all_rows image kind (has.is_for.channels ∙ fits)) ∙ ap (λ m. strip kind (band image 0 m)) total ∙
+      more image kind 0 y n (has.is_for.channels ∙ fits) in
       let head = head_of kind (result_dim j) in
       let front = start ++ head in (
         rest,

@@ -1,5 +1,6 @@
 -- The steps of an image that is sent band by band.
-use Rattle.std.proofs.Common.{◌≡◌, ℕ, ◌+◌, ◌*◌, ◌%◌, ◌<◌, ◌≤◌, ◌⊎◌, ◌==◌, eqb, min, max, Bool, true, false, List, [], ◌++◌, length, get_or, take, inl, inr, ⊎_elim, refl, sym, ap, subst, ◌∙◌, arith, append_assoc, length-append, Option}
+use Rattle.std.proofs.Common.{◌≡◌, ℕ, ◌+◌, ◌*◌, ◌%◌, ◌<◌, ◌≤◌, ◌⊎◌, ◌==◌, eqb, min, max, Bool, true, false, List, [], ◌++◌, length, get_or}
+use Rattle.std.proofs.Common.{take, inl, inr, ⊎_elim, refl, sym, ap, subst, ◌∙◌, arith, append_assoc, length-append, Option}
 use Rattle.std.specs.Prelude.{if◌then◌else◌}
 use Rattle.std.specs.Int.{div_ceil}
 use Rattle.std.specs.Io.KnownBytes.{Appends}
@@ -53,7 +54,8 @@ asked_whole laws p r whole =
 
 asked_sides : Laws → (p : Picture) (r : Resolved) → IsWhole p → r.turn.quarters < 4 → dim_of (resolved_image p r) ≡ turned_dim r.turn r.size
 asked_sides laws p r whole few =
-    sym (ap dim_of (all_rows laws.rows laws.crops laws.scales laws.turns laws.qualities p r (whole_of (turned_dim r.turn r.size)) whole few refl))
+    sym (ap dim_of (all_rows laws.rows laws.crops laws.scales laws.turns laws.qualities p r (whole_of (turned_dim r.turn r.size)) whole few
+    refl))
 
 asked_channels : (p : Picture) (r : Resolved) → r.turn.quarters < 4 → (resolved_image p r).channels ≡ channels_in r.quality p.channels
 unfolding resolved_image
@@ -70,14 +72,16 @@ asked_top p r =
 -- ---- Bands in their order
 
 -- how many there are
-count_of_bands : (r : Resolved) (plan : Plan) (rows : ℕ) (bs : List Band) → AreBands r plan rows bs → length bs ≡ div_ceil (turned_dim r.turn r.size).h rows
+count_of_bands : (r : Resolved) (plan : Plan) (rows : ℕ) (bs : List Band) → AreBands r plan rows bs →
+    length bs ≡ div_ceil (turned_dim r.turn r.size).h rows
 count_of_bands r plan rows bs are =
     let d = turned_dim r.turn r.size in
     let rect : Band → Rect = λ b. b.rect in
     sym (length-map bs rect) ∙ ap length are.rects ∙ length-map-range_with_len (band_rect d rows) 0 (div_ceil d.h rows)
 
 -- and where each stands
-pub band_at : (r : Resolved) (plan : Plan) (rows : ℕ) (bs : List Band) (i : ℕ) (b : Band) → AreBands r plan rows bs → i < length bs → get_or bs i b ≡ b →
+pub band_at : (r : Resolved) (plan : Plan) (rows : ℕ) (bs : List Band) (i : ℕ) (b : Band) → AreBands r plan rows bs → i < length bs →
+    get_or bs i b ≡ b →
     b.rect ≡ band_rect (turned_dim r.turn r.size) rows i
 band_at r plan rows bs i b are within is =
     let d = turned_dim r.turn r.size in
@@ -87,7 +91,8 @@ band_at r plan rows bs i b are within is =
     ap rect (sym is) ∙ sym (get_or-map rect bs i b b.rect within) ∙ ap (λ rs. get_or rs i b.rect) are.rects
     ∙ get_or-map-range_with_len (band_rect d rows) 0 n i i b.rect counted (omega arith)
 
-pub band_above : (r : Resolved) (plan : Plan) (rows : ℕ) (bs : List Band) (i : ℕ) → 0 < rows → AreBands r plan rows bs → i < length bs → i * rows < (turned_dim r.turn r.size).h
+pub band_above : (r : Resolved) (plan : Plan) (rows : ℕ) (bs : List Band) (i : ℕ) → 0 < rows → AreBands r plan rows bs → i < length bs →
+    i * rows < (turned_dim r.turn r.size).h
 band_above r plan rows bs i some are within =
     last_met rows (turned_dim r.turn r.size).h i some (omega (arith, count_of_bands r plan rows bs are))
 
@@ -118,7 +123,8 @@ offset_some Rgb16 = omega arith
 pub length_front : (start : List ℕ) (k : OutKind) (d : Dim) → length (start ++ head_of k d) ≡ length start + strip_offset k
 length_front start k d = length-append start (head_of k d) ∙ ap (λ n. length start + n) (length-head_of k d)
 
-pub length_whole : (start : List ℕ) (k : OutKind) (p : Picture) (d : Dim) → dim_of p ≡ d → length (start ++ file p k) ≡ length start + file_len k d
+pub length_whole : (start : List ℕ) (k : OutKind) (p : Picture) (d : Dim) → dim_of p ≡ d →
+    length (start ++ file p k) ≡ length start + file_len k d
 length_whole start k p d sides = length-append start (file p k) ∙ ap (λ n. length start + n) (length-file k p ∙ ap (file_len k) sides)
 
 -- rows above the last leave a byte
@@ -132,7 +138,8 @@ rows_short k w y h some above =
 -- ---- Counts
 
 -- where something is held a band was made; where nothing is, none was
-pub counted_len : (j : Job) (kind : OutKind) (front rows : ℕ) (text : List ℕ) (sent held y all : ℕ) → HasCounted j kind front rows text sent held y → 0 < held →
+pub counted_len : (j : Job) (kind : OutKind) (front rows : ℕ) (text : List ℕ) (sent held y all : ℕ) →
+    HasCounted j kind front rows text sent held y → 0 < held →
     all ≡ sent + length text → (0 < y) × (all ≡ len_with kind front (result_dim j).w y)
 counted_len j kind front rows text sent held y all counted some is = elim counted.begun [
   | inl none ↦ absurd (omega (arith, none.2, some))
@@ -143,7 +150,8 @@ counted_len j kind front rows text sent held y all counted some is = elim counte
       (above, rw later (omega (arith, t, is)))
 ]
 
-pub counted_none : (j : Job) (kind : OutKind) (front rows : ℕ) (text : List ℕ) (sent held y : ℕ) → HasCounted j kind front rows text sent held y → held ≡ 0 →
+pub counted_none : (j : Job) (kind : OutKind) (front rows : ℕ) (text : List ℕ) (sent held y : ℕ) →
+    HasCounted j kind front rows text sent held y → held ≡ 0 →
     0 < (result_dim j).w → (y ≡ 0) × (sent ≡ 0)
 counted_none j kind front rows text sent held y counted zero some = elim counted.begun [
   | inl none ↦ (none.0, none.1)
@@ -153,7 +161,8 @@ counted_none j kind front rows text sent held y counted zero some = elim counted
       absurd (omega (arith, begun.1, zero, one, channels_some j.shape.kind))
 ]
 
-pub counted_before : (j : Job) (kind : OutKind) (front rows : ℕ) (text : List ℕ) (sent held y : ℕ) → HasCounted j kind front rows text sent held y → held ≡ 0 →
+pub counted_before : (j : Job) (kind : OutKind) (front rows : ℕ) (text : List ℕ) (sent held y : ℕ) →
+    HasCounted j kind front rows text sent held y → held ≡ 0 →
     0 < (result_dim j).w → sent ≡ len_with kind front (result_dim j).w y
 counted_before j kind front rows text sent held y counted zero some =
     let none = counted_none j kind front rows text sent held y counted zero some in
@@ -161,9 +170,12 @@ counted_before j kind front rows text sent held y counted zero some =
     rw first (none.1)
 
 -- a band more
-pub counted_more : (j : Job) (kind : OutKind) (front rows : ℕ) (text more after : List ℕ) (sent held most y n y2 held2 : ℕ) → HasCounted j kind front rows text sent held y →
-    length more ≡ row_len kind (result_dim j).w * n → IsHeldFor (record { w = (result_dim j).w; h = n }) (channels_of j.shape.kind) most → n ≤ min rows (result_dim j).h → 0 < n →
-    (y ≡ 0 → n ≡ min rows (result_dim j).h) → held2 ≡ max held most → y2 ≡ y + n → after ≡ text ++ more → HasCounted j kind front rows after sent held2 y2
+pub counted_more : (j : Job) (kind : OutKind) (front rows : ℕ) (text more after : List ℕ) (sent held most y n y2 held2 : ℕ) →
+    HasCounted j kind front rows text sent held y →
+    length more ≡ row_len kind (result_dim j).w * n → IsHeldFor (record { w = (result_dim j).w; h = n }) (channels_of j.shape.kind) most →
+    n ≤ min rows (result_dim j).h → 0 < n →
+    (y ≡ 0 → n ≡ min rows (result_dim j).h) → held2 ≡ max held most → y2 ≡ y + n → after ≡ text ++ more →
+    HasCounted j kind front rows after sent held2 y2
 counted_more j kind front rows text more after sent held most y n y2 held2 counted len is_held few some whole greater next ready =
     let d = result_dim j in
     let c = channels_of j.shape.kind in
@@ -187,7 +199,8 @@ counted_more j kind front rows text more after sent held most y n y2 held2 count
     }
 
 -- what stood ready is written
-pub counted_flushed : (j : Job) (kind : OutKind) (front rows : ℕ) (text after : List ℕ) (sent held y sent2 : ℕ) → HasCounted j kind front rows text sent held y → 0 < y →
+pub counted_flushed : (j : Job) (kind : OutKind) (front rows : ℕ) (text after : List ℕ) (sent held y sent2 : ℕ) →
+    HasCounted j kind front rows text sent held y → 0 < y →
     sent2 ≡ sent + length text → after ≡ [] → HasCounted j kind front rows after sent2 held y
 counted_flushed j kind front rows text after sent held y sent2 counted some written none = record {
   total = let t = counted.total in let empty : length after ≡ 0 = ap length none in omega (arith, t, written, empty);
@@ -199,22 +212,27 @@ counted_flushed j kind front rows text after sent held y sent2 counted some writ
   first = counted.first;
 }
 
-pub counted_first : (j : Job) (kind : OutKind) (front rows y : ℕ) (text : List ℕ) → length text ≡ front → y ≡ 0 → HasCounted j kind front rows text 0 0 y
+pub counted_first : (j : Job) (kind : OutKind) (front rows y : ℕ) (text : List ℕ) → length text ≡ front → y ≡ 0 →
+    HasCounted j kind front rows text 0 0 y
 counted_first j kind front rows y text len none = record {
-  total = let zero : row_len kind (result_dim j).w * y ≡ 0 = ap (λ m. row_len kind (result_dim j).w * m) none ∙ omega arith in omega (arith, len, zero);
+  total = let zero : row_len kind (result_dim j).w * y ≡ 0 = ap (λ m. row_len kind (result_dim j).w * m) none ∙ omega arith in
+      omega (arith, len, zero);
   band = omega arith;
   begun = inl (none, refl, refl);
   first = λ some. absurd (omega (arith, none, some));
 }
 
 -- all rows
-pub counted_done : (j : Job) (kind : OutKind) (front rows : ℕ) (text : List ℕ) (sent held y : ℕ) → 0 < (result_dim j).h → y ≡ (result_dim j).h →
+pub counted_done : (j : Job) (kind : OutKind) (front rows : ℕ) (text : List ℕ) (sent held y : ℕ) → 0 < (result_dim j).h →
+    y ≡ (result_dim j).h →
     HasCounted j kind front rows text sent held y → IsHeldInBands (result_dim j) rows (channels_of j.shape.kind) held
-counted_done j kind front rows text sent held y some end counted = record { band = counted.first (omega (arith, end, some)); twice = counted.band }
+counted_done j kind front rows text sent held y some end counted =
+    record { band = counted.first (omega (arith, end, some)); twice = counted.band }
 
 -- ---- What is written
 
-module _ (laws : Laws) (j : Job) (tile_means : TileKey → TileVal → Type 0) (sum_means : SumKey → SumVal → Type 0) (kind : OutKind) (start : List ℕ)
+module _ (laws : Laws) (j : Job) (tile_means : TileKey → TileVal → Type 0) (sum_means : SumKey → SumVal → Type 0) (kind : OutKind)
+    (start : List ℕ)
     (few : j.resolved.turn.quarters < 4) (fits : channels_in j.resolved.quality (channels_of j.shape.kind) ≡ samples_per_pixel kind) where
   first_image : (shows : Pictures) → HasPicture shows j.name j.shape → IsSource (named shows j.name) →
       IsImageFor shows j tile_means sum_means (resolved_image (named shows j.name) j.resolved)
@@ -231,7 +249,8 @@ module _ (laws : Laws) (j : Job) (tile_means : TileKey → TileVal → Type 0) (
 
   -- before the first band
   pub first_rows : (old : Option (List ℕ)) (text : List ℕ) (y : ℕ) → text ≡ start ++ head_of kind (result_dim j) → y ≡ 0 →
-      (shows : Pictures) → HasPicture shows j.name j.shape → IsSource (named shows j.name) → HasRows shows j tile_means sum_means kind start old old text 0 y
+      (shows : Pictures) → HasPicture shows j.name j.shape → IsSource (named shows j.name) →
+      HasRows shows j tile_means sum_means kind start old old text 0 y
   first_rows old text y is none shows has source =
       let image = resolved_image (named shows j.name) j.resolved in
       let front = start ++ head_of kind (result_dim j) in
@@ -242,14 +261,16 @@ module _ (laws : Laws) (j : Job) (tile_means : TileKey → TileVal → Type 0) (
         has = record {
           image = image;
           is_for = first_image shows has source;
-          are = is ∙ sym (append-nil front) ∙ ap (λ s. front ++ s) (sym (laws.none image kind 0) ∙ ap (λ m. strip kind (band image 0 m)) (sym none));
+          are = is ∙ sym (append-nil front) ∙ ap (λ s. front ++ s)
+              (sym (laws.none image kind 0) ∙ ap (λ m. strip kind (band image 0 m)) (sym none));
         };
       }
 
   -- nothing was sent
   pub none_sent : (old : Option (List ℕ)) (shows : Pictures) → HasPicture shows j.name j.shape → IsSource (named shows j.name) →
       (image : Picture) × IsImageFor shows j tile_means sum_means image
-      × ((0 < length (start ++ file image kind)) × Appends old old [] × ((◌≡◌ {A = ℕ} 0 0) ⊎ (length (start ++ head_of kind (result_dim j)) ≤ 0)))
+      × ((0 < length (start ++ file image kind)) × Appends old old [] ×
+      ((◌≡◌ {A = ℕ} 0 0) ⊎ (length (start ++ head_of kind (result_dim j)) ≤ 0)))
   none_sent old shows has source =
       let image = resolved_image (named shows j.name) j.resolved in
       let is_for = first_image shows has source in
@@ -259,14 +280,17 @@ module _ (laws : Laws) (j : Job) (tile_means : TileKey → TileVal → Type 0) (
   -- so much of it as was written before a band failed: nothing, or all that stood ready
   pub load_stopped : (old new : Option (List ℕ)) (text : List ℕ) (sent held rows y : ℕ) → y < (result_dim j).h → 0 < (result_dim j).w →
       HasCounted j kind (length (start ++ head_of kind (result_dim j))) rows text sent held y → (sent ≡ 0) ⊎ (text ≡ []) →
-      (shows : Pictures) → HasPicture shows j.name j.shape → IsSource (named shows j.name) → HasRows shows j tile_means sum_means kind start old new text sent y →
+      (shows : Pictures) → HasPicture shows j.name j.shape → IsSource (named shows j.name) →
+      HasRows shows j tile_means sum_means kind start old new text sent y →
       (image : Picture) × IsImageFor shows j tile_means sum_means image
-      × ((sent < length (start ++ file image kind)) × Appends old new (take sent (start ++ file image kind)) × ((sent ≡ 0) ⊎ (length (start ++ head_of kind (result_dim j)) ≤ sent)))
+      × ((sent < length (start ++ file image kind)) × Appends old new (take sent (start ++ file image kind)) ×
+      ((sent ≡ 0) ⊎ (length (start ++ head_of kind (result_dim j)) ≤ sent)))
   load_stopped old new text sent held rows y above some counted ready shows has source so_far =
       let p = named shows j.name in
       let of = picture_shown shows j has source in
       let image = so_far.has.image in
-      let left = text_left shows j tile_means sum_means kind start fits laws.more laws.all (asked_whole laws p j.resolved of.whole) (asked_sides laws p j.resolved of.whole few)
+      let left = text_left shows j tile_means sum_means kind start fits laws.more laws.all (asked_whole laws p j.resolved of.whole)
+      (asked_sides laws p j.resolved of.whole few)
       (so_far.written ++ text) y (omega (arith, above)) so_far.has in
       let full : start ++ file image kind ≡ so_far.written ++ (text ++ left.0) = left.1 ∙ append_assoc so_far.written text left.0 in
       let long = length_whole start kind image (result_dim j) so_far.has.is_for.sides in
@@ -274,26 +298,31 @@ module _ (laws : Laws) (j : Job) (tile_means : TileKey → TileVal → Type 0) (
       let short = rows_short kind (result_dim j).w y (result_dim j).h some above in
       let total = counted.total in
       let part : take sent (start ++ file image kind) ≡ so_far.written =
-      ap (λ n. take n (start ++ file image kind)) so_far.count ∙ ap (take (length so_far.written)) full ∙ take-append_seam so_far.written (text ++ left.0) in (
+      ap (λ n. take n (start ++ file image kind)) so_far.count ∙ ap (take (length so_far.written)) full ∙
+      take-append_seam so_far.written (text ++ left.0) in (
         image,
         so_far.has.is_for,
         (
           omega (arith, long, front, short, total),
           subst (Appends old new) (sym part) so_far.appended,
-          ⊎_elim (λ none. inl none) (λ (none : text ≡ []). let empty : length text ≡ 0 = ap length none in inr (omega (arith, total, empty))) ready,
+          ⊎_elim (λ none. inl none) (λ (none : text ≡ []). let empty : length text ≡ 0 = ap length none in
+              inr (omega (arith, total, empty))) ready,
         ),
       )
 
   -- so much as was written before the writer failed
-  pub writer_stopped : {W : Type 0} (contents : W → Option (List ℕ)) (fails : W → W → Type 0) (old mid new : W) (text : List ℕ) (sent y m : ℕ) → y ≤ (result_dim j).h →
+  pub writer_stopped : {W : Type 0} (contents : W → Option (List ℕ)) (fails : W → W → Type 0) (old mid new : W) (text : List ℕ)
+      (sent y m : ℕ) → y ≤ (result_dim j).h →
       WasCut contents fails mid new text m → (shows : Pictures) → HasPicture shows j.name j.shape → IsSource (named shows j.name) →
       HasRows shows j tile_means sum_means kind start (contents old) (contents mid) text sent y →
-      (image : Picture) × IsImageFor shows j tile_means sum_means image × WasCut contents fails old new (start ++ file image kind) (sent + m)
+      (image : Picture) × IsImageFor shows j tile_means sum_means image ×
+      WasCut contents fails old new (start ++ file image kind) (sent + m)
   writer_stopped contents fails old mid new text sent y m within cut shows has source so_far =
       let p = named shows j.name in
       let of = picture_shown shows j has source in
       let image = so_far.has.image in
-      let left = text_left shows j tile_means sum_means kind start fits laws.more laws.all (asked_whole laws p j.resolved of.whole) (asked_sides laws p j.resolved of.whole few)
+      let left = text_left shows j tile_means sum_means kind start fits laws.more laws.all (asked_whole laws p j.resolved of.whole)
+      (asked_sides laws p j.resolved of.whole few)
       (so_far.written ++ text) y within so_far.has in
       let full : start ++ file image kind ≡ so_far.written ++ (text ++ left.0) = left.1 ∙ append_assoc so_far.written text left.0 in
       let strict = cut.strict in
@@ -317,15 +346,18 @@ module _ (laws : Laws) (j : Job) (tile_means : TileKey → TileVal → Type 0) (
 
   -- a band more stands ready
   pub more_rows : (old mid : Option (List ℕ)) (text after : List ℕ) (sent y n y2 : ℕ) (b : Picture) → y + n ≤ (result_dim j).h →
-      IsBandFor j tile_means sum_means (record { x = 0; y = y; w = (result_dim j).w; h = n }) b → after ≡ text ++ strip kind b → y2 ≡ y + n →
-      (shows : Pictures) → HasPicture shows j.name j.shape → IsSource (named shows j.name) → HasRows shows j tile_means sum_means kind start old mid text sent y →
+      IsBandFor j tile_means sum_means (record { x = 0; y = y; w = (result_dim j).w; h = n }) b → after ≡ text ++ strip kind b →
+      y2 ≡ y + n →
+      (shows : Pictures) → HasPicture shows j.name j.shape → IsSource (named shows j.name) →
+      HasRows shows j tile_means sum_means kind start old mid text sent y →
       HasRows shows j tile_means sum_means kind start old mid after sent y2
   more_rows old mid text after sent y n y2 b within is_band ready is shows has source so_far =
       let p = named shows j.name in
       let of = picture_shown shows j has source in
       let whole = asked_whole laws p j.resolved of.whole in
       let sides = asked_sides laws p j.resolved of.whole few in
-      let next = more_text shows j tile_means sum_means kind start fits laws.more laws.all whole sides (so_far.written ++ text) b y n within so_far.has is_band in
+      let next = more_text shows j tile_means sum_means kind start fits laws.more laws.all whole sides (so_far.written ++ text) b y n within
+      so_far.has is_band in
       let same : (so_far.written ++ text) ++ strip kind b ≡ so_far.written ++ after =
       append_assoc so_far.written text (strip kind b) ∙ ap (λ t. so_far.written ++ t) (sym ready) in
       record {
@@ -337,8 +369,10 @@ module _ (laws : Laws) (j : Job) (tile_means : TileKey → TileVal → Type 0) (
       }
 
   -- what stood ready is written
-  pub flushed_rows : (old mid new : Option (List ℕ)) (text after : List ℕ) (sent sent2 y : ℕ) → Appends mid new text → after ≡ [] → sent2 ≡ sent + length text →
-      (shows : Pictures) → HasRows shows j tile_means sum_means kind start old mid text sent y → HasRows shows j tile_means sum_means kind start old new after sent2 y
+  pub flushed_rows : (old mid new : Option (List ℕ)) (text after : List ℕ) (sent sent2 y : ℕ) → Appends mid new text → after ≡ [] →
+      sent2 ≡ sent + length text →
+      (shows : Pictures) → HasRows shows j tile_means sum_means kind start old mid text sent y →
+      HasRows shows j tile_means sum_means kind start old new after sent2 y
   flushed_rows old mid new text after sent sent2 y appended none written shows so_far =
       let all = so_far.written ++ text in
       let same : all ≡ all ++ after = sym (append-nil all) ∙ ap (λ t. all ++ t) (sym none) in
@@ -353,7 +387,8 @@ module _ (laws : Laws) (j : Job) (tile_means : TileKey → TileVal → Type 0) (
   -- all of it
   pub all_sent : (old new : Option (List ℕ)) (text : List ℕ) (sent y : ℕ) → y ≡ (result_dim j).h → text ≡ [] → (shows : Pictures) →
       HasRows shows j tile_means sum_means kind start old new text sent y →
-      (image : Picture) × IsImageFor shows j tile_means sum_means image × Appends old new (start ++ file image kind) × (sent ≡ length (start ++ file image kind))
+      (image : Picture) × IsImageFor shows j tile_means sum_means image × Appends old new (start ++ file image kind) ×
+      (sent ≡ length (start ++ file image kind))
   all_sent old new text sent y end none shows so_far =
       let image = so_far.has.image in
       let is_for = so_far.has.is_for in
@@ -363,7 +398,8 @@ module _ (laws : Laws) (j : Job) (tile_means : TileKey → TileVal → Type 0) (
       let full : so_far.written ≡ start ++ file image kind =
       sym (append-nil so_far.written) ∙ ap (λ t. so_far.written ++ t) (sym none) ∙ so_far.has.are
       ∙ ap (λ m. front ++ strip kind (band image 0 m)) height ∙ ap (λ t. front ++ t) (laws.all image kind (is_for.channels ∙ fits))
-      ∙ append_assoc start (head_of kind d) (strip kind image) ∙ ap (λ (e : Dim). start ++ (head_of kind e ++ strip kind image)) (sym is_for.sides) in
+      ∙ append_assoc start (head_of kind d) (strip kind image) ∙
+      ap (λ (e : Dim). start ++ (head_of kind e ++ strip kind image)) (sym is_for.sides) in
       (image, is_for, subst (Appends old new) full so_far.appended, so_far.count ∙ ap length full)
 
 -- ---- Sides
@@ -382,8 +418,10 @@ result_some j w h =
 
 -- ---- Bands written
 
-pub more_len : (j : Job) (tile_means : TileKey → TileVal → Type 0) (sum_means : SumKey → SumVal → Type 0) (kind : OutKind) (y n : ℕ) (b : Picture) →
-    IsBandFor j tile_means sum_means (record { x = 0; y = y; w = (result_dim j).w; h = n }) b → length (strip kind b) ≡ row_len kind (result_dim j).w * n
+pub more_len : (j : Job) (tile_means : TileKey → TileVal → Type 0) (sum_means : SumKey → SumVal → Type 0) (kind : OutKind) (y n : ℕ)
+    (b : Picture) →
+    IsBandFor j tile_means sum_means (record { x = 0; y = y; w = (result_dim j).w; h = n }) b →
+    length (strip kind b) ≡ row_len kind (result_dim j).w * n
 more_len j tile_means sum_means kind y n b is_band = length-strip kind b ∙ ap (strip_len kind) is_band.sides
 
 -- what was written and stands ready is within the answer

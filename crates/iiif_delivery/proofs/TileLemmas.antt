@@ -29,12 +29,15 @@ use Rattle.iiif_delivery.specs.declared.delivery.Stopped.TheVariants.{Writer, Lo
 use Rattle.iiif_delivery.proofs.StepLemmas.{none_sent}
 
 -- the tile's picture is an image for the job
-pub image_for : (shows : Pictures) (j : Job) (tile_means : TileKey → TileVal → Type 0) (sum_means : SumKey → SumVal → Type 0) (image : Picture) → HasPicture shows j.name j.shape →
+pub image_for : (shows : Pictures) (j : Job) (tile_means : TileKey → TileVal → Type 0) (sum_means : SumKey → SumVal → Type 0)
+    (image : Picture) → HasPicture shows j.name j.shape →
     IsSource (named shows j.name) → IsTileImage j tile_means image → IsImageFor shows j tile_means sum_means image
-image_for shows j tile_means sum_means image has source is = record { sides = is.sides; channels = is.channels; top = is.top; same = λ shown. is.same shows has source shown.tiles }
+image_for shows j tile_means sum_means image has source is =
+    record { sides = is.sides; channels = is.channels; top = is.top; same = λ shown. is.same shows has source shown.tiles }
 
 -- a text, the head of a file, and its rows
-pub file_in_parts : (start : List ℕ) (kind : OutKind) (image : Picture) (d : Dim) (text rows : List ℕ) → text ≡ start ++ head_of kind d → rows ≡ strip kind image → d ≡ dim_of image →
+pub file_in_parts : (start : List ℕ) (kind : OutKind) (image : Picture) (d : Dim) (text rows : List ℕ) → text ≡ start ++ head_of kind d →
+    rows ≡ strip kind image → d ≡ dim_of image →
     text ++ rows ≡ start ++ file image kind
 file_in_parts start kind image d text rows is same sides =
     let head = head_of kind d in
@@ -44,19 +47,25 @@ file_in_parts start kind image d text rows is same sides =
     ∙ ap (λ (e : Dim). start ++ (head_of kind e ++ strip kind image)) sides
 
 -- so much of it as was written before it stopped
-pub tile_stopped : {W : Type 0} (laws : Laws) (contents : W → Option (List ℕ)) (fails : W → W → Type 0) (j : Job) (tile_means : TileKey → TileVal → Type 0) (tile_failed : TileKey → Fault → Type 0)
-    (sum_means : SumKey → SumVal → Type 0) (kind : OutKind) (rows : ℕ) (start : List ℕ) (old new : W) (s : Stopped) → j.resolved.turn.quarters < 4 →
-    channels_in j.resolved.quality (channels_of j.shape.kind) ≡ samples_per_pixel kind → TileStops contents fails j tile_means tile_failed kind rows start old new s →
+pub tile_stopped : {W : Type 0} (laws : Laws) (contents : W → Option (List ℕ)) (fails : W → W → Type 0) (j : Job)
+    (tile_means : TileKey → TileVal → Type 0) (tile_failed : TileKey → Fault → Type 0)
+    (sum_means : SumKey → SumVal → Type 0) (kind : OutKind) (rows : ℕ) (start : List ℕ) (old new : W) (s : Stopped) →
+    j.resolved.turn.quarters < 4 →
+    channels_in j.resolved.quality (channels_of j.shape.kind) ≡ samples_per_pixel kind →
+    TileStops contents fails j tile_means tile_failed kind rows start old new s →
     (shows : Pictures) → HasPicture shows j.name j.shape → IsSource (named shows j.name) →
-    (image : Picture) × IsImageFor shows j tile_means sum_means image × Stops contents fails old new (length (start ++ head_of kind (result_dim j))) (start ++ file image kind) s
+    (image : Picture) × IsImageFor shows j tile_means sum_means image ×
+    Stops contents fails old new (length (start ++ head_of kind (result_dim j))) (start ++ file image kind) s
 tile_stopped laws contents fails j tile_means tile_failed sum_means kind rows start old new (Writer n) few fits stops shows has source =
     (stops.0, image_for shows j tile_means sum_means stops.0 has source stops.1, stops.2)
 tile_stopped laws contents fails j tile_means tile_failed sum_means kind rows start old new (Load n f) few fits stops shows has source =
     rw (stops.0, stops.1) (none_sent laws j tile_means sum_means kind start few fits (contents old) shows has source)
 
 -- a fault of a plan's tiles is one of its band
-pub tiles_fault : (tile_means : TileKey → TileVal → Type 0) (tile_failed : TileKey → Fault → Type 0) (sum_means : SumKey → SumVal → Type 0) (sum_failed : SumKey → Fault → Type 0)
-    (plan : Plan) (b : Band) (f : Fault) → IsTilesFault tile_means tile_failed plan b f → IsBandFault tile_means tile_failed sum_means sum_failed plan b.items.items f
+pub tiles_fault : (tile_means : TileKey → TileVal → Type 0) (tile_failed : TileKey → Fault → Type 0) (sum_means : SumKey → SumVal → Type 0)
+    (sum_failed : SumKey → Fault → Type 0)
+    (plan : Plan) (b : Band) (f : Fault) → IsTilesFault tile_means tile_failed plan b f →
+    IsBandFault tile_means tile_failed sum_means sum_failed plan b.items.items f
 tiles_fault tile_means tile_failed sum_means sum_failed (Copy keys) b f h = h
 tiles_fault tile_means tile_failed sum_means sum_failed (Grow keys) b f h = h
 tiles_fault tile_means tile_failed sum_means sum_failed (Sum keys) b f h = inl h
@@ -67,9 +76,12 @@ first_rect d rows =
     ap (λ y. let r : Rect = record { x = 0; y = y; w = d.w; h = min rows (d.h - y) } in r) none
 
 -- and why
-pub tile_fails : {W : Type 0} (contents : W → Option (List ℕ)) (fails : W → W → Type 0) (j : Job) (tile_means : TileKey → TileVal → Type 0) (tile_failed : TileKey → Fault → Type 0)
-    (sum_means : SumKey → SumVal → Type 0) (sum_failed : SumKey → Fault → Type 0) (kind : OutKind) (rows front : ℕ) (start : List ℕ) (old new : W) (s : Stopped) →
-    TileStops contents fails j tile_means tile_failed kind rows start old new s → FailsFor j tile_means tile_failed sum_means sum_failed kind rows front s
+pub tile_fails : {W : Type 0} (contents : W → Option (List ℕ)) (fails : W → W → Type 0) (j : Job) (tile_means : TileKey → TileVal → Type 0)
+    (tile_failed : TileKey → Fault → Type 0)
+    (sum_means : SumKey → SumVal → Type 0) (sum_failed : SumKey → Fault → Type 0) (kind : OutKind) (rows front : ℕ) (start : List ℕ)
+    (old new : W) (s : Stopped) →
+    TileStops contents fails j tile_means tile_failed kind rows start old new s →
+    FailsFor j tile_means tile_failed sum_means sum_failed kind rows front s
 tile_fails contents fails j tile_means tile_failed sum_means sum_failed kind rows front start old new (Writer n) stops = tt
 tile_fails contents fails j tile_means tile_failed sum_means sum_failed kind rows front start old new (Load n f) stops = (
   0,
@@ -78,7 +90,12 @@ tile_fails contents fails j tile_means tile_failed sum_means sum_failed kind row
     | inl none ↦ inl none
     | inr first ↦
         let b = first.0 in
-        inr (b, first.1 ∙ first_rect (result_dim j) rows, first.2, tiles_fault tile_means tile_failed sum_means sum_failed j.plan b f first.3)
+        inr (
+          b,
+          first.1 ∙ first_rect (result_dim j) rows,
+          first.2,
+          tiles_fault tile_means tile_failed sum_means sum_failed j.plan b f first.3,
+        )
   ],
 )
 

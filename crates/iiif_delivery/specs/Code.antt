@@ -39,7 +39,8 @@ pub record Laws : Type 0 where
   pub all : StripOfAllRows
 
 -- A picture of a band of a job's result, by what is answered for tiles and sums.
-pub record IsBandFor (j : Job) (tile_means : TileKey → TileVal → Type 0) (sum_means : SumKey → SumVal → Type 0) (rect : Rect) (b : Picture) : Type 0 where
+pub record IsBandFor (j : Job) (tile_means : TileKey → TileVal → Type 0) (sum_means : SumKey → SumVal → Type 0) (rect : Rect) (b : Picture)
+    : Type 0 where
   pub whole : IsWhole b
   pub sides : dim_of b ≡ sides_of rect
   pub channels : b.channels ≡ channels_in j.resolved.quality (channels_of j.shape.kind)
@@ -53,14 +54,16 @@ with_rows p y b =
     (λ u v k. if nat_lt v y then sample_at p u v k else (if nat_lt v (y + b.height) then sample_at b u (v - y) k else sample_at p u v k))
 
 -- The bytes are those of an image behind a text, as far as its first y rows.
-pub record HasText (shows : Pictures) (j : Job) (tile_means : TileKey → TileVal → Type 0) (sum_means : SumKey → SumVal → Type 0) (kind : OutKind) (start all : List ℕ)
+pub record HasText (shows : Pictures) (j : Job) (tile_means : TileKey → TileVal → Type 0) (sum_means : SumKey → SumVal → Type 0)
+    (kind : OutKind) (start all : List ℕ)
     (y : ℕ) : Type 0 where
   pub image : Picture
   pub is_for : IsImageFor shows j tile_means sum_means image
   pub are : all ≡ start ++ head_of kind (result_dim j) ++ strip kind (band image 0 y)
 
 -- Of such bytes some were written, and the text stands ready to be.
-pub record HasRows (shows : Pictures) (j : Job) (tile_means : TileKey → TileVal → Type 0) (sum_means : SumKey → SumVal → Type 0) (kind : OutKind) (start : List ℕ)
+pub record HasRows (shows : Pictures) (j : Job) (tile_means : TileKey → TileVal → Type 0) (sum_means : SumKey → SumVal → Type 0)
+    (kind : OutKind) (start : List ℕ)
     (old new : Option (List ℕ)) (text : List ℕ) (sent y : ℕ) : Type 0 where
   pub written : List ℕ
   pub appended : Appends old new written
@@ -68,9 +71,11 @@ pub record HasRows (shows : Pictures) (j : Job) (tile_means : TileKey → TileVa
   pub has : HasText shows j tile_means sum_means kind start (written ++ text) y
 
 -- so it is for each way in which names have pictures
-abbrev pub HaveRows : Job → (TileKey → TileVal → Type 0) → (SumKey → SumVal → Type 0) → OutKind → List ℕ → Option (List ℕ) → Option (List ℕ) → List ℕ → ℕ → ℕ → Type 0
+abbrev pub HaveRows : Job → (TileKey → TileVal → Type 0) → (SumKey → SumVal → Type 0) → OutKind → List ℕ → Option (List ℕ) →
+    Option (List ℕ) → List ℕ → ℕ → ℕ → Type 0
 HaveRows j tile_means sum_means kind start old new text sent y =
-    (shows : Pictures) → HasPicture shows j.name j.shape → IsSource (named shows j.name) → HasRows shows j tile_means sum_means kind start old new text sent y
+    (shows : Pictures) → HasPicture shows j.name j.shape → IsSource (named shows j.name) →
+    HasRows shows j tile_means sum_means kind start old new text sent y
 
 -- Behind a front of so many bytes the first y rows were written or stand ready; nothing was written and held before a band was made.
 pub record HasCounted (j : Job) (kind : OutKind) (front rows : ℕ) (text : List ℕ) (sent held y : ℕ) : Type 0 where
@@ -86,7 +91,8 @@ IsSendingOf contents fails text old new (Load n f) = (n ≡ 0) × (new ≡ old) 
 
 -- Why the sending of an image stopped that is a tile as it stands: the writer failed within the whole text; or the tile could not be had,
 -- and nothing was written.
-abbrev pub TileStops : {W : Type 0} → (W → Option (List ℕ)) → (W → W → Type 0) → Job → (TileKey → TileVal → Type 0) → (TileKey → Fault → Type 0) → OutKind → ℕ → List ℕ → W → W → Stopped → Type 0
+abbrev pub TileStops : {W : Type 0} → (W → Option (List ℕ)) → (W → W → Type 0) → Job → (TileKey → TileVal → Type 0) →
+    (TileKey → Fault → Type 0) → OutKind → ℕ → List ℕ → W → W → Stopped → Type 0
 TileStops contents fails j means failed kind rows start old new (Writer n) =
     (image : Picture) × IsTileImage j means image × WasCut contents fails old new (start ++ file image kind) n
 TileStops contents fails j means failed kind rows start old new (Load n f) = (n ≡ 0) × (new ≡ old) × IsFirstFault j means failed rows f

@@ -30,7 +30,8 @@ result_dim j = turned_dim j.resolved.turn j.resolved.size
 
 -- An image for a job, where names have these pictures: of the sides, the channels and the depth of what is asked for; and that image
 -- itself where what is answered for tiles and for sums is what they mean.
-pub record IsImageFor (shows : Pictures) (j : Job) (tile_means : TileKey → TileVal → Type 0) (sum_means : SumKey → SumVal → Type 0) (image : Picture) : Type 0 where
+pub record IsImageFor (shows : Pictures) (j : Job) (tile_means : TileKey → TileVal → Type 0) (sum_means : SumKey → SumVal → Type 0)
+    (image : Picture) : Type 0 where
   pub sides : dim_of image ≡ result_dim j
   pub channels : image.channels ≡ channels_in j.resolved.quality (channels_of j.shape.kind)
   pub top : image.top ≡ top_in j.resolved.quality (top_of j.shape.depth)
@@ -46,7 +47,8 @@ pub record IsHeldInBands (d : Dim) (rows channels held : ℕ) : Type 0 where
 -- a strict prefix too, which is empty or has what stands before the rows.
 abbrev pub Stops : {W : Type 0} → (W → Option (List ℕ)) → (W → W → Type 0) → W → W → ℕ → List ℕ → Stopped → Type 0
 Stops contents fails old new front text (Writer n) = WasCut contents fails old new text n
-Stops contents fails old new front text (Load n f) = (n < length text) × Appends (contents old) (contents new) (take n text) × ((n ≡ 0) ⊎ (front ≤ n))
+Stops contents fails old new front text (Load n f) = (n < length text) × Appends (contents old) (contents new) (take n text) ×
+    ((n ≡ 0) ⊎ (front ≤ n))
 
 -- how many bytes are written with the first y rows of an image of that width, behind a front of so many
 abbrev pub len_with : OutKind → ℕ → ℕ → ℕ → ℕ
@@ -58,8 +60,10 @@ band_from d rows y = record { x = 0; y = y; w = d.w; h = min rows (d.h - y) }
 
 -- Why a load stopped the sending in bands of so many rows: the rows above a band were written, and memory was wanting, or that band could
 -- not be made.
-abbrev pub FailsFor : Job → (TileKey → TileVal → Type 0) → (TileKey → Fault → Type 0) → (SumKey → SumVal → Type 0) → (SumKey → Fault → Type 0) → OutKind → ℕ → ℕ → Stopped → Type 0
+abbrev pub FailsFor : Job → (TileKey → TileVal → Type 0) → (TileKey → Fault → Type 0) → (SumKey → SumVal → Type 0) →
+    (SumKey → Fault → Type 0) → OutKind → ℕ → ℕ → Stopped → Type 0
 FailsFor j tile tile_failed sum sum_failed kind rows front (Writer n) = Unit {0}
 FailsFor j tile tile_failed sum sum_failed kind rows front (Load n f) =
     (y : ℕ) × (n ≡ len_with kind front (result_dim j).w y)
-    × ((f ≡ fault.NoMemory) ⊎ ((b : Band) × (b.rect ≡ band_from (result_dim j) rows y) × IsBandOf j b × IsBandFault tile tile_failed sum sum_failed j.plan b.items.items f))
+    × ((f ≡ fault.NoMemory) ⊎ ((b : Band) × (b.rect ≡ band_from (result_dim j) rows y) × IsBandOf j b ×
+    IsBandFault tile tile_failed sum sum_failed j.plan b.items.items f))

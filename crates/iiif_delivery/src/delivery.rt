@@ -129,11 +129,14 @@ fn send_bands<
     requires len { file_len kind (result_dim job.now) < 2 ^ 32 }
     ensures whole { IfOk result (λ d. (shows : Pictures) → HasPicture shows job.now.name job.now.shape → IsSource (named shows job.now.name)
         → (image : Picture) × IsImageFor shows job.now (T.means tiles.now) (S.means sums.now) image
-        × Appends (W.contents out.old) (W.contents out.new) (start.now ++ file image kind) × (d.bytes ≡ length (start.now ++ file image kind))) }
+        × Appends (W.contents out.old) (W.contents out.new) (start.now ++ file image kind) ×
+        (d.bytes ≡ length (start.now ++ file image kind))) }
     ensures held { IfOk result (λ d. IsHeldInBands (result_dim job.now) rows (channels_of job.now.shape.kind) d.held) }
-    ensures stopped { IfErr result (λ s. (shows : Pictures) → HasPicture shows job.now.name job.now.shape → IsSource (named shows job.now.name)
+    ensures stopped { IfErr result (λ s. (shows : Pictures) → HasPicture shows job.now.name job.now.shape →
+        IsSource (named shows job.now.name)
         → (image : Picture) × IsImageFor shows job.now (T.means tiles.now) (S.means sums.now) image
-        × Stops W.contents W.fails out.old out.new (length (start.now ++ head_of kind (result_dim job.now))) (start.now ++ file image kind) s) }
+        × Stops W.contents W.fails out.old out.new (length (start.now ++ head_of kind (result_dim job.now))) (start.now ++ file image kind)
+        s) }
     ensures fault { IfErr result (FailsFor job.now (T.means tiles.now) (T.failed tiles.now) (S.means sums.now) (S.failed sums.now) kind rows
         (length (start.now ++ head_of kind (result_dim job.now)))) }
 {
@@ -184,7 +187,8 @@ fn send_bands<
 }
 
 /// Sends the image of a job behind a text, in bands of `rows`: each is made, and dropped but for its rows in the file before the next is
-/// made. The text goes out with the rows of the first, and rows once they take 64 KiB, or where a band that follows can't be made. There is a worker for each pass, and which of them asks for an item changes nothing.
+/// made. The text goes out with the rows of the first, and rows once they take 64 KiB, or where a band that follows can't be made. There is
+/// a worker for each pass, and which of them asks for an item changes nothing.
 ///
 /// An image of 8 bits that is a tile as it stands is not made in bands: the tile's samples are its rows, and go out as they are. Then
 /// `held` counts a band of them.
@@ -223,11 +227,14 @@ pub fn send_image<
     requires len { file_len kind (result_dim job.now) < 2 ^ 32 }
     ensures whole { IfOk result (λ d. (shows : Pictures) → HasPicture shows job.now.name job.now.shape → IsSource (named shows job.now.name)
         → (image : Picture) × IsImageFor shows job.now (T.means tiles.now) (S.means sums.now) image
-        × Appends (W.contents out.old) (W.contents out.new) (start.now ++ file image kind) × (d.bytes ≡ length (start.now ++ file image kind))) }
+        × Appends (W.contents out.old) (W.contents out.new) (start.now ++ file image kind) ×
+        (d.bytes ≡ length (start.now ++ file image kind))) }
     ensures held { IfOk result (λ d. IsHeldInBands (result_dim job.now) rows (channels_of job.now.shape.kind) d.held) }
-    ensures stopped { IfErr result (λ s. (shows : Pictures) → HasPicture shows job.now.name job.now.shape → IsSource (named shows job.now.name)
+    ensures stopped { IfErr result (λ s. (shows : Pictures) → HasPicture shows job.now.name job.now.shape →
+        IsSource (named shows job.now.name)
         → (image : Picture) × IsImageFor shows job.now (T.means tiles.now) (S.means sums.now) image
-        × Stops W.contents W.fails out.old out.new (length (start.now ++ head_of kind (result_dim job.now))) (start.now ++ file image kind) s) }
+        × Stops W.contents W.fails out.old out.new (length (start.now ++ head_of kind (result_dim job.now))) (start.now ++ file image kind)
+        s) }
     ensures fault { IfErr result (FailsFor job.now (T.means tiles.now) (T.failed tiles.now) (S.means sums.now) (S.failed sums.now) kind rows
         (length (start.now ++ head_of kind (result_dim job.now)))) }
 {

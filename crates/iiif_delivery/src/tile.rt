@@ -45,7 +45,8 @@ fn send_raster<W: Outlet>(
     requires channels { raster.now.channels ≡ samples_per_pixel kind }
     requires depth { raster.now.top ≡ top_of (out_depth kind) }
     requires len { file_len kind (dim_of raster.now) < 2 ^ 32 }
-    ensures whole { IfOk result (λ n. Appends (W.contents out.old) (W.contents out.new) (start.now ++ file raster.now kind) × (n ≡ length (start.now ++ file raster.now kind))) }
+    ensures whole { IfOk result (λ n. Appends (W.contents out.old) (W.contents out.new) (start.now ++ file raster.now kind) ×
+        (n ≡ length (start.now ++ file raster.now kind))) }
     ensures stopped { IfErr result (IsSendingOf W.contents W.fails (start.now ++ file raster.now kind) out.old out.new) }
 {
     let rows = byte_rows(raster, kind);
@@ -84,9 +85,11 @@ pub(crate) fn send_tile<
     requires len { file_len kind (result_dim job.now) < 2 ^ 32 }
     ensures none { IsNone result → out.new ≡ out.old }
     ensures whole { IfSome result (λ r. IfOk r (λ d. (image : Picture) × IsTileImage job.now (T.means tiles.now) image
-        × Appends (W.contents out.old) (W.contents out.new) (start.now ++ file image kind) × (d.bytes ≡ length (start.now ++ file image kind)))) }
+        × Appends (W.contents out.old) (W.contents out.new) (start.now ++ file image kind) ×
+        (d.bytes ≡ length (start.now ++ file image kind)))) }
     ensures held { IfSome result (λ r. IfOk r (λ d. IsHeldInBands (result_dim job.now) rows (channels_of job.now.shape.kind) d.held)) }
-    ensures stopped { IfSome result (λ r. IfErr r (TileStops W.contents W.fails job.now (T.means tiles.now) (T.failed tiles.now) kind rows start.now out.old out.new)) }
+    ensures stopped { IfSome result (λ r. IfErr r
+        (TileStops W.contents W.fails job.now (T.means tiles.now) (T.failed tiles.now) kind rows start.now out.old out.new)) }
 {
     match kind {
         OutKind::Gray | OutKind::Rgb => {}

@@ -11,13 +11,15 @@ pub record KeysSoFar (ws : LineWords) (at : ℕ) (keys : List Key) : Type 0 wher
 pub no_key_yet : (ws : LineWords) → KeysSoFar ws 0 []
 no_key_yet ws = record { more = λ others are. are }
 
-pub one_key_more : (ws part : LineWords) (at count m : ℕ) (keys next : List Key) → KeysSoFar ws at keys → AddsKey part keys next count → part ≡ drop at ws → m ≡ at + count
+pub one_key_more : (ws part : LineWords) (at count m : ℕ) (keys next : List Key) → KeysSoFar ws at keys → AddsKey part keys next count →
+    part ≡ drop at ws → m ≡ at + count
     → KeysSoFar ws m next
 one_key_more ws part at count m keys next so_far adds rest behind = record {
   more = λ others are.
       let here : AreKeys (drop (at + count) ws) others = subst (λ n. AreKeys (drop n ws) others) behind are in
       let counted : AreKeys (drop (at + count_of adds.key) ws) others = subst (λ n. AreKeys (drop (at + n) ws) others) adds.counted here in
-      let left : AreKeys (drop (count_of adds.key) (drop at ws)) others = subst (λ ys. AreKeys ys others) (sym (drop-drop (count_of adds.key) at ws)) counted in
+      let left : AreKeys (drop (count_of adds.key) (drop at ws)) others =
+      subst (λ ys. AreKeys ys others) (sym (drop-drop (count_of adds.key) at ws)) counted in
       let first : IsKey (drop at ws) adds.key = subst (λ ys. IsKey ys adds.key) rest adds.spelled in
       let all : AreKeys ws (keys ++ (adds.key ∷ others)) = so_far.more (adds.key ∷ others) (first, left) in
       subst (λ ks. AreKeys ws (ks ++ others)) (sym adds.added) (subst (AreKeys ws) (sym (append_assoc keys (adds.key ∷ []) others)) all);

@@ -21,15 +21,24 @@ nothing_appended (Some xs) = sym (append_nothing xs)
     append_nothing [] = refl
     append_nothing (y ∷ ys) = ap (λ zs. y ∷ zs) (append_nothing ys)
 
-pub begun : (input left : Option (List ℕ)) (s : State) (old : Option (List ℕ)) → left ≡ input → IsNew s → WrittenSoFar input left 0 s old old
+pub begun : (input left : Option (List ℕ)) (s : State) (old : Option (List ℕ)) → left ≡ input → IsNew s →
+    WrittenSoFar input left 0 s old old
 begun input left s old same new = record {
   text = [];
   written = nothing_appended old;
-  more = λ lines rest read come. record { lines = lines; read = subst (λ o. AreLinesIn o lines) same read; start = s; new = new; come = come };
+  more = λ lines rest read come. record {
+    lines = lines;
+    read = subst (λ o. AreLinesIn o lines) same read;
+    start = s;
+    new = new;
+    come =
+        come;
+  };
 }
 
 line_read : (old new : Option (List ℕ)) (line : List ℕ) (lines : List (List ℕ))
-    → IfSome old (λ xs. (0 < length xs) × (line ≡ first_line xs)) → DropsThrough old new 10 → AreLinesIn new lines → AreLinesIn old (line ∷ lines)
+    → IfSome old (λ xs. (0 < length xs) × (line ≡ first_line xs)) → DropsThrough old new 10 → AreLinesIn new lines →
+    AreLinesIn old (line ∷ lines)
 line_read None new line lines is drops read = tt
 line_read (Some xs) new line lines is drops read = (is.0, is.1, subst (λ o. AreLinesIn o lines) drops read)
 
@@ -52,9 +61,13 @@ nothing_left None at_end = tt
 nothing_left (Some xs) at_end = at_end
 
 pub finished : (input left : Option (List ℕ)) (n : ℕ) (s : State) (old mid new : Option (List ℕ))
-    → WrittenSoFar input left n s old mid → IsAtEnd left → Appends mid new (ended_text s) → (text : List ℕ) × Replays input text × Appends old new text
-finished input left n s old mid new so_far at_end written =
-    (so_far.text ++ ended_text s, so_far.more [] (ended_text s) (nothing_left left at_end) refl, Appends-trans old mid new so_far.text (ended_text s) so_far.written written)
+    → WrittenSoFar input left n s old mid → IsAtEnd left → Appends mid new (ended_text s) → (text : List ℕ) × Replays input text ×
+    Appends old new text
+finished input left n s old mid new so_far at_end written = (
+  so_far.text ++ ended_text s,
+  so_far.more [] (ended_text s) (nothing_left left at_end) refl,
+  Appends-trans old mid new so_far.text (ended_text s) so_far.written written,
+)
 
 pub on_ok_then : {A E P Q : Type 0} (r : Result A E) → (P → Q) → OnOk r P → OnOk r Q
 on_ok_then (Ok x) f p = f p

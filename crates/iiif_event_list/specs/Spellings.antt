@@ -11,7 +11,8 @@ use Rattle.iiif_scene.specs.declared.keys.Key.{Key}
 use Rattle.iiif_scene.specs.declared.keys.Key.TheVariants.{Tile, Sum}
 use Rattle.iiif_machine.specs.Types.{Request}
 use Rattle.iiif_machine.specs.declared.events.Event.{Event}
-use Rattle.iiif_machine.specs.declared.events.Event.TheVariants.{Want, Enter, Again, AskPeer, Serve, Reply, Take, Lose, GoLocal, Load, SourceFault, Land, Evict, Stop}
+use Rattle.iiif_machine.specs.declared.events.Event.TheVariants.{Want, Enter, Again, AskPeer, Serve, Reply, Take, Lose, GoLocal, Load}
+use Rattle.iiif_machine.specs.declared.events.Event.TheVariants.{SourceFault, Land, Evict, Stop}
 
 -- the words of a line, as references to them
 abbrev pub LineWords : Type 0

@@ -1,7 +1,8 @@
 //! Events, read from the words of a line.
 
 ghost use Rattle.std.specs.Prelude.{◌+◌, ◌++◌, ◌∷◌, [], ◌<◌, ◌≤◌, ◌^◌, ◌≡◌, codes, length, string_bytes, IfOk, OnOk};
-ghost use Rattle.iiif_event_list.specs.Spellings.{AddsKey, AreKeys, IsDimAt, IsEventOf, IsKey, IsNumbered, IsRectAt, IsRequestAt, LineWords, NumberAt, WordAt, count_of};
+ghost use Rattle.iiif_event_list.specs.Spellings.{AddsKey, AreKeys, IsDimAt, IsEventOf, IsKey, IsNumbered, IsRectAt, IsRequestAt};
+ghost use Rattle.iiif_event_list.specs.Spellings.{LineWords, NumberAt, WordAt, count_of};
 
 use crate::fault::LineFault;
 use iiif_keys::{Name, SumKey, TileKey, is_name};

@@ -1,12 +1,14 @@
 //! Worlds and their events, line by line.
 
-ghost use Rattle.std.specs.Prelude.{◌≡◌, ◌++◌, ◌<◌, true, false, codes, decimal, length, option_copied, slice_get, string_bytes, Some, IfOk, OnOk};
+ghost use Rattle.std.specs.Prelude.{◌≡◌, ◌++◌, ◌<◌, true, false, codes, decimal, length, option_copied, slice_get, string_bytes, Some};
+ghost use Rattle.std.specs.Prelude.{IfOk, OnOk};
 ghost use Rattle.iiif_machine.specs.Worlds.{answers};
 ghost use Rattle.iiif_machine.specs.declared.events.WorldFault.{WorldFault};
 ghost use Rattle.iiif_world.specs.Code.{world_of};
 ghost use Rattle.iiif_event_list.specs.Texts.{answer_line, answers_text, outcome_text, text_of};
 ghost use Rattle.iiif_event_list.specs.Spellings.{IsSetting};
-ghost use Rattle.iiif_event_list.specs.Replays.{AreWordsOf, Comes, Happens, IsAlone, IsComment, IsDescribed, IsNew, IsOutcome, LineComes, ended_text, world_in};
+ghost use Rattle.iiif_event_list.specs.Replays.{AreWordsOf, Comes, Happens, IsAlone, IsComment, IsDescribed, IsNew, IsOutcome, LineComes};
+ghost use Rattle.iiif_event_list.specs.Replays.{ended_text, world_in};
 
 use crate::describing::Description;
 use crate::fault::LineFault;

@@ -16,7 +16,8 @@ use Rattle.iiif_group.specs.declared.group.Group.{Group}
 -- honest; or a fault that the image's source gave, or want of memory.
 abbrev pub OutcomeIs : {V A : Type 0} → Type 0 → Bool → V → (V → Bool) → (ReadFault → Bool) → Result (Arc V A) Fault → Type 0
 OutcomeIs stable honest meaning shaped gave o =
-    (stable → IsTrue honest → ForOk o (λ v. arc_value v ≡ meaning)) × ForOk o (λ v. IsTrue (shaped (arc_value v))) × ForErr o (λ f. IsTrue (is_given gave f))
+    (stable → IsTrue honest → ForOk o (λ v. arc_value v ≡ meaning)) × ForOk o (λ v. IsTrue (shaped (arc_value v))) ×
+    ForErr o (λ f. IsTrue (is_given gave f))
 
 -- an outcome, whoever shares its value
 abbrev pub outcome_of : {V A E : Type 0} → Result (Arc V A) E → Result V E
@@ -43,7 +44,8 @@ module _ {K J L V : Type 0} {a b c d e : _} where
 
   -- the outcome of a flight of this key, or the duty to load its value
   abbrev pub BegunFor : K → Type 0 → Bool → V → (V → Bool) → (ReadFault → Bool) → Begun K J L V a b c d e → Type 0
-  BegunFor key stable honest meaning shaped gave (Known r) = IfSome (receipt_known r) (λ x. (arc_value x.key ≡ key) × OutcomeIs stable honest meaning shaped gave x.outcome)
+  BegunFor key stable honest meaning shaped gave (Known r) =
+      IfSome (receipt_known r) (λ x. (arc_value x.key ≡ key) × OutcomeIs stable honest meaning shaped gave x.outcome)
   BegunFor key stable honest meaning shaped gave (Load o) = open_key o ≡ key
 
   -- a load is owed only where this holds, as that its key has passed a gate

@@ -31,7 +31,8 @@ impl<K: CacheKey, J: System, L: Ledger, N, T> Group<K, J, L, N, T> {
         T: Gate<R>,
         requires known { HasPicture J.pictures (K.name_of key.now) shape.now }
         requires fits { K.fits_in shape.now key.now }
-        ensures begun { IfOk result (λ b. BegunFor key.now (J.stable (K.name_of key.now)) J.honest (K.meaning J.pictures key.now) (K.is_shaped J.pictures key.now) (J.gave (K.name_of key.now)) b) }
+        ensures begun { IfOk result (λ b. BegunFor key.now (J.stable (K.name_of key.now)) J.honest (K.meaning J.pictures key.now)
+            (K.is_shaped J.pictures key.now) (J.gave (K.name_of key.now)) b) }
         ensures counted { OnOk result ((pass.old.gets + 1 ≤ pass.new.gets) × (pass.new.gets ≤ pass.old.gets + 2)) }
         ensures refused { OnErr result (pass.new.gets ≡ pass.old.gets) }
         ensures parts { pass.new.parts ≡ pass.old.parts }
@@ -53,7 +54,8 @@ impl<K: CacheKey, J: System, L: Ledger, N, T> Group<K, J, L, N, T> {
     ) -> Result<Begun<K, J, L>, NoMemory>
     where
         T: Gate<R>,
-        ensures begun { IfOk result (λ b. BegunFor key.now (J.stable (K.name_of key.now)) J.honest (K.meaning J.pictures key.now) (K.is_shaped J.pictures key.now) (J.gave (K.name_of key.now)) b) }
+        ensures begun { IfOk result (λ b. BegunFor key.now (J.stable (K.name_of key.now)) J.honest (K.meaning J.pictures key.now)
+            (K.is_shaped J.pictures key.now) (J.gave (K.name_of key.now)) b) }
         ensures counted { OnOk result (pass.new.gets ≡ pass.old.gets + 1) }
         ensures refused { OnErr result (pass.new.gets ≡ pass.old.gets) }
         ensures parts { pass.new.parts ≡ pass.old.parts }

@@ -32,10 +32,16 @@ impl<K: CacheKey, J: System, L: Ledger, N, T> Group<K, J, L, N, T> {
         requires meant { J.stable (K.name_of key.now) → IsTrue J.honest → ForOk outcome (λ v. arc_value v ≡ K.meaning J.pictures key.now) }
         requires shaped { ForOk outcome (λ v. IsTrue (K.is_shaped J.pictures key.now (arc_value v))) }
         requires given { ForErr outcome (λ f. IsTrue (is_given (J.gave (K.name_of key.now)) f)) }
-        ensures ended { IfSome (receipt_known result.receipt) (λ x. (arc_value x.key ≡ key.now) × OutcomeIs (J.stable (K.name_of key.now)) J.honest (K.meaning J.pictures key.now) (K.is_shaped J.pictures key.now) (J.gave (K.name_of key.now)) x.outcome) }
+        ensures ended { IfSome (receipt_known result.receipt)
+            (λ x. (arc_value x.key ≡ key.now) ×
+            OutcomeIs (J.stable (K.name_of key.now)) J.honest (K.meaning J.pictures key.now) (K.is_shaped J.pictures key.now)
+            (J.gave (K.name_of key.now)) x.outcome) }
         ensures exact { IsTrue result.exact → IfSome (receipt_known result.receipt) (λ x. outcome_of x.outcome ≡ outcome_of outcome) }
-        ensures loaded { MatchOption result.loaded (IsFalse (was_asked load)) (λ r. IfSome (receipt_known r) (λ x. (arc_value x.key ≡ key.now) × IfNone result.refused (x.outcome ≡ outcome))) }
-        ensures wanting { IfNone result.refused (IsFalse result.exact → IsTrue (was_asked load) × IfSome (receipt_known result.receipt) (λ x. outcome_of x.outcome ≡ Err Fault.NoMemory)) }
+        ensures loaded { MatchOption result.loaded (IsFalse (was_asked load))
+            (λ r. IfSome (receipt_known r) (λ x. (arc_value x.key ≡ key.now) × IfNone result.refused (x.outcome ≡ outcome))) }
+        ensures wanting { IfNone result.refused
+            (IsFalse result.exact → IsTrue (was_asked load) ×
+            IfSome (receipt_known result.receipt) (λ x. outcome_of x.outcome ≡ Err Fault.NoMemory)) }
         ensures fault { IfNone result.refused (OnErr outcome (IsTrue result.exact)) }
         ensures refused { IfSome result.refused (λ b. arc_value b.value.key ≡ key.now) }
         ensures flight { IsFirstFlight load (receipt_cell result.receipt) }

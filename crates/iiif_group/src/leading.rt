@@ -1,6 +1,7 @@
 //! What leaders do.
 
-ghost use Rattle.std.specs.Prelude.{◌≡◌, ◌≢◌, ℕ, ◌+◌, ◌≤◌, Err, IfErr, IfNone, IfOk, IfSome, IsFalse, IsSomeAnd, IsTrue, OnErr, OnOk, slice_get, Some};
+ghost use Rattle.std.specs.Prelude.{◌≡◌, ◌≢◌, ℕ, ◌+◌, ◌≤◌, Err, IfErr, IfNone, IfOk, IfSome, IsFalse, IsSomeAnd, IsTrue, OnErr, OnOk};
+ghost use Rattle.std.specs.Prelude.{slice_get, Some};
 ghost use Rattle.std.specs.Option.{ForSome};
 ghost use Rattle.std.specs.Arc.{arc_value};
 ghost use Rattle.iiif_keys.specs.Shapes.{HasPicture};
@@ -27,7 +28,8 @@ impl<K: CacheKey, J: System, L: Ledger, N, T> Group<K, J, L, N, T> {
     /// The link to the node that owns a key. None where this node does.
     pub(crate) fn peer(&self, key: &[u8]) -> Option<&N>
         ensures own { IfNone result (IsSomeAnd self.now.own (λ i. IsSomeAnd (slice_get self.now.ring i) (IsOwner self.now.ring key.now))) }
-        ensures peer { IfSome result (λ link. (i : ℕ) × (self.now.own ≢ Some i) × IsSomeAnd (slice_get self.now.ring i) (IsOwner self.now.ring key.now) × (slice_get self.now.links.items i ≡ Some link.now)) }
+        ensures peer { IfSome result (λ link. (i : ℕ) × (self.now.own ≢ Some i) ×
+            IsSomeAnd (slice_get self.now.ring i) (IsOwner self.now.ring key.now) × (slice_get self.now.links.items i ≡ Some link.now)) }
     {
         let owner = self.ring.owner(key);
         if self.own == Some(owner) {
@@ -46,8 +48,11 @@ impl<K: CacheKey, J: System, L: Ledger, N, T> Group<K, J, L, N, T> {
     ) -> (Told<K, J, L>, bool)
         requires { IfSome (receipt_known receipt) (λ x. arc_value x.key ≡ lead_key lead) }
         ensures key { IfSome (receipt_known result.0.receipt) (λ x. arc_value x.key ≡ lead_key lead) }
-        ensures exact { IsTrue result.1 → IfNone result.0.refused (IfSome (receipt_known receipt) (λ x. IfSome (receipt_known result.0.receipt) (λ y. outcome_of y.outcome ≡ outcome_of x.outcome))) }
-        ensures wanting { IsFalse result.1 → IfNone result.0.refused (IfSome (receipt_known result.0.receipt) (λ x. outcome_of x.outcome ≡ Err Fault.NoMemory)) }
+        ensures exact { IsTrue result.1 → IfNone result.0.refused
+            (IfSome (receipt_known receipt) (λ x.
+            IfSome (receipt_known result.0.receipt) (λ y. outcome_of y.outcome ≡ outcome_of x.outcome))) }
+        ensures wanting { IsFalse result.1 → IfNone result.0.refused
+            (IfSome (receipt_known result.0.receipt) (λ x. outcome_of x.outcome ≡ Err Fault.NoMemory)) }
         ensures fault { IfSome (receipt_known receipt) (λ x. OnErr x.outcome (IsTrue result.1)) }
         ensures cell { receipt_cell result.0.receipt ≡ lead_cell lead }
     {
@@ -83,7 +88,8 @@ impl<K: CacheKey, J: System, L: Ledger, N, T> Group<K, J, L, N, T> {
         requires local { lead_class local ≡ Local }
         requires wide { ForSome wide (λ w. lead_class w ≡ Wide) }
         requires key { ForSome wide (λ w. lead_key w ≡ lead_key local) }
-        ensures begun { BegunFor (lead_key local) (J.stable (K.name_of (lead_key local))) J.honest (K.meaning J.pictures (lead_key local)) (K.is_shaped J.pictures (lead_key local)) (J.gave (K.name_of (lead_key local))) result }
+        ensures begun { BegunFor (lead_key local) (J.stable (K.name_of (lead_key local))) J.honest (K.meaning J.pictures (lead_key local))
+            (K.is_shaped J.pictures (lead_key local)) (J.gave (K.name_of (lead_key local))) result }
         ensures gated { LoadsIf (T.passed (gate_of self.now) bytes.now) result }
     {
         match self.look(rt, local) {
@@ -108,7 +114,8 @@ impl<K: CacheKey, J: System, L: Ledger, N, T> Group<K, J, L, N, T> {
     ) -> Result<Begun<K, J, L>, NoMemory>
     where
         T: Gate<R>,
-        ensures begun { IfOk result (λ b. BegunFor key.now (J.stable (K.name_of key.now)) J.honest (K.meaning J.pictures key.now) (K.is_shaped J.pictures key.now) (J.gave (K.name_of key.now)) b) }
+        ensures begun { IfOk result (λ b. BegunFor key.now (J.stable (K.name_of key.now)) J.honest (K.meaning J.pictures key.now)
+            (K.is_shaped J.pictures key.now) (J.gave (K.name_of key.now)) b) }
         ensures counted { OnOk result (pass.new.gets ≡ pass.old.gets + 1) }
         ensures refused { OnErr result (pass.new.gets ≡ pass.old.gets) }
         ensures parts { pass.new.parts ≡ pass.old.parts }
@@ -168,7 +175,8 @@ impl<K: CacheKey, J: System, L: Ledger, N, T> Group<K, J, L, N, T> {
         T: Gate<R>,
         requires key { lead_key wide ≡ key.now }
         requires class { lead_class wide ≡ Wide }
-        ensures begun { BegunFor key.now (J.stable (K.name_of key.now)) J.honest (K.meaning J.pictures key.now) (K.is_shaped J.pictures key.now) (J.gave (K.name_of key.now)) result }
+        ensures begun { BegunFor key.now (J.stable (K.name_of key.now)) J.honest (K.meaning J.pictures key.now)
+            (K.is_shaped J.pictures key.now) (J.gave (K.name_of key.now)) result }
         ensures counted { (pass.old.gets ≤ pass.new.gets) × (pass.new.gets ≤ pass.old.gets + 1) }
         ensures parts { pass.new.parts ≡ pass.old.parts }
         ensures gated { LoadsIf (T.passed (gate_of self.now) bytes.now) result }
@@ -202,7 +210,8 @@ impl<K: CacheKey, J: System, L: Ledger, N, T> Group<K, J, L, N, T> {
         requires fits { K.fits_in shape.now key.now }
         requires key { lead_key wide ≡ key.now }
         requires class { lead_class wide ≡ Wide }
-        ensures begun { BegunFor key.now (J.stable (K.name_of key.now)) J.honest (K.meaning J.pictures key.now) (K.is_shaped J.pictures key.now) (J.gave (K.name_of key.now)) result }
+        ensures begun { BegunFor key.now (J.stable (K.name_of key.now)) J.honest (K.meaning J.pictures key.now)
+            (K.is_shaped J.pictures key.now) (J.gave (K.name_of key.now)) result }
         ensures counted { (pass.old.gets ≤ pass.new.gets) × (pass.new.gets ≤ pass.old.gets + 1) }
         ensures parts { pass.new.parts ≡ pass.old.parts }
         ensures gated { LoadsIf (T.passed (gate_of self.now) bytes.now) result }
@@ -232,7 +241,8 @@ impl<K: CacheKey, J: System, L: Ledger, N, T> Group<K, J, L, N, T> {
         T: Gate<R>,
         requires known { HasPicture J.pictures (K.name_of key.now) shape.now }
         requires fits { K.fits_in shape.now key.now }
-        ensures begun { IfOk result (λ b. BegunFor key.now (J.stable (K.name_of key.now)) J.honest (K.meaning J.pictures key.now) (K.is_shaped J.pictures key.now) (J.gave (K.name_of key.now)) b) }
+        ensures begun { IfOk result (λ b. BegunFor key.now (J.stable (K.name_of key.now)) J.honest (K.meaning J.pictures key.now)
+            (K.is_shaped J.pictures key.now) (J.gave (K.name_of key.now)) b) }
         ensures counted { OnOk result ((pass.old.gets + 1 ≤ pass.new.gets) × (pass.new.gets ≤ pass.old.gets + 2)) }
         ensures refused { OnErr result (pass.new.gets ≡ pass.old.gets) }
         ensures parts { pass.new.parts ≡ pass.old.parts }

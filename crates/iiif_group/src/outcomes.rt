@@ -18,7 +18,8 @@ use std::sync::ledger::Ledger;
 /// A share of an outcome, and whether it is that: want of memory where the value refuses another share. A fault is always told as it is.
 pub fn shared<V: Drop>(outcome: &Result<Arc<V>, Fault>) -> (Result<Arc<V>, Fault>, bool)
     ensures ok { ForOk result.0 (λ v. value_of outcome.now ≡ Some (arc_value v)) }
-    ensures err { (gave : ReadFault → Bool) → ForErr outcome.now (λ f. IsTrue (is_given gave f)) → ForErr result.0 (λ f. IsTrue (is_given gave f)) }
+    ensures err { (gave : ReadFault → Bool) → ForErr outcome.now (λ f. IsTrue (is_given gave f)) →
+        ForErr result.0 (λ f. IsTrue (is_given gave f)) }
     ensures same { IsTrue result.1 → outcome_of result.0 ≡ outcome_of outcome.now }
     ensures wanting { IsFalse result.1 → outcome_of result.0 ≡ Err Fault.NoMemory }
     ensures fault { OnErr outcome.now (IsTrue result.1) }

@@ -4,7 +4,9 @@ ghost use Rattle.std.specs.Prelude.{◌≡◌, ◌+◌, IfErr, IfNone, IfOk, IfS
 ghost use Rattle.std.specs.Result.{ForErr, ForOk};
 ghost use Rattle.std.specs.Arc.{arc_value};
 ghost use Rattle.iiif_outcome.specs.Outcomes.{is_given};
-ghost use Rattle.iiif_singleflight.specs.Views.{flight_cell, flight_key, flight_ticket, landing_cell, landing_known, landing_own, landing_refused, lead_cell, lead_class, lead_key, receipt_cell, receipt_known, receipt_ticket};
+ghost use Rattle.iiif_singleflight.specs.Views.{flight_cell, flight_key, flight_ticket, landing_cell, landing_known, landing_own};
+ghost use Rattle.iiif_singleflight.specs.Views.{landing_refused, lead_cell, lead_class, lead_key, receipt_cell, receipt_known};
+ghost use Rattle.iiif_singleflight.specs.Views.receipt_ticket;
 ghost use Rattle.iiif_group.specs.Code.{EntersFor};
 
 use crate::group::Group;
@@ -58,7 +60,8 @@ impl<K: CacheKey, J: System, L: Ledger, N, T> Group<K, J, L, N, T> {
         rt: &R,
         lead: &Lead<K, J, L>,
     ) -> Result<Option<Arc<K::Value>>, NoMemory>
-        ensures meant { IfOk result (λ o. IfSome o (λ v. J.stable (K.name_of (lead_key lead.now)) → IsTrue J.honest → arc_value v ≡ K.meaning J.pictures (lead_key lead.now))) }
+        ensures meant { IfOk result (λ o. IfSome o
+            (λ v. J.stable (K.name_of (lead_key lead.now)) → IsTrue J.honest → arc_value v ≡ K.meaning J.pictures (lead_key lead.now))) }
         ensures shaped { IfOk result (λ o. IfSome o (λ v. IsTrue (K.is_shaped J.pictures (lead_key lead.now) (arc_value v)))) }
     {
         self.home.lock(rt).table.again(lead)
@@ -93,7 +96,8 @@ impl<K: CacheKey, J: System, L: Ledger, N, T> Group<K, J, L, N, T> {
         outcome: Result<Arc<K::Value>, Fault>,
         origin: Origin,
     ) -> Told<K, J, L>
-        requires meant { J.stable (K.name_of (lead_key lead)) → IsTrue J.honest → ForOk outcome (λ v. arc_value v ≡ K.meaning J.pictures (lead_key lead)) }
+        requires meant { J.stable (K.name_of (lead_key lead)) → IsTrue J.honest →
+            ForOk outcome (λ v. arc_value v ≡ K.meaning J.pictures (lead_key lead)) }
         requires shaped { ForOk outcome (λ v. IsTrue (K.is_shaped J.pictures (lead_key lead) (arc_value v))) }
         requires given { ForErr outcome (λ f. IsTrue (is_given (J.gave (K.name_of (lead_key lead))) f)) }
         ensures key { IfSome (receipt_known result.receipt) (λ x. arc_value x.key ≡ lead_key lead) }

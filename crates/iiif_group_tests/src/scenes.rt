@@ -119,7 +119,8 @@ where
     J: System + Send + Sync,
     requires pictures { (name : List ℕ) → J.pictures name ≡ pictures_of ⟦<Doorway as Source<R>>⟧.bytes catalogue name }
     requires gave { (name : List ℕ) (f : ReadFault) → J.gave name f ≡ gave_of ⟦<Doorway as Source<R>>⟧.gave catalogue name f }
-    requires stable { (name : List ℕ) (item : Item _) → item_named catalogue name ≡ Some item → J.stable name → ∥ ⟦<Doorway as Source<R>>⟧.keeps item.source ∥₁ }
+    requires stable { (name : List ℕ) (item : Item _) → item_named catalogue name ≡ Some item → J.stable name →
+        ∥ ⟦<Doorway as Source<R>>⟧.keeps item.source ∥₁ }
     requires edge { J.edge ≡ 2 }
     requires tiles { (tiles.name ≡ J.tiles_name) × (tiles.parts ≡ J.tiles_parts) × (J.tiles_parts ≡ 65537) }
     requires sums { (sums.name ≡ J.sums_name) × (sums.parts ≡ J.sums_parts) × (J.sums_parts ≡ 65537) }

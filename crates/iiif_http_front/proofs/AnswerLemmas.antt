@@ -1,5 +1,6 @@
 -- What is known of the bytes that came is known of the whole input.
-use Rattle.std.proofs.Common.{◌≡◌, ℕ, ◌+◌, ◌-◌, ◌≤◌, List, [], ◌++◌, length, take, drop, sym, ap, ◌∙◌, subst, arith, refl, append_assoc, append-nil, Option, Some, None, Result, Ok, Err}
+use Rattle.std.proofs.Common.{◌≡◌, ℕ, ◌+◌, ◌-◌, ◌≤◌, List, [], ◌++◌, length, take, drop, sym, ap, ◌∙◌, subst, arith, refl, append_assoc}
+use Rattle.std.proofs.Common.{append-nil, Option, Some, None, Result, Ok, Err}
 use Rattle.std.specs.Prelude.{IfSome}
 use Rattle.std.specs.Io.KnownBytes.{prepend_known, Consumes}
 use Rattle.std.proofs.Math.Seq.{take-append-add, take-append_seam}
@@ -15,13 +16,15 @@ use Rattle.iiif_http_front.specs.Reading.{IsBad, no_head, many_fields, has_body,
 use Rattle.iiif_http_front.specs.Code.{Finds}
 
 -- an answer that is right whatever follows the bytes that came is right of a known input, and of what came
-pub answers_known : (a b : Option (List ℕ)) (old came now left : List ℕ) (r : Result (Option Call) HeadFault) → now ≡ old ++ came → Consumes a b came
+pub answers_known : (a b : Option (List ℕ)) (old came now left : List ℕ) (r : Result (Option Call) HeadFault) → now ≡ old ++ came →
+    Consumes a b came
     → ((rest : List ℕ) → Answers (now ++ rest) (Some (left ++ rest)) r)
     → IfSome (prepend_known old a) (λ input. Answers input (prepend_known left b) r)
 answers_known None b old came now left r is took right = tt
 answers_known (Some xs) None old came now left r is took right = absurd took
 answers_known (Some xs) (Some ys) old came now left r is took right =
-    let whole : now ++ ys ≡ old ++ xs = ap (λ (t : List ℕ). t ++ ys) is ∙ append_assoc old came ys ∙ ap (λ (t : List ℕ). old ++ t) (sym took) in
+    let whole : now ++ ys ≡ old ++ xs = ap (λ (t : List ℕ). t ++ ys) is ∙ append_assoc old came ys ∙
+    ap (λ (t : List ℕ). old ++ t) (sym took) in
     subst (λ (t : List ℕ). Answers t (Some (left ++ ys)) r) whole (right ys)
 
 pub answers_came : (old came now left : List ℕ) (r : Result (Option Call) HeadFault) → now ≡ old ++ came → Answers now (Some left) r
@@ -29,13 +32,15 @@ pub answers_came : (old came now left : List ℕ) (r : Result (Option Call) Head
 answers_came old came now left r is right = (came, subst (λ (t : List ℕ). Answers t (Some left) r) is right)
 
 -- nothing follows
-pub answers_here : (now left : List ℕ) (r : Result (Option Call) HeadFault) → ((rest : List ℕ) → Answers (now ++ rest) (Some (left ++ rest)) r) → Answers now (Some left) r
+pub answers_here : (now left : List ℕ) (r : Result (Option Call) HeadFault) →
+    ((rest : List ℕ) → Answers (now ++ rest) (Some (left ++ rest)) r) → Answers now (Some left) r
 answers_here now left r right =
     let first : Answers now (Some (left ++ [])) r = subst (λ (t : List ℕ). Answers t (Some (left ++ [])) r) (append-nil now) (right []) in
     subst (λ (t : List ℕ). Answers now (Some t) r) (append-nil left) first
 
 -- a call at the front stays there
-pub call-append : (bytes : List ℕ) (h : RequestHead) (left rest : List ℕ) → BeginsWithCall bytes h left → BeginsWithCall (bytes ++ rest) h (left ++ rest)
+pub call-append : (bytes : List ℕ) (h : RequestHead) (left rest : List ℕ) → BeginsWithCall bytes h left →
+    BeginsWithCall (bytes ++ rest) h (left ++ rest)
 call-append bytes h left rest call = record {
   reads = ReadsRequest-append bytes h left rest call.reads;
   bytes = call.bytes;
@@ -56,7 +61,8 @@ bad-append bytes more (many_fields over all) =
 bad-append bytes more (has_body h rest reads announced) = has_body h (rest ++ more) (ReadsRequest-append bytes h rest more reads) announced
 
 -- what was found is right whatever follows
-fault_found : (bytes : List ℕ) (fault : HeadFault) → length bytes ≤ 8192 → Finds bytes (Err fault) → (rest : List ℕ) → Answers (bytes ++ rest) (Some (bytes ++ rest)) (Err fault)
+fault_found : (bytes : List ℕ) (fault : HeadFault) → length bytes ≤ 8192 → Finds bytes (Err fault) → (rest : List ℕ) →
+    Answers (bytes ++ rest) (Some (bytes ++ rest)) (Err fault)
 fault_found bytes Bad fits bad = λ rest.
     let front = take-append-within byte_limit bytes rest fits in
     (subst IsBad (sym front.1) (bad-append bytes front.0 bad), refl)
@@ -70,7 +76,8 @@ pub found_fault : (shown bytes : List ℕ) (fault : HeadFault) → shown ≡ byt
     → (rest : List ℕ) → Answers (bytes ++ rest) (Some (bytes ++ rest)) (Err fault)
 found_fault shown bytes fault same fits found = fault_found bytes fault fits (subst (λ (t : List ℕ). Finds t (Err fault)) same found)
 
-call_found : (bytes : List ℕ) (call : Call) (n : ℕ) → Finds bytes (Ok (Whole call n)) → (rest : List ℕ) → Answers (bytes ++ rest) (Some (drop n bytes ++ rest)) (Ok (Some call))
+call_found : (bytes : List ℕ) (call : Call) (n : ℕ) → Finds bytes (Ok (Whole call n)) → (rest : List ℕ) →
+    Answers (bytes ++ rest) (Some (drop n bytes ++ rest)) (Ok (Some call))
 call_found bytes call n found = λ rest.
     let head = found.1 in
     (head.0, drop n bytes ++ rest, call-append bytes head.0 (drop n bytes) rest head.1, head.2, refl)

@@ -1,5 +1,6 @@
 -- An input that begins with a call has no other answer.
-use Rattle.std.proofs.Common.{◌≡◌, ℕ, ◌+◌, ◌<◌, ◌-◌, ◌≤◌, List, [], ◌++◌, length, take, inl, inr, sym, ap, ◌∙◌, subst, arith, refl, append-nil, Some, None, Ok, Err, true, false}
+use Rattle.std.proofs.Common.{◌≡◌, ℕ, ◌+◌, ◌<◌, ◌-◌, ◌≤◌, List, [], ◌++◌, length, take, inl, inr, sym, ap, ◌∙◌, subst, arith, refl}
+use Rattle.std.proofs.Common.{append-nil, Some, None, Ok, Err, true, false}
 use Rattle.std.proofs.Math.Seq.{take-append-add}
 use Rattle.std.proofs.Math.ListN.{length-append}
 use Rattle.httparse.specs.Grammar.{RequestHead, ReadsRequest, print_request}
@@ -18,7 +19,8 @@ unfolding print_request
 some_byte h = simp (print_request, length-append) (omega arith)
 
 -- the first bytes that a head may have hold a whole call
-in_limit : (input : List ℕ) (h : RequestHead) (rest : List ℕ) → BeginsWithCall input h rest → (more : List ℕ) × ReadsRequest (take byte_limit input) h more
+in_limit : (input : List ℕ) (h : RequestHead) (rest : List ℕ) → BeginsWithCall input h rest → (more : List ℕ) ×
+    ReadsRequest (take byte_limit input) h more
 in_limit input h rest call =
     let text : List ℕ = print_request h in
     let split : byte_limit ≡ length text + (byte_limit - length text) = omega (arith, call.bytes) in
@@ -26,10 +28,13 @@ in_limit input h rest call =
     ap (take byte_limit) call.reads.1 ∙ ap (λ k. take k (text ++ rest)) split ∙ take-append-add text rest (byte_limit - length text) in
     (take (byte_limit - length text) rest, (call.reads.0, front))
 
-not_bad : (bytes : List ℕ) (h : RequestHead) (more : List ℕ) → ReadsRequest bytes h more → length h.fields ≤ field_limit → announces_body h ≡ false → IsBad bytes → ⊥
-not_bad bytes h more reads few bare (no_head never) = never [] h more (subst (λ (t : List ℕ). ReadsRequest t h more) (sym (append-nil bytes)) reads)
+not_bad : (bytes : List ℕ) (h : RequestHead) (more : List ℕ) → ReadsRequest bytes h more → length h.fields ≤ field_limit →
+    announces_body h ≡ false → IsBad bytes → ⊥
+not_bad bytes h more reads few bare (no_head never) =
+    never [] h more (subst (λ (t : List ℕ). ReadsRequest t h more) (sym (append-nil bytes)) reads)
 not_bad bytes h more reads few bare (many_fields over all) =
-    let many : field_limit < length h.fields = all [] h more (subst (λ (t : List ℕ). ReadsRequest t h more) (sym (append-nil bytes)) reads) in
+    let many : field_limit < length h.fields =
+    all [] h more (subst (λ (t : List ℕ). ReadsRequest t h more) (sym (append-nil bytes)) reads) in
     omega (arith, many, few)
 not_bad bytes h more reads few bare (has_body k rest other announced) =
     let same = (request_unique bytes h k more rest reads other).0 in

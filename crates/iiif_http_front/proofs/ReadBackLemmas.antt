@@ -1,5 +1,6 @@
 -- A head that is written is read back.
-use Rattle.std.proofs.Common.{◌≡◌, ℕ, ◌+◌, ◌/◌, ◌%◌, ◌<◌, ◌^◌, Bool, true, false, not, List, [], ◌∷◌, ◌++◌, length, map, refl, sym, ap, ◌∙◌, arith, rules, append_assoc, append-nil, decimal, codes, IsTrue, Some}
+use Rattle.std.proofs.Common.{◌≡◌, ℕ, ◌+◌, ◌/◌, ◌%◌, ◌<◌, ◌^◌, Bool, true, false, not, List, [], ◌∷◌, ◌++◌, length, map, refl, sym, ap}
+use Rattle.std.proofs.Common.{◌∙◌, arith, rules, append_assoc, append-nil, decimal, codes, IsTrue, Some}
 use Rattle.std.specs.Prelude.{All, unwrap_or}
 use Rattle.std.specs.List.{list_all, flat_map}
 use Rattle.std.specs.Char.{is_ascii_digit}
@@ -11,7 +12,8 @@ use Rattle.std.proofs.Math.ListN.{length-append}
 use Rattle.std.proofs.lemmas.List.Concat.{flat_map-append}
 use Rattle.std.proofs.lemmas.List.Elements.{All-append, All-head, All-tail, All-nil, All-cons, All-map, All-weaker, All-push}
 use Rattle.std.proofs.lemmas.List.Sums.{AllPass-from_list_all}
-use Rattle.httparse.specs.Grammar.{AllPass, is_token_byte, is_value_byte, is_ows, trim_ows, crlf, print_field, Field, IsField, ResponseHead, IsResponseHead, print_response}
+use Rattle.httparse.specs.Grammar.{AllPass, is_token_byte, is_value_byte, is_ows, trim_ows, crlf, print_field, Field, IsField}
+use Rattle.httparse.specs.Grammar.{ResponseHead, IsResponseHead, print_response}
 use Rattle.httparse.specs.Spans.{name_and_value}
 use Rattle.http.specs.StatusCode.{IsStatusCode, reason_phrase}
 use Rattle.iiif_http_front.specs.AnswerHeads.{line_end, status_line, field_line, length_line, close_line, head_text}
@@ -59,7 +61,8 @@ plain_is_field f plain = record {
 }
 
 plain_are_fields : (fields : List (List ℕ × List ℕ)) → All IsPlainField fields → All IsField (map written fields)
-plain_are_fields fields plain = All-map IsField written fields (All-weaker IsPlainField (λ f. IsField (written f)) plain_is_field fields plain)
+plain_are_fields fields plain = All-map IsField written fields
+    (All-weaker IsPlainField (λ f. IsField (written f)) plain_is_field fields plain)
 
 -- a test that each digit passes, each byte of a number's text passes
 digits_pass : (test : ℕ → Bool) → agree_below (λ d. test (48 + d)) (λ _. true) 10 ≡ true → (n : ℕ) → n < 2 ^ 64 → AllPass test (decimal n)
@@ -128,11 +131,13 @@ regroup : (a b c d e : List ℕ) → (((a ++ b) ++ c) ++ d) ++ e ≡ a ++ ((b ++
 regroup a b c d e = simp append_assoc
 
 text_is : (status : ℕ) (fields : List (List ℕ × List ℕ)) (n : ℕ) (close : Bool)
-    → head_text status fields n close ≡ status_line status ++ (flat_map print_field (map written (fields ++ (codes "Content-Length", decimal n) ∷ close_fields close)) ++ line_end)
+    → head_text status fields n close ≡ status_line status ++
+    (flat_map print_field (map written (fields ++ (codes "Content-Length", decimal n) ∷ close_fields close)) ++ line_end)
 unfolding head_text
 text_is status fields n close =
     let length_field : List ℕ × List ℕ = (codes "Content-Length", decimal n) in
-    let lines : flat_map print_field (map written (fields ++ length_field ∷ close_fields close)) ≡ flat_map field_line fields ++ (length_line n ++ close_line close) =
+    let lines : flat_map print_field (map written (fields ++ length_field ∷ close_fields close)) ≡ flat_map field_line fields ++
+    (length_line n ++ close_line close) =
     lines_are (fields ++ length_field ∷ close_fields close)
     ∙ flat_map-append field_line fields (length_field ∷ close_fields close)
     ∙ ap (λ (t : List ℕ). flat_map field_line fields ++ (t ++ flat_map field_line (close_fields close))) (sym (length_line_is n))
@@ -140,7 +145,8 @@ text_is status fields n close =
     regroup (status_line status) (flat_map field_line fields) (length_line n) (close_line close) line_end
     ∙ ap (λ (t : List ℕ). status_line status ++ (t ++ line_end)) (sym lines)
 
-print_is : (status : ℕ) (fields : List (List ℕ × List ℕ)) → status_line status ++ (flat_map print_field (map written fields) ++ line_end) ≡ print_response (head_of status fields)
+print_is : (status : ℕ) (fields : List (List ℕ × List ℕ)) →
+    status_line status ++ (flat_map print_field (map written fields) ++ line_end) ≡ print_response (head_of status fields)
 unfolding status_line print_response head_of
 print_is status fields =
     let code : List ℕ = codes "HTTP/1.1 " ++ decimal status in

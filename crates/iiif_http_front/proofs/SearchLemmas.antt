@@ -20,16 +20,24 @@ call_begins bytes headers r h at room short bare =
     record {
       reads = at.reads;
       bytes = omega (arith, at.len);
-      fields = omega (arith, same, length-map (take r.headers headers) (header_bytes bytes), length-map h.fields name_and_value, length-take r.headers headers);
+      fields = omega (
+        arith,
+        same,
+        length-map (take r.headers headers) (header_bytes bytes),
+        length-map h.fields name_and_value,
+        length-take r.headers headers,
+      );
       bare = sym (ap (list_any is_body_field) at.fields) ∙ bare;
     }
 
 pub body_announced : (bytes : List ℕ) (headers : List HeaderSpan) (r : RequestSpans) (h : RequestHead) → IsRequestAt bytes headers r h
     → list_any is_body_field (map (header_bytes bytes) (take r.headers headers)) ≡ true → IsBad bytes
 unfolding announces_body
-body_announced bytes headers r h at announced = has_body h (drop r.len bytes) at.reads (sym (ap (list_any is_body_field) at.fields) ∙ announced)
+body_announced bytes headers r h at announced =
+    has_body h (drop r.len bytes) at.reads (sym (ap (list_any is_body_field) at.fields) ∙ announced)
 
-pub call_said : (bytes : List ℕ) (headers : List HeaderSpan) (r : RequestSpans) (h : RequestHead) (call : Call) → IsRequestAt bytes headers r h
+pub call_said : (bytes : List ℕ) (headers : List HeaderSpan) (r : RequestSpans) (h : RequestHead) (call : Call) →
+    IsRequestAt bytes headers r h
     → call.method ≡ span_bytes bytes r.method → call.target.items ≡ span_bytes bytes r.path
     → call.close ≡ (r.version == 0 || list_any is_close_field (map (header_bytes bytes) (take r.headers headers)))
     → IsCallOf call h

@@ -1,8 +1,10 @@
 -- Laws of inputs and of answers, which the functions of the module `laws` have as their contracts.
-use Rattle.std.specs.Prelude.{◌≡◌, true, ◌&&◌, bytes_eq, ℕ, ◌^◌, ◌<◌, ◌⊎◌, Bool, List, [], ◌∷◌, ◌++◌, All, map, codes, decimal, if◌then◌else◌, Option, Some, Result, Ok, Err}
+use Rattle.std.specs.Prelude.{◌≡◌, true, ◌&&◌, bytes_eq, ℕ, ◌^◌, ◌<◌, ◌⊎◌, Bool, List, [], ◌∷◌, ◌++◌, All, map, codes, decimal}
+use Rattle.std.specs.Prelude.{if◌then◌else◌, Option, Some, Result, Ok, Err}
 use Rattle.std.specs.List.{list_all}
 use Rattle.http.specs.StatusCode.{IsStatusCode}
-use Rattle.httparse.specs.Grammar.{AllPass, is_uri_byte, is_value_byte, IsToken, is_token, trim_ows, RequestHead, ResponseHead, ReadsResponse, status_code}
+use Rattle.httparse.specs.Grammar.{AllPass, is_uri_byte, is_value_byte, IsToken, is_token, trim_ows, RequestHead, ResponseHead}
+use Rattle.httparse.specs.Grammar.{ReadsResponse, status_code}
 use Rattle.httparse.specs.Spans.{name_and_value}
 use Rattle.iiif_http_front.specs.AnswerHeads.{head_text}
 use Rattle.iiif_http_front.specs.RequestHeads.{BeginsWithCall}

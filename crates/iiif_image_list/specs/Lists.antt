@@ -1,5 +1,6 @@
 -- Lists of images as text: a line names an image and its file, as NAME=FILE.
-use Rattle.std.specs.Prelude.{◌≡◌, ℕ, ◌+◌, ◌-◌, ◌<◌, ◌≤◌, ◌==◌, ◌||◌, ◌&&◌, ◌++◌, ◌∷◌, Bool, not, List, [], filter, map, length, take, drop, slice_index, slice_index_or, Option, Some, None, Result, Ok, Err, if◌then◌else◌, bytes_eq}
+use Rattle.std.specs.Prelude.{◌≡◌, ℕ, ◌+◌, ◌-◌, ◌<◌, ◌≤◌, ◌==◌, ◌||◌, ◌&&◌, ◌++◌, ◌∷◌, Bool, not, List, [], filter, map, length, take}
+use Rattle.std.specs.Prelude.{drop, slice_index, slice_index_or, Option, Some, None, Result, Ok, Err, if◌then◌else◌, bytes_eq}
 use Rattle.std.specs.List.{list_any, count_by, before_first, after_first, position_or_len}
 use Rattle.std.specs.Str.{IsUtf8}
 use Rattle.std.specs.Str.Lines.{lines}

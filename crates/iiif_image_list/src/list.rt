@@ -3,7 +3,8 @@
 ghost use Rattle.std.specs.Prelude.{◌≡◌, ◌++◌, ◌∷◌, [], is_some, ◌<◌, OnOk, OnErr, IfOk, IfErr, length};
 ghost use Rattle.std.specs.Str.{IsUtf8};
 ghost use Rattle.std.specs.Str.Lines.{lines};
-ghost use Rattle.iiif_image_list.specs.Lists.{image_of, images_of, has_blank_around, has_name, is_blank, is_loose, line_at, refusal_of, refusal_of_line, shown, unmarked, AreTaken, EndsAtByte, EndsAtLine, IsList, Takes};
+ghost use Rattle.iiif_image_list.specs.Lists.{image_of, images_of, has_blank_around, has_name, is_blank, is_loose, line_at, refusal_of};
+ghost use Rattle.iiif_image_list.specs.Lists.{refusal_of_line, shown, unmarked, AreTaken, EndsAtByte, EndsAtLine, IsList, Takes};
 
 use crate::fault::{Fault, LineFault};
 use iiif_keys::is_name;
@@ -75,8 +76,10 @@ impl<'a> ImageList<'a> {
     /// counted from 1.
     pub fn add_text(&mut self, text: &'a [u8]) -> Result<(), LineFault>
         ensures list { OnOk result (IsList self.old (unmarked text.now) self.new) }
-        ensures line { IsUtf8 (unmarked text.now) → IfErr result (λ f. EndsAtLine self.old (lines (unmarked text.now)) f.line f.fault self.new) }
-        ensures byte { ¬ (IsUtf8 (unmarked text.now)) → IfErr result (λ f. EndsAtByte self.old (unmarked text.now) f.line f.fault self.new) }
+        ensures line { IsUtf8 (unmarked text.now) →
+            IfErr result (λ f. EndsAtLine self.old (lines (unmarked text.now)) f.line f.fault self.new) }
+        ensures byte { ¬ (IsUtf8 (unmarked text.now)) →
+            IfErr result (λ f. EndsAtByte self.old (unmarked text.now) f.line f.fault self.new) }
     {
         self.add_unmarked(without_mark(text))
     }

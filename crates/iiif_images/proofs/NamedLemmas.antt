@@ -15,7 +15,8 @@ unfolding given_by
 gave_there gave items name item f e = ap (λ o. given_by gave o f) e
 
 -- the image that stands under a name
-pub image_there : {S : Type 0} (shows : Pictures) (gave : List ℕ → ReadFault → Bool) (stable : List ℕ → Type 0) (bytes : S → List ℕ) (source_gave : S → ReadFault → Bool)
+pub image_there : {S : Type 0} (shows : Pictures) (gave : List ℕ → ReadFault → Bool) (stable : List ℕ → Type 0) (bytes : S → List ℕ)
+    (source_gave : S → ReadFault → Bool)
     (keeps : S → Type 0) (items : List (Item S)) (name : List ℕ) (item : Item S)
     → shows name ≡ pictures_of bytes items name → ((f : ReadFault) → gave name f ≡ gave_of source_gave items name f)
     → ((i : Item S) → item_named items name ≡ Some i → stable name → ∥ keeps i.source ∥₁)
@@ -28,7 +29,8 @@ image_there shows gave stable bytes source_gave keeps items name item picture gi
   kept = kept item found;
 }
 
-pub has_picture : (shows : Pictures) (name : List ℕ) (p : Picture) (s : Shape) → shows name ≡ Some p → shape_of p ≡ s → HasPicture shows name s
+pub has_picture : (shows : Pictures) (name : List ℕ) (p : Picture) (s : Shape) → shows name ≡ Some p → shape_of p ≡ s →
+    HasPicture shows name s
 has_picture shows name p s e shape =
     let is : named shows name ≡ p = ap (λ (o : Option Picture). unwrap_or o no_picture) e in
     record {

@@ -32,9 +32,11 @@ abbrev dim_made : ℕ → ℕ → Dim
 dim_made w h = record { w = w; h = h }
 
 -- it is one that a source holds
-seen_source : (bytes : List ℕ) (s : Scheme) (d : Dim) → All (λ b. b ≤ 255) bytes → (s.channels ≡ 1) ⊎ (s.channels ≡ 3) → d.w ≡ s.width → d.h ≡ s.height → IsReadable d → IsSource (seen bytes s)
+seen_source : (bytes : List ℕ) (s : Scheme) (d : Dim) → All (λ b. b ≤ 255) bytes → (s.channels ≡ 1) ⊎ (s.channels ≡ 3) → d.w ≡ s.width →
+    d.h ≡ s.height → IsReadable d → IsSource (seen bytes s)
 seen_source bytes s d all channels w h limits = record {
-  whole = whole_picture_of s.width s.height s.channels (white_of s.bits) (shown bytes s) channels (white_is s.bits) (λ x y k lx ly lk. shown-le bytes s x y k all);
+  whole = whole_picture_of s.width s.height s.channels (white_of s.bits) (shown bytes s) channels (white_is s.bits)
+      (λ x y k lx ly lk. shown-le bytes s x y k all);
   readable = subst IsReadable (same_dim d (dim_made s.width s.height) w h) limits;
 }
 
@@ -57,12 +59,15 @@ seen_shows bytes s e p =
 
 module _ {S : Type 0} (bytes : S → List ℕ) (item : Item S) where
   -- the shape of an image's picture
-  pub picture_shape : (s : Shape) → s.dim.w ≡ item.layout.width → s.dim.h ≡ item.layout.height → channels_of s.kind ≡ item.layout.channels → top_of s.depth ≡ white_of item.layout.bits
+  pub picture_shape : (s : Shape) → s.dim.w ≡ item.layout.width → s.dim.h ≡ item.layout.height → channels_of s.kind ≡ item.layout.channels →
+      top_of s.depth ≡ white_of item.layout.bits
       → shape_of (picture_in bytes item) ≡ s
   unfolding picture_in
-  picture_shape s w h channels top = shape_is (seen (bytes item.source) item.layout) s (same_dim _ s.dim (sym w) (sym h)) (sym channels) (sym top)
+  picture_shape s w h channels top = shape_is (seen (bytes item.source) item.layout) s (same_dim _ s.dim (sym w) (sym h)) (sym channels)
+      (sym top)
 
-  pub picture_source : All (λ b. b ≤ 255) (bytes item.source) → (kind : Kind) → channels_of kind ≡ item.layout.channels → (d : Dim) → d.w ≡ item.layout.width → d.h ≡ item.layout.height
+  pub picture_source : All (λ b. b ≤ 255) (bytes item.source) → (kind : Kind) → channels_of kind ≡ item.layout.channels → (d : Dim) →
+      d.w ≡ item.layout.width → d.h ≡ item.layout.height
       → IsReadable d → IsSource (picture_in bytes item)
   unfolding picture_in
   picture_source all kind channels d w h limits =
@@ -73,15 +78,20 @@ module _ {S : Type 0} (bytes : S → List ℕ) (item : Item S) where
   unfolding picture_in
   picture_dim s shape = ap (λ (u : Shape). u.dim) (sym shape)
 
-  pub picture_kind : (s : Shape) → shape_of (picture_in bytes item) ≡ s → IsSource (picture_in bytes item) → channels_of s.kind ≡ item.layout.channels
+  pub picture_kind : (s : Shape) → shape_of (picture_in bytes item) ≡ s → IsSource (picture_in bytes item) →
+      channels_of s.kind ≡ item.layout.channels
   unfolding picture_in
-  picture_kind s shape source = ap (λ (u : Shape). channels_of u.kind) (sym shape) ∙ kind_with_channels item.layout.channels source.whole.channels
+  picture_kind s shape source = ap (λ (u : Shape). channels_of u.kind) (sym shape) ∙
+      kind_with_channels item.layout.channels source.whole.channels
 
-  pub picture_depth : (s : Shape) → shape_of (picture_in bytes item) ≡ s → IsSource (picture_in bytes item) → top_of s.depth ≡ white_of item.layout.bits
+  pub picture_depth : (s : Shape) → shape_of (picture_in bytes item) ≡ s → IsSource (picture_in bytes item) →
+      top_of s.depth ≡ white_of item.layout.bits
   unfolding picture_in
-  picture_depth s shape source = ap (λ (u : Shape). top_of u.depth) (sym shape) ∙ depth_with_top (white_of item.layout.bits) source.whole.top
+  picture_depth s shape source = ap (λ (u : Shape). top_of u.depth) (sym shape) ∙
+      depth_with_top (white_of item.layout.bits) source.whole.top
 
-  pub picture_shows : item.layout ≡ scheme (bytes item.source) → IsSource (picture_in bytes item) → Shows (bytes item.source) (picture_in bytes item)
+  pub picture_shows : item.layout ≡ scheme (bytes item.source) → IsSource (picture_in bytes item) →
+      Shows (bytes item.source) (picture_in bytes item)
   unfolding picture_in
   picture_shows e p = seen_shows (bytes item.source) item.layout e p
 
@@ -89,7 +99,8 @@ module _ {S : Type 0} (bytes : S → List ℕ) (item : Item S) where
 pub tile_val_prop : (v w : TileVal) → IsProp (v ≡ w)
 tile_val_prop v w = hlevel props
 
-pub tile_is : (shows : Pictures) (k : TileKey) (p : Picture) (s : Shape) (v : TileVal) → shows k.name ≡ Some p → shape_of p ≡ s → v.raster ≡ crop p (tile_of s.dim k)
+pub tile_is : (shows : Pictures) (k : TileKey) (p : Picture) (s : Shape) (v : TileVal) → shows k.name ≡ Some p → shape_of p ≡ s →
+    v.raster ≡ crop p (tile_of s.dim k)
     → v ≡ tile_meaning shows k
 tile_is shows k p s v known shape made =
     let is : named shows k.name ≡ p = ap (λ (o : Option Picture). unwrap_or o no_picture) known in

@@ -31,7 +31,8 @@ pub struct Images<R, S: Source<R>, J: System> {
     of: PhantomData<J>,
     pub ghost pictures: { (name : List ℕ) → J.pictures name ≡ pictures_of S.bytes catalogue name },
     pub ghost gave: { (name : List ℕ) (f : ReadFault) → J.gave name f ≡ gave_of S.gave catalogue name f },
-    pub ghost stable: { (name : List ℕ) (item : Item S) → item_named catalogue name ≡ Some item → J.stable name → ∥ S.keeps item.source ∥₁ },
+    pub ghost stable: { (name : List ℕ) (item : Item S) → item_named catalogue name ≡ Some item → J.stable name →
+        ∥ S.keeps item.source ∥₁ },
     pub ghost edge_is: { edge ≡ J.edge },
 }
 
@@ -48,7 +49,8 @@ impl<R, S: Source<R> + Drop, J: System> Images<R, S, J> {
     pub fn new(alloc: Global, catalogue: Catalogue<R, S>, edge: u32) -> Images<R, S, J>
         requires pictures { (name : List ℕ) → J.pictures name ≡ pictures_of S.bytes catalogue name }
         requires gave { (name : List ℕ) (f : ReadFault) → J.gave name f ≡ gave_of S.gave catalogue name f }
-        requires stable { (name : List ℕ) (item : Item S) → item_named catalogue name ≡ Some item → J.stable name → ∥ S.keeps item.source ∥₁ }
+        requires stable { (name : List ℕ) (item : Item S) → item_named catalogue name ≡ Some item → J.stable name →
+            ∥ S.keeps item.source ∥₁ }
         requires edge { edge ≡ J.edge }
         ensures { items_in result ≡ catalogue }
     {
@@ -65,7 +67,8 @@ impl<R, S: Source<R> + Drop, J: System> Images<R, S, J> {
         ensures items { result.now ≡ items_in self.now }
         ensures pictures { (name : List ℕ) → J.pictures name ≡ pictures_of S.bytes result.now name }
         ensures gave { (name : List ℕ) (f : ReadFault) → J.gave name f ≡ gave_of S.gave result.now name f }
-        ensures stable { (name : List ℕ) (item : Item S) → item_named result.now name ≡ Some item → J.stable name → ∥ S.keeps item.source ∥₁ }
+        ensures stable { (name : List ℕ) (item : Item S) → item_named result.now name ≡ Some item → J.stable name →
+            ∥ S.keeps item.source ∥₁ }
     {
         &self.catalogue
     }
@@ -79,7 +82,8 @@ impl<R, S: Source<R> + Drop, J: System> Images<R, S, J> {
 
     /// The image of a key that names something, and its shape. It takes no memory.
     pub fn image_of<K: CacheKey>(&self, key: &K) -> Result<(&Entry<R, S>, Shape), Fault>
-        ensures image { IfOk result (λ r. IsImageOf J.pictures J.gave J.stable S.bytes S.gave S.keeps (K.name_of key.now) (item_of r.0.now)) }
+        ensures image { IfOk result (λ r. IsImageOf J.pictures J.gave J.stable S.bytes S.gave S.keeps (K.name_of key.now)
+            (item_of r.0.now)) }
         ensures shape { IfOk result (λ r. shape_of (picture_in S.bytes (item_of r.0.now)) ≡ r.1) }
         ensures known { IfOk result (λ r. HasPicture J.pictures (K.name_of key.now) r.1) }
         ensures source { IfOk result (λ r. IsSource (named J.pictures (K.name_of key.now))) }
@@ -110,7 +114,8 @@ impl<R, S: Source<R> + Drop, J: System> Images<R, S, J> {
         requires kind { channels_of shape.now.kind ≡ entry.now.layout.channels }
         requires depth { top_of shape.now.depth ≡ white_of entry.now.layout.bits }
         requires fits { TileFitsIn shape.now.dim (channels_of shape.now.kind) key.now }
-        ensures crop { IfOk result (λ v. S.keeps entry.now.source → v.raster ≡ crop (picture_in S.bytes (item_of entry.now)) (tile_of shape.now.dim key.now)) }
+        ensures crop { IfOk result (λ v. S.keeps entry.now.source →
+            v.raster ≡ crop (picture_in S.bytes (item_of entry.now)) (tile_of shape.now.dim key.now)) }
         ensures shaped { IfOk result (TileHasShape shape.now key.now) }
         ensures fault { IfErr result (λ f. IsTrue (is_given (S.gave entry.now.source) f)) }
     {
@@ -146,8 +151,10 @@ impl<R, S: Source<R> + Drop, J: System> Images<R, S, J> {
     pub fn load(&self, rt: &R, key: &TileKey) -> Result<TileVal, Fault>
         ensures meant { J.stable key.now.name → IfOk result (λ v. v ≡ tile_meaning J.pictures key.now) }
         ensures shaped { IfOk result (λ v. IsTrue (tile_is_shaped J.pictures key.now v)) }
-        ensures names { IfOk result (λ v. NamesPart J.pictures J.edge key.now.name key.now.edge (λ s. TileFitsIn s.dim (channels_of s.kind) key.now)) }
-        ensures fault { IfErr result (IsLoadFault J.pictures J.edge key.now.name key.now.edge (λ s. TileFitsIn s.dim (channels_of s.kind) key.now) (J.gave key.now.name)) }
+        ensures names { IfOk result (λ v. NamesPart J.pictures J.edge key.now.name key.now.edge
+            (λ s. TileFitsIn s.dim (channels_of s.kind) key.now)) }
+        ensures fault { IfErr result (IsLoadFault J.pictures J.edge key.now.name key.now.edge
+            (λ s. TileFitsIn s.dim (channels_of s.kind) key.now) (J.gave key.now.name)) }
     {
         let (entry, shape) = self.image_of(key)?;
         self.made(rt, entry, &shape, key)

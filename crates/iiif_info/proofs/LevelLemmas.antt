@@ -1,5 +1,6 @@
 -- The last level, and the powers of two up to it.
-use Rattle.std.proofs.Common.{◌≡◌, ℕ, zero, suc, ◌+◌, ◌*◌, ◌^◌, ◌<◌, ◌≤◌, true, false, List, [], ◌∷◌, ◌++◌, map, length, nat_le, get_or, zero-add, add-one, sym, ap, ◌∙◌, subst, arith, ⊎_elim}
+use Rattle.std.proofs.Common.{◌≡◌, ℕ, zero, suc, ◌+◌, ◌*◌, ◌^◌, ◌<◌, ◌≤◌, true, false, List, [], ◌∷◌, ◌++◌, map, length, nat_le, get_or}
+use Rattle.std.proofs.Common.{zero-add, add-one, sym, ap, ◌∙◌, subst, arith, ⊎_elim}
 use Rattle.std.proofs.Math.Nat.{mul-le-mul, pow-succ', pow-suc, mul_assoc}
 use borrow.Author.Count.{below_more}
 use Rattle.std.proofs.lemmas.Bool.{le-leb, leb-true, lt-leb, leb-false, cases_lt}
@@ -67,17 +68,20 @@ least edge side some =
 pub scale_factors_are : (edge side n : ℕ) → 0 < edge → side ≤ edge * 2 ^ n → ((k : ℕ) → k < n → edge * 2 ^ k < side)
     → scale_factors edge side ≡ map (λ k. 2 ^ k) (range_with_len 0 (n + 1))
 unfolding scale_factors
-scale_factors_are edge side n some covered below = ap (λ m. map (λ k. 2 ^ k) (range_with_len 0 (m + 1))) (last_level_is edge side n some covered below)
+scale_factors_are edge side n some covered below =
+    ap (λ m. map (λ k. 2 ^ k) (range_with_len 0 (m + 1))) (last_level_is edge side n some covered below)
 
 -- one power more
-pub powers_more : (n : ℕ) → map (λ k. 2 ^ k) (range_with_len 0 (n + 1 + 1)) ≡ map (λ k. 2 ^ k) (range_with_len 0 (n + 1)) ++ 2 ^ (n + 1) ∷ []
+pub powers_more : (n : ℕ) → map (λ k. 2 ^ k) (range_with_len 0 (n + 1 + 1)) ≡ map (λ k. 2 ^ k) (range_with_len 0 (n + 1)) ++ 2 ^ (n + 1) ∷
+    []
 powers_more n = map-range_with_len_more (λ k. 2 ^ k) 0 (n + 1) (n + 1) (omega arith)
 
 pub power_more : (n : ℕ) → 2 ^ (n + 1) ≡ 2 ^ n * 2
 power_more n = rw add-one (pow-suc 2 n)
 
 -- what the loop keeps from one level to the next
-pub level_more : (edge side n factor : ℕ) → factor ≡ 2 ^ n → edge * factor < side → ((k : ℕ) → k < n → edge * 2 ^ k < side) → (k : ℕ) → k < n + 1 → edge * 2 ^ k < side
+pub level_more : (edge side n factor : ℕ) → factor ≡ 2 ^ n → edge * factor < side → ((k : ℕ) → k < n → edge * 2 ^ k < side) → (k : ℕ) →
+    k < n + 1 → edge * 2 ^ k < side
 level_more edge side n factor is here below = below_more (λ k. edge * 2 ^ k < side) n below (subst (λ f. edge * f < side) is here)
 
 pub doubled : (edge factor : ℕ) → edge * (factor * 2) ≡ edge * factor * 2

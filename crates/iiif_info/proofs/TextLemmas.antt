@@ -20,10 +20,12 @@ words_have_no_float (w ∷ words) = words_have_no_float words
 information_has_no_float : (id : List ℕ) (d : Dim) (l : Limits) (edge : ℕ) → has_float (information id d l edge) ≡ false
 unfolding information tiles
 information_has_no_float id d l edge =
-    rw (words_have_no_float (if l.upscale then codes "sizeUpscaling" ∷ [] else []), wholes_have_no_float (scale_factors edge (max d.w d.h))) refl
+    rw (words_have_no_float (if l.upscale then codes "sizeUpscaling" ∷ [] else []), wholes_have_no_float (scale_factors edge (max d.w d.h)))
+    refl
 
 -- what is written of the information's value is its text
-pub text_written : {X E : Type 0} (bytes : X → List ℕ) (written : Result X E) (value : Data) (shown uri base id : List ℕ) (d : Dim) (l : Limits) (edge : ℕ)
+pub text_written : {X E : Type 0} (bytes : X → List ℕ) (written : Result X E) (value : Data) (shown uri base id : List ℕ) (d : Dim)
+    (l : Limits) (edge : ℕ)
     → value ≡ information shown d l edge → shown ≡ uri → uri ≡ image_uri_of base id
     → IfOk written (λ s. has_float value ≡ false → bytes s ≡ compact_text value)
     → IfOk written (λ s. bytes s ≡ info_text base id d l edge)

@@ -11,11 +11,13 @@ LastLevelIsLeast =
 -- the text of an image of 4 by 4 with tiles of 2 by 2, where nothing is scaled up
 abbrev pub SampleText : Type 0
 SampleText =
-    info_text (codes "http://localhost/iiif") (codes "a") (record { w = 4; h = 4 }) (record { max_w = 4096; max_h = 4096; upscale = false }) 2
+    info_text (codes "http://localhost/iiif") (codes "a") (record { w = 4; h = 4 }) (record { max_w = 4096; max_h = 4096; upscale = false })
+    2
     ≡ codes "{\"@context\":\"http://iiif.io/api/image/3/context.json\",\"extraFeatures\":[\"baseUriRedirect\",\"canonicalLinkHeader\",\"cors\",\"mirroring\",\"regionByPct\",\"regionByPx\",\"regionSquare\",\"rotationBy90s\",\"sizeByConfinedWh\",\"sizeByH\",\"sizeByPct\",\"sizeByW\",\"sizeByWh\"],\"extraFormats\":[\"tif\"],\"extraQualities\":[\"bitonal\",\"color\",\"gray\"],\"height\":4,\"id\":\"http://localhost/iiif/a\",\"maxHeight\":4096,\"maxWidth\":4096,\"preferredFormats\":[\"tif\"],\"profile\":\"level0\",\"protocol\":\"http://iiif.io/api/image\",\"tiles\":[{\"height\":2,\"scaleFactors\":[1,2],\"width\":2}],\"type\":\"ImageService3\",\"width\":4}"
 
 -- and where results may be larger
 abbrev pub LargerSampleText : Type 0
 LargerSampleText =
-    info_text (codes "http://localhost/iiif") (codes "a") (record { w = 4; h = 4 }) (record { max_w = 4096; max_h = 4096; upscale = true }) 2
+    info_text (codes "http://localhost/iiif") (codes "a") (record { w = 4; h = 4 }) (record { max_w = 4096; max_h = 4096; upscale = true })
+    2
     ≡ codes "{\"@context\":\"http://iiif.io/api/image/3/context.json\",\"extraFeatures\":[\"baseUriRedirect\",\"canonicalLinkHeader\",\"cors\",\"mirroring\",\"regionByPct\",\"regionByPx\",\"regionSquare\",\"rotationBy90s\",\"sizeByConfinedWh\",\"sizeByH\",\"sizeByPct\",\"sizeByW\",\"sizeByWh\",\"sizeUpscaling\"],\"extraFormats\":[\"tif\"],\"extraQualities\":[\"bitonal\",\"color\",\"gray\"],\"height\":4,\"id\":\"http://localhost/iiif/a\",\"maxHeight\":4096,\"maxWidth\":4096,\"preferredFormats\":[\"tif\"],\"profile\":\"level0\",\"protocol\":\"http://iiif.io/api/image\",\"tiles\":[{\"height\":2,\"scaleFactors\":[1,2],\"width\":2}],\"type\":\"ImageService3\",\"width\":4}"

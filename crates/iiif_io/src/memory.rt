@@ -2,7 +2,8 @@
 //! can't be such a device, since room ends: one over room that is taken beforehand fails only where it is full, and a
 //! `Vec<u8>` where a growth is refused.
 
-ghost use Rattle.std.specs.Prelude.{◌≡◌, ◌+◌, ◌-◌, ◌^◌, ℕ, ◌<◌, ◌≤◌, min, List, [], length, take, drop, ◌++◌, vec_len, vec_capacity, None, Some, Ok, IfOk, OnErr};
+ghost use Rattle.std.specs.Prelude.{◌≡◌, ◌+◌, ◌-◌, ◌^◌, ℕ, ◌<◌, ◌≤◌, min, List, [], length, take, drop, ◌++◌, vec_len, vec_capacity, None};
+ghost use Rattle.std.specs.Prelude.{Some, Ok, IfOk, OnErr};
 ghost use Rattle.std.specs.Io.{ReadsAtMost, WritesAtMost};
 ghost use Rattle.std.specs.Io.KnownBytes.{ReadConsumes, WriteAppends};
 ghost use Rattle.iiif_io.specs.Counting.{capped};

@@ -1,5 +1,6 @@
 -- The value that the parts' meanings make is the whole's meaning.
-use Rattle.std.proofs.Common.{◌≡◌, ℕ, zero, suc, ◌*◌, ◌^◌, ◌<◌, ◌≤◌, Bool, true, false, cond, List, [], ◌∷◌, Option, Some, map, fold, refl, sym, ap, ◌∙◌, arith}
+use Rattle.std.proofs.Common.{◌≡◌, ℕ, zero, suc, ◌*◌, ◌^◌, ◌<◌, ◌≤◌, Bool, true, false, cond, List, [], ◌∷◌, Option, Some, map, fold, refl}
+use Rattle.std.proofs.Common.{sym, ap, ◌∙◌, arith}
 use Rattle.std.specs.Prelude.{unwrap_or, ◌==◌}
 use Rattle.std.specs.List.{filter, AllByRecursion}
 use Rattle.std.proofs.Math.Nat.{mul-le-mul}
@@ -19,7 +20,8 @@ use Rattle.iiif_keys.specs.declared.keys.Shape.{Shape}
 use Rattle.iiif_keys.specs.Names.{Pictures, named, no_picture, IsSource}
 use Rattle.iiif_keys.specs.Shapes.{HasPicture}
 use Rattle.iiif_keys.specs.Blocks.{square, clipped, tile_of, block_of, part_in, places_in, SumFitsIn}
-use Rattle.iiif_keys.specs.Meaning.{sum_meaning, sum_derived, tile_meaning, tile_below, tile_sums, no_sums, quarter, quarters, meets_rect, sums_below}
+use Rattle.iiif_keys.specs.Meaning.{sum_meaning, sum_derived, tile_meaning, tile_below, tile_sums, no_sums, quarter, quarters, meets_rect}
+use Rattle.iiif_keys.specs.Meaning.{sums_below}
 use Rattle.iiif_keys.proofs.Cuts.{whole_square, square_part, clipped_part, quarters_cut}
 use Rattle.iiif_keys.proofs.Shaped.{fits_picture}
 
@@ -35,18 +37,21 @@ sum_is shows p q e h =
     ∙ ap (λ (r : Rect). sums_of (crop p q.rect) q.size r) (clipped_part (dim_of p) (whole_square q) q.rect h)
 
 -- what is mapped through other values
-kept : (f : SumKey → Grid) (g : Rect → Grid) (h : SumKey → Rect) (q : SumKey) (qs : List SumKey) (b : Bool) → f q ≡ g (h q) → map f qs ≡ map g (map h qs) →
+kept : (f : SumKey → Grid) (g : Rect → Grid) (h : SumKey → Rect) (q : SumKey) (qs : List SumKey) (b : Bool) → f q ≡ g (h q) →
+    map f qs ≡ map g (map h qs) →
     map f (cond b (q ∷ qs) qs) ≡ map g (map h (cond b (q ∷ qs) qs))
 kept f g h q qs true e others = cc
 kept f g h q qs false e others = others
 
-mapped : (f : SumKey → Grid) (g : Rect → Grid) (h : SumKey → Rect) (t : SumKey → Bool) (qs : List SumKey) → AllByRecursion (λ q. f q ≡ g (h q)) qs →
+mapped : (f : SumKey → Grid) (g : Rect → Grid) (h : SumKey → Rect) (t : SumKey → Bool) (qs : List SumKey) →
+    AllByRecursion (λ q. f q ≡ g (h q)) qs →
     map f (filter t qs) ≡ map g (map h (filter t qs))
 mapped f g h t [] e = refl
 mapped f g h t (q ∷ qs) e = kept f g h q (filter t qs) (t q) e.0 (mapped f g h t qs e.1)
 
 -- of a block above level 0
-pub merged_meaning : (shows : Pictures) (p : Picture) (k : SumKey) → shows k.name ≡ Some p → IsWhole p → p.width * p.height ≤ 2 ^ 32 → SumFitsIn (dim_of p) p.channels k → 0 < k.level →
+pub merged_meaning : (shows : Pictures) (p : Picture) (k : SumKey) → shows k.name ≡ Some p → IsWhole p → p.width * p.height ≤ 2 ^ 32 →
+    SumFitsIn (dim_of p) p.channels k → 0 < k.level →
     fold merged (no_sums (dim_of p) p.channels k) (map (λ q. (sum_meaning shows q).sums) (sums_below k)) ≡ (sum_meaning shows k).sums
 merged_meaning shows p k known whole area fits above =
     let name = picture_is shows k.name p known in
@@ -63,7 +68,8 @@ merged_meaning shows p k known whole area fits above =
     let parts = mapped f g square_part meets_rect (quarters k) (each 0 0, (each 1 0, (each 0 1, (each 1 1, tt)))) in
     let start : no_sums (dim_of p) p.channels k ≡ grid_of (places_of (sides_of k.rect) k.size (square_part k)) p.channels (λ i j n. 0) =
     ap (λ (r : Rect). grid_of (places_of (sides_of k.rect) k.size r) p.channels (λ i j n. 0)) part in
-    let merge = pieces_merge (crop p k.rect) k.size (square_part k) (places_of (sides_of k.rect) k.size (square_part k)) (map square_part (sums_below k))
+    let merge = pieces_merge (crop p k.rect) k.size (square_part k) (places_of (sides_of k.rect) k.size (square_part k))
+    (map square_part (sums_below k))
     (whole_crop p k.rect whole) (omega arith) (omega arith) (omega arith) (quarters_cut k above) in
     ap (λ (d : Grid). fold merged d (map f (sums_below k))) start
     ∙ (ap (λ (gs : List Grid). fold merged (grid_of (places_of (sides_of k.rect) k.size (square_part k)) p.channels (λ i j n. 0)) gs) parts
@@ -71,7 +77,8 @@ merged_meaning shows p k known whole area fits above =
 
 -- of a block of level 0
 pub tile_meant : (shows : Pictures) (p : Picture) (k : SumKey) → shows k.name ≡ Some p → k.level ≡ 0 →
-    tile_sums (tile_meaning shows (tile_below k)).raster (tile_of (dim_of p) (tile_below k)) k (places_in (dim_of p) k) ≡ (sum_meaning shows k).sums
+    tile_sums (tile_meaning shows (tile_below k)).raster (tile_of (dim_of p) (tile_below k)) k (places_in (dim_of p) k) ≡
+    (sum_meaning shows k).sums
 unfolding tile_sample
 tile_meant shows p k known level =
     let name = picture_is shows k.name p known in
@@ -94,7 +101,8 @@ chosen : (b : Bool) (x y z : Grid) → (b ≡ true → x ≡ z) → (b ≡ false
 chosen true x y z f g = f refl
 chosen false x y z f g = g refl
 
-pub derived_is : (shows : Pictures) (s : Shape) (k : SumKey) → HasPicture shows k.name s → IsSource (named shows k.name) → SumFitsIn s.dim (channels_of s.kind) k
+pub derived_is : (shows : Pictures) (s : Shape) (k : SumKey) → HasPicture shows k.name s → IsSource (named shows k.name) →
+    SumFitsIn s.dim (channels_of s.kind) k
     → sum_derived shows k ≡ sum_meaning shows k
 derived_is shows s k has source fits =
     let p = named shows k.name in

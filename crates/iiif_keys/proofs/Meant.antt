@@ -24,7 +24,8 @@ use Rattle.iiif_keys.specs.declared.keys.Shape.{Shape}
 use Rattle.iiif_keys.specs.Names.{Pictures, named, IsName, IsSource}
 use Rattle.iiif_keys.specs.Shapes.{shape_of, HasPicture}
 use Rattle.iiif_keys.specs.Blocks.{tile_of, block_of, part_in, places_in, TileFitsIn, SumFitsIn}
-use Rattle.iiif_keys.specs.Bytes.{tile_key_bytes, sum_key_bytes, tile_val_bytes, sum_val_bytes, IsRect, IsTileKey, IsSumKey, IsTileVal, IsSumVal}
+use Rattle.iiif_keys.specs.Bytes.{tile_key_bytes, sum_key_bytes, tile_val_bytes, sum_val_bytes, IsRect, IsTileKey, IsSumKey, IsTileVal}
+use Rattle.iiif_keys.specs.Bytes.{IsSumVal}
 use Rattle.iiif_keys.specs.Meaning.{tile_meaning, sum_meaning, TileHasShape, SumHasShape}
 use Rattle.iiif_keys.proofs.Shaped.{depth_with_top, fits_picture, kind_with_channels, three_at_most}
 use Rattle.iiif_keys.proofs.KeyBytes.{length-tile_key, length-sum_key}
@@ -67,7 +68,8 @@ places_are image channels k fits =
     record { columns = omega arith; rows = omega arith; right = omega arith; lower = omega arith }
 
 -- a value of a fitting key's shape is read from bytes
-pub tile_val_known : (s : Shape) (k : TileKey) (v : TileVal) → TileFitsIn s.dim (channels_of s.kind) k → TileHasShape s k v → IsWhole v.raster → IsTileVal v
+pub tile_val_known : (s : Shape) (k : TileKey) (v : TileVal) → TileFitsIn s.dim (channels_of s.kind) k → TileHasShape s k v →
+    IsWhole v.raster → IsTileVal v
 tile_val_known s k v fits shape whole =
     let w = shape.width in
     let h = shape.height in
@@ -90,23 +92,32 @@ sum_val_known s k v fits shape grid c d =
     let e = p.right in
     let f = p.lower in
     record {
-      places = subst IsRect (sym shape.places) (record { left = omega arith; upper = omega arith; columns = (a, omega arith); rows = (b, omega arith) });
+      places = subst IsRect (sym shape.places)
+          (record { left = omega arith; upper = omega arith; columns = (a, omega arith); rows = (b, omega arith) });
       channels = subst (λ (n : ℕ). (n ≡ 1) ⊎ (n ≡ 3)) (sym shape.sums_a_place) (one_or_three s.kind);
       count = grid.count;
       bound = grid.bound;
     }
 
 -- the meanings have their shapes
-pub tile_meant : (shows : Pictures) (s : Shape) (k : TileKey) → HasPicture shows k.name s → IsSource (named shows k.name) → TileFitsIn s.dim (channels_of s.kind) k
+pub tile_meant : (shows : Pictures) (s : Shape) (k : TileKey) → HasPicture shows k.name s → IsSource (named shows k.name) →
+    TileFitsIn s.dim (channels_of s.kind) k
     → TileHasShape s k (tile_meaning shows k) × IsTileVal (tile_meaning shows k)
 tile_meant shows s k has source fits =
     let p = named shows k.name in
     let v = tile_meaning shows k in
-    let own : TileHasShape (shape_of p) k v = record { width = refl; height = refl; samples = sym (kind_with_channels p.channels source.whole.channels); depth = sym (depth_with_top p.top source.whole.top) } in
+    let own : TileHasShape (shape_of p) k v = record {
+      width = refl;
+      height = refl;
+      samples = sym (kind_with_channels p.channels source.whole.channels);
+      depth =
+          sym (depth_with_top p.top source.whole.top);
+    } in
     let shape : TileHasShape s k v = subst (λ (u : Shape). TileHasShape u k v) has.shape own in
     (shape, tile_val_known s k v fits shape (whole_crop p (tile_of (dim_of p) k) source.whole))
 
-pub sum_meant : (shows : Pictures) (s : Shape) (k : SumKey) → HasPicture shows k.name s → IsSource (named shows k.name) → SumFitsIn s.dim (channels_of s.kind) k
+pub sum_meant : (shows : Pictures) (s : Shape) (k : SumKey) → HasPicture shows k.name s → IsSource (named shows k.name) →
+    SumFitsIn s.dim (channels_of s.kind) k
     → SumHasShape s k (sum_meaning shows k) × IsSumVal (sum_meaning shows k)
 sum_meant shows s k has source whole_fits =
     let p = named shows k.name in
@@ -121,12 +132,14 @@ sum_meant shows s k has source whole_fits =
     let area : k.rect.w * k.rect.h ≤ p.width * p.height = mul-le-mul (omega arith) (omega arith) in
     let f = part_sum (crop p k.rect) k.size (part_in (dim_of p) k) in
     let v = sum_meaning shows k in
-    let own : SumHasShape (shape_of p) k v = record { places = refl; sums_a_place = sym (kind_with_channels p.channels source.whole.channels) } in
+    let own : SumHasShape (shape_of p) k v = record
+    { places = refl; sums_a_place = sym (kind_with_channels p.channels source.whole.channels) } in
     let shape : SumHasShape s k v = subst (λ (x : Shape). SumHasShape x k v) has.shape own in
     let grid : IsGrid v.sums = record {
       count = length-samples_of places.w places.h p.channels (λ i j n. f (places.x + i) (places.y + j) n);
       bound = All-samples_of (λ n. n < 2 ^ 64) places.w places.h p.channels (λ i j n. f (places.x + i) (places.y + j) n)
-          (λ i j n li lj ln. part_sum-fits (crop p k.rect) k.size (part_in (dim_of p) k) (places.x + i) (places.y + j) n whole (omega arith));
+          (λ i j n li lj ln. part_sum-fits (crop p k.rect) k.size (part_in (dim_of p) k) (places.x + i) (places.y + j) n whole
+          (omega arith));
     } in
     (shape, sum_val_known s k v whole_fits shape grid (omega arith) (omega arith))
 
@@ -136,14 +149,16 @@ not_above n s limit p h =
     let e : n * 1 ≤ n * s = mul-le-mul_left n (omega arith) in
     omega arith
 
-pub fitting_tile_key : (s : Shape) (k : TileKey) → s.dim.w < 2 ^ 32 → s.dim.h < 2 ^ 32 → IsName k.name → TileFitsIn s.dim (channels_of s.kind) k → IsTileKey k
+pub fitting_tile_key : (s : Shape) (k : TileKey) → s.dim.w < 2 ^ 32 → s.dim.h < 2 ^ 32 → IsName k.name →
+    TileFitsIn s.dim (channels_of s.kind) k → IsTileKey k
 fitting_tile_key s k w h name fits =
     let image = s.dim in
     let x = not_above k.tx k.edge image.w fits.edge.some fits.column in
     let y = not_above k.ty k.edge image.h fits.edge.some fits.row in
     record { name = name; edge = fits.edge; column = omega arith; row = omega arith }
 
-pub fitting_sum_key : (shape : Shape) (k : SumKey) → shape.dim.w < 2 ^ 32 → shape.dim.h < 2 ^ 32 → IsName k.name → SumFitsIn shape.dim (channels_of shape.kind) k → IsSumKey k
+pub fitting_sum_key : (shape : Shape) (k : SumKey) → shape.dim.w < 2 ^ 32 → shape.dim.h < 2 ^ 32 → IsName k.name →
+    SumFitsIn shape.dim (channels_of shape.kind) k → IsSumKey k
 fitting_sum_key shape k w h name fits =
     let image = shape.dim in
     let s = 2 ^ k.level * k.edge in
@@ -175,7 +190,8 @@ tile_key_small k is = let n = is.name.len.within in omega (arith, length-tile_ke
 pub sum_key_small : (k : SumKey) → IsSumKey k → length (sum_key_bytes k) ≤ 4096
 sum_key_small k is = let n = is.name.len.within in omega (arith, length-sum_key k)
 
-pub tile_val_small : (s : Shape) (k : TileKey) (v : TileVal) → TileFitsIn s.dim (channels_of s.kind) k → TileHasShape s k v → IsTileVal v → length (tile_val_bytes v) ≤ 2 ^ 26
+pub tile_val_small : (s : Shape) (k : TileKey) (v : TileVal) → TileFitsIn s.dim (channels_of s.kind) k → TileHasShape s k v → IsTileVal v →
+    length (tile_val_bytes v) ≤ 2 ^ 26
 tile_val_small s k v fits shape is =
     let three = three_at_most s.kind in
     let e = fits.edge.within in
@@ -187,11 +203,13 @@ tile_val_small s k v fits shape is =
     let all : v.raster.width * v.raster.height * v.raster.channels ≤ 1048576 * 3 = mul-le-mul small n in
     omega (arith, length-tile_val v is, is.whole.count)
 
-pub sum_val_small : (s : Shape) (k : SumKey) (v : SumVal) → SumFitsIn s.dim (channels_of s.kind) k → SumHasShape s k v → IsSumVal v → length (sum_val_bytes v) ≤ 2 ^ 26
+pub sum_val_small : (s : Shape) (k : SumKey) (v : SumVal) → SumFitsIn s.dim (channels_of s.kind) k → SumHasShape s k v → IsSumVal v →
+    length (sum_val_bytes v) ≤ 2 ^ 26
 sum_val_small s k v fits shape is =
     let image = s.dim in
     let channels = channels_of s.kind in
     let limit = fits.value in
     let count : v.sums.rect.w * v.sums.rect.h * v.sums.channels ≡ (places_in image k).w * (places_in image k).h * channels =
-    ap (λ (r : Rect). r.w * r.h * v.sums.channels) shape.places ∙ ap (λ (n : ℕ). (places_in image k).w * (places_in image k).h * n) shape.sums_a_place in
+    ap (λ (r : Rect). r.w * r.h * v.sums.channels) shape.places ∙
+    ap (λ (n : ℕ). (places_in image k).w * (places_in image k).h * n) shape.sums_a_place in
     omega (arith, length-sum_val v, is.count, count)

@@ -53,10 +53,12 @@ shape_is p s sides channels top =
     let kind : kind_with p.channels ≡ s.kind = ap (λ (n : ℕ). kind_with n) channels ∙ kind_with_its_channels s.kind in
     let depth : depth_with p.top ≡ s.depth = ap (λ (n : ℕ). depth_with n) top ∙ depth_with_its_top s.depth in
     let made : Dim → Kind → Depth → Shape = λ d k e. record { dim = d; kind = k; depth = e } in
-    ap (λ (d : Dim). made d (kind_with p.channels) (depth_with p.top)) sides ∙ (ap (λ (k : Kind). made s.dim k (depth_with p.top)) kind ∙ ap (λ (e : Depth). made s.dim s.kind e) depth)
+    ap (λ (d : Dim). made d (kind_with p.channels) (depth_with p.top)) sides ∙
+    (ap (λ (k : Kind). made s.dim k (depth_with p.top)) kind ∙ ap (λ (e : Depth). made s.dim s.kind e) depth)
 
 -- what is said of a shape, said of the sides and the channels of a picture of that shape
-pub fits_picture : (P : Dim → ℕ → Type 0) (p : Picture) (s : Shape) → shape_of p ≡ s → IsWhole p → P s.dim (channels_of s.kind) → P (dim_of p) p.channels
+pub fits_picture : (P : Dim → ℕ → Type 0) (p : Picture) (s : Shape) → shape_of p ≡ s → IsWhole p → P s.dim (channels_of s.kind) →
+    P (dim_of p) p.channels
 fits_picture P p s shape whole h =
     let own : P (dim_of p) (channels_of (kind_with p.channels)) = subst (λ (t : Shape). P t.dim (channels_of t.kind)) (sym shape) h in
     subst (λ (n : ℕ). P (dim_of p) n) (kind_with_channels p.channels whole.channels) own
@@ -68,16 +70,21 @@ both false b P Q f g = (λ h. absurd cc, λ h. absurd (let t = f.1 h.0 in cc))
 same : (a b : ℕ) → IsTrue (a == b) ↔ (a ≡ b)
 same a b = Decides-eqb a b
 
-tile_test : (shows : Pictures) (k : TileKey) (v : TileVal) → IsTrue (tile_is_shaped shows k v) ↔ TileHasShape (shape_of (named shows k.name)) k v
+tile_test : (shows : Pictures) (k : TileKey) (v : TileVal) →
+    IsTrue (tile_is_shaped shows k v) ↔ TileHasShape (shape_of (named shows k.name)) k v
 unfolding tile_is_shaped
 tile_test shows k v =
     let s = shape_of (named shows k.name) in
     let at = tile_of s.dim k in
     let test = both (v.raster.width == at.w) _ _ _ (same _ _) (both (v.raster.height == at.h) _ _ _ (same _ _)
-    (both (v.raster.channels == channels_of s.kind) (v.raster.top == top_of s.depth) _ _ (same _ _) (same _ _))) in
-    (λ t. let h = test.0 t in record { width = h.0; height = h.1.0; samples = h.1.1.0; depth = h.1.1.1 }, λ h. test.1 (h.width, (h.height, (h.samples, h.depth))))
+    (both (v.raster.channels == channels_of s.kind) (v.raster.top == top_of s.depth) _ _ (same _ _) (same _ _))) in (
+      λ t. let h = test.0 t in record { width = h.0; height = h.1.0; samples = h.1.1.0; depth = h.1.1.1 },
+      λ h.
+          test.1 (h.width, (h.height, (h.samples, h.depth))),
+    )
 
-pub tile_shaped : (shows : Pictures) (s : Shape) (k : TileKey) (v : TileVal) → HasPicture shows k.name s → IsTrue (tile_is_shaped shows k v) ↔ TileHasShape s k v
+pub tile_shaped : (shows : Pictures) (s : Shape) (k : TileKey) (v : TileVal) → HasPicture shows k.name s →
+    IsTrue (tile_is_shaped shows k v) ↔ TileHasShape s k v
 tile_shaped shows s k v has = subst (λ (u : Shape). IsTrue (tile_is_shaped shows k v) ↔ TileHasShape u k v) has.shape (tile_test shows k v)
 
 sum_test : (shows : Pictures) (k : SumKey) (v : SumVal) → IsTrue (sum_is_shaped shows k v) ↔ SumHasShape (shape_of (named shows k.name)) k v
@@ -86,14 +93,20 @@ sum_test shows k v =
     let s = shape_of (named shows k.name) in
     let at = places_in s.dim k in
     let r = v.sums.rect in
-    let rect = both (r.x == at.x) _ _ _ (same _ _) (both (r.y == at.y) _ _ _ (same _ _) (both (r.w == at.w) (r.h == at.h) _ _ (same _ _) (same _ _))) in
-    let test = both (r.x == at.x && (r.y == at.y && (r.w == at.w && r.h == at.h))) (v.sums.channels == channels_of s.kind) _ _ rect (same _ _) in (
+    let rect = both (r.x == at.x) _ _ _ (same _ _)
+    (both (r.y == at.y) _ _ _ (same _ _) (both (r.w == at.w) (r.h == at.h) _ _ (same _ _) (same _ _))) in
+    let test = both (r.x == at.x && (r.y == at.y && (r.w == at.w && r.h == at.h))) (v.sums.channels == channels_of s.kind) _ _ rect
+    (same _ _) in (
       λ t. let h = test.0 t in record { places = same_rect r at h.0.0 h.0.1.0 h.0.1.1.0 h.0.1.1.1; sums_a_place = h.1 },
       λ h. let e = h.places in
-          test.1 ((ap (λ (x : Rect). x.x) e, (ap (λ (x : Rect). x.y) e, (ap (λ (x : Rect). x.w) e, ap (λ (x : Rect). x.h) e))), h.sums_a_place),
+          test.1 (
+            (ap (λ (x : Rect). x.x) e, (ap (λ (x : Rect). x.y) e, (ap (λ (x : Rect). x.w) e, ap (λ (x : Rect). x.h) e))),
+            h.sums_a_place,
+          ),
     )
 
-pub sum_shaped : (shows : Pictures) (s : Shape) (k : SumKey) (v : SumVal) → HasPicture shows k.name s → IsTrue (sum_is_shaped shows k v) ↔ SumHasShape s k v
+pub sum_shaped : (shows : Pictures) (s : Shape) (k : SumKey) (v : SumVal) → HasPicture shows k.name s →
+    IsTrue (sum_is_shaped shows k v) ↔ SumHasShape s k v
 sum_shaped shows s k v has = subst (λ (u : Shape). IsTrue (sum_is_shaped shows k v) ↔ SumHasShape u k v) has.shape (sum_test shows k v)
 
 -- two tests of one thing

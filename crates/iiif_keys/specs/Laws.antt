@@ -25,7 +25,8 @@ is_part k i j =
 
 -- Of the blocks of the level below, each that is a part is listed once, and no other.
 abbrev pub EachPartOnce : Type 0
-EachPartOnce = (k : SumKey) (i j : ℕ) → 0 < k.level → count_by (λ q. q.bx == i && q.by == j) (sums_below k) ≡ (if is_part k i j then 1 else 0)
+EachPartOnce = (k : SumKey) (i j : ℕ) → 0 < k.level →
+    count_by (λ q. q.bx == i && q.by == j) (sums_below k) ≡ (if is_part k i j then 1 else 0)
 
 -- a part has all but its place and its level from the whole, and its level is one less
 pub record IsBelow (k q : SumKey) : Type 0 where
@@ -41,7 +42,8 @@ PartsAreBelow = (k : SumKey) → 0 < k.level → All (IsBelow k) (sums_below k)
 
 -- each part of a key that fits an image fits it
 abbrev pub PartsFit : Type 0
-PartsFit = (image : Dim) (channels : ℕ) (k : SumKey) → 0 < k.level → SumFitsIn image channels k → All (SumFitsIn image channels) (sums_below k)
+PartsFit = (image : Dim) (channels : ℕ) (k : SumKey) → 0 < k.level → SumFitsIn image channels k →
+    All (SumFitsIn image channels) (sums_below k)
 
 -- and so does the tile of a key of level 0
 abbrev pub TileFits : Type 0

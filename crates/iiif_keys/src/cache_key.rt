@@ -1,6 +1,7 @@
 //! What keys are to caches, flights and peers.
 
-ghost use Rattle.std.specs.Prelude.{◌≡◌, ◌↔◌, ◌+◌, ◌^◌, ◌<◌, ◌≤◌, ◌⊎◌, ℕ, true, Bool, List, length, Option, None, IfErr, IfOk, IsTrue, MatchResult};
+ghost use Rattle.std.specs.Prelude.{◌≡◌, ◌↔◌, ◌+◌, ◌^◌, ◌<◌, ◌≤◌, ◌⊎◌, ℕ, true, Bool, List, length, Option, None, IfErr, IfOk, IsTrue};
+ghost use Rattle.std.specs.Prelude.MatchResult;
 ghost use Rattle.iiif_keys.specs.Names.{named, Pictures, IsName, IsSource};
 ghost use Rattle.iiif_keys.specs.Shapes.{HasPicture};
 ghost use Rattle.iiif_keys.specs.Blocks.{NamesPart};
@@ -96,7 +97,8 @@ pub trait CacheKey: Drop + Eq + Hash {
     fn from_bytes(alloc: Global, bytes: &[u8]) -> Result<Self, KeyFault>
         ensures found { IfOk result (λ k. is_key k × (bytes.now ≡ key_bytes k)) }
         ensures only { (k : Self) → is_key k → bytes.now ≡ key_bytes k → MatchResult result (λ r. r ≡ k) (λ f. f ≡ KeyFault.NoMemory) }
-        ensures refused { IfErr result (λ f. (key_refusal bytes.now ≡ Some f) ⊎ ((key_refusal bytes.now ≡ None) × (f ≡ KeyFault.NoMemory))) };
+        ensures refused { IfErr result (λ f. (key_refusal bytes.now ≡ Some f) ⊎
+            ((key_refusal bytes.now ≡ None) × (f ≡ KeyFault.NoMemory))) };
 
     /// The value's bytes. The only error is want of memory.
     fn value_bytes(alloc: Global, value: &Self::Value) -> Result<Vec<u8>, NoMemory>
@@ -105,8 +107,10 @@ pub trait CacheKey: Drop + Eq + Hash {
     /// The value with these bytes, or the first check that they fail. Memory is taken for bytes that fail none.
     fn value_from(alloc: Global, bytes: &[u8]) -> Result<Self::Value, KeyFault>
         ensures found { IfOk result (λ v. is_value v × (bytes.now ≡ val_bytes v)) }
-        ensures only { (v : Self.Value) → is_value v → bytes.now ≡ val_bytes v → MatchResult result (λ r. r ≡ v) (λ f. f ≡ KeyFault.NoMemory) }
-        ensures refused { IfErr result (λ f. (val_refusal bytes.now ≡ Some f) ⊎ ((val_refusal bytes.now ≡ None) × (f ≡ KeyFault.NoMemory))) };
+        ensures only { (v : Self.Value) → is_value v → bytes.now ≡ val_bytes v →
+            MatchResult result (λ r. r ≡ v) (λ f. f ≡ KeyFault.NoMemory) }
+        ensures refused { IfErr result (λ f. (val_refusal bytes.now ≡ Some f) ⊎
+            ((val_refusal bytes.now ≡ None) × (f ≡ KeyFault.NoMemory))) };
 
     /// It computes nothing: its contract has the laws of keys.
     fn laws()

@@ -1,5 +1,6 @@
 -- The connection that waits longest, looked for from the first place on.
-use Rattle.std.proofs.Common.{◌≡◌, ℕ, ◌+◌, ◌<◌, ◌≤◌, ◌⊎◌, Bool, true, false, List, [], ◌∷◌, ◌++◌, Option, Some, None, length, get_or, take, nat_lt, if◌then◌else◌, zero, suc, inl, inr, refl, sym, ap, subst, ◌∙◌, arith}
+use Rattle.std.proofs.Common.{◌≡◌, ℕ, ◌+◌, ◌<◌, ◌≤◌, ◌⊎◌, Bool, true, false, List, [], ◌∷◌, ◌++◌, Option, Some, None, length, get_or, take}
+use Rattle.std.proofs.Common.{nat_lt, if◌then◌else◌, zero, suc, inl, inr, refl, sym, ap, subst, ◌∙◌, arith}
 use Rattle.std.proofs.Math.Seq.{get_or-append_seam}
 use Rattle.std.proofs.lemmas.List.{length-take-le, take_all, take_more}
 use Rattle.iiif_listener.specs.declared.seat.Seat.{Seat}
@@ -43,7 +44,8 @@ stays (y ∷ ys) x (suc i) t is = stays ys x i t is
 last_is : (xs : List Seat) (x : Seat) (t : ℕ) → x.standing ≡ Idle t → IsIdle (xs ++ x ∷ []) (length xs) t
 last_is xs x t is = ap (λ (s : Seat). s.standing) (get_or-append_seam xs x [] nobody) ∙ is
 
-neither : (xs : List Seat) (x : Seat) (i t : ℕ) → ((t : ℕ) → x.standing ≡ Idle t → ⊥) → NoneIsIdle xs → IsIdle xs i t ⊎ ((i ≡ length xs) × (x.standing ≡ Idle t)) → ⊥
+neither : (xs : List Seat) (x : Seat) (i t : ℕ) → ((t : ℕ) → x.standing ≡ Idle t → ⊥) → NoneIsIdle xs → IsIdle xs i t ⊎
+    ((i ≡ length xs) × (x.standing ≡ Idle t)) → ⊥
 neither xs x i t not_it none (inl p) = none i t p
 neither xs x i t not_it none (inr q) = not_it t q.1
 
@@ -60,7 +62,8 @@ all_later : (xs : List Seat) (x : Seat) (first : ℕ) → ((i t : ℕ) → IsIdl
 all_later xs x first before last i t is = either xs x first i t before last (found_in xs x i t is)
 
 -- one more that doesn't wait
-same_found : (xs : List Seat) (x : Seat) → ((t : ℕ) → x.standing ≡ Idle t → ⊥) → (found : Option (ℕ × ℕ)) → IsChosen xs found → IsChosen (xs ++ x ∷ []) found
+same_found : (xs : List Seat) (x : Seat) → ((t : ℕ) → x.standing ≡ Idle t → ⊥) → (found : Option (ℕ × ℕ)) → IsChosen xs found →
+    IsChosen (xs ++ x ∷ []) found
 same_found xs x not_it None none = none_more xs x not_it none
 same_found xs x not_it (Some f) so = (stays xs x f.0 f.1 so.0, all_later xs x f.1 so.1 (λ t is. absurd (not_it t is)))
 
@@ -74,7 +77,8 @@ is_above : (a b : ℕ) → nat_lt a b ≡ false → b ≤ a
 is_above a b is = grind arith
 
 -- one more that waits since then
-of_two : (xs : List Seat) (x : Seat) (since : ℕ) (f : ℕ × ℕ) (b : Bool) → x.standing ≡ Idle since → nat_lt since f.1 ≡ b → IsChosen xs (Some f)
+of_two : (xs : List Seat) (x : Seat) (since : ℕ) (f : ℕ × ℕ) (b : Bool) → x.standing ≡ Idle since → nat_lt since f.1 ≡ b →
+    IsChosen xs (Some f)
     → IsChosen (xs ++ x ∷ []) (if b then Some (length xs, since) else Some f)
 of_two xs x since f true is lt so = (
   last_is xs x since is,
@@ -94,7 +98,8 @@ one_found xs x since is None none = (
 )
 one_found xs x since is (Some f) so = of_two xs x since f (nat_lt since f.1) is refl so
 
-by_standing : (xs : List Seat) (x : Seat) (s : Standing) (found : Option (ℕ × ℕ)) → x.standing ≡ s → IsChosen xs found → IsChosen (xs ++ x ∷ []) (chosen found (length xs) s)
+by_standing : (xs : List Seat) (x : Seat) (s : Standing) (found : Option (ℕ × ℕ)) → x.standing ≡ s → IsChosen xs found →
+    IsChosen (xs ++ x ∷ []) (chosen found (length xs) s)
 by_standing xs x Free None is so = same_found xs x (λ t other. free_waits_not t (sym is ∙ other)) None so
 by_standing xs x Free (Some f) is so = same_found xs x (λ t other. free_waits_not t (sym is ∙ other)) (Some f) so
 by_standing xs x AtWork None is so = same_found xs x (λ t other. work_waits_not t (sym is ∙ other)) None so
@@ -102,7 +107,8 @@ by_standing xs x AtWork (Some f) is so = same_found xs x (λ t other. work_waits
 by_standing xs x (Idle since) found is so = one_found xs x since is found so
 
 -- the next one, at the place behind those
-pub next_is : (xs : List Seat) (x : Seat) (found : Option (ℕ × ℕ)) → IsChosen xs found → IsChosen (xs ++ x ∷ []) (chosen found (length xs) x.standing)
+pub next_is : (xs : List Seat) (x : Seat) (found : Option (ℕ × ℕ)) → IsChosen xs found →
+    IsChosen (xs ++ x ∷ []) (chosen found (length xs) x.standing)
 next_is xs x found so = by_standing xs x x.standing found refl so
 
 -- ---- In the loop's words
@@ -119,7 +125,8 @@ next_at seats i d found inside so =
 pub none_at_first : (seats : List Seat) → IsChosen (take 0 seats) None
 none_at_first seats i t is = absurd (free_waits_not t is)
 
-pub longest_of : (seats : List Seat) (n place since : ℕ) → length seats ≤ n → IsChosen (take n seats) (Some (place, since)) → IsLongestIdle seats place
+pub longest_of : (seats : List Seat) (n place since : ℕ) → length seats ≤ n → IsChosen (take n seats) (Some (place, since)) →
+    IsLongestIdle seats place
 longest_of seats n place since all so =
     let is = subst (λ (xs : List Seat). IsChosen xs (Some (place, since))) (take_all n seats all) so in
     (since, is.0, is.1)

@@ -1,5 +1,6 @@
 -- The least rate at which an answer is to be taken: how its writes are judged. A write took so many milliseconds and so many bytes.
-use Rattle.std.specs.Prelude.{◌≡◌, ℕ, ◌+◌, ◌-◌, ◌*◌, ◌^◌, ◌<◌, ◌≤◌, ◌==◌, ◌⊎◌, Bool, true, false, List, [], ◌∷◌, All, min, sum_by, nat_lt, nat_le, if◌then◌else◌}
+use Rattle.std.specs.Prelude.{◌≡◌, ℕ, ◌+◌, ◌-◌, ◌*◌, ◌^◌, ◌<◌, ◌≤◌, ◌==◌, ◌⊎◌, Bool, true, false, List, [], ◌∷◌, All, min, sum_by, nat_lt}
+use Rattle.std.specs.Prelude.{nat_le, if◌then◌else◌}
 use Rattle.iiif_listener.specs.declared.flow.Flow.{Flow}
 use Rattle.iiif_listener.specs.declared.flow.Rate.{Rate}
 
@@ -25,7 +26,8 @@ goes_on f waited bytes =
 abbrev pub taken_by : Flow → ℕ → ℕ → Flow
 taken_by f waited bytes =
     if waited == 0 then f else (
-    if nat_lt (plus f.waited waited) f.rate.period then record { rate = f.rate; waited = plus f.waited waited; taken = plus f.taken bytes } else begun f.rate)
+    if nat_lt (plus f.waited waited) f.rate.period then record { rate = f.rate; waited = plus f.waited waited; taken = plus f.taken bytes }
+    else begun f.rate)
 
 -- whether it goes on behind all of these writes
 abbrev pub goes_on_behind : Flow → List (ℕ × ℕ) → Bool
@@ -46,7 +48,8 @@ CanBeCounted writes = (sum_by (λ (w : ℕ × ℕ). w.0) writes < 2 ^ 64) × (su
 
 -- who takes each write at the rate or above is never cut
 abbrev pub IsNeverCutAbove : Type 0
-IsNeverCutAbove = (rate : Rate) (writes : List (ℕ × ℕ)) → CanBeCounted writes → All (IsAbove rate) writes → goes_on_behind (begun rate) writes ≡ true
+IsNeverCutAbove = (rate : Rate) (writes : List (ℕ × ℕ)) → CanBeCounted writes → All (IsAbove rate) writes →
+    goes_on_behind (begun rate) writes ≡ true
 
 -- who takes each write below it is cut once it was waited for a period
 abbrev pub IsAlwaysCutBelow : Type 0

@@ -1,5 +1,6 @@
 -- The places of a listener: who is given one that comes, and who is turned away.
-use Rattle.std.specs.Prelude.{◌≡◌, ◌⊎◌, ℕ, ◌<◌, ◌≤◌, ◌==◌, Bool, true, false, List, Option, Some, None, if◌then◌else◌, length, nat_lt, slice_index_or, slice_set}
+use Rattle.std.specs.Prelude.{◌≡◌, ◌⊎◌, ℕ, ◌<◌, ◌≤◌, ◌==◌, Bool, true, false, List, Option, Some, None, if◌then◌else◌, length, nat_lt}
+use Rattle.std.specs.Prelude.{slice_index_or, slice_set}
 use Rattle.std.specs.List.{filter}
 use Rattle.iiif_listener.specs.declared.seat.Seat.{Seat}
 use Rattle.iiif_listener.specs.declared.seat.Standing.{Standing}
@@ -66,7 +67,8 @@ IsCrowded seats address bound = (0 < bound) × (bound ≤ connections_of address
 abbrev pub NoneIsFree : List Seat → Type 0
 NoneIsFree seats = (place : ℕ) → place < most → is_free (at seats place).standing ≡ false
 
--- who comes is given this place: one that is free, or where none is that of the connection that waits longest, unless too many such still end
+-- who comes is given this place: one that is free, or where none is that of the connection that waits longest, unless too many such still
+-- end
 abbrev pub IsVacancy : Table → ℕ → Type 0
 IsVacancy t place =
     (place < most)

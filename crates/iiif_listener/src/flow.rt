@@ -32,7 +32,8 @@ impl Flow {
     }
 
     /// Takes in a write that took so many milliseconds, and says whether the answer goes on. What is written at once was taken by memory of
-    /// the system, and says nothing of who reads: it counts for neither. Once it was waited for as long as the period, the rate is looked at, and
+    /// the system, and says nothing of who reads: it counts for neither. Once it was waited for as long as the period, the rate is looked
+    /// at, and
     /// all begins anew.
     pub fn take(&mut self, waited: u64, bytes: u64) -> bool
         ensures value { result ≡ goes_on self.old waited bytes }

@@ -192,7 +192,8 @@ pub struct PacedWriter<'a, R: Clock> {
     pub stream: TcpStream,
     pub rt: &'a R,
     pub pace: &'a Pace,
-    /// How long an answer may be in the making until one who sends no more is taken for gone. Such a one may read on, but a proxy that closes
+    /// How long an answer may be in the making until one who sends no more is taken for gone. Such a one may read on, but a proxy that
+    /// closes
     /// looks the same.
     pub patience: Duration,
     /// How fast the answer is to be taken, and was so far.
@@ -200,7 +201,8 @@ pub struct PacedWriter<'a, R: Clock> {
 }
 
 impl<'a, R: Clock> PacedWriter<'a, R> {
-    /// Takes in a write of so many bytes that began at a moment, where there is a clock: where that fails, so does the next read. An error where
+    /// Takes in a write of so many bytes that began at a moment, where there is a clock: where that fails, so does the next read. An error
+    /// where
     /// the answer is taken too slowly.
     fn count(&mut self, begun: io::Result<u64>, bytes: usize, behind: usize) -> io::Result<()> {
         let _ = self.pace.begin(self.rt, behind);

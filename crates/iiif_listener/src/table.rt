@@ -2,7 +2,8 @@
 
 ghost use Rattle.std.specs.Prelude.{◌≡◌, ◌⊎◌, ◌<◌, IfNone, IfSome, length, slice_set, true};
 ghost use Rattle.iiif_listener.specs.declared.seat.Standing.TheVariants.{AtWork, Idle};
-ghost use Rattle.iiif_listener.specs.Places.{IsCrowded, IsFull, IsVacancy, NoneIsFree, at, connections_of, is_free as is_free_spec, is_of, is_taken, keeps, left_by, most, standing_so, taken};
+ghost use Rattle.iiif_listener.specs.Places.{IsCrowded, IsFull, IsVacancy, NoneIsFree, at, connections_of, is_free as is_free_spec, is_of};
+ghost use Rattle.iiif_listener.specs.Places.{is_taken, keeps, left_by, most, standing_so, taken};
 
 use crate::idle::longest_idle;
 use crate::seat::{Seat, Standing};
@@ -105,11 +106,13 @@ impl Table {
         longest_idle(&self.seats)
     }
 
-    /// Gives a place to a connection of this address, of which so many may have one: 0 stands for any number. It may be that of another one,
+    /// Gives a place to a connection of this address, of which so many may have one: 0 stands for any number. It may be that of another
+    /// one,
     /// which is to be closed. None where the connection is turned away.
     pub fn enter(&mut self, address: u128, bound: usize) -> Option<Ticket>
         ensures place { IfSome result (λ t. IsVacancy self.old t.place × (IsCrowded self.old.seats address bound → ⊥)) }
-        ensures seats { IfSome result (λ t. self.new.seats ≡ slice_set self.old.seats t.place (record { number = t.number; address = address; standing = AtWork })) }
+        ensures seats { IfSome result (λ t. self.new.seats ≡ slice_set self.old.seats t.place
+            (record { number = t.number; address = address; standing = AtWork })) }
         ensures none { IfNone result (IsCrowded self.old.seats address bound ⊎ IsFull self.old) }
         ensures same { IfNone result (self.new ≡ self.old) }
     {

@@ -1,5 +1,6 @@
 -- Escapes: what bytes they have, and that they differ.
-use Rattle.std.proofs.Common.{◌≡◌, ℕ, ◌+◌, ◌/◌, ◌%◌, ◌<◌, ◌==◌, Bool, true, false, cond, nat_lt, List, [], ◌∷◌, ◌++◌, All, length, arith, sym, ◌∙◌, refl}
+use Rattle.std.proofs.Common.{◌≡◌, ℕ, ◌+◌, ◌/◌, ◌%◌, ◌<◌, ◌==◌, Bool, true, false, cond, nat_lt, List, [], ◌∷◌, ◌++◌, All, length, arith}
+use Rattle.std.proofs.Common.{sym, ◌∙◌, refl}
 use Rattle.std.specs.List.{flat_map}
 use Rattle.std.proofs.lemmas.Grind.{common_steps}
 use Rattle.std.proofs.lemmas.List.Elements.{All-same, All-nil, All-cons, All-append, All-head, All-tail}
@@ -21,7 +22,8 @@ escape_is_seen b true e = All-cons Seen b [] (plain_is_seen b e) (All-nil Seen)
 escape_is_seen b false e =
     All-cons Seen 92 (120 ∷ hex_digit (b / 16) ∷ hex_digit (b % 16) ∷ []) (omega arith)
     (All-cons Seen 120 (hex_digit (b / 16) ∷ hex_digit (b % 16) ∷ []) (omega arith)
-    (All-cons Seen (hex_digit (b / 16)) (hex_digit (b % 16) ∷ []) (hex_digit_is_seen (b / 16)) (All-cons Seen (hex_digit (b % 16)) [] (hex_digit_is_seen (b % 16)) (All-nil Seen))))
+    (All-cons Seen (hex_digit (b / 16)) (hex_digit (b % 16) ∷ []) (hex_digit_is_seen (b / 16))
+    (All-cons Seen (hex_digit (b % 16)) [] (hex_digit_is_seen (b % 16)) (All-nil Seen))))
 
 escapes_are_seen : (bs : List ℕ) → All Seen (flat_map escape_of bs)
 escapes_are_seen [] = All-nil Seen
@@ -48,7 +50,8 @@ digits_make a b small little high low =
 
 -- what stands at the front of two texts that begin with escapes
 heads_agree : (a b : ℕ) (s t : Bool) (xs ys : List ℕ) → a < 256 → b < 256 → is_plain a ≡ s → is_plain b ≡ t
-    → cond s (a ∷ []) (92 ∷ 120 ∷ hex_digit (a / 16) ∷ hex_digit (a % 16) ∷ []) ++ xs ≡ cond t (b ∷ []) (92 ∷ 120 ∷ hex_digit (b / 16) ∷ hex_digit (b % 16) ∷ []) ++ ys
+    → cond s (a ∷ []) (92 ∷ 120 ∷ hex_digit (a / 16) ∷ hex_digit (a % 16) ∷ []) ++ xs ≡ cond t (b ∷ [])
+    (92 ∷ 120 ∷ hex_digit (b / 16) ∷ hex_digit (b % 16) ∷ []) ++ ys
     → (a ≡ b) × (xs ≡ ys)
 heads_agree a b true true xs ys small little p q e = (cc, cc)
 heads_agree a b true false xs ys small little p q e =
@@ -63,7 +66,8 @@ heads_agree a b false false xs ys small little p q e =
     (digits_make a b small little high low, cc)
 
 -- no escape is empty
-escape_has_bytes : (b : ℕ) (t : Bool) (xs : List ℕ) → [] ≡ cond t (b ∷ []) (92 ∷ 120 ∷ hex_digit (b / 16) ∷ hex_digit (b % 16) ∷ []) ++ xs → ⊥
+escape_has_bytes : (b : ℕ) (t : Bool) (xs : List ℕ) → [] ≡ cond t (b ∷ []) (92 ∷ 120 ∷ hex_digit (b / 16) ∷ hex_digit (b % 16) ∷ []) ++ xs →
+    ⊥
 escape_has_bytes b true xs e = cc
 escape_has_bytes b false xs e = cc
 
@@ -72,12 +76,14 @@ escapes_agree [] [] p q e = refl
 escapes_agree [] (b ∷ bs) p q e = absurd (escape_has_bytes b (is_plain b) (flat_map escape_of bs) e)
 escapes_agree (a ∷ as') [] p q e = absurd (escape_has_bytes a (is_plain a) (flat_map escape_of as') (sym e))
 escapes_agree (a ∷ as') (b ∷ bs) p q e =
-    let both = heads_agree a b (is_plain a) (is_plain b) (flat_map escape_of as') (flat_map escape_of bs) (All-head (λ x. x < 256) a as' p) (All-head (λ x. x < 256) b bs q) refl refl e in
+    let both = heads_agree a b (is_plain a) (is_plain b) (flat_map escape_of as') (flat_map escape_of bs) (All-head (λ x. x < 256) a as' p)
+    (All-head (λ x. x < 256) b bs q) refl refl e in
     let rest : as' ≡ bs = escapes_agree as' bs (All-tail (λ x. x < 256) a as' p) (All-tail (λ x. x < 256) b bs q) both.1 in
     let first = both.0 in cc
 
 -- two quotes are no escape
-quotes_are_none : (b : ℕ) (t : Bool) (xs : List ℕ) → is_plain b ≡ t → 34 ∷ 34 ∷ [] ≡ cond t (b ∷ []) (92 ∷ 120 ∷ hex_digit (b / 16) ∷ hex_digit (b % 16) ∷ []) ++ xs → ⊥
+quotes_are_none : (b : ℕ) (t : Bool) (xs : List ℕ) → is_plain b ≡ t →
+    34 ∷ 34 ∷ [] ≡ cond t (b ∷ []) (92 ∷ 120 ∷ hex_digit (b / 16) ∷ hex_digit (b % 16) ∷ []) ++ xs → ⊥
 quotes_are_none b true xs p e =
     let is : ◌≡◌ {A = ℕ} 34 b = cc in
     let not : is_plain 34 ≡ true = rw (← is) at p in cc

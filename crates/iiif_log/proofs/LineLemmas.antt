@@ -1,5 +1,6 @@
 -- Lines: their bytes, their words, and what they tell.
-use Rattle.std.proofs.Common.{◌≡◌, ℕ, zero, suc, ◌+◌, ◌/◌, ◌%◌, ◌<◌, ◌^◌, ◌==◌, true, false, List, [], ◌∷◌, ◌++◌, All, codes, decimal, None, ℤ, pos, negsuc, append_assoc, arith, ap, sym, ◌∙◌, refl, subst, if◌then◌else◌}
+use Rattle.std.proofs.Common.{◌≡◌, ℕ, zero, suc, ◌+◌, ◌/◌, ◌%◌, ◌<◌, ◌^◌, ◌==◌, true, false, List, [], ◌∷◌, ◌++◌, All, codes, decimal}
+use Rattle.std.proofs.Common.{None, ℤ, pos, negsuc, append_assoc, arith, ap, sym, ◌∙◌, refl, subst, if◌then◌else◌}
 use Rattle.std.specs.List.{join_with_byte, slice_split, AllByRecursion}
 use Rattle.std.proofs.lemmas.Grind.{common_steps}
 use Rattle.std.proofs.lemmas.List.{append-nil, append_cancel_right}
@@ -58,12 +59,16 @@ year_seen (negsuc n) = both_seen (codes "-00") (pad4 (suc n))
 places_seen : (k whole n : ℕ) → Word (places k whole n)
 unfolding places
 places_seen zero whole n = none_seen
-places_seen (suc k) whole n = one_more (48 + n / (whole / 10)) (places k (whole / 10) (n % (whole / 10))) (omega arith) (places_seen k (whole / 10) (n % (whole / 10)))
+places_seen (suc k) whole n = one_more (48 + n / (whole / 10)) (places k (whole / 10) (n % (whole / 10))) (omega arith)
+    (places_seen k (whole / 10) (n % (whole / 10)))
 
 fraction_seen : (n : ℕ) → Word (fraction_part None n)
 fraction_seen n =
-    elim (n == 0) as (λ t. Word (if t then [] else 46 ∷ places (fraction_len None n) 1_000_000_000 n))
-    [ true ↦ none_seen | false ↦ one_more 46 (places (fraction_len None n) 1_000_000_000 n) (omega arith) (places_seen (fraction_len None n) 1_000_000_000 n) ]
+    elim (n == 0) as (λ t. Word (if t then [] else 46 ∷ places (fraction_len None n) 1_000_000_000 n)) [
+      | true ↦ none_seen
+      | false ↦ one_more 46 (places (fraction_len None n) 1_000_000_000 n) (omega arith)
+          (places_seen (fraction_len None n) 1_000_000_000 n)
+    ]
 
 datetime_seen : (dt : DateTime) → Word (iso_datetime_text dt)
 datetime_seen dt =
@@ -72,16 +77,19 @@ datetime_seen dt =
     let date = both_seen _ _ (both_seen _ _ year_month (dash_seen 45 (omega arith))) (pad2_seen dt.date.day) in
     let minute = one_more 58 _ (omega arith) (pad2_seen dt.time.minute) in
     let second = one_more 58 _ (omega arith) (pad2_seen dt.time.second) in
-    let time = both_seen _ _ (both_seen _ _ (both_seen _ _ (pad2_seen dt.time.hour) minute) second) (fraction_seen dt.time.subsec_nanosecond) in
+    let time = both_seen _ _ (both_seen _ _ (both_seen _ _ (pad2_seen dt.time.hour) minute) second)
+    (fraction_seen dt.time.subsec_nanosecond) in
     both_seen _ _ date (one_more 84 _ (omega arith) time)
 
 three_seen : (n : ℕ) → n < 1000 → Word (three_digits n)
 three_seen n small =
-    both_seen _ _ (both_seen _ _ (decimal_seen (n / 100) (omega arith)) (decimal_seen (n / 10 % 10) (omega arith))) (decimal_seen (n % 10) (omega arith))
+    both_seen _ _ (both_seen _ _ (decimal_seen (n / 100) (omega arith)) (decimal_seen (n / 10 % 10) (omega arith)))
+    (decimal_seen (n % 10) (omega arith))
 
 moment_seen : (millis : ℕ) (text : List ℕ) → IsMomentText millis text → Word text
 moment_seen millis text (dt, at, is) =
-    subst Word (sym is) (both_seen _ _ (both_seen _ _ (datetime_seen dt) (one_more 46 _ (omega arith) (three_seen (millis % 1000) (omega arith)))) (dash_seen 90 (omega arith)))
+    subst Word (sym is) (both_seen _ _ (both_seen _ _ (datetime_seen dt)
+    (one_more 46 _ (omega arith) (three_seen (millis % 1000) (omega arith)))) (dash_seen 90 (omega arith)))
 
 outcome_seen : (o : Outcome) → ((s : ℕ) → o ≡ Whole s → s < 2 ^ 16) → Word (outcome_word o)
 outcome_seen (Whole s) small = let below = small s refl in decimal_seen s (omega arith)
@@ -98,9 +106,11 @@ no_space : (w : List ℕ) → Word w → All (λ b. (b == 32) ≡ false) w
 no_space w v = All-weaker Seen (λ b. (b == 32) ≡ false) (λ b above. grind (arith, common_steps)) w v.seen
 
 -- words are found again in their join
-split_join : (w : List ℕ) (ws : List (List ℕ)) → Word w → AllByRecursion Word ws → slice_split (λ b. b == 32) (join_with_byte 32 (w ∷ ws)) ≡ w ∷ ws
+split_join : (w : List ℕ) (ws : List (List ℕ)) → Word w → AllByRecursion Word ws →
+    slice_split (λ b. b == 32) (join_with_byte 32 (w ∷ ws)) ≡ w ∷ ws
 split_join w [] v vs = slice_split_none (λ b. b == 32) w (no_space w v)
-split_join w (x ∷ xs) v vs = slice_split_at (λ b. b == 32) w 32 (join_with_byte 32 (x ∷ xs)) (no_space w v) refl ∙ ap (λ r. w ∷ r) (split_join x xs vs.0 vs.1)
+split_join w (x ∷ xs) v vs = slice_split_at (λ b. b == 32) w 32 (join_with_byte 32 (x ∷ xs)) (no_space w v) refl ∙
+    ap (λ r. w ∷ r) (split_join x xs vs.0 vs.1)
 
 -- no byte of a join is a control byte
 join_above : (w : List ℕ) (ws : List (List ℕ)) → Word w → AllByRecursion Word ws → All (λ b. 31 < b) (join_with_byte 32 (w ∷ ws))
@@ -116,17 +126,31 @@ front_of t m o b n g (Whole s) = append-nil (join_with_byte 32 (t ∷ m ∷ o �
 front_of t m o b n g Cut = simp append_assoc
 
 words_behind_seen : (a : Answered) → HasNumbers a
-    → AllByRecursion Word (escaped a.method.now ∷ outcome_word a.outcome ∷ decimal a.bytes ∷ decimal a.millis ∷ escaped a.target.now ∷ last_words a.outcome)
-words_behind_seen a h =
-    (escaped_word a.method.now, (outcome_seen a.outcome h.status, (decimal_seen a.bytes h.bytes, (decimal_seen a.millis h.millis, (escaped_word a.target.now, last_seen a.outcome)))))
+    → AllByRecursion Word (escaped a.method.now ∷ outcome_word a.outcome ∷ decimal a.bytes ∷ decimal a.millis ∷ escaped a.target.now ∷
+    last_words a.outcome)
+words_behind_seen a h = (
+  escaped_word a.method.now,
+  (
+    outcome_seen a.outcome h.status,
+    (decimal_seen a.bytes h.bytes, (decimal_seen a.millis h.millis, (escaped_word a.target.now, last_seen a.outcome))),
+  ),
+)
 
 pub lines_are_lines : LinesAreLines
 lines_are_lines a text h (time, moment, is) =
     let word = moment_seen a.at.millis time moment in
     let behind = words_behind_seen a h in
-    let rest = escaped a.method.now ∷ outcome_word a.outcome ∷ decimal a.bytes ∷ decimal a.millis ∷ escaped a.target.now ∷ last_words a.outcome in
-    let front = front_of time (escaped a.method.now) (outcome_word a.outcome) (decimal a.bytes) (decimal a.millis) (escaped a.target.now) a.outcome in
-    (time, join_with_byte 32 (time ∷ rest), moment, is ∙ ap (λ f. f ++ 10 ∷ []) front, join_above time rest word behind, split_join time rest word behind)
+    let rest = escaped a.method.now ∷ outcome_word a.outcome ∷ decimal a.bytes ∷ decimal a.millis ∷ escaped a.target.now ∷ last_words
+    a.outcome in
+    let front = front_of time (escaped a.method.now) (outcome_word a.outcome) (decimal a.bytes) (decimal a.millis) (escaped a.target.now)
+    a.outcome in (
+      time,
+      join_with_byte 32 (time ∷ rest),
+      moment,
+      is ∙ ap (λ f. f ++ 10 ∷ []) front,
+      join_above time rest word behind,
+      split_join time rest word behind,
+    )
 
 ends_differ : (o p : Outcome) → ((s : ℕ) → o ≡ Whole s → s < 2 ^ 16) → ((s : ℕ) → p ≡ Whole s → s < 2 ^ 16)
     → outcome_word o ≡ outcome_word p → last_words o ≡ last_words p → o ≡ p
@@ -142,7 +166,8 @@ lines_tell_answers a b text h k am bm at bt x y =
     let p = lines_are_lines a text h x in
     let q = lines_are_lines b text k y in
     let fronts : p.1 ≡ q.1 = append_cancel_right p.1 q.1 (10 ∷ []) (sym p.3 ∙ q.3) in
-    let words : words_of p.0 a ++ last_words a.outcome ≡ words_of q.0 b ++ last_words b.outcome = sym p.5 ∙ ap (slice_split (λ c. c == 32)) fronts ∙ q.5 in
+    let words : words_of p.0 a ++ last_words a.outcome ≡ words_of q.0 b ++ last_words b.outcome = sym p.5 ∙
+    ap (slice_split (λ c. c == 32)) fronts ∙ q.5 in
     let methods : escaped a.method.now ≡ escaped b.method.now = cc in
     let targets : escaped a.target.now ≡ escaped b.target.now = cc in
     let ends : outcome_word a.outcome ≡ outcome_word b.outcome = cc in
@@ -165,8 +190,32 @@ peer_seen : Word (codes "peer")
 peer_seen = all_seen (codes "peer") (omega arith, (omega arith, (omega arith, (omega arith, tt))))
 
 turn_seen : (t : Turn) → Word (turn_word t)
-turn_seen LeftAlone = all_seen (codes "left-alone") (omega arith, (omega arith, (omega arith, (omega arith, (omega arith, (omega arith, (omega arith, (omega arith, (omega arith, (omega arith, tt))))))))))
-turn_seen AskedAgain = all_seen (codes "asked-again") (omega arith, (omega arith, (omega arith, (omega arith, (omega arith, (omega arith, (omega arith, (omega arith, (omega arith, (omega arith, (omega arith, tt)))))))))))
+turn_seen LeftAlone = all_seen (codes "left-alone") (
+  omega arith,
+  (
+    omega arith,
+    (
+      omega arith,
+      (
+        omega arith,
+        (omega arith, (omega arith, (omega arith, (omega arith, (omega arith, (omega arith, tt)))))),
+      ),
+    ),
+  ),
+)
+turn_seen AskedAgain = all_seen (codes "asked-again") (
+  omega arith,
+  (
+    omega arith,
+    (
+      omega arith,
+      (
+        omega arith,
+        (omega arith, (omega arith, (omega arith, (omega arith, (omega arith, (omega arith, (omega arith, tt))))))),
+      ),
+    ),
+  ),
+)
 
 pub peer_lines_are_lines : PeerLinesAreLines
 peer_lines_are_lines p text (time, moment, is) =

@@ -1,5 +1,6 @@
 -- Lines that are put and taken.
-use Rattle.std.proofs.Common.{◌≡◌, ℕ, zero, suc, ◌+◌, ◌^◌, ◌<◌, Bool, true, false, cond, nat_lt, List, [], ◌∷◌, ◌++◌, length, append_assoc, arith, subst, refl}
+use Rattle.std.proofs.Common.{◌≡◌, ℕ, zero, suc, ◌+◌, ◌^◌, ◌<◌, Bool, true, false, cond, nat_lt, List, [], ◌∷◌, ◌++◌, length, append_assoc}
+use Rattle.std.proofs.Common.{arith, subst, refl}
 use Rattle.std.proofs.Math.ListN.{length-append}
 use Rattle.std.proofs.lemmas.Grind.{common_steps}
 use Rattle.std.proofs.lemmas.List.{append-nil}
@@ -18,13 +19,17 @@ pub put_keeps : (puts : List (List ℕ)) (taken : List Told) (w : Waiting) (text
 put_keeps puts taken w text some small k =
     elim (nat_lt (length w.lines) 1024)
     as (λ b. Keeps (puts ++ text ∷ [])
-    (taken ++ (cond b (record { lines = w.lines ++ record { lost = w.lost; text = text } ∷ []; lost = 0; is_open = w.is_open }) (lost_behind w)).lines)
-    (cond b (record { lines = w.lines ++ record { lost = w.lost; text = text } ∷ []; lost = 0; is_open = w.is_open }) (lost_behind w)).lost) [
-      | true ↦ subst (λ ls. Keeps (puts ++ text ∷ []) ls 0) (append_assoc taken w.lines (record { lost = w.lost; text = text } ∷ [])) (kept puts (taken ++ w.lines) w.lost text some k)
+    (taken ++ (cond b (record { lines = w.lines ++ record { lost = w.lost; text = text } ∷ []; lost = 0; is_open = w.is_open })
+    (lost_behind w)).lines)
+    (cond b (record { lines = w.lines ++ record { lost = w.lost; text = text } ∷ []; lost = 0; is_open = w.is_open })
+    (lost_behind w)).lost) [
+      | true ↦ subst (λ ls. Keeps (puts ++ text ∷ []) ls 0) (append_assoc taken w.lines (record { lost = w.lost; text = text } ∷ []))
+          (kept puts (taken ++ w.lines) w.lost text some k)
       | false ↦ rw (capped_is (w.lost + 1) small) (gone puts (taken ++ w.lines) w.lost text k)
     ]
 
-pub take_keeps : (puts : List (List ℕ)) (taken lines : List Told) (lost : ℕ) (is_open : Bool) (l : Told) → next_of lines lost is_open ≡ line l
+pub take_keeps : (puts : List (List ℕ)) (taken lines : List Told) (lost : ℕ) (is_open : Bool) (l : Told) →
+    next_of lines lost is_open ≡ line l
     → Keeps puts (taken ++ lines) lost
     → Keeps puts ((taken ++ l ∷ []) ++ (left_of lines (record { lines = lines; lost = lost; is_open = is_open })).lines)
     (left_of lines (record { lines = lines; lost = lost; is_open = is_open })).lost
@@ -45,7 +50,13 @@ pub counts : CountsAddUp
 counts puts told lost none = refl
 counts puts told lost (kept before earlier count text some k) =
     let ih = counts before earlier count k in
-    omega (arith, ih, length-append before (text ∷ []), sum_by_push lines_in earlier (record { lost = count; text = text }), lines_in_line count text some)
+    omega (
+      arith,
+      ih,
+      length-append before (text ∷ []),
+      sum_by_push lines_in earlier (record { lost = count; text = text }),
+      lines_in_line count text some,
+    )
 counts puts told lost (gone before earlier count text k) =
     let ih = counts before earlier count k in
     omega (arith, ih, length-append before (text ∷ []))

@@ -45,8 +45,10 @@ pub data Keeps : List (List ℕ) → List Told → ℕ → Type 0 where
   none : Keeps [] [] 0
   kept : (puts : List (List ℕ)) (told : List Told) (lost : ℕ) (text : List ℕ) → 0 < length text → Keeps puts told lost
       → Keeps (puts ++ text ∷ []) (told ++ record { lost = lost; text = text } ∷ []) 0
-  gone : (puts : List (List ℕ)) (told : List Told) (lost : ℕ) (text : List ℕ) → Keeps puts told lost → Keeps (puts ++ text ∷ []) told (lost + 1)
-  said : (puts : List (List ℕ)) (told : List Told) (lost : ℕ) → Keeps puts told lost → Keeps puts (told ++ record { lost = lost; text = [] } ∷ []) 0
+  gone : (puts : List (List ℕ)) (told : List Told) (lost : ℕ) (text : List ℕ) → Keeps puts told lost →
+      Keeps (puts ++ text ∷ []) told (lost + 1)
+  said : (puts : List (List ℕ)) (told : List Told) (lost : ℕ) → Keeps puts told lost →
+      Keeps puts (told ++ record { lost = lost; text = [] } ∷ []) 0
 
 -- It stays so where a line is put, and where one is taken.
 abbrev pub QueuesKeepLines : Type 0

@@ -30,5 +30,6 @@ PeerLinesAreLines =
 -- lines that are one tell of one name and one turn
 abbrev pub PeerLinesTellTurns : Type 0
 PeerLinesTellTurns =
-    (p q : PeerTurn) (text : List ℕ) → All (λ x. x < 256) p.name.now → All (λ x. x < 256) q.name.now → IsPeerLineOf p text → IsPeerLineOf q text
+    (p q : PeerTurn) (text : List ℕ) → All (λ x. x < 256) p.name.now → All (λ x. x < 256) q.name.now → IsPeerLineOf p text →
+    IsPeerLineOf q text
     → (p.name.now ≡ q.name.now) × (p.turn ≡ q.turn)

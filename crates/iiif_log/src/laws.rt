@@ -18,7 +18,8 @@ pub fn lines_tell_answers()
     ensures { LinesTellAnswers }
 {}
 
-/// So a line of a link is one line, and is none of an answer, which has more words; and it tells the node's name and what became of the link.
+/// So a line of a link is one line, and is none of an answer, which has more words; and it tells the node's name and what became of the
+/// link.
 pub fn peer_lines_are_lines()
     ensures lines { PeerLinesAreLines }
     ensures turns { PeerLinesTellTurns }

@@ -1,4 +1,5 @@
-//! A line for each answer and for each turn of a link to another node, and the queue over which lines come to a thread of their own that writes them.
+//! A line for each answer and for each turn of a link to another node, and the queue over which lines come to a thread of their own that
+//! writes them.
 #![tactic(auto)]
 
 pub use answered::{Answered, Outcome};

@@ -103,13 +103,16 @@ pub fn write_line<W: Outlet>(
     unsaid: u64,
     line: &Line,
 ) -> Result<(), u64>
-    ensures ok { OnOk result (Appends (W.contents out.old) (W.contents out.new) (lost_text (capped (unsaid + line.now.lost)) ++ line.now.text.items)) }
+    ensures ok { OnOk result (Appends (W.contents out.old) (W.contents out.new)
+        (lost_text (capped (unsaid + line.now.lost)) ++ line.now.text.items)) }
     ensures err { IfErr result (λ n. (n ≡ capped (unsaid + lines_in (line_view line.now)))
-        ⊎ ((n ≡ 1) × (middle : W) × (sent : ℕ) × Appends (W.contents out.old) (W.contents middle) (lost_text (capped (unsaid + line.now.lost)))
+        ⊎ ((n ≡ 1) × (middle : W) × (sent : ℕ) ×
+        Appends (W.contents out.old) (W.contents middle) (lost_text (capped (unsaid + line.now.lost)))
         × WasCut W.contents W.fails middle out.new line.now.text.items sent)) }
 
     // Where none was lost before, the writer failed.
-    ensures alone { unsaid + line.now.lost ≡ 0 → IfErr result (λ _. (sent : ℕ) × WasCut W.contents W.fails out.old out.new line.now.text.items sent) }
+    ensures alone { unsaid + line.now.lost ≡ 0 →
+        IfErr result (λ _. (sent : ℕ) × WasCut W.contents W.fails out.old out.new line.now.text.items sent) }
 {
     let lost = unsaid.saturating_add(line.lost);
     if !write_lost(alloc, out, lost) {

@@ -8,9 +8,13 @@ use Rattle.iiif_scene.specs.Keys.{parts_of}
 use Rattle.iiif_scene.proofs.Lists.{get_map}
 use Rattle.iiif_machine.specs.Types.{Key, ReadFault}
 use Rattle.iiif_machine.specs.Tables.{Class, Wide, Local, Outcome, Place, enter}
-use Rattle.iiif_machine.specs.Rows.{Node, Purpose, ForRequest, ForPart, ForFallback, ForAsk, Caller, CallState, Fresh, Hit, In, Gone, Call, Lead, Stage, New, Looked, Asking, Fallback, Parts, Ready, Ended, Flight, Reply}
-use Rattle.iiif_machine.specs.Worlds.{World, ◌>>=◌, version_shown, version_at, speaker, owner_of, table_at, with_stage, with_ask, with_reply, learned, all_learned, collected, outcome_from}
-use Rattle.iiif_machine.specs.Steps.{Event, Want, Enter, Again, AskPeer, Serve, Take, Lose, GoLocal, Load, SourceFault, Land, Evict, Stop, after_enter, after_again, after_ask_peer, after_reply, after_take, after_lose, after_go_local, after_load, after_fault, after_land, step}
+use Rattle.iiif_machine.specs.Rows.{Node, Purpose, ForRequest, ForPart, ForFallback, ForAsk, Caller, CallState, Fresh, Hit, In, Gone, Call}
+use Rattle.iiif_machine.specs.Rows.{Lead, Stage, New, Looked, Asking, Fallback, Parts, Ready, Ended, Flight, Reply}
+use Rattle.iiif_machine.specs.Worlds.{World, ◌>>=◌, version_shown, version_at, speaker, owner_of, table_at, with_stage, with_ask}
+use Rattle.iiif_machine.specs.Worlds.{with_reply, learned, all_learned, collected, outcome_from}
+use Rattle.iiif_machine.specs.Steps.{Event, Want, Enter, Again, AskPeer, Serve, Take, Lose, GoLocal, Load, SourceFault, Land, Evict, Stop}
+use Rattle.iiif_machine.specs.Steps.{after_enter, after_again, after_ask_peer, after_reply, after_take, after_lose, after_go_local}
+use Rattle.iiif_machine.specs.Steps.{after_load, after_fault, after_land, step}
 use Rattle.iiif_machine.specs.declared.events.Event.TheVariants as event
 use Rattle.iiif_machine.specs.Sound.{caller_of, lead_in, card_of, cards, IsThere, IsSound}
 use Rattle.iiif_machine.specs.Promises.{IsAt, IsOfClassAt, IsAllowed, AllowedExactly}
@@ -30,10 +34,12 @@ no_world v h = absurd (none-some v h)
 node_there : (w : World) (i : ℕ) → IsThere (cards w) i → (n : Node) × (slice_get w.nodes i ≡ Some n)
 node_there w i h = let n = get_mapped card_of w.nodes i h.0 h.1 in (n.0, n.1)
 
-lead_node : (w : World) (f : ℕ) (fl : Flight) → IsSound w → slice_get w.flights f ≡ Some fl → (n : Node) × (slice_get w.nodes fl.lead.node ≡ Some n)
+lead_node : (w : World) (f : ℕ) (fl : Flight) → IsSound w → slice_get w.flights f ≡ Some fl → (n : Node) ×
+    (slice_get w.nodes fl.lead.node ≡ Some n)
 lead_node w f fl h at = node_there w fl.lead.node (h.placed.leads f fl.lead (get_map lead_in w.flights f fl at))
 
-call_node : (w : World) (c : ℕ) (call : Call) → IsSound w → slice_get w.calls c ≡ Some call → (n : Node) × (slice_get w.nodes call.caller.node ≡ Some n)
+call_node : (w : World) (c : ℕ) (call : Call) → IsSound w → slice_get w.calls c ≡ Some call → (n : Node) ×
+    (slice_get w.nodes call.caller.node ≡ Some n)
 call_node w c call h at = node_there w call.caller.node (h.placed.callers c call.caller (get_map caller_of w.calls c call at))
 
 -- a node speaks the versions up to its own, and no other
@@ -50,21 +56,27 @@ only_speakers n m v h = by (nat_lt n.version v) refl h
 
 -- what is allowed
 
-enters : (w : World) (c : ℕ) (who : Caller) (n : Node) → IsSound w → slice_get w.nodes who.node ≡ Some n → Goes (after_enter w c who n Fresh)
+enters : (w : World) (c : ℕ) (who : Caller) (n : Node) → IsSound w → slice_get w.nodes who.node ≡ Some n →
+    Goes (after_enter w c who n Fresh)
 enters w c who n h there =
     let r = enter (table_at n who.key) who.key who.class in
     entered_there w c who n r.0 r.1 h.listed there refl
 
-asks : (w : World) (f : ℕ) (l : Lead) (n : Node) (c : Class) → c ≡ Wide → IsSound w → slice_get w.nodes l.node ≡ Some n → Goes (after_ask_peer w f l n c Looked)
+asks : (w : World) (f : ℕ) (l : Lead) (n : Node) (c : Class) → c ≡ Wide → IsSound w → slice_get w.nodes l.node ≡ Some n →
+    Goes (after_ask_peer w f l n c Looked)
 asks w f l n Wide e h there =
     let o = owner_there w l.node n l.key h.placed there in
-    goes (position (λ m. bytes_eq m.name (owner_of n l.key)) w.nodes) (λ o. Some (with_ask (with_stage w f l Asking) (record { node = o; key = l.key; flight = f; version = version_at w.scene l.key }))) o.0 o.1
+    goes (position (λ m. bytes_eq m.name (owner_of n l.key)) w.nodes)
+    (λ o. Some (with_ask (with_stage w f l Asking) (record { node = o; key = l.key; flight = f; version = version_at w.scene l.key })))
+    o.0 o.1
     (with_ask (with_stage w f l Asking) (record { node = o.0; key = l.key; flight = f; version = version_at w.scene l.key }), refl)
 asks w f l n Local e h there = absurd cc
 
-replies : (w : World) (c : ℕ) (who : Caller) (a : ℕ) (p : Purpose) (o : Outcome) → p ≡ ForAsk a → learned w c ≡ Some o → Goes (after_reply w c who p)
+replies : (w : World) (c : ℕ) (who : Caller) (a : ℕ) (p : Purpose) (o : Outcome) → p ≡ ForAsk a → learned w c ≡ Some o →
+    Goes (after_reply w c who p)
 replies w c who a (ForAsk b) o e h =
-    goes (learned w c) (λ o. Some (with_reply w (record { key = who.key; outcome = o }))) o h (with_reply w (record { key = who.key; outcome = o }), refl)
+    goes (learned w c) (λ o. Some (with_reply w (record { key = who.key; outcome = o }))) o h
+    (with_reply w (record { key = who.key; outcome = o }), refl)
 replies w c who a (ForRequest r) o e h = absurd cc
 replies w c who a (ForPart f) o e h = absurd cc
 replies w c who a (ForFallback f) o e h = absurd cc
@@ -73,12 +85,14 @@ loads : (w : World) (f : ℕ) (l : Lead) (n : Node) (c : Class) → c ≡ Local 
 loads w f l n Local e = (_, refl)
 loads w f l n Wide e = absurd cc
 
-merges : (w : World) (f : ℕ) (l : Lead) (n : Node) (c : Class) (cs : List ℕ) (os : List Outcome) → c ≡ Local → all_learned w cs ≡ Some os → Goes (after_load w f l n c (Parts cs))
+merges : (w : World) (f : ℕ) (l : Lead) (n : Node) (c : Class) (cs : List ℕ) (os : List Outcome) → c ≡ Local → all_learned w cs ≡ Some os →
+    Goes (after_load w f l n c (Parts cs))
 merges w f l n Local cs os e h =
     goes (all_learned w cs) (λ os. Some (with_stage w f l (Ready (outcome_from w.scene l.key (collected os)) _))) os h (_, refl)
 merges w f l n Wide cs os e h = absurd cc
 
-fails : (w : World) (f : ℕ) (l : Lead) (e : ReadFault) (c : Class) (ks : Option (List Key)) → c ≡ Local → ks ≡ None → Goes (after_fault w f l e c ks Looked)
+fails : (w : World) (f : ℕ) (l : Lead) (e : ReadFault) (c : Class) (ks : Option (List Key)) → c ≡ Local → ks ≡ None →
+    Goes (after_fault w f l e c ks Looked)
 fails w f l e Local None p q = (_, refl)
 fails w f l e Local (Some ks) p q = absurd cc
 fails w f l e Wide ks p q = absurd cc
@@ -87,7 +101,8 @@ pub allowed_goes : (w : World) (e : Event) → IsSound w → IsAllowed w e → G
 unfolding step
 allowed_goes w (Want i name q) h a =
     let n = a.2.0 in
-    goes (slice_get w.nodes i) _ n a.2.1 (goes (w.scene.shows name) _ a.0 a.1 (goes (speaker n (version_shown a.0)) _ n (speaks n (version_shown a.0) a.2.2) (_, refl)))
+    goes (slice_get w.nodes i) _ n a.2.1 (goes (w.scene.shows name) _ a.0 a.1
+    (goes (speaker n (version_shown a.0)) _ n (speaks n (version_shown a.0) a.2.2) (_, refl)))
 allowed_goes w (Enter c) h a =
     let call : Call = record { caller = a.0; state = Fresh } in
     let n = call_node w c call h a.1 in
@@ -102,13 +117,17 @@ allowed_goes w (AskPeer f) h a =
     goes (slice_get w.flights f) _ fl a.1 (goes (slice_get w.nodes a.0.node) _ n.0 n.1 (asks w f a.0 n.0 a.0.class a.2 h n.1))
 allowed_goes w (Serve i) h a =
     let n = a.2.0 in
-    goes (slice_get w.asks i) _ a.0 a.1 (goes (slice_get w.nodes a.0.node) _ n a.2.1 (goes (speaker n a.0.version) _ n (speaks n a.0.version a.2.2) (_, refl)))
-allowed_goes w (event.Reply c) h a = goes (slice_get w.calls c) _ a.0 a.1 (replies w c a.0.caller a.2.0 a.0.caller.purpose a.3.0 a.2.1 a.3.1)
+    goes (slice_get w.asks i) _ a.0 a.1 (goes (slice_get w.nodes a.0.node) _ n a.2.1
+    (goes (speaker n a.0.version) _ n (speaks n a.0.version a.2.2) (_, refl)))
+allowed_goes w (event.Reply c) h a = goes (slice_get w.calls c) _ a.0 a.1
+    (replies w c a.0.caller a.2.0 a.0.caller.purpose a.3.0 a.2.1 a.3.1)
 allowed_goes w (Take f r) h a =
     ⊎_elim
-    (λ (b : IsAt w f Asking). goes (slice_get w.flights f) _ (record { lead = b.0; stage = Asking }) b.1 (goes (slice_get w.replies r) _ a.1.0 a.1.1 (_, refl)))
+    (λ (b : IsAt w f Asking). goes (slice_get w.flights f) _ (record { lead = b.0; stage = Asking }) b.1
+    (goes (slice_get w.replies r) _ a.1.0 a.1.1 (_, refl)))
     (λ (b : (o : Option Outcome) × IsAt w f (Ended o)).
-    goes (slice_get w.flights f) _ (record { lead = b.1.0; stage = Ended b.0 }) b.1.1 (goes (slice_get w.replies r) _ a.1.0 a.1.1 (_, refl))) a.0
+    goes (slice_get w.flights f) _ (record { lead = b.1.0; stage = Ended b.0 }) b.1.1
+    (goes (slice_get w.replies r) _ a.1.0 a.1.1 (_, refl))) a.0
 allowed_goes w (Lose f) h a = goes (slice_get w.flights f) _ (record { lead = a.0; stage = Asking }) a.1 (_, refl)
 allowed_goes w (GoLocal f) h a = goes (slice_get w.flights f) _ (record { lead = a.0; stage = Fallback None }) a.1 (_, refl)
 allowed_goes w (Load f) h a =
@@ -122,7 +141,8 @@ allowed_goes w (Load f) h a =
     let fl : Flight = record { lead = l; stage = Parts b.0 } in
     let n = lead_node w f fl h b.1.1 in
     goes (slice_get w.flights f) _ fl b.1.1 (goes (slice_get w.nodes l.node) _ n.0 n.1 (merges w f l n.0 l.class b.0 b.2.0 b.1.2 b.2.1))) a
-allowed_goes w (SourceFault f e) h a = goes (slice_get w.flights f) _ (record { lead = a.0; stage = Looked }) a.1 (fails w f a.0 e a.0.class (parts_of a.0.key) a.2 a.3)
+allowed_goes w (SourceFault f e) h a = goes (slice_get w.flights f) _ (record { lead = a.0; stage = Looked }) a.1
+    (fails w f a.0 e a.0.class (parts_of a.0.key) a.2 a.3)
 allowed_goes w (Land f kept) h a =
     let l = a.2.0 in
     let fl : Flight = record { lead = l; stage = Ready a.0 a.1 } in
@@ -148,7 +168,8 @@ only_new w f l n (Parts cs) v h = no_world v h
 only_new w f l n (Ready o p) v h = no_world v h
 only_new w f l n (Ended o) v h = no_world v h
 
-only_wide : (w : World) (f : ℕ) (l : Lead) (n : Node) (c : Class) (s : Stage) (v : World) → after_ask_peer w f l n c s ≡ Some v → (s ≡ Looked) × (c ≡ Wide)
+only_wide : (w : World) (f : ℕ) (l : Lead) (n : Node) (c : Class) (s : Stage) (v : World) → after_ask_peer w f l n c s ≡ Some v →
+    (s ≡ Looked) × (c ≡ Wide)
 only_wide w f l n Wide Looked v h = (refl, refl)
 only_wide w f l n Local s v h = no_world v h
 only_wide w f l n Wide New v h = no_world v h
@@ -158,7 +179,8 @@ only_wide w f l n Wide (Parts cs) v h = no_world v h
 only_wide w f l n Wide (Ready o p) v h = no_world v h
 only_wide w f l n Wide (Ended o) v h = no_world v h
 
-only_served : (w : World) (c : ℕ) (who : Caller) (p : Purpose) (v : World) → after_reply w c who p ≡ Some v → ((a : ℕ) × (p ≡ ForAsk a)) × ((o : Outcome) × (learned w c ≡ Some o))
+only_served : (w : World) (c : ℕ) (who : Caller) (p : Purpose) (v : World) → after_reply w c who p ≡ Some v → ((a : ℕ) × (p ≡ ForAsk a)) ×
+    ((o : Outcome) × (learned w c ≡ Some o))
 only_served w c who (ForAsk a) v h =
     let o = bind_inv (learned w c) (λ o. Some (with_reply w (record { key = who.key; outcome = o }))) v h in
     ((a, refl), (o.0, o.1))
@@ -166,7 +188,8 @@ only_served w c who (ForRequest r) v h = no_world v h
 only_served w c who (ForPart f) v h = no_world v h
 only_served w c who (ForFallback f) v h = no_world v h
 
-only_asking_or_ended : (w : World) (f : ℕ) (l : Lead) (r : Reply) (s : Stage) (v : World) → after_take w f l r s ≡ Some v → (s ≡ Asking) ⊎ ((o : Option Outcome) × (s ≡ Ended o))
+only_asking_or_ended : (w : World) (f : ℕ) (l : Lead) (r : Reply) (s : Stage) (v : World) → after_take w f l r s ≡ Some v → (s ≡ Asking) ⊎
+    ((o : Option Outcome) × (s ≡ Ended o))
 only_asking_or_ended w f l r Asking v h = inl refl
 only_asking_or_ended w f l r (Ended o) v h = inr (o, refl)
 only_asking_or_ended w f l r New v h = no_world v h
@@ -195,7 +218,8 @@ only_in_vain w f l (Ready o p) v h = no_world v h
 only_in_vain w f l (Ended o) v h = no_world v h
 
 abbrev Loads : World → Class → Stage → Type 0
-Loads w c s = ((s ≡ Looked) × (c ≡ Local)) ⊎ ((cs : List ℕ) × (s ≡ Parts cs) × (c ≡ Local) × ((os : List Outcome) × (all_learned w cs ≡ Some os)))
+Loads w c s = ((s ≡ Looked) × (c ≡ Local)) ⊎ ((cs : List ℕ) × (s ≡ Parts cs) × (c ≡ Local) ×
+    ((os : List Outcome) × (all_learned w cs ≡ Some os)))
 
 only_loads : (w : World) (f : ℕ) (l : Lead) (n : Node) (c : Class) (s : Stage) (v : World) → after_load w f l n c s ≡ Some v → Loads w c s
 only_loads w f l n Local Looked v h = inl (refl, refl)
@@ -209,7 +233,8 @@ only_loads w f l n Local (Fallback c) v h = no_world v h
 only_loads w f l n Local (Ready o p) v h = no_world v h
 only_loads w f l n Local (Ended o) v h = no_world v h
 
-only_tiles : (w : World) (f : ℕ) (l : Lead) (e : ReadFault) (c : Class) (ks : Option (List Key)) (s : Stage) (v : World) → after_fault w f l e c ks s ≡ Some v →
+only_tiles : (w : World) (f : ℕ) (l : Lead) (e : ReadFault) (c : Class) (ks : Option (List Key)) (s : Stage) (v : World) →
+    after_fault w f l e c ks s ≡ Some v →
     (s ≡ Looked) × (c ≡ Local) × (ks ≡ None)
 only_tiles w f l e Local None Looked v h = (refl, refl, refl)
 only_tiles w f l e Wide ks s v h = no_world v h
@@ -221,7 +246,8 @@ only_tiles w f l e Local None (Parts cs) v h = no_world v h
 only_tiles w f l e Local None (Ready o p) v h = no_world v h
 only_tiles w f l e Local None (Ended o) v h = no_world v h
 
-only_ready : (w : World) (f : ℕ) (l : Lead) (n : Node) (kept : _) (s : Stage) (v : World) → after_land w f l n kept s ≡ Some v → (o : Outcome) × (p : Place) × (s ≡ Ready o p)
+only_ready : (w : World) (f : ℕ) (l : Lead) (n : Node) (kept : _) (s : Stage) (v : World) → after_land w f l n kept s ≡ Some v →
+    (o : Outcome) × (p : Place) × (s ≡ Ready o p)
 only_ready w f l n kept (Ready o p) v h = (o, p, refl)
 only_ready w f l n kept New v h = no_world v h
 only_ready w f l n kept Looked v h = no_world v h
@@ -230,10 +256,12 @@ only_ready w f l n kept (Fallback c) v h = no_world v h
 only_ready w f l n kept (Parts cs) v h = no_world v h
 only_ready w f l n kept (Ended o) v h = no_world v h
 
-at_stage : (w : World) (f : ℕ) (fl : Flight) (s : Stage) → slice_get w.flights f ≡ Some fl → fl.stage ≡ s → slice_get w.flights f ≡ Some (record { lead = fl.lead; stage = s })
+at_stage : (w : World) (f : ℕ) (fl : Flight) (s : Stage) → slice_get w.flights f ≡ Some fl → fl.stage ≡ s →
+    slice_get w.flights f ≡ Some (record { lead = fl.lead; stage = s })
 at_stage w f fl s at e = subst (λ x. slice_get w.flights f ≡ Some (record { lead = fl.lead; stage = x })) e at
 
-at_state : (w : World) (c : ℕ) (call : Call) (s : CallState) → slice_get w.calls c ≡ Some call → call.state ≡ s → slice_get w.calls c ≡ Some (record { caller = call.caller; state = s })
+at_state : (w : World) (c : ℕ) (call : Call) (s : CallState) → slice_get w.calls c ≡ Some call → call.state ≡ s →
+    slice_get w.calls c ≡ Some (record { caller = call.caller; state = s })
 at_state w c call s at e = subst (λ x. slice_get w.calls c ≡ Some (record { caller = call.caller; state = x })) e at
 
 pub goes_allowed : (w : World) (e : Event) (v : World) → step w e ≡ Some v → IsAllowed w e

@@ -1,5 +1,6 @@
 -- No two open flights are of one node, key and class.
-use Rattle.std.proofs.Common.{◌≡◌, ℕ, zero, suc, List, [], ◌∷◌, map, length, Bool, true, false, Option, Some, None, Result, Ok, Err, refl, sym, ap, subst, ◌∙◌, ⊎_elim, if◌then◌else◌}
+use Rattle.std.proofs.Common.{◌≡◌, ℕ, zero, suc, List, [], ◌∷◌, map, length, Bool, true, false, Option, Some, None, Result, Ok, Err, refl}
+use Rattle.std.proofs.Common.{sym, ap, subst, ◌∙◌, ⊎_elim, if◌then◌else◌}
 use Rattle.std.specs.Prelude.{slice_get, slice_set, position, ◌==◌}
 use Rattle.std.proofs.lemmas.Option.{none-some, same_Some}
 use Rattle.std.proofs.lemmas.Bool.{eqb-false}
@@ -10,9 +11,15 @@ use Rattle.iiif_machine.specs.Worlds.{owner_of}
 use Rattle.std.specs.Str.{bytes_eq}
 use Rattle.iiif_machine.specs.Tables.{Class, Wide, Local, Table, Outcome, IsOpen, Entered, finds, joins, leads, enter, again, land, emptied}
 use Rattle.iiif_machine.proofs.Words.{TableLaws}
-use Rattle.iiif_machine.specs.Rows.{Node, Purpose, ForRequest, ForPart, ForFallback, ForAsk, Caller, CallState, Fresh, Hit, In, Gone, Call, Lead, Stage, New, Looked, Asking, Fallback, Parts, Ready, Ended, Flight, Reply, Wish}
-use Rattle.iiif_machine.specs.Worlds.{World, ◌>>=◌, version_shown, version_at, speaker, table_at, put_table, with_node, with_stage, with_state, with_flight, with_ask, with_reply, learned, all_learned, collected, outcome_from, settled, known_by}
-use Rattle.iiif_machine.specs.Steps.{Want, Enter, Again, AskPeer, Serve, Take, Lose, GoLocal, Load, SourceFault, Land, Evict, Stop, after_want, is_open, is_open_for, lead_of, after_meeting, after_enter, stage_found, after_again, after_ask_peer, after_reply, stage_taken, after_take, after_lose, after_go_local, after_begin, after_load, after_fault, after_land, node_without, stage_stopped, flight_stopped, after_stop, step}
+use Rattle.iiif_machine.specs.Rows.{Node, Purpose, ForRequest, ForPart, ForFallback, ForAsk, Caller, CallState, Fresh, Hit, In, Gone, Call}
+use Rattle.iiif_machine.specs.Rows.{Lead, Stage, New, Looked, Asking, Fallback, Parts, Ready, Ended, Flight, Reply, Wish}
+use Rattle.iiif_machine.specs.Worlds.{World, ◌>>=◌, version_shown, version_at, speaker, table_at, put_table, with_node, with_stage}
+use Rattle.iiif_machine.specs.Worlds.{with_state, with_flight, with_ask, with_reply, learned, all_learned, collected, outcome_from}
+use Rattle.iiif_machine.specs.Worlds.{settled, known_by}
+use Rattle.iiif_machine.specs.Steps.{Want, Enter, Again, AskPeer, Serve, Take, Lose, GoLocal, Load, SourceFault, Land, Evict, Stop}
+use Rattle.iiif_machine.specs.Steps.{after_want, is_open, is_open_for, lead_of, after_meeting, after_enter, stage_found, after_again}
+use Rattle.iiif_machine.specs.Steps.{after_ask_peer, after_reply, stage_taken, after_take, after_lose, after_go_local, after_begin}
+use Rattle.iiif_machine.specs.Steps.{after_load, after_fault, after_land, node_without, stage_stopped, flight_stopped, after_stop, step}
 use Rattle.iiif_machine.specs.declared.events.Event.TheVariants as event
 use Rattle.iiif_machine.specs.Sound.{IsRegistered, IsSameCall, IsApart}
 use Rattle.iiif_machine.specs.Promises.{After}
@@ -24,27 +31,33 @@ use Rattle.iiif_machine.proofs.Registers.{set_found, end_cases, OpenFrom, from_s
 -- the same flights and nodes
 apart_same : (w v : World) → v.flights ≡ w.flights → v.nodes ≡ w.nodes → IsApart w → IsApart v
 apart_same w v e d h =
-    apart_by w v (subst (λ xs. OpenFrom w.flights xs) (sym e) (from_same w.flights)) (λ g y at o reg. subst (λ ns. IsRegistered ns y.lead) (sym d) reg) h
+    apart_by w v (subst (λ xs. OpenFrom w.flights xs) (sym e) (from_same w.flights))
+    (λ g y at o reg. subst (λ ns. IsRegistered ns y.lead) (sym d) reg) h
 
 -- a stage after another, which was open
-apart_stage : (w v : World) (f : ℕ) (l : Lead) (old new : Stage) → slice_get w.flights f ≡ Some (record { lead = l; stage = old }) → is_open old ≡ true →
+apart_stage : (w v : World) (f : ℕ) (l : Lead) (old new : Stage) → slice_get w.flights f ≡ Some (record { lead = l; stage = old }) →
+    is_open old ≡ true →
     v.flights ≡ slice_set w.flights f (record { lead = l; stage = new }) → v.nodes ≡ w.nodes → IsApart w → IsApart v
 apart_stage w v f l old new at was e d h =
-    apart_by w v (subst (λ xs. OpenFrom w.flights xs) (sym e) (from_set w.flights f l old new at was)) (λ g y there o reg. subst (λ ns. IsRegistered ns y.lead) (sym d) reg) h
+    apart_by w v (subst (λ xs. OpenFrom w.flights xs) (sym e) (from_set w.flights f l old new at was))
+    (λ g y there o reg. subst (λ ns. IsRegistered ns y.lead) (sym d) reg) h
 
 apart_settled : (w : World) → IsApart w → IsApart (settled w)
 apart_settled w h = apart_by w (settled w) (from_resumed w w.flights) (λ g y at o reg. reg) h
 
 -- another table of a node, in which all open flights are open
-apart_table : (w v : World) (i : ℕ) (n : Node) (k : Key) (t : Table) → slice_get w.nodes i ≡ Some n → v.flights ≡ w.flights → v.nodes ≡ slice_set w.nodes i (put_table n k t) →
+apart_table : (w v : World) (i : ℕ) (n : Node) (k : Key) (t : Table) → slice_get w.nodes i ≡ Some n → v.flights ≡ w.flights →
+    v.nodes ≡ slice_set w.nodes i (put_table n k t) →
     ((q : Key) (d : Class) (m : ℕ) → IsOpen (table_at n k) q d m → IsOpen t q d m) → IsApart w → IsApart v
 apart_table w v i n k t there e d keeps h =
     apart_by w v (subst (λ xs. OpenFrom w.flights xs) (sym e) (from_same w.flights))
-    (λ g y at o reg. subst (λ ns. IsRegistered ns y.lead) (sym d) (registered_put w.nodes i n k t y.lead there (λ _. keeps y.lead.key y.lead.class y.lead.ticket) reg)) h
+    (λ g y at o reg. subst (λ ns. IsRegistered ns y.lead) (sym d)
+    (registered_put w.nodes i n k t y.lead there (λ _. keeps y.lead.key y.lead.class y.lead.ticket) reg)) h
 
 -- a new flight, which no open one is like
 
-apart_add : (w : World) (l : Lead) → IsApart w → IsRegistered w.nodes l → ((g : ℕ) (y : Flight) → slice_get w.flights g ≡ Some y → is_open y.stage ≡ true → ¬ (IsSameCall y.lead l)) →
+apart_add : (w : World) (l : Lead) → IsApart w → IsRegistered w.nodes l →
+    ((g : ℕ) (y : Flight) → slice_get w.flights g ≡ Some y → is_open y.stage ≡ true → ¬ (IsSameCall y.lead l)) →
     IsApart (with_flight w l)
 apart_add w l h reg new =
     let made : Flight = record { lead = l; stage = New } in
@@ -73,7 +86,8 @@ put_registers : (s : Class × ℕ) (n : Node) (t : Table) (k : Key) → IsOpen t
 put_registers s n t k h = put_by n t (is_tile k) h
   where
     put_by : (n : Node) (t : Table) (b : Bool) → IsOpen t k s.0 s.1 →
-        IsOpen (if b then (if b then record n { tiles = t } else record n { sums = t }).tiles else (if b then record n { tiles = t } else record n { sums = t }).sums) k s.0 s.1
+        IsOpen (if b then (if b then record n { tiles = t } else record n { sums = t }).tiles else
+        (if b then record n { tiles = t } else record n { sums = t }).sums) k s.0 s.1
     put_by n t true h = h
     put_by n t false h = h
 
@@ -83,11 +97,14 @@ set_there (z ∷ xs) zero x y h = refl
 set_there (z ∷ xs) (suc i) x y h = set_there xs i x y h
 
 entered_apart : (w : World) (c : ℕ) (who : Caller) (n : Node) (x : Entered) (t : Table) → TableLaws → IsApart w →
-    slice_get w.nodes who.node ≡ Some n → enter (table_at n who.key) who.key who.class ≡ (x, t) → After IsApart (after_meeting w c who n (x, t))
+    slice_get w.nodes who.node ≡ Some n → enter (table_at n who.key) who.key who.class ≡ (x, t) →
+    After IsApart (after_meeting w c who n (x, t))
 entered_apart w c who n x t tables h there e = go x e
   where
-    keeps : (x : Entered) → enter (table_at n who.key) who.key who.class ≡ (x, t) → (q : Key) (d : Class) (m : ℕ) → IsOpen (table_at n who.key) q d m → IsOpen t q d m
-    keeps x e q d m o = subst (λ (p : Entered × Table). IsOpen p.1 q d m) e (tables.enter_open (table_at n who.key) who.key q who.class d m o)
+    keeps : (x : Entered) → enter (table_at n who.key) who.key who.class ≡ (x, t) → (q : Key) (d : Class) (m : ℕ) →
+        IsOpen (table_at n who.key) q d m → IsOpen t q d m
+    keeps x e q d m o = subst (λ (p : Entered × Table). IsOpen p.1 q d m) e
+        (tables.enter_open (table_at n who.key) who.key q who.class d m o)
 
     v1 : World
     v1 = with_node w who.node (put_table n who.key t)
@@ -116,13 +133,16 @@ entered_apart w c who n x t tables h there e = go x e
         let node : r.0 ≡ n = same_Some r.0 n (sym r.1 ∙ ap (slice_get w.nodes) same.node ∙ there) in
         let in_n : IsOpen (table_at n y.lead.key) y.lead.key y.lead.class y.lead.ticket =
         subst (λ (m : Node). IsOpen (table_at m y.lead.key) y.lead.key y.lead.class y.lead.ticket) node r.2 in
-        let by_key : IsOpen (table_at n who.key) who.key y.lead.class y.lead.ticket = subst (λ q. IsOpen (table_at n q) q y.lead.class y.lead.ticket) same.key in_n in
-        let by_class : IsOpen (table_at n who.key) who.key who.class y.lead.ticket = subst (λ d. IsOpen (table_at n who.key) who.key d y.lead.ticket) same.class by_key in
+        let by_key : IsOpen (table_at n who.key) who.key y.lead.class y.lead.ticket =
+        subst (λ q. IsOpen (table_at n q) q y.lead.class y.lead.ticket) same.key in_n in
+        let by_class : IsOpen (table_at n who.key) who.key who.class y.lead.ticket =
+        subst (λ d. IsOpen (table_at n who.key) who.key d y.lead.ticket) same.class by_key in
         tables.leads_new (table_at n who.key) t who.key who.class y.lead.ticket m e by_class) in
         let h2 = apart_add v1 l (h1 (leads m) e) reg new in
         apart_same (with_flight v1 l) (with_state (with_flight v1 l) c who (In (length w.flights))) refl refl h2
 
-entering_apart : (w : World) (c : ℕ) (who : Caller) (n : Node) (x : CallState) → TableLaws → IsApart w → slice_get w.nodes who.node ≡ Some n → After IsApart (after_enter w c who n x)
+entering_apart : (w : World) (c : ℕ) (who : Caller) (n : Node) (x : CallState) → TableLaws → IsApart w →
+    slice_get w.nodes who.node ≡ Some n → After IsApart (after_enter w c who n x)
 entering_apart w c who n Fresh tables h there =
     let r = enter (table_at n who.key) who.key who.class in
     entered_apart w c who n r.0 r.1 tables h there refl
@@ -132,12 +152,14 @@ entering_apart w c who n Gone tables h there = tt
 
 -- Again
 
-looking_apart : (w : World) (f : ℕ) (l : Lead) (n : Node) (x : Stage) → TableLaws → IsApart w → slice_get w.flights f ≡ Some (record { lead = l; stage = x }) →
+looking_apart : (w : World) (f : ℕ) (l : Lead) (n : Node) (x : Stage) → TableLaws → IsApart w →
+    slice_get w.flights f ≡ Some (record { lead = l; stage = x }) →
     slice_get w.nodes l.node ≡ Some n → After IsApart (after_again w f l n x)
 looking_apart w f l n New tables h at there =
     let r = again (table_at n l.key) l.key l.class l.ticket in
     let v1 = with_node w l.node (put_table n l.key r.1) in
-    let h1 = apart_table w v1 l.node n l.key r.1 there refl refl (λ q d m o. tables.again_open (table_at n l.key) l.key q l.class d l.ticket m o) h in
+    let h1 = apart_table w v1 l.node n l.key r.1 there refl refl
+    (λ q d m o. tables.again_open (table_at n l.key) l.key q l.class d l.ticket m o) h in
     apart_stage v1 (with_stage v1 f l (stage_found r.0)) f l New (stage_found r.0) at refl refl refl h1
 looking_apart w f l n Looked tables h at there = tt
 looking_apart w f l n Asking tables h at there = tt
@@ -148,9 +170,11 @@ looking_apart w f l n (Ended o) tables h at there = tt
 
 -- AskPeer, Reply, Take, Lose, GoLocal, Load, SourceFault: no table changes, and only open flights go on
 
-asking_apart : (w : World) (f : ℕ) (l : Lead) (n : Node) (c : Class) (x : Stage) → IsApart w → slice_get w.flights f ≡ Some (record { lead = l; stage = x }) → After IsApart (after_ask_peer w f l n c x)
+asking_apart : (w : World) (f : ℕ) (l : Lead) (n : Node) (c : Class) (x : Stage) → IsApart w →
+    slice_get w.flights f ≡ Some (record { lead = l; stage = x }) → After IsApart (after_ask_peer w f l n c x)
 asking_apart w f l n Wide Looked h at =
-    after_bind IsApart (position (λ m. bytes_eq m.name (owner_of n l.key)) w.nodes) (λ o. Some (with_ask (with_stage w f l Asking) (record { node = o; key = l.key; flight = f; version = version_at w.scene l.key })))
+    after_bind IsApart (position (λ m. bytes_eq m.name (owner_of n l.key)) w.nodes)
+    (λ o. Some (with_ask (with_stage w f l Asking) (record { node = o; key = l.key; flight = f; version = version_at w.scene l.key })))
     (λ o _. apart_stage w _ f l Looked Asking at refl refl refl h)
 asking_apart w f l n Local x h at = tt
 asking_apart w f l n Wide New h at = tt
@@ -161,13 +185,16 @@ asking_apart w f l n Wide (Ready o p) h at = tt
 asking_apart w f l n Wide (Ended o) h at = tt
 
 replying_apart : (w : World) (c : ℕ) (who : Caller) (x : Purpose) → IsApart w → After IsApart (after_reply w c who x)
-replying_apart w c who (ForAsk a) h = after_bind IsApart (learned w c) (λ o. Some (with_reply w (record { key = who.key; outcome = o }))) (λ o _. apart_same w _ refl refl h)
+replying_apart w c who (ForAsk a) h = after_bind IsApart (learned w c) (λ o. Some (with_reply w (record { key = who.key; outcome = o })))
+    (λ o _. apart_same w _ refl refl h)
 replying_apart w c who (ForRequest r) h = tt
 replying_apart w c who (ForPart f) h = tt
 replying_apart w c who (ForFallback f) h = tt
 
-taking_apart : (w : World) (f : ℕ) (l : Lead) (r : Reply) (x : Stage) → IsApart w → slice_get w.flights f ≡ Some (record { lead = l; stage = x }) → After IsApart (after_take w f l r x)
-taking_apart w f l r Asking h at = apart_stage w (with_stage w f l (stage_taken l.key r.key r.outcome)) f l Asking (stage_taken l.key r.key r.outcome) at refl refl refl h
+taking_apart : (w : World) (f : ℕ) (l : Lead) (r : Reply) (x : Stage) → IsApart w →
+    slice_get w.flights f ≡ Some (record { lead = l; stage = x }) → After IsApart (after_take w f l r x)
+taking_apart w f l r Asking h at = apart_stage w (with_stage w f l (stage_taken l.key r.key r.outcome)) f l Asking
+    (stage_taken l.key r.key r.outcome) at refl refl refl h
 taking_apart w f l r (Ended o) h at = h
 taking_apart w f l r New h at = tt
 taking_apart w f l r Looked h at = tt
@@ -175,11 +202,13 @@ taking_apart w f l r (Fallback c) h at = tt
 taking_apart w f l r (Parts cs) h at = tt
 taking_apart w f l r (Ready o p) h at = tt
 
-losing_apart : (w : World) (f : ℕ) (l : Lead) (x : Stage) → IsApart w → slice_get w.flights f ≡ Some (record { lead = l; stage = x }) → After IsApart (after_lose w f l x)
+losing_apart : (w : World) (f : ℕ) (l : Lead) (x : Stage) → IsApart w → slice_get w.flights f ≡ Some (record { lead = l; stage = x }) →
+    After IsApart (after_lose w f l x)
 losing_apart w f l Asking h at = apart_stage w (with_stage w f l (Fallback None)) f l Asking (Fallback None) at refl refl refl h
 losing_apart w f l x h at = tt
 
-going_local_apart : (w : World) (f : ℕ) (l : Lead) (x : Stage) → IsApart w → slice_get w.flights f ≡ Some (record { lead = l; stage = x }) → After IsApart (after_go_local w f l x)
+going_local_apart : (w : World) (f : ℕ) (l : Lead) (x : Stage) → IsApart w → slice_get w.flights f ≡ Some (record { lead = l; stage = x }) →
+    After IsApart (after_go_local w f l x)
 going_local_apart w f l (Fallback None) h at = apart_stage w _ f l (Fallback None) (Fallback (Some (length w.calls))) at refl refl refl h
 going_local_apart w f l (Fallback (Some c)) h at = tt
 going_local_apart w f l New h at = tt
@@ -189,14 +218,17 @@ going_local_apart w f l (Parts cs) h at = tt
 going_local_apart w f l (Ready o p) h at = tt
 going_local_apart w f l (Ended o) h at = tt
 
-begun_apart : (w : World) (f : ℕ) (l : Lead) (n : Node) (x : Option (List Key)) → IsApart w → slice_get w.flights f ≡ Some (record { lead = l; stage = Looked }) → IsApart (after_begin w f l n x)
+begun_apart : (w : World) (f : ℕ) (l : Lead) (n : Node) (x : Option (List Key)) → IsApart w →
+    slice_get w.flights f ≡ Some (record { lead = l; stage = Looked }) → IsApart (after_begin w f l n x)
 begun_apart w f l n None h at = apart_stage w (after_begin w f l n None) f l Looked _ at refl refl refl h
 begun_apart w f l n (Some ks) h at = apart_stage w (after_begin w f l n (Some ks)) f l Looked _ at refl refl refl h
 
-loading_apart : (w : World) (f : ℕ) (l : Lead) (n : Node) (c : Class) (x : Stage) → IsApart w → slice_get w.flights f ≡ Some (record { lead = l; stage = x }) → After IsApart (after_load w f l n c x)
+loading_apart : (w : World) (f : ℕ) (l : Lead) (n : Node) (c : Class) (x : Stage) → IsApart w →
+    slice_get w.flights f ≡ Some (record { lead = l; stage = x }) → After IsApart (after_load w f l n c x)
 loading_apart w f l n Local Looked h at = begun_apart w f l n (parts_of l.key) h at
 loading_apart w f l n Local (Parts cs) h at =
-    after_bind IsApart (all_learned w cs) (λ os. Some (with_stage w f l (Ready (outcome_from w.scene l.key (collected os)) _))) (λ os _. apart_stage w _ f l (Parts cs) _ at refl refl refl h)
+    after_bind IsApart (all_learned w cs) (λ os. Some (with_stage w f l (Ready (outcome_from w.scene l.key (collected os)) _)))
+    (λ os _. apart_stage w _ f l (Parts cs) _ at refl refl refl h)
 loading_apart w f l n Wide x h at = tt
 loading_apart w f l n Local New h at = tt
 loading_apart w f l n Local Asking h at = tt
@@ -218,7 +250,8 @@ failing_apart w f l e Local None (Ended o) h at = tt
 
 -- Land
 
-landing_apart : (w : World) (f : ℕ) (l : Lead) (n : Node) (kept : Bool) (x : Stage) → TableLaws → IsApart w → slice_get w.flights f ≡ Some (record { lead = l; stage = x }) →
+landing_apart : (w : World) (f : ℕ) (l : Lead) (n : Node) (kept : Bool) (x : Stage) → TableLaws → IsApart w →
+    slice_get w.flights f ≡ Some (record { lead = l; stage = x }) →
     slice_get w.nodes l.node ≡ Some n → After IsApart (after_land w f l n kept x)
 landing_apart w f l n kept (Ready o p) tables h at there =
     let t = table_at n l.key in
@@ -232,7 +265,8 @@ landing_apart w f l n kept (Ready o p) tables h at there =
     registered_put w.nodes l.node n l.key u y.lead there
     (λ node. tables.land_open t l.key y.lead.key l.class y.lead.class l.ticket y.lead.ticket o p kept
     (λ k c.
-    let same : IsSameCall old.0.lead l = subst (λ (z : Lead). IsSameCall z l) (sym old.3) (record { node = node; key = sym k; class = sym c }) in
+    let same : IsSameCall old.0.lead l = subst (λ (z : Lead). IsSameCall z l) (sym old.3)
+    (record { node = node; key = sym k; class = sym c }) in
     let is_f : g ≡ f = h.apart g f old.0 (record { lead = l; stage = Ready o p }) old.1 at old.2 refl same in
     not_open w.flights f g l o y at is_f there_y o_y))
     reg) h1 in
@@ -255,7 +289,8 @@ landing_apart w f l n kept (Ended o) tables h at there = tt
 
 -- Evict
 
-evicted_apart : (w : World) (i : ℕ) (n : Node) (ks : List Key) → TableLaws → IsApart w → slice_get w.nodes i ≡ Some n → IsApart (with_node w i (node_without n ks))
+evicted_apart : (w : World) (i : ℕ) (n : Node) (ks : List Key) → TableLaws → IsApart w → slice_get w.nodes i ≡ Some n →
+    IsApart (with_node w i (node_without n ks))
 evicted_apart w i n ks tables h there =
     apart_by w (with_node w i (node_without n ks)) (from_same w.flights) (λ g y at o reg.
     ⊎_elim
@@ -316,27 +351,41 @@ wanted_apart w n p q (Ok r) h = apart_same w _ refl refl h
 pub step_apart : StepsStayApart
 unfolding step
 step_apart w (Want node name request) laws tables h =
-    after_bind IsApart (slice_get w.nodes node) _ (λ n at. after_bind IsApart (w.scene.shows name) _ (λ p shown. after_bind IsApart (speaker n (version_shown p)) _ (λ m speaks.
+    after_bind IsApart (slice_get w.nodes node) _
+    (λ n at. after_bind IsApart (w.scene.shows name) _ (λ p shown. after_bind IsApart (speaker n (version_shown p)) _ (λ m speaks.
     wanted_apart w n p (record { node = node; name = name; request = request }) (resolved w.scene p request) h)))
 step_apart w (Enter c) laws tables h =
-    after_bind IsApart (slice_get w.calls c) _ (λ call at. after_bind IsApart (slice_get w.nodes call.caller.node) _ (λ n there. entering_apart w c call.caller n call.state tables h there))
+    after_bind IsApart (slice_get w.calls c) _
+    (λ call at. after_bind IsApart (slice_get w.nodes call.caller.node) _
+    (λ n there. entering_apart w c call.caller n call.state tables h there))
 step_apart w (Again f) laws tables h =
-    after_bind IsApart (slice_get w.flights f) _ (λ fl at. after_bind IsApart (slice_get w.nodes fl.lead.node) _ (λ n there. looking_apart w f fl.lead n fl.stage tables h at there))
+    after_bind IsApart (slice_get w.flights f) _
+    (λ fl at. after_bind IsApart (slice_get w.nodes fl.lead.node) _ (λ n there. looking_apart w f fl.lead n fl.stage tables h at there))
 step_apart w (AskPeer f) laws tables h =
-    after_bind IsApart (slice_get w.flights f) _ (λ fl at. after_bind IsApart (slice_get w.nodes fl.lead.node) _ (λ n there. asking_apart w f fl.lead n fl.lead.class fl.stage h at))
-step_apart w (Serve a) laws tables h = after_bind IsApart (slice_get w.asks a) _ (λ q at. after_bind IsApart (slice_get w.nodes q.node) _ (λ n there. after_bind IsApart (speaker n q.version) _ (λ m speaks. apart_same w _ refl refl h)))
-step_apart w (event.Reply c) laws tables h = after_bind IsApart (slice_get w.calls c) _ (λ call at. replying_apart w c call.caller call.caller.purpose h)
+    after_bind IsApart (slice_get w.flights f) _
+    (λ fl at. after_bind IsApart (slice_get w.nodes fl.lead.node) _ (λ n there. asking_apart w f fl.lead n fl.lead.class fl.stage h at))
+step_apart w (Serve a) laws tables h = after_bind IsApart (slice_get w.asks a) _
+    (λ q at. after_bind IsApart (slice_get w.nodes q.node) _
+    (λ n there. after_bind IsApart (speaker n q.version) _ (λ m speaks. apart_same w _ refl refl h)))
+step_apart w (event.Reply c) laws tables h = after_bind IsApart (slice_get w.calls c) _
+    (λ call at. replying_apart w c call.caller call.caller.purpose h)
 step_apart w (Take f r) laws tables h =
-    after_bind IsApart (slice_get w.flights f) _ (λ fl at. after_bind IsApart (slice_get w.replies r) _ (λ reply there. taking_apart w f fl.lead reply fl.stage h at))
+    after_bind IsApart (slice_get w.flights f) _
+    (λ fl at. after_bind IsApart (slice_get w.replies r) _ (λ reply there. taking_apart w f fl.lead reply fl.stage h at))
 step_apart w (Lose f) laws tables h = after_bind IsApart (slice_get w.flights f) _ (λ fl at. losing_apart w f fl.lead fl.stage h at)
 step_apart w (GoLocal f) laws tables h = after_bind IsApart (slice_get w.flights f) _ (λ fl at. going_local_apart w f fl.lead fl.stage h at)
 step_apart w (Load f) laws tables h =
-    after_bind IsApart (slice_get w.flights f) _ (λ fl at. after_bind IsApart (slice_get w.nodes fl.lead.node) _ (λ n there. loading_apart w f fl.lead n fl.lead.class fl.stage h at))
+    after_bind IsApart (slice_get w.flights f) _
+    (λ fl at. after_bind IsApart (slice_get w.nodes fl.lead.node) _
+    (λ n there. loading_apart w f fl.lead n fl.lead.class fl.stage h at))
 step_apart w (SourceFault f e) laws tables h =
     after_bind IsApart (slice_get w.flights f) _ (λ fl at. failing_apart w f fl.lead e fl.lead.class (parts_of fl.lead.key) fl.stage h at)
 step_apart w (Land f kept) laws tables h =
-    after_bind IsApart (slice_get w.flights f) _ (λ fl at. after_bind IsApart (slice_get w.nodes fl.lead.node) _ (λ n there. landing_apart w f fl.lead n kept fl.stage tables h at there))
-step_apart w (Evict node keys) laws tables h = after_bind IsApart (slice_get w.nodes node) _ (λ n at. evicted_apart w node n keys.items tables h at)
+    after_bind IsApart (slice_get w.flights f) _
+    (λ fl at. after_bind IsApart (slice_get w.nodes fl.lead.node) _
+    (λ n there. landing_apart w f fl.lead n kept fl.stage tables h at there))
+step_apart w (Evict node keys) laws tables h =
+    after_bind IsApart (slice_get w.nodes node) _ (λ n at. evicted_apart w node n keys.items tables h at)
 step_apart w (Stop node) laws tables h = after_bind IsApart (slice_get w.nodes node) _ (λ n at. stopped_apart w node n h)
 
 pub one_outcome : OneOutcome

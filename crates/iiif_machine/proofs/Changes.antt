@@ -6,8 +6,10 @@ use Rattle.iiif_scene.specs.Keys.{Fits}
 use Rattle.iiif_scene.proofs.Lists.{get_left}
 use Rattle.iiif_machine.specs.Types.{Key}
 use Rattle.iiif_machine.specs.Rows.{Node, Given, Purpose, Caller, CallState, Lead, Stage, New, Ask, Reply, Wish, Progress, Wanted}
-use Rattle.iiif_machine.specs.Worlds.{World, with_node, with_stage, with_state, with_calls, with_flight, with_ask, with_reply, with_given, with_request, fresh, call_for, numbers}
-use Rattle.iiif_machine.specs.Sound.{Each, facts, caller_of, lead_in, AreOf, StageIsHonest, FlightIsHonest, StateIsHonest, CallIsHonest, CallerIsRight, ProgressIsHonest, IsHonestWorld, NodeIsHonest, AskIsHonest, ReplyIsHonest}
+use Rattle.iiif_machine.specs.Worlds.{World, with_node, with_stage, with_state, with_calls, with_flight, with_ask, with_reply, with_given}
+use Rattle.iiif_machine.specs.Worlds.{with_request, fresh, call_for, numbers}
+use Rattle.iiif_machine.specs.Sound.{Each, facts, caller_of, lead_in, AreOf, StageIsHonest, FlightIsHonest, StateIsHonest, CallIsHonest}
+use Rattle.iiif_machine.specs.Sound.{CallerIsRight, ProgressIsHonest, IsHonestWorld, NodeIsHonest, AskIsHonest, ReplyIsHonest}
 use Rattle.iiif_machine.proofs.Words.{Later}
 use Rattle.iiif_machine.proofs.Lists.{get_end, each_one, each_append, each_set, each_map, map_set, kept_same, kept_more}
 use Rattle.iiif_machine.proofs.Growth.{flights_later, calls_later, requests_later, asks_later, stage_later, state_later, caller_later}
@@ -22,7 +24,8 @@ node_set w i n h is = record {
   requests = h.requests;
 }
 
-pub later_stage : (w : World) (f : ℕ) (l : Lead) (old new : Stage) → slice_get w.flights f ≡ Some (record { lead = l; stage = old }) → Later (facts w) (facts (with_stage w f l new))
+pub later_stage : (w : World) (f : ℕ) (l : Lead) (old new : Stage) → slice_get w.flights f ≡ Some (record { lead = l; stage = old }) →
+    Later (facts w) (facts (with_stage w f l new))
 later_stage w f l old new at = record {
   callers = λ i x h. h;
   leads = kept_same _ _ (map_set lead_in w.flights f (record { lead = l; stage = old }) (record { lead = l; stage = new }) at refl);
@@ -36,50 +39,64 @@ stage_set w f l old new at h is =
     let v = with_stage w f l new in
     let s = w.scene in
     let later = later_stage w f l old new at in
-    let row : FlightIsHonest s (facts v) (record { lead = l; stage = new }) = record { fits = (h.flights f _ at).fits; stage = stage_later s (facts w) (facts v) l new later is } in
+    let row : FlightIsHonest s (facts v) (record { lead = l; stage = new }) =
+    record { fits = (h.flights f _ at).fits; stage = stage_later s (facts w) (facts v) l new later is } in
     record {
       nodes = h.nodes;
-      flights = each_set (FlightIsHonest s (facts v)) w.flights f (record { lead = l; stage = new }) (flights_later s (facts w) (facts v) w.flights later h.flights) row;
+      flights = each_set (FlightIsHonest s (facts v)) w.flights f (record { lead = l; stage = new })
+          (flights_later s (facts w) (facts v) w.flights later h.flights) row;
       calls = calls_later s (facts w) (facts v) w.calls later h.calls;
       asks = asks_later s (facts w) (facts v) w.asks later h.asks;
       replies = h.replies;
       requests = requests_later s (facts w) (facts v) w.requests later h.requests;
     }
 
-later_state : (w : World) (c : ℕ) (who : Caller) (old new : CallState) → slice_get w.calls c ≡ Some (record { caller = who; state = old }) → Later (facts w) (facts (with_state w c who new))
+later_state : (w : World) (c : ℕ) (who : Caller) (old new : CallState) → slice_get w.calls c ≡ Some (record { caller = who; state = old }) →
+    Later (facts w) (facts (with_state w c who new))
 later_state w c who old new at = record {
-  callers = kept_same _ _ (map_set caller_of w.calls c (record { caller = who; state = old }) (record { caller = who; state = new }) at refl);
+  callers = kept_same _ _ (map_set caller_of w.calls c (record { caller = who; state = old }) (record { caller = who; state = new }) at
+      refl);
   leads = λ i x h. h;
   asks = λ i x h. h;
   given = λ i x h. h;
 }
 
-pub state_set : (w : World) (c : ℕ) (who : Caller) (old new : CallState) → slice_get w.calls c ≡ Some (record { caller = who; state = old }) →
+pub state_set : (w : World) (c : ℕ) (who : Caller) (old new : CallState) →
+    slice_get w.calls c ≡ Some (record { caller = who; state = old }) →
     IsHonestWorld w → StateIsHonest w.scene (facts w) who new → IsHonestWorld (with_state w c who new)
 state_set w c who old new at h is =
     let v = with_state w c who new in
     let s = w.scene in
     let later = later_state w c who old new at in
-    let row : CallIsHonest s (facts v) (record { caller = who; state = new }) = record { caller = caller_later s (facts w) (facts v) who later (h.calls c _ at).caller; state = state_later s (facts w) (facts v) who new later is } in
+    let row : CallIsHonest s (facts v) (record { caller = who; state = new }) =
+    record {
+      caller = caller_later s (facts w) (facts v) who later (h.calls c _ at).caller;
+      state =
+          state_later s (facts w) (facts v) who new later is;
+    } in
     record {
       nodes = h.nodes;
       flights = flights_later s (facts w) (facts v) w.flights later h.flights;
-      calls = each_set (CallIsHonest s (facts v)) w.calls c (record { caller = who; state = new }) (calls_later s (facts w) (facts v) w.calls later h.calls) row;
+      calls = each_set (CallIsHonest s (facts v)) w.calls c (record { caller = who; state = new })
+          (calls_later s (facts w) (facts v) w.calls later h.calls) row;
       asks = asks_later s (facts w) (facts v) w.asks later h.asks;
       replies = h.replies;
       requests = requests_later s (facts w) (facts v) w.requests later h.requests;
     }
 
-pub calls_add : (w : World) (whos : List Caller) → IsHonestWorld w → Each (CallerIsRight w.scene (facts w)) whos → IsHonestWorld (with_calls w whos)
+pub calls_add : (w : World) (whos : List Caller) → IsHonestWorld w → Each (CallerIsRight w.scene (facts w)) whos →
+    IsHonestWorld (with_calls w whos)
 calls_add w whos h fit =
     let v = with_calls w whos in
     let s = w.scene in
-    let later : Later (facts w) (facts v) = record { callers = kept_more caller_of w.calls (map fresh whos); leads = λ i x h. h; asks = λ i x h. h; given = λ i x h. h } in
+    let later : Later (facts w) (facts v) = record
+    { callers = kept_more caller_of w.calls (map fresh whos); leads = λ i x h. h; asks = λ i x h. h; given = λ i x h. h } in
     record {
       nodes = h.nodes;
       flights = flights_later s (facts w) (facts v) w.flights later h.flights;
       calls = each_append (CallIsHonest s (facts v)) w.calls (map fresh whos) (calls_later s (facts w) (facts v) w.calls later h.calls)
-          (each_map (CallerIsRight s (facts w)) (CallIsHonest s (facts v)) fresh whos (λ who is. record { caller = caller_later s (facts w) (facts v) who later is; state = tt }) fit);
+          (each_map (CallerIsRight s (facts w)) (CallIsHonest s (facts v)) fresh whos
+          (λ who is. record { caller = caller_later s (facts w) (facts v) who later is; state = tt }) fit);
       asks = asks_later s (facts w) (facts v) w.asks later h.asks;
       replies = h.replies;
       requests = requests_later s (facts w) (facts v) w.requests later h.requests;
@@ -89,7 +106,8 @@ pub flight_add : (w : World) (l : Lead) → IsHonestWorld w → Fits w.scene l.k
 flight_add w l h fit =
     let v = with_flight w l in
     let s = w.scene in
-    let later : Later (facts w) (facts v) = record { callers = λ i x h. h; leads = kept_more lead_in w.flights _; asks = λ i x h. h; given = λ i x h. h } in
+    let later : Later (facts w) (facts v) = record
+    { callers = λ i x h. h; leads = kept_more lead_in w.flights _; asks = λ i x h. h; given = λ i x h. h } in
     record {
       nodes = h.nodes;
       flights = each_append (FlightIsHonest s (facts v)) w.flights _ (flights_later s (facts w) (facts v) w.flights later h.flights)
@@ -104,12 +122,14 @@ pub ask_add : (w : World) (q : Ask) → IsHonestWorld w → AskIsHonest w.scene 
 ask_add w q h is =
     let v = with_ask w q in
     let s = w.scene in
-    let later : Later (facts w) (facts v) = record { callers = λ i x h. h; leads = λ i x h. h; asks = get_left w.asks (q ∷ []); given = λ i x h. h } in
+    let later : Later (facts w) (facts v) = record
+    { callers = λ i x h. h; leads = λ i x h. h; asks = get_left w.asks (q ∷ []); given = λ i x h. h } in
     record {
       nodes = h.nodes;
       flights = flights_later s (facts w) (facts v) w.flights later h.flights;
       calls = calls_later s (facts w) (facts v) w.calls later h.calls;
-      asks = asks_later s (facts w) (facts v) (w.asks ++ q ∷ []) later (each_append (AskIsHonest s (facts w)) w.asks (q ∷ []) h.asks (each_one (AskIsHonest s (facts w)) q is));
+      asks = asks_later s (facts w) (facts v) (w.asks ++ q ∷ []) later
+          (each_append (AskIsHonest s (facts w)) w.asks (q ∷ []) h.asks (each_one (AskIsHonest s (facts w)) q is));
       replies = h.replies;
       requests = requests_later s (facts w) (facts v) w.requests later h.requests;
     }
@@ -128,7 +148,8 @@ pub given_add : (w : World) (g : Given) → IsHonestWorld w → IsHonestWorld (w
 given_add w g h =
     let v = with_given w g in
     let s = w.scene in
-    let later : Later (facts w) (facts v) = record { callers = λ i x h. h; leads = λ i x h. h; asks = λ i x h. h; given = get_left w.given (g ∷ []) } in
+    let later : Later (facts w) (facts v) = record
+    { callers = λ i x h. h; leads = λ i x h. h; asks = λ i x h. h; given = get_left w.given (g ∷ []) } in
     record {
       nodes = h.nodes;
       flights = flights_later s (facts w) (facts v) w.flights later h.flights;
@@ -138,7 +159,8 @@ given_add w g h =
       requests = requests_later s (facts w) (facts v) w.requests later h.requests;
     }
 
-pub request_add : (w : World) (q : Wish) (p : Progress) → IsHonestWorld w → ProgressIsHonest w.scene (facts w) q p → IsHonestWorld (with_request w q p)
+pub request_add : (w : World) (q : Wish) (p : Progress) → IsHonestWorld w → ProgressIsHonest w.scene (facts w) q p →
+    IsHonestWorld (with_request w q p)
 request_add w q p h is =
     let s = w.scene in
     let P = λ (x : Wanted). ProgressIsHonest s (facts w) x.wish x.progress in
@@ -165,8 +187,10 @@ are_of_new before node n p (k ∷ ks) =
     let rest = map (call_for node n p) ks in
     let more = are_of_new (before ++ who ∷ []) node n p ks in
     let moved : AreOf (before ++ who ∷ rest) node (numbers (length (before ++ who ∷ [])) ks) ks =
-    subst (λ cs. AreOf cs node (numbers (length (before ++ who ∷ [])) ks) ks) (append_assoc before (who ∷ []) rest) more in
-    ((who, get_end before who rest, refl, refl), subst (λ m. AreOf (before ++ who ∷ rest) node (numbers m ks) ks) (length_more before who) moved)
+    subst (λ cs. AreOf cs node (numbers (length (before ++ who ∷ [])) ks) ks) (append_assoc before (who ∷ []) rest) more in (
+      (who, get_end before who rest, refl, refl),
+      subst (λ m. AreOf (before ++ who ∷ rest) node (numbers m ks) ks) (length_more before who) moved,
+    )
 
 map_fresh : (whos : List Caller) → map caller_of (map fresh whos) ≡ whos
 map_fresh [] = refl
@@ -179,7 +203,8 @@ pub new_calls : (w : World) (node : ℕ) (n : Node) (p : Purpose) (ks : List Key
     AreOf (facts (with_calls w (map (call_for node n p) ks))).callers node (numbers (length w.calls) ks) ks
 new_calls w node n p ks =
     let whos = map (call_for node n p) ks in
-    let all : AreOf ((facts w).callers ++ whos) node (numbers (length (facts w).callers) ks) ks = are_of_new (facts w).callers node n p ks in
+    let all : AreOf ((facts w).callers ++ whos) node (numbers (length (facts w).callers) ks) ks =
+    are_of_new (facts w).callers node n p ks in
     let numbered : AreOf ((facts w).callers ++ whos) node (numbers (length w.calls) ks) ks =
     subst (λ m. AreOf ((facts w).callers ++ whos) node (numbers m ks) ks) (length-map w.calls caller_of) all in
     subst (λ cs. AreOf cs node (numbers (length w.calls) ks) ks) (sym (callers_more w whos)) numbered

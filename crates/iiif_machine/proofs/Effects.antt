@@ -1,12 +1,15 @@
 -- What an event does to rows: which flights, requests and faults it leaves, and which it makes.
-use Rattle.std.proofs.Common.{◌≡◌, ◌⊎◌, inl, inr, ⊎_elim, ℕ, zero, suc, List, [], ◌∷◌, ◌++◌, append_assoc, map, length, Option, Some, None, refl, sym, ap, subst, ◌∙◌}
+use Rattle.std.proofs.Common.{◌≡◌, ◌⊎◌, inl, inr, ⊎_elim, ℕ, zero, suc, List, [], ◌∷◌, ◌++◌, append_assoc, map, length, Option, Some, None}
+use Rattle.std.proofs.Common.{refl, sym, ap, subst, ◌∙◌}
 use Rattle.std.specs.Prelude.{slice_get, slice_set}
 use Rattle.std.proofs.lemmas.List.{length-map}
 use Rattle.iiif_scene.specs.Keys.{name_of}
 use Rattle.iiif_machine.specs.Types.{Key, Picture, Resolved}
 use Rattle.iiif_machine.specs.Tables.{Outcome, Nowhere}
-use Rattle.iiif_machine.specs.Rows.{Node, Given, Purpose, Caller, CallState, Fresh, Hit, In, Gone, Call, Lead, Stage, New, Looked, Asking, Fallback, Parts, Ready, Ended, Flight, Wish, Progress, Waiting, Answered, Dropped, Wanted}
-use Rattle.iiif_machine.specs.Worlds.{World, ◌>>=◌, with_calls, call_for, numbers, outcome_of, known_by, learned, all_learned, ready_with, resumed_stage, resumed, answered_with, progressed, answered, settled}
+use Rattle.iiif_machine.specs.Rows.{Node, Given, Purpose, Caller, CallState, Fresh, Hit, In, Gone, Call, Lead, Stage, New, Looked, Asking}
+use Rattle.iiif_machine.specs.Rows.{Fallback, Parts, Ready, Ended, Flight, Wish, Progress, Waiting, Answered, Dropped, Wanted}
+use Rattle.iiif_machine.specs.Worlds.{World, ◌>>=◌, with_calls, call_for, numbers, outcome_of, known_by, learned, all_learned, ready_with}
+use Rattle.iiif_machine.specs.Worlds.{resumed_stage, resumed, answered_with, progressed, answered, settled}
 use Rattle.iiif_machine.specs.Steps.{Event, Want, Enter, Again, AskPeer, Serve, Take, Lose, GoLocal, Load, SourceFault, Land, Evict, Stop}
 use Rattle.iiif_machine.specs.declared.events.Event.TheVariants as event
 use Rattle.iiif_machine.specs.Sound.{Kept, facts, caller_of, AreFor, StageIsOwn, ProgressIsOwn}
@@ -36,7 +39,8 @@ RequestsAreOwn w = (r : ℕ) (x : Wanted) → slice_get w.requests r ≡ Some x 
 
 -- the faults that are given after an event
 abbrev pub Gives : World → List Given → Event → Type 0
-Gives w given (SourceFault f x) = (l : Lead) × (slice_get (facts w).leads f ≡ Some l) × (given ≡ w.given ++ record { node = l.node; name = name_of l.key; fault = x } ∷ [])
+Gives w given (SourceFault f x) = (l : Lead) × (slice_get (facts w).leads f ≡ Some l) ×
+    (given ≡ w.given ++ record { node = l.node; name = name_of l.key; fault = x } ∷ [])
 Gives w given (Want i name q) = given ≡ w.given
 Gives w given (Enter c) = given ≡ w.given
 Gives w given (Again f) = given ≡ w.given
@@ -62,16 +66,19 @@ pub record HasEffect (w : World) (e : Event) (v : World) : Type 0 where
 pub flights_same : (w : World) (e : Event) (v : World) → v.flights ≡ w.flights → FlightsFrom w e v
 flights_same w e v same g y at = inl (ap (λ fs. slice_get fs g) (sym same) ∙ at)
 
-pub flights_set : (w : World) (e : Event) (v : World) (f : ℕ) (l : Lead) (s : Stage) → v.flights ≡ slice_set w.flights f (record { lead = l; stage = s }) →
+pub flights_set : (w : World) (e : Event) (v : World) (f : ℕ) (l : Lead) (s : Stage) →
+    v.flights ≡ slice_set w.flights f (record { lead = l; stage = s }) →
     NewStage w e v f s → FlightsFrom w e v
 flights_set w e v f l s same is g y at =
     let row : Flight = record { lead = l; stage = s } in
     ⊎_elim
-    (λ (x : (g ≡ f) × (y ≡ row)). inr (subst (λ (z : Flight). NewStage w e v g z.stage) (sym x.1) (subst (λ j. NewStage w e v j s) (sym x.0) is)))
+    (λ (x : (g ≡ f) × (y ≡ row)). inr (subst (λ (z : Flight). NewStage w e v g z.stage) (sym x.1)
+    (subst (λ j. NewStage w e v j s) (sym x.0) is)))
     (λ (x : slice_get w.flights g ≡ Some y). inl x)
     (set_cases w.flights f g y row (ap (λ fs. slice_get fs g) (sym same) ∙ at))
 
-pub flights_more : (w : World) (e : Event) (v : World) (l : Lead) → v.flights ≡ w.flights ++ record { lead = l; stage = New } ∷ [] → FlightsFrom w e v
+pub flights_more : (w : World) (e : Event) (v : World) (l : Lead) → v.flights ≡ w.flights ++ record { lead = l; stage = New } ∷ [] →
+    FlightsFrom w e v
 flights_more w e v l same g y at =
     let row : Flight = record { lead = l; stage = New } in
     ⊎_elim
@@ -95,7 +102,8 @@ stage_knows w (Parts cs) = refl
 stage_knows w (Ready o p) = refl
 stage_knows w (Ended o) = refl
 
-flight_knows : (w : World) (fs : List Flight) (f : ℕ) → (slice_get (map (resumed w) fs) f >>= (λ (x : Flight). outcome_of x.stage)) ≡ (slice_get fs f >>= (λ (x : Flight). outcome_of x.stage))
+flight_knows : (w : World) (fs : List Flight) (f : ℕ) →
+    (slice_get (map (resumed w) fs) f >>= (λ (x : Flight). outcome_of x.stage)) ≡ (slice_get fs f >>= (λ (x : Flight). outcome_of x.stage))
 flight_knows w [] f = refl
 flight_knows w (x ∷ fs) zero = stage_knows w x.stage
 flight_knows w (x ∷ fs) (suc f) = flight_knows w fs f
@@ -106,7 +114,8 @@ state_knows w (Hit v) = refl
 state_knows w (In f) = flight_knows w w.flights f
 state_knows w Gone = refl
 
-call_knows : (w : World) (x : Option Call) → (x >>= (λ (c : Call). known_by (settled w).flights c.state)) ≡ (x >>= (λ (c : Call). known_by w.flights c.state))
+call_knows : (w : World) (x : Option Call) → (x >>= (λ (c : Call). known_by (settled w).flights c.state)) ≡
+    (x >>= (λ (c : Call). known_by w.flights c.state))
 call_knows w None = refl
 call_knows w (Some c) = state_knows w c.state
 
@@ -116,13 +125,16 @@ settled_knows w c = call_knows w (slice_get w.calls c)
 abbrev OwnMakes : World → Event → World → Type 0
 OwnMakes w e v = (g : ℕ) (o : Outcome) → OwnCallKnows w v g o → NewStage w e v g (Ready o Nowhere)
 
-resumed_by : (w : World) (e : Event) (u : World) (g : ℕ) (l : Lead) (c : ℕ) (x : Option Outcome) → learned u c ≡ x → OwnMakes w e (settled u) →
+resumed_by : (w : World) (e : Event) (u : World) (g : ℕ) (l : Lead) (c : ℕ) (x : Option Outcome) → learned u c ≡ x →
+    OwnMakes w e (settled u) →
     slice_get w.flights g ≡ Some (record { lead = l; stage = Fallback (Some c) }) →
-    (slice_get w.flights g ≡ Some (record { lead = l; stage = ready_with (Fallback (Some c)) x })) ⊎ NewStage w e (settled u) g (ready_with (Fallback (Some c)) x)
+    (slice_get w.flights g ≡ Some (record { lead = l; stage = ready_with (Fallback (Some c)) x })) ⊎
+    NewStage w e (settled u) g (ready_with (Fallback (Some c)) x)
 resumed_by w e u g l c None knows makes at = inl at
 resumed_by w e u g l c (Some o) knows makes at = inr (makes g o (l, c, at, settled_knows u c ∙ knows))
 
-resumed_from : (w : World) (e : Event) (u : World) (g : ℕ) (l : Lead) (s : Stage) → OwnMakes w e (settled u) → slice_get w.flights g ≡ Some (record { lead = l; stage = s }) →
+resumed_from : (w : World) (e : Event) (u : World) (g : ℕ) (l : Lead) (s : Stage) → OwnMakes w e (settled u) →
+    slice_get w.flights g ≡ Some (record { lead = l; stage = s }) →
     (slice_get w.flights g ≡ Some (record { lead = l; stage = resumed_stage u s })) ⊎ NewStage w e (settled u) g (resumed_stage u s)
 resumed_from w e u g l New makes at = inl at
 resumed_from w e u g l Looked makes at = inl at
@@ -136,7 +148,8 @@ resumed_from w e u g l (Ended o) makes at = inl at
 abbrev pub HasEnded : Stage → Type 0
 HasEnded s = (o : Option Outcome) × (s ≡ Ended o)
 
-pub flights_settled : (w : World) (e : Event) (u : World) → ((g : ℕ) (y : Flight) → slice_get u.flights g ≡ Some y → (slice_get w.flights g ≡ Some y) ⊎ HasEnded y.stage) →
+pub flights_settled : (w : World) (e : Event) (u : World) →
+    ((g : ℕ) (y : Flight) → slice_get u.flights g ≡ Some y → (slice_get w.flights g ≡ Some y) ⊎ HasEnded y.stage) →
     OwnMakes w e (settled u) → FlightsFrom w e (settled u)
 flights_settled w e u from makes g y at =
     let x = get_mapped (resumed u) u.flights g y at in
@@ -148,7 +161,8 @@ flights_settled w e u from makes g y at =
 
 -- Calls that are made for one purpose
 
-are_for_new : (before : List Caller) (node : ℕ) (n : Node) (p : Purpose) (ks : List Key) → AreFor (before ++ map (call_for node n p) ks) p (numbers (length before) ks)
+are_for_new : (before : List Caller) (node : ℕ) (n : Node) (p : Purpose) (ks : List Key) →
+    AreFor (before ++ map (call_for node n p) ks) p (numbers (length before) ks)
 are_for_new before node n p [] = tt
 are_for_new before node n p (k ∷ ks) =
     let who = call_for node n p k in
@@ -158,7 +172,8 @@ are_for_new before node n p (k ∷ ks) =
     subst (λ cs. AreFor cs p (numbers (length (before ++ who ∷ [])) ks)) (append_assoc before (who ∷ []) rest) more in
     ((who, get_end before who rest, refl), subst (λ m. AreFor (before ++ who ∷ rest) p (numbers m ks)) (length_more before who) moved)
 
-pub calls_for : (w : World) (node : ℕ) (n : Node) (p : Purpose) (ks : List Key) → AreFor (facts (with_calls w (map (call_for node n p) ks))).callers p (numbers (length w.calls) ks)
+pub calls_for : (w : World) (node : ℕ) (n : Node) (p : Purpose) (ks : List Key) →
+    AreFor (facts (with_calls w (map (call_for node n p) ks))).callers p (numbers (length w.calls) ks)
 calls_for w node n p ks =
     let whos = map (call_for node n p) ks in
     let all : AreFor ((facts w).callers ++ whos) p (numbers (length (facts w).callers) ks) = are_for_new (facts w).callers node n p ks in
@@ -188,33 +203,39 @@ progress_own_later xs ys r Dropped kept h = tt
 -- Requests
 
 pub requests_same : (w v : World) → v.requests ≡ w.requests → Kept (facts w).callers (facts v).callers → RequestsAreOwn w → RequestsAreOwn v
-requests_same w v same kept h r x at = progress_own_later (facts w).callers (facts v).callers r x.progress kept (h r x (ap (λ qs. slice_get qs r) (sym same) ∙ at))
+requests_same w v same kept h r x at = progress_own_later (facts w).callers (facts v).callers r x.progress kept
+    (h r x (ap (λ qs. slice_get qs r) (sym same) ∙ at))
 
-answered_own : (cs : List Caller) (w : World) (q : Wish) (z : Resolved) (ds : List ℕ) (r : ℕ) (x : Option Picture) (y : Option (List Outcome)) →
+answered_own : (cs : List Caller) (w : World) (q : Wish) (z : Resolved) (ds : List ℕ) (r : ℕ) (x : Option Picture)
+    (y : Option (List Outcome)) →
     ProgressIsOwn cs r (Waiting z ds) → ProgressIsOwn cs r (answered_with w q z ds x y)
 answered_own cs w q z ds r (Some p) (Some os) h = tt
 answered_own cs w q z ds r (Some p) None h = h
 answered_own cs w q z ds r None (Some os) h = h
 answered_own cs w q z ds r None None h = h
 
-progressed_own : (cs : List Caller) (w : World) (q : Wish) (r : ℕ) (x : Progress) → ProgressIsOwn cs r x → ProgressIsOwn cs r (progressed w q x)
+progressed_own : (cs : List Caller) (w : World) (q : Wish) (r : ℕ) (x : Progress) → ProgressIsOwn cs r x →
+    ProgressIsOwn cs r (progressed w q x)
 progressed_own cs w q r (Waiting z ds) h = answered_own cs w q z ds r (w.scene.shows q.name) (all_learned w ds) h
 progressed_own cs w q r (Answered a) h = tt
 progressed_own cs w q r Dropped h = tt
 
-pub requests_settled : (w u : World) → u.requests ≡ w.requests → Kept (facts w).callers (facts u).callers → RequestsAreOwn w → RequestsAreOwn (settled u)
+pub requests_settled : (w u : World) → u.requests ≡ w.requests → Kept (facts w).callers (facts u).callers → RequestsAreOwn w →
+    RequestsAreOwn (settled u)
 requests_settled w u same kept h r x at =
     let q = get_mapped (answered u) u.requests r x at in
     subst (λ (z : Wanted). ProgressIsOwn (facts u).callers r z.progress) q.2
     (progressed_own (facts u).callers u q.0.wish r q.0.progress
     (progress_own_later (facts w).callers (facts u).callers r q.0.progress kept (h r q.0 (ap (λ qs. slice_get qs r) (sym same) ∙ q.1))))
 
-pub requests_more : (w v : World) (q : Wish) (p : Progress) → v.requests ≡ w.requests ++ record { wish = q; progress = p } ∷ [] → Kept (facts w).callers (facts v).callers →
+pub requests_more : (w v : World) (q : Wish) (p : Progress) → v.requests ≡ w.requests ++ record { wish = q; progress = p } ∷ [] →
+    Kept (facts w).callers (facts v).callers →
     ProgressIsOwn (facts v).callers (length w.requests) p → RequestsAreOwn w → RequestsAreOwn v
 requests_more w v q p same kept is h r x at =
     let row : Wanted = record { wish = q; progress = p } in
     ⊎_elim
     (λ (y : (r ≡ length w.requests) × (x ≡ row)).
-    subst (λ (z : Wanted). ProgressIsOwn (facts v).callers r z.progress) (sym y.1) (subst (λ j. ProgressIsOwn (facts v).callers j p) (sym y.0) is))
+    subst (λ (z : Wanted). ProgressIsOwn (facts v).callers r z.progress) (sym y.1)
+    (subst (λ j. ProgressIsOwn (facts v).callers j p) (sym y.0) is))
     (λ (y : slice_get w.requests r ≡ Some x). progress_own_later (facts w).callers (facts v).callers r x.progress kept (h r x y))
     (end_cases w.requests r x row (ap (λ qs. slice_get qs r) (sym same) ∙ at))

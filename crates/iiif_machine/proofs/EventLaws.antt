@@ -1,5 +1,6 @@
 -- What single events change, and what they leave.
-use Rattle.std.proofs.Common.{◌≡◌, ℕ, List, [], ◌∷◌, ◌++◌, map, Bool, true, false, Some, None, Ok, Err, refl, sym, ap, subst, ◌∙◌, ⊎_elim, if◌then◌else◌}
+use Rattle.std.proofs.Common.{◌≡◌, ℕ, List, [], ◌∷◌, ◌++◌, map, Bool, true, false, Some, None, Ok, Err, refl, sym, ap, subst, ◌∙◌, ⊎_elim}
+use Rattle.std.proofs.Common.{if◌then◌else◌}
 use Rattle.std.specs.Prelude.{slice_get, slice_set, ◌==◌}
 use Rattle.std.proofs.lemmas.Option.{none-some, same_Some}
 use Rattle.std.proofs.lemmas.Bool.{eqb-false}
@@ -8,9 +9,11 @@ use Rattle.iiif_tables.specs.Flights as tables
 use Rattle.iiif_scene.specs.Keys.{is_tile, key_eq}
 use Rattle.iiif_machine.specs.Types.{Key, Value, ReadFault, Resolved}
 use Rattle.iiif_machine.specs.Tables.{Class, Table, Outcome, Place, Peer, land, emptied, Holds}
-use Rattle.iiif_machine.specs.Rows.{Node, Call, Lead, Stage, New, Looked, Asking, Fallback, Parts, Ready, Ended, Flight, Reply, Progress, Waiting, Answered, Dropped, Wanted, Gone}
+use Rattle.iiif_machine.specs.Rows.{Node, Call, Lead, Stage, New, Looked, Asking, Fallback, Parts, Ready, Ended, Flight, Reply, Progress}
+use Rattle.iiif_machine.specs.Rows.{Waiting, Answered, Dropped, Wanted, Gone}
 use Rattle.iiif_machine.specs.Worlds.{World, table_at, put_table, or_fault, collected}
-use Rattle.iiif_machine.specs.Steps.{is_open, stage_taken, after_take, after_land, stage_stopped, flight_stopped, call_stopped, progress_stopped, request_stopped, after_stop, step}
+use Rattle.iiif_machine.specs.Steps.{is_open, stage_taken, after_take, after_land, stage_stopped, flight_stopped, call_stopped}
+use Rattle.iiif_machine.specs.Steps.{progress_stopped, request_stopped, after_stop, step}
 use Rattle.iiif_machine.specs.Promises.{FirstFaultCounts, NotKeptStays, NoFaultIsTaken, HasStopped, StopTakesAll, caches}
 use Rattle.iiif_machine.proofs.Lists.{map_set}
 use Rattle.iiif_machine.proofs.Learning.{bind_inv, get_mapped}
@@ -47,11 +50,13 @@ put_leaves : (n : Node) (t : Table) (b : Bool) → t.cache ≡ (if b then n.tile
 put_leaves n t true e = ap (λ (c : Cache Key Value). (c, n.sums.cache)) e
 put_leaves n t false e = ap (λ (c : Cache Key Value). (n.tiles.cache, c)) e
 
-landing_leaves : (w v : World) (f : ℕ) (l : Lead) (n : Node) (s : Stage) → slice_get w.nodes l.node ≡ Some n → after_land w f l n false s ≡ Some v → caches v ≡ caches w
+landing_leaves : (w v : World) (f : ℕ) (l : Lead) (n : Node) (s : Stage) → slice_get w.nodes l.node ≡ Some n →
+    after_land w f l n false s ≡ Some v → caches v ≡ caches w
 landing_leaves w v f l n (Ready o p) at h =
     let t = land (table_at n l.key) l.key l.class l.ticket o p false in
     ap caches (sym (same_Some _ v h))
-    ∙ map_set caches_of w.nodes l.node n (put_table n l.key t) at (put_leaves n t (is_tile l.key) (land_leaves (table_at n l.key) l.key l.class l.ticket o p))
+    ∙ map_set caches_of w.nodes l.node n (put_table n l.key t) at
+    (put_leaves n t (is_tile l.key) (land_leaves (table_at n l.key) l.key l.class l.ticket o p))
 landing_leaves w v f l n New at h = absurd (none-some v h)
 landing_leaves w v f l n Looked at h = absurd (none-some v h)
 landing_leaves w v f l n Asking at h = absurd (none-some v h)
@@ -83,11 +88,13 @@ no_fault k q (Ok v) e p h = by (key_eq q k) h
     by true h = cc
     by false h = alone_has_none e p h
 
-taking_gives : (w v : World) (f g : ℕ) (m : Lead) (r : Reply) (s : Stage) (l : Lead) (e : ReadFault) (p : Place) → after_take w f m r s ≡ Some v →
+taking_gives : (w v : World) (f g : ℕ) (m : Lead) (r : Reply) (s : Stage) (l : Lead) (e : ReadFault) (p : Place) →
+    after_take w f m r s ≡ Some v →
     slice_get v.flights g ≡ Some (failed l e p) → slice_get w.flights g ≡ Some (failed l e p)
 taking_gives w v f g m r Asking l e p h at =
     let new : Flight = record { lead = m; stage = stage_taken m.key r.key r.outcome } in
-    let there : slice_get (slice_set w.flights f new) g ≡ Some (failed l e p) = ap (λ (x : World). slice_get x.flights g) (same_Some _ v h) ∙ at in
+    let there : slice_get (slice_set w.flights f new) g ≡ Some (failed l e p) =
+    ap (λ (x : World). slice_get x.flights g) (same_Some _ v h) ∙ at in
     ⊎_elim
     (λ (x : (g ≡ f) × (failed l e p ≡ new)). absurd (no_fault m.key r.key r.outcome e p (ap (λ (z : Flight). z.stage) (sym x.1))))
     (λ (x : slice_get w.flights g ≡ Some (failed l e p)). x)
@@ -123,12 +130,14 @@ not_waiting (Answered a) r cs h = cc
 not_waiting Dropped r cs h = cc
 
 -- the row of this node is changed, and another's isn't of this node
-call_by : (i : ℕ) (c : Call) (b : Bool) → (c.caller.node == i) ≡ b → (if b then record { caller = c.caller; state = Gone } else c).caller.node ≡ i →
+call_by : (i : ℕ) (c : Call) (b : Bool) → (c.caller.node == i) ≡ b →
+    (if b then record { caller = c.caller; state = Gone } else c).caller.node ≡ i →
     (if b then record { caller = c.caller; state = Gone } else c).state ≡ Gone
 call_by i c true e own = refl
 call_by i c false e own = absurd (eqb-false c.caller.node i e own)
 
-flight_by : (i : ℕ) (fl : Flight) (b : Bool) → (fl.lead.node == i) ≡ b → (if b then record { lead = fl.lead; stage = stage_stopped fl.stage } else fl).lead.node ≡ i →
+flight_by : (i : ℕ) (fl : Flight) (b : Bool) → (fl.lead.node == i) ≡ b →
+    (if b then record { lead = fl.lead; stage = stage_stopped fl.stage } else fl).lead.node ≡ i →
     is_open (if b then record { lead = fl.lead; stage = stage_stopped fl.stage } else fl).stage ≡ false
 flight_by i fl true e own = closed fl.stage
 flight_by i fl false e own = absurd (eqb-false fl.lead.node i e own)

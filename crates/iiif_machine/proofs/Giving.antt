@@ -6,9 +6,13 @@ use Rattle.iiif_scene.specs.Keys.{parts_of}
 use Rattle.iiif_scene.specs.Plans.{resolved}
 use Rattle.iiif_machine.specs.Types.{Key, Picture, Resolved, Refusal}
 use Rattle.iiif_machine.specs.Tables.{Class, Wide, Local, Table, Entered, finds, joins, leads, enter}
-use Rattle.iiif_machine.specs.Rows.{Node, Purpose, ForRequest, ForPart, ForFallback, ForAsk, Caller, CallState, Fresh, Hit, In, Gone, Lead, Stage, New, Looked, Asking, Fallback, Parts, Ready, Ended, Reply, Wish}
-use Rattle.iiif_machine.specs.Worlds.{World, ◌>>=◌, version_shown, version_at, speaker, owner_of, table_at, put_table, with_node, with_stage, with_state, with_ask, with_reply, learned, all_learned, collected, outcome_from}
-use Rattle.iiif_machine.specs.Steps.{Event, Want, Enter, Again, AskPeer, Serve, Take, Lose, GoLocal, Load, SourceFault, Land, Evict, Stop, after_want, is_open_for, after_meeting, after_enter, after_again, after_ask_peer, after_reply, after_take, after_lose, after_go_local, after_begin, after_load, after_land, step, run}
+use Rattle.iiif_machine.specs.Rows.{Node, Purpose, ForRequest, ForPart, ForFallback, ForAsk, Caller, CallState, Fresh, Hit, In, Gone, Lead}
+use Rattle.iiif_machine.specs.Rows.{Stage, New, Looked, Asking, Fallback, Parts, Ready, Ended, Reply, Wish}
+use Rattle.iiif_machine.specs.Worlds.{World, ◌>>=◌, version_shown, version_at, speaker, owner_of, table_at, put_table, with_node}
+use Rattle.iiif_machine.specs.Worlds.{with_stage, with_state, with_ask, with_reply, learned, all_learned, collected, outcome_from}
+use Rattle.iiif_machine.specs.Steps.{Event, Want, Enter, Again, AskPeer, Serve, Take, Lose, GoLocal, Load, SourceFault, Land, Evict, Stop}
+use Rattle.iiif_machine.specs.Steps.{after_want, is_open_for, after_meeting, after_enter, after_again, after_ask_peer, after_reply}
+use Rattle.iiif_machine.specs.Steps.{after_take, after_lose, after_go_local, after_begin, after_load, after_land, step, run}
 use Rattle.iiif_machine.specs.declared.events.Event.TheVariants as event
 use Rattle.iiif_machine.specs.Promises.{After, reads_fail, OnlySourcesGive}
 use Rattle.iiif_machine.proofs.Learning.{after_bind}
@@ -22,7 +26,8 @@ wanted w n p q (Ok r) = refl
 
 entered : (w : World) (c : ℕ) (who : Caller) (n : Node) (x : Entered) (t : Table) → After (Same w) (after_meeting w c who n (x, t))
 entered w c who n (finds v) t = refl
-entered w c who n joins t = after_bind (Same w) (position (is_open_for who) w.flights) (λ f. Some (with_state (with_node w who.node (put_table n who.key t)) c who (In f))) (λ f _. refl)
+entered w c who n joins t = after_bind (Same w) (position (is_open_for who) w.flights)
+    (λ f. Some (with_state (with_node w who.node (put_table n who.key t)) c who (In f))) (λ f _. refl)
 entered w c who n (leads m) t = refl
 
 entering : (w : World) (c : ℕ) (who : Caller) (n : Node) (x : CallState) → After (Same w) (after_enter w c who n x)
@@ -42,7 +47,9 @@ looking w f l n (Ended o) = tt
 
 asking : (w : World) (f : ℕ) (l : Lead) (n : Node) (c : Class) (x : Stage) → After (Same w) (after_ask_peer w f l n c x)
 asking w f l n Wide Looked =
-    after_bind (Same w) (position (λ m. bytes_eq m.name (owner_of n l.key)) w.nodes) (λ o. Some (with_ask (with_stage w f l Asking) (record { node = o; key = l.key; flight = f; version = version_at w.scene l.key }))) (λ o _. refl)
+    after_bind (Same w) (position (λ m. bytes_eq m.name (owner_of n l.key)) w.nodes)
+    (λ o. Some (with_ask (with_stage w f l Asking) (record { node = o; key = l.key; flight = f; version = version_at w.scene l.key })))
+    (λ o _. refl)
 asking w f l n Local x = tt
 asking w f l n Wide New = tt
 asking w f l n Wide Asking = tt
@@ -52,7 +59,8 @@ asking w f l n Wide (Ready o p) = tt
 asking w f l n Wide (Ended o) = tt
 
 replying : (w : World) (c : ℕ) (who : Caller) (x : Purpose) → After (Same w) (after_reply w c who x)
-replying w c who (ForAsk a) = after_bind (Same w) (learned w c) (λ o. Some (with_reply w (record { key = who.key; outcome = o }))) (λ o _. refl)
+replying w c who (ForAsk a) = after_bind (Same w) (learned w c) (λ o. Some (with_reply w (record { key = who.key; outcome = o })))
+    (λ o _. refl)
 replying w c who (ForRequest r) = tt
 replying w c who (ForPart f) = tt
 replying w c who (ForFallback f) = tt
@@ -87,7 +95,8 @@ begun w f l n (Some ks) = refl
 loading : (w : World) (f : ℕ) (l : Lead) (n : Node) (c : Class) (x : Stage) → After (Same w) (after_load w f l n c x)
 loading w f l n Local Looked = begun w f l n (parts_of l.key)
 loading w f l n Local (Parts cs) =
-    after_bind (Same w) (all_learned w cs) (λ os. Some (with_stage w f l (Ready (outcome_from w.scene l.key (collected os)) _))) (λ os _. refl)
+    after_bind (Same w) (all_learned w cs) (λ os. Some (with_stage w f l (Ready (outcome_from w.scene l.key (collected os)) _)))
+    (λ os _. refl)
 loading w f l n Wide x = tt
 loading w f l n Local New = tt
 loading w f l n Local Asking = tt
@@ -106,18 +115,28 @@ landing w f l n kept (Ended o) = tt
 
 one : (w : World) (e : Event) → reads_fail (e ∷ []) ≡ false → After (Same w) (step w e)
 unfolding step
-one w (Want i name q) none = after_bind (Same w) (slice_get w.nodes i) _ (λ n _. after_bind (Same w) (w.scene.shows name) _ (λ p _. after_bind (Same w) (speaker n (version_shown p)) _ (λ m _. wanted w n p (record { node = i; name = name; request = q }) (resolved w.scene p q))))
-one w (Enter c) none = after_bind (Same w) (slice_get w.calls c) _ (λ call _. after_bind (Same w) (slice_get w.nodes call.caller.node) _ (λ n _. entering w c call.caller n call.state))
-one w (Again f) none = after_bind (Same w) (slice_get w.flights f) _ (λ fl _. after_bind (Same w) (slice_get w.nodes fl.lead.node) _ (λ n _. looking w f fl.lead n fl.stage))
-one w (AskPeer f) none = after_bind (Same w) (slice_get w.flights f) _ (λ fl _. after_bind (Same w) (slice_get w.nodes fl.lead.node) _ (λ n _. asking w f fl.lead n fl.lead.class fl.stage))
-one w (Serve a) none = after_bind (Same w) (slice_get w.asks a) _ (λ q _. after_bind (Same w) (slice_get w.nodes q.node) _ (λ n _. after_bind (Same w) (speaker n q.version) _ (λ m _. refl)))
+one w (Want i name q) none = after_bind (Same w) (slice_get w.nodes i) _
+    (λ n _. after_bind (Same w) (w.scene.shows name) _
+    (λ p _. after_bind (Same w) (speaker n (version_shown p)) _
+    (λ m _. wanted w n p (record { node = i; name = name; request = q }) (resolved w.scene p q))))
+one w (Enter c) none = after_bind (Same w) (slice_get w.calls c) _
+    (λ call _. after_bind (Same w) (slice_get w.nodes call.caller.node) _ (λ n _. entering w c call.caller n call.state))
+one w (Again f) none = after_bind (Same w) (slice_get w.flights f) _
+    (λ fl _. after_bind (Same w) (slice_get w.nodes fl.lead.node) _ (λ n _. looking w f fl.lead n fl.stage))
+one w (AskPeer f) none = after_bind (Same w) (slice_get w.flights f) _
+    (λ fl _. after_bind (Same w) (slice_get w.nodes fl.lead.node) _ (λ n _. asking w f fl.lead n fl.lead.class fl.stage))
+one w (Serve a) none = after_bind (Same w) (slice_get w.asks a) _
+    (λ q _. after_bind (Same w) (slice_get w.nodes q.node) _ (λ n _. after_bind (Same w) (speaker n q.version) _ (λ m _. refl)))
 one w (event.Reply c) none = after_bind (Same w) (slice_get w.calls c) _ (λ call _. replying w c call.caller call.caller.purpose)
-one w (Take f r) none = after_bind (Same w) (slice_get w.flights f) _ (λ fl _. after_bind (Same w) (slice_get w.replies r) _ (λ reply _. taking w f fl.lead reply fl.stage))
+one w (Take f r) none = after_bind (Same w) (slice_get w.flights f) _
+    (λ fl _. after_bind (Same w) (slice_get w.replies r) _ (λ reply _. taking w f fl.lead reply fl.stage))
 one w (Lose f) none = after_bind (Same w) (slice_get w.flights f) _ (λ fl _. losing w f fl.lead fl.stage)
 one w (GoLocal f) none = after_bind (Same w) (slice_get w.flights f) _ (λ fl _. going_local w f fl.lead fl.stage)
-one w (Load f) none = after_bind (Same w) (slice_get w.flights f) _ (λ fl _. after_bind (Same w) (slice_get w.nodes fl.lead.node) _ (λ n _. loading w f fl.lead n fl.lead.class fl.stage))
+one w (Load f) none = after_bind (Same w) (slice_get w.flights f) _
+    (λ fl _. after_bind (Same w) (slice_get w.nodes fl.lead.node) _ (λ n _. loading w f fl.lead n fl.lead.class fl.stage))
 one w (SourceFault f e) none = absurd cc
-one w (Land f kept) none = after_bind (Same w) (slice_get w.flights f) _ (λ fl _. after_bind (Same w) (slice_get w.nodes fl.lead.node) _ (λ n _. landing w f fl.lead n kept fl.stage))
+one w (Land f kept) none = after_bind (Same w) (slice_get w.flights f) _
+    (λ fl _. after_bind (Same w) (slice_get w.nodes fl.lead.node) _ (λ n _. landing w f fl.lead n kept fl.stage))
 one w (Evict i keys) none = after_bind (Same w) (slice_get w.nodes i) _ (λ n _. refl)
 one w (Stop i) none = after_bind (Same w) (slice_get w.nodes i) _ (λ n _. refl)
 
@@ -125,14 +144,16 @@ after_more : (u v : World) (x : Option World) → Same u v → After (Same v) x 
 after_more u v None a h = tt
 after_more u v (Some w) a h = h ∙ a
 
-after_step : (u : World) (x : Option World) (f : World → Option World) → After (Same u) x → ((v : World) → After (Same v) (f v)) → After (Same u) (x >>= f)
+after_step : (u : World) (x : Option World) (f : World → Option World) → After (Same u) x → ((v : World) → After (Same v) (f v)) →
+    After (Same u) (x >>= f)
 after_step u None f h g = tt
 after_step u (Some v) f h g = after_more u v (f v) h (g v)
 
 pub only_sources_give : OnlySourcesGive
 unfolding run
 only_sources_give w [] none = refl
-only_sources_give w (e ∷ es) none = after_step w (step w e) (λ v. run v es) (one w e (head e es none)) (λ v. only_sources_give v es (tail e es none))
+only_sources_give w (e ∷ es) none = after_step w (step w e) (λ v. run v es) (one w e (head e es none))
+    (λ v. only_sources_give v es (tail e es none))
   where
     head : (e : Event) (es : List Event) → reads_fail (e ∷ es) ≡ false → reads_fail (e ∷ []) ≡ false
     head (SourceFault f x) es h = absurd cc

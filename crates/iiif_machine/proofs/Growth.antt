@@ -4,16 +4,21 @@ use Rattle.iiif_scene.specs.Scenes.{Scene}
 use Rattle.iiif_scene.specs.Plans.{items}
 use Rattle.iiif_machine.specs.Types.{Key}
 use Rattle.iiif_machine.specs.Tables.{Outcome}
-use Rattle.iiif_machine.specs.Rows.{Given, Purpose, ForRequest, ForPart, ForFallback, ForAsk, Caller, CallState, Fresh, Hit, In, Gone, Call, Lead, Stage, New, Looked, Asking, Fallback, Parts, Ready, Ended, Flight, Ask, Wish, Answer, Refused, Image, Failed, Progress, Waiting, Answered, Dropped, Wanted}
-use Rattle.iiif_machine.specs.Sound.{Each, Kept, Facts, IsHonest, AreOf, StageIsHonest, FlightIsHonest, StateIsHonest, CallIsHonest, PurposeIsRight, CallerIsRight, AnswerIsRight, ProgressIsHonest, AskIsHonest}
+use Rattle.iiif_machine.specs.Rows.{Given, Purpose, ForRequest, ForPart, ForFallback, ForAsk, Caller, CallState, Fresh, Hit, In, Gone}
+use Rattle.iiif_machine.specs.Rows.{Call, Lead, Stage, New, Looked, Asking, Fallback, Parts, Ready, Ended, Flight, Ask, Wish, Answer}
+use Rattle.iiif_machine.specs.Rows.{Refused, Image, Failed, Progress, Waiting, Answered, Dropped, Wanted}
+use Rattle.iiif_machine.specs.Sound.{Each, Kept, Facts, IsHonest, AreOf, StageIsHonest, FlightIsHonest, StateIsHonest, CallIsHonest}
+use Rattle.iiif_machine.specs.Sound.{PurposeIsRight, CallerIsRight, AnswerIsRight, ProgressIsHonest, AskIsHonest}
 use Rattle.iiif_machine.proofs.Words.{Later}
 use Rattle.iiif_machine.proofs.Lists.{each_as}
 
-pub honest_later : (s : Scene) (old new : List Given) (node : ℕ) (k : Key) (o : Outcome) → Kept old new → IsHonest s old node k o → IsHonest s new node k o
+pub honest_later : (s : Scene) (old new : List Given) (node : ℕ) (k : Key) (o : Outcome) → Kept old new → IsHonest s old node k o →
+    IsHonest s new node k o
 honest_later s old new node k (Ok v) kept h = h
 honest_later s old new node k (Err f) kept h = (h.0, kept h.0 _ h.1)
 
-pub are_of_later : (old new : List Caller) (node : ℕ) (cs : List ℕ) (ks : List Key) → Kept old new → AreOf old node cs ks → AreOf new node cs ks
+pub are_of_later : (old new : List Caller) (node : ℕ) (cs : List ℕ) (ks : List Key) → Kept old new → AreOf old node cs ks →
+    AreOf new node cs ks
 are_of_later old new node [] [] kept h = tt
 are_of_later old new node [] (k ∷ ks) kept h = h
 are_of_later old new node (c ∷ cs) [] kept h = h
@@ -46,25 +51,37 @@ purpose_later a b who (ForAsk n) later h = (h.0, later.asks n h.0 h.1, h.2, h.3)
 pub caller_later : (s : Scene) (a b : Facts) (who : Caller) → Later a b → CallerIsRight s a who → CallerIsRight s b who
 caller_later s a b who later h = record { fits = h.fits; purpose = purpose_later a b who who.purpose later h.purpose }
 
-pub answer_later : (s : Scene) (old new : List Given) (q : Wish) (x : Answer) → Kept old new → AnswerIsRight s old q x → AnswerIsRight s new q x
+pub answer_later : (s : Scene) (old new : List Given) (q : Wish) (x : Answer) → Kept old new → AnswerIsRight s old q x →
+    AnswerIsRight s new q x
 answer_later s old new q (Refused e) kept h = h
 answer_later s old new q (Image i) kept h = h
 answer_later s old new q (Failed f) kept h = (h.0, kept h.0 _ h.1)
 
 pub progress_later : (s : Scene) (a b : Facts) (q : Wish) (x : Progress) → Later a b → ProgressIsHonest s a q x → ProgressIsHonest s b q x
-progress_later s a b q (Waiting r cs) later h = (h.0, h.1, h.2, are_of_later a.callers b.callers q.node cs (items s q.name h.0 r) later.callers h.3)
+progress_later s a b q (Waiting r cs) later h =
+    (h.0, h.1, h.2, are_of_later a.callers b.callers q.node cs (items s q.name h.0 r) later.callers h.3)
 progress_later s a b q (Answered x) later h = answer_later s a.given b.given q x later.given h
 progress_later s a b q Dropped later h = tt
 
 pub flights_later : (s : Scene) (a b : Facts) (xs : List Flight) → Later a b → Each (FlightIsHonest s a) xs → Each (FlightIsHonest s b) xs
-flights_later s a b xs later = each_as (FlightIsHonest s a) (FlightIsHonest s b) xs (λ f h. record { fits = h.fits; stage = stage_later s a b f.lead f.stage later h.stage })
+flights_later s a b xs later = each_as (FlightIsHonest s a) (FlightIsHonest s b) xs
+    (λ f h. record { fits = h.fits; stage = stage_later s a b f.lead f.stage later h.stage })
 
 pub calls_later : (s : Scene) (a b : Facts) (xs : List Call) → Later a b → Each (CallIsHonest s a) xs → Each (CallIsHonest s b) xs
-calls_later s a b xs later = each_as (CallIsHonest s a) (CallIsHonest s b) xs (λ c h. record { caller = caller_later s a b c.caller later h.caller; state = state_later s a b c.caller c.state later h.state })
+calls_later s a b xs later = each_as (CallIsHonest s a) (CallIsHonest s b) xs
+    (λ c h. record { caller = caller_later s a b c.caller later h.caller; state = state_later s a b c.caller c.state later h.state })
 
-pub requests_later : (s : Scene) (a b : Facts) (xs : List Wanted) → Later a b → Each (λ q. ProgressIsHonest s a q.wish q.progress) xs → Each (λ q. ProgressIsHonest s b q.wish q.progress) xs
+pub requests_later : (s : Scene) (a b : Facts) (xs : List Wanted) → Later a b → Each (λ q. ProgressIsHonest s a q.wish q.progress) xs →
+    Each (λ q. ProgressIsHonest s b q.wish q.progress) xs
 requests_later s a b xs later =
-    each_as (λ q. ProgressIsHonest s a q.wish q.progress) (λ q. ProgressIsHonest s b q.wish q.progress) xs (λ q h. progress_later s a b q.wish q.progress later h)
+    each_as (λ q. ProgressIsHonest s a q.wish q.progress) (λ q. ProgressIsHonest s b q.wish q.progress) xs
+    (λ q h. progress_later s a b q.wish q.progress later h)
 
 pub asks_later : (s : Scene) (a b : Facts) (xs : List Ask) → Later a b → Each (AskIsHonest s a) xs → Each (AskIsHonest s b) xs
-asks_later s a b xs later = each_as (AskIsHonest s a) (AskIsHonest s b) xs (λ q h. record { fits = h.fits; flight = (h.flight.0, later.leads q.flight h.flight.0 h.flight.1, h.flight.2, h.flight.3); version = h.version })
+asks_later s a b xs later = each_as (AskIsHonest s a) (AskIsHonest s b) xs
+    (λ q h. record {
+      fits = h.fits;
+      flight = (h.flight.0, later.leads q.flight h.flight.0 h.flight.1, h.flight.2, h.flight.3);
+      version =
+          h.version;
+    })

@@ -8,9 +8,12 @@ use Rattle.iiif_scene.specs.Plans.{items}
 use Rattle.iiif_scene.specs.Images.{assembled, image}
 use Rattle.iiif_machine.specs.Types.{Key, Value, Resolved, Picture, ReadFault}
 use Rattle.iiif_machine.specs.Tables.{Outcome}
-use Rattle.iiif_machine.specs.Rows.{Given, Caller, CallState, Fresh, Hit, In, Gone, Call, Lead, Stage, New, Looked, Asking, Fallback, Parts, Ready, Ended, Flight, Wish}
-use Rattle.iiif_machine.specs.Worlds.{World, ◌>>=◌, outcome_of, known_by, learned, all_learned, or_fault, collected, outcome_from, answer_from}
-use Rattle.iiif_machine.specs.Sound.{Each, Facts, facts, caller_of, lead_in, IsHonest, AreOf, StageIsHonest, StateIsHonest, AnswerIsRight, IsHonestWorld}
+use Rattle.iiif_machine.specs.Rows.{Given, Caller, CallState, Fresh, Hit, In, Gone, Call, Lead, Stage, New, Looked, Asking, Fallback}
+use Rattle.iiif_machine.specs.Rows.{Parts, Ready, Ended, Flight, Wish}
+use Rattle.iiif_machine.specs.Worlds.{World, ◌>>=◌, outcome_of, known_by, learned, all_learned, or_fault, collected, outcome_from}
+use Rattle.iiif_machine.specs.Worlds.{answer_from}
+use Rattle.iiif_machine.specs.Sound.{Each, Facts, facts, caller_of, lead_in, IsHonest, AreOf, StageIsHonest, StateIsHonest, AnswerIsRight}
+use Rattle.iiif_machine.specs.Sound.{IsHonestWorld}
 use Rattle.iiif_machine.specs.Promises.{After}
 
 pub bind_inv : {A B : Type 0} (x : Option A) (f : A → Option B) (y : B) → (x >>= f) ≡ Some y → (a : A) × (x ≡ Some a) × (f a ≡ Some y)
@@ -18,16 +21,19 @@ bind_inv None f y h = absurd (none-some y h)
 bind_inv (Some a) f y h = (a, refl, h)
 
 -- what is made of each value that may be there
-pub after_bind : {A : Type 0} (P : World → Type 0) (x : Option A) (f : A → Option World) → ((a : A) → x ≡ Some a → After P (f a)) → After P (x >>= f)
+pub after_bind : {A : Type 0} (P : World → Type 0) (x : Option A) (f : A → Option World) → ((a : A) → x ≡ Some a → After P (f a)) →
+    After P (x >>= f)
 after_bind P None f h = tt
 after_bind P (Some a) f h = h a refl
 
-pub get_mapped : {A B : Type 0} (g : A → B) (xs : List A) (i : ℕ) (y : B) → slice_get (map g xs) i ≡ Some y → (x : A) × (slice_get xs i ≡ Some x) × (g x ≡ y)
+pub get_mapped : {A B : Type 0} (g : A → B) (xs : List A) (i : ℕ) (y : B) → slice_get (map g xs) i ≡ Some y → (x : A) ×
+    (slice_get xs i ≡ Some x) × (g x ≡ y)
 get_mapped g [] i y h = absurd (none-some y h)
 get_mapped g (x ∷ xs) zero y h = (x, refl, same_Some (g x) y h)
 get_mapped g (x ∷ xs) (suc i) y h = get_mapped g xs i y h
 
-ended_honest : (s : Scene) (a : Facts) (l : Lead) (x : Stage) (o : Outcome) → StageIsHonest s a l x → outcome_of x ≡ Some o → IsHonest s a.given l.node l.key o
+ended_honest : (s : Scene) (a : Facts) (l : Lead) (x : Stage) (o : Outcome) → StageIsHonest s a l x → outcome_of x ≡ Some o →
+    IsHonest s a.given l.node l.key o
 ended_honest s a l New o h e = absurd (none-some o e)
 ended_honest s a l Looked o h e = absurd (none-some o e)
 ended_honest s a l Asking o h e = absurd (none-some o e)
@@ -48,12 +54,14 @@ known_honest w who (In f) o h is e =
     let known = bind_inv (slice_get w.flights f) (λ (x : Flight). outcome_of x.stage) o e in
     let same : known.0 ≡ fl = same_Some known.0 fl (sym known.1 ∙ at.1) in
     let done : outcome_of fl.stage ≡ Some o = subst (λ (x : Flight). outcome_of x.stage ≡ Some o) same known.2 in
-    let there : IsHonest w.scene w.given fl.lead.node fl.lead.key o = ended_honest w.scene (facts w) fl.lead fl.stage o (h.flights f fl at.1).stage done in
+    let there : IsHonest w.scene w.given fl.lead.node fl.lead.key o =
+    ended_honest w.scene (facts w) fl.lead fl.stage o (h.flights f fl at.1).stage done in
     let here : IsHonest w.scene w.given l.node l.key o = subst (λ (x : Lead). IsHonest w.scene w.given x.node x.key o) at.2 there in
     subst (λ k. IsHonest w.scene w.given who.node k o) is.3 (subst (λ n. IsHonest w.scene w.given n l.key o) is.2 here)
 known_honest w who Gone o h is e = absurd (none-some o e)
 
-pub learned_honest : (w : World) (c : ℕ) (who : Caller) (o : Outcome) → IsHonestWorld w → slice_get (facts w).callers c ≡ Some who → learned w c ≡ Some o →
+pub learned_honest : (w : World) (c : ℕ) (who : Caller) (o : Outcome) → IsHonestWorld w → slice_get (facts w).callers c ≡ Some who →
+    learned w c ≡ Some o →
     IsHonest w.scene w.given who.node who.key o
 learned_honest w c who o h at e =
     let row = get_mapped caller_of w.calls c who at in
@@ -69,16 +77,20 @@ abbrev pub AreGathered : Scene → List Given → ℕ → List ℕ → List Key 
 AreGathered s given node name ks (Ok vs) = vs ≡ map (meaning s) ks
 AreGathered s given node name ks (Err f) = (i : ℕ) × (slice_get given i ≡ Some (record { node = node; name = name; fault = f }))
 
-gathered_more : (s : Scene) (given : List Given) (node : ℕ) (name : List ℕ) (k : Key) (ks : List Key) (o : Outcome) (r : Result (List Value) ReadFault) →
-    name_of k ≡ name → IsHonest s given node k o → AreGathered s given node name ks r → AreGathered s given node name (k ∷ ks) (or_fault o r)
+gathered_more : (s : Scene) (given : List Given) (node : ℕ) (name : List ℕ) (k : Key) (ks : List Key) (o : Outcome)
+    (r : Result (List Value) ReadFault) →
+    name_of k ≡ name → IsHonest s given node k o → AreGathered s given node name ks r →
+    AreGathered s given node name (k ∷ ks) (or_fault o r)
 gathered_more s given node name k ks (Err f) r named is rest =
-    let first : AreGathered s given node name (k ∷ ks) (Err f) = (is.0, subst (λ n. slice_get given is.0 ≡ Some (record { node = node; name = n; fault = f })) named is.1) in
+    let first : AreGathered s given node name (k ∷ ks) (Err f) =
+    (is.0, subst (λ n. slice_get given is.0 ≡ Some (record { node = node; name = n; fault = f })) named is.1) in
     first
 gathered_more s given node name k ks (Ok v) (Err f) named is rest = rest
 gathered_more s given node name k ks (Ok v) (Ok vs) named is rest = ap (λ x. x ∷ vs) is ∙ ap (λ xs. meaning s k ∷ xs) rest
 
 pub gathered : (w : World) (node : ℕ) (name : List ℕ) (cs : List ℕ) (ks : List Key) (os : List Outcome) → IsHonestWorld w →
-    AreOf (facts w).callers node cs ks → Each (λ k. name_of k ≡ name) ks → all_learned w cs ≡ Some os → AreGathered w.scene w.given node name ks (collected os)
+    AreOf (facts w).callers node cs ks → Each (λ k. name_of k ≡ name) ks → all_learned w cs ≡ Some os →
+    AreGathered w.scene w.given node name ks (collected os)
 gathered w node name [] [] os h are named e =
     subst (λ xs. AreGathered w.scene w.given node name [] (collected xs)) (same_Some {A = List Outcome} [] os e) refl
 gathered w node name [] (k ∷ ks) os h are named e = absurd are
@@ -96,11 +108,13 @@ gathered w node name (c ∷ cs) (k ∷ ks) os h are named e =
     (gathered_more w.scene w.given node name k ks o (collected rest.0) (named 0 k refl) here more)
 
 pub merged_honest : (s : Scene) (given : List Given) (node : ℕ) (k : Key) (ks : List Key) (r : Result (List Value) ReadFault) →
-    derived s k (map (meaning s) ks) ≡ meaning s k → AreGathered s given node (name_of k) ks r → IsHonest s given node k (outcome_from s k r)
+    derived s k (map (meaning s) ks) ≡ meaning s k → AreGathered s given node (name_of k) ks r →
+    IsHonest s given node k (outcome_from s k r)
 merged_honest s given node k ks (Ok vs) derives h = ap (derived s k) h ∙ derives
 merged_honest s given node k ks (Err f) derives h = h
 
-pub answer_right : (s : Scene) (given : List Given) (q : Wish) (p : Picture) (r : Resolved) (x : Result (List Value) ReadFault) → s.shows q.name ≡ Some p →
+pub answer_right : (s : Scene) (given : List Given) (q : Wish) (p : Picture) (r : Resolved) (x : Result (List Value) ReadFault) →
+    s.shows q.name ≡ Some p →
     image s p q.request ≡ Ok (assembled s p r (map (meaning s) (items s q.name p r))) →
     AreGathered s given q.node q.name (items s q.name p r) x → AnswerIsRight s given q (answer_from s p r x)
 answer_right s given q p r (Ok vs) shown is h = (p, shown, is ∙ ap (λ vs. Ok (assembled s p r vs)) (sym h))

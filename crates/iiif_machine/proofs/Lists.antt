@@ -30,14 +30,16 @@ each_set P [] i y e p = each_nil P
 each_set P (x ∷ xs) zero y e p = each_cons P y xs p (each_tail P x xs e)
 each_set P (x ∷ xs) (suc i) y e p = each_cons P x (slice_set xs i y) (e zero x refl) (each_set P xs i y (each_tail P x xs e) p)
 
-pub each_map : {A B : Type 0} (P : A → Type 0) (Q : B → Type 0) (g : A → B) (xs : List A) → ((x : A) → P x → Q (g x)) → Each P xs → Each Q (map g xs)
+pub each_map : {A B : Type 0} (P : A → Type 0) (Q : B → Type 0) (g : A → B) (xs : List A) → ((x : A) → P x → Q (g x)) → Each P xs →
+    Each Q (map g xs)
 each_map P Q g [] f e = each_nil Q
 each_map P Q g (x ∷ xs) f e = each_cons Q (g x) (map g xs) (f x (e zero x refl)) (each_map P Q g xs f (each_tail P x xs e))
 
 pub each_as : {A : Type 0} (P Q : A → Type 0) (xs : List A) → ((x : A) → P x → Q x) → Each P xs → Each Q xs
 each_as P Q xs f e i x h = f x (e i x h)
 
-pub map_set : {A B : Type 0} (g : A → B) (xs : List A) (i : ℕ) (x y : A) → slice_get xs i ≡ Some x → g y ≡ g x → map g (slice_set xs i y) ≡ map g xs
+pub map_set : {A B : Type 0} (g : A → B) (xs : List A) (i : ℕ) (x y : A) → slice_get xs i ≡ Some x → g y ≡ g x →
+    map g (slice_set xs i y) ≡ map g xs
 map_set g [] i x y h e = refl
 map_set g (z ∷ xs) zero x y h e = let s : z ≡ x = same_Some z x h in ap (λ v. v ∷ map g xs) (e ∙ ap g (sym s))
 map_set g (z ∷ xs) (suc i) x y h e = ap (λ vs. g z ∷ vs) (map_set g xs i x y h e)
@@ -53,7 +55,8 @@ pub kept_more : {A B : Type 0} (g : A → B) (xs ys : List A) → Kept (map g xs
 kept_more g xs ys = subst (λ zs. Kept (map g xs) zs) (sym (map-append g xs ys)) (get_left (map g xs) (map g ys))
 
 -- what `position` finds is there, and passes
-pub position_found : {A : Type 0} (p : A → Bool) (xs : List A) (i : ℕ) → position p xs ≡ Some i → (x : A) × (slice_get xs i ≡ Some x) × (p x ≡ true)
+pub position_found : {A : Type 0} (p : A → Bool) (xs : List A) (i : ℕ) → position p xs ≡ Some i → (x : A) × (slice_get xs i ≡ Some x) ×
+    (p x ≡ true)
 position_found p [] i h = absurd (none-some i h)
 position_found p (y ∷ xs) i h =
     let f = position-Some p (y ∷ xs) i y h in

@@ -10,7 +10,8 @@ use Rattle.iiif_machine.specs.Worlds.{table_at, put_table}
 use Rattle.iiif_machine.specs.Steps.{node_without}
 use Rattle.iiif_machine.specs.Sound.{TableIsHonest, NodeIsHonest, IsHonest}
 
-put_by : (s : Scene) (n : Node) (t : Table) (b : Bool) → NodeIsHonest s n → TableIsHonest s t → NodeIsHonest s (if b then record n { tiles = t } else record n { sums = t })
+put_by : (s : Scene) (n : Node) (t : Table) (b : Bool) → NodeIsHonest s n → TableIsHonest s t →
+    NodeIsHonest s (if b then record n { tiles = t } else record n { sums = t })
 put_by s n t true h is = record { tiles = is; sums = h.sums }
 put_by s n t false h is = record { tiles = h.tiles; sums = is }
 
@@ -24,8 +25,10 @@ at_by s n false h = h.sums
 pub table_honest : (s : Scene) (n : Node) (k : Key) → NodeIsHonest s n → TableIsHonest s (table_at n k)
 table_honest s n k h = at_by s n (is_tile k) h
 
-pub enter_honest : TableLaws → (s : Scene) (t u : Table) (k : Key) (c : Class) (x : Entered) → enter t k c ≡ (x, u) → TableIsHonest s t → TableIsHonest s u
-enter_honest laws s t u k c x e h q v has = h q v (laws.enter_holds t k q c v (subst (λ (p : Table). Holds p q v) (sym (ap (λ (p : Entered × Table). p.1) e)) has))
+pub enter_honest : TableLaws → (s : Scene) (t u : Table) (k : Key) (c : Class) (x : Entered) → enter t k c ≡ (x, u) → TableIsHonest s t →
+    TableIsHonest s u
+enter_honest laws s t u k c x e h q v has = h q v
+    (laws.enter_holds t k q c v (subst (λ (p : Table). Holds p q v) (sym (ap (λ (p : Entered × Table). p.1) e)) has))
 
 pub again_honest : TableLaws → (s : Scene) (t : Table) (k : Key) (c : Class) (n : ℕ) → TableIsHonest s t → TableIsHonest s (again t k c n).1
 again_honest laws s t k c n h q v has = h q v (laws.again_holds t k q c n v has)
@@ -53,5 +56,6 @@ emptied_honest laws s n = record {
 value_by : (s : Scene) (given : _) (node : ℕ) (k : Key) (o : Outcome) (v : Value) → o ≡ Ok v → IsHonest s given node k o → v ≡ meaning s k
 value_by s given node k o v e h = subst (IsHonest s given node k) e h
 
-pub value_honest : (s : Scene) (given : _) (node : ℕ) (k : Key) (o : Outcome) → IsHonest s given node k o → (v : Value) → o ≡ Ok v → v ≡ meaning s k
+pub value_honest : (s : Scene) (given : _) (node : ℕ) (k : Key) (o : Outcome) → IsHonest s given node k o → (v : Value) → o ≡ Ok v →
+    v ≡ meaning s k
 value_honest s given node k o h v e = value_by s given node k o v e h

@@ -1,5 +1,6 @@
 -- Which flights are open in a table, after each change.
-use Rattle.std.proofs.Common.{◌≡◌, ℕ, ◌+◌, List, Bool, true, false, Option, Some, None, ◌⊎◌, inl, inr, refl, sym, ap, subst, ◌∙◌, ⊎_elim, if◌then◌else◌}
+use Rattle.std.proofs.Common.{◌≡◌, ℕ, ◌+◌, List, Bool, true, false, Option, Some, None, ◌⊎◌, inl, inr, refl, sym, ap, subst, ◌∙◌, ⊎_elim}
+use Rattle.std.proofs.Common.{if◌then◌else◌}
 use Rattle.std.specs.Prelude.{cond, nat_eq}
 use Rattle.std.proofs.lemmas.Option.{none-some, same_Some}
 use Rattle.std.proofs.lemmas.Bool.{eqb-true}
@@ -7,7 +8,8 @@ use Rattle.iiif_tables.specs.Cache.{Kept, kept_for}
 use Rattle.iiif_tables.specs.Flights as tables
 use Rattle.iiif_scene.specs.Keys.{key_eq, entry_size}
 use Rattle.iiif_machine.specs.Types.{Key, Value}
-use Rattle.iiif_machine.specs.Tables.{Class, Wide, Local, Place, Outcome, Table, Entered, joins, leads, met, value_of, enter, again, land, evicted, emptied, IsOpen}
+use Rattle.iiif_machine.specs.Tables.{Class, Wide, Local, Place, Outcome, Table, Entered, joins, leads, met, value_of, enter, again, land}
+use Rattle.iiif_machine.specs.Tables.{evicted, emptied, IsOpen}
 use Rattle.iiif_machine.proofs.Words.{TableLaws}
 use Rattle.iiif_scene.proofs.KeyParts.{same_key, eq_same, key_same}
 use Rattle.iiif_machine.proofs.Tabled.{enter_found, enter_holds, again_found, again_holds, land_holds, evicted_holds, emptied_holds}
@@ -25,7 +27,8 @@ other_key k q x y apart = (elim (key_eq k q) as (λ b. key_eq k q ≡ b → cond
   | false ↦ λ e. refl
 ]) refl
 
-away : (c d : Class) (k q : Key) (x : Option tables.Flight) (fs : Flights) → (k ≡ q → c ≡ d → ⊥) → tables.with_flight key_eq c k x fs d q ≡ fs d q
+away : (c d : Class) (k q : Key) (x : Option tables.Flight) (fs : Flights) → (k ≡ q → c ≡ d → ⊥) →
+    tables.with_flight key_eq c k x fs d q ≡ fs d q
 away Wide Wide k q x fs apart = other_key k q x (fs Wide q) (λ e. apart e refl)
 away Local Local k q x fs apart = other_key k q x (fs Local q) (λ e. apart e refl)
 away Wide Local k q x fs apart = refl
@@ -36,7 +39,8 @@ leads_same a b e = cc
 
 -- Enter
 
-new_by : (t : Table) (k : Key) (c : Class) (a n : ℕ) (x : Option (Kept Value)) (f : Option tables.Flight) → t.flights c k ≡ f → met (tables.met x f a) ≡ leads n → t.flights c k ≡ None
+new_by : (t : Table) (k : Key) (c : Class) (a n : ℕ) (x : Option (Kept Value)) (f : Option tables.Flight) → t.flights c k ≡ f →
+    met (tables.met x f a) ≡ leads n → t.flights c k ≡ None
 new_by t k c a n (Some e) f is h = absurd cc
 new_by t k c a n None (Some f) is h = absurd cc
 new_by t k c a n None None is h = is
@@ -47,12 +51,17 @@ leads_new t t' k c m n h o =
     let none = new_by t k c (t.book.leads + 1) n (kept_for key_eq k t.cache) (t.flights c k) refl (ap (λ (x : Entered × Table). x.0) h) in
     none-some o.0 (sym none ∙ o.1)
 
-open_by : (t : Table) (k : Key) (c : Class) (a n : ℕ) (x : Option (Kept Value)) (f : Option tables.Flight) → met (tables.met x f a) ≡ leads n →
+open_by : (t : Table) (k : Key) (c : Class) (a n : ℕ) (x : Option (Kept Value)) (f : Option tables.Flight) →
+    met (tables.met x f a) ≡ leads n →
     IsOpen (tables.entering key_eq c k (tables.met x f a) t) k c n
 unfolding IsOpen
 open_by t k c a n (Some e) f h = absurd cc
 open_by t k c a n None (Some f) h = absurd cc
-open_by t k c a n None None h = (record { ticket = a; found = false }, here c k (Some (record { ticket = a; found = false })) t.flights, leads_same a n h)
+open_by t k c a n None None h = (
+  record { ticket = a; found = false },
+  here c k (Some (record { ticket = a; found = false })) t.flights,
+  leads_same a n h,
+)
 
 leads_open : (t t' : Table) (k : Key) (c : Class) (n : ℕ) → enter t k c ≡ (leads n, t') → IsOpen t' k c n
 unfolding enter tables.enter
@@ -60,7 +69,8 @@ leads_open t t' k c n h =
     subst (λ (u : Table). IsOpen u k c n) (ap (λ (x : Entered × Table). x.1) h)
     (open_by t k c (t.book.leads + 1) n (kept_for key_eq k t.cache) (t.flights c k) (ap (λ (x : Entered × Table). x.0) h))
 
-stay_by : (t : Table) (k q : Key) (c d : Class) (a n : ℕ) (x : Option (Kept Value)) (f : Option tables.Flight) → t.flights c k ≡ f → IsOpen t q d n →
+stay_by : (t : Table) (k q : Key) (c d : Class) (a n : ℕ) (x : Option (Kept Value)) (f : Option tables.Flight) → t.flights c k ≡ f →
+    IsOpen t q d n →
     IsOpen (tables.entering key_eq c k (tables.met x f a) t) q d n
 unfolding IsOpen
 stay_by t k q c d a n (Some e) f is o = o
@@ -97,7 +107,8 @@ same_or_not c d k q = (elim (key_eq k q) as (λ b. key_eq k q ≡ b → ((k ≡ 
     not_both : (k q : Key) → key_eq k q ≡ false → k ≡ q → ⊥
     not_both k q e same = let yes : key_eq k q ≡ true = subst (λ x. key_eq k x ≡ true) same (key_same k) in cc
 
-looking_open : (t : Table) (k q : Key) (c d : Class) (m n : ℕ) (x : Option (Kept Value)) → tables.has_ticket m (t.flights c k) ≡ true → IsOpen t q d n → IsOpen (tables.looking key_eq c k m x t).1 q d n
+looking_open : (t : Table) (k q : Key) (c d : Class) (m n : ℕ) (x : Option (Kept Value)) → tables.has_ticket m (t.flights c k) ≡ true →
+    IsOpen t q d n → IsOpen (tables.looking key_eq c k m x t).1 q d n
 unfolding IsOpen
 looking_open t k q c d m n None has o = o
 looking_open t k q c d m n (Some e) has o =
@@ -117,17 +128,20 @@ looking_open t k q c d m n (Some e) has o =
 again_open : (t : Table) (k q : Key) (c d : Class) (m n : ℕ) → IsOpen t q d n → IsOpen (again t k c m).1 q d n
 unfolding again tables.again
 again_open t k q c d m n o = (elim (tables.has_ticket m (t.flights c k)) as
-    (λ b. tables.has_ticket m (t.flights c k) ≡ b → IsOpen (if b then tables.looking key_eq c k m (kept_for key_eq k t.cache) t else (None, t)).1 q d n) [
+    (λ b. tables.has_ticket m (t.flights c k) ≡ b →
+    IsOpen (if b then tables.looking key_eq c k m (kept_for key_eq k t.cache) t else (None, t)).1 q d n) [
       | true ↦ λ e. looking_open t k q c d m n (kept_for key_eq k t.cache) e o
       | false ↦ λ e. o
     ]) refl
 
 -- Land, Evict
 
-land_open : (t : Table) (k q : Key) (c d : Class) (m n : ℕ) (o : Outcome) (p : Place) (kept : Bool) → (k ≡ q → c ≡ d → ⊥) → IsOpen t q d n → IsOpen (land t k c m o p kept) q d n
+land_open : (t : Table) (k q : Key) (c d : Class) (m n : ℕ) (o : Outcome) (p : Place) (kept : Bool) → (k ≡ q → c ≡ d → ⊥) → IsOpen t q d n →
+    IsOpen (land t k c m o p kept) q d n
 unfolding land tables.land IsOpen
 land_open t k q c d m n o p kept apart h = elim (tables.has_ticket m (t.flights c k)) as
-    (λ b. (f : tables.Flight) × ((if b then tables.landing key_eq entry_size kept c k m (value_of o) p (tables.counting (tables.is_found (t.flights c k)) (value_of o) p t.book) t else t).flights d q ≡ Some f) × (f.ticket ≡ n)) [
+    (λ b. (f : tables.Flight) × ((if b then tables.landing key_eq entry_size kept c k m (value_of o) p
+    (tables.counting (tables.is_found (t.flights c k)) (value_of o) p t.book) t else t).flights d q ≡ Some f) × (f.ticket ≡ n)) [
       | true ↦ (h.0, away c d k q None t.flights apart ∙ h.1, h.2)
       | false ↦ h
     ]
@@ -155,7 +169,8 @@ table_laws = record {
 
 -- and no other is
 
-was_by : (t : Table) (k q : Key) (c d : Class) (a m : ℕ) (x : Option (Kept Value)) (f : Option tables.Flight) → IsOpen (tables.entering key_eq c k (tables.met x f a) t) q d m →
+was_by : (t : Table) (k q : Key) (c d : Class) (a m : ℕ) (x : Option (Kept Value)) (f : Option tables.Flight) →
+    IsOpen (tables.entering key_eq c k (tables.met x f a) t) q d m →
     IsOpen t q d m ⊎ ((k ≡ q) × (c ≡ d) × (met (tables.met x f a) ≡ leads a))
 unfolding IsOpen
 was_by t k q c d a m (Some e) f o = inl o
@@ -166,17 +181,20 @@ was_by t k q c d a m None None o = ⊎_elim
     (same_or_not c d k q)
 
 -- a call that enters opens no flight but the one that it leads
-pub enter_only : (t t' : Table) (k q : Key) (c d : Class) (m : ℕ) (x : Entered) → enter t k c ≡ (x, t') → IsOpen t' q d m → IsOpen t q d m ⊎ ((k ≡ q) × (c ≡ d) × (x ≡ leads (t.book.leads + 1)))
+pub enter_only : (t t' : Table) (k q : Key) (c d : Class) (m : ℕ) (x : Entered) → enter t k c ≡ (x, t') → IsOpen t' q d m → IsOpen t q d m ⊎
+    ((k ≡ q) × (c ≡ d) × (x ≡ leads (t.book.leads + 1)))
 unfolding enter tables.enter
 enter_only t t' k q c d m x h o =
     let back = subst (λ (u : Table). IsOpen u q d m) (sym (ap (λ (x : Entered × Table). x.1) h)) o in
     ⊎_elim
     (λ (s : IsOpen t q d m). inl s)
-    (λ (s : (k ≡ q) × (c ≡ d) × (met (tables.met (kept_for key_eq k t.cache) (t.flights c k) (t.book.leads + 1)) ≡ leads (t.book.leads + 1))).
+    (λ (s : (k ≡ q) × (c ≡ d) × (met (tables.met (kept_for key_eq k t.cache) (t.flights c k) (t.book.leads + 1)) ≡ leads
+    (t.book.leads + 1))).
     inr (s.0, s.1, sym (ap (λ (x : Entered × Table). x.0) h) ∙ s.2))
     (was_by t k q c d (t.book.leads + 1) m (kept_for key_eq k t.cache) (t.flights c k) back)
 
-joined_by : (t : Table) (k : Key) (c : Class) (a : ℕ) (x : Option (Kept Value)) (f : Option tables.Flight) → t.flights c k ≡ f → met (tables.met x f a) ≡ joins → (n : ℕ) × IsOpen t k c n
+joined_by : (t : Table) (k : Key) (c : Class) (a : ℕ) (x : Option (Kept Value)) (f : Option tables.Flight) → t.flights c k ≡ f →
+    met (tables.met x f a) ≡ joins → (n : ℕ) × IsOpen t k c n
 unfolding IsOpen
 joined_by t k c a (Some e) f is h = absurd cc
 joined_by t k c a None (Some f) is h = (f.ticket, (f, is, refl))
@@ -185,9 +203,11 @@ joined_by t k c a None None is h = absurd cc
 -- a call joins only a flight that is open
 pub joins_open : (t t' : Table) (k : Key) (c : Class) → enter t k c ≡ (joins, t') → (n : ℕ) × IsOpen t k c n
 unfolding enter tables.enter
-joins_open t t' k c h = joined_by t k c (t.book.leads + 1) (kept_for key_eq k t.cache) (t.flights c k) refl (ap (λ (x : Entered × Table). x.0) h)
+joins_open t t' k c h = joined_by t k c (t.book.leads + 1) (kept_for key_eq k t.cache) (t.flights c k) refl
+    (ap (λ (x : Entered × Table). x.0) h)
 
-looking_was : (t : Table) (k q : Key) (c d : Class) (m n : ℕ) (x : Option (Kept Value)) (g : tables.Flight) → t.flights c k ≡ Some g → g.ticket ≡ m →
+looking_was : (t : Table) (k q : Key) (c d : Class) (m n : ℕ) (x : Option (Kept Value)) (g : tables.Flight) → t.flights c k ≡ Some g →
+    g.ticket ≡ m →
     IsOpen (tables.looking key_eq c k m x t).1 q d n → IsOpen t q d n
 unfolding IsOpen
 looking_was t k q c d m n None g at has o = o
@@ -210,7 +230,8 @@ ticket_there n (Some g) h = (g, refl, eqb-true g.ticket n h)
 pub again_only : (t : Table) (k q : Key) (c d : Class) (m n : ℕ) → IsOpen (again t k c m).1 q d n → IsOpen t q d n
 unfolding again tables.again
 again_only t k q c d m n o = (elim (tables.has_ticket m (t.flights c k)) as
-    (λ b. tables.has_ticket m (t.flights c k) ≡ b → IsOpen (if b then tables.looking key_eq c k m (kept_for key_eq k t.cache) t else (None, t)).1 q d n → IsOpen t q d n) [
+    (λ b. tables.has_ticket m (t.flights c k) ≡ b →
+    IsOpen (if b then tables.looking key_eq c k m (kept_for key_eq k t.cache) t else (None, t)).1 q d n → IsOpen t q d n) [
       | true ↦ λ e h. let g = ticket_there m (t.flights c k) e in looking_was t k q c d m n (kept_for key_eq k t.cache) g.0 g.1 g.2 h
       | false ↦ λ e h. h
     ]) refl o
@@ -220,13 +241,15 @@ has_it n None g e h = absurd (none-some g e)
 has_it n (Some f) g e h = subst (λ m. nat_eq m n ≡ true) (sym (ap (λ (z : tables.Flight). z.ticket) (same_Some f g e) ∙ h)) (eq_same n)
 
 -- the flight that lands is closed, and the others that are open were
-pub land_only : (t : Table) (k q : Key) (c d : Class) (m n : ℕ) (o : Outcome) (p : Place) (kept : Bool) → IsOpen t k c m → IsOpen (land t k c m o p kept) q d n →
+pub land_only : (t : Table) (k q : Key) (c d : Class) (m n : ℕ) (o : Outcome) (p : Place) (kept : Bool) → IsOpen t k c m →
+    IsOpen (land t k c m o p kept) q d n →
     IsOpen t q d n × (k ≡ q → c ≡ d → ⊥)
 unfolding land tables.land IsOpen
 land_only t k q c d m n o p kept lead h =
     let b' = tables.counting (tables.is_found (t.flights c k)) (value_of o) p t.book in
     let made = tables.landing key_eq entry_size kept c k m (value_of o) p b' t in
-    let closed : (if tables.has_ticket m (t.flights c k) then made else t) ≡ made = ap (λ b. if b then made else t) (has_it m (t.flights c k) lead.0 lead.1 lead.2) in
+    let closed : (if tables.has_ticket m (t.flights c k) then made else t) ≡ made =
+    ap (λ b. if b then made else t) (has_it m (t.flights c k) lead.0 lead.1 lead.2) in
     let at : tables.with_flight key_eq c k None t.flights d q ≡ Some h.0 = ap (λ (u : Table). u.flights d q) (sym closed) ∙ h.1 in
     let apart : k ≡ q → c ≡ d → ⊥ = λ e f.
     (let none : tables.with_flight key_eq c k None t.flights d q ≡ None =

@@ -6,13 +6,16 @@ use Rattle.std.proofs.lemmas.Bool.{and_parts}
 use Rattle.iiif_scene.specs.Keys.{name_of}
 use Rattle.iiif_machine.specs.Types.{Value, ReadFault}
 use Rattle.iiif_machine.specs.Tables.{Table, Outcome, Place, Entered, finds, joins, leads, enter}
-use Rattle.iiif_machine.specs.Rows.{Node, Given, Caller, CallState, Fresh, Hit, In, Gone, Call, Stage, New, Looked, Asking, Fallback, Parts, Ready, Ended, Flight}
+use Rattle.iiif_machine.specs.Rows.{Node, Given, Caller, CallState, Fresh, Hit, In, Gone, Call, Stage, New, Looked, Asking, Fallback}
+use Rattle.iiif_machine.specs.Rows.{Parts, Ready, Ended, Flight}
 use Rattle.iiif_machine.specs.Worlds.{World, table_at}
-use Rattle.iiif_machine.specs.Steps.{Event, Want, Enter, Again, AskPeer, Serve, Take, Lose, GoLocal, Load, SourceFault, Land, Evict, Stop, is_open, is_open_for, after_meeting, after_enter, step, run}
+use Rattle.iiif_machine.specs.Steps.{Event, Want, Enter, Again, AskPeer, Serve, Take, Lose, GoLocal, Load, SourceFault, Land, Evict, Stop}
+use Rattle.iiif_machine.specs.Steps.{is_open, is_open_for, after_meeting, after_enter, step, run}
 use Rattle.iiif_machine.specs.declared.events.Event.TheVariants as event
 use Rattle.iiif_machine.specs.Sound.{Kept, facts, StageIsOwn, AwaitsItsOwn}
 use Rattle.iiif_machine.specs.Promises.{After}
-use Rattle.iiif_machine.specs.Origins.{PartsFail, MakesReady, ReadyHasOrigin, FlightsBecomeReady, IsOriginOf, FaultHasOrigin, FaultsHaveOrigins, JoinsOpen, IsGivenIn, GivenBy, EventsGive}
+use Rattle.iiif_machine.specs.Origins.{PartsFail, MakesReady, ReadyHasOrigin, FlightsBecomeReady, IsOriginOf, FaultHasOrigin}
+use Rattle.iiif_machine.specs.Origins.{FaultsHaveOrigins, JoinsOpen, IsGivenIn, GivenBy, EventsGive}
 use Rattle.iiif_machine.proofs.Learning.{bind_inv}
 use Rattle.iiif_machine.proofs.Lists.{position_found}
 use Rattle.iiif_machine.proofs.Registers.{end_cases}
@@ -38,7 +41,8 @@ pub stays_own : (w v : World) (e : Event) → HasEffect w e v → AwaitsItsOwn w
 stays_own w v e d h = record {
   flights = λ g y at.
       ⊎_elim
-      (λ (was : slice_get w.flights g ≡ Some y). stage_own_later (facts w).callers (facts v).callers g y.stage d.rows.callers (h.flights g y was))
+      (λ (was : slice_get w.flights g ≡ Some y).
+      stage_own_later (facts w).callers (facts v).callers g y.stage d.rows.callers (h.flights g y was))
       (λ (new : NewStage w e v g y.stage). own_new w v e g y.stage new)
       (d.flights g y at);
   requests = d.requests h.requests;
@@ -86,13 +90,15 @@ faults_have_origins w v e is = fault_has_origin w v e (has_effect w v e is)
 one_flight : (f g : ℕ) → In f ≡ In g → f ≡ g
 one_flight f g e = cc
 
-entered_by : (w v : World) (c f : ℕ) (who : Caller) (n : Node) (x : Entered) (t : Table) (that : Caller) → slice_get w.calls c ≡ Some (record { caller = who; state = Fresh }) →
+entered_by : (w v : World) (c f : ℕ) (who : Caller) (n : Node) (x : Entered) (t : Table) (that : Caller) →
+    slice_get w.calls c ≡ Some (record { caller = who; state = Fresh }) →
     after_meeting w c who n (x, t) ≡ Some v → slice_get v.calls c ≡ Some (record { caller = that; state = In f }) →
     ((y : Flight) × (slice_get w.flights f ≡ Some y) × (is_open y.stage ≡ true)) ⊎ (f ≡ length w.flights)
 entered_by w v c f who n (finds u) t that at is there =
     let found : slice_get (slice_set w.calls c (record { caller = who; state = Hit u })) c ≡ Some (record { caller = that; state = In f }) =
     ap (λ (z : World). slice_get z.calls c) (same_Some _ v is) ∙ there in
-    absurd (not_hit u f (ap (λ (z : Call). z.state) (same_Some _ _ (sym (set_there w.calls c _ (record { caller = who; state = Hit u }) at) ∙ found))))
+    absurd (not_hit u f (ap (λ (z : Call). z.state)
+    (same_Some _ _ (sym (set_there w.calls c _ (record { caller = who; state = Hit u }) at) ∙ found))))
   where
     not_hit : (u : Value) (f : ℕ) → Hit u ≡ In f → ⊥
     not_hit u f e = cc
@@ -100,15 +106,19 @@ entered_by w v c f who n joins t that at is there =
     let g = bind_inv (position (is_open_for who) w.flights) _ v is in
     let set : slice_get (slice_set w.calls c (record { caller = who; state = In g.0 })) c ≡ Some (record { caller = that; state = In f }) =
     ap (λ (z : World). slice_get z.calls c) (same_Some _ v g.2) ∙ there in
-    let same : g.0 ≡ f = one_flight g.0 f (ap (λ (z : Call). z.state) (same_Some _ _ (sym (set_there w.calls c _ (record { caller = who; state = In g.0 }) at) ∙ set))) in
+    let same : g.0 ≡ f = one_flight g.0 f (ap (λ (z : Call). z.state)
+    (same_Some _ _ (sym (set_there w.calls c _ (record { caller = who; state = In g.0 }) at) ∙ set))) in
     let x = position_found (is_open_for who) w.flights g.0 g.1 in
     inl (x.0, ap (slice_get w.flights) (sym same) ∙ x.1, (and_parts (is_open x.0.stage) _ x.2).0)
 entered_by w v c f who n (leads m) t that at is there =
-    let set : slice_get (slice_set w.calls c (record { caller = who; state = In (length w.flights) })) c ≡ Some (record { caller = that; state = In f }) =
+    let set : slice_get (slice_set w.calls c (record { caller = who; state = In (length w.flights) })) c ≡ Some
+    (record { caller = that; state = In f }) =
     ap (λ (z : World). slice_get z.calls c) (same_Some _ v is) ∙ there in
-    inr (sym (one_flight (length w.flights) f (ap (λ (z : Call). z.state) (same_Some _ _ (sym (set_there w.calls c _ (record { caller = who; state = In (length w.flights) }) at) ∙ set)))))
+    inr (sym (one_flight (length w.flights) f (ap (λ (z : Call). z.state)
+    (same_Some _ _ (sym (set_there w.calls c _ (record { caller = who; state = In (length w.flights) }) at) ∙ set)))))
 
-entering_by : (w v : World) (c f : ℕ) (who : Caller) (n : Node) (x : CallState) (that : Caller) → slice_get w.calls c ≡ Some (record { caller = who; state = x }) →
+entering_by : (w v : World) (c f : ℕ) (who : Caller) (n : Node) (x : CallState) (that : Caller) →
+    slice_get w.calls c ≡ Some (record { caller = who; state = x }) →
     after_enter w c who n x ≡ Some v → slice_get v.calls c ≡ Some (record { caller = that; state = In f }) →
     ((y : Flight) × (slice_get w.flights f ≡ Some y) × (is_open y.stage ≡ true)) ⊎ (f ≡ length w.flights)
 entering_by w v c f who n Fresh that at is there =
@@ -127,7 +137,8 @@ joins_open w v c f who is there =
 
 -- What events give
 
-one_gives : (w v : World) (i : ℕ) (g : Given) (e : Event) → Gives w v.given e → Kept (facts w).leads (facts v).leads → slice_get v.given i ≡ Some g →
+one_gives : (w v : World) (i : ℕ) (g : Given) (e : Event) → Gives w v.given e → Kept (facts w).leads (facts v).leads →
+    slice_get v.given i ≡ Some g →
     (slice_get w.given i ≡ Some g) ⊎ IsGivenIn (e ∷ []) v g
 one_gives w v i g (SourceFault f x) h kept at =
     let row : Given = record { node = h.0.node; name = name_of h.0.key; fault = x } in
@@ -159,15 +170,34 @@ one_gives w v i g (Evict j keys) h kept at = inl (ap (λ gs. slice_get gs i) (sy
 one_gives w v i g (Stop j) h kept at = inl (ap (λ gs. slice_get gs i) (sym h) ∙ at)
 
 -- what is given in a part of a list is given in the list; the flights are there later too
-given_later : (e : Event) (es : List Event) (u v : World) (g : Given) → Kept (facts u).leads (facts v).leads → IsGivenIn (e ∷ []) u g → IsGivenIn (e ∷ es) v g
-given_later e es u v g kept h = record { place = 0; flight = h.flight; lead = h.lead; event = first e (SourceFault h.flight g.fault) h.place h.event; led = kept h.flight h.lead h.led; node = h.node; name = h.name }
+given_later : (e : Event) (es : List Event) (u v : World) (g : Given) → Kept (facts u).leads (facts v).leads → IsGivenIn (e ∷ []) u g →
+    IsGivenIn (e ∷ es) v g
+given_later e es u v g kept h = record {
+  place = 0;
+  flight = h.flight;
+  lead = h.lead;
+  event =
+      first e (SourceFault h.flight g.fault) h.place h.event;
+  led = kept h.flight h.lead h.led;
+  node = h.node;
+  name = h.name;
+}
   where
     first : (e x : Event) (i : ℕ) → slice_get (e ∷ []) i ≡ Some x → Some e ≡ Some x
     first e x zero at = at
     first e x (suc i) at = absurd (none-some x at)
 
 given_more : (e : Event) (es : List Event) (v : World) (g : Given) → IsGivenIn es v g → IsGivenIn (e ∷ es) v g
-given_more e es v g h = record { place = suc h.place; flight = h.flight; lead = h.lead; event = h.event; led = h.led; node = h.node; name = h.name }
+given_more e es v g h = record {
+  place = suc h.place;
+  flight = h.flight;
+  lead = h.lead;
+  event = h.event;
+  led = h.led;
+  node = h.node;
+  name =
+      h.name;
+}
 
 abbrev RunGives : World → List Event → World → Type 0
 RunGives w es v = Kept (facts w).leads (facts v).leads × GivenBy w es v

@@ -1,5 +1,6 @@
 -- The promises.
-use Rattle.std.proofs.Common.{◌≡◌, ℕ, Bool, true, false, if◌then◌else◌, List, [], ◌∷◌, ◌++◌, Option, Some, None, Result, Ok, Err, refl, sym, ap, subst, ◌∙◌, ⊎_elim}
+use Rattle.std.proofs.Common.{◌≡◌, ℕ, Bool, true, false, if◌then◌else◌, List, [], ◌∷◌, ◌++◌, Option, Some, None, Result, Ok, Err, refl}
+use Rattle.std.proofs.Common.{sym, ap, subst, ◌∙◌, ⊎_elim}
 use Rattle.std.specs.Prelude.{slice_get, length}
 use Rattle.std.proofs.lemmas.Option.{none-some, same_Some}
 use Rattle.iiif_tables.specs.Flights as tables
@@ -18,7 +19,8 @@ use Rattle.iiif_machine.proofs.Words.{SubjectLaws, Next, Stays}
 use Rattle.iiif_machine.specs.Worlds.{new_world, version_shown, speaker}
 use Rattle.iiif_scene.specs.Scenes.{IsProper}
 use Rattle.iiif_machine.specs.Sound.{IsSound}
-use Rattle.iiif_machine.specs.Promises.{IsNew, RefusedAtOnce, EachStep, EachRun, EachRunFollows, AnswersAreRight, ValuesAreMeanings, NoFaultNoFailure, CanonicalFormsAgree}
+use Rattle.iiif_machine.specs.Promises.{IsNew, RefusedAtOnce, EachStep, EachRun, EachRunFollows, AnswersAreRight, ValuesAreMeanings}
+use Rattle.iiif_machine.specs.Promises.{NoFaultNoFailure, CanonicalFormsAgree}
 use Rattle.iiif_canonical.specs.Images as images
 use Rattle.iiif_canonical.proofs.SameImages.{means_the_same}
 use Rattle.iiif_scene.proofs.Plans.{kind_is}
@@ -38,7 +40,8 @@ use Rattle.iiif_machine.proofs.Opened.{table_laws}
 abbrev KeepsOn : World → World → Type 0
 KeepsOn w v = Follows w v × IsSound v
 
-join : (w : World) (e : Event) (x : Option World) → AwaitsItsOwn w → After (Next w) x → After IsApart x → After IsListed x → After (Stays w) x → After (HasEffect w e) x →
+join : (w : World) (e : Event) (x : Option World) → AwaitsItsOwn w → After (Next w) x → After IsApart x → After IsListed x →
+    After (Stays w) x → After (HasEffect w e) x →
     After (KeepsOn w) x
 join w e None own a b c d f = tt
 join w e (Some v) own a b c d f = (
@@ -47,11 +50,21 @@ join w e (Some v) own a b c d f = (
 )
 
 pub each_step : EachStep
-each_step w e proper h = join w e (step w e) h.own (step_kept w e (subject_laws w.scene proper) table_laws h.honest) (step_apart w e (subject_laws w.scene proper) table_laws h.apart)
+each_step w e proper h = join w e (step w e) h.own (step_kept w e (subject_laws w.scene proper) table_laws h.honest)
+    (step_apart w e (subject_laws w.scene proper) table_laws h.apart)
     (step_listed w e h.apart h.listed) (step_placed w e h.placed) (step_effect w e)
 
 pub follows_itself : (w : World) → Follows w w
-follows_itself w = record { scene = refl; cards = refl; rows = record { wishes = λ i x at. at; callers = λ i x at. at; leads = λ i x at. at; asks = λ i x at. at; replies = λ i x at. at }; given = λ i g at. at; answers = λ i q a at. at; ended = λ f l o at. at }
+follows_itself w = record {
+  scene = refl;
+  cards = refl;
+  rows =
+      record { wishes = λ i x at. at; callers = λ i x at. at; leads = λ i x at. at; asks = λ i x at. at; replies = λ i x at. at };
+  given =
+      λ i g at. at;
+  answers = λ i q a at. at;
+  ended = λ f l o at. at;
+}
 
 pub follows_further : (w v u : World) → Follows w v → Follows v u → Follows w u
 follows_further w v u first second = record {
@@ -145,7 +158,8 @@ no_fault_no_failure w h none i q f at =
 pub ok_same : (x : Result Picture Refusal) (a b : Picture) → x ≡ Ok a → x ≡ Ok b → a ≡ b
 ok_same x a b e f = cc
 
-image_of : (s : Scene) (p o : Picture) (q : Request) (a : Picture) (name : List ℕ) → s.shows name ≡ Some o → s.shows name ≡ Some p → image s o q ≡ Ok a → images.image p q s.limits ≡ Ok a
+image_of : (s : Scene) (p o : Picture) (q : Request) (a : Picture) (name : List ℕ) → s.shows name ≡ Some o → s.shows name ≡ Some p →
+    image s o q ≡ Ok a → images.image p q s.limits ≡ Ok a
 unfolding image
 image_of s p o q a name at there is = subst (λ x. images.image x q s.limits ≡ Ok a) (same_Some o p (sym at ∙ there)) is
 
@@ -156,7 +170,8 @@ canonical_forms_agree w proper h i j q r a b p at there name shown form =
     let second = h.honest.requests j _ there in
     let one = image_of s p first.0 q.request a q.name first.1 shown first.2 in
     let two = image_of s p second.0 r.request b r.name second.1 (ap s.shows name ∙ shown) second.2 in
-    ok_same (images.image p q.request s.limits) a b one (sym (means_the_same p (kind_of p) s.limits q.request r.request (kind_is p (proper.sources q.name p shown).whole) form) ∙ two)
+    ok_same (images.image p q.request s.limits) a b one
+    (sym (means_the_same p (kind_of p) s.limits q.request r.request (kind_is p (proper.sources q.name p shown).whole) form) ∙ two)
 
 no_image : (x : Result Picture Refusal) (p : Picture) (e : Refusal) → x ≡ Ok p → x ≡ Err e → ⊥
 no_image x p e a b = cc
@@ -164,14 +179,17 @@ no_image x p e a b = cc
 same_refusal : (x : Result Picture Refusal) (a b : Refusal) → x ≡ Err a → x ≡ Err b → a ≡ b
 same_refusal x a b e f = cc
 
-refused_by : (w : World) (n : Node) (p : Picture) (q : Wish) (x : Result Resolved Refusal) (e : Refusal) → SubjectLaws w.scene → w.scene.shows q.name ≡ Some p →
+refused_by : (w : World) (n : Node) (p : Picture) (q : Wish) (x : Result Resolved Refusal) (e : Refusal) → SubjectLaws w.scene →
+    w.scene.shows q.name ≡ Some p →
     resolved w.scene p q.request ≡ x → image w.scene p q.request ≡ Err e →
     slice_get (after_want w n p q x).requests (length w.requests) ≡ Some (record { wish = q; progress = Answered (Refused e) })
 refused_by w n p q (Err d) e laws shown is h =
     let same = same_refusal (image w.scene p q.request) d e (laws.refused q.name p q.request d shown is) h in
-    subst (λ x. slice_get (w.requests ++ record { wish = q; progress = Answered (Refused d) } ∷ []) (length w.requests) ≡ Some (record { wish = q; progress = Answered (Refused x) })) same
+    subst (λ x. slice_get (w.requests ++ record { wish = q; progress = Answered (Refused d) } ∷ []) (length w.requests) ≡ Some
+    (record { wish = q; progress = Answered (Refused x) })) same
     (get_end w.requests (record { wish = q; progress = Answered (Refused d) }) [])
-refused_by w n p q (Ok r) e laws shown is h = absurd (no_image (image w.scene p q.request) _ e (laws.assembled_is q.name p q.request r shown is) h)
+refused_by w n p q (Ok r) e laws shown is h = absurd
+    (no_image (image w.scene p q.request) _ e (laws.assembled_is q.name p q.request r shown is) h)
 
 pub refused_at_once : RefusedAtOnce
 unfolding step
@@ -182,6 +200,7 @@ refused_at_once w v x proper is i name q p e same_event shown h =
     let m = bind_inv (speaker n.0 (version_shown o.0)) _ v o.2 in
     let same : o.0 ≡ p = same_Some o.0 p (sym o.1 ∙ shown) in
     let wish : Wish = record { node = i; name = name; request = q } in
-    let there : after_want w n.0 p wish (resolved w.scene p q) ≡ v = ap (λ x. after_want w n.0 x wish (resolved w.scene x q)) (sym same) ∙ same_Some _ v m.2 in
+    let there : after_want w n.0 p wish (resolved w.scene p q) ≡ v = ap (λ x. after_want w n.0 x wish (resolved w.scene x q)) (sym same) ∙
+    same_Some _ v m.2 in
     subst (λ (x : World). slice_get x.requests (length w.requests) ≡ Some (record { wish = wish; progress = Answered (Refused e) })) there
     (refused_by w n.0 p wish (resolved w.scene p q) e (subject_laws w.scene proper) shown refl h)

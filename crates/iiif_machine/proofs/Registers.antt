@@ -1,5 +1,6 @@
 -- Which flights stand in the tables of nodes.
-use Rattle.std.proofs.Common.{◌≡◌, ℕ, zero, suc, List, [], ◌∷◌, ◌++◌, map, length, Bool, true, false, Some, ◌⊎◌, inl, inr, refl, sym, ap, subst, ◌∙◌, ⊎_elim, if◌then◌else◌}
+use Rattle.std.proofs.Common.{◌≡◌, ℕ, zero, suc, List, [], ◌∷◌, ◌++◌, map, length, Bool, true, false, Some, ◌⊎◌, inl, inr, refl, sym, ap}
+use Rattle.std.proofs.Common.{subst, ◌∙◌, ⊎_elim, if◌then◌else◌}
 use Rattle.std.specs.Prelude.{slice_get, slice_set}
 use Rattle.std.proofs.lemmas.Option.{none-some, same_Some}
 use Rattle.iiif_scene.specs.Keys.{is_tile}
@@ -12,12 +13,14 @@ use Rattle.iiif_machine.specs.Sound.{IsRegistered, IsSameCall, IsApart}
 use Rattle.iiif_machine.proofs.Learning.{get_mapped}
 
 -- what stands in a list after one is replaced
-pub set_cases : {A : Type 0} (xs : List A) (i j : ℕ) (x y : A) → slice_get (slice_set xs i y) j ≡ Some x → ((j ≡ i) × (x ≡ y)) ⊎ (slice_get xs j ≡ Some x)
+pub set_cases : {A : Type 0} (xs : List A) (i j : ℕ) (x y : A) → slice_get (slice_set xs i y) j ≡ Some x → ((j ≡ i) × (x ≡ y)) ⊎
+    (slice_get xs j ≡ Some x)
 set_cases [] i j x y h = absurd (none-some x h)
 set_cases (z ∷ xs) zero zero x y h = inl (refl, sym (same_Some y x h))
 set_cases (z ∷ xs) zero (suc j) x y h = inr h
 set_cases (z ∷ xs) (suc i) zero x y h = inr h
-set_cases (z ∷ xs) (suc i) (suc j) x y h = ⊎_elim (λ (e : (j ≡ i) × (x ≡ y)). inl (ap suc e.0, e.1)) (λ (e : slice_get xs j ≡ Some x). inr e) (set_cases xs i j x y h)
+set_cases (z ∷ xs) (suc i) (suc j) x y h = ⊎_elim (λ (e : (j ≡ i) × (x ≡ y)). inl (ap suc e.0, e.1))
+    (λ (e : slice_get xs j ≡ Some x). inr e) (set_cases xs i j x y h)
 
 pub set_found : {A : Type 0} (xs : List A) (i j : ℕ) (x y : A) → slice_get xs j ≡ Some x →
     ((j ≡ i) × (slice_get (slice_set xs i y) j ≡ Some y)) ⊎ (slice_get (slice_set xs i y) j ≡ Some x)
@@ -26,13 +29,16 @@ set_found (z ∷ xs) zero zero x y h = inl (refl, refl)
 set_found (z ∷ xs) zero (suc j) x y h = inr h
 set_found (z ∷ xs) (suc i) zero x y h = inr h
 set_found (z ∷ xs) (suc i) (suc j) x y h =
-    ⊎_elim (λ (e : (j ≡ i) × (slice_get (slice_set xs i y) j ≡ Some y)). inl (ap suc e.0, e.1)) (λ (e : slice_get (slice_set xs i y) j ≡ Some x). inr e) (set_found xs i j x y h)
+    ⊎_elim (λ (e : (j ≡ i) × (slice_get (slice_set xs i y) j ≡ Some y)). inl (ap suc e.0, e.1))
+    (λ (e : slice_get (slice_set xs i y) j ≡ Some x). inr e) (set_found xs i j x y h)
 
-pub end_cases : {A : Type 0} (xs : List A) (j : ℕ) (x y : A) → slice_get (xs ++ y ∷ []) j ≡ Some x → ((j ≡ length xs) × (x ≡ y)) ⊎ (slice_get xs j ≡ Some x)
+pub end_cases : {A : Type 0} (xs : List A) (j : ℕ) (x y : A) → slice_get (xs ++ y ∷ []) j ≡ Some x → ((j ≡ length xs) × (x ≡ y)) ⊎
+    (slice_get xs j ≡ Some x)
 end_cases [] zero x y h = inl (refl, sym (same_Some y x h))
 end_cases [] (suc j) x y h = absurd (none-some x h)
 end_cases (z ∷ xs) zero x y h = inr h
-end_cases (z ∷ xs) (suc j) x y h = ⊎_elim (λ (e : (j ≡ length xs) × (x ≡ y)). inl (ap suc e.0, e.1)) (λ (e : slice_get xs j ≡ Some x). inr e) (end_cases xs j x y h)
+end_cases (z ∷ xs) (suc j) x y h = ⊎_elim (λ (e : (j ≡ length xs) × (x ≡ y)). inl (ap suc e.0, e.1))
+    (λ (e : slice_get xs j ≡ Some x). inr e) (end_cases xs j x y h)
 
 -- an open flight of ys was an open flight of xs
 abbrev pub OpenFrom : List Flight → List Flight → Type 0
@@ -42,7 +48,8 @@ OpenFrom xs ys = (g : ℕ) (y : Flight) → slice_get ys g ≡ Some y → is_ope
 pub from_same : (xs : List Flight) → OpenFrom xs xs
 from_same xs g y at o = (y, at, o, refl)
 
-pub from_set : (xs : List Flight) (f : ℕ) (l : Lead) (old new : Stage) → slice_get xs f ≡ Some (record { lead = l; stage = old }) → is_open old ≡ true →
+pub from_set : (xs : List Flight) (f : ℕ) (l : Lead) (old new : Stage) → slice_get xs f ≡ Some (record { lead = l; stage = old }) →
+    is_open old ≡ true →
     OpenFrom xs (slice_set xs f (record { lead = l; stage = new }))
 from_set xs f l old new there was g y at o =
     ⊎_elim
@@ -69,7 +76,8 @@ same_call_by : (a b c d : Lead) → c ≡ a → d ≡ b → IsSameCall a b → I
 same_call_by a b c d e f h = subst (λ x. IsSameCall x d) (sym e) (subst (λ x. IsSameCall a x) (sym f) h)
 
 pub apart_by : (w v : World) → OpenFrom w.flights v.flights →
-    ((g : ℕ) (y : Flight) → slice_get v.flights g ≡ Some y → is_open y.stage ≡ true → IsRegistered w.nodes y.lead → IsRegistered v.nodes y.lead) → IsApart w → IsApart v
+    ((g : ℕ) (y : Flight) → slice_get v.flights g ≡ Some y → is_open y.stage ≡ true → IsRegistered w.nodes y.lead →
+    IsRegistered v.nodes y.lead) → IsApart w → IsApart v
 apart_by w v from regs h = record {
   registered = λ g y at o.
       let x = from g y at o in
@@ -82,7 +90,8 @@ apart_by w v from regs h = record {
 
 put_at : (n : Node) (t : Table) (b c : Bool) (P : Table → Type 0) → (P (if b then n.tiles else n.sums) → P t) →
     P (if c then n.tiles else n.sums) →
-    P (if c then (if b then record n { tiles = t } else record n { sums = t }).tiles else (if b then record n { tiles = t } else record n { sums = t }).sums)
+    P (if c then (if b then record n { tiles = t } else record n { sums = t }).tiles else
+    (if b then record n { tiles = t } else record n { sums = t }).sums)
 put_at n t true true P f h = f h
 put_at n t true false P f h = h
 put_at n t false true P f h = h
@@ -96,7 +105,8 @@ registered_put nodes i n k t l there keeps reg =
     ⊎_elim
     (λ (e : (l.node ≡ i) × (slice_get (slice_set nodes i (put_table n k t)) l.node ≡ Some (put_table n k t))).
     let same : reg.0 ≡ n = same_Some reg.0 n (sym reg.1 ∙ ap (slice_get nodes) e.0 ∙ there) in
-    let open_in : IsOpen (table_at n l.key) l.key l.class l.ticket = subst (λ (m : Node). IsOpen (table_at m l.key) l.key l.class l.ticket) same reg.2 in
+    let open_in : IsOpen (table_at n l.key) l.key l.class l.ticket =
+    subst (λ (m : Node). IsOpen (table_at m l.key) l.key l.class l.ticket) same reg.2 in
     (put_table n k t, e.1, put_at n t (is_tile k) (is_tile l.key) (λ u. IsOpen u l.key l.class l.ticket) (keeps e.0) open_in))
     (λ (e : slice_get (slice_set nodes i (put_table n k t)) l.node ≡ Some reg.0). (reg.0, e, reg.2))
     (set_found nodes i l.node reg.0 (put_table n k t) reg.1)

@@ -1,5 +1,6 @@
 -- The owner as a function is the ring's owner, and it is a node's name.
-use Rattle.std.proofs.Common.{◌≡◌, ℕ, zero, suc, ◌-◌, ◌<◌, ◌≤◌, ◌⊎◌, inl, inr, List, [], ◌∷◌, length, min, fold, Bool, true, false, Some, refl, sym, ap, subst, ◌∙◌, ⊎_elim, arith, if◌then◌else◌}
+use Rattle.std.proofs.Common.{◌≡◌, ℕ, zero, suc, ◌-◌, ◌<◌, ◌≤◌, ◌⊎◌, inl, inr, List, [], ◌∷◌, length, min, fold, Bool, true, false, Some}
+use Rattle.std.proofs.Common.{refl, sym, ap, subst, ◌∙◌, ⊎_elim, arith, if◌then◌else◌}
 use Rattle.std.specs.Prelude.{slice_get, position, ◌==◌, ◌&&◌, nat_lt}
 use Rattle.std.specs.Str.{bytes_eq}
 use Rattle.std.specs.Ordering.{is_gt, nat_cmp}
@@ -41,7 +42,8 @@ least_below f zero i h = let e : i ≡ 0 = omega arith in subst (λ j. f 0 ≤ f
 least_below f (suc n) i h =
     ⊎_elim
     (λ (less : i < suc n). let a = least_below f n i less in let b = min-le_left (least f n) (f (suc n)) in omega arith)
-    (λ (last : suc n ≤ i). let e : i ≡ suc n = omega arith in subst (λ j. min (least f n) (f (suc n)) ≤ f j) (sym e) (min-le_right (least f n) (f (suc n))))
+    (λ (last : suc n ≤ i). let e : i ≡ suc n = omega arith in
+    subst (λ j. min (least f n) (f (suc n)) ≤ f j) (sym e) (min-le_right (least f n) (f (suc n))))
     (cases_lt i (suc n))
 
 -- a name comes no later than another
@@ -83,7 +85,11 @@ not_before_is key a b h =
     (λ (less : nearest key b < nearest key a). inl less)
     (λ (past : nearest key a ≤ nearest key b).
     let same : nearest key b ≡ nearest key a = omega arith in
-    inr (same, not_both (nearest key a == nearest key b) (is_gt (slice_cmp nat_cmp b a)) nots.1 (eq_of (nearest key a) (nearest key b) (sym same))))
+    inr (
+      same,
+      not_both (nearest key a == nearest key b) (is_gt (slice_cmp nat_cmp b a)) nots.1
+          (eq_of (nearest key a) (nearest key b) (sym same)),
+    ))
     (cases_lt (nearest key b) (nearest key a)))
     (cases_lt (nearest key a) (nearest key b))
   where
@@ -111,7 +117,11 @@ record IsLeader (key : List ℕ) (names : List (List ℕ)) (c : List ℕ) : Type
   first : Each (Before key c) names
 
 fold_leads : (key name : List ℕ) (names : List (List ℕ)) → IsLeader key (name ∷ names) (fold (first_of key) name names)
-fold_leads key name [] = record { at = (0, refl); first = each_cons (Before key name) name [] (before_same key name) (each_nil (Before key name)) }
+fold_leads key name [] = record {
+  at = (0, refl);
+  first =
+      each_cons (Before key name) name [] (before_same key name) (each_nil (Before key name));
+}
 fold_leads key name (next ∷ names) =
     let c = first_of key name next in
     let is = first_is key name next in
@@ -124,7 +134,8 @@ fold_leads key name (next ∷ names) =
           (each_cons (Before key r) next names (before_trans key r c next over is.right) (λ i x h. rest.first (suc i) x h));
     }
   where
-    place : (key name next : List ℕ) (names : List (List ℕ)) (r : List ℕ) → (first_of key name next ≡ name) ⊎ (first_of key name next ≡ next) → (i : ℕ) →
+    place : (key name next : List ℕ) (names : List (List ℕ)) (r : List ℕ) → (first_of key name next ≡ name) ⊎
+        (first_of key name next ≡ next) → (i : ℕ) →
         slice_get (first_of key name next ∷ names) i ≡ Some r → (j : ℕ) × (slice_get (name ∷ next ∷ names) j ≡ Some r)
     place key name next names r one zero h =
         let same = same_Some (first_of key name next) r h in

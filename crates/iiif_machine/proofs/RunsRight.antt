@@ -7,7 +7,8 @@ use Rattle.iiif_machine.specs.Sound.{IsSound}
 use Rattle.iiif_machine.specs.Promises.{After, Follows, RefusedNow}
 use Rattle.iiif_machine.specs.Origins.{FaultHasOrigin, ReadyHasOrigin}
 use Rattle.iiif_machine.specs.Headline.{AtEach, EachRunIsRight}
-use Rattle.iiif_machine.proofs.Promised.{each_step, each_run_follows, answers_are_right, values_are_meanings, no_fault_no_failure, canonical_forms_agree, refused_at_once}
+use Rattle.iiif_machine.proofs.Promised.{each_step, each_run_follows, answers_are_right, values_are_meanings, no_fault_no_failure}
+use Rattle.iiif_machine.proofs.Promised.{canonical_forms_agree, refused_at_once}
 use Rattle.iiif_machine.proofs.Giving.{only_sources_give}
 use Rattle.iiif_machine.proofs.Origins.{flights_become_ready, faults_have_origins, events_give}
 use Rattle.iiif_machine.proofs.Apart.{one_outcome}
@@ -38,7 +39,8 @@ each_run_is_right w v es proper sound is =
       replied = values.2;
       given = events_give w v es is;
       faults = at_each FaultHasOrigin (λ x y e p s. faults_have_origins x y e s) w es proper sound;
-      faultless = λ none quiet. no_fault_no_failure v after.1 (subst (After (λ (z : World). z.given ≡ w.given)) is (only_sources_give w es quiet) ∙ none);
+      faultless = λ none quiet. no_fault_no_failure v after.1
+          (subst (After (λ (z : World). z.given ≡ w.given)) is (only_sources_give w es quiet) ∙ none);
       ready = at_each ReadyHasOrigin (λ x y e p s. flights_become_ready x y e s) w es proper sound;
       alone = after.1.apart.apart;
       shared = one_outcome v;

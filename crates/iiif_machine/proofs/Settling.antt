@@ -8,8 +8,10 @@ use Rattle.iiif_scene.proofs.Lists.{each_of_all, get_map}
 use Rattle.iiif_machine.specs.Types.{Resolved, Picture}
 use Rattle.iiif_machine.proofs.Words.{SubjectLaws}
 use Rattle.iiif_machine.specs.Tables.{Wide, Outcome}
-use Rattle.iiif_machine.specs.Rows.{Lead, Stage, New, Looked, Asking, Fallback, Parts, Ready, Ended, Wish, Progress, Waiting, Answered, Dropped, Wanted}
-use Rattle.iiif_machine.specs.Worlds.{World, learned, all_learned, collected, ready_with, resumed_stage, resumed, answered_with, progressed, answered, settled}
+use Rattle.iiif_machine.specs.Rows.{Lead, Stage, New, Looked, Asking, Fallback, Parts, Ready, Ended, Wish, Progress, Waiting, Answered}
+use Rattle.iiif_machine.specs.Rows.{Dropped, Wanted}
+use Rattle.iiif_machine.specs.Worlds.{World, learned, all_learned, collected, ready_with, resumed_stage, resumed, answered_with}
+use Rattle.iiif_machine.specs.Worlds.{progressed, answered, settled}
 use Rattle.iiif_machine.specs.Sound.{facts, lead_in, IsHonest, AreOf, StageIsHonest, FlightIsHonest, ProgressIsHonest, IsHonestWorld}
 use Rattle.iiif_machine.proofs.Words.{Goes}
 use Rattle.iiif_machine.proofs.Words.{Next, Later}
@@ -17,7 +19,8 @@ use Rattle.iiif_machine.proofs.Lists.{each_map, map_same, kept_same}
 use Rattle.iiif_machine.proofs.Growth.{flights_later, calls_later, requests_later, asks_later}
 use Rattle.iiif_machine.proofs.Learning.{learned_honest, gathered, answer_right}
 
-ready_honest : (w : World) (l : Lead) (c : ℕ) (x : Option Outcome) → learned w c ≡ x → IsHonestWorld w → (l.class ≡ Wide) × AreOf (facts w).callers l.node (c ∷ []) (l.key ∷ []) →
+ready_honest : (w : World) (l : Lead) (c : ℕ) (x : Option Outcome) → learned w c ≡ x → IsHonestWorld w → (l.class ≡ Wide) ×
+    AreOf (facts w).callers l.node (c ∷ []) (l.key ∷ []) →
     StageIsHonest w.scene (facts w) l (ready_with (Fallback (Some c)) x)
 ready_honest w l c None e h are = are
 ready_honest w l c (Some o) e h are =
@@ -25,7 +28,8 @@ ready_honest w l c (Some o) e h are =
     let known : IsHonest w.scene w.given who.node who.key o = learned_honest w c who o h are.1.0.1 e in
     subst (λ q. IsHonest w.scene w.given l.node q o) are.1.0.3 (subst (λ n. IsHonest w.scene w.given n who.key o) are.1.0.2 known)
 
-resumed_honest : (w : World) (l : Lead) (x : Stage) → IsHonestWorld w → StageIsHonest w.scene (facts w) l x → StageIsHonest w.scene (facts w) l (resumed_stage w x)
+resumed_honest : (w : World) (l : Lead) (x : Stage) → IsHonestWorld w → StageIsHonest w.scene (facts w) l x →
+    StageIsHonest w.scene (facts w) l (resumed_stage w x)
 resumed_honest w l New h is = is
 resumed_honest w l Looked h is = is
 resumed_honest w l Asking h is = is
@@ -35,14 +39,16 @@ resumed_honest w l (Parts cs) h is = is
 resumed_honest w l (Ready o p) h is = is
 resumed_honest w l (Ended o) h is = is
 
-answered_honest : (w : World) (q : Wish) (r : Resolved) (cs : List ℕ) (x : Option Picture) (y : Option (List Outcome)) → SubjectLaws w.scene → IsHonestWorld w →
+answered_honest : (w : World) (q : Wish) (r : Resolved) (cs : List ℕ) (x : Option Picture) (y : Option (List Outcome)) →
+    SubjectLaws w.scene → IsHonestWorld w →
     w.scene.shows q.name ≡ x → all_learned w cs ≡ y → ProgressIsHonest w.scene (facts w) q (Waiting r cs) →
     ProgressIsHonest w.scene (facts w) q (answered_with w q r cs x y)
 answered_honest w q r cs (Some p) (Some os) laws h shown e is =
     let s = w.scene in
     let same : is.0 ≡ p = same_Some is.0 p (sym is.1 ∙ shown) in
     let solved : resolved s p q.request ≡ Ok r = subst (λ x. resolved s x q.request ≡ Ok r) same is.2 in
-    let are : AreOf (facts w).callers q.node cs (items s q.name p r) = subst (λ x. AreOf (facts w).callers q.node cs (items s q.name x r)) same is.3 in
+    let are : AreOf (facts w).callers q.node cs (items s q.name p r) =
+    subst (λ x. AreOf (facts w).callers q.node cs (items s q.name x r)) same is.3 in
     let named = each_of_all (λ k. name_of k ≡ q.name) (items s q.name p r) (laws.items_named q.name p q.request r shown solved) in
     answer_right s w.given q p r (collected os) shown (laws.assembled_is q.name p q.request r shown solved)
     (gathered w q.node q.name cs (items s q.name p r) os h are named e)
@@ -75,22 +81,30 @@ settled_honest w laws h =
       asks = asks_later s (facts w) (facts v) w.asks later h.asks;
       replies = h.replies;
       requests = requests_later s (facts w) (facts v) v.requests later
-          (each_map (λ (q : Wanted). ProgressIsHonest s (facts w) q.wish q.progress) (λ (q : Wanted). ProgressIsHonest s (facts w) q.wish q.progress) (answered w) w.requests
+          (each_map (λ (q : Wanted). ProgressIsHonest s (facts w) q.wish q.progress)
+          (λ (q : Wanted). ProgressIsHonest s (facts w) q.wish q.progress) (answered w) w.requests
           (λ q is. progressed_honest w q.wish q.progress laws h is) h.requests);
     }
 
 pub follows_by : (w : World) {v : World} → v.scene ≡ w.scene → v.given ≡ w.given → v.requests ≡ w.requests → Goes w v
-follows_by w {v} a b c = record { scene = a; given = kept_same w.given v.given b; answers = λ i q x h. subst (λ rs. slice_get rs i ≡ Some (record { wish = q; progress = Answered x })) (sym c) h }
+follows_by w {v} a b c = record {
+  scene = a;
+  given = kept_same w.given v.given b;
+  answers = λ i q x h.
+      subst (λ rs. slice_get rs i ≡ Some (record { wish = q; progress = Answered x })) (sym c) h;
+}
 
 pub next_by : (w : World) {v : World} → v.scene ≡ w.scene → v.given ≡ w.given → v.requests ≡ w.requests → IsHonestWorld v → Next w v
 next_by w a b c h = record { follows = follows_by w a b c; honest = h }
 
-pub next_settled : (w u : World) → u.scene ≡ w.scene → u.given ≡ w.given → u.requests ≡ w.requests → IsHonestWorld (settled u) → Next w (settled u)
+pub next_settled : (w u : World) → u.scene ≡ w.scene → u.given ≡ w.given → u.requests ≡ w.requests → IsHonestWorld (settled u) →
+    Next w (settled u)
 next_settled w u a b c h = record {
   follows = record {
     scene = a;
     given = kept_same w.given u.given b;
-    answers = λ i q x at. get_map (answered u) u.requests i (record { wish = q; progress = Answered x }) (subst (λ rs. slice_get rs i ≡ Some (record { wish = q; progress = Answered x })) (sym c) at);
+    answers = λ i q x at. get_map (answered u) u.requests i (record { wish = q; progress = Answered x })
+        (subst (λ rs. slice_get rs i ≡ Some (record { wish = q; progress = Answered x })) (sym c) at);
   };
   honest = h;
 }

@@ -4,10 +4,12 @@ use Rattle.std.specs.Prelude.{◌==◌}
 use Rattle.iiif_scene.specs.Scenes.{Scene}
 use Rattle.iiif_scene.proofs.Lists.{get_map}
 use Rattle.iiif_machine.proofs.Words.{TableLaws}
-use Rattle.iiif_machine.specs.Rows.{Node, Gone, Call, Lead, Stage, New, Looked, Asking, Fallback, Parts, Ready, Ended, Flight, Wish, Answer, Progress, Waiting, Answered, Dropped, Wanted}
+use Rattle.iiif_machine.specs.Rows.{Node, Gone, Call, Lead, Stage, New, Looked, Asking, Fallback, Parts, Ready, Ended, Flight, Wish}
+use Rattle.iiif_machine.specs.Rows.{Answer, Progress, Waiting, Answered, Dropped, Wanted}
 use Rattle.iiif_machine.specs.Worlds.{World}
 use Rattle.iiif_machine.specs.Steps.{stage_stopped, flight_stopped, call_stopped, progress_stopped, request_stopped, after_stop}
-use Rattle.iiif_machine.specs.Sound.{Facts, facts, caller_of, lead_in, StageIsHonest, FlightIsHonest, CallIsHonest, ProgressIsHonest, IsHonestWorld}
+use Rattle.iiif_machine.specs.Sound.{Facts, facts, caller_of, lead_in, StageIsHonest, FlightIsHonest, CallIsHonest, ProgressIsHonest}
+use Rattle.iiif_machine.specs.Sound.{IsHonestWorld}
 use Rattle.iiif_machine.proofs.Words.{Goes}
 use Rattle.iiif_machine.proofs.Words.{Later}
 use Rattle.iiif_machine.proofs.Lists.{each_map, each_set, map_same, kept_same}
@@ -23,7 +25,8 @@ ended_is s a l (Fallback c) h = tt
 ended_is s a l (Parts cs) h = tt
 ended_is s a l (Ready o p) h = tt
 
-halted_by : (s : Scene) (a : Facts) (fl : Flight) (b : Bool) → FlightIsHonest s a fl → FlightIsHonest s a (if b then record { lead = fl.lead; stage = stage_stopped fl.stage } else fl)
+halted_by : (s : Scene) (a : Facts) (fl : Flight) (b : Bool) → FlightIsHonest s a fl →
+    FlightIsHonest s a (if b then record { lead = fl.lead; stage = stage_stopped fl.stage } else fl)
 halted_by s a fl true h = record { fits = h.fits; stage = ended_is s a fl.lead fl.stage h.stage }
 halted_by s a fl false h = h
 
@@ -31,7 +34,8 @@ pub lead_by : (fl : Flight) (b : Bool) → lead_in (if b then record { lead = fl
 lead_by fl true = refl
 lead_by fl false = refl
 
-gone_by : (s : Scene) (a : Facts) (c : Call) (b : Bool) → CallIsHonest s a c → CallIsHonest s a (if b then record { caller = c.caller; state = Gone } else c)
+gone_by : (s : Scene) (a : Facts) (c : Call) (b : Bool) → CallIsHonest s a c →
+    CallIsHonest s a (if b then record { caller = c.caller; state = Gone } else c)
 gone_by s a c true h = record { caller = h.caller; state = tt }
 gone_by s a c false h = h
 
@@ -47,7 +51,8 @@ dropped_is s a q Dropped h = h
 abbrev RequestIs : Scene → Facts → Wanted → Type 0
 RequestIs s a q = ProgressIsHonest s a q.wish q.progress
 
-dropped_by : (s : Scene) (a : Facts) (q : Wanted) (b : Bool) → RequestIs s a q → RequestIs s a (if b then record { wish = q.wish; progress = progress_stopped q.progress } else q)
+dropped_by : (s : Scene) (a : Facts) (q : Wanted) (b : Bool) → RequestIs s a q →
+    RequestIs s a (if b then record { wish = q.wish; progress = progress_stopped q.progress } else q)
 dropped_by s a q true h = dropped_is s a q.wish q.progress h
 dropped_by s a q false h = h
 
@@ -66,11 +71,15 @@ stopped_honest laws w i n h =
     record {
       nodes = each_set _ w.nodes i _ h.nodes (emptied_honest laws s n);
       flights = flights_later s a b v.flights later
-          (each_map (FlightIsHonest s a) (FlightIsHonest s a) (flight_stopped i) w.flights (λ fl is. halted_by s a fl (fl.lead.node == i) is) h.flights);
-      calls = calls_later s a b v.calls later (each_map (CallIsHonest s a) (CallIsHonest s a) (call_stopped i) w.calls (λ c is. gone_by s a c (c.caller.node == i) is) h.calls);
+          (each_map (FlightIsHonest s a) (FlightIsHonest s a) (flight_stopped i) w.flights
+          (λ fl is. halted_by s a fl (fl.lead.node == i) is) h.flights);
+      calls = calls_later s a b v.calls later (each_map (CallIsHonest s a) (CallIsHonest s a) (call_stopped i) w.calls
+          (λ c is. gone_by s a c (c.caller.node == i) is) h.calls);
       asks = asks_later s a b w.asks later h.asks;
       replies = h.replies;
-      requests = requests_later s a b v.requests later (each_map (RequestIs s a) (RequestIs s a) (request_stopped i) w.requests (λ q is. dropped_by s a q (q.wish.node == i) is) h.requests);
+      requests = requests_later s a b v.requests later
+          (each_map (RequestIs s a) (RequestIs s a) (request_stopped i) w.requests (λ q is. dropped_by s a q (q.wish.node == i) is)
+          h.requests);
     }
 
 abbrev row_of : Wish → Answer → Wanted

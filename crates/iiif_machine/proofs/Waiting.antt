@@ -5,7 +5,8 @@ use Rattle.std.proofs.lemmas.Option.{none-some, same_Some}
 use Rattle.iiif_scene.specs.Keys.{rank_of}
 use Rattle.iiif_scene.proofs.Lists.{get_map}
 use Rattle.iiif_machine.specs.Tables.{Class, Wide, Local}
-use Rattle.iiif_machine.specs.Rows.{Caller, Lead, Purpose, ForRequest, ForPart, ForFallback, ForAsk, Stage, New, Looked, Asking, Fallback, Parts, Ready, Ended}
+use Rattle.iiif_machine.specs.Rows.{Caller, Lead, Purpose, ForRequest, ForPart, ForFallback, ForAsk, Stage, New, Looked, Asking, Fallback}
+use Rattle.iiif_machine.specs.Rows.{Parts, Ready, Ended}
 use Rattle.iiif_machine.specs.Worlds.{World}
 use Rattle.iiif_machine.specs.Sound.{facts, caller_of, IsHonestWorld, PurposeIsRight, AreFor, StageIsOwn, IsSound}
 use Rattle.iiif_tables.specs.Flights.{flight_number}
@@ -20,7 +21,8 @@ below r s Local Local h = omega arith
 local_below : (r s : ℕ) (c d : Class) → r ≡ s → c ≡ Local → d ≡ Wide → flight_number r c < flight_number s d
 local_below r s c d e f g = rw (f, g) (omega arith)
 
-falls : (w : World) (f : ℕ) (l : Lead) (who : Caller) (p : Purpose) → IsHonestWorld w → IsOf w f p → PurposeIsRight (facts w) who p → slice_get (facts w).leads f ≡ Some l →
+falls : (w : World) (f : ℕ) (l : Lead) (who : Caller) (p : Purpose) → IsHonestWorld w → IsOf w f p → PurposeIsRight (facts w) who p →
+    slice_get (facts w).leads f ≡ Some l →
     flight_number (rank_of who.key) who.class < flight_number (rank_of l.key) l.class
 falls w f l who (ForRequest r) h of right at = absurd of
 falls w f l who (ForPart e) h of right at =
@@ -43,7 +45,8 @@ falls w f l who (ForAsk a) h of right at =
 
 -- a call that a flight's stage waits for is one that it made
 
-made_by : (w : World) (f c : ℕ) (p : Purpose) (who : Caller) (cs : List ℕ) (i : ℕ) → AreFor (facts w).callers p cs → slice_get cs i ≡ Some c → slice_get (facts w).callers c ≡ Some who →
+made_by : (w : World) (f c : ℕ) (p : Purpose) (who : Caller) (cs : List ℕ) (i : ℕ) → AreFor (facts w).callers p cs →
+    slice_get cs i ≡ Some c → slice_get (facts w).callers c ≡ Some who →
     who.purpose ≡ p
 made_by w f c p who [] i own at is = absurd (none-some c at)
 made_by w f c p who (d ∷ cs) zero own at is =
@@ -51,17 +54,20 @@ made_by w f c p who (d ∷ cs) zero own at is =
     ap (λ (x : Caller). x.purpose) (sym same) ∙ own.0.2
 made_by w f c p who (d ∷ cs) (suc i) own at is = made_by w f c p who cs i own.1 at is
 
-stage_made : (w : World) (f c : ℕ) (who : Caller) (s : Stage) → StageIsOwn (facts w).callers f s → AwaitedAt s c → slice_get (facts w).callers c ≡ Some who → IsOf w f who.purpose
+stage_made : (w : World) (f c : ℕ) (who : Caller) (s : Stage) → StageIsOwn (facts w).callers f s → AwaitedAt s c →
+    slice_get (facts w).callers c ≡ Some who → IsOf w f who.purpose
 stage_made w f c who New own waits is = absurd waits
 stage_made w f c who Looked own waits is = absurd waits
 stage_made w f c who Asking own waits is = absurd waits
 stage_made w f c who (Fallback None) own waits is = absurd waits
-stage_made w f c who (Fallback (Some d)) own waits is = subst (IsOf w f) (sym (made_by w f c (ForFallback f) who (d ∷ []) 0 own (ap Some (sym waits)) is)) refl
+stage_made w f c who (Fallback (Some d)) own waits is =
+    subst (IsOf w f) (sym (made_by w f c (ForFallback f) who (d ∷ []) 0 own (ap Some (sym waits)) is)) refl
 stage_made w f c who (Parts cs) own waits is = subst (IsOf w f) (sym (made_by w f c (ForPart f) who cs waits.0 own waits.1 is)) refl
 stage_made w f c who (Ready o p) own waits is = absurd waits
 stage_made w f c who (Ended o) own waits is = absurd waits
 
-awaited_made : (w : World) (f c : ℕ) (who : Caller) → IsSound w → slice_get (facts w).callers c ≡ Some who → IsAwaited w f c ⊎ IsOf w f who.purpose → IsOf w f who.purpose
+awaited_made : (w : World) (f c : ℕ) (who : Caller) → IsSound w → slice_get (facts w).callers c ≡ Some who → IsAwaited w f c ⊎
+    IsOf w f who.purpose → IsOf w f who.purpose
 awaited_made w f c who sound is h =
     ⊎_elim
     (λ (a : IsAwaited w f c). stage_made w f c who a.1 (sound.own.flights f _ a.2) a.3 is)
@@ -78,11 +84,13 @@ waits_fall w sound f g l m waits at there =
     let class : m.class ≡ waits.who.class = subst (λ (x : Lead). x.class ≡ waits.who.class) same is.4 in
     let of = awaited_made w f waits.number waits.who sound (get_map caller_of w.calls waits.number _ waits.call) waits.for in
     let low = falls w f l waits.who waits.who.purpose h of row.caller.purpose at in
-    subst (λ k. flight_number (rank_of k) m.class < number_of l) (sym key) (subst (λ c. flight_number (rank_of waits.who.key) c < number_of l) (sym class) low)
+    subst (λ k. flight_number (rank_of k) m.class < number_of l) (sym key)
+    (subst (λ c. flight_number (rank_of waits.who.key) c < number_of l) (sym class) low)
 
 -- no circle
 
-waiting_by : (w : World) (f : ℕ) (who : Caller) (p : Purpose) → IsHonestWorld w → IsOf w f p → PurposeIsRight (facts w) who p → (l : Lead) × (slice_get (facts w).leads f ≡ Some l)
+waiting_by : (w : World) (f : ℕ) (who : Caller) (p : Purpose) → IsHonestWorld w → IsOf w f p → PurposeIsRight (facts w) who p → (l : Lead) ×
+    (slice_get (facts w).leads f ≡ Some l)
 waiting_by w f who (ForRequest r) h of right = absurd of
 waiting_by w f who (ForPart e) h of right = (right.0, ap (slice_get (facts w).leads) (sym of) ∙ right.1)
 waiting_by w f who (ForFallback e) h of right = (right.0, ap (slice_get (facts w).leads) (sym of) ∙ right.1)
@@ -106,11 +114,13 @@ awaited_lead w f g sound waits =
 less_more : (a b c : ℕ) → a < b → b < c → a < c
 less_more a b c p q = omega arith
 
-falls_over : (w : World) (n f g : ℕ) (l m : Lead) → IsSound w → WaitsOver w n f g → slice_get (facts w).leads f ≡ Some l → slice_get (facts w).leads g ≡ Some m → number_of m < number_of l
+falls_over : (w : World) (n f g : ℕ) (l m : Lead) → IsSound w → WaitsOver w n f g → slice_get (facts w).leads f ≡ Some l →
+    slice_get (facts w).leads g ≡ Some m → number_of m < number_of l
 falls_over w zero f g l m sound over at there = waits_fall w sound f g l m over at there
 falls_over w (suc n) f g l m sound over at there =
     let k = awaited_lead w f over.0 sound over.1 in
-    less_more (number_of m) (number_of k.0) (number_of l) (falls_over w n over.0 g k.0 m sound over.2 k.1 there) (waits_fall w sound f over.0 l k.0 over.1 at k.1)
+    less_more (number_of m) (number_of k.0) (number_of l) (falls_over w n over.0 g k.0 m sound over.2 k.1 there)
+    (waits_fall w sound f over.0 l k.0 over.1 at k.1)
 
 first_wait : (w : World) (n f g : ℕ) → IsSound w → WaitsOver w n f g → (l : Lead) × (slice_get (facts w).leads f ≡ Some l)
 first_wait w zero f g sound over = waiting_lead w f g sound over

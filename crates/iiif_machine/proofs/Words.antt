@@ -18,7 +18,8 @@ pub record SubjectLaws (s : Scene) : Type 0 where
   pub parts_named : (k : Key) (ks : List Key) → parts_of k ≡ Some ks → All (λ q. name_of q ≡ name_of k) ks
   pub parts_below : (k : Key) (ks : List Key) → parts_of k ≡ Some ks → All (λ q. rank_of q < rank_of k) ks
   pub derived_is : (k : Key) (ks : List Key) → parts_of k ≡ Some ks → Fits s k → derived s k (map (meaning s) ks) ≡ meaning s k
-  pub refused : (name : List ℕ) (p : Picture) (q : Request) (e : Refusal) → s.shows name ≡ Some p → resolved s p q ≡ Err e → image s p q ≡ Err e
+  pub refused : (name : List ℕ) (p : Picture) (q : Request) (e : Refusal) → s.shows name ≡ Some p → resolved s p q ≡ Err e →
+      image s p q ≡ Err e
   pub items_fit : (name : List ℕ) (p : Picture) (q : Request) (r : Resolved) → s.shows name ≡ Some p → resolved s p q ≡ Ok r →
       All (Fits s) (items s name p r)
   pub items_named : (name : List ℕ) (p : Picture) (q : Request) (r : Resolved) → s.shows name ≡ Some p → resolved s p q ≡ Ok r →

@@ -19,10 +19,20 @@ use Rattle.iiif_machine.specs.Owners.{owner}
 use Rattle.iiif_machine.specs.Tables.{enter, again, land, evicted, emptied}
 use Rattle.iiif_machine.specs.Worlds.{owner_of, version_at}
 use Rattle.iiif_machine.specs.Steps.{step, run}
-use Rattle.iiif_machine.specs.Worked.{ReplyOfAnotherKeyIsNotTaken, TwoShareAValue, TwoShareAFault, WaitsForItsCalls, KeptIsFound, NotKeptIsNotFound, FailingRead, NotAgain, FaultIsNotKept, NoneIsAnsweredYet, BothAreAnswered, LateRepeatChangesNothing, BothStayAnswered, LostAskIsAnswered, FaultOfAPeerIsNotAnswered, StoppedNode, ReplyToAStoppedFlightChangesNothing, StoppedCallsAreGone, FoundAgainIsAnswered, FoundAgainIsCounted, HalvedIs, DeepHalvedIs, EnlargedIs, CutOutIs, FirstFaultIsAnswered, DeepAskIsNotServed, DeepAskIsAnswered, AskIsServed, DeepIsNotWanted, SevenIsWanted, NineAreNotKept, TenthIsKept, EvictedFromBoth}
+use Rattle.iiif_machine.specs.Worked.{ReplyOfAnotherKeyIsNotTaken, TwoShareAValue, TwoShareAFault, WaitsForItsCalls, KeptIsFound}
+use Rattle.iiif_machine.specs.Worked.{NotKeptIsNotFound, FailingRead, NotAgain, FaultIsNotKept, NoneIsAnsweredYet, BothAreAnswered}
+use Rattle.iiif_machine.specs.Worked.{LateRepeatChangesNothing, BothStayAnswered, LostAskIsAnswered, FaultOfAPeerIsNotAnswered}
+use Rattle.iiif_machine.specs.Worked.{StoppedNode, ReplyToAStoppedFlightChangesNothing, StoppedCallsAreGone, FoundAgainIsAnswered}
+use Rattle.iiif_machine.specs.Worked.{FoundAgainIsCounted, HalvedIs, DeepHalvedIs, EnlargedIs, CutOutIs, FirstFaultIsAnswered}
+use Rattle.iiif_machine.specs.Worked.{DeepAskIsNotServed, DeepAskIsAnswered, AskIsServed, DeepIsNotWanted, SevenIsWanted, NineAreNotKept}
+use Rattle.iiif_machine.specs.Worked.{TenthIsKept, EvictedFromBoth}
 
 abbrev everything : ℕ
-unfolding step run emptied evicted name_of rank_of key_eq is_tile meaning parts_of derived resolved items assembled owner_of version_at owner key_bytes value_bytes enter again land tables.enter tables.again tables.land touch without placed evict evict_at_most put resolved_of region_of clipped size_of checked asked_of largest fit round quarters_of row_from rows_from greatest crop_at sample_at samples_of row_of tile_key_bytes sum_key_bytes tile_val_bytes sum_val_bytes sum_from overlap weight_of area_sum scaled_at sum_at has_place part_sum
+unfolding step run emptied evicted name_of rank_of key_eq is_tile meaning parts_of derived resolved items assembled owner_of version_at
+    owner key_bytes value_bytes enter again land tables.enter tables.again tables.land touch without placed evict evict_at_most put
+    resolved_of region_of clipped size_of checked asked_of largest fit round quarters_of row_from rows_from greatest crop_at sample_at
+    samples_of row_of tile_key_bytes sum_key_bytes tile_val_bytes sum_val_bytes sum_from overlap weight_of area_sum scaled_at sum_at
+    has_place part_sum
 everything = 0
 
 pub waits_for_its_calls : WaitsForItsCalls

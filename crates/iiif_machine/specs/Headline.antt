@@ -5,7 +5,8 @@ use Rattle.iiif_machine.specs.Rows.{Flight}
 use Rattle.iiif_machine.specs.Worlds.{World}
 use Rattle.iiif_machine.specs.Steps.{Event, is_open, step, run}
 use Rattle.iiif_machine.specs.Sound.{IsSameCall, IsSound}
-use Rattle.iiif_machine.specs.Promises.{Follows, AnswersRight, RefusedNow, FormsAgree, KeptRight, KnownRight, RepliedRight, reads_fail, NoneFailed, ShareOutcomes, WaitsGoDown, NoCircle}
+use Rattle.iiif_machine.specs.Promises.{Follows, AnswersRight, RefusedNow, FormsAgree, KeptRight, KnownRight, RepliedRight, reads_fail}
+use Rattle.iiif_machine.specs.Promises.{NoneFailed, ShareOutcomes, WaitsGoDown, NoCircle}
 use Rattle.iiif_machine.specs.Origins.{GivenBy, FaultHasOrigin, ReadyHasOrigin}
 
 -- P holds of each event of a list, with the world before it and that after it
@@ -15,7 +16,8 @@ AtEach P w (e ∷ es) = (u : World) → step w e ≡ Some u → P w e u × AtEac
 
 -- no two open flights are of one node, key and class
 abbrev pub OneIsOpen : World → Type 0
-OneIsOpen w = (f g : ℕ) (x y : Flight) → slice_get w.flights f ≡ Some x → slice_get w.flights g ≡ Some y → is_open x.stage ≡ true → is_open y.stage ≡ true →
+OneIsOpen w = (f g : ℕ) (x y : Flight) → slice_get w.flights f ≡ Some x → slice_get w.flights g ≡ Some y → is_open x.stage ≡ true →
+    is_open y.stage ≡ true →
     IsSameCall x.lead y.lead → f ≡ g
 
 -- A list of events, each of which was allowed, made of the world w the world v.

@@ -13,7 +13,8 @@ BeginsAnew t u = u ≡ tables.empty_table t.cache.limit t.cache.room
 
 -- The node of this number begins anew, and its open flights end without an outcome.
 pub record NodeEnds (i : ℕ) (w v : World) : Type 0 where
-  pub tables : (n m : Node) → slice_get w.nodes i ≡ Some n → slice_get v.nodes i ≡ Some m → BeginsAnew n.tiles m.tiles × BeginsAnew n.sums m.sums
+  pub tables : (n m : Node) → slice_get w.nodes i ≡ Some n → slice_get v.nodes i ≡ Some m → BeginsAnew n.tiles m.tiles ×
+      BeginsAnew n.sums m.sums
   pub flights : (f : ℕ) (x : Flight) → slice_get w.flights f ≡ Some x → x.lead.node ≡ i → is_open x.stage ≡ true →
       slice_get v.flights f ≡ Some (record { lead = x.lead; stage = Ended None })
 

@@ -5,7 +5,8 @@ use Rattle.iiif_machine.specs.Types.{Value, ReadFault}
 use Rattle.iiif_machine.specs.Tables.{Outcome, Place, Nowhere, Main, Peer}
 use Rattle.iiif_machine.specs.Rows.{Given, Caller, In, Lead, Fallback, Parts, Ready, Flight}
 use Rattle.iiif_machine.specs.Worlds.{World, learned, all_learned}
-use Rattle.iiif_machine.specs.Steps.{Event, Want, Enter, Again, AskPeer, Serve, Take, Lose, GoLocal, Load, SourceFault, Land, Evict, Stop, is_open, step, run}
+use Rattle.iiif_machine.specs.Steps.{Event, Want, Enter, Again, AskPeer, Serve, Take, Lose, GoLocal, Load, SourceFault, Land, Evict, Stop}
+use Rattle.iiif_machine.specs.Steps.{is_open, step, run}
 use Rattle.iiif_machine.specs.declared.events.Event.TheVariants as event
 use Rattle.iiif_machine.specs.Sound.{facts}
 
@@ -15,12 +16,14 @@ IsFirstFault os x = (vs : List Value) × (rest : List Outcome) × (os ≡ map (�
 
 -- the flight waits for its parts, whose calls know outcomes, and this is the first fault of these
 abbrev pub PartsFail : World → ℕ → ReadFault → Type 0
-PartsFail w f x = (l : Lead) × (cs : List ℕ) × (os : List Outcome) × (slice_get w.flights f ≡ Some (record { lead = l; stage = Parts cs })) ×
+PartsFail w f x = (l : Lead) × (cs : List ℕ) × (os : List Outcome) ×
+    (slice_get w.flights f ≡ Some (record { lead = l; stage = Parts cs })) ×
     (all_learned w cs ≡ Some os) × IsFirstFault os x
 
 -- the flight waited for the local call that it made after asking in vain, and that call knows this outcome by now
 abbrev pub OwnCallKnows : World → World → ℕ → Outcome → Type 0
-OwnCallKnows w v f o = (l : Lead) × (c : ℕ) × (slice_get w.flights f ≡ Some (record { lead = l; stage = Fallback (Some c) })) × (learned v c ≡ Some o)
+OwnCallKnows w v f o = (l : Lead) × (c : ℕ) × (slice_get w.flights f ≡ Some (record { lead = l; stage = Fallback (Some c) })) ×
+    (learned v c ≡ Some o)
 
 abbrev pub IsValue : Outcome → Type 0
 IsValue (Ok v) = Unit {0}
@@ -52,7 +55,8 @@ MakesReady w v g o p (Stop i) = ⊥
 
 -- a flight that is ready after an event was so before, or that event made it so
 abbrev pub ReadyHasOrigin : World → Event → World → Type 0
-ReadyHasOrigin w e v = (g : ℕ) (l : Lead) (o : Outcome) (p : Place) → slice_get v.flights g ≡ Some (record { lead = l; stage = Ready o p }) →
+ReadyHasOrigin w e v = (g : ℕ) (l : Lead) (o : Outcome) (p : Place) →
+    slice_get v.flights g ≡ Some (record { lead = l; stage = Ready o p }) →
     (slice_get w.flights g ≡ Some (record { lead = l; stage = Ready o p })) ⊎ MakesReady w v g o p e
 
 abbrev pub FlightsBecomeReady : Type 0
@@ -65,7 +69,8 @@ IsOriginOf w e v g x = (e ≡ SourceFault g x) ⊎ (((e ≡ Load g) × PartsFail
 
 -- a flight that is ready with a fault after an event was so before, or its fault comes so
 abbrev pub FaultHasOrigin : World → Event → World → Type 0
-FaultHasOrigin w e v = (g : ℕ) (l : Lead) (x : ReadFault) (p : Place) → slice_get v.flights g ≡ Some (record { lead = l; stage = Ready (Err x) p }) →
+FaultHasOrigin w e v = (g : ℕ) (l : Lead) (x : ReadFault) (p : Place) →
+    slice_get v.flights g ≡ Some (record { lead = l; stage = Ready (Err x) p }) →
     (slice_get w.flights g ≡ Some (record { lead = l; stage = Ready (Err x) p })) ⊎ IsOriginOf w e v g x
 
 abbrev pub FaultsHaveOrigins : Type 0
@@ -73,7 +78,8 @@ FaultsHaveOrigins = (w v : World) (e : Event) → step w e ≡ Some v → FaultH
 
 -- a call that enters a flight joins one that is open at that moment, or leads a new one
 abbrev pub JoinsOpen : Type 0
-JoinsOpen = (w v : World) (c f : ℕ) (who : Caller) → step w (Enter c) ≡ Some v → slice_get v.calls c ≡ Some (record { caller = who; state = In f }) →
+JoinsOpen = (w v : World) (c f : ℕ) (who : Caller) → step w (Enter c) ≡ Some v →
+    slice_get v.calls c ≡ Some (record { caller = who; state = In f }) →
     ((x : Flight) × (slice_get w.flights f ≡ Some x) × (is_open x.stage ≡ true)) ⊎ (f ≡ length w.flights)
 
 -- a fault that an event of the list gave: the read of a flight of this node, for a key of this name, failed with it

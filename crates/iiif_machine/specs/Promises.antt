@@ -1,5 +1,6 @@
 -- The promises, of every list of events, in the images' own words.
-use Rattle.std.specs.Prelude.{◌≡◌, ◌↔◌, ◌⊎◌, ℕ, suc, ◌<◌, ◌≤◌, List, [], ◌∷◌, ◌++◌, Bool, true, false, ◌||◌, Option, Some, None, Ok, Err, map, length, slice_get}
+use Rattle.std.specs.Prelude.{◌≡◌, ◌↔◌, ◌⊎◌, ℕ, suc, ◌<◌, ◌≤◌, List, [], ◌∷◌, ◌++◌, Bool, true, false, ◌||◌, Option, Some, None, Ok, Err}
+use Rattle.std.specs.Prelude.{map, length, slice_get}
 use Prim.Native.Nat.{zero}
 use Rattle.iiif_pixel.specs.Picture.{dim_of}
 use Rattle.iiif_canonical.specs.Canonical.{canonical}
@@ -14,9 +15,12 @@ use Rattle.iiif_scene.specs.Images.{image}
 use Rattle.iiif_machine.specs.Types.{Key, Value, Picture, Request, Refusal, Resolved, ReadFault}
 use Rattle.iiif_machine.specs.Owners.{owner}
 use Rattle.iiif_machine.specs.Tables.{Class, Wide, Local, Place, Outcome, Holds}
-use Rattle.iiif_machine.specs.Rows.{Node, Purpose, ForRequest, ForPart, ForFallback, ForAsk, Caller, Call, Fresh, In, Lead, Stage, New, Looked, Asking, Fallback, Parts, Ready, Ended, Ask, Reply, Wish, Answer, Refused, Image, Failed, Answered, Waiting, Gone, Wanted}
+use Rattle.iiif_machine.specs.Rows.{Node, Purpose, ForRequest, ForPart, ForFallback, ForAsk, Caller, Call, Fresh, In, Lead, Stage, New}
+use Rattle.iiif_machine.specs.Rows.{Looked, Asking, Fallback, Parts, Ready, Ended, Ask, Reply, Wish, Answer, Refused, Image, Failed}
+use Rattle.iiif_machine.specs.Rows.{Answered, Waiting, Gone, Wanted}
 use Rattle.iiif_machine.specs.Worlds.{World, new_world, version_shown, learned, all_learned, collected}
-use Rattle.iiif_machine.specs.Steps.{Event, Want, Enter, Again, AskPeer, Serve, Take, Lose, GoLocal, Load, SourceFault, Land, Evict, Stop, is_open, step, run}
+use Rattle.iiif_machine.specs.Steps.{Event, Want, Enter, Again, AskPeer, Serve, Take, Lose, GoLocal, Load, SourceFault, Land, Evict, Stop}
+use Rattle.iiif_machine.specs.Steps.{is_open, step, run}
 use Rattle.iiif_machine.specs.declared.events.Event.TheVariants as event
 use Rattle.iiif_machine.specs.Sound.{Each, Kept, facts, IsHonest, AnswerIsRight, card_of, cards, NamesNodes, IsSound}
 
@@ -70,31 +74,37 @@ EachRunFollows = (w : World) (es : List Event) → IsProper w.scene → IsSound 
 
 -- After every list of events that is allowed it holds.
 abbrev pub EachRun : Type 0
-EachRun = (s : Scene) (nodes : List Node) (es : List Event) → IsProper s → Each IsNew nodes → Each (NamesNodes (map card_of nodes)) (map card_of nodes) →
+EachRun = (s : Scene) (nodes : List Node) (es : List Event) → IsProper s → Each IsNew nodes →
+    Each (NamesNodes (map card_of nodes)) (map card_of nodes) →
     After IsSound (run (new_world s nodes) es)
 
 -- Then an answered request has its image, its refusal, or a fault that was given at its node by the source of its name.
 abbrev pub AnswersRight : World → Type 0
-AnswersRight w = (i : ℕ) (q : Wish) (a : Answer) → slice_get w.requests i ≡ Some (record { wish = q; progress = Answered a }) → AnswerIsRight w.scene w.given q a
+AnswersRight w = (i : ℕ) (q : Wish) (a : Answer) → slice_get w.requests i ≡ Some (record { wish = q; progress = Answered a }) →
+    AnswerIsRight w.scene w.given q a
 
 abbrev pub AnswersAreRight : Type 0
 AnswersAreRight = (w : World) → IsSound w → AnswersRight w
 
 -- A request that has no image, but a refusal, is answered so at once, by the event with which it comes.
 abbrev pub RefusedNow : World → Event → World → Type 0
-RefusedNow w e v = (i : ℕ) (name : List ℕ) (q : Request) (p : Picture) (r : Refusal) → e ≡ Want i name q → w.scene.shows name ≡ Some p → image w.scene p q ≡ Err r →
-    slice_get v.requests (length w.requests) ≡ Some (record { wish = record { node = i; name = name; request = q }; progress = Answered (Refused r) })
+RefusedNow w e v = (i : ℕ) (name : List ℕ) (q : Request) (p : Picture) (r : Refusal) → e ≡ Want i name q → w.scene.shows name ≡ Some p →
+    image w.scene p q ≡ Err r →
+    slice_get v.requests (length w.requests) ≡ Some
+    (record { wish = record { node = i; name = name; request = q }; progress = Answered (Refused r) })
 
 abbrev pub RefusedAtOnce : Type 0
 RefusedAtOnce = (w v : World) (e : Event) → IsProper w.scene → step w e ≡ Some v → RefusedNow w e v
 
 -- a value that is kept is its key's meaning
 abbrev pub KeptRight : World → Type 0
-KeptRight w = (i : ℕ) (n : Node) (k : Key) (v : Value) → slice_get w.nodes i ≡ Some n → (Holds n.tiles k v → v ≡ meaning w.scene k) × (Holds n.sums k v → v ≡ meaning w.scene k)
+KeptRight w = (i : ℕ) (n : Node) (k : Key) (v : Value) → slice_get w.nodes i ≡ Some n → (Holds n.tiles k v → v ≡ meaning w.scene k) ×
+    (Holds n.sums k v → v ≡ meaning w.scene k)
 
 -- what a call knows is its key's meaning, or a fault that was given at its node by the source of its key's name
 abbrev pub KnownRight : World → Type 0
-KnownRight w = (c : ℕ) (call : Call) (o : Outcome) → slice_get w.calls c ≡ Some call → learned w c ≡ Some o → IsHonest w.scene w.given call.caller.node call.caller.key o
+KnownRight w = (c : ℕ) (call : Call) (o : Outcome) → slice_get w.calls c ≡ Some call → learned w c ≡ Some o →
+    IsHonest w.scene w.given call.caller.node call.caller.key o
 
 -- a value that is replied is its key's meaning
 abbrev pub RepliedRight : World → Type 0
@@ -145,12 +155,16 @@ IsAllowed w (Enter c) = (who : Caller) × (slice_get w.calls c ≡ Some (record 
 IsAllowed w (Again f) = IsAt w f New
 IsAllowed w (AskPeer f) = IsOfClassAt w f Wide Looked
 IsAllowed w (Serve a) = (q : Ask) × (slice_get w.asks a ≡ Some q) × Speaks w q.node q.version
-IsAllowed w (event.Reply c) = (call : Call) × (slice_get w.calls c ≡ Some call) × ((a : ℕ) × (call.caller.purpose ≡ ForAsk a)) × ((o : Outcome) × (learned w c ≡ Some o))
-IsAllowed w (Take f r) = (IsAt w f Asking ⊎ ((o : Option Outcome) × IsAt w f (Ended o))) × ((reply : Reply) × (slice_get w.replies r ≡ Some reply))
+IsAllowed w (event.Reply c) = (call : Call) × (slice_get w.calls c ≡ Some call) × ((a : ℕ) × (call.caller.purpose ≡ ForAsk a)) ×
+    ((o : Outcome) × (learned w c ≡ Some o))
+IsAllowed w (Take f r) = (IsAt w f Asking ⊎ ((o : Option Outcome) × IsAt w f (Ended o))) ×
+    ((reply : Reply) × (slice_get w.replies r ≡ Some reply))
 IsAllowed w (Lose f) = IsAt w f Asking
 IsAllowed w (GoLocal f) = IsAt w f (Fallback None)
-IsAllowed w (Load f) = IsOfClassAt w f Local Looked ⊎ ((cs : List ℕ) × IsOfClassAt w f Local (Parts cs) × ((os : List Outcome) × (all_learned w cs ≡ Some os)))
-IsAllowed w (SourceFault f e) = (l : Lead) × (slice_get w.flights f ≡ Some (record { lead = l; stage = Looked })) × (l.class ≡ Local) × (parts_of l.key ≡ None)
+IsAllowed w (Load f) = IsOfClassAt w f Local Looked ⊎
+    ((cs : List ℕ) × IsOfClassAt w f Local (Parts cs) × ((os : List Outcome) × (all_learned w cs ≡ Some os)))
+IsAllowed w (SourceFault f e) = (l : Lead) × (slice_get w.flights f ≡ Some (record { lead = l; stage = Looked })) × (l.class ≡ Local) ×
+    (parts_of l.key ≡ None)
 IsAllowed w (Land f kept) = (o : Outcome) × (p : Place) × IsAt w f (Ready o p)
 IsAllowed w (Evict i keys) = HasNode w i
 IsAllowed w (Stop i) = HasNode w i
@@ -161,7 +175,8 @@ AllowedExactly = (w : World) (e : Event) → IsSound w → IsAllowed w e ↔ ((v
 
 -- a request and its canonical form, where both are answered with images, have one image
 abbrev pub FormsAgree : World → Type 0
-FormsAgree w = (i j : ℕ) (q r : Wish) (a b p : Picture) → slice_get w.requests i ≡ Some (record { wish = q; progress = Answered (Image a) }) →
+FormsAgree w = (i j : ℕ) (q r : Wish) (a b p : Picture) →
+    slice_get w.requests i ≡ Some (record { wish = q; progress = Answered (Image a) }) →
     slice_get w.requests j ≡ Some (record { wish = r; progress = Answered (Image b) }) → r.name ≡ q.name → w.scene.shows q.name ≡ Some p →
     canonical q.request (dim_of p) (kind_of p) w.scene.limits ≡ Ok r.request → a ≡ b
 
@@ -203,7 +218,8 @@ pub record Waits (w : World) (f g : ℕ) : Type 0 where
 
 -- each wait goes to a smaller number
 abbrev pub WaitsGoDown : World → Type 0
-WaitsGoDown w = (f g : ℕ) (l m : Lead) → Waits w f g → slice_get (facts w).leads f ≡ Some l → slice_get (facts w).leads g ≡ Some m → number_of m < number_of l
+WaitsGoDown w = (f g : ℕ) (l m : Lead) → Waits w f g → slice_get (facts w).leads f ≡ Some l → slice_get (facts w).leads g ≡ Some m →
+    number_of m < number_of l
 
 abbrev pub WaitsFall : Type 0
 WaitsFall = (w : World) → IsSound w → WaitsGoDown w
@@ -248,7 +264,8 @@ NotKeptStays = (w v : World) (f : ℕ) → step w (Land f false) ≡ Some v → 
 -- a reply makes no flight ready with a fault
 abbrev pub NoFaultIsTaken : Type 0
 NoFaultIsTaken = (w v : World) (f r g : ℕ) (l : Lead) (e : ReadFault) (p : Place) → step w (Take f r) ≡ Some v →
-    slice_get v.flights g ≡ Some (record { lead = l; stage = Ready (Err e) p }) → slice_get w.flights g ≡ Some (record { lead = l; stage = Ready (Err e) p })
+    slice_get v.flights g ≡ Some (record { lead = l; stage = Ready (Err e) p }) →
+    slice_get w.flights g ≡ Some (record { lead = l; stage = Ready (Err e) p })
 
 -- A node has stopped: its calls are gone, its flights have ended, none of its requests waits, and its tables hold nothing.
 pub record HasStopped (i : ℕ) (w : World) : Type 0 where

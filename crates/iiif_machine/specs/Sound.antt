@@ -6,7 +6,9 @@ use Rattle.iiif_scene.specs.Plans.{resolved, items}
 use Rattle.iiif_scene.specs.Images.{image}
 use Rattle.iiif_machine.specs.Types.{Key, Value, Picture}
 use Rattle.iiif_machine.specs.Tables.{Class, Wide, Local, Table, Outcome, Holds, IsOpen}
-use Rattle.iiif_machine.specs.Rows.{Node, Given, Purpose, ForRequest, ForPart, ForFallback, ForAsk, Caller, CallState, Fresh, Hit, In, Gone, Call, Lead, Stage, New, Looked, Asking, Fallback, Parts, Ready, Ended, Flight, Ask, Reply, Wish, Answer, Refused, Image, Failed, Progress, Waiting, Answered, Dropped, Wanted}
+use Rattle.iiif_machine.specs.Rows.{Node, Given, Purpose, ForRequest, ForPart, ForFallback, ForAsk, Caller, CallState, Fresh, Hit, In}
+use Rattle.iiif_machine.specs.Rows.{Gone, Call, Lead, Stage, New, Looked, Asking, Fallback, Parts, Ready, Ended, Flight, Ask, Reply, Wish}
+use Rattle.iiif_machine.specs.Rows.{Answer, Refused, Image, Failed, Progress, Waiting, Answered, Dropped, Wanted}
 use Rattle.iiif_machine.specs.Worlds.{World, table_at, version_at}
 use Rattle.iiif_machine.specs.Steps.{is_open}
 
@@ -76,7 +78,8 @@ StateIsHonest s a who Gone = Unit {0}
 abbrev pub PurposeIsRight : Facts → Caller → Purpose → Type 0
 PurposeIsRight a who (ForRequest r) = Unit {0}
 PurposeIsRight a who (ForPart f) = (l : Lead) × (slice_get a.leads f ≡ Some l) × (rank_of who.key < rank_of l.key)
-PurposeIsRight a who (ForFallback f) = (l : Lead) × (slice_get a.leads f ≡ Some l) × (l.key ≡ who.key) × (l.class ≡ Wide) × (who.class ≡ Local)
+PurposeIsRight a who (ForFallback f) = (l : Lead) × (slice_get a.leads f ≡ Some l) × (l.key ≡ who.key) × (l.class ≡ Wide) ×
+    (who.class ≡ Local)
 PurposeIsRight a who (ForAsk n) = (q : Ask) × (slice_get a.asks n ≡ Some q) × (q.key ≡ who.key) × (who.class ≡ Local)
 
 pub record CallerIsRight (s : Scene) (a : Facts) (who : Caller) : Type 0 where
@@ -140,16 +143,19 @@ pub record IsSameCall (l m : Lead) : Type 0 where
 -- Each open flight stands in its node's table; and no two open flights are of one node, key and class.
 pub record IsApart (w : World) : Type 0 where
   pub registered : (f : ℕ) (x : Flight) → slice_get w.flights f ≡ Some x → is_open x.stage ≡ true → IsRegistered w.nodes x.lead
-  pub apart : (f g : ℕ) (x y : Flight) → slice_get w.flights f ≡ Some x → slice_get w.flights g ≡ Some y → is_open x.stage ≡ true → is_open y.stage ≡ true →
+  pub apart : (f g : ℕ) (x y : Flight) → slice_get w.flights f ≡ Some x → slice_get w.flights g ≡ Some y → is_open x.stage ≡ true →
+      is_open y.stage ≡ true →
       IsSameCall x.lead y.lead → f ≡ g
 
 -- an open flight of the world is of this node, key and class
 abbrev pub IsLed : List Flight → ℕ → Key → Class → Type 0
-IsLed fs i k c = (f : ℕ) × (x : Flight) × (slice_get fs f ≡ Some x) × (is_open x.stage ≡ true) × (x.lead.node ≡ i) × (x.lead.key ≡ k) × (x.lead.class ≡ c)
+IsLed fs i k c = (f : ℕ) × (x : Flight) × (slice_get fs f ≡ Some x) × (is_open x.stage ≡ true) × (x.lead.node ≡ i) × (x.lead.key ≡ k) ×
+    (x.lead.class ≡ c)
 
 -- each flight that stands in a table is an open one of the world
 pub record IsListed (w : World) : Type 0 where
-  pub all : (i : ℕ) (n : Node) (k : Key) (c : Class) (m : ℕ) → slice_get w.nodes i ≡ Some n → IsOpen (table_at n k) k c m → IsLed w.flights i k c
+  pub all : (i : ℕ) (n : Node) (k : Key) (c : Class) (m : ℕ) → slice_get w.nodes i ≡ Some n → IsOpen (table_at n k) k c m →
+      IsLed w.flights i k c
 
 -- what of a node never changes: its name, the names on its ring, and its version
 pub record Card : Type 0 where

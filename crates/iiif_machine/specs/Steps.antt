@@ -1,23 +1,32 @@
 -- What each event does to a world. None: it is not allowed now, or names what isn't there.
-use Rattle.std.specs.Prelude.{ℕ, List, [], ◌∷◌, Bool, true, false, ◌==◌, ◌&&◌, if◌then◌else◌, Option, Some, None, Ok, Err, Result, map, length, slice_get, position}
+use Rattle.std.specs.Prelude.{ℕ, List, [], ◌∷◌, Bool, true, false, ◌==◌, ◌&&◌, if◌then◌else◌, Option, Some, None, Ok, Err, Result, map}
+use Rattle.std.specs.Prelude.{length, slice_get, position}
 use Rattle.std.specs.Str.{bytes_eq}
 use Rattle.iiif_tables.specs.Flights.{same_class}
 use Rattle.iiif_scene.specs.Keys.{name_of, key_eq, parts_of, meaning}
 use Rattle.iiif_scene.specs.Plans.{resolved, items}
 use Rattle.iiif_machine.specs.Types.{Key, Value, Resolved, Refusal, Picture, ReadFault}
-use Rattle.iiif_machine.specs.Tables.{Class, Wide, Local, Table, Outcome, Nowhere, Main, Peer, Entered, finds, joins, leads, enter, again, land, evicted, emptied}
-use Rattle.iiif_machine.specs.Rows.{Node, Purpose, ForRequest, ForPart, ForFallback, ForAsk, Caller, CallState, Fresh, Hit, In, Gone, Call, Lead, Stage, New, Looked, Asking, Fallback, Parts, Ready, Ended, Flight, Ask, Reply, Wish, Refused, Progress, Waiting, Answered, Dropped, Wanted}
-use Rattle.iiif_machine.specs.Worlds.{World, ◌>>=◌, table_at, put_table, with_node, with_stage, with_state, with_calls, with_flight, with_ask, with_reply, with_given, with_request, version_shown, version_at, speaker, owner_of, call_for, numbers, learned, all_learned, collected, outcome_from, settled}
+use Rattle.iiif_machine.specs.Tables.{Class, Wide, Local, Table, Outcome, Nowhere, Main, Peer, Entered, finds, joins, leads, enter, again}
+use Rattle.iiif_machine.specs.Tables.{land, evicted, emptied}
+use Rattle.iiif_machine.specs.Rows.{Node, Purpose, ForRequest, ForPart, ForFallback, ForAsk, Caller, CallState, Fresh, Hit, In, Gone, Call}
+use Rattle.iiif_machine.specs.Rows.{Lead, Stage, New, Looked, Asking, Fallback, Parts, Ready, Ended, Flight, Ask, Reply, Wish, Refused}
+use Rattle.iiif_machine.specs.Rows.{Progress, Waiting, Answered, Dropped, Wanted}
+use Rattle.iiif_machine.specs.Worlds.{World, ◌>>=◌, table_at, put_table, with_node, with_stage, with_state, with_calls, with_flight}
+use Rattle.iiif_machine.specs.Worlds.{with_ask, with_reply, with_given, with_request, version_shown, version_at, speaker, owner_of}
+use Rattle.iiif_machine.specs.Worlds.{call_for, numbers, learned, all_learned, collected, outcome_from, settled}
 use Rattle.iiif_machine.specs.declared.events.Event.TheVariants as event
 pub use Rattle.iiif_machine.specs.declared.events.Event.{Event}
-pub use Rattle.iiif_machine.specs.declared.events.Event.TheVariants.{Want, Enter, Again, AskPeer, Serve, Take, Lose, GoLocal, Load, SourceFault, Land, Evict, Stop}
+pub use Rattle.iiif_machine.specs.declared.events.Event.TheVariants.{Want, Enter, Again, AskPeer, Serve, Take, Lose, GoLocal, Load}
+pub use Rattle.iiif_machine.specs.declared.events.Event.TheVariants.{SourceFault, Land, Evict, Stop}
 
--- Want: a new request, at a node that speaks the version of its image. It is refused, and answered so; or it waits for a call for each item of its plan.
+-- Want: a new request, at a node that speaks the version of its image. It is refused, and answered so; or it waits for a call for each item
+-- of its plan.
 abbrev pub after_want : World → Node → Picture → Wish → Result Resolved Refusal → World
 after_want w n p q (Err e) = with_request w q (Answered (Refused e))
 after_want w n p q (Ok r) =
     let keys = items w.scene q.name p r in
-    with_calls (with_request w q (Waiting r (numbers (length w.calls) keys))) (map (call_for q.node n (ForRequest (length w.requests))) keys)
+    with_calls (with_request w q (Waiting r (numbers (length w.calls) keys)))
+    (map (call_for q.node n (ForRequest (length w.requests))) keys)
 
 -- whether a flight is open, and whether it is one of a call's node, key and class
 abbrev pub is_open : Stage → Bool
@@ -134,7 +143,8 @@ after_fault w f l e c ks s = None
 -- Land: a flight that is ready ends, and its calls know.
 abbrev pub after_land : World → ℕ → Lead → Node → Bool → Stage → Option World
 after_land w f l n kept (Ready o p) =
-    Some (settled (with_stage (with_node w l.node (put_table n l.key (land (table_at n l.key) l.key l.class l.ticket o p kept))) f l (Ended (Some o))))
+    Some (settled (with_stage (with_node w l.node (put_table n l.key (land (table_at n l.key) l.key l.class l.ticket o p kept))) f l
+    (Ended (Some o))))
 after_land w f l n kept s = None
 
 -- Evict: entries of these keys go; keys that aren't kept are skipped.

@@ -15,7 +15,8 @@ use Rattle.iiif_machine.specs.Types.{Key, Picture, Request, ReadFault}
 use Rattle.iiif_machine.specs.Tables.{Wide, Table, Peer, enter, land}
 use Rattle.iiif_machine.specs.Rows.{Node, Answer, Image, Failed}
 use Rattle.iiif_machine.specs.Worlds.{World, ◌>>=◌, new_world, answers}
-use Rattle.iiif_machine.specs.Steps.{Event, Want, Enter, Again, AskPeer, Serve, Take, Lose, GoLocal, Load, SourceFault, Land, Stop, node_without, step, run}
+use Rattle.iiif_machine.specs.Steps.{Event, Want, Enter, Again, AskPeer, Serve, Take, Lose, GoLocal, Load, SourceFault, Land, Stop}
+use Rattle.iiif_machine.specs.Steps.{node_without, step, run}
 use Rattle.iiif_machine.specs.declared.events.Event.TheVariants as event
 
 -- Pictures, requests and nodes
@@ -178,7 +179,8 @@ BothAreAnswered = answers_after tiny crossed landed ≡ Some (is_seven ∷ is_se
 
 -- the late repeat of the reply is allowed, and changes nothing
 abbrev pub LateRepeatChangesNothing : Type 0
-LateRepeatChangesNothing = (run (new_world tiny crossed) served_again >>= (λ w. step w (Take 0 2))) ≡ run (new_world tiny crossed) served_again
+LateRepeatChangesNothing = (run (new_world tiny crossed) served_again >>= (λ w. step w (Take 0 2))) ≡ run (new_world tiny crossed)
+    served_again
 
 abbrev pub BothStayAnswered : Type 0
 BothStayAnswered = answers_after tiny crossed (served_again ++ Take 0 2 ∷ []) ≡ Some (is_seven ∷ is_seven ∷ [])
@@ -186,7 +188,8 @@ BothStayAnswered = answers_after tiny crossed (served_again ++ Take 0 2 ∷ []) 
 -- A lost ask: the flight goes on by a local call of its own.
 
 abbrev pub lost_ask : List Event
-lost_ask = Want 0 p_name all ∷ Enter 0 ∷ Again 0 ∷ AskPeer 0 ∷ Lose 0 ∷ GoLocal 0 ∷ Enter 1 ∷ Again 1 ∷ Load 1 ∷ Land 1 true ∷ Land 0 true ∷ []
+lost_ask = Want 0 p_name all ∷ Enter 0 ∷ Again 0 ∷ AskPeer 0 ∷ Lose 0 ∷ GoLocal 0 ∷ Enter 1 ∷ Again 1 ∷ Load 1 ∷ Land 1 true ∷ Land 0 true ∷
+    []
 
 abbrev pub LostAskIsAnswered : Type 0
 LostAskIsAnswered = answers_after tiny crossed lost_ask ≡ Some (is_seven ∷ [])
@@ -208,7 +211,8 @@ abbrev pub DeepAskIsNotServed : Type 0
 DeepAskIsNotServed = answers_after (showing p_name deep 1) mixed (asked ++ Serve 0 ∷ []) ≡ None
 
 abbrev pub DeepAskIsAnswered : Type 0
-DeepAskIsAnswered = answers_after (showing p_name deep 1) mixed (asked ++ Lose 0 ∷ GoLocal 0 ∷ Enter 1 ∷ Again 1 ∷ Load 1 ∷ Land 1 true ∷ Land 0 true ∷ [])
+DeepAskIsAnswered = answers_after (showing p_name deep 1) mixed
+    (asked ++ Lose 0 ∷ GoLocal 0 ∷ Enter 1 ∷ Again 1 ∷ Load 1 ∷ Land 1 true ∷ Land 0 true ∷ [])
     ≡ Some (Some (Image deep) ∷ [])
 
 -- it serves one of version 1
@@ -242,7 +246,8 @@ stopped_node = replied_late ++ Take 0 0 ∷ Take 1 0 ∷ Land 1 true ∷ []
 
 -- the flight that went may be sent the reply, and nothing changes
 abbrev pub ReplyToAStoppedFlightChangesNothing : Type 0
-ReplyToAStoppedFlightChangesNothing = (run (new_world tiny crossed) replied_late >>= (λ w. step w (Take 0 0))) ≡ run (new_world tiny crossed) replied_late
+ReplyToAStoppedFlightChangesNothing = (run (new_world tiny crossed) replied_late >>= (λ w. step w (Take 0 0))) ≡ run
+    (new_world tiny crossed) replied_late
 
 abbrev pub StoppedNode : Type 0
 StoppedNode = answers_after tiny crossed stopped_node ≡ Some (None ∷ is_seven ∷ [])
@@ -254,7 +259,8 @@ StoppedCallsAreGone = answers_after tiny alone (Want 0 p_name all ∷ Stop 0 ∷
 -- A wide leader that looks again finds what a local flight has landed meanwhile. Its flight is counted as found, and not as a load.
 
 abbrev pub found_again : List Event
-found_again = Want 0 p_name all ∷ Want 1 p_name all ∷ Enter 0 ∷ Enter 1 ∷ Again 1 ∷ AskPeer 1 ∷ Serve 0 ∷ Enter 2 ∷ Again 2 ∷ Load 2 ∷ Land 2 true
+found_again = Want 0 p_name all ∷ Want 1 p_name all ∷ Enter 0 ∷ Enter 1 ∷ Again 1 ∷ AskPeer 1 ∷ Serve 0 ∷ Enter 2 ∷ Again 2 ∷ Load 2 ∷ Land
+    2 true
     ∷ Again 0 ∷ Land 0 true ∷ []
 
 abbrev pub book_of : Option World → Option Book
@@ -276,8 +282,10 @@ abbrev pub graded : Scene
 graded = showing a_name ramp 2
 
 abbrev pub sums : List Event
-sums = Want 0 a_name halved ∷ Enter 0 ∷ Again 0 ∷ Load 0 ∷ Enter 1 ∷ Enter 2 ∷ Enter 3 ∷ Enter 4 ∷ Again 1 ∷ Load 1 ∷ Enter 5 ∷ Again 2 ∷ Load 2 ∷ Enter 6
-    ∷ Again 3 ∷ Load 3 ∷ Enter 7 ∷ Again 4 ∷ Load 4 ∷ Enter 8 ∷ Again 5 ∷ Load 5 ∷ Land 5 true ∷ Load 1 ∷ Land 1 true ∷ Again 6 ∷ Load 6 ∷ Land 6 true
+sums = Want 0 a_name halved ∷ Enter 0 ∷ Again 0 ∷ Load 0 ∷ Enter 1 ∷ Enter 2 ∷ Enter 3 ∷ Enter 4 ∷ Again 1 ∷ Load 1 ∷ Enter 5 ∷ Again 2 ∷
+    Load 2 ∷ Enter 6
+    ∷ Again 3 ∷ Load 3 ∷ Enter 7 ∷ Again 4 ∷ Load 4 ∷ Enter 8 ∷ Again 5 ∷ Load 5 ∷ Land 5 true ∷ Load 1 ∷ Land 1 true ∷ Again 6 ∷ Load 6 ∷
+    Land 6 true
     ∷ Load 2 ∷ Land 2 true ∷ Again 7 ∷ Load 7 ∷ Land 7 true ∷ Load 3 ∷ Land 3 true ∷ Again 8 ∷ Load 8 ∷ Land 8 true ∷ Load 4 ∷ Land 4 true
     ∷ Load 0 ∷ Land 0 true ∷ []
 
@@ -305,7 +313,14 @@ one_tile = Want 0 a_name enlarged ∷ Enter 0 ∷ Again 0 ∷ Load 0 ∷ Land 0 
 
 abbrev pub EnlargedIs : Type 0
 EnlargedIs = answers_after larger alone one_tile
-    ≡ Some (Some (Image (record { width = 3; height = 3; channels = 1; top = 255; samples = 0 ∷ 5 ∷ 10 ∷ 20 ∷ 25 ∷ 30 ∷ 40 ∷ 45 ∷ 50 ∷ [] })) ∷ [])
+    ≡ Some (Some (Image (record {
+      width = 3;
+      height = 3;
+      channels = 1;
+      top = 255;
+      samples =
+          0 ∷ 5 ∷ 10 ∷ 20 ∷ 25 ∷ 30 ∷ 40 ∷ 45 ∷ 50 ∷ [];
+    })) ∷ [])
 
 -- Four tiles, put together and turned.
 
@@ -313,16 +328,25 @@ abbrev pub four_calls : List Event
 four_calls = Want 0 a_name cut_out ∷ Enter 0 ∷ Enter 1 ∷ Enter 2 ∷ Enter 3 ∷ []
 
 abbrev pub tiles : List Event
-tiles = four_calls ++ Again 0 ∷ Load 0 ∷ Land 0 true ∷ Again 1 ∷ Load 1 ∷ Land 1 true ∷ Again 2 ∷ Load 2 ∷ Land 2 true ∷ Again 3 ∷ Load 3 ∷ Land 3 true ∷ []
+tiles = four_calls ++ Again 0 ∷ Load 0 ∷ Land 0 true ∷ Again 1 ∷ Load 1 ∷ Land 1 true ∷ Again 2 ∷ Load 2 ∷ Land 2 true ∷ Again 3 ∷ Load 3 ∷
+    Land 3 true ∷ []
 
 abbrev pub CutOutIs : Type 0
 CutOutIs = answers_after graded alone tiles
-    ≡ Some (Some (Image (record { width = 3; height = 3; channels = 1; top = 255; samples = 90 ∷ 50 ∷ 10 ∷ 100 ∷ 60 ∷ 20 ∷ 110 ∷ 70 ∷ 30 ∷ [] })) ∷ [])
+    ≡ Some (Some (Image (record {
+      width = 3;
+      height = 3;
+      channels = 1;
+      top = 255;
+      samples =
+          90 ∷ 50 ∷ 10 ∷ 100 ∷ 60 ∷ 20 ∷ 110 ∷ 70 ∷ 30 ∷ [];
+    })) ∷ [])
 
 -- A reply of another key comes to a flight that asks: it goes on alone, and the image is the same.
 
 abbrev pub reply_of_another_key : List Event
-reply_of_another_key = four_calls ++ Again 0 ∷ Again 1 ∷ AskPeer 0 ∷ AskPeer 1 ∷ Serve 1 ∷ Enter 4 ∷ Again 4 ∷ Load 4 ∷ Land 4 true ∷ event.Reply 4
+reply_of_another_key = four_calls ++ Again 0 ∷ Again 1 ∷ AskPeer 0 ∷ AskPeer 1 ∷ Serve 1 ∷ Enter 4 ∷ Again 4 ∷ Load 4 ∷ Land 4 true ∷
+    event.Reply 4
     ∷ Take 0 0 ∷ Take 1 0 ∷ Land 1 true ∷ GoLocal 0 ∷ Enter 5 ∷ Again 5 ∷ Load 5 ∷ Land 5 true ∷ Land 0 true
     ∷ Again 2 ∷ AskPeer 2 ∷ Lose 2 ∷ GoLocal 2 ∷ Enter 6 ∷ Again 6 ∷ Load 6 ∷ Land 6 true ∷ Land 2 true
     ∷ Again 3 ∷ AskPeer 3 ∷ Lose 3 ∷ GoLocal 3 ∷ Enter 7 ∷ Again 7 ∷ Load 7 ∷ Land 7 true ∷ Land 3 true ∷ []
@@ -333,7 +357,8 @@ ReplyOfAnotherKeyIsNotTaken = answers_after graded crossed reply_of_another_key 
 -- Two reads fail, the later item's before the earlier one's: the fault of the earlier item is answered.
 
 abbrev pub two_faults : List Event
-two_faults = four_calls ++ Again 0 ∷ Load 0 ∷ Land 0 true ∷ Again 3 ∷ SourceFault 3 (fault_at 5) ∷ Land 3 true ∷ Again 1 ∷ SourceFault 1 (fault_at 8) ∷ Land 1 true
+two_faults = four_calls ++ Again 0 ∷ Load 0 ∷ Land 0 true ∷ Again 3 ∷ SourceFault 3 (fault_at 5) ∷ Land 3 true ∷ Again 1 ∷ SourceFault 1
+    (fault_at 8) ∷ Land 1 true
     ∷ Again 2 ∷ Load 2 ∷ Land 2 true ∷ []
 
 abbrev pub FirstFaultIsAnswered : Type 0
@@ -362,7 +387,10 @@ abbrev pub NineAreNotKept : Type 0
 NineAreNotKept = of_nine.cache ≡ (tables.empty_table 1000 8).cache
 
 abbrev pub in_hot : Table
-in_hot = record (tables.empty_table 1000 8) { cache = record (tables.empty_table 1000 8).cache { hot = (seven_key, record { value = meaning tiny seven_key; ticket = 10 }) ∷ [] } }
+in_hot = record (tables.empty_table 1000 8) {
+  cache =
+      record (tables.empty_table 1000 8).cache { hot = (seven_key, record { value = meaning tiny seven_key; ticket = 10 }) ∷ [] };
+}
 
 abbrev pub TenthIsKept : Type 0
 TenthIsKept = of_ten.cache ≡ in_hot.cache

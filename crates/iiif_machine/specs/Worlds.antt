@@ -1,5 +1,6 @@
 -- A world, the small changes of which all events are made, what calls know, and what comes of it.
-use Rattle.std.specs.Prelude.{ℕ, suc, nat_lt, List, [], ◌∷◌, ◌++◌, if◌then◌else◌, Option, Some, None, Ok, Err, Result, map, slice_get, slice_set}
+use Rattle.std.specs.Prelude.{ℕ, suc, nat_lt, List, [], ◌∷◌, ◌++◌, if◌then◌else◌, Option, Some, None, Ok, Err, Result, map, slice_get}
+use Rattle.std.specs.Prelude.{slice_set}
 use Rattle.std.specs.Str.{bytes_eq}
 use Rattle.iiif_scene.specs.Scenes.{Scene}
 use Rattle.iiif_keys.specs.Names.{named}
@@ -9,7 +10,9 @@ use Rattle.iiif_scene.specs.Images.{assembled}
 use Rattle.iiif_machine.specs.Types.{Key, Value, Resolved, Picture, ReadFault}
 use Rattle.iiif_machine.specs.Owners.{owner}
 use Rattle.iiif_machine.specs.Tables.{Class, Wide, Local, Table, Outcome, Nowhere}
-use Rattle.iiif_machine.specs.Rows.{Node, Given, Purpose, Caller, CallState, Fresh, Hit, In, Gone, Call, Lead, Stage, New, Looked, Asking, Fallback, Parts, Ready, Ended, Flight, Ask, Reply, Wish, Answer, Image, Failed, Progress, Waiting, Answered, Dropped, Wanted}
+use Rattle.iiif_machine.specs.Rows.{Node, Given, Purpose, Caller, CallState, Fresh, Hit, In, Gone, Call, Lead, Stage, New, Looked, Asking}
+use Rattle.iiif_machine.specs.Rows.{Fallback, Parts, Ready, Ended, Flight, Ask, Reply, Wish, Answer, Image, Failed, Progress, Waiting}
+use Rattle.iiif_machine.specs.Rows.{Answered, Dropped, Wanted}
 
 -- A world: pictures and limits, nodes, the faults that sources gave, and rows. A row's number is its place; none is ever taken away.
 pub record World : Type 0 where

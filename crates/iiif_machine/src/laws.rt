@@ -1,10 +1,19 @@
 //! What holds of every world. The functions compute nothing: their contracts are the laws.
 
-ghost use Rattle.iiif_machine.specs.Promises.{AllowedExactly, AnswersAreRight, CanonicalFormsAgree, EachRun, EachRunFollows, EachStep, FirstFaultCounts, NoFaultIsTaken, NoFaultNoFailure, NoneWaitsForItself, NotKeptStays, OneOutcome, OnlySourcesGive, OwnerIsTheRings, RefusedAtOnce, StopTakesAll, ValuesAreMeanings, WaitsFall};
+ghost use Rattle.iiif_machine.specs.Promises.{AllowedExactly, AnswersAreRight, CanonicalFormsAgree, EachRun, EachRunFollows, EachStep};
+ghost use Rattle.iiif_machine.specs.Promises.{FirstFaultCounts, NoFaultIsTaken, NoFaultNoFailure, NoneWaitsForItself, NotKeptStays};
+ghost use Rattle.iiif_machine.specs.Promises.{OneOutcome, OnlySourcesGive, OwnerIsTheRings, RefusedAtOnce, StopTakesAll, ValuesAreMeanings};
+ghost use Rattle.iiif_machine.specs.Promises.WaitsFall;
 ghost use Rattle.iiif_machine.specs.Origins.{EventsGive, FaultsHaveOrigins, FlightsBecomeReady, JoinsOpen};
 ghost use Rattle.iiif_machine.specs.Headline.{EachRunIsRight};
 ghost use Rattle.iiif_machine.specs.Leaving.{EvictTakesEntries, KnowsAtItsEnd, StopTakesItsOwn};
-ghost use Rattle.iiif_machine.specs.Worked.{AskIsServed, BothAreAnswered, BothStayAnswered, CutOutIs, DeepAskIsAnswered, DeepAskIsNotServed, DeepHalvedIs, DeepIsNotWanted, EnlargedIs, EvictedFromBoth, FailingRead, FaultIsNotKept, FaultOfAPeerIsNotAnswered, FirstFaultIsAnswered, FoundAgainIsAnswered, FoundAgainIsCounted, HalvedIs, KeptIsFound, LateRepeatChangesNothing, LostAskIsAnswered, NineAreNotKept, NoneIsAnsweredYet, NotAgain, NotKeptIsNotFound, ReplyOfAnotherKeyIsNotTaken, ReplyToAStoppedFlightChangesNothing, SevenIsWanted, StoppedCallsAreGone, StoppedNode, TenthIsKept, TwoShareAFault, TwoShareAValue, WaitsForItsCalls};
+ghost use Rattle.iiif_machine.specs.Worked.{AskIsServed, BothAreAnswered, BothStayAnswered, CutOutIs, DeepAskIsAnswered};
+ghost use Rattle.iiif_machine.specs.Worked.{DeepAskIsNotServed, DeepHalvedIs, DeepIsNotWanted, EnlargedIs, EvictedFromBoth, FailingRead};
+ghost use Rattle.iiif_machine.specs.Worked.{FaultIsNotKept, FaultOfAPeerIsNotAnswered, FirstFaultIsAnswered, FoundAgainIsAnswered};
+ghost use Rattle.iiif_machine.specs.Worked.{FoundAgainIsCounted, HalvedIs, KeptIsFound, LateRepeatChangesNothing, LostAskIsAnswered};
+ghost use Rattle.iiif_machine.specs.Worked.{NineAreNotKept, NoneIsAnsweredYet, NotAgain, NotKeptIsNotFound, ReplyOfAnotherKeyIsNotTaken};
+ghost use Rattle.iiif_machine.specs.Worked.{ReplyToAStoppedFlightChangesNothing, SevenIsWanted, StoppedCallsAreGone, StoppedNode};
+ghost use Rattle.iiif_machine.specs.Worked.{TenthIsKept, TwoShareAFault, TwoShareAValue, WaitsForItsCalls};
 
 /// After every list of events that is allowed, the world is sound; each event, and each list of events, keeps it so, and takes
 /// back nothing that was given or answered.

@@ -76,12 +76,24 @@ listener_samples counts =
 
 -- the connections that are open
 abbrev pub open_family : List ℕ → Family
-open_family counts = record { name = codes "iiif_connections_open"; help = codes "Connections that are open."; kind = Gauge; samples = listener_samples counts }
+open_family counts = record {
+  name = codes "iiif_connections_open";
+  help = codes "Connections that are open.";
+  kind = Gauge;
+  samples =
+      listener_samples counts;
+}
 
 -- those that were closed unanswered
 abbrev pub refused_family : List ℕ → Family
 refused_family counts =
-    record { name = codes "iiif_connections_refused_total"; help = codes "Connections that were closed unanswered."; kind = Counter; samples = listener_samples counts }
+    record {
+      name = codes "iiif_connections_refused_total";
+      help = codes "Connections that were closed unanswered.";
+      kind =
+          Counter;
+      samples = listener_samples counts;
+    }
 
 -- what was counted of answers, whatever their status, under names with this front
 abbrev pub server_families : List ℕ → Counts → List Family
@@ -104,7 +116,13 @@ status_samples whole =
     ∷ []
 
 abbrev pub answer_family : List ℕ → Family
-answer_family whole = record { name = codes "iiif_answers_total"; help = codes "Answers that were sent whole."; kind = Counter; samples = status_samples whole }
+answer_family whole = record {
+  name = codes "iiif_answers_total";
+  help = codes "Answers that were sent whole.";
+  kind = Counter;
+  samples =
+      status_samples whole;
+}
 
 -- the lines of some families
 abbrev pub families_text : List Family → List ℕ

@@ -58,7 +58,8 @@ abbrev pub links_text : List LinkMetrics → List ℕ
 links_text links =
     head_lines (codes "iiif_peer_asks_total") (codes "Asks of another node by how they ended, and those that weren't made.") Counter
     ++ flat_map asks_of_link links
-    ++ head_lines (codes "iiif_peer_state") (codes "0 where another node is asked, 1 where one ask tries it, 2 where it is left alone.") Gauge
+    ++ head_lines (codes "iiif_peer_state") (codes "0 where another node is asked, 1 where one ask tries it, 2 where it is left alone.")
+    Gauge
     ++ flat_map state_of_link links
 
 -- how many asks took at most so many seconds

@@ -1,6 +1,7 @@
 -- All that is told to who asks for the counters.
 use Rattle.std.specs.Prelude.{ℕ, List, ◌++◌, codes}
-use Rattle.iiif_metrics.specs.Exposition.{answer_family, cache_families, families_text, family_text, held_families, open_family, refused_family, server_families}
+use Rattle.iiif_metrics.specs.Exposition.{answer_family, cache_families, families_text, family_text, held_families, open_family}
+use Rattle.iiif_metrics.specs.Exposition.{refused_family, server_families}
 use Rattle.iiif_metrics.specs.Links.{links_text, seconds_text}
 use Rattle.iiif_metrics.specs.declared.metrics.PeerMetrics.{PeerMetrics}
 use Rattle.iiif_metrics.specs.declared.metrics.Metrics.{Metrics}

@@ -1,5 +1,6 @@
 -- What is answered to who asks for the counters (RFC 9110, sections 9 and 15).
-use Rattle.std.specs.Prelude.{◌≡◌, ◌⊎◌, ℕ, ◌<◌, true, List, [], ◌∷◌, ◌++◌, bytes_eq, codes, length, take, if◌then◌else◌, Option, Some, None, Result, Ok, Err}
+use Rattle.std.specs.Prelude.{◌≡◌, ◌⊎◌, ℕ, ◌<◌, true, List, [], ◌∷◌, ◌++◌, bytes_eq, codes, length, take, if◌then◌else◌, Option, Some}
+use Rattle.std.specs.Prelude.{None, Result, Ok, Err}
 use Rattle.iiif_http_front.specs.AnswerHeads.{head_text}
 use Rattle.iiif_http_front.specs.Reading.{Answers}
 use Rattle.iiif_http_front.specs.declared.call.Call.{Call}
@@ -32,7 +33,8 @@ health_status s = if all_go_on s then 200 else 503
 abbrev pub health_answer : Services → List ℕ
 health_answer s = head_text (health_status s) (content_type (codes "text/plain") ∷ []) (length (health_text s)) true ++ health_text s
 
--- to GET of /metrics the counters, to GET of /health the services, to GET of another target 404, to another method 405 and which is answered
+-- to GET of /metrics the counters, to GET of /health the services, to GET of another target 404, to another method 405 and which is
+-- answered
 abbrev pub answer_text : List ℕ → List ℕ → Telling → List ℕ
 answer_text method target t =
     if bytes_eq method (codes "GET")

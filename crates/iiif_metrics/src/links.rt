@@ -3,7 +3,8 @@
 ghost use Rattle.std.specs.Prelude.{◌≡◌, ◌++◌, ◌∷◌, [], OnOk, IfOk, map, string_bytes};
 ghost use Rattle.std.specs.List.{flat_map};
 ghost use Rattle.iiif_metrics.specs.Exposition.{sample_line, sample_view};
-ghost use Rattle.iiif_metrics.specs.Links.{asks_of_link, ask_samples, bucket_samples, head_lines, label_byte, label_text, link_sample, link_labels, links_text, seconds_text, state_number, state_of_link};
+ghost use Rattle.iiif_metrics.specs.Links.{asks_of_link, ask_samples, bucket_samples, head_lines, label_byte, label_text, link_sample};
+ghost use Rattle.iiif_metrics.specs.Links.{link_labels, links_text, seconds_text, state_number, state_of_link};
 
 use crate::metrics::LinkMetrics;
 use crate::text::{
@@ -75,7 +76,8 @@ fn push_link_samples(
     peer: &str,
     samples: &[Sample<'_>],
 ) -> Result<(), NoMemory>
-    ensures { OnOk result (text.new.items ≡ text.old.items ++ flat_map (sample_line name.now) (map (link_sample peer.now) (map sample_view samples.now))) }
+    ensures { OnOk result (text.new.items ≡ text.old.items ++ flat_map (sample_line name.now)
+        (map (link_sample peer.now) (map sample_view samples.now))) }
 {
     for sample in samples {
         push_link_sample(alloc, text, name, peer, sample)?;

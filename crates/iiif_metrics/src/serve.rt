@@ -3,7 +3,8 @@
 ghost use Rattle.std.specs.Prelude.{◌≡◌, ◌∷◌, ◌++◌, [], ℕ, List, IfOk, IfSome, OnOk, bytes_eq, codes};
 ghost use Rattle.std.specs.Io.KnownBytes.{Appends};
 ghost use Rattle.iiif_metrics.specs.declared.metrics.Telling.{Telling};
-ghost use Rattle.iiif_metrics.specs.Serving.{IsExchange, Replies, Sends, answer_text, bad_text, health_answer, health_status, metrics_answer, refusal_text};
+ghost use Rattle.iiif_metrics.specs.Serving.{IsExchange, Replies, Sends, answer_text, bad_text, health_answer, health_status};
+ghost use Rattle.iiif_metrics.specs.Serving.{metrics_answer, refusal_text};
 
 use crate::health::{Services, all_go_on, services_text};
 use crate::metrics::{Metrics, PeerMetrics, Telling};
@@ -158,14 +159,16 @@ pub fn answer_bytes(alloc: Global, call: &Call, telling: &Telling) -> Result<Vec
 
 /// Sends a text.
 fn send_text<W: Outlet>(out: &mut W, text: &[u8])
-    ensures { (output : List ℕ) × Appends (W.contents out.old) (W.contents out.new) output × Sends ((before : W) × W.fails before out.new) text.now output }
+    ensures { (output : List ℕ) × Appends (W.contents out.old) (W.contents out.new) output ×
+        Sends ((before : W) × W.fails before out.new) text.now output }
 {
     let _ = send(out, text);
 }
 
 /// Answers what is no head.
 fn send_bad<W: Outlet>(alloc: Global, out: &mut W) -> Result<(), NoMemory>
-    ensures { OnOk result ((output : List ℕ) × Appends (W.contents out.old) (W.contents out.new) output × Sends ((before : W) × W.fails before out.new) bad_text output) }
+    ensures { OnOk result ((output : List ℕ) × Appends (W.contents out.old) (W.contents out.new) output ×
+        Sends ((before : W) × W.fails before out.new) bad_text output) }
 {
     let text = no_head(alloc)?;
     send_text(out, text.as_slice());
@@ -201,7 +204,8 @@ fn reply<R, M: Measure<R>, W: Outlet>(
     read: &Result<Option<Call>, HeadFault>,
     out: &mut W,
 ) -> Result<(), NoMemory>
-    ensures { OnOk result ((output : List ℕ) × Appends (W.contents out.old) (W.contents out.new) output × Replies ((before : W) × W.fails before out.new) read.now output) }
+    ensures { OnOk result ((output : List ℕ) × Appends (W.contents out.old) (W.contents out.new) output ×
+        Replies ((before : W) × W.fails before out.new) read.now output) }
 {
     match read {
         Ok(None) | Err(HeadFault::Cut | HeadFault::Io) => Ok(()),
@@ -222,7 +226,8 @@ pub fn serve_metrics<R, M: Measure<R>, I: Inlet + Drop, W: Outlet>(
 ) -> Result<(), NoMemory>
     // Where the bytes that the reader has left are known, the answer is that to all of them; where they are not, as at a socket, to
     // those that came.
-    ensures known { IfSome (I.remaining reader) (λ input. OnOk result ((output : List ℕ) × Appends (W.contents out.old) (W.contents out.new) output
+    ensures known { IfSome (I.remaining reader)
+        (λ input. OnOk result ((output : List ℕ) × Appends (W.contents out.old) (W.contents out.new) output
         × IsExchange ((before : W) × W.fails before out.new) input output)) }
     ensures came { OnOk result ((came : List ℕ) × (output : List ℕ) × Appends (W.contents out.old) (W.contents out.new) output
         × IsExchange ((before : W) × W.fails before out.new) came output) }

@@ -2,7 +2,9 @@
 
 ghost use Rattle.std.specs.Prelude.{◌≡◌, ◌++◌, ℕ, List, IfOk, OnOk, map, string_bytes};
 ghost use Rattle.std.specs.List.{flat_map};
-ghost use Rattle.iiif_metrics.specs.Exposition.{answer_family, cache_families, family_of, family_text, families_text, held_families, help_line, kind_word, listener_samples, open_family, refused_family, row_family, sample_line, sample_view, server_families, single, status_samples, type_line};
+ghost use Rattle.iiif_metrics.specs.Exposition.{answer_family, cache_families, family_of, family_text, families_text, held_families};
+ghost use Rattle.iiif_metrics.specs.Exposition.{help_line, kind_word, listener_samples, open_family, refused_family, row_family};
+ghost use Rattle.iiif_metrics.specs.Exposition.{sample_line, sample_view, server_families, single, status_samples, type_line};
 ghost use Rattle.iiif_metrics.specs.Page.{text_of};
 
 use crate::counts::Counts;
@@ -242,7 +244,8 @@ pub(crate) fn push_samples(
     name: &str,
     samples: &[Sample<'_>],
 ) -> Result<(), NoMemory>
-    ensures { OnOk result (string_bytes text.new ≡ string_bytes text.old ++ flat_map (sample_line (front.now ++ name.now)) (map sample_view samples.now)) }
+    ensures { OnOk result (string_bytes text.new ≡ string_bytes text.old ++ flat_map (sample_line (front.now ++ name.now))
+        (map sample_view samples.now)) }
 {
     for sample in samples {
         push_sample(text, front, name, sample.labels, sample.value)?;

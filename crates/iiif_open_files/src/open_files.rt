@@ -95,7 +95,8 @@ impl<R: Opens + Wait> OpenFiles<R> {
         requires runs { AreIn len runs }
         requires length { length buffer.old ≡ runs.count * runs.len }
         ensures length { length buffer.new ≡ length buffer.old }
-        ensures runs { R.keeps (string_bytes (arc_value opening.now.file.path)) → IsTrue result → HoldsRuns (R.holds (string_bytes (arc_value opening.now.file.path))) runs runs.count buffer.new }
+        ensures runs { R.keeps (string_bytes (arc_value opening.now.file.path)) → IsTrue result →
+            HoldsRuns (R.holds (string_bytes (arc_value opening.now.file.path))) runs runs.count buffer.new }
     {
         if let Some(rows) = self.find_rows(rt, opening, runs) {
             rows.copy(rt, runs, buffer);

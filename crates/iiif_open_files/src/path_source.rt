@@ -106,7 +106,8 @@ impl<R: Opens + Wait> PathSource<R> {
         requires runs { AreIn self.now.len runs }
         requires length { length buffer.old ≡ runs.count * runs.len }
         ensures length { length buffer.new ≡ length buffer.old }
-        ensures runs { R.keeps self.now.path → OnOk result (HoldsRuns (fitted self.now.len (R.holds self.now.path)) runs runs.count buffer.new) }
+        ensures runs { R.keeps self.now.path →
+            OnOk result (HoldsRuns (fitted self.now.len (R.holds self.now.path)) runs runs.count buffer.new) }
         ensures cause { IfErr result (λ f. IsTrue (f.cause == failed || f.cause == ended)) }
     {
         if runs.count > 1 && (runs.len as u64) < runs.stride {
@@ -136,7 +137,8 @@ impl<R: Opens + Wait> PathSource<R> {
     ) -> Result<(), ReadFault>
         requires path { string_bytes (arc_value opening.now.file.path) ≡ self.now.path }
         requires within { at + length buffer.old ≤ self.now.len }
-        ensures bytes { R.keeps self.now.path → OnOk result (buffer.new ≡ take (length buffer.old) (drop at (fitted self.now.len (R.holds self.now.path)))) }
+        ensures bytes { R.keeps self.now.path →
+            OnOk result (buffer.new ≡ take (length buffer.old) (drop at (fitted self.now.len (R.holds self.now.path)))) }
         ensures place { IfErr result (λ f. f.place ≡ at) }
         ensures cause { IfErr result (λ f. IsTrue (f.cause == failed || f.cause == ended)) }
     {

@@ -83,7 +83,8 @@ impl<R: Opens> RowShelf<R> {
 
     /// Lets go the rows that were used longest ago, where there is no room for others.
     fn make_room(&mut self)
-        ensures rows { self.new.rows.items ≡ (if vec_len self.old.rows == self.old.most then remove self.old.rows.items 0 else self.old.rows.items) }
+        ensures rows { self.new.rows.items ≡ (if vec_len self.old.rows ==
+            self.old.most then remove self.old.rows.items 0 else self.old.rows.items) }
         ensures room { vec_len self.new.rows < self.old.most }
         ensures most { self.new.most ≡ self.old.most }
     {
@@ -96,7 +97,8 @@ impl<R: Opens> RowShelf<R> {
     /// too.
     pub fn keep(&mut self, rows: Arc<WideRows<R>>)
         ensures most { self.new.most ≡ self.old.most }
-        ensures rows { let rest = (if vec_len self.old.rows == self.old.most then remove self.old.rows.items 0 else self.old.rows.items) in (self.new.rows.items ≡ rest ++ (rows ∷ [])) ⊎ (self.new.rows.items ≡ rest) }
+        ensures rows { let rest = (if vec_len self.old.rows == self.old.most then remove self.old.rows.items 0 else self.old.rows.items) in
+            (self.new.rows.items ≡ rest ++ (rows ∷ [])) ⊎ (self.new.rows.items ≡ rest) }
     {
         self.make_room();
         let _ = self.rows.push(rows);

@@ -46,7 +46,8 @@ impl<R: Opens> Shelf<R> {
 
     /// The file of a number, which is then the one that was used last. The file stays open while it is held.
     pub fn find(&mut self, number: u64) -> Option<Arc<Opening<R>>>
-        ensures file { IfSome result (λ f. IsSomeAnd (lookup (nat_eq number) self.old.files.entries) (λ kept. arc_value f ≡ arc_value kept)) }
+        ensures file { IfSome result (λ f. IsSomeAnd (lookup (nat_eq number) self.old.files.entries)
+            (λ kept. arc_value f ≡ arc_value kept)) }
         ensures used { self.new.files ≡ lru_cache (promoted (nat_eq number) self.old.files.entries) self.old.files.cap }
     {
         let file = match self.files.peek(&number) {
@@ -59,7 +60,8 @@ impl<R: Opens> Shelf<R> {
 
     /// Keeps the file of a number. Where memory is wanting the shelf stays as it was, and the file is let go.
     pub fn keep(&mut self, number: u64, file: Arc<Opening<R>>)
-        ensures { (self.new.files ≡ lru_cache (put_entries nat_eq self.old.files number file) self.old.files.cap) ⊎ (self.new.files ≡ self.old.files) }
+        ensures { (self.new.files ≡ lru_cache (put_entries nat_eq self.old.files number file) self.old.files.cap) ⊎
+            (self.new.files ≡ self.old.files) }
     {
         let _ = self.files.put(number, file);
     }

@@ -24,7 +24,8 @@ pub struct WideRows<R: Opens> {
     pub ghost small: { (runs.at ≤ 2 ^ 61) × (runs.len ≤ 2 ^ 23) },
     pub ghost some: { 0 < runs.count },
     pub ghost held: { length bytes ≡ runs.count * runs.len },
-    pub ghost there: { R.keeps (string_bytes (arc_value path)) → HoldsRuns (R.holds (string_bytes (arc_value path))) runs runs.count bytes },
+    pub ghost there: { R.keeps (string_bytes (arc_value path)) →
+        HoldsRuns (R.holds (string_bytes (arc_value path))) runs runs.count bytes },
 }
 
 impl<R: Opens> WideRows<R> {
@@ -38,7 +39,8 @@ impl<R: Opens> WideRows<R> {
     ) -> Option<MemSource>
         requires { AreIn len runs }
         ensures length { IfSome result (λ bytes. length bytes ≡ runs.count * runs.len) }
-        ensures there { IfSome result (λ bytes. R.keeps (string_bytes (arc_value opening.now.file.path)) → HoldsRuns (fitted len (R.holds (string_bytes (arc_value opening.now.file.path)))) runs runs.count bytes) }
+        ensures there { IfSome result (λ bytes. R.keeps (string_bytes (arc_value opening.now.file.path)) →
+            HoldsRuns (fitted len (R.holds (string_bytes (arc_value opening.now.file.path)))) runs runs.count bytes) }
     {
         let Ok(mut bytes) = vec![in alloc; 0u8; runs.count as usize * runs.len] else {
             return None;
@@ -102,8 +104,10 @@ impl<R: Opens> WideRows<R> {
 
     /// Whether these are rows of the file of the path, of the opening of the number, and have these runs of it.
     pub fn have(&self, path: &str, number: u64, runs: Runs) -> bool
-        ensures right { IsTrue result → (string_bytes (arc_value self.now.path) ≡ path.now) × (self.now.number ≡ number) × AreAmong self.now.runs runs }
-        ensures all { string_bytes (arc_value self.now.path) ≡ path.now → self.now.number ≡ number → AreAmong self.now.runs runs → IsTrue result }
+        ensures right { IsTrue result → (string_bytes (arc_value self.now.path) ≡ path.now) × (self.now.number ≡ number) ×
+            AreAmong self.now.runs runs }
+        ensures all { string_bytes (arc_value self.now.path) ≡ path.now → self.now.number ≡ number → AreAmong self.now.runs runs →
+            IsTrue result }
     {
         let rows = self.runs;
         if self.number != number || rows.stride != runs.stride || rows.count != runs.count {
@@ -120,7 +124,8 @@ impl<R: Opens> WideRows<R> {
         requires among { AreAmong self.now.runs runs }
         requires length { length buffer.old ≡ runs.count * runs.len }
         ensures length { length buffer.new ≡ length buffer.old }
-        ensures runs { (bytes : List ℕ) → HoldsRuns bytes self.now.runs self.now.runs.count self.now.bytes → HoldsRuns bytes runs runs.count buffer.new }
+        ensures runs { (bytes : List ℕ) → HoldsRuns bytes self.now.runs self.now.runs.count self.now.bytes →
+            HoldsRuns bytes runs runs.count buffer.new }
     {
         let inner = Runs {
             at: runs.at - self.runs.at,

@@ -3,7 +3,8 @@
 ghost use Rattle.std.specs.Prelude.{◌≡◌, ◌≢◌, ◌⊎◌, IfErr, IfOk, IfSome, IsFalse};
 ghost use Rattle.std.specs.Option.{ForSome};
 ghost use Rattle.std.specs.Arc.{arc_value};
-ghost use Rattle.iiif_outcome.specs.Views.{flight_cell, flight_key, flight_known, flight_ticket, receipt_cell, receipt_known, receipt_ticket};
+ghost use Rattle.iiif_outcome.specs.Views.{flight_cell, flight_key, flight_known, flight_ticket, receipt_cell, receipt_known};
+ghost use Rattle.iiif_outcome.specs.Views.receipt_ticket;
 
 use crate::flight::Flight;
 use crate::receipt::Receipt;
@@ -28,8 +29,10 @@ impl<K: CacheKey, J: System> Flight<K, J> {
 
     /// The same flight, for one more who joins it. The only error is a key or a cell that refuses another share.
     pub fn join(&mut self) -> Result<Flight<K, J>, NoMemory>
-        ensures same { (flight_key self.new ≡ flight_key self.old) × (flight_ticket self.new ≡ flight_ticket self.old) × (flight_cell self.new ≡ flight_cell self.old) × (flight_known self.new ≡ flight_known self.old) }
-        ensures joined { IfOk result (λ f. (flight_key f ≡ flight_key self.old) × (flight_ticket f ≡ flight_ticket self.old) × (flight_cell f ≡ flight_cell self.old)) }
+        ensures same { (flight_key self.new ≡ flight_key self.old) × (flight_ticket self.new ≡ flight_ticket self.old) ×
+            (flight_cell self.new ≡ flight_cell self.old) × (flight_known self.new ≡ flight_known self.old) }
+        ensures joined { IfOk result (λ f. (flight_key f ≡ flight_key self.old) × (flight_ticket f ≡ flight_ticket self.old) ×
+            (flight_cell f ≡ flight_cell self.old)) }
     {
         let key = Arc::try_clone(&self.key)?;
         let cell = Arc::try_clone(&self.cell)?;
@@ -48,10 +51,12 @@ impl<K: CacheKey, J: System> Flight<K, J> {
         ensures flight { IfOk result (λ r. (receipt_cell r ≡ flight_cell self) × (receipt_ticket r ≡ flight_ticket self)) }
         ensures key { IfOk result (λ r. IfSome (receipt_known r) (λ x. arc_value x.key ≡ flight_key self)) }
         ensures kept { IfOk result (λ r. IfSome (flight_known self) (λ x. receipt_known r ≡ Some x)) }
-        ensures back { IfErr result (λ f. (flight_cell f ≡ flight_cell self) × (flight_key f ≡ flight_key self) × (flight_ticket f ≡ flight_ticket self)) }
+        ensures back { IfErr result (λ f. (flight_cell f ≡ flight_cell self) × (flight_key f ≡ flight_key self) ×
+            (flight_ticket f ≡ flight_ticket self)) }
         ensures forgets_nothing { IfErr result (λ f. IfSome (flight_known self) (λ x. flight_known f ≡ Some x)) }
         // What stands in the cell by then is of no other flight, unless a cell was given to two.
-        ensures unknown { IfErr result (λ f. ForSome (flight_known f) (λ x. (x.ticket ≢ flight_ticket self) ⊎ IsFalse (K.eq (arc_value x.key) (flight_key self)))) }
+        ensures unknown { IfErr result (λ f. ForSome (flight_known f)
+            (λ x. (x.ticket ≢ flight_ticket self) ⊎ IsFalse (K.eq (arc_value x.key) (flight_key self)))) }
     {
         let Flight {
             key,

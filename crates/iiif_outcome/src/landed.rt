@@ -19,7 +19,8 @@ pub struct Landed<K: CacheKey, J: System> {
     pub ticket: u64,
     pub outcome: Result<Arc<K::Value>, Fault>,
     pub(crate) of: PhantomData<J>,
-    pub ghost meant: { J.stable (K.name_of (arc_value key)) → IsTrue J.honest → ForOk outcome (λ v. arc_value v ≡ K.meaning J.pictures (arc_value key)) },
+    pub ghost meant: { J.stable (K.name_of (arc_value key)) → IsTrue J.honest →
+        ForOk outcome (λ v. arc_value v ≡ K.meaning J.pictures (arc_value key)) },
     pub ghost shaped: { ForOk outcome (λ v. IsTrue (K.is_shaped J.pictures (arc_value key) (arc_value v))) },
     pub ghost given: { ForErr outcome (λ f. IsTrue (is_given (J.gave (K.name_of (arc_value key))) f)) },
 }

@@ -5,7 +5,8 @@ ghost use Rattle.std.specs.Result.{ForOk, ForErr};
 ghost use Rattle.std.specs.declared.option.Option.TheVariants.{None};
 ghost use Rattle.std.specs.Arc.{arc_value};
 ghost use Rattle.iiif_outcome.specs.Outcomes.{is_given};
-ghost use Rattle.iiif_outcome.specs.Views.{flight_cell, flight_key, flight_known, flight_ticket, lead_cell, lead_class, lead_key, lead_known, lead_ticket, receipt_cell, receipt_known, receipt_ticket};
+ghost use Rattle.iiif_outcome.specs.Views.{flight_cell, flight_key, flight_known, flight_ticket, lead_cell, lead_class, lead_key};
+ghost use Rattle.iiif_outcome.specs.Views.{lead_known, lead_ticket, receipt_cell, receipt_known, receipt_ticket};
 
 use crate::flight::Flight;
 use crate::landed::Landed;
@@ -28,7 +29,8 @@ impl<K: CacheKey, J: System> Lead<K, J> {
         class: Class,
         ticket: u64,
     ) -> Result<(Lead<K, J>, Flight<K, J>), NoMemory>
-        ensures lead { IfOk result (λ l. (lead_key l.0 ≡ key.now) × (lead_ticket l.0 ≡ ticket) × (lead_class l.0 ≡ class) × (lead_known l.0 ≡ None)) }
+        ensures lead { IfOk result (λ l. (lead_key l.0 ≡ key.now) × (lead_ticket l.0 ≡ ticket) × (lead_class l.0 ≡ class) ×
+            (lead_known l.0 ≡ None)) }
         ensures flight { IfOk result (λ l. (flight_key l.1 ≡ key.now) × (flight_ticket l.1 ≡ ticket) × (flight_cell l.1 ≡ lead_cell l.0)) }
     {
         let key = Arc::new(alloc, key.copy()?)?;
@@ -83,16 +85,21 @@ impl<K: CacheKey, J: System> Lead<K, J> {
     /// outcome where the cell took it, else the one that stands there, which is of this flight unless the cell was given to two.
     /// It takes no memory.
     pub fn set(self, outcome: Result<Arc<K::Value>, Fault>) -> Ended<K, J>
-        requires meant { J.stable (K.name_of (lead_key self)) → IsTrue J.honest → ForOk outcome (λ v. arc_value v ≡ K.meaning J.pictures (lead_key self)) }
+        requires meant { J.stable (K.name_of (lead_key self)) → IsTrue J.honest →
+            ForOk outcome (λ v. arc_value v ≡ K.meaning J.pictures (lead_key self)) }
         requires shaped { ForOk outcome (λ v. IsTrue (K.is_shaped J.pictures (lead_key self) (arc_value v))) }
         requires given { ForErr outcome (λ f. IsTrue (is_given (J.gave (K.name_of (lead_key self))) f)) }
         ensures cell { receipt_cell result.receipt ≡ lead_cell self }
         ensures key { arc_value result.key ≡ lead_key self }
-        ensures refused { MatchOption result.refused (IsTrue result.taken) (λ b. (b.value.outcome ≡ outcome) × (arc_value b.value.key ≡ lead_key self) × (b.value.ticket ≡ lead_ticket self)) }
-        ensures taken { IsTrue result.taken → IfSome (receipt_known result.receipt) (λ x. (x.outcome ≡ outcome) × (arc_value x.key ≡ lead_key self)) × (receipt_ticket result.receipt ≡ lead_ticket self) }
+        ensures refused { MatchOption result.refused (IsTrue result.taken)
+            (λ b. (b.value.outcome ≡ outcome) × (arc_value b.value.key ≡ lead_key self) × (b.value.ticket ≡ lead_ticket self)) }
+        ensures taken { IsTrue result.taken → IfSome (receipt_known result.receipt)
+            (λ x. (x.outcome ≡ outcome) × (arc_value x.key ≡ lead_key self)) × (receipt_ticket result.receipt ≡ lead_ticket self) }
         ensures taken_is_own { IsTrue result.taken → IsTrue result.own }
-        ensures own { IsTrue result.own → (receipt_ticket result.receipt ≡ lead_ticket self) × IfSome (receipt_known result.receipt) (λ x. arc_value x.key ≡ lead_key self) }
-        ensures foreign { IsFalse result.own → IfSome (receipt_known result.receipt) (λ x. (x.ticket ≢ lead_ticket self) ⊎ IsFalse (K.eq (arc_value x.key) (lead_key self))) }
+        ensures own { IsTrue result.own → (receipt_ticket result.receipt ≡ lead_ticket self) ×
+            IfSome (receipt_known result.receipt) (λ x. arc_value x.key ≡ lead_key self) }
+        ensures foreign { IsFalse result.own →
+            IfSome (receipt_known result.receipt) (λ x. (x.ticket ≢ lead_ticket self) ⊎ IsFalse (K.eq (arc_value x.key) (lead_key self))) }
     {
         let Lead {
             flight,

@@ -58,7 +58,9 @@ impl<K: CacheKey, J: System> Receipt<K, J> {
 
     /// What the flight ended with, the same at each call.
     pub fn outcome(&mut self) -> &Result<Arc<K::Value>, Fault>
-        ensures* same { sem 𝓛 (follows_so (the_row K.row J.row K.Value.row K.CacheKey.own K.PartialEq K.Hash.own J.System) (the_row K.row J.row K.Value.row K.CacheKey.own K.PartialEq K.Hash.own J.System) self.entry.ghost_name none (λ _ _. ⊤) (λ n. SameReceipt self.old n)) }
+        ensures* same { sem 𝓛 (follows_so (the_row K.row J.row K.Value.row K.CacheKey.own K.PartialEq K.Hash.own J.System)
+            (the_row K.row J.row K.Value.row K.CacheKey.own K.PartialEq K.Hash.own J.System) self.entry.ghost_name none (λ _ _. ⊤)
+            (λ n. SameReceipt self.old n)) }
         ensures value { IfSome (receipt_known self.old) (λ x. x.outcome ≡ result.now) }
     {
         let mut note = self.note.again();

@@ -27,7 +27,8 @@ pub record Kind (K V : Type 0) : Type 1 where
   pub is_shaped : Pictures → K → V → Bool
   pub meaning : Pictures → K → V
 
-abbrev pub kind_of : {K V : Type 0} → (K → Type 0) → (K → List ℕ) → (List ℕ → Option KeyFault) → (K → List ℕ) → (K → ℕ) → (Shape → K → Type 0)
+abbrev pub kind_of : {K V : Type 0} → (K → Type 0) → (K → List ℕ) → (List ℕ → Option KeyFault) → (K → List ℕ) → (K → ℕ) →
+    (Shape → K → Type 0)
     → (V → List ℕ) → (Pictures → K → V → Bool) → (Pictures → K → V) → Kind K V
 kind_of is_key key_bytes refusal name_of edge_of fits_in val_bytes is_shaped meaning = record {
   is_key = is_key;
@@ -43,11 +44,13 @@ kind_of is_key key_bytes refusal name_of edge_of fits_in val_bytes is_shaped mea
 
 -- tiles
 abbrev pub tile_kind : Kind TileKey TileVal
-tile_kind = kind_of IsTileKey tile_key_bytes tile_key_refusal (λ k. k.name) (λ k. k.edge) (λ s k. TileFitsIn s.dim (channels_of s.kind) k) tile_val_bytes tile_is_shaped tile_meaning
+tile_kind = kind_of IsTileKey tile_key_bytes tile_key_refusal (λ k. k.name) (λ k. k.edge) (λ s k. TileFitsIn s.dim (channels_of s.kind) k)
+    tile_val_bytes tile_is_shaped tile_meaning
 
 -- sums
 abbrev pub sum_kind : Kind SumKey SumVal
-sum_kind = kind_of IsSumKey sum_key_bytes sum_key_refusal (λ k. k.name) (λ k. k.edge) (λ s k. SumFitsIn s.dim (channels_of s.kind) k) sum_val_bytes sum_is_shaped sum_meaning
+sum_kind = kind_of IsSumKey sum_key_bytes sum_key_refusal (λ k. k.name) (λ k. k.edge) (λ s k. SumFitsIn s.dim (channels_of s.kind) k)
+    sum_val_bytes sum_is_shaped sum_meaning
 
 -- A node: the picture of each name, the side of a tile, the faults that the source of each name gave, which names' sources keep their
 -- bytes, and whether other nodes are honest.

@@ -52,7 +52,8 @@ module _ {K V : Type 0} (kind : Kind K V) (node : System) (version : Version) wh
 
   -- status 0 and the value, or the fault's number and none
   abbrev pub IsReplyTo : List ℕ → ℕ → List ℕ → Type 0
-  IsReplyTo bytes status value = ((status ≡ 0) × HasValue bytes value) ⊎ ((f : Fault) × (status ≡ fault_number f) × (value ≡ []) × HasFault bytes f)
+  IsReplyTo bytes status value = ((status ≡ 0) × HasValue bytes value) ⊎
+      ((f : Fault) × (status ≡ fault_number f) × (value ≡ []) × HasFault bytes f)
 
 -- What may be replied to an ask, by its version, its group (1 for tiles, 2 for sums) and its key's bytes.
 abbrev pub MayReply : System → Version → ℕ → List ℕ → ℕ → List ℕ → Type 0

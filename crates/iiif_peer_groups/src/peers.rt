@@ -44,8 +44,10 @@ impl<
     fn shape_of<K: CacheKey>(&self, version: Version, key: &K) -> Result<Shape, Fault>
         ensures known { IfOk result (HasPicture J.pictures (K.name_of key.now)) }
         ensures fits { IfOk result (λ s. K.fits_in s key.now) }
-        ensures names { IfOk result (λ s. NamesPart J.pictures J.edge (K.name_of key.now) (K.edge_of key.now) (λ s. K.fits_in s key.now × Carries version s.depth)) }
-        ensures refused { IfErr result (IsKeyFault J.pictures J.edge (K.name_of key.now) (K.edge_of key.now) (λ s. K.fits_in s key.now × Carries version s.depth)) }
+        ensures names { IfOk result (λ s. NamesPart J.pictures J.edge (K.name_of key.now) (K.edge_of key.now)
+            (λ s. K.fits_in s key.now × Carries version s.depth)) }
+        ensures refused { IfErr result (IsKeyFault J.pictures J.edge (K.name_of key.now) (K.edge_of key.now)
+            (λ s. K.fits_in s key.now × Carries version s.depth)) }
     {
         let (_entry, shape) = self.groups.tiles().images().image_of(key)?;
         match (version, shape.depth) {
@@ -63,7 +65,8 @@ impl<
         version: Version,
         bytes: &[u8],
     ) -> Result<Vec<u8>, Fault>
-        ensures value { IfOk result (λ v. HasValue tile_kind (system J.pictures J.edge J.gave J.stable J.honest) version bytes.now v.items) }
+        ensures value { IfOk result (λ v. HasValue tile_kind (system J.pictures J.edge J.gave J.stable J.honest) version bytes.now
+            v.items) }
         ensures within { IfOk result (λ v. length v.items ≤ value_limit) }
         ensures fault { IfErr result (HasFault tile_kind (system J.pictures J.edge J.gave J.stable J.honest) version bytes.now) }
     {
@@ -103,7 +106,8 @@ impl<
     N: Link<TileKey, J, R> + Link<SumKey, J, R> + Sync,
     T: Gate<R> + Sync,
 > Answers<R, Passes<J>> for Peers<'a, R, S, J, N, T> {
-    ghost answers = { λ _ version group key status value. MayReply (system J.pictures J.edge J.gave J.stable J.honest) version group key status value };
+    ghost answers = { λ _ version group key status value.
+        MayReply (system J.pictures J.edge J.gave J.stable J.honest) version group key status value };
 
     fn answer(&self, rt: &R, alloc: Global, passes: &mut Passes<J>, ask: &Ask) -> (u8, Vec<u8>) {
         let key = ask.key.as_slice();

@@ -16,7 +16,8 @@ use std::sync::ledger::Ledger;
 
 /// Status 0 and the value, or the number of a fault and none.
 pub(crate) fn reply_of(alloc: Global, outcome: Result<Vec<u8>, Fault>) -> (u8, Vec<u8>)
-    ensures { MatchResult outcome (λ v. (result.0 ≡ 0) × (result.1.items ≡ v.items)) (λ f. (result.0 ≡ fault_number f) × (result.1.items ≡ [])) }
+    ensures { MatchResult outcome (λ v. (result.0 ≡ 0) × (result.1.items ≡ v.items))
+        (λ f. (result.0 ≡ fault_number f) × (result.1.items ≡ [])) }
 {
     match outcome {
         Ok(value) => (0, value),

@@ -38,9 +38,11 @@ room_for value most enough version key short =
     omega (arith, enough, short, digest, behind, keyed, all, length-field key, length-field value, length-magic version)
 
 -- samples of a depth take so many bytes
-samples_of : (depth : Depth) (top : ℕ) (v : TileVal) → v.raster.top ≡ top_of depth → IsTileVal v → length (tile_val_bytes v) ≤ 9 + length v.raster.samples * bytes_of depth
+samples_of : (depth : Depth) (top : ℕ) (v : TileVal) → v.raster.top ≡ top_of depth → IsTileVal v →
+    length (tile_val_bytes v) ≤ 9 + length v.raster.samples * bytes_of depth
 samples_of Eight top v is whole =
-    let plain : length (samples_bytes v.raster.top v.raster.samples) ≡ length v.raster.samples = ap (λ (n : ℕ). length (samples_bytes n v.raster.samples)) is in
+    let plain : length (samples_bytes v.raster.top v.raster.samples) ≡ length v.raster.samples =
+    ap (λ (n : ℕ). length (samples_bytes n v.raster.samples)) is in
     omega (arith, length-tile_bytes v, plain)
 samples_of Sixteen top v is whole = omega (arith, length-tile_val v whole)
 
@@ -49,13 +51,17 @@ pub tile_len : (s : Shape) (k : TileKey) (v : TileVal) → TileHasShape s k v �
 tile_len s k v shape whole =
     let count : length v.raster.samples ≡ (tile_of s.dim k).w * (tile_of s.dim k).h * channels_of s.kind =
     whole.whole.count ∙ (ap (λ (n : ℕ). n * v.raster.height * v.raster.channels) shape.width
-    ∙ (ap (λ (n : ℕ). (tile_of s.dim k).w * n * v.raster.channels) shape.height ∙ ap (λ (n : ℕ). (tile_of s.dim k).w * (tile_of s.dim k).h * n) shape.samples)) in
-    let bytes : length v.raster.samples * bytes_of s.depth ≡ (tile_of s.dim k).w * (tile_of s.dim k).h * channels_of s.kind * bytes_of s.depth =
+    ∙ (ap (λ (n : ℕ). (tile_of s.dim k).w * n * v.raster.channels) shape.height ∙
+    ap (λ (n : ℕ). (tile_of s.dim k).w * (tile_of s.dim k).h * n) shape.samples)) in
+    let bytes : length v.raster.samples * bytes_of s.depth ≡ (tile_of s.dim k).w * (tile_of s.dim k).h * channels_of s.kind * bytes_of
+    s.depth =
     ap (λ (n : ℕ). n * bytes_of s.depth) count in
     omega (arith, samples_of s.depth (top_of s.depth) v shape.depth whole, bytes)
 
-pub sum_len : (s : Shape) (k : SumKey) (v : SumVal) → SumHasShape s k v → IsSumVal v → length (sum_val_bytes v) ≤ sum_val_len (places_in s.dim k) (channels_of s.kind)
+pub sum_len : (s : Shape) (k : SumKey) (v : SumVal) → SumHasShape s k v → IsSumVal v →
+    length (sum_val_bytes v) ≤ sum_val_len (places_in s.dim k) (channels_of s.kind)
 sum_len s k v shape is =
     let count : v.sums.rect.w * v.sums.rect.h * v.sums.channels ≡ (places_in s.dim k).w * (places_in s.dim k).h * channels_of s.kind =
-    ap (λ (r : Rect). r.w * r.h * v.sums.channels) shape.places ∙ ap (λ (n : ℕ). (places_in s.dim k).w * (places_in s.dim k).h * n) shape.sums_a_place in
+    ap (λ (r : Rect). r.w * r.h * v.sums.channels) shape.places ∙
+    ap (λ (n : ℕ). (places_in s.dim k).w * (places_in s.dim k).h * n) shape.sums_a_place in
     omega (arith, length-sum_val v, is.count, count)

@@ -24,7 +24,8 @@ pub record Terms : Type 1 where
   pub key : List ℕ
 
 -- the same of a writer and a reader, by their states before and after
-abbrev pub terms : {W I : Type 0} → (W → Option (List ℕ)) → (W → W → Type 0) → (I → Option (List ℕ)) → (I → I → Type 0) → W → W → I → I → Version → ℕ → List ℕ → Terms
+abbrev pub terms : {W I : Type 0} → (W → Option (List ℕ)) → (W → W → Type 0) → (I → Option (List ℕ)) → (I → I → Type 0) → W → W → I → I →
+    Version → ℕ → List ℕ → Terms
 terms contents writer_fails remaining reader_fails out_old out_new reader_old reader_new version group key = record {
   cut = (count : ℕ) × WasCut contents writer_fails out_old out_new (ask_text version group key) count;
   sent = Appends (contents out_old) (contents out_new) (ask_text version group key);

@@ -19,8 +19,10 @@ pub fn ask_over<I: Inlet, W: Outlet>(
     key: &[u8],
 ) -> Result<Vec<u8>, LinkFault>
     requires { IsAsk group key.now }
-    ensures value { IfOk result (λ v. Replied (terms W.contents W.fails I.remaining I.fails out.old out.new reader.old reader.new version group key.now) 0 v.items) }
-    ensures fault { IfErr result (Failed (terms W.contents W.fails I.remaining I.fails out.old out.new reader.old reader.new version group key.now)) }
+    ensures value { IfOk result (λ v. Replied (terms W.contents W.fails I.remaining I.fails out.old out.new reader.old reader.new version
+        group key.now) 0 v.items) }
+    ensures fault { IfErr result (Failed (terms W.contents W.fails I.remaining I.fails out.old out.new reader.old reader.new version group
+        key.now)) }
 {
     match write_ask(out, version, group, key) {
         Ok(()) => {}

@@ -29,7 +29,8 @@ pub struct Turn {
     pub address: Option<SocketAddr>,
 }
 
-/// What is known of a node. Each ask that is made begins with its turn and ends with a report. All is done under a lock, as [`LinkRecord`] and
+/// What is known of a node. Each ask that is made begins with its turn and ends with a report. All is done under a lock, as [`LinkRecord`]
+/// and
 /// [`Addresses`] say.
 #[derive(Drop)]
 pub struct Health {
@@ -101,7 +102,8 @@ impl Health {
         memory.addresses.renew(found);
     }
 
-    /// Takes in how the ask of a turn ended, and says what becomes of the link. After a fault the next address is asked; after one of an ask
+    /// Takes in how the ask of a turn ended, and says what becomes of the link. After a fault the next address is asked; after one of an
+    /// ask
     /// that was to try the node the next of these looks its name up.
     pub fn report<R: Clock + Wait>(&self, rt: &R, turn: &Turn, outcome: Outcome) -> Option<Change> {
         let mut guard = self.memory.lock(rt);

@@ -29,8 +29,11 @@ fn value_over<K: CacheKey, I: Inlet, W: Outlet>(
     requires group { IsGroup group }
     requires fits { K.fits_in shape.now key.now }
     ensures is_value { IfOk result (λ v. K.is_value v) }
-    ensures value { IfOk result (λ v. Replied (terms W.contents W.fails I.remaining I.fails out.old out.new reader.old reader.new (wire_version shape.now.depth) group (K.key_bytes key.now)) 0 (K.val_bytes v)) }
-    ensures fault { IfErr result (FailedFor K.val_refusal (terms W.contents W.fails I.remaining I.fails out.old out.new reader.old reader.new (wire_version shape.now.depth) group (K.key_bytes key.now))) }
+    ensures value { IfOk result (λ v. Replied (terms W.contents W.fails I.remaining I.fails out.old out.new reader.old reader.new
+        (wire_version shape.now.depth) group (K.key_bytes key.now)) 0 (K.val_bytes v)) }
+    ensures fault { IfErr result (FailedFor K.val_refusal
+        (terms W.contents W.fails I.remaining I.fails out.old out.new reader.old reader.new (wire_version shape.now.depth) group
+        (K.key_bytes key.now))) }
 {
     // Laws of keys.
     K::laws();
@@ -65,8 +68,11 @@ pub fn tile_over<I: Inlet, W: Outlet>(
 ) -> Result<TileVal, LinkFault>
     requires { TileFitsIn shape.now.dim (channels_of shape.now.kind) key.now }
     ensures is_value { IfOk result IsTileVal }
-    ensures value { IfOk result (λ v. Replied (terms W.contents W.fails I.remaining I.fails out.old out.new reader.old reader.new (wire_version shape.now.depth) tiles (tile_key_bytes key.now)) 0 (tile_val_bytes v)) }
-    ensures fault { IfErr result (FailedFor tile_val_refusal (terms W.contents W.fails I.remaining I.fails out.old out.new reader.old reader.new (wire_version shape.now.depth) tiles (tile_key_bytes key.now))) }
+    ensures value { IfOk result (λ v. Replied (terms W.contents W.fails I.remaining I.fails out.old out.new reader.old reader.new
+        (wire_version shape.now.depth) tiles (tile_key_bytes key.now)) 0 (tile_val_bytes v)) }
+    ensures fault { IfErr result (FailedFor tile_val_refusal
+        (terms W.contents W.fails I.remaining I.fails out.old out.new reader.old reader.new (wire_version shape.now.depth) tiles
+        (tile_key_bytes key.now))) }
 {
     value_over(alloc, reader, out, 1, key, shape)
 }
@@ -81,8 +87,11 @@ pub fn sum_over<I: Inlet, W: Outlet>(
 ) -> Result<SumVal, LinkFault>
     requires { SumFitsIn shape.now.dim (channels_of shape.now.kind) key.now }
     ensures is_value { IfOk result IsSumVal }
-    ensures value { IfOk result (λ v. Replied (terms W.contents W.fails I.remaining I.fails out.old out.new reader.old reader.new (wire_version shape.now.depth) sums (sum_key_bytes key.now)) 0 (sum_val_bytes v)) }
-    ensures fault { IfErr result (FailedFor sum_val_refusal (terms W.contents W.fails I.remaining I.fails out.old out.new reader.old reader.new (wire_version shape.now.depth) sums (sum_key_bytes key.now))) }
+    ensures value { IfOk result (λ v. Replied (terms W.contents W.fails I.remaining I.fails out.old out.new reader.old reader.new
+        (wire_version shape.now.depth) sums (sum_key_bytes key.now)) 0 (sum_val_bytes v)) }
+    ensures fault { IfErr result (FailedFor sum_val_refusal
+        (terms W.contents W.fails I.remaining I.fails out.old out.new reader.old reader.new (wire_version shape.now.depth) sums
+        (sum_key_bytes key.now))) }
 {
     value_over(alloc, reader, out, 2, key, shape)
 }

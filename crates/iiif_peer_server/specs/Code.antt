@@ -22,4 +22,5 @@ pub record Answered (answers : Answering) (n : ℕ) (before after : Option (List
 -- One ask was answered whole, and another may follow; or the connection has ended.
 abbrev pub Served : Answering → Type 0 → Type 0 → ℕ → Option (List ℕ) → Option (List ℕ) → List ℕ → Bool → Type 0
 Served answers reader writer n before after text true = Answered answers n before after text
-Served answers reader writer n before after text false = (input : List ℕ) × IsInput before input × Exchange answers reader writer (IsInput after) n input text
+Served answers reader writer n before after text false = (input : List ℕ) × IsInput before input ×
+    Exchange answers reader writer (IsInput after) n input text

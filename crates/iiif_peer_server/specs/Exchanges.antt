@@ -34,8 +34,10 @@ pub data Exchange (answers : Answering) (reader writer : Type 0) (left : List �
       → MayReply answers version group key status value → writer → IsStrictPrefix text (reply_text version key status value) → left rest
       → Exchange answers reader writer left n (ask_text version group key ++ rest) text
   ended : (n : ℕ) → Exchange answers reader writer left n [] []
-  refused : (n : ℕ) (input : List ℕ) (fault : WireFault) → IsRefusal fault → ask_at input ≡ Err fault → Exchange answers reader writer left n input []
-  reader_failed : (n : ℕ) (begun rest : List ℕ) → reader → IsUnfinishedAsk begun → left rest → Exchange answers reader writer left n (begun ++ rest) []
+  refused : (n : ℕ) (input : List ℕ) (fault : WireFault) → IsRefusal fault → ask_at input ≡ Err fault →
+      Exchange answers reader writer left n input []
+  reader_failed : (n : ℕ) (begun rest : List ℕ) → reader → IsUnfinishedAsk begun → left rest →
+      Exchange answers reader writer left n (begun ++ rest) []
   no_memory : (n : ℕ) (front rest : List ℕ) → IsFrontOfAsk front → left rest → Exchange answers reader writer left n (front ++ rest) []
 
 -- a whole connection

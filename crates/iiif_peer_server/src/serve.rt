@@ -65,8 +65,10 @@ pub fn serve_peer<R, P, S: Answers<R, P>, I: Inlet, W: Outlet>(
     reader: &mut I,
     out: &mut W,
 )
-    ensures { (came : List ℕ) × (output : List ℕ) × IsInput (I.remaining reader.old) came × Appends (W.contents out.old) (W.contents out.new) output
-        × IsExchange (S.answers service.now) (LeftAt I.fails reader.new) (LeftAt W.fails out.new) (IsInput (I.remaining reader.new)) came output }
+    ensures { (came : List ℕ) × (output : List ℕ) × IsInput (I.remaining reader.old) came ×
+        Appends (W.contents out.old) (W.contents out.new) output
+        × IsExchange (S.answers service.now) (LeftAt I.fails reader.new) (LeftAt W.fails out.new) (IsInput (I.remaining reader.new)) came
+        output }
 {
     let mut n = 1;
     while serve_next(rt, alloc, service, passes, reader, n, out) {

@@ -1,5 +1,6 @@
 -- What was taken and refused in one part, said of the whole.
-use Rattle.std.proofs.Common.{◌≡◌, ◌≢◌, ℕ, ◌<◌, ◌≤◌, List, [], ◌++◌, length, take, Option, Some, None, Result, Ok, Err, IfErr, IsErrAnd, refl, sym, ap, ◌∙◌, subst, append_assoc, append-nil, length-append, length-take, arith}
+use Rattle.std.proofs.Common.{◌≡◌, ◌≢◌, ℕ, ◌<◌, ◌≤◌, List, [], ◌++◌, length, take, Option, Some, None, Result, Ok, Err, IfErr, IsErrAnd}
+use Rattle.std.proofs.Common.{refl, sym, ap, ◌∙◌, subst, append_assoc, append-nil, length-append, length-take, arith}
 use Rattle.std.specs.Io.KnownBytes.{Consumes, IsAtEnd}
 use Rattle.std.proofs.KnownBytes.{Consumes-nil, Consumes-trans}
 use Rattle.iiif_peer_wire.specs.declared.fault.WireFault.{WireFault}
@@ -13,7 +14,8 @@ pub length-take-at_most : (n : ℕ) (xs : List ℕ) → length (take n xs) ≤ n
 length-take-at_most n xs = omega (arith, length-take n xs)
 
 -- at the exit of a `?`, the fault of the call
-pub exit_fault : {T : Type 0} (r : Result T WireFault) (P : WireFault → Type 0) (fault : WireFault) → IsErrAnd r (λ e. e ≡ fault) → P fault → IfErr r P
+pub exit_fault : {T : Type 0} (r : Result T WireFault) (P : WireFault → Type 0) (fault : WireFault) → IsErrAnd r (λ e. e ≡ fault) →
+    P fault → IfErr r P
 exit_fault (Ok x) P fault is h = tt
 exit_fault (Err e) P fault is h = subst P (sym is) h
 
@@ -22,8 +24,10 @@ if_err_weaker (Ok x) f h = tt
 if_err_weaker (Err e) f h = f e h
 
 -- what is refused behind a text that was taken
-behind : {A B : Type 0} (old mid new : Option (List ℕ)) (f : List ℕ → Result A WireFault) (g : List ℕ → Result B WireFault) (text : List ℕ) (fault : WireFault)
-    → Consumes old mid text → ((rest : List ℕ) → g rest ≡ Err fault → f (text ++ rest) ≡ Err fault) → Refuses mid new g fault → Refuses old new f fault
+behind : {A B : Type 0} (old mid new : Option (List ℕ)) (f : List ℕ → Result A WireFault) (g : List ℕ → Result B WireFault) (text : List ℕ)
+    (fault : WireFault)
+    → Consumes old mid text → ((rest : List ℕ) → g rest ≡ Err fault → f (text ++ rest) ≡ Err fault) → Refuses mid new g fault →
+    Refuses old new f fault
 behind old mid new f g text fault took passes r = record {
   read = text ++ r.read;
   took = Consumes-trans old mid new text r.read took r.took;
@@ -52,7 +56,8 @@ cut_short old new f read took end refused = record {
 }
 
 module _ {R : Type 0} (left : R → Option (List ℕ)) (fails : R → R → Type 0) where
-  pub unread_behind : {A B : Type 0} (old mid new : R) (f : List ℕ → Result A WireFault) (g : List ℕ → Result B WireFault) (text : List ℕ) (fault : WireFault)
+  pub unread_behind : {A B : Type 0} (old mid new : R) (f : List ℕ → Result A WireFault) (g : List ℕ → Result B WireFault) (text : List ℕ)
+      (fault : WireFault)
       → Consumes (left old) (left mid) text → ((rest : List ℕ) → g rest ≡ Err fault → f (text ++ rest) ≡ Err fault)
       → Unread left fails mid new g fault → Unread left fails old new f fault
   unread_behind old mid new f g text Magic took passes r = behind (left old) (left mid) (left new) f g text Magic took passes r
@@ -70,8 +75,10 @@ module _ {R : Type 0} (left : R → Option (List ℕ)) (fails : R → R → Type
   unread_first old new f g fault passes r = unread_behind old old new f g [] fault (Consumes-nil (left old)) passes r
 
   -- a read that failed
-  pub unread_failed : {A : Type 0} (old new : R) (f : List ℕ → Result A WireFault) (fault : WireFault) → fault ≡ Io → (before : R) → fails before new → Unread left fails old new f fault
-  unread_failed {A} old new f fault is before failed = let P : WireFault → Type 0 = λ x. Unread left fails old new f x in subst P (sym is) (before, failed)
+  pub unread_failed : {A : Type 0} (old new : R) (f : List ℕ → Result A WireFault) (fault : WireFault) → fault ≡ Io → (before : R) →
+      fails before new → Unread left fails old new f fault
+  unread_failed {A} old new f fault is before failed = let P : WireFault → Type 0 = λ x. Unread left fails old new f x in
+      subst P (sym is) (before, failed)
 
   pub unread_magic : {A : Type 0} (old new : R) (f : List ℕ → Result A WireFault) (text : List ℕ) → Consumes (left old) (left new) text
       → ((rest : List ℕ) → f (text ++ rest) ≡ Err Magic) → Unread left fails old new f Magic
@@ -93,7 +100,8 @@ module _ {R : Type 0} (left : R → Option (List ℕ)) (fails : R → R → Type
       → ((rest : List ℕ) → f (text ++ rest) ≡ Err Status) → Unread left fails old new f Status
   unread_status old new f text took refused = at_once (left old) (left new) f text Status took (λ e. cc) refused
 
-  pub unread_short : {A : Type 0} (old new : R) (f : List ℕ → Result A WireFault) (read : List ℕ) → Consumes (left old) (left new) read → IsAtEnd (left new)
+  pub unread_short : {A : Type 0} (old new : R) (f : List ℕ → Result A WireFault) (read : List ℕ) → Consumes (left old) (left new) read →
+      IsAtEnd (left new)
       → f read ≡ Err Short → Unread left fails old new f Short
   unread_short old new f read took end refused = cut_short (left old) (left new) f read took end refused
 
@@ -104,7 +112,8 @@ module _ {R : Type 0} (left : R → Option (List ℕ)) (fails : R → R → Type
   input_of (Some xs) None f fault r = absurd r.took
   input_of (Some xs) (Some ys) f fault r = (xs, refl, ap f r.took ∙ r.refused ys (λ short. r.ended short))
 
-  pub refused_input : {A : Type 0} (old new : R) (f : List ℕ → Result A WireFault) (fault : WireFault) → Unread left fails old new f fault → IsRefusal fault
+  pub refused_input : {A : Type 0} (old new : R) (f : List ℕ → Result A WireFault) (fault : WireFault) → Unread left fails old new f fault →
+      IsRefusal fault
       → (input : List ℕ) × IsInput (left old) input × (f input ≡ Err fault)
   refused_input old new f Magic r is = input_of (left old) (left new) f Magic r
   refused_input old new f Short r is = input_of (left old) (left new) f Short r
@@ -117,8 +126,11 @@ module _ {R : Type 0} (left : R → Option (List ℕ)) (fails : R → R → Type
 
   -- a pull that gave nothing, where more was wanted
   pub pulled_short : (old mid new : R) (count : ℕ) (bytes buffer : List ℕ) (n : ℕ) → Consumes (left old) (left mid) bytes
-      → Consumes (left mid) (left new) (take n buffer) × (n ≡ 0 → 0 < length buffer → IsAtEnd (left new)) → n ≡ 0 → 0 < length buffer → length bytes < count
+      → Consumes (left mid) (left new) (take n buffer) × (n ≡ 0 → 0 < length buffer → IsAtEnd (left new)) → n ≡ 0 → 0 < length buffer →
+      length bytes < count
       → Unread left fails old new (bytes_at count) Short
   pulled_short old mid new count bytes buffer n took pulled none room less =
-      unread_short old new (bytes_at count) (bytes ++ take n buffer) (Consumes-trans (left old) (left mid) (left new) bytes (take n buffer) took pulled.0) (pulled.1 none room)
-      (bytes_at-short count (bytes ++ take n buffer) (omega (arith, length-append bytes (take n buffer), length-take-at_most n buffer, none, less)))
+      unread_short old new (bytes_at count) (bytes ++ take n buffer)
+      (Consumes-trans (left old) (left mid) (left new) bytes (take n buffer) took pulled.0) (pulled.1 none room)
+      (bytes_at-short count (bytes ++ take n buffer)
+      (omega (arith, length-append bytes (take n buffer), length-take-at_most n buffer, none, less)))

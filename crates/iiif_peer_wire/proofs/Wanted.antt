@@ -16,7 +16,8 @@ WantsAsk old new fault = fault ≡ NoMemory → (text : List ℕ) × IsFrontOfAs
 abbrev pub WantsReply : Version → List ℕ → Option (List ℕ) → Option (List ℕ) → WireFault → Type 0
 WantsReply version key old new fault = fault ≡ NoMemory → (text : List ℕ) × IsFrontOfReply version key text × Consumes old new text
 
-pub came_so_far : (old mid new : Option (List ℕ)) (count n : ℕ) (bytes buffer : List ℕ) → Consumes old mid bytes → Consumes mid new (take n buffer)
+pub came_so_far : (old mid new : Option (List ℕ)) (count n : ℕ) (bytes buffer : List ℕ) → Consumes old mid bytes →
+    Consumes mid new (take n buffer)
     → n ≤ length buffer → 1 ≤ n → length bytes + length buffer ≤ count → Came old new [] count
 came_so_far old mid new count n bytes buffer took pulled within some room = record {
   came = bytes ++ take n buffer;
@@ -30,11 +31,23 @@ pub ask_front : (version : Version) (old mid new : Option (List ℕ)) → Consum
     → (text : List ℕ) × IsFrontOfAsk text × Consumes old new text
 ask_front version old mid new magic (group, size, known, within, came) = (
   ask_magic version ++ group ∷ (to_be_bytes w32 size ++ came.came),
-  record { version = version; group = group; size = size; came = came.came; group_known = known; within = within; some = came.some; few = came.few; spelled = refl },
+  record {
+    version = version;
+    group = group;
+    size = size;
+    came = came.came;
+    group_known = known;
+    within = within;
+    some = came.some;
+    few =
+        came.few;
+    spelled = refl;
+  },
   Consumes-trans old mid new (ask_magic version) (group ∷ (to_be_bytes w32 size ++ came.came)) magic came.took,
 )
 
-pub reply_front : (version : Version) (old named keyed new : Option (List ℕ)) (key : List ℕ) → length key ≤ 4096 → Consumes old named (reply_magic version) → Consumes named keyed (field key)
+pub reply_front : (version : Version) (old named keyed new : Option (List ℕ)) (key : List ℕ) → length key ≤ 4096 →
+    Consumes old named (reply_magic version) → Consumes named keyed (field key)
     → (size : ℕ) × (size ≤ 67108864) × Came keyed new (0 ∷ to_be_bytes w32 size) size
     → (text : List ℕ) × IsFrontOfReply version key text × Consumes old new text
 reply_front version old named keyed new key key_within magic keyed_took (size, within, came) = (

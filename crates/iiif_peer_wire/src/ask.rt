@@ -1,6 +1,7 @@
 //! Asks.
 
-ghost use Rattle.std.specs.Prelude.{◌≡◌, ℕ, ◌++◌, List, [], Some, MatchResult, IfErr, IfNone, IfOk, IfSome, IsErrOf, IsNone, IsSomeAnd, OnOk};
+ghost use Rattle.std.specs.Prelude.{◌≡◌, ℕ, ◌++◌, List, [], Some, MatchResult, IfErr, IfNone, IfOk, IfSome, IsErrOf, IsNone, IsSomeAnd};
+ghost use Rattle.std.specs.Prelude.OnOk;
 ghost use Rattle.std.specs.Io.KnownBytes.{Appends, Consumes, IsAtEnd};
 ghost use Rattle.iiif_peer_wire.specs.Faults.{IsCut, IsRefusal, LeftAt};
 ghost use Rattle.iiif_peer_wire.specs.Messages.{ask_text, IsAsk, IsFrontOfAsk};
@@ -55,8 +56,10 @@ pub fn read_ask<R: Inlet>(alloc: Global, reader: &mut R) -> Result<Option<Ask>, 
         × IsAtEnd (R.remaining reader.new))) }
 
     // What is spelled is read, and a clean end is none, unless a read failed or memory was refused.
-    ensures only { (version : Version) (group : ℕ) (key rest : List ℕ) → IsAsk group key → R.remaining reader.old ≡ Some (ask_text version group key ++ rest)
-        → MatchResult result (λ answer. IsSomeAnd answer (λ ask. (ask.version ≡ version) × (ask.group ≡ group) × (ask.key.items ≡ key)) × (R.remaining reader.new ≡ Some rest))
+    ensures only { (version : Version) (group : ℕ) (key rest : List ℕ) → IsAsk group key →
+        R.remaining reader.old ≡ Some (ask_text version group key ++ rest)
+        → MatchResult result (λ answer. IsSomeAnd answer (λ ask. (ask.version ≡ version) × (ask.group ≡ group) × (ask.key.items ≡ key)) ×
+        (R.remaining reader.new ≡ Some rest))
         (λ fault. ¬ IsRefusal fault) }
     ensures only_end { R.remaining reader.old ≡ Some [] → MatchResult result (λ answer. IsNone answer) (λ fault. ¬ IsRefusal fault) }
 

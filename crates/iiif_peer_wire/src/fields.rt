@@ -1,12 +1,15 @@
 //! Fields of messages, read from any reader.
 
-ghost use Rattle.std.specs.Prelude.{◌≡◌, ◌≢◌, ℕ, ◌<◌, ◌≤◌, ◌^◌, List, [], ◌∷◌, ◌++◌, length, slice_index, take, IfOk, IsTrue, ◌↔◌, IfErr, IfNone, IfSome, OnOk};
+ghost use Rattle.std.specs.Prelude.{◌≡◌, ◌≢◌, ℕ, ◌<◌, ◌≤◌, ◌^◌, List, [], ◌∷◌, ◌++◌, length, slice_index, take, IfOk, IsTrue, ◌↔◌, IfErr};
+ghost use Rattle.std.specs.Prelude.{IfNone, IfSome, OnOk};
 ghost use Rattle.std.specs.Int.{w32, to_be_bytes};
 ghost use Rattle.std.specs.Io.KnownBytes.{Consumes, IsAtEnd};
 ghost use Rattle.iiif_peer_wire.specs.Code.{Broken, Came, Unread};
 ghost use Rattle.iiif_peer_wire.specs.Faults.{LeftAt};
-ghost use Rattle.iiif_peer_wire.specs.Messages.{ask_magic, ask_text, field, IsAsk, IsFrontOfAsk, IsFrontOfReply, IsGroup, IsReply, reply_magic, reply_text};
-ghost use Rattle.iiif_peer_wire.specs.Reading.{ask_at, IsUnfinishedAsk, ask_fields_at, ask_version_of, byte_at, bytes_at, digest_at, key_at, length_at, magic_at, reply_at, value_at};
+ghost use Rattle.iiif_peer_wire.specs.Messages.{ask_magic, ask_text, field, IsAsk, IsFrontOfAsk, IsFrontOfReply, IsGroup, IsReply};
+ghost use Rattle.iiif_peer_wire.specs.Messages.{reply_magic, reply_text};
+ghost use Rattle.iiif_peer_wire.specs.Reading.{ask_at, IsUnfinishedAsk, ask_fields_at, ask_version_of, byte_at, bytes_at, digest_at};
+ghost use Rattle.iiif_peer_wire.specs.Reading.{key_at, length_at, magic_at, reply_at, value_at};
 ghost use Rattle.sha2.specs.Sha256.{sha256};
 
 use crate::ask::Ask;

@@ -35,7 +35,8 @@ weighted-le i a c u n m f h =
     let d = sum_from-mul u n m (λ x. weight_of i x a c) in
     omega (arith, mul-le-mul_left m (weights-le i a c u n))
 
-area_sum-le : (region size : Dim) (part : Rect) (f : ℕ → ℕ → ℕ) (i j t : ℕ) → ((x y : ℕ) → f x y ≤ t) → area_sum region size part f i j ≤ region.w * region.h * t
+area_sum-le : (region size : Dim) (part : Rect) (f : ℕ → ℕ → ℕ) (i j t : ℕ) → ((x y : ℕ) → f x y ≤ t) →
+    area_sum region size part f i j ≤ region.w * region.h * t
 unfolding area_sum
 area_sum-le region size part f i j t h =
     let wx : ℕ → ℕ = λ x. weight_of i x region.w size.w in
@@ -59,8 +60,10 @@ average_is-le s (suc m) t h =
 pub scaled_at-le : (p : Picture) (size : Dim) → IsWhole p → (i j k : ℕ) → scaled_at p size i j k ≤ p.top
 unfolding scaled_at
 scaled_at-le p size whole i j k =
-    average_is-le _ (p.width * p.height) p.top (area_sum-le (dim_of p) size (whole_of (dim_of p)) (λ x y. sample_at p x y k) i j p.top (λ x y. sample_at-le p whole x y k))
+    average_is-le _ (p.width * p.height) p.top
+    (area_sum-le (dim_of p) size (whole_of (dim_of p)) (λ x y. sample_at p x y k) i j p.top (λ x y. sample_at-le p whole x y k))
 
 pub whole_scale : (p : Picture) (size : Dim) → IsWhole p → IsWhole (scale p size)
 whole_scale p size whole =
-    whole_picture_of size.w size.h p.channels p.top (scaled_at p size) whole.channels whole.top (λ i j k li lj lk. scaled_at-le p size whole i j k)
+    whole_picture_of size.w size.h p.channels p.top (scaled_at p size) whole.channels whole.top
+    (λ i j k li lj lk. scaled_at-le p size whole i j k)

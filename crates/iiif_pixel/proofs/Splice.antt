@@ -3,7 +3,8 @@ use Rattle.std.proofs.Common.{◌≡◌, ℕ, ◌+◌, ◌-◌, ◌<◌, ◌≤�
 use Rattle.std.proofs.lemmas.List.{get_or-take, get_or-drop, get_or_append_left, get_or-append_right, length-take-le}
 use borrow.Rule.Slice.PartMut.{put_mid, post_of}
 
-pub get_or-put_inside : (a k : ℕ) (xs ys : List ℕ) (i : ℕ) → a ≤ length xs → i < length ys → get_or (put_mid a k xs ys) (a + i) 0 ≡ get_or ys i 0
+pub get_or-put_inside : (a k : ℕ) (xs ys : List ℕ) (i : ℕ) → a ≤ length xs → i < length ys →
+    get_or (put_mid a k xs ys) (a + i) 0 ≡ get_or ys i 0
 get_or-put_inside a k xs ys i within lt =
     let back : a + i - a ≡ i = omega arith in
     get_or-append_right (take a xs) (ys ++ post_of a k xs) a (a + i) 0 (length-take-le a xs within) (omega arith)
@@ -13,7 +14,8 @@ pub get_or-put_below : (a k : ℕ) (xs ys : List ℕ) (i : ℕ) → a ≤ length
 get_or-put_below a k xs ys i within lt =
     get_or_append_left (take a xs) (ys ++ post_of a k xs) 0 i (omega (arith, length-take-le a xs within)) ∙ get_or-take a xs i 0 lt
 
-pub get_or-put_above : (a k : ℕ) (xs ys : List ℕ) (i : ℕ) → a ≤ length xs → length ys ≡ k → a + k ≤ i → get_or (put_mid a k xs ys) i 0 ≡ get_or xs i 0
+pub get_or-put_above : (a k : ℕ) (xs ys : List ℕ) (i : ℕ) → a ≤ length xs → length ys ≡ k → a + k ≤ i →
+    get_or (put_mid a k xs ys) i 0 ≡ get_or xs i 0
 get_or-put_above a k xs ys i within len le =
     let back : a + (k + (i - a - k)) ≡ i = omega arith in
     get_or-append_right (take a xs) (ys ++ post_of a k xs) a i 0 (length-take-le a xs within) (omega arith)

@@ -21,12 +21,14 @@ QualityOfCrop =
 -- a part of a scaled picture is the picture of the averages at its places
 abbrev pub CropOfScale : Type 0
 CropOfScale =
-    (p : Picture) (size : Dim) (r : Rect) → LiesIn r size → crop (scale p size) r ≡ picture_of r.w r.h p.channels p.top (λ i j k. scaled_at p size (r.x + i) (r.y + j) k)
+    (p : Picture) (size : Dim) (r : Rect) → LiesIn r size →
+    crop (scale p size) r ≡ picture_of r.w r.h p.channels p.top (λ i j k. scaled_at p size (r.x + i) (r.y + j) k)
 
 -- and has them there
 abbrev pub SampleOfScale : Type 0
 SampleOfScale =
-    (p : Picture) (size : Dim) (r : Rect) (i j k : ℕ) → LiesIn r size → i < r.w → j < r.h → k < p.channels → sample_at (crop (scale p size) r) i j k ≡ scaled_at p size (r.x + i) (r.y + j) k
+    (p : Picture) (size : Dim) (r : Rect) (i j k : ℕ) → LiesIn r size → i < r.w → j < r.h → k < p.channels →
+    sample_at (crop (scale p size) r) i j k ≡ scaled_at p size (r.x + i) (r.y + j) k
 
 -- the rows from `from` on, n of them
 abbrev pub rows_from : Picture → ℕ → ℕ → Rect
@@ -35,7 +37,8 @@ rows_from p from n = record { x = 0; y = from; w = p.width; h = n }
 -- m rows of a picture, and then the n rows after them, are the m + n rows
 abbrev pub RowsAfterRows : Type 0
 RowsAfterRows =
-    (p : Picture) (from m n : ℕ) → (crop p (rows_from p from (m + n))).samples ≡ (crop p (rows_from p from m)).samples ++ (crop p (rows_from p (from + m) n)).samples
+    (p : Picture) (from m n : ℕ) → (crop p (rows_from p from (m + n))).samples ≡ (crop p (rows_from p from m)).samples ++
+    (crop p (rows_from p (from + m) n)).samples
 
 -- all rows are the picture
 abbrev pub AllRows : Type 0

@@ -1,6 +1,7 @@
 //! Samples of either depth: owned, and borrowed.
 
-ghost use Rattle.std.specs.Prelude.{◌≡◌, ◌+◌, ◌<◌, ◌≤◌, ◌^◌, ◌++◌, [], All, IfOk, OnOk, length, take, drop, replicate, slice_index, slice_set};
+ghost use Rattle.std.specs.Prelude.{◌≡◌, ◌+◌, ◌<◌, ◌≤◌, ◌^◌, ◌++◌, [], All, IfOk, OnOk, length, take, drop, replicate, slice_index};
+ghost use Rattle.std.specs.Prelude.slice_set;
 ghost use Rattle.iiif_pixel.specs.Geometry.{top_of};
 ghost use Rattle.iiif_pixel.specs.Depths.{values_of, depth_of, capacity_of, span_values, span_depth};
 
@@ -120,7 +121,8 @@ impl Samples {
     pub(crate) fn put(&mut self, start: usize, part: Span)
         requires depth { span_depth part ≡ depth_of self.old }
         requires within { start + length (span_values part) ≤ length (values_of self.old) }
-        ensures values { values_of self.new ≡ take start (values_of self.old) ++ span_values part.entry ++ drop (start + length (span_values part.entry)) (values_of self.old) }
+        ensures values { values_of self.new ≡ take start (values_of self.old) ++ span_values part.entry ++ drop
+            (start + length (span_values part.entry)) (values_of self.old) }
         ensures depth { depth_of self.new ≡ depth_of self.old }
     {
         match (self, part) {

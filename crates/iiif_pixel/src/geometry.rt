@@ -168,7 +168,8 @@ pub fn unturn_rect(by: Turn, dim: Dim, rect: Rect) -> Rect
     requires quarters { by.quarters < 4 }
     requires inside { LiesIn rect (turned_dim by dim) }
     ensures inside { LiesIn result dim }
-    ensures same_places { (x y : ℕ) → x < dim.w → y < dim.h → HasPlace result x y ↔ HasPlace rect (turned_place by dim x y).0 (turned_place by dim x y).1 }
+    ensures same_places { (x y : ℕ) → x < dim.w → y < dim.h →
+        HasPlace result x y ↔ HasPlace rect (turned_place by dim x y).0 (turned_place by dim x y).1 }
     ensures same_part { TurnsInto by dim result rect }
 {
     let (x, y, w, h) = match by.quarters {

@@ -1,6 +1,7 @@
 //! What holds of all pictures. The functions compute nothing: their contracts are the laws.
 
-ghost use Rattle.iiif_pixel.specs.Laws.{CropOfCrop, QualityOfCrop, CropOfScale, SampleOfScale, RowsAfterRows, AllRows, CropIsWhole, TurnIsWhole, QualityIsWhole, ScaleIsWhole};
+ghost use Rattle.iiif_pixel.specs.Laws.{CropOfCrop, QualityOfCrop, CropOfScale, SampleOfScale, RowsAfterRows, AllRows, CropIsWhole};
+ghost use Rattle.iiif_pixel.specs.Laws.{TurnIsWhole, QualityIsWhole, ScaleIsWhole};
 
 /// A part of a part is a part of the whole.
 pub fn crop_of_crop()

@@ -22,12 +22,14 @@ module _ (keep : Bool) (c : Class) (k : Key) (n : ℕ) (v : Option Value) (p : P
   unfolding tables.land
   land_missing e = sym (ap (λ (f : Maybe). landed_by f (tables.has_ticket n f)) e)
 
-  pub land_other : (f : tables.Flight) → t.flights c k ≡ Some f → (f.ticket == n) ≡ false → t ≡ tables.land key_eq entry_size keep c k n v p t
+  pub land_other : (f : tables.Flight) → t.flights c k ≡ Some f → (f.ticket == n) ≡ false →
+      t ≡ tables.land key_eq entry_size keep c k n v p t
   unfolding tables.land
   land_other f e other = sym (ap (λ (f : Maybe). landed_by f (tables.has_ticket n f)) e ∙ ap (landed_by (Some f)) other)
 
   pub land_by : (f : tables.Flight) → t.flights c k ≡ Some f → (f.ticket == n) ≡ true →
-      tables.land key_eq entry_size keep c k n v p t ≡ tables.landing key_eq entry_size keep c k n v p (tables.counting f.found v p t.book) t
+      tables.land key_eq entry_size keep c k n v p t ≡ tables.landing key_eq entry_size keep c k n v p (tables.counting f.found v p t.book)
+      t
   unfolding tables.land
   land_by f e own = ap (λ (f : Maybe). landed_by f (tables.has_ticket n f)) e ∙ ap (landed_by (Some f)) own
 
@@ -35,7 +37,8 @@ module _ (keep : Bool) (c : Class) (k : Key) (n : ℕ) (v : Option Value) (p : P
   made cache flights aloft book = record { cache = cache; flights = flights; aloft = aloft; book = book }
 
   pub land_parts : (u : Table) (b : Book) → u.cache ≡ (if keep then tables.keeping key_eq entry_size p b.peer k n v t.cache else t.cache) →
-      u.flights ≡ tables.with_flight key_eq c k None t.flights → u.aloft + 1 ≡ t.aloft → u.book ≡ b → u ≡ tables.landing key_eq entry_size keep c k n v p b t
+      u.flights ≡ tables.with_flight key_eq c k None t.flights → u.aloft + 1 ≡ t.aloft → u.book ≡ b →
+      u ≡ tables.landing key_eq entry_size keep c k n v p b t
   land_parts u b cache flights aloft book =
       let ca = if keep then tables.keeping key_eq entry_size p b.peer k n v t.cache else t.cache in
       let fl = tables.with_flight key_eq c k None t.flights in

@@ -1,5 +1,6 @@
 -- Lists of which the first so many elements are changed.
-use Rattle.std.proofs.Common.{◌≡◌, ℕ, zero, suc, ◌+◌, ◌≤◌, ◌<◌, List, [], ◌∷◌, map, length, Some, refl, sym, ap, ◌∙◌, arith, get_or, Bool, true, false, cond, None}
+use Rattle.std.proofs.Common.{◌≡◌, ℕ, zero, suc, ◌+◌, ◌≤◌, ◌<◌, List, [], ◌∷◌, map, length, Some, refl, sym, ap, ◌∙◌, arith, get_or, Bool}
+use Rattle.std.proofs.Common.{true, false, cond, None}
 use Rattle.std.specs.Prelude.{slice_get, slice_set}
 use Rattle.std.proofs.lemmas.Option.{none-some, get_or_from_slice_get, same_Some}
 
@@ -9,7 +10,8 @@ mixed g zero xs = xs
 mixed g (suc i) [] = []
 mixed g (suc i) (x ∷ xs) = g x ∷ mixed g i xs
 
-pub mixed_more : {A : Type 0} (g : A → A) (i : ℕ) (xs : List A) (x : A) → slice_get xs i ≡ Some x → slice_set (mixed g i xs) i (g x) ≡ mixed g (suc i) xs
+pub mixed_more : {A : Type 0} (g : A → A) (i : ℕ) (xs : List A) (x : A) → slice_get xs i ≡ Some x →
+    slice_set (mixed g i xs) i (g x) ≡ mixed g (suc i) xs
 mixed_more g zero [] x h = absurd (none-some x h)
 mixed_more g zero (y ∷ xs) x h = ap (λ z. g z ∷ xs) (sym (same_Some y x h))
 mixed_more g (suc i) [] x h = absurd (none-some x h)
@@ -42,7 +44,8 @@ past true n h = absurd (none-some n (sym h))
 past false n h = refl
 
 -- one element more
-pub mixed_step : {A : Type 0} (g : A → A) (old now : List A) (i : ℕ) (y z : A) → now ≡ mixed g i old → i < length now → y ≡ get_or now i y → z ≡ g y →
+pub mixed_step : {A : Type 0} (g : A → A) (old now : List A) (i : ℕ) (y z : A) → now ≡ mixed g i old → i < length now → y ≡ get_or now i y →
+    z ≡ g y →
     slice_set now i z ≡ mixed g (i + 1) old
 mixed_step g old now i y z is less item made =
     let shorter : i < length old = omega (arith, ap length is, mixed_length g i old) in
@@ -50,7 +53,8 @@ mixed_step g old now i y z is less item made =
     let at : slice_get now i ≡ Some x.0 = ap (λ l. slice_get l i) is ∙ mixed_next g i old ∙ x.1 in
     let same : y ≡ x.0 = item ∙ get_or_from_slice_get now i x.0 y at in
     let next : suc i ≡ i + 1 = omega arith in
-    ap (λ v. slice_set now i v) (made ∙ ap g same) ∙ ap (λ l. slice_set l i (g x.0)) is ∙ mixed_more g i old x.0 x.1 ∙ ap (λ n. mixed g n old) next
+    ap (λ v. slice_set now i v) (made ∙ ap g same) ∙ ap (λ l. slice_set l i (g x.0)) is ∙ mixed_more g i old x.0 x.1 ∙
+    ap (λ n. mixed g n old) next
 
 pub mixed_done : {A : Type 0} (g : A → A) (old now : List A) (i : ℕ) → now ≡ mixed g i old → length now ≤ i → now ≡ map g old
 mixed_done g old now i is out =

@@ -17,7 +17,8 @@ pub numbered_keys : (first : ℕ) (keys : List Key) → numbered first (length k
 numbered_keys first [] = refl
 numbered_keys first (k ∷ keys) = ap (λ l. first ∷ l) (numbered_keys (suc first) keys)
 
-pub numbers_step : (now next : List ℕ) (first number : ℕ) → now ≡ numbered first (number - first) → first ≤ number → next ≡ now ++ number ∷ [] →
+pub numbers_step : (now next : List ℕ) (first number : ℕ) → now ≡ numbered first (number - first) → first ≤ number →
+    next ≡ now ++ number ∷ [] →
     next ≡ numbered first (number + 1 - first)
 numbers_step now next first number is less pushed =
     let here : number ≡ first + (number - first) = omega arith in

@@ -9,4 +9,5 @@ pub owner_place : (ring : List (List ℕ)) (key : List ℕ) (i : ℕ) → IsSome
     ((names : List (List ℕ)) (name : List ℕ) → HaveSameNames names ring → IsOwner names key name → slice_get ring i ≡ Some name) →
     slice_get ring i ≡ Some (owner ring key)
 owner_place [] key i some only = absurd some
-owner_place (x ∷ xs) key i some only = only (x ∷ xs) (owner (x ∷ xs) key) (λ name. ((λ h. h), (λ h. h))) (owner_is_the_rings (x ∷ xs) key (omega arith))
+owner_place (x ∷ xs) key i some only = only (x ∷ xs) (owner (x ∷ xs) key) (λ name. ((λ h. h), (λ h. h)))
+    (owner_is_the_rings (x ∷ xs) key (omega arith))

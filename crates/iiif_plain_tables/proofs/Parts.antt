@@ -14,4 +14,5 @@ parts_tile k none = ap (λ (b : Bool). Some (if b then key.Tile (tile_below k) �
 
 pub parts_sums : (k : SumKey) → 0 < k.level → parts_of (key.Sum k) ≡ Some (map key.Sum (sums_below k))
 unfolding parts_of
-parts_sums k some = ap (λ (b : Bool). Some (if b then key.Tile (tile_below k) ∷ [] else map key.Sum (sums_below k))) (ne_eqb k.level 0 (λ e. omega (arith, e, some)))
+parts_sums k some = ap (λ (b : Bool). Some (if b then key.Tile (tile_below k) ∷ [] else map key.Sum (sums_below k)))
+    (ne_eqb k.level 0 (λ e. omega (arith, e, some)))

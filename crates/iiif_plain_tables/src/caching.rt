@@ -1,7 +1,9 @@
 //! What is kept, as plain lists.
 
-ghost use Rattle.std.specs.Prelude.{if◌then◌else◌, ◌≡◌, fold, option_map, IfOk, ◌<◌, ◌≤◌, true, false, is_some, MatchBool, MatchOption, OnErr, OnOk};
-ghost use Rattle.iiif_tables.specs.Cache.{bytes_in, kept_for, main_side, hot_side, touch as touched, without as lacking, evict as evicted, shrink as shrunk, placed, put as with_entry};
+ghost use Rattle.std.specs.Prelude.{if◌then◌else◌, ◌≡◌, fold, option_map, IfOk, ◌<◌, ◌≤◌, true, false, is_some, MatchBool, MatchOption};
+ghost use Rattle.std.specs.Prelude.{OnErr, OnOk};
+ghost use Rattle.iiif_tables.specs.Cache.{bytes_in, kept_for, main_side, hot_side, touch as touched, without as lacking, evict as evicted};
+ghost use Rattle.iiif_tables.specs.Cache.{shrink as shrunk, placed, put as with_entry};
 ghost use Rattle.iiif_tables.specs.Flights.{keeping};
 ghost use Rattle.iiif_scene.specs.Keys.{entry_size, key_eq};
 ghost use Rattle.iiif_plain_tables.specs.Rows.{cache_of, entry_of, kept_of, side};
@@ -73,7 +75,8 @@ impl PlainCache {
 
     /// Whether the lists take no more bytes than they may.
     fn is_within(&self) -> bool
-        ensures { MatchBool result (bytes_in entry_size (cache_of self.now) ≤ self.now.limit) (self.now.limit < bytes_in entry_size (cache_of self.now)) }
+        ensures { MatchBool result (bytes_in entry_size (cache_of self.now) ≤ self.now.limit)
+            (self.now.limit < bytes_in entry_size (cache_of self.now)) }
     {
         let limit = u128::from(self.limit);
         let main = bytes(&self.main);
@@ -118,7 +121,8 @@ impl PlainCache {
 
     /// An entry is put. After an error all is as before.
     pub(crate) fn put(&mut self, hot: bool, entry: Entry) -> Result<(), NoMemory>
-        ensures ok { OnOk result (cache_of self.new ≡ with_entry entry_size key_eq (side hot) entry.key (entry_of entry).1 (cache_of self.old)) }
+        ensures ok { OnOk result (cache_of self.new ≡ with_entry entry_size key_eq (side hot) entry.key (entry_of entry).1
+            (cache_of self.old)) }
         ensures err { OnErr result (cache_of self.new ≡ cache_of self.old) }
     {
         if size(&entry.key, &entry.value) > self.limit {

@@ -85,7 +85,8 @@ fn reopened(stage: Stage, place: Place) -> Stage
 
 /// A flight that is ready ends.
 pub fn end_flight(flight: &mut Flight)
-    ensures { (l : Lead) (o : Outcome) (p : Place) → flight.old ≡ record { lead = l; stage = Stage.Ready o p } → flight.new ≡ record { lead = l; stage = Stage.Ended (Some o) } }
+    ensures { (l : Lead) (o : Outcome) (p : Place) → flight.old ≡ record { lead = l; stage = Stage.Ready o p } →
+        flight.new ≡ record { lead = l; stage = Stage.Ended (Some o) } }
 {
     let stage = replace(&mut flight.stage, Stage::New);
     flight.stage = ended(stage);
@@ -93,7 +94,8 @@ pub fn end_flight(flight: &mut Flight)
 
 /// A flight that ended with an outcome is ready again.
 pub fn reopen_flight(flight: &mut Flight, place: Place)
-    ensures { (l : Lead) (o : Outcome) → flight.old ≡ record { lead = l; stage = Stage.Ended (Some o) } → flight.new ≡ record { lead = l; stage = Stage.Ready o place } }
+    ensures { (l : Lead) (o : Outcome) → flight.old ≡ record { lead = l; stage = Stage.Ended (Some o) } →
+        flight.new ≡ record { lead = l; stage = Stage.Ready o place } }
 {
     let stage = replace(&mut flight.stage, Stage::New);
     flight.stage = reopened(stage, place);

@@ -1,6 +1,7 @@
 //! A list of entries.
 
-ghost use Rattle.std.specs.Prelude.{◌≡◌, ◌<◌, ◌∷◌, ℕ, true, false, is_some, length, position, slice_get, Some, MatchOption, option_map, IfOk, OnErr, OnOk, vec_len};
+ghost use Rattle.std.specs.Prelude.{◌≡◌, ◌<◌, ◌∷◌, ℕ, true, false, is_some, length, position, slice_get, Some, MatchOption, option_map};
+ghost use Rattle.std.specs.Prelude.{IfOk, OnErr, OnOk, vec_len};
 ghost use Rattle.std.specs.List.{remove};
 ghost use Rattle.std.specs.Map.{lookup, remove_entry};
 ghost use Rattle.iiif_tables.specs.Cache.{added, replaced, to_front as fronted, bytes_of};
@@ -83,7 +84,8 @@ pub(crate) fn remove_in(list: &mut Vec<Entry>, key: &Key)
 /// An entry takes the place of its key's entry and goes to the front, or comes back where there is none.
 pub(crate) fn replace_in(list: &mut Vec<Entry>, entry: Entry) -> Option<Entry>
     ensures { MatchOption result
-        ((is_some (lookup (key_eq entry.key) (rows list.old.items)) ≡ true) × (rows list.new.items ≡ replaced key_eq entry.key (entry_of entry).1 (rows list.old.items)))
+        ((is_some (lookup (key_eq entry.key) (rows list.old.items)) ≡ true) ×
+        (rows list.new.items ≡ replaced key_eq entry.key (entry_of entry).1 (rows list.old.items)))
         (λ e. (e ≡ entry) × (list.new.items ≡ list.old.items) × (is_some (lookup (key_eq entry.key) (rows list.old.items)) ≡ false)) }
 {
     match place_of(list, &entry.key) {

@@ -33,7 +33,10 @@ pub fn tile(picture: &Raster, key: &TileKey) -> Result<TileVal, NoMemory>
 pub fn sums(alloc: Global, picture: &Raster, key: &SumKey) -> Result<SumVal, NoMemory>
     requires fits { SumFitsIn (dim_of picture.now) picture.now.channels key.now }
     requires source { IsSource picture.now }
-    ensures { IfOk result (λ v. v ≡ record { sums = sums_of (crop picture.now key.now.rect) key.now.size (part_in (dim_of picture.now) key.now) }) }
+    ensures { IfOk result (λ v. v ≡ record {
+      sums =
+          sums_of (crop picture.now key.now.rect) key.now.size (part_in (dim_of picture.now) key.now);
+    }) }
 {
     let block = key.block_in(picture.dim());
     let tile = picture.crop(block)?;

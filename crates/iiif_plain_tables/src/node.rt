@@ -50,7 +50,8 @@ impl Node {
 
     /// The tables begin anew.
     pub fn empty(&mut self)
-        ensures { node_of self.new ≡ record (node_of self.old) { tiles = emptied (node_of self.old).tiles; sums = emptied (node_of self.old).sums } }
+        ensures { node_of self.new ≡ record (node_of self.old)
+            { tiles = emptied (node_of self.old).tiles; sums = emptied (node_of self.old).sums } }
     {
         self.tiles.empty();
         self.sums.empty();
@@ -71,7 +72,8 @@ impl Node {
     #[tactic(auto, unfolding(iiif_scene::specs::Keys::is_tile))]
     pub fn enter(&mut self, key: &Key, class: Class) -> Result<Entered, NoMemory>
         ensures met { IfOk result (λ r. entered_of r ≡ (entering key_eq class key.now (table_at (node_of self.old) key.now)).0) }
-        ensures node { OnOk result (node_of self.new ≡ put_table (node_of self.old) key.now (entering key_eq class key.now (table_at (node_of self.old) key.now)).1) }
+        ensures node { OnOk result (node_of self.new ≡ put_table (node_of self.old) key.now
+            (entering key_eq class key.now (table_at (node_of self.old) key.now)).1) }
         ensures err { OnErr result (node_of self.new ≡ node_of self.old) }
     {
         match key {
@@ -84,7 +86,8 @@ impl Node {
     #[tactic(auto, unfolding(iiif_scene::specs::Keys::is_tile, iiif_machine::specs::Tables::again))]
     pub fn again(&mut self, key: &Key, class: Class, ticket: u64) -> Result<Option<Value>, NoMemory>
         ensures found { IfOk result (λ r. r ≡ (looked_again (table_at (node_of self.old) key.now) key.now class ticket).0) }
-        ensures node { OnOk result (node_of self.new ≡ put_table (node_of self.old) key.now (looked_again (table_at (node_of self.old) key.now) key.now class ticket).1) }
+        ensures node { OnOk result (node_of self.new ≡ put_table (node_of self.old) key.now
+            (looked_again (table_at (node_of self.old) key.now) key.now class ticket).1) }
         ensures err { OnErr result (node_of self.new ≡ node_of self.old) }
     {
         match key {
@@ -105,7 +108,8 @@ impl Node {
         keep: bool,
     ) -> Result<(), NoMemory>
         ensures ok { OnOk result ((o : Outcome) → value_of o ≡ value
-            → node_of self.new ≡ put_table (node_of self.old) key.now (landed (table_at (node_of self.old) key.now) key.now class ticket o place keep)) }
+            → node_of self.new ≡ put_table (node_of self.old) key.now
+            (landed (table_at (node_of self.old) key.now) key.now class ticket o place keep)) }
         ensures err { OnErr result (node_of self.new ≡ node_of self.old) }
     {
         match key {

@@ -1,8 +1,10 @@
 //! A table, as plain lists.
 
 ghost use Rattle.std.specs.Bool.{OnTrue};
-ghost use Rattle.std.specs.Prelude.{slice_get, ◌≡◌, ◌∷◌, ◌++◌, [], ◌+◌, position, true, false, None, Some, ◌<◌, ◌^◌, IfOk, IfSome, OnErr, OnOk};
-ghost use Rattle.iiif_tables.specs.Flights.{again as looking_again, counting, empty_table, enter as entering, land as landed, with_flight, same_class as class_eq};
+ghost use Rattle.std.specs.Prelude.{slice_get, ◌≡◌, ◌∷◌, ◌++◌, [], ◌+◌, position, true, false, None, Some, ◌<◌, ◌^◌, IfOk, IfSome, OnErr};
+ghost use Rattle.std.specs.Prelude.OnOk;
+ghost use Rattle.iiif_tables.specs.Flights.{again as looking_again, counting, empty_table, enter as entering, land as landed, with_flight};
+ghost use Rattle.iiif_tables.specs.Flights.same_class as class_eq;
 ghost use Rattle.iiif_tables.specs.Cache.{kept_for};
 ghost use Rattle.iiif_scene.specs.Keys.{entry_size, key_eq};
 ghost use Rattle.iiif_machine.specs.Tables.{emptied, evicted};
@@ -61,7 +63,8 @@ pub enum Entered {
 
 /// Whether a call more can be counted.
 fn can_count(book: &Book) -> bool
-    ensures { OnTrue result ((book.now.gets + 1 < 2 ^ 64) × (book.now.hits + 1 < 2 ^ 64) × (book.now.joins + 1 < 2 ^ 64) × (book.now.leads + 1 < 2 ^ 64)) }
+    ensures { OnTrue result ((book.now.gets + 1 < 2 ^ 64) × (book.now.hits + 1 < 2 ^ 64) × (book.now.joins + 1 < 2 ^ 64) ×
+        (book.now.leads + 1 < 2 ^ 64)) }
 {
     let most = u64::MAX;
     book.gets < most && book.hits < most && book.joins < most && book.leads < most
@@ -95,7 +98,8 @@ fn counted(book: &Book, found: bool, value: &Option<Value>, place: Place) -> Opt
 
 /// A flight more is open.
 fn open(flights: &mut Vec<OpenFlight>, key: Key, class: Class, ticket: u64) -> Result<(), NoMemory>
-    ensures ok { OnOk result (flights.new.items ≡ flights.old.items ++ record { key = key; class = class; ticket = ticket; found = false } ∷ []) }
+    ensures ok { OnOk result (flights.new.items ≡ flights.old.items ++ record { key = key; class = class; ticket = ticket; found = false } ∷
+        []) }
     ensures err { OnErr result (flights.new.items ≡ flights.old.items) }
 {
     flights.push(OpenFlight {
@@ -166,7 +170,8 @@ impl PlainTable {
     /// A call for a key that isn't kept enters.
     fn enter_flight(&mut self, key: &Key, class: Class) -> Result<Entered, NoMemory>
         requires absent { kept_for key_eq key.now (table_of self.old).cache ≡ None }
-        requires count { ((table_of self.old).book.gets + 1 < 2 ^ 64) × ((table_of self.old).book.joins + 1 < 2 ^ 64) × ((table_of self.old).book.leads + 1 < 2 ^ 64) }
+        requires count { ((table_of self.old).book.gets + 1 < 2 ^ 64) × ((table_of self.old).book.joins + 1 < 2 ^ 64) ×
+            ((table_of self.old).book.leads + 1 < 2 ^ 64) }
         ensures ok { IfOk result (λ r. entering key_eq class key.now (table_of self.old) ≡ (entered_of r, table_of self.new)) }
         ensures err { OnErr result (table_of self.new ≡ table_of self.old) }
     {
@@ -218,7 +223,8 @@ impl PlainTable {
     fn mark(&mut self, place: usize, class: Class, key: &Key)
         requires { position (is_named class key.now) self.old.flights.items ≡ Some place }
         ensures flights { (f : OpenFlight) → slice_get self.old.flights.items place ≡ Some f
-            → (table_of self.new).flights ≡ with_flight key_eq class key.now (Some (record { ticket = f.ticket; found = true })) (table_of self.old).flights }
+            → (table_of self.new).flights ≡ with_flight key_eq class key.now (Some (record { ticket = f.ticket; found = true }))
+            (table_of self.old).flights }
         ensures aloft { (table_of self.new).aloft ≡ (table_of self.old).aloft }
         ensures rest { ((table_of self.new).cache ≡ (table_of self.old).cache) × ((table_of self.new).book ≡ (table_of self.old).book) }
     {

@@ -38,11 +38,14 @@ tiles_cover name edge image channels g e h w b =
             meets = meets_clipped image (square edge i j) g h (square_meets edge g i j e.some w b c d k l);
           });
       in_order = each_pair (tile_at name edge) (λ k l. StandsBefore k.tx k.ty l.tx l.ty) (squares_met edge g) (λ i j k l s. s);
-      cut = squares_cut edge g (tile_at name edge) (λ k. part_of (tile_of image k) g) e.some (λ i j. clipped_part image (square edge i j) g h);
+      cut = squares_cut edge g (tile_at name edge) (λ k. part_of (tile_of image k) g) e.some
+          (λ i j. clipped_part image (square edge i j) g h);
     }
 
-block_fits : (image : Dim) (channels : ℕ) (k : SumKey) → IsEdge k.edge → k.level ≤ 20 → LiesIn k.rect image → (0 < k.size.w) × (k.size.w ≤ k.rect.w) → (0 < k.size.h) × (k.size.h ≤ k.rect.h) →
-    sums_at_most k.edge k.level (sides_of k.rect) k.size channels ≤ most_sums → Meets (square (2 ^ k.level * k.edge) k.bx k.by) k.rect → SumFitsIn image channels k
+block_fits : (image : Dim) (channels : ℕ) (k : SumKey) → IsEdge k.edge → k.level ≤ 20 → LiesIn k.rect image → (0 < k.size.w) ×
+    (k.size.w ≤ k.rect.w) → (0 < k.size.h) × (k.size.h ≤ k.rect.h) →
+    sums_at_most k.edge k.level (sides_of k.rect) k.size channels ≤ most_sums → Meets (square (2 ^ k.level * k.edge) k.bx k.by) k.rect →
+    SumFitsIn image channels k
 block_fits image channels k edge level rect columns rows most meets =
     let s = 2 ^ k.level * k.edge in
     let r = square s k.bx k.by in
@@ -51,7 +54,8 @@ block_fits image channels k edge level rect columns rows most meets =
     let p = places_of (sides_of g) k.size part in
     let w : p.w ≤ met_at_most k.edge k.level g.w k.size.w = places_met s g.w k.size.w part.x part.w (omega arith) (omega arith) in
     let h : p.h ≤ met_at_most k.edge k.level g.h k.size.h = places_met s g.h k.size.h part.y part.h (omega arith) (omega arith) in
-    let count : p.w * p.h * channels ≤ sums_at_most k.edge k.level (sides_of g) k.size channels = mul-le-mul_right channels (mul-le-mul w h) in
+    let count : p.w * p.h * channels ≤ sums_at_most k.edge k.level (sides_of g) k.size channels =
+    mul-le-mul_right channels (mul-le-mul w h) in
     let len : sum_val_len p channels ≤ 2 ^ 26 = omega arith in
     record {
       block = record { edge = edge; level = level; rect = rect; meets = meets_clipped image r g rect meets };
@@ -60,7 +64,8 @@ block_fits image channels k edge level rect columns rows most meets =
       value = subst (λ (q : Rect). sum_val_len (places_of (sides_of g) k.size q) channels ≤ 2 ^ 26) (sym (clipped_part image r g rect)) len;
     }
 
-pub blocks_cover : (name : List ℕ) (edge : ℕ) (image : Dim) (channels : ℕ) (g : Rect) (size : Dim) (level : ℕ) → IsEdge edge → level ≤ 20 → LiesIn g image →
+pub blocks_cover : (name : List ℕ) (edge : ℕ) (image : Dim) (channels : ℕ) (g : Rect) (size : Dim) (level : ℕ) → IsEdge edge → level ≤ 20 →
+    LiesIn g image →
     (0 < size.w) × (size.w ≤ g.w) → (0 < size.h) × (size.h ≤ g.h) → sums_at_most edge level (sides_of g) size channels ≤ most_sums →
     BlocksCover name edge image channels g size level (each_square (block_at name edge g size level) (squares_met (2 ^ level * edge) g))
 blocks_cover name edge image channels g size level e few h columns rows most =

@@ -20,7 +20,8 @@ holds_above edge image lower level l h =
     le_trans h e
 
 -- a level is needed where the one below doesn't hold the image
-pub needed_from_below : (edge : ℕ) (image : Dim) (level : ℕ) → (level ≡ 0) ⊎ (¬ (HoldsImage edge image (level - 1))) → (lower : ℕ) → HoldsImage edge image lower → level ≤ lower
+pub needed_from_below : (edge : ℕ) (image : Dim) (level : ℕ) → (level ≡ 0) ⊎ (¬ (HoldsImage edge image (level - 1))) → (lower : ℕ) →
+    HoldsImage edge image lower → level ≤ lower
 needed_from_below edge image level below lower h =
     ⊎_elim
     (λ (l : lower < level). ⊎_elim
@@ -36,7 +37,8 @@ not_tested needed true e t h = cc
 not_tested needed false e t h = cc
 
 -- what is left to test of a level that is needed
-pub usable_tested : (edge : ℕ) (image region size : Dim) (channels room level sums : ℕ) → level ≤ 20 → ((lower : ℕ) → HoldsImage edge image lower → level ≤ lower) →
+pub usable_tested : (edge : ℕ) (image region size : Dim) (channels room level sums : ℕ) → level ≤ 20 →
+    ((lower : ℕ) → HoldsImage edge image lower → level ≤ lower) →
     sums ≡ sums_at_most edge level region size channels → IsTrue (nat_le sums room) ↔ IsUsable edge image region size channels room level
 usable_tested edge image region size channels room level sums few needed e = (
   λ h. record { few = few; needed = needed; within = subst (λ (n : ℕ). n ≤ room) e (leb-true sums room h) },
@@ -50,7 +52,8 @@ places_met s a c x n p h =
     let rest = mod_below (x * c) a p in
     let own : n * c ≤ s * c = mul-le-mul_right c h in
     let most = div_ceil-times (s * c) a p in
-    let end : div_ceil ((x + n) * c) a ≤ x * c / a + 1 + div_ceil (s * c) a = div_ceil-le ((x + n) * c) a (x * c / a + 1 + div_ceil (s * c) a) p (omega arith) in
+    let end : div_ceil ((x + n) * c) a ≤ x * c / a + 1 + div_ceil (s * c) a =
+    div_ceil-le ((x + n) * c) a (x * c / a + 1 + div_ceil (s * c) a) p (omega arith) in
     omega arith
 
 -- how many sums a planned block has at most: those of three channels at 1,025 by 1,025 places
@@ -64,11 +67,14 @@ met_lowest edge a c e p h =
     let d : div_ceil (2 ^ 0 * edge * c) a ≤ 1024 = div_ceil-le (2 ^ 0 * edge * c) a 1024 p (omega arith) in
     omega arith
 
-pub level_limits : (edge : ℕ) (image region size : Dim) (channels room level : ℕ) → IsEdge edge → room ≤ 65536 → channels ≤ 3 → (0 < size.w) × (size.w ≤ region.w) →
-    (0 < size.h) × (size.h ≤ region.h) → IsLevel edge image region size channels room level → sums_at_most edge level region size channels ≤ most_sums
+pub level_limits : (edge : ℕ) (image region size : Dim) (channels room level : ℕ) → IsEdge edge → room ≤ 65536 → channels ≤ 3 →
+    (0 < size.w) × (size.w ≤ region.w) →
+    (0 < size.h) × (size.h ≤ region.h) → IsLevel edge image region size channels room level →
+    sums_at_most edge level region size channels ≤ most_sums
 level_limits edge image region size channels room level e small few columns rows is =
     ⊎_elim
-    (λ (u : IsUsable edge image region size channels room level × ((other : ℕ) → IsUsable edge image region size channels room other → other ≤ level)).
+    (λ (u : IsUsable edge image region size channels room level ×
+    ((other : ℕ) → IsUsable edge image region size channels room other → other ≤ level)).
     le_trans u.0.within (omega arith))
     (λ (n : (level ≡ 0) × ((other : ℕ) → ¬ (IsUsable edge image region size channels room other))).
     let w : met_at_most edge 0 region.w size.w ≤ 1025 = met_lowest edge region.w size.w e.within (omega arith) columns.1 in

@@ -61,7 +61,8 @@ met_last s e i p h =
     (cases_lt i (div_ceil e s))
 
 -- a square of those met has a place of the region
-pub square_meets : (s : ℕ) (g : Rect) (i j : ℕ) → 0 < s → 0 < g.w → 0 < g.h → g.x / s ≤ i → i < div_ceil (g.x + g.w) s → g.y / s ≤ j → j < div_ceil (g.y + g.h) s →
+pub square_meets : (s : ℕ) (g : Rect) (i j : ℕ) → 0 < s → 0 < g.w → 0 < g.h → g.x / s ≤ i → i < div_ceil (g.x + g.w) s → g.y / s ≤ j →
+    j < div_ceil (g.y + g.h) s →
     Meets (square s i j) g
 square_meets s g i j p w h a b c d =
     let x1 = first_met s g.x i p a in
@@ -71,7 +72,8 @@ square_meets s g i j p w h a b c d =
     record { columns = omega arith; rows = omega arith }
 
 -- a place of the region is one of just one square
-pub place_in : (s : ℕ) (g : Rect) (i j x y : ℕ) → 0 < s → has_place (part_of (square s i j) g) x y ≡ ((nat_lt x g.w && nat_lt y g.h) && (i == (g.x + x) / s && j == (g.y + y) / s))
+pub place_in : (s : ℕ) (g : Rect) (i j x y : ℕ) → 0 < s →
+    has_place (part_of (square s i j) g) x y ≡ ((nat_lt x g.w && nat_lt y g.h) && (i == (g.x + x) / s && j == (g.y + y) / s))
 place_in s g i j x y p =
     let t = square s i j in
     alike _ _
@@ -85,7 +87,8 @@ place_in s g i j x y p =
     let row : j * s ≡ (g.y + y) / s * s = ap (λ (n : ℕ). n * s) (eqb-true j _ at.1) in
     let a = column_has s (g.x + x) p in
     let b = column_has s (g.y + y) p in
-    (has_place-tested (part_of t g) x y).1 ((part_is_common t g x y).1 (ltb-true x g.w inside.0, ltb-true y g.h inside.1, (omega arith, omega arith, omega arith, omega arith))))
+    (has_place-tested (part_of t g) x y).1 ((part_is_common t g x y).1
+    (ltb-true x g.w inside.0, ltb-true y g.h inside.1, (omega arith, omega arith, omega arith, omega arith))))
 
 -- the column of squares that has a column of the region is one of those met
 column_met : (s x w t : ℕ) → 0 < s → t < w → within (x / s) (div_ceil (x + w) s - x / s) ((x + t) / s) ≡ true
@@ -98,7 +101,8 @@ column_met s x w t p l =
 -- each place of the region is one of just one of the squares met
 place_met : (s : ℕ) (g : Rect) (x y : ℕ) → 0 < s →
     ((nat_lt x g.w && nat_lt y g.h)
-    && (within (g.x / s) (div_ceil (g.x + g.w) s - g.x / s) ((g.x + x) / s) && within (g.y / s) (div_ceil (g.y + g.h) s - g.y / s) ((g.y + y) / s)))
+    && (within (g.x / s) (div_ceil (g.x + g.w) s - g.x / s) ((g.x + x) / s) && within (g.y / s) (div_ceil (g.y + g.h) s - g.y / s)
+    ((g.y + y) / s)))
     ≡ has_place (whole_of (sides_of g)) x y
 place_met s g x y p =
     alike _ _
@@ -113,7 +117,8 @@ place_met s g x y p =
     and_from _ _ (and_from _ _ (lt-ltb x g.w a) (lt-ltb y g.h b)) (and_from _ _ (column_met s g.x g.w x p a) (column_met s g.y g.h y p b)))
 
 -- so the squares' parts of the region cut it
-pub squares_cut : {K : Type 0} (s : ℕ) (g : Rect) (f : ℕ → ℕ → K) (part : K → Rect) → 0 < s → ((i j : ℕ) → part (f i j) ≡ part_of (square s i j) g) →
+pub squares_cut : {K : Type 0} (s : ℕ) (g : Rect) (f : ℕ → ℕ → K) (part : K → Rect) → 0 < s →
+    ((i j : ℕ) → part (f i j) ≡ part_of (square s i j) g) →
     IsCutInto (whole_of (sides_of g)) (map part (each_square f (squares_met s g)))
 squares_cut s g f part p e x y =
     let keys = each_square f (squares_met s g) in

@@ -1,5 +1,6 @@
 -- What covers a region names each square that has a place of it once.
-use Rattle.std.proofs.Common.{◌≡◌, ℕ, ◌+◌, ◌-◌, ◌*◌, ◌/◌, ◌^◌, ◌<◌, Bool, true, false, List, [], ◌∷◌, max, map, refl, sym, ap, subst, ◌∙◌, arith}
+use Rattle.std.proofs.Common.{◌≡◌, ℕ, ◌+◌, ◌-◌, ◌*◌, ◌/◌, ◌^◌, ◌<◌, Bool, true, false, List, [], ◌∷◌, max, map, refl, sym, ap, subst, ◌∙◌}
+use Rattle.std.proofs.Common.{arith}
 use Rattle.std.specs.Prelude.{nat_lt, ◌&&◌, ◌==◌}
 use Rattle.std.specs.List.{All, count_by}
 use Rattle.std.proofs.lemmas.Bool.{and_from, lt-ltb, ltb-true, eqb-true, false≢true, and_parts, false_from_ne_true}
@@ -44,7 +45,8 @@ abbrev meets : ℕ → Rect → ℕ → ℕ → Bool
 meets s g i j = nat_lt 0 (part_of (square s i j) g).w && nat_lt 0 (part_of (square s i j) g).h
 
 -- the square's first place of the region is one of just the square's part
-first_place : {K : Type 0} (ks : List K) (column row : K → ℕ) (part : K → Rect) (s : ℕ) (g : Rect) (i j : ℕ) → IsCutInto (whole_of (sides_of g)) (map part ks) →
+first_place : {K : Type 0} (ks : List K) (column row : K → ℕ) (part : K → Rect) (s : ℕ) (g : Rect) (i j : ℕ) →
+    IsCutInto (whole_of (sides_of g)) (map part ks) →
     All (λ k. IsOfSquare s g (column k) (row k) (part k)) ks → Meets (square s i j) g → count_by (λ k. column k == i && row k == j) ks ≡ 1
 first_place {K} ks column row part s g i j cut of m =
     let columns = m.columns in
@@ -69,11 +71,13 @@ not_listed {K} ks column row part s g i j of off =
     count_none _ ks (All-weaker (λ k. IsOfSquare s g (column k) (row k) (part k)) (λ k. (column k == i && row k == j) ≡ false)
     (λ k h. false_from_ne_true (column k == i && row k == j) (λ t.
     let q = and_parts (column k == i) (row k == j) t in
-    let m = subst (λ (y : ℕ). Meets (square s i y) g) (eqb-true (row k) j q.1) (subst (λ (x : ℕ). Meets (square s x (row k)) g) (eqb-true (column k) i q.0) h.met) in
+    let m = subst (λ (y : ℕ). Meets (square s i y) g) (eqb-true (row k) j q.1)
+    (subst (λ (x : ℕ). Meets (square s x (row k)) g) (eqb-true (column k) i q.0) h.met) in
     let yes : meets s g i j ≡ true = and_from _ _ (lt-ltb 0 _ m.columns) (lt-ltb 0 _ m.rows) in
     absurd (false≢true (sym off ∙ yes)))) ks of)
 
-listed_once : {K : Type 0} (ks : List K) (column row : K → ℕ) (part : K → Rect) (s : ℕ) (g : Rect) (i j : ℕ) (b : Bool) → meets s g i j ≡ b →
+listed_once : {K : Type 0} (ks : List K) (column row : K → ℕ) (part : K → Rect) (s : ℕ) (g : Rect) (i j : ℕ) (b : Bool) →
+    meets s g i j ≡ b →
     IsCutInto (whole_of (sides_of g)) (map part ks) → All (λ k. IsOfSquare s g (column k) (row k) (part k)) ks →
     count_by (λ k. column k == i && row k == j) ks ≡ one_if b
 listed_once ks column row part s g i j true e cut of =
@@ -105,7 +109,9 @@ each_block_once name edge image channels g size level ks h cover i j =
     let side = 2 ^ k.level * k.edge in
     let same : side ≡ s = rw (t.at_level, t.own_edge) refl in
     let c = clipped_part image (square side k.bx k.by) k.rect t.fits.block.rect in
-    let of : IsOfSquare side k.rect k.bx k.by (part_in image k) = record { has = c; met = unclipped image (square side k.bx k.by) k.rect c t.fits.block.meets } in
-    subst (λ (n : ℕ). IsOfSquare n g k.bx k.by (part_in image k)) same (subst (λ (r : Rect). IsOfSquare side r k.bx k.by (part_in image k)) t.of_region of)) ks cover.blocks in
+    let of : IsOfSquare side k.rect k.bx k.by (part_in image k) =
+    record { has = c; met = unclipped image (square side k.bx k.by) k.rect c t.fits.block.meets } in
+    subst (λ (n : ℕ). IsOfSquare n g k.bx k.by (part_in image k)) same
+    (subst (λ (r : Rect). IsOfSquare side r k.bx k.by (part_in image k)) t.of_region of)) ks cover.blocks in
     listed_once ks (λ k. k.bx) (λ k. k.by) (part_in image) s g i j (is_met image s g i j)
     (ap (λ (p : Rect). nat_lt 0 p.w && nat_lt 0 p.h) e) cover.cut of

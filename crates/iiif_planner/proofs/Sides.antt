@@ -6,7 +6,8 @@ use Rattle.iiif_canonical.specs.declared.resolved.Resolved.{Resolved}
 use Rattle.iiif_planner.specs.Items.{is_scaled_up}
 use Rattle.iiif_planner.specs.Plans.{IsScaledUp}
 
-up_by : (columns rows : Bool) (r : Resolved) → nat_lt r.rect.w r.size.w ≡ columns → nat_lt r.rect.h r.size.h ≡ rows → columns || rows ≡ true → IsScaledUp r
+up_by : (columns rows : Bool) (r : Resolved) → nat_lt r.rect.w r.size.w ≡ columns → nat_lt r.rect.h r.size.h ≡ rows →
+    columns || rows ≡ true → IsScaledUp r
 up_by true rows r c h up =
     let wider : r.rect.w < r.size.w = grind (arith, nat_tests) in
     inl wider

@@ -1,5 +1,6 @@
 -- The plan of a request as a list: its tiles or its blocks, row by row.
-use Rattle.std.specs.Prelude.{◌≡◌, ℕ, ◌+◌, ◌-◌, ◌*◌, ◌/◌, ◌^◌, List, [], ◌∷◌, ◌++◌, Bool, true, false, ◌&&◌, ◌||◌, ◌==◌, not, nat_le, max, if◌then◌else◌}
+use Rattle.std.specs.Prelude.{◌≡◌, ℕ, ◌+◌, ◌-◌, ◌*◌, ◌/◌, ◌^◌, List, [], ◌∷◌, ◌++◌, Bool, true, false, ◌&&◌, ◌||◌, ◌==◌, not, nat_le, max}
+use Rattle.std.specs.Prelude.{if◌then◌else◌}
 use Prim.Native.Nat.{zero, suc}
 use Rattle.std.specs.Int.{div_ceil}
 use Rattle.iiif_pixel.specs.declared.geometry.Dim.{Dim}

@@ -21,11 +21,13 @@ is_met image side region i j =
 -- Of the tiles of an image, each that has a place of the region is listed once, and no other.
 abbrev pub EachTileOnce : Type 0
 EachTileOnce = (name : List ℕ) (edge : ℕ) (image : Dim) (channels : ℕ) (region : Rect) (keys : List TileKey) → LiesIn region image →
-    TilesCover name edge image channels region keys → (i j : ℕ) → count_by (λ k. k.tx == i && k.ty == j) keys ≡ (if is_met image edge region i j then 1 else 0)
+    TilesCover name edge image channels region keys → (i j : ℕ) →
+    count_by (λ k. k.tx == i && k.ty == j) keys ≡ (if is_met image edge region i j then 1 else 0)
 
 -- And so it is of the blocks of the level.
 abbrev pub EachBlockOnce : Type 0
-EachBlockOnce = (name : List ℕ) (edge : ℕ) (image : Dim) (channels : ℕ) (region : Rect) (size : Dim) (level : ℕ) (keys : List SumKey) → LiesIn region image →
+EachBlockOnce = (name : List ℕ) (edge : ℕ) (image : Dim) (channels : ℕ) (region : Rect) (size : Dim) (level : ℕ) (keys : List SumKey) →
+    LiesIn region image →
     BlocksCover name edge image channels region size level keys →
     (i j : ℕ) → count_by (λ k. k.bx == i && k.by == j) keys ≡ (if is_met image (2 ^ level * edge) region i j then 1 else 0)
 

@@ -15,35 +15,59 @@ use Rattle.iiif_start.specs.Stored.{bytes_of, keeps_of, stored_gave}
 use Rattle.iiif_start.specs.declared.stop.Stop.{Stop}
 use Rattle.iiif_start.specs.declared.stored.Stored.{Stored}
 
-module _ {R : Type 0} {d : _} (holds : List ℕ → List ℕ) (keeps : List ℕ → Type 0) (honest : Bool) (settings : Settings) (items : List (Item (Stored R d))) (target : List ℕ)
+module _ {R : Type 0} {d : _} (holds : List ℕ → List ℕ) (keeps : List ℕ → Type 0) (honest : Bool) (settings : Settings)
+    (items : List (Item (Stored R d))) (target : List ℕ)
     (writer : Type 0) (old new : Option (List ℕ)) (held : AllHeld items) (is_honest : honest ≡ true) where
   -- a body that was sent whole
   pub whole : (sent : Sent)
-      → (text : List ℕ) × Appends old new text × Allowed settings Body stored_gave (Replies (bytes_of holds) (keeps_of keeps) honest settings items target) writer text (Ok sent)
+      → (text : List ℕ) × Appends old new text ×
+      Allowed settings Body stored_gave (Replies (bytes_of holds) (keeps_of keeps) honest settings items target) writer text (Ok sent)
       → (text : List ℕ) × Appends old new text × IsBody (bytes_of holds) settings items target writer text
-  whole sent may = (may.0, may.1, (sent, held_allowed holds keeps honest settings items target Body writer may.0 (Ok sent) held is_honest may.2))
+  whole sent may = (
+    may.0,
+    may.1,
+    (
+      sent,
+      held_allowed holds keeps honest settings items target Body writer may.0 (Ok sent) held is_honest
+          may.2,
+    ),
+  )
 
   -- one that was cut off
   pub cut_off : (cut : Cut)
-      → (text : List ℕ) × Appends old new text × Allowed settings Body stored_gave (Replies (bytes_of holds) (keeps_of keeps) honest settings items target) writer text (Err cut)
+      → (text : List ℕ) × Appends old new text ×
+      Allowed settings Body stored_gave (Replies (bytes_of holds) (keeps_of keeps) honest settings items target) writer text (Err cut)
       → (text : List ℕ) × Appends old new text × ((text ≡ []) ⊎ IsCutBody (bytes_of holds) settings items target writer text)
-  cut_off cut may = (may.0, may.1, inr (cut, held_allowed holds keeps honest settings items target Body writer may.0 (Err cut) held is_honest may.2))
+  cut_off cut may = (
+    may.0,
+    may.1,
+    inr (
+      cut,
+      held_allowed holds keeps honest settings items target Body writer may.0 (Err cut) held
+          is_honest may.2,
+    ),
+  )
 
   -- the same, of a target that is the one that is asked for
   pub whole_of : (asked : List ℕ) → asked ≡ target → (sent : Sent)
-      → (text : List ℕ) × Appends old new text × Allowed settings Body stored_gave (Replies (bytes_of holds) (keeps_of keeps) honest settings items asked) writer text (Ok sent)
+      → (text : List ℕ) × Appends old new text ×
+      Allowed settings Body stored_gave (Replies (bytes_of holds) (keeps_of keeps) honest settings items asked) writer text (Ok sent)
       → (text : List ℕ) × Appends old new text × IsBody (bytes_of holds) settings items target writer text
   whole_of asked same sent may = whole sent (subst (λ (t : List ℕ). (text : List ℕ) × Appends old new text
-      × Allowed settings Body stored_gave (Replies (bytes_of holds) (keeps_of keeps) honest settings items t) writer text (Ok sent)) same may)
+      × Allowed settings Body stored_gave (Replies (bytes_of holds) (keeps_of keeps) honest settings items t) writer text (Ok sent)) same
+      may)
 
   pub cut_off_of : (asked : List ℕ) → asked ≡ target → (cut : Cut)
-      → (text : List ℕ) × Appends old new text × Allowed settings Body stored_gave (Replies (bytes_of holds) (keeps_of keeps) honest settings items asked) writer text (Err cut)
+      → (text : List ℕ) × Appends old new text ×
+      Allowed settings Body stored_gave (Replies (bytes_of holds) (keeps_of keeps) honest settings items asked) writer text (Err cut)
       → (text : List ℕ) × Appends old new text × ((text ≡ []) ⊎ IsCutBody (bytes_of holds) settings items target writer text)
   cut_off_of asked same cut may = cut_off cut (subst (λ (t : List ℕ). (text : List ℕ) × Appends old new text
-      × Allowed settings Body stored_gave (Replies (bytes_of holds) (keeps_of keeps) honest settings items t) writer text (Err cut)) same may)
+      × Allowed settings Body stored_gave (Replies (bytes_of holds) (keeps_of keeps) honest settings items t) writer text (Err cut)) same
+      may)
 
 -- what a node answers is what one of its settings and images does
-pub of_made : {R : Type 0} {d : _} (bytes : Stored R d → List ℕ) (honest : Bool) (made settings : Settings) (has items : List (Item (Stored R d)))
+pub of_made : {R : Type 0} {d : _} (bytes : Stored R d → List ℕ) (honest : Bool) (made settings : Settings)
+    (has items : List (Item (Stored R d)))
     (target : List ℕ) (writer : Type 0) (old new : Option (List ℕ)) (result : Result (Unit {0}) Stop) → made ≡ settings → has ≡ items →
     (AllHeld has → honest ≡ true → (text : List ℕ) × Appends old new text × IsAnswerOfHeld bytes made has target writer text result) →
     AllHeld items → honest ≡ true → (text : List ℕ) × Appends old new text × IsAnswerOfHeld bytes settings items target writer text result

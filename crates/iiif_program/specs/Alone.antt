@@ -18,6 +18,7 @@ IsCutBody bytes settings items target writer text = (cut : Cut) × AllowedOfHeld
 
 -- What is written of the answer to a target, with that result: all of a body; or what of one was written before it was cut off, if
 -- anything was.
-abbrev pub IsAnswerOfHeld : {S : Type 0} → (S → List ℕ) → Settings → List (Item S) → List ℕ → Type 0 → List ℕ → Result (Unit {0}) Stop → Type 0
+abbrev pub IsAnswerOfHeld : {S : Type 0} → (S → List ℕ) → Settings → List (Item S) → List ℕ → Type 0 → List ℕ → Result (Unit {0}) Stop →
+    Type 0
 IsAnswerOfHeld bytes settings items target writer text (Ok _) = IsBody bytes settings items target writer text
 IsAnswerOfHeld bytes settings items target writer text (Err stop) = (text ≡ []) ⊎ IsCutBody bytes settings items target writer text

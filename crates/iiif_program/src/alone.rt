@@ -74,14 +74,17 @@ where
     requires bytes { alone.cache_bytes < 2 ^ 63 }
     requires pictures { (name : List ℕ) → J.pictures name ≡ pictures_of (bytes_of R.holds) alone.catalogue name }
     requires gave { (name : List ℕ) (f : ReadFault) → J.gave name f ≡ gave_of stored_gave alone.catalogue name f }
-    requires stable { (name : List ℕ) (item : _) → item_named alone.catalogue name ≡ Some item → J.stable name → ∥ keeps_of R.keeps item.source ∥₁ }
-    requires kept { (name : List ℕ) (item : _) → item_named alone.catalogue name ≡ Some item → keeps_of R.keeps item.source → J.stable name }
+    requires stable { (name : List ℕ) (item : _) → item_named alone.catalogue name ≡ Some item → J.stable name →
+        ∥ keeps_of R.keeps item.source ∥₁ }
+    requires kept { (name : List ℕ) (item : _) → item_named alone.catalogue name ≡ Some item → keeps_of R.keeps item.source →
+        J.stable name }
     requires edge { alone.config.edge ≡ J.edge }
     requires honest { J.honest ≡ true }
     requires tiles { (blanks.0.name ≡ J.tiles_name) × (blanks.0.parts ≡ J.tiles_parts) × (J.tiles_parts ≡ 65537) }
     requires sums { (blanks.1.name ≡ J.sums_name) × (blanks.1.parts ≡ J.sums_parts) × (J.sums_parts ≡ 65537) }
     ensures held { AllHeld alone.catalogue → (text : List ℕ) × Appends (O.contents out.old) (O.contents out.new) text
-        × IsAnswerOfHeld (bytes_of R.holds) alone.config alone.catalogue asked.now.target.now ((before : O) × O.fails before out.new) text result }
+        × IsAnswerOfHeld (bytes_of R.holds) alone.config alone.catalogue asked.now.target.now ((before : O) × O.fails before out.new) text
+        result }
 {
     let Alone {
         config,

@@ -44,7 +44,8 @@ where
     N: Link<TileKey, J, R> + Link<SumKey, J, R> + Sync,
     T: Gate<R> + Sync,
     ensures held { AllHeld node.now.items → J.honest ≡ true → (text : List ℕ) × Appends (O.contents out.old) (O.contents out.new) text
-        × IsAnswerOfHeld (bytes_of R.holds) node.now.settings node.now.items target.now ((before : O) × O.fails before out.new) text result }
+        × IsAnswerOfHeld (bytes_of R.holds) node.now.settings node.now.items target.now ((before : O) × O.fails before out.new) text
+        result }
 {
     let Some(mut passes) = passes_of(rt, alloc, node, workers) else {
         return Err(Stop::Memory);

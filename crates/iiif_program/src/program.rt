@@ -234,7 +234,8 @@ where
     E: Outlet + Send,
     requires pictures { (name : List ℕ) → J.pictures name ≡ pictures_of (bytes_of R.holds) catalogue name }
     requires gave { (name : List ℕ) (f : ReadFault) → J.gave name f ≡ gave_of stored_gave catalogue name f }
-    requires stable { (name : List ℕ) (item : _) → item_named catalogue name ≡ Some item → J.stable name → ∥ keeps_of R.keeps item.source ∥₁ }
+    requires stable { (name : List ℕ) (item : _) → item_named catalogue name ≡ Some item → J.stable name →
+        ∥ keeps_of R.keeps item.source ∥₁ }
     requires kept { (name : List ℕ) (item : _) → item_named catalogue name ≡ Some item → keeps_of R.keeps item.source → J.stable name }
     requires edge { config.edge ≡ J.edge }
     requires honest { J.honest ≡ true }
@@ -275,7 +276,8 @@ where
     E: Outlet + Send,
     requires pictures { (name : List ℕ) → J.pictures name ≡ pictures_of (bytes_of R.holds) catalogue name }
     requires gave { (name : List ℕ) (f : ReadFault) → J.gave name f ≡ gave_of stored_gave catalogue name f }
-    requires stable { (name : List ℕ) (item : _) → item_named catalogue name ≡ Some item → J.stable name → ∥ keeps_of R.keeps item.source ∥₁ }
+    requires stable { (name : List ℕ) (item : _) → item_named catalogue name ≡ Some item → J.stable name →
+        ∥ keeps_of R.keeps item.source ∥₁ }
     requires kept { (name : List ℕ) (item : _) → item_named catalogue name ≡ Some item → keeps_of R.keeps item.source → J.stable name }
     requires edge { config.edge ≡ J.edge }
     requires honest { J.honest ≡ false }

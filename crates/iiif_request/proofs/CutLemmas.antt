@@ -1,5 +1,6 @@
 -- Texts cut at the first of a byte.
-use Rattle.std.proofs.Common.{◌≡◌, ◌≢◌, ℕ, ◌+◌, ◌<◌, ◌≤◌, ◌⊎◌, Bool, true, false, List, [], ◌∷◌, ◌++◌, length, get_or, take, drop, refl, sym, ap, ◌∙◌, subst, arith, Some, None, inl, inr, ⊎_elim, eqb, ltb}
+use Rattle.std.proofs.Common.{◌≡◌, ◌≢◌, ℕ, ◌+◌, ◌<◌, ◌≤◌, ◌⊎◌, Bool, true, false, List, [], ◌∷◌, ◌++◌, length, get_or, take, drop, refl}
+use Rattle.std.proofs.Common.{sym, ap, ◌∙◌, subst, arith, Some, None, inl, inr, ⊎_elim, eqb, ltb}
 use Rattle.std.specs.Prelude.{◌==◌, not}
 use Rattle.std.specs.List.{position_or_len, before_first, after_first}
 use Rattle.std.proofs.lemmas.Bool.{eqb-true, eq-eqb, lt-ltb, ltb-true, ltb-false, both_ways}
@@ -38,7 +39,8 @@ cut_at byte text a b lacks e =
 -- what a cut says of the text
 abbrev pub IsCutOrWhole : ℕ → List ℕ → Type 0
 IsCutOrWhole byte text =
-    ((cut_of byte text ≡ None) × Lacks byte text) ⊎ ((a b : List ℕ) × (cut_of byte text ≡ Some (a, b)) × (text ≡ a ++ byte ∷ b) × Lacks byte a)
+    ((cut_of byte text ≡ None) × Lacks byte text) ⊎
+    ((a b : List ℕ) × (cut_of byte text ≡ Some (a, b)) × (text ≡ a ++ byte ∷ b) × Lacks byte a)
 
 pub cut_cases : (byte : ℕ) (text : List ℕ) → IsCutOrWhole byte text
 unfolding cut_of
@@ -49,7 +51,8 @@ cut_cases byte text = by_test (ltb (position_or_len (λ x. x == byte) text) (len
         let test : ℕ → Bool = λ x. x == byte in
         let inside : position_or_len test text < length text = ltb-true _ _ e in
         let here : get_or text (position_or_len test text) 0 ≡ byte = eqb-true _ _ (passes_at_first test text 0 inside) in
-        let parts : text ≡ before_first test text ++ (get_or text (position_or_len test text) 0 ∷ after_first test text) = split_at_first test text 0 inside in
+        let parts : text ≡ before_first test text ++ (get_or text (position_or_len test text) 0 ∷ after_first test text) =
+        split_at_first test text 0 inside in
         let cut : text ≡ before_first test text ++ (byte ∷ after_first test text) =
         parts ∙ ap (λ (x : ℕ). before_first test text ++ (x ∷ after_first test text)) here in
         let front : Lacks byte (before_first test text) = λ k d below.
@@ -64,7 +67,8 @@ cut_cases byte text = by_test (ltb (position_or_len (λ x. x == byte) text) (len
 -- a text that lacks the byte isn't cut
 pub cut_none : (byte : ℕ) (text : List ℕ) → Lacks byte text → cut_of byte text ≡ None
 cut_none byte text lacks =
-    ⊎_elim (λ w. w.0) (λ s. absurd (lacks (length s.0) 0 (omega (arith, ap length s.3, length-append s.0 (byte ∷ s.1))) (ap (λ (t : List ℕ). get_or t (length s.0) 0) s.3 ∙ get_or-append_seam s.0 byte s.1 0)))
+    ⊎_elim (λ w. w.0) (λ s. absurd (lacks (length s.0) 0 (omega (arith, ap length s.3, length-append s.0 (byte ∷ s.1)))
+    (ap (λ (t : List ℕ). get_or t (length s.0) 0) s.3 ∙ get_or-append_seam s.0 byte s.1 0)))
     (cut_cases byte text)
 
 -- the same for a text that is cut, as a value
@@ -108,12 +112,14 @@ lacks_place byte (x ∷ a) lacks =
     let rest = lacks_place byte a (All-tail (λ y. y ≢ byte) x a lacks) in
     rw differs (omega (arith, rest))
 
-pub uncut_parts : (byte : ℕ) (text : List ℕ) → Lacks byte text → (before_first (λ b. b == byte) text ≡ text) × (after_first (λ b. b == byte) text ≡ [])
+pub uncut_parts : (byte : ℕ) (text : List ℕ) → Lacks byte text → (before_first (λ b. b == byte) text ≡ text) ×
+    (after_first (λ b. b == byte) text ≡ [])
 uncut_parts byte text lacks =
     let at = lacks_place byte text lacks in
     (ap (λ (n : ℕ). take n text) at ∙ take-length text, drop_all (position_or_len (λ b. b == byte) text + 1) text (omega (arith, at)))
 
-pub cut_parts : (byte : ℕ) (text a b : List ℕ) → Lacks byte a → text ≡ a ++ byte ∷ b → (before_first (λ b. b == byte) text ≡ a) × (after_first (λ b. b == byte) text ≡ b)
+pub cut_parts : (byte : ℕ) (text a b : List ℕ) → Lacks byte a → text ≡ a ++ byte ∷ b → (before_first (λ b. b == byte) text ≡ a) ×
+    (after_first (λ b. b == byte) text ≡ b)
 cut_parts byte text a b lacks e =
     let at = first_place byte a b lacks in (
       ap (before_first (λ x. x == byte)) e ∙ ap (λ (n : ℕ). take n (a ++ byte ∷ b)) at ∙ take-append_seam a (byte ∷ b),

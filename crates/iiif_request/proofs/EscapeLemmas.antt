@@ -1,5 +1,6 @@
 -- Escapes as the code tests and decodes them, and as the units of a segment.
-use Rattle.std.proofs.Common.{◌≡◌, ◌≢◌, ℕ, zero, suc, ◌+◌, ◌*◌, ◌<◌, ◌≤◌, Bool, true, false, List, [], ◌∷◌, ◌++◌, length, drop, refl, sym, ap, ◌∙◌, subst, arith, Some, None, inl, inr, ⊎_elim, ◌&&◌}
+use Rattle.std.proofs.Common.{◌≡◌, ◌≢◌, ℕ, zero, suc, ◌+◌, ◌*◌, ◌<◌, ◌≤◌, Bool, true, false, List, [], ◌∷◌, ◌++◌, length, drop, refl, sym}
+use Rattle.std.proofs.Common.{ap, ◌∙◌, subst, arith, Some, None, inl, inr, ⊎_elim, ◌&&◌}
 use Rattle.std.specs.Prelude.{◌==◌, IsUtf8}
 use Rattle.std.specs.Char.{is_ascii_hexdigit, digit_value}
 use Rattle.std.specs.List.{list_all, slice_split, onto_first, concat, AllZip}
@@ -54,16 +55,19 @@ whole_percent raw part parts e =
     ap (λ (l : List (List ℕ)). list_all begins_with_digits l) e
     ∙ ap (λ (l : List (List ℕ)). begins_with_digits part && list_all begins_with_digits (drop 1 l)) (sym e)
 
-begins : (high low : ℕ) (part : List ℕ) → is_ascii_hexdigit high ≡ true → is_ascii_hexdigit low ≡ true → begins_with_digits (high ∷ low ∷ part) ≡ true
+begins : (high low : ℕ) (part : List ℕ) → is_ascii_hexdigit high ≡ true → is_ascii_hexdigit low ≡ true →
+    begins_with_digits (high ∷ low ∷ part) ≡ true
 begins high low part first second =
     and_from _ _ (and_from _ _ (le-leb 2 (length (high ∷ low ∷ part)) (omega arith)) first) second
 
-whole_escape : (high low : ℕ) (raw : List ℕ) → digit_value high < 16 → digit_value low < 16 → has_whole_escapes (37 ∷ high ∷ low ∷ raw) ≡ has_whole_escapes raw
+whole_escape : (high low : ℕ) (raw : List ℕ) → digit_value high < 16 → digit_value low < 16 →
+    has_whole_escapes (37 ∷ high ∷ low ∷ raw) ≡ has_whole_escapes raw
 whole_escape high low raw first second =
     let rest = split_some raw in
     let cut : slice_split is_percent (high ∷ low ∷ raw) ≡ (high ∷ low ∷ rest.0) ∷ rest.1 =
     slice_split-cons_no is_percent high (low ∷ raw) (ne-eqb high 37 (hex_no_percent high first))
-    ∙ ap (onto_first high) (slice_split-cons_no is_percent low raw (ne-eqb low 37 (hex_no_percent low second)) ∙ ap (onto_first low) rest.2) in
+    ∙ ap (onto_first high) (slice_split-cons_no is_percent low raw (ne-eqb low 37 (hex_no_percent low second)) ∙ ap (onto_first low) rest.2)
+    in
     let digits = begins high low rest.0 (worth_hex high first) (worth_hex low second) in
     whole_percent (high ∷ low ∷ raw) (high ∷ low ∷ rest.0) rest.1 cut
     ∙ ap (λ (b : Bool). b && has_whole_escapes (high ∷ low ∷ raw)) digits
@@ -73,7 +77,8 @@ whole_escape high low raw first second =
 abbrev BeginsWithEscape : List ℕ → Type 0
 BeginsWithEscape raw = (high low : ℕ) × (rest : List ℕ) × (raw ≡ high ∷ low ∷ rest) × (digit_value high < 16) × (digit_value low < 16)
 
-escape_behind : (raw part : List ℕ) (parts : List (List ℕ)) → slice_split is_percent raw ≡ part ∷ parts → begins_with_digits part ≡ true → BeginsWithEscape raw
+escape_behind : (raw part : List ℕ) (parts : List (List ℕ)) → slice_split is_percent raw ≡ part ∷ parts → begins_with_digits part ≡ true →
+    BeginsWithEscape raw
 escape_behind [] part parts e h =
     let same : [] ≡ part = cc in
     absurd (both_ways (begins_with_digits part) (ap begins_with_digits (sym same)) h)
@@ -87,14 +92,16 @@ escape_behind (high ∷ raw) part parts e h = ⊎_elim
     low_behind high raw part parts cut h)
     (eqb_tells high 37)
   where
-    low_behind : (high : ℕ) (raw part : List ℕ) (parts : List (List ℕ)) → onto_first high (slice_split is_percent raw) ≡ part ∷ parts → begins_with_digits part ≡ true
+    low_behind : (high : ℕ) (raw part : List ℕ) (parts : List (List ℕ)) → onto_first high (slice_split is_percent raw) ≡ part ∷ parts →
+        begins_with_digits part ≡ true
         → BeginsWithEscape (high ∷ raw)
     low_behind high [] part parts e h =
         let same : high ∷ [] ≡ part = cc in
         absurd (both_ways (begins_with_digits part) (ap begins_with_digits (sym same)) h)
     low_behind high (low ∷ raw) part parts e h = ⊎_elim
         (λ t.
-        let cut : (high ∷ []) ∷ slice_split is_percent raw ≡ part ∷ parts = ap (onto_first high) (sym (slice_split-cons_yes is_percent low raw t.0)) ∙ e in
+        let cut : (high ∷ []) ∷ slice_split is_percent raw ≡ part ∷ parts =
+        ap (onto_first high) (sym (slice_split-cons_yes is_percent low raw t.0)) ∙ e in
         let same : high ∷ [] ≡ part = cc in
         absurd (both_ways (begins_with_digits part) (ap begins_with_digits (sym same)) h))
         (λ t.
@@ -114,13 +121,15 @@ decode_plain : (b : ℕ) (raw : List ℕ) → b ≢ 37 → percent_decode (b ∷
 decode_plain b raw differs = KeepsFirst_from_no_escape (b ∷ raw) (λ _ e _ _. differs e)
 
 plain_unit : (b : ℕ) (raw : List ℕ) → b ≢ 37 → Decodes raw (percent_decode raw) → Decodes (b ∷ raw) (percent_decode (b ∷ raw))
-plain_unit b raw differs d = subst (Decodes (b ∷ raw)) (sym (decode_plain b raw differs)) (add_unit (b ∷ []) raw (percent_decode raw) b (inl (refl, differs)) d)
+plain_unit b raw differs d = subst (Decodes (b ∷ raw)) (sym (decode_plain b raw differs))
+    (add_unit (b ∷ []) raw (percent_decode raw) b (inl (refl, differs)) d)
 
 escape_unit : (high low : ℕ) (raw : List ℕ) → digit_value high < 16 → digit_value low < 16 → Decodes raw (percent_decode raw)
     → Decodes (37 ∷ high ∷ low ∷ raw) (percent_decode (37 ∷ high ∷ low ∷ raw))
 escape_unit high low raw first second d =
     subst (Decodes (37 ∷ high ∷ low ∷ raw)) (sym (percent_decode_escape 37 high low raw refl first second))
-    (add_unit (37 ∷ high ∷ low ∷ []) raw (percent_decode raw) (16 * digit_value high + digit_value low) (inr (high, low, first, second, refl, refl)) d)
+    (add_unit (37 ∷ high ∷ low ∷ []) raw (percent_decode raw) (16 * digit_value high + digit_value low)
+    (inr (high, low, first, second, refl, refl)) d)
 
 whole_behind : (raw : List ℕ) → has_whole_escapes (37 ∷ raw) ≡ true → BeginsWithEscape raw
 whole_behind raw h =
@@ -137,7 +146,8 @@ decodes_by (suc fuel) (b ∷ raw) short h = ⊎_elim
     let found = whole_behind raw (ap has_whole_escapes same ∙ h) in
     let whole : 37 ∷ found.0 ∷ found.1 ∷ found.2 ≡ b ∷ raw = ap (λ (x : List ℕ). 37 ∷ x) (sym found.3) ∙ same in
     let shorter : length found.2 ≤ fuel = omega (arith, ap length found.3) in
-    let rest = decodes_by fuel found.2 shorter (sym (whole_escape found.0 found.1 found.2 found.4 found.5) ∙ ap has_whole_escapes whole ∙ h) in
+    let rest = decodes_by fuel found.2 shorter (sym (whole_escape found.0 found.1 found.2 found.4 found.5) ∙ ap has_whole_escapes whole ∙ h)
+    in
     subst (λ (x : List ℕ). Decodes x (percent_decode x)) whole (escape_unit found.0 found.1 found.2 found.4 found.5 rest))
     (λ t. plain_unit b raw t.1 (decodes_by fuel raw (omega arith) (sym (whole_plain b raw t.1) ∙ h)))
     (eqb_tells b 37)
@@ -183,13 +193,15 @@ segment_to raw text s =
     rw (whole, decoded, valid) refl
 
 -- what the code decodes
-pub text_found : (raw decoded text : List ℕ) → has_whole_escapes raw ≡ true → decoded ≡ percent_decode raw → IsUtf8 decoded → text ≡ decoded → text_of raw ≡ Some text
+pub text_found : (raw decoded text : List ℕ) → has_whole_escapes raw ≡ true → decoded ≡ percent_decode raw → IsUtf8 decoded →
+    text ≡ decoded → text_of raw ≡ Some text
 text_found raw decoded text whole same valid e =
     let read : percent_decode raw ≡ text = sym same ∙ sym e in
     let known : is_utf8 text ≡ true = is_utf8-from_IsUtf8 text (subst IsUtf8 (sym e) valid) in
     rw (whole, read, known) refl
 
-pub text_missing : (raw decoded : List ℕ) → has_whole_escapes raw ≡ true → decoded ≡ percent_decode raw → ¬ (IsUtf8 decoded) → text_of raw ≡ None
+pub text_missing : (raw decoded : List ℕ) → has_whole_escapes raw ≡ true → decoded ≡ percent_decode raw → ¬ (IsUtf8 decoded) →
+    text_of raw ≡ None
 text_missing raw decoded whole same never = by_test (is_utf8 (percent_decode raw)) refl
   where
     by_test : (b : Bool) → is_utf8 (percent_decode raw) ≡ b → text_of raw ≡ None

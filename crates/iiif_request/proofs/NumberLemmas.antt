@@ -1,5 +1,6 @@
 -- Numbers as the code reads them, and as they are spelled.
-use Rattle.std.proofs.Common.{◌≡◌, ◌≢◌, ℕ, true, false, List, [], ◌∷◌, ◌++◌, length, refl, sym, ap, ◌∙◌, Some, None, inl, inr, ⊎_elim, append_assoc, ◌&&◌, codes}
+use Rattle.std.proofs.Common.{◌≡◌, ◌≢◌, ℕ, true, false, List, [], ◌∷◌, ◌++◌, length, refl, sym, ap, ◌∙◌, Some, None, inl, inr, ⊎_elim}
+use Rattle.std.proofs.Common.{append_assoc, ◌&&◌, codes}
 use Rattle.std.specs.Prelude.{option_map}
 use Rattle.std.specs.Char.{is_ascii_digit}
 use Rattle.std.specs.Str.Parse.{digits_value}
@@ -33,7 +34,8 @@ whole_to text n s = let numeral : is_numeral 9 text ≡ true = digits_to 9 text 
 -- digits lack every byte that is no digit
 pub digits_lack : (byte most : ℕ) (text : List ℕ) → is_ascii_digit byte ≡ false → IsDigits most text → Lacks byte text
 digits_lack byte most text other d =
-    λ k e below same. both_ways (is_ascii_digit byte) other (ap is_ascii_digit (sym same) ∙ AllPass-from_list_all is_ascii_digit text d.digits k e below)
+    λ k e below same. both_ways (is_ascii_digit byte) other
+    (ap is_ascii_digit (sym same) ∙ AllPass-from_list_all is_ascii_digit text d.digits k e below)
 
 pub one_lacks : (byte x : ℕ) → x ≢ byte → Lacks byte (x ∷ [])
 one_lacks byte x differs = All-cons (λ y. y ≢ byte) x [] differs (All-nil (λ y. y ≢ byte))
@@ -75,10 +77,12 @@ decimal_to text d (inl s) =
     ∙ ap (option_map (λ (n : ℕ). record { digits = n; places = 0 })) read
     ∙ ap (λ (p : ℕ). Some (record { digits = d.digits; places = p })) (sym s.1)
 decimal_to text d (inr s) =
-    let cut : cut_of 46 text ≡ Some (s.0, s.1) = cut_at 46 text s.0 s.1 (digits_lack 46 9 s.0 refl s.2) (s.4 ∙ append_assoc s.0 (codes ".") s.1) in
+    let cut : cut_of 46 text ≡ Some (s.0, s.1) =
+    cut_at 46 text s.0 s.1 (digits_lack 46 9 s.0 refl s.2) (s.4 ∙ append_assoc s.0 (codes ".") s.1) in
     let whole : is_numeral 9 s.0 ≡ true = digits_to 9 s.0 s.2 in
     let places : is_numeral 10 s.1 ≡ true = digits_to 10 s.1 s.3 in
-    let pointed : pointed_of s.0 s.1 ≡ Some (record { digits = digits_value 10 (s.0 ++ s.1); places = length s.1 }) = rw (whole, places) refl in
+    let pointed : pointed_of s.0 s.1 ≡ Some (record { digits = digits_value 10 (s.0 ++ s.1); places = length s.1 }) =
+    rw (whole, places) refl in
     ap (parted_decimal_of text) cut ∙ pointed
     ∙ ap (λ (n : ℕ). Some (record { digits = n; places = length s.1 })) (sym s.5)
     ∙ ap (λ (p : ℕ). Some (record { digits = d.digits; places = p })) (sym s.6)

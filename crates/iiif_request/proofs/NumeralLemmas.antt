@@ -1,5 +1,6 @@
 -- What numerals are worth.
-use Rattle.std.proofs.Common.{◌≡◌, ℕ, ◌+◌, ◌-◌, ◌*◌, ◌^◌, ◌<◌, ◌≤◌, Bool, true, List, [], ◌∷◌, ◌++◌, length, get_or, drop, refl, sym, ap, ◌∙◌, subst, arith, rules, Some, ◌&&◌, nat_lt, nat_le}
+use Rattle.std.proofs.Common.{◌≡◌, ℕ, ◌+◌, ◌-◌, ◌*◌, ◌^◌, ◌<◌, ◌≤◌, Bool, true, List, [], ◌∷◌, ◌++◌, length, get_or, drop, refl, sym, ap}
+use Rattle.std.proofs.Common.{◌∙◌, subst, arith, rules, Some, ◌&&◌, nat_lt, nat_le}
 use Rattle.std.proofs.lemmas.Str.{digit_value_digit}
 use Rattle.std.proofs.lemmas.Bool.{ltb-true, leb-true, lt-ltb, le-leb, and_from, and_parts}
 use Rattle.std.proofs.lemmas.List.Folds.{list_all-append}
@@ -67,7 +68,8 @@ both_digits : (w f : List ℕ) → is_numeral 9 w ≡ true → is_numeral 10 f �
 unfolding is_numeral
 both_digits w f hw hf =
     list_all-append is_ascii_digit w f
-    ∙ and_from (list_all is_ascii_digit w) (list_all is_ascii_digit f) (and_parts (nat_lt 0 (length w) && nat_le (length w) 9) _ hw).1 (and_parts (nat_lt 0 (length f) && nat_le (length f) 10) _ hf).1
+    ∙ and_from (list_all is_ascii_digit w) (list_all is_ascii_digit f) (and_parts (nat_lt 0 (length w) && nat_le (length w) 9) _ hw).1
+    (and_parts (nat_lt 0 (length f) && nat_le (length f) 10) _ hf).1
 
 pub both_fit : (w f : List ℕ) → is_numeral 9 w ≡ true → is_numeral 10 f ≡ true → digits_value_after 10 (digits_value 10 w) f < 10 ^ 19
 both_fit w f hw hf =
@@ -76,7 +78,8 @@ both_fit w f hw hf =
     (digits_value_short own (w ++ f) 19 (both_digits w f hw hf)
     (omega (arith, length-append w f, numeral_len 9 w hw, numeral_len 10 f hf)))
 
-pub numeral_tests : (most : ℕ) (text : List ℕ) (r : Bool) → 0 < length text → length text ≤ most → r ≡ list_all is_ascii_digit text → r ≡ is_numeral most text
+pub numeral_tests : (most : ℕ) (text : List ℕ) (r : Bool) → 0 < length text → length text ≤ most → r ≡ list_all is_ascii_digit text →
+    r ≡ is_numeral most text
 unfolding is_numeral
 numeral_tests most text r some fits e = rw (lt-ltb _ _ some, le-leb _ _ fits) e
 

@@ -8,6 +8,7 @@ map_some f None y e = absurd (none-some y e)
 map_some f (Some x) y e = (x, refl, same_Some (f x) y e)
 
 -- a choice that is a value
-pub cond_cases : {A : Type 0} (b : Bool) (x y : Option A) (r : A) → cond b x y ≡ Some r → ((b ≡ true) × (x ≡ Some r)) ⊎ ((b ≡ false) × (y ≡ Some r))
+pub cond_cases : {A : Type 0} (b : Bool) (x y : Option A) (r : A) → cond b x y ≡ Some r → ((b ≡ true) × (x ≡ Some r)) ⊎
+    ((b ≡ false) × (y ≡ Some r))
 cond_cases true x y r e = inl (refl, e)
 cond_cases false x y r e = inr (refl, e)

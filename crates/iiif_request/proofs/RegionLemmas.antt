@@ -1,5 +1,6 @@
 -- Regions as the code reads them, and as they are spelled.
-use Rattle.std.proofs.Common.{◌≡◌, ℕ, true, false, List, [], ◌∷◌, ◌++◌, length, drop, refl, sym, ap, ◌∙◌, subst, arith, Some, None, Option, ⊎_elim, eqb, append_assoc, codes}
+use Rattle.std.proofs.Common.{◌≡◌, ℕ, true, false, List, [], ◌∷◌, ◌++◌, length, drop, refl, sym, ap, ◌∙◌, subst, arith, Some, None, Option}
+use Rattle.std.proofs.Common.{⊎_elim, eqb, append_assoc, codes}
 use Rattle.std.specs.Prelude.{bytes_eq, nat_eq}
 use Rattle.std.specs.Char.{is_ascii_digit}
 use Rattle.std.specs.List.{list_all, starts_with}
@@ -10,7 +11,8 @@ use Rattle.std.proofs.lemmas.Option.{same_Some, none-some}
 use Rattle.iiif_request.specs.declared.request.Decimal.{Decimal}
 use Rattle.iiif_request.specs.declared.request.Region.{Region}
 use Rattle.iiif_request.specs.declared.request.Region.TheVariants.{Full, Square, Pixels, Percents}
-use Rattle.iiif_request.specs.Code.{whole_of, decimal_of, cut_of, Parts, third_cut_of, second_cut_of, first_cut_of, parts_of, four_of, pixels_of, percents_of, region_of}
+use Rattle.iiif_request.specs.Code.{whole_of, decimal_of, cut_of, Parts, third_cut_of, second_cut_of, first_cut_of, parts_of, four_of}
+use Rattle.iiif_request.specs.Code.{pixels_of, percents_of, region_of}
 use Rattle.iiif_request.specs.Spells.{IsDigits, IsWhole, IsDecimal, SpellsRegion}
 use Rattle.iiif_request.specs.Targets.{Lacks}
 use Rattle.iiif_request.proofs.OptionLemmas.{cond_cases}
@@ -66,10 +68,12 @@ parts_join text p h (Some c) e =
 regroup : (a b c d : List ℕ) → a ++ codes "," ++ b ++ codes "," ++ c ++ codes "," ++ d ≡ a ++ 44 ∷ (b ++ 44 ∷ (c ++ 44 ∷ d))
 regroup a b c d = simp append_assoc refl
 
-regroup_behind : (front a b c d : List ℕ) → front ++ a ++ codes "," ++ b ++ codes "," ++ c ++ codes "," ++ d ≡ front ++ (a ++ 44 ∷ (b ++ 44 ∷ (c ++ 44 ∷ d)))
+regroup_behind : (front a b c d : List ℕ) → front ++ a ++ codes "," ++ b ++ codes "," ++ c ++ codes "," ++ d ≡ front ++
+    (a ++ 44 ∷ (b ++ 44 ∷ (c ++ 44 ∷ d)))
 regroup_behind front a b c d = simp append_assoc refl
 
-pub parts_is : (text : List ℕ) (p : Parts) → parts_of text ≡ Some p → text ≡ p.first ++ codes "," ++ p.second ++ codes "," ++ p.third ++ codes "," ++ p.fourth
+pub parts_is : (text : List ℕ) (p : Parts) → parts_of text ≡ Some p →
+    text ≡ p.first ++ codes "," ++ p.second ++ codes "," ++ p.third ++ codes "," ++ p.fourth
 parts_is text p h = parts_join text p h (cut_of 44 text) refl ∙ sym (regroup p.first p.second p.third p.fourth)
 
 pub parts_to : (a b c d : List ℕ) → Lacks 44 a → Lacks 44 b → Lacks 44 c
@@ -93,17 +97,37 @@ pixels_is : (text : List ℕ) (r : Region) (o : Option Parts) → parts_of text 
 pixels_is text r None e h = absurd (none-some r h)
 pixels_is text r (Some p) e h =
     let n = four_is Pixels (whole_of p.first) (whole_of p.second) (whole_of p.third) (whole_of p.fourth) r h in
-    subst (SpellsRegion text) n.8
-    (p.first, p.second, p.third, p.fourth, whole_is p.first n.0 n.4, whole_is p.second n.1 n.5, whole_is p.third n.2 n.6, whole_is p.fourth n.3 n.7, parts_is text p e)
+    subst (SpellsRegion text) n.8 (
+      p.first,
+      p.second,
+      p.third,
+      p.fourth,
+      whole_is p.first n.0 n.4,
+      whole_is p.second n.1 n.5,
+      whole_is p.third n.2 n.6,
+      whole_is p.fourth n.3 n.7,
+      parts_is text p e,
+    )
 
-percents_is : (text rest : List ℕ) (r : Region) (o : Option Parts) → text ≡ codes "pct:" ++ rest → parts_of rest ≡ o → percents_of o ≡ Some r → SpellsRegion text r
+percents_is : (text rest : List ℕ) (r : Region) (o : Option Parts) → text ≡ codes "pct:" ++ rest → parts_of rest ≡ o →
+    percents_of o ≡ Some r → SpellsRegion text r
 percents_is text rest r None front e h = absurd (none-some r h)
 percents_is text rest r (Some p) front e h =
     let n = four_is Percents (decimal_of p.first) (decimal_of p.second) (decimal_of p.third) (decimal_of p.fourth) r h in
     let whole : text ≡ codes "pct:" ++ p.first ++ codes "," ++ p.second ++ codes "," ++ p.third ++ codes "," ++ p.fourth =
-    front ∙ ap (λ (x : List ℕ). codes "pct:" ++ x) (parts_join rest p e (cut_of 44 rest) refl) ∙ sym (regroup_behind (codes "pct:") p.first p.second p.third p.fourth) in
-    subst (SpellsRegion text) n.8
-    (p.first, p.second, p.third, p.fourth, decimal_is p.first n.0 n.4, decimal_is p.second n.1 n.5, decimal_is p.third n.2 n.6, decimal_is p.fourth n.3 n.7, whole)
+    front ∙ ap (λ (x : List ℕ). codes "pct:" ++ x) (parts_join rest p e (cut_of 44 rest) refl) ∙
+    sym (regroup_behind (codes "pct:") p.first p.second p.third p.fourth) in
+    subst (SpellsRegion text) n.8 (
+      p.first,
+      p.second,
+      p.third,
+      p.fourth,
+      decimal_is p.first n.0 n.4,
+      decimal_is p.second n.1 n.5,
+      decimal_is p.third n.2 n.6,
+      decimal_is p.fourth n.3 n.7,
+      whole,
+    )
 
 -- what the code reads is spelled so
 pub region_is : (text : List ℕ) (r : Region) → region_of text ≡ Some r → SpellsRegion text r
@@ -174,7 +198,8 @@ percents_to : (text a b c d : List ℕ) (x y w h : Decimal) → IsDecimal a x �
 percents_to text a b c d x y w h first second third fourth e =
     ap region_of (e ∙ regroup_behind (codes "pct:") a b c d)
     ∙ region_of_percents (a ++ 44 ∷ (b ++ 44 ∷ (c ++ 44 ∷ d)))
-    ∙ ap percents_of (parts_to a b c d (decimal_lacks 44 a x refl (λ same. cc) first) (decimal_lacks 44 b y refl (λ same. cc) second) (decimal_lacks 44 c w refl (λ same. cc) third))
+    ∙ ap percents_of (parts_to a b c d (decimal_lacks 44 a x refl (λ same. cc) first) (decimal_lacks 44 b y refl (λ same. cc) second)
+    (decimal_lacks 44 c w refl (λ same. cc) third))
     ∙ percents_four a b c d x y w h first second third fourth
 
 -- what is spelled so is read

@@ -1,5 +1,6 @@
 -- Requests as the code reads them, and as they are spelled.
-use Rattle.std.proofs.Common.{◌≡◌, ℕ, ◌+◌, ◌^◌, ◌<◌, ◌≤◌, Bool, true, false, List, ◌++◌, length, refl, sym, ap, ◌∙◌, subst, arith, rules, Some, None, Option, Ok, Err, Result, inl, inr, ⊎_elim, codes}
+use Rattle.std.proofs.Common.{◌≡◌, ℕ, ◌+◌, ◌^◌, ◌<◌, ◌≤◌, Bool, true, false, List, ◌++◌, length, refl, sym, ap, ◌∙◌, subst, arith, rules}
+use Rattle.std.proofs.Common.{Some, None, Option, Ok, Err, Result, inl, inr, ⊎_elim, codes}
 use Rattle.std.specs.Prelude.{bytes_eq, IfOk}
 use Rattle.std.specs.Char.{is_ascii_digit}
 use Rattle.std.specs.List.{list_all}
@@ -23,7 +24,8 @@ use Rattle.iiif_request.specs.declared.request.Refusal.{Refusal}
 use Rattle.iiif_request.specs.declared.request.Refusal.TheVariants as refusal
 use Rattle.iiif_request.specs.Code.{region_of, size_of, rotation_of, quality_of, first_missing, request_of}
 use Rattle.iiif_request.specs.Requests.{IsShortRegion, IsShortForm, IsSmallRegion, IsSmallForm, HasShortDecimals, HasSmallNumbers}
-use Rattle.iiif_request.specs.Spells.{IsWhole, IsDecimal, SpellsRegion, SpellsForm, SpellsSize, SpellsRotation, SpellsQuality, SpellsFormat, Texts, SpellsRequest, IsSpelled, Says}
+use Rattle.iiif_request.specs.Spells.{IsWhole, IsDecimal, SpellsRegion, SpellsForm, SpellsSize, SpellsRotation, SpellsQuality}
+use Rattle.iiif_request.specs.Spells.{SpellsFormat, Texts, SpellsRequest, IsSpelled, Says}
 use Rattle.iiif_request.proofs.OptionLemmas.{cond_cases}
 use Rattle.iiif_request.proofs.NumeralLemmas.{own}
 use Rattle.iiif_request.proofs.RegionLemmas.{text_is, region_is, region_to}
@@ -52,7 +54,8 @@ quality_to text Gray s = ap quality_of s
 quality_to text Bitonal s = ap quality_of s
 
 -- nothing is spelled where nothing is read
-unread : {X : Type 0} (spells : List ℕ → X → Type 0) (read : List ℕ → Option X) → ((text : List ℕ) (x : X) → spells text x → read text ≡ Some x)
+unread : {X : Type 0} (spells : List ℕ → X → Type 0) (read : List ℕ → Option X) →
+    ((text : List ℕ) (x : X) → spells text x → read text ≡ Some x)
     → (text : List ℕ) → read text ≡ None → ¬ (IsSpelled spells text)
 unread spells read to text none s = none-some s.0 (sym none ∙ to text s.0 s.1)
 
@@ -61,17 +64,27 @@ format_not text h s = both_ways (bytes_eq text (codes "tif")) h ((bytes_eq-Decid
 
 -- what the five parts say
 says_by : (w : Texts) (r : Option Region) (s : Option Size) (t : Option Rotation) (q : Option Quality) (f : Bool)
-    → region_of w.region ≡ r → size_of w.size ≡ s → rotation_of w.rotation ≡ t → quality_of w.quality ≡ q → bytes_eq w.format (codes "tif") ≡ f
+    → region_of w.region ≡ r → size_of w.size ≡ s → rotation_of w.rotation ≡ t → quality_of w.quality ≡ q →
+    bytes_eq w.format (codes "tif") ≡ f
     → Says w (first_missing r s t q f)
 says_by w None s t q f er es et eq ef = unread SpellsRegion region_of region_to w.region er
 says_by w (Some r) None t q f er es et eq ef =
     ((r, region_is w.region r er), unread SpellsSize size_of size_to w.size es)
 says_by w (Some r) (Some s) None q f er es et eq ef =
     ((r, region_is w.region r er), (s, size_is w.size s es), unread SpellsRotation rotation_of rotation_to w.rotation et)
-says_by w (Some r) (Some s) (Some t) None f er es et eq ef =
-    ((r, region_is w.region r er), (s, size_is w.size s es), (t, rotation_is w.rotation t et), unread SpellsQuality quality_of quality_to w.quality eq)
-says_by w (Some r) (Some s) (Some t) (Some q) false er es et eq ef =
-    ((r, region_is w.region r er), (s, size_is w.size s es), (t, rotation_is w.rotation t et), (q, quality_is w.quality q eq), format_not w.format ef)
+says_by w (Some r) (Some s) (Some t) None f er es et eq ef = (
+  (r, region_is w.region r er),
+  (s, size_is w.size s es),
+  (t, rotation_is w.rotation t et),
+  unread SpellsQuality quality_of quality_to w.quality eq,
+)
+says_by w (Some r) (Some s) (Some t) (Some q) false er es et eq ef = (
+  (r, region_is w.region r er),
+  (s, size_is w.size s es),
+  (t, rotation_is w.rotation t et),
+  (q, quality_is w.quality q eq),
+  format_not w.format ef,
+)
 says_by w (Some r) (Some s) (Some t) (Some q) true er es et eq ef = record {
   region = region_is w.region r er;
   size = size_is w.size s es;
@@ -82,15 +95,18 @@ says_by w (Some r) (Some s) (Some t) (Some q) true er es et eq ef = record {
 
 pub says : (w : Texts) (a : Result Request Refusal) → a ≡ request_of w → Says w a
 says w a e = subst (Says w) (sym e)
-    (says_by w (region_of w.region) (size_of w.size) (rotation_of w.rotation) (quality_of w.quality) (bytes_eq w.format (codes "tif")) refl refl refl refl refl)
+    (says_by w (region_of w.region) (size_of w.size) (rotation_of w.rotation) (quality_of w.quality) (bytes_eq w.format (codes "tif")) refl
+    refl refl refl refl)
 
 -- words spell at most one request
 pub once : (w : Texts) (q r : Request) → SpellsRequest w q → SpellsRequest w r → q ≡ r
 once w q r a b =
     let region : q.region ≡ r.region = same_Some _ _ (sym (region_to w.region q.region a.region) ∙ region_to w.region r.region b.region) in
     let size : q.size ≡ r.size = same_Some _ _ (sym (size_to w.size q.size a.size) ∙ size_to w.size r.size b.size) in
-    let rotation : q.rotation ≡ r.rotation = same_Some _ _ (sym (rotation_to w.rotation q.rotation a.rotation) ∙ rotation_to w.rotation r.rotation b.rotation) in
-    let quality : q.quality ≡ r.quality = same_Some _ _ (sym (quality_to w.quality q.quality a.quality) ∙ quality_to w.quality r.quality b.quality) in
+    let rotation : q.rotation ≡ r.rotation = same_Some _ _
+    (sym (rotation_to w.rotation q.rotation a.rotation) ∙ rotation_to w.rotation r.rotation b.rotation) in
+    let quality : q.quality ≡ r.quality = same_Some _ _
+    (sym (quality_to w.quality q.quality a.quality) ∙ quality_to w.quality r.quality b.quality) in
     ap (λ (x : Region). record { region = x; size = q.size; rotation = q.rotation; quality = q.quality }) region
     ∙ ap (λ (x : Size). record { region = r.region; size = x; rotation = q.rotation; quality = q.quality }) size
     ∙ ap (λ (x : Rotation). record { region = r.region; size = r.size; rotation = x; quality = q.quality }) rotation
@@ -112,19 +128,30 @@ decimal_small text d (inr s) =
     let P : ℕ → Type 0 = λ m. d.digits < 10 ^ (9 + m) in
     let Q : ℕ → Type 0 = λ m. m < 10 ^ (9 + length s.1) in
     let all : list_all is_ascii_digit (s.0 ++ s.1) ≡ true = list_all-append is_ascii_digit s.0 s.1 ∙ and_from _ _ s.2.digits s.3.digits in
-    subst P (sym s.6) (subst Q (sym s.5) (digits_value_short own (s.0 ++ s.1) (9 + length s.1) all (omega (arith, length-append s.0 s.1, s.2.few))))
+    subst P (sym s.6) (subst Q (sym s.5) (digits_value_short own (s.0 ++ s.1) (9 + length s.1) all
+    (omega (arith, length-append s.0 s.1, s.2.few))))
 
 region_short : (text : List ℕ) (r : Region) → SpellsRegion text r → IsShortRegion r
 region_short text Full s = tt
 region_short text Square s = tt
 region_short text (Pixels x y w h) s = tt
-region_short text (Percents x y w h) s = (decimal_short s.0 x s.4, decimal_short s.1 y s.5, decimal_short s.2 w s.6, decimal_short s.3 h s.7)
+region_short text (Percents x y w h) s = (
+  decimal_short s.0 x s.4,
+  decimal_short s.1 y s.5,
+  decimal_short s.2 w s.6,
+  decimal_short s.3 h s.7,
+)
 
 region_small : (text : List ℕ) (r : Region) → SpellsRegion text r → IsSmallRegion r
 region_small text Full s = tt
 region_small text Square s = tt
 region_small text (Pixels x y w h) s = (whole_small s.0 x s.4, whole_small s.1 y s.5, whole_small s.2 w s.6, whole_small s.3 h s.7)
-region_small text (Percents x y w h) s = (decimal_small s.0 x s.4, decimal_small s.1 y s.5, decimal_small s.2 w s.6, decimal_small s.3 h s.7)
+region_small text (Percents x y w h) s = (
+  decimal_small s.0 x s.4,
+  decimal_small s.1 y s.5,
+  decimal_small s.2 w s.6,
+  decimal_small s.3 h s.7,
+)
 
 form_short : (text : List ℕ) (f : Form) → SpellsForm text f → IsShortForm f
 form_short text Max s = tt
@@ -165,16 +192,19 @@ answer_small w (Ok q) s = request_small w q s
 answer_small w (Err e) s = search rules
 
 -- something is read where something is spelled, and nothing where nothing is
-none_read : {X : Type 0} (spells : List ℕ → X → Type 0) (read : List ℕ → Option X) → ((text : List ℕ) (x : X) → read text ≡ Some x → spells text x)
+none_read : {X : Type 0} (spells : List ℕ → X → Type 0) (read : List ℕ → Option X) →
+    ((text : List ℕ) (x : X) → read text ≡ Some x → spells text x)
     → (text : List ℕ) → ¬ (IsSpelled spells text) → (o : Option X) → read text ≡ o → read text ≡ None
 none_read spells read is text none None e = e
 none_read spells read is text none (Some x) e = absurd (none (x, is text x e))
 
 missing : (w : Texts) (r : Option Region) (s : Option Size) (t : Option Rotation) (q : Option Quality) (f : Bool)
-    → region_of w.region ≡ r → size_of w.size ≡ s → rotation_of w.rotation ≡ t → quality_of w.quality ≡ q → bytes_eq w.format (codes "tif") ≡ f
+    → region_of w.region ≡ r → size_of w.size ≡ s → rotation_of w.rotation ≡ t → quality_of w.quality ≡ q →
+    bytes_eq w.format (codes "tif") ≡ f
     → request_of w ≡ first_missing r s t q f
 missing w r s t q f er es et eq ef =
-    ap (λ (x : Option Region). first_missing x (size_of w.size) (rotation_of w.rotation) (quality_of w.quality) (bytes_eq w.format (codes "tif"))) er
+    ap (λ (x : Option Region). first_missing x (size_of w.size) (rotation_of w.rotation) (quality_of w.quality)
+    (bytes_eq w.format (codes "tif"))) er
     ∙ ap (λ (x : Option Size). first_missing r x (rotation_of w.rotation) (quality_of w.quality) (bytes_eq w.format (codes "tif"))) es
     ∙ ap (λ (x : Option Rotation). first_missing r s x (quality_of w.quality) (bytes_eq w.format (codes "tif"))) et
     ∙ ap (λ (x : Option Quality). first_missing r s t x (bytes_eq w.format (codes "tif"))) eq
@@ -188,7 +218,8 @@ not_format text none false e = e
 pub read_once : (w : Texts) (a : Result Request Refusal) → Says w a → request_of w ≡ a
 read_once w (Ok q) s =
     missing w (Some q.region) (Some q.size) (Some q.rotation) (Some q.quality) true
-    (region_to w.region q.region s.region) (size_to w.size q.size s.size) (rotation_to w.rotation q.rotation s.rotation) (quality_to w.quality q.quality s.quality)
+    (region_to w.region q.region s.region) (size_to w.size q.size s.size) (rotation_to w.rotation q.rotation s.rotation)
+    (quality_to w.quality q.quality s.quality)
     ((bytes_eq-Decides w.format (codes "tif")).1 s.format)
 read_once w (Err refusal.Region) s =
     missing w None (size_of w.size) (rotation_of w.rotation) (quality_of w.quality) (bytes_eq w.format (codes "tif"))
@@ -198,10 +229,12 @@ read_once w (Err refusal.Size) s =
     (region_to w.region s.0.0 s.0.1) (none_read SpellsSize size_of size_is w.size s.1 (size_of w.size) refl) refl refl refl
 read_once w (Err refusal.Rotation) s =
     missing w (Some s.0.0) (Some s.1.0) None (quality_of w.quality) (bytes_eq w.format (codes "tif"))
-    (region_to w.region s.0.0 s.0.1) (size_to w.size s.1.0 s.1.1) (none_read SpellsRotation rotation_of rotation_is w.rotation s.2 (rotation_of w.rotation) refl) refl refl
+    (region_to w.region s.0.0 s.0.1) (size_to w.size s.1.0 s.1.1)
+    (none_read SpellsRotation rotation_of rotation_is w.rotation s.2 (rotation_of w.rotation) refl) refl refl
 read_once w (Err refusal.Quality) s =
     missing w (Some s.0.0) (Some s.1.0) (Some s.2.0) None (bytes_eq w.format (codes "tif"))
-    (region_to w.region s.0.0 s.0.1) (size_to w.size s.1.0 s.1.1) (rotation_to w.rotation s.2.0 s.2.1) (none_read SpellsQuality quality_of quality_is w.quality s.3 (quality_of w.quality) refl) refl
+    (region_to w.region s.0.0 s.0.1) (size_to w.size s.1.0 s.1.1) (rotation_to w.rotation s.2.0 s.2.1)
+    (none_read SpellsQuality quality_of quality_is w.quality s.3 (quality_of w.quality) refl) refl
 read_once w (Err refusal.Format) s =
     missing w (Some s.0.0) (Some s.1.0) (Some s.2.0) (Some s.3.0) false
     (region_to w.region s.0.0 s.0.1) (size_to w.size s.1.0 s.1.1) (rotation_to w.rotation s.2.0 s.2.1) (quality_to w.quality s.3.0 s.3.1)

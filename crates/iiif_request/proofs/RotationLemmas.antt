@@ -1,5 +1,6 @@
 -- Rotations as the code reads them, and as they are spelled.
-use Rattle.std.proofs.Common.{◌≡◌, ℕ, ◌*◌, ◌≤◌, ◌⊎◌, Bool, true, false, List, [], ◌∷◌, ◌++◌, drop, refl, sym, ap, ◌∙◌, subst, arith, Some, None, Option, inl, inr, ⊎_elim, append_assoc, append-nil, codes, ◌||◌}
+use Rattle.std.proofs.Common.{◌≡◌, ℕ, ◌*◌, ◌≤◌, ◌⊎◌, Bool, true, false, List, [], ◌∷◌, ◌++◌, drop, refl, sym, ap, ◌∙◌, subst, arith, Some}
+use Rattle.std.proofs.Common.{None, Option, inl, inr, ⊎_elim, append_assoc, append-nil, codes, ◌||◌}
 use Rattle.std.specs.Prelude.{nat_eq}
 use Rattle.std.specs.List.{starts_with}
 use Rattle.std.proofs.lemmas.Bool.{eqb-true, eq-eqb, or_cases, or_left, or_right}
@@ -34,18 +35,24 @@ quarters_is d h = ⊎_elim
 five_cases : (k : ℕ) → k ≤ 4 → (k ≡ 0) ⊎ ((k ≡ 1) ⊎ ((k ≡ 2) ⊎ ((k ≡ 3) ⊎ (k ≡ 4))))
 five_cases k few = grind arith
 
-is_quarters_at : (d : Decimal) (k : ℕ) → (k ≡ 0) ⊎ ((k ≡ 1) ⊎ ((k ≡ 2) ⊎ ((k ≡ 3) ⊎ (k ≡ 4)))) → is_value d (90 * k) ≡ true → is_quarters d ≡ true
+is_quarters_at : (d : Decimal) (k : ℕ) → (k ≡ 0) ⊎ ((k ≡ 1) ⊎ ((k ≡ 2) ⊎ ((k ≡ 3) ⊎ (k ≡ 4)))) → is_value d (90 * k) ≡ true →
+    is_quarters d ≡ true
 unfolding is_quarters
 is_quarters_at d k (inl e) h = or_left _ _ (or_left _ _ (or_left _ _ (or_left _ _ (ap (λ n. is_value d (90 * n)) (sym e) ∙ h))))
-is_quarters_at d k (inr (inl e)) h = or_left _ _ (or_left _ _ (or_left _ _ (or_right (is_value d 0) _ (ap (λ n. is_value d (90 * n)) (sym e) ∙ h))))
-is_quarters_at d k (inr (inr (inl e))) h = or_left _ _ (or_left _ _ (or_right (is_value d 0 || is_value d 90) _ (ap (λ n. is_value d (90 * n)) (sym e) ∙ h)))
-is_quarters_at d k (inr (inr (inr (inl e)))) h = or_left _ _ (or_right (is_value d 0 || is_value d 90 || is_value d 180) _ (ap (λ n. is_value d (90 * n)) (sym e) ∙ h))
-is_quarters_at d k (inr (inr (inr (inr e)))) h = or_right (is_value d 0 || is_value d 90 || is_value d 180 || is_value d 270) _ (ap (λ n. is_value d (90 * n)) (sym e) ∙ h)
+is_quarters_at d k (inr (inl e)) h = or_left _ _
+    (or_left _ _ (or_left _ _ (or_right (is_value d 0) _ (ap (λ n. is_value d (90 * n)) (sym e) ∙ h))))
+is_quarters_at d k (inr (inr (inl e))) h = or_left _ _
+    (or_left _ _ (or_right (is_value d 0 || is_value d 90) _ (ap (λ n. is_value d (90 * n)) (sym e) ∙ h)))
+is_quarters_at d k (inr (inr (inr (inl e)))) h =
+    or_left _ _ (or_right (is_value d 0 || is_value d 90 || is_value d 180) _ (ap (λ n. is_value d (90 * n)) (sym e) ∙ h))
+is_quarters_at d k (inr (inr (inr (inr e)))) h =
+    or_right (is_value d 0 || is_value d 90 || is_value d 180 || is_value d 270) _ (ap (λ n. is_value d (90 * n)) (sym e) ∙ h)
 
 pub quarters_to : (d : Decimal) → IsQuarters d → is_quarters d ≡ true
 quarters_to d q = is_quarters_at d q.0 (five_cases q.0 q.1) (eq-eqb _ _ q.2)
 
-turned_is : (mirror : Bool) (text degrees : List ℕ) (t : Rotation) (o : Option Decimal) → decimal_of degrees ≡ o → text ≡ mark mirror (codes "!") ++ degrees
+turned_is : (mirror : Bool) (text degrees : List ℕ) (t : Rotation) (o : Option Decimal) → decimal_of degrees ≡ o →
+    text ≡ mark mirror (codes "!") ++ degrees
     → turned_of mirror o ≡ Some t → SpellsRotation text t
 turned_is mirror text degrees t None e front h = absurd (none-some t h)
 turned_is mirror text degrees t (Some d) e front h =
@@ -74,19 +81,23 @@ rotation_of_marked : (degrees : List ℕ) → rotation_of (33 ∷ degrees) ≡ t
 unfolding rotation_of
 rotation_of_marked degrees = refl
 
-rotation_of_plain : (degrees : List ℕ) → starts_with nat_eq degrees (codes "!") ≡ false → rotation_of degrees ≡ turned_of false (decimal_of degrees)
+rotation_of_plain : (degrees : List ℕ) → starts_with nat_eq degrees (codes "!") ≡ false →
+    rotation_of degrees ≡ turned_of false (decimal_of degrees)
 unfolding rotation_of
 rotation_of_plain degrees no_mark = rw no_mark refl
 
-turned_to : (mirror : Bool) (degrees : List ℕ) (d : Decimal) → IsDecimal degrees d → IsQuarters d → turned_of mirror (decimal_of degrees) ≡ Some (record { mirror = mirror; degrees = d })
+turned_to : (mirror : Bool) (degrees : List ℕ) (d : Decimal) → IsDecimal degrees d → IsQuarters d →
+    turned_of mirror (decimal_of degrees) ≡ Some (record { mirror = mirror; degrees = d })
 turned_to mirror degrees d s q =
     let quarters : is_quarters d ≡ true = quarters_to d q in
     ap (turned_of mirror) (decimal_to degrees d s) ∙ rw quarters refl
 
-rotation_by_mark : (mirror : Bool) (text degrees : List ℕ) (d : Decimal) → IsDecimal degrees d → IsQuarters d → text ≡ mark mirror (codes "!") ++ degrees
+rotation_by_mark : (mirror : Bool) (text degrees : List ℕ) (d : Decimal) → IsDecimal degrees d → IsQuarters d →
+    text ≡ mark mirror (codes "!") ++ degrees
     → rotation_of text ≡ Some (record { mirror = mirror; degrees = d })
 rotation_by_mark true text degrees d s q e = ap rotation_of e ∙ rotation_of_marked degrees ∙ turned_to true degrees d s q
-rotation_by_mark false text degrees d s q e = ap rotation_of e ∙ rotation_of_plain degrees (decimal_no_mark degrees d s) ∙ turned_to false degrees d s q
+rotation_by_mark false text degrees d s q e = ap rotation_of e ∙ rotation_of_plain degrees (decimal_no_mark degrees d s) ∙
+    turned_to false degrees d s q
 
 pub rotation_to : (text : List ℕ) (t : Rotation) → SpellsRotation text t → rotation_of text ≡ Some t
 rotation_to text t s = rotation_by_mark t.mirror text s.0 t.degrees s.1 s.2 s.3

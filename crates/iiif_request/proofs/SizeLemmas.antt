@@ -1,5 +1,6 @@
 -- Sizes as the code reads them, and as they are spelled.
-use Rattle.std.proofs.Common.{◌≡◌, ◌≢◌, ℕ, Bool, true, false, List, [], ◌∷◌, ◌++◌, drop, refl, sym, ap, ◌∙◌, subst, Some, None, Option, ⊎_elim, eqb, append_assoc, codes}
+use Rattle.std.proofs.Common.{◌≡◌, ◌≢◌, ℕ, Bool, true, false, List, [], ◌∷◌, ◌++◌, drop, refl, sym, ap, ◌∙◌, subst, Some, None, Option}
+use Rattle.std.proofs.Common.{⊎_elim, eqb, append_assoc, codes}
 use Rattle.std.specs.Prelude.{bytes_eq, nat_eq, option_map}
 use Rattle.std.specs.Char.{is_ascii_digit}
 use Rattle.std.specs.List.{starts_with}
@@ -16,12 +17,14 @@ use Rattle.iiif_request.proofs.RegionLemmas.{text_is, front_is, digit_differs, d
 use Rattle.std.proofs.lemmas.List.Elements.{All-append, All-nil}
 use Rattle.std.proofs.lemmas.Option.{same_Some, none-some}
 
-two_is : (form : ℕ → ℕ → Form) (w h : Option ℕ) (f : Form) → two_of form w h ≡ Some f → (a b : ℕ) × (w ≡ Some a) × (h ≡ Some b) × (form a b ≡ f)
+two_is : (form : ℕ → ℕ → Form) (w h : Option ℕ) (f : Form) → two_of form w h ≡ Some f → (a b : ℕ) × (w ≡ Some a) × (h ≡ Some b) ×
+    (form a b ≡ f)
 two_is form None h f e = absurd (none-some f e)
 two_is form (Some a) None f e = absurd (none-some f e)
 two_is form (Some a) (Some b) f e = (a, b, refl, refl, same_Some (form a b) f e)
 
-within_is : (text w h : List ℕ) (f : Form) → text ≡ w ++ 44 ∷ h → w ≡ codes "!" ++ drop 1 w → two_of Within (whole_of (drop 1 w)) (whole_of h) ≡ Some f → SpellsForm text f
+within_is : (text w h : List ℕ) (f : Form) → text ≡ w ++ 44 ∷ h → w ≡ codes "!" ++ drop 1 w →
+    two_of Within (whole_of (drop 1 w)) (whole_of h) ≡ Some f → SpellsForm text f
 within_is text w h f cut front e =
     let n = two_is Within (whole_of (drop 1 w)) (whole_of h) f e in
     let whole : text ≡ codes "!" ++ drop 1 w ++ codes "," ++ h =
@@ -62,7 +65,8 @@ form_is text f h = ⊎_elim
     let n = map_some Percent (decimal_of (drop 4 text)) f percent.1 in
     subst (SpellsForm text) n.2 (drop 4 text, decimal_is (drop 4 text) n.0 n.1, front_is text (codes "pct:") percent.0))
     (λ pair. pair_is text f (cut_of 44 text) refl pair.1)
-    (cond_cases (starts_with nat_eq text (codes "pct:")) (option_map Percent (decimal_of (drop 4 text))) (pair_of (cut_of 44 text)) f other.1))
+    (cond_cases (starts_with nat_eq text (codes "pct:")) (option_map Percent (decimal_of (drop 4 text))) (pair_of (cut_of 44 text)) f
+    other.1))
     (cond_cases (bytes_eq text (codes "max")) (Some Max) _ f h)
 
 pub size_is : (text : List ℕ) (s : Size) → size_of text ≡ Some s → SpellsSize text s
@@ -74,7 +78,8 @@ size_is text s h = ⊎_elim
     (λ plain.
     let n = map_some (λ (f : Form). record { up = false; form = f }) (form_of text) s plain.1 in
     subst (SpellsSize text) n.2 (text, form_is text n.0 n.1, refl))
-    (cond_cases (starts_with nat_eq text (codes "^")) (option_map (λ (f : Form). record { up = true; form = f }) (form_of (drop 1 text))) _ s h)
+    (cond_cases (starts_with nat_eq text (codes "^")) (option_map (λ (f : Form). record { up = true; form = f }) (form_of (drop 1 text))) _
+    s h)
 
 -- a text that begins with another letter than `max` and `pct:`
 form_of_other : (c : ℕ) (rest : List ℕ) → eqb c 109 ≡ false → eqb 112 c ≡ false → form_of (c ∷ rest) ≡ pair_of (cut_of 44 (c ∷ rest))
@@ -149,7 +154,8 @@ form_to text (Within n m) s =
     ap form_of (s.4 ∙ append_assoc (33 ∷ s.0) (codes ",") s.1) ∙ bang_then s.0 s.1 n m s.2 s.3
 
 -- no form begins with `^`
-digit_no_mark : (sign : ℕ) (text w rest : List ℕ) (n : ℕ) → is_ascii_digit sign ≡ false → IsWhole w n → text ≡ w ++ rest → starts_with nat_eq text (sign ∷ []) ≡ false
+digit_no_mark : (sign : ℕ) (text w rest : List ℕ) (n : ℕ) → is_ascii_digit sign ≡ false → IsWhole w n → text ≡ w ++ rest →
+    starts_with nat_eq text (sign ∷ []) ≡ false
 digit_no_mark sign text w rest n other s e =
     let head = head_of 9 w s.0 in
     let differs = differs_digit head.0 sign head.3 other in
@@ -167,15 +173,18 @@ size_of_marked : (form : List ℕ) → size_of (94 ∷ form) ≡ option_map (λ 
 unfolding size_of
 size_of_marked form = refl
 
-size_of_plain : (form : List ℕ) → starts_with nat_eq form (codes "^") ≡ false → size_of form ≡ option_map (λ (f : Form). record { up = false; form = f }) (form_of form)
+size_of_plain : (form : List ℕ) → starts_with nat_eq form (codes "^") ≡ false →
+    size_of form ≡ option_map (λ (f : Form). record { up = false; form = f }) (form_of form)
 unfolding size_of
 size_of_plain form no_mark = rw no_mark refl
 
-size_by_mark : (up : Bool) (text form : List ℕ) (f : Form) → SpellsForm form f → text ≡ mark up (codes "^") ++ form → size_of text ≡ Some (record { up = up; form = f })
+size_by_mark : (up : Bool) (text form : List ℕ) (f : Form) → SpellsForm form f → text ≡ mark up (codes "^") ++ form →
+    size_of text ≡ Some (record { up = up; form = f })
 size_by_mark true text form f s e =
     ap size_of e ∙ size_of_marked form ∙ ap (option_map (λ (x : Form). record { up = true; form = x })) (form_to form f s)
 size_by_mark false text form f s e =
-    ap size_of e ∙ size_of_plain form (form_no_mark form f s) ∙ ap (option_map (λ (x : Form). record { up = false; form = x })) (form_to form f s)
+    ap size_of e ∙ size_of_plain form (form_no_mark form f s) ∙
+    ap (option_map (λ (x : Form). record { up = false; form = x })) (form_to form f s)
 
 pub size_to : (text : List ℕ) (s : Size) → SpellsSize text s → size_of text ≡ Some s
 size_to text s spelled = size_by_mark s.up text spelled.0 s.form spelled.1 spelled.2

@@ -1,5 +1,7 @@
 -- Targets as the code cuts them, and as they ask for a resource.
-use Rattle.std.proofs.Common.{◌≡◌, ◌≢◌, ℕ, ◌+◌, ◌≤◌, ◌⊎◌, Bool, true, false, List, [], ◌∷◌, ◌++◌, length, take, drop, refl, sym, ap, ◌∙◌, subst, arith, Some, None, Option, Ok, Err, Result, inl, inr, ⊎_elim, eqb, ltb, All, append_assoc, append-nil, codes}
+use Rattle.std.proofs.Common.{◌≡◌, ◌≢◌, ℕ, ◌+◌, ◌≤◌, ◌⊎◌, Bool, true, false, List, [], ◌∷◌, ◌++◌, length, take, drop, refl, sym, ap, ◌∙◌}
+use Rattle.std.proofs.Common.{subst, arith, Some, None, Option, Ok, Err, Result, inl, inr, ⊎_elim, eqb, ltb, All, append_assoc, append-nil}
+use Rattle.std.proofs.Common.{codes}
 use Rattle.std.specs.Prelude.{◌==◌, position, bytes_eq, IfOk}
 use Rattle.std.specs.List.{slice_split, onto_first, join_with_byte, before_first, after_first, position_or_len, AllZip}
 use Rattle.std.proofs.lemmas.Bool.{ltb-true, ltb-false}
@@ -7,7 +9,8 @@ use Rattle.std.proofs.lemmas.Bool.Decides.{eqb_tells}
 use Rattle.std.proofs.lemmas.List.{take-append-drop}
 use Rattle.std.proofs.lemmas.List.Elements.{All-nil, All-cons, All-head, All-tail}
 use Rattle.std.proofs.lemmas.List.Sums.{fails_before_first}
-use Rattle.std.proofs.lemmas.List.Splits.{slice_split-cons_yes, slice_split-cons_no, slice_split_at, slice_split_none, slice_split_first, join_with_byte-slice_split, length-slice_split}
+use Rattle.std.proofs.lemmas.List.Splits.{slice_split-cons_yes, slice_split-cons_no, slice_split_at, slice_split_none, slice_split_first}
+use Rattle.std.proofs.lemmas.List.Splits.{join_with_byte-slice_split, length-slice_split}
 use Rattle.std.proofs.lemmas.Slice.Eq.{bytes_eq-Decides}
 use Rattle.std.proofs.Math.Seq.{take-append_seam, drop-append_seam}
 use Rattle.std.proofs.lemmas.Option.{same_Some, none-some, cond_some}
@@ -15,8 +18,10 @@ use Rattle.iiif_request.specs.Spells.{Texts}
 use Rattle.iiif_request.specs.declared.target.Target.{Target}
 use Rattle.iiif_request.specs.declared.target.SplitFault.{SplitFault}
 use Rattle.iiif_request.specs.declared.target.SplitFault.TheVariants.{Path, NoMemory}
-use Rattle.iiif_request.specs.Code.{Gives, text_of, identifier_of, base_of, information_of, words_of, image_of, asked_by, path_of, behind, asked_behind, asked_within, asked_of}
-use Rattle.iiif_request.specs.Targets.{Lacks, IsSegmentOf, IsCut, Resource, base, information, image, IsQualityAndFormat, AreSegmentsOf, AsksFor, resource_of}
+use Rattle.iiif_request.specs.Code.{Gives, text_of, identifier_of, base_of, information_of, words_of, image_of, asked_by, path_of, behind}
+use Rattle.iiif_request.specs.Code.{asked_behind, asked_within, asked_of}
+use Rattle.iiif_request.specs.Targets.{Lacks, IsSegmentOf, IsCut, Resource, base, information, image, IsQualityAndFormat, AreSegmentsOf}
+use Rattle.iiif_request.specs.Targets.{AsksFor, resource_of}
 use Rattle.iiif_request.proofs.OptionLemmas.{cond_cases}
 use Rattle.iiif_request.proofs.RegionLemmas.{text_is}
 use Rattle.iiif_request.proofs.CutLemmas.{ne-eqb, eqb-false, before_lacks, before_behind, uncut_parts, cut_parts}
@@ -66,7 +71,8 @@ parts_lack (x ∷ xs) =
     let rest = parts_some xs in
     let lacks : All (Lacks 47) (rest.0 ∷ rest.1) = subst (All (Lacks 47)) rest.2 (parts_lack xs) in
     ⊎_elim
-    (λ t. subst (All (Lacks 47)) (sym (slice_split-cons_yes is_slash x xs t.0)) (All-cons (Lacks 47) [] (slice_split is_slash xs) (All-nil (λ y. y ≢ 47)) (parts_lack xs)))
+    (λ t. subst (All (Lacks 47)) (sym (slice_split-cons_yes is_slash x xs t.0))
+    (All-cons (Lacks 47) [] (slice_split is_slash xs) (All-nil (λ y. y ≢ 47)) (parts_lack xs)))
     (λ t.
     let longer : Lacks 47 (x ∷ rest.0) = All-cons (λ y. y ≢ 47) x rest.0 t.1 (All-head (Lacks 47) rest.0 rest.1 lacks) in
     subst (All (Lacks 47)) (sym (slice_split-cons_no is_slash x xs t.0 ∙ ap (onto_first x) rest.2))
@@ -104,7 +110,8 @@ path_to target path query e lacks (inr some) = (cut_parts 63 target path some.0 
 behind_is : (front text rest : List ℕ) → behind front text ≡ Some rest → text ≡ front ++ rest
 behind_is front text rest h =
     let n = cond_some (bytes_eq (take (length front) text) front) (drop (length front) text) rest h in
-    sym (take-append-drop (length front) text) ∙ ap (λ (t : List ℕ). t ++ drop (length front) text) (text_is (take (length front) text) front n.0)
+    sym (take-append-drop (length front) text) ∙
+    ap (λ (t : List ℕ). t ++ drop (length front) text) (text_is (take (length front) text) front n.0)
     ∙ ap (λ (t : List ℕ). front ++ t) n.1
 
 behind_to : (front text rest : List ℕ) → text ≡ front ++ rest → behind front text ≡ Some rest
@@ -115,7 +122,11 @@ behind_to front text rest e =
 -- the last segment
 quality_is : (text : List ℕ) → IsQualityAndFormat text (before_first (λ b. b == 46) text) (after_first (λ b. b == 46) text)
 quality_is text = ⊎_elim
-    (λ cut. (before_lacks 46 text, inl (cut ∙ sym (append_assoc (before_first (λ b. b == 46) text) (codes ".") (after_first (λ b. b == 46) text)))))
+    (λ cut. (
+      before_lacks 46 text,
+      inl (cut ∙ sym
+          (append_assoc (before_first (λ b. b == 46) text) (codes ".") (after_first (λ b. b == 46) text))),
+    ))
     (λ whole. (before_lacks 46 text, inr (sym whole.0, whole.1)))
     (before_behind 46 text)
 
@@ -155,14 +166,18 @@ base_is i r (Some id) e h =
     let named = identifier_is i id (text_of i) refl e in
     subst (IsAsked (i ∷ [])) (same_Some (base id) r h) (id ∷ [], (named.0, tt), (refl, named.1))
 
-information_is : (i n : List ℕ) (r : Resource) (o p : Option (List ℕ)) → identifier_of (text_of i) ≡ o → text_of n ≡ p → information_of o p ≡ Some r → IsAsked (i ∷ n ∷ []) r
+information_is : (i n : List ℕ) (r : Resource) (o p : Option (List ℕ)) → identifier_of (text_of i) ≡ o → text_of n ≡ p →
+    information_of o p ≡ Some r → IsAsked (i ∷ n ∷ []) r
 information_is i n r None p e f h = absurd (none-some r h)
 information_is i n r (Some id) None e f h = absurd (none-some r h)
 information_is i n r (Some id) (Some name) e f h =
     let named = identifier_is i id (text_of i) refl e in
     let known = cond_some (bytes_eq name (codes "info.json")) (information id) r h in
-    subst (IsAsked (i ∷ n ∷ [])) known.1
-    (id ∷ name ∷ [], (named.0, (segment_is n name f, tt)), (ap (λ (t : List ℕ). id ∷ t ∷ []) (text_is name (codes "info.json") known.0), named.1))
+    subst (IsAsked (i ∷ n ∷ [])) known.1 (
+      id ∷ name ∷ [],
+      (named.0, (segment_is n name f, tt)),
+      (ap (λ (t : List ℕ). id ∷ t ∷ []) (text_is name (codes "info.json") known.0), named.1),
+    )
 
 words_is : (r s t l : Option (List ℕ)) (w : Texts) → words_of r s t l ≡ Some w
     → (a b c d : List ℕ) × (r ≡ Some a) × (s ≡ Some b) × (t ≡ Some c) × (l ≡ Some d)
@@ -180,12 +195,21 @@ image_is i r s t l q (Some id) None e f h = absurd (none-some q h)
 image_is i r s t l q (Some id) (Some w) e f h =
     let named = identifier_is i id (text_of i) refl e in
     let n = words_is (text_of r) (text_of s) (text_of t) (text_of l) w f in
-    let found : IsAsked (i ∷ r ∷ s ∷ t ∷ l ∷ []) (image id (record { region = n.0; size = n.1; rotation = n.2; quality = before_first (λ x. x == 46) n.3; format = after_first (λ x. x == 46) n.3 })) = (
+    let found : IsAsked (i ∷ r ∷ s ∷ t ∷ l ∷ [])
+    (image id (record {
+      region = n.0;
+      size = n.1;
+      rotation = n.2;
+      quality = before_first (λ x. x == 46) n.3;
+      format =
+          after_first (λ x. x == 46) n.3;
+    })) = (
       id ∷ n.0 ∷ n.1 ∷ n.2 ∷ n.3 ∷ [],
       (named.0, (segment_is r n.0 n.4, (segment_is s n.1 n.5, (segment_is t n.2 n.6, (segment_is l n.3 n.7, tt))))),
       (n.3, quality_is n.3, refl, named.1),
     ) in
-    subst (IsAsked (i ∷ r ∷ s ∷ t ∷ l ∷ [])) (same_Some (image id w) q h) (subst (λ (x : Texts). IsAsked (i ∷ r ∷ s ∷ t ∷ l ∷ []) (image id x)) n.8 found)
+    subst (IsAsked (i ∷ r ∷ s ∷ t ∷ l ∷ [])) (same_Some (image id w) q h)
+    (subst (λ (x : Texts). IsAsked (i ∷ r ∷ s ∷ t ∷ l ∷ []) (image id x)) n.8 found)
 
 asked_is : (raw : List (List ℕ)) (r : Resource) → asked_by raw ≡ Some r → IsAsked raw r
 asked_is [] r h = absurd (none-some r h)
@@ -193,7 +217,8 @@ asked_is (i ∷ []) r h = base_is i r (identifier_of (text_of i)) refl h
 asked_is (i ∷ n ∷ []) r h = information_is i n r (identifier_of (text_of i)) (text_of n) refl refl h
 asked_is (a ∷ b ∷ c ∷ []) r h = absurd (none-some r h)
 asked_is (a ∷ b ∷ c ∷ d ∷ []) r h = absurd (none-some r h)
-asked_is (a ∷ b ∷ c ∷ d ∷ e ∷ []) r h = image_is a b c d e r (identifier_of (text_of a)) (words_of (text_of b) (text_of c) (text_of d) (text_of e)) refl refl h
+asked_is (a ∷ b ∷ c ∷ d ∷ e ∷ []) r h = image_is a b c d e r (identifier_of (text_of a))
+    (words_of (text_of b) (text_of c) (text_of d) (text_of e)) refl refl h
 asked_is (a ∷ b ∷ c ∷ d ∷ e ∷ f ∷ more) r h = absurd (none-some r h)
 
 -- what is asked for so is found
@@ -202,7 +227,8 @@ base_to [] id z some = absurd z
 base_to (i ∷ []) id z some = ap base_of (identifier_to i id z.0 some)
 base_to (i ∷ n ∷ more) id z some = absurd z.1
 
-information_to : (raw : List (List ℕ)) (id : List ℕ) → AllZip IsSegmentOf raw (id ∷ codes "info.json" ∷ []) → id ≢ [] → asked_by raw ≡ Some (information id)
+information_to : (raw : List (List ℕ)) (id : List ℕ) → AllZip IsSegmentOf raw (id ∷ codes "info.json" ∷ []) → id ≢ [] →
+    asked_by raw ≡ Some (information id)
 information_to [] id z some = absurd z
 information_to (i ∷ []) id z some = absurd z.1
 information_to (i ∷ n ∷ []) id z some =
@@ -221,10 +247,24 @@ words_to r s t l a b c d w first second third fourth e =
     ∙ ap (λ (x : Texts). Some x) e
 
 same_words : (w : Texts) (last : List ℕ) → IsQualityAndFormat last w.quality w.format
-    → record { region = w.region; size = w.size; rotation = w.rotation; quality = before_first (λ x. x == 46) last; format = after_first (λ x. x == 46) last } ≡ w
+    → record {
+      region = w.region;
+      size = w.size;
+      rotation = w.rotation;
+      quality = before_first (λ x. x == 46) last;
+      format =
+          after_first (λ x. x == 46) last;
+    } ≡ w
 same_words w last s =
     let parts = quality_to last w.quality w.format s in
-    ap (λ (q : List ℕ). record { region = w.region; size = w.size; rotation = w.rotation; quality = q; format = after_first (λ x. x == 46) last }) parts.0
+    ap (λ (q : List ℕ). record {
+      region = w.region;
+      size = w.size;
+      rotation = w.rotation;
+      quality = q;
+      format =
+          after_first (λ x. x == 46) last;
+    }) parts.0
     ∙ ap (λ (f : List ℕ). record { region = w.region; size = w.size; rotation = w.rotation; quality = w.quality; format = f }) parts.1
 
 image_to : (raw : List (List ℕ)) (id last : List ℕ) (w : Texts) → AllZip IsSegmentOf raw (id ∷ w.region ∷ w.size ∷ w.rotation ∷ last ∷ [])
@@ -239,13 +279,15 @@ image_to (i ∷ a ∷ b ∷ c ∷ d ∷ []) id last w z s some =
     ∙ ap (image_of (Some id)) (words_to a b c d w.region w.size w.rotation last w z.1.0 z.1.1.0 z.1.1.1.0 z.1.1.1.1.0 (same_words w last s))
 image_to (i ∷ a ∷ b ∷ c ∷ d ∷ e ∷ more) id last w z s some = absurd z.1.1.1.1.1
 
-asked_to : (raw segments : List (List ℕ)) (r : Resource) → AllZip IsSegmentOf raw segments → AreSegmentsOf segments r → asked_by raw ≡ Some r
+asked_to : (raw segments : List (List ℕ)) (r : Resource) → AllZip IsSegmentOf raw segments → AreSegmentsOf segments r →
+    asked_by raw ≡ Some r
 asked_to raw segments (base id) z s = base_to raw id (subst (AllZip IsSegmentOf raw) s.0 z) s.1
 asked_to raw segments (information id) z s = information_to raw id (subst (AllZip IsSegmentOf raw) s.0 z) s.1
 asked_to raw segments (image id w) z s = image_to raw id s.0 w (subst (AllZip IsSegmentOf raw) s.2 z) s.1 s.3
 
 -- a whole target
-pub cut_is : (prefix target rooted path : List ℕ) → behind prefix (path_of target) ≡ Some rooted → behind (codes "/") rooted ≡ Some path → IsCut prefix target (slice_split is_slash path)
+pub cut_is : (prefix target rooted path : List ℕ) → behind prefix (path_of target) ≡ Some rooted → behind (codes "/") rooted ≡ Some path →
+    IsCut prefix target (slice_split is_slash path)
 cut_is prefix target rooted path first second =
     let query = path_is target in
     record {
@@ -263,14 +305,23 @@ cut_is prefix target rooted path first second =
       parted = parts_lack path;
     }
 
-within_is : (prefix target rooted : List ℕ) (r : Resource) (o : Option (List ℕ)) → behind prefix (path_of target) ≡ Some rooted → behind (codes "/") rooted ≡ o
+within_is : (prefix target rooted : List ℕ) (r : Resource) (o : Option (List ℕ)) → behind prefix (path_of target) ≡ Some rooted →
+    behind (codes "/") rooted ≡ o
     → asked_behind o ≡ Some r → AsksFor prefix target r
 within_is prefix target rooted r None e f h = absurd (none-some r h)
 within_is prefix target rooted r (Some path) e f h =
     let found = asked_is (slice_split is_slash path) r h in
-    record { raw = slice_split is_slash path; segments = found.0; cut = cut_is prefix target rooted path e f; decoded = found.1; asked = found.2 }
+    record {
+      raw = slice_split is_slash path;
+      segments = found.0;
+      cut = cut_is prefix target rooted path e f;
+      decoded = found.1;
+      asked =
+          found.2;
+    }
 
-rooted_is : (prefix target : List ℕ) (r : Resource) (o : Option (List ℕ)) → behind prefix (path_of target) ≡ o → asked_within o ≡ Some r → AsksFor prefix target r
+rooted_is : (prefix target : List ℕ) (r : Resource) (o : Option (List ℕ)) → behind prefix (path_of target) ≡ o → asked_within o ≡ Some r →
+    AsksFor prefix target r
 rooted_is prefix target r None e h = absurd (none-some r h)
 rooted_is prefix target r (Some rooted) e h = within_is prefix target rooted r (behind (codes "/") rooted) e refl h
 
@@ -281,7 +332,8 @@ pub asks_to : (prefix target : List ℕ) (r : Resource) → AsksFor prefix targe
 asks_to prefix target r a =
     let path : List ℕ = join_with_byte 47 a.raw in
     let at : path_of target ≡ prefix ++ 47 ∷ path =
-    path_to target a.cut.path a.cut.query a.cut.whole a.cut.path_ends a.cut.query_begins ∙ a.cut.joined ∙ append_assoc prefix (codes "/") path in
+    path_to target a.cut.path a.cut.query a.cut.whole a.cut.path_ends a.cut.query_begins ∙ a.cut.joined ∙
+    append_assoc prefix (codes "/") path in
     ap asked_within (behind_to prefix (path_of target) (47 ∷ path) at)
     ∙ ap asked_behind (behind_to (codes "/") (47 ∷ path) path refl)
     ∙ ap asked_by (joined_cut a.raw a.cut.some a.cut.parted)
@@ -292,11 +344,13 @@ pub asks_once : (prefix target : List ℕ) (r s : Resource) → AsksFor prefix t
 asks_once prefix target r s a b = same_Some r s (sym (asks_to prefix target r a) ∙ asks_to prefix target s b)
 
 -- what `split` answers
-pub found : (prefix target : List ℕ) (a : Result Target SplitFault) → Gives resource_of a (asked_of prefix target) → IfOk a (λ t. AsksFor prefix target (resource_of t))
+pub found : (prefix target : List ℕ) (a : Result Target SplitFault) → Gives resource_of a (asked_of prefix target) →
+    IfOk a (λ t. AsksFor prefix target (resource_of t))
 found prefix target (Ok t) h = asks_is prefix target (resource_of t) h
 found prefix target (Err e) h = tt
 
-pub refused : (prefix target : List ℕ) (a : Result Target SplitFault) → Gives resource_of a (asked_of prefix target) → a ≡ Err Path → ¬ ((r : Resource) × AsksFor prefix target r)
+pub refused : (prefix target : List ℕ) (a : Result Target SplitFault) → Gives resource_of a (asked_of prefix target) → a ≡ Err Path →
+    ¬ ((r : Resource) × AsksFor prefix target r)
 refused prefix target (Ok t) h e asked = cc
 refused prefix target (Err Path) h e asked = none-some asked.0 (sym h ∙ asks_to prefix target asked.0 asked.1)
 refused prefix target (Err NoMemory) h e asked = cc

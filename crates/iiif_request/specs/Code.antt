@@ -1,5 +1,7 @@
 -- The grammar once more as functions of one word each, for private functions alone; `Spells` and `Targets` say what is meant.
-use Rattle.std.specs.Prelude.{◌≡◌, ⊤, take, ℕ, ◌*◌, ◌^◌, ◌==◌, Bool, true, false, ◌⊎◌, ◌&&◌, ◌||◌, List, [], ◌∷◌, ◌++◌, length, drop, codes, bytes_eq, nat_eq, nat_le, slice_index, if◌then◌else◌, Option, None, Some, option_map, is_some, position, Result, Ok, Err}
+use Rattle.std.specs.Prelude.{◌≡◌, ⊤, take, ℕ, ◌*◌, ◌^◌, ◌==◌, Bool, true, false, ◌⊎◌, ◌&&◌, ◌||◌, List, [], ◌∷◌, ◌++◌, length, drop}
+use Rattle.std.specs.Prelude.{codes, bytes_eq, nat_eq, nat_le, slice_index, if◌then◌else◌, Option, None, Some, option_map, is_some}
+use Rattle.std.specs.Prelude.{position, Result, Ok, Err}
 use Rattle.std.specs.List.{before_first, after_first, starts_with, list_all, slice_split}
 use Rattle.std.specs.Char.{is_ascii_hexdigit}
 use Rattle.std.specs.Str.{is_utf8}

@@ -3,7 +3,8 @@ use Rattle.std.specs.Prelude.{ℕ, List, codes}
 use Rattle.iiif_request.specs.declared.request.Refusal.{Refusal}
 use Rattle.iiif_request.specs.declared.target.SplitFault.{SplitFault}
 use Rattle.iiif_request.specs.declared.target.SplitFault.TheVariants as fault
-use Rattle.iiif_request.specs.declared.request.Refusal.TheVariants.{Head, Method, Path, Identifier, Region, Size, Rotation, Quality, Format, Empty, Zero, Larger, Upscale, Limit}
+use Rattle.iiif_request.specs.declared.request.Refusal.TheVariants.{Head, Method, Path, Identifier, Region, Size, Rotation, Quality}
+use Rattle.iiif_request.specs.declared.request.Refusal.TheVariants.{Format, Empty, Zero, Larger, Upscale, Limit}
 
 -- 400 Bad Request, 404 Not Found, 405 Method Not Allowed, 501 Not Implemented
 abbrev pub status_of : Refusal → ℕ

@@ -64,7 +64,8 @@ IsQuarters d = (k : ℕ) × (k ≤ 4) × (d.digits ≡ 90 * k * 10 ^ d.places)
 
 -- section 4.3: degrees, with `!` in front where the image is mirrored first
 abbrev pub SpellsRotation : List ℕ → Rotation → Type 0
-SpellsRotation text t = (degrees : List ℕ) × IsDecimal degrees t.degrees × IsQuarters t.degrees × (text ≡ mark t.mirror (codes "!") ++ degrees)
+SpellsRotation text t = (degrees : List ℕ) × IsDecimal degrees t.degrees × IsQuarters t.degrees ×
+    (text ≡ mark t.mirror (codes "!") ++ degrees)
 
 -- section 4.4
 abbrev pub SpellsQuality : List ℕ → Quality → Type 0

@@ -14,7 +14,8 @@ Lacks byte text = All (λ b. b ≢ byte) text
 -- RFC 3986, section 2.1: a byte but `%` stands for itself; `%` and two hexadecimal digits, of either case, for the byte that they write
 abbrev pub StandsFor : List ℕ → ℕ → Type 0
 StandsFor unit byte = ((unit ≡ byte ∷ []) × (byte ≢ 37))
-    ⊎ ((high low : ℕ) × (digit_value high < 16) × (digit_value low < 16) × (unit ≡ 37 ∷ high ∷ low ∷ []) × (byte ≡ 16 * digit_value high + digit_value low))
+    ⊎ ((high low : ℕ) × (digit_value high < 16) × (digit_value low < 16) × (unit ≡ 37 ∷ high ∷ low ∷ []) ×
+    (byte ≡ 16 * digit_value high + digit_value low))
 
 -- the bytes are cut into units, of which each stands for one byte of the text
 abbrev pub Decodes : List ℕ → List ℕ → Type 0
@@ -24,7 +25,8 @@ Decodes raw text = (units : List (List ℕ)) × (raw ≡ concat units) × AllZip
 abbrev pub IsSegmentOf : List ℕ → List ℕ → Type 0
 IsSegmentOf raw text = Decodes raw text × IsUtf8 text
 
--- RFC 3986, sections 3.3 and 3.4: the target is a path, and perhaps a query from the first `?` on; the path is the prefix, a slash, and segments with a slash between each two
+-- RFC 3986, sections 3.3 and 3.4: the target is a path, and perhaps a query from the first `?` on; the path is the prefix, a slash, and
+-- segments with a slash between each two
 pub record IsCut (prefix target : List ℕ) (segments : List (List ℕ)) : Type 0 where
   pub path : List ℕ
   pub query : List ℕ
@@ -35,7 +37,8 @@ pub record IsCut (prefix target : List ℕ) (segments : List (List ℕ)) : Type 
   pub some : 1 ≤ length segments
   pub parted : All (Lacks 47) segments
 
--- the target is cut into one segment, two or five: as many as a base URI, an image's information or an image has (IIIF Image API 3.0, section 2)
+-- the target is cut into one segment, two or five: as many as a base URI, an image's information or an image has (IIIF Image API 3.0,
+-- section 2)
 abbrev pub HasCountOfResource : List ℕ → List ℕ → Type 0
 HasCountOfResource prefix target =
     (segments : List (List ℕ)) × IsCut prefix target segments × ((length segments ≡ 1) ⊎ (length segments ≡ 2) ⊎ (length segments ≡ 5))

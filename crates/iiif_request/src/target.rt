@@ -3,7 +3,8 @@
 
 ghost use Rattle.std.specs.Prelude.{◌≡◌, ◌==◌, ◌∷◌, [], IfOk, MatchOption, option_map, position, string_bytes};
 ghost use Rattle.std.specs.List.{before_first, after_first, slice_split};
-ghost use Rattle.iiif_request.specs.Code.{begins_with_digits, has_whole_escapes, text_of, identifier_of, words_of, path_of, behind, asked_by, asked_of, Gives, IsCounted};
+ghost use Rattle.iiif_request.specs.Code.{begins_with_digits, has_whole_escapes, text_of, identifier_of, words_of, path_of, behind};
+ghost use Rattle.iiif_request.specs.Code.{asked_by, asked_of, Gives, IsCounted};
 ghost use Rattle.iiif_request.specs.Targets.{AsksFor, HasCountOfResource, Resource, resource_of};
 ghost use Rattle.iiif_request.specs.Words.{texts};
 

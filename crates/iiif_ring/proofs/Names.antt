@@ -41,9 +41,11 @@ pub IsUpTo-other : (a b : List ℕ) → is_gt (slice_cmp nat_cmp a b) ≡ true �
 IsUpTo-other a b p = untied (slice_cmp nat_cmp a b) (slice_cmp nat_cmp b a) (nat_list_cmp_total.antisymm a b) p
 
 -- the name at a place is the text that stands there
-pub name_at-names_of : (names : List (String Global)) (place : ℕ) (name : String Global) → name ≡ get_or names place name → place < length names
+pub name_at-names_of : (names : List (String Global)) (place : ℕ) (name : String Global) → name ≡ get_or names place name →
+    place < length names
     → name_at (names_of names) place ≡ string_bytes name
-name_at-names_of names place name e h = get_or-map (λ text. string_bytes text) names place name [] h ∙ ap (λ text. string_bytes text) (sym e)
+name_at-names_of names place name e h = get_or-map (λ text. string_bytes text) names place name [] h ∙
+    ap (λ text. string_bytes text) (sym e)
 
 pub length-names_of : (names : List (String Global)) → length (names_of names) ≡ length names
 length-names_of names = length-map names (λ (text : String Global). string_bytes text)

@@ -29,7 +29,8 @@ not_there (Some x) h e = cc
 
 module _ (points : BTreeMap ℕ ℕ) (from here place : ℕ) (fits : EachFits points) (small : from < 2 ^ 64) where
   -- the first entry of those from a place on
-  pub next_ahead : (es rest : List (ℕ × ℕ)) → IsRangeOf nat_cmp (Included from) Unbounded points es → es ≡ (here, place) ∷ rest → IsNext points from place
+  pub next_ahead : (es rest : List (ℕ × ℕ)) → IsRangeOf nat_cmp (Included from) Unbounded points es → es ≡ (here, place) ∷ rest →
+      IsNext points from place
   next_ahead es rest range is =
       let P : List (ℕ × ℕ) → Type 0 = λ xs. IsRangeOf nat_cmp (Included from) Unbounded points xs in
       let r = subst P is range in
@@ -46,11 +47,13 @@ module _ (points : BTreeMap ℕ ℕ) (from here place : ℕ) (fits : EachFits po
       }
 
   -- the first entry of all, where none stands from the place on
-  pub next_round : (es : List (ℕ × ℕ)) → IsRangeOf nat_cmp (Included from) Unbounded points es → es ≡ [] → get nat_cmp points here ≡ Some place → IsLowerBound nat_cmp points here
+  pub next_round : (es : List (ℕ × ℕ)) → IsRangeOf nat_cmp (Included from) Unbounded points es → es ≡ [] →
+      get nat_cmp points here ≡ Some place → IsLowerBound nat_cmp points here
       → IsNext points from place
   next_round es range none is lower =
       let before : (other : ℕ) → is_some (get nat_cmp points other) ≡ true → other < from = λ other there. ⊎_elim (λ h. h)
-      (λ behind. absurd (not_there (get nat_cmp points other) there (range.5 none other (not_gt from other behind, tt)))) (cases_lt other from) in
+      (λ behind. absurd (not_there (get nat_cmp points other) there (range.5 none other (not_gt from other behind, tt))))
+      (cases_lt other from) in
       let own : here < from = before here (ap is_some is) in
       record {
         here = here;

@@ -1,5 +1,6 @@
 -- The owner of a key is the name at the next point, and no other name.
-use Rattle.std.proofs.Common.{◌≡◌, ℕ, ◌<◌, ◌≤◌, ◌^◌, List, [], length, Some, None, is_some, sym, ap, ◌∙◌, subst, inl, inr, ⊎_elim, arith, slice_get}
+use Rattle.std.proofs.Common.{◌≡◌, ℕ, ◌<◌, ◌≤◌, ◌^◌, List, [], length, Some, None, is_some, sym, ap, ◌∙◌, subst, inl, inr, ⊎_elim, arith}
+use Rattle.std.proofs.Common.{slice_get}
 use Rattle.std.proofs.lemmas.Bool.{cases_lt}
 use Rattle.std.proofs.lemmas.List.{get_or_default}
 use Rattle.std.proofs.lemmas.List.Elements.{Contains-get_or}
@@ -26,7 +27,8 @@ same_place a b from ha hb hf e = ⊎_elim
     (cases_lt b from))
     (cases_lt a from)
 
-pub owner_at : (names : List (List ℕ)) (points : BTreeMap ℕ ℕ) (key : List ℕ) (place : ℕ) → IsTable names points → hash key < 2 ^ 64 → IsNext points (hash key) place
+pub owner_at : (names : List (List ℕ)) (points : BTreeMap ℕ ℕ) (key : List ℕ) (place : ℕ) → IsTable names points → hash key < 2 ^ 64 →
+    IsNext points (hash key) place
     → IsOwner names key (name_at names place)
 owner_at names points key place table small next =
     let from = hash key in
@@ -58,7 +60,8 @@ owner_at names points key place table small next =
     }
 
 -- two owners of one key, of the same names in whatever order, are one name
-pub IsOwner-unique : (names others : List (List ℕ)) (key a b : List ℕ) → HaveSameNames names others → IsOwner names key a → IsOwner others key b → a ≡ b
+pub IsOwner-unique : (names others : List (List ℕ)) (key a b : List ℕ) → HaveSameNames names others → IsOwner names key a →
+    IsOwner others key b → a ≡ b
 IsOwner-unique names others key a b same one other =
     let forth = one.first b other.replica ((same b).1 other.named) other.numbered in
     let back = other.first a one.replica ((same a).0 one.named) one.numbered in
@@ -68,7 +71,8 @@ IsOwner-unique names others key a b same one other =
     forth
 
 -- a table of names with nothing in it has no names
-pub not_empty : (names : List (List ℕ)) (points : BTreeMap ℕ ℕ) → IsTable names points → 0 < length names → ((here : ℕ) → here < 2 ^ 64 → get nat_cmp points here ≡ None) → ⊥
+pub not_empty : (names : List (List ℕ)) (points : BTreeMap ℕ ℕ) → IsTable names points → 0 < length names →
+    ((here : ℕ) → here < 2 ^ 64 → get nat_cmp points here ≡ None) → ⊥
 not_empty names points table some none =
     let here = point (name_at names 0) 0 in
     let has = table.all 0 0 some (omega arith) in
@@ -76,7 +80,8 @@ not_empty names points table some none =
     let is : Some met.0 ≡ None = sym met.1 ∙ none here (table.each here met.0 met.1).0 in cc
 
 -- the place where the owner stands, and no other owner is
-pub owner_stands : (names : List (List ℕ)) (points : BTreeMap ℕ ℕ) (key : List ℕ) (from place : ℕ) → IsTable names points → from ≡ hash key → from < 2 ^ 64 → IsNext points from place
+pub owner_stands : (names : List (List ℕ)) (points : BTreeMap ℕ ℕ) (key : List ℕ) (from place : ℕ) → IsTable names points →
+    from ≡ hash key → from < 2 ^ 64 → IsNext points from place
     → IsOwner names key (name_at names place) × (slice_get names place ≡ Some (name_at names place))
 owner_stands names points key from place table is small next =
     let at : IsNext points (hash key) place = subst (λ f. IsNext points f place) is next in
@@ -84,7 +89,8 @@ owner_stands names points key from place table is small next =
     (owner_at names points key place table below at, slice_get-get_or names place [] (table.each next.here place next.found).1)
 
 -- of two replicas of one name the nearer comes first, and of two that are as near either does
-nearest_first : (key name other : List ℕ) (replica replica' : ℕ) → name ≡ other → distance_from key name replica ≤ distance_from key name replica' → ComesFirst key name replica other replica'
+nearest_first : (key name other : List ℕ) (replica replica' : ℕ) → name ≡ other →
+    distance_from key name replica ≤ distance_from key name replica' → ComesFirst key name replica other replica'
 nearest_first key name other replica replica' same near =
     let P : List ℕ → Type 0 = λ t. ComesFirst key name replica t replica' in
     subst P same (⊎_elim
@@ -93,7 +99,8 @@ nearest_first key name other replica replica' same near =
     (cases_lt (distance_from key name replica) (distance_from key name replica')))
 
 -- a name that is alone is the owner: one of its replicas is the nearest
-alone_at : (names : List (List ℕ)) (key : List ℕ) → length names ≡ 1 → HasLeast (distance_from key (name_at names 0)) replicas → IsOwner names key (name_at names 0)
+alone_at : (names : List (List ℕ)) (key : List ℕ) → length names ≡ 1 → HasLeast (distance_from key (name_at names 0)) replicas →
+    IsOwner names key (name_at names 0)
 alone_at names key alone nearest = record {
   named = Contains-get_or names 0 [] (omega arith);
   replica = nearest.at;
@@ -106,5 +113,9 @@ alone_at names key alone nearest = record {
 }
 
 -- where one name stands alone, the owner stands at the first place
-pub alone_stands : (names : List (List ℕ)) (key : List ℕ) → length names ≡ 1 → IsOwner names key (name_at names 0) × (slice_get names 0 ≡ Some (name_at names 0))
-alone_stands names key alone = (alone_at names key alone (has_least (distance_from key (name_at names 0)) replicas (omega arith)), slice_get-get_or names 0 [] (omega arith))
+pub alone_stands : (names : List (List ℕ)) (key : List ℕ) → length names ≡ 1 → IsOwner names key (name_at names 0) ×
+    (slice_get names 0 ≡ Some (name_at names 0))
+alone_stands names key alone = (
+  alone_at names key alone (has_least (distance_from key (name_at names 0)) replicas (omega arith)),
+  slice_get-get_or names 0 [] (omega arith),
+)

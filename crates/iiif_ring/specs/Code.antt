@@ -1,5 +1,6 @@
 -- What the table of points keeps: words of the code alone.
-use Rattle.std.specs.Prelude.{◌≡◌, ℕ, zero, suc, ◌<◌, ◌≤◌, ◌^◌, ◌==◌, ◌||◌, Bool, true, false, List, [], length, slice_index_or, Some, IsSome}
+use Rattle.std.specs.Prelude.{◌≡◌, ℕ, zero, suc, ◌<◌, ◌≤◌, ◌^◌, ◌==◌, ◌||◌, Bool, true, false, List, [], length, slice_index_or, Some}
+use Rattle.std.specs.Prelude.{IsSome}
 use Rattle.std.specs.BTreeMap.{BTreeMap, get}
 use Rattle.std.specs.Ordering.{nat_cmp}
 use Rattle.iiif_ring.specs.Owner.{point, replicas, distance, IsUpTo}
@@ -21,7 +22,8 @@ EachIsPoint names points = (here place : ℕ) → get nat_cmp points here ≡ So
 -- the table has a replica's point, and of names that share the point no larger one
 abbrev pub HasReplica : List (List ℕ) → BTreeMap ℕ ℕ → ℕ → ℕ → Type 0
 HasReplica names points place replica = IsSome (get nat_cmp points (point (name_at names place) replica))
-    × ((other : ℕ) → get nat_cmp points (point (name_at names place) replica) ≡ Some other → IsUpTo (name_at names other) (name_at names place))
+    × ((other : ℕ) → get nat_cmp points (point (name_at names place) replica) ≡ Some other →
+    IsUpTo (name_at names other) (name_at names place))
 
 -- the table of the points of all names
 pub record IsTable (names : List (List ℕ)) (points : BTreeMap ℕ ℕ) : Type 0 where

@@ -1,6 +1,7 @@
 //! The ring.
 
-ghost use Rattle.std.specs.Prelude.{false, ◌≡◌, ℕ, ◌<◌, ◌≤◌, ◌^◌, ◌↔◌, List, [], length, IsTrue, IfOk, IfSome, IfNone, IsErrOf, IsSomeAnd, Some, slice_get};
+ghost use Rattle.std.specs.Prelude.{false, ◌≡◌, ℕ, ◌<◌, ◌≤◌, ◌^◌, ◌↔◌, List, [], length, IsTrue, IfOk, IfSome, IfNone, IsErrOf, IsSomeAnd};
+ghost use Rattle.std.specs.Prelude.{Some, slice_get};
 ghost use Rattle.std.specs.BTreeMap.{get};
 ghost use Rattle.std.specs.Ordering.{nat_cmp};
 ghost use Rattle.iiif_ring.specs.Code.{name_at, EachFits, EachIsPoint, IsNext, IsTable};

@@ -19,7 +19,8 @@ number_of k = k.tile.tx
 
 -- samples are equal
 abbrev pub sample_eq : Sample → Sample → Bool
-sample_eq a b = pointwise nat_eq a.tile.name b.tile.name && (nat_eq a.tile.edge b.tile.edge && (nat_eq a.tile.tx b.tile.tx && nat_eq a.tile.ty b.tile.ty))
+sample_eq a b = pointwise nat_eq a.tile.name b.tile.name &&
+    (nat_eq a.tile.edge b.tile.edge && (nat_eq a.tile.tx b.tile.tx && nat_eq a.tile.ty b.tile.ty))
 
 -- equal samples are one
 pub sample_identical : (a b : Sample) → sample_eq a b ≡ true → a ≡ b

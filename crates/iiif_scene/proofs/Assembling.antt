@@ -1,5 +1,6 @@
 -- What the meanings of a plan's items make is the image.
-use Rattle.std.proofs.Common.{◌≡◌, ℕ, ◌*◌, ◌^◌, ◌<◌, ◌≤◌, ◌⊎◌, inr, List, [], ◌∷◌, Bool, true, false, Some, Ok, All, map, fold, refl, sym, ap, subst, ◌∙◌, arith, ⊎_elim, if◌then◌else◌}
+use Rattle.std.proofs.Common.{◌≡◌, ℕ, ◌*◌, ◌^◌, ◌<◌, ◌≤◌, ◌⊎◌, inr, List, [], ◌∷◌, Bool, true, false, Some, Ok, All, map, fold, refl, sym}
+use Rattle.std.proofs.Common.{ap, subst, ◌∙◌, arith, ⊎_elim, if◌then◌else◌}
 use Rattle.std.specs.Prelude.{◌==◌, ◌&&◌, nat_le}
 use Rattle.std.proofs.Math.Nat.{mul-le-mul}
 use Rattle.std.proofs.lemmas.Bool.{eqb-true, leb-true, and_parts}
@@ -47,7 +48,8 @@ use Rattle.iiif_scene.proofs.KeyParts.{grids_same}
 use Rattle.iiif_scene.proofs.Plans.{kind_is, image_from_resolved, refused}
 use Rattle.iiif_scene.proofs.Pasting.{pasted_is}
 
-block_sums : (s : Scene) (name : List ℕ) (p : Picture) (region : Rect) (size : Dim) (level : ℕ) (keys : List SumKey) → s.shows name ≡ Some p →
+block_sums : (s : Scene) (name : List ℕ) (p : Picture) (region : Rect) (size : Dim) (level : ℕ) (keys : List SumKey) →
+    s.shows name ≡ Some p →
     Each (IsBlockFor name s.edge (dim_of p) p.channels region size level) keys →
     map (λ q. (sum_meaning s.shows q).sums) keys ≡ map (λ r. sums_of (crop p region) size r) (map (part_in (dim_of p)) keys)
 block_sums s name p region size level [] shown each = refl
@@ -60,9 +62,11 @@ block_sums s name p region size level (k ∷ keys) shown each =
     ∙ ap (λ (d : Dim). sums_of (crop p region) d (part_in (dim_of p) k)) is.to_size in
     ap (λ (g : Grid). g ∷ map (λ q. (sum_meaning s.shows q).sums) keys) first
     ∙ ap (λ gs. sums_of (crop p region) size (part_in (dim_of p) k) ∷ gs)
-    (block_sums s name p region size level keys shown (each_tail (IsBlockFor name s.edge (dim_of p) p.channels region size level) k keys each))
+    (block_sums s name p region size level keys shown
+    (each_tail (IsBlockFor name s.edge (dim_of p) p.channels region size level) k keys each))
 
-averaged_is : (s : Scene) (name : List ℕ) (p : Picture) (r : Resolved) (level : ℕ) (keys : List SumKey) → s.shows name ≡ Some p → IsSource p → LiesIn r.rect (dim_of p) →
+averaged_is : (s : Scene) (name : List ℕ) (p : Picture) (r : Resolved) (level : ℕ) (keys : List SumKey) → s.shows name ≡ Some p →
+    IsSource p → LiesIn r.rect (dim_of p) →
     0 < r.rect.w → 0 < r.rect.h → BlocksCover name s.edge (dim_of p) p.channels r.rect r.size level keys →
     averaged p r (map (meaning s) (map key.Sum keys)) ≡ scale (crop p r.rect) r.size
 averaged_is s name p r level keys shown source inside w h cover =
@@ -81,7 +85,8 @@ averaged_is s name p r level keys shown source inside w h cover =
     let zero' = grid_of all p.channels (λ i j k. 0) in
     ap (λ gs. finished (fold merged zero' gs) (sides_of r.rect) p.top all) grids
     ∙ ap (λ (g : Grid). finished g (sides_of r.rect) p.top all) sums
-    ∙ finished-scaled all all q size whole (record { left = omega arith; right = omega arith; upper = omega arith; lower = omega arith }) (record { columns = omega arith; rows = omega arith })
+    ∙ finished-scaled all all q size whole (record { left = omega arith; right = omega arith; upper = omega arith; lower = omega arith })
+    (record { columns = omega arith; rows = omega arith })
     ∙ crop-all (scale q size) (whole_scale q size whole)
 
 some_sums : (edge level : ℕ) (region size : Dim) (channels : ℕ) → 0 < channels → 0 < sums_at_most edge level region size channels
@@ -92,11 +97,16 @@ some_sums edge level region size channels some =
     omega arith
 
 -- at level 0 a block has few sums: no level could be planned with, if there were no room
-lowest_few : (s : Scene) (p : Picture) (r : Resolved) → IsEdge s.edge → 0 < p.channels → p.channels ≤ 3 → (0 < r.size.w) × (r.size.w ≤ r.rect.w) → (0 < r.size.h) × (r.size.h ≤ r.rect.h) →
+lowest_few : (s : Scene) (p : Picture) (r : Resolved) → IsEdge s.edge → 0 < p.channels → p.channels ≤ 3 → (0 < r.size.w) ×
+    (r.size.w ≤ r.rect.w) → (0 < r.size.h) × (r.size.h ≤ r.rect.h) →
     sums_at_most s.edge 0 (sides_of r.rect) r.size p.channels ≤ most_sums
 lowest_few s p r edge some few columns rows =
     level_limits s.edge (dim_of p) (sides_of r.rect) r.size p.channels 0 0 edge (omega arith) few columns rows
-    (inr (refl, λ other u. (let one = some_sums s.edge other (sides_of r.rect) r.size p.channels some in let none = u.within in absurd (omega arith))))
+    (inr (
+      refl,
+      λ other u. (let one = some_sums s.edge other (sides_of r.rect) r.size p.channels some in let none = u.within in
+          absurd (omega arith)),
+    ))
 
 -- the test of a level, for a picture of a scene
 abbrev usable_for : Scene → Picture → Resolved → ℕ → Bool
@@ -112,7 +122,8 @@ level_few s p r edge room some few columns rows =
     let small = and_parts _ (nat_le (sums_at_most s.edge level (sides_of r.rect) r.size p.channels) s.room) h in
     let within : sums_at_most s.edge level (sides_of r.rect) r.size p.channels ≤ s.room = leb-true _ _ small.1 in
     omega arith)
-    (λ (h : level ≡ 0). subst (λ l. sums_at_most s.edge l (sides_of r.rect) r.size p.channels ≤ most_sums) (sym h) (lowest_few s p r edge some few columns rows))
+    (λ (h : level ≡ 0). subst (λ l. sums_at_most s.edge l (sides_of r.rect) r.size p.channels ≤ most_sums) (sym h)
+    (lowest_few s p r edge some few columns rows))
     (greatest_cases (usable_for s p r) 20)
 
 -- what is known of an accepted request
@@ -126,9 +137,17 @@ record Accepted (s : Scene) (name : List ℕ) (p : Picture) (r : Resolved) : Typ
 accepted : (s : Scene) (name : List ℕ) (p : Picture) (q : Request) (r : Resolved) → IsProper s → Accepts s name p q r → Accepted s name p r
 unfolding resolved
 accepted s name p q r proper a =
-    record { shown = a.shown; source = proper.sources name p a.shown; edge = proper.edge; room = proper.room; is = resolved_is q (dim_of p) (kind_of p) s.limits r a.solved }
+    record {
+      shown = a.shown;
+      source = proper.sources name p a.shown;
+      edge = proper.edge;
+      room = proper.room;
+      is =
+          resolved_is q (dim_of p) (kind_of p) s.limits r a.solved;
+    }
 
-tiles_are : (s : Scene) (name : List ℕ) (p : Picture) (r : Resolved) → Accepted s name p r → TilesCover name s.edge (dim_of p) p.channels r.rect (tiles_for name s.edge r)
+tiles_are : (s : Scene) (name : List ℕ) (p : Picture) (r : Resolved) → Accepted s name p r →
+    TilesCover name s.edge (dim_of p) p.channels r.rect (tiles_for name s.edge r)
 tiles_are s name p r a = tiles_cover name s.edge (dim_of p) p.channels r.rect a.edge a.is.inside a.is.not_empty.0 a.is.not_empty.1
 
 channels_few : (n : ℕ) → (n ≡ 1) ⊎ (n ≡ 3) → (0 < n) × (n ≤ 3)
@@ -159,22 +178,38 @@ tile_is : (s : Scene) (name : List ℕ) (p : Picture) (region : Rect) (k : TileK
     IsTileFor name s.edge (dim_of p) p.channels region k → IsItem s name (key.Tile k)
 unfolding Fits name_of
 tile_is s name p region k shown source t = (
-  record { picture = p; known = subst (λ n. s.shows n ≡ Some p) (sym t.named) shown; own_edge = t.own_edge; fits = of_shape p (λ n. TileFitsIn (dim_of p) n k) source t.fits },
+  record {
+    picture = p;
+    known = subst (λ n. s.shows n ≡ Some p) (sym t.named) shown;
+    own_edge = t.own_edge;
+    fits =
+        of_shape p (λ n. TileFitsIn (dim_of p) n k) source t.fits;
+  },
   t.named,
 )
 
-sum_is : (s : Scene) (name : List ℕ) (p : Picture) (region : Rect) (size : Dim) (level : ℕ) (k : SumKey) → s.shows name ≡ Some p → IsSource p →
+sum_is : (s : Scene) (name : List ℕ) (p : Picture) (region : Rect) (size : Dim) (level : ℕ) (k : SumKey) → s.shows name ≡ Some p →
+    IsSource p →
     IsBlockFor name s.edge (dim_of p) p.channels region size level k → IsItem s name (key.Sum k)
 unfolding Fits name_of
 sum_is s name p region size level k shown source t = (
-  record { picture = p; known = subst (λ n. s.shows n ≡ Some p) (sym t.named) shown; own_edge = t.own_edge; fits = of_shape p (λ n. SumFitsIn (dim_of p) n k) source t.fits },
+  record {
+    picture = p;
+    known = subst (λ n. s.shows n ≡ Some p) (sym t.named) shown;
+    own_edge = t.own_edge;
+    fits =
+        of_shape p (λ n. SumFitsIn (dim_of p) n k) source t.fits;
+  },
   t.named,
 )
 
-tiles_fit : (s : Scene) (name : List ℕ) (p : Picture) (r : Resolved) → Accepted s name p r → All (IsItem s name) (map key.Tile (tiles_for name s.edge r))
-tiles_fit s name p r a = All-map (IsItem s name) key.Tile (tiles_for name s.edge r) (λ i d h. tile_is s name p r.rect _ a.shown a.source ((tiles_are s name p r a).tiles i d h))
+tiles_fit : (s : Scene) (name : List ℕ) (p : Picture) (r : Resolved) → Accepted s name p r →
+    All (IsItem s name) (map key.Tile (tiles_for name s.edge r))
+tiles_fit s name p r a = All-map (IsItem s name) key.Tile (tiles_for name s.edge r)
+    (λ i d h. tile_is s name p r.rect _ a.shown a.source ((tiles_are s name p r a).tiles i d h))
 
-fit_by : (s : Scene) (name : List ℕ) (p : Picture) (r : Resolved) (b up : Bool) → is_scaled_up r ≡ up → Accepted s name p r → All (IsItem s name) (keys_met s name r (way_by s p r b up))
+fit_by : (s : Scene) (name : List ℕ) (p : Picture) (r : Resolved) (b up : Bool) → is_scaled_up r ≡ up → Accepted s name p r →
+    All (IsItem s name) (keys_met s name r (way_by s p r b up))
 fit_by s name p r true up e a = tiles_fit s name p r a
 fit_by s name p r false true e a = tiles_fit s name p r a
 fit_by s name p r false false e a = All-map (IsItem s name) key.Sum (blocks_for name s.edge (level_of s p r) r)
@@ -185,7 +220,8 @@ dim_same a b h =
     let p = and_parts (a.w == b.w) (a.h == b.h) h in
     same_dim a b (eqb-true a.w b.w p.0) (eqb-true a.h b.h p.1)
 
-scaled_by : (s : Scene) (name : List ℕ) (p : Picture) (r : Resolved) (b up : Bool) → keeps_size r ≡ b → is_scaled_up r ≡ up → Accepted s name p r →
+scaled_by : (s : Scene) (name : List ℕ) (p : Picture) (r : Resolved) (b up : Bool) → keeps_size r ≡ b → is_scaled_up r ≡ up →
+    Accepted s name p r →
     made s p r (map (meaning s) (keys_met s name r (way_by s p r b up))) (way_by s p r b up) ≡ scale (crop p r.rect) r.size
 scaled_by s name p r true up e f a =
     let size : r.size ≡ sides_of r.rect = dim_same r.size (sides_of r.rect) e in
@@ -195,7 +231,8 @@ scaled_by s name p r true up e f a =
     ∙ ap (λ (d : Dim). scale (crop p r.rect) d) (sym size)
 scaled_by s name p r false true e f a = ap (λ (z : Picture). scale z r.size) (pasted_is s name p r.rect a.shown a.edge.some a.is.inside)
 scaled_by s name p r false false e f a =
-    averaged_is s name p r (level_of s p r) (blocks_for name s.edge (level_of s p r) r) a.shown a.source a.is.inside a.is.not_empty.0 a.is.not_empty.1 (blocks_are s name p r a f)
+    averaged_is s name p r (level_of s p r) (blocks_for name s.edge (level_of s p r) r) a.shown a.source a.is.inside a.is.not_empty.0
+    a.is.not_empty.1 (blocks_are s name p r a f)
 
 pub items_fit : ItemsFit
 unfolding items
@@ -218,7 +255,8 @@ keeps_not_up r keeps up = ⊎_elim
     (λ (h : r.rect.h < r.size.h). (let same = eqb-true r.size.h r.rect.h (and_parts (r.size.w == r.rect.w) _ keeps).1 in omega arith))
     (up_tested r up)
 
-plan_by : (s : Scene) (name : List ℕ) (p : Picture) (r : Resolved) (b up : Bool) (plan : Plan) → keeps_size r ≡ b → is_scaled_up r ≡ up → HasItems name s.edge (dim_of p) p.channels s.room r plan →
+plan_by : (s : Scene) (name : List ℕ) (p : Picture) (r : Resolved) (b up : Bool) (plan : Plan) → keeps_size r ≡ b → is_scaled_up r ≡ up →
+    HasItems name s.edge (dim_of p) p.channels s.room r plan →
     keys_met s name r (way_by s p r b up) ≡ keys_in plan
 plan_by s name p r true up (Copy keys) e f h = ap (map key.Tile) (sym h.1)
 plan_by s name p r false up (Copy keys) e f h = let g = h.0 in absurd cc

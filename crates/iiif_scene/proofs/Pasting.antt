@@ -1,5 +1,6 @@
 -- Tiles of a plan by their place in it, and the region that is put together of them.
-use Rattle.std.proofs.Common.{◌≡◌, ℕ, zero, suc, ◌+◌, ◌-◌, ◌*◌, ◌/◌, ◌%◌, ◌<◌, ◌≤◌, List, [], ◌∷◌, ◌++◌, Some, length, map, min, refl, sym, ap, subst, ◌∙◌, arith, ⊎_elim, length-append}
+use Rattle.std.proofs.Common.{◌≡◌, ℕ, zero, suc, ◌+◌, ◌-◌, ◌*◌, ◌/◌, ◌%◌, ◌<◌, ◌≤◌, List, [], ◌∷◌, ◌++◌, Some, length, map, min, refl, sym}
+use Rattle.std.proofs.Common.{ap, subst, ◌∙◌, arith, ⊎_elim, length-append}
 use Rattle.std.specs.Prelude.{slice_get}
 use Rattle.std.specs.Int.{div_ceil}
 use Rattle.std.proofs.lemmas.Bool.{cases_lt}
@@ -52,11 +53,13 @@ rows_length f left c top (suc n) =
     let r = row_length f left (top + n) c in
     omega (arith, length-append (rows_from f left c top n) (row_from f left (top + n) c))
 
-rows_get : {K : Type 0} (f : ℕ → ℕ → K) (left c top n i j : ℕ) → i < c → j < n → slice_get (rows_from f left c top n) (j * c + i) ≡ Some (f (left + i) (top + j))
+rows_get : {K : Type 0} (f : ℕ → ℕ → K) (left c top n i j : ℕ) → i < c → j < n →
+    slice_get (rows_from f left c top n) (j * c + i) ≡ Some (f (left + i) (top + j))
 unfolding rows_from
 rows_get f left c top zero i j h l = absurd (omega arith)
 rows_get f left c top (suc n) i j h l = ⊎_elim
-    (λ (less : j < n). get_left (rows_from f left c top n) (row_from f left (top + n) c) (j * c + i) (f (left + i) (top + j)) (rows_get f left c top n i j h less))
+    (λ (less : j < n). get_left (rows_from f left c top n) (row_from f left (top + n) c) (j * c + i) (f (left + i) (top + j))
+    (rows_get f left c top n i j h less))
     (λ (last : n ≤ j).
     let same : n ≡ j = omega arith in
     let len = rows_length f left c top n in
@@ -97,9 +100,12 @@ pasted_is s name p r shown some inside =
     let j = (r.y + y) / edge in
     let n = (j - q.top) * (q.right - q.left) + (i - q.left) in
     let t = tile_at name edge (q.left + (i - q.left)) (q.top + (j - q.top)) in
-    let is_t : t ≡ tile_at name edge i j = ap (λ a. tile_at name edge a (q.top + (j - q.top))) u.back ∙ ap (λ b. tile_at name edge i b) v.back in
-    let at : slice_get keys n ≡ Some t = rows_get (tile_at name edge) q.left (q.right - q.left) q.top (q.bottom - q.top) (i - q.left) (j - q.top) u.within v.within in
-    let got : slice_get vs n ≡ Some (meaning s (key.Tile t)) = get_map (meaning s) (map key.Tile keys) n (key.Tile t) (get_map key.Tile keys n t at) in
+    let is_t : t ≡ tile_at name edge i j = ap (λ a. tile_at name edge a (q.top + (j - q.top))) u.back ∙
+    ap (λ b. tile_at name edge i b) v.back in
+    let at : slice_get keys n ≡ Some t = rows_get (tile_at name edge) q.left (q.right - q.left) q.top (q.bottom - q.top) (i - q.left)
+    (j - q.top) u.within v.within in
+    let got : slice_get vs n ≡ Some (meaning s (key.Tile t)) =
+    get_map (meaning s) (map key.Tile keys) n (key.Tile t) (get_map key.Tile keys n t at) in
     let tile = tile_of (dim_of p) (tile_at name edge i j) in
     let is : picture_in (slice_get vs n) ≡ crop p tile =
     ap picture_in got ∙ ap (λ (z : TileKey). (tile_meaning s.shows z).raster) is_t

@@ -1,5 +1,6 @@
 -- Keys of tiles and of sums as one type: what they name, what their values are, and of which parts a sum is made.
-use Rattle.std.specs.Prelude.{ℕ, ◌+◌, List, [], ◌∷◌, Bool, true, false, ◌&&◌, ◌==◌, nat_eq, Option, Some, None, map, fold, length, slice_get, if◌then◌else◌}
+use Rattle.std.specs.Prelude.{ℕ, ◌+◌, List, [], ◌∷◌, Bool, true, false, ◌&&◌, ◌==◌, nat_eq, Option, Some, None, map, fold, length}
+use Rattle.std.specs.Prelude.{slice_get, if◌then◌else◌}
 use Rattle.std.specs.Str.{bytes_eq}
 use Rattle.iiif_pixel.specs.Geometry.{channels_of}
 use Rattle.iiif_pixel.specs.Picture.{Picture, dim_of}

@@ -18,7 +18,8 @@ PartsFit = (s : Scene) (k : Key) (parts : List Key) → parts_of k ≡ Some part
 
 -- they are of its image, and of lower ranks
 abbrev pub PartsAreBelow : Type 0
-PartsAreBelow = (k : Key) (parts : List Key) → parts_of k ≡ Some parts → All (λ part. (name_of part ≡ name_of k) × (rank_of part < rank_of k)) parts
+PartsAreBelow = (k : Key) (parts : List Key) → parts_of k ≡ Some parts →
+    All (λ part. (name_of part ≡ name_of k) × (rank_of part < rank_of k)) parts
 
 -- and what their meanings make is its meaning
 abbrev pub PartsMakeMeaning : Type 0
@@ -32,7 +33,8 @@ pub record Accepts (s : Scene) (name : List ℕ) (p : Picture) (q : Request) (r 
 
 -- The items are those of the plan that the planner makes, in its order.
 abbrev pub PlansHaveItems : Type 0
-PlansHaveItems = (s : Scene) (name : List ℕ) (p : Picture) (r : Resolved) (plan : Plan) → HasItems name s.edge (dim_of p) p.channels s.room r plan →
+PlansHaveItems = (s : Scene) (name : List ℕ) (p : Picture) (r : Resolved) (plan : Plan) →
+    HasItems name s.edge (dim_of p) p.channels s.room r plan →
     items s name p r ≡ keys_in plan
 
 -- each item of a plan names something, of the image of this name
@@ -47,5 +49,6 @@ ItemsMakeImage = (s : Scene) (name : List ℕ) (p : Picture) (q : Request) (r : 
 
 -- a request that is refused has no image
 abbrev pub RefusedHasNoImage : Type 0
-RefusedHasNoImage = (s : Scene) (name : List ℕ) (p : Picture) (q : Request) (e : Refusal) → IsProper s → s.shows name ≡ Some p → resolved s p q ≡ Err e →
+RefusedHasNoImage = (s : Scene) (name : List ℕ) (p : Picture) (q : Request) (e : Refusal) → IsProper s → s.shows name ≡ Some p →
+    resolved s p q ≡ Err e →
     image s p q ≡ Err e

@@ -33,8 +33,10 @@ use Rattle.iiif_assemble.specs.Gathering.{IsItemFault}
 -- ---- Faults
 
 -- a fault of an item is one that its name's source gave
-item_given : {K V : Type 0} (name_of : K → List ℕ) (gave : List ℕ → ReadFault → Bool) (name : List ℕ) (means : K → V → Type 0) (keys : List K) (items : List ℕ) (f : Fault) →
-    All (λ k. name_of k ≡ name) keys → IsItemFault means (λ k g. IsTrue (is_given (gave (name_of k)) g)) keys items f → (f ≡ fault.NoMemory) ⊎ IsTrue (is_given (gave name) f)
+item_given : {K V : Type 0} (name_of : K → List ℕ) (gave : List ℕ → ReadFault → Bool) (name : List ℕ) (means : K → V → Type 0)
+    (keys : List K) (items : List ℕ) (f : Fault) →
+    All (λ k. name_of k ≡ name) keys → IsItemFault means (λ k g. IsTrue (is_given (gave (name_of k)) g)) keys items f →
+    (f ≡ fault.NoMemory) ⊎ IsTrue (is_given (gave name) f)
 item_given name_of gave name means keys items f each (inl none) = inl none
 item_given {K} name_of gave name means keys items f each (inr first) =
     let at = first.fault_of in
@@ -42,8 +44,10 @@ item_given {K} name_of gave name means keys items f each (inr first) =
     inr (subst (λ (n : List ℕ). IsTrue (is_given (gave n) f)) here at.3)
 
 -- and so is a band's
-pub band_given : (gave : List ℕ → ReadFault → Bool) (name : List ℕ) (edge : ℕ) (image : Dim) (channels room : ℕ) (r : Resolved) (plan : Plan)
-    (tile_means : TileKey → TileVal → Type 0) (sum_means : SumKey → SumVal → Type 0) (items : List ℕ) (f : Fault) → IsPlan name edge image channels room r plan →
+pub band_given : (gave : List ℕ → ReadFault → Bool) (name : List ℕ) (edge : ℕ) (image : Dim) (channels room : ℕ) (r : Resolved)
+    (plan : Plan)
+    (tile_means : TileKey → TileVal → Type 0) (sum_means : SumKey → SumVal → Type 0) (items : List ℕ) (f : Fault) →
+    IsPlan name edge image channels room r plan →
     IsBandFault tile_means (λ k g. IsTrue (is_given (gave k.name) g)) sum_means (λ k g. IsTrue (is_given (gave k.name) g)) plan items f →
     (f ≡ fault.NoMemory) ⊎ IsTrue (is_given (gave name) f)
 band_given gave name edge image channels room r (Copy keys) tile_means sum_means items f is_plan of_band =
@@ -56,28 +60,37 @@ band_given gave name edge image channels room r (Sum keys) tile_means sum_means 
 -- ---- Jobs
 
 -- the channels of an item's picture are those of its layout, and so is its depth
-pub item_channels : {S : Type 0} (bytes : S → List ℕ) (item : Item S) (s : Shape) → IsSource (picture_in bytes item) → shape_of (picture_in bytes item) ≡ s →
+pub item_channels : {S : Type 0} (bytes : S → List ℕ) (item : Item S) (s : Shape) → IsSource (picture_in bytes item) →
+    shape_of (picture_in bytes item) ≡ s →
     channels_of s.kind ≡ item.layout.channels
 unfolding picture_in
 item_channels bytes item s source e =
     sym (ap (λ (t : Shape). channels_of t.kind) e) ∙ kind_with_channels (picture_in bytes item).channels source.whole.channels
 
-pub item_top : {S : Type 0} (bytes : S → List ℕ) (item : Item S) (s : Shape) → IsSource (picture_in bytes item) → shape_of (picture_in bytes item) ≡ s →
+pub item_top : {S : Type 0} (bytes : S → List ℕ) (item : Item S) (s : Shape) → IsSource (picture_in bytes item) →
+    shape_of (picture_in bytes item) ≡ s →
     top_of s.depth ≡ white_of item.layout.bits
 unfolding picture_in
 item_top bytes item s source e = sym (ap (λ (t : Shape). top_of t.depth) e) ∙ depth_with_top (picture_in bytes item).top source.whole.top
 
 -- a job of a request of an item that is found
-pub job_for : {S E : Type 0} (shows : Pictures) (gave : List ℕ → ReadFault → Bool) (stable : List ℕ → Type 0) (edge : ℕ) (bytes : S → List ℕ) (source_gave : S → ReadFault → Bool)
-    (keeps : S → Type 0) (items : List (Item S)) (item : Item S) (a : Accepted) (own : ℕ) (r : Result Job E) → ((name : List ℕ) → shows name ≡ pictures_of bytes items name) →
+pub job_for : {S E : Type 0} (shows : Pictures) (gave : List ℕ → ReadFault → Bool) (stable : List ℕ → Type 0) (edge : ℕ)
+    (bytes : S → List ℕ) (source_gave : S → ReadFault → Bool)
+    (keeps : S → Type 0) (items : List (Item S)) (item : Item S) (a : Accepted) (own : ℕ) (r : Result Job E) →
+    ((name : List ℕ) → shows name ≡ pictures_of bytes items name) →
     ((name : List ℕ) (f : ReadFault) → gave name f ≡ gave_of source_gave items name f) →
-    ((name : List ℕ) (i : Item S) → item_named items name ≡ Some i → stable name → ∥ keeps i.source ∥₁) → item_named items item.name ≡ Some item →
-    (keeps item.source → stable item.name) → own ≡ edge → IsSource (picture_in bytes item) → IfOk r IsJob → IfOk r (λ j. j.name ≡ item.name) → IfOk r (λ j. j.edge ≡ own) →
+    ((name : List ℕ) (i : Item S) → item_named items name ≡ Some i → stable name → ∥ keeps i.source ∥₁) →
+    item_named items item.name ≡ Some item →
+    (keeps item.source → stable item.name) → own ≡ edge → IsSource (picture_in bytes item) → IfOk r IsJob →
+    IfOk r (λ j. j.name ≡ item.name) → IfOk r (λ j. j.edge ≡ own) →
     IfOk r (λ j. j.resolved ≡ a.resolved) → IfOk r (λ j. shape_of (picture_in bytes item) ≡ j.shape) →
     IfOk r (IsJobFor shows gave stable edge bytes source_gave keeps item a)
-job_for shows gave stable edge bytes source_gave keeps items item a own (Err e) pictures gives kept found keep is source job name has resolved shape = job
-job_for shows gave stable edge bytes source_gave keeps items item a own (Ok j) pictures gives kept found keep is source job name has resolved shape =
-    let there = image_there shows gave stable bytes source_gave keeps items item.name item (pictures item.name) (gives item.name) (kept item.name) source found in
+job_for shows gave stable edge bytes source_gave keeps items item a own (Err e) pictures gives kept found keep is source job name has
+    resolved shape = job
+job_for shows gave stable edge bytes source_gave keeps items item a own (Ok j) pictures gives kept found keep is source job name has
+    resolved shape =
+    let there = image_there shows gave stable bytes source_gave keeps items item.name item (pictures item.name) (gives item.name)
+    (kept item.name) source found in
     let known : shows j.name ≡ Some (picture_in bytes item) = ap shows name ∙ there.picture in
     record {
       job = job;

@@ -29,15 +29,19 @@ CloseFor writer r text = IsClosing writer r text ⊎ IsClosing writer want_of_me
 
 -- The call of that method and target was sent a whole answer, after which another may follow where it doesn't close the
 -- connection; or its answer was cut off, and none follows.
-abbrev pub IsAnswered : {S : Type 0} → (S → List ℕ) → (S → Type 0) → Bool → (S → ReadFault → Bool) → Settings → List (Item S) → Type 0 → List ℕ → List ℕ → Bool → List ℕ
+abbrev pub IsAnswered : {S : Type 0} → (S → List ℕ) → (S → Type 0) → Bool → (S → ReadFault → Bool) → Settings → List (Item S) → Type 0 →
+    List ℕ → List ℕ → Bool → List ℕ
     → Bool → Type 0
 IsAnswered bytes keeps honest gave s items writer method target close text more =
-    (((sent : Sent) × Allowed s (part_of method close) gave (RepliesToCall bytes keeps honest s items method target) writer text (Ok sent)) × (more ≡ not close))
-    ⊎ (((c : cut.Cut) × Allowed s (part_of method close) gave (RepliesToCall bytes keeps honest s items method target) writer text (Err c)) × (more ≡ false))
+    (((sent : Sent) × Allowed s (part_of method close) gave (RepliesToCall bytes keeps honest s items method target) writer text (Ok sent))
+    × (more ≡ not close))
+    ⊎ (((c : cut.Cut) × Allowed s (part_of method close) gave (RepliesToCall bytes keeps honest s items method target) writer text (Err c))
+    × (more ≡ false))
 
 -- a call was answered after which the connection goes on with what is left
 abbrev pub GoesOn : Terms → ℕ → List ℕ → Option (List ℕ) → List ℕ → Type 0
-GoesOn t n input left text = (h : RequestHead) × (rest : List ℕ) × BeginsWithCall input h rest × (closes_after n h ≡ false) × t.whole h false text
+GoesOn t n input left text = (h : RequestHead) × (rest : List ℕ) × BeginsWithCall input h rest × (closes_after n h ≡ false) ×
+    t.whole h false text
     × (left ≡ Some rest)
 
 -- so it was; or the connection has ended, with what came of the input
@@ -47,7 +51,8 @@ Served t n input left text false = (came : List ℕ) × IsCame t.reader input ca
 
 -- A job for what a request of an item comes to, on a node where names have these pictures, these faults of their sources, these that
 -- are stable, and tiles this edge.
-pub record IsJobFor {S : Type 0} (shows : Pictures) (gave : List ℕ → ReadFault → Bool) (stable : List ℕ → Type 0) (edge : ℕ) (bytes : S → List ℕ) (source_gave : S → ReadFault → Bool)
+pub record IsJobFor {S : Type 0} (shows : Pictures) (gave : List ℕ → ReadFault → Bool) (stable : List ℕ → Type 0) (edge : ℕ)
+    (bytes : S → List ℕ) (source_gave : S → ReadFault → Bool)
     (keeps : S → Type 0) (item : Item S) (a : Accepted) (j : Job) : Type 0 where
   pub job : IsJob j
   pub resolved : j.resolved ≡ a.resolved
@@ -60,4 +65,5 @@ pub record IsJobFor {S : Type 0} (shows : Pictures) (gave : List ℕ → ReadFau
 
 -- What is reached where an item's image is sent for a request: an image for it, and nothing else.
 abbrev pub ReachesImageOf : {S : Type 0} → Type 0 → Item S → Request → Accepted → Picture → Reply S → Type 0
-ReachesImageOf kept item q a p r = (image : Picture) × IsSentFor kept (resolved_image p a.resolved) image × (r ≡ given (given_of item q a p image))
+ReachesImageOf kept item q a p r = (image : Picture) × IsSentFor kept (resolved_image p a.resolved) image ×
+    (r ≡ given (given_of item q a p image))

@@ -14,5 +14,7 @@ known_of bytes gave keeps honest node =
     system (pictures_of bytes node.items) node.settings.edge (gave_of gave node.items) (stable_of keeps node.items) honest
 
 -- what it may reply to an ask of a version, for a key in a group: a status and a value
-abbrev pub RepliesToAsk : {S : Type 0} → (S → List ℕ) → (S → ReadFault → Bool) → (S → Type 0) → Bool → Service S → Version → ℕ → List ℕ → ℕ → List ℕ → Type 0
-RepliesToAsk bytes gave keeps honest node version group key status value = MayReply (known_of bytes gave keeps honest node) version group key status value
+abbrev pub RepliesToAsk : {S : Type 0} → (S → List ℕ) → (S → ReadFault → Bool) → (S → Type 0) → Bool → Service S → Version → ℕ → List ℕ →
+    ℕ → List ℕ → Type 0
+RepliesToAsk bytes gave keeps honest node version group key status value =
+    MayReply (known_of bytes gave keeps honest node) version group key status value

@@ -97,7 +97,8 @@ impl<R, S: Source<R> + Drop, J: System, N, T> Node<R, S, J, N, T> {
         T: Drop,
         requires pictures { (name : List ℕ) → J.pictures name ≡ pictures_of S.bytes catalogue name }
         requires gave { (name : List ℕ) (f : ReadFault) → J.gave name f ≡ gave_of S.gave catalogue name f }
-        requires stable { (name : List ℕ) (item : Item S) → item_named catalogue name ≡ Some item → J.stable name → ∥ S.keeps item.source ∥₁ }
+        requires stable { (name : List ℕ) (item : Item S) → item_named catalogue name ≡ Some item → J.stable name →
+            ∥ S.keeps item.source ∥₁ }
         requires kept { (name : List ℕ) (item : Item S) → item_named catalogue name ≡ Some item → S.keeps item.source → J.stable name }
         requires edge { config.edge ≡ J.edge }
         requires tiles { IsStock J.tiles_name J.tiles_parts tiles }
@@ -131,7 +132,8 @@ impl<R, S: Source<R> + Drop, J: System, N, T> Node<R, S, J, N, T> {
         ensures kept { (name : List ℕ) (item : Item S) → item_named self.now.items name ≡ Some item → S.keeps item.source → J.stable name }
         ensures pictures { (name : List ℕ) → J.pictures name ≡ pictures_of S.bytes result.now name }
         ensures gave { (name : List ℕ) (f : ReadFault) → J.gave name f ≡ gave_of S.gave result.now name f }
-        ensures stable { (name : List ℕ) (item : Item S) → item_named result.now name ≡ Some item → J.stable name → ∥ S.keeps item.source ∥₁ }
+        ensures stable { (name : List ℕ) (item : Item S) → item_named result.now name ≡ Some item → J.stable name →
+            ∥ S.keeps item.source ∥₁ }
     {
         self.groups.tiles().images().catalogue()
     }
@@ -160,7 +162,8 @@ impl<R, S: Source<R> + Drop, J: System> Node<R, S, J, NoLink, NoGate> {
     ) -> Result<Self, NoMemory>
         requires pictures { (name : List ℕ) → J.pictures name ≡ pictures_of S.bytes catalogue name }
         requires gave { (name : List ℕ) (f : ReadFault) → J.gave name f ≡ gave_of S.gave catalogue name f }
-        requires stable { (name : List ℕ) (item : Item S) → item_named catalogue name ≡ Some item → J.stable name → ∥ S.keeps item.source ∥₁ }
+        requires stable { (name : List ℕ) (item : Item S) → item_named catalogue name ≡ Some item → J.stable name →
+            ∥ S.keeps item.source ∥₁ }
         requires kept { (name : List ℕ) (item : Item S) → item_named catalogue name ≡ Some item → S.keeps item.source → J.stable name }
         requires edge { config.edge ≡ J.edge }
         requires bytes { bytes < 2 ^ 63 }
@@ -216,9 +219,11 @@ impl<
         requires ready { IsReady entry.now.layout accepted.now }
         requires found { item_named self.now.items entry.now.name ≡ Some (item_of entry.now) }
         requires loaded { is_loaded part ≡ true }
-        ensures { (q : Request) (p : Picture) → IsPictureOf S.bytes S.keeps (item_of entry.now) p → accepted.now.kind ≡ out_kind_of (kind_of p) (depth_of p) q.quality
+        ensures { (q : Request) (p : Picture) → IsPictureOf S.bytes S.keeps (item_of entry.now) p →
+            accepted.now.kind ≡ out_kind_of (kind_of p) (depth_of p) q.quality
             → (text : List ℕ) × Appends (W.contents out.old) (W.contents out.new) text
-            × Allowed self.now.settings part S.gave (ReachesImageOf (S.keeps entry.now.source × IsTrue J.honest) (item_of entry.now) q accepted.now p)
+            × Allowed self.now.settings part S.gave
+            (ReachesImageOf (S.keeps entry.now.source × IsTrue J.honest) (item_of entry.now) q accepted.now p)
             ((before : W) × W.fails before out.new) text result }
     {
         let Ok(head) = image_head(
@@ -254,10 +259,13 @@ impl<
         requires loaded { is_loaded part ≡ true }
         requires job { IsJobFor J.pictures J.gave J.stable J.edge S.bytes S.gave S.keeps (item_of entry.now) accepted.now job.now }
         requires head { (image : Picture) → dim_of image ≡ turned_dim accepted.now.resolved.turn accepted.now.resolved.size
-            → head.now ≡ (written part (image_response self.now.settings.base entry.now.name accepted.now.canonical image accepted.now.kind)).head }
-        ensures { (q : Request) (p : Picture) → IsPictureOf S.bytes S.keeps (item_of entry.now) p → accepted.now.kind ≡ out_kind_of (kind_of p) (depth_of p) q.quality
+            → head.now ≡ (written part (image_response self.now.settings.base entry.now.name accepted.now.canonical image
+            accepted.now.kind)).head }
+        ensures { (q : Request) (p : Picture) → IsPictureOf S.bytes S.keeps (item_of entry.now) p →
+            accepted.now.kind ≡ out_kind_of (kind_of p) (depth_of p) q.quality
             → (text : List ℕ) × Appends (W.contents out.old) (W.contents out.new) text
-            × Allowed self.now.settings part S.gave (ReachesImageOf (S.keeps entry.now.source × IsTrue J.honest) (item_of entry.now) q accepted.now p)
+            × Allowed self.now.settings part S.gave
+            (ReachesImageOf (S.keeps entry.now.source × IsTrue J.honest) (item_of entry.now) q accepted.now p)
             ((before : W) × W.fails before out.new) text result }
     {
         // Laws of images and of groups.
@@ -313,9 +321,11 @@ impl<
         requires some { 0 < length passes.old }
         requires ready { IsReady entry.now.layout accepted.now }
         requires found { item_named self.now.items entry.now.name ≡ Some (item_of entry.now) }
-        ensures allowed { (q : Request) (p : Picture) → IsPictureOf S.bytes S.keeps (item_of entry.now) p → accepted.now.kind ≡ out_kind_of (kind_of p) (depth_of p) q.quality
+        ensures allowed { (q : Request) (p : Picture) → IsPictureOf S.bytes S.keeps (item_of entry.now) p →
+            accepted.now.kind ≡ out_kind_of (kind_of p) (depth_of p) q.quality
             → (text : List ℕ) × Appends (W.contents out.old) (W.contents out.new) text
-            × Allowed self.now.settings part S.gave (ReachesImageOf (S.keeps entry.now.source × IsTrue J.honest) (item_of entry.now) q accepted.now p)
+            × Allowed self.now.settings part S.gave
+            (ReachesImageOf (S.keeps entry.now.source × IsTrue J.honest) (item_of entry.now) q accepted.now p)
             ((before : W) × W.fails before out.new) text result }
         ensures unasked { is_loaded part ≡ false → passes.new ≡ passes.old }
     {
@@ -344,7 +354,8 @@ impl<
         ensures allowed { (text : List ℕ) × Appends (W.contents out.old) (W.contents out.new) text
             × Allowed self.now.settings part S.gave (Replies S.bytes S.keeps J.honest self.now.settings self.now.items target.now)
             ((before : W) × W.fails before out.new) text result }
-        ensures unasked { ((g : Given S) → Replies S.bytes S.keeps J.honest self.now.settings self.now.items target.now (given g) → is_loaded part ≡ false)
+        ensures unasked { ((g : Given S) → Replies S.bytes S.keeps J.honest self.now.settings self.now.items target.now (given g) →
+            is_loaded part ≡ false)
             → passes.new ≡ passes.old }
     {
         match outcome_of(alloc, &self.config, self.images(), target) {
@@ -371,7 +382,8 @@ impl<
         ensures allowed { (text : List ℕ) × Appends (W.contents out.old) (W.contents out.new) text
             × Allowed self.now.settings Body S.gave (Replies S.bytes S.keeps J.honest self.now.settings self.now.items target.now)
             ((before : W) × W.fails before out.new) text result }
-        ensures framed { (text : List ℕ) × Appends (W.contents out.old) (W.contents out.new) text × IsFramedText S self.now.settings Body text result }
+        ensures framed { (text : List ℕ) × Appends (W.contents out.old) (W.contents out.new) text ×
+            IsFramedText S self.now.settings Body text result }
         ensures unasked { ((g : Given S) → ¬ Replies S.bytes S.keeps J.honest self.now.settings self.now.items target.now (given g))
             → passes.new ≡ passes.old }
     {
@@ -391,10 +403,12 @@ impl<
         requires some { 0 < length passes.old }
         ensures allowed { (text : List ℕ) × Appends (W.contents out.old) (W.contents out.new) text
             × Allowed self.now.settings (part_of call.now.method call.now.close) S.gave
-            (RepliesToCall S.bytes S.keeps J.honest self.now.settings self.now.items call.now.method call.now.target.items) ((before : W) × W.fails before out.new) text result }
+            (RepliesToCall S.bytes S.keeps J.honest self.now.settings self.now.items call.now.method call.now.target.items)
+            ((before : W) × W.fails before out.new) text result }
         ensures framed { (text : List ℕ) × Appends (W.contents out.old) (W.contents out.new) text
             × IsFramedText S self.now.settings (part_of call.now.method call.now.close) text result }
-        ensures unasked { ((g : Given S) → RepliesToCall S.bytes S.keeps J.honest self.now.settings self.now.items call.now.method call.now.target.items (given g)
+        ensures unasked { ((g : Given S) → RepliesToCall S.bytes S.keeps J.honest self.now.settings self.now.items call.now.method
+            call.now.target.items (given g)
             → is_loaded (part_of call.now.method call.now.close) ≡ false) → passes.new ≡ passes.old }
     {
         let part = part_of(call);

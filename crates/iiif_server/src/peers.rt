@@ -26,7 +26,8 @@ impl<
     N: Link<TileKey, J, R> + Link<SumKey, J, R> + Sync,
     T: Gate<R> + Sync,
 > Answers<R, Passes<J>> for Node<R, S, J, N, T> {
-    ghost answers = { λ node version group key status value. RepliesToAsk S.bytes S.gave S.keeps J.honest node version group key status value };
+    ghost answers = { λ node version group key status value.
+        RepliesToAsk S.bytes S.gave S.keeps J.honest node version group key status value };
 
     fn answer(&self, rt: &R, alloc: Global, passes: &mut Passes<J>, ask: &Ask) -> (u8, Vec<u8>) {
         // Read, so that it is known what the names stand for.
@@ -57,7 +58,8 @@ impl<
         out: &mut W,
     )
         // What came is the input, where that is known. So it is one relation for memory and for sockets.
-        ensures { (came : List ℕ) × (output : List ℕ) × IsInput (I.remaining reader.old) came × Appends (W.contents out.old) (W.contents out.new) output
+        ensures { (came : List ℕ) × (output : List ℕ) × IsInput (I.remaining reader.old) came ×
+            Appends (W.contents out.old) (W.contents out.new) output
             × IsExchange (RepliesToAsk S.bytes S.gave S.keeps J.honest self.now) (LeftAt I.fails reader.new) (LeftAt W.fails out.new)
             (IsInput (I.remaining reader.new)) came output }
     {

@@ -98,8 +98,10 @@ impl Stock<NoLink, NoGate> {
         sums: Blank,
     ) -> Result<(Self, Self), NoMemory>
         requires { bytes < 2 ^ 63 }
-        ensures tiles { (name parts : ℕ) → tiles.name ≡ name → tiles.parts ≡ parts → parts ≡ 65537 → IfOk result (λ both. IsStock name parts both.0) }
-        ensures sums { (name parts : ℕ) → sums.name ≡ name → sums.parts ≡ parts → parts ≡ 65537 → IfOk result (λ both. IsStock name parts both.1) }
+        ensures tiles { (name parts : ℕ) → tiles.name ≡ name → tiles.parts ≡ parts → parts ≡ 65537 →
+            IfOk result (λ both. IsStock name parts both.0) }
+        ensures sums { (name parts : ℕ) → sums.name ≡ name → sums.parts ≡ parts → parts ≡ 65537 →
+            IfOk result (λ both. IsStock name parts both.1) }
     {
         let tiles = Stock::alone(alloc, bytes, tiles)?;
         let sums = Stock::alone(alloc, bytes, sums)?;

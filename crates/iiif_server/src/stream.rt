@@ -103,11 +103,14 @@ impl<
         requires some { 0 < length passes.old }
         requires no_fault { heads.old.fault ≡ None }
         requires few { n ≤ 1000 }
-        ensures serves { IfSome (input_of I.remaining heads.old) (λ input. (text : List ℕ) × Appends (W.contents out.old) (W.contents out.new) text
-            × Served (terms S.bytes S.keeps J.honest S.gave self.now.settings self.now.items ((before after : I) × I.fails before after) ((before : W) × W.fails before out.new))
+        ensures serves { IfSome (input_of I.remaining heads.old)
+            (λ input. (text : List ℕ) × Appends (W.contents out.old) (W.contents out.new) text
+            × Served (terms S.bytes S.keeps J.honest S.gave self.now.settings self.now.items ((before after : I) × I.fails before after)
+            ((before : W) × W.fails before out.new))
             n input (input_of I.remaining heads.new) text result) }
         ensures came { (came : List ℕ) × (text : List ℕ) × Appends (W.contents out.old) (W.contents out.new) text
-            × Served (terms S.bytes S.keeps J.honest S.gave self.now.settings self.now.items ((before after : I) × I.fails before after) ((before : W) × W.fails before out.new))
+            × Served (terms S.bytes S.keeps J.honest S.gave self.now.settings self.now.items ((before after : I) × I.fails before after)
+            ((before : W) × W.fails before out.new))
             n (heads.old.unread ++ came) (Some heads.new.unread) text result }
         ensures goes_on { result ≡ true → heads.new.fault ≡ None }
         ensures few { result ≡ true → n < 1000 }
@@ -147,12 +150,14 @@ impl<
         // the reader failed.
         ensures serves { IfSome (I.remaining reader) (λ input. (output : List ℕ) × Appends (W.contents out.old) (W.contents out.new) output
             × ((came : List ℕ) × IsCame ((before after : I) × I.fails before after) input came
-            × IsConnection (terms S.bytes S.keeps J.honest S.gave self.now.settings self.now.items ((before after : I) × I.fails before after) ((before : W) × W.fails before out.new))
+            × IsConnection (terms S.bytes S.keeps J.honest S.gave self.now.settings self.now.items
+            ((before after : I) × I.fails before after) ((before : W) × W.fails before out.new))
             came output)) }
 
         // Where they are not, as at a socket, it is that for the bytes that came.
         ensures came { (came : List ℕ) × (output : List ℕ) × Appends (W.contents out.old) (W.contents out.new) output
-            × IsConnection (terms S.bytes S.keeps J.honest S.gave self.now.settings self.now.items ((before after : I) × I.fails before after) ((before : W) × W.fails before out.new))
+            × IsConnection (terms S.bytes S.keeps J.honest S.gave self.now.settings self.now.items
+            ((before after : I) × I.fails before after) ((before : W) × W.fails before out.new))
             came output }
     {
         self.serve_watched(rt, alloc, passes, reader, out, &())
@@ -173,12 +178,14 @@ impl<
         // the reader failed.
         ensures serves { IfSome (I.remaining reader) (λ input. (output : List ℕ) × Appends (W.contents out.old) (W.contents out.new) output
             × ((came : List ℕ) × IsCame ((before after : I) × I.fails before after) input came
-            × IsConnection (terms S.bytes S.keeps J.honest S.gave self.now.settings self.now.items ((before after : I) × I.fails before after) ((before : W) × W.fails before out.new))
+            × IsConnection (terms S.bytes S.keeps J.honest S.gave self.now.settings self.now.items
+            ((before after : I) × I.fails before after) ((before : W) × W.fails before out.new))
             came output)) }
 
         // Where they are not, as at a socket, it is that for the bytes that came.
         ensures came { (came : List ℕ) × (output : List ℕ) × Appends (W.contents out.old) (W.contents out.new) output
-            × IsConnection (terms S.bytes S.keeps J.honest S.gave self.now.settings self.now.items ((before after : I) × I.fails before after) ((before : W) × W.fails before out.new))
+            × IsConnection (terms S.bytes S.keeps J.honest S.gave self.now.settings self.now.items
+            ((before after : I) × I.fails before after) ((before : W) × W.fails before out.new))
             came output }
     {
         let Ok(mut heads) = Heads::new(alloc, reader) else {

@@ -207,7 +207,8 @@ const MEAN: Case<'static> = (
     Want::Whole(200, Text::Long(175, &[75])),
 );
 
-/// At one place and an edge of 1 the sample is one block of level 2. Below it stand 4 of level 1 and 16 of level 0: 21 in all, each asked for
+/// At one place and an edge of 1 the sample is one block of level 2. Below it stand 4 of level 1 and 16 of level 0: 21 in all, each asked
+/// for
 /// once, by one worker or by three.
 static ASKED: [Table; 2] = [
     (

@@ -103,7 +103,8 @@ fn right_by<R: Threads + Wait + Clock + Sync, J: System + Send + Sync>(
 ) -> Option<usize>
     requires pictures { (name : List ℕ) → J.pictures name ≡ pictures_of bytes_of images name }
     requires gave { (name : List ℕ) (f : ReadFault) → J.gave name f ≡ gave_of fused_gave images name f }
-    requires stable { (name : List ℕ) (item : Item (List ℕ)) → item_named images name ≡ Some item → J.stable name → ∥ keeps_of item.source ∥₁ }
+    requires stable { (name : List ℕ) (item : Item (List ℕ)) → item_named images name ≡ Some item → J.stable name →
+        ∥ keeps_of item.source ∥₁ }
     requires kept { (name : List ℕ) (item : Item (List ℕ)) → item_named images name ≡ Some item → keeps_of item.source → J.stable name }
     requires edge { config.edge ≡ J.edge }
     requires tiles { IsStock J.tiles_name J.tiles_parts tiles }

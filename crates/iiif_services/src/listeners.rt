@@ -201,7 +201,8 @@ where
         thread::scope_env(),
         rt,
         |scope|
-            requires { F.IsAlwaysCallable serve_viewer.now × K.IsAlwaysCallable refused_viewer.now × G.IsAlwaysCallable serve_peer.now × L.IsAlwaysCallable refused_peer.now × H.IsAlwaysCallable serve_reader.now × M.IsAlwaysCallable refused_reader.now }
+            requires { F.IsAlwaysCallable serve_viewer.now × K.IsAlwaysCallable refused_viewer.now × G.IsAlwaysCallable serve_peer.now ×
+                L.IsAlwaysCallable refused_peer.now × H.IsAlwaysCallable serve_reader.now × M.IsAlwaysCallable refused_reader.now }
         {
             if let Some(listener) = &listeners.peers {
                 let started = scope.spawn(

@@ -3,7 +3,8 @@ use Rattle.std.proofs.Common.{◌≡◌, Bool, true, cond, Option, Some, Result,
 use Rattle.std.proofs.lemmas.Bool.{cases_Bool}
 
 module _ {K X : Type 0} (eq : K → K → Bool) (ident : (a b : K) → eq a b ≡ true → a ≡ b) (f : X → K) where
-  pub keyed_with : (k : K) (w : X) (m n : K → Option X) → f w ≡ k → ((q : K) → n q ≡ cond (eq k q) (Some w) (m q)) → ((q : K) (x : X) → m q ≡ Some x → f x ≡ q) → (q : K) (x : X) → n q ≡ Some x → f x ≡ q
+  pub keyed_with : (k : K) (w : X) (m n : K → Option X) → f w ≡ k → ((q : K) → n q ≡ cond (eq k q) (Some w) (m q)) →
+      ((q : K) (x : X) → m q ≡ Some x → f x ≡ q) → (q : K) (x : X) → n q ≡ Some x → f x ≡ q
   keyed_with k w m n h up old q x is = elim (cases_Bool (eq k q)) [
     | inl t ↦
         let a : n q ≡ Some w = up q ∙ ap (λ b. cond b (Some w) (m q)) t in

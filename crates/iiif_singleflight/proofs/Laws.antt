@@ -4,7 +4,8 @@ use Rattle.std.specs.Option.{ForSome, is_some}
 use Rattle.std.proofs.lemmas.Bool.Decides.{nat_tests}
 use Rattle.iiif_singleflight.specs.Seen.{Seen, the_flight}
 use Rattle.iiif_tables.specs.Cache.{Kept, Cache, kept_for}
-use Rattle.iiif_tables.specs.Flights.{Table, Flight, hit, joined, led, enter, entering, again, looking, has_ticket, is_found, land, landing, counting}
+use Rattle.iiif_tables.specs.Flights.{Table, Flight, hit, joined, led, enter, entering, again, looking, has_ticket, is_found, land}
+use Rattle.iiif_tables.specs.Flights.{landing, counting}
 use Rattle.iiif_tables.specs.declared.table.Book.{Book}
 use Rattle.iiif_tables.specs.declared.table.Class.{Class}
 use Rattle.iiif_tables.specs.declared.table.Place.{Place}
@@ -14,11 +15,13 @@ module _ {K V : Type 0} (eq : K → K → Bool) (class : Class) (k : K) (t : Tab
   unfolding enter
   enter-hit e h = rw h refl
 
-  pub enter-joined : (f : Flight) → kept_for eq k t.cache ≡ None → t.flights class k ≡ Some f → enter eq class k t ≡ (joined f.ticket, entering eq class k (joined f.ticket) t)
+  pub enter-joined : (f : Flight) → kept_for eq k t.cache ≡ None → t.flights class k ≡ Some f →
+      enter eq class k t ≡ (joined f.ticket, entering eq class k (joined f.ticket) t)
   unfolding enter
   enter-joined f h j = rw (h, j) refl
 
-  pub enter-led : kept_for eq k t.cache ≡ None → t.flights class k ≡ None → enter eq class k t ≡ (led (t.book.leads + 1), entering eq class k (led (t.book.leads + 1)) t)
+  pub enter-led : kept_for eq k t.cache ≡ None → t.flights class k ≡ None →
+      enter eq class k t ≡ (led (t.book.leads + 1), entering eq class k (led (t.book.leads + 1)) t)
   unfolding enter
   enter-led h j = rw (h, j) refl
 
@@ -32,7 +35,8 @@ module _ {K V : Type 0} (eq : K → K → Bool) (class : Class) (k : K) (t : Tab
 
   module _ (size : K → V → ℕ) (keep : Bool) (n : ℕ) (value : Option V) (place : Place) where
     pub land-open : has_ticket n (t.flights class k) ≡ true
-        → land eq size keep class k n value place t ≡ landing eq size keep class k n value place (counting (is_found (t.flights class k)) value place t.book) t
+        → land eq size keep class k n value place t ≡ landing eq size keep class k n value place
+        (counting (is_found (t.flights class k)) value place t.book) t
     unfolding land
     land-open h = rw h refl
 
@@ -54,7 +58,8 @@ pub same_table : {K V : Type 0} {c d : Cache K V} {f h : Class → K → Option 
 same_table b p q r = cc
 
 -- an open flight with a ticket
-pub ticket_of : (n : ℕ) (o : Option Seen) → has_ticket n (option_map the_flight o) ≡ true → (s : Seen) × (o ≡ Some s) × (s.flight.ticket ≡ n)
+pub ticket_of : (n : ℕ) (o : Option Seen) → has_ticket n (option_map the_flight o) ≡ true → (s : Seen) × (o ≡ Some s) ×
+    (s.flight.ticket ≡ n)
 ticket_of n None h = cc
 ticket_of n (Some s) h = let e : s.flight.ticket ≡ n = grind (arith, nat_tests) in (s, refl, e)
 

@@ -6,7 +6,8 @@ use Rattle.iiif_tables.specs.Cache.{Kept}
 use Rattle.iiif_tables.specs.Flights.{Entered as Plain, hit, joined, led}
 use Rattle.iiif_tables.specs.declared.table.Class.{Class}
 use Rattle.iiif_outcome.specs.Outcomes.{value_of}
-use Rattle.iiif_outcome.specs.Views.{flight_cell, flight_key, flight_ticket, lead_cell, lead_class, lead_key, lead_known, lead_ticket, receipt_known, receipt_ticket}
+use Rattle.iiif_outcome.specs.Views.{flight_cell, flight_key, flight_ticket, lead_cell, lead_class, lead_key, lead_known, lead_ticket}
+use Rattle.iiif_outcome.specs.Views.{receipt_known, receipt_ticket}
 use Rattle.iiif_singleflight.specs.Seen.{with_at}
 use Rattle.iiif_singleflight.specs.declared.met.Met.{Met}
 use Rattle.iiif_singleflight.specs.declared.met.Met.TheVariants.{Hit, Joined, Lead}
@@ -15,7 +16,8 @@ module _ {K J V : Type 0} {a b c d : _} where
   -- What the definition gives: a receipt of the entry's ticket whose outcome is the entry's value; the open flight; or the lead of a
   -- new one, of whose outcome nothing is known.
   abbrev pub Meets : Class → K → Plain V → Met K J V a b c d → Type 0
-  Meets class k p (Hit r) = (e : Kept _) × (p ≡ hit e) × (receipt_ticket r ≡ e.ticket) × IfSome (receipt_known r) (λ x. value_of x.outcome ≡ Some e.value)
+  Meets class k p (Hit r) = (e : Kept _) × (p ≡ hit e) × (receipt_ticket r ≡ e.ticket) ×
+      IfSome (receipt_known r) (λ x. value_of x.outcome ≡ Some e.value)
   Meets class k p (Joined f) = (p ≡ joined (flight_ticket f)) × (flight_key f ≡ k)
   Meets class k p (Lead l) = (p ≡ led (lead_ticket l)) × (lead_key l ≡ k) × (lead_class l ≡ class) × (lead_known l ≡ None)
 

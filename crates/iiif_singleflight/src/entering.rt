@@ -29,7 +29,8 @@ impl<K: CacheKey, J: System, L: Ledger> Table<K, J, L> {
         ensures shaped { IfOk result (λ e. HitPasses (K.is_shaped J.pictures key.now) e) }
         ensures cells { IfOk result (λ e. CellsMeet K.eq class key.now (cells_of K.eq self.old) (cells_of K.eq self.new) e) }
         ensures pass { OnOk result ((pass.new.gets ≡ pass.old.gets + 1) × (pass.new.parts ≡ pass.old.parts)) }
-        ensures err { OnErr result ((table_of K.eq self.new ≡ table_of K.eq self.old) × (cells_of K.eq self.new ≡ cells_of K.eq self.old) × (pass.new.gets ≡ pass.old.gets) × (pass.new.parts ≡ pass.old.parts)) }
+        ensures err { OnErr result ((table_of K.eq self.new ≡ table_of K.eq self.old) × (cells_of K.eq self.new ≡ cells_of K.eq self.old) ×
+            (pass.new.gets ≡ pass.old.gets) × (pass.new.parts ≡ pass.old.parts)) }
     {
         if self.book.gets == u64::MAX {
             return Err(AllocError);

@@ -2,7 +2,9 @@
 
 ghost use Rattle.std.specs.Prelude.{◌≡◌, ◌↔◌, IfErr, IfOk, IfSome, IsTrue};
 ghost use Rattle.std.specs.Arc.{arc_value};
-ghost use Rattle.iiif_singleflight.specs.Views.{flight_cell, flight_key, flight_ticket, landing_cell, landing_kept, landing_known, landing_own, landing_refused, landing_taken, landing_ticket, lead_class, lead_key, lead_ticket, receipt_cell, receipt_known, receipt_ticket, SameReceipt};
+ghost use Rattle.iiif_singleflight.specs.Views.{flight_cell, flight_key, flight_ticket, landing_cell, landing_kept, landing_known};
+ghost use Rattle.iiif_singleflight.specs.Views.{landing_own, landing_refused, landing_taken, landing_ticket, lead_class, lead_key};
+ghost use Rattle.iiif_singleflight.specs.Views.{lead_ticket, receipt_cell, receipt_known, receipt_ticket, SameReceipt};
 
 use crate::down::Down;
 use crate::flight::Flight;
@@ -57,7 +59,8 @@ impl<K: CacheKey, J: System, L: Ledger> Flight<K, J, L> {
     pub fn learn(self) -> Result<Receipt<K, J, L>, Flight<K, J, L>>
         ensures flight { IfOk result (λ r. (receipt_cell r ≡ flight_cell self) × (receipt_ticket r ≡ flight_ticket self)) }
         ensures key { IfOk result (λ r. IfSome (receipt_known r) (λ x. arc_value x.key ≡ flight_key self)) }
-        ensures back { IfErr result (λ f. (flight_cell f ≡ flight_cell self) × (flight_key f ≡ flight_key self) × (flight_ticket f ≡ flight_ticket self)) }
+        ensures back { IfErr result (λ f. (flight_cell f ≡ flight_cell self) × (flight_key f ≡ flight_key self) ×
+            (flight_ticket f ≡ flight_ticket self)) }
     {
         let Flight { inner, of } = self;
         match inner.learn() {
@@ -89,7 +92,9 @@ impl<K: CacheKey, J: System, L: Ledger> Receipt<K, J, L> {
 
     /// What the flight ended with, the same at each call.
     pub fn outcome(&mut self) -> &Result<Arc<K::Value>, Fault>
-        ensures* same { sem 𝓛 (follows_so (the_row K.row J.row L.row K.Value.row K.CacheKey.own K.PartialEq K.Hash.own J.System) (the_row K.row J.row L.row K.Value.row K.CacheKey.own K.PartialEq K.Hash.own J.System) self.entry.ghost_name none (λ _ _. ⊤) (λ n. SameReceipt self.old n)) }
+        ensures* same { sem 𝓛 (follows_so (the_row K.row J.row L.row K.Value.row K.CacheKey.own K.PartialEq K.Hash.own J.System)
+            (the_row K.row J.row L.row K.Value.row K.CacheKey.own K.PartialEq K.Hash.own J.System) self.entry.ghost_name none (λ _ _. ⊤)
+            (λ n. SameReceipt self.old n)) }
         ensures value { IfSome (receipt_known self.old) (λ x. x.outcome ≡ result.now) }
     {
         self.inner.outcome()
@@ -121,7 +126,8 @@ impl<K: CacheKey, J: System, L: Ledger> Landing<K, J, L> {
     /// The receipt of what stands in the cell: the outcome that was landed; or another, where the cell refused that one, which then
     /// comes back.
     pub fn into_receipt(self) -> (Receipt<K, J, L>, Option<Box<Landed<K, J>>>)
-        ensures receipt { (receipt_cell result.0 ≡ landing_cell self) × (receipt_known result.0 ≡ landing_known self) × (receipt_ticket result.0 ≡ landing_ticket self) }
+        ensures receipt { (receipt_cell result.0 ≡ landing_cell self) × (receipt_known result.0 ≡ landing_known self) ×
+            (receipt_ticket result.0 ≡ landing_ticket self) }
         ensures refused { result.1 ≡ landing_refused self }
     {
         let Landing { inner, of } = self;

@@ -63,7 +63,8 @@ fn put<K: CacheKey, J: System>(
     entry: Entry<K, J>,
 ) -> bool
     requires { IsTrue (is_of K.eq key entry) }
-    ensures { cache_of cache.new ≡ (if result then with_entry (entry_size K.key_bytes K.val_bytes) K.eq (side hot) key (kept_of entry) (cache_of cache.old) else cache_of cache.old) }
+    ensures { cache_of cache.new ≡ (if result then with_entry (entry_size K.key_bytes K.val_bytes) K.eq (side hot) key (kept_of entry)
+        (cache_of cache.old) else cache_of cache.old) }
 {
     if hot {
         return cache.put_hot(key, entry).is_ok();
@@ -81,7 +82,8 @@ fn keep<K: CacheKey, J: System>(
 ) -> bool
     requires value { ForSome (receipt_known receipt.old) (λ x. value_of x.outcome ≡ Some (arc_value value)) }
     requires of_key { ForSome (receipt_known receipt.old) (λ x. arc_value x.key ≡ key.now) }
-    ensures cache { cache_of cache.new ≡ (if result then with_entry (entry_size K.key_bytes K.val_bytes) K.eq (side hot) key.now (record { value = arc_value value; ticket = receipt_ticket receipt.old }) (cache_of cache.old) else cache_of cache.old) }
+    ensures cache { cache_of cache.new ≡ (if result then with_entry (entry_size K.key_bytes K.val_bytes) K.eq (side hot) key.now
+        (record { value = arc_value value; ticket = receipt_ticket receipt.old }) (cache_of cache.old) else cache_of cache.old) }
     ensures same { SameReceipt receipt.old receipt.new }
 {
     let Ok(key) = key.copy() else {
@@ -105,7 +107,8 @@ fn store<K: CacheKey, J: System>(
 ) -> bool
     requires value { ForSome (receipt_known receipt.old) (λ x. value_of x.outcome ≡ Some (arc_value value)) }
     requires of_key { ForSome (receipt_known receipt.old) (λ x. arc_value x.key ≡ key.now) }
-    ensures cache { cache_of cache.new ≡ (if result then storing K.eq (entry_size K.key_bytes K.val_bytes) place peer key.now (record { value = arc_value value; ticket = receipt_ticket receipt.old }) (cache_of cache.old) else cache_of cache.old) }
+    ensures cache { cache_of cache.new ≡ (if result then storing K.eq (entry_size K.key_bytes K.val_bytes) place peer key.now
+        (record { value = arc_value value; ticket = receipt_ticket receipt.old }) (cache_of cache.old) else cache_of cache.old) }
     ensures same { SameReceipt receipt.old receipt.new }
 {
     match place {
@@ -130,10 +133,13 @@ pub(crate) fn keep_outcome<K: CacheKey, J: System>(
     value: Option<Arc<K::Value>>,
     receipt: &mut Receipt<K, J>,
 ) -> bool
-    requires value { IsTrue taken → ForSome value (λ v. ForSome (receipt_known receipt.old) (λ x. value_of x.outcome ≡ Some (arc_value v))) }
+    requires value { IsTrue taken → ForSome value
+        (λ v. ForSome (receipt_known receipt.old) (λ x. value_of x.outcome ≡ Some (arc_value v))) }
     requires of_key { IsTrue taken → ForSome (receipt_known receipt.old) (λ x. arc_value x.key ≡ key.now) }
     ensures taken { IsTrue result → IsTrue taken }
-    ensures kept { IsTrue result → IsSomeAnd value (λ v. cache_of cache.new ≡ storing K.eq (entry_size K.key_bytes K.val_bytes) place peer key.now (record { value = arc_value v; ticket = receipt_ticket receipt.old }) (cache_of cache.old)) }
+    ensures kept { IsTrue result → IsSomeAnd value
+        (λ v. cache_of cache.new ≡ storing K.eq (entry_size K.key_bytes K.val_bytes) place peer key.now
+        (record { value = arc_value v; ticket = receipt_ticket receipt.old }) (cache_of cache.old)) }
     ensures unkept { IsFalse result → cache_of cache.new ≡ cache_of cache.old }
     ensures same { SameReceipt receipt.old receipt.new }
 {

@@ -16,9 +16,12 @@ use std::sync::ledger::Ledger;
 impl<K: CacheKey, J: System, L: Ledger> Table<K, J, L> {
     /// A leader looks again: `again`, of a lead that doesn't say whose it is.
     pub(crate) fn look(&mut self, lead: &Lead<K, J>) -> Result<Option<Arc<K::Value>>, NoMemory>
-        ensures table { OnOk result (table_of K.eq self.new ≡ (looked K.eq (lead_class lead.now) (lead_key lead.now) (lead_ticket lead.now) (table_of K.eq self.old)).1) }
-        ensures found { IfOk result (λ o. option_map arc_value o ≡ (looked K.eq (lead_class lead.now) (lead_key lead.now) (lead_ticket lead.now) (table_of K.eq self.old)).0) }
-        ensures meant { IfOk result (λ o. IfSome o (λ v. J.stable (K.name_of (lead_key lead.now)) → IsTrue J.honest → arc_value v ≡ K.meaning J.pictures (lead_key lead.now))) }
+        ensures table { OnOk result (table_of K.eq self.new ≡
+            (looked K.eq (lead_class lead.now) (lead_key lead.now) (lead_ticket lead.now) (table_of K.eq self.old)).1) }
+        ensures found { IfOk result (λ o. option_map arc_value o ≡
+            (looked K.eq (lead_class lead.now) (lead_key lead.now) (lead_ticket lead.now) (table_of K.eq self.old)).0) }
+        ensures meant { IfOk result (λ o. IfSome o
+            (λ v. J.stable (K.name_of (lead_key lead.now)) → IsTrue J.honest → arc_value v ≡ K.meaning J.pictures (lead_key lead.now))) }
         ensures shaped { IfOk result (λ o. IfSome o (λ v. IsTrue (K.is_shaped J.pictures (lead_key lead.now) (arc_value v)))) }
         ensures cells { cells_of K.eq self.new ≡ cells_of K.eq self.old }
         ensures err { OnErr result (table_of K.eq self.new ≡ table_of K.eq self.old) }

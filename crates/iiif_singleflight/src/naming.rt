@@ -1,9 +1,11 @@
 //! What is done to the flights of one class.
 
-ghost use Rattle.std.specs.Prelude.{◌≡◌, ℕ, ◌+◌, Option, Some, None, true, false, IfOk, IfSome, IfNone, OnErr, option_map, MatchOption, IsSome};
+ghost use Rattle.std.specs.Prelude.{◌≡◌, ℕ, ◌+◌, Option, Some, None, true, false, IfOk, IfSome, IfNone, OnErr, option_map, MatchOption};
+ghost use Rattle.std.specs.Prelude.IsSome;
 ghost use Rattle.std.specs.HashMap.{hash_map_len};
 ghost use Rattle.std.specs.Map.{update};
-ghost use Rattle.iiif_outcome.specs.Views.{flight_cell, flight_key, flight_ticket, lead_cell, lead_class, lead_key, lead_known, lead_ticket};
+ghost use Rattle.iiif_outcome.specs.Views.{flight_cell, flight_key, flight_ticket, lead_cell, lead_class, lead_key, lead_known};
+ghost use Rattle.iiif_outcome.specs.Views.lead_ticket;
 ghost use Rattle.iiif_tables.specs.Flights.{has_ticket, is_found};
 ghost use Rattle.iiif_singleflight.specs.Seen.{the_flight, found_of};
 ghost use Rattle.iiif_singleflight.specs.Held.{held};
@@ -31,7 +33,8 @@ impl<K: CacheKey, J: System> Named<K, J> {
     pub fn join(&mut self, key: &K) -> Option<Result<Flight<K, J>, NoMemory>>
         ensures none { MatchOption result (held K.eq self.old.map key.now ≡ None) (λ r. IsSome (held K.eq self.old.map key.now)) }
         ensures key { IfSome result (λ r. IfOk r (λ f. flight_key f ≡ key.now)) }
-        ensures joined { IfSome result (λ r. IfOk r (λ f. IfSome (held K.eq self.old.map key.now) (λ s. (flight_ticket f ≡ s.flight.ticket) × (flight_cell f ≡ s.cell)))) }
+        ensures joined { IfSome result (λ r. IfOk r
+            (λ f. IfSome (held K.eq self.old.map key.now) (λ s. (flight_ticket f ≡ s.flight.ticket) × (flight_cell f ≡ s.cell)))) }
         ensures same { (q : K) → held K.eq self.new.map q ≡ held K.eq self.old.map q }
         ensures len { hash_map_len self.new.map ≡ hash_map_len self.old.map }
     {
@@ -48,8 +51,11 @@ impl<K: CacheKey, J: System> Named<K, J> {
         ticket: u64,
     ) -> Result<Lead<K, J>, NoMemory>
         requires { held K.eq self.old.map key.now ≡ None }
-        ensures lead { IfOk result (λ l. (lead_key l ≡ key.now) × (lead_ticket l ≡ ticket) × (lead_class l ≡ class) × (lead_known l ≡ None)) }
-        ensures opened { IfOk result (λ l. (q : K) → held K.eq self.new.map q ≡ update K.eq (held K.eq self.old.map) key.now (Some (record { flight = record { ticket = ticket; found = false }; cell = lead_cell l })) q) }
+        ensures lead { IfOk result (λ l. (lead_key l ≡ key.now) × (lead_ticket l ≡ ticket) × (lead_class l ≡ class) ×
+            (lead_known l ≡ None)) }
+        ensures opened { IfOk result (λ l. (q : K) →
+            held K.eq self.new.map q ≡ update K.eq (held K.eq self.old.map) key.now
+            (Some (record { flight = record { ticket = ticket; found = false }; cell = lead_cell l })) q) }
         ensures len { IfOk result (λ l. hash_map_len self.new.map ≡ hash_map_len self.old.map + 1) }
         ensures err { OnErr result ((q : K) → held K.eq self.new.map q ≡ held K.eq self.old.map q) }
         ensures err_len { OnErr result (hash_map_len self.new.map ≡ hash_map_len self.old.map) }
@@ -81,7 +87,8 @@ impl<K: CacheKey, J: System> Named<K, J> {
 
     /// Marks the flight that is open for a key as found.
     pub fn mark(&mut self, key: &K)
-        ensures marked { IfSome (held K.eq self.old.map key.now) (λ s. (q : K) → held K.eq self.new.map q ≡ update K.eq (held K.eq self.old.map) key.now (Some (found_of s)) q) }
+        ensures marked { IfSome (held K.eq self.old.map key.now)
+            (λ s. (q : K) → held K.eq self.new.map q ≡ update K.eq (held K.eq self.old.map) key.now (Some (found_of s)) q) }
         ensures len { hash_map_len self.new.map ≡ hash_map_len self.old.map }
     {
         if let Some(one) = self.map.get_mut(key) {
@@ -94,7 +101,8 @@ impl<K: CacheKey, J: System> Named<K, J> {
         ensures none { IfNone result (has_ticket ticket (option_map the_flight (held K.eq self.old.map key.now)) ≡ false) }
         ensures same { IfNone result ((q : K) → held K.eq self.new.map q ≡ held K.eq self.old.map q) }
         ensures same_len { IfNone result (hash_map_len self.new.map ≡ hash_map_len self.old.map) }
-        ensures ticket { IfSome result (λ b. (has_ticket ticket (option_map the_flight (held K.eq self.old.map key.now)) ≡ true) × (b ≡ is_found (option_map the_flight (held K.eq self.old.map key.now)))) }
+        ensures ticket { IfSome result (λ b. (has_ticket ticket (option_map the_flight (held K.eq self.old.map key.now)) ≡ true) ×
+            (b ≡ is_found (option_map the_flight (held K.eq self.old.map key.now)))) }
         ensures closed { IfSome result (λ b. (q : K) → held K.eq self.new.map q ≡ update K.eq (held K.eq self.old.map) key.now None q) }
         ensures len { IfSome result (λ b. hash_map_len self.new.map + 1 ≡ hash_map_len self.old.map) }
     {

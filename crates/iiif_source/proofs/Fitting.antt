@@ -18,21 +18,25 @@ beyond n p held below past =
 -- below the length each byte is what is held
 pub fitted_at : (n p : ℕ) (held : List ℕ) → p < n → get_or (fitted n held) p 0 ≡ get_or held p 0
 fitted_at n p held below = elim (cases_lt p (length held)) [
-  | inl within ↦ get_or_append_left (take n held) (replicate (n - length held) 0) 0 p (omega (arith, length-take n held, below, within)) ∙ get_or-take n held p 0 below
+  | inl within ↦ get_or_append_left (take n held) (replicate (n - length held) 0) 0 p (omega (arith, length-take n held, below, within)) ∙
+      get_or-take n held p 0 below
   | inr past ↦ beyond n p held below past ∙ sym (get_or_past held p 0 past)
 ]
 
 -- runs within the length
 at_run : (n j i : ℕ) (runs : Runs) → AreIn n runs → j < runs.count → i < runs.len → runs.at + j * runs.stride + i < n
 at_run n j i runs inside below within =
-    let far : j * runs.stride ≤ (runs.count - 1) * runs.stride = mul-le j runs.stride (runs.count - 1) runs.stride (omega (arith, below)) (omega arith) in
+    let far : j * runs.stride ≤ (runs.count - 1) * runs.stride =
+    mul-le j runs.stride (runs.count - 1) runs.stride (omega (arith, below)) (omega arith) in
     omega (arith, far, within, inside.within)
 
 -- runs of what is held and of what it is cut or filled to are the same
-pub runs_of_held : (n : ℕ) (held buffer : List ℕ) (runs : Runs) → AreIn n runs → HoldsRuns (fitted n held) runs runs.count buffer → HoldsRuns held runs runs.count buffer
+pub runs_of_held : (n : ℕ) (held buffer : List ℕ) (runs : Runs) → AreIn n runs → HoldsRuns (fitted n held) runs runs.count buffer →
+    HoldsRuns held runs runs.count buffer
 runs_of_held n held buffer runs inside there j i below within =
     there j i below within ∙ fitted_at n (runs.at + j * runs.stride + i) held (at_run n j i runs inside below within)
 
-pub runs_of_fitted : (n : ℕ) (held buffer : List ℕ) (runs : Runs) → AreIn n runs → HoldsRuns held runs runs.count buffer → HoldsRuns (fitted n held) runs runs.count buffer
+pub runs_of_fitted : (n : ℕ) (held buffer : List ℕ) (runs : Runs) → AreIn n runs → HoldsRuns held runs runs.count buffer →
+    HoldsRuns (fitted n held) runs runs.count buffer
 runs_of_fitted n held buffer runs inside there j i below within =
     there j i below within ∙ sym (fitted_at n (runs.at + j * runs.stride + i) held (at_run n j i runs inside below within))

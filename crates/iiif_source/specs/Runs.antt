@@ -10,4 +10,5 @@ pub record AreIn (n : ℕ) (r : Runs) : Type 0 where
 
 -- The first m runs stand one after another in the buffer.
 abbrev pub HoldsRuns : List ℕ → Runs → ℕ → List ℕ → Type 0
-HoldsRuns bytes r m buffer = (j i : ℕ) → j < m → i < r.len → slice_index buffer (j * r.len + i) ≡ slice_index bytes (r.at + j * r.stride + i)
+HoldsRuns bytes r m buffer = (j i : ℕ) → j < m → i < r.len →
+    slice_index buffer (j * r.len + i) ≡ slice_index bytes (r.at + j * r.stride + i)

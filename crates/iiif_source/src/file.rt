@@ -29,7 +29,8 @@ impl<R: Opens> FileSource<R> {
     /// A source of an open file, of the length that it has now.
     pub fn new(rt: &R, file: OpenFile<R>) -> io::Result<FileSource<R>>
         ensures path { IfOk result (λ s. s.path ≡ string_bytes (arc_value file.path)) }
-        ensures length { R.keeps (string_bytes (arc_value file.path)) → IfOk result (λ s. s.len ≡ length (R.holds (string_bytes (arc_value file.path)))) }
+        ensures length { R.keeps (string_bytes (arc_value file.path)) →
+            IfOk result (λ s. s.len ≡ length (R.holds (string_bytes (arc_value file.path)))) }
     {
         let len = file.metadata(rt)?.len();
         Ok(FileSource {

@@ -46,7 +46,8 @@ impl<R: Opens> OpenFile<R> {
 
     /// What the system says of the file now.
     pub fn metadata(&self, rt: &R) -> io::Result<Metadata>
-        ensures { R.keeps (string_bytes (arc_value self.now.path)) → IfOk result (λ m. metadata_len m ≡ length (R.holds (string_bytes (arc_value self.now.path)))) }
+        ensures { R.keeps (string_bytes (arc_value self.now.path)) →
+            IfOk result (λ m. metadata_len m ≡ length (R.holds (string_bytes (arc_value self.now.path)))) }
     {
         rt.metadata(self.path.as_str(), &self.handle)
     }

@@ -12,7 +12,8 @@ names_more f g xs x ys n y so lt same =
     ∙ (same_more _ _ _ _ so same ∙ sym (ap (map g) (take_more ys n y lt) ∙ map-append g (take n ys) (get_or ys n y ∷ [])))
 
 -- what holds of two lists place by place does so with one more of each
-zip_push : {A B : Type 0} (P : A → B → Type 0) (xs : List A) (ys : List B) (x : A) (y : B) → AllZip P xs ys → P x y → AllZip P (xs ++ x ∷ []) (ys ++ y ∷ [])
+zip_push : {A B : Type 0} (P : A → B → Type 0) (xs : List A) (ys : List B) (x : A) (y : B) → AllZip P xs ys → P x y →
+    AllZip P (xs ++ x ∷ []) (ys ++ y ∷ [])
 zip_push P [] [] x y all more = (more, tt)
 zip_push P [] (b ∷ ys) x y all more = absurd all
 zip_push P (a ∷ xs) [] x y all more = absurd all

@@ -18,7 +18,8 @@ whole held n all =
     ∙ (ap (λ k. held ++ replicate k 0) none ∙ append-nil held)
 
 -- a capped sum with one more
-pub added : {X : Type 0} (f : X → ℕ) (xs : List X) (i : ℕ) (d : X) (before more : ℕ) → before ≡ capped (sum_by f (take i xs)) → more ≡ f (get_or xs i d) → i < length xs
+pub added : {X : Type 0} (f : X → ℕ) (xs : List X) (i : ℕ) (d : X) (before more : ℕ) → before ≡ capped (sum_by f (take i xs)) →
+    more ≡ f (get_or xs i d) → i < length xs
     → capped (before + more) ≡ capped (sum_by f (take (i + 1) xs))
 added f xs i d before more is one below =
     let all : sum_by f (take (i + 1) xs) ≡ sum_by f (take i xs) + f (get_or xs i d) = sum_by_more f xs i d below in

@@ -33,12 +33,14 @@ abbrev pub is_sample : List ℕ → Bool
 is_sample path = bytes_eq path (codes ":sample")
 
 -- The source of a path, of which bytes up to so many are to be held, if any. The files of paths hold these bytes, where they keep them.
-pub record IsSourceOf {R : Type 0} {d : _} (holds : List ℕ → List ℕ) (keeps : List ℕ → Type 0) (hold : ℕ) (path : List ℕ) (source : Stored R d) : Type 0 where
+pub record IsSourceOf {R : Type 0} {d : _} (holds : List ℕ → List ℕ) (keeps : List ℕ → Type 0) (hold : ℕ) (path : List ℕ)
+    (source : Stored R d) : Type 0 where
   pub same : is_sample path ≡ false → keeps path → bytes_of holds source ≡ holds path
   pub kept : is_sample path ≡ false → keeps path → keeps_of keeps source
   pub held : 0 < hold → length (bytes_of holds source) ≤ hold → is_held source ≡ true
 
 -- the item of an image's name and path
-pub record IsItemOf {R : Type 0} {d : _} (holds : List ℕ → List ℕ) (keeps : List ℕ → Type 0) (hold : ℕ) (image : Bor (List ℕ) × Bor (List ℕ)) (item : Item (Stored R d)) : Type 0 where
+pub record IsItemOf {R : Type 0} {d : _} (holds : List ℕ → List ℕ) (keeps : List ℕ → Type 0) (hold : ℕ)
+    (image : Bor (List ℕ) × Bor (List ℕ)) (item : Item (Stored R d)) : Type 0 where
   pub name : item.name ≡ image.0.now
   pub source : IsSourceOf holds keeps hold image.1.now item.source

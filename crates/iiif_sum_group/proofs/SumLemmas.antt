@@ -1,5 +1,6 @@
 -- Sums merged one after another, the sums of a block with one part, and the faults of loads.
-use Rattle.std.proofs.Common.{◌≡◌, ℕ, zero, suc, ◌+◌, ◌-◌, ◌<◌, ◌≤◌, ◌⊎◌, inl, inr, Bool, true, false, List, [], ◌∷◌, ◌++◌, length, get_or, take, drop, not, map, fold, All, Global, Result, Err, refl, sym, subst, ap, ◌∙◌, arith}
+use Rattle.std.proofs.Common.{◌≡◌, ℕ, zero, suc, ◌+◌, ◌-◌, ◌<◌, ◌≤◌, ◌⊎◌, inl, inr, Bool, true, false, List, [], ◌∷◌, ◌++◌, length, get_or}
+use Rattle.std.proofs.Common.{take, drop, not, map, fold, All, Global, Result, Err, refl, sym, subst, ap, ◌∙◌, arith}
 use Rattle.std.specs.Prelude.{if◌then◌else◌, ◌==◌, count_by, cond, IfErr, IsTrue}
 use Rattle.std.proofs.Math.Dec.{eqb-suc-zero}
 use Rattle.std.specs.Arc.{arc_value}
@@ -36,7 +37,8 @@ use Rattle.iiif_source.specs.declared.ReadFault.{ReadFault}
 use Rattle.iiif_sum_group.specs.Values.{sums_in, ArePlaces, AreSums, AreValuesOf, MayBeAsked}
 
 -- one more of what is alike in two lists
-pub mapped_more : {A B C : Type 0} (f : A → C) (h : B → C) (keys : List A) (values : List B) (i : ℕ) (q : A) (v : B) → i < length keys → get_or keys i q ≡ q
+pub mapped_more : {A B C : Type 0} (f : A → C) (h : B → C) (keys : List A) (values : List B) (i : ℕ) (q : A) (v : B) → i < length keys →
+    get_or keys i q ≡ q
     → h v ≡ f q → map h values ≡ map f (take i keys) → map h (values ++ v ∷ []) ≡ map f (take (i + 1) keys)
 mapped_more {A} {B} {C} f h keys values i q v inside is made before =
     let more : take (i + 1) keys ≡ take i keys ++ q ∷ [] = take_more keys i q inside ∙ ap (λ (x : A). take i keys ++ x ∷ []) is in
@@ -47,7 +49,8 @@ mapped_more {A} {B} {C} f h keys values i q v inside is made before =
     ∙ ap (λ (ks : List A). map f ks) (sym more)
 
 -- what is alike in two runs of lists, one behind the other
-mapped_runs : {A B C : Type 0} (f : A → C) (h : B → C) (front back : List A) (a b : List B) → map h a ≡ map f front → map h b ≡ map f back → map h (a ++ b) ≡ map f (front ++ back)
+mapped_runs : {A B C : Type 0} (f : A → C) (h : B → C) (front back : List A) (a b : List B) → map h a ≡ map f front → map h b ≡ map f back →
+    map h (a ++ b) ≡ map f (front ++ back)
 mapped_runs {A} {B} {C} f h front back a b first second =
     map-append h a b
     ∙ ap (λ (cs : List C). cs ++ map h b) first
@@ -55,7 +58,8 @@ mapped_runs {A} {B} {C} f h front back a b first second =
     ∙ sym (map-append f front back)
 
 -- some of the parts that may be asked for may be asked for: the first of them, and the others
-pub first_asked : (shows : Pictures) (s : Shape) (block : SumKey) (n : ℕ) (keys front : List SumKey) → front ≡ take n keys → MayBeAsked shows s block keys → MayBeAsked shows s block front
+pub first_asked : (shows : Pictures) (s : Shape) (block : SumKey) (n : ℕ) (keys front : List SumKey) → front ≡ take n keys →
+    MayBeAsked shows s block keys → MayBeAsked shows s block front
 first_asked shows s block n keys front is may = subst (MayBeAsked shows s block) (sym is) (record {
   known = may.known;
   source = may.source;
@@ -63,7 +67,8 @@ first_asked shows s block n keys front is may = subst (MayBeAsked shows s block)
   fits = All-take (SumFitsIn s.dim (channels_of s.kind)) n keys may.fits;
 })
 
-pub others_asked : (shows : Pictures) (s : Shape) (block : SumKey) (n : ℕ) (keys back : List SumKey) → back ≡ drop n keys → MayBeAsked shows s block keys → MayBeAsked shows s block back
+pub others_asked : (shows : Pictures) (s : Shape) (block : SumKey) (n : ℕ) (keys back : List SumKey) → back ≡ drop n keys →
+    MayBeAsked shows s block keys → MayBeAsked shows s block back
 others_asked shows s block n keys back is may = subst (MayBeAsked shows s block) (sym is) (record {
   known = may.known;
   source = may.source;
@@ -72,10 +77,12 @@ others_asked shows s block n keys back is may = subst (MayBeAsked shows s block)
 })
 
 -- the values of two runs of parts are those of all
-pub both_runs : (shows : Pictures) (s : Shape) (trusted : Type 0) (n : ℕ) (keys front back : List SumKey) (a b all : List (Arc SumVal Global)) → front ≡ take n keys → back ≡ drop n keys
+pub both_runs : (shows : Pictures) (s : Shape) (trusted : Type 0) (n : ℕ) (keys front back : List SumKey)
+    (a b all : List (Arc SumVal Global)) → front ≡ take n keys → back ≡ drop n keys
     → AreValuesOf shows s trusted front a → AreValuesOf shows s trusted back b → all ≡ a ++ b → AreValuesOf shows s trusted keys all
 both_runs shows s trusted n keys front back a b all f g first second is =
-    let whole : front ++ back ≡ keys = ap (λ (ks : List SumKey). ks ++ back) f ∙ ap (λ (ks : List SumKey). take n keys ++ ks) g ∙ take-append-drop n keys in
+    let whole : front ++ back ≡ keys = ap (λ (ks : List SumKey). ks ++ back) f ∙ ap (λ (ks : List SumKey). take n keys ++ ks) g ∙
+    take-append-drop n keys in
     let P : Arc SumVal Global → Type 0 = λ x. (sums_in x).channels ≡ channels_of s.kind in
     let both : AreValuesOf shows s trusted (front ++ back) (a ++ b) = record {
       meant = λ t. mapped_runs (λ q. (sum_meaning shows q).sums) sums_in front back a b (first.meant t) (second.meant t);
@@ -85,13 +92,16 @@ both_runs shows s trusted n keys front back a b all f g first second is =
     subst (AreValuesOf shows s trusted keys) (sym is) (subst (λ (ks : List SumKey). AreValuesOf shows s trusted ks (a ++ b)) whole both)
 
 -- and so are those of one part more
-pub one_value_more : (shows : Pictures) (s : Shape) (trusted : Type 0) (keys : List SumKey) (i : ℕ) (q : SumKey) (v : Arc SumVal Global) (old new : List (Arc SumVal Global)) → i < length keys → get_or keys i q ≡ q
-    → (trusted → arc_value v ≡ sum_meaning shows q) → SumHasShape s q (arc_value v) → AreValuesOf shows s trusted (take i keys) old → new ≡ old ++ v ∷ [] → AreValuesOf shows s trusted (take (i + 1) keys) new
+pub one_value_more : (shows : Pictures) (s : Shape) (trusted : Type 0) (keys : List SumKey) (i : ℕ) (q : SumKey) (v : Arc SumVal Global)
+    (old new : List (Arc SumVal Global)) → i < length keys → get_or keys i q ≡ q
+    → (trusted → arc_value v ≡ sum_meaning shows q) → SumHasShape s q (arc_value v) → AreValuesOf shows s trusted (take i keys) old →
+    new ≡ old ++ v ∷ [] → AreValuesOf shows s trusted (take (i + 1) keys) new
 one_value_more shows s trusted keys i q v old new inside is meant shape before kept =
     let P : Arc SumVal Global → Type 0 = λ x. (sums_in x).channels ≡ channels_of s.kind in
     let here : P v = shape.sums_a_place in
     let more : AreValuesOf shows s trusted (take (i + 1) keys) (old ++ v ∷ []) = record {
-      meant = λ t. mapped_more (λ q. (sum_meaning shows q).sums) sums_in keys old i q v inside is (ap (λ (u : SumVal). u.sums) (meant t)) (before.meant t);
+      meant = λ t. mapped_more (λ q. (sum_meaning shows q).sums) sums_in keys old i q v inside is (ap (λ (u : SumVal). u.sums) (meant t))
+          (before.meant t);
       places = mapped_more (places_in s.dim) (λ x. (sums_in x).rect) keys old i q v inside is shape.places before.places;
       channels = All-append P old (v ∷ []) before.channels (All-cons P v [] here (All-nil P));
     } in
@@ -100,7 +110,8 @@ one_value_more shows s trusted keys i q v old new inside is meant shape before k
 -- a block has at most four parts
 pub few_parts : (k : SumKey) → length (sums_below k) ≤ 4
 few_parts k =
-    let both : length (filter meets_rect (quarters k)) + length (filter (λ q. not (meets_rect q)) (quarters k)) ≡ 4 = length-filter_both meets_rect (λ q. not (meets_rect q)) (λ q. refl) (quarters k) in
+    let both : length (filter meets_rect (quarters k)) + length (filter (λ q. not (meets_rect q)) (quarters k)) ≡ 4 =
+    length-filter_both meets_rect (λ q. not (meets_rect q)) (λ q. refl) (quarters k) in
     omega (arith, both)
 
 not_zero : (l : ℕ) → 0 < l → (l == 0) ≡ false
@@ -111,31 +122,39 @@ chosen : (b : Bool) (x y : Grid) → b ≡ false → (if b then x else y) ≡ y
 chosen b x y e = ap (λ (c : Bool). if c then x else y) e
 
 -- the picture of a name has as many channels as its shape says
-channels_are : (shows : Pictures) (name : List ℕ) (s : Shape) → HasPicture shows name s → IsSource (named shows name) → channels_of s.kind ≡ (named shows name).channels
+channels_are : (shows : Pictures) (name : List ℕ) (s : Shape) → HasPicture shows name s → IsSource (named shows name) →
+    channels_of s.kind ≡ (named shows name).channels
 channels_are shows name s has source =
     ap (λ (u : Shape). channels_of u.kind) (sym has.shape) ∙ kind_with_channels (named shows name).channels source.whole.channels
 
 -- all parts make the meaning
-pub all_parts : PartsMakeMeaning → (shows : Pictures) (k : SumKey) (s : Shape) (v : SumVal) → HasPicture shows k.name s → IsSource (named shows k.name)
-    → SumFitsIn s.dim (channels_of s.kind) k → 0 < k.level → v.sums ≡ fold merged (no_sums s.dim (channels_of s.kind) k) (map (λ q. (sum_meaning shows q).sums) (sums_below k))
+pub all_parts : PartsMakeMeaning → (shows : Pictures) (k : SumKey) (s : Shape) (v : SumVal) → HasPicture shows k.name s →
+    IsSource (named shows k.name)
+    → SumFitsIn s.dim (channels_of s.kind) k → 0 < k.level →
+    v.sums ≡ fold merged (no_sums s.dim (channels_of s.kind) k) (map (λ q. (sum_meaning shows q).sums) (sums_below k))
     → v ≡ sum_meaning shows k
 all_parts makes shows k s v has source fits above made =
     let p = named shows k.name in
     let start : no_sums s.dim (channels_of s.kind) k ≡ no_sums (dim_of p) p.channels k =
-    ap (λ (u : Shape). no_sums u.dim (channels_of s.kind) k) (sym has.shape) ∙ ap (λ (n : ℕ). no_sums (dim_of p) n k) (channels_are shows k.name s has source) in
+    ap (λ (u : Shape). no_sums u.dim (channels_of s.kind) k) (sym has.shape) ∙
+    ap (λ (n : ℕ). no_sums (dim_of p) n k) (channels_are shows k.name s has source) in
     ap (λ (g : Grid). let u : SumVal = record { sums = g } in u)
-    (made ∙ ap (λ (g : Grid). fold merged g (map (λ q. (sum_meaning shows q).sums) (sums_below k))) start ∙ sym (chosen (k.level == 0) _ _ (not_zero k.level above)))
+    (made ∙ ap (λ (g : Grid). fold merged g (map (λ q. (sum_meaning shows q).sums) (sums_below k))) start ∙
+    sym (chosen (k.level == 0) _ _ (not_zero k.level above)))
     ∙ makes shows s k has source fits
 
 -- the values of all parts make the meaning
-pub all_values : PartsMakeMeaning → (shows : Pictures) (k : SumKey) (s : Shape) (v : SumVal) (values : List (Arc SumVal Global)) → HasPicture shows k.name s → IsSource (named shows k.name)
+pub all_values : PartsMakeMeaning → (shows : Pictures) (k : SumKey) (s : Shape) (v : SumVal) (values : List (Arc SumVal Global)) →
+    HasPicture shows k.name s → IsSource (named shows k.name)
     → SumFitsIn s.dim (channels_of s.kind) k → 0 < k.level → AreSums shows (sums_below k) values
     → v.sums ≡ fold merged (no_sums s.dim (channels_of s.kind) k) (map sums_in values) → v ≡ sum_meaning shows k
 all_values makes shows k s v values has source fits above are made =
-    all_parts makes shows k s v has source fits above (made ∙ ap (λ (gs : List Grid). fold merged (no_sums s.dim (channels_of s.kind) k) gs) are)
+    all_parts makes shows k s v has source fits above
+    (made ∙ ap (λ (gs : List Grid). fold merged (no_sums s.dim (channels_of s.kind) k) gs) are)
 
 -- one value more
-pub total_more : {A : Type 0} (h : A → Grid) (values : List A) (i : ℕ) (v : A) (start mid new : Grid) → i < length values → get_or values i v ≡ v
+pub total_more : {A : Type 0} (h : A → Grid) (values : List A) (i : ℕ) (v : A) (start mid new : Grid) → i < length values →
+    get_or values i v ≡ v
     → mid ≡ fold merged start (map h (take i values)) → new ≡ merged mid (h v) → new ≡ fold merged start (map h (take (i + 1) values))
 total_more h values i v start mid new inside is before made =
     let more = take_more values i v inside ∙ ap (λ x. take i values ++ x ∷ []) is in
@@ -145,12 +164,14 @@ total_more h values i v start mid new inside is before made =
     ∙ ap (λ vs. fold merged start (map h vs)) (sym more)
 
 -- all values
-pub total_all : {A : Type 0} (h : A → Grid) (values : List A) (i : ℕ) (start new : Grid) → length values ≤ i → new ≡ fold merged start (map h (take i values))
+pub total_all : {A : Type 0} (h : A → Grid) (values : List A) (i : ℕ) (start new : Grid) → length values ≤ i →
+    new ≡ fold merged start (map h (take i values))
     → new ≡ fold merged start (map h values)
 total_all h values i start new past e = e ∙ ap (λ vs. fold merged start (map h vs)) (take_all i values past)
 
 -- rectangles that aren't empty and have the same places are one
-same_rect : (r s : Rect) → 0 < r.w → 0 < r.h → 0 < s.w → 0 < s.h → ((x y : ℕ) → HasPlace r x y → HasPlace s x y) → ((x y : ℕ) → HasPlace s x y → HasPlace r x y) → r ≡ s
+same_rect : (r s : Rect) → 0 < r.w → 0 < r.h → 0 < s.w → 0 < s.h → ((x y : ℕ) → HasPlace r x y → HasPlace s x y) →
+    ((x y : ℕ) → HasPlace s x y → HasPlace r x y) → r ≡ s
 same_rect r s a1 a2 a3 a4 to from =
     let a = to r.x r.y (omega arith, omega arith, omega arith, omega arith) in
     let b = to (r.x + r.w - 1) (r.y + r.h - 1) (omega arith, omega arith, omega arith, omega arith) in
@@ -172,13 +193,16 @@ same_count false true e = absurd (omega (arith, e))
 same_count false false e = refl
 
 -- a block with one part has its part of the rectangle
-one_part : PartsCut → PartsFit → (image : Dim) (channels : ℕ) (k q : SumKey) → 0 < k.level → SumFitsIn image channels k → sums_below k ≡ q ∷ [] → part_in image q ≡ part_in image k
+one_part : PartsCut → PartsFit → (image : Dim) (channels : ℕ) (k q : SumKey) → 0 < k.level → SumFitsIn image channels k →
+    sums_below k ≡ q ∷ [] → part_in image q ≡ part_in image k
 one_part cut fit image channels k q above fits is =
     let r = part_in image q in
     let s = part_in image k in
-    let own : SumFitsIn image channels q = All-get_or (SumFitsIn image channels) (q ∷ []) 0 q (omega arith) (subst (All (SumFitsIn image channels)) is (fit image channels k above fits)) in
+    let own : SumFitsIn image channels q = All-get_or (SumFitsIn image channels) (q ∷ []) 0 q (omega arith)
+    (subst (All (SumFitsIn image channels)) is (fit image channels k above fits)) in
     let counts : (x y : ℕ) → count_by (λ t. has_place t x y) (r ∷ []) ≡ (if has_place s x y then 1 else 0) =
-    λ x y. subst (λ (ks : List SumKey). count_by (λ t. has_place t x y) (map (part_in image) ks) ≡ (if has_place s x y then 1 else 0)) is (cut image k above fits.block x y) in
+    λ x y. subst (λ (ks : List SumKey). count_by (λ t. has_place t x y) (map (part_in image) ks) ≡ (if has_place s x y then 1 else 0)) is
+    (cut image k above fits.block x y) in
     let test : (x y : ℕ) → has_place r x y ≡ has_place s x y =
     λ x y. same_count (has_place r x y) (has_place s x y) (sym (counted (λ (t : Rect). has_place t x y) r []) ∙ counts x y) in
     same_rect r s own.block.meets.columns own.block.meets.rows fits.block.meets.columns fits.block.meets.rows
@@ -193,14 +217,17 @@ one_of (q ∷ p ∷ ks) e = absurd (omega (arith, e))
 first_is : {A B C : Type 0} (h : B → C) (f : A → C) (v : B) (q : A) (ks : List A) → map h (v ∷ []) ≡ map f ks → ks ≡ q ∷ [] → h v ≡ f q
 first_is {A} {B} {C} h f v q ks alike is = ap (λ (cs : List C). get_or cs 0 (h v)) (alike ∙ ap (λ (l : List A). map f l) is)
 
-one_below : (image : Dim) (k : SumKey) (v : Arc SumVal Global) → ArePlaces image (sums_below k) (v ∷ []) → (q : SumKey) × (sums_below k ≡ q ∷ [])
-one_below image k v are = one_of (sums_below k) (sym (length-map (sums_below k) (places_in image)) ∙ ap (λ (rs : List Rect). length rs) (sym are))
+one_below : (image : Dim) (k : SumKey) (v : Arc SumVal Global) → ArePlaces image (sums_below k) (v ∷ []) → (q : SumKey) ×
+    (sums_below k ≡ q ∷ [])
+one_below image k v are = one_of (sums_below k)
+    (sym (length-map (sums_below k) (places_in image)) ∙ ap (λ (rs : List Rect). length rs) (sym are))
 
 below_one : PartsAreBelow → (k q : SumKey) → 0 < k.level → sums_below k ≡ q ∷ [] → IsBelow k q
 below_one below k q above is = All-get_or (IsBelow k) (q ∷ []) 0 q (omega arith) (subst (All (IsBelow k)) is (below k above))
 
 -- so the value of its only part stands where its own does
-pub only_places : PartsCut → PartsFit → PartsAreBelow → (image : Dim) (channels : ℕ) (k : SumKey) (v : Arc SumVal Global) → 0 < k.level → SumFitsIn image channels k
+pub only_places : PartsCut → PartsFit → PartsAreBelow → (image : Dim) (channels : ℕ) (k : SumKey) (v : Arc SumVal Global) → 0 < k.level →
+    SumFitsIn image channels k
     → ArePlaces image (sums_below k) (v ∷ []) → (sums_in v).rect ≡ places_in image k
 only_places cut fit below image channels k v above fits are =
     let one = one_below image k v are in
@@ -212,15 +239,18 @@ only_places cut fit below image channels k v above fits are =
     ∙ ap (λ (r : Rect). places_of (sides_of k.rect) k.size r) (one_part cut fit image channels k q above fits one.1)
 
 -- and is its value
-pub only_value : PartsCut → PartsFit → PartsAreBelow → (shows : Pictures) (k : SumKey) (s : Shape) (v : Arc SumVal Global) → HasPicture shows k.name s → 0 < k.level
-    → SumFitsIn s.dim (channels_of s.kind) k → ArePlaces s.dim (sums_below k) (v ∷ []) → AreSums shows (sums_below k) (v ∷ []) → arc_value v ≡ sum_meaning shows k
+pub only_value : PartsCut → PartsFit → PartsAreBelow → (shows : Pictures) (k : SumKey) (s : Shape) (v : Arc SumVal Global) →
+    HasPicture shows k.name s → 0 < k.level
+    → SumFitsIn s.dim (channels_of s.kind) k → ArePlaces s.dim (sums_below k) (v ∷ []) → AreSums shows (sums_below k) (v ∷ []) →
+    arc_value v ≡ sum_meaning shows k
 only_value cut fit below shows k s v has above fits places are =
     let one = one_below s.dim k v places in
     let q = one.0 in
     let is = below_one below k q above one.1 in
     let p = named shows k.name in
     let image : s.dim ≡ dim_of p = ap (λ (u : Shape). u.dim) (sym has.shape) in
-    let part : part_in (dim_of p) q ≡ part_in (dim_of p) k = subst (λ (d : Dim). part_in d q ≡ part_in d k) image (one_part cut fit s.dim (channels_of s.kind) k q above fits one.1) in
+    let part : part_in (dim_of p) q ≡ part_in (dim_of p) k =
+    subst (λ (d : Dim). part_in d q ≡ part_in d k) image (one_part cut fit s.dim (channels_of s.kind) k q above fits one.1) in
     let sums : sums_in v ≡ sums_of (crop p k.rect) k.size (part_in (dim_of p) k) =
     first_is sums_in (λ x. (sum_meaning shows x).sums) v q (sums_below k) are one.1
     ∙ ap (λ (n : List ℕ). sums_of (crop (named shows n) q.rect) q.size (part_in (dim_of (named shows n)) q)) is.name
@@ -230,12 +260,14 @@ only_value cut fit below shows k s v has above fits places are =
     ap (λ (g : Grid). let u : SumVal = record { sums = g } in u) sums
 
 -- want of memory may always be told: where what was made wanted it too
-pub wanting : (gave : ReadFault → Bool) {V : Type 0} (made : Result V Fault) (f : Fault) → IfErr made (λ e. e ≡ NoMemory) → (f ≡ NoMemory) ⊎ (made ≡ Err f) → IsTrue (is_given gave f)
+pub wanting : (gave : ReadFault → Bool) {V : Type 0} (made : Result V Fault) (f : Fault) → IfErr made (λ e. e ≡ NoMemory) → (f ≡ NoMemory) ⊎
+    (made ≡ Err f) → IsTrue (is_given gave f)
 wanting gave made f want (inl is) = subst (λ (e : Fault). is_given gave e ≡ true) (sym is) refl
 wanting gave made f want (inr is) = subst (λ (e : Fault). is_given gave e ≡ true) (sym (IfErr-at_err (λ e. e ≡ NoMemory) is want)) refl
 
 -- a fault that was given, of a key that names something, is one of a load
-pub load_fault : (shows : Pictures) (edge : ℕ) (name : List ℕ) (own : ℕ) (fits_in : Shape → Type 0) (gave : ReadFault → Bool) (f : Fault) → NamesPart shows edge name own fits_in
+pub load_fault : (shows : Pictures) (edge : ℕ) (name : List ℕ) (own : ℕ) (fits_in : Shape → Type 0) (gave : ReadFault → Bool) (f : Fault) →
+    NamesPart shows edge name own fits_in
     → IsTrue (is_given gave f) → IsLoadFault shows edge name own fits_in gave f
 load_fault shows edge name own fits_in gave (Source g) names given = (names, given)
 load_fault shows edge name own fits_in gave NoMemory names given = names

@@ -35,7 +35,8 @@ pub record MayBeAsked (shows : Pictures) (s : Shape) (block : SumKey) (keys : Li
   pub fits : All (SumFitsIn s.dim (channels_of s.kind)) keys
 
 -- These are the values of parts of an image with this shape, in their order: what they mean where the image is trusted.
-pub record AreValuesOf (shows : Pictures) (s : Shape) (trusted : Type 0) (keys : List SumKey) (values : List (Arc SumVal Global)) : Type 0 where
-  pub meant : trusted → AreSums shows keys values
-  pub places : ArePlaces s.dim keys values
-  pub channels : All (λ x. (sums_in x).channels ≡ channels_of s.kind) values
+pub record AreValuesOf (shows : Pictures) (s : Shape) (trusted : Type 0) (keys : List SumKey) (values : List (Arc SumVal Global)) : Type 0
+  where
+    pub meant : trusted → AreSums shows keys values
+    pub places : ArePlaces s.dim keys values
+    pub channels : All (λ x. (sums_in x).channels ≡ channels_of s.kind) values

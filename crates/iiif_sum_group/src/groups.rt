@@ -96,8 +96,10 @@ impl<
     ) -> Result<SumVal, Fault>
         ensures meant { J.stable key.now.name → IsTrue J.honest → IfOk result (λ v. v ≡ sum_meaning J.pictures key.now) }
         ensures shaped { IfOk result (λ v. IsTrue (sum_is_shaped J.pictures key.now v)) }
-        ensures names { IfOk result (λ v. NamesPart J.pictures J.edge key.now.name key.now.edge (λ s. SumFitsIn s.dim (channels_of s.kind) key.now)) }
-        ensures fault { IfErr result (IsLoadFault J.pictures J.edge key.now.name key.now.edge (λ s. SumFitsIn s.dim (channels_of s.kind) key.now) (J.gave key.now.name)) }
+        ensures names { IfOk result (λ v. NamesPart J.pictures J.edge key.now.name key.now.edge
+            (λ s. SumFitsIn s.dim (channels_of s.kind) key.now)) }
+        ensures fault { IfErr result (IsLoadFault J.pictures J.edge key.now.name key.now.edge
+            (λ s. SumFitsIn s.dim (channels_of s.kind) key.now) (J.gave key.now.name)) }
         ensures counted { (own.old.tile.gets ≤ own.new.tile.gets) × (own.old.sum.gets ≤ own.new.sum.gets) }
         ensures parts { (own.new.tile.parts ≡ own.old.tile.parts) × (own.new.sum.parts ≡ own.old.sum.parts) }
     {
@@ -118,13 +120,16 @@ impl<
         key: &SumKey,
     ) -> Result<Receipt<SumKey, J, SumCalls<J>>, Fault>
         ensures outcome { IfOk result (λ r. IfSome (receipt_known r) (λ x. (arc_value x.key ≡ key.now)
-            × OutcomeIs (J.stable key.now.name) J.honest (sum_meaning J.pictures key.now) (sum_is_shaped J.pictures key.now) (J.gave key.now.name) x.outcome)) }
+            × OutcomeIs (J.stable key.now.name) J.honest (sum_meaning J.pictures key.now) (sum_is_shaped J.pictures key.now)
+            (J.gave key.now.name) x.outcome)) }
         ensures risen { OnOk result (own.old.sum.gets + 1 ≤ own.new.sum.gets) }
         ensures refused { OnErr result ((own.new.tile.gets ≡ own.old.tile.gets) × (own.new.sum.gets ≡ own.old.sum.gets)) }
         ensures counted { (own.old.tile.gets ≤ own.new.tile.gets) × (own.old.sum.gets ≤ own.new.sum.gets) }
         ensures parts { (own.new.tile.parts ≡ own.old.tile.parts) × (own.new.sum.parts ≡ own.old.sum.parts) }
-        ensures names { IfOk result (λ r. NamesPart J.pictures J.edge key.now.name key.now.edge (λ s. SumFitsIn s.dim (channels_of s.kind) key.now)) }
-        ensures fault { IfErr result (IsGetFault J.pictures J.edge key.now.name key.now.edge (λ s. SumFitsIn s.dim (channels_of s.kind) key.now)) }
+        ensures names { IfOk result (λ r. NamesPart J.pictures J.edge key.now.name key.now.edge
+            (λ s. SumFitsIn s.dim (channels_of s.kind) key.now)) }
+        ensures fault { IfErr result (IsGetFault J.pictures J.edge key.now.name key.now.edge
+            (λ s. SumFitsIn s.dim (channels_of s.kind) key.now)) }
     {
         let (_entry, shape) = self.tiles.images().image_of(key)?;
         self.part(rt, own, idle, &shape, key)
@@ -139,13 +144,16 @@ impl<
         key: &SumKey,
     ) -> Result<Receipt<SumKey, J, SumCalls<J>>, Fault>
         ensures outcome { IfOk result (λ r. IfSome (receipt_known r) (λ x. (arc_value x.key ≡ key.now)
-            × OutcomeIs (J.stable key.now.name) J.honest (sum_meaning J.pictures key.now) (sum_is_shaped J.pictures key.now) (J.gave key.now.name) x.outcome)) }
+            × OutcomeIs (J.stable key.now.name) J.honest (sum_meaning J.pictures key.now) (sum_is_shaped J.pictures key.now)
+            (J.gave key.now.name) x.outcome)) }
         ensures risen { OnOk result (own.old.sum.gets + 1 ≤ own.new.sum.gets) }
         ensures refused { OnErr result ((own.new.tile.gets ≡ own.old.tile.gets) × (own.new.sum.gets ≡ own.old.sum.gets)) }
         ensures counted { (own.old.tile.gets ≤ own.new.tile.gets) × (own.old.sum.gets ≤ own.new.sum.gets) }
         ensures parts { (own.new.tile.parts ≡ own.old.tile.parts) × (own.new.sum.parts ≡ own.old.sum.parts) }
-        ensures names { IfOk result (λ r. NamesPart J.pictures J.edge key.now.name key.now.edge (λ s. SumFitsIn s.dim (channels_of s.kind) key.now)) }
-        ensures fault { IfErr result (IsGetFault J.pictures J.edge key.now.name key.now.edge (λ s. SumFitsIn s.dim (channels_of s.kind) key.now)) }
+        ensures names { IfOk result (λ r. NamesPart J.pictures J.edge key.now.name key.now.edge
+            (λ s. SumFitsIn s.dim (channels_of s.kind) key.now)) }
+        ensures fault { IfErr result (IsGetFault J.pictures J.edge key.now.name key.now.edge
+            (λ s. SumFitsIn s.dim (channels_of s.kind) key.now)) }
     {
         let (_entry, shape) = self.tiles.images().image_of(key)?;
         match self.sums.begin_local(rt, &mut own.sum, key) {

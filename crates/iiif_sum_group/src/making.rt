@@ -1,6 +1,7 @@
 //! How sums are made of their parts.
 
-ghost use Rattle.std.specs.Prelude.{◌≡◌, ◌⊎◌, ◌+◌, ◌<◌, ◌≤◌, ◌++◌, ◌∷◌, [], All, Err, IfErr, IfOk, IfSome, IsTrue, Ok, OnErr, OnOk, fold, length, map};
+ghost use Rattle.std.specs.Prelude.{◌≡◌, ◌⊎◌, ◌+◌, ◌<◌, ◌≤◌, ◌++◌, ◌∷◌, [], All, Err, IfErr, IfOk, IfSome, IsTrue, Ok, OnErr, OnOk, fold};
+ghost use Rattle.std.specs.Prelude.{length, map};
 ghost use denote.Param.Send.{IsSync};
 ghost use Rattle.std.specs.Arc.{arc_value};
 ghost use Rattle.std.specs.Result.{ForErr, ForOk};
@@ -78,7 +79,8 @@ fn total(
 ) -> Result<SumVal, Fault>
     requires block { IsOfBlock shape.now.dim key.now }
     requires channels { All (λ x. (sums_in x).channels ≡ channels_of shape.now.kind) values.now }
-    ensures sums { IfOk result (λ v. v.sums ≡ fold merged (no_sums shape.now.dim (channels_of shape.now.kind) key.now) (map sums_in values.now)) }
+    ensures sums { IfOk result (λ v. v.sums ≡ fold merged (no_sums shape.now.dim (channels_of shape.now.kind) key.now)
+        (map sums_in values.now)) }
     ensures places { IfOk result (λ v. (v.sums.rect ≡ places_in shape.now.dim key.now) × (v.sums.channels ≡ channels_of shape.now.kind)) }
     ensures fault { IfErr result (λ f. f ≡ Fault.NoMemory) }
 {
@@ -144,7 +146,8 @@ impl<
         requires shaped { ForOk made (λ v. IsTrue (sum_is_shaped J.pictures key.now (arc_value v))) }
         requires given { ForErr made (λ f. IsTrue (is_given (J.gave key.now.name) f)) }
         ensures { IfSome (receipt_known result) (λ x. (arc_value x.key ≡ key.now)
-            × OutcomeIs (J.stable key.now.name) J.honest (sum_meaning J.pictures key.now) (sum_is_shaped J.pictures key.now) (J.gave key.now.name) x.outcome) }
+            × OutcomeIs (J.stable key.now.name) J.honest (sum_meaning J.pictures key.now) (sum_is_shaped J.pictures key.now)
+            (J.gave key.now.name) x.outcome) }
     {
         self.sums.complete(rt, load, key, made).receipt
     }
@@ -259,14 +262,16 @@ impl<
             rt,
             &mut || -> Result<Vec<Arc<SumVal>>, Fault>
                 requires { IsSync R.row × (length front.now ≤ 3) × MayBeAsked J.pictures shape.now key.now front.now }
-                ensures values { IfOk result (λ v. AreValuesOf J.pictures shape.entry.now (J.stable key.entry.now.name × IsTrue J.honest) front.entry.now v.items) }
+                ensures values { IfOk result (λ v.
+                    AreValuesOf J.pictures shape.entry.now (J.stable key.entry.now.name × IsTrue J.honest) front.entry.now v.items) }
                 ensures given { IfErr result (λ f. IsTrue (is_given (J.gave key.entry.now.name) f)) }
                 ensures counted { (own.entry.now.tile.gets ≤ own.exit.now.tile.gets) × (own.entry.now.sum.gets ≤ own.exit.now.sum.gets) }
                 ensures parts { (own.exit.now.tile.parts ≡ own.entry.now.tile.parts) × (own.exit.now.sum.parts ≡ own.entry.now.sum.parts) }
             { self.values(rt, own, idle, shape, key, front) },
             &mut || -> Result<Vec<Arc<SumVal>>, Fault>
                 requires { IsSync R.row × MayBeAsked J.pictures shape.now key.now back.now }
-                ensures values { IfOk result (λ v. AreValuesOf J.pictures shape.entry.now (J.stable key.entry.now.name × IsTrue J.honest) back.entry.now v.items) }
+                ensures values { IfOk result (λ v.
+                    AreValuesOf J.pictures shape.entry.now (J.stable key.entry.now.name × IsTrue J.honest) back.entry.now v.items) }
                 ensures given { IfErr result (λ f. IsTrue (is_given (J.gave key.entry.now.name) f)) }
             { self.helped(rt, &mut helper, idle, shape, key, back) },
         );
@@ -344,7 +349,8 @@ impl<
         requires source { IsSource (named J.pictures key.now.name) }
         requires fits { SumFitsIn shape.now.dim (channels_of shape.now.kind) key.now }
         ensures outcome { IfOk result (λ r. IfSome (receipt_known r) (λ x. (arc_value x.key ≡ key.now)
-            × OutcomeIs (J.stable key.now.name) J.honest (sum_meaning J.pictures key.now) (sum_is_shaped J.pictures key.now) (J.gave key.now.name) x.outcome)) }
+            × OutcomeIs (J.stable key.now.name) J.honest (sum_meaning J.pictures key.now) (sum_is_shaped J.pictures key.now)
+            (J.gave key.now.name) x.outcome)) }
         ensures fault { IfErr result (λ f. f ≡ Fault.NoMemory) }
         ensures risen { OnOk result (own.old.sum.gets + 1 ≤ own.new.sum.gets) }
         ensures refused { OnErr result ((own.new.tile.gets ≡ own.old.tile.gets) × (own.new.sum.gets ≡ own.old.sum.gets)) }

@@ -1,7 +1,8 @@
 -- What putting, evicting, entering, looking again and landing keep.
 use Rattle.std.specs.Prelude.{◌≡◌, ℕ, ◌+◌, ◌<◌, ◌≤◌, Bool, true, false, ◌&&◌, Option, Some, None, IsTrue, option_map, if◌then◌else◌}
 use Rattle.iiif_tables.specs.Cache.{Kept, Cache, Side, Each, IsCache, SameLimits, empty_cache, evict, kept_for, put, touch, without}
-use Rattle.iiif_tables.specs.Flights.{Entered, hit, joined, led, Flight, IsBook, Table, again, empty_book, empty_table, enter, has_ticket, land, same_class}
+use Rattle.iiif_tables.specs.Flights.{Entered, hit, joined, led, Flight, IsBook, Table, again, empty_book, empty_table, enter, has_ticket}
+use Rattle.iiif_tables.specs.Flights.{land, same_class}
 use Rattle.iiif_tables.specs.declared.table.Class.{Class}
 use Rattle.iiif_tables.specs.declared.table.Place.{Place}
 
@@ -57,14 +58,16 @@ module _ {K V : Type 0} (test : K × Kept V → Bool) where
 
     -- what a look-up finds passes, with the key of its entry, which is equal
     abbrev pub FoundPasses : Type 0
-    FoundPasses = (k : K) (c : Cache K V) → AllPass c → (e : Kept V) → kept_for eq k c ≡ Some e → (q : K) × (eq k q ≡ true) × IsTrue (test (q, e))
+    FoundPasses = (k : K) (c : Cache K V) → AllPass c → (e : Kept V) → kept_for eq k c ≡ Some e → (q : K) × (eq k q ≡ true) ×
+        IsTrue (test (q, e))
 
   module _ (size : K → V → ℕ) where
     abbrev pub EvictKeepsEach : Type 0
     EvictKeepsEach = (c : Cache K V) → AllPass c → AllPass (evict size c)
 
     abbrev pub PutKeepsEach : (K → K → Bool) → Type 0
-    PutKeepsEach eq = (side : Side) (k : K) (e : Kept V) (c : Cache K V) → IsTrue (test (k, e)) → AllPass c → AllPass (put size eq side k e c)
+    PutKeepsEach eq = (side : Side) (k : K) (e : Kept V) (c : Cache K V) → IsTrue (test (k, e)) → AllPass c →
+        AllPass (put size eq side k e c)
 
     abbrev pub LandKeepsEach : (K → K → Bool) → Type 0
     LandKeepsEach eq = (keep : Bool) (class : Class) (k : K) (n : ℕ) (value : Option V) (place : Place) (t : Table K V)
@@ -77,11 +80,13 @@ EmptyIsBook = IsBook 0 empty_book
 
 module _ {K : Type 0} (V : Type 0) (eq : K → K → Bool) where
   abbrev pub EnterLeavesBook : Type 0
-  EnterLeavesBook = (class : Class) (k : K) (t : Table K V) → IsBook t.aloft t.book → IsBook (enter eq class k t).1.aloft (enter eq class k t).1.book
+  EnterLeavesBook = (class : Class) (k : K) (t : Table K V) → IsBook t.aloft t.book →
+      IsBook (enter eq class k t).1.aloft (enter eq class k t).1.book
 
   -- looking again counts nothing
   abbrev pub AgainCountsNothing : Type 0
-  AgainCountsNothing = (class : Class) (k : K) (n : ℕ) (t : Table K V) → ((again eq class k n t).1.book ≡ t.book) × ((again eq class k n t).1.aloft ≡ t.aloft)
+  AgainCountsNothing = (class : Class) (k : K) (n : ℕ) (t : Table K V) → ((again eq class k n t).1.book ≡ t.book) ×
+      ((again eq class k n t).1.aloft ≡ t.aloft)
 
 -- so after a landing, where a flight that is open is one of those that are aloft
 abbrev pub LandLeavesBook : {K V : Type 0} → (K → K → Bool) → (K → V → ℕ) → Type 0
@@ -113,11 +118,13 @@ OthersStay {K} eq class k old new = (c : Class) (q : K) → (same_class class c 
 module _ {K : Type 0} (V : Type 0) (eq : K → K → Bool) where
   abbrev pub EnterOpens : Type 0
   EnterOpens = (class : Class) (k : K) (t : Table K V)
-      → ((enter eq class k t).1.flights class k ≡ opened (enter eq class k t).0 (t.flights class k)) × OthersStay eq class k t (enter eq class k t).1
+      → ((enter eq class k t).1.flights class k ≡ opened (enter eq class k t).0 (t.flights class k)) ×
+      OthersStay eq class k t (enter eq class k t).1
 
   abbrev pub AgainMarks : Type 0
   AgainMarks = (class : Class) (k : K) (n : ℕ) (t : Table K V)
-      → ((again eq class k n t).1.flights class k ≡ marked (again eq class k n t).0 (t.flights class k)) × OthersStay eq class k t (again eq class k n t).1
+      → ((again eq class k n t).1.flights class k ≡ marked (again eq class k n t).0 (t.flights class k)) ×
+      OthersStay eq class k t (again eq class k n t).1
 
 abbrev pub LandCloses : {K V : Type 0} → (K → K → Bool) → (K → V → ℕ) → Type 0
 LandCloses {K} {V} eq size = (keep : Bool) (class : Class) (k : K) (n : ℕ) (value : Option V) (place : Place) (t : Table K V)
@@ -138,7 +145,8 @@ module _ {K : Type 0} (V : Type 0) (eq : K → K → Bool) where
 
   -- the one that a leading call is told is `leads` with one added, which `leads` is from then on
   abbrev pub EnterGivesNewTicket : Type 0
-  EnterGivesNewTicket = (class : Class) (k : K) (t : Table K V) (n : ℕ) → (enter eq class k t).0 ≡ led n → (n ≡ t.book.leads + 1) × ((enter eq class k t).1.book.leads ≡ n)
+  EnterGivesNewTicket = (class : Class) (k : K) (t : Table K V) (n : ℕ) → (enter eq class k t).0 ≡ led n → (n ≡ t.book.leads + 1) ×
+      ((enter eq class k t).1.book.leads ≡ n)
 
   -- and above that of each flight that was open
   abbrev pub EnterGivesNoOpenTicket : Type 0
@@ -162,13 +170,15 @@ LandKeepsLeads {K} {V} eq size = (keep : Bool) (class : Class) (k : K) (n : ℕ)
 -- Open flights of one ticket are at one place.
 module _ {K : Type 0} (eq : K → K → Bool) where
   abbrev pub TicketsDiffer : {V : Type 0} → Table K V → Type 0
-  TicketsDiffer t = (c d : Class) (p q : K) (f g : Flight) → t.flights c p ≡ Some f → t.flights d q ≡ Some g → f.ticket ≡ g.ticket → (same_class c d && eq p q) ≡ true
+  TicketsDiffer t = (c d : Class) (p q : K) (f g : Flight) → t.flights c p ≡ Some f → t.flights d q ≡ Some g → f.ticket ≡ g.ticket →
+      (same_class c d && eq p q) ≡ true
 
   abbrev pub EmptyTicketsDiffer : Type 0 → Type 0
   EmptyTicketsDiffer V = (limit room : ℕ) → TicketsDiffer {V = V} (empty_table limit room)
 
   abbrev pub EnterLetsTicketsDiffer : Type 0 → Type 0
-  EnterLetsTicketsDiffer V = (class : Class) (k : K) (t : Table K V) → TicketsAreCounted t → TicketsDiffer t → TicketsDiffer (enter eq class k t).1
+  EnterLetsTicketsDiffer V = (class : Class) (k : K) (t : Table K V) → TicketsAreCounted t → TicketsDiffer t →
+      TicketsDiffer (enter eq class k t).1
 
   abbrev pub AgainLetsTicketsDiffer : Type 0 → Type 0
   AgainLetsTicketsDiffer V = (class : Class) (k : K) (n : ℕ) (t : Table K V) → TicketsDiffer t → TicketsDiffer (again eq class k n t).1

@@ -2,7 +2,13 @@
 
 ghost use Rattle.std.specs.Prelude.{ℕ, Bool};
 ghost use Rattle.iiif_tables.specs.Cache.{Kept};
-ghost use Rattle.iiif_tables.specs.Laws.{AgainCountsNothing, AgainCountsTickets, AgainKeepsEach, AgainLeavesCache, AgainLetsTicketsDiffer, AgainMarks, EmptyCountsTickets, EmptyIsBook, EmptyIsCache, EmptyTicketsDiffer, EnterCountsTickets, EnterGivesNewTicket, EnterGivesNoOpenTicket, EnterKeepsEach, EnterKeepsLeads, EnterLeavesBook, EnterLeavesCache, EnterLetsTicketsDiffer, EnterOpens, EvictKeepsEach, EvictLeavesCache, FoundPasses, LandCloses, LandCountsTickets, LandKeepsEach, LandKeepsLeads, LandLeavesBook, LandLeavesCache, LandLetsTicketsDiffer, PutKeepsEach, PutLeavesCache, TouchKeepsEach, TouchLeavesCache, WithoutKeepsEach, WithoutLeavesCache};
+ghost use Rattle.iiif_tables.specs.Laws.{AgainCountsNothing, AgainCountsTickets, AgainKeepsEach, AgainLeavesCache, AgainLetsTicketsDiffer};
+ghost use Rattle.iiif_tables.specs.Laws.{AgainMarks, EmptyCountsTickets, EmptyIsBook, EmptyIsCache, EmptyTicketsDiffer, EnterCountsTickets};
+ghost use Rattle.iiif_tables.specs.Laws.{EnterGivesNewTicket, EnterGivesNoOpenTicket, EnterKeepsEach, EnterKeepsLeads, EnterLeavesBook};
+ghost use Rattle.iiif_tables.specs.Laws.{EnterLeavesCache, EnterLetsTicketsDiffer, EnterOpens, EvictKeepsEach, EvictLeavesCache};
+ghost use Rattle.iiif_tables.specs.Laws.{FoundPasses, LandCloses, LandCountsTickets, LandKeepsEach, LandKeepsLeads, LandLeavesBook};
+ghost use Rattle.iiif_tables.specs.Laws.{LandLeavesCache, LandLetsTicketsDiffer, PutKeepsEach, PutLeavesCache, TouchKeepsEach};
+ghost use Rattle.iiif_tables.specs.Laws.{TouchLeavesCache, WithoutKeepsEach, WithoutLeavesCache};
 
 /// So no key has two entries, the bytes are within the limit, and the lists within their room.
 pub fn caches_stay_within_limits<K: Eq, V>()

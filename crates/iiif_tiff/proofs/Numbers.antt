@@ -12,6 +12,7 @@ byte_behind : (xs : List ℕ) (at : ℕ) → get_or (drop at xs) 0 0 ≡ get_or 
 byte_behind xs at = get_or-drop at xs 0 0 ∙ ap (λ (k : ℕ). get_or xs k 0) (add-zero at)
 
 -- two bytes that are the same are the same number
-pub same_number : (o : Order) (xs ys : List ℕ) (a b : ℕ) → get_or xs a 0 ≡ get_or ys b 0 → get_or xs (a + 1) 0 ≡ get_or ys (b + 1) 0 → number o w16 xs a ≡ number o w16 ys b
+pub same_number : (o : Order) (xs ys : List ℕ) (a b : ℕ) → get_or xs a 0 ≡ get_or ys b 0 → get_or xs (a + 1) 0 ≡ get_or ys (b + 1) 0 →
+    number o w16 xs a ≡ number o w16 ys b
 same_number Little xs ys a b e f = rw (byte_behind xs a, byte_behind ys b, get_or-drop a xs 1 0, get_or-drop b ys 1 0, e, f) refl
 same_number Big xs ys a b e f = rw (byte_behind xs a, byte_behind ys b, get_or-drop a xs 1 0, get_or-drop b ys 1 0, e, f) refl

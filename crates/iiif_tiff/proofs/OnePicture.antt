@@ -1,5 +1,6 @@
 -- A file that passes the checks shows exactly one picture.
-use Rattle.std.proofs.Common.{◌≡◌, ℕ, ◌+◌, ◌*◌, ◌-◌, ◌/◌, ◌%◌, ◌≤◌, ◌^◌, Bool, true, false, List, All, None, length, drop, ◌⊎◌, refl, sym, ◌∙◌, inl, inr, ◌==◌, if◌then◌else◌, arith}
+use Rattle.std.proofs.Common.{◌≡◌, ℕ, ◌+◌, ◌*◌, ◌-◌, ◌/◌, ◌%◌, ◌≤◌, ◌^◌, Bool, true, false, List, All, None, length, drop, ◌⊎◌, refl, sym}
+use Rattle.std.proofs.Common.{◌∙◌, inl, inr, ◌==◌, if◌then◌else◌, arith}
 use Rattle.std.specs.Prelude.{slice_index}
 use Rattle.std.specs.Int.{w16}
 use Rattle.std.proofs.lemmas.Nat.{mod_below}
@@ -9,7 +10,8 @@ use Rattle.std.proofs.lemmas.List.Elements.{All-get_or}
 use Rattle.iiif_pixel.specs.Picture.{picture_of}
 use Rattle.iiif_pixel.proofs.SampleLists.{sample_at-picture_of, same_pictures}
 use Rattle.iiif_pixel.proofs.Whole.{whole_picture_of}
-use Rattle.iiif_tiff.specs.Tiff.{Order, Little, Big, Scheme, scheme, number, width, height, channels, bits, white_of, stored, stored_sample, sample_of, shown, ShowsOnePicture, refusal_of}
+use Rattle.iiif_tiff.specs.Tiff.{Order, Little, Big, Scheme, scheme, number, width, height, channels, bits, white_of, stored}
+use Rattle.iiif_tiff.specs.Tiff.{stored_sample, sample_of, shown, ShowsOnePicture, refusal_of}
 use Rattle.iiif_tiff.proofs.Passing.{channels_pass}
 
 byte_at : (bytes : List ℕ) → All (λ b. b ≤ 255) bytes → (i : ℕ) → slice_index bytes i ≤ 255
@@ -22,21 +24,24 @@ byte_behind : (bytes : List ℕ) (at i : ℕ) → All (λ b. b ≤ 255) bytes �
 byte_behind bytes at i all = rw (get_or-drop at bytes i 0) (byte_at bytes all (at + i))
 
 pub stored-le : (bits : ℕ) (bytes : List ℕ) (row n : ℕ) → All (λ b. b ≤ 255) bytes → stored bits bytes row n ≤ 255
-stored-le bits bytes row n all = elim (bits == 8) as (λ b. (if b then slice_index bytes (row + n) else 255 * (slice_index bytes (row + n / 8) / 2 ^ (7 - n % 8) % 2)) ≤ 255) [
-  | true ↦ byte_at bytes all (row + n)
-  | false ↦ omega (arith, mod_below (slice_index bytes (row + n / 8) / 2 ^ (7 - n % 8)) 2 (omega arith))
-]
+stored-le bits bytes row n all = elim (bits == 8) as
+    (λ b. (if b then slice_index bytes (row + n) else 255 * (slice_index bytes (row + n / 8) / 2 ^ (7 - n % 8) % 2)) ≤ 255) [
+      | true ↦ byte_at bytes all (row + n)
+      | false ↦ omega (arith, mod_below (slice_index bytes (row + n / 8) / 2 ^ (7 - n % 8)) 2 (omega arith))
+    ]
 
 -- two bytes are a number of 16 bits
 number-le : (o : Order) (bytes : List ℕ) (at : ℕ) → All (λ b. b ≤ 255) bytes → number o w16 bytes at ≤ 65535
 number-le Little bytes at all = omega (arith, byte_behind bytes at 0 all, byte_behind bytes at 1 all)
 number-le Big bytes at all = omega (arith, byte_behind bytes at 0 all, byte_behind bytes at 1 all)
 
-stored_sample-le : (o : Order) (bits : ℕ) (bytes : List ℕ) (row n : ℕ) → All (λ b. b ≤ 255) bytes → stored_sample o bits bytes row n ≤ white_of bits
-stored_sample-le o bits bytes row n all = elim (bits == 16) as (λ b. (if b then number o w16 bytes (row + 2 * n) else stored bits bytes row n) ≤ (if b then 65535 else 255)) [
-  | true ↦ number-le o bytes (row + 2 * n) all
-  | false ↦ stored-le bits bytes row n all
-]
+stored_sample-le : (o : Order) (bits : ℕ) (bytes : List ℕ) (row n : ℕ) → All (λ b. b ≤ 255) bytes →
+    stored_sample o bits bytes row n ≤ white_of bits
+stored_sample-le o bits bytes row n all = elim (bits == 16) as
+    (λ b. (if b then number o w16 bytes (row + 2 * n) else stored bits bytes row n) ≤ (if b then 65535 else 255)) [
+      | true ↦ number-le o bytes (row + 2 * n) all
+      | false ↦ stored-le bits bytes row n all
+    ]
 
 one_of : (b : Bool) (m n : ℕ) → ((if b then m else n) ≡ n) ⊎ ((if b then m else n) ≡ m)
 one_of true m n = inr refl
@@ -62,7 +67,8 @@ one_picture bytes all passes =
     let h = height bytes in
     let c = channels bytes in
     let t = white_of (bits bytes) in
-    let whole = whole_picture_of w h c t f (channels_pass bytes passes) (white_is (bits bytes)) (λ x y k lx ly lk. shown-le bytes (scheme bytes) x y k all) in (
+    let whole = whole_picture_of w h c t f (channels_pass bytes passes) (white_is (bits bytes))
+    (λ x y k lx ly lk. shown-le bytes (scheme bytes) x y k all) in (
       picture_of w h c t f,
       record {
         width_is = refl;
@@ -73,5 +79,7 @@ one_picture bytes all passes =
         places = λ x y k lx ly lk. sample_at-picture_of w h c t f x y k lx ly lk;
       },
       λ q shows. same_pictures q (picture_of w h c t f) shows.whole whole shows.width_is shows.height_is shows.channels_is shows.top_is
-          (λ x y k lx ly lk. shows.places x y k lx ly lk ∙ sym (sample_at-picture_of w h c t f x y k (rw (← shows.width_is) lx) (rw (← shows.height_is) ly) (rw (← shows.channels_is) lk))),
+          (λ x y k lx ly lk. shows.places x y k lx ly lk ∙
+          sym (sample_at-picture_of w h c t f x y k (rw (← shows.width_is) lx) (rw (← shows.height_is) ly)
+          (rw (← shows.channels_is) lk))),
     )

@@ -1,5 +1,6 @@
 -- What a file that passes the checks says.
-use Rattle.std.proofs.Common.{◌≡◌, ◌≢◌, ℕ, ◌*◌, ◌<◌, ◌^◌, ◌⊎◌, Bool, true, false, List, Option, Some, None, refl, sym, inl, inr, ltb, ◌==◌, ◌||◌, not, arith}
+use Rattle.std.proofs.Common.{◌≡◌, ◌≢◌, ℕ, ◌*◌, ◌<◌, ◌^◌, ◌⊎◌, Bool, true, false, List, Option, Some, None, refl, sym, inl, inr, ltb, ◌==◌}
+use Rattle.std.proofs.Common.{◌||◌, not, arith}
 use Rattle.std.proofs.lemmas.Bool.{eqb-true, eqb-false, ltb-false}
 use Rattle.iiif_tiff.specs.Tiff as tiff
 use Rattle.iiif_tiff.specs.Tiff.{Refusal, ◌<|>◌, line, channels, AcceptedIsReadable}
@@ -26,11 +27,14 @@ either_of false false e = inl (sym e)
 pub channels_pass : (bytes : List ℕ) → tiff.refusal_of bytes ≡ None → (channels bytes ≡ 1) ⊎ (channels bytes ≡ 3)
 unfolding tiff.refusal_of tiff.samples tiff.samples_per_pixel
 channels_pass bytes e =
-    let from_sides : tiff.sides bytes <|> tiff.samples bytes <|> tiff.grid bytes <|> tiff.pieces_fit bytes ≡ None = rest_passes (tiff.opening bytes) _ e in
-    let from_samples : tiff.samples bytes <|> tiff.grid bytes <|> tiff.pieces_fit bytes ≡ None = rest_passes (tiff.sides bytes) _ from_sides in
+    let from_sides : tiff.sides bytes <|> tiff.samples bytes <|> tiff.grid bytes <|> tiff.pieces_fit bytes ≡ None =
+    rest_passes (tiff.opening bytes) _ e in
+    let from_samples : tiff.samples bytes <|> tiff.grid bytes <|> tiff.pieces_fit bytes ≡ None =
+    rest_passes (tiff.sides bytes) _ from_sides in
     let samples : tiff.samples bytes ≡ None = first_passes (tiff.samples bytes) _ from_samples in
     let per_pixel : tiff.samples_per_pixel bytes ≡ None = first_passes (tiff.samples_per_pixel bytes) _ samples in
-    let values : line (channels bytes == 0) (tiff.BadField tiff.SamplesPerPixel) <|> line (not (channels bytes == 1 || channels bytes == 3)) (tiff.Unsupported tiff.SamplesPerPixel) ≡ None
+    let values : line (channels bytes == 0) (tiff.BadField tiff.SamplesPerPixel) <|> line (not (channels bytes == 1 || channels bytes == 3))
+    (tiff.Unsupported tiff.SamplesPerPixel) ≡ None
     = rest_passes (tiff.optional bytes tiff.SamplesPerPixel tiff.one) _ per_pixel in
     let last : line (not (channels bytes == 1 || channels bytes == 3)) (tiff.Unsupported tiff.SamplesPerPixel) ≡ None
     = rest_passes (line (channels bytes == 0) (tiff.BadField tiff.SamplesPerPixel)) _ values in
@@ -40,12 +44,14 @@ channels_pass bytes e =
     ]
 
 -- six lines between two checks
-lines_pass : (a b : Option Refusal) (p q r s t : Bool) (n m l : Refusal) → a <|> line p n <|> line q l <|> b <|> line r m <|> line s l <|> line t l ≡ None
+lines_pass : (a b : Option Refusal) (p q r s t : Bool) (n m l : Refusal) →
+    a <|> line p n <|> line q l <|> b <|> line r m <|> line s l <|> line t l ≡ None
     → (p ≡ false) × (q ≡ false) × (r ≡ false) × (s ≡ false) × (t ≡ false)
 lines_pass a b p q r s t n m l e =
     let width = rest_passes a (line p n <|> line q l <|> b <|> line r m <|> line s l <|> line t l) e in
     let most = rest_passes (line p n) (line q l <|> b <|> line r m <|> line s l <|> line t l) width in
-    let height = rest_passes b (line r m <|> line s l <|> line t l) (rest_passes (line q l) (b <|> line r m <|> line s l <|> line t l) most) in
+    let height = rest_passes b (line r m <|> line s l <|> line t l) (rest_passes (line q l) (b <|> line r m <|> line s l <|> line t l) most)
+    in
     let last = rest_passes (line r m) (line s l <|> line t l) height in (
       line_passes p n (first_passes _ _ width),
       line_passes q l (first_passes _ _ most),
@@ -65,7 +71,8 @@ readable bytes e =
     let sides : tiff.sides bytes ≡ None = first_passes (tiff.sides bytes) _ checks in
     let w = tiff.width bytes in
     let h = tiff.height bytes in
-    let no = lines_pass (tiff.needed bytes tiff.ImageWidth tiff.one) (tiff.needed bytes tiff.ImageLength tiff.one) (w == 0) (ltb 1000000 w) (h == 0) (ltb 1000000 h) (ltb (2 ^ 32) (w * h))
+    let no = lines_pass (tiff.needed bytes tiff.ImageWidth tiff.one) (tiff.needed bytes tiff.ImageLength tiff.one) (w == 0) (ltb 1000000 w)
+    (h == 0) (ltb 1000000 h) (ltb (2 ^ 32) (w * h))
     (tiff.BadField tiff.ImageWidth) (tiff.BadField tiff.ImageLength) tiff.TooLarge sides in
     record {
       width_some = positive w (eqb-false w 0 no.0);

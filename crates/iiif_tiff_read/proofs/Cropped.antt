@@ -15,7 +15,9 @@ use Rattle.iiif_tiff_read.specs.Code.{HoldsShown}
 abbrev same_picture : Picture → Picture → Type 0
 same_picture p q = p ≡ q
 
-pub cropped : (bytes samples : List ℕ) (s : Scheme) (r : Rect) (kind : Kind) (depth : Depth) (p : Picture) → Shows bytes p → s ≡ scheme bytes → channels_of kind ≡ s.channels → top_of depth ≡ white_of s.bits → LiesIn r (dim_of s) → length samples ≡ r.w * r.h * channels_of kind
+pub cropped : (bytes samples : List ℕ) (s : Scheme) (r : Rect) (kind : Kind) (depth : Depth) (p : Picture) → Shows bytes p →
+    s ≡ scheme bytes → channels_of kind ≡ s.channels → top_of depth ≡ white_of s.bits → LiesIn r (dim_of s) →
+    length samples ≡ r.w * r.h * channels_of kind
     → HoldsShown bytes s r samples
     → same_picture (raster_picture (record { w = r.w; h = r.h }) kind depth samples) (crop p r)
 unfolding crop_at
@@ -29,6 +31,7 @@ cropped bytes samples s r kind depth p shows s-is kind-is depth-is inside len re
     let there : r.y + y < p.height = omega (arith, inside.rows, h-is) in
     let channel : k < p.channels = omega (arith, c-is) in
     let channel' : k < s.channels = omega (arith, kind-is) in
-    ap (λ (c : ℕ). get_or samples ((y * r.w + x) * c + k) 0) kind-is ∙ read x y k xw yh channel' ∙ ap (λ (t : Scheme). shown bytes t (r.x + x) (r.y + y) k) s-is ∙ sym (shows.places (r.x + x) (r.y + y) k place there channel)) in
+    ap (λ (c : ℕ). get_or samples ((y * r.w + x) * c + k) 0) kind-is ∙ read x y k xw yh channel' ∙
+    ap (λ (t : Scheme). shown bytes t (r.x + x) (r.y + y) k) s-is ∙ sym (shows.places (r.x + x) (r.y + y) k place there channel)) in
     let top-is : p.top ≡ top_of depth = shows.top_is ∙ rw s-is refl ∙ sym depth-is in
     rw (samples-are, top-is, c-is) refl

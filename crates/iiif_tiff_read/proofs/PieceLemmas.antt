@@ -1,5 +1,6 @@
 -- Pieces of an image, checked one after the other.
-use Rattle.std.proofs.Common.{◌≡◌, ℕ, suc, ◌+◌, ◌*◌, ◌-◌, ◌<◌, ◌≤◌, Bool, List, map, get_or, leb, Option, Some, None, refl, sym, ap, ◌∙◌, arith}
+use Rattle.std.proofs.Common.{◌≡◌, ℕ, suc, ◌+◌, ◌*◌, ◌-◌, ◌<◌, ◌≤◌, Bool, List, map, get_or, leb, Option, Some, None, refl, sym, ap, ◌∙◌}
+use Rattle.std.proofs.Common.{arith}
 use Rattle.std.specs.Int.{div_ceil}
 use Rattle.std.specs.List.{range_with_len}
 use Rattle.std.specs.Prelude.{min, if◌then◌else◌}
@@ -18,21 +19,24 @@ use Rattle.iiif_tiff_read.specs.Faults.{IsOpenFault}
 use Rattle.iiif_tiff_read.specs.Code.{scheme_of}
 
 -- the checks that are left, from i on
-pub left_next : (p : ℕ → Option Refusal) (n i : ℕ) (total : Option Refusal) → i < n → p i ≡ None → first (map p (range_with_len i (n - i))) ≡ total → first (map p (range_with_len (i + 1) (n - (i + 1)))) ≡ total
+pub left_next : (p : ℕ → Option Refusal) (n i : ℕ) (total : Option Refusal) → i < n → p i ≡ None →
+    first (map p (range_with_len i (n - i))) ≡ total → first (map p (range_with_len (i + 1) (n - (i + 1)))) ≡ total
 unfolding first
 left_next p n i total lt passes left =
     let k : n - i ≡ suc (n - (i + 1)) = omega arith in
     let one : first (map p (range_with_len i (n - i))) ≡ first (map p (range_with_len (i + 1) (n - (i + 1)))) = rw (k, passes) refl in
     sym one ∙ left
 
-pub left_fails : (p : ℕ → Option Refusal) (n i : ℕ) (total : Option Refusal) (r : Refusal) → i < n → first (map p (range_with_len i (n - i))) ≡ total → p i ≡ Some r → total ≡ Some r
+pub left_fails : (p : ℕ → Option Refusal) (n i : ℕ) (total : Option Refusal) (r : Refusal) → i < n →
+    first (map p (range_with_len i (n - i))) ≡ total → p i ≡ Some r → total ≡ Some r
 unfolding first
 left_fails p n i total r lt left fails =
     let k : n - i ≡ suc (n - (i + 1)) = omega arith in
     let one : first (map p (range_with_len i (n - i))) ≡ Some r = rw (k, fails) refl in
     sym left ∙ one
 
-pub left_none : (p : ℕ → Option Refusal) (n i : ℕ) (total : Option Refusal) → n ≤ i → first (map p (range_with_len i (n - i))) ≡ total → total ≡ None
+pub left_none : (p : ℕ → Option Refusal) (n i : ℕ) (total : Option Refusal) → n ≤ i → first (map p (range_with_len i (n - i))) ≡ total →
+    total ≡ None
 unfolding first
 left_none p n i total le left =
     let k : n - i ≡ 0 = omega arith in
@@ -40,7 +44,8 @@ left_none p n i total le left =
     sym left ∙ one
 
 -- a fault of one check is a fault of all of them
-pub fault_of : (e : OpenFault) (P Q : Type 0) (gave : ReadFault → Bool) (a b : Option Refusal) → (P → Q) → (P → (r : Refusal) → a ≡ Some r → b ≡ Some r) → IsOpenFault Q gave a e → IsOpenFault P gave b e
+pub fault_of : (e : OpenFault) (P Q : Type 0) (gave : ReadFault → Bool) (a b : Option Refusal) → (P → Q) →
+    (P → (r : Refusal) → a ≡ Some r → b ≡ Some r) → IsOpenFault Q gave a e → IsOpenFault P gave b e
 fault_of faults.NotTiff P Q gave a b pq ab f = λ p. ab p _ (f (pq p))
 fault_of faults.Truncated P Q gave a b pq ab f = λ p. ab p _ (f (pq p))
 fault_of (faults.Missing t) P Q gave a b pq ab f = λ p. ab p _ (f (pq p))
@@ -51,23 +56,32 @@ fault_of (faults.Source s) P Q gave a b pq ab f = f
 fault_of faults.NoMemory P Q gave a b pq ab f = tt
 
 -- the bytes of a piece
-pub needed_is : (bytes : List ℕ) (d : Dim) (f : Format) (g : Grid) (i row n : ℕ) → IsKnown bytes d f g → row ≡ div_ceil (g.width * channels_of f.kind * f.bits) 8
+pub needed_is : (bytes : List ℕ) (d : Dim) (f : Format) (g : Grid) (i row n : ℕ) → IsKnown bytes d f g →
+    row ≡ div_ceil (g.width * channels_of f.kind * f.bits) 8
     → n ≡ (if g.tiled then g.height else min g.height (d.h - i * g.height)) * row → n ≡ tiff.piece_bytes (tiff.scheme bytes) i
 unfolding tiff.piece_bytes
 needed_is bytes d f g i row n known row-is n-is =
-    n-is ∙ rw (row-is, known.height_is, known.channels_is, known.bits_is, known.grid_is.tiled, known.grid_is.width, known.grid_is.height) refl
+    n-is ∙ rw (row-is, known.height_is, known.channels_is, known.bits_is, known.grid_is.tiled, known.grid_is.width, known.grid_is.height)
+    refl
 
 -- a number of the list
 pub number_is : (f : ℕ → ℕ) (xs : List ℕ) (n i : ℕ) → xs ≡ map f (range_with_len 0 n) → i < n → get_or xs i 0 ≡ f i
 number_is f xs n i xs-is lt = rw xs-is (get_or-map-range_with_len f 0 n i i 0 lt (omega arith))
 
 -- what the lists say of piece i
-pub piece_known : (bytes : List ℕ) (d : Dim) (f : Format) (g : Grid) (tag : ℕ) (offsets counts : List ℕ) (i row n : ℕ) → i < g.count → row ≡ div_ceil (g.width * channels_of f.kind * f.bits) 8
+pub piece_known : (bytes : List ℕ) (d : Dim) (f : Format) (g : Grid) (tag : ℕ) (offsets counts : List ℕ) (i row n : ℕ) → i < g.count →
+    row ≡ div_ceil (g.width * channels_of f.kind * f.bits) 8
     → n ≡ (if g.tiled then g.height else min g.height (d.h - i * g.height)) * row
-    → (IsKnown bytes d f g × (tag ≡ tiff.counts_tag bytes) × (offsets ≡ map (tiff.piece_offset bytes) (range_with_len 0 g.count)) × (counts ≡ map (tiff.piece_byte_count bytes) (range_with_len 0 g.count)))
-    → (tag ≡ tiff.counts_tag bytes) × (get_or offsets i 0 ≡ tiff.piece_offset bytes i) × (get_or counts i 0 ≡ tiff.piece_byte_count bytes i) × (n ≡ tiff.piece_bytes (tiff.scheme bytes) i)
-piece_known bytes d f g tag offsets counts i row n lt row-is n-is p =
-    (p.1, number_is (tiff.piece_offset bytes) offsets g.count i p.2 lt, number_is (tiff.piece_byte_count bytes) counts g.count i p.3 lt, needed_is bytes d f g i row n p.0 row-is n-is)
+    → (IsKnown bytes d f g × (tag ≡ tiff.counts_tag bytes) × (offsets ≡ map (tiff.piece_offset bytes) (range_with_len 0 g.count)) ×
+    (counts ≡ map (tiff.piece_byte_count bytes) (range_with_len 0 g.count)))
+    → (tag ≡ tiff.counts_tag bytes) × (get_or offsets i 0 ≡ tiff.piece_offset bytes i) ×
+    (get_or counts i 0 ≡ tiff.piece_byte_count bytes i) × (n ≡ tiff.piece_bytes (tiff.scheme bytes) i)
+piece_known bytes d f g tag offsets counts i row n lt row-is n-is p = (
+  p.1,
+  number_is (tiff.piece_offset bytes) offsets g.count i p.2 lt,
+  number_is (tiff.piece_byte_count bytes) counts g.count i p.3 lt,
+  needed_is bytes d f g i row n p.0 row-is n-is,
+)
 
 -- What the two lists are, by the bytes alone.
 pub record Lists (bytes : List ℕ) (g : Grid) (counts_tag : ℕ) (offsets counts : List ℕ) : Type 0 where
@@ -97,7 +111,8 @@ lists_are bytes d f g ot ct offsets counts known ot-is ct-is os cs =
       counts_are = cs.1 ∙ ap (λ (t : ℕ). first_values bytes t g.count) c;
     }
 
-pub needed_here : (d : Dim) (f : Format) (g : Grid) (offsets : List ℕ) (i row n : ℕ) → row ≡ div_ceil (g.width * channels_of f.kind * f.bits) 8
+pub needed_here : (d : Dim) (f : Format) (g : Grid) (offsets : List ℕ) (i row n : ℕ) →
+    row ≡ div_ceil (g.width * channels_of f.kind * f.bits) 8
     → n ≡ (if g.tiled then g.height else min g.height (d.h - i * g.height)) * row → tiff.piece_bytes (scheme_of d f g offsets) i ≡ n
 unfolding tiff.piece_bytes
 needed_here d f g offsets i row n row-is n-is = sym (n-is ∙ rw row-is refl)

@@ -21,22 +21,26 @@ no_row q m r e = rw e (omega arith)
 div_lt_ceil : (y h r : ℕ) → 0 < r → y < h → y / r < div_ceil h r
 div_lt_ceil y h r pos lt =
     elim (cases_lt 0 (h % r)) [
-      | inl more ↦ div_below y r (h / r + min 1 (h % r)) pos (omega (arith, div-add-mod' h r, mod_below h r pos, one_row (h / r) (min 1 (h % r)) r (omega arith)))
-      | inr none ↦ div_below y r (h / r + min 1 (h % r)) pos (omega (arith, div-add-mod' h r, no_row (h / r) (min 1 (h % r)) r (omega arith)))
+      | inl more ↦ div_below y r (h / r + min 1 (h % r)) pos
+          (omega (arith, div-add-mod' h r, mod_below h r pos, one_row (h / r) (min 1 (h % r)) r (omega arith)))
+      | inr none ↦ div_below y r (h / r + min 1 (h % r)) pos
+          (omega (arith, div-add-mod' h r, no_row (h / r) (min 1 (h % r)) r (omega arith)))
     ]
 
 across_one : (s : Scheme) → IsSound s → s.tiled ≡ false → s.tiles_across ≡ 1
 across_one s sound strips = sound.across ∙ rw (sound.strip strips) (one_piece s.width sound.sides.width_some)
 
 -- the piece of a place is one of the pieces
-pub piece_index : (s : Scheme) (x y : ℕ) → IsSound s → x < s.width → y < s.height → y / s.piece_height * s.tiles_across + x / s.piece_width < length s.offsets
+pub piece_index : (s : Scheme) (x y : ℕ) → IsSound s → x < s.width → y < s.height →
+    y / s.piece_height * s.tiles_across + x / s.piece_width < length s.offsets
 piece_index s x y sound xw yh =
     let column : x / s.piece_width < s.tiles_across = rw sound.across (div_lt_ceil x s.width s.piece_width sound.piece_width.0 xw) in
     let row : y / s.piece_height < div_ceil s.height s.piece_height = div_lt_ceil y s.height s.piece_height sound.piece_height.0 yh in
     rw sound.count (mul-add-lt (y / s.piece_height) s.tiles_across (x / s.piece_width) (div_ceil s.height s.piece_height) row column)
 
 -- n rows from row y on are rows of their piece
-rows_left : (s : Scheme) (x y n : ℕ) → IsSound s → x < s.width → y + n ≤ s.height → y % s.piece_height + n ≤ s.piece_height → y % s.piece_height + n ≤ piece_rows s (y / s.piece_height * s.tiles_across + x / s.piece_width)
+rows_left : (s : Scheme) (x y n : ℕ) → IsSound s → x < s.width → y + n ≤ s.height → y % s.piece_height + n ≤ s.piece_height →
+    y % s.piece_height + n ≤ piece_rows s (y / s.piece_height * s.tiles_across + x / s.piece_width)
 rows_left s x y n sound xw yh inside =
     let here : y / s.piece_height * s.piece_height + y % s.piece_height ≡ y = div-add-mod' y s.piece_height in
     elim (cases_Bool s.tiled) [
@@ -64,7 +68,8 @@ last_row n r some =
     ap (λ (k : ℕ). k * r) e ∙ omega arith
 
 -- the part's rows stand in the file, each whole
-pub part_in_file : (s : Scheme) (r : Rect) (p : Part) (n : ℕ) → IsSound s → FitsIn s n → IsPart s r p → row_place s (r.x + p.left) (r.y + p.top) + p.rows * row_bytes s ≤ n
+pub part_in_file : (s : Scheme) (r : Rect) (p : Part) (n : ℕ) → IsSound s → FitsIn s n → IsPart s r p →
+    row_place s (r.x + p.left) (r.y + p.top) + p.rows * row_bytes s ≤ n
 part_in_file s r p n sound fits part =
     let xw : r.x + p.left < s.width = omega (arith, part.inside.columns, part.columns, part.columns_some) in
     let yh : r.y + p.top + (p.rows - 1) < s.height = omega (arith, part.inside.rows, part.rows, part.rows_some) in
@@ -75,10 +80,13 @@ pub ceil_le : (a b : ℕ) → a ≤ b → div_ceil a 8 ≤ div_ceil b 8
 ceil_le a b le = omega arith
 
 -- and so many of its samples in a row
-pub part_in_row : (s : Scheme) (r : Rect) (p : Part) → IsPart s r p → div_ceil (((r.x + p.left) % s.piece_width * s.channels + p.columns * s.channels) * s.bits) 8 ≤ row_bytes s
+pub part_in_row : (s : Scheme) (r : Rect) (p : Part) → IsPart s r p →
+    div_ceil (((r.x + p.left) % s.piece_width * s.channels + p.columns * s.channels) * s.bits) 8 ≤ row_bytes s
 part_in_row s r p part =
-    let sum : (r.x + p.left) % s.piece_width * s.channels + p.columns * s.channels ≡ ((r.x + p.left) % s.piece_width + p.columns) * s.channels = omega arith in
-    rw sum (ceil_le (((r.x + p.left) % s.piece_width + p.columns) * s.channels * s.bits) (s.piece_width * s.channels * s.bits) (mul-le-mul_right s.bits (mul-le-mul_right s.channels part.piece_columns)))
+    let sum : (r.x + p.left) % s.piece_width * s.channels + p.columns * s.channels ≡ ((r.x + p.left) % s.piece_width + p.columns) *
+    s.channels = omega arith in
+    rw sum (ceil_le (((r.x + p.left) % s.piece_width + p.columns) * s.channels * s.bits) (s.piece_width * s.channels * s.bits)
+    (mul-le-mul_right s.bits (mul-le-mul_right s.channels part.piece_columns)))
 
 pub window_fits : (s : Scheme) (r : Rect) (p : Part) (c n : ℕ) → IsPart s r p → n ≡ r.w * r.h * c → FitsWindow (window_of c r p) n
 window_fits s r p c n part n-is =
@@ -109,7 +117,8 @@ piece_even s x y n pos le j lt =
     rw (row.0, row.1) (omega arith)
 
 -- and so do those of the piece below, where it begins where m rows end
-pub joined_even : (s : Scheme) (x y m d : ℕ) → 0 < s.piece_height → d ≤ s.piece_height → (y + m) % s.piece_height ≡ 0 → AreEven s x y m → row_place s x (y + m) ≡ row_place s x y + m * row_bytes s
+pub joined_even : (s : Scheme) (x y m d : ℕ) → 0 < s.piece_height → d ≤ s.piece_height → (y + m) % s.piece_height ≡ 0 → AreEven s x y m →
+    row_place s x (y + m) ≡ row_place s x y + m * row_bytes s
     → AreEven s x y (m + d)
 joined_even s x y m d pos le begins even joins j lt =
     elim (cases_lt j m) [
@@ -129,11 +138,15 @@ piece_ends y h k pos left =
     rw next (mod-mul-add (y / h + 1) h 0 pos)
 
 -- what is so of a column is so of each of its piece
-pub columns_even : (s : Scheme) (x d y n : ℕ) → 0 < s.piece_width → d < s.piece_width - x % s.piece_width → AreEven s x y n → AreEven s (x + d) y n
-columns_even s x d y n pos lt even j below = same_column s x d (y + j) pos lt ∙ even j below ∙ ap (λ (m : ℕ). m + j * row_bytes s) (sym (same_column s x d y pos lt))
+pub columns_even : (s : Scheme) (x d y n : ℕ) → 0 < s.piece_width → d < s.piece_width - x % s.piece_width → AreEven s x y n →
+    AreEven s (x + d) y n
+columns_even s x d y n pos lt even j below = same_column s x d (y + j) pos lt ∙ even j below ∙
+    ap (λ (m : ℕ). m + j * row_bytes s) (sym (same_column s x d y pos lt))
 
-stored_there : (s : Scheme) (bytes : List ℕ) (x y dx dy k : ℕ) → 0 < s.piece_width → dx < s.piece_width - x % s.piece_width → row_place s x (y + dy) ≡ row_place s x y + dy * row_bytes s
-    → stored_at bytes s (x + dx) (y + dy) k ≡ stored s.bits bytes (row_place s x y + dy * row_bytes s) (x % s.piece_width * s.channels + (dx * s.channels + k))
+stored_there : (s : Scheme) (bytes : List ℕ) (x y dx dy k : ℕ) → 0 < s.piece_width → dx < s.piece_width - x % s.piece_width →
+    row_place s x (y + dy) ≡ row_place s x y + dy * row_bytes s
+    → stored_at bytes s (x + dx) (y + dy) k ≡ stored s.bits bytes (row_place s x y + dy * row_bytes s)
+    (x % s.piece_width * s.channels + (dx * s.channels + k))
 unfolding stored_at
 stored_there s bytes x y dx dy k pw dxw row =
     let sample : (x % s.piece_width + dx) * s.channels + k ≡ x % s.piece_width * s.channels + (dx * s.channels + k) = omega arith in
@@ -147,14 +160,16 @@ Filled bytes s r top rows left samples = (x y k : ℕ) → x < r.w → k < s.cha
 flat : (w c x y k : ℕ) → (y * w + x) * c + k ≡ y * (w * c) + (x * c + k)
 flat w c x y k = grind arith
 
-flat_part : (w c x y k left top : ℕ) → left ≤ x → top ≤ y → (y * w + x) * c + k ≡ (top + (y - top)) * (w * c) + (left * c + ((x - left) * c + k))
+flat_part : (w c x y k left top : ℕ) → left ≤ x → top ≤ y →
+    (y * w + x) * c + k ≡ (top + (y - top)) * (w * c) + (left * c + ((x - left) * c + k))
 flat_part w c x y k left top lx ly =
     let xs : left + (x - left) ≡ x = omega arith in
     let ys : top + (y - top) ≡ y = omega arith in
     let q : left * c + ((x - left) * c + k) ≡ (left + (x - left)) * c + k = omega arith in
     rw (q, xs, ys) (flat w c x y k)
 
-pub filled_part : (bytes old new : List ℕ) (s : Scheme) (r : Rect) (p : Part) → IsSound s → IsPart s r p → HoldsPart bytes s r p new → KeepsOthers s r p old new
+pub filled_part : (bytes old new : List ℕ) (s : Scheme) (r : Rect) (p : Part) → IsSound s → IsPart s r p → HoldsPart bytes s r p new →
+    KeepsOthers s r p old new
     → Filled bytes s r p.top p.rows p.left old → Filled bytes s r p.top p.rows (p.left + p.columns) new
 filled_part bytes old new s r p sound part held rest so_far x y k xw kc (inl a) =
     let q : x * s.channels + k < r.w * s.channels = omega (arith, row_fits x s.channels r.w s.channels xw (omega arith)) in
@@ -170,11 +185,14 @@ filled_part bytes old new s r p sound part held rest so_far x y k xw kc (inr b) 
         | inr below ↦
             let dx : x - p.left < p.columns = omega (arith, b.1) in
             let dy : y - p.top < p.rows = omega (arith, b.0) in
-            let i : (x - p.left) * s.channels + k < p.columns * s.channels = omega (arith, row_fits (x - p.left) s.channels p.columns s.channels dx (omega arith)) in
+            let i : (x - p.left) * s.channels + k < p.columns * s.channels =
+            omega (arith, row_fits (x - p.left) s.channels p.columns s.channels dx (omega arith)) in
             let xs : r.x + p.left + (x - p.left) ≡ r.x + x = omega arith in
             let ys : r.y + p.top + (y - p.top) ≡ r.y + y = omega arith in
-            let there = stored_there s bytes (r.x + p.left) (r.y + p.top) (x - p.left) (y - p.top) k sound.piece_width.0 (omega (arith, part.piece_columns)) (part.even (y - p.top) dy) in
-            ap (λ (m : ℕ). get_or new m 0) (flat_part r.w s.channels x y k p.left p.top from below) ∙ held (y - p.top) ((x - p.left) * s.channels + k) dy i ∙ sym there
+            let there = stored_there s bytes (r.x + p.left) (r.y + p.top) (x - p.left) (y - p.top) k sound.piece_width.0
+            (omega (arith, part.piece_columns)) (part.even (y - p.top) dy) in
+            ap (λ (m : ℕ). get_or new m 0) (flat_part r.w s.channels x y k p.left p.top from below) ∙
+            held (y - p.top) ((x - p.left) * s.channels + k) dy i ∙ sym there
             ∙ ap (λ (m : ℕ). stored_at bytes s m (r.y + p.top + (y - p.top)) k) xs ∙ ap (λ (m : ℕ). stored_at bytes s (r.x + x) m k) ys
       ]
     ]

@@ -1,11 +1,13 @@
 -- The values of an entry, inside it or at its offset.
-use Rattle.std.proofs.Common.{◌≡◌, ℕ, ◌+◌, ◌*◌, ◌-◌, ◌<◌, ◌≤◌, List, [], ◌∷◌, ◌++◌, length, get_or, take, drop, map, Some, None, Bool, true, false, ltb, leb, cond, refl, sym, ap, ◌∙◌, arith}
+use Rattle.std.proofs.Common.{◌≡◌, ℕ, ◌+◌, ◌*◌, ◌-◌, ◌<◌, ◌≤◌, List, [], ◌∷◌, ◌++◌, length, get_or, take, drop, map, Some, None, Bool}
+use Rattle.std.proofs.Common.{true, false, ltb, leb, cond, refl, sym, ap, ◌∙◌, arith}
 use Rattle.std.specs.Int.{w32}
 use Rattle.std.specs.List.{range_with_len}
 use Rattle.std.specs.Prelude.{option_map, if◌then◌else◌}
 use Rattle.std.proofs.lemmas.Bool.{le-leb, lt-leb, le-ltb}
 use Rattle.std.proofs.lemmas.Nat.{row_fits}
-use Rattle.std.proofs.lemmas.List.{get_or-drop, get_or-take, take_rest, take-append-le, take-take, length-take, length-take-le, length-drop, length-append}
+use Rattle.std.proofs.lemmas.List.{get_or-drop, get_or-take, take_rest, take-append-le, take-take, length-take, length-take-le}
+use Rattle.std.proofs.lemmas.List.{length-drop, length-append}
 use Rattle.std.proofs.lemmas.List.FromFn.{map-range_with_len_more, length-map-range_with_len, get_or-map-range_with_len, fill_by_all}
 use Rattle.iiif_tiff.specs.Tiff.{Order, Little, Big, number, is_unsigned, size, width_of, values, offset, entry_fits}
 use Rattle.iiif_tiff.specs.Tiff as tiff
@@ -15,26 +17,44 @@ use Rattle.iiif_tiff_read.specs.Code.{code, first_values}
 
 pub same_on_range : (f g : ℕ → ℕ) (n : ℕ) → ((i : ℕ) → i < n → f i ≡ g i) → map f (range_with_len 0 n) ≡ map g (range_with_len 0 n)
 same_on_range f g n each =
-    let here : (k : ℕ) → k < n → get_or (map f (range_with_len 0 n)) k 0 ≡ g k = λ k lt. get_or-map-range_with_len f 0 n k k 0 lt (omega arith) ∙ each k lt in
+    let here : (k : ℕ) → k < n → get_or (map f (range_with_len 0 n)) k 0 ≡ g k = λ k lt.
+    get_or-map-range_with_len f 0 n k k 0 lt (omega arith) ∙ each k lt in
     fill_by_all g (map f (range_with_len 0 n)) n 0 (length-map-range_with_len f 0 n) here
 
 -- one more number
-pub one_more_number : (o : Order) (k : ℕ) (bytes items : List ℕ) (i x : ℕ) → items ≡ map (λ j. number o (width_of k) bytes (j * size k)) (range_with_len 0 i)
-    → x ≡ number o (width_of k) (take (length bytes - i * size k) (drop (i * size k) bytes)) 0 → items ++ x ∷ [] ≡ map (λ j. number o (width_of k) bytes (j * size k)) (range_with_len 0 (i + 1))
-one_more_number Little k bytes items i x so_far one = rw (so_far, one, take_rest bytes (i * size k)) (sym (map-range_with_len_more (λ (j : ℕ). number Little (width_of k) bytes (j * size k)) 0 i i (omega arith)))
-one_more_number Big k bytes items i x so_far one = rw (so_far, one, take_rest bytes (i * size k)) (sym (map-range_with_len_more (λ (j : ℕ). number Big (width_of k) bytes (j * size k)) 0 i i (omega arith)))
+pub one_more_number : (o : Order) (k : ℕ) (bytes items : List ℕ) (i x : ℕ) →
+    items ≡ map (λ j. number o (width_of k) bytes (j * size k)) (range_with_len 0 i)
+    → x ≡ number o (width_of k) (take (length bytes - i * size k) (drop (i * size k) bytes)) 0 →
+    items ++ x ∷ [] ≡ map (λ j. number o (width_of k) bytes (j * size k)) (range_with_len 0 (i + 1))
+one_more_number Little k bytes items i x so_far one =
+    rw (so_far, one, take_rest bytes (i * size k))
+    (sym (map-range_with_len_more (λ (j : ℕ). number Little (width_of k) bytes (j * size k)) 0 i i (omega arith)))
+one_more_number Big k bytes items i x so_far one =
+    rw (so_far, one, take_rest bytes (i * size k))
+    (sym (map-range_with_len_more (λ (j : ℕ). number Big (width_of k) bytes (j * size k)) 0 i i (omega arith)))
 
 byte_within : (xs : List ℕ) (m i j : ℕ) → i + j < m → get_or (drop i (take m xs)) j 0 ≡ get_or (drop i xs) j 0
 byte_within xs m i j lt = get_or-drop i (take m xs) j 0 ∙ get_or-take m xs (i + j) 0 lt ∙ sym (get_or-drop i xs j 0)
 
 -- a number that stands in the front of the bytes
-number_within : (t : FieldType) (o : Order) (xs : List ℕ) (m i : ℕ) → i + size (code t) ≤ m → number o (width_of (code t)) (take m xs) i ≡ number o (width_of (code t)) xs i
+number_within : (t : FieldType) (o : Order) (xs : List ℕ) (m i : ℕ) → i + size (code t) ≤ m →
+    number o (width_of (code t)) (take m xs) i ≡ number o (width_of (code t)) xs i
 number_within types.Byte Little xs m i le = rw (byte_within xs m i 0 (omega arith)) refl
 number_within types.Byte Big xs m i le = rw (byte_within xs m i 0 (omega arith)) refl
 number_within types.Short Little xs m i le = rw (byte_within xs m i 0 (omega arith), byte_within xs m i 1 (omega arith)) refl
 number_within types.Short Big xs m i le = rw (byte_within xs m i 0 (omega arith), byte_within xs m i 1 (omega arith)) refl
-number_within types.Long Little xs m i le = rw (byte_within xs m i 0 (omega arith), byte_within xs m i 1 (omega arith), byte_within xs m i 2 (omega arith), byte_within xs m i 3 (omega arith)) refl
-number_within types.Long Big xs m i le = rw (byte_within xs m i 0 (omega arith), byte_within xs m i 1 (omega arith), byte_within xs m i 2 (omega arith), byte_within xs m i 3 (omega arith)) refl
+number_within types.Long Little xs m i le = rw (
+  byte_within xs m i 0 (omega arith),
+  byte_within xs m i 1 (omega arith),
+  byte_within xs m i 2 (omega arith),
+  byte_within xs m i 3 (omega arith),
+) refl
+number_within types.Long Big xs m i le = rw (
+  byte_within xs m i 0 (omega arith),
+  byte_within xs m i 1 (omega arith),
+  byte_within xs m i 2 (omega arith),
+  byte_within xs m i 3 (omega arith),
+) refl
 
 unsigned_code : (t : FieldType) → is_unsigned (code t) ≡ true
 unsigned_code types.Byte = refl
@@ -49,35 +69,50 @@ kind_from a b false e = absurd cc
 pub kind_is : (t : FieldType) (k : ℕ) → option_map code (Some t) ≡ (if is_unsigned k then Some k else None) → k ≡ code t
 kind_is t k e = kind_from (code t) k (is_unsigned k) e
 
-pub all_inside : (bytes : List ℕ) (o : Order) (e : tiff.Entry) (t : FieldType) (tag n : ℕ) (items : List ℕ) → o ≡ tiff.order bytes → e.kind ≡ code t → e.count * size (code t) ≤ 4
-    → items ≡ map (λ i. number o (width_of (code t)) e.inside (i * size (code t))) (range_with_len 0 n) → (entry_fits bytes tag true e ≡ None) × (items ≡ values bytes e n)
+pub all_inside : (bytes : List ℕ) (o : Order) (e : tiff.Entry) (t : FieldType) (tag n : ℕ) (items : List ℕ) → o ≡ tiff.order bytes →
+    e.kind ≡ code t → e.count * size (code t) ≤ 4
+    → items ≡ map (λ i. number o (width_of (code t)) e.inside (i * size (code t))) (range_with_len 0 n) →
+    (entry_fits bytes tag true e ≡ None) × (items ≡ values bytes e n)
 unfolding entry_fits tiff.value
 all_inside bytes o e t tag n items o-is k-is le items-is =
     let inside : leb (e.count * size (code t)) 4 ≡ true = le-leb _ _ le in
-    let each : (i : ℕ) → i < n → number o (width_of (code t)) e.inside (i * size (code t)) ≡ tiff.value bytes e i = λ i below. rw (k-is, inside, ← o-is) refl in
-    (rw (k-is, unsigned_code t, inside) refl, items-is ∙ same_on_range (λ i. number o (width_of (code t)) e.inside (i * size (code t))) (tiff.value bytes e) n each)
+    let each : (i : ℕ) → i < n → number o (width_of (code t)) e.inside (i * size (code t)) ≡ tiff.value bytes e i = λ i below.
+    rw (k-is, inside, ← o-is) refl in (
+      rw (k-is, unsigned_code t, inside) refl,
+      items-is ∙
+          same_on_range (λ i. number o (width_of (code t)) e.inside (i * size (code t))) (tiff.value bytes e) n each,
+    )
 
-pub all_outside : (bytes : List ℕ) (o : Order) (e : tiff.Entry) (t : FieldType) (tag n off : ℕ) (items buffer : List ℕ) → o ≡ tiff.order bytes → e.kind ≡ code t → 4 < e.count * size (code t)
+pub all_outside : (bytes : List ℕ) (o : Order) (e : tiff.Entry) (t : FieldType) (tag n off : ℕ) (items buffer : List ℕ) →
+    o ≡ tiff.order bytes → e.kind ≡ code t → 4 < e.count * size (code t)
     → off ≡ number o w32 e.inside 0 → off + e.count * size (code t) ≤ length bytes → buffer ≡ take (n * size (code t)) (drop off bytes)
-    → items ≡ map (λ i. number o (width_of (code t)) buffer (i * size (code t))) (range_with_len 0 n) → (entry_fits bytes tag true e ≡ None) × (items ≡ values bytes e n)
+    → items ≡ map (λ i. number o (width_of (code t)) buffer (i * size (code t))) (range_with_len 0 n) →
+    (entry_fits bytes tag true e ≡ None) × (items ≡ values bytes e n)
 unfolding entry_fits tiff.value
 all_outside bytes o e t tag n off items buffer o-is k-is lt off-is fits buffer-is items-is =
     let outside : leb (e.count * size (code t)) 4 ≡ false = lt-leb _ _ lt in
     let at : off ≡ offset bytes e = off-is ∙ rw o-is refl in
     let whole : ltb (length bytes) (offset bytes e + e.count * size (code t)) ≡ false = le-ltb _ _ (omega arith) in
     let each : (i : ℕ) → i < n → number o (width_of (code t)) buffer (i * size (code t)) ≡ tiff.value bytes e i =
-    λ i below. rw (buffer-is, k-is, outside, ← at, ← o-is) (number_within t o (drop off bytes) (n * size (code t)) (i * size (code t)) (row_fits i (size (code t)) n (size (code t)) below (omega arith))) in
-    (rw (k-is, unsigned_code t, outside, whole) refl, items-is ∙ same_on_range (λ i. number o (width_of (code t)) buffer (i * size (code t))) (tiff.value bytes e) n each)
+    λ i below. rw (buffer-is, k-is, outside, ← at, ← o-is)
+    (number_within t o (drop off bytes) (n * size (code t)) (i * size (code t))
+    (row_fits i (size (code t)) n (size (code t)) below (omega arith))) in (
+      rw (k-is, unsigned_code t, outside, whole) refl,
+      items-is ∙
+          same_on_range (λ i. number o (width_of (code t)) buffer (i * size (code t))) (tiff.value bytes e) n each,
+    )
 
 -- the values of a field that is there
-pub of_field : (bytes : List ℕ) (tag n : ℕ) (e : tiff.Entry) → tiff.entry_of bytes tag ≡ Some e → values bytes e n ≡ first_values bytes tag n
+pub of_field : (bytes : List ℕ) (tag n : ℕ) (e : tiff.Entry) → tiff.entry_of bytes tag ≡ Some e →
+    values bytes e n ≡ first_values bytes tag n
 unfolding tiff.value_or first_values
 of_field bytes tag n e is =
     let here : (i : ℕ) → i < n → tiff.value bytes e i ≡ tiff.value_or bytes tag i 0 = λ i below. rw is refl in
     same_on_range (tiff.value bytes e) (λ i. tiff.value_or bytes tag i 0) n here
 
 -- the bytes of few values, read into the front of a buffer
-pub few_bytes : (buffer new file : List ℕ) (off n : ℕ) → new ≡ take (length (take n buffer)) (drop off file) → n ≤ length buffer → off + n ≤ length file → take n (new ++ drop n buffer) ≡ take n (drop off file)
+pub few_bytes : (buffer new file : List ℕ) (off n : ℕ) → new ≡ take (length (take n buffer)) (drop off file) → n ≤ length buffer →
+    off + n ≤ length file → take n (new ++ drop n buffer) ≡ take n (drop off file)
 few_bytes buffer new file off n new-is room fits =
     let read : new ≡ take n (drop off file) = new-is ∙ rw (length-take-le n buffer room) refl in
     let len : length new ≡ n = ap length read ∙ omega (arith, length-take n (drop off file), length-drop off file) in

@@ -1,5 +1,6 @@
 -- What the reader's own types stand for. Only private contracts and the layout's model cite these words.
-use Rattle.std.specs.Prelude.{◌≡◌, ◌≢◌, ℕ, ◌+◌, ◌-◌, ◌*◌, ◌/◌, ◌%◌, ◌<◌, ◌≤◌, ◌^◌, ◌⊎◌, Bool, IsTrue, false, List, length, map, slice_index, Option, Result, ◌==◌, if◌then◌else◌}
+use Rattle.std.specs.Prelude.{◌≡◌, ◌≢◌, ℕ, ◌+◌, ◌-◌, ◌*◌, ◌/◌, ◌%◌, ◌<◌, ◌≤◌, ◌^◌, ◌⊎◌, Bool, IsTrue, false, List, length, map}
+use Rattle.std.specs.Prelude.{slice_index, Option, Result, ◌==◌, if◌then◌else◌}
 use Rattle.std.specs.Int.{div_ceil}
 use Rattle.std.specs.List.{range_with_len}
 use Rattle.iiif_pixel.specs.Geometry.{channels_of, LiesIn}
@@ -56,12 +57,15 @@ AreTrue bytes f = Reads (bytes f.source.now) f.order f.entries.items
 
 -- The answer that fields give to a check of their file: a value where it applies nowhere, else its refusal, or a fault of
 -- the device, or want of memory; of a file with these fields, of which Known is known besides.
-abbrev pub TellsWhere : {R S X : Type 0} → (S → List ℕ) → (S → ReadFault → Bool) → Fields R S → (List ℕ → Type 0) → (List ℕ → Option Refusal) → (List ℕ → X → Type 0) → Result X OpenFault → Type 0
+abbrev pub TellsWhere : {R S X : Type 0} → (S → List ℕ) → (S → ReadFault → Bool) → Fields R S → (List ℕ → Type 0) →
+    (List ℕ → Option Refusal) → (List ℕ → X → Type 0) → Result X OpenFault → Type 0
 TellsWhere bytes gave f Known check Right result =
-    Answers (AreTrue bytes f × Known (bytes f.source.now)) (gave f.source.now) (check (bytes f.source.now)) (Right (bytes f.source.now)) result
+    Answers (AreTrue bytes f × Known (bytes f.source.now)) (gave f.source.now) (check (bytes f.source.now)) (Right (bytes f.source.now))
+    result
 
 -- the same, where nothing more has to be known
-abbrev pub Tells : {R S X : Type 0} → (S → List ℕ) → (S → ReadFault → Bool) → Fields R S → (List ℕ → Option Refusal) → (List ℕ → X → Type 0) → Result X OpenFault → Type 0
+abbrev pub Tells : {R S X : Type 0} → (S → List ℕ) → (S → ReadFault → Bool) → Fields R S → (List ℕ → Option Refusal) →
+    (List ℕ → X → Type 0) → Result X OpenFault → Type 0
 Tells bytes gave f check Right result =
     Answers (AreTrue bytes f) (gave f.source.now) (check (bytes f.source.now)) (Right (bytes f.source.now)) result
 
@@ -202,7 +206,8 @@ window_of c r p = record { width = r.w * c; left = p.left * c; top = p.top; colu
 -- The part's rows are those that are stored.
 abbrev pub HoldsPart : List ℕ → Scheme → Rect → Part → List ℕ → Type 0
 HoldsPart bytes s r p samples =
-    HoldsRows (λ j i. stored s.bits bytes (row_place s (r.x + p.left) (r.y + p.top) + j * row_bytes s) ((r.x + p.left) % s.piece_width * s.channels + i))
+    HoldsRows (λ j i. stored s.bits bytes (row_place s (r.x + p.left) (r.y + p.top) + j * row_bytes s)
+    ((r.x + p.left) % s.piece_width * s.channels + i))
     (window_of s.channels r p) p.rows samples
 
 -- Samples outside the part are as they were.
@@ -211,7 +216,9 @@ KeepsOthers s r p old new = KeepsRest (window_of s.channels r p) p.rows old new
 
 -- The rectangle's samples are those that are stored, and those that are shown.
 abbrev pub HoldsStored : List ℕ → Scheme → Rect → List ℕ → Type 0
-HoldsStored bytes s r samples = (x y k : ℕ) → x < r.w → y < r.h → k < s.channels → slice_index samples ((y * r.w + x) * s.channels + k) ≡ stored_at bytes s (r.x + x) (r.y + y) k
+HoldsStored bytes s r samples = (x y k : ℕ) → x < r.w → y < r.h → k < s.channels →
+    slice_index samples ((y * r.w + x) * s.channels + k) ≡ stored_at bytes s (r.x + x) (r.y + y) k
 
 abbrev pub HoldsShown : List ℕ → Scheme → Rect → List ℕ → Type 0
-HoldsShown bytes s r samples = (x y k : ℕ) → x < r.w → y < r.h → k < s.channels → slice_index samples ((y * r.w + x) * s.channels + k) ≡ shown bytes s (r.x + x) (r.y + y) k
+HoldsShown bytes s r samples = (x y k : ℕ) → x < r.w → y < r.h → k < s.channels →
+    slice_index samples ((y * r.w + x) * s.channels + k) ≡ shown bytes s (r.x + x) (r.y + y) k

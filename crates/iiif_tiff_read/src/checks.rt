@@ -4,7 +4,9 @@ ghost use Rattle.std.specs.Prelude.{◌≡◌, ◌≢◌, ◌+◌, ◌*◌, ◌^
 ghost use Rattle.std.specs.List.{list_all};
 ghost use Rattle.iiif_pixel.specs.Geometry.{channels_of, top_of};
 ghost use Rattle.iiif_tiff.specs.Tiff as tiff;
-ghost use Rattle.iiif_tiff.specs.Tiff.{IsReadable, sides, samples, samples_per_pixel, bits_per_sample, photometric, planar_configuration, extra_samples, sample_format, tile_side, value_or, width, height, channels, bits, white_is_zero, white_of};
+ghost use Rattle.iiif_tiff.specs.Tiff.{IsReadable, sides, samples, samples_per_pixel, bits_per_sample, photometric, planar_configuration};
+ghost use Rattle.iiif_tiff.specs.Tiff.{extra_samples, sample_format, tile_side, value_or, width, height, channels, bits, white_is_zero};
+ghost use Rattle.iiif_tiff.specs.Tiff.white_of;
 ghost use Rattle.iiif_tiff_read.specs.Code.{AreBits, endian, unit_bits, units_of, HasSides, IsNotMemory, Tells, TellsWhere};
 
 use crate::fault::OpenFault;
@@ -65,7 +67,9 @@ fn all_are(values: &[u32], value: u32) -> bool
 
 /// The bits that all samples have: eight, sixteen, or one where there is one channel.
 fn depth(bits: &[u32], channels: u32) -> Option<u32>
-    ensures { result ≡ (if list_all (λ v. v == 8) bits.now then Some 8 else (if list_all (λ v. v == 16) bits.now then Some 16 else (if channels == 1 && list_all (λ v. v == 1) bits.now then Some 1 else None))) }
+    ensures { result ≡ (if list_all (λ v. v == 8) bits.now then Some 8 else
+        (if list_all (λ v. v == 16) bits.now then Some 16 else
+        (if channels == 1 && list_all (λ v. v == 1) bits.now then Some 1 else None))) }
 {
     if all_are(bits, 8) {
         Some(8)
@@ -121,7 +125,8 @@ impl<'a, R, S: Source<R>> Fields<'a, R, S> {
     #[tactic(auto, unfolding(iiif_tiff::specs::Tiff::bits_per_sample))]
     fn bits_per_sample(&self, channels: u32) -> Result<u32, OpenFault>
         requires { channels ≤ 3 }
-        ensures bits { TellsWhere S.bytes S.gave self.now (λ file. S.keeps self.now.source.now × (channels ≡ tiff.channels file)) bits_per_sample
+        ensures bits { TellsWhere S.bytes S.gave self.now (λ file. S.keeps self.now.source.now × (channels ≡ tiff.channels file))
+            bits_per_sample
             (λ file n. n ≡ bits file) result }
         ensures bounds { IfOk result AreBits }
         ensures memory { IfErr result IsNotMemory }
@@ -177,7 +182,8 @@ impl<'a, R, S: Source<R>> Fields<'a, R, S> {
     #[tactic(auto, unfolding(iiif_tiff::specs::Tiff::sample_format))]
     fn sample_format(&self, channels: u32) -> Result<(), OpenFault>
         requires { channels ≤ 3 }
-        ensures answer { TellsWhere S.bytes S.gave self.now (λ file. S.keeps self.now.source.now × (channels ≡ tiff.channels file)) sample_format
+        ensures answer { TellsWhere S.bytes S.gave self.now (λ file. S.keeps self.now.source.now × (channels ≡ tiff.channels file))
+            sample_format
             (λ _ _. Unit {0}) result }
         ensures memory { IfErr result IsNotMemory }
     {
@@ -193,7 +199,8 @@ impl<'a, R, S: Source<R>> Fields<'a, R, S> {
     #[tactic(auto, unfolding(iiif_tiff::specs::Tiff::samples))]
     pub fn format(&self) -> Result<Format, OpenFault>
         ensures samples { TellsWhere S.bytes S.gave self.now (λ _. S.keeps self.now.source.now) samples
-            (λ file f. (channels_of f.kind ≡ channels file) × (f.bits ≡ bits file) × (endian f.order ≡ tiff.order file) × (f.white_is_zero ≡ white_is_zero file)) result }
+            (λ file f. (channels_of f.kind ≡ channels file) × (f.bits ≡ bits file) × (endian f.order ≡ tiff.order file) ×
+            (f.white_is_zero ≡ white_is_zero file)) result }
         ensures bounds { IfOk result (λ f. AreBits f.bits) }
         ensures memory { IfErr result IsNotMemory }
     {

@@ -1,9 +1,11 @@
 //! The fields of a file.
 
-ghost use Rattle.std.specs.Prelude.{◌≡◌, ◌+◌, ◌*◌, ◌≤◌, ℕ, List, length, option_map, find, ◌==◌, take, drop, IsTrue, IfOk, IfErr, nat_le, is_some, map};
+ghost use Rattle.std.specs.Prelude.{◌≡◌, ◌+◌, ◌*◌, ◌≤◌, ℕ, List, length, option_map, find, ◌==◌, take, drop, IsTrue, IfOk, IfErr, nat_le};
+ghost use Rattle.std.specs.Prelude.{is_some, map};
 ghost use Rattle.std.specs.Int.{w16, w32};
 ghost use Rattle.std.specs.List.{range_with_len};
-ghost use Rattle.iiif_tiff.specs.Tiff.{header, order, number, directory_fits, entries, entry_of, one, needed, optional, value_or, entry_fits, value, values, values_or, one_or, only, opening};
+ghost use Rattle.iiif_tiff.specs.Tiff.{header, order, number, directory_fits, entries, entry_of, one, needed, optional, value_or};
+ghost use Rattle.iiif_tiff.specs.Tiff.{entry_fits, value, values, values_or, one_or, only, opening};
 ghost use Rattle.iiif_tiff.specs.Tiff as tiff;
 ghost use Rattle.iiif_tiff_read.specs.Code.{endian, entry_view, entry_views, first_values, AreTrue, Reads, Tells, TellsWhere};
 ghost use Rattle.iiif_tiff_read.specs.Faults.{Answers};
@@ -112,7 +114,8 @@ fn decode_entries(
     count: u16,
 ) -> Result<Vec<Entry>, AllocError>
     requires { length bytes.now ≡ 12 * count }
-    ensures { IfOk result (λ v. (file : List ℕ) (start : ℕ) → endian order ≡ tiff.order file → bytes.now ≡ take (12 * count) (drop start file)
+    ensures { IfOk result (λ v. (file : List ℕ) (start : ℕ) → endian order ≡ tiff.order file →
+        bytes.now ≡ take (12 * count) (drop start file)
         → entry_views v.items ≡ map (λ k. tiff.entry file (start + 12 * k)) (range_with_len 0 count)) }
 {
     let mut entries = Vec::with_capacity(alloc, count as usize)?;
@@ -130,7 +133,8 @@ fn read_directory<R, S: Source<R>>(
     source: &S,
     header: Header,
 ) -> Result<Vec<Entry>, OpenFault>
-    ensures { Answers (S.keeps source.now × (endian header.order ≡ tiff.order (S.bytes source.now)) × (header.directory ≡ tiff.directory (S.bytes source.now))) (S.gave source.now) (directory_fits (S.bytes source.now))
+    ensures { Answers (S.keeps source.now × (endian header.order ≡ tiff.order (S.bytes source.now)) ×
+        (header.directory ≡ tiff.directory (S.bytes source.now))) (S.gave source.now) (directory_fits (S.bytes source.now))
         (λ v. entry_views v.items ≡ entries (S.bytes source.now)) result }
 {
     let len = source.len();
@@ -204,7 +208,8 @@ impl<'a, R, S: Source<R>> Fields<'a, R, S> {
     /// The only value of an entry with a tag.
     #[tactic(auto, unfolding(iiif_tiff::specs::Tiff::entry_fits, iiif_tiff::specs::Tiff::value))]
     fn only_value(&self, tag: u16, entry: Entry) -> Result<u32, OpenFault>
-        ensures answer { Tells S.bytes S.gave self.now (λ file. entry_fits file tag (one entry.count) (entry_view entry)) (λ file v. v ≡ value file (entry_view entry) 0) result }
+        ensures answer { Tells S.bytes S.gave self.now (λ file. entry_fits file tag (one entry.count) (entry_view entry))
+            (λ file v. v ≡ value file (entry_view entry) 0) result }
         ensures memory { IfErr result IsNotMemory }
     {
         match FieldType::of(entry.kind) {
@@ -249,7 +254,8 @@ impl<'a, R, S: Source<R>> Fields<'a, R, S> {
     ) -> Result<Vec<u32>, OpenFault>
         requires { IsTrue allowed → n ≤ entry.count }
         ensures length { IfOk result (λ v. length v.items ≡ n) }
-        ensures values { TellsWhere S.bytes S.gave self.now (λ _. S.keeps self.now.source.now) (λ file. entry_fits file tag allowed (entry_view entry))
+        ensures values { TellsWhere S.bytes S.gave self.now (λ _. S.keeps self.now.source.now)
+            (λ file. entry_fits file tag allowed (entry_view entry))
             (λ file v. v.items ≡ values file (entry_view entry) n) result }
     {
         let kind = match FieldType::of(entry.kind) {
@@ -278,7 +284,8 @@ impl<'a, R, S: Source<R>> Fields<'a, R, S> {
     #[tactic(auto, unfolding(iiif_tiff::specs::Tiff::entry_fits))]
     fn few_values(&self, tag: u16, entry: Entry, allowed: bool) -> Result<Few, OpenFault>
         requires { IsTrue allowed → entry.count ≤ 3 }
-        ensures values { TellsWhere S.bytes S.gave self.now (λ _. S.keeps self.now.source.now) (λ file. entry_fits file tag allowed (entry_view entry))
+        ensures values { TellsWhere S.bytes S.gave self.now (λ _. S.keeps self.now.source.now)
+            (λ file. entry_fits file tag allowed (entry_view entry))
             (λ file v. v ≡ values file (entry_view entry) entry.count) result }
         ensures memory { IfErr result IsNotMemory }
     {

@@ -39,7 +39,8 @@ impl Grid {
     /// The bytes of a piece: an edge tile is padded, and the last strip may be shorter.
     pub fn piece_bytes(&self, dim: Dim, row_bytes: u64, i: u32) -> u64
         requires { row_bytes ≤ 2 ^ 23 }
-        ensures bytes { result ≡ (if self.now.tiled then self.now.height else min self.now.height (dim.h - i * self.now.height)) * row_bytes }
+        ensures bytes { result ≡ (if self.now.tiled then self.now.height else min self.now.height (dim.h - i * self.now.height)) *
+            row_bytes }
         ensures bound { result ≤ 2 ^ 55 }
     {
         let height = self.height as u64;
@@ -60,7 +61,8 @@ impl<'a, R, S: Source<R>> Fields<'a, R, S> {
         ensures grid { TellsWhere S.bytes S.gave self.now (λ file. HasSides file dim × (tiff.is_tiled file ≡ true)) tiff.tile_grid
             IsGrid result }
         ensures bounds { IfOk result (λ g. (0 < g.width) × (g.width ≤ 2 ^ 20) × (0 < g.height) × (g.height ≤ 2 ^ 20) × (g.count ≤ 2 ^ 20)) }
-        ensures shape { IfOk result (λ g. (g.across ≡ div_ceil dim.w g.width) × (g.count ≡ g.across * div_ceil dim.h g.height) × (g.tiled ≡ false → g.width ≡ dim.w)) }
+        ensures shape { IfOk result (λ g. (g.across ≡ div_ceil dim.w g.width) × (g.count ≡ g.across * div_ceil dim.h g.height) ×
+            (g.tiled ≡ false → g.width ≡ dim.w)) }
         ensures memory { IfErr result IsNotMemory }
     {
         let width = self.tile_side(tag::TILE_WIDTH)?;
@@ -86,7 +88,8 @@ impl<'a, R, S: Source<R>> Fields<'a, R, S> {
         ensures grid { TellsWhere S.bytes S.gave self.now (λ file. HasSides file dim × (tiff.is_tiled file ≡ false)) tiff.strip_grid
             IsGrid result }
         ensures bounds { IfOk result (λ g. (0 < g.width) × (g.width ≤ 2 ^ 20) × (0 < g.height) × (g.count ≤ 2 ^ 20)) }
-        ensures shape { IfOk result (λ g. (g.across ≡ div_ceil dim.w g.width) × (g.count ≡ g.across * div_ceil dim.h g.height) × (g.tiled ≡ false → g.width ≡ dim.w)) }
+        ensures shape { IfOk result (λ g. (g.across ≡ div_ceil dim.w g.width) × (g.count ≡ g.across * div_ceil dim.h g.height) ×
+            (g.tiled ≡ false → g.width ≡ dim.w)) }
         ensures memory { IfErr result IsNotMemory }
     {
         let height = self.optional(tag::ROWS_PER_STRIP, u32::MAX)?;
@@ -109,7 +112,8 @@ impl<'a, R, S: Source<R>> Fields<'a, R, S> {
         ensures grid { TellsWhere S.bytes S.gave self.now (λ file. HasSides file dim) tiff.grid
             IsGrid result }
         ensures bounds { IfOk result (λ g. (0 < g.width) × (g.width ≤ 2 ^ 20) × (0 < g.height) × (g.count ≤ 2 ^ 20)) }
-        ensures shape { IfOk result (λ g. (g.across ≡ div_ceil dim.w g.width) × (g.count ≡ g.across * div_ceil dim.h g.height) × (g.tiled ≡ false → g.width ≡ dim.w)) }
+        ensures shape { IfOk result (λ g. (g.across ≡ div_ceil dim.w g.width) × (g.count ≡ g.across * div_ceil dim.h g.height) ×
+            (g.tiled ≡ false → g.width ≡ dim.w)) }
         ensures memory { IfErr result IsNotMemory }
     {
         if self.has(tag::TILE_WIDTH) {

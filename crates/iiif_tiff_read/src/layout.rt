@@ -67,7 +67,8 @@ impl Layout {
     ) -> Result<Raster, LoadFault>
         requires inside { LiesIn rect (dim_of self.now) }
         requires in_file { FitsIn self.now (length (S.bytes source.now)) }
-        ensures sides { IfOk result (λ r. (r.width ≡ rect.w) × (r.height ≡ rect.h) × (r.channels ≡ self.now.channels) × (r.top ≡ white_of self.now.bits)) }
+        ensures sides { IfOk result (λ r. (r.width ≡ rect.w) × (r.height ≡ rect.h) × (r.channels ≡ self.now.channels) ×
+            (r.top ≡ white_of self.now.bits)) }
         ensures crop { IfOk result (λ r. S.keeps source.now → self.now ≡ scheme (S.bytes source.now)
             → (p : Picture) → Shows (S.bytes source.now) p → r ≡ crop p rect) }
         ensures fault { IfErr result (IsLoadFault (S.gave source.now)) }

@@ -91,7 +91,8 @@ impl FieldType {
         n: u32,
     ) -> Result<Vec<u32>, AllocError>
         requires { n * size (code self) ≤ length bytes.now }
-        ensures numbers { IfOk result (λ v. v.items ≡ map (λ i. number (endian order) (width_of (code self)) bytes.now (i * size (code self))) (range_with_len 0 n)) }
+        ensures numbers { IfOk result (λ v. v.items ≡ map
+            (λ i. number (endian order) (width_of (code self)) bytes.now (i * size (code self))) (range_with_len 0 n)) }
         ensures length { IfOk result (λ v. length v.items ≡ n) }
     {
         let mut numbers = Vec::with_capacity(alloc, n as usize)?;

@@ -2,7 +2,8 @@
 
 ghost use Rattle.std.specs.Prelude.{◌≡◌, ◌+◌, ◌*◌, ◌^◌, ◌<◌, ◌≤◌, ℕ, List, length, map, nat_le, IfOk, IfErr, OnOk, if◌then◌else◌};
 ghost use Rattle.std.specs.List.{range_with_len};
-ghost use Rattle.iiif_tiff.specs.Tiff.{StripOffsets, StripByteCounts, TileOffsets, TileByteCounts, needed, piece, pieces, piece_offset, piece_byte_count, piece_bytes, offsets_tag, counts_tag, first, pieces_fit};
+ghost use Rattle.iiif_tiff.specs.Tiff.{StripOffsets, StripByteCounts, TileOffsets, TileByteCounts, needed, piece, pieces, piece_offset};
+ghost use Rattle.iiif_tiff.specs.Tiff.{piece_byte_count, piece_bytes, offsets_tag, counts_tag, first, pieces_fit};
 ghost use Rattle.iiif_tiff.specs.Tiff as tiff;
 ghost use Rattle.iiif_tiff_read.specs.Code.{IsKnown, IsNotMemory, TellsWhere};
 ghost use Rattle.iiif_tiff_read.specs.Layouts.{FitsIn};
@@ -58,7 +59,10 @@ impl<'a, R, S: Source<R>> Fields<'a, R, S> {
     fn check_piece(&self, counts_tag: u16, piece: Piece) -> Result<(), OpenFault>
         requires { piece.needed ≤ 2 ^ 55 }
         ensures in_file { OnOk result (piece.offset + piece.needed ≤ length (S.bytes self.now.source.now)) }
-        ensures check { (i : ℕ) → Answers ((counts_tag ≡ tiff.counts_tag (S.bytes self.now.source.now)) × (piece.offset ≡ piece_offset (S.bytes self.now.source.now) i) × (piece.count ≡ piece_byte_count (S.bytes self.now.source.now) i) × (piece.needed ≡ piece_bytes (tiff.scheme (S.bytes self.now.source.now)) i))
+        ensures check { (i : ℕ) → Answers ((counts_tag ≡ tiff.counts_tag (S.bytes self.now.source.now)) ×
+            (piece.offset ≡ piece_offset (S.bytes self.now.source.now) i) ×
+            (piece.count ≡ piece_byte_count (S.bytes self.now.source.now) i) ×
+            (piece.needed ≡ piece_bytes (tiff.scheme (S.bytes self.now.source.now)) i))
             (S.gave self.now.source.now) (tiff.piece (S.bytes self.now.source.now) i) (λ _. Unit {0}) result }
         ensures memory { IfErr result IsNotMemory }
     {
@@ -84,9 +88,12 @@ impl<'a, R, S: Source<R>> Fields<'a, R, S> {
         requires bounds { (grid.now.width ≤ 2 ^ 20) × (format.bits ≤ 16) }
         requires lengths { (length offsets.now ≡ grid.now.count) × (length counts.now ≡ grid.now.count) }
         ensures in_file { OnOk result (FitsIn (scheme_of dim format grid.now offsets.now) (length (S.bytes self.now.source.now))) }
-        ensures checks { Answers (IsKnown (S.bytes self.now.source.now) dim format grid.now × (counts_tag ≡ tiff.counts_tag (S.bytes self.now.source.now)) × (offsets.now ≡ map (piece_offset (S.bytes self.now.source.now)) (range_with_len 0 grid.now.count))
+        ensures checks { Answers (IsKnown (S.bytes self.now.source.now) dim format grid.now ×
+            (counts_tag ≡ tiff.counts_tag (S.bytes self.now.source.now)) ×
+            (offsets.now ≡ map (piece_offset (S.bytes self.now.source.now)) (range_with_len 0 grid.now.count))
             × (counts.now ≡ map (piece_byte_count (S.bytes self.now.source.now)) (range_with_len 0 grid.now.count)))
-            (S.gave self.now.source.now) (first (map (piece (S.bytes self.now.source.now)) (range_with_len 0 grid.now.count))) (λ _. Unit {0}) result }
+            (S.gave self.now.source.now) (first (map (piece (S.bytes self.now.source.now)) (range_with_len 0 grid.now.count)))
+            (λ _. Unit {0}) result }
         ensures memory { IfErr result IsNotMemory }
     {
         let row_bytes = grid.row_bytes(format);
@@ -113,7 +120,8 @@ impl<'a, R, S: Source<R>> Fields<'a, R, S> {
         requires { (grid.now.width ≤ 2 ^ 20) × (format.bits ≤ 16) }
         ensures length { IfOk result (λ v. length v.items ≡ grid.now.count) }
         ensures in_file { IfOk result (λ v. FitsIn (scheme_of dim format grid.now v.items) (length (S.bytes self.now.source.now))) }
-        ensures pieces { TellsWhere S.bytes S.gave self.now (λ file. S.keeps self.now.source.now × IsKnown file dim format grid.now) pieces_fit
+        ensures pieces { TellsWhere S.bytes S.gave self.now (λ file. S.keeps self.now.source.now × IsKnown file dim format grid.now)
+            pieces_fit
             (λ file v. v.items ≡ (tiff.scheme file).offsets) result }
     {
         let tags = Tags::of(grid.tiled);

@@ -5,7 +5,8 @@ ghost use Rattle.iiif_pixel.specs.Geometry.{channels_of, top_of, LiesIn};
 ghost use Rattle.iiif_pixel.specs.Depths.{depth_of, values_of};
 ghost use Rattle.iiif_tiff.specs.Tiff.{row_bytes, white_of};
 ghost use Rattle.iiif_tiff_read.specs.Layouts.{FitsIn, dim_of};
-ghost use Rattle.iiif_tiff_read.specs.Code.{IsSound, image_scheme, image_units, row_place, AreEven, IsPart, HoldsPart, KeepsOthers, HoldsStored, HoldsShown};
+ghost use Rattle.iiif_tiff_read.specs.Code.{IsSound, image_scheme, image_units, row_place, AreEven, IsPart, HoldsPart, KeepsOthers};
+ghost use Rattle.iiif_tiff_read.specs.Code.{HoldsStored, HoldsShown};
 ghost use Rattle.iiif_tiff_read.specs.Faults.{IsLoadFault};
 
 use crate::checks::Format;

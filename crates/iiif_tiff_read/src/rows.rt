@@ -1,6 +1,7 @@
 //! Reads runs of bytes, and unpacks rows of samples.
 
-ghost use Rattle.std.specs.Prelude.{◌≡◌, ◌≢◌, ◌+◌, ◌-◌, ◌*◌, ◌/◌, ◌%◌, ◌^◌, ◌<◌, ◌≤◌, ℕ, List, length, slice_index, take, drop, IsTrue, IfOk, IfErr, OnOk};
+ghost use Rattle.std.specs.Prelude.{◌≡◌, ◌≢◌, ◌+◌, ◌-◌, ◌*◌, ◌/◌, ◌%◌, ◌^◌, ◌<◌, ◌≤◌, ℕ, List, length, slice_index, take, drop, IsTrue};
+ghost use Rattle.std.specs.Prelude.{IfOk, IfErr, OnOk};
 ghost use Rattle.std.specs.Int.{div_ceil, w16};
 ghost use Rattle.iiif_tiff.specs.Tiff.{number, stored, sample_of};
 ghost use Rattle.iiif_source.specs.Runs.{AreIn, HoldsRuns};
@@ -46,7 +47,8 @@ fn sample_of_pair(order: ByteOrder, white_is_zero: bool, pair: [u8; 2]) -> u16
 fn interpret_pairs(order: ByteOrder, white_is_zero: bool, bytes: &[u8], samples: &mut [u16])
     requires { length bytes.now ≡ 2 * length samples.old }
     ensures length { length samples.new ≡ length samples.old }
-    ensures samples { (i : ℕ) → i < length samples.old → slice_index samples.new i ≡ sample_of white_is_zero 65535 (number (endian order) w16 bytes.now (2 * i)) }
+    ensures samples { (i : ℕ) → i < length samples.old →
+        slice_index samples.new i ≡ sample_of white_is_zero 65535 (number (endian order) w16 bytes.now (2 * i)) }
 {
     for i in 0..samples.len() {
         let pair = [bytes[2 * i], bytes[2 * i + 1]];
@@ -57,7 +59,8 @@ fn interpret_pairs(order: ByteOrder, white_is_zero: bool, bytes: &[u8], samples:
 /// The samples that stored bytes stand for.
 pub fn interpreted(white_is_zero: bool, mut stored: Vec<u8>) -> Vec<u8>
     ensures length { length result.items ≡ length stored.items }
-    ensures samples { (i : ℕ) → i < length stored.items → slice_index result.items i ≡ sample_of white_is_zero 255 (slice_index stored.items i) }
+    ensures samples { (i : ℕ) → i < length stored.items →
+        slice_index result.items i ≡ sample_of white_is_zero 255 (slice_index stored.items i) }
 {
     interpret(white_is_zero, &mut stored);
     stored
@@ -72,7 +75,8 @@ pub fn pairs_interpreted(
 ) -> Result<Vec<u16>, AllocError>
     requires { length stored.now % 2 ≡ 0 }
     ensures length { IfOk result (λ v. length v.items ≡ length stored.now / 2) }
-    ensures samples { IfOk result (λ v. (i : ℕ) → i < length v.items → slice_index v.items i ≡ sample_of white_is_zero 65535 (number (endian order) w16 stored.now (2 * i))) }
+    ensures samples { IfOk result (λ v. (i : ℕ) → i < length v.items →
+        slice_index v.items i ≡ sample_of white_is_zero 65535 (number (endian order) w16 stored.now (2 * i))) }
 {
     let mut samples = vec![in alloc; 0u16; stored.len() / 2]?;
     interpret_pairs(order, white_is_zero, stored, &mut samples);
@@ -201,7 +205,8 @@ fn put_rows(bits: u32, bytes: &[u8], span: Span, window: Window, samples: &mut [
     requires room { (span.skip + window.columns) * bits ≤ 8 * span.len }
     requires whole { bits ≡ 8 → (span.skip ≡ 0) × (window.columns ≡ span.len) }
     requires fits { FitsWindow window (length samples.old) }
-    ensures held { HoldsRows (λ j i. stored bits (take span.len (drop (j * span.len) bytes.now)) 0 (span.skip + i)) window window.rows samples.new }
+    ensures held { HoldsRows (λ j i. stored bits (take span.len (drop (j * span.len) bytes.now)) 0 (span.skip + i)) window window.rows
+        samples.new }
     ensures rest { KeepsRest window window.rows samples.old samples.new }
 {
     for j in 0..window.rows as usize {
@@ -238,7 +243,9 @@ pub fn read_window<R, S: Source<R>>(
     requires in_row { div_ceil ((rows.first + window.columns) * rows.bits) 8 ≤ rows.stride }
     requires in_file { rows.at + window.rows * rows.stride ≤ length (S.bytes source.now) }
     requires fits { FitsWindow window (length samples.old) }
-    ensures held { OnOk result (S.keeps source.now → HoldsRows (λ j i. stored rows.bits (S.bytes source.now) (rows.at + j * rows.stride) (rows.first + i)) window window.rows samples.new) }
+    ensures held { OnOk result (S.keeps source.now →
+        HoldsRows (λ j i. stored rows.bits (S.bytes source.now) (rows.at + j * rows.stride) (rows.first + i)) window window.rows
+        samples.new) }
     ensures rest { OnOk result (KeepsRest window window.rows samples.old samples.new) }
     ensures fault { IfErr result (IsLoadFault (S.gave source.now)) }
 {

@@ -1,5 +1,6 @@
 -- The rows of a band are rows of the picture.
-use Rattle.std.proofs.Common.{◌≡◌, ℕ, zero, suc, ◌+◌, ◌*◌, ◌<◌, List, [], ◌∷◌, ◌++◌, refl, sym, ap, ◌∙◌, arith, append_assoc, true, false, ltb, inl, inr}
+use Rattle.std.proofs.Common.{◌≡◌, ℕ, zero, suc, ◌+◌, ◌*◌, ◌<◌, List, [], ◌∷◌, ◌++◌, refl, sym, ap, ◌∙◌, arith, append_assoc, true, false}
+use Rattle.std.proofs.Common.{ltb, inl, inr}
 use Rattle.std.proofs.lemmas.List.{append-nil}
 use Rattle.std.proofs.lemmas.Bool.{lt-ltb, le-ltb, cases_lt}
 use Rattle.std.proofs.lemmas.List.Sums.{sum_by-cons}
@@ -16,7 +17,8 @@ use Rattle.iiif_tiff_write.specs.OutKind.{samples_per_pixel}
 use Rattle.iiif_tiff_write.specs.File.{row, strip, bit_at, shorts_of}
 use Rattle.iiif_tiff_write.specs.Bands.{band, bands}
 
-sample_of_band : (p : Picture) (y n x j c : ℕ) → x < p.width → j < n → c < p.channels → sample_at (band p y n) x j c ≡ sample_at p x (y + j) c
+sample_of_band : (p : Picture) (y n x j c : ℕ) → x < p.width → j < n → c < p.channels →
+    sample_at (band p y n) x j c ≡ sample_at p x (y + j) c
 sample_of_band p y n x j c lx lj lc =
     sample_at-crop p (record { x = 0; y = y; w = p.width; h = n }) x j c lx lj lc ∙ ap (λ (i : ℕ). sample_at p i (y + j) c) (omega arith)
 
@@ -55,28 +57,34 @@ joined-add m (suc n) g =
     let next : m + suc n ≡ (m + n) + 1 = omega arith in
     rw (next, joined_more (m + n) g, joined-add m n g) (append_assoc (joined m g) (joined n (λ i. g (m + i))) (g (m + n)))
 
-strip_of_band : (p : Picture) (k : OutKind) (y n : ℕ) → p.channels ≡ samples_per_pixel k → strip k (band p y n) ≡ joined n (λ j. row k p (y + j))
+strip_of_band : (p : Picture) (k : OutKind) (y n : ℕ) → p.channels ≡ samples_per_pixel k →
+    strip k (band p y n) ≡ joined n (λ j. row k p (y + j))
 unfolding strip
 strip_of_band p k y n e = joined-same n (row k (band p y n)) (λ j. row k p (y + j)) (λ j lj. row_of_band p k y n j e lj)
 
-pub next_band : (p : Picture) (k : OutKind) (y m n : ℕ) → p.channels ≡ samples_per_pixel k → strip k (band p y (m + n)) ≡ strip k (band p y m) ++ strip k (band p (y + m) n)
+pub next_band : (p : Picture) (k : OutKind) (y m n : ℕ) → p.channels ≡ samples_per_pixel k →
+    strip k (band p y (m + n)) ≡ strip k (band p y m) ++ strip k (band p (y + m) n)
 next_band p k y m n e =
     rw (strip_of_band p k y (m + n) e, strip_of_band p k y m e, strip_of_band p k (y + m) n e)
-    (joined-add m n (λ j. row k p (y + j)) ∙ ap (λ (s : List ℕ). joined m (λ j. row k p (y + j)) ++ s) (joined-same n _ _ (λ i li. ap (row k p) (omega arith))))
+    (joined-add m n (λ j. row k p (y + j)) ∙ ap (λ (s : List ℕ). joined m (λ j. row k p (y + j)) ++ s)
+    (joined-same n _ _ (λ i li. ap (row k p) (omega arith))))
 
 pub whole_band : (p : Picture) (k : OutKind) → p.channels ≡ samples_per_pixel k → strip k (band p 0 p.height) ≡ strip k p
 unfolding strip
-whole_band p k e = joined-same p.height (row k (band p 0 p.height)) (row k p) (λ j lj. row_of_band p k 0 p.height j e lj ∙ ap (row k p) (omega arith))
+whole_band p k e = joined-same p.height (row k (band p 0 p.height)) (row k p)
+    (λ j lj. row_of_band p k 0 p.height j e lj ∙ ap (row k p) (omega arith))
 
 pub no_rows : (p : Picture) (k : OutKind) (y : ℕ) → strip k (band p y 0) ≡ []
 unfolding strip
 no_rows p k y = refl
 
-all_bands : (p : Picture) (k : OutKind) (y : ℕ) (heights : List ℕ) → p.channels ≡ samples_per_pixel k → flat_map (strip k) (bands p y heights) ≡ strip k (band p y (sum heights))
+all_bands : (p : Picture) (k : OutKind) (y : ℕ) (heights : List ℕ) → p.channels ≡ samples_per_pixel k →
+    flat_map (strip k) (bands p y heights) ≡ strip k (band p y (sum heights))
 all_bands p k y [] e = sym (no_rows p k y)
 all_bands p k y (n ∷ ns) e =
     let total : sum (n ∷ ns) ≡ n + sum ns = sum_by-cons (λ (x : ℕ). x) n ns in
     rw (all_bands p k (y + n) ns e) (sym (next_band p k y n (sum ns) e) ∙ ap (λ (m : ℕ). strip k (band p y m)) (sym total))
 
-pub bands_are : (p : Picture) (k : OutKind) (heights : List ℕ) → p.channels ≡ samples_per_pixel k → sum heights ≡ p.height → flat_map (strip k) (bands p 0 heights) ≡ strip k p
+pub bands_are : (p : Picture) (k : OutKind) (heights : List ℕ) → p.channels ≡ samples_per_pixel k → sum heights ≡ p.height →
+    flat_map (strip k) (bands p 0 heights) ≡ strip k p
 bands_are p k heights e total = rw (all_bands p k 0 heights e, total) (whole_band p k e)

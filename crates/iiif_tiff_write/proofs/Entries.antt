@@ -15,7 +15,8 @@ unfolding head_of
 low_first k d s = refl
 
 -- a field of one LONG
-pub value-long : (b : List ℕ) (tag default v : ℕ) → tiff.order b ≡ Little → tiff.entry_of b tag ≡ Some (long_field tag v) → v < 2 ^ 32 → tiff.value_or b tag 0 default ≡ v
+pub value-long : (b : List ℕ) (tag default v : ℕ) → tiff.order b ≡ Little → tiff.entry_of b tag ≡ Some (long_field tag v) → v < 2 ^ 32 →
+    tiff.value_or b tag 0 default ≡ v
 unfolding tiff.value_or tiff.value
 value-long b tag default v o e small = rw (e, o) (from_le_bytes-to_le_bytes_4 v small)
 
@@ -43,7 +44,8 @@ rows_entry Bitonal d s = refl
 rows_entry Gray16 d s = refl
 rows_entry Rgb16 d s = refl
 
-pub offset_entry : (k : OutKind) (d : Dim) (s : List ℕ) → tiff.entry_of (head_of k d ++ s) StripOffsets ≡ Some (long_field StripOffsets (strip_offset k))
+pub offset_entry : (k : OutKind) (d : Dim) (s : List ℕ) →
+    tiff.entry_of (head_of k d ++ s) StripOffsets ≡ Some (long_field StripOffsets (strip_offset k))
 unfolding head_of tiff.entry_of tiff.entries tiff.entry
 offset_entry Gray d s = refl
 offset_entry Rgb d s = refl
@@ -51,7 +53,8 @@ offset_entry Bitonal d s = refl
 offset_entry Gray16 d s = refl
 offset_entry Rgb16 d s = refl
 
-pub count_entry : (k : OutKind) (d : Dim) (s : List ℕ) → tiff.entry_of (head_of k d ++ s) StripByteCounts ≡ Some (long_field StripByteCounts (strip_len k d))
+pub count_entry : (k : OutKind) (d : Dim) (s : List ℕ) →
+    tiff.entry_of (head_of k d ++ s) StripByteCounts ≡ Some (long_field StripByteCounts (strip_len k d))
 unfolding head_of tiff.entry_of tiff.entries tiff.entry
 count_entry Gray d s = refl
 count_entry Rgb d s = refl

@@ -3,8 +3,10 @@ use Rattle.std.proofs.Common.{◌≡◌, List, ℕ, [], ◌++◌, refl}
 use Rattle.std.specs.Int.{w16, w32, to_le_bytes}
 use Rattle.iiif_pixel.specs.declared.geometry.Dim.{Dim}
 use Rattle.iiif_tiff_write.specs.OutKind.{samples_per_pixel}
-use Rattle.iiif_tiff.specs.Tiff.{ImageWidth, ImageLength, Compression, PhotometricInterpretation, StripOffsets, SamplesPerPixel, RowsPerStrip, StripByteCounts, XResolution, YResolution, ResolutionUnit}
-use Rattle.iiif_tiff_write.specs.File.{head_of, header, outside, entry_bytes, long_field, short_field, rational_field_at, bits_per_sample, photometric, strip_offset, strip_len}
+use Rattle.iiif_tiff.specs.Tiff.{ImageWidth, ImageLength, Compression, PhotometricInterpretation, StripOffsets, SamplesPerPixel}
+use Rattle.iiif_tiff.specs.Tiff.{RowsPerStrip, StripByteCounts, XResolution, YResolution, ResolutionUnit}
+use Rattle.iiif_tiff_write.specs.File.{head_of, header, outside, entry_bytes, long_field, short_field, rational_field_at, bits_per_sample}
+use Rattle.iiif_tiff_write.specs.File.{photometric, strip_offset, strip_len}
 use Rattle.iiif_tiff_write.specs.declared.kind.OutKind.{OutKind}
 use Rattle.iiif_tiff_write.specs.declared.kind.OutKind.TheVariants.{Gray, Rgb, Bitonal, Gray16, Rgb16}
 

@@ -20,7 +20,8 @@ bits_held p = record {
   whole = whole_bitonal p;
   top = refl;
   channels = refl;
-  samples = All-samples_of (λ v. (v ≡ 0) ⊎ (v ≡ 255)) p.width p.height 1 _ (λ x y k lx ly lk. cases_cond (nat_lt (gray_at p x y k) ((p.top + 1) / 2)) 0 255 _ refl);
+  samples = All-samples_of (λ v. (v ≡ 0) ⊎ (v ≡ 255)) p.width p.height 1 _
+      (λ x y k lx ly lk. cases_cond (nat_lt (gray_at p x y k) ((p.top + 1) / 2)) 0 255 _ refl);
 }
 
 own_held : (k : Kind) (d : Depth) (p : Picture) → IsWhole p → p.top ≡ top_of d → p.channels ≡ channels_of k → Holds (kind_of k d) p
@@ -29,7 +30,8 @@ own_held source.Rgb depths.Eight p whole top channels = record { whole = whole; 
 own_held source.Gray depths.Sixteen p whole top channels = record { whole = whole; top = top; channels = channels; samples = tt }
 own_held source.Rgb depths.Sixteen p whole top channels = record { whole = whole; top = top; channels = channels; samples = tt }
 
-pub held : (k : Kind) (d : Depth) (q : Quality) (p : Picture) → IsWhole p → p.top ≡ top_of d → p.channels ≡ channels_of k → Holds (out_kind_of k d q) (quality p q)
+pub held : (k : Kind) (d : Depth) (q : Quality) (p : Picture) → IsWhole p → p.top ≡ top_of d → p.channels ≡ channels_of k →
+    Holds (out_kind_of k d q) (quality p q)
 held k d qualities.Default p whole top channels = own_held k d p whole top channels
 held k d qualities.Color p whole top channels = own_held k d p whole top channels
 held k d qualities.Gray p whole top channels = own_held source.Gray d (gray p) (whole_gray p whole) top refl

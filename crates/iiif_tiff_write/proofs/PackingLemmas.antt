@@ -1,5 +1,6 @@
 -- Rows of bits, byte by byte.
-use Rattle.std.proofs.Common.{◌≡◌, ℕ, zero, suc, ◌+◌, ◌*◌, ◌/◌, ◌<◌, ◌≤◌, List, [], ◌∷◌, ◌++◌, length, get_or, take, add-one, refl, sym, ap, subst, ◌∙◌, ◌⊎◌, arith, append_assoc, true, false, ltb, inl, inr}
+use Rattle.std.proofs.Common.{◌≡◌, ℕ, zero, suc, ◌+◌, ◌*◌, ◌/◌, ◌<◌, ◌≤◌, List, [], ◌∷◌, ◌++◌, length, get_or, take, add-one, refl, sym}
+use Rattle.std.proofs.Common.{ap, subst, ◌∙◌, ◌⊎◌, arith, append_assoc, true, false, ltb, inl, inr}
 use Rattle.std.specs.Int.{div_ceil, to_le_bytes, w16}
 use Rattle.std.specs.List.{flat_map}
 use Rattle.std.proofs.Math.Seq.{take-suc}
@@ -25,12 +26,14 @@ unfolding packed_bytes
 packed_bytes_more s j = joined_more j _
 
 -- one byte more
-pub pack_more : (out before after s : List ℕ) (j byte : ℕ) → before ≡ out ++ packed_bytes s j → byte ≡ byte_from s (8 * j) → after ≡ before ++ byte ∷ [] → after ≡ out ++ packed_bytes s (j + 1)
+pub pack_more : (out before after s : List ℕ) (j byte : ℕ) → before ≡ out ++ packed_bytes s j → byte ≡ byte_from s (8 * j) →
+    after ≡ before ++ byte ∷ [] → after ≡ out ++ packed_bytes s (j + 1)
 pack_more out before after s j byte so_far is more =
     more ∙ rw (so_far, is, packed_bytes_more s j) (append_assoc out (packed_bytes s j) (byte_from s (8 * j) ∷ []))
 
 -- the last byte, which is not full
-pub pack_end : (out before after s : List ℕ) (j n byte : ℕ) → before ≡ out ++ packed_bytes s j → byte ≡ byte_from s (8 * n) → after ≡ before ++ byte ∷ [] → n ≡ length s / 8 → 8 * n < length s → j ≡ n → after ≡ out ++ packed_row s
+pub pack_end : (out before after s : List ℕ) (j n byte : ℕ) → before ≡ out ++ packed_bytes s j → byte ≡ byte_from s (8 * n) →
+    after ≡ before ++ byte ∷ [] → n ≡ length s / 8 → 8 * n < length s → j ≡ n → after ≡ out ++ packed_row s
 pack_end out before after s j n byte so_far is more n-is lt same =
     let j-is : byte ≡ byte_from s (8 * j) = is ∙ ap (λ (i : ℕ). byte_from s (8 * i)) (sym same) in
     pack_more out before after s j byte so_far j-is more ∙ ap (λ (i : ℕ). out ++ packed_bytes s i) (last_is j n same n-is lt)
@@ -41,7 +44,8 @@ pack_end out before after s j n byte so_far is more n-is lt same =
 pub packed_bytes_all : (s : List ℕ) (n : ℕ) → n ≡ length s / 8 → length s ≤ 8 * n → packed_bytes s n ≡ packed_row s
 packed_bytes_all s n n-is le = ap (packed_bytes s) (omega arith)
 
-pub packed_bytes_last : (s : List ℕ) (n : ℕ) → n ≡ length s / 8 → 8 * n < length s → packed_bytes s n ++ byte_from s (8 * n) ∷ [] ≡ packed_row s
+pub packed_bytes_last : (s : List ℕ) (n : ℕ) → n ≡ length s / 8 → 8 * n < length s →
+    packed_bytes s n ++ byte_from s (8 * n) ∷ [] ≡ packed_row s
 packed_bytes_last s n n-is lt = sym (packed_bytes_more s n) ∙ ap (packed_bytes s) (omega arith)
 
 pub ruleset packing = (packed_bytes_none, packed_bytes_more, packed_bytes_all, packed_bytes_last)
@@ -98,7 +102,8 @@ length-row_span p y w s e whole is = rw (is, whole) (length-span p y e)
 pub row_more : (p : Picture) (y w : ℕ) (out before after s : List ℕ) → p.channels ≡ 1 → p.top ≡ 255 → w ≡ p.width → s ≡ span_of p 0 y w
     → before ≡ out ++ rows_before Bitonal p y → after ≡ before ++ packed_row s → after ≡ out ++ rows_before Bitonal p (y + 1)
 row_more p y w out before after s e top whole is so_far more =
-    more ∙ rw (so_far, is, whole, packed_span p y e top, rows_before_more Bitonal p y) (append_assoc out (rows_before Bitonal p y) (row Bitonal p y))
+    more ∙ rw (so_far, is, whole, packed_span p y e top, rows_before_more Bitonal p y)
+    (append_assoc out (rows_before Bitonal p y) (row Bitonal p y))
 
 -- there is room for one row more
 pub row_fits : (r y h len before cap : ℕ) → len ≡ before + r * y → before + r * h ≤ cap → y < h → len + r ≤ cap
@@ -130,26 +135,33 @@ flat_map-joined f (suc n) g = flat_map-append f (joined n g) (g n) ∙ ap (λ (s
 shorts_row : (w c : ℕ) (f : ℕ → ℕ → ℕ) → flat_map (to_le_bytes w16) (row_of w c f) ≡ shorts_of w c f
 unfolding row_of shorts_of
 shorts_row w c f =
-    flat_map-joined (to_le_bytes w16) w _ ∙ joined-same w _ _ (λ x lx. flat_map-joined (to_le_bytes w16) c _ ∙ joined-same c _ _ (λ k lk. append-nil (to_le_bytes w16 (f x k))))
+    flat_map-joined (to_le_bytes w16) w _ ∙ joined-same w _ _
+    (λ x lx. flat_map-joined (to_le_bytes w16) c _ ∙ joined-same c _ _ (λ k lk. append-nil (to_le_bytes w16 (f x k))))
 
-shorts_rows : (p : Picture) → IsWhole p → joined p.height (λ y. shorts_of p.width p.channels (λ x k. sample_at p x y k)) ≡ flat_map (to_le_bytes w16) p.samples
+shorts_rows : (p : Picture) → IsWhole p → joined p.height (λ y. shorts_of p.width p.channels (λ x k. sample_at p x y k)) ≡ flat_map
+    (to_le_bytes w16) p.samples
 shorts_rows p w =
-    sym (ap (flat_map (to_le_bytes w16)) (sym (rows_are p w)) ∙ flat_map-joined (to_le_bytes w16) p.height _ ∙ joined-same p.height _ _ (λ y ly. shorts_row p.width p.channels (λ x k. sample_at p x y k)))
+    sym (ap (flat_map (to_le_bytes w16)) (sym (rows_are p w)) ∙ flat_map-joined (to_le_bytes w16) p.height _ ∙
+    joined-same p.height _ _ (λ y ly. shorts_row p.width p.channels (λ x k. sample_at p x y k)))
 
 gray16_rows : (p : Picture) → IsWhole p → p.channels ≡ 1 → strip Gray16 p ≡ flat_map (to_le_bytes w16) p.samples
 unfolding strip row
-gray16_rows p w e = subst (λ (c : ℕ). joined p.height (λ y. shorts_of p.width c (λ x k. sample_at p x y k)) ≡ flat_map (to_le_bytes w16) p.samples) e (shorts_rows p w)
+gray16_rows p w e = subst (λ (c : ℕ). joined p.height (λ y. shorts_of p.width c (λ x k. sample_at p x y k)) ≡ flat_map (to_le_bytes w16)
+    p.samples) e (shorts_rows p w)
 
 rgb16_rows : (p : Picture) → IsWhole p → p.channels ≡ 3 → strip Rgb16 p ≡ flat_map (to_le_bytes w16) p.samples
 unfolding strip row
-rgb16_rows p w e = subst (λ (c : ℕ). joined p.height (λ y. shorts_of p.width c (λ x k. sample_at p x y k)) ≡ flat_map (to_le_bytes w16) p.samples) e (shorts_rows p w)
+rgb16_rows p w e = subst (λ (c : ℕ). joined p.height (λ y. shorts_of p.width c (λ x k. sample_at p x y k)) ≡ flat_map (to_le_bytes w16)
+    p.samples) e (shorts_rows p w)
 
-pub deep_rows : (p : Picture) (k : OutKind) → IsWhole p → p.channels ≡ samples_per_pixel k → (k ≡ Gray16) ⊎ (k ≡ Rgb16) → strip k p ≡ flat_map (to_le_bytes w16) p.samples
+pub deep_rows : (p : Picture) (k : OutKind) → IsWhole p → p.channels ≡ samples_per_pixel k → (k ≡ Gray16) ⊎ (k ≡ Rgb16) →
+    strip k p ≡ flat_map (to_le_bytes w16) p.samples
 deep_rows p k w e (inl gray) = rw gray (gray16_rows p w (rw gray at e))
 deep_rows p k w e (inr rgb) = rw rgb (rgb16_rows p w (rw rgb at e))
 
 -- one sample more
-pub shorts_more : (out before after samples : List ℕ) (i low high : ℕ) → i < length samples → before ≡ out ++ flat_map (to_le_bytes w16) (take i samples)
+pub shorts_more : (out before after samples : List ℕ) (i low high : ℕ) → i < length samples →
+    before ≡ out ++ flat_map (to_le_bytes w16) (take i samples)
     → low ≡ get_or (to_le_bytes w16 (get_or samples i 0)) 0 0 → high ≡ get_or (to_le_bytes w16 (get_or samples i 0)) 1 0
     → after ≡ (before ++ low ∷ []) ++ high ∷ [] → after ≡ out ++ flat_map (to_le_bytes w16) (take (i + 1) samples)
 shorts_more out before after samples i low high lt so_far low-is high-is more =
@@ -158,6 +170,7 @@ shorts_more out before after samples i low high lt so_far low-is high-is more =
     let next : take (i + 1) samples ≡ take i samples ++ v ∷ [] = rw add-one (take-suc samples i 0 lt) in
     let pair : low ∷ high ∷ [] ≡ le v = rw (low-is, high-is) refl in
     let one : flat_map le (v ∷ []) ≡ le v = append-nil (le v) in
-    let all : flat_map le (take (i + 1) samples) ≡ flat_map le (take i samples) ++ le v = ap (flat_map le) next ∙ flat_map-append le (take i samples) (v ∷ []) ∙ ap (λ (s : List ℕ). flat_map le (take i samples) ++ s) one in
+    let all : flat_map le (take (i + 1) samples) ≡ flat_map le (take i samples) ++ le v = ap (flat_map le) next ∙
+    flat_map-append le (take i samples) (v ∷ []) ∙ ap (λ (s : List ℕ). flat_map le (take i samples) ++ s) one in
     more ∙ append_assoc before (low ∷ []) (high ∷ []) ∙ ap (λ (s : List ℕ). before ++ s) pair ∙ ap (λ (s : List ℕ). s ++ le v) so_far
     ∙ append_assoc out (flat_map le (take i samples)) (le v) ∙ ap (λ (s : List ℕ). out ++ s) (sym all)

@@ -4,7 +4,8 @@ use Rattle.std.specs.List.{flat_map}
 use Rattle.std.specs.Int.{w16, w32, to_le_bytes, div_ceil}
 use Rattle.iiif_pixel.specs.declared.geometry.Dim.{Dim}
 use Rattle.iiif_pixel.specs.Picture.{Picture, dim_of, joined, row_of, sample_at}
-use Rattle.iiif_tiff.specs.Tiff.{Entry, ImageWidth, ImageLength, BitsPerSample, Compression, PhotometricInterpretation, StripOffsets, SamplesPerPixel, RowsPerStrip, StripByteCounts, XResolution, YResolution, ResolutionUnit}
+use Rattle.iiif_tiff.specs.Tiff.{Entry, ImageWidth, ImageLength, BitsPerSample, Compression, PhotometricInterpretation, StripOffsets}
+use Rattle.iiif_tiff.specs.Tiff.{SamplesPerPixel, RowsPerStrip, StripByteCounts, XResolution, YResolution, ResolutionUnit}
 use Rattle.iiif_tiff_write.specs.OutKind.{samples_per_pixel}
 use Rattle.iiif_tiff_write.specs.declared.kind.OutKind.{OutKind}
 use Rattle.iiif_tiff_write.specs.declared.kind.OutKind.TheVariants.{Gray, Rgb, Bitonal, Gray16, Rgb16}

@@ -21,7 +21,8 @@ StripOfNoRows = (p : Picture) (kind : OutKind) (y : ℕ) → strip kind (band p 
 -- m rows, and the n rows below them
 abbrev pub StripOfMoreRows : Type 0
 StripOfMoreRows =
-    (p : Picture) (kind : OutKind) (y m n : ℕ) → p.channels ≡ samples_per_pixel kind → strip kind (band p y (m + n)) ≡ strip kind (band p y m) ++ strip kind (band p (y + m) n)
+    (p : Picture) (kind : OutKind) (y m n : ℕ) → p.channels ≡ samples_per_pixel kind →
+    strip kind (band p y (m + n)) ≡ strip kind (band p y m) ++ strip kind (band p (y + m) n)
 
 abbrev pub StripOfAllRows : Type 0
 StripOfAllRows = (p : Picture) (kind : OutKind) → p.channels ≡ samples_per_pixel kind → strip kind (band p 0 p.height) ≡ strip kind p
@@ -29,7 +30,8 @@ StripOfAllRows = (p : Picture) (kind : OutKind) → p.channels ≡ samples_per_p
 -- bands of any heights
 abbrev pub StripOfBands : Type 0
 StripOfBands =
-    (p : Picture) (kind : OutKind) (heights : List ℕ) → p.channels ≡ samples_per_pixel kind → sum heights ≡ p.height → flat_map (strip kind) (bands p 0 heights) ≡ strip kind p
+    (p : Picture) (kind : OutKind) (heights : List ℕ) → p.channels ≡ samples_per_pixel kind → sum heights ≡ p.height →
+    flat_map (strip kind) (bands p 0 heights) ≡ strip kind p
 
 -- ---- Lengths
 

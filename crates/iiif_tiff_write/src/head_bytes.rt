@@ -2,7 +2,8 @@
 
 ghost use Rattle.std.specs.Prelude.{◌≡◌, ◌+◌, ◌≤◌, [], ◌++◌, length};
 ghost use Rattle.std.specs.Int.{w16, w32, to_le_bytes};
-ghost use Rattle.iiif_tiff_write.specs.File.{entry_bytes, long_field, short_field, shorts_field_at, rational_field_at, bits_per_sample, header, outside};
+ghost use Rattle.iiif_tiff_write.specs.File.{entry_bytes, long_field, short_field, shorts_field_at, rational_field_at, bits_per_sample};
+ghost use Rattle.iiif_tiff_write.specs.File.{header, outside};
 
 use crate::kind::OutKind;
 use iiif_tiff::tag;

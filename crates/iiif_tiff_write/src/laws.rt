@@ -1,6 +1,7 @@
 //! What holds of all written files. The functions compute nothing: their contracts are the laws.
 
-ghost use Rattle.iiif_tiff_write.specs.Laws.{StripOfNoRows, StripOfMoreRows, StripOfAllRows, StripOfBands, ResultsFit, LengthsFit, ResolutionsStand, FileIsAccepted, FileShowsPicture, BitsShowBitonal};
+ghost use Rattle.iiif_tiff_write.specs.Laws.{StripOfNoRows, StripOfMoreRows, StripOfAllRows, StripOfBands, ResultsFit, LengthsFit};
+ghost use Rattle.iiif_tiff_write.specs.Laws.{ResolutionsStand, FileIsAccepted, FileShowsPicture, BitsShowBitonal};
 
 /// A picture may be written band by band: the strips of its bands, one after another, are its strip. The first three are the
 /// steps of a sender that holds one band at a time, the last is the whole of them.

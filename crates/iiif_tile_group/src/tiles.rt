@@ -70,8 +70,10 @@ impl<R, S: Source<R> + Drop, J: System, N, T> Tiles<R, S, J, N, T> {
     pub fn load(&self, rt: &R, key: &TileKey) -> Result<TileVal, Fault>
         ensures meant { J.stable key.now.name → IfOk result (λ v. v ≡ tile_meaning J.pictures key.now) }
         ensures shaped { IfOk result (λ v. IsTrue (tile_is_shaped J.pictures key.now v)) }
-        ensures names { IfOk result (λ v. NamesPart J.pictures J.edge key.now.name key.now.edge (λ s. TileFitsIn s.dim (channels_of s.kind) key.now)) }
-        ensures fault { IfErr result (IsLoadFault J.pictures J.edge key.now.name key.now.edge (λ s. TileFitsIn s.dim (channels_of s.kind) key.now) (J.gave key.now.name)) }
+        ensures names { IfOk result (λ v. NamesPart J.pictures J.edge key.now.name key.now.edge
+            (λ s. TileFitsIn s.dim (channels_of s.kind) key.now)) }
+        ensures fault { IfErr result (IsLoadFault J.pictures J.edge key.now.name key.now.edge
+            (λ s. TileFitsIn s.dim (channels_of s.kind) key.now) (J.gave key.now.name)) }
     {
         self.images.load(rt, key)
     }
@@ -114,12 +116,15 @@ impl<R: Wait, S: Source<R> + Drop, J: System, N: Link<TileKey, J, R>, T: Gate<R>
         key: &TileKey,
     ) -> Result<Receipt<TileKey, J, TileCalls<J>>, Fault>
         ensures outcome { IfOk result (λ r. IfSome (receipt_known r) (λ x. (arc_value x.key ≡ key.now)
-            × OutcomeIs (J.stable key.now.name) J.honest (tile_meaning J.pictures key.now) (tile_is_shaped J.pictures key.now) (J.gave key.now.name) x.outcome)) }
+            × OutcomeIs (J.stable key.now.name) J.honest (tile_meaning J.pictures key.now) (tile_is_shaped J.pictures key.now)
+            (J.gave key.now.name) x.outcome)) }
         ensures counted { OnOk result ((pass.old.gets + 1 ≤ pass.new.gets) × (pass.new.gets ≤ pass.old.gets + 2)) }
         ensures refused { OnErr result (pass.new.gets ≡ pass.old.gets) }
         ensures parts { pass.new.parts ≡ pass.old.parts }
-        ensures names { IfOk result (λ r. NamesPart J.pictures J.edge key.now.name key.now.edge (λ s. TileFitsIn s.dim (channels_of s.kind) key.now)) }
-        ensures fault { IfErr result (IsGetFault J.pictures J.edge key.now.name key.now.edge (λ s. TileFitsIn s.dim (channels_of s.kind) key.now)) }
+        ensures names { IfOk result (λ r. NamesPart J.pictures J.edge key.now.name key.now.edge
+            (λ s. TileFitsIn s.dim (channels_of s.kind) key.now)) }
+        ensures fault { IfErr result (IsGetFault J.pictures J.edge key.now.name key.now.edge
+            (λ s. TileFitsIn s.dim (channels_of s.kind) key.now)) }
     {
         let (entry, shape) = self.images.image_of(key)?;
         match self.group.begin(rt, pass, key, &shape) {
@@ -143,12 +148,15 @@ impl<R: Wait, S: Source<R> + Drop, J: System, N, T: Gate<R>> Tiles<R, S, J, N, T
         key: &TileKey,
     ) -> Result<Receipt<TileKey, J, TileCalls<J>>, Fault>
         ensures outcome { IfOk result (λ r. IfSome (receipt_known r) (λ x. (arc_value x.key ≡ key.now)
-            × OutcomeIs (J.stable key.now.name) J.honest (tile_meaning J.pictures key.now) (tile_is_shaped J.pictures key.now) (J.gave key.now.name) x.outcome)) }
+            × OutcomeIs (J.stable key.now.name) J.honest (tile_meaning J.pictures key.now) (tile_is_shaped J.pictures key.now)
+            (J.gave key.now.name) x.outcome)) }
         ensures counted { OnOk result (pass.new.gets ≡ pass.old.gets + 1) }
         ensures refused { OnErr result (pass.new.gets ≡ pass.old.gets) }
         ensures parts { pass.new.parts ≡ pass.old.parts }
-        ensures names { IfOk result (λ r. NamesPart J.pictures J.edge key.now.name key.now.edge (λ s. TileFitsIn s.dim (channels_of s.kind) key.now)) }
-        ensures fault { IfErr result (IsGetFault J.pictures J.edge key.now.name key.now.edge (λ s. TileFitsIn s.dim (channels_of s.kind) key.now)) }
+        ensures names { IfOk result (λ r. NamesPart J.pictures J.edge key.now.name key.now.edge
+            (λ s. TileFitsIn s.dim (channels_of s.kind) key.now)) }
+        ensures fault { IfErr result (IsGetFault J.pictures J.edge key.now.name key.now.edge
+            (λ s. TileFitsIn s.dim (channels_of s.kind) key.now)) }
     {
         let (entry, shape) = self.images.image_of(key)?;
         match self.group.begin_local(rt, pass, key) {

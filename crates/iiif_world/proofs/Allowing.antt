@@ -35,13 +35,15 @@ wants_memory w e (Err f) h a = λ _. allowed w e h a
 pub looked_allowed : (w : World) (f : ℕ) → IsLocalAt w f Looked → IsAllowed w (Load f)
 looked_allowed w f a = inl (a.lead, a.flight, a.own)
 
-pub merge_allowed : (w : World) (f : ℕ) (cs : List ℕ) → IsLocalAt w f (Parts cs) → code.Value ≡ heard_all (all_learned w cs) → IsAllowed w (Load f)
+pub merge_allowed : (w : World) (f : ℕ) (cs : List ℕ) → IsLocalAt w f (Parts cs) → code.Value ≡ heard_all (all_learned w cs) →
+    IsAllowed w (Load f)
 merge_allowed w f cs a heard =
     let k = heard_value (all_learned w cs) (sym heard) in
     inr (cs, (a.lead, a.flight, a.own), (k.0, k.2))
 
 -- a request for a picture of a version that the node speaks
-pub want_allowed : (w : World) (i : ℕ) (name : List ℕ) (q : Request) (n : Node) (p : Picture) (x : ℕ) → slice_get w.nodes i ≡ Some n → w.scene.shows name ≡ Some p →
+pub want_allowed : (w : World) (i : ℕ) (name : List ℕ) (q : Request) (n : Node) (p : Picture) (x : ℕ) → slice_get w.nodes i ≡ Some n →
+    w.scene.shows name ≡ Some p →
     x ≡ version_shown p → speaker n x ≡ Some n → ¬ (step w (Want i name q) ≡ None)
 want_allowed w i name q n p x there shown is speaks none =
     none-some _ (sym none ∙ want_is w i name q n p there shown (ap (speaker n) (sym is) ∙ speaks))

@@ -24,7 +24,8 @@ use Rattle.iiif_machine.specs.Worlds.{World, ◌>>=◌, learned, speaker, with_c
 use Rattle.iiif_world.proofs.Stepped.{bind_by, bind_none}
 
 -- where an event is allowed, an error is want of memory
-pub memory_wanted : {A : Type 0} (w v : World) (e : Event) (r : Result A WorldFault) → step w e ≡ Some v → IfErr r (λ f. f ≡ NoMemory → ¬ (step w e ≡ None))
+pub memory_wanted : {A : Type 0} (w v : World) (e : Event) (r : Result A WorldFault) → step w e ≡ Some v →
+    IfErr r (λ f. f ≡ NoMemory → ¬ (step w e ≡ None))
 memory_wanted w v e (Ok x) is = tt
 memory_wanted w v e (Err f) is = λ _ none. none-some v (sym none ∙ is)
 
@@ -39,32 +40,39 @@ pub serve_none : (w : World) (a : ℕ) → slice_get w.asks a ≡ None → step 
 unfolding step
 serve_none w a gone = bind_none (slice_get w.asks a) _ gone
 
-pub serve_lost : (w : World) (a : ℕ) (q : Ask) → slice_get w.asks a ≡ Some q → slice_get w.nodes q.node ≡ None → step w (event.Serve a) ≡ None
+pub serve_lost : (w : World) (a : ℕ) (q : Ask) → slice_get w.asks a ≡ Some q → slice_get w.nodes q.node ≡ None →
+    step w (event.Serve a) ≡ None
 unfolding step
 serve_lost w a q at gone = bind_by (slice_get w.asks a) _ q at (bind_none (slice_get w.nodes q.node) _ gone)
 
-pub serve_mute : (w : World) (a : ℕ) (q : Ask) (n : Node) → slice_get w.asks a ≡ Some q → slice_get w.nodes q.node ≡ Some n → speaker n q.version ≡ None → step w (event.Serve a) ≡ None
+pub serve_mute : (w : World) (a : ℕ) (q : Ask) (n : Node) → slice_get w.asks a ≡ Some q → slice_get w.nodes q.node ≡ Some n →
+    speaker n q.version ≡ None → step w (event.Serve a) ≡ None
 unfolding step
 serve_mute w a q n at there mute =
     bind_by (slice_get w.asks a) _ q at (bind_by (slice_get w.nodes q.node) _ n there (bind_none (speaker n q.version) _ mute))
 
-pub serve_is : (w : World) (a : ℕ) (q : Ask) (n : Node) → slice_get w.asks a ≡ Some q → slice_get w.nodes q.node ≡ Some n → speaker n q.version ≡ Some n →
+pub serve_is : (w : World) (a : ℕ) (q : Ask) (n : Node) → slice_get w.asks a ≡ Some q → slice_get w.nodes q.node ≡ Some n →
+    speaker n q.version ≡ Some n →
     step w (event.Serve a) ≡ Some (with_calls w (caller_serving a q ∷ []))
 unfolding step
 serve_is w a q n at there speaks =
     bind_by (slice_get w.asks a) _ q at (bind_by (slice_get w.nodes q.node) _ n there (bind_by (speaker n q.version) _ n speaks refl))
 
-pub serve_done : (w v : World) (a : ℕ) (q : Ask) (n : Node) (k : Key) → slice_get w.asks a ≡ Some q → slice_get w.nodes q.node ≡ Some n → speaker n q.version ≡ Some n →
-    k ≡ q.key → v ≡ with_calls w (record { node = q.node; key = k; class = Local; purpose = ForAsk a } ∷ []) → step w (event.Serve a) ≡ Some v
+pub serve_done : (w v : World) (a : ℕ) (q : Ask) (n : Node) (k : Key) → slice_get w.asks a ≡ Some q → slice_get w.nodes q.node ≡ Some n →
+    speaker n q.version ≡ Some n →
+    k ≡ q.key → v ≡ with_calls w (record { node = q.node; key = k; class = Local; purpose = ForAsk a } ∷ []) →
+    step w (event.Serve a) ≡ Some v
 serve_done w v a q n k at there speaks hk hv =
     serve_is w a q n at there speaks
-    ∙ ap (λ (x : World). Some x) (sym (hv ∙ ap (λ (x : Key). with_calls w (record { node = q.node; key = x; class = Local; purpose = ForAsk a } ∷ [])) hk))
+    ∙ ap (λ (x : World). Some x) (sym (hv ∙ ap
+    (λ (x : Key). with_calls w (record { node = q.node; key = x; class = Local; purpose = ForAsk a } ∷ [])) hk))
 
 pub reply_none : (w : World) (c : ℕ) → slice_get w.calls c ≡ None → step w (event.Reply c) ≡ None
 unfolding step
 reply_none w c gone = bind_none (slice_get w.calls c) _ gone
 
-reply_by : (w : World) (c : ℕ) (x : Call) (p : Purpose) (o : Option World) → slice_get w.calls c ≡ Some x → x.caller.purpose ≡ p → after_reply w c x.caller p ≡ o →
+reply_by : (w : World) (c : ℕ) (x : Call) (p : Purpose) (o : Option World) → slice_get w.calls c ≡ Some x → x.caller.purpose ≡ p →
+    after_reply w c x.caller p ≡ o →
     step w (event.Reply c) ≡ o
 unfolding step
 reply_by w c x p o at purpose is = bind_by (slice_get w.calls c) _ x at (ap (after_reply w c x.caller) purpose ∙ is)
@@ -75,47 +83,60 @@ no_reply w c who (ForRequest r) other = refl
 no_reply w c who (ForPart f) other = refl
 no_reply w c who (ForFallback f) other = refl
 
-pub reply_other : (w : World) (c : ℕ) (x : Call) → slice_get w.calls c ≡ Some x → ((a : ℕ) → x.caller.purpose ≡ ForAsk a → ⊥) → step w (event.Reply c) ≡ None
+pub reply_other : (w : World) (c : ℕ) (x : Call) → slice_get w.calls c ≡ Some x → ((a : ℕ) → x.caller.purpose ≡ ForAsk a → ⊥) →
+    step w (event.Reply c) ≡ None
 reply_other w c x at other = reply_by w c x x.caller.purpose None at refl (no_reply w c x.caller x.caller.purpose other)
 
-pub reply_unknown : (w : World) (c a : ℕ) (x : Call) → slice_get w.calls c ≡ Some x → x.caller.purpose ≡ ForAsk a → learned w c ≡ None → step w (event.Reply c) ≡ None
+pub reply_unknown : (w : World) (c a : ℕ) (x : Call) → slice_get w.calls c ≡ Some x → x.caller.purpose ≡ ForAsk a → learned w c ≡ None →
+    step w (event.Reply c) ≡ None
 reply_unknown w c a x at purpose none =
-    reply_by w c x (ForAsk a) None at purpose (bind_none (learned w c) (λ o. Some (with_reply w (record { key = x.caller.key; outcome = o }))) none)
+    reply_by w c x (ForAsk a) None at purpose (bind_none (learned w c)
+    (λ o. Some (with_reply w (record { key = x.caller.key; outcome = o }))) none)
 
-pub reply_heard : (w : World) (c a : ℕ) (x : Call) → slice_get w.calls c ≡ Some x → x.caller.purpose ≡ ForAsk a → step w (event.Reply c) ≡ None → learned w c ≡ None
+pub reply_heard : (w : World) (c a : ℕ) (x : Call) → slice_get w.calls c ≡ Some x → x.caller.purpose ≡ ForAsk a →
+    step w (event.Reply c) ≡ None → learned w c ≡ None
 reply_heard w c a x at purpose none =
-    bound_none (learned w c) (λ o. with_reply w (record { key = x.caller.key; outcome = o })) (sym (reply_by w c x (ForAsk a) _ at purpose refl) ∙ none)
+    bound_none (learned w c) (λ o. with_reply w (record { key = x.caller.key; outcome = o }))
+    (sym (reply_by w c x (ForAsk a) _ at purpose refl) ∙ none)
 
-pub reply_memory : {A : Type 0} (w : World) (c a : ℕ) (x : Call) (r : Result A WorldFault) → slice_get w.calls c ≡ Some x → x.caller.purpose ≡ ForAsk a → ¬ (learned w c ≡ None) →
+pub reply_memory : {A : Type 0} (w : World) (c a : ℕ) (x : Call) (r : Result A WorldFault) → slice_get w.calls c ≡ Some x →
+    x.caller.purpose ≡ ForAsk a → ¬ (learned w c ≡ None) →
     IfErr r (λ f. f ≡ NoMemory → ¬ (step w (event.Reply c) ≡ None))
 reply_memory w c a x (Ok y) at purpose some = tt
 reply_memory w c a x (Err f) at purpose some = λ _ none. some (reply_heard w c a x at purpose none)
 
-pub reply_is : (w : World) (c a : ℕ) (x : Call) (o : Outcome) → slice_get w.calls c ≡ Some x → x.caller.purpose ≡ ForAsk a → learned w c ≡ Some o →
+pub reply_is : (w : World) (c a : ℕ) (x : Call) (o : Outcome) → slice_get w.calls c ≡ Some x → x.caller.purpose ≡ ForAsk a →
+    learned w c ≡ Some o →
     step w (event.Reply c) ≡ Some (with_reply w (record { key = x.caller.key; outcome = o }))
 reply_is w c a x o at purpose known =
-    reply_by w c x (ForAsk a) _ at purpose (bind_by (learned w c) (λ o. Some (with_reply w (record { key = x.caller.key; outcome = o }))) o known refl)
+    reply_by w c x (ForAsk a) _ at purpose (bind_by (learned w c) (λ o. Some (with_reply w (record { key = x.caller.key; outcome = o }))) o
+    known refl)
 
-pub reply_done : (w v : World) (c a : ℕ) (x : Call) (o : Outcome) (k : Key) → slice_get w.calls c ≡ Some x → x.caller.purpose ≡ ForAsk a → learned w c ≡ Some o → k ≡ x.caller.key →
+pub reply_done : (w v : World) (c a : ℕ) (x : Call) (o : Outcome) (k : Key) → slice_get w.calls c ≡ Some x → x.caller.purpose ≡ ForAsk a →
+    learned w c ≡ Some o → k ≡ x.caller.key →
     v ≡ with_reply w (record { key = k; outcome = o }) → step w (event.Reply c) ≡ Some v
 reply_done w v c a x o k at purpose known hk hv =
-    reply_is w c a x o at purpose known ∙ ap (λ (z : World). Some z) (sym (hv ∙ ap (λ (y : Key). with_reply w (record { key = y; outcome = o })) hk))
+    reply_is w c a x o at purpose known ∙ ap (λ (z : World). Some z)
+    (sym (hv ∙ ap (λ (y : Key). with_reply w (record { key = y; outcome = o })) hk))
 
 pub take_none : (w : World) (f r : ℕ) → slice_get w.flights f ≡ None → step w (event.Take f r) ≡ None
 unfolding step
 take_none w f r gone = bind_none (slice_get w.flights f) _ gone
 
-pub take_unsent : (w : World) (f r : ℕ) (x : Flight) → slice_get w.flights f ≡ Some x → slice_get w.replies r ≡ None → step w (event.Take f r) ≡ None
+pub take_unsent : (w : World) (f r : ℕ) (x : Flight) → slice_get w.flights f ≡ Some x → slice_get w.replies r ≡ None →
+    step w (event.Take f r) ≡ None
 unfolding step
 take_unsent w f r x at gone = bind_by (slice_get w.flights f) _ x at (bind_none (slice_get w.replies r) _ gone)
 
-take_by : (w : World) (f r : ℕ) (x : Flight) (y : Reply) (s : Stage) (o : Option World) → slice_get w.flights f ≡ Some x → slice_get w.replies r ≡ Some y → x.stage ≡ s →
+take_by : (w : World) (f r : ℕ) (x : Flight) (y : Reply) (s : Stage) (o : Option World) → slice_get w.flights f ≡ Some x →
+    slice_get w.replies r ≡ Some y → x.stage ≡ s →
     after_take w f x.lead y s ≡ o → step w (event.Take f r) ≡ o
 unfolding step
 take_by w f r x y s o at sent stage is =
     bind_by (slice_get w.flights f) _ x at (bind_by (slice_get w.replies r) _ y sent (ap (after_take w f x.lead y) stage ∙ is))
 
-no_take : (w : World) (f : ℕ) (l : Lead) (y : Reply) (s : Stage) → (s ≡ Asking → ⊥) → ((o : Option Outcome) → s ≡ Ended o → ⊥) → after_take w f l y s ≡ None
+no_take : (w : World) (f : ℕ) (l : Lead) (y : Reply) (s : Stage) → (s ≡ Asking → ⊥) → ((o : Option Outcome) → s ≡ Ended o → ⊥) →
+    after_take w f l y s ≡ None
 no_take w f l y Asking a b = absurd (a refl)
 no_take w f l y (Ended o) a b = absurd (b o refl)
 no_take w f l y New a b = refl
@@ -124,19 +145,23 @@ no_take w f l y (Fallback c) a b = refl
 no_take w f l y (Parts cs) a b = refl
 no_take w f l y (Ready o p) a b = refl
 
-pub take_other : (w : World) (f r : ℕ) (x : Flight) (y : Reply) → slice_get w.flights f ≡ Some x → slice_get w.replies r ≡ Some y → (x.stage ≡ Asking → ⊥) →
+pub take_other : (w : World) (f r : ℕ) (x : Flight) (y : Reply) → slice_get w.flights f ≡ Some x → slice_get w.replies r ≡ Some y →
+    (x.stage ≡ Asking → ⊥) →
     ((o : Option Outcome) → x.stage ≡ Ended o → ⊥) → step w (event.Take f r) ≡ None
 take_other w f r x y at sent a b = take_by w f r x y x.stage None at sent refl (no_take w f x.lead y x.stage a b)
 
-pub take_ended : (w : World) (f r : ℕ) (x : Flight) (y : Reply) (o : Option Outcome) → slice_get w.flights f ≡ Some x → slice_get w.replies r ≡ Some y → x.stage ≡ Ended o →
+pub take_ended : (w : World) (f r : ℕ) (x : Flight) (y : Reply) (o : Option Outcome) → slice_get w.flights f ≡ Some x →
+    slice_get w.replies r ≡ Some y → x.stage ≡ Ended o →
     step w (event.Take f r) ≡ Some w
 take_ended w f r x y o at sent ended = take_by w f r x y (Ended o) (Some w) at sent ended refl
 
-pub take_is : (w : World) (f r : ℕ) (x : Flight) (y : Reply) → slice_get w.flights f ≡ Some x → slice_get w.replies r ≡ Some y → x.stage ≡ Asking →
+pub take_is : (w : World) (f r : ℕ) (x : Flight) (y : Reply) → slice_get w.flights f ≡ Some x → slice_get w.replies r ≡ Some y →
+    x.stage ≡ Asking →
     step w (event.Take f r) ≡ Some (with_stage w f x.lead (stage_taken x.lead.key y.key y.outcome))
 take_is w f r x y at sent asks = take_by w f r x y Asking _ at sent asks refl
 
-pub take_done : (w v : World) (f r : ℕ) (x : Flight) (y : Reply) (s : Stage) → slice_get w.flights f ≡ Some x → slice_get w.replies r ≡ Some y → x.stage ≡ Asking →
+pub take_done : (w v : World) (f r : ℕ) (x : Flight) (y : Reply) (s : Stage) → slice_get w.flights f ≡ Some x →
+    slice_get w.replies r ≡ Some y → x.stage ≡ Asking →
     s ≡ stage_taken x.lead.key y.key y.outcome → v ≡ with_stage w f x.lead s → step w (event.Take f r) ≡ Some v
 take_done w v f r x y s at sent asks hs hv =
     take_is w f r x y at sent asks ∙ ap (λ (z : World). Some z) (sym (hv ∙ ap (λ (t : Stage). with_stage w f x.lead t) hs))
@@ -145,7 +170,8 @@ pub lose_none : (w : World) (f : ℕ) → slice_get w.flights f ≡ None → ste
 unfolding step
 lose_none w f gone = bind_none (slice_get w.flights f) _ gone
 
-lose_by : (w : World) (f : ℕ) (x : Flight) (s : Stage) (o : Option World) → slice_get w.flights f ≡ Some x → x.stage ≡ s → after_lose w f x.lead s ≡ o → step w (event.Lose f) ≡ o
+lose_by : (w : World) (f : ℕ) (x : Flight) (s : Stage) (o : Option World) → slice_get w.flights f ≡ Some x → x.stage ≡ s →
+    after_lose w f x.lead s ≡ o → step w (event.Lose f) ≡ o
 unfolding step
 lose_by w f x s o at stage is = bind_by (slice_get w.flights f) _ x at (ap (after_lose w f x.lead) stage ∙ is)
 
@@ -161,14 +187,16 @@ no_lose w f l (Ready o p) a = refl
 pub lose_other : (w : World) (f : ℕ) (x : Flight) → slice_get w.flights f ≡ Some x → (x.stage ≡ Asking → ⊥) → step w (event.Lose f) ≡ None
 lose_other w f x at a = lose_by w f x x.stage None at refl (no_lose w f x.lead x.stage a)
 
-pub lose_done : (w v : World) (f : ℕ) (x : Flight) → slice_get w.flights f ≡ Some x → x.stage ≡ Asking → v ≡ with_stage w f x.lead (Fallback None) → step w (event.Lose f) ≡ Some v
+pub lose_done : (w v : World) (f : ℕ) (x : Flight) → slice_get w.flights f ≡ Some x → x.stage ≡ Asking →
+    v ≡ with_stage w f x.lead (Fallback None) → step w (event.Lose f) ≡ Some v
 lose_done w v f x at asks hv = lose_by w f x Asking (Some v) at asks (ap (λ (z : World). Some z) (sym hv))
 
 pub local_none : (w : World) (f : ℕ) → slice_get w.flights f ≡ None → step w (event.GoLocal f) ≡ None
 unfolding step
 local_none w f gone = bind_none (slice_get w.flights f) _ gone
 
-local_by : (w : World) (f : ℕ) (x : Flight) (s : Stage) (o : Option World) → slice_get w.flights f ≡ Some x → x.stage ≡ s → after_go_local w f x.lead s ≡ o →
+local_by : (w : World) (f : ℕ) (x : Flight) (s : Stage) (o : Option World) → slice_get w.flights f ≡ Some x → x.stage ≡ s →
+    after_go_local w f x.lead s ≡ o →
     step w (event.GoLocal f) ≡ o
 unfolding step
 local_by w f x s o at stage is = bind_by (slice_get w.flights f) _ x at (ap (after_go_local w f x.lead) stage ∙ is)
@@ -182,10 +210,12 @@ no_local w f l Looked a = refl
 no_local w f l (Parts cs) a = refl
 no_local w f l (Ready o p) a = refl
 
-pub local_other : (w : World) (f : ℕ) (x : Flight) → slice_get w.flights f ≡ Some x → ((c : Option ℕ) → x.stage ≡ Fallback c → ⊥) → step w (event.GoLocal f) ≡ None
+pub local_other : (w : World) (f : ℕ) (x : Flight) → slice_get w.flights f ≡ Some x → ((c : Option ℕ) → x.stage ≡ Fallback c → ⊥) →
+    step w (event.GoLocal f) ≡ None
 local_other w f x at a = local_by w f x x.stage None at refl (no_local w f x.lead x.stage a)
 
-pub local_called : (w : World) (f : ℕ) (x : Flight) (o : Option ℕ) (c : ℕ) → slice_get w.flights f ≡ Some x → x.stage ≡ Fallback o → o ≡ Some c → step w (event.GoLocal f) ≡ None
+pub local_called : (w : World) (f : ℕ) (x : Flight) (o : Option ℕ) (c : ℕ) → slice_get w.flights f ≡ Some x → x.stage ≡ Fallback o →
+    o ≡ Some c → step w (event.GoLocal f) ≡ None
 local_called w f x o c at stage some = local_by w f x (Fallback (Some c)) None at (stage ∙ ap (λ (y : Option ℕ). Fallback y) some) refl
 
 pub local_is : (w : World) (f : ℕ) (x : Flight) (o : Option ℕ) → slice_get w.flights f ≡ Some x → x.stage ≡ Fallback o → o ≡ None →
@@ -193,11 +223,14 @@ pub local_is : (w : World) (f : ℕ) (x : Flight) (o : Option ℕ) → slice_get
     (record { node = x.lead.node; key = x.lead.key; class = Local; purpose = ForFallback f } ∷ []))
 local_is w f x o at stage none = local_by w f x (Fallback None) _ at (stage ∙ ap (λ (y : Option ℕ). Fallback y) none) refl
 
-pub local_done : (w m v : World) (f c : ℕ) (x : Flight) (o : Option ℕ) (k : Key) → slice_get w.flights f ≡ Some x → x.stage ≡ Fallback o → o ≡ None → k ≡ x.lead.key →
+pub local_done : (w m v : World) (f c : ℕ) (x : Flight) (o : Option ℕ) (k : Key) → slice_get w.flights f ≡ Some x → x.stage ≡ Fallback o →
+    o ≡ None → k ≡ x.lead.key →
     c ≡ length w.calls → m ≡ with_calls w (record { node = x.lead.node; key = k; class = Local; purpose = ForFallback f } ∷ []) →
     v ≡ with_stage m f x.lead (Fallback (Some c)) → step w (event.GoLocal f) ≡ Some v
 local_done w m v f c x o k at stage none hk hc hm hv =
     local_is w f x o at stage none
     ∙ ap (λ (z : World). Some z) (sym (hv ∙ ap (λ (z : World). with_stage z f x.lead (Fallback (Some c))) hm
-    ∙ ap (λ (y : Key). with_stage (with_calls w (record { node = x.lead.node; key = y; class = Local; purpose = ForFallback f } ∷ [])) f x.lead (Fallback (Some c))) hk
-    ∙ ap (λ (n : ℕ). with_stage (with_calls w (record { node = x.lead.node; key = x.lead.key; class = Local; purpose = ForFallback f } ∷ [])) f x.lead (Fallback (Some n))) hc))
+    ∙ ap (λ (y : Key). with_stage (with_calls w (record { node = x.lead.node; key = y; class = Local; purpose = ForFallback f } ∷ [])) f
+    x.lead (Fallback (Some c))) hk
+    ∙ ap (λ (n : ℕ). with_stage (with_calls w (record { node = x.lead.node; key = x.lead.key; class = Local; purpose = ForFallback f } ∷
+    [])) f x.lead (Fallback (Some n))) hc))

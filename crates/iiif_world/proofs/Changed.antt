@@ -1,5 +1,6 @@
 -- Lists of which elements are changed.
-use Rattle.std.proofs.Common.{Vec, true, false, ◌≡◌, ℕ, zero, suc, ◌+◌, ◌≤◌, ◌<◌, List, [], ◌∷◌, ◌++◌, map, length, Some, None, refl, sym, ap, ◌∙◌, arith, get_or, take, subst, length-append}
+use Rattle.std.proofs.Common.{Vec, true, false, ◌≡◌, ℕ, zero, suc, ◌+◌, ◌≤◌, ◌<◌, List, [], ◌∷◌, ◌++◌, map, length, Some, None, refl, sym}
+use Rattle.std.proofs.Common.{ap, ◌∙◌, arith, get_or, take, subst, length-append}
 use Rattle.std.specs.Prelude.{slice_get, slice_set}
 use Rattle.std.proofs.lemmas.Option.{none-some, get_or_from_slice_get, same_Some}
 use Rattle.std.proofs.lemmas.List.{take_all, with_items_is, length-map}
@@ -42,7 +43,8 @@ joined_nil g [] = refl
 joined_nil g (x ∷ xs) = refl
 
 -- each with what is made of it
-pub joined_map : {A B : Type 0} (g : A → B → A) (f : A → B) (h : A → A) (xs : List A) → ((x : A) → g x (f x) ≡ h x) → joined g xs (map f xs) ≡ map h xs
+pub joined_map : {A B : Type 0} (g : A → B → A) (f : A → B) (h : A → A) (xs : List A) → ((x : A) → g x (f x) ≡ h x) →
+    joined g xs (map f xs) ≡ map h xs
 joined_map g f h [] e = refl
 joined_map g f h (x ∷ xs) e = ap (λ v. v ∷ joined g xs (map f xs)) (e x) ∙ ap (λ l. h x ∷ l) (joined_map g f h xs e)
 
@@ -52,7 +54,8 @@ length_set (y ∷ xs) zero x = refl
 length_set (y ∷ xs) (suc i) x = ap suc (length_set xs i x)
 
 -- one less is left to be joined
-pub joined_step : {A B : Type 0} (g : A → B → A) (xs all : List A) (ys ls : List B) (y : B) (x z : A) (p : ℕ) → p ≡ length ls → ys ≡ ls ++ y ∷ [] → length ys ≤ length xs →
+pub joined_step : {A B : Type 0} (g : A → B → A) (xs all : List A) (ys ls : List B) (y : B) (x z : A) (p : ℕ) → p ≡ length ls →
+    ys ≡ ls ++ y ∷ [] → length ys ≤ length xs →
     joined g xs ys ≡ all → x ≡ get_or xs p x → z ≡ g x y → (length ls ≤ length (slice_set xs p z)) × (joined g (slice_set xs p z) ls ≡ all)
 joined_step g xs all ys ls y x z p place list less is item made =
     let more : length ys ≡ length ls + 1 = ap length list ∙ length-append ls (y ∷ []) in
@@ -69,27 +72,35 @@ joined_done g xs all [] is none = sym (joined_nil g xs) ∙ is
 joined_done g xs all (y ∷ ys) is none = absurd (omega (arith, none))
 
 -- each of one more
-each_suc : {A : Type 0} (P : A → Type 0) (xs : List A) (i : ℕ) (x : A) → Each P (take i xs) → i < length xs → x ≡ get_or xs i x → P x → Each P (take (suc i) xs)
+each_suc : {A : Type 0} (P : A → Type 0) (xs : List A) (i : ℕ) (x : A) → Each P (take i xs) → i < length xs → x ≡ get_or xs i x → P x →
+    Each P (take (suc i) xs)
 each_suc P [] i x e less is p = absurd (omega (arith, less))
 each_suc P (z ∷ xs) zero x e less is p = each_one P z (subst P is p)
-each_suc P (z ∷ xs) (suc i) x e less is p = each_cons P z (take (suc i) xs) (e zero z refl) (each_suc P xs i x (λ j y at. e (suc j) y at) (omega (arith, less)) is p)
+each_suc P (z ∷ xs) (suc i) x e less is p = each_cons P z (take (suc i) xs) (e zero z refl)
+    (each_suc P xs i x (λ j y at. e (suc j) y at) (omega (arith, less)) is p)
 
-pub each_more : {A : Type 0} (P : A → Type 0) (xs : List A) (i : ℕ) (x : A) → Each P (take i xs) → i < length xs → x ≡ get_or xs i x → P x → Each P (take (i + 1) xs)
-each_more P xs i x e less is p = let next : suc i ≡ i + 1 = omega arith in subst (λ n. Each P (take n xs)) next (each_suc P xs i x e less is p)
+pub each_more : {A : Type 0} (P : A → Type 0) (xs : List A) (i : ℕ) (x : A) → Each P (take i xs) → i < length xs → x ≡ get_or xs i x → P x →
+    Each P (take (i + 1) xs)
+each_more P xs i x e less is p = let next : suc i ≡ i + 1 = omega arith in
+    subst (λ n. Each P (take n xs)) next (each_suc P xs i x e less is p)
 
 pub each_all : {A : Type 0} (P : A → Type 0) (xs : List A) (i : ℕ) → Each P (take i xs) → length xs ≤ i → Each P xs
 each_all P xs i e out = subst (Each P) (take_all i xs out) e
 
-each_suc_made : {A B : Type 0} (P : B → Type 0) (f : A → B) (xs : List A) (i : ℕ) (x : A) → Each P (take i (map f xs)) → i < length xs → x ≡ get_or xs i x → P (f x) →
+each_suc_made : {A B : Type 0} (P : B → Type 0) (f : A → B) (xs : List A) (i : ℕ) (x : A) → Each P (take i (map f xs)) → i < length xs →
+    x ≡ get_or xs i x → P (f x) →
     Each P (take (suc i) (map f xs))
 each_suc_made P f [] i x e less is p = absurd (omega (arith, less))
 each_suc_made P f (z ∷ xs) zero x e less is p = each_one P (f z) (subst (λ y. P (f y)) is p)
 each_suc_made P f (z ∷ xs) (suc i) x e less is p =
-    each_cons P (f z) (take (suc i) (map f xs)) (e zero (f z) refl) (each_suc_made P f xs i x (λ j y at. e (suc j) y at) (omega (arith, less)) is p)
+    each_cons P (f z) (take (suc i) (map f xs)) (e zero (f z) refl)
+    (each_suc_made P f xs i x (λ j y at. e (suc j) y at) (omega (arith, less)) is p)
 
-pub each_more_made : {A B : Type 0} (P : B → Type 0) (f : A → B) (xs : List A) (i : ℕ) (x : A) → Each P (take i (map f xs)) → i < length xs → x ≡ get_or xs i x → P (f x) →
+pub each_more_made : {A B : Type 0} (P : B → Type 0) (f : A → B) (xs : List A) (i : ℕ) (x : A) → Each P (take i (map f xs)) →
+    i < length xs → x ≡ get_or xs i x → P (f x) →
     Each P (take (i + 1) (map f xs))
-each_more_made P f xs i x e less is p = let next : suc i ≡ i + 1 = omega arith in subst (λ n. Each P (take n (map f xs))) next (each_suc_made P f xs i x e less is p)
+each_more_made P f xs i x e less is p = let next : suc i ≡ i + 1 = omega arith in
+    subst (λ n. Each P (take n (map f xs))) next (each_suc_made P f xs i x e less is p)
 
 -- a list whose elements are all made anew
 pub made_is : {A Z : Type 0} (v : Vec A Z) (ws : List A) (f : A → A) → ws ≡ map f v.items → (with_items v ws).items ≡ map f v.items

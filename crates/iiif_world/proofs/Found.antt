@@ -33,22 +33,29 @@ found_meaning w who n e h there kept =
     (ap (λ (r : tables.Entered Value). (met r, (entering n who).1)) (meets_kept n who e kept)))
 
 -- the world in which the call has found it
-pub found_honest : (w : World) (c : ℕ) (who : Caller) (n : Node) (e : Kept Value) → IsHonestWorld w → slice_get w.calls c ≡ Some (record { caller = who; state = Fresh }) →
-    slice_get w.nodes who.node ≡ Some n → kept_for key_eq who.key (table_at n who.key).cache ≡ Some e → IsHonestWorld (with_state w c who (Hit e.value))
+pub found_honest : (w : World) (c : ℕ) (who : Caller) (n : Node) (e : Kept Value) → IsHonestWorld w →
+    slice_get w.calls c ≡ Some (record { caller = who; state = Fresh }) →
+    slice_get w.nodes who.node ≡ Some n → kept_for key_eq who.key (table_at n who.key).cache ≡ Some e →
+    IsHonestWorld (with_state w c who (Hit e.value))
 found_honest w c who n e h at there kept = state_set w c who Fresh (Hit e.value) at h (found_meaning w who n e h there kept)
 
 -- and that in which a flight that is ready has ended
-pub ended_honest : (w : World) (f : ℕ) (l : Lead) (o : Outcome) (p : Place) → IsHonestWorld w → slice_get w.flights f ≡ Some (record { lead = l; stage = Ready o p }) →
+pub ended_honest : (w : World) (f : ℕ) (l : Lead) (o : Outcome) (p : Place) → IsHonestWorld w →
+    slice_get w.flights f ≡ Some (record { lead = l; stage = Ready o p }) →
     IsHonestWorld (with_stage w f l (Ended (Some o)))
 ended_honest w f l o p h at = stage_set w f l (Ready o p) (Ended (Some o)) at h (h.flights f _ at).stage
 
 -- a state, or a stage, that is put back
-pub state_back : (w : World) (c : ℕ) (who : Caller) (s t : CallState) → slice_get w.calls c ≡ Some (record { caller = who; state = s }) → with_state (with_state w c who t) c who s ≡ w
+pub state_back : (w : World) (c : ℕ) (who : Caller) (s t : CallState) → slice_get w.calls c ≡ Some (record { caller = who; state = s }) →
+    with_state (with_state w c who t) c who s ≡ w
 state_back w c who s t at =
     ap (λ (cs : List Call). record w { calls = cs })
-    (set_twice w.calls c (record { caller = who; state = t }) (record { caller = who; state = s }) ∙ set_same w.calls c (record { caller = who; state = s }) at)
+    (set_twice w.calls c (record { caller = who; state = t }) (record { caller = who; state = s }) ∙
+    set_same w.calls c (record { caller = who; state = s }) at)
 
-pub stage_back : (w : World) (f : ℕ) (l : Lead) (s t : Stage) → slice_get w.flights f ≡ Some (record { lead = l; stage = s }) → with_stage (with_stage w f l t) f l s ≡ w
+pub stage_back : (w : World) (f : ℕ) (l : Lead) (s t : Stage) → slice_get w.flights f ≡ Some (record { lead = l; stage = s }) →
+    with_stage (with_stage w f l t) f l s ≡ w
 stage_back w f l s t at =
     ap (λ (fs : List Flight). record w { flights = fs })
-    (set_twice w.flights f (record { lead = l; stage = t }) (record { lead = l; stage = s }) ∙ set_same w.flights f (record { lead = l; stage = s }) at)
+    (set_twice w.flights f (record { lead = l; stage = t }) (record { lead = l; stage = s }) ∙
+    set_same w.flights f (record { lead = l; stage = s }) at)

@@ -21,7 +21,8 @@ with_rest (Some (Ok v)) None = refl
 with_rest (Some (Err f)) None = refl
 with_rest (Some o) (Some os) = more o (collected os)
 
-pub heard_more : (w : World) (c : ℕ) (cs : List ℕ) → heard_all (all_learned w (c ∷ cs)) ≡ heard_first (heard (learned w c)) (heard_all (all_learned w cs))
+pub heard_more : (w : World) (c : ℕ) (cs : List ℕ) →
+    heard_all (all_learned w (c ∷ cs)) ≡ heard_first (heard (learned w c)) (heard_all (all_learned w cs))
 heard_more w c cs = with_rest (learned w c) (all_learned w cs)
 
 pub heard_assoc : (a b c : Heard) → heard_first a (heard_first b c) ≡ heard_first (heard_first a b) c
@@ -34,8 +35,10 @@ heard_assoc (code.Fault f) (code.Fault g) code.Value = refl
 heard_assoc (code.Fault f) (code.Fault g) (code.Fault h) = refl
 
 -- one call more
-pub one_more : (w : World) (all : Heard) (a h : Heard) (c : ℕ) (cs ds : List ℕ) → all ≡ heard_first a (heard_all (all_learned w ds)) → ds ≡ c ∷ cs → h ≡ heard (learned w c) →
+pub one_more : (w : World) (all : Heard) (a h : Heard) (c : ℕ) (cs ds : List ℕ) → all ≡ heard_first a (heard_all (all_learned w ds)) →
+    ds ≡ c ∷ cs → h ≡ heard (learned w c) →
     all ≡ heard_first (heard_first a h) (heard_all (all_learned w cs))
 one_more w all a h c cs ds is list knows =
     is ∙ ap (λ (xs : List ℕ). heard_first a (heard_all (all_learned w xs))) list ∙ ap (heard_first a) (heard_more w c cs)
-    ∙ heard_assoc a (heard (learned w c)) (heard_all (all_learned w cs)) ∙ ap (λ (x : Heard). heard_first (heard_first a x) (heard_all (all_learned w cs))) (sym knows)
+    ∙ heard_assoc a (heard (learned w c)) (heard_all (all_learned w cs)) ∙
+    ap (λ (x : Heard). heard_first (heard_first a x) (heard_all (all_learned w cs))) (sym knows)

@@ -38,8 +38,10 @@ read_done w v f x a none is hv =
     ∙ ap (λ (z : World). Some z) (sym (hv ∙ ap (λ (y : Value). with_stage w f a.lead (Ready (Ok y) Main)) is))
 
 -- the parts of a sum are asked
-pub split_done : (w m v : World) (f : ℕ) (ks : List Key) (cs : List Call) (ns : List ℕ) (a : IsLocalAt w f Looked) → parts_of a.lead.key ≡ Some ks →
-    cs ≡ map fresh (map (call_for a.lead.node a.node (ForPart f)) ks) → ns ≡ numbers (length w.calls) ks → m ≡ record w { calls = w.calls ++ cs } →
+pub split_done : (w m v : World) (f : ℕ) (ks : List Key) (cs : List Call) (ns : List ℕ) (a : IsLocalAt w f Looked) →
+    parts_of a.lead.key ≡ Some ks →
+    cs ≡ map fresh (map (call_for a.lead.node a.node (ForPart f)) ks) → ns ≡ numbers (length w.calls) ks →
+    m ≡ record w { calls = w.calls ++ cs } →
     v ≡ with_stage m f a.lead (Parts ns) → step w (Load f) ≡ Some v
 split_done w m v f ks cs ns a some hc hn hm hv =
     begin_is w f a.lead a.node a.own a.flight a.there
@@ -47,10 +49,12 @@ split_done w m v f ks cs ns a some hc hn hm hv =
     ∙ ap (λ (z : World). Some z)
     (sym (hv ∙ ap (λ (z : World). with_stage z f a.lead (Parts ns)) hm
     ∙ ap (λ (x : List Call). with_stage (record w { calls = w.calls ++ x }) f a.lead (Parts ns)) hc
-    ∙ ap (λ (x : List ℕ). with_stage (record w { calls = w.calls ++ map fresh (map (call_for a.lead.node a.node (ForPart f)) ks) }) f a.lead (Parts x)) hn))
+    ∙ ap (λ (x : List ℕ). with_stage (record w { calls = w.calls ++ map fresh (map (call_for a.lead.node a.node (ForPart f)) ks) }) f a.lead
+    (Parts x)) hn))
 
 pub merge_done : (w v : World) (f : ℕ) (x : Value) (cs : List ℕ) (a : IsLocalAt w f (Parts cs)) → IsProper w.scene → IsHonestWorld w →
-    code.Value ≡ heard_all (all_learned w cs) → x ≡ meaning w.scene a.lead.key → v ≡ with_stage w f a.lead (Ready (Ok x) Main) → step w (Load f) ≡ Some v
+    code.Value ≡ heard_all (all_learned w cs) → x ≡ meaning w.scene a.lead.key → v ≡ with_stage w f a.lead (Ready (Ok x) Main) →
+    step w (Load f) ≡ Some v
 merge_done w v f x cs a proper honest heard is hv =
     let s = w.scene in
     let l = a.lead in
@@ -68,7 +72,8 @@ merge_done w v f x cs a proper honest heard is hv =
     ∙ ap (λ (z : World). Some z) (sym hv)
 
 -- or have a fault
-pub fail_done : (w v : World) (f : ℕ) (e : ReadFault) (cs : List ℕ) (a : IsLocalAt w f (Parts cs)) → code.Fault e ≡ heard_all (all_learned w cs) →
+pub fail_done : (w v : World) (f : ℕ) (e : ReadFault) (cs : List ℕ) (a : IsLocalAt w f (Parts cs)) →
+    code.Fault e ≡ heard_all (all_learned w cs) →
     v ≡ with_stage w f a.lead (Ready (Err e) Main) → step w (Load f) ≡ Some v
 fail_done w v f e cs a heard hv =
     let k = heard_fault (all_learned w cs) e (sym heard) in
@@ -76,11 +81,13 @@ fail_done w v f e cs a heard hv =
     ∙ ap (λ (r : Result (List Value) ReadFault). Some (with_stage w f a.lead (Ready (outcome_from w.scene a.lead.key r) Main))) k.2
     ∙ ap (λ (z : World). Some z) (sym hv)
 
-pub wait_done : (w : World) (f : ℕ) (cs : List ℕ) (a : IsLocalAt w f (Parts cs)) → code.Nothing ≡ heard_all (all_learned w cs) → step w (Load f) ≡ None
+pub wait_done : (w : World) (f : ℕ) (cs : List ℕ) (a : IsLocalAt w f (Parts cs)) → code.Nothing ≡ heard_all (all_learned w cs) →
+    step w (Load f) ≡ None
 wait_done w f cs a heard = merge_none w f a.lead a.node cs a.own a.flight a.there (heard_nothing (all_learned w cs) (sym heard))
 
 -- a local flight, of the row that stands there
-abbrev pub local_at : (w : World) (f : ℕ) (x : Flight) (n : Node) (s : Stage) → slice_get w.flights f ≡ Some x → slice_get w.nodes x.lead.node ≡ Some n → x.lead.class ≡ Local →
+abbrev pub local_at : (w : World) (f : ℕ) (x : Flight) (n : Node) (s : Stage) → slice_get w.flights f ≡ Some x →
+    slice_get w.nodes x.lead.node ≡ Some n → x.lead.class ≡ Local →
     x.stage ≡ s → IsLocalAt w f s
 local_at w f x n s at there own is = record {
   lead = x.lead;
@@ -91,16 +98,20 @@ local_at w f x n s at there own is = record {
 }
 
 -- the calls and numbers of the parts
-pub calls_done : (w : World) (f : ℕ) (x : Flight) (n : Node) (k : SumKey) (ks : List Key) (cs : List Call) (ns : List ℕ) (a : IsLocalAt w f Looked) →
-    x ≡ record { lead = a.lead; stage = Looked } → x.lead.key ≡ key.Sum k → slice_get w.nodes x.lead.node ≡ Some n → parts_of (key.Sum k) ≡ Some ks →
+pub calls_done : (w : World) (f : ℕ) (x : Flight) (n : Node) (k : SumKey) (ks : List Key) (cs : List Call) (ns : List ℕ)
+    (a : IsLocalAt w f Looked) →
+    x ≡ record { lead = a.lead; stage = Looked } → x.lead.key ≡ key.Sum k → slice_get w.nodes x.lead.node ≡ Some n →
+    parts_of (key.Sum k) ≡ Some ks →
     cs ≡ map fresh (map (call_for x.lead.node n (ForPart f)) ks) → ns ≡ numbers (length w.calls) ks →
-    (keys : List Key) × (parts_of a.lead.key ≡ Some keys) × (cs ≡ map fresh (map (call_for a.lead.node a.node (ForPart f)) keys)) × (ns ≡ numbers (length w.calls) keys)
+    (keys : List Key) × (parts_of a.lead.key ≡ Some keys) × (cs ≡ map fresh (map (call_for a.lead.node a.node (ForPart f)) keys)) ×
+    (ns ≡ numbers (length w.calls) keys)
 calls_done w f x n k ks cs ns a is sum there parts hc hn =
     let same : x.lead ≡ a.lead = ap (λ (z : Flight). z.lead) is in
     let place : slice_get w.nodes a.lead.node ≡ Some n = ap (λ (l : Lead). slice_get w.nodes l.node) (sym same) ∙ there in
     let node : n ≡ a.node = same_Some n a.node (sym place ∙ a.there) in (
       ks,
       ap (λ (l : Lead). parts_of l.key) (sym same) ∙ ap parts_of sum ∙ parts,
-      hc ∙ ap (λ (l : Lead). map fresh (map (call_for l.node n (ForPart f)) ks)) same ∙ ap (λ (m : Node). map fresh (map (call_for a.lead.node m (ForPart f)) ks)) node,
+      hc ∙ ap (λ (l : Lead). map fresh (map (call_for l.node n (ForPart f)) ks)) same ∙
+          ap (λ (m : Node). map fresh (map (call_for a.lead.node m (ForPart f)) ks)) node,
       hn,
     )

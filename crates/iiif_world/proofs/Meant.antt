@@ -49,18 +49,21 @@ pub tile_fits : (s : Scene) (k : TileKey) (p : Picture) → s.shows k.name ≡ S
 unfolding Fits
 tile_fits s k p shown fits =
     let same : fits.picture ≡ p = same_Some fits.picture p (sym fits.known ∙ shown) in
-    let f : TileFitsIn (dim_of p) (channels_of (kind_of p)) k = subst (λ (x : Picture). TileFitsIn (dim_of x) (channels_of (kind_of x)) k) same fits.fits in
+    let f : TileFitsIn (dim_of p) (channels_of (kind_of p)) k =
+    subst (λ (x : Picture). TileFitsIn (dim_of x) (channels_of (kind_of x)) k) same fits.fits in
     record { edge = f.edge; column = f.column; row = f.row }
 
 pub tile_known : (s : Scene) (k : TileKey) → s.shows k.name ≡ None → Fits s (key.Tile k) → ⊥
 unfolding Fits
 tile_known s k none fits = none-some fits.picture (sym none ∙ fits.known)
 
-pub sum_fits : (s : Scene) (k : SumKey) (p : Picture) → IsProper s → s.shows k.name ≡ Some p → Fits s (key.Sum k) → SumFitsIn (dim_of p) p.channels k
+pub sum_fits : (s : Scene) (k : SumKey) (p : Picture) → IsProper s → s.shows k.name ≡ Some p → Fits s (key.Sum k) →
+    SumFitsIn (dim_of p) p.channels k
 unfolding Fits
 sum_fits s k p proper shown fits =
     let same : fits.picture ≡ p = same_Some fits.picture p (sym fits.known ∙ shown) in
-    let f : SumFitsIn (dim_of p) (channels_of (kind_of p)) k = subst (λ (x : Picture). SumFitsIn (dim_of x) (channels_of (kind_of x)) k) same fits.fits in
+    let f : SumFitsIn (dim_of p) (channels_of (kind_of p)) k =
+    subst (λ (x : Picture). SumFitsIn (dim_of x) (channels_of (kind_of x)) k) same fits.fits in
     subst (λ n. SumFitsIn (dim_of p) n k) (sym (kind_is p (proper.sources k.name p shown).whole)) f
 
 pub sum_known : (s : Scene) (k : SumKey) → s.shows k.name ≡ None → Fits s (key.Sum k) → ⊥
@@ -73,14 +76,16 @@ unfolding Fits
 has_parts s k proper fits =
     let source = proper.sources k.name fits.picture fits.known in
     let f : SumFitsIn (dim_of fits.picture) (channels_of (kind_of fits.picture)) k = fits.fits in
-    fitting_has_parts (dim_of fits.picture) k (omega (arith, source.readable.width_most)) (omega (arith, source.readable.height_most)) f.block
+    fitting_has_parts (dim_of fits.picture) k (omega (arith, source.readable.width_most)) (omega (arith, source.readable.height_most))
+    f.block
 
 -- what a request comes to
 pub resolves : (s : Scene) (p : Picture) (q : Request) (r : Resolved) → resolved s p q ≡ Ok r → IsResolved (dim_of p) (kind_of p) s.limits r
 unfolding resolved
 resolves s p q r h = resolved_is q (dim_of p) (kind_of p) s.limits r h
 
-pub scalable : (d : Dim) (k : Kind) (l : Limits) (r : Resolved) → IsResolved d k l r → d.w * d.h ≤ 4294967296 → IsScalable (sides_of r.rect) r.size
+pub scalable : (d : Dim) (k : Kind) (l : Limits) (r : Resolved) → IsResolved d k l r → d.w * d.h ≤ 4294967296 →
+    IsScalable (sides_of r.rect) r.size
 scalable d k l r is area =
     let inside = is.inside in
     let w : r.rect.w ≤ d.w = omega (arith, inside.columns) in
@@ -97,20 +102,24 @@ scalable d k l r is area =
 pub record IsReady (w : World) (q : Wanted) (r : Resolved) (cs : List ℕ) (p : Picture) : Type 0 where
   pub source : IsSource p
   pub solved : IsResolved (dim_of p) (kind_of p) w.scene.limits r
-  pub made : (os : List Outcome) (vs : List Value) → all_learned w cs ≡ Some os → collected os ≡ Ok vs → assembled w.scene p r vs ≡ images.resolved_image p r
+  pub made : (os : List Outcome) (vs : List Value) → all_learned w cs ≡ Some os → collected os ≡ Ok vs →
+      assembled w.scene p r vs ≡ images.resolved_image p r
 
 pub values_are : (w : World) (node : ℕ) (name : List ℕ) (ks : List Key) (r : Result (List Value) ReadFault) (vs : List Value) → r ≡ Ok vs →
     AreGathered w.scene w.given node name ks r → vs ≡ map (meaning w.scene) ks
 values_are w node name ks r vs is h = subst (AreGathered w.scene w.given node name ks) is h
 
-pub is_ready : (w : World) (i : ℕ) (q : Wanted) (r : Resolved) (cs : List ℕ) (p : Picture) → IsProper w.scene → IsHonestWorld w → slice_get w.requests i ≡ Some q →
+pub is_ready : (w : World) (i : ℕ) (q : Wanted) (r : Resolved) (cs : List ℕ) (p : Picture) → IsProper w.scene → IsHonestWorld w →
+    slice_get w.requests i ≡ Some q →
     q.progress ≡ Waiting r cs → w.scene.shows q.wish.name ≡ Some p → IsReady w q r cs p
 is_ready w i q r cs p proper honest at waits shown =
     let s = w.scene in
-    let h : ProgressIsHonest s (facts w) q.wish (Waiting r cs) = subst (ProgressIsHonest s (facts w) q.wish) waits (honest.requests i q at) in
+    let h : ProgressIsHonest s (facts w) q.wish (Waiting r cs) =
+    subst (ProgressIsHonest s (facts w) q.wish) waits (honest.requests i q at) in
     let same : h.0 ≡ p = same_Some h.0 p (sym h.1 ∙ shown) in
     let solved : resolved s p q.wish.request ≡ Ok r = subst (λ (x : Picture). resolved s x q.wish.request ≡ Ok r) same h.2 in
-    let are : AreOf (facts w).callers q.wish.node cs (items s q.wish.name p r) = subst (λ (x : Picture). AreOf (facts w).callers q.wish.node cs (items s q.wish.name x r)) same h.3 in
+    let are : AreOf (facts w).callers q.wish.node cs (items s q.wish.name p r) =
+    subst (λ (x : Picture). AreOf (facts w).callers q.wish.node cs (items s q.wish.name x r)) same h.3 in
     let laws = subject_laws s proper in
     let source = proper.sources q.wish.name p shown in
     let ks = items s q.wish.name p r in
@@ -130,7 +139,8 @@ from_value : (x : Result (List Value) ReadFault) → heard_from x ≡ code.Value
 from_value (Ok vs) h = (vs, refl)
 from_value (Err f) h = absurd cc
 
-pub heard_value : (x : Option (List Outcome)) → heard_all x ≡ code.Value → (os : List Outcome) × (vs : List Value) × (x ≡ Some os) × (collected os ≡ Ok vs)
+pub heard_value : (x : Option (List Outcome)) → heard_all x ≡ code.Value → (os : List Outcome) × (vs : List Value) × (x ≡ Some os) ×
+    (collected os ≡ Ok vs)
 heard_value None h = absurd cc
 heard_value (Some os) h = let v = from_value (collected os) h in (os, v.0, refl, v.1)
 
@@ -138,7 +148,8 @@ from_fault : (x : Result (List Value) ReadFault) (f : ReadFault) → heard_from 
 from_fault (Ok vs) f h = absurd cc
 from_fault (Err g) f h = cc
 
-pub heard_fault : (x : Option (List Outcome)) (f : ReadFault) → heard_all x ≡ code.Fault f → (os : List Outcome) × (x ≡ Some os) × (collected os ≡ Err f)
+pub heard_fault : (x : Option (List Outcome)) (f : ReadFault) → heard_all x ≡ code.Fault f → (os : List Outcome) × (x ≡ Some os) ×
+    (collected os ≡ Err f)
 heard_fault None f h = absurd cc
 heard_fault (Some os) f h = (os, refl, from_fault (collected os) f h)
 
@@ -151,13 +162,17 @@ heard_nothing None h = refl
 heard_nothing (Some os) h = absurd (none_from (collected os) h)
 
 -- the answer that is due
-due_by : (w : World) (q : Wanted) (r : Resolved) (cs : List ℕ) (p : Picture) (x : Option (List Outcome)) → q.progress ≡ Waiting r cs → w.scene.shows q.wish.name ≡ Some p →
+due_by : (w : World) (q : Wanted) (r : Resolved) (cs : List ℕ) (p : Picture) (x : Option (List Outcome)) → q.progress ≡ Waiting r cs →
+    w.scene.shows q.wish.name ≡ Some p →
     all_learned w cs ≡ x → answer_due w q ≡ answer_with w r (Some p) x
 due_by w q r cs p x waits shown known =
-    ap (answer_at w q.wish) waits ∙ ap (λ (y : Option Picture). answer_with w r y (all_learned w cs)) shown ∙ ap (answer_with w r (Some p)) known
+    ap (answer_at w q.wish) waits ∙ ap (λ (y : Option Picture). answer_with w r y (all_learned w cs)) shown ∙
+    ap (answer_with w r (Some p)) known
 
-pub due_value : (w : World) (q : Wanted) (r : Resolved) (cs : List ℕ) (p : Picture) (h : Heard) → IsReady w q r cs p → q.progress ≡ Waiting r cs →
-    w.scene.shows q.wish.name ≡ Some p → h ≡ heard_all (all_learned w cs) → h ≡ code.Value → answer_due w q ≡ Some (Image (images.resolved_image p r))
+pub due_value : (w : World) (q : Wanted) (r : Resolved) (cs : List ℕ) (p : Picture) (h : Heard) → IsReady w q r cs p →
+    q.progress ≡ Waiting r cs →
+    w.scene.shows q.wish.name ≡ Some p → h ≡ heard_all (all_learned w cs) → h ≡ code.Value →
+    answer_due w q ≡ Some (Image (images.resolved_image p r))
 due_value w q r cs p h ready waits shown is value =
     let v = heard_value (all_learned w cs) (sym is ∙ value) in
     due_by w q r cs p (Some v.0) waits shown v.2 ∙ ap (λ (x : Result (List Value) ReadFault). Some (answer_from w.scene p r x)) v.3

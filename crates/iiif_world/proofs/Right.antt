@@ -19,10 +19,12 @@ use Rattle.iiif_machine.proofs.RunsRight.{each_run_is_right}
 use Rattle.iiif_world.specs.Code.{IsSoundWorld}
 use Rattle.iiif_world.specs.Stepping.{IsRightAnswer, AreRightAnswers}
 
-right_by : (w : World) (i : ℕ) (q : Wish) (x : Progress) (a : Answer) → IsSoundWorld w → slice_get w.requests i ≡ Some (record { wish = q; progress = x }) → answer_in x ≡ Some a →
+right_by : (w : World) (i : ℕ) (q : Wish) (x : Progress) (a : Answer) → IsSoundWorld w →
+    slice_get w.requests i ≡ Some (record { wish = q; progress = x }) → answer_in x ≡ Some a →
     AnswerIsRight w.scene w.given q a
 right_by w i q (Waiting r cs) a sound at e = absurd (none-some a e)
-right_by w i q (Answered b) a sound at e = subst (AnswerIsRight w.scene w.given q) (same_Some b a e) (answers_are_right w sound.sound i q b at)
+right_by w i q (Answered b) a sound at e = subst (AnswerIsRight w.scene w.given q) (same_Some b a e)
+    (answers_are_right w sound.sound i q b at)
 right_by w i q Dropped a sound at e = absurd (none-some a e)
 
 pub is_right : (w : World) (i : ℕ) (a : Answer) → IsSoundWorld w → slice_get (answers w) i ≡ Some (Some a) → IsRightAnswer w i a
@@ -39,12 +41,14 @@ run_is_right w v es h is = each_run_is_right w v es h.proper h.sound is
 -- the same of what a call answers
 
 pub one_right : (w : World) (request : ℕ) (o : Option (Bor Answer)) → IsSoundWorld w →
-    MatchOption o ((a : Answer) → slice_get (answers w) request ≡ Some (Some a) → ⊥) (λ a. slice_get (answers w) request ≡ Some (Some a.now)) →
+    MatchOption o ((a : Answer) → slice_get (answers w) request ≡ Some (Some a) → ⊥)
+    (λ a. slice_get (answers w) request ≡ Some (Some a.now)) →
     MatchOption o (Unit {0}) (λ a. IsRightAnswer w request a.now)
 one_right w request (Some a) sound at = is_right w request a.now sound at
 one_right w request None sound at = tt
 
-pub all_right : {V E : Type 0} (w : World) (r : Result V E) (items : V → List (Option Answer)) → IsSoundWorld w → IfOk r (λ v. items v ≡ answers w) →
+pub all_right : {V E : Type 0} (w : World) (r : Result V E) (items : V → List (Option Answer)) → IsSoundWorld w →
+    IfOk r (λ v. items v ≡ answers w) →
     IfOk r (λ v. AreRightAnswers w (items v))
 all_right w (Ok v) items sound e = are_right w (items v) sound e
 all_right w (Err x) items sound e = tt

@@ -27,16 +27,19 @@ pub same_sound : (w v : World) → v ≡ w → IsSoundWorld w → IsSoundWorld v
 same_sound w v is h = subst IsSoundWorld (sym is) h
 
 -- one event more
-more_by : (o : Option World) (v u : World) (f g : World → Option World) → ((z : World) → f z ≡ Some v → g z ≡ Some u) → (o >>= f) ≡ Some v → (o >>= g) ≡ Some u
+more_by : (o : Option World) (v u : World) (f g : World → Option World) → ((z : World) → f z ≡ Some v → g z ≡ Some u) → (o >>= f) ≡ Some v →
+    (o >>= g) ≡ Some u
 more_by None v u f g h is = absurd (none-some v is)
 more_by (Some z) v u f g h is = h z is
 
 run_more : (w v u : World) (es : List Event) (e : Event) → run w es ≡ Some v → step v e ≡ Some u → run w (es ++ e ∷ []) ≡ Some u
 unfolding run
 run_more w v u [] e is next = bind_by (step w e) (λ z. run z []) u (ap (λ (z : World). step z e) (same_Some w v is) ∙ next) refl
-run_more w v u (x ∷ es) e is next = more_by (step w x) v u (λ z. run z es) (λ z. run z (es ++ e ∷ [])) (λ z h. run_more z v u es e h next) is
+run_more w v u (x ∷ es) e is next = more_by (step w x) v u (λ z. run z es) (λ z. run z (es ++ e ∷ [])) (λ z h. run_more z v u es e h next)
+    is
 
-pub run_next : (w v u : World) (es : List Event) (i : ℕ) (e : Event) → i < length es → e ≡ get_or es i e → run w (take i es) ≡ Some v → step v e ≡ Some u →
+pub run_next : (w v u : World) (es : List Event) (i : ℕ) (e : Event) → i < length es → e ≡ get_or es i e → run w (take i es) ≡ Some v →
+    step v e ≡ Some u →
     run w (take (i + 1) es) ≡ Some u
 run_next w v u es i e less is before next =
     ap (run w) (take_more es i e less ∙ ap (λ (x : Event). take i es ++ x ∷ []) (sym is)) ∙ run_more w v u (take i es) e before next

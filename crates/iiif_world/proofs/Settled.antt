@@ -11,7 +11,8 @@ use Rattle.iiif_machine.specs.declared.rows.Stage.TheVariants.{New, Looked, Aski
 use Rattle.iiif_machine.specs.declared.rows.Lead.{Lead}
 use Rattle.iiif_machine.specs.declared.rows.Wanted.{Wanted}
 use Rattle.iiif_machine.specs.declared.rows.Wish.{Wish}
-use Rattle.iiif_machine.specs.Worlds.{World, learned, all_learned, ready_with, resumed, resumed_stage, answered, answered_with, progressed, settled}
+use Rattle.iiif_machine.specs.Worlds.{World, learned, all_learned, ready_with, resumed, resumed_stage, answered, answered_with, progressed}
+use Rattle.iiif_machine.specs.Worlds.{settled}
 use Rattle.iiif_world.specs.Settling.{due, due_at, ready_if, answer_due, answer_at, answer_with, answered_if, joined}
 use Rattle.iiif_world.proofs.Changed.{joined_map}
 
@@ -53,8 +54,10 @@ answered_at w q Dropped = refl
 pub requests_settled : (w : World) → joined answered_if w.requests (map (answer_due w) w.requests) ≡ map (answered w) w.requests
 requests_settled w = joined_map answered_if (answer_due w) (answered w) w.requests (λ q. answered_at w q.wish q.progress)
 
-pub settled_is : (w : World) (fs : List Flight) (qs : List Wanted) (os : List (Option Outcome)) (xs : List (Option Answer)) → os ≡ map (due w) w.flights → xs ≡ map (answer_due w) w.requests →
+pub settled_is : (w : World) (fs : List Flight) (qs : List Wanted) (os : List (Option Outcome)) (xs : List (Option Answer)) →
+    os ≡ map (due w) w.flights → xs ≡ map (answer_due w) w.requests →
     fs ≡ joined ready_if w.flights os → qs ≡ joined answered_if w.requests xs → record w { flights = fs; requests = qs } ≡ settled w
 settled_is w fs qs os xs ho hx hf hq =
     ap (λ (l : List Flight). record w { flights = l; requests = qs }) (hf ∙ ap (joined ready_if w.flights) ho ∙ flights_settled w)
-    ∙ ap (λ (l : List Wanted). record w { flights = map (resumed w) w.flights; requests = l }) (hq ∙ ap (joined answered_if w.requests) hx ∙ requests_settled w)
+    ∙ ap (λ (l : List Wanted). record w { flights = map (resumed w) w.flights; requests = l })
+    (hq ∙ ap (joined answered_if w.requests) hx ∙ requests_settled w)

@@ -1,5 +1,6 @@
 -- The pictures of a catalogue, and nodes by their names.
-use Rattle.std.proofs.Common.{◌≡◌, ℕ, zero, suc, ◌<◌, ◌≤◌, Bool, true, false, List, [], ◌∷◌, length, Some, None, refl, sym, ap, ◌∙◌, get_or, arith}
+use Rattle.std.proofs.Common.{◌≡◌, ℕ, zero, suc, ◌<◌, ◌≤◌, Bool, true, false, List, [], ◌∷◌, length, Some, None, refl, sym, ap, ◌∙◌}
+use Rattle.std.proofs.Common.{get_or, arith}
 use Rattle.std.specs.Prelude.{slice_get, position, if◌then◌else◌}
 use Rattle.std.specs.List.{position_or_len}
 use Rattle.std.proofs.lemmas.Option.{none-some, get_or_from_slice_get, slice_get-get_or, same_Some}
@@ -21,7 +22,8 @@ shown_at name (g ∷ is) (suc n) e at named before =
     ap (λ (b : Bool). if b then Some g.picture else shown_in is name) (before zero (omega arith))
     ∙ shown_at name is n e at named (λ k less. before (suc k) (omega arith))
 
-pub shown_found : (name : List ℕ) (is : List Item) (n : ℕ) (e d : Item) → position (has_name name) is ≡ Some n → e ≡ get_or is n d → shown_in is name ≡ Some e.picture
+pub shown_found : (name : List ℕ) (is : List Item) (n : ℕ) (e d : Item) → position (has_name name) is ≡ Some n → e ≡ get_or is n d →
+    shown_in is name ≡ Some e.picture
 shown_found name [] n e d h is = absurd (none-some n h)
 shown_found name (g ∷ is) n e d h same =
     let p = position-Some (has_name name) (g ∷ is) n g h in
@@ -30,10 +32,12 @@ shown_found name (g ∷ is) n e d h same =
     let at : slice_get (g ∷ is) n ≡ Some f = slice_get-get_or (g ∷ is) n g p.0 in
     shown_at name (g ∷ is) n f at p.1 q.2 ∙ ap (λ (x : Item). Some x.picture) (sym (same ∙ get_or_from_slice_get (g ∷ is) n f d at))
 
-all_fail : (name : List ℕ) (is : List Item) → ((j : ℕ) (d : Item) → j < length is → has_name name (get_or is j d) ≡ false) → shown_in is name ≡ None
+all_fail : (name : List ℕ) (is : List Item) → ((j : ℕ) (d : Item) → j < length is → has_name name (get_or is j d) ≡ false) →
+    shown_in is name ≡ None
 all_fail name [] h = refl
 all_fail name (g ∷ is) h =
-    ap (λ (b : Bool). if b then Some g.picture else shown_in is name) (h zero g (omega arith)) ∙ all_fail name is (λ j d less. h (suc j) d (omega arith))
+    ap (λ (b : Bool). if b then Some g.picture else shown_in is name) (h zero g (omega arith)) ∙
+    all_fail name is (λ j d less. h (suc j) d (omega arith))
 
 pub shown_missing : (name : List ℕ) (is : List Item) → position (has_name name) is ≡ None → shown_in is name ≡ None
 shown_missing name is h =

@@ -18,7 +18,8 @@ pub row_at : {A : Type 0} (xs : List A) (i : ℕ) (x y : A) → x ≡ get_or xs 
 row_at xs i x y is at = is ∙ get_or_from_slice_get xs i y x at
 
 -- the node at a place
-pub found_at : (ns : List Node) (i j : ℕ) (x : Node) (n : rows.Node) → i ≡ j → x ≡ get_or ns i x → slice_get (map node_of ns) j ≡ Some n → (slice_get ns i ≡ Some x) × (node_of x ≡ n)
+pub found_at : (ns : List Node) (i j : ℕ) (x : Node) (n : rows.Node) → i ≡ j → x ≡ get_or ns i x → slice_get (map node_of ns) j ≡ Some n →
+    (slice_get ns i ≡ Some x) × (node_of x ≡ n)
 found_at ns i j x n same is there =
     let h = get_mapped node_of ns j n there in
     let at : slice_get ns i ≡ Some h.0 = ap (slice_get ns) same ∙ h.1 in
@@ -30,11 +31,13 @@ pub node_put : (w : World) (ns : List Node) (i j : ℕ) (m : Node) (o : rows.Nod
     record w { nodes = map node_of (slice_set ns i m) } ≡ with_node w j o
 node_put w ns i j m o all same made =
     ap (λ (xs : List rows.Node). record w { nodes = xs })
-    (map-set node_of ns i m ∙ ap (λ (xs : List rows.Node). slice_set xs i (node_of m)) (sym all) ∙ ap (λ k. slice_set w.nodes k (node_of m)) same
+    (map-set node_of ns i m ∙ ap (λ (xs : List rows.Node). slice_set xs i (node_of m)) (sym all) ∙
+    ap (λ k. slice_set w.nodes k (node_of m)) same
     ∙ ap (λ (x : rows.Node). slice_set w.nodes j x) made)
 
 -- or stays as it was
-pub node_kept : (w : World) (ns : List Node) (i : ℕ) (x m : Node) → w.nodes ≡ map node_of ns → slice_get ns i ≡ Some x → node_of m ≡ node_of x →
+pub node_kept : (w : World) (ns : List Node) (i : ℕ) (x m : Node) → w.nodes ≡ map node_of ns → slice_get ns i ≡ Some x →
+    node_of m ≡ node_of x →
     record w { nodes = map node_of (slice_set ns i m) } ≡ w
 node_kept w ns i x m all at same = ap (λ (xs : List rows.Node). record w { nodes = xs }) (map_set node_of ns i x m at same ∙ sym all)
 
@@ -42,7 +45,8 @@ node_kept w ns i x m all at same = ap (λ (xs : List rows.Node). record w { node
 pub dues_stay : (w v : World) (i : ℕ) (n : rows.Node) → v ≡ with_node w i n → map (due w) w.flights ≡ map (due v) v.flights
 dues_stay w v i n is = sym (ap (λ (z : World). map (due z) z.flights) is)
 
-pub answers_stay : (w v : World) (i : ℕ) (n : rows.Node) → v ≡ with_node w i n → map (answer_due w) w.requests ≡ map (answer_due v) v.requests
+pub answers_stay : (w v : World) (i : ℕ) (n : rows.Node) → v ≡ with_node w i n →
+    map (answer_due w) w.requests ≡ map (answer_due v) v.requests
 answers_stay w v i n is = sym (ap (λ (z : World). map (answer_due z) z.requests) is)
 
 -- an outcome of a value, or of none

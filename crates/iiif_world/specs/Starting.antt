@@ -12,7 +12,14 @@ use Rattle.iiif_world.specs.declared.contents.Item.{Item}
 
 -- the node that is made of its name, its ring, its version and the limits of its tables
 abbrev pub node_for : Setup → Node
-node_for s = record { name = s.name; ring = s.ring; version = s.version; tiles = tables.empty_table s.limit s.room; sums = tables.empty_table s.limit s.room }
+node_for s = record {
+  name = s.name;
+  ring = s.ring;
+  version = s.version;
+  tiles = tables.empty_table s.limit s.room;
+  sums =
+      tables.empty_table s.limit s.room;
+}
 
 -- one of the nodes has this name
 abbrev pub IsNamed : List Setup → List ℕ → Type 0

@@ -5,7 +5,8 @@ ghost use Rattle.iiif_machine.specs.declared.rows.Lead.{Lead};
 ghost use Rattle.iiif_machine.specs.declared.rows.Caller.{Caller};
 ghost use Rattle.iiif_machine.specs.declared.rows.CallState.{CallState};
 ghost use Rattle.iiif_machine.specs.declared.rows.Stage.{Stage};
-ghost use Rattle.iiif_machine.specs.Worlds.{version_at, version_shown, with_ask, with_calls, with_given, with_reply, with_stage, with_state};
+ghost use Rattle.iiif_machine.specs.Worlds.{version_at, version_shown, with_ask, with_calls, with_given, with_reply, with_stage};
+ghost use Rattle.iiif_machine.specs.Worlds.with_state;
 ghost use Rattle.iiif_plain_tables.specs.Nodes.{node_of};
 ghost use Rattle.iiif_world.specs.Code.{has_name, world_of};
 
@@ -67,7 +68,8 @@ fn row_of(nodes: &[Node], node: usize) -> Option<&Node>
 impl Contents {
     /// The picture of a name.
     pub(crate) fn picture(&self, name: &Name) -> Option<&Raster>
-        ensures { MatchOption result ((world_of self.now).scene.shows name.now ≡ None) (λ r. (world_of self.now).scene.shows name.now ≡ Some r.now) }
+        ensures { MatchOption result ((world_of self.now).scene.shows name.now ≡ None)
+            (λ r. (world_of self.now).scene.shows name.now ≡ Some r.now) }
     {
         match place_of(&self.catalogue, name) {
             Some(place) => Some(&self.catalogue[place].picture),
@@ -88,7 +90,8 @@ impl Contents {
 
     /// The node of a number.
     pub(crate) fn node_at(&self, node: usize) -> Option<&Node>
-        ensures { MatchOption result (slice_get (world_of self.now).nodes node ≡ None) (λ n. slice_get (world_of self.now).nodes node ≡ Some (node_of n.now)) }
+        ensures { MatchOption result (slice_get (world_of self.now).nodes node ≡ None)
+            (λ n. slice_get (world_of self.now).nodes node ≡ Some (node_of n.now)) }
     {
         match row_of(&self.nodes, node) {
             Some(found) => Some(found),
@@ -98,28 +101,32 @@ impl Contents {
 
     /// The flight of a number.
     pub(crate) fn flight_at(&self, flight: usize) -> Option<&Flight>
-        ensures { MatchOption result (slice_get (world_of self.now).flights flight ≡ None) (λ f. slice_get (world_of self.now).flights flight ≡ Some f.now) }
+        ensures { MatchOption result (slice_get (world_of self.now).flights flight ≡ None)
+            (λ f. slice_get (world_of self.now).flights flight ≡ Some f.now) }
     {
         self.flights.get(flight)
     }
 
     /// The call of a number.
     pub(crate) fn call_at(&self, call: usize) -> Option<&Call>
-        ensures { MatchOption result (slice_get (world_of self.now).calls call ≡ None) (λ c. slice_get (world_of self.now).calls call ≡ Some c.now) }
+        ensures { MatchOption result (slice_get (world_of self.now).calls call ≡ None)
+            (λ c. slice_get (world_of self.now).calls call ≡ Some c.now) }
     {
         self.calls.get(call)
     }
 
     /// The ask of a number.
     pub(crate) fn ask_at(&self, ask: usize) -> Option<&Ask>
-        ensures { MatchOption result (slice_get (world_of self.now).asks ask ≡ None) (λ a. slice_get (world_of self.now).asks ask ≡ Some a.now) }
+        ensures { MatchOption result (slice_get (world_of self.now).asks ask ≡ None)
+            (λ a. slice_get (world_of self.now).asks ask ≡ Some a.now) }
     {
         self.asks.get(ask)
     }
 
     /// The reply of a number.
     pub(crate) fn reply_at(&self, reply: usize) -> Option<&Reply>
-        ensures { MatchOption result (slice_get (world_of self.now).replies reply ≡ None) (λ r. slice_get (world_of self.now).replies reply ≡ Some r.now) }
+        ensures { MatchOption result (slice_get (world_of self.now).replies reply ≡ None)
+            (λ r. slice_get (world_of self.now).replies reply ≡ Some r.now) }
     {
         self.replies.get(reply)
     }

@@ -1,6 +1,7 @@
 //! The event of a call that enters.
 
-ghost use Rattle.std.specs.Prelude.{◌≡◌, ◌<◌, length, position, slice_get, vec_capacity, vec_len, Some, None, IfErr, IfOk, MatchOption, OnErr, OnOk};
+ghost use Rattle.std.specs.Prelude.{◌≡◌, ◌<◌, length, position, slice_get, vec_capacity, vec_len, Some, None, IfErr, IfOk, MatchOption};
+ghost use Rattle.std.specs.Prelude.{OnErr, OnOk};
 ghost use Rattle.iiif_tables.specs.Flights.{enter as entering};
 ghost use Rattle.iiif_scene.specs.Keys.{key_eq};
 ghost use Rattle.iiif_scene.specs.Scenes.{IsProper};
@@ -30,7 +31,8 @@ impl Contents {
         ensures met { IfOk result (λ r. (who : Caller) (n : Node) → HasCall (world_of self.old) call who n
             → entered_of r ≡ (entering key_eq who.class who.key (table_at n who.key)).0) }
         ensures node { OnOk result ((who : Caller) (n : Node) → HasCall (world_of self.old) call who n
-            → world_of self.new ≡ with_node (world_of self.old) who.node (put_table n who.key (entering key_eq who.class who.key (table_at n who.key)).1)) }
+            → world_of self.new ≡ with_node (world_of self.old) who.node
+            (put_table n who.key (entering key_eq who.class who.key (table_at n who.key)).1)) }
         ensures flights { self.new.flights ≡ self.old.flights }
         ensures err { OnErr result (world_of self.new ≡ world_of self.old) }
     {
@@ -102,7 +104,8 @@ impl Contents {
         requires room { vec_len self.old.flights < vec_capacity self.old.flights }
         requires there { call < length (world_of self.old).calls }
         ensures { (who : Caller) (s : CallState) → slice_get (world_of self.old).calls call ≡ Some (record { caller = who; state = s })
-            → world_of self.new ≡ with_state (with_flight (world_of self.old) lead) call who (CallState.In (length (world_of self.old).flights)) }
+            → world_of self.new ≡ with_state (with_flight (world_of self.old) lead) call who
+            (CallState.In (length (world_of self.old).flights)) }
     {
         let number = self.flights.len();
         self.add_flight(lead);

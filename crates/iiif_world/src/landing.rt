@@ -41,7 +41,8 @@ impl Contents {
     /// A flight that is ready ends.
     fn end(&mut self, flight: usize)
         requires { flight < length (world_of self.old).flights }
-        ensures { (l : Lead) (o : Outcome) (p : Place) → slice_get (world_of self.old).flights flight ≡ Some (record { lead = l; stage = Stage.Ready o p })
+        ensures { (l : Lead) (o : Outcome) (p : Place) →
+            slice_get (world_of self.old).flights flight ≡ Some (record { lead = l; stage = Stage.Ready o p })
             → world_of self.new ≡ with_stage (world_of self.old) flight l (Stage.Ended (Some o)) }
     {
         end_flight(&mut self.flights[flight]);
@@ -50,7 +51,8 @@ impl Contents {
     /// A flight that ended with an outcome is ready again.
     fn reopen(&mut self, flight: usize, place: Place)
         requires { flight < length (world_of self.old).flights }
-        ensures { (l : Lead) (o : Outcome) → slice_get (world_of self.old).flights flight ≡ Some (record { lead = l; stage = Stage.Ended (Some o) })
+        ensures { (l : Lead) (o : Outcome) → slice_get (world_of self.old).flights flight ≡ Some
+            (record { lead = l; stage = Stage.Ended (Some o) })
             → world_of self.new ≡ with_stage (world_of self.old) flight l (Stage.Ready o place) }
     {
         reopen_flight(&mut self.flights[flight], place);
@@ -66,7 +68,8 @@ impl Contents {
     ) -> Result<(), NoMemory>
         requires { (l : Lead) × (n : Node) × HasFlight (world_of self.old) flight l n }
         ensures ok { OnOk result ((l : Lead) (n : Node) (o : Outcome) → HasFlight (world_of self.old) flight l n → value_of o ≡ value
-            → world_of self.new ≡ with_node (world_of self.old) l.node (put_table n l.key (landed (table_at n l.key) l.key l.class l.ticket o place keep))) }
+            → world_of self.new ≡ with_node (world_of self.old) l.node
+            (put_table n l.key (landed (table_at n l.key) l.key l.class l.ticket o place keep))) }
         ensures err { OnErr result (world_of self.new ≡ world_of self.old) }
     {
         let lead = &self.flights[flight].lead;

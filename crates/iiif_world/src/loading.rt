@@ -44,7 +44,8 @@ impl Contents {
     pub(crate) fn source_fault(&mut self, flight: usize, fault: ReadFault) -> Result<(), WorldFault>
         ensures ok { OnOk result (step (world_of self.old) (Event.SourceFault flight fault) ≡ Some (world_of self.new)) }
         ensures not_now { IfErr result (λ f. f ≡ WorldFault.NotNow → step (world_of self.old) (Event.SourceFault flight fault) ≡ None) }
-        ensures no_memory { IfErr result (λ f. f ≡ WorldFault.NoMemory → ¬ (step (world_of self.old) (Event.SourceFault flight fault) ≡ None)) }
+        ensures no_memory { IfErr result (λ f. f ≡ WorldFault.NoMemory →
+            ¬ (step (world_of self.old) (Event.SourceFault flight fault) ≡ None)) }
         ensures same { OnErr result (world_of self.new ≡ world_of self.old) }
     {
         let Some(row) = self.flight_at(flight) else {
@@ -97,7 +98,8 @@ impl Contents {
         requires proper { IsProper (world_of self.now).scene }
         requires honest { IsHonestWorld (world_of self.now) }
         requires there { flight < length (world_of self.now).flights }
-        ensures { IfOk result (λ v. (f : Flight) → slice_get (world_of self.now).flights flight ≡ Some f → v ≡ meaning (world_of self.now).scene f.lead.key) }
+        ensures { IfOk result (λ v. (f : Flight) → slice_get (world_of self.now).flights flight ≡ Some f →
+            v ≡ meaning (world_of self.now).scene f.lead.key) }
     {
         let value = self.meaning(&self.flights[flight].lead.key)?;
         Ok(value)
@@ -121,7 +123,8 @@ impl Contents {
         requires proper { IsProper (world_of self.now).scene }
         requires honest { IsHonestWorld (world_of self.now) }
         requires loading { IsLoading (world_of self.now) flight Loading.Split }
-        ensures { IfOk result (λ r. (a : IsLocalAt (world_of self.now) flight Stage.Looked) → (keys : List Key) × (parts_of a.lead.key ≡ Some keys)
+        ensures { IfOk result (λ r. (a : IsLocalAt (world_of self.now) flight Stage.Looked) → (keys : List Key) ×
+            (parts_of a.lead.key ≡ Some keys)
             × (r.0.items ≡ map fresh (map (call_for a.lead.node a.node (Purpose.ForPart flight)) keys))
             × (r.1.items ≡ numbers (length (world_of self.now).calls) keys)) }
     {

@@ -57,7 +57,8 @@ impl Contents {
     /// What of a wide flight that has looked again never changes.
     fn wide_lead(&self, flight: usize) -> Option<&Lead>
         ensures { MatchOption result (step (world_of self.now) (Event.AskPeer flight) ≡ None)
-            (λ l. (slice_get (world_of self.now).flights flight ≡ Some (record { lead = l.now; stage = Stage.Looked })) × (l.now.class ≡ Class.Wide)) }
+            (λ l. (slice_get (world_of self.now).flights flight ≡ Some (record { lead = l.now; stage = Stage.Looked })) ×
+            (l.now.class ≡ Class.Wide)) }
     {
         let Some(row) = self.flight_at(flight) else {
             return None;
@@ -77,7 +78,8 @@ impl Contents {
         ensures found { IfOk result (λ r. (l : Lead) (n : rows.Node) → HasFlight (world_of self.old) flight l n
             → r ≡ (looked_again (table_at n l.key) l.key l.class l.ticket).0) }
         ensures node { OnOk result ((l : Lead) (n : rows.Node) → HasFlight (world_of self.old) flight l n
-            → world_of self.new ≡ with_node (world_of self.old) l.node (put_table n l.key (looked_again (table_at n l.key) l.key l.class l.ticket).1)) }
+            → world_of self.new ≡ with_node (world_of self.old) l.node
+            (put_table n l.key (looked_again (table_at n l.key) l.key l.class l.ticket).1)) }
         ensures err { OnErr result (world_of self.new ≡ world_of self.old) }
     {
         let lead = &self.flights[flight].lead;

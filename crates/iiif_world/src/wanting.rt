@@ -42,7 +42,8 @@ fn kind_of(picture: &Raster) -> Kind
 impl Contents {
     /// A request more, and its calls. After an error all is as before.
     fn add_request(&mut self, wanted: Wanted, calls: Vec<Call>) -> Result<(), NoMemory>
-        ensures ok { OnOk result (world_of self.new ≡ record (with_request (world_of self.old) wanted.wish wanted.progress) { calls = (world_of self.old).calls ++ calls.items }) }
+        ensures ok { OnOk result (world_of self.new ≡ record (with_request (world_of self.old) wanted.wish wanted.progress)
+            { calls = (world_of self.old).calls ++ calls.items }) }
         ensures err { OnErr result (world_of self.new ≡ world_of self.old) }
     {
         let mut calls = calls;
@@ -148,8 +149,10 @@ impl Contents {
     ) -> Result<(), WorldFault>
         requires proper { IsProper (world_of self.old).scene }
         ensures ok { OnOk result (step (world_of self.old) (Event.Want node name.now request.now) ≡ Some (world_of self.new)) }
-        ensures not_now { IfErr result (λ f. f ≡ WorldFault.NotNow → step (world_of self.old) (Event.Want node name.now request.now) ≡ None) }
-        ensures no_memory { IfErr result (λ f. f ≡ WorldFault.NoMemory → ¬ (step (world_of self.old) (Event.Want node name.now request.now) ≡ None)) }
+        ensures not_now { IfErr result (λ f. f ≡ WorldFault.NotNow →
+            step (world_of self.old) (Event.Want node name.now request.now) ≡ None) }
+        ensures no_memory { IfErr result (λ f. f ≡ WorldFault.NoMemory →
+            ¬ (step (world_of self.old) (Event.Want node name.now request.now) ≡ None)) }
         ensures same { OnErr result (world_of self.new ≡ world_of self.old) }
     {
         let Some((wanted, calls)) = self.wanted(node, name, request.request())? else {

@@ -101,7 +101,8 @@ impl World {
     pub fn run(self, events: &[Event]) -> Result<World, (usize, WorldFault)>
         ensures ok { IfOk result (λ w. run (world_of self) events.now ≡ Some (world_of w)) }
         ensures err { IfErr result (λ e. (v : worlds.World) × (x : Event) × (run (world_of self) (take e.0 events.now) ≡ Some v)
-            × (slice_get events.now e.0 ≡ Some x) × (e.1 ≡ WorldFault.NotNow → step v x ≡ None) × (e.1 ≡ WorldFault.NoMemory → ¬ (step v x ≡ None))) }
+            × (slice_get events.now e.0 ≡ Some x) × (e.1 ≡ WorldFault.NotNow → step v x ≡ None) ×
+            (e.1 ≡ WorldFault.NoMemory → ¬ (step v x ≡ None))) }
         ensures follows { IfOk result (λ w. Follows (world_of self) (world_of w)) }
         ensures sound { IfOk result (λ w. IsSoundWorld (world_of w)) }
         ensures headline { IfOk result (λ w. Headline (world_of self) events.now (world_of w)) }

@@ -10,7 +10,8 @@ loop-line-preserved g c =
     let known = lines_known_bytes g.R.Read.remaining in
     let contents = g.W.Write.contents in
     let came = c.in_ok-put_line.ensures in
-    went_on (g.R.Read.remaining c.args.reader) (known c.loop-line.line-iterator) (known c.next.new.self) c.loop-line.number c.saturating_add-number.result
+    went_on (g.R.Read.remaining c.args.reader) (known c.loop-line.line-iterator) (known c.next.new.self) c.loop-line.number
+    c.saturating_add-number.result
     c.loop-line.replay.state c.put_line.new.replay.state (contents c.args.out.now) (contents c.loop-line.out) (contents c.put_line.new.out)
     c.as_str.result.now (string_bytes c.in-Ok.line) came.0 c.loop-line.invariant (rw c.in-Ok.is at c.in-Some.ensures.steps.1)
     c.as_str.ensures.value c.saturating_add-number.ensures came.1 came.2
@@ -22,5 +23,7 @@ returns g c =
     let old = g.W.Write.contents c.args.out.now in
     let mid = g.W.Write.contents c.loop-line.out in
     let new = g.W.Write.contents c.put_end.new.out in
-    on_ok_then {P = Appends mid new (ended_text c.loop-line.replay.state)} {Q = (text : List ℕ) × Replays input text × Appends old new text} c.put_end.result
-    (finished input left c.loop-line.number c.loop-line.replay.state old mid new c.loop-line.invariant c.in-None.ensures.steps.1) c.put_end.ensures
+    on_ok_then {P = Appends mid new (ended_text c.loop-line.replay.state)} {Q = (text : List ℕ) × Replays input text × Appends old new text}
+    c.put_end.result
+    (finished input left c.loop-line.number c.loop-line.replay.state old mid new c.loop-line.invariant c.in-None.ensures.steps.1)
+    c.put_end.ensures

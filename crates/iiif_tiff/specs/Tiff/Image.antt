@@ -2,7 +2,8 @@
 use Rattle.std.specs.Prelude.{ℕ, ◌*◌, ◌-◌, ◌^◌, Bool, List, map, min, is_some, ◌==◌, if◌then◌else◌}
 use Rattle.std.specs.List.{range_with_len}
 use Rattle.std.specs.Int.{div_ceil}
-use Rattle.iiif_tiff.specs.Tiff.Tags.{ImageWidth, ImageLength, BitsPerSample, PhotometricInterpretation, SamplesPerPixel, RowsPerStrip, StripOffsets, StripByteCounts, TileWidth, TileLength, TileOffsets, TileByteCounts}
+use Rattle.iiif_tiff.specs.Tiff.Tags.{ImageWidth, ImageLength, BitsPerSample, PhotometricInterpretation, SamplesPerPixel, RowsPerStrip}
+use Rattle.iiif_tiff.specs.Tiff.Tags.{StripOffsets, StripByteCounts, TileWidth, TileLength, TileOffsets, TileByteCounts}
 use Rattle.iiif_tiff.specs.Tiff.Structure.{Order, order, entry_of, value_or, all_are}
 
 -- Section 8, ImageWidth: the columns of the image.

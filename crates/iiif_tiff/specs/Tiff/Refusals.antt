@@ -1,11 +1,15 @@
 -- Which files are not images for this workspace, and why: checks of the whole file, of which the first that applies counts.
 -- The standard's baseline, sections 2 to 8, and tiles, section 15, without compression, palettes and planes.
-use Rattle.std.specs.Prelude.{ℕ, ◌+◌, ◌*◌, ◌^◌, Bool, true, false, not, ◌&&◌, ◌||◌, List, [], ◌∷◌, length, map, slice_index, Option, Some, None, is_some, nat_lt, nat_le, ◌==◌, if◌then◌else◌}
+use Rattle.std.specs.Prelude.{ℕ, ◌+◌, ◌*◌, ◌^◌, Bool, true, false, not, ◌&&◌, ◌||◌, List, [], ◌∷◌, length, map, slice_index, Option, Some}
+use Rattle.std.specs.Prelude.{None, is_some, nat_lt, nat_le, ◌==◌, if◌then◌else◌}
 use Rattle.std.specs.Option.{option_map_or}
 use Rattle.std.specs.List.{range_with_len}
-use Rattle.iiif_tiff.specs.Tiff.Tags.{ImageWidth, ImageLength, BitsPerSample, Compression, PhotometricInterpretation, FillOrder, Orientation, SamplesPerPixel, RowsPerStrip, PlanarConfiguration, TileWidth, TileLength, ExtraSamples, SampleFormat}
+use Rattle.iiif_tiff.specs.Tiff.Tags.{ImageWidth, ImageLength, BitsPerSample, Compression, PhotometricInterpretation, FillOrder}
+use Rattle.iiif_tiff.specs.Tiff.Tags.{Orientation, SamplesPerPixel, RowsPerStrip, PlanarConfiguration, TileWidth, TileLength, ExtraSamples}
+use Rattle.iiif_tiff.specs.Tiff.Tags.{SampleFormat}
 use Rattle.iiif_tiff.specs.Tiff.Structure.{Entry, directory, entry_count, entry_of, is_unsigned, size, is_inside, offset, value_or, all_are}
-use Rattle.iiif_tiff.specs.Tiff.Image.{width, height, channels, is_tiled, rows_per_strip, pieces, offsets_tag, counts_tag, piece_offset, piece_byte_count, scheme, piece_bytes}
+use Rattle.iiif_tiff.specs.Tiff.Image.{width, height, channels, is_tiled, rows_per_strip, pieces, offsets_tag, counts_tag, piece_offset}
+use Rattle.iiif_tiff.specs.Tiff.Image.{piece_byte_count, scheme, piece_bytes}
 
 -- A number is the tag of the field that is at fault.
 pub data Refusal : Type 0 where
@@ -92,15 +96,20 @@ sides bytes =
 
 -- one sample a place, or three
 unfoldable pub samples_per_pixel : List ℕ → Option Refusal
-samples_per_pixel bytes = optional bytes SamplesPerPixel one <|> line (channels bytes == 0) (BadField SamplesPerPixel) <|> line (not (channels bytes == 1 || channels bytes == 3)) (Unsupported SamplesPerPixel)
+samples_per_pixel bytes = optional bytes SamplesPerPixel one <|> line (channels bytes == 0) (BadField SamplesPerPixel) <|> line
+    (not (channels bytes == 1 || channels bytes == 3)) (Unsupported SamplesPerPixel)
 
 -- 8 bits for all samples, or 16, or 1 bit for the only one
 unfoldable pub bits_per_sample : List ℕ → Option Refusal
-bits_per_sample bytes = optional bytes BitsPerSample (one_or (channels bytes)) <|> line (not (all_are bytes BitsPerSample 1 8 || all_are bytes BitsPerSample 1 16 || channels bytes == 1 && all_are bytes BitsPerSample 1 1)) (Unsupported BitsPerSample)
+bits_per_sample bytes = optional bytes BitsPerSample (one_or (channels bytes)) <|> line
+    (not (all_are bytes BitsPerSample 1 8 || all_are bytes BitsPerSample 1 16 || channels bytes == 1 && all_are bytes BitsPerSample 1 1))
+    (Unsupported BitsPerSample)
 
 -- WhiteIsZero (0) or BlackIsZero (1) with one sample, RGB (2) with three
 unfoldable pub photometric : List ℕ → Option Refusal
-photometric bytes = needed bytes PhotometricInterpretation one <|> line (not (if channels bytes == 1 then nat_le (value_or bytes PhotometricInterpretation 0 0) 1 else value_or bytes PhotometricInterpretation 0 0 == 2)) (Unsupported PhotometricInterpretation)
+photometric bytes = needed bytes PhotometricInterpretation one <|> line
+    (not (if channels bytes == 1 then nat_le (value_or bytes PhotometricInterpretation 0 0) 1 else value_or bytes PhotometricInterpretation
+    0 0 == 2)) (Unsupported PhotometricInterpretation)
 
 -- chunky (1); with one sample the field has no meaning, and is not looked at
 unfoldable pub planar_configuration : List ℕ → Option Refusal
@@ -112,7 +121,8 @@ extra_samples bytes = line (is_some (entry_of bytes ExtraSamples)) (Unsupported 
 
 -- Section 19: unsigned integers (1)
 unfoldable pub sample_format : List ℕ → Option Refusal
-sample_format bytes = optional bytes SampleFormat (one_or (channels bytes)) <|> line (not (all_are bytes SampleFormat 1 1)) (Unsupported SampleFormat)
+sample_format bytes = optional bytes SampleFormat (one_or (channels bytes)) <|> line (not (all_are bytes SampleFormat 1 1))
+    (Unsupported SampleFormat)
 
 -- no compression, high bits first, the first row at the top and the first column at the left
 unfoldable pub samples : List ℕ → Option Refusal
@@ -124,7 +134,8 @@ samples bytes =
 
 -- a side from 1 to 2^20; section 15 wants multiples of 16, and any are taken
 unfoldable pub tile_side : List ℕ → ℕ → Option Refusal
-tile_side bytes tag = needed bytes tag one <|> line (value_or bytes tag 0 0 == 0) (BadField tag) <|> line (nat_lt (2 ^ 20) (value_or bytes tag 0 0)) TooLarge
+tile_side bytes tag = needed bytes tag one <|> line (value_or bytes tag 0 0 == 0) (BadField tag) <|> line
+    (nat_lt (2 ^ 20) (value_or bytes tag 0 0)) TooLarge
 
 -- at most 2^20 tiles
 unfoldable pub tile_grid : List ℕ → Option Refusal

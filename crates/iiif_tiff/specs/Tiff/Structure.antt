@@ -1,6 +1,7 @@
 -- A file's bytes as numbers, and its first directory as fields: TIFF 6.0, section 2. Nothing is asked of the bytes: where
 -- a number reaches past their end, its missing bytes are 0, and the checks refuse the file.
-use Rattle.std.specs.Prelude.{ℕ, ◌+◌, ◌*◌, Bool, ◌||◌, List, [], ◌∷◌, map, take, drop, slice_index, Option, nat_le, ◌==◌, if◌then◌else◌, find}
+use Rattle.std.specs.Prelude.{ℕ, ◌+◌, ◌*◌, Bool, ◌||◌, List, [], ◌∷◌, map, take, drop, slice_index, Option, nat_le, ◌==◌, if◌then◌else◌}
+use Rattle.std.specs.Prelude.{find}
 use Rattle.std.specs.Option.{option_map_or}
 use Rattle.std.specs.List.{list_all, range_with_len}
 use Rattle.std.specs.Int.{Width, w8, w16, w32, from_le_bytes, from_be_bytes}
@@ -35,7 +36,13 @@ pub record Entry : Type 0 where
   pub inside : List ℕ
 
 unfoldable pub entry : List ℕ → ℕ → Entry
-entry bytes at = record { tag = short bytes at; kind = short bytes (at + 2); count = long bytes (at + 4); inside = take 4 (drop (at + 8) bytes) }
+entry bytes at = record {
+  tag = short bytes at;
+  kind = short bytes (at + 2);
+  count = long bytes (at + 4);
+  inside =
+      take 4 (drop (at + 8) bytes);
+}
 
 -- Section 2, "Image File Directory": the header names the place of the first one, which has a number of entries, and then
 -- the entries one after another.

@@ -10,4 +10,5 @@ unfolding is_host
 returns-then-text-gt0 c =
     let some : 0 < length c.args.text.now = omega arith in
     some_pass is_host_byte c.args.text.now c.all.result some
-    (all_from_yields_List is_host_byte _ _ _ c.all.ensures.ran (YieldsList-from_slice c.args.text.now cc) (λ x b q k. search (rules, tests)))
+    (all_from_yields_List is_host_byte _ _ _ c.all.ensures.ran (YieldsList-from_slice c.args.text.now cc)
+    (λ x b q k. search (rules, tests)))

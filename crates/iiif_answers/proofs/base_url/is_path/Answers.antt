@@ -7,5 +7,6 @@ use Rattle.iiif_answers.proofs.base_url.is_path.Goals as goal
 pub returns : goal.returns
 returns c =
     all_from_yields_List is_segment _ _ _ c.all.ensures.ran
-    (YieldsList-from_slice_split _ (λ (b : ℕ). b == 47) c.args.text.now c.split.ensures.rest c.split.ensures.done c.split.ensures.closure (λ x b q k. search (rules, tests)))
+    (YieldsList-from_slice_split _ (λ (b : ℕ). b == 47) c.args.text.now c.split.ensures.rest c.split.ensures.done c.split.ensures.closure
+    (λ x b q k. search (rules, tests)))
     (λ x b q k. search (rules, tests))

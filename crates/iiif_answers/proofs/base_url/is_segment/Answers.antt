@@ -11,4 +11,5 @@ unfolding is_segment
 returns-then-text-gt0 c =
     let some : 0 < length c.args.text.now = omega arith in
     some_pass is_unreserved c.args.text.now c.all.result some
-    (all_from_yields_List is_unreserved _ _ _ c.all.ensures.ran (YieldsList-from_slice c.args.text.now cc) (λ x b q k. search (rules, tests)))
+    (all_from_yields_List is_unreserved _ _ _ c.all.ensures.ran (YieldsList-from_slice c.args.text.now cc)
+    (λ x b q k. search (rules, tests)))

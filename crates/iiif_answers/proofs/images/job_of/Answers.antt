@@ -6,4 +6,5 @@ use Rattle.iiif_answers.proofs.images.job_of.Goals as goal
 
 pub new-requires-clause-inside : goal.new-requires-clause-inside
 new-requires-clause-inside g c =
-    subst (LiesIn c.args.accepted.now.resolved.rect) (item_dim g.S.Source.bytes (item_of c.args.entry.now) c.shape-shape.result c.shape-shape.ensures.shape) c.requires.ready.inside
+    subst (LiesIn c.args.accepted.now.resolved.rect)
+    (item_dim g.S.Source.bytes (item_of c.args.entry.now) c.shape-shape.result c.shape-shape.ensures.shape) c.requires.ready.inside

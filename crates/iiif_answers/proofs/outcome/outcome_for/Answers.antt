@@ -15,7 +15,8 @@ returns-in_default-clause-comes g c honest target asks =
 
 pub returns-in-Base-clause-comes : goal.returns-in-Base-clause-comes
 returns-in-Base-clause-comes g c honest target asks =
-    base_replies g.S.Source.bytes g.S.Source.keeps honest c.args.config.now c.args.images.now target c.in-Base.field-0 (item_of c.in-Some.entry.now)
+    base_replies g.S.Source.bytes g.S.Source.keeps honest c.args.config.now c.args.images.now target c.in-Base.field-0
+    (item_of c.in-Some.entry.now)
     (asks_for c.args.config.now c.args.images.now target (path_of c.args.config.now.base) c.identifier.result.now c.args.resource.now _
     (item_of c.in-Some.entry.now) refl asks c.in-Base.is c.identifier.ensures c.in-Some.ensures)
 

@@ -11,7 +11,8 @@ invariant-loop-t l = record {
   begin : l.begin ≡ (l.stretch.columns.from + l.t) * l.stretch.columns.c;
   passed : 0 < l.i → l.left ≤ l.begin;
   taken : (i k : ℕ) → i < l.stretch.results → k < l.channels →
-      TakenOf l.stretch.first l.stretch.columns.from l.stretch.columns.a l.stretch.columns.c l.channels l.rows (span_values l.samples) l.fn.sums l.sums l.t i k;
+      TakenOf l.stretch.first l.stretch.columns.from l.stretch.columns.a l.stretch.columns.c l.channels l.rows (span_values l.samples)
+      l.fn.sums l.sums l.t i k;
 }
 
 -- the result columns before i have taken of source column t too
@@ -22,9 +23,11 @@ invariant-loop-i l = record {
   left : l.left ≡ (l.stretch.first + l.i) * l.stretch.columns.a;
   back : l.initial.i < l.i → l.left < l.end + l.a;
   taken : (i k : ℕ) → l.initial.i ≤ i → i < l.i → k < l.channels →
-      TakenOf l.stretch.first l.stretch.columns.from l.stretch.columns.a l.stretch.columns.c l.channels l.rows (span_values l.samples) l.fn.sums l.sums (l.t + 1) i k;
+      TakenOf l.stretch.first l.stretch.columns.from l.stretch.columns.a l.stretch.columns.c l.channels l.rows (span_values l.samples)
+      l.fn.sums l.sums (l.t + 1) i k;
   kept : (i k : ℕ) → i < l.stretch.results → k < l.channels → (i < l.initial.i) ⊎ (l.i ≤ i) →
-      TakenOf l.stretch.first l.stretch.columns.from l.stretch.columns.a l.stretch.columns.c l.channels l.rows (span_values l.samples) l.fn.sums l.sums l.t i k;
+      TakenOf l.stretch.first l.stretch.columns.from l.stretch.columns.a l.stretch.columns.c l.channels l.rows (span_values l.samples)
+      l.fn.sums l.sums l.t i k;
 }
 
 abbrev pub decreases-loop-i : goal.decreases-loop-i

@@ -8,7 +8,8 @@ use Rattle.iiif_area.proofs.columns.span_sum.Goals as goal
 
 pub returns-then-span : goal.returns-then-span
 returns-then-span c =
-    sym (span_total-none c.args.columns.now c.args.channels c.args.k c.args.c c.args.span c.if-span.true (c.requires.none c.if-span.true) (c.requires.single (omega arith)))
+    sym (span_total-none c.args.columns.now c.args.channels c.args.k c.args.c c.args.span c.if-span.true (c.requires.none c.if-span.true)
+    (c.requires.single (omega arith)))
 
 pub loop-t-init : goal.loop-t-init
 loop-t-init c = record { within = omega arith; added = sum_from-start _ _ _ (omega arith) }
@@ -27,7 +28,8 @@ overflow_add-inner-in-loop-t c =
     let f : ℕ → ℕ = λ t. get_or c.args.columns.now (t * c.args.channels + c.args.k) 0 in
     let longer = sum_from-le-longer (s.start + 1) (c.loop-t.t + 1 - (s.start + 1)) (s.end - 1 - (s.start + 1)) f (omega arith) in
     let here = sum_from-step (s.start + 1) c.loop-t.t f _ _ (omega arith) c.loop-t.invariant.added refl in
-    let fits = within_total _ _ _ c.args.c (sum_from (s.start + 1) (c.loop-t.t + 1 - (s.start + 1)) f) c.requires.takes longer c.requires.fits in
+    let fits = within_total _ _ _ c.args.c (sum_from (s.start + 1) (c.loop-t.t + 1 - (s.start + 1)) f) c.requires.takes longer
+    c.requires.fits in
     omega arith
 
 pub returns : goal.returns
@@ -37,7 +39,8 @@ returns c =
     let f : ℕ → ℕ = λ t. get_or c.args.columns.now (t * c.args.channels + c.args.k) 0 in
     let count : c.loop-t.t - (s.start + 1) ≡ s.end - 1 - (s.start + 1) = omega arith in
     let inner = c.loop-t.invariant.added ∙ ap (λ n. sum_from (s.start + 1) n f) count in
-    ap (λ u. s.first * get_or c.args.columns.now (s.start * c.args.channels + c.args.k) 0 + c.args.c * u + s.last * get_or c.args.columns.now ((s.end - 1) * c.args.channels + c.args.k) 0) inner
+    ap (λ u. s.first * get_or c.args.columns.now (s.start * c.args.channels + c.args.k) 0 + c.args.c * u + s.last * get_or
+    c.args.columns.now ((s.end - 1) * c.args.channels + c.args.k) 0) inner
 
 pub overflow_add-result-2 : goal.overflow_add-result-2
 overflow_add-result-2 c = omega (arith, returns c)

@@ -9,14 +9,18 @@ abbrev pub invariant-loop-k : goal.invariant-loop-k
 invariant-loop-k l = record {
   capacity : vec_capacity l.sums ≡ l.rect.w * l.rect.h * l.channels;
   count : vec_len l.sums ≡ place_index l.rect.w l.channels l.i l.j l.k;
-  filled : FilledTo l.rect.w l.channels (λ i j k. area_sum l.fn.share.region l.fn.share.size l.fn.share.part (tile_sample l.tile l.fn.share.corner l.fn.share.part k) (l.rect.x + i) (l.rect.y + j)) l.sums.items;
+  filled : FilledTo l.rect.w l.channels (λ i j k.
+      area_sum l.fn.share.region l.fn.share.size l.fn.share.part (tile_sample l.tile l.fn.share.corner l.fn.share.part k) (l.rect.x + i)
+      (l.rect.y + j)) l.sums.items;
 }
 
 abbrev pub invariant-loop-i : goal.invariant-loop-i
 invariant-loop-i l = record {
   capacity : vec_capacity l.sums ≡ l.rect.w * l.rect.h * l.channels;
   count : vec_len l.sums ≡ place_index l.rect.w l.channels l.i l.j 0;
-  filled : FilledTo l.rect.w l.channels (λ i j k. area_sum l.fn.share.region l.fn.share.size l.fn.share.part (tile_sample l.tile l.fn.share.corner l.fn.share.part k) (l.rect.x + i) (l.rect.y + j)) l.sums.items;
+  filled : FilledTo l.rect.w l.channels (λ i j k.
+      area_sum l.fn.share.region l.fn.share.size l.fn.share.part (tile_sample l.tile l.fn.share.corner l.fn.share.part k) (l.rect.x + i)
+      (l.rect.y + j)) l.sums.items;
 }
 
 abbrev pub invariant-loop-j : goal.invariant-loop-j
@@ -27,5 +31,7 @@ invariant-loop-j l = record {
   clear : (i : ℕ) → i < length l.inner → get_or l.inner i 0 ≡ 0;
   capacity : vec_capacity l.sums ≡ l.rect.w * l.rect.h * l.channels;
   count : vec_len l.sums ≡ place_index l.rect.w l.channels 0 l.j 0;
-  filled : FilledTo l.rect.w l.channels (λ i j k. area_sum l.fn.share.region l.fn.share.size l.fn.share.part (tile_sample l.tile l.fn.share.corner l.fn.share.part k) (l.rect.x + i) (l.rect.y + j)) l.sums.items;
+  filled : FilledTo l.rect.w l.channels (λ i j k.
+      area_sum l.fn.share.region l.fn.share.size l.fn.share.part (tile_sample l.tile l.fn.share.corner l.fn.share.part k) (l.rect.x + i)
+      (l.rect.y + j)) l.sums.items;
 }

@@ -8,13 +8,18 @@ use Rattle.iiif_area.proofs.eight.span_sum.Goals as goal
 
 pub returns-then-span : goal.returns-then-span
 returns-then-span c =
-    sym (span_total-none c.args.columns.now c.args.channels c.args.k c.args.c c.args.span c.if-span.true (c.requires.none c.if-span.true) (c.requires.single (omega arith)))
+    sym (span_total-none c.args.columns.now c.args.channels c.args.k c.args.c c.args.span c.if-span.true (c.requires.none c.if-span.true)
+    (c.requires.single (omega arith)))
 
 pub loop-t-init : goal.loop-t-init
 loop-t-init c = record { within = omega arith; added = sum_from-start _ _ _ (omega arith) }
 
 pub loop-t-preserved : goal.loop-t-preserved
-loop-t-preserved c = record { within = omega arith; added = sum_from-step _ _ _ _ _ (omega arith) c.loop-t.invariant.added c.from-inner.ensures }
+loop-t-preserved c = record {
+  within = omega arith;
+  added =
+      sum_from-step _ _ _ _ _ (omega arith) c.loop-t.invariant.added c.from-inner.ensures;
+}
 
 -- a partial sum of the columns between is within the total
 within_total : (first inner last c part : ℕ) → 0 < c → part ≤ inner → first + c * inner + last < 2 ^ 64 → part < 2 ^ 64
@@ -27,7 +32,8 @@ overflow_add-inner c =
     let f : ℕ → ℕ = λ t. get_or c.args.columns.now (t * c.args.channels + c.args.k) 0 in
     let longer = sum_from-le-longer (s.start + 1) (c.loop-t.t + 1 - (s.start + 1)) (s.end - 1 - (s.start + 1)) f (omega arith) in
     let here = sum_from-step (s.start + 1) c.loop-t.t f _ _ (omega arith) c.loop-t.invariant.added c.from-inner.ensures in
-    let fits = within_total _ _ _ c.args.c (sum_from (s.start + 1) (c.loop-t.t + 1 - (s.start + 1)) f) c.requires.takes longer c.requires.fits in
+    let fits = within_total _ _ _ c.args.c (sum_from (s.start + 1) (c.loop-t.t + 1 - (s.start + 1)) f) c.requires.takes longer
+    c.requires.fits in
     omega arith
 
 pub returns : goal.returns

@@ -14,7 +14,8 @@ loop-s-init c = record {
       let n = c.args.tile.now.channels in
       let e : c.fill.new.self ≡ replicate (length c.args.short.now) 0 = c.fill.ensures.after (λ y e. e) in
       let h : t * n + k < length c.args.short.now = omega (arith, entry-lt t c.args.held.w n k lt lk) in
-      ap (λ u. get_or u (t * n + k) 0) e ∙ get_or-replicate (length c.args.short.now) (t * n + k) 0 0 h ∙ sum_from-start _ _ _ (omega arith);
+      ap (λ u. get_or u (t * n + k) 0) e ∙ get_or-replicate (length c.args.short.now) (t * n + k) 0 0 h ∙
+      sum_from-start _ _ _ (omega arith);
   bound = λ i l.
       let e : c.fill.new.self ≡ replicate (length c.args.short.now) 0 = c.fill.ensures.after (λ y e. e) in
       let h : i < length c.args.short.now = omega (arith, l, c.fill.auto.self) in
@@ -46,10 +47,13 @@ loop-s-preserved-then-to-s-ge-FOUR c =
       to = omega (arith, c.if-to-s-ge-FOUR.true);
       total = λ t k lt lk.
           let at = t * n + k in
-          let h : at < length c.sum_four.new.short = omega (arith, entry-lt t c.args.held.w n k lt lk, c.sum_four.auto.short, c.loop-s.auto.short, c.requires.room) in
+          let h : at < length c.sum_four.new.short =
+          omega (arith, entry-lt t c.args.held.w n k lt lk, c.sum_four.auto.short, c.loop-s.auto.short, c.requires.room) in
           c.sum_four.ensures at h
-          ∙ next_samples p x c.args.held.y c.args.from c.loop-s.s c.args.held.w t k _ c.row_of-first.result.now c.row_of-second.result.now c.row_of-third.result.now c.row_of-fourth.result.now
-          (omega (arith, c.loop-s.invariant.from)) c.row_of-first.ensures c.row_of-second.ensures c.row_of-third.ensures c.row_of-fourth.ensures lt lk (c.loop-s.invariant.total t k lt lk);
+          ∙ next_samples p x c.args.held.y c.args.from c.loop-s.s c.args.held.w t k _ c.row_of-first.result.now c.row_of-second.result.now
+          c.row_of-third.result.now c.row_of-fourth.result.now
+          (omega (arith, c.loop-s.invariant.from)) c.row_of-first.ensures c.row_of-second.ensures c.row_of-third.ensures
+          c.row_of-fourth.ensures lt lk (c.loop-s.invariant.total t k lt lk);
       bound = λ i l.
           let held : i < length c.loop-s.short = omega (arith, l, c.sum_four.auto.short) in
           let inside : i < c.args.held.w * n = omega (arith, held, c.loop-s.auto.short, c.requires.room) in
@@ -69,9 +73,11 @@ loop-s-preserved c =
       to = omega (arith, c.loop-s-test.true);
       total = λ t k lt lk.
           let at = t * n + k in
-          let h : at < length c.sum_one.new.short = omega (arith, entry-lt t c.args.held.w n k lt lk, c.sum_one.auto.short, c.loop-s.auto.short, c.requires.room) in
+          let h : at < length c.sum_one.new.short =
+          omega (arith, entry-lt t c.args.held.w n k lt lk, c.sum_one.auto.short, c.loop-s.auto.short, c.requires.room) in
           c.sum_one.ensures at h
-          ∙ next_sample p c.args.held.x c.args.held.y c.args.from c.loop-s.s c.args.held.w t k _ c.row_of.result.now (omega (arith, c.loop-s.invariant.from)) c.row_of.ensures lt lk
+          ∙ next_sample p c.args.held.x c.args.held.y c.args.from c.loop-s.s c.args.held.w t k _ c.row_of.result.now
+          (omega (arith, c.loop-s.invariant.from)) c.row_of.ensures lt lk
           (c.loop-s.invariant.total t k lt lk);
       bound = λ i l.
           let held : i < length c.loop-s.short = omega (arith, l, c.sum_one.auto.short) in

@@ -13,7 +13,8 @@ use Rattle.iiif_area.proofs.eight.sums_by.Goals as goal
 pub span_sum-sum-requires-clause-within : goal.span_sum-sum-requires-clause-within
 span_sum-sum-requires-clause-within c =
     let n = c.args.channels in
-    let span : IsSpan c.args.share.region.w c.args.share.size.w c.args.share.part.x c.args.share.part.w (c.args.rect.x + c.loop-i.i) c.index-span.result.now =
+    let span : IsSpan c.args.share.region.w c.args.share.size.w c.args.share.part.x c.args.share.part.w (c.args.rect.x + c.loop-i.i)
+    c.index-span.result.now =
     let each = rw c.columns.ensures at c.in_ok-spans.ensures.each in
     rw c.index-span.ensures (each c.loop-i.i c.index-span.result.now (omega arith)) in
     let e : c.index-span.result.now.end * n ≤ c.args.share.part.w * n = mul-le-mul_right n span.within in
@@ -23,34 +24,41 @@ pub span_sum-sum-requires-clause-fits : goal.span_sum-sum-requires-clause-fits
 span_sum-sum-requires-clause-fits c =
     let held = rw c.held-held.ensures at c.fill_columns.ensures.sums in
     let sums = rw c.rows-rows.ensures at held in
-    let span : IsSpan c.args.share.region.w c.args.share.size.w c.args.share.part.x c.args.share.part.w (c.args.rect.x + c.loop-i.i) c.index-span.result.now =
+    let span : IsSpan c.args.share.region.w c.args.share.size.w c.args.share.part.x c.args.share.part.w (c.args.rect.x + c.loop-i.i)
+    c.index-span.result.now =
     let each = rw c.columns.ensures at c.in_ok-spans.ensures.each in
     rw c.index-span.ensures (each c.loop-i.i c.index-span.result.now (omega arith)) in
     let i = c.args.rect.x + c.loop-i.i in
     let j = c.args.rect.y + c.loop-j.j in
     let k = c.loop-k.k in
     let ch : c.args.channels ≡ c.args.tile.now.channels = c.requires.channels in
-    let sum = span_total-area c.args.share c.args.tile.now i j k c.args.channels c.from.result c.fill_columns.new.columns c.index-span.result.now
+    let sum = span_total-area c.args.share c.args.tile.now i j k c.args.channels c.from.result c.fill_columns.new.columns
+    c.index-span.result.now
     ch c.from.ensures span (λ t l. sums t k l (omega arith)) in
     let fits = tile_area-fits c.args.share c.args.tile.now i j k c.requires.limits.area
-    (λ x y k. omega (arith, sample_at-le c.args.tile.now c.is_whole.ensures.whole x y k, top-le c.args.tile.now c.is_whole.ensures.whole)) in
+    (λ x y k. omega (arith, sample_at-le c.args.tile.now c.is_whole.ensures.whole x y k, top-le c.args.tile.now c.is_whole.ensures.whole))
+    in
     omega arith
 
 pub loop-k-preserved : goal.loop-k-preserved
 loop-k-preserved c =
     let held = rw c.held-held.ensures at c.fill_columns.ensures.sums in
     let sums = rw c.rows-rows.ensures at held in
-    let span : IsSpan c.args.share.region.w c.args.share.size.w c.args.share.part.x c.args.share.part.w (c.args.rect.x + c.loop-i.i) c.index-span.result.now =
+    let span : IsSpan c.args.share.region.w c.args.share.size.w c.args.share.part.x c.args.share.part.w (c.args.rect.x + c.loop-i.i)
+    c.index-span.result.now =
     let each = rw c.columns.ensures at c.in_ok-spans.ensures.each in
     rw c.index-span.ensures (each c.loop-i.i c.index-span.result.now (omega arith)) in
     let k = c.loop-k.k in
     let ch : c.args.channels ≡ c.args.tile.now.channels = c.requires.channels in
-    let sum = span_total-area c.args.share c.args.tile.now (c.args.rect.x + c.loop-i.i) (c.args.rect.y + c.loop-j.j) k c.args.channels c.from.result
+    let sum = span_total-area c.args.share c.args.tile.now (c.args.rect.x + c.loop-i.i) (c.args.rect.y + c.loop-j.j) k c.args.channels
+    c.from.result
     c.fill_columns.new.columns c.index-span.result.now ch c.from.ensures span (λ t l. sums t k l (omega arith)) in
     record {
       capacity = omega arith;
       count = omega arith;
-      filled = rw c.push_reserved.ensures.items (FilledTo-push _ _ _ _ c.loop-i.i c.loop-j.j k _ c.loop-k.invariant.filled (omega arith) (omega arith) (omega arith) (c.span_sum-sum.ensures ∙ sum));
+      filled = rw c.push_reserved.ensures.items
+          (FilledTo-push _ _ _ _ c.loop-i.i c.loop-j.j k _ c.loop-k.invariant.filled (omega arith) (omega arith) (omega arith)
+          (c.span_sum-sum.ensures ∙ sum));
     }
 
 pub returns : goal.returns
@@ -58,7 +66,8 @@ returns c =
     let r = c.args.rect in
     let n = c.args.channels in
     let ch : n ≡ c.args.tile.now.channels = c.requires.channels in
-    let f : ℕ → ℕ → ℕ → ℕ = λ i j k. area_sum c.args.share.region c.args.share.size c.args.share.part (tile_sample c.args.tile.now c.args.share.corner c.args.share.part k) (r.x + i) (r.y + j) in
+    let f : ℕ → ℕ → ℕ → ℕ = λ i j k. area_sum c.args.share.region c.args.share.size c.args.share.part
+    (tile_sample c.args.tile.now c.args.share.corner c.args.share.part k) (r.x + i) (r.y + j) in
     let rows : c.loop-j.j ≡ r.h = omega arith in
     let count : r.w * n * c.loop-j.j ≡ r.w * n * r.h = ap (λ y. r.w * n * y) rows in
     filled_is r.w r.h n f c.loop-j.sums.items (omega arith) c.loop-j.invariant.filled ∙ ap (λ u. samples_of r.w r.h u f) ch
@@ -83,19 +92,22 @@ loop-j-preserved c =
     }
 
 pub fill_columns-requires-clause-samples : goal.fill_columns-requires-clause-samples
-fill_columns-requires-clause-samples c = λ x y k. omega (arith, sample_at-le c.args.tile.now c.is_whole.ensures.whole x y k, c.requires.depth)
+fill_columns-requires-clause-samples c = λ x y k.
+    omega (arith, sample_at-le c.args.tile.now c.is_whole.ensures.whole x y k, c.requires.depth)
 
 pub with_whole-sums-requires-clause-room : goal.with_whole-sums-requires-clause-room
 with_whole-sums-requires-clause-room c =
     let r = c.args.rect in
-    let rows : (c.loop-j.j + 1) * (r.w * c.args.channels) ≤ r.h * (r.w * c.args.channels) = mul-le-mul_right (r.w * c.args.channels) (omega arith) in
+    let rows : (c.loop-j.j + 1) * (r.w * c.args.channels) ≤ r.h * (r.w * c.args.channels) =
+    mul-le-mul_right (r.w * c.args.channels) (omega arith) in
     omega arith
 
 pub with_whole-sums-requires-clause-within : goal.with_whole-sums-requires-clause-within
 with_whole-sums-requires-clause-within c =
     let n = c.in-Some-whole.n in
     let whole = rw c.in-Some-whole.is at c.loop-j.invariant.whole in
-    let columns = whole_within c.args.share.region.w c.args.share.size.w c.args.share.part.x c.args.share.part.w c.args.rect.x c.args.rect.w n c.in_ok-spans.spans.items (rw c.columns.ensures at c.in_ok-spans.ensures.each) whole.1 in
+    let columns = whole_within c.args.share.region.w c.args.share.size.w c.args.share.part.x c.args.share.part.w c.args.rect.x c.args.rect.w
+    n c.in_ok-spans.spans.items (rw c.columns.ensures at c.in_ok-spans.ensures.each) whole.1 in
     let entries : c.args.rect.w * n * c.args.channels ≤ c.args.share.part.w * c.args.channels = mul-le-mul_right c.args.channels columns in
     omega (arith, c.fill_columns.auto.columns, rw c.held-held.ensures at c.loop-j.invariant.room)
 
@@ -109,10 +121,12 @@ with_whole-sums-requires-clause-fits c = λ p k lp lk.
     let i = c.args.rect.x + p in
     let j = c.args.rect.y + c.loop-j.j in
     let ch : c.args.channels ≡ c.args.tile.now.channels = c.requires.channels in
-    let sum = whole_area c.args.share c.args.tile.now i j k p n c.args.channels c.fill_columns.new.columns (get_or c.in_ok-spans.spans.items p no_span)
+    let sum = whole_area c.args.share c.args.tile.now i j k p n c.args.channels c.fill_columns.new.columns
+    (get_or c.in_ok-spans.spans.items p no_span)
     whole.0 ch (each p no_span lp) (whole.1 p no_span lp) (λ t l. sums t k l (omega arith)) in
     let fits = tile_area-fits c.args.share c.args.tile.now i j k c.requires.limits.area
-    (λ x y k. omega (arith, sample_at-le c.args.tile.now c.is_whole.ensures.whole x y k, top-le c.args.tile.now c.is_whole.ensures.whole)) in
+    (λ x y k. omega (arith, sample_at-le c.args.tile.now c.is_whole.ensures.whole x y k, top-le c.args.tile.now c.is_whole.ensures.whole))
+    in
     omega (arith, sum, fits)
 
 pub loop-j-preserved-in-Some-whole : goal.loop-j-preserved-in-Some-whole
@@ -131,7 +145,9 @@ loop-j-preserved-in-Some-whole c =
       whole = whole;
       capacity = omega arith;
       count = omega (arith, c.with_whole-sums.ensures.row.count);
-      filled = FilledTo-more r.w c.args.channels c.loop-j.j _ _ _ _ _ c.loop-j.invariant.filled (omega arith) refl c.with_whole-sums.ensures.row
-          (λ p k lp lk. whole_area c.args.share c.args.tile.now (r.x + p) j k p n c.args.channels c.fill_columns.new.columns (get_or c.in_ok-spans.spans.items p no_span)
+      filled = FilledTo-more r.w c.args.channels c.loop-j.j _ _ _ _ _ c.loop-j.invariant.filled (omega arith) refl
+          c.with_whole-sums.ensures.row
+          (λ p k lp lk. whole_area c.args.share c.args.tile.now (r.x + p) j k p n c.args.channels c.fill_columns.new.columns
+          (get_or c.in_ok-spans.spans.items p no_span)
           whole.0 ch (each p no_span lp) (whole.1 p no_span lp) (λ t l. sums t k l (omega arith)));
     }

@@ -32,6 +32,7 @@ pub loop-k-preserved : goal.loop-k-preserved
 loop-k-preserved c =
     let f : ℕ → ℕ → ℕ = λ i k. c.args.c * sum_from (i * c.args.n) c.args.n (λ t. get_or c.args.columns.now (t * c.args.channels + k) 0) in
     record {
-      row = rw c.push_reserved.ensures.items (IsMore-push c.args.sums.items c.loop-k.sums.items c.args.channels _ c.loop-i.i c.loop-k.k _ _ f c.loop-k.invariant.row (omega arith) refl (omega (arith, same_product c.from.ensures c.sum_of-sum.ensures)) (omega arith));
+      row = rw c.push_reserved.ensures.items (IsMore-push c.args.sums.items c.loop-k.sums.items c.args.channels _ c.loop-i.i c.loop-k.k _ _
+          f c.loop-k.invariant.row (omega arith) refl (omega (arith, same_product c.from.ensures c.sum_of-sum.ensures)) (omega arith));
       capacity = omega arith;
     }

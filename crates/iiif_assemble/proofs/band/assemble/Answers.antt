@@ -21,7 +21,8 @@ returns-in-Ok g c =
     record {
       image = IfOk-weaker c.assemble_band.result _ _
           (λ m made shows shown.
-          made shows shown ∙ all_rows c.bands_follow.ensures.all ops.crop ops.scale ops.turn ops.quality (named shows j.name) r band.rect shown.source.whole c.requires.job.quarters is)
+          made shows shown ∙ all_rows c.bands_follow.ensures.all ops.crop ops.scale ops.turn ops.quality (named shows j.name) r band.rect
+          shown.source.whole c.requires.job.quarters is)
           done.image;
       sides = IfOk-weaker c.assemble_band.result _ _ (λ m sides. sides ∙ ap sides_of is) done.sides;
       channels = done.channels;
@@ -29,8 +30,10 @@ returns-in-Ok g c =
       held = IfOk-weaker c.assemble_band.result _ _ (λ m held. subst (λ (q : Rect). IsHeldFor (sides_of q) n m.held) is held) done.held;
       fault = IfErr-weaker c.assemble_band.result _ _
           (λ f of_band.
-          plan_fault (g.T.Items.means c.args.tiles.now) (g.T.Items.failed c.args.tiles.now) (g.S.Items.means c.args.sums.now) (g.S.Items.failed c.args.sums.now)
-          j.name j.edge j.shape.dim n c.requires.job.room r j.plan band.items.items f c.requires.job.quarters c.requires.job.inside c.requires.job.scalable.result_columns c.requires.job.scalable.result_rows c.requires.job.is_plan
+          plan_fault (g.T.Items.means c.args.tiles.now) (g.T.Items.failed c.args.tiles.now) (g.S.Items.means c.args.sums.now)
+          (g.S.Items.failed c.args.sums.now)
+          j.name j.edge j.shape.dim n c.requires.job.room r j.plan band.items.items f c.requires.job.quarters c.requires.job.inside
+          c.requires.job.scalable.result_columns c.requires.job.scalable.result_rows c.requires.job.is_plan
           (subst (λ (q : Rect). ListsItems r j.plan q band.items.items) is c.in-Ok.ensures.band.items) of_band)
           done.fault;
     }

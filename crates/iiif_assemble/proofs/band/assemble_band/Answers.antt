@@ -6,7 +6,8 @@ use Rattle.iiif_pixel.specs.Picture.{Picture, dim_of}
 use Rattle.iiif_keys.specs.Names.{named}
 use Rattle.iiif_assemble.specs.Code.{count_of, ListsMetItems}
 use Rattle.iiif_assemble.specs.Jobs.{channels_in}
-use Rattle.iiif_assemble.proofs.ImageLemmas.{band_image, band_sides, image_top, items_met, picture_shown, quality_channels, quality_sides, turned_channels}
+use Rattle.iiif_assemble.proofs.ImageLemmas.{band_image, band_sides, image_top, items_met, picture_shown, quality_channels, quality_sides}
+use Rattle.iiif_assemble.proofs.ImageLemmas.{turned_channels}
 use Rattle.iiif_assemble.proofs.HeldLemmas.{count_is, held_for}
 use Rattle.iiif_assemble.proofs.band.assemble_band.Goals as goal
 
@@ -15,7 +16,8 @@ scaled_part-requires-clause-lists g c κs within =
     let r = c.args.job.now.resolved in
     let from = c.unturn_rect-from.result in
     let band = c.args.band.now in
-    let met = items_met r c.args.job.now.plan from band.rect band.items.items c.unturn_rect-from.ensures.inside c.unturn_rect-from.ensures.same_places c.requires.band.items in
+    let met = items_met r c.args.job.now.plan from band.rect band.items.items c.unturn_rect-from.ensures.inside
+    c.unturn_rect-from.ensures.same_places c.requires.band.items in
     subst (λ (js : List ℕ). ListsMetItems r from c.args.job.now.plan js) (sym c.deref.ensures.value) met
 
 pub returns-in-Ok-turned-clause-image : goal.returns-in-Ok-turned-clause-image
@@ -25,8 +27,10 @@ returns-in-Ok-turned-clause-image g c =
     (λ m made shows shown.
     let p = named shows j.name in
     let of = picture_shown shows j shown.picture shown.source in
-    band_image p j.resolved c.unturn_rect-from.result c.args.band.now.rect c.in-Ok.scaled.raster c.in-Ok-turned.turned.raster m.raster c.unturn_rect-from.ensures.same_part
-    c.quality_of_crop.ensures c.requires.job.quarters (channels-some p of.whole) c.requires.band.inside (c.in-Ok.ensures.image shows p of shown.tiles shown.sums) c.in-Ok-turned.ensures.ok made)
+    band_image p j.resolved c.unturn_rect-from.result c.args.band.now.rect c.in-Ok.scaled.raster c.in-Ok-turned.turned.raster m.raster
+    c.unturn_rect-from.ensures.same_part
+    c.quality_of_crop.ensures c.requires.job.quarters (channels-some p of.whole) c.requires.band.inside
+    (c.in-Ok.ensures.image shows p of shown.tiles shown.sums) c.in-Ok-turned.ensures.ok made)
     c.qualified.ensures.ok
 
 pub returns-in-Ok-turned-clause-sides : goal.returns-in-Ok-turned-clause-sides
@@ -34,7 +38,8 @@ returns-in-Ok-turned-clause-sides g c =
     let r = c.args.job.now.resolved in
     IfOk-weaker c.qualified.result _ _
     (λ m made. ap dim_of made ∙ quality_sides c.in-Ok-turned.turned.raster r.quality ∙ ap dim_of c.in-Ok-turned.ensures.ok
-    ∙ band_sides r.turn r.size c.unturn_rect-from.result c.args.band.now.rect c.in-Ok.scaled.raster c.unturn_rect-from.ensures.same_part c.requires.job.quarters c.in-Ok.ensures.sides)
+    ∙ band_sides r.turn r.size c.unturn_rect-from.result c.args.band.now.rect c.in-Ok.scaled.raster c.unturn_rect-from.ensures.same_part
+    c.requires.job.quarters c.in-Ok.ensures.sides)
     c.qualified.ensures.ok
 
 pub returns-in-Ok-turned-clause-channels : goal.returns-in-Ok-turned-clause-channels
@@ -42,14 +47,16 @@ returns-in-Ok-turned-clause-channels g c =
     let r = c.args.job.now.resolved in
     IfOk-weaker c.qualified.result _ _
     (λ m made. ap (λ (p : Picture). p.channels) made ∙ quality_channels c.in-Ok-turned.turned.raster r.quality
-    ∙ ap (channels_in r.quality) (ap (λ (p : Picture). p.channels) c.in-Ok-turned.ensures.ok ∙ turned_channels r.turn c.in-Ok.scaled.raster c.requires.job.quarters ∙ c.in-Ok.ensures.channels))
+    ∙ ap (channels_in r.quality) (ap (λ (p : Picture). p.channels) c.in-Ok-turned.ensures.ok ∙
+    turned_channels r.turn c.in-Ok.scaled.raster c.requires.job.quarters ∙ c.in-Ok.ensures.channels))
     c.qualified.ensures.ok
 
 pub returns-in-Ok-turned-clause-top : goal.returns-in-Ok-turned-clause-top
 returns-in-Ok-turned-clause-top g c =
     let r = c.args.job.now.resolved in
     IfOk-weaker c.qualified.result _ _
-    (λ m made. image_top c.in-Ok.scaled.raster c.in-Ok-turned.turned.raster m.raster r.turn r.quality (top_of c.args.job.now.shape.depth) c.in-Ok.ensures.top c.in-Ok-turned.ensures.ok made)
+    (λ m made. image_top c.in-Ok.scaled.raster c.in-Ok-turned.turned.raster m.raster r.turn r.quality (top_of c.args.job.now.shape.depth)
+    c.in-Ok.ensures.top c.in-Ok-turned.ensures.ok made)
     c.qualified.ensures.ok
 
 pub returns-in-Ok-turned-clause-held : goal.returns-in-Ok-turned-clause-held
@@ -57,8 +64,11 @@ returns-in-Ok-turned-clause-held g c =
     let r = c.args.job.now.resolved in
     let picture = c.in-Ok-turned.turned.raster in
     let sides = ap dim_of c.in-Ok-turned.ensures.ok
-    ∙ band_sides r.turn r.size c.unturn_rect-from.result c.args.band.now.rect c.in-Ok.scaled.raster c.unturn_rect-from.ensures.same_part c.requires.job.quarters c.in-Ok.ensures.sides in
-    let channels = ap (λ (p : Picture). p.channels) c.in-Ok-turned.ensures.ok ∙ turned_channels r.turn c.in-Ok.scaled.raster c.requires.job.quarters ∙ c.in-Ok.ensures.channels in
+    ∙ band_sides r.turn r.size c.unturn_rect-from.result c.args.band.now.rect c.in-Ok.scaled.raster c.unturn_rect-from.ensures.same_part
+    c.requires.job.quarters c.in-Ok.ensures.sides in
+    let channels = ap (λ (p : Picture). p.channels) c.in-Ok-turned.ensures.ok ∙
+    turned_channels r.turn c.in-Ok.scaled.raster c.requires.job.quarters ∙ c.in-Ok.ensures.channels in
     let count = count_is picture (sides_of c.args.band.now.rect) (channels_of c.args.job.now.shape.kind) sides channels in
-    IfOk-weaker c.qualified.result _ _ (λ m h. held_for (sides_of c.args.band.now.rect) (channels_of c.args.job.now.shape.kind) (count_of picture) m.held count h)
+    IfOk-weaker c.qualified.result _ _ (λ m h.
+    held_for (sides_of c.args.band.now.rect) (channels_of c.args.job.now.shape.kind) (count_of picture) m.held count h)
     (c.qualified.ensures.held (c.in-Ok-turned.ensures.held c.in-Ok.ensures.held))

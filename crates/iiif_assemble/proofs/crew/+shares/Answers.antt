@@ -9,7 +9,8 @@ halved-returns-in-Ok-rest-clause-values g t c =
     let a = rw c.in-Ok.is at c.join-first.ensures.first.0 in
     let b = rw c.in-Ok-rest.is at c.join-first.ensures.second.0 in
     IfOk-weaker c.joined.result _ _
-    (λ v e. runs_joined arc_value (g.G.Items.means c.args.group.now) c.args.keys.now c.args.items.now c.split_at.result.0.now c.split_at.result.1.now _
+    (λ v e. runs_joined arc_value (g.G.Items.means c.args.group.now) c.args.keys.now c.args.items.now c.split_at.result.0.now
+    c.split_at.result.1.now _
     c.in-Ok.first.items c.in-Ok-rest.rest.items v.items c.split_at.ensures.front c.split_at.ensures.back a b e)
     c.joined.ensures.ok
 
@@ -17,5 +18,6 @@ pub halved-returns-in-Err-rest-clause-fault : goal.halved-returns-in-Err-rest-cl
 halved-returns-in-Err-rest-clause-fault g t c =
     let a = rw c.in-Ok.is at c.join-first.ensures.first.0 in
     let b = rw c.in-Err-rest.is at c.join-first.ensures.second.1 in
-    second_failed (g.G.Items.means c.args.group.now) (g.G.Items.failed c.args.group.now) c.args.keys.now c.args.items.now c.split_at.result.0.now c.split_at.result.1.now _
+    second_failed (g.G.Items.means c.args.group.now) (g.G.Items.failed c.args.group.now) c.args.keys.now c.args.items.now
+    c.split_at.result.0.now c.split_at.result.1.now _
     (map arc_value c.in-Ok.first.items) c.in-Err-rest.later c.split_at.ensures.front c.split_at.ensures.back a b

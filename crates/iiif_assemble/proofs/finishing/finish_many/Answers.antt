@@ -16,9 +16,20 @@ returns g c =
     let area = c.from.result * c.from-2.result in
     let top = top_of c.args.depth in
     let samples = values_of c.in_ok-samples.samples in
-    let zipped = subst (λ (ss : List ℕ). AllZip (λ s b. b ≡ average_within area top s) ss samples) c.sums.ensures.all c.in_ok-samples.ensures.values in
-    let items = all_finished t c.args.region area top samples (same_product c.from.ensures c.from-2.ensures) c.sums.ensures.grid.count zipped in
+    let zipped = subst (λ (ss : List ℕ). AllZip (λ s b. b ≡ average_within area top s) ss samples) c.sums.ensures.all
+    c.in_ok-samples.ensures.values in
+    let items = all_finished t c.args.region area top samples (same_product c.from.ensures c.from-2.ensures) c.sums.ensures.grid.count
+    zipped in
     let P : Dim → ℕ → List ℕ → Picture = λ d n xs. record { width = d.w; height = d.h; channels = n; top = top; samples = xs } in
-    let Q : Depth → Picture = λ e. record { width = c.dim.result.w; height = c.dim.result.h; channels = channels_of c.kind.result; top = top_of e; samples = samples } in
+    let Q : Depth → Picture = λ e. record {
+      width = c.dim.result.w;
+      height = c.dim.result.h;
+      channels = channels_of c.kind.result;
+      top =
+          top_of e;
+      samples = samples;
+    } in
     let d = sides_of t.rect in
-    c.from_samples.ensures ∙ ap Q c.in_ok-samples.ensures.depth ∙ ap (λ (e : Dim). P e (channels_of c.kind.result) samples) (c.dim.ensures ∙ ap sides_of c.rect.ensures) ∙ ap (λ (n : ℕ). P d n samples) c.kind.ensures ∙ ap (P d t.channels) items
+    c.from_samples.ensures ∙ ap Q c.in_ok-samples.ensures.depth ∙
+    ap (λ (e : Dim). P e (channels_of c.kind.result) samples) (c.dim.ensures ∙ ap sides_of c.rect.ensures) ∙
+    ap (λ (n : ℕ). P d n samples) c.kind.ensures ∙ ap (P d t.channels) items

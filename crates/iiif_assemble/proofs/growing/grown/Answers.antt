@@ -25,7 +25,8 @@ use Rattle.iiif_assemble.proofs.growing.grown.Goals as goal
 
 pub gathered-requires-clause-within : goal.gathered-requires-clause-within
 gathered-requires-clause-within g c κs within =
-    lists_within (grown_places c.args.job.now.resolved.rect c.args.job.now.resolved.size) c.args.from c.args.keys.now c.args.items.now c.requires.lists
+    lists_within (grown_places c.args.job.now.resolved.rect c.args.job.now.resolved.size) c.args.from c.args.keys.now c.args.items.now
+    c.requires.lists
 
 pub add_all-requires-clause-parts : goal.add_all-requires-clause-parts
 add_all-requires-clause-parts g c =
@@ -36,7 +37,8 @@ add_all-requires-clause-parts g c =
 
 pub add_all-requires-clause-within : goal.add_all-requires-clause-within
 add_all-requires-clause-within g c =
-    lists_within (grown_places c.args.job.now.resolved.rect c.args.job.now.resolved.size) c.args.from c.args.keys.now c.args.items.now c.requires.lists
+    lists_within (grown_places c.args.job.now.resolved.rect c.args.job.now.resolved.size) c.args.from c.args.keys.now c.args.items.now
+    c.requires.lists
 
 pub add_all-requires-clause-shaped : goal.add_all-requires-clause-shaped
 add_all-requires-clause-shaped g c =
@@ -45,8 +47,10 @@ add_all-requires-clause-shaped g c =
     let means = g.T.Items.means c.args.group.now in
     let shape : TileKey → TileVal → Type 0 = λ k v. TileHasShape c.args.job.now.shape k v in
     let planned = IsTileFor c.args.job.now.name c.args.job.now.edge image channels c.args.job.now.resolved.rect in
-    let each = All-weaker planned (λ (k : TileKey). (v : TileVal) → means k v → shape k v) (λ k b v m. c.requires.serves.shaped k v b m) c.args.keys.now c.requires.cover.tiles in
-    let all = values_weaker means shape c.args.keys.now c.args.items.now (map arc_value c.in_ok-values.values.items) c.in_ok-values.ensures.values each in
+    let each = All-weaker planned (λ (k : TileKey). (v : TileVal) → means k v → shape k v) (λ k b v m. c.requires.serves.shaped k v b m)
+    c.args.keys.now c.requires.cover.tiles in
+    let all = values_weaker means shape c.args.keys.now c.args.items.now (map arc_value c.in_ok-values.values.items)
+    c.in_ok-values.ensures.values each in
     rw (← c.deref.ensures.value) at all
 
 pub returns-in-Ok-finish_all-clause-image : goal.returns-in-Ok-finish_all-clause-image
@@ -64,13 +68,16 @@ returns-in-Ok-finish_all-clause-image g c shows p shown are_meant =
     let planned = IsTileFor c.args.job.now.name c.args.job.now.edge image channels region in
     let is_tile : TileKey → TileVal → Type 0 = λ k v. tile_in v ≡ crop p (tile_of image k) in
     let each = All-weaker planned (λ (k : TileKey). (v : TileVal) → means k v → is_tile k v)
-    (λ k b v m. tile_meant shows c.args.job.now.name p image k v shown.known shown.sides b.named (are_meant k v b.named m)) keys c.requires.cover.tiles in
+    (λ k b v m. tile_meant shows c.args.job.now.name p image k v shown.known shown.sides b.named (are_meant k v b.named m)) keys
+    c.requires.cover.tiles in
     let meant = values_weaker means is_tile keys items (map arc_value c.in_ok-values.values.items) c.in_ok-values.ensures.values each in
     let meant_here = rw (← c.deref.ensures.value) at meant in
-    let merged = grown_total c.merging_adds.ensures.all (places_are TileKey) image region q size c.args.from keys items x whole c.requires.job.scalable refl c.requires.job.inside
+    let merged = grown_total c.merging_adds.ensures.all (places_are TileKey) image region q size c.args.from keys items x whole
+    c.requires.job.scalable refl c.requires.job.inside
     c.requires.cover.cut c.requires.lists in
     let new = c.add_all.new.total in
-    let total = grown_is c.args.from channels q size c.in-Ok.total new (map (λ i. tile_adds p image region size (get_or keys i x)) items) c.in-Ok.ensures shown.samples_a_place
+    let total = grown_is c.args.from channels q size c.in-Ok.total new (map (λ i. tile_adds p image region size (get_or keys i x)) items)
+    c.in-Ok.ensures shown.samples_a_place
     (c.add_all.ensures.sums p x meant_here) c.add_all.ensures.rect merged in
     let top = top_of c.args.job.now.shape.depth in
     let sums = sums_at new.rect q size (whole_of (dim_of q)) in

@@ -33,14 +33,20 @@ returns-in-Ok-gathered-clause-image g c =
     let one : length keys ≡ 1 = search rules in
     let first : get_or keys 0 key ≡ key = search rules in
     let itself : IsTileItself j key = search rules in
-    let planned = subst (λ (p : Plan). IsPlan j.name j.edge j.shape.dim channels c.requires.job.room j.resolved p) c.in-Copy.is c.requires.job.is_plan in
-    let tiles = subst (λ (ks : List TileKey). All (IsTileFor j.name j.edge j.shape.dim channels j.resolved.rect) ks) (sym c.deref.ensures.value) planned.1.tiles in
-    let of_key : IsTileFor j.name j.edge j.shape.dim channels j.resolved.rect key = subst (IsTileFor j.name j.edge j.shape.dim channels j.resolved.rect) first (tiles 0 key (omega (arith, one))) in
+    let planned = subst (λ (p : Plan). IsPlan j.name j.edge j.shape.dim channels c.requires.job.room j.resolved p) c.in-Copy.is
+    c.requires.job.is_plan in
+    let tiles = subst (λ (ks : List TileKey). All (IsTileFor j.name j.edge j.shape.dim channels j.resolved.rect) ks)
+    (sym c.deref.ensures.value) planned.1.tiles in
+    let of_key : IsTileFor j.name j.edge j.shape.dim channels j.resolved.rect key =
+    subst (IsTileFor j.name j.edge j.shape.dim channels j.resolved.rect) first (tiles 0 key (omega (arith, one))) in
     if_some c.pop.result (λ v. IsTileImage j tm (tile_in (arc_value v)))
     (λ a is.
-    let last : c.in-Ok-gathered.values.items ≡ c.pop.new.self.items ++ a ∷ [] = c.pop.ensures.items ∙ ap (λ o. c.pop.new.self.items ++ option_to_list o) is in
-    let meant = last_value arc_value tm keys c.deref-2.result.now c.in-Ok-gathered.values.items c.pop.new.self.items key a one first c.in-Ok-gathered.ensures.values last in
-    tile_image c.whole_stays_whole.ensures.crop c.same_sides_change_nothing.ensures j tm key (arc_value a) c.requires.job itself planned.0 of_key.named
+    let last : c.in-Ok-gathered.values.items ≡ c.pop.new.self.items ++ a ∷ [] = c.pop.ensures.items ∙
+    ap (λ o. c.pop.new.self.items ++ option_to_list o) is in
+    let meant = last_value arc_value tm keys c.deref-2.result.now c.in-Ok-gathered.values.items c.pop.new.self.items key a one first
+    c.in-Ok-gathered.ensures.values last in
+    tile_image c.whole_stays_whole.ensures.crop c.same_sides_change_nothing.ensures j tm key (arc_value a) c.requires.job itself planned.0
+    of_key.named
     (c.requires.tiles.shaped key (arc_value a) of_key meant) meant)
 
 pub returns-clause-fault : goal.returns-clause-fault
@@ -49,6 +55,12 @@ returns-clause-fault g c =
     let band = c.in-Ok.band in
     let tm = g.T.Items.means c.args.tiles.now in
     let tf = g.T.Items.failed c.args.tiles.now in
-    let over_keys = subst (λ (ks : List TileKey). IsItemFault tm tf ks c.deref-2.result.now c.in-Err.fault) c.deref.ensures.value c.in-Err.ensures.fault in
+    let over_keys = subst (λ (ks : List TileKey). IsItemFault tm tf ks c.deref-2.result.now c.in-Err.fault) c.deref.ensures.value
+    c.in-Err.ensures.fault in
     let of_items = subst (λ (js : List ℕ). IsItemFault tm tf c.in-Copy.keys.items js c.in-Err.fault) c.deref-2.ensures.value over_keys in
-    inr (band, c.in-Ok.ensures.rect, c.in-Ok.ensures.band, subst (λ (p : Plan). IsTilesFault tm tf p band c.in-Err.fault) (sym c.in-Copy.is) of_items)
+    inr (
+      band,
+      c.in-Ok.ensures.rect,
+      c.in-Ok.ensures.band,
+      subst (λ (p : Plan). IsTilesFault tm tf p band c.in-Err.fault) (sym c.in-Copy.is) of_items,
+    )

@@ -21,7 +21,8 @@ returns-in-Some-clause-image g c =
     let channels = All-head P v [] (subst (All P) c.in-Some.ensures.only c.requires.channels) in
     IfOk-weaker c.made_of_one.result _ _ (λ m made.
     made ∙ finished-alone c.args.from n (sums_in (arc_value v)) region top c.in-Some.ensures.grid channels c.in-Some.ensures.inside
-    ∙ ap (λ (vs : List (Arc SumVal Global)). finished (total_of c.args.from n (map arc_value vs)) region top c.args.from) (sym c.in-Some.ensures.only)) c.made_of_one.ensures.image
+    ∙ ap (λ (vs : List (Arc SumVal Global)). finished (total_of c.args.from n (map arc_value vs)) region top c.args.from)
+    (sym c.in-Some.ensures.only)) c.made_of_one.ensures.image
 
 pub returns-in-Some-clause-channels : goal.returns-in-Some-clause-channels
 returns-in-Some-clause-channels g c =

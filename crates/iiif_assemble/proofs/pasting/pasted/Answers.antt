@@ -23,10 +23,12 @@ use Rattle.iiif_assemble.proofs.ZipLemmas.{lists_within, values_weaker}
 use Rattle.iiif_assemble.proofs.pasting.pasted.Goals as goal
 
 pub gathered-requires-clause-within : goal.gathered-requires-clause-within
-gathered-requires-clause-within g c κs within = lists_within (tile_places c.args.job.now.resolved.rect) c.args.from c.args.keys.now c.args.items.now c.requires.lists
+gathered-requires-clause-within g c κs within =
+    lists_within (tile_places c.args.job.now.resolved.rect) c.args.from c.args.keys.now c.args.items.now c.requires.lists
 
 pub picture_of-requires-clause-within : goal.picture_of-requires-clause-within
-picture_of-requires-clause-within g c = lists_within (tile_places c.args.job.now.resolved.rect) c.args.from c.args.keys.now c.args.items.now c.requires.lists
+picture_of-requires-clause-within g c = lists_within (tile_places c.args.job.now.resolved.rect) c.args.from c.args.keys.now c.args.items.now
+    c.requires.lists
 
 pub picture_of-requires-clause-shaped : goal.picture_of-requires-clause-shaped
 picture_of-requires-clause-shaped g c =
@@ -35,8 +37,10 @@ picture_of-requires-clause-shaped g c =
     let means = g.T.Items.means c.args.group.now in
     let shape : TileKey → TileVal → Type 0 = λ k v. TileHasShape c.args.job.now.shape k v in
     let planned = IsTileFor c.args.job.now.name c.args.job.now.edge image channels c.args.job.now.resolved.rect in
-    let each = All-weaker planned (λ (k : TileKey). (v : TileVal) → means k v → shape k v) (λ k b v m. c.requires.serves.shaped k v b m) c.args.keys.now c.requires.cover.tiles in
-    let all = values_weaker means shape c.args.keys.now c.args.items.now (map arc_value c.in_ok-values.values.items) c.in_ok-values.ensures.values each in
+    let each = All-weaker planned (λ (k : TileKey). (v : TileVal) → means k v → shape k v) (λ k b v m. c.requires.serves.shaped k v b m)
+    c.args.keys.now c.requires.cover.tiles in
+    let all = values_weaker means shape c.args.keys.now c.args.items.now (map arc_value c.in_ok-values.values.items)
+    c.in_ok-values.ensures.values each in
     rw (← c.deref.ensures.value) at all
 
 pub returns-clause-image : goal.returns-clause-image
@@ -54,14 +58,18 @@ returns-clause-image g c shows p shown are_meant =
     let planned = IsTileFor c.args.job.now.name c.args.job.now.edge image channels region in
     let is_tile : TileKey → TileVal → Type 0 = λ k v. tile_in v ≡ crop p (tile_of image k) in
     let each = All-weaker planned (λ (k : TileKey). (v : TileVal) → means k v → is_tile k v)
-    (λ k b v m. tile_meant shows c.args.job.now.name p image k v shown.known shown.sides b.named (are_meant k v b.named m)) keys c.requires.cover.tiles in
+    (λ k b v m. tile_meant shows c.args.job.now.name p image k v shown.known shown.sides b.named (are_meant k v b.named m)) keys
+    c.requires.cover.tiles in
     let meant = values_weaker means is_tile keys items (map arc_value c.in_ok-values.values.items) c.in_ok-values.ensures.values each in
     let meant_here = rw (← c.deref.ensures.value) at meant in
     let copied = c.in_ok-raster.ensures.copies p x shown.samples_a_place meant_here in
-    let cut = items_cut (places_are TileKey) image region from keys items x c.requires.job.inside c.requires.inside c.requires.cover.cut c.requires.lists in
+    let cut = items_cut (places_are TileKey) image region from keys items x c.requires.job.inside c.requires.inside c.requires.cover.cut
+    c.requires.lists in
     let sides : dim_of picture ≡ sides_of part = c.in_ok-raster.ensures.sides in
-    let cut_here = subst (λ (d : Dim). IsCutInto (whole_of d) (map (λ i. part_of (tile_of image (get_or keys i x)) part) items)) (sym sides) cut in
-    copied_all (crop p part) picture (map (λ i. part_of (tile_of image (get_or keys i x)) part) items) copied cut_here c.is_whole.ensures.whole
+    let cut_here = subst (λ (d : Dim). IsCutInto (whole_of d) (map (λ i. part_of (tile_of image (get_or keys i x)) part) items)) (sym sides)
+    cut in
+    copied_all (crop p part) picture (map (λ i. part_of (tile_of image (get_or keys i x)) part) items) copied cut_here
+    c.is_whole.ensures.whole
     (c.whole_stays_whole.ensures.crop p part shown.whole) (ap (λ (d : Dim). d.w) sides) (ap (λ (d : Dim). d.h) sides)
     (c.in_ok-raster.ensures.channels ∙ sym shown.samples_a_place) (c.in_ok-raster.ensures.top ∙ sym shown.depth)
     ∙ sym (c.crop_of_crop.ensures p region from c.requires.inside)

@@ -39,16 +39,19 @@ returns-in_ok-items-in-Copy-clause-items c =
     let items = c.in_ok-items-in-Copy.items.items in
     let are = c.in_ok-items-in-Copy.ensures ∙ ap (λ (ks : List TileKey). places_from 0 (tile_met r.rect from) ks) c.deref.ensures.value in
     subst (λ (p : Plan). ListsItems r p c.args.rect items) (sym c.in-Copy.is)
-    (lists_those r.turn r.size (tile_places r.rect) from c.args.rect c.in-Copy.keys.items items c.unturn_rect-from.ensures.inside c.unturn_rect-from.ensures.same_places are)
+    (lists_those r.turn r.size (tile_places r.rect) from c.args.rect c.in-Copy.keys.items items c.unturn_rect-from.ensures.inside
+    c.unturn_rect-from.ensures.same_places are)
 
 pub returns-in_ok-items-in-Grow-clause-items : goal.returns-in_ok-items-in-Grow-clause-items
 returns-in_ok-items-in-Grow-clause-items c =
     let r = c.args.resolved.now in
     let from = c.unturn_rect-from.result in
     let items = c.in_ok-items-in-Grow.items.items in
-    let are = c.in_ok-items-in-Grow.ensures ∙ ap (λ (ks : List TileKey). places_from 0 (grown_met r.rect r.size from) ks) c.deref-in-Grow.ensures.value in
+    let are = c.in_ok-items-in-Grow.ensures ∙ ap (λ (ks : List TileKey). places_from 0 (grown_met r.rect r.size from) ks)
+    c.deref-in-Grow.ensures.value in
     subst (λ (p : Plan). ListsItems r p c.args.rect items) (sym c.in-Grow.is)
-    (lists_those r.turn r.size (grown_places r.rect r.size) from c.args.rect c.in-Grow.keys.items items c.unturn_rect-from.ensures.inside c.unturn_rect-from.ensures.same_places are)
+    (lists_those r.turn r.size (grown_places r.rect r.size) from c.args.rect c.in-Grow.keys.items items c.unturn_rect-from.ensures.inside
+    c.unturn_rect-from.ensures.same_places are)
 
 pub returns-in_ok-items-in-Sum-clause-items : goal.returns-in_ok-items-in-Sum-clause-items
 returns-in_ok-items-in-Sum-clause-items c =
@@ -57,4 +60,5 @@ returns-in_ok-items-in-Sum-clause-items c =
     let items = c.in_ok-items-in-Sum.items.items in
     let are = c.in_ok-items-in-Sum.ensures ∙ ap (λ (ks : List SumKey). places_from 0 (block_met from) ks) c.deref-in-Sum.ensures.value in
     subst (λ (p : Plan). ListsItems r p c.args.rect items) (sym c.in-Sum.is)
-    (lists_those r.turn r.size block_places from c.args.rect c.in-Sum.keys.items items c.unturn_rect-from.ensures.inside c.unturn_rect-from.ensures.same_places are)
+    (lists_those r.turn r.size block_places from c.args.rect c.in-Sum.keys.items items c.unturn_rect-from.ensures.inside
+    c.unturn_rect-from.ensures.same_places are)

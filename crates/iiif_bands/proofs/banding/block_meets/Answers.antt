@@ -20,11 +20,15 @@ places_of-requires-clause-inside c =
     let block = c.square-block.ensures ∙ ap (λ (n : ℕ). square n k.bx k.by) c.side_of.ensures.side in
     let part = c.part_of-part.ensures.part ∙ ap (λ (r : Rect). part_of r k.rect) block in
     subst (λ (d : Dim). LiesIn c.part_of-part.result d) (sym c.dim.ensures)
-    (subst (λ (r : Rect). LiesIn r (sides_of k.rect)) (sym part) (part_lies (square (2 ^ k.level * k.edge) k.bx k.by) k.rect c.requires.meets))
+    (subst (λ (r : Rect). LiesIn r (sides_of k.rect)) (sym part)
+    (part_lies (square (2 ^ k.level * k.edge) k.bx k.by) k.rect c.requires.meets))
 
 pub returns : goal.returns
 returns c =
     let k = c.args.key.now in
-    let part = c.part_of-part.ensures.part ∙ ap (λ (r : Rect). part_of r k.rect) (c.square-block.ensures ∙ ap (λ (n : ℕ). square n k.bx k.by) c.side_of.ensures.side) in
+    let part = c.part_of-part.ensures.part ∙ ap (λ (r : Rect). part_of r k.rect)
+    (c.square-block.ensures ∙ ap (λ (n : ℕ). square n k.bx k.by) c.side_of.ensures.side) in
     common_is c.places_of.result c.args.rect c.meets.result c.meets.ensures
-    ∙ ap (λ (r : Rect). have_common r c.args.rect) (c.places_of.ensures.places ∙ ap (λ (d : Dim). places_of d k.size c.part_of-part.result) c.dim.ensures ∙ ap (places_of (sides_of k.rect) k.size) part)
+    ∙ ap (λ (r : Rect). have_common r c.args.rect)
+    (c.places_of.ensures.places ∙ ap (λ (d : Dim). places_of d k.size c.part_of-part.result) c.dim.ensures ∙
+    ap (places_of (sides_of k.rect) k.size) part)

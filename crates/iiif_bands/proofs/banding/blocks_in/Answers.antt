@@ -11,9 +11,11 @@ loop-i-init c = c.new-items.ensures.items ∙ places_none (block_met c.args.rect
 
 pub loop-i-preserved : goal.loop-i-preserved
 loop-i-preserved c =
-    places_next (block_met c.args.rect) c.args.keys.now c.loop-i.i c.index-keys-i.result c.loop-i.items.items c.push_where.new.items.items c.block_meets.result
+    places_next (block_met c.args.rect) c.args.keys.now c.loop-i.i c.index-keys-i.result c.loop-i.items.items c.push_where.new.items.items
+    c.block_meets.result
     (omega arith) (sym c.index-keys-i.is) c.loop-i.invariant c.block_meets.ensures c.in_ok-push_where.ensures
 
 pub returns : goal.returns
 returns c =
-    c.loop-i.invariant ∙ ap (λ (ks : List SumKey). places_from 0 (block_met c.args.rect) ks) (take_all c.loop-i.i c.args.keys.now (omega arith))
+    c.loop-i.invariant ∙ ap (λ (ks : List SumKey). places_from 0 (block_met c.args.rect) ks)
+    (take_all c.loop-i.i c.args.keys.now (omega arith))

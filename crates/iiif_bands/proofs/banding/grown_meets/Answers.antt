@@ -15,7 +15,8 @@ places_of-requires-clause-inside c =
     let tile = c.square-tile.ensures ∙ ap (λ (n : ℕ). square n k.tx k.ty) side in
     let part = c.part_of-part.ensures.part ∙ ap (λ (r : Rect). part_of r c.args.region) tile in
     subst (λ (d : Dim). LiesIn c.part_of-part.result d) (sym c.dim.ensures)
-    (subst (λ (r : Rect). LiesIn r (sides_of c.args.region)) (sym part) (part_lies (square k.edge k.tx k.ty) c.args.region c.requires.meets))
+    (subst (λ (r : Rect). LiesIn r (sides_of c.args.region)) (sym part)
+    (part_lies (square k.edge k.tx k.ty) c.args.region c.requires.meets))
 
 pub returns : goal.returns
 returns c =
@@ -25,4 +26,5 @@ returns c =
     let part = c.part_of-part.ensures.part ∙ ap (λ (r : Rect). part_of r c.args.region) tile in
     common_is c.places_of.result c.args.rect c.meets.result c.meets.ensures
     ∙ ap (λ (r : Rect). have_common r c.args.rect)
-    (c.places_of.ensures.places ∙ ap (λ (d : Dim). places_of d c.args.size c.part_of-part.result) c.dim.ensures ∙ ap (places_of (sides_of c.args.region) c.args.size) part)
+    (c.places_of.ensures.places ∙ ap (λ (d : Dim). places_of d c.args.size c.part_of-part.result) c.dim.ensures ∙
+    ap (places_of (sides_of c.args.region) c.args.size) part)

@@ -11,9 +11,11 @@ loop-i-init c = c.new-items.ensures.items ∙ places_none (tile_met c.args.regio
 
 pub loop-i-preserved : goal.loop-i-preserved
 loop-i-preserved c =
-    places_next (tile_met c.args.region c.args.rect) c.args.keys.now c.loop-i.i c.index-keys-i.result c.loop-i.items.items c.push_where.new.items.items c.tile_meets.result
+    places_next (tile_met c.args.region c.args.rect) c.args.keys.now c.loop-i.i c.index-keys-i.result c.loop-i.items.items
+    c.push_where.new.items.items c.tile_meets.result
     (omega arith) (sym c.index-keys-i.is) c.loop-i.invariant c.tile_meets.ensures c.in_ok-push_where.ensures
 
 pub returns : goal.returns
 returns c =
-    c.loop-i.invariant ∙ ap (λ (ks : List TileKey). places_from 0 (tile_met c.args.region c.args.rect) ks) (take_all c.loop-i.i c.args.keys.now (omega arith))
+    c.loop-i.invariant ∙ ap (λ (ks : List TileKey). places_from 0 (tile_met c.args.region c.args.rect) ks)
+    (take_all c.loop-i.i c.args.keys.now (omega arith))

@@ -8,7 +8,8 @@ use Rattle.iiif_byte_cache.proofs.putting.shrink.Goals as goal
 pub returns-then-main-hot-clause-lists : goal.returns-then-main-hot-clause-lists
 returns-then-main-hot-clause-lists g c =
     let now = lists_of c.loop.main c.loop.hot c.args.limit in
-    sym (evict_none (entry_size g.K.CacheKey.key_bytes g.K.CacheKey.val_bytes) _ now (omega (arith, c.if-main-hot.true, c.loop.main.sum, c.loop.hot.sum))) ∙ c.loop.invariant.lists
+    sym (evict_none (entry_size g.K.CacheKey.key_bytes g.K.CacheKey.val_bytes) _ now
+    (omega (arith, c.if-main-hot.true, c.loop.main.sum, c.loop.hot.sum))) ∙ c.loop.invariant.lists
 
 pub loop-preserved : goal.loop-preserved
 loop-preserved g c =

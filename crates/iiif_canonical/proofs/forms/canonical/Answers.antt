@@ -7,12 +7,14 @@ use Rattle.iiif_canonical.proofs.forms.canonical.Goals as goal
 pub returns-clause-resolves : goal.returns-clause-resolves
 unfolding canonical_of
 returns-clause-resolves c =
-    rw (c.region.ensures, c.size.ensures, c.from.ensures) (resolves_back c.args.resolved.now c.args.dim c.args.kind c.args.limits.now c.requires)
+    rw (c.region.ensures, c.size.ensures, c.from.ensures)
+    (resolves_back c.args.resolved.now c.args.dim c.args.kind c.args.limits.now c.requires)
 
 pub returns-clause-fixed : goal.returns-clause-fixed
 unfolding canonical_of
 returns-clause-fixed c =
-    rw (c.region.ensures, c.size.ensures, c.from.ensures) (fixed_back c.args.resolved.now c.args.dim c.args.kind c.args.limits.now c.requires)
+    rw (c.region.ensures, c.size.ensures, c.from.ensures)
+    (fixed_back c.args.resolved.now c.args.dim c.args.kind c.args.limits.now c.requires)
 
 pub returns-clause-same_image : goal.returns-clause-same_image
 unfolding canonical_of
@@ -28,4 +30,5 @@ returns-clause-short c =
 pub returns-clause-spelled : goal.returns-clause-spelled
 unfolding canonical_of
 returns-clause-spelled c =
-    λ sides. rw (c.region.ensures, c.size.ensures, c.from.ensures) (canonical_spelled c.args.resolved.now c.args.dim c.args.kind c.args.limits.now c.requires sides)
+    λ sides. rw (c.region.ensures, c.size.ensures, c.from.ensures)
+    (canonical_spelled c.args.resolved.now c.args.dim c.args.kind c.args.limits.now c.requires sides)

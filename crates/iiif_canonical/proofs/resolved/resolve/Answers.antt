@@ -14,7 +14,8 @@ returns-in_err-rect-clause-same_image c =
 pub returns-in_err-size-clause-same_image : goal.returns-in_err-size-clause-same_image
 unfolding resolved_of
 returns-in_err-size-clause-same_image c =
-    let value : c.from_residual-in_err-size.result ≡ resolved_of c.args.request.now c.args.dim c.args.kind c.args.limits.now = search rules in
+    let value : c.from_residual-in_err-size.result ≡ resolved_of c.args.request.now c.args.dim c.args.kind c.args.limits.now =
+    search rules in
     λ p sides channels. image_resolved p _ _ _ _ _ sides channels value
 
 pub returns-clause-same_image : goal.returns-clause-same_image

@@ -1,4 +1,5 @@
-use Rattle.std.proofs.Common.{◌≡◌, ℕ, ◌+◌, ◌-◌, ◌*◌, min, List, All, length, sym, ap, subst, ◌∙◌, arith, inl, inr, ⊎_elim, length-append, rules}
+use Rattle.std.proofs.Common.{◌≡◌, ℕ, ◌+◌, ◌-◌, ◌*◌, min, List, All, length, sym, ap, subst, ◌∙◌, arith, inl, inr, ⊎_elim, length-append}
+use Rattle.std.proofs.Common.{rules}
 use Rattle.std.specs.Prelude.{◌++◌}
 use Rattle.std.specs.Io.KnownBytes.{Appends}
 use Rattle.iiif_io.specs.Sending.{WasCut}
@@ -12,18 +13,22 @@ use Rattle.iiif_tiff_write.specs.File.{file, head_of, strip}
 use Rattle.iiif_delivery.specs.Delivery.{band_from, result_dim, Stops}
 use Rattle.iiif_delivery.specs.declared.delivery.Stopped.{Stopped}
 use Rattle.iiif_delivery.specs.Code.{IsBandFor}
-use Rattle.iiif_delivery.proofs.StepLemmas.{first_rows, none_sent, load_stopped, writer_stopped, more_rows, flushed_rows, all_sent, counted_first, counted_more, counted_flushed, counted_len, counted_none, counted_before, band_at, band_above, bands_end, result_some, more_len, sent_within, counted_done}
+use Rattle.iiif_delivery.proofs.StepLemmas.{first_rows, none_sent, load_stopped, writer_stopped, more_rows, flushed_rows, all_sent}
+use Rattle.iiif_delivery.proofs.StepLemmas.{counted_first, counted_more, counted_flushed, counted_len, counted_none, counted_before}
+use Rattle.iiif_delivery.proofs.StepLemmas.{band_at, band_above, bands_end, result_some, more_len, sent_within, counted_done}
 use Rattle.iiif_delivery.proofs.delivery.send_bands.Goals as goal
 use Rattle.iiif_delivery.proofs.delivery.send_bands.Goals.{then-len-ge-PIECE+in-Ok-flush-2, else-len-ge-PIECE}
 
 pub returns-in_default-clause-stopped : goal.returns-in_default-clause-stopped
 returns-in_default-clause-stopped g c =
-    none_sent c.laws_of_bands.ensures c.args.job.now (g.T.Items.means c.args.tiles.now) (g.S.Items.means c.args.sums.now) c.args.kind c.args.start.now c.requires.job.quarters
+    none_sent c.laws_of_bands.ensures c.args.job.now (g.T.Items.means c.args.tiles.now) (g.S.Items.means c.args.sums.now) c.args.kind
+    c.args.start.now c.requires.job.quarters
     c.requires.channels (g.W.Write.contents c.args.out.now)
 
 pub returns-in_default-bands-clause-stopped : goal.returns-in_default-bands-clause-stopped
 returns-in_default-bands-clause-stopped g c =
-    none_sent c.laws_of_bands.ensures c.args.job.now (g.T.Items.means c.args.tiles.now) (g.S.Items.means c.args.sums.now) c.args.kind c.args.start.now c.requires.job.quarters
+    none_sent c.laws_of_bands.ensures c.args.job.now (g.T.Items.means c.args.tiles.now) (g.S.Items.means c.args.sums.now) c.args.kind
+    c.args.start.now c.requires.job.quarters
     c.requires.channels (g.W.Write.contents c.args.out.now)
 
 pub loop-band-init : goal.loop-band-init
@@ -34,9 +39,11 @@ loop-band-init g c =
     let is = c.in-Ok.ensures ∙ ap (λ (e : Dim). c.args.start.now ++ head_of c.args.kind e) front in
     let none : min (0 * c.args.rows) d.h ≡ 0 = omega arith in
     record {
-      rows = first_rows c.laws_of_bands.ensures j (g.T.Items.means c.args.tiles.now) (g.S.Items.means c.args.sums.now) c.args.kind c.args.start.now c.requires.job.quarters
+      rows = first_rows c.laws_of_bands.ensures j (g.T.Items.means c.args.tiles.now) (g.S.Items.means c.args.sums.now) c.args.kind
+          c.args.start.now c.requires.job.quarters
           c.requires.channels (g.W.Write.contents c.args.out.now) c.in-Ok.text.items (min (0 * c.args.rows) d.h) is none;
-      counted = counted_first j c.args.kind (length (c.args.start.now ++ head_of c.args.kind d)) c.args.rows (min (0 * c.args.rows) d.h) c.in-Ok.text.items (ap length is) none;
+      counted = counted_first j c.args.kind (length (c.args.start.now ++ head_of c.args.kind d)) c.args.rows (min (0 * c.args.rows) d.h)
+          c.in-Ok.text.items (ap length is) none;
       kept = search rules;
     }
 
@@ -53,9 +60,12 @@ returns-then-held-eq0-clause-stopped g c =
     let y = min (i * c.args.rows) d.h in
     let above = band_above j.resolved j.plan c.args.rows bs i c.requires.rows are c.loop-band-test.true in
     let some = (result_some j c.requires.job.scalable.result_columns c.requires.job.scalable.result_rows).0 in
-    let none = counted_none j c.args.kind front c.args.rows c.loop-band.text.items c.loop-band.sent c.loop-band.held y c.loop-band.invariant.counted c.if-held-eq0.true some in
+    let none = counted_none j c.args.kind front c.args.rows c.loop-band.text.items c.loop-band.sent c.loop-band.held y
+    c.loop-band.invariant.counted c.if-held-eq0.true some in
     λ shows has source.
-    load_stopped c.laws_of_bands.ensures j tm sm c.args.kind c.args.start.now c.requires.job.quarters c.requires.channels (g.W.Write.contents c.args.out.now) (g.W.Write.contents c.loop-band.out) c.loop-band.text.items c.loop-band.sent c.loop-band.held c.args.rows y
+    load_stopped c.laws_of_bands.ensures j tm sm c.args.kind c.args.start.now c.requires.job.quarters c.requires.channels
+    (g.W.Write.contents c.args.out.now) (g.W.Write.contents c.loop-band.out) c.loop-band.text.items c.loop-band.sent c.loop-band.held
+    c.args.rows y
     (omega (arith, above)) some c.loop-band.invariant.counted (inl none.1) shows has source (c.loop-band.invariant.rows shows has source)
 
 pub returns-then-held-eq0-clause-fault : goal.returns-then-held-eq0-clause-fault
@@ -78,7 +88,8 @@ returns-then-held-eq0-clause-fault g c =
     let here : b.rect ≡ band_from d c.args.rows y = at ∙ ap (band_from d c.args.rows) row in
     let of_job : IsBandOf j b = subst (IsBandOf j) (sym c.band-item.is) (each i b c.loop-band-test.true) in (
       y,
-      counted_before j c.args.kind front c.args.rows c.loop-band.text.items c.loop-band.sent c.loop-band.held y c.loop-band.invariant.counted c.if-held-eq0.true some,
+      counted_before j c.args.kind front c.args.rows c.loop-band.text.items c.loop-band.sent c.loop-band.held y
+          c.loop-band.invariant.counted c.if-held-eq0.true some,
       ⊎_elim (λ e. inl e) (λ f. inr (b, here, of_job, f)) c.in-Err-put_band.ensures.fault,
     )
 
@@ -98,7 +109,8 @@ flush-requires g c =
     let long = c.in-Ok.text.ok in
     let first : length c.in-Ok.text.items ≡ length c.args.start.now + length (head_of c.args.kind c.turned-dim.result) =
     ap length c.in-Ok.ensures ∙ length-append c.args.start.now (head_of c.args.kind c.turned-dim.result) in
-    let within = sent_within j c.args.kind c.args.start.now c.args.rows c.loop-band.text.items c.loop-band.sent c.loop-band.held y c.loop-band.invariant.counted (omega arith) in
+    let within = sent_within j c.args.kind c.args.start.now c.args.rows c.loop-band.text.items c.loop-band.sent c.loop-band.held y
+    c.loop-band.invariant.counted (omega arith) in
     omega (arith, within, ap length c.in-Err-put_band.ensures.none, small, long.0, long.1, first, c.requires.len)
 
 pub returns-in-Ok-flush-clause-stopped : goal.returns-in-Ok-flush-clause-stopped
@@ -116,15 +128,22 @@ returns-in-Ok-flush-clause-stopped g c =
     let some = (result_some j c.requires.job.scalable.result_columns c.requires.job.scalable.result_rows).0 in
     let same = c.in-Err-put_band.ensures.none in
     let count = c.in-Ok-flush.ensures.count ∙ ap (λ (t : List ℕ). c.loop-band.sent + length t) same in
-    let begun = (counted_len j c.args.kind front c.args.rows c.loop-band.text.items c.loop-band.sent c.loop-band.held y c.in-Ok-flush.all c.loop-band.invariant.counted
+    let begun = (counted_len j c.args.kind front c.args.rows c.loop-band.text.items c.loop-band.sent c.loop-band.held y c.in-Ok-flush.all
+    c.loop-band.invariant.counted
     (omega (arith, c.if-held-eq0.false)) count).0 in
-    let counted = counted_flushed j c.args.kind front c.args.rows c.loop-band.text.items c.flush.new.text.items c.loop-band.sent c.loop-band.held y c.in-Ok-flush.all
+    let counted = counted_flushed j c.args.kind front c.args.rows c.loop-band.text.items c.flush.new.text.items c.loop-band.sent
+    c.loop-band.held y c.in-Ok-flush.all
     c.loop-band.invariant.counted begun count c.in-Ok-flush.ensures.none in
-    let written = subst (λ (t : List ℕ). Appends (g.W.Write.contents c.loop-band.out) (g.W.Write.contents c.flush.new.out) t) same c.in-Ok-flush.ensures.whole in
+    let written = subst (λ (t : List ℕ). Appends (g.W.Write.contents c.loop-band.out) (g.W.Write.contents c.flush.new.out) t) same
+    c.in-Ok-flush.ensures.whole in
     λ shows has source.
-    load_stopped c.laws_of_bands.ensures j tm sm c.args.kind c.args.start.now c.requires.job.quarters c.requires.channels (g.W.Write.contents c.args.out.now) (g.W.Write.contents c.flush.new.out) c.flush.new.text.items c.in-Ok-flush.all c.loop-band.held c.args.rows y
+    load_stopped c.laws_of_bands.ensures j tm sm c.args.kind c.args.start.now c.requires.job.quarters c.requires.channels
+    (g.W.Write.contents c.args.out.now) (g.W.Write.contents c.flush.new.out) c.flush.new.text.items c.in-Ok-flush.all c.loop-band.held
+    c.args.rows y
     (omega (arith, above)) some counted (inr c.in-Ok-flush.ensures.none) shows has source
-    (flushed_rows c.laws_of_bands.ensures j tm sm c.args.kind c.args.start.now c.requires.job.quarters c.requires.channels (g.W.Write.contents c.args.out.now) (g.W.Write.contents c.loop-band.out) (g.W.Write.contents c.flush.new.out) c.loop-band.text.items c.flush.new.text.items
+    (flushed_rows c.laws_of_bands.ensures j tm sm c.args.kind c.args.start.now c.requires.job.quarters c.requires.channels
+    (g.W.Write.contents c.args.out.now) (g.W.Write.contents c.loop-band.out) (g.W.Write.contents c.flush.new.out) c.loop-band.text.items
+    c.flush.new.text.items
     c.loop-band.sent c.in-Ok-flush.all y written c.in-Ok-flush.ensures.none count shows (c.loop-band.invariant.rows shows has source))
 
 pub returns-in-Ok-flush-clause-fault : goal.returns-in-Ok-flush-clause-fault
@@ -148,7 +167,8 @@ returns-in-Ok-flush-clause-fault g c =
     let same = c.in-Err-put_band.ensures.none in
     let count = c.in-Ok-flush.ensures.count ∙ ap (λ (t : List ℕ). c.loop-band.sent + length t) same in (
       y,
-      (counted_len j c.args.kind front c.args.rows c.loop-band.text.items c.loop-band.sent c.loop-band.held y c.in-Ok-flush.all c.loop-band.invariant.counted (omega (arith, c.if-held-eq0.false)) count).1,
+      (counted_len j c.args.kind front c.args.rows c.loop-band.text.items c.loop-band.sent c.loop-band.held y c.in-Ok-flush.all
+          c.loop-band.invariant.counted (omega (arith, c.if-held-eq0.false)) count).1,
       ⊎_elim (λ e. inl e) (λ f. inr (b, here, of_job, f)) c.in-Err-put_band.ensures.fault,
     )
 
@@ -164,11 +184,18 @@ returns-in-Err-flush-clause-stopped g c =
     let are = subst (AreBands j.resolved j.plan c.args.rows) (sym c.deref-band-items.ensures.value) c.in-Ok-bands.ensures.bands in
     let y = min (i * c.args.rows) d.h in
     let cut = c.in-Err-flush.ensures.cut in
-    let was = subst (λ (t : List ℕ). WasCut g.W.Write.contents g.W.Outlet.fails c.loop-band.out c.flush.new.out t cut.0) c.in-Err-put_band.ensures.none cut.2 in
+    let was = subst (λ (t : List ℕ). WasCut g.W.Write.contents g.W.Outlet.fails c.loop-band.out c.flush.new.out t cut.0)
+    c.in-Err-put_band.ensures.none cut.2 in
     λ shows has source.
-    let w = writer_stopped c.laws_of_bands.ensures j tm sm c.args.kind c.args.start.now c.requires.job.quarters c.requires.channels g.W.Write.contents g.W.Outlet.fails c.args.out.now c.loop-band.out c.flush.new.out c.loop-band.text.items c.loop-band.sent y cut.0 (omega arith) was shows has source
-    (c.loop-band.invariant.rows shows has source) in
-    (w.0, w.1, subst (λ (s : Stopped). Stops g.W.Write.contents g.W.Outlet.fails c.args.out.now c.flush.new.out front (c.args.start.now ++ file w.0 c.args.kind) s) (sym cut.1) w.2)
+    let w = writer_stopped c.laws_of_bands.ensures j tm sm c.args.kind c.args.start.now c.requires.job.quarters c.requires.channels
+    g.W.Write.contents g.W.Outlet.fails c.args.out.now c.loop-band.out c.flush.new.out c.loop-band.text.items c.loop-band.sent y cut.0
+    (omega arith) was shows has source
+    (c.loop-band.invariant.rows shows has source) in (
+      w.0,
+      w.1,
+      subst (λ (s : Stopped). Stops g.W.Write.contents g.W.Outlet.fails c.args.out.now c.flush.new.out front
+          (c.args.start.now ++ file w.0 c.args.kind) s) (sym cut.1) w.2,
+    )
 
 pub flush-requires-then-len-ge-PIECE : goal.flush-requires-then-len-ge-PIECE
 flush-requires-then-len-ge-PIECE g c =
@@ -189,19 +216,24 @@ flush-requires-then-len-ge-PIECE g c =
     let sum : (i + 1) * c.args.rows ≡ i * c.args.rows + c.args.rows = omega arith in
     let next : y2 ≡ y + n = omega (arith, above, sum) in
     let is : b.rect ≡ record { x = 0; y = y; w = d.w; h = n } =
-    band_at j.resolved j.plan c.args.rows bs i b are c.loop-band-test.true (sym c.band-item.is) ∙ ap (λ (k : ℕ). let r : Rect = record { x = 0; y = k; w = d.w; h = n } in r) row in
+    band_at j.resolved j.plan c.args.rows bs i b are c.loop-band-test.true (sym c.band-item.is) ∙
+    ap (λ (k : ℕ). let r : Rect = record { x = 0; y = k; w = d.w; h = n } in r) row in
     let made = c.in-Ok-put_band.ensures.rows in
     let is_band = subst (λ (r : Rect). IsBandFor j tm sm r made.0) is made.1 in
-    let is_held = subst (λ (r : Rect). IsHeldFor (sides_of r) (channels_of j.shape.kind) c.in-Ok-put_band.most) is c.in-Ok-put_band.ensures.held in
+    let is_held = subst (λ (r : Rect). IsHeldFor (sides_of r) (channels_of j.shape.kind) c.in-Ok-put_band.most) is
+    c.in-Ok-put_band.ensures.held in
     let len = more_len j tm sm c.args.kind y n made.0 is_band in
-    let counted = counted_more j c.args.kind front c.args.rows c.loop-band.text.items (strip c.args.kind made.0) c.put_band.new.text.items c.loop-band.sent c.loop-band.held
-    c.in-Ok-put_band.most y n y2 c.max-held.result c.loop-band.invariant.counted len is_held (omega (arith, above)) (omega (arith, above, c.requires.rows)) (λ (zero : y ≡ 0). omega (arith, zero, row))
+    let counted = counted_more j c.args.kind front c.args.rows c.loop-band.text.items (strip c.args.kind made.0) c.put_band.new.text.items
+    c.loop-band.sent c.loop-band.held
+    c.in-Ok-put_band.most y n y2 c.max-held.result c.loop-band.invariant.counted len is_held (omega (arith, above))
+    (omega (arith, above, c.requires.rows)) (λ (zero : y ≡ 0). omega (arith, zero, row))
     (omega (arith, c.max-held.ensures)) next made.2 in
     let small = c.in-Ok.text.small in
     let long = c.in-Ok.text.ok in
     let first : length c.in-Ok.text.items ≡ length c.args.start.now + length (head_of c.args.kind c.turned-dim.result) =
     ap length c.in-Ok.ensures ∙ length-append c.args.start.now (head_of c.args.kind c.turned-dim.result) in
-    let within = sent_within j c.args.kind c.args.start.now c.args.rows c.put_band.new.text.items c.loop-band.sent c.max-held.result y2 counted (omega arith) in
+    let within = sent_within j c.args.kind c.args.start.now c.args.rows c.put_band.new.text.items c.loop-band.sent c.max-held.result y2
+    counted (omega arith) in
     omega (arith, within, small, long.0, long.1, first, c.requires.len)
 
 pub returns-in-Err-flush-2-clause-stopped : goal.returns-in-Err-flush-2-clause-stopped
@@ -223,15 +255,24 @@ returns-in-Err-flush-2-clause-stopped g c =
     let sum : (i + 1) * c.args.rows ≡ i * c.args.rows + c.args.rows = omega arith in
     let next : y2 ≡ y + n = omega (arith, above, sum) in
     let is : b.rect ≡ record { x = 0; y = y; w = d.w; h = n } =
-    band_at j.resolved j.plan c.args.rows bs i b are c.loop-band-test.true (sym c.band-item.is) ∙ ap (λ (k : ℕ). let r : Rect = record { x = 0; y = k; w = d.w; h = n } in r) row in
+    band_at j.resolved j.plan c.args.rows bs i b are c.loop-band-test.true (sym c.band-item.is) ∙
+    ap (λ (k : ℕ). let r : Rect = record { x = 0; y = k; w = d.w; h = n } in r) row in
     let made = c.in-Ok-put_band.ensures.rows in
     let is_band = subst (λ (r : Rect). IsBandFor j tm sm r made.0) is made.1 in
     let cut = c.in-Err-flush-2.ensures.cut in
     λ shows has source.
-    let w = writer_stopped c.laws_of_bands.ensures j tm sm c.args.kind c.args.start.now c.requires.job.quarters c.requires.channels g.W.Write.contents g.W.Outlet.fails c.args.out.now c.loop-band.out c.flush-then-len-ge-PIECE.new.out c.put_band.new.text.items c.loop-band.sent y2 cut.0 (omega arith) cut.2 shows has source
-    (more_rows c.laws_of_bands.ensures j tm sm c.args.kind c.args.start.now c.requires.job.quarters c.requires.channels (g.W.Write.contents c.args.out.now) (g.W.Write.contents c.loop-band.out) c.loop-band.text.items c.put_band.new.text.items c.loop-band.sent y n y2 made.0
-    (omega (arith, above)) is_band made.2 next shows has source (c.loop-band.invariant.rows shows has source)) in
-    (w.0, w.1, subst (λ (s : Stopped). Stops g.W.Write.contents g.W.Outlet.fails c.args.out.now c.flush-then-len-ge-PIECE.new.out front (c.args.start.now ++ file w.0 c.args.kind) s) (sym cut.1) w.2)
+    let w = writer_stopped c.laws_of_bands.ensures j tm sm c.args.kind c.args.start.now c.requires.job.quarters c.requires.channels
+    g.W.Write.contents g.W.Outlet.fails c.args.out.now c.loop-band.out c.flush-then-len-ge-PIECE.new.out c.put_band.new.text.items
+    c.loop-band.sent y2 cut.0 (omega arith) cut.2 shows has source
+    (more_rows c.laws_of_bands.ensures j tm sm c.args.kind c.args.start.now c.requires.job.quarters c.requires.channels
+    (g.W.Write.contents c.args.out.now) (g.W.Write.contents c.loop-band.out) c.loop-band.text.items c.put_band.new.text.items
+    c.loop-band.sent y n y2 made.0
+    (omega (arith, above)) is_band made.2 next shows has source (c.loop-band.invariant.rows shows has source)) in (
+      w.0,
+      w.1,
+      subst (λ (s : Stopped). Stops g.W.Write.contents g.W.Outlet.fails c.args.out.now c.flush-then-len-ge-PIECE.new.out front
+          (c.args.start.now ++ file w.0 c.args.kind) s) (sym cut.1) w.2,
+    )
 
 pub loop-band-preserved : goal.loop-band-preserved
 loop-band-preserved g c =
@@ -252,32 +293,44 @@ loop-band-preserved g c =
     let sum : (i + 1) * c.args.rows ≡ i * c.args.rows + c.args.rows = omega arith in
     let next : y2 ≡ y + n = omega (arith, above, sum) in
     let is : b.rect ≡ record { x = 0; y = y; w = d.w; h = n } =
-    band_at j.resolved j.plan c.args.rows bs i b are c.loop-band-test.true (sym c.band-item.is) ∙ ap (λ (k : ℕ). let r : Rect = record { x = 0; y = k; w = d.w; h = n } in r) row in
+    band_at j.resolved j.plan c.args.rows bs i b are c.loop-band-test.true (sym c.band-item.is) ∙
+    ap (λ (k : ℕ). let r : Rect = record { x = 0; y = k; w = d.w; h = n } in r) row in
     let made = c.in-Ok-put_band.ensures.rows in
     let is_band = subst (λ (r : Rect). IsBandFor j tm sm r made.0) is made.1 in
-    let is_held = subst (λ (r : Rect). IsHeldFor (sides_of r) (channels_of j.shape.kind) c.in-Ok-put_band.most) is c.in-Ok-put_band.ensures.held in
+    let is_held = subst (λ (r : Rect). IsHeldFor (sides_of r) (channels_of j.shape.kind) c.in-Ok-put_band.most) is
+    c.in-Ok-put_band.ensures.held in
     let len = more_len j tm sm c.args.kind y n made.0 is_band in
-    let counted = counted_more j c.args.kind front c.args.rows c.loop-band.text.items (strip c.args.kind made.0) c.put_band.new.text.items c.loop-band.sent c.loop-band.held
-    c.in-Ok-put_band.most y n y2 c.max-held.result c.loop-band.invariant.counted len is_held (omega (arith, above)) (omega (arith, above, c.requires.rows)) (λ (zero : y ≡ 0). omega (arith, zero, row))
+    let counted = counted_more j c.args.kind front c.args.rows c.loop-band.text.items (strip c.args.kind made.0) c.put_band.new.text.items
+    c.loop-band.sent c.loop-band.held
+    c.in-Ok-put_band.most y n y2 c.max-held.result c.loop-band.invariant.counted len is_held (omega (arith, above))
+    (omega (arith, above, c.requires.rows)) (λ (zero : y ≡ 0). omega (arith, zero, row))
     (omega (arith, c.max-held.ensures)) next made.2 in
     elim c.if-len-ge-PIECE.branch [
       | then-len-ge-PIECE+in-Ok-flush-2 w ↦
           let none = ap (λ v. v.items) w.text-is ∙ w.in-Ok-flush-2.ensures.none in
           let count = w.sent-is ∙ w.in-Ok-flush-2.ensures.count in
-          let written = subst (λ o. Appends (g.W.Write.contents c.loop-band.out) (g.W.Write.contents o) c.put_band.new.text.items) (sym w.out-is) w.in-Ok-flush-2.ensures.whole in
+          let written = subst (λ o. Appends (g.W.Write.contents c.loop-band.out) (g.W.Write.contents o) c.put_band.new.text.items)
+          (sym w.out-is) w.in-Ok-flush-2.ensures.whole in
           record {
             rows = λ shows has source.
-                flushed_rows c.laws_of_bands.ensures j tm sm c.args.kind c.args.start.now c.requires.job.quarters c.requires.channels (g.W.Write.contents c.args.out.now) (g.W.Write.contents c.loop-band.out) (g.W.Write.contents c.if-len-ge-PIECE.out) c.put_band.new.text.items
+                flushed_rows c.laws_of_bands.ensures j tm sm c.args.kind c.args.start.now c.requires.job.quarters c.requires.channels
+                (g.W.Write.contents c.args.out.now) (g.W.Write.contents c.loop-band.out) (g.W.Write.contents c.if-len-ge-PIECE.out)
+                c.put_band.new.text.items
                 c.if-len-ge-PIECE.text.items c.loop-band.sent c.if-len-ge-PIECE.sent y2 written none count shows
-                (more_rows c.laws_of_bands.ensures j tm sm c.args.kind c.args.start.now c.requires.job.quarters c.requires.channels (g.W.Write.contents c.args.out.now) (g.W.Write.contents c.loop-band.out) c.loop-band.text.items c.put_band.new.text.items c.loop-band.sent y n y2 made.0
+                (more_rows c.laws_of_bands.ensures j tm sm c.args.kind c.args.start.now c.requires.job.quarters c.requires.channels
+                (g.W.Write.contents c.args.out.now) (g.W.Write.contents c.loop-band.out) c.loop-band.text.items
+                c.put_band.new.text.items c.loop-band.sent y n y2 made.0
                 (omega (arith, above)) is_band made.2 next shows has source (c.loop-band.invariant.rows shows has source));
-            counted = counted_flushed j c.args.kind front c.args.rows c.put_band.new.text.items c.if-len-ge-PIECE.text.items c.loop-band.sent c.max-held.result y2 c.if-len-ge-PIECE.sent counted
+            counted = counted_flushed j c.args.kind front c.args.rows c.put_band.new.text.items c.if-len-ge-PIECE.text.items
+                c.loop-band.sent c.max-held.result y2 c.if-len-ge-PIECE.sent counted
                 (omega (arith, next, above, c.requires.rows)) count none;
             kept = c.put_band.ensures.kept;
           }
       | else-len-ge-PIECE w ↦
           rw (w.out-is, w.text-is, w.sent-is) (record {
-            rows = λ shows has source. (more_rows c.laws_of_bands.ensures j tm sm c.args.kind c.args.start.now c.requires.job.quarters c.requires.channels (g.W.Write.contents c.args.out.now) (g.W.Write.contents c.loop-band.out) c.loop-band.text.items c.put_band.new.text.items c.loop-band.sent y n y2 made.0
+            rows = λ shows has source. (more_rows c.laws_of_bands.ensures j tm sm c.args.kind c.args.start.now c.requires.job.quarters
+                c.requires.channels (g.W.Write.contents c.args.out.now) (g.W.Write.contents c.loop-band.out) c.loop-band.text.items
+                c.put_band.new.text.items c.loop-band.sent y n y2 made.0
                 (omega (arith, above)) is_band made.2 next shows has source (c.loop-band.invariant.rows shows has source));
             counted = counted;
             kept = c.put_band.ensures.kept;
@@ -299,7 +352,8 @@ flush-requires-2 g c =
     let long = c.in-Ok.text.ok in
     let first : length c.in-Ok.text.items ≡ length c.args.start.now + length (head_of c.args.kind c.turned-dim.result) =
     ap length c.in-Ok.ensures ∙ length-append c.args.start.now (head_of c.args.kind c.turned-dim.result) in
-    let within = sent_within j c.args.kind c.args.start.now c.args.rows c.loop-band.text.items c.loop-band.sent c.loop-band.held y c.loop-band.invariant.counted (omega arith) in
+    let within = sent_within j c.args.kind c.args.start.now c.args.rows c.loop-band.text.items c.loop-band.sent c.loop-band.held y
+    c.loop-band.invariant.counted (omega arith) in
     omega (arith, within, small, long.0, long.1, first, c.requires.len)
 
 pub returns-in-Ok-flush-3-clause-whole : goal.returns-in-Ok-flush-3-clause-whole
@@ -315,9 +369,14 @@ returns-in-Ok-flush-3-clause-whole g c =
     let y = min (i * c.args.rows) d.h in
     let end = bands_end j.resolved j.plan c.args.rows bs i c.requires.rows are c.loop-band-test.false in
     λ shows has source.
-    all_sent c.laws_of_bands.ensures j tm sm c.args.kind c.args.start.now c.requires.job.quarters c.requires.channels (g.W.Write.contents c.args.out.now) (g.W.Write.contents c.flush-2.new.out) c.flush-2.new.text.items c.in-Ok-flush-3.bytes y end c.in-Ok-flush-3.ensures.none shows
-    (flushed_rows c.laws_of_bands.ensures j tm sm c.args.kind c.args.start.now c.requires.job.quarters c.requires.channels (g.W.Write.contents c.args.out.now) (g.W.Write.contents c.loop-band.out) (g.W.Write.contents c.flush-2.new.out) c.loop-band.text.items c.flush-2.new.text.items
-    c.loop-band.sent c.in-Ok-flush-3.bytes y c.in-Ok-flush-3.ensures.whole c.in-Ok-flush-3.ensures.none c.in-Ok-flush-3.ensures.count shows (c.loop-band.invariant.rows shows has source))
+    all_sent c.laws_of_bands.ensures j tm sm c.args.kind c.args.start.now c.requires.job.quarters c.requires.channels
+    (g.W.Write.contents c.args.out.now) (g.W.Write.contents c.flush-2.new.out) c.flush-2.new.text.items c.in-Ok-flush-3.bytes y end
+    c.in-Ok-flush-3.ensures.none shows
+    (flushed_rows c.laws_of_bands.ensures j tm sm c.args.kind c.args.start.now c.requires.job.quarters c.requires.channels
+    (g.W.Write.contents c.args.out.now) (g.W.Write.contents c.loop-band.out) (g.W.Write.contents c.flush-2.new.out)
+    c.loop-band.text.items c.flush-2.new.text.items
+    c.loop-band.sent c.in-Ok-flush-3.bytes y c.in-Ok-flush-3.ensures.whole c.in-Ok-flush-3.ensures.none c.in-Ok-flush-3.ensures.count shows
+    (c.loop-band.invariant.rows shows has source))
 
 pub returns-in-Ok-flush-3-clause-held : goal.returns-in-Ok-flush-3-clause-held
 returns-in-Ok-flush-3-clause-held g c =
@@ -331,7 +390,8 @@ returns-in-Ok-flush-3-clause-held g c =
     let are = subst (AreBands j.resolved j.plan c.args.rows) (sym c.deref-band-items.ensures.value) c.in-Ok-bands.ensures.bands in
     let y = min (i * c.args.rows) d.h in
     let end = bands_end j.resolved j.plan c.args.rows bs i c.requires.rows are c.loop-band-test.false in
-    counted_done j c.args.kind front c.args.rows c.loop-band.text.items c.loop-band.sent c.loop-band.held y (result_some j c.requires.job.scalable.result_columns c.requires.job.scalable.result_rows).1
+    counted_done j c.args.kind front c.args.rows c.loop-band.text.items c.loop-band.sent c.loop-band.held y
+    (result_some j c.requires.job.scalable.result_columns c.requires.job.scalable.result_rows).1
     end c.loop-band.invariant.counted
 
 pub returns-clause-stopped : goal.returns-clause-stopped
@@ -347,9 +407,15 @@ returns-clause-stopped g c =
     let y = min (i * c.args.rows) d.h in
     let cut = c.in-Err-flush-3.ensures.cut in
     λ shows has source.
-    let w = writer_stopped c.laws_of_bands.ensures j tm sm c.args.kind c.args.start.now c.requires.job.quarters c.requires.channels g.W.Write.contents g.W.Outlet.fails c.args.out.now c.loop-band.out c.flush-2.new.out c.loop-band.text.items c.loop-band.sent y cut.0 (omega arith) cut.2 shows has source
-    (c.loop-band.invariant.rows shows has source) in
-    (w.0, w.1, subst (λ (s : Stopped). Stops g.W.Write.contents g.W.Outlet.fails c.args.out.now c.flush-2.new.out front (c.args.start.now ++ file w.0 c.args.kind) s) (sym cut.1) w.2)
+    let w = writer_stopped c.laws_of_bands.ensures j tm sm c.args.kind c.args.start.now c.requires.job.quarters c.requires.channels
+    g.W.Write.contents g.W.Outlet.fails c.args.out.now c.loop-band.out c.flush-2.new.out c.loop-band.text.items c.loop-band.sent y cut.0
+    (omega arith) cut.2 shows has source
+    (c.loop-band.invariant.rows shows has source) in (
+      w.0,
+      w.1,
+      subst (λ (s : Stopped). Stops g.W.Write.contents g.W.Outlet.fails c.args.out.now c.flush-2.new.out front
+          (c.args.start.now ++ file w.0 c.args.kind) s) (sym cut.1) w.2,
+    )
 
 pub returns-in-Err-clause-stopped : goal.returns-in-Err-clause-stopped
 returns-in-Err-clause-stopped g c =
@@ -362,7 +428,10 @@ returns-in-Err-clause-stopped g c =
     let are = subst (AreBands j.resolved j.plan c.args.rows) (sym c.deref-band-items.ensures.value) c.in-Ok-bands.ensures.bands in
     let y = min (i * c.args.rows) d.h in
     let above = band_above j.resolved j.plan c.args.rows bs i c.requires.rows are c.loop-band-test.true in
-    let cut = subst (λ (t : List ℕ). WasCut g.W.Write.contents g.W.Outlet.fails c.loop-band.out c.loop-band.out t c.in-Err.more) c.deref.ensures.value c.in-Err.ensures.cut in
+    let cut = subst (λ (t : List ℕ). WasCut g.W.Write.contents g.W.Outlet.fails c.loop-band.out c.loop-band.out t c.in-Err.more)
+    c.deref.ensures.value c.in-Err.ensures.cut in
     λ shows has source.
-    writer_stopped c.laws_of_bands.ensures j tm sm c.args.kind c.args.start.now c.requires.job.quarters c.requires.channels g.W.Write.contents g.W.Outlet.fails c.args.out.now c.loop-band.out c.loop-band.out c.loop-band.text.items c.loop-band.sent y c.in-Err.more (omega (arith, above)) cut
+    writer_stopped c.laws_of_bands.ensures j tm sm c.args.kind c.args.start.now c.requires.job.quarters c.requires.channels
+    g.W.Write.contents g.W.Outlet.fails c.args.out.now c.loop-band.out c.loop-band.out c.loop-band.text.items c.loop-band.sent y
+    c.in-Err.more (omega (arith, above)) cut
     shows has source (c.loop-band.invariant.rows shows has source)

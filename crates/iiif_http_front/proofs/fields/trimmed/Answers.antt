@@ -2,7 +2,8 @@ use Rattle.std.proofs.Common.{◌≡◌, ℕ, List, length, reverse, slice_range
 use Rattle.std.proofs.lemmas.List.{reverse-reverse}
 use Rattle.httparse.specs.Grammar.{skip_ows, trim_ows}
 use Rattle.httparse.proofs.TrimLemmas.{skip_ows_yes, skip_ows_no, slice_first, slice_last, slice_empty}
-use Rattle.iiif_http_front.proofs.fields.trimmed.Goals.{then-loop-start-test+else-is_space_or_tab, else-loop-start-test, then-loop-end-test+else-is_space_or_tab-2, else-loop-end-test}
+use Rattle.iiif_http_front.proofs.fields.trimmed.Goals.{then-loop-start-test+else-is_space_or_tab, else-loop-start-test}
+use Rattle.iiif_http_front.proofs.fields.trimmed.Goals.{then-loop-end-test+else-is_space_or_tab-2, else-loop-end-test}
 use Rattle.iiif_http_front.proofs.fields.trimmed.Goals as goal
 
 pub loop-end-init : goal.loop-end-init

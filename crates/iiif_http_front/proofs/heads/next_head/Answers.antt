@@ -27,7 +27,8 @@ pub returns-then-as_slice-ge-BYTE_LIMIT-clause-answers :
     goal.returns-then-as_slice-ge-BYTE_LIMIT-clause-answers
 returns-then-as_slice-ge-BYTE_LIMIT-clause-answers g c =
     let came = c.heads.invariant in
-    let full : length c.heads.unread ≡ 8192 = omega (arith, ap length c.as_slice-in-heads.ensures.value, c.as_slice.ensures.bound, c.if-as_slice-ge-BYTE_LIMIT.true) in
+    let full : length c.heads.unread ≡ 8192 = omega
+    (arith, ap length c.as_slice-in-heads.ensures.value, c.as_slice.ensures.bound, c.if-as_slice-ge-BYTE_LIMIT.true) in
     let found = too_long _ c.heads.unread c.as_slice.ensures.value full (rw c.in-Ok-Partial.field-0-is at c.in-Ok-Partial.ensures) in
     answers_known _ _ _ came.0 c.heads.unread c.heads.unread (Err TooLong) came.1 came.2 found
 
@@ -35,6 +36,8 @@ pub returns-then-as_slice-ge-BYTE_LIMIT-clause-came :
     goal.returns-then-as_slice-ge-BYTE_LIMIT-clause-came
 returns-then-as_slice-ge-BYTE_LIMIT-clause-came g c =
     let came = c.heads.invariant in
-    let full : length c.heads.unread ≡ 8192 = omega (arith, ap length c.as_slice-in-heads.ensures.value, c.as_slice.ensures.bound, c.if-as_slice-ge-BYTE_LIMIT.true) in
+    let full : length c.heads.unread ≡ 8192 = omega
+    (arith, ap length c.as_slice-in-heads.ensures.value, c.as_slice.ensures.bound, c.if-as_slice-ge-BYTE_LIMIT.true) in
     let found = too_long _ c.heads.unread c.as_slice.ensures.value full (rw c.in-Ok-Partial.field-0-is at c.in-Ok-Partial.ensures) in
-    answers_came _ came.0 c.heads.unread c.heads.unread (Err TooLong) came.1 (answers_here c.heads.unread c.heads.unread (Err TooLong) found)
+    answers_came _ came.0 c.heads.unread c.heads.unread (Err TooLong) came.1
+    (answers_here c.heads.unread c.heads.unread (Err TooLong) found)

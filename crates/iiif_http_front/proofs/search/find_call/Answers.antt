@@ -11,15 +11,23 @@ pub returns-in_default : goal.returns-in_default
 returns-in_default c =
     let found = (rw c.in-Ok-Complete.field-0-is at c.in-Ok-Complete.ensures).complete in
     let within = (rw c.in-Ok-Complete.field-0-is at c.in-Ok-Complete.ensures).within in
-    let bare = sym c.announce_body.ensures ∙ c.if-announce_body.false in
-    (found.0, _, call_begins _ _ c.in-Ok-Complete.head found.0 found.1 (omega arith) (omega (arith, within.section.len_fits, c.requires)) bare)
+    let bare = sym c.announce_body.ensures ∙ c.if-announce_body.false in (
+      found.0,
+      _,
+      call_begins _ _ c.in-Ok-Complete.head found.0 found.1 (omega arith) (omega (arith, within.section.len_fits, c.requires))
+          bare,
+    )
 
 pub returns-in_default-from_slice : goal.returns-in_default-from_slice
 returns-in_default-from_slice c =
     let found = (rw c.in-Ok-Complete.field-0-is at c.in-Ok-Complete.ensures).complete in
     let within = (rw c.in-Ok-Complete.field-0-is at c.in-Ok-Complete.ensures).within in
-    let bare = sym c.announce_body.ensures ∙ c.if-announce_body.false in
-    (found.0, _, call_begins _ _ c.in-Ok-Complete.head found.0 found.1 (omega arith) (omega (arith, within.section.len_fits, c.requires)) bare)
+    let bare = sym c.announce_body.ensures ∙ c.if-announce_body.false in (
+      found.0,
+      _,
+      call_begins _ _ c.in-Ok-Complete.head found.0 found.1 (omega arith) (omega (arith, within.section.len_fits, c.requires))
+          bare,
+    )
 
 pub returns-in-Ok-from_slice : goal.returns-in-Ok-from_slice
 returns-in-Ok-from_slice c =
@@ -30,6 +38,7 @@ returns-in-Ok-from_slice c =
       (
         found.0,
         call_begins _ _ c.in-Ok-Complete.head found.0 found.1 (omega arith) (omega (arith, within.section.len_fits, c.requires)) bare,
-        call_said _ _ c.in-Ok-Complete.head found.0 _ found.1 (c.in-Ok.ensures.ok ∙ c.of.ensures) (c.in-Ok-from_slice.ensures.items ∙ c.of-in-Ok-Complete.ensures) c.close_connection-close.ensures,
+        call_said _ _ c.in-Ok-Complete.head found.0 _ found.1 (c.in-Ok.ensures.ok ∙ c.of.ensures)
+            (c.in-Ok-from_slice.ensures.items ∙ c.of-in-Ok-Complete.ensures) c.close_connection-close.ensures,
       ),
     )

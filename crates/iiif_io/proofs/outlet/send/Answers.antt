@@ -10,5 +10,6 @@ loop-at-preserved g c =
     let all : List ℕ = c.args.text.now in
     let joined = take-add c.loop-at.at c.in-Ok.n all ∙ ap (λ (t : List ℕ). take c.loop-at.at all ++ take c.in-Ok.n t) (sym rest) in (
       omega (arith, c.in-Ok.ensures.bound, c.split_at.ensures.back_len),
-      subst (Appends (g.W.Write.contents c.args.out.now) (g.W.Write.contents c.put.new.self)) (sym joined) (Appends-trans _ _ _ _ _ c.loop-at.invariant.1 c.in-Ok.ensures.bytes),
+      subst (Appends (g.W.Write.contents c.args.out.now) (g.W.Write.contents c.put.new.self)) (sym joined)
+          (Appends-trans _ _ _ _ _ c.loop-at.invariant.1 c.in-Ok.ensures.bytes),
     )

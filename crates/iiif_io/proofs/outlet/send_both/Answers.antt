@@ -15,8 +15,16 @@ loop-taken-preserved g c =
     let rest = c.split_at.ensures.back in
     let left = drop-append-le taken head body (omega (arith, c.loop-taken-test.true)) ∙ ap (λ (t : List ℕ). t ++ body) (sym rest) in
     let joined = take-add taken c.in-Ok.n all ∙ ap (λ (t : List ℕ). take taken all ++ take c.in-Ok.n t) left in (
-      omega (arith, c.in-Ok.ensures.bound, c.split_at.ensures.back_len, c.loop-taken-test.true, length-append head body, length-append c.split_at.result.1.now body),
-      subst (Appends (g.W.Write.contents c.args.out.now) (g.W.Write.contents c.put_both.new.self)) (sym joined) (Appends-trans _ _ _ _ _ c.loop-taken.invariant.1 c.in-Ok.ensures.bytes),
+      omega (
+        arith,
+        c.in-Ok.ensures.bound,
+        c.split_at.ensures.back_len,
+        c.loop-taken-test.true,
+        length-append head body,
+        length-append c.split_at.result.1.now body,
+      ),
+      subst (Appends (g.W.Write.contents c.args.out.now) (g.W.Write.contents c.put_both.new.self)) (sym joined)
+          (Appends-trans _ _ _ _ _ c.loop-taken.invariant.1 c.in-Ok.ensures.bytes),
     )
 
 pub returns-in-Ok-send-clause-whole : goal.returns-in-Ok-send-clause-whole
@@ -42,7 +50,14 @@ returns-in-Err-clause-cut g c =
     let left = ap (λ (n : ℕ). drop n all) behind ∙ drop-append-add head body (taken - length head) ∙ sym c.split_at-2.ensures.back in
     let joined = take-add taken c.in-Err.sent all ∙ ap (λ (t : List ℕ). take taken all ++ take c.in-Err.sent t) left in
     record {
-      strict = omega (arith, cut.strict, c.split_at-2.ensures.back_len, c.loop-taken-test.false, c.loop-taken.invariant.0, length-append head body);
+      strict = omega (
+        arith,
+        cut.strict,
+        c.split_at-2.ensures.back_len,
+        c.loop-taken-test.false,
+        c.loop-taken.invariant.0,
+        length-append head body,
+      );
       written = subst (Appends (g.W.Write.contents c.args.out.now) (g.W.Write.contents c.send.new.out)) (sym joined)
           (Appends-trans _ _ _ _ _ c.loop-taken.invariant.1 cut.written);
       before = cut.before;

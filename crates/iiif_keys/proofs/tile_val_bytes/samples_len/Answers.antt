@@ -8,4 +8,5 @@ use Rattle.iiif_keys.proofs.tile_val_bytes.samples_len.Goals as goal
 
 pub returns-in-Sixteen-clause-len : goal.returns-in-Sixteen-clause-len
 returns-in-Sixteen-clause-len c =
-    sym (ap (λ (s : Span). length (samples_bytes (top_of (span_depth s)) (span_values s))) c.in-Sixteen.is ∙ length-shorts c.in-Sixteen.samples.now)
+    sym (ap (λ (s : Span). length (samples_bytes (top_of (span_depth s)) (span_values s))) c.in-Sixteen.is ∙
+    length-shorts c.in-Sixteen.samples.now)

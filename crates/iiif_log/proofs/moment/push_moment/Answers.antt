@@ -18,7 +18,8 @@ returns c =
     let short : c.args.moment.millis / 1000 < 2 ^ 40 = omega (arith, c.args.moment.within) in
     let nanos = nanos_of _ short in
     cc c.from_nanosecond_in_range.ensures in
-    on_ok_weaker {Q = (x : List ℕ) × (string_bytes c.write.new.self ≡ string_bytes c.args.text.now ++ x) × IsMomentText c.args.moment.millis x}
+    on_ok_weaker {Q = (x : List ℕ) × (string_bytes c.write.new.self ≡ string_bytes c.args.text.now ++ x) ×
+    IsMomentText c.args.moment.millis x}
     _ (λ written. (
       iso_datetime_text c.from_plain-second.result ++ 46 ∷ three_digits (c.args.moment.millis % 1000) ++ 90 ∷ [],
       rw written (simp append_assoc),

@@ -1,5 +1,6 @@
 use Rattle.iiif_machine.proofs.Giving.{only_sources_give}
-use Rattle.iiif_machine.proofs.Promised.{answers_are_right, canonical_forms_agree, values_are_meanings, no_fault_no_failure, refused_at_once}
+use Rattle.iiif_machine.proofs.Promised.{answers_are_right, canonical_forms_agree, values_are_meanings, no_fault_no_failure}
+use Rattle.iiif_machine.proofs.Promised.{refused_at_once}
 use Rattle.iiif_machine.proofs.laws.sound_worlds_answer_right.Goals as goal
 
 pub returns-clause-answers : goal.returns-clause-answers

@@ -1,4 +1,11 @@
-use Rattle.iiif_machine.proofs.WorkedLists.{reply_of_another_key_is_not_taken, two_share_a_value, two_share_a_fault, waits_for_its_calls, kept_is_found, not_kept_is_not_found, failing_read, not_again, fault_is_not_kept, none_is_answered_yet, both_are_answered, late_repeat_changes_nothing, both_stay_answered, lost_ask_is_answered, fault_of_a_peer_is_not_answered, stopped_node, reply_to_a_stopped_flight_changes_nothing, stopped_calls_are_gone, found_again_is_answered, found_again_is_counted, halved_is, deep_halved_is, enlarged_is, cut_out_is, first_fault_is_answered, deep_ask_is_not_served, deep_ask_is_answered, ask_is_served, deep_is_not_wanted, seven_is_wanted, nine_are_not_kept, tenth_is_kept, evicted_from_both}
+use Rattle.iiif_machine.proofs.WorkedLists.{reply_of_another_key_is_not_taken, two_share_a_value, two_share_a_fault, waits_for_its_calls}
+use Rattle.iiif_machine.proofs.WorkedLists.{kept_is_found, not_kept_is_not_found, failing_read, not_again, fault_is_not_kept}
+use Rattle.iiif_machine.proofs.WorkedLists.{none_is_answered_yet, both_are_answered, late_repeat_changes_nothing, both_stay_answered}
+use Rattle.iiif_machine.proofs.WorkedLists.{lost_ask_is_answered, fault_of_a_peer_is_not_answered, stopped_node}
+use Rattle.iiif_machine.proofs.WorkedLists.{reply_to_a_stopped_flight_changes_nothing, stopped_calls_are_gone, found_again_is_answered}
+use Rattle.iiif_machine.proofs.WorkedLists.{found_again_is_counted, halved_is, deep_halved_is, enlarged_is, cut_out_is}
+use Rattle.iiif_machine.proofs.WorkedLists.{first_fault_is_answered, deep_ask_is_not_served, deep_ask_is_answered, ask_is_served}
+use Rattle.iiif_machine.proofs.WorkedLists.{deep_is_not_wanted, seven_is_wanted, nine_are_not_kept, tenth_is_kept, evicted_from_both}
 use Rattle.iiif_machine.proofs.laws.worked_lists_compute.Goals as goal
 
 pub returns-clause-waits_for_its_calls : goal.returns-clause-waits_for_its_calls

@@ -6,4 +6,5 @@ use Rattle.iiif_metrics.proofs.links.push_link_samples.Given as goal
 
 abbrev pub invariant-loop-sample : goal.invariant-loop-sample
 invariant-loop-sample l =
-    l.text.items ≡ l.initial.text.items ++ flat_map (sample_line l.name) (map (link_sample l.peer) (map sample_view (take l.sample-index l.samples)))
+    l.text.items ≡ l.initial.text.items ++ flat_map (sample_line l.name)
+    (map (link_sample l.peer) (map sample_view (take l.sample-index l.samples)))

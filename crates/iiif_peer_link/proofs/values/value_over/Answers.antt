@@ -6,4 +6,8 @@ ask_over-requires g c =
     let columns : c.args.shape.now.dim.w < 2 ^ 32 = search rules in
     let rows : c.args.shape.now.dim.h < 2 ^ 32 = search rules in
     let is_key = c.laws.ensures.keys c.args.shape.now c.args.key.now columns rows c.name-name.ensures.name c.requires.fits in
-    record { group_known = c.requires.group; key_within = rw (c.as_slice.ensures.value, c.in-Ok.ensures) (c.laws.ensures.key_len c.args.key.now is_key) }
+    record {
+      group_known = c.requires.group;
+      key_within =
+          rw (c.as_slice.ensures.value, c.in-Ok.ensures) (c.laws.ensures.key_len c.args.key.now is_key);
+    }

@@ -6,7 +6,8 @@ use Rattle.iiif_peer_server.proofs.serve.serve_peer.Goals as goal
 pub loop-alloc-init : goal.loop-alloc-init
 loop-alloc-init g c = record {
   few = omega arith;
-  came = begins_so (g.S.Answers.answers c.args.service.now) (LeftAt g.I.Inlet.fails) (LeftAt g.W.Outlet.fails) g.I.Read.remaining (g.I.Read.remaining c.args.reader.now) (g.W.Write.contents c.args.out.now);
+  came = begins_so (g.S.Answers.answers c.args.service.now) (LeftAt g.I.Inlet.fails) (LeftAt g.W.Outlet.fails) g.I.Read.remaining
+      (g.I.Read.remaining c.args.reader.now) (g.W.Write.contents c.args.out.now);
 }
 
 pub loop-alloc-preserved : goal.loop-alloc-preserved
@@ -14,15 +15,18 @@ loop-alloc-preserved g c =
     let more = c.serve_next.ensures.few c.loop-alloc-test.true in
     record {
       few = omega (arith, more);
-      came = goes_further (g.S.Answers.answers c.args.service.now) (LeftAt g.I.Inlet.fails) (LeftAt g.W.Outlet.fails) g.I.Read.remaining c.serve_next.new.reader c.serve_next.new.out
-          c.loop-alloc.n (g.I.Read.remaining c.args.reader.now) (g.I.Read.remaining c.loop-alloc.reader) (g.I.Read.remaining c.serve_next.new.reader)
+      came = goes_further (g.S.Answers.answers c.args.service.now) (LeftAt g.I.Inlet.fails) (LeftAt g.W.Outlet.fails) g.I.Read.remaining
+          c.serve_next.new.reader c.serve_next.new.out
+          c.loop-alloc.n (g.I.Read.remaining c.args.reader.now) (g.I.Read.remaining c.loop-alloc.reader)
+          (g.I.Read.remaining c.serve_next.new.reader)
           (g.W.Write.contents c.args.out.now) (g.W.Write.contents c.loop-alloc.out) (g.W.Write.contents c.serve_next.new.out)
           c.serve_next.result c.loop-alloc-test.true c.loop-alloc.invariant.came c.serve_next.ensures.served;
     }
 
 pub returns : goal.returns
 returns g c =
-    ends_so (g.S.Answers.answers c.args.service.now) (LeftAt g.I.Inlet.fails) (LeftAt g.W.Outlet.fails) g.I.Read.remaining c.serve_next.new.reader c.serve_next.new.out
+    ends_so (g.S.Answers.answers c.args.service.now) (LeftAt g.I.Inlet.fails) (LeftAt g.W.Outlet.fails) g.I.Read.remaining
+    c.serve_next.new.reader c.serve_next.new.out
     c.loop-alloc.n (g.I.Read.remaining c.args.reader.now) (g.I.Read.remaining c.loop-alloc.reader)
     (g.W.Write.contents c.args.out.now) (g.W.Write.contents c.loop-alloc.out) (g.W.Write.contents c.serve_next.new.out)
     c.serve_next.result c.loop-alloc-test.false c.loop-alloc.invariant.came c.serve_next.ensures.served

@@ -7,7 +7,8 @@ abbrev pub invariant-loop-alloc : goal.invariant-loop-alloc
 invariant-loop-alloc g l =
     record {
       few : l.n ≤ 1000;
-      came : CameSo (g.S.Answers.answers l.service) (LeftAt g.I.Inlet.fails) (LeftAt g.W.Outlet.fails) g.I.Read.remaining l.n (g.I.Read.remaining l.fn.reader)
+      came : CameSo (g.S.Answers.answers l.service) (LeftAt g.I.Inlet.fails) (LeftAt g.W.Outlet.fails) g.I.Read.remaining l.n
+          (g.I.Read.remaining l.fn.reader)
           (g.I.Read.remaining l.reader) (g.W.Write.contents l.fn.out) (g.W.Write.contents l.out);
     }
 

@@ -5,9 +5,13 @@ use Rattle.iiif_peer_wire.proofs.Cut.{ask_head}
 use Rattle.iiif_peer_wire.proofs.ask.write_ask.Goals as goal
 
 pub returns-clause-whole : goal.returns-clause-whole
-returns-clause-whole g c = subst (λ (text : List ℕ). OnOk c.send_part.result (Appends (g.W.Write.contents c.args.writer.now) (g.W.Write.contents c.send_part.new.writer) text))
-    (ask_head c.args.version c.to_be_bytes-size.result c.args.key.now c.digit-digit.result c.args.group c.digit-digit.ensures c.to_be_bytes-size.ensures) c.send_part.ensures.whole
+returns-clause-whole g c = subst (λ (text : List ℕ).
+    OnOk c.send_part.result (Appends (g.W.Write.contents c.args.writer.now) (g.W.Write.contents c.send_part.new.writer) text))
+    (ask_head c.args.version c.to_be_bytes-size.result c.args.key.now c.digit-digit.result c.args.group c.digit-digit.ensures
+    c.to_be_bytes-size.ensures) c.send_part.ensures.whole
 
 pub returns-clause-cut : goal.returns-clause-cut
-returns-clause-cut g c = subst (λ (text : List ℕ). IfErr c.send_part.result (IsCut g.W.Write.contents g.W.Outlet.fails c.args.writer.now c.send_part.new.writer text))
-    (ask_head c.args.version c.to_be_bytes-size.result c.args.key.now c.digit-digit.result c.args.group c.digit-digit.ensures c.to_be_bytes-size.ensures) c.send_part.ensures.cut
+returns-clause-cut g c = subst (λ (text : List ℕ).
+    IfErr c.send_part.result (IsCut g.W.Write.contents g.W.Outlet.fails c.args.writer.now c.send_part.new.writer text))
+    (ask_head c.args.version c.to_be_bytes-size.result c.args.key.now c.digit-digit.result c.args.group c.digit-digit.ensures
+    c.to_be_bytes-size.ensures) c.send_part.ensures.cut

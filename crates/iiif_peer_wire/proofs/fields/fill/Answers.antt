@@ -1,4 +1,5 @@
-use Rattle.std.proofs.Common.{◌≡◌, ℕ, ◌+◌, ◌-◌, ◌≤◌, List, ◌++◌, rules, arith, length, take, slice_range, sym, ap, ◌∙◌, subst, le_refl, drop_at, length-take-le}
+use Rattle.std.proofs.Common.{◌≡◌, ℕ, ◌+◌, ◌-◌, ◌≤◌, List, ◌++◌, rules, arith, length, take, slice_range, sym, ap, ◌∙◌, subst, le_refl}
+use Rattle.std.proofs.Common.{drop_at, length-take-le}
 use Rattle.std.proofs.lemmas.Slice.{take-put_mid_below}
 use Rattle.std.specs.Io.KnownBytes.{Consumes}
 use Rattle.std.proofs.KnownBytes.{Consumes-trans}
@@ -15,7 +16,8 @@ slice_range-put_mid : (a k n : ℕ) (xs ys : List ℕ) → a ≤ length xs → n
 slice_range-put_mid a k n xs ys within fits =
     let same : (a + n) - a ≡ n = omega arith in
     let after = post_of a k xs in
-    ap (take ((a + n) - a)) (drop_at (take a xs) (ys ++ after) a (length-take-le a xs within)) ∙ ap (λ m. take m (ys ++ after)) same ∙ take-append-le n ys after fits
+    ap (take ((a + n) - a)) (drop_at (take a xs) (ys ++ after) a (length-take-le a xs within)) ∙ ap (λ m. take m (ys ++ after)) same ∙
+    take-append-le n ys after fits
 
 pub loop-came-preserved : goal.loop-came-preserved
 loop-came-preserved g c =
@@ -23,9 +25,11 @@ loop-came-preserved g c =
     let room = length c.loop-came.buffer - from in
     let within = c.loop-came.invariant.within in
     let part = slice_range-put_mid from room c.in-Ok.n c.loop-came.buffer c.pull.new.buffer within c.in-Ok.ensures.bound.0 in
-    let joined = take_split from (from + c.in-Ok.n) c.loop-came.buffer (put_mid from room c.loop-came.buffer c.pull.new.buffer) (omega arith) (take-put_mid_below _ _ _ _ _ (le_refl _) within) in
+    let joined = take_split from (from + c.in-Ok.n) c.loop-came.buffer (put_mid from room c.loop-came.buffer c.pull.new.buffer)
+    (omega arith) (take-put_mid_below _ _ _ _ _ (le_refl _) within) in
     record {
       within = search rules;
-      bytes = subst (Consumes (g.R.Read.remaining c.args.reader.now) (g.R.Read.remaining c.pull.new.self)) (ap (λ l. take from c.loop-came.buffer ++ l) (sym part) ∙ joined)
+      bytes = subst (Consumes (g.R.Read.remaining c.args.reader.now) (g.R.Read.remaining c.pull.new.self))
+          (ap (λ l. take from c.loop-came.buffer ++ l) (sym part) ∙ joined)
           (Consumes-trans _ _ _ _ _ c.loop-came.invariant.bytes c.in-Ok.ensures.bytes.0);
     }

@@ -13,7 +13,8 @@ returns-then-came-lt4-clause-unread g c =
     let came = c.in_ok-came.came in
     let read = take came c.fill.new.buffer in
     let size : length read ≡ came = length-take-le came c.fill.new.buffer c.in_ok-came.ensures.within in
-    unread_short g.R.Read.remaining g.R.Inlet.fails c.args.reader.now c.fill.new.reader ask_at read c.in_ok-came.ensures.bytes (c.in_ok-came.ensures.end (search rules))
+    unread_short g.R.Read.remaining g.R.Inlet.fails c.args.reader.now c.fill.new.reader ask_at read c.in_ok-came.ensures.bytes
+    (c.in_ok-came.ensures.end (search rules))
     (ask_at-cut read (omega (arith, size)) (omega (arith, size)))
 
 pub returns-in-None-clause-unread : goal.returns-in-None-clause-unread
@@ -24,7 +25,8 @@ returns-in-None-clause-unread g c =
     let took : Consumes (g.R.Read.remaining c.args.reader.now) (g.R.Read.remaining c.fill.new.reader) bytes =
     subst (Consumes (g.R.Read.remaining c.args.reader.now) (g.R.Read.remaining c.fill.new.reader)) all c.in_ok-came.ensures.bytes in
     let none : ask_version_of bytes ≡ None = sym c.ask_version.ensures ∙ c.in-None.is in
-    unread_magic g.R.Read.remaining g.R.Inlet.fails c.args.reader.now c.fill.new.reader ask_at bytes took (λ rest. ask_at-other bytes rest full none)
+    unread_magic g.R.Read.remaining g.R.Inlet.fails c.args.reader.now c.fill.new.reader ask_at bytes took
+    (λ rest. ask_at-other bytes rest full none)
 
 pub returns-in-Some-clause-whole : goal.returns-in-Some-clause-whole
 returns-in-Some-clause-whole g c =
@@ -32,7 +34,8 @@ returns-in-Some-clause-whole g c =
     let full : length bytes ≡ 4 = search rules in
     let all : take c.in_ok-came.came bytes ≡ bytes = take_all c.in_ok-came.came bytes (omega (arith, full)) in
     let named : ask_version_of bytes ≡ Some c.in-Some.version = sym c.ask_version.ensures ∙ c.in-Some.is in
-    subst (Consumes (g.R.Read.remaining c.args.reader.now) (g.R.Read.remaining c.fill.new.reader)) (all ∙ version_spelled bytes c.in-Some.version named) c.in_ok-came.ensures.bytes
+    subst (Consumes (g.R.Read.remaining c.args.reader.now) (g.R.Read.remaining c.fill.new.reader))
+    (all ∙ version_spelled bytes c.in-Some.version named) c.in_ok-came.ensures.bytes
 
 pub returns-in_err-came-clause-unfinished : goal.returns-in_err-came-clause-unfinished
 returns-in_err-came-clause-unfinished g c =
@@ -40,4 +43,5 @@ returns-in_err-came-clause-unfinished g c =
     let new = g.R.Read.remaining c.fill.new.reader in
     let fault = c.in_err-came.field-0.0 in
     let rest = c.in_err-came.ensures.unfinished in
-    exit_fault c.from_residual.result (LeavesNoAsk old new) fault c.from_residual.ensures.1 (magic_unfinished old new fault rest.0 rest.1 (search rules))
+    exit_fault c.from_residual.result (LeavesNoAsk old new) fault c.from_residual.ensures.1
+    (magic_unfinished old new fault rest.0 rest.1 (search rules))

@@ -10,10 +10,12 @@ returns-clause-values c = elim c.match-samples.branch [
       let p = raster_picture c.args.dim c.args.kind Eight w.in-Eight.items.items in
       let count = rw w.in-Eight.is at c.requires.count in
       let told = rw w.deref.ensures.value at w.in_ok-turned_items-in-Eight.ensures in
-      rw (w.result-is, w.in-Eight.is) (turned_from_places p c.args.by.mirror c.args.by.quarters w.in_ok-turned_items-in-Eight.field-0.items c.requires.quarters count told.len (told.places 0))
+      rw (w.result-is, w.in-Eight.is) (turned_from_places p c.args.by.mirror c.args.by.quarters w.in_ok-turned_items-in-Eight.field-0.items
+      c.requires.quarters count told.len (told.places 0))
   | in-Sixteen+in_ok-turned_items-in-Sixteen w ↦
       let p = raster_picture c.args.dim c.args.kind Sixteen w.in-Sixteen.items.items in
       let count = rw w.in-Sixteen.is at c.requires.count in
       let told = rw w.deref-in-Sixteen.ensures.value at w.in_ok-turned_items-in-Sixteen.ensures in
-      rw (w.result-is, w.in-Sixteen.is) (turned_from_places p c.args.by.mirror c.args.by.quarters w.in_ok-turned_items-in-Sixteen.field-0.items c.requires.quarters count told.len (told.places 0))
+      rw (w.result-is, w.in-Sixteen.is) (turned_from_places p c.args.by.mirror c.args.by.quarters
+      w.in_ok-turned_items-in-Sixteen.field-0.items c.requires.quarters count told.len (told.places 0))
 ]

@@ -38,11 +38,13 @@ returns-then-by-clause-same_part c = λ p ew eh.
           let inside = rw w.in-2.is at c.requires.inside in
           let from : Rect = record { x = p.width - r.x - r.w; y = p.height - r.y - r.h; w = r.w; h = r.h } in
           rw (w.x-is, c.if-by.true, w.in-2.is, ← ew, ← eh)
-          (ap (λ q. quarter_turned (quarter_turned q)) (mirrored_part p from (omega arith) (omega arith)) ∙ part_after_two (mirrored p) r (omega arith) (omega arith))
+          (ap (λ q. quarter_turned (quarter_turned q)) (mirrored_part p from (omega arith) (omega arith)) ∙
+          part_after_two (mirrored p) r (omega arith) (omega arith))
       | in_default w ↦
           let three : c.args.by.quarters ≡ 3 = omega arith in
           let inside = rw three at c.requires.inside in
           let from : Rect = record { x = p.width - r.y - r.h; y = r.x; w = r.h; h = r.w } in
           rw (w.x-is, c.if-by.true, three, ← ew)
-          (ap (λ q. quarter_turned (quarter_turned (quarter_turned q))) (mirrored_part p from (omega arith) (omega arith)) ∙ part_after_three (mirrored p) r (omega arith) (omega arith))
+          (ap (λ q. quarter_turned (quarter_turned (quarter_turned q))) (mirrored_part p from (omega arith) (omega arith)) ∙
+          part_after_three (mirrored p) r (omega arith) (omega arith))
     ]

@@ -4,7 +4,8 @@ use Rattle.iiif_plain_tables.proofs.calling.numbers_of.Goals as goal
 
 pub loop-number-preserved : goal.loop-number-preserved
 loop-number-preserved c =
-    numbers_step c.loop-number.numbers.items c.push.new.self.items c.args.first c.loop-number.number c.loop-number.invariant (omega arith) c.in_ok-push.ensures.items
+    numbers_step c.loop-number.numbers.items c.push.new.self.items c.args.first c.loop-number.number c.loop-number.invariant (omega arith)
+    c.in_ok-push.ensures.items
 
 pub returns : goal.returns
 returns c = λ keys len.

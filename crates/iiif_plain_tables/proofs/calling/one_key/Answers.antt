@@ -8,4 +8,5 @@ use Rattle.iiif_plain_tables.proofs.calling.one_key.Goals as goal
 pub returns : goal.returns
 returns c =
     let empty : c.new-keys.result.items ≡ [] = search rules in
-    parts_tile c.args.key.now c.requires.0 ∙ ap (λ (t : TileKey). Some (Tile t ∷ [])) (sym c.requires.1) ∙ ap (λ (l : List Key). Some l) (sym (c.in_ok-push.ensures.items ∙ ap (λ (l : List Key). l ++ Tile c.args.tile ∷ []) empty))
+    parts_tile c.args.key.now c.requires.0 ∙ ap (λ (t : TileKey). Some (Tile t ∷ [])) (sym c.requires.1) ∙
+    ap (λ (l : List Key). Some l) (sym (c.in_ok-push.ensures.items ∙ ap (λ (l : List Key). l ++ Tile c.args.tile ∷ []) empty))

@@ -7,4 +7,5 @@ use Rattle.iiif_plain_tables.proofs.calling.part_keys.Goals as goal
 
 pub returns : goal.returns
 returns c =
-    parts_sums c.args.key.now c.requires.0 ∙ ap (λ (l : List SumKey). Some (map (λ k. Sum k) l)) (sym c.requires.1) ∙ ap (λ (l : List Key). Some l) (sym c.in_ok-keys.ensures)
+    parts_sums c.args.key.now c.requires.0 ∙ ap (λ (l : List SumKey). Some (map (λ k. Sum k) l)) (sym c.requires.1) ∙
+    ap (λ (l : List Key). Some l) (sym c.in_ok-keys.ensures)

@@ -4,4 +4,9 @@ use Rattle.iiif_plain_tables.proofs.keys.tile_val_len.Goals as goal
 
 pub returns-clause-len : goal.returns-clause-len
 returns-clause-len c =
-    omega (arith, length-tile_bytes c.args.value.now, same_samples _ _ _ _ c.samples.ensures.depth c.samples.ensures.all, c.samples_len.ensures.len)
+    omega (
+      arith,
+      length-tile_bytes c.args.value.now,
+      same_samples _ _ _ _ c.samples.ensures.depth c.samples.ensures.all,
+      c.samples_len.ensures.len,
+    )

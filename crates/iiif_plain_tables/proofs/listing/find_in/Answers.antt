@@ -14,7 +14,8 @@ returns-in_ok-value-in-Some c =
     let k = c.args.key.now in
     let e = c.index-entry.result.now in
     ap (held e.ticket) c.in_ok-value-in-Some.ensures
-    ∙ looked_some k c.args.list.now.items c.in-Some.place e e (sym (c.in-Some.ensures ∙ ap (position (λ (x : Entry). key_eq k x.key)) c.deref.ensures.value)) c.index-entry.ensures
+    ∙ looked_some k c.args.list.now.items c.in-Some.place e e
+    (sym (c.in-Some.ensures ∙ ap (position (λ (x : Entry). key_eq k x.key)) c.deref.ensures.value)) c.index-entry.ensures
 
 pub returns-in-None : goal.returns-in-None
 returns-in-None c =

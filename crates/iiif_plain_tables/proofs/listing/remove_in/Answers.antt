@@ -9,7 +9,8 @@ pub returns-in-Some : goal.returns-in-Some
 returns-in-Some c =
     let k = c.args.key.now in
     ap rows c.remove-gone.ensures.items
-    ∙ removed_some k c.args.list.now.items c.in-Some.place (sym (c.in-Some.ensures ∙ ap (position (λ (e : Entry). key_eq k e.key)) c.deref.ensures.value))
+    ∙ removed_some k c.args.list.now.items c.in-Some.place
+    (sym (c.in-Some.ensures ∙ ap (position (λ (e : Entry). key_eq k e.key)) c.deref.ensures.value))
 
 pub returns-in-None : goal.returns-in-None
 returns-in-None c =

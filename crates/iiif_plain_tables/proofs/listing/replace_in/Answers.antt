@@ -12,5 +12,9 @@ returns-in-Some c =
 
 pub returns-in-None : goal.returns-in-None
 returns-in-None c =
-    let k = c.args.entry.key in
-    (refl, refl, replaced_none c.args.entry c.args.list.now.items (sym (c.in-None.ensures ∙ ap (position (λ (e : Entry). key_eq k e.key)) c.deref.ensures.value)))
+    let k = c.args.entry.key in (
+      refl,
+      refl,
+      replaced_none c.args.entry c.args.list.now.items
+          (sym (c.in-None.ensures ∙ ap (position (λ (e : Entry). key_eq k e.key)) c.deref.ensures.value)),
+    )

@@ -9,4 +9,5 @@ loop-call-preserved c =
     c.loop-call.invariant (omega arith) c.call-item.is (c.stop_call.ensures ∙ ap (call_stopped c.args.node) (sym c.call-item.is))
 
 pub returns : goal.returns
-returns c = mixed_done (call_stopped c.args.node) c.args.calls.now c.loop-call.calls c.loop-call.call-index c.loop-call.invariant (omega arith)
+returns c = mixed_done (call_stopped c.args.node) c.args.calls.now c.loop-call.calls c.loop-call.call-index c.loop-call.invariant
+    (omega arith)

@@ -8,4 +8,5 @@ use Rattle.iiif_request.proofs.numerals.is_numeral.Goals as goal
 pub returns-then-text-most : goal.returns-then-text-most
 returns-then-text-most c =
     numeral_tests _ _ _ (omega arith) (omega arith)
-    (all_from_yields_List is_ascii_digit _ _ _ c.all.ensures.ran (YieldsList-from_slice c.args.text.now cc) (λ x b q k. search (rules, tests)))
+    (all_from_yields_List is_ascii_digit _ _ _ c.all.ensures.ran (YieldsList-from_slice c.args.text.now cc)
+    (λ x b q k. search (rules, tests)))

@@ -9,7 +9,13 @@ overflow_mul-value c =
     let all = c.args.digits.now in
     let i = c.loop-digit.digit-index in
     let more = after_more c.loop-digit.value all i c.requires.digits c.loop-digit-test.true in
-    omega (arith, more, c.loop-digit.invariant, after_le (c.loop-digit.value * 10 + (get_or all i 0 - 48)) (drop (i + 1) all), c.requires.fits)
+    omega (
+      arith,
+      more,
+      c.loop-digit.invariant,
+      after_le (c.loop-digit.value * 10 + (get_or all i 0 - 48)) (drop (i + 1) all),
+      c.requires.fits,
+    )
 
 pub overflow_sub-digit : goal.overflow_sub-digit
 overflow_sub-digit c = (digit_at _ _ c.requires.digits c.loop-digit-test.true).0
@@ -19,9 +25,17 @@ overflow_add-value c =
     let all = c.args.digits.now in
     let i = c.loop-digit.digit-index in
     let more = after_more c.loop-digit.value all i c.requires.digits c.loop-digit-test.true in
-    omega (arith, more, c.loop-digit.invariant, after_le (c.loop-digit.value * 10 + (get_or all i 0 - 48)) (drop (i + 1) all), c.requires.fits, c.from.ensures)
+    omega (
+      arith,
+      more,
+      c.loop-digit.invariant,
+      after_le (c.loop-digit.value * 10 + (get_or all i 0 - 48)) (drop (i + 1) all),
+      c.requires.fits,
+      c.from.ensures,
+    )
 
 pub loop-digit-preserved : goal.loop-digit-preserved
 loop-digit-preserved c =
     let more = after_more c.loop-digit.value _ c.loop-digit.digit-index c.requires.digits c.loop-digit-test.true in
-    ap (λ (d : ℕ). digits_value_after 10 (c.loop-digit.value * 10 + d) (drop (c.loop-digit.digit-index + 1) c.args.digits.now)) c.from.ensures ∙ sym more ∙ c.loop-digit.invariant
+    ap (λ (d : ℕ). digits_value_after 10 (c.loop-digit.value * 10 + d) (drop (c.loop-digit.digit-index + 1) c.args.digits.now))
+    c.from.ensures ∙ sym more ∙ c.loop-digit.invariant

@@ -9,5 +9,7 @@ pub returns : goal.returns
 unfolding has_whole_escapes
 returns c =
     all_from_yields_List begins_with_digits _ _ _ c.all.ensures.ran
-    (YieldsList-from_skip 1 (YieldsList-from_slice_split _ (λ (b : ℕ). b == 37) c.args.raw.now (cc (c.skip.ensures.source, c.split.ensures.rest)) (cc (c.skip.ensures.source, c.split.ensures.done)) (cc (c.skip.ensures.source, c.split.ensures.closure)) (λ x b q k. search (rules, tests))) c.skip.ensures.count)
+    (YieldsList-from_skip 1 (YieldsList-from_slice_split _ (λ (b : ℕ). b == 37) c.args.raw.now
+    (cc (c.skip.ensures.source, c.split.ensures.rest)) (cc (c.skip.ensures.source, c.split.ensures.done))
+    (cc (c.skip.ensures.source, c.split.ensures.closure)) (λ x b q k. search (rules, tests))) c.skip.ensures.count)
     (λ x b q k. search (rules, tests))

@@ -6,7 +6,8 @@ use Rattle.iiif_request.proofs.target.text.Goals as goal
 pub returns : goal.returns
 returns c =
     let whole : has_whole_escapes c.args.raw.now ≡ true = search rules in
-    text_found c.args.raw.now _ _ whole c.percent_decode.ensures.bytes c.in-Ok.ensures.ok_only_if_utf8 (c.in-Ok-into_owned.ensures.ok ∙ c.in-Ok.ensures.value)
+    text_found c.args.raw.now _ _ whole c.percent_decode.ensures.bytes c.in-Ok.ensures.ok_only_if_utf8
+    (c.in-Ok-into_owned.ensures.ok ∙ c.in-Ok.ensures.value)
 
 pub returns-in-Err-Utf8 : goal.returns-in-Err-Utf8
 returns-in-Err-Utf8 c =

@@ -24,7 +24,8 @@ returns-then-eq-clause-twice c = λ _.
       late = c.loop-late.late;
       before = omega arith;
       within = within;
-      same = λ d. get_or_default texts c.loop-early.early d [] below ∙ early ∙ same ∙ sym late ∙ get_or_default texts c.loop-late.late [] d within;
+      same = λ d. get_or_default texts c.loop-early.early d [] below ∙ early ∙ same ∙ sym late ∙
+          get_or_default texts c.loop-late.late [] d within;
     }
 
 pub loop-early-preserved : goal.loop-early-preserved

@@ -7,7 +7,8 @@ use Rattle.iiif_sum_group.proofs.groups.+sums.Given as goal
 abbrev pub invariant-Groups::in_turn-loop-part : goal.invariant-Groups::in_turn-loop-part
 invariant-Groups::in_turn-loop-part g l =
     record {
-      values : AreValuesOf g.J.System.pictures l.shape (g.J.System.stable l.key.name × IsTrue g.J.System.honest) (take l.part-index l.keys) l.values.items;
+      values : AreValuesOf g.J.System.pictures l.shape (g.J.System.stable l.key.name × IsTrue g.J.System.honest) (take l.part-index l.keys)
+          l.values.items;
       tile : l.fn.own.tile.gets ≤ l.own.tile.gets;
       sum : l.fn.own.sum.gets ≤ l.own.sum.gets;
       tile_parts : l.own.tile.parts ≡ l.fn.own.tile.parts;

@@ -11,13 +11,16 @@ use Rattle.iiif_sum_group.proofs.making.total.Goals as goal
 
 pub returns-clause-sums : goal.returns-clause-sums
 returns-clause-sums c =
-    total_all sums_in c.args.values.now c.loop-value.value-index (no_sums c.args.shape.now.dim (channels_of c.args.shape.now.kind) c.args.key.now) c.loop-value.total.sums (omega arith) c.loop-value.invariant.sums
+    total_all sums_in c.args.values.now c.loop-value.value-index
+    (no_sums c.args.shape.now.dim (channels_of c.args.shape.now.kind) c.args.key.now) c.loop-value.total.sums (omega arith)
+    c.loop-value.invariant.sums
 
 pub merge-requires : goal.merge-requires
 merge-requires c =
     let n = channels_of c.args.shape.now.kind in
     let P : Arc SumVal Global → Type 0 = λ x. (sums_in x).channels ≡ n in
-    let here : P c.value-item.result = subst P (sym c.value-item.is) (All-get_or P c.args.values.now c.loop-value.value-index c.value-item.result c.loop-value-test.true c.requires.channels) in
+    let here : P c.value-item.result = subst P (sym c.value-item.is)
+    (All-get_or P c.args.values.now c.loop-value.value-index c.value-item.result c.loop-value-test.true c.requires.channels) in
     ap (λ (v : SumVal). v.sums.channels) c.deref.ensures ∙ here ∙ sym c.loop-value.invariant.channels
 
 pub loop-value-preserved : goal.loop-value-preserved
@@ -25,6 +28,8 @@ loop-value-preserved c =
     record {
       places = ap (λ (g : Grid). g.rect) c.merge.ensures ∙ c.loop-value.invariant.places;
       channels = ap (λ (g : Grid). g.channels) c.merge.ensures ∙ c.loop-value.invariant.channels;
-      sums = total_more sums_in c.args.values.now c.loop-value.value-index c.value-item.result (no_sums c.args.shape.now.dim (channels_of c.args.shape.now.kind) c.args.key.now) c.loop-value.total.sums c.merge.new.self.sums
-          c.loop-value-test.true (sym c.value-item.is) c.loop-value.invariant.sums (c.merge.ensures ∙ ap (λ (v : SumVal). merged c.loop-value.total.sums v.sums) c.deref.ensures);
+      sums = total_more sums_in c.args.values.now c.loop-value.value-index c.value-item.result
+          (no_sums c.args.shape.now.dim (channels_of c.args.shape.now.kind) c.args.key.now) c.loop-value.total.sums c.merge.new.self.sums
+          c.loop-value-test.true (sym c.value-item.is) c.loop-value.invariant.sums
+          (c.merge.ensures ∙ ap (λ (v : SumVal). merged c.loop-value.total.sums v.sums) c.deref.ensures);
     }

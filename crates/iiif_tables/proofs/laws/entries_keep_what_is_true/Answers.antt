@@ -22,7 +22,8 @@ pub returns-clause-again : goal.returns-clause-again
 returns-clause-again g c = λ test class k n t h. each_again g.K.PartialEq.eq class k (λ x. IsTrue (test x)) n t h
 
 pub returns-clause-land : goal.returns-clause-land
-returns-clause-land g c = λ test size keep class k n value place t p h. each_landed g.K.PartialEq.eq size (λ x. IsTrue (test x)) keep class k n value place t p h
+returns-clause-land g c = λ test size keep class k n value place t p h.
+    each_landed g.K.PartialEq.eq size (λ x. IsTrue (test x)) keep class k n value place t p h
 
 pub returns-clause-found : goal.returns-clause-found
 returns-clause-found g c = λ test k cache h e is. each_kept_for (λ x. IsTrue (test x)) g.K.PartialEq.eq k cache h e is

@@ -1,4 +1,5 @@
-use Rattle.iiif_tables.proofs.TableLaws.{enter_tickets, enter_new_ticket, enter_no_open_ticket, enter_leads, enter_differ, again_tickets, again_differ, land_tickets, land_leads, land_differ}
+use Rattle.iiif_tables.proofs.TableLaws.{enter_tickets, enter_new_ticket, enter_no_open_ticket, enter_leads, enter_differ, again_tickets}
+use Rattle.iiif_tables.proofs.TableLaws.{again_differ, land_tickets, land_leads, land_differ}
 use Rattle.iiif_tables.proofs.laws.tickets_are_never_given_again.Goals as goal
 
 pub returns-clause-empty : goal.returns-clause-empty

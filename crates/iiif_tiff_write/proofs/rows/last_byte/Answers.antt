@@ -6,4 +6,14 @@ pub returns : goal.returns
 unfolding byte_from
 returns c =
     let first : c.args.i + 0 ≡ c.args.i = omega arith in
-    rw (first, c.bit.ensures.value, c.bit-2.ensures.value, c.bit-3.ensures.value, c.bit-4.ensures.value, c.bit-5.ensures.value, c.bit-6.ensures.value, c.bit-7.ensures.value, c.bit-8.ensures.value) refl
+    rw (
+      first,
+      c.bit.ensures.value,
+      c.bit-2.ensures.value,
+      c.bit-3.ensures.value,
+      c.bit-4.ensures.value,
+      c.bit-5.ensures.value,
+      c.bit-6.ensures.value,
+      c.bit-7.ensures.value,
+      c.bit-8.ensures.value,
+    ) refl

@@ -21,5 +21,6 @@ loop-j-preserved c = record {
 
 pub returns-then-whole-samples-clause-bytes : goal.returns-then-whole-samples-clause-bytes
 returns-then-whole-samples-clause-bytes c =
-    pack_end c.args.out.now.items c.loop-j.out.items c.push_reserved-then-whole-samples.new.self.items c.args.samples.now c.loop-j.j _ c.last_byte.result
+    pack_end c.args.out.now.items c.loop-j.out.items c.push_reserved-then-whole-samples.new.self.items c.args.samples.now c.loop-j.j _
+    c.last_byte.result
     c.loop-j.invariant.bytes c.last_byte.ensures c.push_reserved-then-whole-samples.ensures.items refl c.if-whole-samples.true (omega arith)

@@ -15,17 +15,26 @@ loop-y-init c = record {
 pub pack_row-requires : goal.pack_row-requires
 pack_row-requires c =
     let p = c.args.raster.now in
-    let whole : length c.bytes_of.result.now ≡ p.width = length-row_span p c.loop-y.y c.dim-dim.result.w c.bytes_of.result.now c.requires.channels c.dim-dim.ensures.width (c.bytes_of.ensures ∙ c.span.ensures.samples) in
-    rw whole (omega (arith, row_fits (div_ceil p.width 8) c.loop-y.y p.height _ _ _ c.loop-y.invariant.len c.requires.room (omega (arith, c.dim-dim.ensures.height))))
+    let whole : length c.bytes_of.result.now ≡ p.width =
+    length-row_span p c.loop-y.y c.dim-dim.result.w c.bytes_of.result.now c.requires.channels c.dim-dim.ensures.width
+    (c.bytes_of.ensures ∙ c.span.ensures.samples) in
+    rw whole (omega (
+      arith,
+      row_fits (div_ceil p.width 8) c.loop-y.y p.height _ _ _ c.loop-y.invariant.len c.requires.room
+          (omega (arith, c.dim-dim.ensures.height)),
+    ))
 
 pub loop-y-preserved : goal.loop-y-preserved
 loop-y-preserved c =
     let p = c.args.raster.now in
-    let whole : length c.bytes_of.result.now ≡ p.width = length-row_span p c.loop-y.y c.dim-dim.result.w c.bytes_of.result.now c.requires.channels c.dim-dim.ensures.width (c.bytes_of.ensures ∙ c.span.ensures.samples) in
+    let whole : length c.bytes_of.result.now ≡ p.width =
+    length-row_span p c.loop-y.y c.dim-dim.result.w c.bytes_of.result.now c.requires.channels c.dim-dim.ensures.width
+    (c.bytes_of.ensures ∙ c.span.ensures.samples) in
     record {
       bytes =
           row_more p c.loop-y.y c.dim-dim.result.w c.args.out.now.items c.loop-y.out.items c.pack_row.new.out.items c.bytes_of.result.now
-          c.requires.channels c.requires.top c.dim-dim.ensures.width (c.bytes_of.ensures ∙ c.span.ensures.samples) c.loop-y.invariant.bytes c.pack_row.ensures.bytes;
+          c.requires.channels c.requires.top c.dim-dim.ensures.width (c.bytes_of.ensures ∙ c.span.ensures.samples) c.loop-y.invariant.bytes
+          c.pack_row.ensures.bytes;
       len = omega (arith, ap (λ n. div_ceil n 8) whole);
       capacity = omega arith;
     }

@@ -8,8 +8,10 @@ loop-sample-preserved c =
     let high = get_or pair 1 0 in
     record {
       bytes =
-          shorts_more c.args.out.now.items c.loop-sample.out.items c.push_reserved-in-loop-sample.new.self.items c.args.samples.now c.loop-sample.sample-index (get_or pair 0 0) high
-          c.loop-sample-test.true c.loop-sample.invariant.bytes (ap (λ (s : List ℕ). get_or s 0 0) c.to_le_bytes-pair.ensures) (ap (λ (s : List ℕ). get_or s 1 0) c.to_le_bytes-pair.ensures)
+          shorts_more c.args.out.now.items c.loop-sample.out.items c.push_reserved-in-loop-sample.new.self.items c.args.samples.now
+          c.loop-sample.sample-index (get_or pair 0 0) high
+          c.loop-sample-test.true c.loop-sample.invariant.bytes (ap (λ (s : List ℕ). get_or s 0 0) c.to_le_bytes-pair.ensures)
+          (ap (λ (s : List ℕ). get_or s 1 0) c.to_le_bytes-pair.ensures)
           (c.push_reserved-in-loop-sample.ensures.items ∙ ap (λ (s : List ℕ). s ++ high ∷ []) c.push_reserved.ensures.items);
       len = omega arith;
       capacity = omega arith;

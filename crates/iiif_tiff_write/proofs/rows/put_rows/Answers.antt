@@ -16,7 +16,8 @@ returns-in-Gray c =
 pub returns-in-Gray16 : goal.returns-in-Gray16
 returns-in-Gray16 c =
     let same : strip c.args.kind c.args.raster.now ≡ flat_map (to_le_bytes w16) c.shorts_of.result.now =
-    rw (c.shorts_of.ensures, c.samples.ensures.all) (deep_rows c.args.raster.now c.args.kind c.is_whole.ensures.whole c.requires.channels c.in-Gray16.is) in
+    rw (c.shorts_of.ensures, c.samples.ensures.all)
+    (deep_rows c.args.raster.now c.args.kind c.is_whole.ensures.whole c.requires.channels c.in-Gray16.is) in
     record {
       rows = rw same (search rules);
       err = search rules;

@@ -11,5 +11,6 @@ returns c =
     let parts = c.min-parts.result in
     let fits : (top + 1) * area ≤ 65536 * area = mul-le-mul_right area (omega arith) in
     let is = c.quotient.ensures ∙ ap (λ u. parts / u) (sym c.self.view_is) in
-    average_is c.args.sum area top (2 ^ 64) c.saturating_add.result c.from.result parts c.quotient.result c.self.invariant.0 (omega arith) c.saturating_add.ensures c.from.ensures c.min-parts.ensures is
+    average_is c.args.sum area top (2 ^ 64) c.saturating_add.result c.from.result parts c.quotient.result c.self.invariant.0 (omega arith)
+    c.saturating_add.ensures c.from.ensures c.min-parts.ensures is
     ∙ ap (λ u. average_within u top c.args.sum) c.self.view_is

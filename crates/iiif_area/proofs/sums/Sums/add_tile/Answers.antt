@@ -11,7 +11,9 @@ returns-clause-sums c = λ p e.
     let inside = c.self.inside in
     let s = seen inside c.args.self.now c.self.view_is c.self.invariant in
     let G : List ℕ → Grid = λ sums. record { rect = inside.rect; channels = channels_of inside.kind; sums = sums } in
-    let long : length c.add_part.new.sums ≡ inside.sums.len = omega (arith, c.add_part.auto.sums, ap length c.deref_mut.ensures.value, inside.sums.ok.0, inside.sums.ok.1) in
+    let long : length c.add_part.new.sums ≡ inside.sums.len =
+    omega (arith, c.add_part.auto.sums, ap length c.deref_mut.ensures.value, inside.sums.ok.0, inside.sums.ok.1) in
     ap G (with_items_is inside.sums c.add_part.new.sums long)
     ∙ tile_merged p c.args.at c.args.region c.args.size c.args.self.now _ _ _ _ _ _ _ c.args.tile.now
-    s.rect s.channels (c.deref_mut.ensures.value ∙ s.sums) c.requires.kind c.of-share.ensures.region c.of-share.ensures.part c.of-share.ensures.corner e (rw c.of-share.ensures.size at c.add_part.ensures)
+    s.rect s.channels (c.deref_mut.ensures.value ∙ s.sums) c.requires.kind c.of-share.ensures.region c.of-share.ensures.part
+    c.of-share.ensures.corner e (rw c.of-share.ensures.size at c.add_part.ensures)

@@ -14,36 +14,45 @@ use Rattle.iiif_area.proofs.sums.Sums.finish.Goals as goal
 pub overflow_mul-run-2 : goal.overflow_mul-run-2
 overflow_mul-run-2 c =
     let s = seen c.self.inside c.args.self.now c.self.view_is c.self.invariant in
-    omega (arith, rows_fit_in c.self.inside c.channels-channels.result c.args.rect c.self.invariant c.channels-channels.ensures (rw s.rect c.requires.inside))
+    omega (
+      arith,
+      rows_fit_in c.self.inside c.channels-channels.result c.args.rect c.self.invariant c.channels-channels.ensures
+          (rw s.rect c.requires.inside),
+    )
 
 pub overflow_mul-from-in-loop-y : goal.overflow_mul-from-in-loop-y
 overflow_mul-from-in-loop-y c =
     let s = seen c.self.inside c.args.self.now c.self.view_is c.self.invariant in
-    let row = row_fits_in c.self.inside c.channels-channels.result c.args.rect c.loop-y.y c.self.invariant c.channels-channels.ensures (rw s.rect c.requires.inside) (omega arith) in
+    let row = row_fits_in c.self.inside c.channels-channels.result c.args.rect c.loop-y.y c.self.invariant c.channels-channels.ensures
+    (rw s.rect c.requires.inside) (omega arith) in
     omega arith
 
 pub overflow_mul-from : goal.overflow_mul-from
 overflow_mul-from c =
     let s = seen c.self.inside c.args.self.now c.self.view_is c.self.invariant in
-    let row = row_fits_in c.self.inside c.channels-channels.result c.args.rect c.loop-y.y c.self.invariant c.channels-channels.ensures (rw s.rect c.requires.inside) (omega arith) in
+    let row = row_fits_in c.self.inside c.channels-channels.result c.args.rect c.loop-y.y c.self.invariant c.channels-channels.ensures
+    (rw s.rect c.requires.inside) (omega arith) in
     omega arith
 
 pub overflow_add-from-in-loop-y : goal.overflow_add-from-in-loop-y
 overflow_add-from-in-loop-y c =
     let s = seen c.self.inside c.args.self.now c.self.view_is c.self.invariant in
-    let row = row_fits_in c.self.inside c.channels-channels.result c.args.rect c.loop-y.y c.self.invariant c.channels-channels.ensures (rw s.rect c.requires.inside) (omega arith) in
+    let row = row_fits_in c.self.inside c.channels-channels.result c.args.rect c.loop-y.y c.self.invariant c.channels-channels.ensures
+    (rw s.rect c.requires.inside) (omega arith) in
     omega arith
 
 pub overflow_add-from-in-loop-y-2 : goal.overflow_add-from-in-loop-y-2
 overflow_add-from-in-loop-y-2 c =
     let s = seen c.self.inside c.args.self.now c.self.view_is c.self.invariant in
-    let row = row_fits_in c.self.inside c.channels-channels.result c.args.rect c.loop-y.y c.self.invariant c.channels-channels.ensures (rw s.rect c.requires.inside) (omega arith) in
+    let row = row_fits_in c.self.inside c.channels-channels.result c.args.rect c.loop-y.y c.self.invariant c.channels-channels.ensures
+    (rw s.rect c.requires.inside) (omega arith) in
     omega arith
 
 pub slice_bounds-push_averages-end : goal.slice_bounds-push_averages-end
 slice_bounds-push_averages-end c =
     let s = seen c.self.inside c.args.self.now c.self.view_is c.self.invariant in
-    let row = row_fits_in c.self.inside c.channels-channels.result c.args.rect c.loop-y.y c.self.invariant c.channels-channels.ensures (rw s.rect c.requires.inside) (omega arith) in
+    let row = row_fits_in c.self.inside c.channels-channels.result c.args.rect c.loop-y.y c.self.invariant c.channels-channels.ensures
+    (rw s.rect c.requires.inside) (omega arith) in
     omega (arith, row, c.deref.ensures.len)
 
 pub loop-y-init : goal.loop-y-init
@@ -56,7 +65,8 @@ loop-y-init c = record {
 pub offset_bounds-deref-from : goal.offset_bounds-deref-from
 offset_bounds-deref-from c =
     let s = seen c.self.inside c.args.self.now c.self.view_is c.self.invariant in
-    let row = row_fits_in c.self.inside c.channels-channels.result c.args.rect c.loop-y.y c.self.invariant c.channels-channels.ensures (rw s.rect c.requires.inside) (omega arith) in
+    let row = row_fits_in c.self.inside c.channels-channels.result c.args.rect c.loop-y.y c.self.invariant c.channels-channels.ensures
+    (rw s.rect c.requires.inside) (omega arith) in
     omega (arith, row, c.deref.type_inv, ap length c.deref.ensures.value)
 
 pub push_averages-requires-clause-room : goal.push_averages-requires-clause-room
@@ -65,7 +75,8 @@ push_averages-requires-clause-room c =
     let n = c.channels-channels.result in
     let s = seen c.self.inside c.args.self.now c.self.view_is c.self.invariant in
     let ch : n ≡ c.args.self.now.channels = c.channels-channels.ensures ∙ s.channels in
-    let count : length (values_of c.loop-y.samples) ≡ r.w * c.loop-y.y * n = rw ch (ap length c.loop-y.invariant.values ∙ length-samples_of _ _ _ _) in
+    let count : length (values_of c.loop-y.samples) ≡ r.w * c.loop-y.y * n =
+    rw ch (ap length c.loop-y.invariant.values ∙ length-samples_of _ _ _ _) in
     let more : r.w * n * (c.loop-y.y + 1) ≤ r.w * n * r.h = mul-le-mul_left (r.w * n) (omega arith) in
     omega arith
 
@@ -82,10 +93,13 @@ loop-y-preserved c =
     let s = seen c.self.inside g c.self.view_is c.self.invariant in
     let ch : n ≡ g.channels = c.channels-channels.ensures ∙ s.channels in
     let long : from + run - from ≡ run = omega arith in
-    let row : map (average_within (c.from.result * c.from-2.result) top) (take (from + run - from) (drop from c.deref.result.now)) ≡ row_of r.w g.channels (λ x k. made_at g c.args.region top r x y k) =
-    rw (long, c.deref.ensures.value, s.sums, c.from.ensures, c.from-2.ensures, ch, s.rect) (made_row g c.args.region top r y c.requires.inside (omega arith) s.count) in
+    let row : map (average_within (c.from.result * c.from-2.result) top) (take (from + run - from) (drop from c.deref.result.now)) ≡ row_of
+    r.w g.channels (λ x k. made_at g c.args.region top r x y k) =
+    rw (long, c.deref.ensures.value, s.sums, c.from.ensures, c.from-2.ensures, ch, s.rect)
+    (made_row g c.args.region top r y c.requires.inside (omega arith) s.count) in
     record {
-      values = rw (c.push_averages.ensures.values, c.loop-y.invariant.depth, c.loop-y.invariant.values, row) (sym (samples_of_more r.w y g.channels (made_at g c.args.region top r)));
+      values = rw (c.push_averages.ensures.values, c.loop-y.invariant.depth, c.loop-y.invariant.values, row)
+          (sym (samples_of_more r.w y g.channels (made_at g c.args.region top r)));
       depth = c.push_averages.ensures.depth ∙ c.loop-y.invariant.depth;
       capacity = c.push_averages.ensures.capacity ∙ c.loop-y.invariant.capacity;
     }

@@ -21,8 +21,11 @@ returns-clause-sums c = λ p e.
     let P : ℕ → List ℕ → Grid = λ n s. record { rect = r; channels = n; sums = s } in
     ap (λ n. P n c.in_ok-sums.sums.items) c.kind.ensures
     ∙ ap (P c.args.tile.now.channels) (rw (c.of-share.ensures.region, c.of-share.ensures.size) at c.in_ok-sums.ensures)
-    ∙ ap (λ (q : Rect). tile_grid region size q part corner c.args.tile.now) (rw (c.of-share.ensures.region, c.of-share.ensures.size) at c.places_of-rect.ensures.places)
+    ∙ ap (λ (q : Rect). tile_grid region size q part corner c.args.tile.now)
+    (rw (c.of-share.ensures.region, c.of-share.ensures.size) at c.places_of-rect.ensures.places)
     ∙ ap (λ (q : Rect). tile_grid region size (places_of (sides_of region) size q) q corner c.args.tile.now) c.of-share.ensures.part
-    ∙ ap (λ (k : ℕ × ℕ). tile_grid region size (places_of (sides_of region) size (part_of c.args.at region)) (part_of c.args.at region) k c.args.tile.now) c.of-share.ensures.corner
-    ∙ ap (λ (t : Picture). tile_grid region size (places_of (sides_of region) size (part_of c.args.at region)) (part_of c.args.at region) (corner_of c.args.at region) t) e
+    ∙ ap (λ (k : ℕ × ℕ). tile_grid region size (places_of (sides_of region) size (part_of c.args.at region)) (part_of c.args.at region) k
+    c.args.tile.now) c.of-share.ensures.corner
+    ∙ ap (λ (t : Picture). tile_grid region size (places_of (sides_of region) size (part_of c.args.at region)) (part_of c.args.at region)
+    (corner_of c.args.at region) t) e
     ∙ tile_grid-is p c.args.at region size

@@ -19,4 +19,5 @@ bands-requires-clause-plan c = record {
 pub returns-clause-each : goal.returns-clause-each
 returns-clause-each c =
     let j = c.args.self.now in
-    IfOk-weaker c.bands.result _ _ (λ bs are. bands_of j c.args.rows bs.items c.requires.rows c.bands_cut_results.ensures.low are) c.bands.ensures
+    IfOk-weaker c.bands.result _ _ (λ bs are. bands_of j c.args.rows bs.items c.requires.rows c.bands_cut_results.ensures.low are)
+    c.bands.ensures

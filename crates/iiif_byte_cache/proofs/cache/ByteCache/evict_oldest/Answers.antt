@@ -14,11 +14,14 @@ invariant_of-self g c =
     record {
       within = omega (arith, c.evict.ensures.bytes, now.within);
       small = now.small;
-      single = subst (Single eq) (sym (c.evict.ensures.rest now.limit)) (single_evict eq (entry_size g.K.CacheKey.key_bytes g.K.CacheKey.val_bytes) old now.single);
+      single = subst (Single eq) (sym (c.evict.ensures.rest now.limit))
+          (single_evict eq (entry_size g.K.CacheKey.key_bytes g.K.CacheKey.val_bytes) old now.single);
       room = c.evict.ensures.room.1 ∙ now.room ∙ sym c.evict.ensures.room.0;
     }
 
 pub returns-clause-none : goal.returns-clause-none
 returns-clause-none g c =
     let old = cache_of c.args.self.now in
-    if_none c.evict.result (λ h. victim_none (entry_size g.K.CacheKey.key_bytes g.K.CacheKey.val_bytes) (λ k v. omega (arith, g.met.K.CacheKey.spelled k)) old (sym (c.evict.ensures.victim c.args.self.now.limit) ∙ none_of _ c.evict.result h))
+    if_none c.evict.result (λ h. victim_none (entry_size g.K.CacheKey.key_bytes g.K.CacheKey.val_bytes)
+    (λ k v. omega (arith, g.met.K.CacheKey.spelled k)) old
+    (sym (c.evict.ensures.victim c.args.self.now.limit) ∙ none_of _ c.evict.result h))

@@ -13,7 +13,8 @@ returns-in-Ok-clause-ok g c =
     let size = (entry_size g.K.CacheKey.key_bytes g.K.CacheKey.val_bytes) in
     let old = cache_of c.args.self.now in
     let entry = kept_of c.args.entry in
-    let small : is_too_big size c.args.key entry.value old ≡ false = le-ltb old.limit (size c.args.key entry.value) (omega (arith, c.if-size-self.false, c.size-size.ensures)) in
+    let small : is_too_big size c.args.key entry.value old ≡ false =
+    le-ltb old.limit (size c.args.key entry.value) (omega (arith, c.if-size-self.false, c.size-size.ensures)) in
     c.shrink.ensures.lists
     ∙ ap (shrink size) (c.in-Ok.ensures.ok c.args.self.now.limit)
     ∙ sym (put_small size g.K.PartialEq.eq (side c.args.hot) c.args.key entry old small)
@@ -26,7 +27,8 @@ returns-in-Err-clause-back g c =
     let size = (entry_size g.K.CacheKey.key_bytes g.K.CacheKey.val_bytes) in
     let old = cache_of c.args.self.now in
     let entry = kept_of c.args.entry in
-    let small : is_too_big size c.args.key entry.value old ≡ false = le-ltb old.limit (size c.args.key entry.value) (omega (arith, c.if-size-self.false, c.size-size.ensures)) in
+    let small : is_too_big size c.args.key entry.value old ≡ false =
+    le-ltb old.limit (size c.args.key entry.value) (omega (arith, c.if-size-self.false, c.size-size.ensures)) in
     (ap (λ p. p.0) c.in-Err.ensures.back, ap (λ p. p.1) c.in-Err.ensures.back, small, c.in-Err.ensures.absent c.args.self.now.limit)
 
 pub invariant_of-self : goal.invariant_of-self
@@ -36,12 +38,15 @@ invariant_of-self g c =
     let old = cache_of now in
     let entry = kept_of c.args.entry in
     let next = lists_of c.place.new.main c.place.new.hot now.limit in
-    let put : Single eq next = subst (Single eq) (sym (c.in-Ok.ensures.ok now.limit)) (single_placed eq g.met.K.Eq.laws c.args.key (side c.args.hot) entry old now.single) in
+    let put : Single eq next = subst (Single eq) (sym (c.in-Ok.ensures.ok now.limit))
+    (single_placed eq g.met.K.Eq.laws c.args.key (side c.args.hot) entry old now.single) in
     record {
       within = c.shrink.ensures.within;
       small = now.small;
-      single = subst (Single eq) (sym c.shrink.ensures.lists) (single_evict_at_most eq (entry_size g.K.CacheKey.key_bytes g.K.CacheKey.val_bytes) _ next put);
-      room = c.shrink.ensures.room.1 ∙ c.place.ensures.kept_room.1 ∙ now.room ∙ sym c.place.ensures.kept_room.0 ∙ sym c.shrink.ensures.room.0;
+      single = subst (Single eq) (sym c.shrink.ensures.lists)
+          (single_evict_at_most eq (entry_size g.K.CacheKey.key_bytes g.K.CacheKey.val_bytes) _ next put);
+      room = c.shrink.ensures.room.1 ∙ c.place.ensures.kept_room.1 ∙ now.room ∙ sym c.place.ensures.kept_room.0 ∙
+          sym c.shrink.ensures.room.0;
     }
 
 pub invariant_of-self-in-Err-1 : goal.invariant_of-self-in-Err-1

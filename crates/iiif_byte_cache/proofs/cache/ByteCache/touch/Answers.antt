@@ -13,7 +13,8 @@ invariant_of-self g c =
     record {
       within = omega (arith, c.touch.ensures.same.0, now.within);
       small = now.small;
-      single = subst (λ l. Single eq (record old { main = l })) (sym c.touch.ensures.rows) (touched_single eq c.args.key.now old now.single true);
+      single = subst (λ l. Single eq (record old { main = l })) (sym c.touch.ensures.rows)
+          (touched_single eq c.args.key.now old now.single true);
       room = now.room ∙ sym c.touch.ensures.same.1;
     }
 
@@ -22,12 +23,14 @@ invariant_of-self-2 g c =
     let now = c.args.self.now in
     let eq = g.K.PartialEq.eq in
     let old = cache_of now in
-    let main = subst (λ l. Single eq (record old { main = l })) (sym c.touch.ensures.rows) (touched_single eq c.args.key.now old now.single true) in
+    let main = subst (λ l. Single eq (record old { main = l })) (sym c.touch.ensures.rows)
+    (touched_single eq c.args.key.now old now.single true) in
     let front = touched_single eq c.args.key.now (lists_of c.touch.new.self now.hot now.limit) main false in
     record {
       within = omega (arith, c.touch.ensures.same.0, c.touch-there.ensures.same.0, now.within);
       small = now.small;
-      single = subst (λ l. Single eq (record (lists_of c.touch.new.self now.hot now.limit) { hot = l })) (sym c.touch-there.ensures.rows) front;
+      single = subst (λ l. Single eq (record (lists_of c.touch.new.self now.hot now.limit) { hot = l })) (sym c.touch-there.ensures.rows)
+          front;
       room = c.touch-there.ensures.same.1 ∙ now.room ∙ sym c.touch.ensures.same.1;
     }
 
@@ -41,5 +44,6 @@ pub returns : goal.returns
 returns g c =
     let old = cache_of c.args.self.now in
     let absent = sym c.touch.ensures.there ∙ c.if-touch.false in
-    same_cache _ _ _ _ _ _ _ (c.touch.ensures.rows ∙ promoted-absent (g.K.PartialEq.eq c.args.key.now) old.main absent) c.touch-there.ensures.rows c.touch.ensures.same.1
+    same_cache _ _ _ _ _ _ _ (c.touch.ensures.rows ∙ promoted-absent (g.K.PartialEq.eq c.args.key.now) old.main absent)
+    c.touch-there.ensures.rows c.touch.ensures.same.1
     ∙ sym (touch_hot g.K.PartialEq.eq c.args.key.now old absent)

@@ -8,29 +8,40 @@ use Rattle.iiif_byte_cache.proofs.recent.Recent.hit.Goals as goal
 
 pub invariant_of-self : goal.invariant_of-self
 invariant_of-self g c =
-    let P : g.row.K.Denot × Entry g.row.K.Denot g.row.J.Denot g.row.K-Value.Denot g.K.CacheKey g.K.PartialEq g.K.Hash g.J.System → Type 0 = λ e. is_of g.K.PartialEq.eq e.0 e.1 ≡ true in
+    let P : g.row.K.Denot × Entry g.row.K.Denot g.row.J.Denot g.row.K-Value.Denot g.K.CacheKey g.K.PartialEq g.K.Hash g.J.System → Type 0 =
+    λ e. is_of g.K.PartialEq.eq e.0 e.1 ≡ true in
     record {
-      sum = c.args.self.now.sum ∙ ap (bytes_of (entry_size g.K.CacheKey.key_bytes g.K.CacheKey.val_bytes)) (sym (set_value-turned kept_of (g.K.PartialEq.eq c.args.key.now) c.args.self.now.list.entries _ _ (sym c.in-Some.ensures.value) (sym c.share.ensures.same)));
-      of_key = all-set P (g.K.PartialEq.eq c.args.key.now) c.args.self.now.list.entries _ _ (sym c.in-Some.ensures.value) (λ k h. ap (is_known_for g.K.PartialEq.eq k) c.share.ensures.same_known ∙ h) c.args.self.now.of_key;
+      sum = c.args.self.now.sum ∙ ap (bytes_of (entry_size g.K.CacheKey.key_bytes g.K.CacheKey.val_bytes))
+          (sym (set_value-turned kept_of (g.K.PartialEq.eq c.args.key.now) c.args.self.now.list.entries _ _ (sym c.in-Some.ensures.value)
+          (sym c.share.ensures.same)));
+      of_key = all-set P (g.K.PartialEq.eq c.args.key.now) c.args.self.now.list.entries _ _ (sym c.in-Some.ensures.value)
+          (λ k h. ap (is_known_for g.K.PartialEq.eq k) c.share.ensures.same_known ∙ h) c.args.self.now.of_key;
     }
 
 pub returns-in_err-share-in-Some-clause-rows : goal.returns-in_err-share-in-Some-clause-rows
 returns-in_err-share-in-Some-clause-rows g c =
-    set_value-turned kept_of (g.K.PartialEq.eq c.args.key.now) c.args.self.now.list.entries _ _ (sym c.in-Some.ensures.value) (sym c.share.ensures.same)
+    set_value-turned kept_of (g.K.PartialEq.eq c.args.key.now) c.args.self.now.list.entries _ _ (sym c.in-Some.ensures.value)
+    (sym c.share.ensures.same)
 
 pub returns-in_ok-share-in-Some-clause-told : goal.returns-in_ok-share-in-Some-clause-told
 returns-in_ok-share-in-Some-clause-told g c =
-    ap Some c.in_ok-share-in-Some.ensures.shared ∙ ap (option_map kept_of) c.in-Some.ensures.value ∙ sym (lookup-turned kept_of (g.K.PartialEq.eq c.args.key.now) c.args.self.now.list.entries)
+    ap Some c.in_ok-share-in-Some.ensures.shared ∙ ap (option_map kept_of) c.in-Some.ensures.value ∙
+    sym (lookup-turned kept_of (g.K.PartialEq.eq c.args.key.now) c.args.self.now.list.entries)
 
 pub returns-in_ok-share-in-Some-clause-rows : goal.returns-in_ok-share-in-Some-clause-rows
 returns-in_ok-share-in-Some-clause-rows g c =
-    set_value-turned kept_of (g.K.PartialEq.eq c.args.key.now) c.args.self.now.list.entries _ _ (sym c.in-Some.ensures.value) (sym c.share.ensures.same)
+    set_value-turned kept_of (g.K.PartialEq.eq c.args.key.now) c.args.self.now.list.entries _ _ (sym c.in-Some.ensures.value)
+    (sym c.share.ensures.same)
 
 pub returns-in-None-clause-told : goal.returns-in-None-clause-told
 returns-in-None-clause-told g c =
-    ap (option_map kept_of) c.in-None.ensures.value ∙ sym (lookup-turned kept_of (g.K.PartialEq.eq c.args.key.now) c.args.self.now.list.entries)
+    ap (option_map kept_of) c.in-None.ensures.value ∙
+    sym (lookup-turned kept_of (g.K.PartialEq.eq c.args.key.now) c.args.self.now.list.entries)
 
 pub returns-in_ok-share-in-Some-clause-of_key : goal.returns-in_ok-share-in-Some-clause-of_key
 returns-in_ok-share-in-Some-clause-of_key g c =
-    let P : g.row.K.Denot × Entry g.row.K.Denot g.row.J.Denot g.row.K-Value.Denot g.K.CacheKey g.K.PartialEq g.K.Hash g.J.System → Type 0 = λ e. is_of g.K.PartialEq.eq e.0 e.1 ≡ true in
-    ap (is_known_for g.K.PartialEq.eq c.args.key.now) c.in_ok-share-in-Some.ensures.shared_known ∙ (all-lookup P g.K.PartialEq.eq g.met.K.CacheKey.identical c.args.key.now c.args.self.now.list.entries _ (sym c.in-Some.ensures.value) c.args.self.now.of_key)
+    let P : g.row.K.Denot × Entry g.row.K.Denot g.row.J.Denot g.row.K-Value.Denot g.K.CacheKey g.K.PartialEq g.K.Hash g.J.System → Type 0 =
+    λ e. is_of g.K.PartialEq.eq e.0 e.1 ≡ true in
+    ap (is_known_for g.K.PartialEq.eq c.args.key.now) c.in_ok-share-in-Some.ensures.shared_known ∙
+    (all-lookup P g.K.PartialEq.eq g.met.K.CacheKey.identical c.args.key.now c.args.self.now.list.entries _
+    (sym c.in-Some.ensures.value) c.args.self.now.of_key)

@@ -6,17 +6,32 @@ use Rattle.iiif_byte_cache.proofs.recent.Recent.pop.Goals as goal
 
 pub overflow_sub-self : goal.overflow_sub-self
 overflow_sub-self g c =
-    omega (arith, c.args.self.now.sum, c.size.ensures, bytes_popped kept_of (entry_size g.K.CacheKey.key_bytes g.K.CacheKey.val_bytes) c.args.self.now.list.entries _ (sym c.in_ok-key.ensures.value))
+    omega (
+      arith,
+      c.args.self.now.sum,
+      c.size.ensures,
+      bytes_popped kept_of (entry_size g.K.CacheKey.key_bytes g.K.CacheKey.val_bytes) c.args.self.now.list.entries _
+          (sym c.in_ok-key.ensures.value),
+    )
 
 pub invariant_of-self-2 : goal.invariant_of-self-2
 invariant_of-self-2 g c = record {
-  sum = rw c.pop_lru.ensures.entries (omega (arith, c.args.self.now.sum, c.size.ensures, bytes_popped kept_of (entry_size g.K.CacheKey.key_bytes g.K.CacheKey.val_bytes) c.args.self.now.list.entries _ (sym c.in_ok-key.ensures.value)));
-  of_key = rw c.pop_lru.ensures.entries (all-less (λ e. is_of g.K.PartialEq.eq e.0 e.1 ≡ true) c.args.self.now.list.entries c.args.self.now.of_key);
+  sum = rw c.pop_lru.ensures.entries (omega (
+    arith,
+    c.args.self.now.sum,
+    c.size.ensures,
+    bytes_popped kept_of (entry_size g.K.CacheKey.key_bytes g.K.CacheKey.val_bytes) c.args.self.now.list.entries _
+        (sym c.in_ok-key.ensures.value),
+  ));
+  of_key = rw c.pop_lru.ensures.entries (all-less (λ e. is_of g.K.PartialEq.eq e.0 e.1 ≡ true) c.args.self.now.list.entries
+      c.args.self.now.of_key);
 }
 
 pub returns-clause-oldest : goal.returns-clause-oldest
 returns-clause-oldest g c =
-    ap (option_map (λ e. (e.0, kept_of e.1))) c.in_ok-key.ensures.value ∙ sym (oldest-rows kept_of (entry_size g.K.CacheKey.key_bytes g.K.CacheKey.val_bytes) c.args.self.now.list.entries)
+    ap (option_map (λ e. (e.0, kept_of e.1))) c.in_ok-key.ensures.value ∙
+    sym (oldest-rows kept_of (entry_size g.K.CacheKey.key_bytes g.K.CacheKey.val_bytes) c.args.self.now.list.entries)
 
 pub returns-clause-rows : goal.returns-clause-rows
-returns-clause-rows g c = rw c.pop_lru.ensures.entries (sym (but_oldest-rows kept_of (entry_size g.K.CacheKey.key_bytes g.K.CacheKey.val_bytes) c.args.self.now.list.entries))
+returns-clause-rows g c = rw c.pop_lru.ensures.entries
+    (sym (but_oldest-rows kept_of (entry_size g.K.CacheKey.key_bytes g.K.CacheKey.val_bytes) c.args.self.now.list.entries))

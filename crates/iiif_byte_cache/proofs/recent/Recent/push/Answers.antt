@@ -12,21 +12,42 @@ pub overflow_sub-self : goal.overflow_sub-self
 overflow_sub-self g c =
     let list = c.args.self.now.list in
     let w = weight kept_of (entry_size g.K.CacheKey.key_bytes g.K.CacheKey.val_bytes) in
-    let at : displaced g.K.PartialEq.eq list c.args.key c.args.entry ≡ Some (c.in-Ok-Some.old_key, c.in-Ok-Some.old) = (let a = c.in-Ok-Some.ensures.old in let b = c.in-Ok-Some.field-0-is in cc) in
-    let sum = sum_handed w g.K.PartialEq.eq g.met.K.CacheKey.identical list c.args.key c.args.entry c.len-valid.ensures.valid.2 c.len-valid.ensures.valid.1 _ at in
-    omega (arith, sum, c.args.self.now.sum, c.size.ensures, c.requires.size, bytes-rows kept_of (entry_size g.K.CacheKey.key_bytes g.K.CacheKey.val_bytes) list.entries)
+    let at : displaced g.K.PartialEq.eq list c.args.key c.args.entry ≡ Some (c.in-Ok-Some.old_key, c.in-Ok-Some.old) =
+    (let a = c.in-Ok-Some.ensures.old in let b = c.in-Ok-Some.field-0-is in cc) in
+    let sum = sum_handed w g.K.PartialEq.eq g.met.K.CacheKey.identical list c.args.key c.args.entry c.len-valid.ensures.valid.2
+    c.len-valid.ensures.valid.1 _ at in
+    omega (
+      arith,
+      sum,
+      c.args.self.now.sum,
+      c.size.ensures,
+      c.requires.size,
+      bytes-rows kept_of (entry_size g.K.CacheKey.key_bytes g.K.CacheKey.val_bytes) list.entries,
+    )
 
 pub invariant_of-self : goal.invariant_of-self
 invariant_of-self g c =
     let list = c.args.self.now.list in
     let w = weight kept_of (entry_size g.K.CacheKey.key_bytes g.K.CacheKey.val_bytes) in
     let left = put_entries g.K.PartialEq.eq list c.args.key c.args.entry in
-    let at : displaced g.K.PartialEq.eq list c.args.key c.args.entry ≡ Some (c.in-Ok-Some.old_key, c.in-Ok-Some.old) = (let a = c.in-Ok-Some.ensures.old in let b = c.in-Ok-Some.field-0-is in cc) in
-    let sum = sum_handed w g.K.PartialEq.eq g.met.K.CacheKey.identical list c.args.key c.args.entry c.len-valid.ensures.valid.2 c.len-valid.ensures.valid.1 _ at in
-    let P : g.row.K.Denot × Entry g.row.K.Denot g.row.J.Denot g.row.K-Value.Denot g.K.CacheKey g.K.PartialEq g.K.Hash g.J.System → Type 0 = λ e. is_of g.K.PartialEq.eq e.0 e.1 ≡ true in
+    let at : displaced g.K.PartialEq.eq list c.args.key c.args.entry ≡ Some (c.in-Ok-Some.old_key, c.in-Ok-Some.old) =
+    (let a = c.in-Ok-Some.ensures.old in let b = c.in-Ok-Some.field-0-is in cc) in
+    let sum = sum_handed w g.K.PartialEq.eq g.met.K.CacheKey.identical list c.args.key c.args.entry c.len-valid.ensures.valid.2
+    c.len-valid.ensures.valid.1 _ at in
+    let P : g.row.K.Denot × Entry g.row.K.Denot g.row.J.Denot g.row.K-Value.Denot g.K.CacheKey g.K.PartialEq g.K.Hash g.J.System → Type 0 =
+    λ e. is_of g.K.PartialEq.eq e.0 e.1 ≡ true in
     record {
-      sum = rw c.in-Ok-Some.ensures.entries (omega (arith, sum, c.args.self.now.sum, c.size.ensures, c.requires.size, bytes-rows kept_of (entry_size g.K.CacheKey.key_bytes g.K.CacheKey.val_bytes) list.entries, bytes-rows kept_of (entry_size g.K.CacheKey.key_bytes g.K.CacheKey.val_bytes) left));
-      of_key = rw c.in-Ok-Some.ensures.entries (all-put P g.K.PartialEq.eq g.met.K.CacheKey.identical list c.args.key c.args.entry c.requires.of_key c.args.self.now.of_key);
+      sum = rw c.in-Ok-Some.ensures.entries (omega (
+        arith,
+        sum,
+        c.args.self.now.sum,
+        c.size.ensures,
+        c.requires.size,
+        bytes-rows kept_of (entry_size g.K.CacheKey.key_bytes g.K.CacheKey.val_bytes) list.entries,
+        bytes-rows kept_of (entry_size g.K.CacheKey.key_bytes g.K.CacheKey.val_bytes) left,
+      ));
+      of_key = rw c.in-Ok-Some.ensures.entries
+          (all-put P g.K.PartialEq.eq g.met.K.CacheKey.identical list c.args.key c.args.entry c.requires.of_key c.args.self.now.of_key);
     }
 
 pub invariant_of-self-in-Ok-None : goal.invariant_of-self-in-Ok-None
@@ -34,21 +55,33 @@ invariant_of-self-in-Ok-None g c =
     let list = c.args.self.now.list in
     let w = weight kept_of (entry_size g.K.CacheKey.key_bytes g.K.CacheKey.val_bytes) in
     let left = put_entries g.K.PartialEq.eq list c.args.key c.args.entry in
-    let at : displaced g.K.PartialEq.eq list c.args.key c.args.entry ≡ None = (let a = c.in-Ok-None.ensures.old in let b = c.in-Ok-None.field-0-is in cc) in
+    let at : displaced g.K.PartialEq.eq list c.args.key c.args.entry ≡ None =
+    (let a = c.in-Ok-None.ensures.old in let b = c.in-Ok-None.field-0-is in cc) in
     let sum = sum_kept_all w g.K.PartialEq.eq g.met.K.CacheKey.identical list c.args.key c.args.entry c.len-valid.ensures.valid.2 at in
-    let P : g.row.K.Denot × Entry g.row.K.Denot g.row.J.Denot g.row.K-Value.Denot g.K.CacheKey g.K.PartialEq g.K.Hash g.J.System → Type 0 = λ e. is_of g.K.PartialEq.eq e.0 e.1 ≡ true in
+    let P : g.row.K.Denot × Entry g.row.K.Denot g.row.J.Denot g.row.K-Value.Denot g.K.CacheKey g.K.PartialEq g.K.Hash g.J.System → Type 0 =
+    λ e. is_of g.K.PartialEq.eq e.0 e.1 ≡ true in
     record {
-      sum = rw c.in-Ok-None.ensures.entries (omega (arith, sum, c.args.self.now.sum, c.requires.size, bytes-rows kept_of (entry_size g.K.CacheKey.key_bytes g.K.CacheKey.val_bytes) list.entries, bytes-rows kept_of (entry_size g.K.CacheKey.key_bytes g.K.CacheKey.val_bytes) left));
-      of_key = rw c.in-Ok-None.ensures.entries (all-put P g.K.PartialEq.eq g.met.K.CacheKey.identical list c.args.key c.args.entry c.requires.of_key c.args.self.now.of_key);
+      sum = rw c.in-Ok-None.ensures.entries (omega (
+        arith,
+        sum,
+        c.args.self.now.sum,
+        c.requires.size,
+        bytes-rows kept_of (entry_size g.K.CacheKey.key_bytes g.K.CacheKey.val_bytes) list.entries,
+        bytes-rows kept_of (entry_size g.K.CacheKey.key_bytes g.K.CacheKey.val_bytes) left,
+      ));
+      of_key = rw c.in-Ok-None.ensures.entries
+          (all-put P g.K.PartialEq.eq g.met.K.CacheKey.identical list c.args.key c.args.entry c.requires.of_key c.args.self.now.of_key);
     }
 
 pub returns-in-Ok-Some-clause-ok : goal.returns-in-Ok-Some-clause-ok
 returns-in-Ok-Some-clause-ok g c =
-    rw c.in-Ok-Some.ensures.entries (rows_pushed kept_of (entry_size g.K.CacheKey.key_bytes g.K.CacheKey.val_bytes) g.K.PartialEq.eq g.met.K.CacheKey.identical c.args.self.now.list c.args.key c.args.entry)
+    rw c.in-Ok-Some.ensures.entries (rows_pushed kept_of (entry_size g.K.CacheKey.key_bytes g.K.CacheKey.val_bytes) g.K.PartialEq.eq
+    g.met.K.CacheKey.identical c.args.self.now.list c.args.key c.args.entry)
 
 pub returns-in-Ok-None-clause-ok : goal.returns-in-Ok-None-clause-ok
 returns-in-Ok-None-clause-ok g c =
-    rw c.in-Ok-None.ensures.entries (rows_pushed kept_of (entry_size g.K.CacheKey.key_bytes g.K.CacheKey.val_bytes) g.K.PartialEq.eq g.met.K.CacheKey.identical c.args.self.now.list c.args.key c.args.entry)
+    rw c.in-Ok-None.ensures.entries (rows_pushed kept_of (entry_size g.K.CacheKey.key_bytes g.K.CacheKey.val_bytes) g.K.PartialEq.eq
+    g.met.K.CacheKey.identical c.args.self.now.list c.args.key c.args.entry)
 
 pub returns-in-Err-clause-absent : goal.returns-in-Err-clause-absent
 returns-in-Err-clause-absent g c =

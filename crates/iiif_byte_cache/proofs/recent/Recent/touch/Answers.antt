@@ -9,9 +9,11 @@ use Rattle.iiif_byte_cache.proofs.recent.Recent.touch.Goals as goal
 pub invariant_of-self : goal.invariant_of-self
 invariant_of-self g c =
     let test = g.K.PartialEq.eq c.args.key.now in
-    let P : g.row.K.Denot × Entry g.row.K.Denot g.row.J.Denot g.row.K-Value.Denot g.K.CacheKey g.K.PartialEq g.K.Hash g.J.System → Type 0 = λ e. is_of g.K.PartialEq.eq e.0 e.1 ≡ true in
+    let P : g.row.K.Denot × Entry g.row.K.Denot g.row.J.Denot g.row.K-Value.Denot g.K.CacheKey g.K.PartialEq g.K.Hash g.J.System → Type 0 =
+    λ e. is_of g.K.PartialEq.eq e.0 e.1 ≡ true in
     record {
-      sum = c.args.self.now.sum ∙ sym (rw c.promote.ensures.entries (bytes_promoted kept_of (entry_size g.K.CacheKey.key_bytes g.K.CacheKey.val_bytes) test c.args.self.now.list.entries));
+      sum = c.args.self.now.sum ∙ sym (rw c.promote.ensures.entries
+          (bytes_promoted kept_of (entry_size g.K.CacheKey.key_bytes g.K.CacheKey.val_bytes) test c.args.self.now.list.entries));
       of_key = rw c.promote.ensures.entries (all-promoted P test c.args.self.now.list.entries c.args.self.now.of_key);
     }
 
@@ -21,4 +23,5 @@ returns-clause-rows g c =
     rw c.promote.ensures.entries (sym (promoted-turned kept_of test c.args.self.now.list.entries))
 
 pub returns-clause-there : goal.returns-clause-there
-returns-clause-there g c = c.promote.ensures.value ∙ sym (is_some-turned kept_of (g.K.PartialEq.eq c.args.key.now) c.args.self.now.list.entries)
+returns-clause-there g c = c.promote.ensures.value ∙
+    sym (is_some-turned kept_of (g.K.PartialEq.eq c.args.key.now) c.args.self.now.list.entries)

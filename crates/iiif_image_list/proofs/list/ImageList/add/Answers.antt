@@ -10,7 +10,8 @@ pub returns-clause-ok : goal.returns-clause-ok
 returns-clause-ok c =
     let es = c.self.inside.files.entries in
     let none : lookup (λ k. bytes_eq c.in-Some.name.now k.now) es ≡ None =
-    not_there _ _ (named_there es c.in-Some.name.now ∙ ap (λ images. has_name images c.in-Some.name.now) c.self.view_is) (sym c.has.ensures ∙ c.if-has.false) in
+    not_there _ _ (named_there es c.in-Some.name.now ∙ ap (λ images. has_name images c.in-Some.name.now) c.self.view_is)
+    (sym c.has.ensures ∙ c.if-has.false) in
     let byte = c.in-Some.ensures.byte (lit< tt) (λ w o h. h) in
     elim c.match-insert.branch [
       | in-Ok w ↦ rw w.result-is (

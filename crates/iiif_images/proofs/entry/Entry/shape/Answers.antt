@@ -9,4 +9,5 @@ returns-clause-shape g c =
 
 pub returns-clause-source : goal.returns-clause-source
 returns-clause-source g c =
-    picture_source g.S.Source.bytes (item_of c.args.self.now) c.len-len.ensures.bytes c.kind.result c.kind.ensures c.dim.result c.dim.ensures.width c.dim.ensures.height c.dim.ensures.limits
+    picture_source g.S.Source.bytes (item_of c.args.self.now) c.len-len.ensures.bytes c.kind.result c.kind.ensures c.dim.result
+    c.dim.ensures.width c.dim.ensures.height c.dim.ensures.limits

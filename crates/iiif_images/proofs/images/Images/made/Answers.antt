@@ -13,10 +13,12 @@ pub read-requires-clause-dim : goal.read-requires-clause-dim
 read-requires-clause-dim g c = picture_dim g.S.Source.bytes (item_of c.args.entry.now) c.args.shape.now c.requires.shape
 
 pub read-requires-clause-kind : goal.read-requires-clause-kind
-read-requires-clause-kind g c = picture_kind g.S.Source.bytes (item_of c.args.entry.now) c.args.shape.now c.requires.shape c.requires.image.source
+read-requires-clause-kind g c = picture_kind g.S.Source.bytes (item_of c.args.entry.now) c.args.shape.now c.requires.shape
+    c.requires.image.source
 
 pub read-requires-clause-depth : goal.read-requires-clause-depth
-read-requires-clause-depth g c = picture_depth g.S.Source.bytes (item_of c.args.entry.now) c.args.shape.now c.requires.shape c.requires.image.source
+read-requires-clause-depth g c = picture_depth g.S.Source.bytes (item_of c.args.entry.now) c.args.shape.now c.requires.shape
+    c.requires.image.source
 
 pub returns-clause-meant : goal.returns-clause-meant
 returns-clause-meant g c = λ stable.

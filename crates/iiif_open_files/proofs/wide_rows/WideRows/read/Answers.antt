@@ -6,4 +6,5 @@ use Rattle.iiif_open_files.proofs.wide_rows.WideRows.read.Goals as goal
 pub invariant_of-result-clause-there : goal.invariant_of-result-clause-there
 invariant_of-result-clause-there g c =
     let same : string_bytes (arc_value c.in-Ok.path) ≡ string_bytes (arc_value c.args.opening.now.file.path) = search rules in
-    rw same (λ keeps. runs_of_held c.args.len (g.R.Opens.holds (string_bytes (arc_value c.args.opening.now.file.path))) _ c.args.runs c.requires (c.in_ok-bytes.ensures.there keeps))
+    rw same (λ keeps. runs_of_held c.args.len (g.R.Opens.holds (string_bytes (arc_value c.args.opening.now.file.path))) _ c.args.runs
+    c.requires (c.in_ok-bytes.ensures.there keeps))

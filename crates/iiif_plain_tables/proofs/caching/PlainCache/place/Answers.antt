@@ -14,14 +14,16 @@ returns-in-None-clause-ok c =
 pub returns-in-None-replace_in-clause-ok : goal.returns-in-None-replace_in-clause-ok
 returns-in-None-replace_in-clause-ok c =
     let old = c.args.self.now in
-    in_hot (side c.args.hot) c.in-Some.new c.args.entry old.main.items c.replace_in.new.list.items old.hot.items c.replace_in-in-Some.new.list.items old.limit old.room
+    in_hot (side c.args.hot) c.in-Some.new c.args.entry old.main.items c.replace_in.new.list.items old.hot.items
+    c.replace_in-in-Some.new.list.items old.limit old.room
     c.in-Some.ensures c.in-None-replace_in.ensures
 
 pub returns-then-hot-clause-ok : goal.returns-then-hot-clause-ok
 returns-then-hot-clause-ok c =
     let old = c.args.self.now in
     on_ok_weaker c.add_in.result
-    (λ h. new_hot c.in-Some-replace_in.new c.in-Some.new c.args.entry old.main.items c.replace_in.new.list.items c.add_in.new.list.items old.hot.items c.replace_in-in-Some.new.list.items old.limit old.room
+    (λ h. new_hot c.in-Some-replace_in.new c.in-Some.new c.args.entry old.main.items c.replace_in.new.list.items c.add_in.new.list.items
+    old.hot.items c.replace_in-in-Some.new.list.items old.limit old.room
     c.in-Some.ensures c.in-Some-replace_in.ensures h
     ∙ ap (λ b. placed key_eq c.args.entry.key (side b) (entry_of c.args.entry).1 (cache_of old)) (sym c.if-hot.true))
     c.add_in.ensures.ok
@@ -30,7 +32,8 @@ pub returns-else-hot-clause-ok : goal.returns-else-hot-clause-ok
 returns-else-hot-clause-ok c =
     let old = c.args.self.now in
     on_ok_weaker c.add_in-else-hot.result
-    (λ h. new_main c.in-Some-replace_in.new c.in-Some.new c.args.entry old.main.items c.replace_in.new.list.items c.add_in-else-hot.new.list.items old.hot.items c.replace_in-in-Some.new.list.items old.limit old.room
+    (λ h. new_main c.in-Some-replace_in.new c.in-Some.new c.args.entry old.main.items c.replace_in.new.list.items
+    c.add_in-else-hot.new.list.items old.hot.items c.replace_in-in-Some.new.list.items old.limit old.room
     c.in-Some.ensures c.in-Some-replace_in.ensures h
     ∙ ap (λ b. placed key_eq c.args.entry.key (side b) (entry_of c.args.entry).1 (cache_of old)) (sym c.if-hot.false))
     c.add_in-else-hot.ensures.ok

@@ -26,7 +26,8 @@ returns-then-index-ticket-clause-ok c =
     let fs = c.args.self.now.flights.items in
     let e = c.index.result.now in
     again_other c.args.class k c.args.ticket (table_of c.args.self.now) (seen e)
-    (flight_found c.args.class k fs c.in-Some.place e e (sym (c.in-Some.ensures ∙ ap (position (is_named c.args.class k)) c.deref.ensures.value)) c.index.ensures)
+    (flight_found c.args.class k fs c.in-Some.place e e
+    (sym (c.in-Some.ensures ∙ ap (position (is_named c.args.class k)) c.deref.ensures.value)) c.index.ensures)
     (ne_eqb e.ticket c.args.ticket c.if-index-ticket.true)
 
 pub returns-in-None-clause-ok : goal.returns-in-None-clause-ok
@@ -35,7 +36,8 @@ returns-in-None-clause-ok c =
     let fs = c.args.self.now.flights.items in
     let e = c.index.result.now in
     again_by c.args.class k c.args.ticket (table_of c.args.self.now) (seen e) None
-    (flight_found c.args.class k fs c.in-Some.place e e (sym (c.in-Some.ensures ∙ ap (position (is_named c.args.class k)) c.deref.ensures.value)) c.index.ensures)
+    (flight_found c.args.class k fs c.in-Some.place e e
+    (sym (c.in-Some.ensures ∙ ap (position (is_named c.args.class k)) c.deref.ensures.value)) c.index.ensures)
     (subst (λ n. (e.ticket == n) ≡ true) c.if-index-ticket.false (eq_same e.ticket))
     (sym c.in_ok-kept.ensures ∙ ap (option_map kept_of) c.in-None.is)
 
@@ -46,12 +48,14 @@ returns-in-Some-2-clause-ok c =
     let e = c.index.result.now in
     let t = table_of c.args.self.now in
     let at = sym (c.in-Some.ensures ∙ ap (position (is_named c.args.class k)) c.deref.ensures.value) in
-    let row : slice_get fs c.in-Some.place ≡ Some e = slice_get-get_or fs c.in-Some.place e (there c.args.class k fs c.in-Some.place at) ∙ ap Some (sym c.index.ensures) in
+    let row : slice_get fs c.in-Some.place ≡ Some e = slice_get-get_or fs c.in-Some.place e (there c.args.class k fs c.in-Some.place at) ∙
+    ap Some (sym c.index.ensures) in
     again_by c.args.class k c.args.ticket t (seen e) (Some (kept_of c.in-Some-2.found))
     (flight_found c.args.class k fs c.in-Some.place e e at c.index.ensures)
     (subst (λ n. (e.ticket == n) ≡ true) c.if-index-ticket.false (eq_same e.ticket))
     (sym c.in_ok-kept.ensures ∙ ap (option_map kept_of) c.in-Some-2.is)
     ∙ found_by c.in-Some-2.found.value (table_of c.mark.new.self) _ _ _ _
     (c.mark.ensures.rest.0 ∙ c.touch.ensures)
-    (c.mark.ensures.flights e row ∙ ap (λ n. tables.with_flight key_eq c.args.class k (Some (record { ticket = n; found = true })) (flight_in fs)) c.if-index-ticket.false)
+    (c.mark.ensures.flights e row ∙ ap (λ n. tables.with_flight key_eq c.args.class k (Some (record { ticket = n; found = true }))
+    (flight_in fs)) c.if-index-ticket.false)
     c.mark.ensures.aloft c.mark.ensures.rest.1

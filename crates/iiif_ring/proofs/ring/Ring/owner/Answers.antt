@@ -11,7 +11,8 @@ next_place-requires c = λ here place e. (c.self.invariant.1.each here place e).
 
 pub unreachable-requires : goal.unreachable-requires
 unreachable-requires c = let names = c.self.inside.names.items in
-    not_empty (names_of names) c.self.inside.points c.self.invariant.1 (omega (arith, c.self.invariant.0, length-names_of names)) c.in-None.ensures.none
+    not_empty (names_of names) c.self.inside.points c.self.invariant.1 (omega (arith, c.self.invariant.0, length-names_of names))
+    c.in-None.ensures.none
 
 pub returns-then-is_alone-clause-owner : goal.returns-then-is_alone-clause-owner
 returns-then-is_alone-clause-owner c =
@@ -32,7 +33,8 @@ returns-then-is_alone-clause-only c = λ others name same is.
 pub returns-clause-owner : goal.returns-clause-owner
 returns-clause-owner c =
     let names = names_of c.self.inside.names.items in
-    let at = owner_stands names c.self.inside.points c.args.key.now c.hash_of.result c.in-Some.place c.self.invariant.1 c.hash_of.ensures.value c.hash_of.ensures.fits c.in-Some.ensures.next in
+    let at = owner_stands names c.self.inside.points c.args.key.now c.hash_of.result c.in-Some.place c.self.invariant.1
+    c.hash_of.ensures.value c.hash_of.ensures.fits c.in-Some.ensures.next in
     let P : Option (List ℕ) → Type 0 = λ o. IsSomeAnd o (IsOwner names c.args.key.now) in
     let stands : IsSomeAnd (slice_get names c.in-Some.place) (IsOwner names c.args.key.now) = subst P (sym at.1) at.0 in
     subst (λ (v : List (List ℕ)). IsSomeAnd (slice_get v c.in-Some.place) (IsOwner v c.args.key.now)) c.self.view_is stands
@@ -40,7 +42,10 @@ returns-clause-owner c =
 pub returns-clause-only : goal.returns-clause-only
 returns-clause-only c = λ others name same is.
     let names = names_of c.self.inside.names.items in
-    let at = owner_stands names c.self.inside.points c.args.key.now c.hash_of.result c.in-Some.place c.self.invariant.1 c.hash_of.ensures.value c.hash_of.ensures.fits c.in-Some.ensures.next in
-    let owns : IsOwner c.args.self.now c.args.key.now (name_at names c.in-Some.place) = subst (λ (v : List (List ℕ)). IsOwner v c.args.key.now (name_at names c.in-Some.place)) c.self.view_is at.0 in
-    let one : name ≡ name_at names c.in-Some.place = IsOwner-unique others c.args.self.now c.args.key.now name (name_at names c.in-Some.place) same is owns in
+    let at = owner_stands names c.self.inside.points c.args.key.now c.hash_of.result c.in-Some.place c.self.invariant.1
+    c.hash_of.ensures.value c.hash_of.ensures.fits c.in-Some.ensures.next in
+    let owns : IsOwner c.args.self.now c.args.key.now (name_at names c.in-Some.place) =
+    subst (λ (v : List (List ℕ)). IsOwner v c.args.key.now (name_at names c.in-Some.place)) c.self.view_is at.0 in
+    let one : name ≡ name_at names c.in-Some.place =
+    IsOwner-unique others c.args.self.now c.args.key.now name (name_at names c.in-Some.place) same is owns in
     ap (λ (v : List (List ℕ)). slice_get v c.in-Some.place) (sym c.self.view_is) ∙ at.1 ∙ ap (λ (t : List ℕ). Some t) (sym one)

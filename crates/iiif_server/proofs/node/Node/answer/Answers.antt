@@ -14,8 +14,10 @@ returns-in-Image-clause-allowed g c =
     let came = c.in-Image.ensures.comes g.J.System.honest in
     let item = item_of c.in-Image.entry.now in
     let settings = ap (λ (n : Service g.row.S.Denot). n.settings) c.self.view_is in
-    let reaches = Replies g.S.Source.bytes g.S.Source.keeps g.J.System.honest c.args.self.now.settings c.args.self.now.items c.args.target.now in
-    sent_more c.args.self.now.settings c.args.part g.S.Source.gave (ReachesImageOf (g.S.Source.keeps c.in-Image.entry.now.source × IsTrue g.J.System.honest) item came.0 c.in-Image.accepted came.1)
+    let reaches = Replies g.S.Source.bytes g.S.Source.keeps g.J.System.honest c.args.self.now.settings c.args.self.now.items
+    c.args.target.now in
+    sent_more c.args.self.now.settings c.args.part g.S.Source.gave
+    (ReachesImageOf (g.S.Source.keeps c.in-Image.entry.now.source × IsTrue g.J.System.honest) item came.0 c.in-Image.accepted came.1)
     reaches (λ r reached. subst reaches (sym reached.2) (rw (settings, c.images.ensures.items) at (came.4 reached.0 reached.1))) _ _ _ _
     (c.send_accepted.ensures.allowed came.0 came.1 came.2 came.3)
 
@@ -32,8 +34,10 @@ pub returns-in_default-clause-allowed : goal.returns-in_default-clause-allowed
 returns-in_default-clause-allowed g c =
     let settings = ap (λ (n : Service g.row.S.Denot). n.settings) c.self.view_is in
     message_allowed c.args.self.now.settings c.args.part g.S.Source.gave
-    (Replies g.S.Source.bytes g.S.Source.keeps g.J.System.honest c.args.self.now.settings c.args.self.now.items c.args.target.now) g.W.Write.contents g.W.Outlet.fails c.args.out.now
+    (Replies g.S.Source.bytes g.S.Source.keeps g.J.System.honest c.args.self.now.settings c.args.self.now.items c.args.target.now)
+    g.W.Write.contents g.W.Outlet.fails c.args.out.now
     c.send_message.new.out c.message_of-message.result c.send_message.result
     (rw (settings, c.images.ensures.items)
-    at (c.message_of-message.ensures g.J.System.honest c.images.result.now c.args.target.now (c.outcome_of.ensures.comes g.J.System.honest)))
+    at (c.message_of-message.ensures g.J.System.honest c.images.result.now c.args.target.now
+    (c.outcome_of.ensures.comes g.J.System.honest)))
     c.send_message.ensures.made c.send_message.ensures.memory

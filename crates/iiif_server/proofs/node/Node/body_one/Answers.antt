@@ -4,7 +4,8 @@ use Rattle.iiif_server.proofs.node.Node.body_one.Goals as goal
 
 pub returns-clause-framed : goal.returns-clause-framed
 returns-clause-framed g c =
-    body_framed g.S.Source.bytes g.S.Source.keeps g.J.System.honest c.args.self.now.settings c.args.self.now.items Body g.S.Source.gave c.args.target.now
+    body_framed g.S.Source.bytes g.S.Source.keeps g.J.System.honest c.args.self.now.settings c.args.self.now.items Body g.S.Source.gave
+    c.args.target.now
     ((b : g.row.W.Denot) × g.W.Outlet.fails b c.answer.new.out) (g.W.Write.contents c.args.out.now) (g.W.Write.contents c.answer.new.out)
     c.answer.result c.answer.ensures.allowed
 

@@ -11,34 +11,45 @@ pub returns-then-is_answered : goal.returns-then-is_answered
 returns-then-is_answered g c =
     let asked = part_of c.args.call.now.method c.args.call.now.close in
     let answered = sym c.is_answered.ensures ∙ c.if-is_answered.true in
-    let allowed = call_allowed g.S.Source.bytes g.S.Source.keeps g.J.System.honest c.args.self.now.settings c.args.self.now.items c.part_of-part.result asked g.S.Source.gave
-    c.args.call.now.method c.deref.result.now c.args.call.now.target.items ((b : g.row.W.Denot) × g.W.Outlet.fails b c.answer.new.out) (g.W.Write.contents c.args.out.now)
+    let allowed = call_allowed g.S.Source.bytes g.S.Source.keeps g.J.System.honest c.args.self.now.settings c.args.self.now.items
+    c.part_of-part.result asked g.S.Source.gave
+    c.args.call.now.method c.deref.result.now c.args.call.now.target.items ((b : g.row.W.Denot) × g.W.Outlet.fails b c.answer.new.out)
+    (g.W.Write.contents c.args.out.now)
     (g.W.Write.contents c.answer.new.out) c.answer.result c.part_of-part.ensures c.deref.ensures.value answered c.answer.ensures.allowed in
     record {
       allowed = allowed;
-      framed = answer_to_call_framed g.S.Source.bytes g.S.Source.keeps g.J.System.honest c.args.self.now.settings c.args.self.now.items asked g.S.Source.gave c.args.call.now.method
-          c.args.call.now.target.items ((b : g.row.W.Denot) × g.W.Outlet.fails b c.answer.new.out) (g.W.Write.contents c.args.out.now) (g.W.Write.contents c.answer.new.out)
+      framed = answer_to_call_framed g.S.Source.bytes g.S.Source.keeps g.J.System.honest c.args.self.now.settings c.args.self.now.items
+          asked g.S.Source.gave c.args.call.now.method
+          c.args.call.now.target.items ((b : g.row.W.Denot) × g.W.Outlet.fails b c.answer.new.out) (g.W.Write.contents c.args.out.now)
+          (g.W.Write.contents c.answer.new.out)
           c.answer.result allowed;
       unasked = λ none.
           c.answer.ensures.unasked
           (λ q reached. ap is_loaded c.part_of-part.ensures
           ∙ none q (of_target (given q) answered
-          (subst (λ (t : List ℕ). Replies g.S.Source.bytes g.S.Source.keeps g.J.System.honest c.args.self.now.settings c.args.self.now.items t (given q)) c.deref.ensures.value reached)));
+          (subst (λ (t : List ℕ). Replies g.S.Source.bytes g.S.Source.keeps g.J.System.honest c.args.self.now.settings c.args.self.now.items
+          t (given q)) c.deref.ensures.value reached)));
     }
 
 pub returns-else-is_answered : goal.returns-else-is_answered
 returns-else-is_answered g c =
     let asked = part_of c.args.call.now.method c.args.call.now.close in
-    let reaches = RepliesToCall g.S.Source.bytes g.S.Source.keeps g.J.System.honest c.args.self.now.settings c.args.self.now.items c.args.call.now.method c.args.call.now.target.items in
-    let told = told_allowed c.args.self.now.settings c.part_of-part.result g.S.Source.gave reaches g.W.Write.contents g.W.Outlet.fails c.args.out.now c.send_message.new.out
-    c.refusal_message-message.result c.send_message.result _ (own (refused Method) (no_method (sym c.is_answered.ensures ∙ c.if-is_answered.false)), refl) c.refusal_message-message.ensures
+    let reaches = RepliesToCall g.S.Source.bytes g.S.Source.keeps g.J.System.honest c.args.self.now.settings c.args.self.now.items
+    c.args.call.now.method c.args.call.now.target.items in
+    let told = told_allowed c.args.self.now.settings c.part_of-part.result g.S.Source.gave reaches g.W.Write.contents g.W.Outlet.fails
+    c.args.out.now c.send_message.new.out
+    c.refusal_message-message.result c.send_message.result _
+    (own (refused Method) (no_method (sym c.is_answered.ensures ∙ c.if-is_answered.false)), refl) c.refusal_message-message.ensures
     c.send_message.ensures.made c.send_message.ensures.memory in
-    let allowed = other_part c.args.self.now.settings c.part_of-part.result asked g.S.Source.gave reaches ((b : g.row.W.Denot) × g.W.Outlet.fails b c.send_message.new.out)
+    let allowed = other_part c.args.self.now.settings c.part_of-part.result asked g.S.Source.gave reaches
+    ((b : g.row.W.Denot) × g.W.Outlet.fails b c.send_message.new.out)
     (g.W.Write.contents c.args.out.now) (g.W.Write.contents c.send_message.new.out) c.send_message.result c.part_of-part.ensures told in
     record {
       allowed = allowed;
-      framed = answer_to_call_framed g.S.Source.bytes g.S.Source.keeps g.J.System.honest c.args.self.now.settings c.args.self.now.items asked g.S.Source.gave c.args.call.now.method
-          c.args.call.now.target.items ((b : g.row.W.Denot) × g.W.Outlet.fails b c.send_message.new.out) (g.W.Write.contents c.args.out.now) (g.W.Write.contents c.send_message.new.out)
+      framed = answer_to_call_framed g.S.Source.bytes g.S.Source.keeps g.J.System.honest c.args.self.now.settings c.args.self.now.items
+          asked g.S.Source.gave c.args.call.now.method
+          c.args.call.now.target.items ((b : g.row.W.Denot) × g.W.Outlet.fails b c.send_message.new.out) (g.W.Write.contents c.args.out.now)
+          (g.W.Write.contents c.send_message.new.out)
           c.send_message.result allowed;
       unasked = λ none. refl;
     }

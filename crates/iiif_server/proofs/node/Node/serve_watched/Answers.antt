@@ -1,13 +1,20 @@
 use Rattle.std.proofs.Common.{[], Some, ap, arith, ◌<◌}
 use Rattle.iiif_http_front.specs.Reading.{Reading, input_of}
 use Rattle.iiif_answers.specs.Streams.{terms}
-use Rattle.iiif_server.proofs.StreamLemmas.{begins_so, goes_further, ends_so, next_no_memory, at_start, came_at_end, came_further, nothing_came}
+use Rattle.iiif_server.proofs.StreamLemmas.{begins_so, goes_further, ends_so, next_no_memory, at_start, came_at_end, came_further}
+use Rattle.iiif_server.proofs.StreamLemmas.{nothing_came}
 use Rattle.iiif_server.proofs.node.Node.serve_watched.Goals as goal
 
 pub returns-in_default : goal.returns-in_default
 returns-in_default g c = record {
-  serves = next_no_memory (terms g.S.Source.bytes g.S.Source.keeps g.J.System.honest g.S.Source.gave c.args.self.now.settings c.args.self.now.items ((a b : g.row.I.Denot) × g.I.Inlet.fails a b) ((b : g.row.W.Denot) × g.W.Outlet.fails b c.close_for_memory-outcome.new.out)) 1 (g.I.Read.remaining c.args.reader) (g.W.Write.contents c.args.out.now) (g.W.Write.contents c.close_for_memory-outcome.new.out) c.close_for_memory-outcome.ensures;
-  came = let sent = next_no_memory (terms g.S.Source.bytes g.S.Source.keeps g.J.System.honest g.S.Source.gave c.args.self.now.settings c.args.self.now.items ((a b : g.row.I.Denot) × g.I.Inlet.fails a b) ((b : g.row.W.Denot) × g.W.Outlet.fails b c.close_for_memory-outcome.new.out)) 1 (Some []) (g.W.Write.contents c.args.out.now) (g.W.Write.contents c.close_for_memory-outcome.new.out) c.close_for_memory-outcome.ensures in
+  serves = next_no_memory (terms g.S.Source.bytes g.S.Source.keeps g.J.System.honest g.S.Source.gave c.args.self.now.settings
+      c.args.self.now.items ((a b : g.row.I.Denot) × g.I.Inlet.fails a b)
+      ((b : g.row.W.Denot) × g.W.Outlet.fails b c.close_for_memory-outcome.new.out)) 1 (g.I.Read.remaining c.args.reader)
+      (g.W.Write.contents c.args.out.now) (g.W.Write.contents c.close_for_memory-outcome.new.out) c.close_for_memory-outcome.ensures;
+  came = let sent = next_no_memory (terms g.S.Source.bytes g.S.Source.keeps g.J.System.honest g.S.Source.gave c.args.self.now.settings
+      c.args.self.now.items ((a b : g.row.I.Denot) × g.I.Inlet.fails a b)
+      ((b : g.row.W.Denot) × g.W.Outlet.fails b c.close_for_memory-outcome.new.out)) 1 (Some []) (g.W.Write.contents c.args.out.now)
+      (g.W.Write.contents c.close_for_memory-outcome.new.out) c.close_for_memory-outcome.ensures in
       (sent.2.0, sent.0, sent.1, sent.2.2);
 }
 
@@ -15,9 +22,13 @@ pub loop-alloc-init : goal.loop-alloc-init
 loop-alloc-init g c = record {
   no_fault = ap (λ (r : Reading g.row.I.Denot). r.fault) c.in-Ok.ensures;
   few = omega arith;
-  goes_on = begins_so (λ after. terms g.S.Source.bytes g.S.Source.keeps g.J.System.honest g.S.Source.gave c.args.self.now.settings c.args.self.now.items ((a b : g.row.I.Denot) × g.I.Inlet.fails a b) ((b : g.row.W.Denot) × g.W.Outlet.fails b after)) (g.I.Read.remaining c.args.reader) (input_of g.I.Read.remaining c.in-Ok.heads) (g.W.Write.contents c.args.out.now)
+  goes_on = begins_so (λ after. terms g.S.Source.bytes g.S.Source.keeps g.J.System.honest g.S.Source.gave c.args.self.now.settings
+      c.args.self.now.items ((a b : g.row.I.Denot) × g.I.Inlet.fails a b) ((b : g.row.W.Denot) × g.W.Outlet.fails b after))
+      (g.I.Read.remaining c.args.reader) (input_of g.I.Read.remaining c.in-Ok.heads) (g.W.Write.contents c.args.out.now)
       (at_start g.I.Read.remaining c.in-Ok.heads c.args.reader c.in-Ok.ensures);
-  came = nothing_came (λ after. terms g.S.Source.bytes g.S.Source.keeps g.J.System.honest g.S.Source.gave c.args.self.now.settings c.args.self.now.items ((a b : g.row.I.Denot) × g.I.Inlet.fails a b) ((b : g.row.W.Denot) × g.W.Outlet.fails b after)) (g.W.Write.contents c.args.out.now);
+  came = nothing_came (λ after. terms g.S.Source.bytes g.S.Source.keeps g.J.System.honest g.S.Source.gave c.args.self.now.settings
+      c.args.self.now.items ((a b : g.row.I.Denot) × g.I.Inlet.fails a b) ((b : g.row.W.Denot) × g.W.Outlet.fails b after))
+      (g.W.Write.contents c.args.out.now);
 }
 
 pub loop-alloc-preserved : goal.loop-alloc-preserved
@@ -26,20 +37,33 @@ loop-alloc-preserved g c =
     record {
       no_fault = c.serve_next.ensures.goes_on c.loop-alloc-test.true;
       few = omega (arith, more);
-      goes_on = goes_further (λ after. terms g.S.Source.bytes g.S.Source.keeps g.J.System.honest g.S.Source.gave c.args.self.now.settings c.args.self.now.items ((a b : g.row.I.Denot) × g.I.Inlet.fails a b) ((b : g.row.W.Denot) × g.W.Outlet.fails b after)) c.loop-alloc.n (g.I.Read.remaining c.args.reader) (input_of g.I.Read.remaining c.loop-alloc.heads)
-          (input_of g.I.Read.remaining c.serve_next.new.heads) (g.W.Write.contents c.args.out.now) (g.W.Write.contents c.loop-alloc.out) (g.W.Write.contents c.serve_next.new.out)
-          c.serve_next.new.out c.serve_next.result (λ a b h close text whole. whole) c.loop-alloc-test.true c.loop-alloc.invariant.goes_on c.serve_next.ensures.serves;
-      came = came_further (λ after. terms g.S.Source.bytes g.S.Source.keeps g.J.System.honest g.S.Source.gave c.args.self.now.settings c.args.self.now.items ((a b : g.row.I.Denot) × g.I.Inlet.fails a b) ((b : g.row.W.Denot) × g.W.Outlet.fails b after)) c.loop-alloc.n c.loop-alloc.heads.unread (Some c.serve_next.new.heads.unread) (g.W.Write.contents c.args.out.now)
-          (g.W.Write.contents c.loop-alloc.out) (g.W.Write.contents c.serve_next.new.out) c.serve_next.new.out c.serve_next.result (λ a b h close text whole. whole)
+      goes_on = goes_further (λ after. terms g.S.Source.bytes g.S.Source.keeps g.J.System.honest g.S.Source.gave c.args.self.now.settings
+          c.args.self.now.items ((a b : g.row.I.Denot) × g.I.Inlet.fails a b) ((b : g.row.W.Denot) × g.W.Outlet.fails b after))
+          c.loop-alloc.n (g.I.Read.remaining c.args.reader) (input_of g.I.Read.remaining c.loop-alloc.heads)
+          (input_of g.I.Read.remaining c.serve_next.new.heads) (g.W.Write.contents c.args.out.now) (g.W.Write.contents c.loop-alloc.out)
+          (g.W.Write.contents c.serve_next.new.out)
+          c.serve_next.new.out c.serve_next.result (λ a b h close text whole. whole) c.loop-alloc-test.true c.loop-alloc.invariant.goes_on
+          c.serve_next.ensures.serves;
+      came = came_further (λ after. terms g.S.Source.bytes g.S.Source.keeps g.J.System.honest g.S.Source.gave c.args.self.now.settings
+          c.args.self.now.items ((a b : g.row.I.Denot) × g.I.Inlet.fails a b) ((b : g.row.W.Denot) × g.W.Outlet.fails b after))
+          c.loop-alloc.n c.loop-alloc.heads.unread (Some c.serve_next.new.heads.unread) (g.W.Write.contents c.args.out.now)
+          (g.W.Write.contents c.loop-alloc.out) (g.W.Write.contents c.serve_next.new.out) c.serve_next.new.out c.serve_next.result
+          (λ a b h close text whole. whole)
           c.loop-alloc-test.true c.loop-alloc.invariant.came c.serve_next.ensures.came;
     }
 
 pub returns : goal.returns
 returns g c = record {
-  serves = ends_so (λ after. terms g.S.Source.bytes g.S.Source.keeps g.J.System.honest g.S.Source.gave c.args.self.now.settings c.args.self.now.items ((a b : g.row.I.Denot) × g.I.Inlet.fails a b) ((b : g.row.W.Denot) × g.W.Outlet.fails b after)) c.loop-alloc.n (g.I.Read.remaining c.args.reader) (input_of g.I.Read.remaining c.loop-alloc.heads)
-      (input_of g.I.Read.remaining c.serve_next.new.heads) (g.W.Write.contents c.args.out.now) (g.W.Write.contents c.loop-alloc.out) (g.W.Write.contents c.serve_next.new.out)
+  serves = ends_so (λ after. terms g.S.Source.bytes g.S.Source.keeps g.J.System.honest g.S.Source.gave c.args.self.now.settings
+      c.args.self.now.items ((a b : g.row.I.Denot) × g.I.Inlet.fails a b) ((b : g.row.W.Denot) × g.W.Outlet.fails b after)) c.loop-alloc.n
+      (g.I.Read.remaining c.args.reader) (input_of g.I.Read.remaining c.loop-alloc.heads)
+      (input_of g.I.Read.remaining c.serve_next.new.heads) (g.W.Write.contents c.args.out.now) (g.W.Write.contents c.loop-alloc.out)
+      (g.W.Write.contents c.serve_next.new.out)
       c.serve_next.new.out c.serve_next.result c.loop-alloc-test.false c.loop-alloc.invariant.goes_on c.serve_next.ensures.serves;
-  came = came_at_end (λ after. terms g.S.Source.bytes g.S.Source.keeps g.J.System.honest g.S.Source.gave c.args.self.now.settings c.args.self.now.items ((a b : g.row.I.Denot) × g.I.Inlet.fails a b) ((b : g.row.W.Denot) × g.W.Outlet.fails b after)) c.loop-alloc.n c.loop-alloc.heads.unread (Some c.serve_next.new.heads.unread) (g.W.Write.contents c.args.out.now)
-      (g.W.Write.contents c.loop-alloc.out) (g.W.Write.contents c.serve_next.new.out) c.serve_next.new.out c.serve_next.result c.loop-alloc-test.false
+  came = came_at_end (λ after. terms g.S.Source.bytes g.S.Source.keeps g.J.System.honest g.S.Source.gave c.args.self.now.settings
+      c.args.self.now.items ((a b : g.row.I.Denot) × g.I.Inlet.fails a b) ((b : g.row.W.Denot) × g.W.Outlet.fails b after)) c.loop-alloc.n
+      c.loop-alloc.heads.unread (Some c.serve_next.new.heads.unread) (g.W.Write.contents c.args.out.now)
+      (g.W.Write.contents c.loop-alloc.out) (g.W.Write.contents c.serve_next.new.out) c.serve_next.new.out c.serve_next.result
+      c.loop-alloc-test.false
       c.loop-alloc.invariant.came c.serve_next.ensures.came;
 }

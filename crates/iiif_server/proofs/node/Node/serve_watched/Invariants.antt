@@ -9,8 +9,12 @@ invariant-loop-alloc g l =
     record {
       no_fault : l.heads.fault ≡ None;
       few : l.n ≤ 1000;
-      goes_on : GoesOnSo (λ after. terms g.S.Source.bytes g.S.Source.keeps g.J.System.honest g.S.Source.gave l.self.settings l.self.items ((a b : g.row.I.Denot) × g.I.Inlet.fails a b) ((b : g.row.W.Denot) × g.W.Outlet.fails b after)) l.n (g.I.Read.remaining l.fn.reader) (input_of g.I.Read.remaining l.heads) (g.W.Write.contents l.fn.out) (g.W.Write.contents l.out);
-      came : CameSo (λ after. terms g.S.Source.bytes g.S.Source.keeps g.J.System.honest g.S.Source.gave l.self.settings l.self.items ((a b : g.row.I.Denot) × g.I.Inlet.fails a b) ((b : g.row.W.Denot) × g.W.Outlet.fails b after)) l.n (g.W.Write.contents l.fn.out) (g.W.Write.contents l.out);
+      goes_on : GoesOnSo (λ after. terms g.S.Source.bytes g.S.Source.keeps g.J.System.honest g.S.Source.gave l.self.settings l.self.items
+          ((a b : g.row.I.Denot) × g.I.Inlet.fails a b) ((b : g.row.W.Denot) × g.W.Outlet.fails b after)) l.n
+          (g.I.Read.remaining l.fn.reader) (input_of g.I.Read.remaining l.heads) (g.W.Write.contents l.fn.out) (g.W.Write.contents l.out);
+      came : CameSo (λ after. terms g.S.Source.bytes g.S.Source.keeps g.J.System.honest g.S.Source.gave l.self.settings l.self.items
+          ((a b : g.row.I.Denot) × g.I.Inlet.fails a b) ((b : g.row.W.Denot) × g.W.Outlet.fails b after)) l.n (g.W.Write.contents l.fn.out)
+          (g.W.Write.contents l.out);
     }
 
 abbrev pub decreases-loop-alloc : goal.decreases-loop-alloc

@@ -13,4 +13,7 @@ invariant_of-self g c =
     let w = record o { found = true } in
     let at : get eq m k ≡ Some o = sym c.in-Some.ensures.value in
     let h = c.get_mut.follows.holds w in
-    record { keyed = keyed_with eq g.met.K.CacheKey.identical (λ x. flight_key x.flight) k w (get eq m) (get eq (c.get_mut.follows.lender w)) (c.args.self.now.keyed k o at) (h.3 (ap is_some at)).0 c.args.self.now.keyed }
+    record {
+      keyed = keyed_with eq g.met.K.CacheKey.identical (λ x. flight_key x.flight) k w (get eq m)
+          (get eq (c.get_mut.follows.lender w)) (c.args.self.now.keyed k o at) (h.3 (ap is_some at)).0 c.args.self.now.keyed;
+    }

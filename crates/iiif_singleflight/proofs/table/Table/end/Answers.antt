@@ -35,7 +35,8 @@ pub invariant_of-self-2 : goal.invariant_of-self-2
 invariant_of-self-2 g c =
     let t = c.args.self.now in
     record {
-      sums = rw c.count.ensures (counted_book (aloft c.close.new.self) c.in-Some.found c.is_err-fault.result c.args.place t.book (rw c.in-Some.ensures.aloft t.sums));
+      sums = rw c.count.ensures (counted_book (aloft c.close.new.self) c.in-Some.found c.is_err-fault.result c.args.place t.book
+          (rw c.in-Some.ensures.aloft t.sums));
       counted = ap (λ b. b.gets) c.count.ensures ∙ (counted_gets c.in-Some.found c.is_err-fault.result c.args.place t.book ∙ t.counted);
     }
 
@@ -62,15 +63,21 @@ returns-clause-table g c =
     let tk = c.in-Some.ensures.ticket in
     let b = counting (is_found fl) vo c.args.place t.book in
     let book : c.count.new.book ≡ b =
-    c.count.ensures ∙ (ap (λ f. counted_as c.in-Some.found f c.args.place t.book) c.is_err-fault.ensures.value ∙ (counted_is c.in-Some.found c.args.outcome c.args.place t.book ∙ ap (λ f. counting f vo c.args.place t.book) tk.1)) in
+    c.count.ensures ∙ (ap (λ f. counted_as c.in-Some.found f c.args.place t.book) c.is_err-fault.ensures.value ∙
+    (counted_is c.in-Some.found c.args.outcome c.args.place t.book ∙ ap (λ f. counting f vo c.args.place t.book) tk.1)) in
     let met = land-open eq cl k plain size kept n vo c.args.place tk.0 in
     let cache = kept_is kept old new (keeping eq size c.args.place b.peer k n vo old)
     (λ y.
-    let v = some_and c.share_of-value.result (λ v. new ≡ storing eq size c.args.place peer k (record { value = arc_value v; ticket = ticket }) old) (c.keep_outcome-kept.ensures.kept y) in
+    let v = some_and c.share_of-value.result (λ v.
+    new ≡ storing eq size c.args.place peer k (record { value = arc_value v; ticket = ticket }) old)
+    (c.keep_outcome-kept.ensures.kept y) in
     let is : vo ≡ Some (arc_value v.0) = at_some c.share_of-value.result v.0 (λ v. vo ≡ Some (arc_value v)) v.1 c.share_of-value.ensures in
     let own : ticket ≡ n = (c.set-receipt.ensures.taken (c.keep_outcome-kept.ensures.taken y)).1 ∙ sym own_ticket in
-    let to : storing eq size c.args.place peer k (record { value = arc_value v.0; ticket = ticket }) old ≡ keeping eq size c.args.place peer k n (Some (arc_value v.0)) old = ap (λ x. storing eq size c.args.place peer k (record { value = arc_value v.0; ticket = x }) old) own in
-    v.2 ∙ (to ∙ (ap (λ x. keeping eq size c.args.place peer k n x old) (sym is) ∙ ap (λ x. keeping eq size c.args.place x.peer k n vo old) book)))
+    let to : storing eq size c.args.place peer k (record { value = arc_value v.0; ticket = ticket }) old ≡ keeping eq size c.args.place peer
+    k n (Some (arc_value v.0)) old = ap (λ x. storing eq size c.args.place peer k (record { value = arc_value v.0; ticket = x }) old)
+    own in
+    v.2 ∙ (to ∙ (ap (λ x. keeping eq size c.args.place peer k n x old) (sym is) ∙
+    ap (λ x. keeping eq size c.args.place x.peer k n vo old) book)))
     c.keep_outcome-kept.ensures.unkept in
     let q = ap (each_of the_flight) c.in-Some.ensures.closed ∙ each-with eq cl k the_flight None (open_at eq t.opens) in
     let a : aloft c.close.new.self ≡ aloft t.opens - 1 = omega (arith, c.in-Some.ensures.aloft) in
@@ -91,4 +98,5 @@ returns-clause-cells g c =
     let plain = table_of eq t in
     let vo = value_of c.args.outcome in
     let tk = c.in-Some.ensures.ticket in
-    rw (← key, ← class, ← own_ticket, tk.0) (ap (each_of the_cell) c.in-Some.ensures.closed ∙ each-with eq cl k the_cell None (open_at eq t.opens))
+    rw (← key, ← class, ← own_ticket, tk.0) (ap (each_of the_cell) c.in-Some.ensures.closed ∙
+    each-with eq cl k the_cell None (open_at eq t.opens))

@@ -101,8 +101,10 @@ returns-clause-table g c =
     let met = again-open eq cl k plain n here ∙ ap (λ x. looking eq cl k n x plain) is in
     let cache : cache_of c.touch.new.self ≡ touch eq k (cache_of t.cache) = c.touch.ensures ∙ ap (touch eq k) c.in_ok-entry.ensures.same in
     let s = ticket_of n (open_at eq t.opens cl k) here in
-    let marked : open_at eq c.mark.new.self ≡ with_at eq cl k (Some (found_of s.0)) (open_at eq t.opens) = rw s.1 at c.mark.ensures.marked in
-    let q = ap (each_of the_flight) marked ∙ (each-with eq cl k the_flight (Some (found_of s.0)) (open_at eq t.opens) ∙ ap (λ x. with_at eq cl k (Some (record { ticket = x; found = true })) (each_of the_flight (open_at eq t.opens))) s.2) in
+    let marked : open_at eq c.mark.new.self ≡ with_at eq cl k (Some (found_of s.0)) (open_at eq t.opens) =
+    rw s.1 at c.mark.ensures.marked in
+    let q = ap (each_of the_flight) marked ∙ (each-with eq cl k the_flight (Some (found_of s.0)) (open_at eq t.opens) ∙
+    ap (λ x. with_at eq cl k (Some (record { ticket = x; found = true })) (each_of the_flight (open_at eq t.opens))) s.2) in
     rw (← key, ← class, ← ticket) (same_table t.book cache q c.mark.ensures.aloft ∙ sym (ap (λ x. x.1) met))
 
 pub returns-clause-found : goal.returns-clause-found
@@ -144,7 +146,8 @@ returns-clause-meant g c =
     let holds = at_some o x.0 (λ y. value_of y.outcome ≡ Some (kept_of h).value) x.1 (if_some o _ h.holds) in
     let m = g.K.CacheKey.meaning g.J.System.pictures in
     λ stable honest.
-    let fact = subst (λ q. g.J.System.stable (g.K.CacheKey.name_of q) → g.J.System.honest ≡ true → ForOk x.0.outcome (λ v. arc_value v ≡ m q)) (own ∙ key) x.0.meant stable honest in
+    let fact = subst (λ q. g.J.System.stable (g.K.CacheKey.name_of q) → g.J.System.honest ≡ true →
+    ForOk x.0.outcome (λ v. arc_value v ≡ m q)) (own ∙ key) x.0.meant stable honest in
     c.into_value.ensures ∙ value_has x.0.outcome (kept_of h).value (λ v. v ≡ m (lead_key l)) fact holds
 
 pub returns-clause-shaped : goal.returns-clause-shaped
@@ -167,7 +170,8 @@ returns-clause-shaped g c =
     let holds = at_some o x.0 (λ y. value_of y.outcome ≡ Some (kept_of h).value) x.1 (if_some o _ h.holds) in
     let test = g.K.CacheKey.is_shaped g.J.System.pictures in
     let fact = subst (λ q. ForOk x.0.outcome (λ v. test q (arc_value v) ≡ true)) (own ∙ key) x.0.shaped in
-    subst (λ v. test (lead_key l) v ≡ true) (sym c.into_value.ensures) (value_has x.0.outcome (kept_of h).value (λ v. test (lead_key l) v ≡ true) fact holds)
+    subst (λ v. test (lead_key l) v ≡ true) (sym c.into_value.ensures)
+    (value_has x.0.outcome (kept_of h).value (λ v. test (lead_key l) v ≡ true) fact holds)
 
 pub returns-clause-cells : goal.returns-clause-cells
 returns-clause-cells g c =
@@ -184,6 +188,8 @@ returns-clause-cells g c =
     let yes : c.is_open.result ≡ true = search rules in
     let here : has_ticket n (plain.flights cl k) ≡ true = sym c.is_open.ensures ∙ yes in
     let s = ticket_of n (open_at eq t.opens cl k) here in
-    let marked : open_at eq c.mark.new.self ≡ with_at eq cl k (Some (found_of s.0)) (open_at eq t.opens) = rw s.1 at c.mark.ensures.marked in
+    let marked : open_at eq c.mark.new.self ≡ with_at eq cl k (Some (found_of s.0)) (open_at eq t.opens) =
+    rw s.1 at c.mark.ensures.marked in
     let old : each_of the_cell (open_at eq t.opens) cl k ≡ Some s.0.cell = ap (option_map the_cell) s.1 in
-    ap (each_of the_cell) marked ∙ (each-with eq cl k the_cell (Some (found_of s.0)) (open_at eq t.opens) ∙ with-same eq g.met.K.CacheKey.identical cl k (Some s.0.cell) (each_of the_cell (open_at eq t.opens)) old)
+    ap (each_of the_cell) marked ∙ (each-with eq cl k the_cell (Some (found_of s.0)) (open_at eq t.opens) ∙
+    with-same eq g.met.K.CacheKey.identical cl k (Some s.0.cell) (each_of the_cell (open_at eq t.opens)) old)

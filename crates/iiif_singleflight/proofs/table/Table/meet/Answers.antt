@@ -18,23 +18,38 @@ pub invariant_of-self-in-Some : goal.invariant_of-self-in-Some
 invariant_of-self-in-Some g c =
     let t = c.args.self.now in
     record {
-      sums = record { gets = omega (arith, t.sums.gets); landed = t.sums.landed; leads = t.sums.leads; faults = t.sums.faults; peer = t.sums.peer };
+      sums = record {
+        gets = omega (arith, t.sums.gets);
+        landed = t.sums.landed;
+        leads = t.sums.leads;
+        faults = t.sums.faults;
+        peer =
+            t.sums.peer;
+      };
       counted = omega (arith, t.counted, c.count.ensures.total);
     }
 
 pub returns-in-Some-clause-table : goal.returns-in-Some-clause-table
 returns-in-Some-clause-table g c =
     let t = c.args.self.now in
-    let cache : cache_of c.touch.new.self ≡ touch g.K.PartialEq.eq c.args.key.now (cache_of t.cache) = c.touch.ensures ∙ ap (touch g.K.PartialEq.eq c.args.key.now) c.in_ok-hit.ensures.same in
-    let is : kept_for g.K.PartialEq.eq c.args.key.now (cache_of t.cache) ≡ Some (kept_of c.in-Some.hit) = sym c.in_ok-hit.ensures.told ∙ ap (option_map kept_of) c.in-Some.is in
+    let cache : cache_of c.touch.new.self ≡ touch g.K.PartialEq.eq c.args.key.now (cache_of t.cache) = c.touch.ensures ∙
+    ap (touch g.K.PartialEq.eq c.args.key.now) c.in_ok-hit.ensures.same in
+    let is : kept_for g.K.PartialEq.eq c.args.key.now (cache_of t.cache) ≡ Some (kept_of c.in-Some.hit) = sym c.in_ok-hit.ensures.told ∙
+    ap (option_map kept_of) c.in-Some.is in
     rw (enter-hit g.K.PartialEq.eq c.args.class c.args.key.now (table_of g.K.PartialEq.eq t) (kept_of c.in-Some.hit) is, cache) refl
 
 pub returns-in-Some-clause-met : goal.returns-in-Some-clause-met
 returns-in-Some-clause-met g c =
     let t = c.args.self.now in
-    let is : kept_for g.K.PartialEq.eq c.args.key.now (cache_of t.cache) ≡ Some (kept_of c.in-Some.hit) = sym c.in_ok-hit.ensures.told ∙ ap (option_map kept_of) c.in-Some.is in
-    let met = enter-hit g.K.PartialEq.eq c.args.class c.args.key.now (table_of g.K.PartialEq.eq t) (kept_of c.in-Some.hit) is in
-    (kept_of c.in-Some.hit, ap (λ p. p.0) met, c.into_receipt.ensures.same.1, if_some (receipt_known c.into_receipt.result) (λ x. value_of x.outcome ≡ Some (kept_of c.in-Some.hit).value) c.into_receipt.ensures.holds)
+    let is : kept_for g.K.PartialEq.eq c.args.key.now (cache_of t.cache) ≡ Some (kept_of c.in-Some.hit) = sym c.in_ok-hit.ensures.told ∙
+    ap (option_map kept_of) c.in-Some.is in
+    let met = enter-hit g.K.PartialEq.eq c.args.class c.args.key.now (table_of g.K.PartialEq.eq t) (kept_of c.in-Some.hit) is in (
+      kept_of c.in-Some.hit,
+      ap (λ p. p.0) met,
+      c.into_receipt.ensures.same.1,
+      if_some (receipt_known c.into_receipt.result) (λ x. value_of x.outcome ≡ Some (kept_of c.in-Some.hit).value)
+          c.into_receipt.ensures.holds,
+    )
 
 pub returns-in-Some-join-clause-table : goal.returns-in-Some-join-clause-table
 returns-in-Some-join-clause-table g c =
@@ -46,7 +61,8 @@ returns-in-Some-join-clause-table g c =
     let s = some_of (open_at eq t.opens c.args.class k) c.in-Some-join.ensures.none in
     let flights : plain.flights c.args.class k ≡ Some (the_flight s.0) = ap (option_map the_flight) s.1 in
     let met = enter-joined eq c.args.class k plain (the_flight s.0) none flights in
-    same_table (record t.book { gets = t.book.gets + 1; joins = t.book.joins + 1 }) c.in_ok-hit.ensures.same (ap (each_of the_flight) c.in-Some-join.ensures.same) c.in-Some-join.ensures.aloft ∙ sym (ap (λ x. x.1) met)
+    same_table (record t.book { gets = t.book.gets + 1; joins = t.book.joins + 1 }) c.in_ok-hit.ensures.same
+    (ap (each_of the_flight) c.in-Some-join.ensures.same) c.in-Some-join.ensures.aloft ∙ sym (ap (λ x. x.1) met)
 
 pub returns-in-Some-join-clause-met : goal.returns-in-Some-join-clause-met
 returns-in-Some-join-clause-met g c =
@@ -58,8 +74,10 @@ returns-in-Some-join-clause-met g c =
     let s = some_of (open_at eq t.opens c.args.class k) c.in-Some-join.ensures.none in
     let flights : plain.flights c.args.class k ≡ Some (the_flight s.0) = ap (option_map the_flight) s.1 in
     let met = enter-joined eq c.args.class k plain (the_flight s.0) none flights in
-    let told = IfOk-at_ok (λ f. IfSome (open_at eq t.opens c.args.class k) (λ s. (flight_ticket f ≡ s.flight.ticket) × (flight_cell f ≡ s.cell))) c.in_ok-flight.was c.in-Some-join.ensures.joined in
-    let both = at_some (open_at eq t.opens c.args.class k) s.0 (λ s. (flight_ticket c.in_ok-flight.flight ≡ s.flight.ticket) × (flight_cell c.in_ok-flight.flight ≡ s.cell)) s.1 told in
+    let told = IfOk-at_ok (λ f. IfSome (open_at eq t.opens c.args.class k)
+    (λ s. (flight_ticket f ≡ s.flight.ticket) × (flight_cell f ≡ s.cell))) c.in_ok-flight.was c.in-Some-join.ensures.joined in
+    let both = at_some (open_at eq t.opens c.args.class k) s.0
+    (λ s. (flight_ticket c.in_ok-flight.flight ≡ s.flight.ticket) × (flight_cell c.in_ok-flight.flight ≡ s.cell)) s.1 told in
     let ticket : flight_ticket c.in_ok-flight.flight ≡ s.0.flight.ticket = both.0 in
     let key = IfOk-at_ok (λ f. flight_key f ≡ k) c.in_ok-flight.was c.in-Some-join.ensures.key in
     (rw (met, ticket) refl, key)
@@ -107,8 +125,10 @@ pub returns-in-Some-clause-known : goal.returns-in-Some-clause-known
 returns-in-Some-clause-known g c =
     let h = c.in-Some.hit in
     let r = c.into_receipt.result in
-    let of : is_of g.K.PartialEq.eq c.args.key.now h ≡ true = at_some _ h (λ e. is_of g.K.PartialEq.eq c.args.key.now e ≡ true) c.in-Some.is c.in_ok-hit.ensures.of_key in
-    let own : is_known_for g.K.PartialEq.eq c.args.key.now (receipt_known r) ≡ true = ap (is_known_for g.K.PartialEq.eq c.args.key.now) c.into_receipt.ensures.same.0 ∙ of in
+    let of : is_of g.K.PartialEq.eq c.args.key.now h ≡ true =
+    at_some _ h (λ e. is_of g.K.PartialEq.eq c.args.key.now e ≡ true) c.in-Some.is c.in_ok-hit.ensures.of_key in
+    let own : is_known_for g.K.PartialEq.eq c.args.key.now (receipt_known r) ≡ true =
+    ap (is_known_for g.K.PartialEq.eq c.args.key.now) c.into_receipt.ensures.same.0 ∙ of in
     known_key g.K.PartialEq.eq g.met.K.CacheKey.identical c.args.key.now (receipt_known r) own
 
 pub returns-in-Some-clause-meant : goal.returns-in-Some-clause-meant
@@ -120,7 +140,8 @@ returns-in-Some-clause-meant g c = λ premise.
     let x = some_of o r.known in
     let key = at_some o x.0 (λ y. arc_value y.key ≡ k) x.1 (returns-in-Some-clause-known g c) in
     let m = g.K.CacheKey.meaning g.J.System.pictures in
-    let fact = subst (λ q. g.J.System.stable (g.K.CacheKey.name_of q) → g.J.System.honest ≡ true → ForOk x.0.outcome (λ v. arc_value v ≡ m q)) key x.0.meant premise.0 premise.1 in
+    let fact = subst (λ q. g.J.System.stable (g.K.CacheKey.name_of q) → g.J.System.honest ≡ true →
+    ForOk x.0.outcome (λ v. arc_value v ≡ m q)) key x.0.meant premise.0 premise.1 in
     let holds = at_some o x.0 (λ y. value_of y.outcome ≡ Some (kept_of h).value) x.1 (if_some o _ c.into_receipt.ensures.holds) in
     subst (λ p. IfSome p (λ y. value_of y.outcome ≡ Some (m k))) (sym x.1) (value_meant x.0.outcome (kept_of h).value (m k) fact holds)
 

@@ -14,8 +14,10 @@ of_tile-requires-clause-tile g c =
     let s = c.args.shape.now in
     let below = tile_below c.args.key.now in
     let value = arc_value c.in_ok-value.value in
-    let shaped = subst (λ (t : TileKey). IsTrue (tile_is_shaped shows t value)) c.requires.tile (c.in_ok-value.ensures.shaped c.in_ok-value.value refl) in
-    subst (λ (v : TileVal). TileHasShape s below v) (sym c.deref.ensures) ((c.laws.ensures.shapes shows s below value c.requires.known).0 shaped)
+    let shaped = subst (λ (t : TileKey). IsTrue (tile_is_shaped shows t value)) c.requires.tile
+    (c.in_ok-value.ensures.shaped c.in_ok-value.value refl) in
+    subst (λ (v : TileVal). TileHasShape s below v) (sym c.deref.ensures)
+    ((c.laws.ensures.shapes shows s below value c.requires.known).0 shaped)
 
 pub returns-in-Ok-of_tile-clause-meant : goal.returns-in-Ok-of_tile-clause-meant
 returns-in-Ok-of_tile-clause-meant g c = λ stable honest.
@@ -28,4 +30,5 @@ returns-in-Ok-of_tile-clause-meant g c = λ stable honest.
 
 pub returns-in-Ok-of_tile-clause-shaped : goal.returns-in-Ok-of_tile-clause-shaped
 returns-in-Ok-of_tile-clause-shaped g c =
-    (c.laws-2.ensures.shapes g.J.System.pictures c.args.shape.now c.args.key.now c.in-Ok-of_tile.sums c.requires.known).1 c.in-Ok-of_tile.ensures.shape
+    (c.laws-2.ensures.shapes g.J.System.pictures c.args.shape.now c.args.key.now c.in-Ok-of_tile.sums c.requires.known).1
+    c.in-Ok-of_tile.ensures.shape

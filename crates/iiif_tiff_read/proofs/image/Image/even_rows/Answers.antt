@@ -9,8 +9,10 @@ loop-rows-init c =
     let s = image_units c.args.self.now in (
       omega (arith, c.min-rows.ensures, c.left_of_piece.ensures.some, c.requires.some),
       omega (arith, c.min-rows.ensures),
-      piece_even s c.args.x c.args.y c.min-rows.result c.requires.sound.piece_height.0 (omega (arith, c.min-rows.ensures, c.left_of_piece.ensures.left)),
-      λ more. piece_ends c.args.y s.piece_height c.min-rows.result c.requires.sound.piece_height.0 (omega (arith, c.min-rows.ensures, more, c.left_of_piece.ensures.left)),
+      piece_even s c.args.x c.args.y c.min-rows.result c.requires.sound.piece_height.0
+          (omega (arith, c.min-rows.ensures, c.left_of_piece.ensures.left)),
+      λ more. piece_ends c.args.y s.piece_height c.min-rows.result c.requires.sound.piece_height.0
+          (omega (arith, c.min-rows.ensures, more, c.left_of_piece.ensures.left)),
     )
 
 pub loop-rows-preserved : goal.loop-rows-preserved
@@ -21,9 +23,11 @@ loop-rows-preserved c =
     let some : 0 < s.piece_height = c.requires.sound.piece_height.0 in
     let begins : (c.args.y + m) % s.piece_height ≡ 0 = c.loop-rows.invariant.3 c.loop-rows-test.true in
     let joins : row_place s c.args.x (c.args.y + m) ≡ row_place s c.args.x c.args.y + m * row_bytes s
-    = sym c.row_place.ensures.place ∙ c.if-row_place-first.true ∙ rw (c.row_place-first.ensures.place, c.row_bytes-stride.ensures.bytes) refl in (
+    = sym c.row_place.ensures.place ∙ c.if-row_place-first.true ∙
+    rw (c.row_place-first.ensures.place, c.row_bytes-stride.ensures.bytes) refl in (
       omega (arith, c.loop-rows.invariant.0),
       omega (arith, c.min-rows-in-loop-rows.ensures, c.loop-rows-test.true),
       joined_even s c.args.x c.args.y m d some (omega (arith, c.min-rows-in-loop-rows.ensures)) begins c.loop-rows.invariant.2 joins,
-      λ more. ap (λ (k : ℕ). k % s.piece_height) (omega arith) ∙ piece_ends (c.args.y + m) s.piece_height d some (omega (arith, begins, c.min-rows-in-loop-rows.ensures, more)),
+      λ more. ap (λ (k : ℕ). k % s.piece_height) (omega arith) ∙
+          piece_ends (c.args.y + m) s.piece_height d some (omega (arith, begins, c.min-rows-in-loop-rows.ensures, more)),
     )

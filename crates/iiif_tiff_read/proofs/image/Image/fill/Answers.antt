@@ -8,7 +8,8 @@ use Rattle.iiif_tiff_read.proofs.image.Image.fill.Goals as goal
 pub read_part-requires-clause-part : goal.read_part-requires-clause-part
 read_part-requires-clause-part g c =
     let s = image_units c.args.self.now in
-    let x-below : (c.args.rect.x + c.loop-left.left) % s.piece_width < s.piece_width = mod_below (c.args.rect.x + c.loop-left.left) s.piece_width c.requires.sound.piece_width.0 in
+    let x-below : (c.args.rect.x + c.loop-left.left) % s.piece_width < s.piece_width =
+    mod_below (c.args.rect.x + c.loop-left.left) s.piece_width c.requires.sound.piece_width.0 in
     record {
       inside = c.requires.inside;
       columns = omega (arith, c.min-columns.ensures, c.loop-left-test.true);
@@ -22,8 +23,10 @@ read_part-requires-clause-part g c =
 pub loop-left-preserved : goal.loop-left-preserved
 loop-left-preserved g c =
     let s = image_units c.args.self.now in
-    let p : Part = record { left = c.loop-left.left; top = c.loop-top.top; columns = c.min-columns.result; rows = c.band_rows-rows.result } in
-    let x-below : (c.args.rect.x + c.loop-left.left) % s.piece_width < s.piece_width = mod_below (c.args.rect.x + c.loop-left.left) s.piece_width c.requires.sound.piece_width.0 in
+    let p : Part = record { left = c.loop-left.left; top = c.loop-top.top; columns = c.min-columns.result; rows = c.band_rows-rows.result }
+    in
+    let x-below : (c.args.rect.x + c.loop-left.left) % s.piece_width < s.piece_width =
+    mod_below (c.args.rect.x + c.loop-left.left) s.piece_width c.requires.sound.piece_width.0 in
     let part : IsPart s c.args.rect p = record {
       inside = c.requires.inside;
       columns = omega (arith, c.min-columns.ensures, c.loop-left-test.true);
@@ -34,5 +37,6 @@ loop-left-preserved g c =
       even = c.band_rows-rows.ensures.even c.loop-left.left c.loop-left-test.true;
     } in (
       part.columns,
-      λ keeps. filled_part (g.S.Source.bytes c.args.source.now) c.loop-left.samples c.read_part.new.samples s c.args.rect p c.requires.sound part (c.in_ok-read_part.ensures.held keeps) c.in_ok-read_part.ensures.rest (c.loop-left.invariant.1 keeps),
+      λ keeps. filled_part (g.S.Source.bytes c.args.source.now) c.loop-left.samples c.read_part.new.samples s c.args.rect p c.requires.sound
+          part (c.in_ok-read_part.ensures.held keeps) c.in_ok-read_part.ensures.rest (c.loop-left.invariant.1 keeps),
     )

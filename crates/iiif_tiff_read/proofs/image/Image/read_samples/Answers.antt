@@ -5,9 +5,13 @@ use Rattle.iiif_tiff_read.proofs.image.Image.read_samples.Goals as goal
 
 pub returns-in_ok-samples-clause-shown : goal.returns-in_ok-samples-clause-shown
 returns-in_ok-samples-clause-shown g c = λ keeps.
-    pairs_shown (g.S.Source.bytes c.args.source.now) c.in_ok-stored.stored.items c.in_ok-samples.samples.items (image_scheme c.args.self.now) c.args.rect c.if-bits-eq16.true
-    (halved c.args.rect.w c.args.rect.h (channels_of c.args.self.now.format.kind) c.args.self.now.format.bits _ _ c.if-bits-eq16.true c.in_ok-stored.ensures.length (rw c.deref.ensures.value at c.in_ok-samples.ensures.length)) (rw c.deref.ensures.value at c.in_ok-samples.ensures.samples) (c.in_ok-stored.ensures.stored keeps)
+    pairs_shown (g.S.Source.bytes c.args.source.now) c.in_ok-stored.stored.items c.in_ok-samples.samples.items
+    (image_scheme c.args.self.now) c.args.rect c.if-bits-eq16.true
+    (halved c.args.rect.w c.args.rect.h (channels_of c.args.self.now.format.kind) c.args.self.now.format.bits _ _ c.if-bits-eq16.true
+    c.in_ok-stored.ensures.length (rw c.deref.ensures.value at c.in_ok-samples.ensures.length))
+    (rw c.deref.ensures.value at c.in_ok-samples.ensures.samples) (c.in_ok-stored.ensures.stored keeps)
 
 pub returns-else-bits-eq16-clause-shown : goal.returns-else-bits-eq16-clause-shown
 returns-else-bits-eq16-clause-shown g c = λ keeps.
-    interpreted (g.S.Source.bytes c.args.source.now) c.in_ok-stored.stored.items c.interpreted.result.items (image_scheme c.args.self.now) c.args.rect c.if-bits-eq16.false c.in_ok-stored.ensures.length c.interpreted.ensures.samples (c.in_ok-stored.ensures.stored keeps)
+    interpreted (g.S.Source.bytes c.args.source.now) c.in_ok-stored.stored.items c.interpreted.result.items (image_scheme c.args.self.now)
+    c.args.rect c.if-bits-eq16.false c.in_ok-stored.ensures.length c.interpreted.ensures.samples (c.in_ok-stored.ensures.stored keeps)

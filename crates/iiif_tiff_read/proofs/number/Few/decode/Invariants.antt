@@ -5,4 +5,5 @@ use Rattle.iiif_tiff_read.specs.Code.{endian, code}
 use Rattle.iiif_tiff_read.proofs.number.Few.decode.Given as goal
 
 abbrev pub invariant-loop-i : goal.invariant-loop-i
-invariant-loop-i l = (length l.values ≡ 3) × (take l.i l.values ≡ map (λ i. number (endian l.order) (width_of (code l.kind)) l.bytes (i * size (code l.kind))) (range_with_len 0 l.i))
+invariant-loop-i l = (length l.values ≡ 3) × (take l.i l.values ≡ map
+    (λ i. number (endian l.order) (width_of (code l.kind)) l.bytes (i * size (code l.kind))) (range_with_len 0 l.i))

@@ -29,6 +29,7 @@ returns c = λ a.
     let first : c.len.result ≡ length c.args.self.now.calls.items = omega (arith, c.len.ensures, c.args.self.now.calls.ok.0) in
     let w = world_of c.args.self.now in
     let same = row_at w.flights c.args.flight c.index.result.now _ c.index.ensures a.flight in
-    calls_done w c.args.flight c.index.result.now (node_of c.in-Some.node.now) c.in-Sum.key c.in_ok-keys.keys.items c.in_ok-calls.calls.items c.in_ok-numbers.numbers.items a same
+    calls_done w c.args.flight c.index.result.now (node_of c.in-Some.node.now) c.in-Sum.key c.in_ok-keys.keys.items
+    c.in_ok-calls.calls.items c.in_ok-numbers.numbers.items a same
     c.in-Sum.is c.in-Some.ensures c.in_ok-keys.ensures c.in_ok-calls.ensures
     (c.in_ok-numbers.ensures c.in_ok-keys.keys.items count ∙ ap (λ n. numbers n c.in_ok-keys.keys.items) first)

@@ -26,13 +26,17 @@ fly-requires-clause-fresh c = record {
 }
 
 pub returns-in_err-kept-clause-no_memory : goal.returns-in_err-kept-clause-no_memory
-returns-in_err-kept-clause-no_memory c = wants_memory (world_of c.args.self.now) (Enter c.args.call) c.from_residual.result c.requires.sound (c.in-Some.caller.now, c.in-Some.ensures)
+returns-in_err-kept-clause-no_memory c = wants_memory (world_of c.args.self.now) (Enter c.args.call) c.from_residual.result c.requires.sound
+    (c.in-Some.caller.now, c.in-Some.ensures)
 
 pub returns-in-Some-kept-clause-no_memory : goal.returns-in-Some-kept-clause-no_memory
-returns-in-Some-kept-clause-no_memory c = wants_memory (world_of c.args.self.now) (Enter c.args.call) c.find.result c.requires.sound (c.in-Some.caller.now, c.in-Some.ensures)
+returns-in-Some-kept-clause-no_memory c = wants_memory (world_of c.args.self.now) (Enter c.args.call) c.find.result c.requires.sound
+    (c.in-Some.caller.now, c.in-Some.ensures)
 
 pub returns-in-None-clause-no_memory : goal.returns-in-None-clause-no_memory
-returns-in-None-clause-no_memory c = wants_memory (world_of c.args.self.now) (Enter c.args.call) c.fly.result c.requires.sound (c.in-Some.caller.now, c.in-Some.ensures)
+returns-in-None-clause-no_memory c = wants_memory (world_of c.args.self.now) (Enter c.args.call) c.fly.result c.requires.sound
+    (c.in-Some.caller.now, c.in-Some.ensures)
 
 pub returns-in_default-node_at-clause-not_now : goal.returns-in_default-node_at-clause-not_now
-returns-in_default-node_at-clause-not_now c = λ same. enter_lost (world_of c.args.self.now) c.args.call c.in-Some.caller.now c.in-Some.ensures c.in_default-node_at.ensures
+returns-in_default-node_at-clause-not_now c = λ same.
+    enter_lost (world_of c.args.self.now) c.args.call c.in-Some.caller.now c.in-Some.ensures c.in_default-node_at.ensures

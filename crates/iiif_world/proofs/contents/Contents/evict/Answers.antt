@@ -20,10 +20,13 @@ returns-clause-ok c =
     let m = c.lose.new.self in
     let less : i < length ns = omega (arith, c.if-node-len.false, c.len.ensures, c.args.self.now.nodes.ok.0) in
     let at : slice_get ns i ≡ Some n = slice_get-get_or ns i n less ∙ ap Some (sym c.index_mut.ensures.value) in
-    evict_done w _ i c.args.keys.now.items (node_of n) (node_of m) (map node_of (slice_set ns i m)) (get_map node_of ns i n at) (map-set node_of ns i m)
+    evict_done w _ i c.args.keys.now.items (node_of n) (node_of m) (map node_of (slice_set ns i m)) (get_map node_of ns i n at)
+    (map-set node_of ns i m)
     (c.lose.ensures ∙ ap (node_without (node_of n)) c.deref.ensures.value) refl
 
 pub returns-then-node-len-clause-not_now : goal.returns-then-node-len-clause-not_now
 returns-then-node-len-clause-not_now c = λ same.
     let ns = c.args.self.now.nodes.items in
-    evict_gone (world_of c.args.self.now) c.args.node c.args.keys.now (missing_map node_of ns c.args.node (slice_get_past ns c.args.node (omega (arith, c.if-node-len.true, c.len.ensures, c.args.self.now.nodes.ok.0))))
+    evict_gone (world_of c.args.self.now) c.args.node c.args.keys.now
+    (missing_map node_of ns c.args.node (slice_get_past ns c.args.node
+    (omega (arith, c.if-node-len.true, c.len.ensures, c.args.self.now.nodes.ok.0))))

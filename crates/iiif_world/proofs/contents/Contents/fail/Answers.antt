@@ -9,4 +9,5 @@ set_stage-requires c = slice_get_within (world_of c.args.self.now).flights c.arg
 pub returns : goal.returns
 returns c =
     let a = c.requires.1 in
-    fail_done (world_of c.args.self.now) (world_of c.set_stage.new.self) c.args.flight c.args.fault c.requires.0 a c.requires.2 (c.set_stage.ensures a.lead _ a.flight)
+    fail_done (world_of c.args.self.now) (world_of c.set_stage.new.self) c.args.flight c.args.fault c.requires.0 a c.requires.2
+    (c.set_stage.ensures a.lead _ a.flight)

@@ -22,7 +22,8 @@ pub settle_entered-requires-clause-honest : goal.settle_entered-requires-clause-
 settle_entered-requires-clause-honest c =
     let mid = c.set_state.ensures c.requires.fresh.who Fresh c.requires.fresh.call in
     subst IsHonestWorld (sym mid)
-    (found_honest (world_of c.args.self.now) c.args.call c.requires.fresh.who c.requires.fresh.node _ c.requires.sound.sound.honest c.requires.fresh.call c.requires.fresh.there c.requires.fresh.is_kept)
+    (found_honest (world_of c.args.self.now) c.args.call c.requires.fresh.who c.requires.fresh.node _ c.requires.sound.sound.honest
+    c.requires.fresh.call c.requires.fresh.there c.requires.fresh.is_kept)
 
 pub settle_entered-requires-clause-there : goal.settle_entered-requires-clause-there
 settle_entered-requires-clause-there c =
@@ -42,7 +43,12 @@ set_state-requires-in-Err c =
     let mid = c.set_state.ensures c.requires.fresh.who Fresh c.requires.fresh.call in
     let w = world_of c.args.self.now in
     let less : c.args.call < length w.calls = slice_get_within w.calls c.args.call _ c.requires.fresh.call in
-    omega (arith, less, ap (λ (z : World). length z.calls) (c.in-Err.ensures.err ∙ mid), length_set w.calls c.args.call (record { caller = c.requires.fresh.who; state = Hit c.args.value }))
+    omega (
+      arith,
+      less,
+      ap (λ (z : World). length z.calls) (c.in-Err.ensures.err ∙ mid),
+      length_set w.calls c.args.call (record { caller = c.requires.fresh.who; state = Hit c.args.value }),
+    )
 
 pub returns-in-Ok-clause-ok : goal.returns-in-Ok-clause-ok
 returns-in-Ok-clause-ok c =

@@ -14,5 +14,6 @@ loop-call-preserved c =
     let less : i < length cs = omega arith in
     let next : suc i ≡ i + 1 = omega arith in
     let list : drop i cs ≡ get_or cs i 0 ∷ drop (i + 1) cs = drop-cons cs i 0 less ∙ ap (λ n. get_or cs i 0 ∷ drop n cs) next in
-    one_more w (heard_all (all_learned w cs)) c.loop-call.first c.heard.result (get_or cs i 0) (drop (i + 1) cs) (drop i cs) c.loop-call.invariant list c.heard.ensures
+    one_more w (heard_all (all_learned w cs)) c.loop-call.first c.heard.result (get_or cs i 0) (drop (i + 1) cs) (drop i cs)
+    c.loop-call.invariant list c.heard.ensures
     ∙ ap (λ (x : Heard). heard_first x (heard_all (all_learned w (drop (i + 1) cs)))) (sym c.first_of-first.ensures)

@@ -6,4 +6,5 @@ use Rattle.iiif_world.proofs.contents.Contents.gathered.Given as goal
 
 -- what was heard so far, and what the others know
 abbrev pub invariant-loop-call : goal.invariant-loop-call
-invariant-loop-call l = heard_all (all_learned (world_of l.self) l.calls) ≡ heard_first l.first (heard_all (all_learned (world_of l.self) (drop l.call-index l.calls)))
+invariant-loop-call l = heard_all (all_learned (world_of l.self) l.calls) ≡ heard_first l.first
+    (heard_all (all_learned (world_of l.self) (drop l.call-index l.calls)))

@@ -28,7 +28,8 @@ pub settle_landed-requires-clause-honest : goal.settle_landed-requires-clause-ho
 settle_landed-requires-clause-honest c =
     let mid = c.end.ensures c.in-Some.lead.now c.in-Some.outcome.now c.in-Some.place c.in-Some.ensures in
     subst IsHonestWorld (sym mid)
-    (ended_honest (world_of c.args.self.now) c.args.flight c.in-Some.lead.now c.in-Some.outcome.now c.in-Some.place c.requires.sound.sound.honest c.in-Some.ensures)
+    (ended_honest (world_of c.args.self.now) c.args.flight c.in-Some.lead.now c.in-Some.outcome.now c.in-Some.place
+    c.requires.sound.sound.honest c.in-Some.ensures)
 
 pub settle_landed-requires-clause-there : goal.settle_landed-requires-clause-there
 settle_landed-requires-clause-there c =
@@ -68,7 +69,8 @@ returns-in-Ok-clause-ok c =
       flight = ap (λ (z : World). slice_get z.flights c.args.flight) mid ∙ set_there w.flights c.args.flight _ _ c.in-Some.ensures;
       there = ap (λ (z : World). slice_get z.nodes l.node) mid ∙ c.in-Some-node_at.ensures;
     } in
-    land_done w (world_of c.end.new.self) (world_of c.settle_landed.new.self) c.args.flight l n o c.in-Some.place c.args.keep c.in-Some.ensures c.in-Some-node_at.ensures mid
+    land_done w (world_of c.end.new.self) (world_of c.settle_landed.new.self) c.args.flight l n o c.in-Some.place c.args.keep
+    c.in-Some.ensures c.in-Some-node_at.ensures mid
     (c.in-Ok.ensures.ok l n o has (sym c.in_ok-value.ensures))
 
 pub returns-in-Err-clause-same : goal.returns-in-Err-clause-same
@@ -86,17 +88,20 @@ returns-in-Err-clause-same c =
 
 pub returns-in_default-node_at-clause-not_now : goal.returns-in_default-node_at-clause-not_now
 returns-in_default-node_at-clause-not_now c = λ same.
-    land_lost (world_of c.args.self.now) c.args.flight c.in-Some.lead.now c.in-Some.outcome.now c.in-Some.place c.args.keep c.in-Some.ensures c.in_default-node_at.ensures
+    land_lost (world_of c.args.self.now) c.args.flight c.in-Some.lead.now c.in-Some.outcome.now c.in-Some.place c.args.keep
+    c.in-Some.ensures c.in_default-node_at.ensures
 
 pub returns-in_err-value-clause-no_memory : goal.returns-in_err-value-clause-no_memory
 returns-in_err-value-clause-no_memory c =
     memory_wanted (world_of c.args.self.now) _ (Land c.args.flight c.args.keep) c.from_residual.result
-    (land_is (world_of c.args.self.now) c.args.flight c.in-Some.lead.now (node_of c.in-Some-node_at._node.now) c.in-Some.outcome.now c.in-Some.place c.args.keep c.in-Some.ensures
+    (land_is (world_of c.args.self.now) c.args.flight c.in-Some.lead.now (node_of c.in-Some-node_at._node.now) c.in-Some.outcome.now
+    c.in-Some.place c.args.keep c.in-Some.ensures
     c.in-Some-node_at.ensures)
 
 pub returns-in-Err-clause-no_memory : goal.returns-in-Err-clause-no_memory
 returns-in-Err-clause-no_memory c = λ same none.
     none-some _
     (sym none
-    ∙ land_is (world_of c.args.self.now) c.args.flight c.in-Some.lead.now (node_of c.in-Some-node_at._node.now) c.in-Some.outcome.now c.in-Some.place c.args.keep c.in-Some.ensures
+    ∙ land_is (world_of c.args.self.now) c.args.flight c.in-Some.lead.now (node_of c.in-Some-node_at._node.now) c.in-Some.outcome.now
+    c.in-Some.place c.args.keep c.in-Some.ensures
     c.in-Some-node_at.ensures)

@@ -23,4 +23,6 @@ returns-in-Split-clause-no_memory c =
 pub returns-in-Merge-Value-clause-no_memory : goal.returns-in-Merge-Value-clause-no_memory
 returns-in-Merge-Value-clause-no_memory c =
     let w = world_of c.args.self.now in
-    wants_memory w (Load c.args.flight) c.merge.result c.requires.sound (merge_allowed w c.args.flight c.in-Merge-Value.ensures.0 c.in-Merge-Value.ensures.1 (sym c.in-Merge-Value.field-0-is ∙ c.in-Merge-Value.ensures.2))
+    wants_memory w (Load c.args.flight) c.merge.result c.requires.sound
+    (merge_allowed w c.args.flight c.in-Merge-Value.ensures.0 c.in-Merge-Value.ensures.1
+    (sym c.in-Merge-Value.field-0-is ∙ c.in-Merge-Value.ensures.2))

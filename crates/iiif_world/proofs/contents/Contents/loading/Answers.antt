@@ -14,14 +14,18 @@ pub returns-in-Looked-Tile : goal.returns-in-Looked-Tile
 unfolding parts_of
 returns-in-Looked-Tile c =
     let w = world_of c.args.self.now in
-    let at : slice_get w.flights c.args.flight ≡ Some c.in-Some.row.now = c.in-Some.ensures in
-    (local_at w c.args.flight c.in-Some.row.now (node_of c.in-Some-node_at._node.now) Looked at c.in-Some-node_at.ensures c.in-Local.is c.in-Looked-Tile.is-0, ap parts_of c.in-Looked-Tile.is-1)
+    let at : slice_get w.flights c.args.flight ≡ Some c.in-Some.row.now = c.in-Some.ensures in (
+      local_at w c.args.flight c.in-Some.row.now (node_of c.in-Some-node_at._node.now) Looked at c.in-Some-node_at.ensures c.in-Local.is
+          c.in-Looked-Tile.is-0,
+      ap parts_of c.in-Looked-Tile.is-1,
+    )
 
 pub returns-in-Looked-Sum : goal.returns-in-Looked-Sum
 returns-in-Looked-Sum c =
     let w = world_of c.args.self.now in
     let at : slice_get w.flights c.args.flight ≡ Some c.in-Some.row.now = c.in-Some.ensures in (
-      local_at w c.args.flight c.in-Some.row.now (node_of c.in-Some-node_at._node.now) Looked at c.in-Some-node_at.ensures c.in-Local.is c.in-Looked-Sum.is-0,
+      local_at w c.args.flight c.in-Some.row.now (node_of c.in-Some-node_at._node.now) Looked at c.in-Some-node_at.ensures c.in-Local.is
+          c.in-Looked-Sum.is-0,
       c.in-Looked-Sum.field-0-1,
       c.in-Looked-Sum.is-1,
     )
@@ -31,7 +35,8 @@ returns-in-Parts-default c =
     let w = world_of c.args.self.now in
     let at : slice_get w.flights c.args.flight ≡ Some c.in-Some.row.now = c.in-Some.ensures in (
       c.in-Parts-default.calls,
-      local_at w c.args.flight c.in-Some.row.now (node_of c.in-Some-node_at._node.now) (Parts c.in-Parts-default.calls) at c.in-Some-node_at.ensures c.in-Local.is c.in-Parts-default.is-0,
+      local_at w c.args.flight c.in-Some.row.now (node_of c.in-Some-node_at._node.now) (Parts c.in-Parts-default.calls) at
+          c.in-Some-node_at.ensures c.in-Local.is c.in-Parts-default.is-0,
       c.gathered.ensures ∙ ap (λ cs. heard_all (all_learned w cs)) c.items.ensures,
     )
 
@@ -39,5 +44,7 @@ pub returns-in_default-2 : goal.returns-in_default-2
 returns-in_default-2 c =
     let w = world_of c.args.self.now in
     let at : slice_get w.flights c.args.flight ≡ Some c.in-Some.row.now = c.in-Some.ensures in
-    load_none w c.args.flight c.in-Some.row.now.lead (node_of c.in-Some-node_at._node.now) c.in-Some.row.now.stage c.in-Local.is at c.in-Some-node_at.ensures
-    (no_load w c.args.flight c.in-Some.row.now.lead (node_of c.in-Some-node_at._node.now) c.in-Some.row.now.stage c.in_default-2.not-Looked-0 c.in_default-2.not-Parts-0)
+    load_none w c.args.flight c.in-Some.row.now.lead (node_of c.in-Some-node_at._node.now) c.in-Some.row.now.stage c.in-Local.is at
+    c.in-Some-node_at.ensures
+    (no_load w c.args.flight c.in-Some.row.now.lead (node_of c.in-Some-node_at._node.now) c.in-Some.row.now.stage
+    c.in_default-2.not-Looked-0 c.in_default-2.not-Parts-0)

@@ -11,26 +11,34 @@ use Rattle.iiif_world.proofs.contents.Contents.look.Goals as goal
 
 pub returns-clause-found : goal.returns-clause-found
 returns-clause-found c = λ l n has.
-    let same = ap (λ (f : Flight). f.lead) (row_at c.args.self.now.flights.items c.args.flight c.index.result.now _ c.index.ensures has.flight) in
-    let h = found_at c.args.self.now.nodes.items c.index.result.now.lead.node l.node c.index_mut.result.now n (ap (λ (x : Lead). x.node) same) c.index_mut.ensures.value has.there in
+    let same = ap (λ (f : Flight). f.lead) (row_at c.args.self.now.flights.items c.args.flight c.index.result.now _ c.index.ensures
+    has.flight) in
+    let h = found_at c.args.self.now.nodes.items c.index.result.now.lead.node l.node c.index_mut.result.now n
+    (ap (λ (x : Lead). x.node) same) c.index_mut.ensures.value has.there in
     c.in_ok-found.ensures.found
     ∙ ap (λ (x : Lead). (looked (table_at (node_of c.index_mut.result.now) x.key) x.key x.class x.ticket).0) same
     ∙ ap (λ (y : rows.Node). (looked (table_at y l.key) l.key l.class l.ticket).0) h.1
 
 pub returns-clause-node : goal.returns-clause-node
 returns-clause-node c = λ l n has.
-    let same = ap (λ (f : Flight). f.lead) (row_at c.args.self.now.flights.items c.args.flight c.index.result.now _ c.index.ensures has.flight) in
+    let same = ap (λ (f : Flight). f.lead) (row_at c.args.self.now.flights.items c.args.flight c.index.result.now _ c.index.ensures
+    has.flight) in
     let place = ap (λ (x : Lead). x.node) same in
-    let h = found_at c.args.self.now.nodes.items c.index.result.now.lead.node l.node c.index_mut.result.now n place c.index_mut.ensures.value has.there in
+    let h = found_at c.args.self.now.nodes.items c.index.result.now.lead.node l.node c.index_mut.result.now n place
+    c.index_mut.ensures.value has.there in
     let made = c.in_ok-found.ensures.node
-    ∙ ap (λ (x : Lead). put_table (node_of c.index_mut.result.now) x.key (looked (table_at (node_of c.index_mut.result.now) x.key) x.key x.class x.ticket).1) same
+    ∙ ap (λ (x : Lead). put_table (node_of c.index_mut.result.now) x.key
+    (looked (table_at (node_of c.index_mut.result.now) x.key) x.key x.class x.ticket).1) same
     ∙ ap (λ (y : rows.Node). put_table y l.key (looked (table_at y l.key) l.key l.class l.ticket).1) h.1 in
     node_put (world_of c.args.self.now) c.args.self.now.nodes.items c.index.result.now.lead.node l.node c.again.new.self _ refl place made
 
 pub returns-in_err-found-clause-err : goal.returns-in_err-found-clause-err
 returns-in_err-found-clause-err c =
     let r = c.requires in
-    let same = ap (λ (f : Flight). f.lead) (row_at c.args.self.now.flights.items c.args.flight c.index.result.now _ c.index.ensures r.2.flight) in
-    let h = found_at c.args.self.now.nodes.items c.index.result.now.lead.node r.0.node c.index_mut.result.now r.1 (ap (λ (x : Lead). x.node) same) c.index_mut.ensures.value r.2.there in
+    let same = ap (λ (f : Flight). f.lead) (row_at c.args.self.now.flights.items c.args.flight c.index.result.now _ c.index.ensures
+    r.2.flight) in
+    let h = found_at c.args.self.now.nodes.items c.index.result.now.lead.node r.0.node c.index_mut.result.now r.1
+    (ap (λ (x : Lead). x.node) same) c.index_mut.ensures.value r.2.there in
     on_err c.from_residual.result
-    (node_kept (world_of c.args.self.now) c.args.self.now.nodes.items c.index.result.now.lead.node c.index_mut.result.now c.again.new.self refl h.0 c.in_err-found.ensures.err)
+    (node_kept (world_of c.args.self.now) c.args.self.now.nodes.items c.index.result.now.lead.node c.index_mut.result.now c.again.new.self
+    refl h.0 c.in_err-found.ensures.err)

@@ -17,7 +17,8 @@ unreachable-requires c =
 pub sums-requires-clause-fits : goal.sums-requires-clause-fits
 sums-requires-clause-fits c =
     let s = (world_of c.args.self.now).scene in
-    sum_fits s c.in-Sum.key c.in-Some-picture.picture.now c.requires.proper c.in-Some-picture.ensures (subst (Fits s) c.in-Sum.is c.requires.fits)
+    sum_fits s c.in-Sum.key c.in-Some-picture.picture.now c.requires.proper c.in-Some-picture.ensures
+    (subst (Fits s) c.in-Sum.is c.requires.fits)
 
 pub sums-requires-clause-source : goal.sums-requires-clause-source
 sums-requires-clause-source c = c.requires.proper.sources c.in-Sum.key.name c.in-Some-picture.picture.now c.in-Some-picture.ensures

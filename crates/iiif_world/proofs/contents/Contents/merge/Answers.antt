@@ -12,5 +12,6 @@ set_stage-requires c = slice_get_within (world_of c.args.self.now).flights c.arg
 pub returns-clause-ok : goal.returns-clause-ok
 returns-clause-ok c =
     let a = c.requires.loading.1 in
-    merge_done (world_of c.args.self.now) (world_of c.set_stage.new.self) c.args.flight c.in_ok-value.value c.requires.loading.0 a c.requires.sound.proper c.requires.sound.sound.honest
+    merge_done (world_of c.args.self.now) (world_of c.set_stage.new.self) c.args.flight c.in_ok-value.value c.requires.loading.0 a
+    c.requires.sound.proper c.requires.sound.sound.honest
     c.requires.loading.2 (c.in_ok-value.ensures _ a.flight) (c.set_stage.ensures a.lead _ a.flight)

@@ -7,7 +7,8 @@ pub returns-in_default : goal.returns-in_default
 returns-in_default c = again_gone (world_of c.args.self.now) c.args.flight c.in_default.ensures
 
 pub returns-in_default-stage : goal.returns-in_default-stage
-returns-in_default-stage c = again_other (world_of c.args.self.now) c.args.flight c.in-Some.row.now c.in-Some.ensures c.in_default-stage.not-New
+returns-in_default-stage c = again_other (world_of c.args.self.now) c.args.flight c.in-Some.row.now c.in-Some.ensures
+    c.in_default-stage.not-New
 
 pub returns : goal.returns
 returns c = lead_at c.args.self.now.flights.items c.args.flight c.in-Some.row.now New c.in-Some.ensures c.in-New.is

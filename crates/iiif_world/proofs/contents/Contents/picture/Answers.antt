@@ -12,4 +12,5 @@ returns-in-Some c =
 
 pub returns-in-None : goal.returns-in-None
 returns-in-None c =
-    shown_missing c.args.name.now c.args.self.now.catalogue.items (sym (c.in-None.ensures ∙ ap (position (has_name c.args.name.now)) c.deref.ensures.value))
+    shown_missing c.args.name.now c.args.self.now.catalogue.items
+    (sym (c.in-None.ensures ∙ ap (position (has_name c.args.name.now)) c.deref.ensures.value))

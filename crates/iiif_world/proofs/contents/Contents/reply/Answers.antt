@@ -17,23 +17,28 @@ returns-in_default-purpose c = record {
 
 pub returns-in_err-outcome-clause-no_memory : goal.returns-in_err-outcome-clause-no_memory
 returns-in_err-outcome-clause-no_memory c =
-    reply_memory (world_of c.args.self.now) c.args.call c.in-ForAsk.field-0 c.in-Some.row.now c.from_residual.result c.in-Some.ensures c.in-ForAsk.is c.in_err-outcome.ensures.err
+    reply_memory (world_of c.args.self.now) c.args.call c.in-ForAsk.field-0 c.in-Some.row.now c.from_residual.result c.in-Some.ensures
+    c.in-ForAsk.is c.in_err-outcome.ensures.err
 
 pub returns-in_default-2-clause-not_now : goal.returns-in_default-2-clause-not_now
 returns-in_default-2-clause-not_now c = λ same.
-    reply_unknown (world_of c.args.self.now) c.args.call c.in-ForAsk.field-0 c.in-Some.row.now c.in-Some.ensures c.in-ForAsk.is (sym c.in_ok-outcome.ensures.ok ∙ c.in_default-2.is)
+    reply_unknown (world_of c.args.self.now) c.args.call c.in-ForAsk.field-0 c.in-Some.row.now c.in-Some.ensures c.in-ForAsk.is
+    (sym c.in_ok-outcome.ensures.ok ∙ c.in_default-2.is)
 
 pub returns-in_err-key-clause-no_memory : goal.returns-in_err-key-clause-no_memory
 returns-in_err-key-clause-no_memory c =
     memory_wanted (world_of c.args.self.now) _ (event.Reply c.args.call) c.from_residual-in_err-key.result
-    (reply_is (world_of c.args.self.now) c.args.call c.in-ForAsk.field-0 c.in-Some.row.now c.in-Some-2.outcome c.in-Some.ensures c.in-ForAsk.is (sym c.in_ok-outcome.ensures.ok ∙ c.in-Some-2.is))
+    (reply_is (world_of c.args.self.now) c.args.call c.in-ForAsk.field-0 c.in-Some.row.now c.in-Some-2.outcome c.in-Some.ensures
+    c.in-ForAsk.is (sym c.in_ok-outcome.ensures.ok ∙ c.in-Some-2.is))
 
 pub returns-in_err-add_reply-clause-no_memory : goal.returns-in_err-add_reply-clause-no_memory
 returns-in_err-add_reply-clause-no_memory c =
     memory_wanted (world_of c.args.self.now) _ (event.Reply c.args.call) c.from_residual-in_err-add_reply.result
-    (reply_is (world_of c.args.self.now) c.args.call c.in-ForAsk.field-0 c.in-Some.row.now c.in-Some-2.outcome c.in-Some.ensures c.in-ForAsk.is (sym c.in_ok-outcome.ensures.ok ∙ c.in-Some-2.is))
+    (reply_is (world_of c.args.self.now) c.args.call c.in-ForAsk.field-0 c.in-Some.row.now c.in-Some-2.outcome c.in-Some.ensures
+    c.in-ForAsk.is (sym c.in_ok-outcome.ensures.ok ∙ c.in-Some-2.is))
 
 pub returns-clause-ok : goal.returns-clause-ok
 returns-clause-ok c =
-    reply_done (world_of c.args.self.now) (world_of c.add_reply.new.self) c.args.call c.in-ForAsk.field-0 c.in-Some.row.now c.in-Some-2.outcome c.in_ok-key.key c.in-Some.ensures c.in-ForAsk.is
+    reply_done (world_of c.args.self.now) (world_of c.add_reply.new.self) c.args.call c.in-ForAsk.field-0 c.in-Some.row.now
+    c.in-Some-2.outcome c.in_ok-key.key c.in-Some.ensures c.in-ForAsk.is
     (sym c.in_ok-outcome.ensures.ok ∙ c.in-Some-2.is) c.in_ok-key.ensures c.in_ok-add_reply.ensures.ok

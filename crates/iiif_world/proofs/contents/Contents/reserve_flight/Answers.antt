@@ -10,4 +10,5 @@ pub returns-clause-same : goal.returns-clause-same
 returns-clause-same c = ap (λ (fs : List Flight). record (world_of c.args.self.now) { flights = fs }) c.in_ok-reserve.ensures.items
 
 pub returns-in_err-reserve-clause-same : goal.returns-in_err-reserve-clause-same
-returns-in_err-reserve-clause-same c = ap (λ (fs : List Flight). record (world_of c.args.self.now) { flights = fs }) c.in_err-reserve.ensures.items
+returns-in_err-reserve-clause-same c = ap (λ (fs : List Flight). record (world_of c.args.self.now) { flights = fs })
+    c.in_err-reserve.ensures.items

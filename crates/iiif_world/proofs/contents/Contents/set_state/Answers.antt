@@ -8,5 +8,6 @@ use Rattle.iiif_world.proofs.contents.Contents.set_state.Goals as goal
 pub returns : goal.returns
 returns c = λ who x at.
     let cs = c.args.self.now.calls.items in
-    ap (λ (z : Call). record (world_of c.args.self.now) { calls = slice_set cs c.args.call (record { caller = z.caller; state = c.args.state }) })
+    ap (λ (z : Call). record (world_of c.args.self.now)
+    { calls = slice_set cs c.args.call (record { caller = z.caller; state = c.args.state }) })
     (row_at cs c.args.call c.index_mut.result.now _ c.index_mut.ensures.value at)

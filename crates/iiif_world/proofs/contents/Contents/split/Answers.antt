@@ -12,5 +12,6 @@ returns-clause-ok c =
     let a = c.requires.loading.0 in
     let r = c.in_ok-calls.ensures a in
     let at = ap (λ (z : World). slice_get z.flights c.args.flight) c.in_ok-add_calls.ensures.ok ∙ a.flight in
-    split_done w (world_of c.add_calls.new.self) (world_of c.set_stage.new.self) c.args.flight r.0 c.in_ok-calls.calls.items c.new.result a r.1 r.2 (c.new.ensures ∙ r.3)
+    split_done w (world_of c.add_calls.new.self) (world_of c.set_stage.new.self) c.args.flight r.0 c.in_ok-calls.calls.items c.new.result a
+    r.1 r.2 (c.new.ensures ∙ r.3)
     c.in_ok-add_calls.ensures.ok (c.set_stage.ensures a.lead Looked at)

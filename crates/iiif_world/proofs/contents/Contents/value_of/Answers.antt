@@ -14,4 +14,5 @@ meaning-requires-clause-fits c =
 pub returns : goal.returns
 returns c = λ f at.
     let fs = (world_of c.args.self.now).flights in
-    c.in_ok-value.ensures ∙ ap (λ (x : Flight). meaning (world_of c.args.self.now).scene x.lead.key) (c.index.ensures ∙ get_or_from_slice_get fs c.args.flight f _ at)
+    c.in_ok-value.ensures ∙ ap (λ (x : Flight). meaning (world_of c.args.self.now).scene x.lead.key)
+    (c.index.ensures ∙ get_or_from_slice_get fs c.args.flight f _ at)

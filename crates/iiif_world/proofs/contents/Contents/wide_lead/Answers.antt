@@ -7,10 +7,12 @@ pub returns-in_default : goal.returns-in_default
 returns-in_default c = ask_gone (world_of c.args.self.now) c.args.flight c.in_default.ensures
 
 pub returns-in_default-stage : goal.returns-in_default-stage
-returns-in_default-stage c = ask_other (world_of c.args.self.now) c.args.flight c.in-Some.row.now c.in-Some.ensures c.in_default-stage.not-Looked
+returns-in_default-stage c = ask_other (world_of c.args.self.now) c.args.flight c.in-Some.row.now c.in-Some.ensures
+    c.in_default-stage.not-Looked
 
 pub returns-in_default-class : goal.returns-in_default-class
-returns-in_default-class c = ask_own (world_of c.args.self.now) c.args.flight c.in-Some.row.now c.in-Some.ensures c.in_default-class.not-Wide
+returns-in_default-class c = ask_own (world_of c.args.self.now) c.args.flight c.in-Some.row.now c.in-Some.ensures
+    c.in_default-class.not-Wide
 
 pub returns : goal.returns
 returns c = (lead_at c.args.self.now.flights.items c.args.flight c.in-Some.row.now Looked c.in-Some.ensures c.in-Looked.is, c.in-Wide.is)

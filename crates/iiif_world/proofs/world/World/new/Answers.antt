@@ -12,22 +12,28 @@ use Rattle.iiif_world.proofs.world.World.new.Goals as goal
 pub of-requires : goal.of-requires
 of-requires c =
     let s = scene_of c.args.catalogue.items c.args.edge c.args.limits c.args.room in
-    let sources = subst (Each (λ (i : Item). IsSource i.picture)) c.deref.ensures.value (c.are_sources.ensures.yes c.if-not-are_sources.false) in
+    let sources = subst (Each (λ (i : Item). IsSource i.picture)) c.deref.ensures.value
+    (c.are_sources.ensures.yes c.if-not-are_sources.false) in
     let rings = subst (λ (xs : List Setup). Each (λ (x : Setup). (0 < length x.ring) × Each (IsNamed xs) x.ring) xs) c.deref-2.ensures.value
     (c.rings_name_nodes.ensures.yes c.if-not-rings_name_nodes.false) in
     subst IsSoundWorld (sym (c.begun.ensures ∙ ap (new_world s) c.in-Ok.ensures))
-    (starts_sound c.args.setups.items c.args.catalogue.items c.args.edge c.args.limits c.args.room sources (record { some = omega arith; within = omega arith }) (omega arith) rings)
+    (starts_sound c.args.setups.items c.args.catalogue.items c.args.edge c.args.limits c.args.room sources
+    (record { some = omega arith; within = omega arith }) (omega arith) rings)
 
 pub returns-then-not-are_sources-clause-fault : goal.returns-then-not-are_sources-clause-fault
-returns-then-not-are_sources-clause-fault c =
-    (record { some = omega arith; within = omega arith }, record { some = omega arith; within = omega arith }, subst (λ (xs : List Item). ¬ AreSources xs) c.deref.ensures.value (c.are_sources.ensures.no c.if-not-are_sources.true))
+returns-then-not-are_sources-clause-fault c = (
+  record { some = omega arith; within = omega arith },
+  record { some = omega arith; within = omega arith },
+  subst (λ (xs : List Item). ¬ AreSources xs) c.deref.ensures.value (c.are_sources.ensures.no c.if-not-are_sources.true),
+)
 
 pub returns-then-not-rings_name_nodes-clause-fault : goal.returns-then-not-rings_name_nodes-clause-fault
 returns-then-not-rings_name_nodes-clause-fault c = (
   record { some = omega arith; within = omega arith },
   record { some = omega arith; within = omega arith },
   subst AreSources c.deref.ensures.value (c.are_sources.ensures.yes c.if-not-are_sources.false),
-  subst (λ (xs : List Setup). ¬ Each (NamesNodes xs) xs) c.deref-2.ensures.value (c.rings_name_nodes.ensures.no c.if-not-rings_name_nodes.true),
+  subst (λ (xs : List Setup). ¬ Each (NamesNodes xs) xs) c.deref-2.ensures.value
+      (c.rings_name_nodes.ensures.no c.if-not-rings_name_nodes.true),
 )
 
 pub returns-in-Err-clause-fault : goal.returns-in-Err-clause-fault
@@ -35,5 +41,6 @@ returns-in-Err-clause-fault c = (
   record { some = omega arith; within = omega arith },
   record { some = omega arith; within = omega arith },
   subst AreSources c.deref.ensures.value (c.are_sources.ensures.yes c.if-not-are_sources.false),
-  subst (λ (xs : List Setup). Each (NamesNodes xs) xs) c.deref-2.ensures.value (c.rings_name_nodes.ensures.yes c.if-not-rings_name_nodes.false),
+  subst (λ (xs : List Setup). Each (NamesNodes xs) xs) c.deref-2.ensures.value
+      (c.rings_name_nodes.ensures.yes c.if-not-rings_name_nodes.false),
 )

@@ -18,20 +18,24 @@ returns-in-Err-clause-err c = (
   world_of c.loop-place.world,
   c.index-events-place.result,
   c.loop-place.invariant.0,
-  slice_get-get_or c.args.events.now c.loop-place.place c.index-events-place.result c.loop-place-test.true ∙ ap (λ (e : Event). Some e) (sym c.index-events-place.is),
+  slice_get-get_or c.args.events.now c.loop-place.place c.index-events-place.result c.loop-place-test.true ∙
+      ap (λ (e : Event). Some e) (sym c.index-events-place.is),
   c.in-Err.ensures.not_now,
   c.in-Err.ensures.no_memory,
 )
 
 pub loop-place-preserved : goal.loop-place-preserved
 loop-place-preserved c = (
-  run_next (world_of c.args.self) (world_of c.loop-place.world) (world_of c.step.new.self) c.args.events.now c.loop-place.place c.index-events-place.result c.loop-place-test.true
+  run_next (world_of c.args.self) (world_of c.loop-place.world) (world_of c.step.new.self) c.args.events.now c.loop-place.place
+      c.index-events-place.result c.loop-place-test.true
       c.index-events-place.is c.loop-place.invariant.0 c.in-Ok.ensures.ok,
   c.in-Ok.ensures.sound,
-  follows_further (world_of c.args.self) (world_of c.loop-place.world) (world_of c.step.new.self) c.loop-place.invariant.2 c.in-Ok.ensures.follows,
+  follows_further (world_of c.args.self) (world_of c.loop-place.world) (world_of c.step.new.self) c.loop-place.invariant.2
+      c.in-Ok.ensures.follows,
 )
 
 pub returns-clause-headline : goal.returns-clause-headline
 returns-clause-headline c =
     run_is_right (world_of c.args.self) (world_of c.loop-place.world) c.args.events.now c.contents.ensures.sound
-    (ap (run (world_of c.args.self)) (sym (take_all c.loop-place.place c.args.events.now (omega (arith, c.loop-place-test.false)))) ∙ c.loop-place.invariant.0)
+    (ap (run (world_of c.args.self)) (sym (take_all c.loop-place.place c.args.events.now (omega (arith, c.loop-place-test.false)))) ∙
+    c.loop-place.invariant.0)
