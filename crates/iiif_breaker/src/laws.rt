@@ -1,7 +1,7 @@
 //! What holds of a link whatever comes. The functions compute nothing: their contracts are the laws.
 
 ghost use Rattle.iiif_breaker.specs.Laws.{HasPeriod, IsAskedAgain, IsAskedOnceAPeriod, IsClosedByAnAnswer, IsLeftAlone};
-ghost use Rattle.iiif_breaker.specs.Laws.IsUnmovedByLateFaults;
+ghost use Rattle.iiif_breaker.specs.Laws.{IsUnmovedByLateFaults};
 
 /// So no link is left alone for ever: whatever came, it is asked again a minute after the last failure and the last ask at the latest.
 pub fn is_asked_again()

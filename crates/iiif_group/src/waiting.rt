@@ -6,7 +6,7 @@ ghost use Rattle.std.specs.Arc.{arc_value};
 ghost use Rattle.iiif_outcome.specs.Outcomes.{is_given};
 ghost use Rattle.iiif_singleflight.specs.Views.{flight_cell, flight_key, flight_ticket, landing_cell, landing_known, landing_own};
 ghost use Rattle.iiif_singleflight.specs.Views.{landing_refused, lead_cell, lead_class, lead_key, receipt_cell, receipt_known};
-ghost use Rattle.iiif_singleflight.specs.Views.receipt_ticket;
+ghost use Rattle.iiif_singleflight.specs.Views.{receipt_ticket};
 ghost use Rattle.iiif_group.specs.Code.{EntersFor};
 
 use crate::group::Group;

@@ -1,7 +1,7 @@
 //! What keys are to caches, flights and peers.
 
 ghost use Rattle.std.specs.Prelude.{◌≡◌, ◌↔◌, ◌+◌, ◌^◌, ◌<◌, ◌≤◌, ◌⊎◌, ℕ, true, Bool, List, length, Option, None, IfErr, IfOk, IsTrue};
-ghost use Rattle.std.specs.Prelude.MatchResult;
+ghost use Rattle.std.specs.Prelude.{MatchResult};
 ghost use Rattle.iiif_keys.specs.Names.{named, Pictures, IsName, IsSource};
 ghost use Rattle.iiif_keys.specs.Shapes.{HasPicture};
 ghost use Rattle.iiif_keys.specs.Blocks.{NamesPart};

@@ -3,7 +3,7 @@
 ghost use Rattle.iiif_machine.specs.Promises.{AllowedExactly, AnswersAreRight, CanonicalFormsAgree, EachRun, EachRunFollows, EachStep};
 ghost use Rattle.iiif_machine.specs.Promises.{FirstFaultCounts, NoFaultIsTaken, NoFaultNoFailure, NoneWaitsForItself, NotKeptStays};
 ghost use Rattle.iiif_machine.specs.Promises.{OneOutcome, OnlySourcesGive, OwnerIsTheRings, RefusedAtOnce, StopTakesAll, ValuesAreMeanings};
-ghost use Rattle.iiif_machine.specs.Promises.WaitsFall;
+ghost use Rattle.iiif_machine.specs.Promises.{WaitsFall};
 ghost use Rattle.iiif_machine.specs.Origins.{EventsGive, FaultsHaveOrigins, FlightsBecomeReady, JoinsOpen};
 ghost use Rattle.iiif_machine.specs.Headline.{EachRunIsRight};
 ghost use Rattle.iiif_machine.specs.Leaving.{EvictTakesEntries, KnowsAtItsEnd, StopTakesItsOwn};

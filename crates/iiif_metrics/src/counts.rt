@@ -3,7 +3,7 @@
 ghost use Rattle.std.specs.Prelude.{◌≡◌, ◌+◌, ◌-◌};
 ghost use Rattle.iiif_io.specs.Counting.{capped};
 ghost use Rattle.iiif_metrics.specs.Counting.{no_counts, place_of, listener_place, with_answer, with_closed, with_cut, with_opened};
-ghost use Rattle.iiif_metrics.specs.Counting.with_refused;
+ghost use Rattle.iiif_metrics.specs.Counting.{with_refused};
 
 use std::sync::{Mutex, Wait};
 

@@ -4,7 +4,7 @@ ghost use Rattle.std.specs.Prelude.{◌≡◌, ◌≢◌, ◌⊎◌, IfErr, IfOk
 ghost use Rattle.std.specs.Option.{ForSome};
 ghost use Rattle.std.specs.Arc.{arc_value};
 ghost use Rattle.iiif_outcome.specs.Views.{flight_cell, flight_key, flight_known, flight_ticket, receipt_cell, receipt_known};
-ghost use Rattle.iiif_outcome.specs.Views.receipt_ticket;
+ghost use Rattle.iiif_outcome.specs.Views.{receipt_ticket};
 
 use crate::flight::Flight;
 use crate::receipt::Receipt;

@@ -1,7 +1,7 @@
 //! Asks.
 
 ghost use Rattle.std.specs.Prelude.{◌≡◌, ℕ, ◌++◌, List, [], Some, MatchResult, IfErr, IfNone, IfOk, IfSome, IsErrOf, IsNone, IsSomeAnd};
-ghost use Rattle.std.specs.Prelude.OnOk;
+ghost use Rattle.std.specs.Prelude.{OnOk};
 ghost use Rattle.std.specs.Io.KnownBytes.{Appends, Consumes, IsAtEnd};
 ghost use Rattle.iiif_peer_wire.specs.Faults.{IsCut, IsRefusal, LeftAt};
 ghost use Rattle.iiif_peer_wire.specs.Messages.{ask_text, IsAsk, IsFrontOfAsk};

@@ -1,7 +1,7 @@
 //! Samples of either depth: owned, and borrowed.
 
 ghost use Rattle.std.specs.Prelude.{◌≡◌, ◌+◌, ◌<◌, ◌≤◌, ◌^◌, ◌++◌, [], All, IfOk, OnOk, length, take, drop, replicate, slice_index};
-ghost use Rattle.std.specs.Prelude.slice_set;
+ghost use Rattle.std.specs.Prelude.{slice_set};
 ghost use Rattle.iiif_pixel.specs.Geometry.{top_of};
 ghost use Rattle.iiif_pixel.specs.Depths.{values_of, depth_of, capacity_of, span_values, span_depth};
 

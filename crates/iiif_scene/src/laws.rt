@@ -1,7 +1,7 @@
 //! What holds of keys, plans and images. The functions compute nothing: their contracts are the laws, for the crates above.
 
 ghost use Rattle.iiif_scene.specs.Laws.{ItemsFit, ItemsMakeImage, KeysAreTold, PartsAreBelow, PartsFit, PartsMakeMeaning, PlansHaveItems};
-ghost use Rattle.iiif_scene.specs.Laws.RefusedHasNoImage;
+ghost use Rattle.iiif_scene.specs.Laws.{RefusedHasNoImage};
 
 /// So two keys may be compared by `key_eq`.
 pub fn keys_are_told_apart()

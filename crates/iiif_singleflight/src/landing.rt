@@ -6,7 +6,7 @@ ghost use Rattle.std.specs.Arc.{arc_value};
 ghost use Rattle.iiif_tables.specs.Flights.{has_ticket, land as landed};
 ghost use Rattle.iiif_outcome.specs.Outcomes.{is_given, value_of};
 ghost use Rattle.iiif_outcome.specs.Views.{entry_size, lead_cell, lead_class, lead_key, lead_ticket, receipt_cell, receipt_known};
-ghost use Rattle.iiif_outcome.specs.Views.receipt_ticket;
+ghost use Rattle.iiif_outcome.specs.Views.{receipt_ticket};
 ghost use Rattle.iiif_singleflight.specs.Seen.{the_flight, with_at};
 ghost use Rattle.iiif_singleflight.specs.Held.{open_at};
 ghost use Rattle.iiif_singleflight.specs.View.{cells_of, table_of};

@@ -1,11 +1,11 @@
 //! What is done to the flights of one class.
 
 ghost use Rattle.std.specs.Prelude.{◌≡◌, ℕ, ◌+◌, Option, Some, None, true, false, IfOk, IfSome, IfNone, OnErr, option_map, MatchOption};
-ghost use Rattle.std.specs.Prelude.IsSome;
+ghost use Rattle.std.specs.Prelude.{IsSome};
 ghost use Rattle.std.specs.HashMap.{hash_map_len};
 ghost use Rattle.std.specs.Map.{update};
 ghost use Rattle.iiif_outcome.specs.Views.{flight_cell, flight_key, flight_ticket, lead_cell, lead_class, lead_key, lead_known};
-ghost use Rattle.iiif_outcome.specs.Views.lead_ticket;
+ghost use Rattle.iiif_outcome.specs.Views.{lead_ticket};
 ghost use Rattle.iiif_tables.specs.Flights.{has_ticket, is_found};
 ghost use Rattle.iiif_singleflight.specs.Seen.{the_flight, found_of};
 ghost use Rattle.iiif_singleflight.specs.Held.{held};

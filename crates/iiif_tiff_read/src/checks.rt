@@ -6,7 +6,7 @@ ghost use Rattle.iiif_pixel.specs.Geometry.{channels_of, top_of};
 ghost use Rattle.iiif_tiff.specs.Tiff as tiff;
 ghost use Rattle.iiif_tiff.specs.Tiff.{IsReadable, sides, samples, samples_per_pixel, bits_per_sample, photometric, planar_configuration};
 ghost use Rattle.iiif_tiff.specs.Tiff.{extra_samples, sample_format, tile_side, value_or, width, height, channels, bits, white_is_zero};
-ghost use Rattle.iiif_tiff.specs.Tiff.white_of;
+ghost use Rattle.iiif_tiff.specs.Tiff.{white_of};
 ghost use Rattle.iiif_tiff_read.specs.Code.{AreBits, endian, unit_bits, units_of, HasSides, IsNotMemory, Tells, TellsWhere};
 
 use crate::fault::OpenFault;

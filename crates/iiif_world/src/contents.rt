@@ -6,7 +6,7 @@ ghost use Rattle.iiif_machine.specs.declared.rows.Caller.{Caller};
 ghost use Rattle.iiif_machine.specs.declared.rows.CallState.{CallState};
 ghost use Rattle.iiif_machine.specs.declared.rows.Stage.{Stage};
 ghost use Rattle.iiif_machine.specs.Worlds.{version_at, version_shown, with_ask, with_calls, with_given, with_reply, with_stage};
-ghost use Rattle.iiif_machine.specs.Worlds.with_state;
+ghost use Rattle.iiif_machine.specs.Worlds.{with_state};
 ghost use Rattle.iiif_plain_tables.specs.Nodes.{node_of};
 ghost use Rattle.iiif_world.specs.Code.{has_name, world_of};
 
