@@ -4,7 +4,7 @@ ghost use Rattle.std.specs.Bool.{OnTrue};
 ghost use Rattle.std.specs.Prelude.{slice_get, ◌≡◌, ◌∷◌, ◌++◌, [], ◌+◌, position, true, false, None, Some, ◌<◌, ◌^◌, IfOk, IfSome, OnErr};
 ghost use Rattle.std.specs.Prelude.{OnOk};
 ghost use Rattle.iiif_tables.specs.Flights.{again as looking_again, counting, empty_table, enter as entering, land as landed, with_flight};
-ghost use Rattle.iiif_tables.specs.Flights.same_class as class_eq;
+ghost use Rattle.iiif_tables.specs.Flights.{same_class as class_eq};
 ghost use Rattle.iiif_tables.specs.Cache.{kept_for};
 ghost use Rattle.iiif_scene.specs.Keys.{entry_size, key_eq};
 ghost use Rattle.iiif_machine.specs.Tables.{emptied, evicted};
