@@ -4,18 +4,21 @@
 
 Needs `cc`: `fail.c` is built and loaded in front of the C library, and fails the reads of an image's file from the first, the second and so
 on, until a run meets none. Then the start has to be refused, the answer has to be `L1 source`, or it is cut, the status 1 and the line
-`run: source`. What must be said stands here, in the words of the manual page and docs/OPERATING.md. Prints how many runs there were; each
+`run: source`. So it is where one read alone fails of a file of whole tiles, for an image and an overview, whatever the bands and the
+workers: it isn't tried again. What must be said stands here, in the words of the manual page and docs/OPERATING.md. Prints how many runs there were; each
 that was wrong is named on standard error, and then the status is 1.
 """
 import argparse
+import itertools
 import os
 import subprocess
 import sys
 import tempfile
 
 HERE = os.path.dirname(os.path.abspath(__file__))
-sys.path[:0] = [os.path.join(HERE, "..", "hostile"), os.path.join(HERE, "..", "found")]
+sys.path[:0] = [os.path.join(HERE, "..", name) for name in ("hostile", "found", "strangers")]
 import files  # noqa: E402
+from places import picture  # noqa: E402
 from requests import plain  # noqa: E402
 
 BASE = ["--base", "http://localhost/iiif"]
@@ -76,27 +79,57 @@ def kind_of(got, own, in_hex):
     return "run: source" if got[0] == 1 and got[2] == b"run: source\n" and is_cut else None
 
 
+def failed(program, given, room, more):
+    """What a run of each read that may fail comes to: the read's number, and how the run ended."""
+    library, mark = os.path.join(room, "fail.so"), os.path.join(room, "mark")
+    if not os.path.exists(library):
+        subprocess.run(["cc", "-O2", "-shared", "-fPIC", "-o", library, os.path.join(HERE, "fail.c"), "-ldl"], check=True)
+    for n in range(1, 4000):
+        got = run(program, given, env={"LD_PRELOAD": library, "FAIL_READ": str(n), "FAIL_MARK": mark, **more})
+        if not os.path.exists(mark):
+            break
+        os.remove(mark)
+        yield n, got
+
+
+def large_in(room):
+    """A larger image's file."""
+    path = os.path.join(room, "large.tif")
+    with open(path, "wb") as file:
+        file.write(plain([[[(3 * x + 5 * y) % 256] for x in range(300)] for y in range(300)], 1, 8, 0, 1, "<", False))
+    return "a=" + path
+
+
 def reads(program, path):
     """The reads of a larger image's file failed from each one on: each kind has to come, and no other."""
     with tempfile.TemporaryDirectory() as room:
-        large = os.path.join(room, "large.tif")
-        with open(large, "wb") as file:
-            file.write(plain([[[(3 * x + 5 * y) % 256] for x in range(300)] for y in range(300)], 1, 8, 0, 1, "<", False))
-        library, mark = os.path.join(room, "fail.so"), os.path.join(room, "mark")
-        subprocess.run(["cc", "-O2", "-shared", "-fPIC", "-o", library, os.path.join(HERE, "fail.c"), "-ldl"], check=True)
+        large = large_in(room)
         for more in ([], ["--hex"], ["--peer", "p=127.0.0.1:1"]):
-            given = [*LARGE, *more, "a=" + large]
+            given = [*LARGE, *more, large]
             own, kinds = run(program, given), set()
-            for n in range(1, 4000):
-                got = run(program, given, env={"LD_PRELOAD": library, "FAIL_READ": str(n), "FAIL_MARK": mark})
-                if not os.path.exists(mark):
-                    break
-                os.remove(mark)
+            for n, got in failed(program, given, room, {}):
                 kind = kind_of(got, own, "--hex" in more)
                 kinds.add(kind)
                 yield f"{more}, reads failed from {n} on", got[:1] + got[2:], kind is not None
             lacking = {"start refused", "L1 source", "run: source"} - kinds
             yield f"{more}: kinds that never came", lacking, not lacking
+
+
+def one_read(program, path):
+    """Each read of a file of whole tiles failed alone: no run may end as if none had. An overview is made before its first band is sent.
+    What is read ahead of a file in strips, or of tiles that the picture's side cuts, is another matter: there a tile's own rows are read."""
+    with tempfile.TemporaryDirectory() as room:
+        large = "a=" + os.path.join(room, "tiles.tif")
+        picture(large[2:], 320, 320, edge=64)
+        for size, band, workers in itertools.product(("max", "75,"), ("1", "64"), ("1", "2", "4")):
+            given = [*BASE, "--edge", "64", "--band", band, "--workers", workers, "--one", f"/iiif/a/full/{size}/0/default.tif", large]
+            own, kinds = run(program, given), set()
+            for n, got in failed(program, given, room, {"FAIL_ONCE": "1"}):
+                kind = kind_of(got, own, False)
+                kinds.add(kind)
+                yield f"{size}, bands of {band}, {workers} workers: read {n} failed", got[:1] + got[2:], kind not in (None, "own")
+            wanted = {"start refused", "L1 source"} | ({"run: source"} if size == "max" else set())
+            yield f"{size}, bands of {band}, {workers} workers: kinds that came", kinds, kinds == wanted
 
 
 def main():
@@ -108,7 +141,7 @@ def main():
         path = os.path.join(room, "sample.tif")
         with open(path, "wb") as file:
             file.write(files.SAMPLE)
-        for part in (words, outputs, reads):
+        for part in (words, outputs, reads, one_read):
             for what, got, is_right in part(program, path):
                 runs += 1
                 wrong += not is_right

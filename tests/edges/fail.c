@@ -1,5 +1,6 @@
 /* Loaded in front of the C library (LD_PRELOAD), this fails reads of a program's files, by EIO: of the calls of pread the one with the
-   number that stands in FAIL_READ and all behind it, as of a disk that breaks. It leaves the file FAIL_MARK where it did. */
+   number that stands in FAIL_READ and all behind it, as of a disk that breaks, or that one alone where FAIL_ONCE is set. It leaves the file
+   FAIL_MARK where it did. */
 #define _GNU_SOURCE
 #include <dlfcn.h>
 #include <errno.h>
@@ -14,7 +15,10 @@ static long calls;
 
 static int is_failed(void) {
     const char *number = getenv("FAIL_READ"), *mark = getenv("FAIL_MARK");
-    if (!number || __atomic_add_fetch(&calls, 1, __ATOMIC_SEQ_CST) < atol(number))
+    if (!number)
+        return 0;
+    long call = __atomic_add_fetch(&calls, 1, __ATOMIC_SEQ_CST);
+    if (call < atol(number) || (getenv("FAIL_ONCE") && call > atol(number)))
         return 0;
     int file = mark ? open(mark, O_CREAT | O_WRONLY, 0600) : -1;
     if (file >= 0)

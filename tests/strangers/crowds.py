@@ -22,6 +22,18 @@ def others_answered(server, seconds):
     return right
 
 
+def waits(server, most=10):
+    """Seconds until one who comes is answered, and comes again where it isn't; so many at most. The next one comes a little later."""
+    begun = time.monotonic()
+    while time.monotonic() - begun < most:
+        if asked_once(server.port, SMALL, timeout=1) is not None:
+            took = time.monotonic() - begun
+            time.sleep(0.3)
+            return took
+        time.sleep(0.02)
+    return most
+
+
 def keep_up(server, over, act, buffer=None):
     """Connects and acts, and connects anew where the connection is closed."""
     while not over.is_set():

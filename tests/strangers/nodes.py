@@ -73,11 +73,11 @@ def hung_beside_dead(program, room):
     with Cluster(program, room, ["a", "b", "c"], ["--cache-bytes", 0]) as nodes:
         throughput(nodes["a"], 1)
         nodes["c"].send_signal(signal.SIGSTOP)
-        hung, slow = throughput(nodes["a"], 8)
+        hung, slow = throughput(nodes["a"], 12)
         nodes["c"].stop()
         time.sleep(2)
         throughput(nodes["a"], 2)
-        dead, usual = throughput(nodes["a"], 8)
+        dead, usual = throughput(nodes["a"], 12)
         return (hung, slow), (dead, usual)
 
 
@@ -209,6 +209,47 @@ def announced(program, room, asks=12):
         over.set()
         replying.join()
     return grown, dead, len(sent)
+
+
+def is_replied(port):
+    """Whether an ask for the sums of the sample is replied to, or refused in so many words."""
+    with connected(port, 2) as link:
+        link.sendall(sum_ask(0, 4, 4))
+        return link.recv(4) == b"IGR1"
+
+
+def is_healthy(port):
+    return page(port, "/health")[0] == 200
+
+
+def answered_beside_idle(program, listener):
+    """How many of five others, one a second, are answered at a listener where 64 connections say nothing, and come again where they are closed."""
+    port = free_ports(1)[0]
+    with Server(program, ["p=:sample"], [listener, f"127.0.0.1:{port}"]):
+        over = threading.Event()
+        for _ in range(64):
+            threading.Thread(target=keep_idle, args=(port, over), daemon=True).start()
+        time.sleep(1)
+        right = 0
+        for _ in range(5):
+            try:
+                right += is_healthy(port) if listener == "--stats-listen" else is_replied(port)
+            except (OSError, IndexError, ValueError):
+                pass
+            time.sleep(1)
+        over.set()
+        return right
+
+
+def keep_idle(port, over):
+    """A connection that says nothing, and comes again where it is closed."""
+    while not over.is_set():
+        try:
+            with connected(port, 5) as link:
+                link.recv(1)
+        except OSError:
+            pass
+        over.wait(0.2)
 
 
 def stranger(program):
