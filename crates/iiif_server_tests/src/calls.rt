@@ -1,6 +1,7 @@
 //! What is asked of a node, and whether it comes as it is to.
 
 use crate::cases::{Ask, Input, Verb, Want};
+use crate::faulty::Faulty;
 use crate::meeting::Meeting;
 use crate::nodes::Seen;
 use crate::told::Parts;
@@ -9,21 +10,17 @@ use iiif_http_front::Call;
 use iiif_io::fakes::FailingWriter;
 use iiif_keys::System;
 use iiif_server::{Cut, NoLink, Node, Passes, Sent, Watch};
-use iiif_source::{FuseSource, MemSource};
 use std::alloc::Global;
 use std::sync::Wait;
 use std::sync::atomic::Ordering;
 use std::thread::Threads;
 use std::time::Clock;
 
-/// A file in memory, whose reads fail from one on.
-pub(crate) type MemFused = FuseSource<MemSource>;
-
 /// How the body of a target's answer ends.
 fn body_of<R: Threads + Wait + Clock + Sync, J: System + Send + Sync>(
     rt: &R,
     alloc: Global,
-    node: &Node<R, MemFused, J, NoLink, &Meeting>,
+    node: &Node<R, Faulty, J, NoLink, &Meeting>,
     passes: &mut [Passes<J>],
     target: &[u8],
     out: &mut FailingWriter,
@@ -46,7 +43,7 @@ fn method_of(verb: Verb) -> Method {
 fn call_of<R: Threads + Wait + Clock + Sync, J: System + Send + Sync>(
     rt: &R,
     alloc: Global,
-    node: &Node<R, MemFused, J, NoLink, &Meeting>,
+    node: &Node<R, Faulty, J, NoLink, &Meeting>,
     passes: &mut [Passes<J>],
     verb: Verb,
     target: &[u8],
@@ -76,7 +73,7 @@ fn counted(bytes: usize, held: u64) -> Option<Result<Sent, Cut>> {
 fn stream_of<R: Threads + Wait + Clock + Sync, J: System + Send + Sync, V: Watch<R>>(
     rt: &R,
     alloc: Global,
-    node: &Node<R, MemFused, J, NoLink, &Meeting>,
+    node: &Node<R, Faulty, J, NoLink, &Meeting>,
     passes: &mut [Passes<J>],
     input: Input<'_>,
     out: &mut FailingWriter,
@@ -90,16 +87,26 @@ fn stream_of<R: Threads + Wait + Clock + Sync, J: System + Send + Sync, V: Watch
 }
 
 /// Mends the source of the image `a`.
-fn mend<R, J: System>(node: &Node<R, MemFused, J, NoLink, &Meeting>) -> Option<Result<Sent, Cut>> {
+fn mend<R, J: System>(node: &Node<R, Faulty, J, NoLink, &Meeting>) -> Option<Result<Sent, Cut>> {
     let entry = node.groups().tiles().images().catalogue().find("a")?;
     entry.source.mend();
     counted(0, 0)
 }
 
+/// How many reads were made of the image `a`, as bytes.
+fn read<R, J: System>(node: &Node<R, Faulty, J, NoLink, &Meeting>) -> Option<Result<Sent, Cut>> {
+    let entry = node.groups().tiles().images().catalogue().find("a")?;
+    Some(Ok(Sent {
+        status: 0,
+        bytes: entry.source.reads(),
+        held: 0,
+    }))
+}
+
 /// How many sums a node was asked for, as bytes, and how many it loaded, as what was held.
 fn booked<R: Wait, J: System>(
     rt: &R,
-    node: &Node<R, MemFused, J, NoLink, &Meeting>,
+    node: &Node<R, Faulty, J, NoLink, &Meeting>,
 ) -> Option<Result<Sent, Cut>> {
     let book = node.groups().sums().book(rt);
     Some(Ok(Sent {
@@ -113,7 +120,7 @@ fn booked<R: Wait, J: System>(
 fn end_of<R: Threads + Wait + Clock + Sync, J: System + Send + Sync>(
     rt: &R,
     alloc: Global,
-    node: &Node<R, MemFused, J, NoLink, &Meeting>,
+    node: &Node<R, Faulty, J, NoLink, &Meeting>,
     passes: &mut [Passes<J>],
     seen: &Seen,
     ask: Ask<'_>,
@@ -126,6 +133,7 @@ fn end_of<R: Threads + Wait + Clock + Sync, J: System + Send + Sync>(
         Ask::Watched(input) => stream_of(rt, alloc, node, passes, input, out, &seen.told),
         Ask::Mend => mend(node),
         Ask::Sums => booked(rt, node),
+        Ask::Reads => read(node),
         Ask::Told(counts) => counted(0, u64::from(seen.told.counts() == counts)),
         Ask::Alone => counted(0, u64::from(seen.gate.alone.load(Ordering::SeqCst))),
     }
@@ -135,7 +143,7 @@ fn end_of<R: Threads + Wait + Clock + Sync, J: System + Send + Sync>(
 pub(crate) fn is_right<R: Threads + Wait + Clock + Sync, J: System + Send + Sync>(
     rt: &R,
     alloc: Global,
-    node: &Node<R, MemFused, J, NoLink, &Meeting>,
+    node: &Node<R, Faulty, J, NoLink, &Meeting>,
     passes: &mut [Passes<J>],
     seen: &Seen,
     ask: Ask<'_>,

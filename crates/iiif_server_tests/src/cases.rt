@@ -28,8 +28,9 @@ pub(crate) struct Setup<'a> {
     pub workers: u32,
     /// How many bytes it keeps of tiles, and of sums.
     pub bytes: u64,
-    /// Of the file the k-th read and each later one fails.
+    /// Of the file the k-th read fails, and each later one where it doesn't fail once.
     pub k: u64,
+    pub once: bool,
     /// The first load is held for so many turns, or until another has come.
     pub turns: u32,
 }
@@ -46,6 +47,7 @@ pub(crate) const NODE: Setup<'static> = Setup {
     workers: 2,
     bytes: 65_536,
     k: NEVER,
+    once: false,
     turns: 0,
 };
 
@@ -98,6 +100,8 @@ pub(crate) enum Ask<'a> {
     Mend,
     /// Nothing: how many sums were asked for and loaded so far.
     Sums,
+    /// Nothing: how many reads of the file were made so far.
+    Reads,
     /// Nothing: whether the watch was told this so far.
     Told([u64; 6]),
     /// Nothing: whether the first load went on alone.
@@ -128,7 +132,7 @@ pub(crate) enum Want<'a> {
     Whole(u16, Text<'a>),
     /// The same, for which at least and at most so many places are held at once.
     Held(u16, u64, u64, Text<'a>),
-    /// At least and at most so many sums were asked for, and so many loaded.
+    /// At least and at most so many sums were asked for, and so many loaded; or so many reads were made.
     Booked(u64, u64, u64),
     /// A writer that has room for so many bytes, in pieces of so many, fails. It was given the front of these.
     Full(usize, usize, &'a [u8]),

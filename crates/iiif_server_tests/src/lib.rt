@@ -21,6 +21,8 @@ mod drawn;
 #[cfg(test)]
 mod every;
 #[cfg(test)]
+mod faulty;
+#[cfg(test)]
 mod file_tests;
 #[cfg(test)]
 mod files;
@@ -30,6 +32,8 @@ mod law_tests;
 mod meeting;
 #[cfg(test)]
 mod nodes;
+#[cfg(test)]
+mod once_tests;
 #[cfg(test)]
 mod plain;
 #[cfg(test)]

@@ -7,15 +7,16 @@ ghost use Rattle.iiif_images.specs.Named.{gave_of, pictures_of};
 ghost use Rattle.iiif_server.specs.Stocks.{IsStock};
 ghost use Rattle.iiif_server_tests.specs.Fused.{bytes_of, fused_gave, keeps_of};
 
-use crate::calls::{MemFused, is_right};
+use crate::calls::is_right;
 use crate::cases::{Case, Setup, Table, Variant};
 use crate::every::{Pictured, asks};
+use crate::faulty::Faulty;
 use crate::meeting::{Meeting, stock};
 use crate::told::Told;
 use iiif_canonical::Limits;
 use iiif_keys::System;
 use iiif_server::{Catalogue, Config, NoLink, Node, Stock};
-use iiif_source::{FuseSource, MemSource};
+use iiif_source::MemSource;
 use iiif_tiff_read::open;
 use std::alloc::Global;
 use std::marker::Brand;
@@ -53,14 +54,14 @@ fn file(alloc: Global, setup: &Setup<'_>) -> Option<Vec<u8>> {
 }
 
 /// The images of a node.
-fn images<R>(rt: &R, alloc: Global, setup: &Setup<'_>) -> Option<Catalogue<R, MemFused>> {
+fn images<R>(rt: &R, alloc: Global, setup: &Setup<'_>) -> Option<Catalogue<R, Faulty>> {
     let name = String::from_str(alloc, setup.name).ok()?;
     let source = MemSource::new(file(alloc, setup)?);
     let Ok(layout) = open(rt, alloc, &source) else {
         return None;
     };
     let mut catalogue = Catalogue::new(alloc);
-    match catalogue.add(name, FuseSource::new(source, setup.k), layout) {
+    match catalogue.add(name, Faulty::new(source, setup.k, setup.once), layout) {
         Ok(()) => Some(catalogue),
         Err(_) => None,
     }
@@ -70,7 +71,7 @@ fn images<R>(rt: &R, alloc: Global, setup: &Setup<'_>) -> Option<Catalogue<R, Me
 fn right_by_workers<R: Threads + Wait + Clock + Sync, J: System + Send + Sync>(
     rt: &R,
     alloc: Global,
-    node: &Node<R, MemFused, J, NoLink, &Meeting>,
+    node: &Node<R, Faulty, J, NoLink, &Meeting>,
     workers: u32,
     seen: &Seen,
     cases: &[Case<'_>],
@@ -94,7 +95,7 @@ fn right_by<R: Threads + Wait + Clock + Sync, J: System + Send + Sync>(
     rt: &R,
     alloc: Global,
     config: Config,
-    images: Catalogue<R, MemFused>,
+    images: Catalogue<R, Faulty>,
     tiles: Stock<NoLink, &Meeting>,
     sums: Stock<NoLink, &Meeting>,
     workers: u32,
@@ -110,7 +111,7 @@ fn right_by<R: Threads + Wait + Clock + Sync, J: System + Send + Sync>(
     requires tiles { IsStock J.tiles_name J.tiles_parts tiles }
     requires sums { IsStock J.sums_name J.sums_parts sums }
 {
-    let node = Node::<R, MemFused, J, NoLink, &Meeting>::new(
+    let node = Node::<R, Faulty, J, NoLink, &Meeting>::new(
         alloc, config, images, tiles, sums,
     ).ok()?;
     right_by_workers(rt, alloc, &node, workers, seen, cases)
