@@ -1,7 +1,7 @@
 """What a connection's input is answered, by the grammar of request heads (RFC 9112) and the limits of docs/CONFORMANCE.md.
 
 `outputs` gives the outputs that are allowed for a whole input behind which nothing comes: one, but where the input ends inside a request
-target that is no UTF-8 text already, or behind 65 whole fields, which may be answered `Q1 head` or by closing.
+target that is no UTF-8 text already, which may be answered `Q1 head` or by closing.
 """
 import re
 
@@ -118,7 +118,9 @@ def head(data):
                 raise Never
             fields.append((name.lower(), value.strip(b" \t")))
         except Ends:
-            raise Ends(either=len(fields) > FIELDS) from None
+            if len(fields) > FIELDS:
+                raise Never from None
+            raise
 
 
 def announces_body(fields):

@@ -12,7 +12,7 @@ use Rattle.iiif_http_front.specs.declared.call.HeadFault.{HeadFault}
 use Rattle.iiif_http_front.specs.declared.call.HeadFault.TheVariants.{Bad, TooLong, Cut, Io, NoMemory}
 use Rattle.iiif_http_front.specs.declared.search.Found.TheVariants.{Whole, Partial}
 use Rattle.iiif_http_front.specs.RequestHeads.{byte_limit, BeginsWithCall}
-use Rattle.iiif_http_front.specs.Reading.{IsBad, no_head, many_fields, has_body, IsTooLong, Answers}
+use Rattle.iiif_http_front.specs.Reading.{IsBad, no_head, many_fields, many_lines, has_body, HasFewFields, IsTooLong, Answers}
 use Rattle.iiif_http_front.specs.Code.{Finds}
 
 -- an answer that is right whatever follows the bytes that came is right of a known input, and of what came
@@ -58,6 +58,8 @@ bad-append bytes more (no_head never) = no_head (λ rest. rw (append_assoc bytes
 bad-append bytes more (many_fields over all) =
     many_fields (over.0, over.1 ++ more, ap (λ (t : List ℕ). t ++ more) over.2 ∙ append_assoc over.0 over.1 more, over.3, over.4, over.5)
     (λ rest h left reads. all (more ++ rest) h left (rw (append_assoc bytes more rest) at reads))
+bad-append bytes more (many_lines front rest is none many) =
+    many_lines front (rest ++ more) (ap (λ (t : List ℕ). t ++ more) is ∙ append_assoc front rest more) none many
 bad-append bytes more (has_body h rest reads announced) = has_body h (rest ++ more) (ReadsRequest-append bytes h rest more reads) announced
 
 -- what was found is right whatever follows
@@ -97,5 +99,6 @@ too_long shown bytes same full found = λ rest.
       full = over;
       not_whole = subst HasNoRequest (same ∙ sym front) found.0;
       unfinished = subst MayBecomeRequest (same ∙ sym front) found.1;
+      few = subst HasFewFields (same ∙ sym front) found.2;
     } in
     (is, refl)

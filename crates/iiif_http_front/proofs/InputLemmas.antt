@@ -7,7 +7,8 @@ use Rattle.httparse.specs.Grammar.{RequestHead, ReadsRequest, print_request}
 use Rattle.httparse.proofs.GrammarLemmas.{request_unique}
 use Rattle.iiif_http_front.specs.declared.call.HeadFault.TheVariants.{Bad, TooLong, Cut, Io, NoMemory}
 use Rattle.iiif_http_front.specs.RequestHeads.{byte_limit, field_limit, announces_body, BeginsWithCall}
-use Rattle.iiif_http_front.specs.Reading.{IsCallOf, IsBad, no_head, many_fields, has_body}
+use Rattle.iiif_http_front.specs.Reading.{IsCallOf, IsBad, no_head, many_fields, many_lines, has_body}
+use Rattle.iiif_http_front.proofs.LineLemmas.{few_lines}
 use Rattle.iiif_http_front.specs.Laws.{BeginsWithOneCall, AnswersEachCall}
 
 pub one_call : BeginsWithOneCall
@@ -36,6 +37,8 @@ not_bad bytes h more reads few bare (many_fields over all) =
     let many : field_limit < length h.fields =
     all [] h more (subst (λ (t : List ℕ). ReadsRequest t h more) (sym (append-nil bytes)) reads) in
     omega (arith, many, few)
+not_bad bytes h more reads few bare (many_lines front rest is none many) =
+    many (few_lines front rest h more (subst (λ (t : List ℕ). ReadsRequest t h more) is reads) few none)
 not_bad bytes h more reads few bare (has_body k rest other announced) =
     let same = (request_unique bytes h k more rest reads other).0 in
     let both : true ≡ false = sym announced ∙ ap announces_body (sym same) ∙ bare in

@@ -1,6 +1,7 @@
 pub mod AnswerLemmas
 pub mod BufferLemmas
 pub mod InputLemmas
+pub mod LineLemmas
 pub mod PlainFields
 pub mod ReadBackLemmas
 pub mod SearchLemmas

@@ -2,7 +2,7 @@
 use Rattle.std.specs.Prelude.{ℕ, ◌≤◌, List, length, drop, Result, Ok, Err}
 use Rattle.httparse.specs.Grammar.{RequestHead, HasNoRequest, MayBecomeRequest}
 use Rattle.iiif_http_front.specs.RequestHeads.{BeginsWithCall}
-use Rattle.iiif_http_front.specs.Reading.{IsCallOf, IsBad}
+use Rattle.iiif_http_front.specs.Reading.{IsCallOf, IsBad, HasFewFields}
 use Rattle.iiif_http_front.specs.declared.call.HeadFault.{HeadFault}
 use Rattle.iiif_http_front.specs.declared.call.HeadFault.TheVariants.{Bad, TooLong, Cut, Io, NoMemory}
 use Rattle.iiif_http_front.specs.declared.search.Found.{Found}
@@ -12,7 +12,7 @@ use Rattle.iiif_http_front.specs.declared.search.Found.TheVariants.{Whole, Parti
 abbrev pub Finds : List ℕ → Result Found HeadFault → Type 0
 Finds bytes (Ok (Whole call n)) =
     (n ≤ length bytes) × ((h : RequestHead) × BeginsWithCall bytes h (drop n bytes) × IsCallOf call h)
-Finds bytes (Ok Partial) = HasNoRequest bytes × MayBecomeRequest bytes
+Finds bytes (Ok Partial) = HasNoRequest bytes × MayBecomeRequest bytes × HasFewFields bytes
 Finds bytes (Err Bad) = IsBad bytes
 Finds bytes (Err NoMemory) = (h : RequestHead) × (rest : List ℕ) × BeginsWithCall bytes h rest
 Finds bytes (Err TooLong) = ⊥

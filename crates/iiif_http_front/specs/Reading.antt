@@ -1,5 +1,6 @@
 -- Heads read one after another: what stands at the front of an input, and what is answered to it.
-use Rattle.std.specs.Prelude.{◌≡◌, ℕ, ◌<◌, ◌≤◌, true, List, [], length, take, Option, None, Some, Result, Ok, Err, ⊤}
+use Rattle.std.specs.Prelude.{◌≡◌, ℕ, ◌+◌, ◌<◌, ◌≤◌, ◌==◌, ◌||◌, if◌then◌else◌, true, List, [], ◌∷◌, ◌++◌, length, take, count_by}
+use Rattle.std.specs.Prelude.{Option, None, Some, Result, Ok, Err, ⊤}
 use Rattle.std.specs.Io.KnownBytes.{prepend_known}
 use Rattle.httparse.specs.Grammar.{RequestHead, ReadsRequest, HasNoRequest, NeverHasRequest, MayBecomeRequest}
 use Rattle.httparse.specs.Spans.{RequestExceeds, RequestOverflows}
@@ -32,11 +33,25 @@ pub record IsCallOf (call : Call) (h : RequestHead) : Type 0 where
   pub target : call.target.items ≡ h.target
   pub close : call.close ≡ closes h
 
--- no call can come of these bytes, whatever follows: no head can, or one with more fields than are taken,
+-- the bytes behind the ends of empty lines that stand before a head (RFC 9112, section 2.2)
+unfoldable pub behind_blank : List ℕ → List ℕ
+behind_blank [] = []
+behind_blank (b ∷ bytes) = if b == 13 || b == 10 then behind_blank bytes else b ∷ bytes
+
+-- the lines of a head that are whole: the first, and one for each field (RFC 9112, section 2.1)
+unfoldable pub whole_lines : List ℕ → ℕ
+whole_lines bytes = count_by (λ b. b == 10) (behind_blank bytes)
+
+-- a head that isn't whole has at most the fields that are taken: its first line, and a line for each
+abbrev pub HasFewFields : List ℕ → Type 0
+HasFewFields bytes = whole_lines bytes ≤ field_limit + 1
+
+-- no call can come of these bytes, whatever follows: no head can, or one with more fields than are taken, whole or not,
 -- or a whole head that announces a body stands at their front (RFC 9112, sections 2.2, 5 and 6)
 pub data IsBad (bytes : List ℕ) : Type 0 where
   no_head : NeverHasRequest bytes → IsBad bytes
   many_fields : RequestExceeds field_limit bytes → RequestOverflows field_limit bytes → IsBad bytes
+  many_lines : (front rest : List ℕ) → bytes ≡ front ++ rest → HasNoRequest front → ¬ (HasFewFields front) → IsBad bytes
   has_body : (h : RequestHead) (rest : List ℕ) → ReadsRequest bytes h rest → announces_body h ≡ true → IsBad bytes
 
 -- a head may have begun with these bytes, and none is whole yet: where the reader fails behind them no call is lost, and no
@@ -44,6 +59,7 @@ pub data IsBad (bytes : List ℕ) : Type 0 where
 pub record IsUnfinished (bytes : List ℕ) : Type 0 where
   pub not_whole : HasNoRequest bytes
   pub unfinished : MayBecomeRequest bytes
+  pub few : HasFewFields bytes
   pub short : length bytes < byte_limit
 
 -- as many bytes as a head may have are no whole head, and may be the front of one
@@ -51,6 +67,7 @@ pub record IsTooLong (input : List ℕ) : Type 0 where
   pub full : byte_limit ≤ length input
   pub not_whole : HasNoRequest (take byte_limit input)
   pub unfinished : MayBecomeRequest (take byte_limit input)
+  pub few : HasFewFields (take byte_limit input)
 
 -- the input ends inside a head
 pub record IsCut (input : List ℕ) : Type 0 where
@@ -58,6 +75,7 @@ pub record IsCut (input : List ℕ) : Type 0 where
   pub short : length input < byte_limit
   pub not_whole : HasNoRequest input
   pub unfinished : MayBecomeRequest input
+  pub few : HasFewFields input
 
 -- where each fault may be answered to an input. A device that failed says nothing of it, and memory is wanted for a
 -- call alone

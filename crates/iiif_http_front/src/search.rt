@@ -1,7 +1,8 @@
 //! A call at the front of the bytes that have come.
 
-ghost use Rattle.std.specs.Prelude.{◌≤◌, length};
+ghost use Rattle.std.specs.Prelude.{◌≡◌, ◌≤◌, ◌==◌, ◌||◌, ◌&&◌, cond, not, length};
 ghost use Rattle.iiif_http_front.specs.Code.{Finds};
+ghost use Rattle.iiif_http_front.specs.Reading.{whole_lines};
 
 use crate::call::{Call, HeadFault};
 use crate::fields::{announce_body, close_connection};
@@ -15,6 +16,34 @@ use std::alloc::Global;
 pub enum Found {
     Whole(Call, usize),
     Partial,
+}
+
+/// Whether a head has begun by this byte.
+fn has_begun(begun: bool, byte: u8) -> bool
+    ensures { result ≡ (begun || not (byte == 13 || byte == 10)) }
+{
+    begun || !(byte == b'\r' || byte == b'\n')
+}
+
+/// The lines, none or one, that end with this byte.
+fn ended_lines(begun: bool, byte: u8) -> usize
+    ensures { result ≡ cond (begun && byte == 10) 1 0 }
+{
+    usize::from(begun && byte == b'\n')
+}
+
+/// The lines of a head that are whole, behind the empty ones at its front.
+#[tactic(auto, using(crate::proofs::LineLemmas::none_begun))]
+fn whole_lines(bytes: &[u8]) -> usize
+    ensures { result ≡ whole_lines bytes.now }
+{
+    let mut begun = false;
+    let mut lines = 0;
+    for byte in bytes {
+        lines += ended_lines(begun, *byte);
+        begun = has_begun(begun, *byte);
+    }
+    lines
 }
 
 /// Looks for a call at the front.
@@ -43,6 +72,8 @@ pub fn find_call(alloc: Global, bytes: &[u8]) -> Result<Found, HeadFault>
             };
             Ok(Found::Whole(call, head.len))
         }
+        // The parser has no room for more fields either; here its promise is made whole for heads that aren't.
+        Ok(Status::Partial) if whole_lines(bytes) > 65 => Err(HeadFault::Bad),
         Ok(Status::Partial) => Ok(Found::Partial),
         Err(_) => Err(HeadFault::Bad),
     }

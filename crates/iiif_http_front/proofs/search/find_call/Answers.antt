@@ -1,4 +1,5 @@
 use Rattle.std.proofs.Common.{arith, sym, ◌∙◌}
+use Rattle.iiif_http_front.proofs.LineLemmas.{too_many}
 use Rattle.iiif_http_front.proofs.SearchLemmas.{call_begins, body_announced, call_said}
 use Rattle.iiif_http_front.proofs.search.find_call.Goals as goal
 
@@ -42,3 +43,8 @@ returns-in-Ok-from_slice c =
             (c.in-Ok-from_slice.ensures.items ∙ c.of-in-Ok-Complete.ensures) c.close_connection-close.ensures,
       ),
     )
+
+pub returns-in-Ok-Partial : goal.returns-in-Ok-Partial
+returns-in-Ok-Partial c =
+    let found = rw c.in-Ok-Partial.field-0-is at c.in-Ok-Partial.ensures.partial in
+    too_many c.args.bytes.now c.whole_lines.result found c.whole_lines.ensures c.if-whole_lines-gt65.true
