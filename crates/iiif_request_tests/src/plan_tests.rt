@@ -306,10 +306,8 @@ static PLANS: [Case; 32] = [
         Wanted::Blocks(0, &[(0, 0)]),
     ),
     // A block of level 3, 2,048 long, meets at most 211 result columns of the first, one of level 4 at most 421. Of the second, one of
-    // level
-    // 3 has at most 10 by 2,049 sums, one of level 4 at most 18 by 4,097. The greatest level is 20, whatever the sides: a block of the
-    // third
-    // is 1,073,741,824 long. Of the last there are too many tiles for any memory.
+    // level 3 has at most 10 by 2,049 sums, one of level 4 at most 18 by 4,097. The greatest level is 20, whatever the sides: a block of
+    // the third is 1,073,741,824 long. Of the last there are too many tiles for any memory.
     (
         Dim {
             w: 10_000,

@@ -22,9 +22,8 @@ fn have_waited<R: Wait + Clock>(rt: &R, admission: &Admission, waits: &[bool]) -
     true
 }
 
-/// Two are admitted. Nobody leaves, so the third and the fourth wait, and go on all the same. Once three of the four have left, one place
-/// is
-/// free.
+/// Two are admitted. Nobody leaves, so the third and the fourth wait, and go on all the same. Once three of the four have left, one
+/// place is free.
 #[test]
 fn two_are_admitted_and_whoever_waited_long_goes_on(rt: HostRuntime) {
     let admission = Admission::new(2);

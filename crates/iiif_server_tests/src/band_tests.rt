@@ -208,8 +208,7 @@ const MEAN: Case<'static> = (
 );
 
 /// At one place and an edge of 1 the sample is one block of level 2. Below it stand 4 of level 1 and 16 of level 0: 21 in all, each asked
-/// for
-/// once, by one worker or by three.
+/// for once, by one worker or by three.
 static ASKED: [Table; 2] = [
     (
         "by one",
