@@ -76,10 +76,14 @@ bucket_samples within all =
     ∷ (codes "{le=\"+Inf\"}", all)
     ∷ []
 
--- how long all asks took: a histogram, with the sum of the microseconds as seconds
+-- the line of the sum of the times, in seconds, where they are so many microseconds
+unfoldable pub sum_line : ℕ → List ℕ
+sum_line micros = codes "iiif_peer_ask_seconds_sum " ++ decimal micros ++ codes "e-6\n"
+
+-- how long all asks took: a histogram, with the sum of all times
 abbrev pub seconds_text : Durations → List ℕ
 seconds_text d =
     head_lines (codes "iiif_peer_ask_seconds") (codes "How long asks of other nodes took.") Histogram
     ++ flat_map (sample_line (codes "iiif_peer_ask_seconds_bucket")) (bucket_samples d.within d.all)
-    ++ codes "iiif_peer_ask_seconds_sum " ++ decimal d.micros ++ codes "e-6\n"
+    ++ sum_line d.micros
     ++ sample_line (codes "iiif_peer_ask_seconds_count") ([], d.all)

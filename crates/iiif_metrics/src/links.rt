@@ -4,7 +4,7 @@ ghost use Rattle.std.specs.Prelude.{◌≡◌, ◌++◌, ◌∷◌, [], OnOk, If
 ghost use Rattle.std.specs.List.{flat_map};
 ghost use Rattle.iiif_metrics.specs.Exposition.{sample_line, sample_view};
 ghost use Rattle.iiif_metrics.specs.Links.{asks_of_link, ask_samples, bucket_samples, head_lines, label_byte, label_text, link_sample};
-ghost use Rattle.iiif_metrics.specs.Links.{link_labels, links_text, seconds_text, state_number, state_of_link};
+ghost use Rattle.iiif_metrics.specs.Links.{link_labels, links_text, seconds_text, state_number, state_of_link, sum_line};
 
 use crate::metrics::LinkMetrics;
 use crate::text::{
@@ -206,6 +206,14 @@ fn bucket_samples_of(within: &[u64; 8], all: u64) -> [Sample<'static>; 9]
     ]
 }
 
+/// Writes the line of the sum of all times, which is one of seconds.
+#[tactic(auto, unfolding(crate::specs::Links::sum_line))]
+fn push_sum(text: &mut String, micros: u64) -> Result<(), NoMemory>
+    ensures { OnOk result (string_bytes text.new ≡ string_bytes text.old ++ sum_line micros) }
+{
+    write!(text, "iiif_peer_ask_seconds_sum {micros}e-6\n")
+}
+
 /// Writes how long all asks took.
 pub(crate) fn push_seconds(text: &mut String, durations: &Durations) -> Result<(), NoMemory>
     ensures { OnOk result (string_bytes text.new ≡ string_bytes text.old ++ seconds_text durations.now) }
@@ -214,8 +222,7 @@ pub(crate) fn push_seconds(text: &mut String, durations: &Durations) -> Result<(
     push_type(text, "", SECONDS, Kind::Histogram)?;
     let samples = bucket_samples_of(&durations.within, durations.all);
     push_samples(text, "", "iiif_peer_ask_seconds_bucket", &samples)?;
-    let micros = durations.micros;
-    write!(text, "iiif_peer_ask_seconds_sum {micros}e-6\n")?;
+    push_sum(text, durations.micros)?;
     push_sample(text, "", "iiif_peer_ask_seconds_count", "", durations.all)?;
     Ok(())
 }
