@@ -1,6 +1,6 @@
 -- Values of items, one after another.
 use Rattle.std.proofs.Common.{◌≡◌, ℕ, zero, suc, ◌+◌, ◌<◌, ◌≤◌, inl, inr, List, [], ◌∷◌, ◌++◌, All, length, get_or, take, drop, map}
-use Rattle.std.proofs.Common.{append_assoc, refl, sym, subst, ap, ◌∙◌, ⊎_elim, arith}
+use Rattle.std.proofs.Common.{append_assoc, refl, sym, subst, ap, ◌∙◌, ⊎_elim, arith, Bool}
 use Rattle.std.specs.List.{AllZip}
 use Rattle.std.proofs.Math.Seq.{drop-cons}
 use Rattle.std.proofs.lemmas.List.{take_more, take_all, map-append, take-append-drop, get_or_default}
@@ -134,13 +134,17 @@ pub all_mapped : {A V : Type 0} (f : A → V) (P : V → Type 0) (xs : List A) �
 all_mapped f P [] h = All-nil (λ x. P (f x))
 all_mapped f P (x ∷ xs) h = All-cons (λ y. P (f y)) x xs (All-head P (f x) (map f xs) h) (all_mapped f P xs (All-tail P (f x) (map f xs) h))
 
+-- the places of elements that pass a test are places of the list
+pub passed_within : {K : Type 0} (test : K → Bool) (keys : List K) (items : List ℕ) → items ≡ places_from 0 test keys →
+    All (λ i. i < length keys) items
+passed_within {K} test keys items are =
+    subst (λ (js : List ℕ). All (λ i. i < length keys) js) (sym are)
+    (All-weaker (λ i. i < 0 + length keys) (λ i. i < length keys) (λ i h. omega arith) (places_from 0 test keys) (within_list 0 test keys))
+
 -- the places of a band's items are places of the plan
 pub lists_within : {K : Type 0} (places : K → Rect) (rect : Rect) (keys : List K) (items : List ℕ) → ListsMet places rect keys items →
     All (λ i. i < length keys) items
-lists_within {K} places rect keys items lists =
-    subst (λ (js : List ℕ). All (λ i. i < length keys) js) (sym lists.2)
-    (All-weaker (λ i. i < 0 + length keys) (λ i. i < length keys) (λ i h. omega arith) (places_from 0 lists.0 keys)
-    (within_list 0 lists.0 keys))
+lists_within places rect keys items lists = passed_within lists.0 keys items lists.2
 
 -- as many values as items
 pub values_len : {A K V : Type 0} (f : A → V) (means : K → V → Type 0) (keys : List K) (items : List ℕ) (values : List A) →

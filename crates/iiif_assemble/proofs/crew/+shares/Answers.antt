@@ -1,8 +1,37 @@
-use Rattle.std.proofs.Common.{map}
+use Rattle.std.proofs.Common.{◌≡◌, ℕ, drop, map, refl, subst, take, vec_len}
 use Rattle.std.specs.Arc.{arc_value}
 use Rattle.std.proofs.lemmas.Result.{IfOk-weaker}
+use Rattle.iiif_assemble.specs.Gathering.{AreValues}
 use Rattle.iiif_assemble.proofs.ZipLemmas.{runs_joined, second_failed}
 use Rattle.iiif_assemble.proofs.crew.+shares.Goals as goal
+
+pub shared_out-returns-in-Ok-clause-values : goal.shared_out-returns-in-Ok-clause-values
+shared_out-returns-in-Ok-clause-values g t c =
+    let means = g.G.Items.means c.args.group.now in
+    let keys = c.args.keys.now in
+    let items = c.args.items.now in
+    let values = c.in_ok-values.field-0.values in
+    let left = c.split_at.result.1.now in
+    let back : left ≡ drop (vec_len values) items = subst (λ (n : ℕ). left ≡ drop n items) c.len.ensures c.split_at.ensures.back in
+    let had : AreValues means keys (take (vec_len values) items) (map arc_value values.items) =
+    c.in_ok-values.ensures.values in
+    IfOk-weaker c.joined.result _ _
+    (λ v e. runs_joined arc_value means keys items (take (vec_len values) items) left (vec_len values) values.items c.in-Ok.rest.items v.items
+    refl back had c.in-Ok.ensures.values e)
+    c.joined.ensures.ok
+
+pub shared_out-returns-in-Err-clause-fault : goal.shared_out-returns-in-Err-clause-fault
+shared_out-returns-in-Err-clause-fault g t c =
+    let means = g.G.Items.means c.args.group.now in
+    let keys = c.args.keys.now in
+    let items = c.args.items.now in
+    let values = c.in_ok-values.field-0.values in
+    let left = c.split_at.result.1.now in
+    let back : left ≡ drop (vec_len values) items = subst (λ (n : ℕ). left ≡ drop n items) c.len.ensures c.split_at.ensures.back in
+    let had : AreValues means keys (take (vec_len values) items) (map arc_value values.items) =
+    c.in_ok-values.ensures.values in
+    second_failed means (g.G.Items.failed c.args.group.now) keys items (take (vec_len values) items) left (vec_len values)
+    (map arc_value values.items) c.in-Err.fault refl back had c.in-Err.ensures.fault
 
 pub halved-returns-in-Ok-rest-clause-values : goal.halved-returns-in-Ok-rest-clause-values
 halved-returns-in-Ok-rest-clause-values g t c =

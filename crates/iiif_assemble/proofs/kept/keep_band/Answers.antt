@@ -1,10 +1,20 @@
-use Rattle.std.proofs.Common.{List, All, subst, sym}
+use Rattle.std.proofs.Common.{List, All, ◌<◌, length, subst, sym}
 use Rattle.std.proofs.lemmas.List.Elements.{All-weaker}
 use Rattle.iiif_pixel.specs.Geometry.{channels_of}
 use Rattle.iiif_keys.specs.declared.keys.SumKey.{SumKey}
 use Rattle.iiif_planner.specs.Plans.{IsBlockFor, IsPlan}
 use Rattle.iiif_planner.specs.declared.plans.Plan.{Plan}
+use Rattle.iiif_bands.specs.Bands.{ListsItems}
+use Rattle.iiif_assemble.proofs.ZipLemmas.{passed_within}
 use Rattle.iiif_assemble.proofs.kept.keep_band.Goals as goal
+
+pub asked-requires-clause-within : goal.asked-requires-clause-within
+asked-requires-clause-within g c κs within =
+    let b = c.args.band.now in
+    let lists = subst (λ (p : Plan). ListsItems c.args.job.now.resolved p b.rect b.items.items) c.in-Sum.is c.requires.band.items in
+    subst (λ (ks : List SumKey). All (λ i. i < length ks) c.as_slice-items.result.now) (sym c.deref-4.ensures.value)
+    (subst (All (λ i. i < length c.in-Sum.keys.items)) (sym c.as_slice-items.ensures.value)
+    (passed_within lists.0 c.in-Sum.keys.items b.items.items lists.2))
 
 pub asked-requires-clause-fits : goal.asked-requires-clause-fits
 asked-requires-clause-fits g c κs within =
