@@ -1,5 +1,5 @@
 use Rattle.std.proofs.Common.{arith, ◌≡◌, ◌∙◌, ◌+◌, ◌-◌, ◌*◌, ◌<◌, ◌≤◌, ℕ, List, All, length, take, fold, map, refl, sym, subst, ap}
-use Rattle.std.proofs.Common.{get_or, ◌∷◌, [], Global, IsTrue}
+use Rattle.std.proofs.Common.{get_or, ◌∷◌, [], Global, IsTrue, rules}
 use Rattle.std.proofs.lemmas.List.{take_all}
 use Rattle.std.proofs.lemmas.List.Elements.{All-get_or}
 use Rattle.std.proofs.lemmas.Result.{IfOk-at_ok, IfOk-weaker}
@@ -67,10 +67,11 @@ pub Groups::values-returns-in-Ok-rest-clause-values : goal.Groups::values-return
 Groups::values-returns-in-Ok-rest-clause-values g t c =
     let shows = g.J.System.pictures in
     let trusted = g.J.System.stable c.args.key.now.name × IsTrue g.J.System.honest in
-    let a = rw c.in-Ok.is at c.join_mut-first.ensures.0.met.0 in
-    let b = rw c.in-Ok-rest.is at c.join_mut-first.ensures.1.met.0 in
+    let s = c.args.shape.now in
+    let a : AreValuesOf shows s trusted c.split_at-2.result.0.now c.in-Ok.first.items = search rules in
+    let b : AreValuesOf shows s trusted c.split_at-2.result.1.now c.in-Ok-rest.rest.items = search rules in
     IfOk-weaker c.joined-in-Ok-rest.result _ _
-    (λ v e. both_runs shows c.args.shape.now trusted (length c.args.keys.now - 1) c.args.keys.now c.split_at-2.result.0.now
+    (λ v e. both_runs shows s trusted (length c.args.keys.now - 1) c.args.keys.now c.split_at-2.result.0.now
     c.split_at-2.result.1.now c.in-Ok.first.items c.in-Ok-rest.rest.items v.items
     c.split_at-2.ensures.front c.split_at-2.ensures.back a b e)
     c.joined-in-Ok-rest.ensures.ok
