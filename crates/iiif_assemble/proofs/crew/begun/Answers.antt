@@ -1,6 +1,5 @@
-use Rattle.std.proofs.Common.{◌≡◌, ◌∙◌, ℕ, List, inl, inr, ⊎_elim, sym, subst, ap, length, take, arith, map, length-append, ◌∷◌, []}
+use Rattle.std.proofs.Common.{inl, inr, ⊎_elim, sym, ap, length, arith, map, length-append, ◌∷◌, []}
 use Rattle.std.specs.Arc.{arc_value}
-use Rattle.iiif_assemble.specs.Gathering.{AreValues}
 use Rattle.iiif_assemble.proofs.ZipLemmas.{one_kept, failed_here}
 use Rattle.iiif_assemble.proofs.crew.begun.Goals as goal
 
