@@ -9,7 +9,7 @@ the program's own code asks for, until a run meets none.
 
 The program: each case below from its start by `--one`, and against a listening server, once on a new one for each refusal (its caches
 are empty) and once on one server for all of them. The answer has to be the case's own, `L2 memory`, a strict prefix of an answer behind
-which the connection closes, or `run: memory` or `image NAME: 8` where the program ends (or its status alone, where it would have been 2).
+which the connection closes, or `run: memory` or `image NAME: 8` where the program ends.
 Then the same is asked again with ample memory, on the same server, and has to be the case's own. Where the program has peers, `peers` does
 the same with two nodes that ask each other, and with one that asks a node which lies.
 

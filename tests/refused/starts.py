@@ -20,9 +20,6 @@ def start_kind(own, got):
         return "run: memory"
     if got[:2] == (2, b"") and got[2].split(b"\n")[0] == b"image a: 8":
         return "image a: 8"
-    # Where the line that names the image can't be made, the status says that it is at fault.
-    if got == (2, b"", b"") and own[0] == 2:
-        return "status 2 alone"
     if got[0] == 1 and got[2] == b"run: memory\n" and own[1].startswith(got[1]):
         return "cut"
     return None

@@ -117,7 +117,7 @@ where
     };
     match answer(rt, alloc, &options, out, err) {
         Ok(()) => 0,
-        Err(stop) => stop.told(alloc, err),
+        Err(stop) => stop.told(err),
     }
 }
 

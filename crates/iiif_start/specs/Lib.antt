@@ -1,3 +1,4 @@
 pub mod Held
 pub mod Statuses
 pub mod Stored
+pub mod Told

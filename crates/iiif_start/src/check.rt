@@ -3,7 +3,7 @@
 ghost use Rattle.std.specs.Prelude.{◌≡◌, IfOk, map};
 ghost use Rattle.iiif_start.specs.Statuses.{end_of, has_unfit};
 
-use crate::name::word_of;
+use crate::name::Word;
 use crate::opening::{opened, shelf};
 use crate::stop::Stop;
 use crate::unfit::Unfit;
@@ -33,10 +33,10 @@ pub struct Checked<'a> {
 
 impl<'a> Checked<'a> {
     /// Says in a line what the image is, or as at a start why it can't be served.
-    fn told<O: Outlet>(&self, alloc: Global, out: &mut O) -> io::Result<()> {
+    fn told<O: Outlet>(&self, out: &mut O) -> io::Result<()> {
         let Found { shape, is_held } = match &self.found {
             Ok(found) => found,
-            Err(unfit) => return unfit.told(alloc, out, self.name),
+            Err(unfit) => return unfit.told(out, Word(self.name)),
         };
         let kind = match shape.kind {
             Kind::Gray => "gray",
@@ -47,7 +47,7 @@ impl<'a> Checked<'a> {
             Depth::Sixteen => 16,
         };
         let held = if *is_held { ", held" } else { "" };
-        let (name, w, h) = (word_of(alloc, self.name)?, shape.dim.w, shape.dim.h);
+        let (name, w, h) = (Word(self.name), shape.dim.w, shape.dim.h);
         writeln!(out, "{name}: {w} by {h}, {kind}, {bits} bits{held}")
     }
 }
@@ -98,7 +98,7 @@ where
     let mut all = Vec::new(alloc);
     for image in images {
         let image = look(rt, alloc, files, *image, hold)?;
-        match image.told(alloc, out) {
+        match image.told(out) {
             Ok(()) => {}
             Err(error) if error.kind() == ErrorKind::OutOfMemory => return Err(Stop::Memory),
             Err(_) => return Err(Stop::Write),

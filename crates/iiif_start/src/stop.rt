@@ -3,8 +3,8 @@
 ghost use Rattle.std.specs.Prelude.{◌≡◌};
 ghost use Rattle.iiif_start.specs.Statuses.{status_of};
 
+use crate::name::Word;
 use crate::unfit::Unfit;
-use std::alloc::Global;
 use std::io::Write;
 
 /// Why the program ends without an answer.
@@ -23,13 +23,13 @@ pub enum Stop<'a> {
 impl<'a> Stop<'a> {
     /// Says it in a line, of an image with a second one that says what to do, and gives the program's status: 2 where an image is
     /// at fault, else 1.
-    pub fn told<E: Write>(self, alloc: Global, err: &mut E) -> u8
+    pub fn told<E: Write>(self, err: &mut E) -> u8
         ensures { result ≡ status_of self.entry }
     {
         match self {
             Stop::Image(name, unfit) => {
                 // Where the words can't be written, the status says it.
-                let _ = unfit.told(alloc, err, name);
+                let _ = unfit.told(err, Word(name));
                 2
             }
             Stop::Faulty => 2,

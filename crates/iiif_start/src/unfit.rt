@@ -1,14 +1,15 @@
 //! Why an image can't be served.
 
-ghost use Rattle.std.specs.Prelude.{◌≡◌, ◌<◌, true, length};
+ghost use Rattle.std.specs.Prelude.{◌≡◌, ◌<◌, ℕ, List, OnOk, true, length};
 ghost use Rattle.std.specs.List.{list_all};
+ghost use Rattle.std.specs.Io.KnownBytes.{Appends};
 ghost use Rattle.iiif_advice.specs.Lines.{is_line_byte};
 ghost use Rattle.iiif_start.specs.Statuses.{unfit_number};
+ghost use Rattle.iiif_start.specs.Told.{unfit_lines};
 
-use crate::name::word_of;
+use crate::name::Word;
 use iiif_advice::advice;
 use iiif_tiff_read::OpenFault;
-use std::alloc::Global;
 use std::io;
 use std::io::Write;
 
@@ -48,10 +49,24 @@ impl Unfit {
         }
     }
 
-    /// Says of an image why it can't be served, and in a second line what to do. The name is escaped as in the log.
-    pub(crate) fn told<W: Write>(&self, alloc: Global, out: &mut W, name: &str) -> io::Result<()> {
-        let name = word_of(alloc, name)?;
-        writeln!(out, "image {name}: {}", self.number())?;
-        writeln!(out, "{}", self.remedy())
+    /// Says of an image why it can't be served, and in a second line what to do. The name is escaped as in the log. It needs no memory.
+    pub(crate) fn told<W: Write>(&self, out: &mut W, name: Word<'_>) -> io::Result<()>
+        ensures { OnOk result ((remedy : List ℕ) × (list_all is_line_byte remedy ≡ true) ×
+            Appends (W.contents out.old) (W.contents out.new) (unfit_lines name.entry.0.now (unfit_number self.now) remedy)) }
+    {
+        put_lines(out, name, self.number(), self.remedy())
     }
+}
+
+/// Writes of an image the number of its fault, and in a second line what to do.
+fn put_lines<W: Write>(
+    out: &mut W,
+    name: Word<'_>,
+    number: u8,
+    remedy: &'static str,
+) -> io::Result<()>
+    ensures { OnOk result (Appends (W.contents out.old) (W.contents out.new) (unfit_lines name.entry.0.now number remedy.now)) }
+{
+    writeln!(out, "image {name}: {number}")?;
+    writeln!(out, "{remedy}")
 }
