@@ -39,7 +39,8 @@ fn remedy(fault: LineFault) -> &'static str
             "--peer is NAME=ADDR with a port at its end, at most 63 times; it and --name have names of 1 to 255 bytes that stand once"
         }
         LineFault::Mode => {
-            "one of --listen ADDR, --one TARGET and --check; --hex only with --one; --peer-listen, --log and --stats-listen only with --listen; --peer-only only with --peer-listen"
+            "one of --listen ADDR, --one TARGET and --check; --hex only with --one; --peer-listen, --log and --stats-listen only with \
+             --listen; --peer-only only with --peer-listen"
         }
         LineFault::NoMemory => "memory was refused: give the process more",
     }
