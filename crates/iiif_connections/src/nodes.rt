@@ -97,8 +97,7 @@ fn stock<'p, J: System>(
 }
 
 /// A node that asks the watcher's others for the values of the keys that they own, whose groups have room for so many bytes each. The names
-/// of
-/// the nodes are at most 64, and each stands once. The watcher is told of the asks. The only error is want of memory.
+/// of the nodes are at most 64, and each stands once. The watcher is told of the asks. The only error is want of memory.
 pub fn among<'p, R: Opens + Wait, J: System>(
     alloc: Global,
     config: Config,

@@ -105,8 +105,7 @@ impl<'a, R: Opens + Wait, J: System, N, T> Measure<R> for Statistics<'a, R, J, N
 
 impl<'a, R: Opens + Wait + Clock, J: System, N, T> Statistics<'a, R, J, N, T> {
     /// Answers the one call of a connection, and closes it. It says whether the connection was served: where memory is wanting, it is
-    /// closed
-    /// unanswered.
+    /// closed unanswered.
     fn answer(&self, rt: &R, alloc: Global, visit: Visit<'_, R>) -> bool {
         let Visit { stream, place } = visit;
         let Ok(pace) = Pace::new(rt, Duration::from_millis(self.times.whole)) else {

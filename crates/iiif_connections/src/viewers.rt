@@ -88,10 +88,8 @@ where
     }
 
     /// Answers the calls of a connection in order, over any reader and writer. It says whether passes for its workers were there: where
-    /// they
-    /// are wanting, nothing is answered. Of a node that holds all its images in memory and asks no other, nothing is assumed in what is
-    /// said
-    /// of its answers.
+    /// they are wanting, nothing is answered. Of a node that holds all its images in memory and asks no other, nothing is assumed in what
+    /// is said of its answers.
     pub fn serve_over<I: Inlet + Drop, W: Outlet>(
         &self,
         rt: &R,

@@ -75,10 +75,9 @@ const MEAN: Sends<'static> = Sends {
 /// The sample at tiles of one place each.
 const PLACES: Scene<'static, 'static> = Scene { edge: 1, ..SAMPLE };
 
-/// Scenes, viewers, and what is counted then. No group is asked for anything of three requests without an image's samples. Of an image
-/// that is asked for twice each of four tiles is loaded once for all viewers. Of the mean two workers ask for the 16 blocks of level 0, and
-/// then for the block, which asks for 4 of level 1, and these for the 16 again, which are kept by now; how often the two ask for the same
-/// is
+/// Scenes, viewers, and what is counted then. No group is asked for anything of three requests without an image's samples. Of an image that
+/// is asked for twice each of four tiles is loaded once for all viewers. Of the mean two workers ask for the 16 blocks of level 0, and then
+/// for the block, which asks for 4 of level 1, and these for the 16 again, which are kept by now; how often the two ask for the same is
 /// chance. Each of the 21 blocks is made once, the 16 of their tiles, which are loaded once.
 static VIEWERS: [(Scene<'static, 'static>, Sends<'static>, [Option<u64>; 4]); 4] = [
     (SAMPLE, THREE, [Some(0), None, None, None]),

@@ -5,8 +5,7 @@ use iiif_command_line::{Options, matches, options_in};
 const BASE: &str = "http://localhost/iiif";
 
 /// What is set where the words name the images and a target alone: the edge, the greatest side, the bytes of a cache, those of a file that
-/// is
-/// held, the rows of a band, the workers, the files that stay open, and the memory that is written to at the start.
+/// is held, the rows of a band, the workers, the files that stay open, and the memory that is written to at the start.
 fn are_left_out(options: &Options<'_>) -> bool {
     let sides = (options.edge, options.max) == (256, 4096);
     let shares = (options.band, options.workers) == (64, 2);

@@ -30,8 +30,7 @@ pub struct Turn {
 }
 
 /// What is known of a node. Each ask that is made begins with its turn and ends with a report. All is done under a lock, as [`LinkRecord`]
-/// and
-/// [`Addresses`] say.
+/// and [`Addresses`] say.
 #[derive(Drop)]
 pub struct Health {
     memory: Mutex<Memory>,
@@ -103,8 +102,7 @@ impl Health {
     }
 
     /// Takes in how the ask of a turn ended, and says what becomes of the link. After a fault the next address is asked; after one of an
-    /// ask
-    /// that was to try the node the next of these looks its name up.
+    /// ask that was to try the node the next of these looks its name up.
     pub fn report<R: Clock + Wait>(&self, rt: &R, turn: &Turn, outcome: Outcome) -> Option<Change> {
         let mut guard = self.memory.lock(rt);
         let memory = &mut *guard;

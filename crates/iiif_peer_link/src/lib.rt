@@ -1,6 +1,5 @@
 //! Ways to other nodes: one ask over any reader and writer, and links over TCP that connect anew for each ask within a limit of time, leave
-//! a
-//! node alone that fails, and tell so.
+//! a node alone that fails, and tell so.
 #![tactic(auto)]
 
 pub use addresses::Addresses;

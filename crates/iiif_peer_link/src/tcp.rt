@@ -23,8 +23,7 @@ use std::sync::Wait;
 use std::time::Clock;
 
 /// A way to a node that listens at an address and a port. Each ask connects anew, reads one reply and closes, all within the node's limit
-/// of
-/// time, and no more of it than the key's value can have. A node that fails is left alone for a while, as its [`Health`](crate::Health)
+/// of time, and no more of it than the key's value can have. A node that fails is left alone for a while, as its [`Health`](crate::Health)
 /// says: then an ask fails at once. Its name is looked up where whoever made the node says so, and again, without a limit, by an ask that
 /// is to try it after another one did in vain. What the node says is never promised to be right, so a system that has links of this kind
 /// relies on no other node.
