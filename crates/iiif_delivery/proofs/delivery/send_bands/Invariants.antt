@@ -1,7 +1,7 @@
 use Rattle.std.proofs.Common.{◌*◌, length, min}
 use Rattle.std.specs.Prelude.{◌++◌}
 use Rattle.iiif_tiff_write.specs.File.{head_of}
-use Rattle.iiif_assemble.specs.Ahead.{AreKept}
+use Rattle.iiif_assemble.specs.Kept.{AreKept}
 use Rattle.iiif_delivery.specs.Delivery.{result_dim}
 use Rattle.iiif_delivery.specs.Code.{HasCounted, HaveRows}
 use Rattle.iiif_delivery.proofs.delivery.send_bands.Given as goal
