@@ -133,7 +133,7 @@ def caches():
 
 def counts():
     half = Request(Image(b"a", 4, 4, 1), 2, Rect(0, 0, 4, 4), (2, 2))
-    alone = System(1, 1 << 26, workers=1)
+    alone = System(1, 1 << 26)
     alone.answer(0, half)
     tiles, sums = alone.nodes[0].books
     same("tiles of an overview", tiles, {"gets": 4, "hits": 0, "loads": 4, "peer": 0})

@@ -3,8 +3,8 @@
 Of a value only its length is known, so a simulated node counts what it reads, makes, keeps, asks and sends. The definitions are those of
 crates/iiif_keys (specs Bytes, Blocks, Meaning), iiif_planner (Levels, Items), iiif_bands (Bands), iiif_ring (Owner) and iiif_tables
 (Cache, Flights). bench/scale/check.py holds this module against the worked examples of those crates. What no definition says is read in
-the code: that a tile which is asked for as it stands is asked once (iiif_assemble, lone), that the blocks of an overview are asked before
-its bands where the cache has room (iiif_group_items, early), and that a band asks for blocks of those that follow (iiif_assemble, ahead).
+the code: that a tile which is asked for as it stands is asked once (iiif_assemble, lone), and that the blocks of a band stay until the
+next band has its own (iiif_assemble, kept).
 """
 import hashlib
 import struct
@@ -134,13 +134,6 @@ class Request:
         tile = Rect(i * self.edge, j * self.edge, *(min(self.edge, whole - n * self.edge) for n, whole in ((i, self.image.w), (j, self.image.h))))
         return level == TILE and len(self.items) == 1 and self.region == tile and self.size == tile[2:]
 
-    def parts_below(self, items, enough):
-        """Where some blocks are fewer than enough, the sums that they are made of: of the highest level that has enough, or of the lowest."""
-        found = []
-        while len(found or items) < enough and (found or items) and (found or items)[0][0] > 0:
-            found = [part for item in found or items for part in self.parts(*item)]
-        return found
-
     def answer_len(self):
         """The bytes of the TIFF file that is answered."""
         head = 174 if self.image.channels == 1 else 180
@@ -211,17 +204,18 @@ class Node:
         self.alive = True
 
 
-# How many blocks or parts each worker is to have, and how many tiles at least; bytes of a sum, with those that several blocks have.
-FOR_EACH, LEAST_TILES, ROOM_OF_A_SUM = 8, 8, 12
+# How many blocks of a band stay until the next band has its own.
+MOST_KEPT = 64
 
 
 class System:
-    """Nodes that answer one request after another, so no two calls ever share a flight. Without peers each is alone."""
+    """Nodes that answer one request after another, so no two calls ever share a flight. Without peers each is alone. How many workers
+    make an answer says nothing of what is asked."""
 
-    def __init__(self, count, limit, entries=4096, rows=64, peers=True, workers=2):
+    def __init__(self, count, limit, entries=4096, rows=64, peers=True):
         self.ring = Ring([b"node-%d" % n for n in range(count)])
         self.nodes = [Node(limit, entries) for _ in range(count)]
-        self.rows, self.peers, self.workers = rows, peers and count > 1, workers
+        self.rows, self.peers = rows, peers and count > 1
 
     def answer(self, n, request):
         self.nodes[n].viewers += request.answer_len()
@@ -234,59 +228,14 @@ class System:
                 for item in band:
                     self.get(n, request, item)
             return
-        workers = 1 if self.keep_blocks(n, request) else self.workers
-        kept, before = set(), None
-        for at, band in enumerate(bands):
-            if not kept.issuperset(band):
-                kept = self.keep_ahead(n, request, bands[at:], before, kept, workers)
-            for item in band:
-                if item not in kept:
-                    self.get(n, request, item)
-            before = band
-
-    def keep_ahead(self, n, request, bands, before, kept, workers):
-        """The blocks that are kept once those of the first band, and of some behind it, were asked; none where nothing is asked ahead."""
-        enough = workers * FOR_EACH
-        if workers < 2 or len(bands[0]) >= enough or bands[0] == before:
-            return set()
-        asked = []
+        kept = set()
         for band in bands:
-            if len(asked) < enough:
-                asked += [item for item in band if item not in asked]
-        for item in asked:
-            if not (item in kept and item in bands[0]):
-                self.get(n, request, item)
-        return set(asked)
-
-    def holds_all(self, n, request, items):
-        return all(self.nodes[n].caches[1].holds(request.key(*item)) for item in items)
-
-    def ask_each(self, n, request, items):
-        """Asks for sums where they aren't kept, until one isn't kept then; whether all are."""
-        for item in items:
-            if not self.holds_all(n, request, [item]):
-                self.get(n, request, item)
-                if not self.holds_all(n, request, [item]):
-                    return False
-        return True
-
-    def keep_blocks(self, n, request):
-        """Whether all blocks are kept, once those that the node has to make were asked, where there are workers and room for it."""
-        if self.holds_all(n, request, request.items):
-            return True
-        sums = request.size[0] * request.size[1] * request.image.channels * (request.level + 1)
-        if self.workers < 2 or sums * ROOM_OF_A_SUM > self.nodes[n].caches[1].limit:
-            return False
-        own = [item for item in request.items if not self.peers or self.ring.owner(request.key(*item)) == n]
-        blocks = [item for item in own if not self.holds_all(n, request, [item])]
-        workers = min(len(blocks) * (1, 4, 16)[min(request.level, 2)] // LEAST_TILES, self.workers)
-        parts = request.parts_below(blocks, workers * FOR_EACH) if workers > 1 else []
-        # Each worker has its share of both lists, one after another here.
-        for worker in range(max(1, workers)):
-            shares = [items[worker * len(items) // max(1, workers):(worker + 1) * len(items) // max(1, workers)] for items in (parts, blocks)]
-            if self.ask_each(n, request, shares[0]):
-                self.ask_each(n, request, shares[1])
-        return self.holds_all(n, request, request.items)
+            if not kept.issuperset(band):
+                own = kept.intersection(band)
+                for item in band:
+                    if item not in own:
+                        self.get(n, request, item)
+                kept = set(band) if len(band) <= MOST_KEPT else own
 
     def get(self, n, request, item):
         """A call at node n: of its own key it is local; of another's it is wide, and the owner is asked."""
