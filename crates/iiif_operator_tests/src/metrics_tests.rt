@@ -233,9 +233,13 @@ fn is_health<R>(rt: &R, alloc: Global, source: &Fixed, wanted: &[u8]) -> bool {
 #[test]
 fn get_of_the_health(rt: HostRuntime) {
     let well =
-        b"HTTP/1.1 200 OK\r\nContent-Type: text/plain\r\nContent-Length: 32\r\nConnection: close\r\n\r\nviewers ok\nstatistics ok\nlog ok\n".as_slice();
+        b"HTTP/1.1 200 OK\r\nContent-Type: text/plain\r\nContent-Length: 32\r\nConnection: close\r\n\r\n\
+            viewers ok\nstatistics ok\nlog ok\n"
+            .as_slice();
     let ill =
-        b"HTTP/1.1 503 Service Unavailable\r\nContent-Type: text/plain\r\nContent-Length: 34\r\nConnection: close\r\n\r\nviewers ok\nstatistics ok\nlog gone\n".as_slice();
+        b"HTTP/1.1 503 Service Unavailable\r\nContent-Type: text/plain\r\nContent-Length: 34\r\nConnection: close\r\n\r\n\
+            viewers ok\nstatistics ok\nlog gone\n"
+            .as_slice();
     assert!(rt; is_health(&rt, rt.alloc(), &WELL, well));
     assert!(rt; is_health(&rt, rt.alloc(), &ILL, ill));
 }
