@@ -12,7 +12,6 @@ use iiif_sum_group::{Gate, Groups, Link, Passes, SumCalls, TileCalls, taken};
 use iiif_workers::Idle;
 use std::sync::ledger::Ledger;
 use std::sync::{Arc, Wait};
-use std::thread::Threads;
 use std::time::Clock;
 
 /// The groups of a node, as images are made of what they have, and who may make sums by several workers now.
@@ -28,11 +27,11 @@ where
 /// Tiles: what is kept, or what a flight ends with. A worker asks with a pass of each group.
 impl<
     'a,
-    R: Threads + Wait + Clock + Sync,
-    S: Source<R> + Drop + Sync,
-    J: System + Send + Sync,
-    N: Link<TileKey, J, R> + Link<SumKey, J, R> + Sync,
-    T: Gate<R> + Sync,
+    R: Wait + Clock,
+    S: Source<R> + Drop,
+    J: System,
+    N: Link<TileKey, J, R> + Link<SumKey, J, R>,
+    T: Gate<R>,
 > Items<TileKey, TileVal, Passes<J>, R> for GroupItems<'a, R, S, J, N, T> {
     ghost fits = { λ _ k. TileIsNamed J.pictures J.edge k };
 
@@ -65,11 +64,11 @@ impl<
 /// Sums, in the same way. Where several workers ask for some, they wait until they are admitted.
 impl<
     'a,
-    R: Threads + Wait + Clock + Sync,
-    S: Source<R> + Drop + Sync,
-    J: System + Send + Sync,
-    N: Link<TileKey, J, R> + Link<SumKey, J, R> + Sync,
-    T: Gate<R> + Sync,
+    R: Wait + Clock,
+    S: Source<R> + Drop,
+    J: System,
+    N: Link<TileKey, J, R> + Link<SumKey, J, R>,
+    T: Gate<R>,
 > Items<SumKey, SumVal, Passes<J>, R> for GroupItems<'a, R, S, J, N, T> {
     ghost fits = { λ _ k. SumIsNamed J.pictures J.edge k };
 
@@ -81,10 +80,10 @@ impl<
         &self,
         rt: &R,
         pass: &mut Passes<J>,
-        idle: &Idle<'_, Passes<J>>,
+        _idle: &Idle<'_, Passes<J>>,
         key: &SumKey,
     ) -> Result<Arc<SumVal>, Fault> {
-        match self.0.get(rt, pass, idle, key) {
+        match self.0.get(rt, pass, key) {
             Ok(receipt) => taken(receipt, key),
             Err(fault) => Err(fault),
         }

@@ -7,8 +7,8 @@ use Rattle.iiif_peer_groups.specs.Kinds.{Kind, System}
 use Rattle.iiif_peer_groups.specs.Replying.{HasFault, HasValue, IsReplyTo}
 use Rattle.iiif_peer_wire.specs.declared.version.Version.{Version}
 
-pub replied : {K V : Type 0} (kind : Kind K V) (node : System) (version : Version) (bytes : List ℕ) (outcome : Result (Vec ℕ Global) Fault)
-    (status : ℕ) (value : List ℕ)
+pub replied : {K V : Type 0} (kind : Kind K V) (node : System) (version : Version) (bytes : List ℕ)
+    (outcome : Result (Vec ℕ Global) Fault) (status : ℕ) (value : List ℕ)
     → IfOk outcome (λ v. HasValue kind node version bytes v.items) → IfErr outcome (HasFault kind node version bytes)
     → MatchResult outcome (λ v. (status ≡ 0) × (value ≡ v.items)) (λ f. (status ≡ fault_number f) × (value ≡ []))
     → IsReplyTo kind node version bytes status value

@@ -44,8 +44,8 @@ kind_of is_key key_bytes refusal name_of edge_of fits_in val_bytes is_shaped mea
 
 -- tiles
 abbrev pub tile_kind : Kind TileKey TileVal
-tile_kind = kind_of IsTileKey tile_key_bytes tile_key_refusal (λ k. k.name) (λ k. k.edge) (λ s k. TileFitsIn s.dim (channels_of s.kind) k)
-    tile_val_bytes tile_is_shaped tile_meaning
+tile_kind = kind_of IsTileKey tile_key_bytes tile_key_refusal (λ k. k.name) (λ k. k.edge)
+    (λ s k. TileFitsIn s.dim (channels_of s.kind) k) tile_val_bytes tile_is_shaped tile_meaning
 
 -- sums
 abbrev pub sum_kind : Kind SumKey SumVal

@@ -16,11 +16,9 @@ use iiif_peer_wire::{Ask, Version};
 use iiif_pixel::Depth;
 use iiif_source::Source;
 use iiif_sum_group::{Gate, Groups, Link, Passes, SumCalls, TileCalls};
-use iiif_workers::Idle;
 use std::alloc::Global;
 use std::sync::Wait;
 use std::sync::ledger::Ledger;
-use std::thread::Threads;
 
 /// A node's groups as other nodes have them: each ask is answered by this node, and no other is asked for the key.
 #[derive(Drop)]
@@ -34,11 +32,11 @@ where
 
 impl<
     'a,
-    R: Threads + Wait + Sync,
-    S: Source<R> + Drop + Sync,
-    J: System + Send + Sync,
-    N: Link<TileKey, J, R> + Link<SumKey, J, R> + Sync,
-    T: Gate<R> + Sync,
+    R: Wait,
+    S: Source<R> + Drop,
+    J: System,
+    N: Link<TileKey, J, R> + Link<SumKey, J, R>,
+    T: Gate<R>,
 > Peers<'a, R, S, J, N, T> {
     /// The shape of the image that a key names, where messages of this version carry its values.
     fn shape_of<K: CacheKey>(&self, version: Version, key: &K) -> Result<Shape, Fault>
@@ -91,20 +89,18 @@ impl<
     {
         let key: SumKey = key_of(alloc, bytes)?;
         let shape = self.shape_of(version, &key)?;
-        // One who is asked has one worker.
-        let idle = Idle::none(alloc);
-        let receipt = self.groups.get_local(rt, passes, &idle, &key)?;
+        let receipt = self.groups.get_local(rt, passes, &key)?;
         value_bytes(alloc, &key, &shape, receipt)
     }
 }
 
 impl<
     'a,
-    R: Threads + Wait + Sync,
-    S: Source<R> + Drop + Sync,
-    J: System + Send + Sync,
-    N: Link<TileKey, J, R> + Link<SumKey, J, R> + Sync,
-    T: Gate<R> + Sync,
+    R: Wait,
+    S: Source<R> + Drop,
+    J: System,
+    N: Link<TileKey, J, R> + Link<SumKey, J, R>,
+    T: Gate<R>,
 > Answers<R, Passes<J>> for Peers<'a, R, S, J, N, T> {
     ghost answers = { λ _ version group key status value.
         MayReply (system J.pictures J.edge J.gave J.stable J.honest) version group key status value };

@@ -1,14 +1,12 @@
 -- Sums merged one after another, the sums of a block with one part, and the faults of loads.
-use Rattle.std.proofs.Common.{◌≡◌, ℕ, zero, suc, ◌+◌, ◌-◌, ◌<◌, ◌≤◌, ◌⊎◌, inl, inr, Bool, true, false, List, [], ◌∷◌, ◌++◌, length, get_or}
-use Rattle.std.proofs.Common.{take, drop, not, map, fold, All, Global, Result, Err, refl, sym, subst, ap, ◌∙◌, arith}
+use Rattle.std.proofs.Common.{◌≡◌, ℕ, zero, suc, ◌+◌, ◌-◌, ◌<◌, ◌≤◌, ◌⊎◌, inl, inr, Bool, true, false, List, [], ◌∷◌, ◌++◌, length}
+use Rattle.std.proofs.Common.{get_or, take, map, fold, All, Global, Result, Err, refl, sym, subst, ap, ◌∙◌, arith}
 use Rattle.std.specs.Prelude.{if◌then◌else◌, ◌==◌, count_by, cond, IfErr, IsTrue}
 use Rattle.std.proofs.Math.Dec.{eqb-suc-zero}
 use Rattle.std.specs.Arc.{arc_value}
-use Rattle.std.specs.List.{filter}
 use Rattle.std.specs.declared.sync.Arc.{Arc}
-use Rattle.std.proofs.lemmas.List.{length-map, map-append, take_all, take_more, take-append-drop}
-use Rattle.std.proofs.lemmas.List.Elements.{All-append, All-cons, All-drop, All-get_or, All-nil, All-take}
-use Rattle.std.proofs.lemmas.List.Filters.{length-filter_both}
+use Rattle.std.proofs.lemmas.List.{length-map, map-append, take_all, take_more}
+use Rattle.std.proofs.lemmas.List.Elements.{All-get_or}
 use Rattle.std.proofs.lemmas.List.Sums.{fold-append}
 use Rattle.std.proofs.lemmas.Result.{IfErr-at_err}
 use Rattle.iiif_outcome.specs.Outcomes.{is_given}
@@ -23,7 +21,7 @@ use Rattle.iiif_area.proofs.GridLaws.{has_place-tested}
 use Rattle.iiif_images.specs.Faults.{IsLoadFault}
 use Rattle.iiif_keys.specs.Blocks.{part_in, places_in, NamesPart, SumFitsIn}
 use Rattle.iiif_keys.specs.Laws.{IsBelow, PartsAreBelow, PartsCut, PartsFit, PartsMakeMeaning}
-use Rattle.iiif_keys.specs.Meaning.{meets_rect, no_sums, quarters, sum_meaning, sums_below, SumHasShape}
+use Rattle.iiif_keys.specs.Meaning.{no_sums, sum_meaning, sums_below}
 use Rattle.iiif_keys.specs.Names.{Pictures, named, IsSource}
 use Rattle.iiif_keys.specs.Shapes.{HasPicture}
 use Rattle.iiif_keys.specs.declared.fault.Fault.{Fault}
@@ -34,7 +32,7 @@ use Rattle.iiif_keys.specs.declared.values.SumVal.{SumVal}
 use Rattle.iiif_keys.proofs.Cuts.{counted}
 use Rattle.iiif_keys.proofs.Shaped.{kind_with_channels}
 use Rattle.iiif_source.specs.declared.ReadFault.{ReadFault}
-use Rattle.iiif_sum_group.specs.Values.{sums_in, ArePlaces, AreSums, AreValuesOf, MayBeAsked}
+use Rattle.iiif_sum_group.specs.Values.{sums_in, ArePlaces, AreSums}
 
 -- one more of what is alike in two lists
 pub mapped_more : {A B C : Type 0} (f : A → C) (h : B → C) (keys : List A) (values : List B) (i : ℕ) (q : A) (v : B) → i < length keys →
@@ -47,72 +45,6 @@ mapped_more {A} {B} {C} f h keys values i q v inside is made before =
     ∙ ap (λ (u : C). map f (take i keys) ++ u ∷ []) made
     ∙ sym (map-append f (take i keys) (q ∷ []))
     ∙ ap (λ (ks : List A). map f ks) (sym more)
-
--- what is alike in two runs of lists, one behind the other
-mapped_runs : {A B C : Type 0} (f : A → C) (h : B → C) (front back : List A) (a b : List B) → map h a ≡ map f front → map h b ≡ map f back →
-    map h (a ++ b) ≡ map f (front ++ back)
-mapped_runs {A} {B} {C} f h front back a b first second =
-    map-append h a b
-    ∙ ap (λ (cs : List C). cs ++ map h b) first
-    ∙ ap (λ (cs : List C). map f front ++ cs) second
-    ∙ sym (map-append f front back)
-
--- some of the parts that may be asked for may be asked for: the first of them, and the others
-pub first_asked : (shows : Pictures) (s : Shape) (block : SumKey) (n : ℕ) (keys front : List SumKey) → front ≡ take n keys →
-    MayBeAsked shows s block keys → MayBeAsked shows s block front
-first_asked shows s block n keys front is may = subst (MayBeAsked shows s block) (sym is) (record {
-  known = may.known;
-  source = may.source;
-  below = All-take (IsBelow block) n keys may.below;
-  fits = All-take (SumFitsIn s.dim (channels_of s.kind)) n keys may.fits;
-})
-
-pub others_asked : (shows : Pictures) (s : Shape) (block : SumKey) (n : ℕ) (keys back : List SumKey) → back ≡ drop n keys →
-    MayBeAsked shows s block keys → MayBeAsked shows s block back
-others_asked shows s block n keys back is may = subst (MayBeAsked shows s block) (sym is) (record {
-  known = may.known;
-  source = may.source;
-  below = All-drop (IsBelow block) n keys may.below;
-  fits = All-drop (SumFitsIn s.dim (channels_of s.kind)) n keys may.fits;
-})
-
--- the values of two runs of parts are those of all
-pub both_runs : (shows : Pictures) (s : Shape) (trusted : Type 0) (n : ℕ) (keys front back : List SumKey)
-    (a b all : List (Arc SumVal Global)) → front ≡ take n keys → back ≡ drop n keys
-    → AreValuesOf shows s trusted front a → AreValuesOf shows s trusted back b → all ≡ a ++ b → AreValuesOf shows s trusted keys all
-both_runs shows s trusted n keys front back a b all f g first second is =
-    let whole : front ++ back ≡ keys = ap (λ (ks : List SumKey). ks ++ back) f ∙ ap (λ (ks : List SumKey). take n keys ++ ks) g ∙
-    take-append-drop n keys in
-    let P : Arc SumVal Global → Type 0 = λ x. (sums_in x).channels ≡ channels_of s.kind in
-    let both : AreValuesOf shows s trusted (front ++ back) (a ++ b) = record {
-      meant = λ t. mapped_runs (λ q. (sum_meaning shows q).sums) sums_in front back a b (first.meant t) (second.meant t);
-      places = mapped_runs (places_in s.dim) (λ x. (sums_in x).rect) front back a b first.places second.places;
-      channels = All-append P a b first.channels second.channels;
-    } in
-    subst (AreValuesOf shows s trusted keys) (sym is) (subst (λ (ks : List SumKey). AreValuesOf shows s trusted ks (a ++ b)) whole both)
-
--- and so are those of one part more
-pub one_value_more : (shows : Pictures) (s : Shape) (trusted : Type 0) (keys : List SumKey) (i : ℕ) (q : SumKey) (v : Arc SumVal Global)
-    (old new : List (Arc SumVal Global)) → i < length keys → get_or keys i q ≡ q
-    → (trusted → arc_value v ≡ sum_meaning shows q) → SumHasShape s q (arc_value v) → AreValuesOf shows s trusted (take i keys) old →
-    new ≡ old ++ v ∷ [] → AreValuesOf shows s trusted (take (i + 1) keys) new
-one_value_more shows s trusted keys i q v old new inside is meant shape before kept =
-    let P : Arc SumVal Global → Type 0 = λ x. (sums_in x).channels ≡ channels_of s.kind in
-    let here : P v = shape.sums_a_place in
-    let more : AreValuesOf shows s trusted (take (i + 1) keys) (old ++ v ∷ []) = record {
-      meant = λ t. mapped_more (λ q. (sum_meaning shows q).sums) sums_in keys old i q v inside is (ap (λ (u : SumVal). u.sums) (meant t))
-          (before.meant t);
-      places = mapped_more (places_in s.dim) (λ x. (sums_in x).rect) keys old i q v inside is shape.places before.places;
-      channels = All-append P old (v ∷ []) before.channels (All-cons P v [] here (All-nil P));
-    } in
-    subst (AreValuesOf shows s trusted (take (i + 1) keys)) (sym kept) more
-
--- a block has at most four parts
-pub few_parts : (k : SumKey) → length (sums_below k) ≤ 4
-few_parts k =
-    let both : length (filter meets_rect (quarters k)) + length (filter (λ q. not (meets_rect q)) (quarters k)) ≡ 4 =
-    length-filter_both meets_rect (λ q. not (meets_rect q)) (λ q. refl) (quarters k) in
-    omega (arith, both)
 
 not_zero : (l : ℕ) → 0 < l → (l == 0) ≡ false
 not_zero zero h = absurd (omega arith)
@@ -201,8 +133,8 @@ one_part cut fit image channels k q above fits is =
     let own : SumFitsIn image channels q = All-get_or (SumFitsIn image channels) (q ∷ []) 0 q (omega arith)
     (subst (All (SumFitsIn image channels)) is (fit image channels k above fits)) in
     let counts : (x y : ℕ) → count_by (λ t. has_place t x y) (r ∷ []) ≡ (if has_place s x y then 1 else 0) =
-    λ x y. subst (λ (ks : List SumKey). count_by (λ t. has_place t x y) (map (part_in image) ks) ≡ (if has_place s x y then 1 else 0)) is
-    (cut image k above fits.block x y) in
+    λ x y. subst (λ (ks : List SumKey). count_by (λ t. has_place t x y) (map (part_in image) ks) ≡ (if has_place s x y then 1 else 0))
+    is (cut image k above fits.block x y) in
     let test : (x y : ℕ) → has_place r x y ≡ has_place s x y =
     λ x y. same_count (has_place r x y) (has_place s x y) (sym (counted (λ (t : Rect). has_place t x y) r []) ∙ counts x y) in
     same_rect r s own.block.meets.columns own.block.meets.rows fits.block.meets.columns fits.block.meets.rows
@@ -226,8 +158,8 @@ below_one : PartsAreBelow → (k q : SumKey) → 0 < k.level → sums_below k �
 below_one below k q above is = All-get_or (IsBelow k) (q ∷ []) 0 q (omega arith) (subst (All (IsBelow k)) is (below k above))
 
 -- so the value of its only part stands where its own does
-pub only_places : PartsCut → PartsFit → PartsAreBelow → (image : Dim) (channels : ℕ) (k : SumKey) (v : Arc SumVal Global) → 0 < k.level →
-    SumFitsIn image channels k
+pub only_places : PartsCut → PartsFit → PartsAreBelow → (image : Dim) (channels : ℕ) (k : SumKey) (v : Arc SumVal Global) →
+    0 < k.level → SumFitsIn image channels k
     → ArePlaces image (sums_below k) (v ∷ []) → (sums_in v).rect ≡ places_in image k
 only_places cut fit below image channels k v above fits are =
     let one = one_below image k v are in
@@ -260,14 +192,14 @@ only_value cut fit below shows k s v has above fits places are =
     ap (λ (g : Grid). let u : SumVal = record { sums = g } in u) sums
 
 -- want of memory may always be told: where what was made wanted it too
-pub wanting : (gave : ReadFault → Bool) {V : Type 0} (made : Result V Fault) (f : Fault) → IfErr made (λ e. e ≡ NoMemory) → (f ≡ NoMemory) ⊎
-    (made ≡ Err f) → IsTrue (is_given gave f)
+pub wanting : (gave : ReadFault → Bool) {V : Type 0} (made : Result V Fault) (f : Fault) → IfErr made (λ e. e ≡ NoMemory) →
+    (f ≡ NoMemory) ⊎ (made ≡ Err f) → IsTrue (is_given gave f)
 wanting gave made f want (inl is) = subst (λ (e : Fault). is_given gave e ≡ true) (sym is) refl
 wanting gave made f want (inr is) = subst (λ (e : Fault). is_given gave e ≡ true) (sym (IfErr-at_err (λ e. e ≡ NoMemory) is want)) refl
 
 -- a fault that was given, of a key that names something, is one of a load
-pub load_fault : (shows : Pictures) (edge : ℕ) (name : List ℕ) (own : ℕ) (fits_in : Shape → Type 0) (gave : ReadFault → Bool) (f : Fault) →
-    NamesPart shows edge name own fits_in
+pub load_fault : (shows : Pictures) (edge : ℕ) (name : List ℕ) (own : ℕ) (fits_in : Shape → Type 0) (gave : ReadFault → Bool)
+    (f : Fault) → NamesPart shows edge name own fits_in
     → IsTrue (is_given gave f) → IsLoadFault shows edge name own fits_in gave f
 load_fault shows edge name own fits_in gave (Source g) names given = (names, given)
 load_fault shows edge name own fits_in gave NoMemory names given = names

@@ -18,11 +18,9 @@ use iiif_keys::{Fault, SumKey, SumVal, System, TileKey};
 use iiif_singleflight::Receipt;
 use iiif_source::Source;
 use iiif_tile_group::{TileCalls, Tiles};
-use iiif_workers::Idle;
 use std::alloc::Global;
 use std::sync::Wait;
 use std::sync::ledger::Ledger;
-use std::thread::Threads;
 
 /// The same sums, for one caller. The only fault is want of memory.
 fn copied(alloc: Global, value: &SumVal) -> Result<SumVal, Fault>
@@ -78,88 +76,79 @@ impl<R, S: Source<R> + Drop, J: System, N, T> Groups<R, S, J, N, T> {
 }
 
 impl<
-    R: Threads + Wait + Sync,
-    S: Source<R> + Drop + Sync,
-    J: System + Send + Sync,
-    N: Link<TileKey, J, R> + Link<SumKey, J, R> + Sync,
-    T: Gate<R> + Sync,
+    R: Wait,
+    S: Source<R> + Drop,
+    J: System,
+    N: Link<TileKey, J, R> + Link<SumKey, J, R>,
+    T: Gate<R>,
 > Groups<R, S, J, N, T> {
-    /// The sums that a key names, made of the sums and the tiles below it. They aren't kept; those below are asked of the groups, by who
-    /// asks and by workers that are idle.
+    /// The sums that a key names, made of the sums and the tiles below it. They aren't kept; those below are asked of the groups.
     #[tactic(auto, using(crate::proofs::SumLemmas::load_fault))]
-    pub fn load(
-        &self,
-        rt: &R,
-        own: &mut Passes<J>,
-        idle: &Idle<'_, Passes<J>>,
-        key: &SumKey,
-    ) -> Result<SumVal, Fault>
+    pub fn load(&self, rt: &R, passes: &mut Passes<J>, key: &SumKey) -> Result<SumVal, Fault>
         ensures meant { J.stable key.now.name → IsTrue J.honest → IfOk result (λ v. v ≡ sum_meaning J.pictures key.now) }
         ensures shaped { IfOk result (λ v. IsTrue (sum_is_shaped J.pictures key.now v)) }
         ensures names { IfOk result (λ v. NamesPart J.pictures J.edge key.now.name key.now.edge
             (λ s. SumFitsIn s.dim (channels_of s.kind) key.now)) }
         ensures fault { IfErr result (IsLoadFault J.pictures J.edge key.now.name key.now.edge
             (λ s. SumFitsIn s.dim (channels_of s.kind) key.now) (J.gave key.now.name)) }
-        ensures counted { (own.old.tile.gets ≤ own.new.tile.gets) × (own.old.sum.gets ≤ own.new.sum.gets) }
-        ensures parts { (own.new.tile.parts ≡ own.old.tile.parts) × (own.new.sum.parts ≡ own.old.sum.parts) }
+        ensures counted { (passes.old.tile.gets ≤ passes.new.tile.gets) × (passes.old.sum.gets ≤ passes.new.sum.gets) }
+        ensures parts { (passes.new.tile.parts ≡ passes.old.tile.parts) × (passes.new.sum.parts ≡ passes.old.sum.parts) }
     {
         let (_entry, shape) = self.tiles.images().image_of(key)?;
-        match self.made(rt, own, idle, &shape, key) {
+        match self.made(rt, passes, &shape, key) {
             Ok(value) => copied(self.alloc, &*value),
             Err(fault) => Err(fault),
         }
     }
 
     /// What a flight of the key ended with: the sums that it names, or a fault of its source or want of memory. Where another node
-    /// owns the key, that node is asked first. Where it leads the flight, workers that are idle make parts of it.
+    /// owns the key, that node is asked first.
     pub fn get(
         &self,
         rt: &R,
-        own: &mut Passes<J>,
-        idle: &Idle<'_, Passes<J>>,
+        passes: &mut Passes<J>,
         key: &SumKey,
     ) -> Result<Receipt<SumKey, J, SumCalls<J>>, Fault>
         ensures outcome { IfOk result (λ r. IfSome (receipt_known r) (λ x. (arc_value x.key ≡ key.now)
             × OutcomeIs (J.stable key.now.name) J.honest (sum_meaning J.pictures key.now) (sum_is_shaped J.pictures key.now)
             (J.gave key.now.name) x.outcome)) }
-        ensures risen { OnOk result (own.old.sum.gets + 1 ≤ own.new.sum.gets) }
-        ensures refused { OnErr result ((own.new.tile.gets ≡ own.old.tile.gets) × (own.new.sum.gets ≡ own.old.sum.gets)) }
-        ensures counted { (own.old.tile.gets ≤ own.new.tile.gets) × (own.old.sum.gets ≤ own.new.sum.gets) }
-        ensures parts { (own.new.tile.parts ≡ own.old.tile.parts) × (own.new.sum.parts ≡ own.old.sum.parts) }
+        ensures risen { OnOk result (passes.old.sum.gets + 1 ≤ passes.new.sum.gets) }
+        ensures refused { OnErr result ((passes.new.tile.gets ≡ passes.old.tile.gets) × (passes.new.sum.gets ≡ passes.old.sum.gets)) }
+        ensures counted { (passes.old.tile.gets ≤ passes.new.tile.gets) × (passes.old.sum.gets ≤ passes.new.sum.gets) }
+        ensures parts { (passes.new.tile.parts ≡ passes.old.tile.parts) × (passes.new.sum.parts ≡ passes.old.sum.parts) }
         ensures names { IfOk result (λ r. NamesPart J.pictures J.edge key.now.name key.now.edge
             (λ s. SumFitsIn s.dim (channels_of s.kind) key.now)) }
         ensures fault { IfErr result (IsGetFault J.pictures J.edge key.now.name key.now.edge
             (λ s. SumFitsIn s.dim (channels_of s.kind) key.now)) }
     {
         let (_entry, shape) = self.tiles.images().image_of(key)?;
-        self.part(rt, own, idle, &shape, key)
+        self.part(rt, passes, &shape, key)
     }
 
     /// The same by this node alone, whoever owns the key; the owners of its parts are asked. So is served what another node asks.
     pub fn get_local(
         &self,
         rt: &R,
-        own: &mut Passes<J>,
-        idle: &Idle<'_, Passes<J>>,
+        passes: &mut Passes<J>,
         key: &SumKey,
     ) -> Result<Receipt<SumKey, J, SumCalls<J>>, Fault>
         ensures outcome { IfOk result (λ r. IfSome (receipt_known r) (λ x. (arc_value x.key ≡ key.now)
             × OutcomeIs (J.stable key.now.name) J.honest (sum_meaning J.pictures key.now) (sum_is_shaped J.pictures key.now)
             (J.gave key.now.name) x.outcome)) }
-        ensures risen { OnOk result (own.old.sum.gets + 1 ≤ own.new.sum.gets) }
-        ensures refused { OnErr result ((own.new.tile.gets ≡ own.old.tile.gets) × (own.new.sum.gets ≡ own.old.sum.gets)) }
-        ensures counted { (own.old.tile.gets ≤ own.new.tile.gets) × (own.old.sum.gets ≤ own.new.sum.gets) }
-        ensures parts { (own.new.tile.parts ≡ own.old.tile.parts) × (own.new.sum.parts ≡ own.old.sum.parts) }
+        ensures risen { OnOk result (passes.old.sum.gets + 1 ≤ passes.new.sum.gets) }
+        ensures refused { OnErr result ((passes.new.tile.gets ≡ passes.old.tile.gets) × (passes.new.sum.gets ≡ passes.old.sum.gets)) }
+        ensures counted { (passes.old.tile.gets ≤ passes.new.tile.gets) × (passes.old.sum.gets ≤ passes.new.sum.gets) }
+        ensures parts { (passes.new.tile.parts ≡ passes.old.tile.parts) × (passes.new.sum.parts ≡ passes.old.sum.parts) }
         ensures names { IfOk result (λ r. NamesPart J.pictures J.edge key.now.name key.now.edge
             (λ s. SumFitsIn s.dim (channels_of s.kind) key.now)) }
         ensures fault { IfErr result (IsGetFault J.pictures J.edge key.now.name key.now.edge
             (λ s. SumFitsIn s.dim (channels_of s.kind) key.now)) }
     {
         let (_entry, shape) = self.tiles.images().image_of(key)?;
-        match self.sums.begin_local(rt, &mut own.sum, key) {
+        match self.sums.begin_local(rt, &mut passes.sum, key) {
             Ok(Begun::Known(receipt)) => Ok(receipt),
             Ok(Begun::Load(load)) => {
-                let made = self.made(rt, own, idle, &shape, key);
+                let made = self.made(rt, passes, &shape, key);
                 Ok(self.end(rt, load, key, made))
             }
             Err(_) => Err(Fault::NoMemory),

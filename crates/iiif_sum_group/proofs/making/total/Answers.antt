@@ -29,7 +29,8 @@ loop-value-preserved c =
       places = ap (λ (g : Grid). g.rect) c.merge.ensures ∙ c.loop-value.invariant.places;
       channels = ap (λ (g : Grid). g.channels) c.merge.ensures ∙ c.loop-value.invariant.channels;
       sums = total_more sums_in c.args.values.now c.loop-value.value-index c.value-item.result
-          (no_sums c.args.shape.now.dim (channels_of c.args.shape.now.kind) c.args.key.now) c.loop-value.total.sums c.merge.new.self.sums
+          (no_sums c.args.shape.now.dim (channels_of c.args.shape.now.kind) c.args.key.now) c.loop-value.total.sums
+          c.merge.new.self.sums
           c.loop-value-test.true (sym c.value-item.is) c.loop-value.invariant.sums
           (c.merge.ensures ∙ ap (λ (v : SumVal). merged c.loop-value.total.sums v.sums) c.deref.ensures);
     }

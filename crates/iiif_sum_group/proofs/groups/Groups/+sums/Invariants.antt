@@ -1,0 +1,32 @@
+use Rattle.std.proofs.Common.{◌≡◌, ℕ, All, ◌*◌, ◌+◌, ◌≤◌, take}
+use Rattle.std.specs.Prelude.{IsTrue}
+use Rattle.iiif_pixel.specs.Geometry.{channels_of}
+use Rattle.iiif_sum_group.specs.Values.{sums_in, ArePlaces, AreSums}
+use Rattle.iiif_sum_group.proofs.groups.Groups.+sums.Given as goal
+
+-- the parts so far
+abbrev pub invariant-values-loop-part : goal.invariant-values-loop-part
+invariant-values-loop-part g l =
+    record {
+      meant : g.J.System.stable l.key.name → IsTrue g.J.System.honest →
+          AreSums g.J.System.pictures (take l.part-index l.keys) l.values.items;
+      places : ArePlaces l.shape.dim (take l.part-index l.keys) l.values.items;
+      channels : All (λ x. (sums_in x).channels ≡ channels_of l.shape.kind) l.values.items;
+      tile : l.fn.passes.tile.gets ≤ l.passes.tile.gets;
+      sum : l.fn.passes.sum.gets ≤ l.passes.sum.gets;
+      tile_parts : l.passes.tile.parts ≡ l.fn.passes.tile.parts;
+      sum_parts : l.passes.sum.parts ≡ l.fn.passes.sum.parts;
+    }
+
+-- the level falls from a sum to its parts, and a sum is made for its own flight
+abbrev pub decreases-part : goal.decreases-part
+decreases-part g l = 4 * l.key.now.level + 3
+
+abbrev pub decreases-made : goal.decreases-made
+decreases-made g l = 4 * l.key.now.level + 2
+
+abbrev pub decreases-of_parts : goal.decreases-of_parts
+decreases-of_parts g l = 4 * l.key.now.level + 1
+
+abbrev pub decreases-values : goal.decreases-values
+decreases-values g l = 4 * l.key.now.level
