@@ -15,11 +15,9 @@ use iiif_keys::{Fault, SumKey, SumVal, System, TileKey, TileVal};
 use iiif_pixel::Span;
 use iiif_singleflight::{Pass, Receipt};
 use iiif_sum_group::{Passes, SumCalls, TileCalls};
-use iiif_workers::Idle;
 use std::alloc::Global;
 use std::net::{Net, TcpStream};
 use std::sync::{Arc, Wait};
-use std::thread::Threads;
 use std::time::Clock;
 
 /// How a value is called for.
@@ -102,7 +100,7 @@ fn told<J: System>(came: Result<Receipt<TileKey, J, TileCalls<J>>, Fault>) -> To
 }
 
 /// The same of sums.
-pub(crate) fn sums_told<J: System>(came: Result<Receipt<SumKey, J, SumCalls<J>>, Fault>) -> Answer {
+fn sums_told<J: System>(came: Result<Receipt<SumKey, J, SumCalls<J>>, Fault>) -> Answer {
     match came?.outcome() {
         Ok(value) => Ok(sums_of(value)),
         Err(fault) => Err(*fault),
@@ -146,7 +144,7 @@ fn ended<R: Wait + Clock, J: System>(
 }
 
 /// A call for a tile by its group's own calls, of its owner or of this node alone.
-fn begun<R: Net<Stream = TcpStream> + Threads + Wait + Clock + Sync, J: System + Send + Sync>(
+fn begun<R: Net<Stream = TcpStream> + Wait + Clock, J: System>(
     rt: &R,
     alloc: Global,
     node: &Node<'_, R, J>,
@@ -171,10 +169,7 @@ fn begun<R: Net<Stream = TcpStream> + Threads + Wait + Clock + Sync, J: System +
 }
 
 /// What a call for a tile, or its load, comes to.
-pub(crate) fn called<
-    R: Net<Stream = TcpStream> + Threads + Wait + Clock + Sync,
-    J: System + Send + Sync,
->(
+pub(crate) fn called<R: Net<Stream = TcpStream> + Wait + Clock, J: System>(
     rt: &R,
     alloc: Global,
     node: &Node<'_, R, J>,
@@ -199,7 +194,7 @@ pub(crate) fn called<
 }
 
 /// What a call for sums, or their load, comes to.
-fn sums_called<R: Net<Stream = TcpStream> + Threads + Wait + Clock + Sync, J: System + Send + Sync>(
+fn sums_called<R: Net<Stream = TcpStream> + Wait + Clock, J: System>(
     rt: &R,
     alloc: Global,
     node: &Node<'_, R, J>,
@@ -208,11 +203,10 @@ fn sums_called<R: Net<Stream = TcpStream> + Threads + Wait + Clock + Sync, J: Sy
     place: (u8, u32),
 ) -> Answer {
     let key = block_twice(alloc, place.0, place.1)?;
-    let idle = Idle::none(alloc);
     match call {
-        Call::Get => sums_told(node.get(rt, passes, &idle, &key)),
-        Call::GetLocal => sums_told(node.get_local(rt, passes, &idle, &key)),
-        Call::Load => match node.load(rt, passes, &idle, &key) {
+        Call::Get => sums_told(node.get(rt, passes, &key)),
+        Call::GetLocal => sums_told(node.get_local(rt, passes, &key)),
+        Call::Load => match node.load(rt, passes, &key) {
             Ok(value) => Ok(sums_of(&value)),
             Err(fault) => Err(fault),
         },
@@ -229,10 +223,13 @@ pub(crate) fn source<'a, R: Clock, J: System>(node: &'a Node<'_, R, J>) -> Optio
 }
 
 /// What a step comes to.
-pub(crate) fn asked<
-    R: Net<Stream = TcpStream> + Threads + Wait + Clock + Sync,
-    J: System + Send + Sync,
->(rt: &R, alloc: Global, node: &Node<'_, R, J>, passes: &mut Passes<J>, step: &Step) -> Answer {
+pub(crate) fn asked<R: Net<Stream = TcpStream> + Wait + Clock, J: System>(
+    rt: &R,
+    alloc: Global,
+    node: &Node<'_, R, J>,
+    passes: &mut Passes<J>,
+    step: &Step,
+) -> Answer {
     match step {
         Step::Tile(call, at) => called(rt, alloc, node, &mut passes.tile, call, *at).1,
         Step::Sums(call, level, bx) => sums_called(rt, alloc, node, passes, call, (*level, *bx)),

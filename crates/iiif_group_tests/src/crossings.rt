@@ -44,12 +44,7 @@ where
     node: &'a Node<'b, R, J>,
 }
 
-impl<
-    'a,
-    'b,
-    R: Net<Stream = TcpStream> + Threads + Wait + Clock + Sync,
-    J: System + Send + Sync,
-> Serve<R> for Door<'a, 'b, R, J> {
+impl<'a, 'b, R: Net<Stream = TcpStream> + Wait + Clock, J: System> Serve<R> for Door<'a, 'b, R, J> {
     fn serve(&self, rt: &R, alloc: Global, visit: Visit<'_, R>) {
         let Visit {
             mut stream,
@@ -98,7 +93,7 @@ where
 }
 
 /// Whether a node writes these replies for these asks.
-fn is_replied<R: Net<Stream = TcpStream> + Threads + Wait + Clock + Sync, J: System + Send + Sync>(
+fn is_replied<R: Net<Stream = TcpStream> + Wait + Clock, J: System>(
     rt: &R,
     alloc: Global,
     node: &Node<'_, R, J>,
@@ -129,10 +124,11 @@ fn all_exchanges(alloc: Global) -> Option<(Vec<u8>, Vec<u8>)> {
 }
 
 /// Each ask alone gets its reply; and all of them in one connection get theirs in order.
-pub(crate) fn serves<
-    R: Net<Stream = TcpStream> + Threads + Wait + Clock + Sync,
-    J: System + Send + Sync,
->(rt: &R, alloc: Global, node: &Node<'_, R, J>) -> Result<Seen, Fault> {
+pub(crate) fn serves<R: Net<Stream = TcpStream> + Wait + Clock, J: System>(
+    rt: &R,
+    alloc: Global,
+    node: &Node<'_, R, J>,
+) -> Result<Seen, Fault> {
     let mut passes = passes(rt, node).ok_or(ODD)?;
     let mut is_right = true;
     for exchange in EXCHANGES.iter() {

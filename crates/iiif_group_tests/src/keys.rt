@@ -156,25 +156,6 @@ pub(crate) fn block_twice(alloc: Global, level: u8, bx: u32) -> Result<SumKey, F
     }
 }
 
-/// The key of the sums over the whole of `b` scaled to 2 by 2: a block of level 2, of 16 tiles.
-pub(crate) fn deep_block(alloc: Global) -> Result<SumKey, Fault> {
-    let rect = Rect {
-        x: 0,
-        y: 0,
-        w: 8,
-        h: 8,
-    };
-    Ok(SumKey {
-        name: name(alloc, "b")?,
-        edge: 2,
-        rect,
-        size: Dim { w: 2, h: 2 },
-        level: 2,
-        bx: 0,
-        by: 0,
-    })
-}
-
 /// The shape of `g`.
 pub const DEEP: Shape = Shape {
     dim: Dim { w: 2, h: 1 },

@@ -41,7 +41,3 @@ mod run_tests;
 mod runs;
 #[cfg(test)]
 mod scenes;
-#[cfg(test)]
-mod sharing_tests;
-#[cfg(test)]
-mod sharings;

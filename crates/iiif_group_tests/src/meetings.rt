@@ -51,12 +51,7 @@ where
 /// What a call came to, and its pass.
 type Came<J> = Option<(Told, Pass<TileCalls<J>>)>;
 
-impl<
-    'a,
-    'b,
-    R: Net<Stream = TcpStream> + Threads + Wait + Clock + Sync,
-    J: System + Send + Sync,
-> Act<R> for Caller<'a, 'b, R, J> {
+impl<'a, 'b, R: Net<Stream = TcpStream> + Wait + Clock, J: System> Act<R> for Caller<'a, 'b, R, J> {
     type Came = Came<J>;
 
     fn act(&self, rt: &R) -> Came<J> {
@@ -244,12 +239,7 @@ where
     pub crossing: Option<&'a Crossing<'a>>,
 }
 
-impl<
-    'a,
-    'b,
-    R: Net<Stream = TcpStream> + Threads + Wait + Clock + Sync,
-    J: System + Send + Sync,
-> Act<R> for Asker<'a, 'b, R, J> {
+impl<'a, 'b, R: Net<Stream = TcpStream> + Wait + Clock, J: System> Act<R> for Asker<'a, 'b, R, J> {
     type Came = Answer;
 
     fn act(&self, rt: &R) -> Answer {

@@ -41,31 +41,15 @@ const DEEP: &[u8] = &[
     0x04, 0x00, 0x01, 0x00, 0x00, 0x00, 0x04, 0x00, 0x00, 0x00, 0x00, 0x00, 0x00, 0x00,
 ];
 
-/// A TIFF file of 8 by 8 gray samples: 3 more for each column, and 24 more for each row.
-const WIDE: &[u8] = &[
-    73, 73, 42, 0, 72, 0, 0, 0, 0, 3, 6, 9, 12, 15, 18, 21, 24, 27, 30, 33, 36, 39, 42, 45, 48, 51,
-    54, 57, 60, 63, 66, 69, 72, 75, 78, 81, 84, 87, 90, 93, 96, 99, 102, 105, 108, 111, 114, 117,
-    120, 123, 126, 129, 132, 135, 138, 141, 144, 147, 150, 153, 156, 159, 162, 165, 168, 171, 174,
-    177, 180, 183, 186, 189, 9, 0, 0, 1, 3, 0, 1, 0, 0, 0, 8, 0, 0, 0, 1, 1, 3, 0, 1, 0, 0, 0, 8,
-    0, 0, 0, 2, 1, 3, 0, 1, 0, 0, 0, 8, 0, 0, 0, 3, 1, 3, 0, 1, 0, 0, 0, 1, 0, 0, 0, 6, 1, 3, 0, 1,
-    0, 0, 0, 1, 0, 0, 0, 17, 1, 4, 0, 1, 0, 0, 0, 8, 0, 0, 0, 21, 1, 3, 0, 1, 0, 0, 0, 1, 0, 0, 0,
-    22, 1, 3, 0, 1, 0, 0, 0, 8, 0, 0, 0, 23, 1, 4, 0, 1, 0, 0, 0, 64, 0, 0, 0, 0, 0, 0, 0,
-];
-
-/// The images of a node: their names, their files, and which of their reads fails first. Of `a` and `b` it is said by the node's own setup.
-static IMAGES: [(&str, &[u8], u64); 4] = [
-    ("a", SAMPLE, 0),
-    ("b", WIDE, 0),
-    ("g", DEEP, 99),
-    ("f", SAMPLE, 1),
-];
+/// The images of a node: their names, their files, and which of their reads fails first. Of `a` it is said by the node's own setup.
+static IMAGES: [(&str, &[u8], u64); 3] = [("a", SAMPLE, 0), ("g", DEEP, 99), ("f", SAMPLE, 1)];
 
 /// How a node is set up.
 #[derive(Drop)]
 pub(crate) struct Setup<'a> {
-    /// Which read of the image `a`, or of `b`, fails first.
+    /// Which read of the image `a` fails first.
     pub fuse: u64,
-    /// Whether the first read of each of these waits until another is inside.
+    /// Whether the first read of `a` waits until another is inside.
     pub meets: bool,
     /// Whether the node owns its keys. Else another owns all of them.
     pub stands: bool,

@@ -13,7 +13,6 @@ use std::alloc::Global;
 use std::net::{Net, TcpStream};
 use std::sync::Wait;
 use std::sync::ledger::Ledger;
-use std::thread::Threads;
 use std::time::Clock;
 
 /// Steps, and what each comes to.
@@ -28,7 +27,7 @@ pub(crate) struct Stages {
 }
 
 /// Whether each step came to what was wanted, and whether memory was wanted for one of them, which was made once more then.
-fn stepped<R: Net<Stream = TcpStream> + Threads + Wait + Clock + Sync, J: System + Send + Sync>(
+fn stepped<R: Net<Stream = TcpStream> + Wait + Clock, J: System>(
     rt: &R,
     alloc: Global,
     node: &Node<'_, R, J>,
@@ -49,7 +48,7 @@ fn stepped<R: Net<Stream = TcpStream> + Threads + Wait + Clock + Sync, J: System
 }
 
 /// What was counted, and the share that was home, where all passes but these are. Then all is home: gathered again it is the same.
-pub(crate) fn gathered<K: CacheKey, J: System, L: Ledger, N, T, R: Wait>(
+fn gathered<K: CacheKey, J: System, L: Ledger, N, T, R: Wait>(
     rt: &R,
     alloc: Global,
     group: &Group<K, J, L, N, T>,
@@ -112,10 +111,7 @@ pub(crate) fn done<R: Clock, J: System>(node: &Node<'_, R, J>, gate: &Bar) -> Do
 }
 
 /// What is seen of steps.
-pub(crate) fn ran<
-    R: Net<Stream = TcpStream> + Threads + Wait + Clock + Sync,
-    J: System + Send + Sync,
->(
+pub(crate) fn ran<R: Net<Stream = TcpStream> + Wait + Clock, J: System>(
     rt: &R,
     alloc: Global,
     node: &Node<'_, R, J>,

@@ -10,7 +10,6 @@ use crate::doorways::{Doorway, Reads};
 use crate::meetings::{Meeting, crowded, met, overlapped};
 use crate::nodes::{NO_COUNTS, Node, Setup, catalogue, shared};
 use crate::runs::{Stages, Steps, gives_out, ran};
-use crate::sharings::shared_out;
 use iiif_images::{Catalogue, Images};
 use iiif_keys::{Fault, System};
 use iiif_source::Source;
@@ -34,8 +33,6 @@ pub(crate) enum Scene {
     Crowds(Meeting),
     /// Two steps at once, and what each comes to. Their reads of the source overlap.
     Overlaps(Steps),
-    /// Sums of sixteen tiles are called for by one of so many workers, while the others are idle.
-    Shares(u32),
     /// All asks of other nodes are replied to.
     Replies,
     /// So many passes are given out, and no more.
@@ -97,7 +94,6 @@ where
         Scene::Meets(meeting) => met(rt, alloc, node, setup.gate, meeting),
         Scene::Crowds(meeting) => crowded(rt, alloc, node, setup.gate, meeting),
         Scene::Overlaps(steps) => overlapped(rt, alloc, node, setup.gate, steps),
-        Scene::Shares(workers) => shared_out(rt, alloc, node, setup.gate, *workers),
         Scene::Replies => serves(rt, alloc, node),
         Scene::GivesOut(count) => Ok(gives_out(rt, node, *count)),
         Scene::Crosses => crossed(rt, alloc, node, setup),
