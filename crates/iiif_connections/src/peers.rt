@@ -11,7 +11,6 @@ use iiif_start::Stored;
 use std::alloc::Global;
 use std::sync::Wait;
 use std::sync::ledger::Ledger;
-use std::thread::Threads;
 use std::time::{Clock, Duration};
 
 /// A node as other nodes have it.
@@ -31,14 +30,11 @@ where
 
 impl<
     'a,
-    R: Opens + Threads + Wait + Clock + Sync,
-    J: System + Send + Sync,
-    N: Link<TileKey, J, R> + Link<SumKey, J, R> + Sync,
-    T: Gate<R> + Sync,
-> PeerCalls<'a, R, J, N, T>
-where
-    R::Handle: Send + Sync,
-{
+    R: Opens + Wait + Clock,
+    J: System,
+    N: Link<TileKey, J, R> + Link<SumKey, J, R>,
+    T: Gate<R>,
+> PeerCalls<'a, R, J, N, T> {
     /// Answers the asks of a connection in order, and closes it. It says whether the connection was served: where a pass is wanting, it is
     /// closed unanswered.
     fn answer(&self, rt: &R, alloc: Global, visit: Visit<'_, R>) -> bool {

@@ -17,14 +17,13 @@ use iiif_source::Source;
 use iiif_sum_group::{Gate, Link, Passes};
 use std::alloc::Global;
 use std::sync::Wait;
-use std::thread::Threads;
 
 impl<
-    R: Threads + Wait + Sync,
-    S: Source<R> + Drop + Sync,
-    J: System + Send + Sync,
-    N: Link<TileKey, J, R> + Link<SumKey, J, R> + Sync,
-    T: Gate<R> + Sync,
+    R: Wait,
+    S: Source<R> + Drop,
+    J: System,
+    N: Link<TileKey, J, R> + Link<SumKey, J, R>,
+    T: Gate<R>,
 > Answers<R, Passes<J>> for Node<R, S, J, N, T> {
     ghost answers = { λ node version group key status value.
         RepliesToAsk S.bytes S.gave S.keeps J.honest node version group key status value };
@@ -40,11 +39,11 @@ impl<
 }
 
 impl<
-    R: Threads + Wait + Sync,
-    S: Source<R> + Drop + Sync,
-    J: System + Send + Sync,
-    N: Link<TileKey, J, R> + Link<SumKey, J, R> + Sync,
-    T: Gate<R> + Sync,
+    R: Wait,
+    S: Source<R> + Drop,
+    J: System,
+    N: Link<TileKey, J, R> + Link<SumKey, J, R>,
+    T: Gate<R>,
 > Node<R, S, J, N, T> {
     /// Answers the asks of another node's connection in order, each in its version with a reply of its key, until the input ends, an
     /// ask is at fault, a reply is cut off, or the 1,000th ask was answered. Then the connection is to be closed. No other node is asked
