@@ -1,7 +1,8 @@
 -- What the events of asks and replies come to, from the rows that they read.
-use Rattle.std.proofs.Common.{◌≡◌, ℕ, [], ◌∷◌, length, Option, Some, None, Result, Ok, Err, refl, sym, ap, ◌∙◌, IfErr}
+use Rattle.std.proofs.Common.{◌≡◌, ℕ, [], ◌∷◌, length, Bool, true, false, Option, Some, None, Result, Ok, Err, refl, sym, ap, ◌∙◌, IfErr}
+use Rattle.std.proofs.Common.{true≢false}
 use Rattle.std.specs.Prelude.{slice_get}
-use Rattle.std.proofs.lemmas.Option.{none-some}
+use Rattle.std.proofs.lemmas.Option.{none-some, same_Some}
 use Rattle.iiif_machine.specs.Types.{Key}
 use Rattle.iiif_machine.specs.Tables.{Local, Outcome}
 use Rattle.iiif_machine.specs.Rows.{Node}
@@ -21,6 +22,7 @@ use Rattle.iiif_machine.specs.declared.events.WorldFault.{WorldFault}
 use Rattle.iiif_machine.specs.declared.events.WorldFault.TheVariants.{NotNow, NoMemory}
 use Rattle.iiif_machine.specs.Steps.{after_take, after_lose, after_go_local, after_reply, caller_serving, stage_taken, step}
 use Rattle.iiif_machine.specs.Worlds.{World, ◌>>=◌, learned, speaker, with_calls, with_reply, with_stage}
+use Rattle.iiif_world.specs.Entering.{takes}
 use Rattle.iiif_world.proofs.Stepped.{bind_by, bind_none}
 
 -- where an event is allowed, an error is want of memory
@@ -58,14 +60,12 @@ unfolding step
 serve_is w a q n at there speaks =
     bind_by (slice_get w.asks a) _ q at (bind_by (slice_get w.nodes q.node) _ n there (bind_by (speaker n q.version) _ n speaks refl))
 
-pub serve_done : (w v : World) (a : ℕ) (q : Ask) (n : Node) (k : Key) → slice_get w.asks a ≡ Some q → slice_get w.nodes q.node ≡ Some n →
-    speaker n q.version ≡ Some n →
-    k ≡ q.key → v ≡ with_calls w (record { node = q.node; key = k; class = Local; purpose = ForAsk a } ∷ []) →
+pub serve_done : (w v : World) (a : ℕ) (q : Ask) (n : Node) (who : Caller) → slice_get w.asks a ≡ Some q →
+    slice_get w.nodes q.node ≡ Some n → speaker n q.version ≡ Some n → who ≡ caller_serving a q → v ≡ with_calls w (who ∷ []) →
     step w (event.Serve a) ≡ Some v
-serve_done w v a q n k at there speaks hk hv =
+serve_done w v a q n who at there speaks hw hv =
     serve_is w a q n at there speaks
-    ∙ ap (λ (x : World). Some x) (sym (hv ∙ ap
-    (λ (x : Key). with_calls w (record { node = q.node; key = x; class = Local; purpose = ForAsk a } ∷ [])) hk))
+    ∙ ap (λ (x : World). Some x) (sym (hv ∙ ap (λ (x : Caller). with_calls w (x ∷ [])) hw))
 
 pub reply_none : (w : World) (c : ℕ) → slice_get w.calls c ≡ None → step w (event.Reply c) ≡ None
 unfolding step
@@ -135,25 +135,43 @@ unfolding step
 take_by w f r x y s o at sent stage is =
     bind_by (slice_get w.flights f) _ x at (bind_by (slice_get w.replies r) _ y sent (ap (after_take w f x.lead y) stage ∙ is))
 
-no_take : (w : World) (f : ℕ) (l : Lead) (y : Reply) (s : Stage) → (s ≡ Asking → ⊥) → ((o : Option Outcome) → s ≡ Ended o → ⊥) →
-    after_take w f l y s ≡ None
-no_take w f l y Asking a b = absurd (a refl)
-no_take w f l y (Ended o) a b = absurd (b o refl)
-no_take w f l y New a b = refl
-no_take w f l y Looked a b = refl
-no_take w f l y (Fallback c) a b = refl
-no_take w f l y (Parts cs) a b = refl
-no_take w f l y (Ready o p) a b = refl
+takes_none : (w : World) (f : ℕ) (l : Lead) (y : Reply) (s : Stage) → takes s ≡ None → after_take w f l y s ≡ None
+takes_none w f l y Asking none = absurd (none-some true (sym none))
+takes_none w f l y (Ended x) none = absurd (none-some false (sym none))
+takes_none w f l y New none = refl
+takes_none w f l y Looked none = refl
+takes_none w f l y (Fallback c) none = refl
+takes_none w f l y (Parts cs) none = refl
+takes_none w f l y (Ready x p) none = refl
 
 pub take_other : (w : World) (f r : ℕ) (x : Flight) (y : Reply) → slice_get w.flights f ≡ Some x → slice_get w.replies r ≡ Some y →
-    (x.stage ≡ Asking → ⊥) →
-    ((o : Option Outcome) → x.stage ≡ Ended o → ⊥) → step w (event.Take f r) ≡ None
-take_other w f r x y at sent a b = take_by w f r x y x.stage None at sent refl (no_take w f x.lead y x.stage a b)
+    takes x.stage ≡ None → step w (event.Take f r) ≡ None
+take_other w f r x y at sent none = take_by w f r x y x.stage None at sent refl (takes_none w f x.lead y x.stage none)
 
-pub take_ended : (w : World) (f r : ℕ) (x : Flight) (y : Reply) (o : Option Outcome) → slice_get w.flights f ≡ Some x →
-    slice_get w.replies r ≡ Some y → x.stage ≡ Ended o →
-    step w (event.Take f r) ≡ Some w
-take_ended w f r x y o at sent ended = take_by w f r x y (Ended o) (Some w) at sent ended refl
+-- the stage, by what it takes
+
+pub asks_by : (s : Stage) (b : Bool) → Some b ≡ takes s → b ≡ true → s ≡ Asking
+asks_by Asking b is so = refl
+asks_by (Ended x) b is so = absurd (true≢false (sym so ∙ same_Some b false is))
+asks_by New b is so = absurd (none-some b (sym is))
+asks_by Looked b is so = absurd (none-some b (sym is))
+asks_by (Fallback c) b is so = absurd (none-some b (sym is))
+asks_by (Parts cs) b is so = absurd (none-some b (sym is))
+asks_by (Ready x p) b is so = absurd (none-some b (sym is))
+
+take_ended_at : (w : World) (f r : ℕ) (x : Flight) (y : Reply) (s : Stage) (b : Bool) → slice_get w.flights f ≡ Some x →
+    slice_get w.replies r ≡ Some y → x.stage ≡ s → Some b ≡ takes s → b ≡ false → step w (event.Take f r) ≡ Some w
+take_ended_at w f r x y Asking b at sent stage is not = absurd (true≢false (same_Some true b (sym is) ∙ not))
+take_ended_at w f r x y (Ended o) b at sent stage is not = take_by w f r x y (Ended o) (Some w) at sent stage refl
+take_ended_at w f r x y New b at sent stage is not = absurd (none-some b (sym is))
+take_ended_at w f r x y Looked b at sent stage is not = absurd (none-some b (sym is))
+take_ended_at w f r x y (Fallback c) b at sent stage is not = absurd (none-some b (sym is))
+take_ended_at w f r x y (Parts cs) b at sent stage is not = absurd (none-some b (sym is))
+take_ended_at w f r x y (Ready o p) b at sent stage is not = absurd (none-some b (sym is))
+
+pub take_ended : (w : World) (f r : ℕ) (x : Flight) (y : Reply) (b : Bool) → slice_get w.flights f ≡ Some x →
+    slice_get w.replies r ≡ Some y → Some b ≡ takes x.stage → b ≡ false → step w (event.Take f r) ≡ Some w
+take_ended w f r x y b at sent is not = take_ended_at w f r x y x.stage b at sent refl is not
 
 pub take_is : (w : World) (f r : ℕ) (x : Flight) (y : Reply) → slice_get w.flights f ≡ Some x → slice_get w.replies r ≡ Some y →
     x.stage ≡ Asking →

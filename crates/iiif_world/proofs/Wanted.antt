@@ -19,6 +19,7 @@ use Rattle.iiif_machine.specs.Worlds.{World, version_shown, speaker, call_for, f
 use Rattle.iiif_machine.specs.declared.events.Event.TheVariants.{Want}
 use Rattle.iiif_machine.specs.declared.rows.Answer.TheVariants.{Refused}
 use Rattle.iiif_machine.specs.declared.rows.Call.{Call}
+use Rattle.iiif_machine.specs.declared.rows.Progress.{Progress}
 use Rattle.iiif_machine.specs.declared.rows.Progress.TheVariants.{Waiting, Answered}
 use Rattle.iiif_machine.specs.declared.rows.Purpose.TheVariants.{ForRequest}
 use Rattle.iiif_machine.specs.declared.rows.Wish.{Wish}
@@ -40,13 +41,14 @@ planned s name p r plan d k proper shown hd hk h =
     (subst (λ (n : ℕ). HasItems name s.edge (dim_of p) n s.room r plan) channels
     (subst (λ (x : Dim). HasItems name s.edge x (channels_of k) s.room r plan) hd h)))
 
-pub accepted_done : (w : World) (q : Wish) (n : Node) (p : Picture) (r : Resolved) (ks : List Key) (cs : List Call) (ns : List ℕ) →
+pub accepted_done : (w : World) (q : Wish) (n : Node) (p : Picture) (r : Resolved) (ks : List Key) (cs : List Call) (ns : List ℕ)
+    (x : Progress) →
     slice_get w.nodes q.node ≡ Some n →
     w.scene.shows q.name ≡ Some p → speaker n (version_shown p) ≡ Some n → resolved w.scene p q.request ≡ Ok r →
     ks ≡ items w.scene q.name p r → ns ≡ numbers (length w.calls) ks →
-    cs ≡ map fresh (map (call_for q.node n (ForRequest (length w.requests))) ks) →
-    step w (Want q.node q.name q.request) ≡ Some (record (with_request w q (Waiting r ns)) { calls = w.calls ++ cs })
-accepted_done w q n p r ks cs ns there shown speaks solved hk hn hc =
+    cs ≡ map fresh (map (call_for q.node n (ForRequest (length w.requests))) ks) → x ≡ Waiting r ns →
+    step w (Want q.node q.name q.request) ≡ Some (record (with_request w q x) { calls = w.calls ++ cs })
+accepted_done w q n p r ks cs ns progress there shown speaks solved hk hn hc hp =
     want_is w q.node q.name q.request n p there shown speaks
     ∙ ap (λ (x : Result Resolved Refusal). Some (after_want w n p q x)) solved
     ∙ ap (λ (x : List Key). Some (record (with_request w q (Waiting r (numbers (length w.calls) x)))
@@ -54,6 +56,7 @@ accepted_done w q n p r ks cs ns there shown speaks solved hk hn hc =
     ∙ ap (λ (x : List ℕ). Some (record (with_request w q (Waiting r x))
     { calls = w.calls ++ map fresh (map (call_for q.node n (ForRequest (length w.requests))) ks) })) (sym hn)
     ∙ ap (λ (x : List Call). Some (record (with_request w q (Waiting r ns)) { calls = w.calls ++ x })) (sym hc)
+    ∙ ap (λ (x : Progress). Some (record (with_request w q x) { calls = w.calls ++ cs })) (sym hp)
 
 append_nil : (xs : List Call) → xs ≡ xs ++ []
 append_nil [] = refl

@@ -1,5 +1,5 @@
--- Calls that are to enter.
-use Rattle.std.specs.Prelude.{◌≡◌, ℕ, Option, Some, slice_get}
+-- Calls that are to enter, and flights that take replies.
+use Rattle.std.specs.Prelude.{◌≡◌, ℕ, Bool, true, false, Option, Some, None, slice_get}
 use Rattle.iiif_tables.specs.Cache.{Kept, kept_for}
 use Rattle.iiif_scene.specs.Keys.{key_eq}
 use Rattle.iiif_scene.specs.declared.keys.Value.{Value}
@@ -9,6 +9,7 @@ use Rattle.iiif_machine.specs.declared.rows.CallState.{CallState}
 use Rattle.iiif_machine.specs.declared.rows.Lead.{Lead}
 use Rattle.iiif_machine.specs.declared.rows.Stage.{Stage}
 use Rattle.iiif_machine.specs.declared.rows.CallState.TheVariants.{Fresh}
+use Rattle.iiif_machine.specs.declared.rows.Stage.TheVariants.{New, Looked, Asking, Fallback, Parts, Ready, Ended}
 use Rattle.iiif_machine.specs.Worlds.{World, table_at}
 
 -- the call is fresh, and this is kept for its key at its node
@@ -24,6 +25,16 @@ pub record HasCall (w : World) (c : ℕ) (who : Caller) (n : Node) : Type 0 wher
   pub state : CallState
   pub call : slice_get w.calls c ≡ Some (record { caller = who; state = state })
   pub there : slice_get w.nodes who.node ≡ Some n
+
+-- whether a flight at a stage takes what a reply brings, or nothing; none, where no reply may come
+abbrev pub takes : Stage → Option Bool
+takes Asking = Some true
+takes (Ended o) = Some false
+takes New = None
+takes Looked = None
+takes (Fallback c) = None
+takes (Parts cs) = None
+takes (Ready o p) = None
 
 -- a flight has this lead, whose node is this one
 pub record HasFlight (w : World) (f : ℕ) (l : Lead) (n : Node) : Type 0 where

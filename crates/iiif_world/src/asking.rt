@@ -1,13 +1,14 @@
 //! The events of asks and replies.
 
 ghost use Rattle.std.specs.Prelude.{◌≡◌, Some, None, IfErr, IfOk, OnErr, OnOk};
-ghost use Rattle.iiif_machine.specs.Steps.{stage_taken, step};
+ghost use Rattle.iiif_machine.specs.Steps.{caller_serving, stage_taken, step};
 ghost use Rattle.iiif_machine.specs.declared.events.Event.{Event};
 ghost use Rattle.iiif_machine.specs.declared.events.WorldFault.{WorldFault};
 ghost use Rattle.iiif_world.specs.Code.{world_of};
+ghost use Rattle.iiif_world.specs.Entering.{takes};
 
 use crate::contents::Contents;
-use iiif_machine::{Caller, Purpose, Reply, Stage, WorldFault};
+use iiif_machine::{Ask, Caller, Purpose, Reply, Stage, WorldFault};
 use iiif_pixel::NoMemory;
 use iiif_plain_tables::keys::{copied, same};
 use iiif_scene::Key;
@@ -30,6 +31,31 @@ fn taken(alloc: Global, key: &Key, reply: &Reply) -> Result<Stage, NoMemory>
     }
 }
 
+/// Whether a flight at a stage takes what a reply brings: `true` while it asks; `false` once it has ended, where a reply changes
+/// nothing; none at another stage, where no reply may come.
+fn takes(stage: &Stage) -> Option<bool>
+    ensures { result ≡ takes stage.now }
+{
+    match stage {
+        Stage::Asking => Some(true),
+        Stage::Ended(_) => Some(false),
+        _ => None,
+    }
+}
+
+/// The call by which a node serves an ask. It is of the local class, which asks no other node.
+fn caller_serving(ask: usize, asked: &Ask) -> Result<Caller, NoMemory>
+    ensures { IfOk result (λ who. who ≡ caller_serving ask asked.now) }
+{
+    let class = Class::Local;
+    Ok(Caller {
+        node: asked.node,
+        key: asked.key.copy()?,
+        class,
+        purpose: Purpose::ForAsk(ask),
+    })
+}
+
 impl Contents {
     /// The asked node, where it speaks the ask's version, serves it by a local call.
     pub(crate) fn serve(&mut self, ask: usize) -> Result<(), WorldFault>
@@ -47,13 +73,7 @@ impl Contents {
         if !node.speaks(asked.version) {
             return Err(WorldFault::NotNow);
         }
-        let class = Class::Local;
-        let caller = Caller {
-            node: asked.node,
-            key: asked.key.copy()?,
-            class,
-            purpose: Purpose::ForAsk(ask),
-        };
+        let caller = caller_serving(ask, asked)?;
         self.add_call(caller)?;
         Ok(())
     }
@@ -92,10 +112,11 @@ impl Contents {
         let Some(sent) = self.reply_at(reply) else {
             return Err(WorldFault::NotNow);
         };
-        match row.stage {
-            Stage::Asking => {}
-            Stage::Ended(_) => return Ok(()),
-            _ => return Err(WorldFault::NotNow),
+        let Some(asks) = takes(&row.stage) else {
+            return Err(WorldFault::NotNow);
+        };
+        if !asks {
+            return Ok(());
         }
         let stage = taken(*self.calls.allocator(), &row.lead.key, sent)?;
         self.set_stage(flight, stage);

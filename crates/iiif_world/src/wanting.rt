@@ -9,6 +9,7 @@ ghost use Rattle.iiif_machine.specs.Steps.{step};
 ghost use Rattle.iiif_machine.specs.Worlds.{speaker, version_shown, with_request};
 ghost use Rattle.iiif_machine.specs.declared.events.Event.{Event};
 ghost use Rattle.iiif_machine.specs.declared.events.WorldFault.{WorldFault};
+ghost use Rattle.iiif_machine.specs.declared.rows.Progress.{Progress};
 ghost use Rattle.iiif_plain_tables.specs.Nodes.{node_of};
 ghost use Rattle.iiif_world.specs.Code.{world_of};
 
@@ -37,6 +38,13 @@ fn kind_of(picture: &Raster) -> Kind
     ensures { result ≡ kind_of picture.now }
 {
     picture.kind()
+}
+
+/// A request that is accepted waits for these calls.
+fn waits(resolved: Resolved, calls: Vec<usize>) -> Progress
+    ensures { result ≡ Progress.Waiting resolved calls.items }
+{
+    Progress::Waiting(resolved, Numbers::new(calls))
 }
 
 impl Contents {
@@ -97,7 +105,7 @@ impl Contents {
         let numbers = numbers_of(alloc, self.calls.len(), keys.len())?;
         let purpose = Purpose::ForRequest(self.requests.len());
         let calls = calls_of(alloc, wish.node, at, purpose, keys)?;
-        let progress = Progress::Waiting(resolved, Numbers::new(numbers));
+        let progress = waits(resolved, numbers);
         Ok((Wanted { wish, progress }, calls))
     }
 

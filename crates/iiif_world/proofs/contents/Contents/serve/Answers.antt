@@ -17,8 +17,8 @@ returns-then-not-speaks-clause-not_now c = λ same.
     serve_mute (world_of c.args.self.now) c.args.ask c.in-Some.asked.now (node_of c.in-Some-node_at.node.now) c.in-Some.ensures
     c.in-Some-node_at.ensures (c.if-not-speaks.ensures.no refl)
 
-pub returns-in_err-copy-clause-no_memory : goal.returns-in_err-copy-clause-no_memory
-returns-in_err-copy-clause-no_memory c =
+pub returns-in_err-caller-clause-no_memory : goal.returns-in_err-caller-clause-no_memory
+returns-in_err-caller-clause-no_memory c =
     memory_wanted (world_of c.args.self.now) _ (Serve c.args.ask) c.from_residual.result
     (serve_is (world_of c.args.self.now) c.args.ask c.in-Some.asked.now (node_of c.in-Some-node_at.node.now) c.in-Some.ensures
     c.in-Some-node_at.ensures (c.if-not-speaks.ensures.yes refl))
@@ -32,5 +32,5 @@ returns-in_err-add_call-clause-no_memory c =
 pub returns-clause-ok : goal.returns-clause-ok
 returns-clause-ok c =
     serve_done (world_of c.args.self.now) (world_of c.add_call.new.self) c.args.ask c.in-Some.asked.now (node_of c.in-Some-node_at.node.now)
-    c.in_ok-copy.field-0 c.in-Some.ensures
-    c.in-Some-node_at.ensures (c.if-not-speaks.ensures.yes refl) c.in_ok-copy.ensures c.in_ok-add_call.ensures.ok
+    c.in_ok-caller.caller c.in-Some.ensures
+    c.in-Some-node_at.ensures (c.if-not-speaks.ensures.yes refl) c.in_ok-caller.ensures c.in_ok-add_call.ensures.ok
