@@ -1,5 +1,6 @@
 -- What an event leaves sound.
 use Rattle.std.proofs.Common.{◌≡◌, ◌<◌, ◌+◌, ◌++◌, ℕ, List, [], ◌∷◌, length, get_or, take, Option, Some, None, refl, sym, ap, subst, ◌∙◌}
+use Rattle.std.specs.Prelude.{slice_get}
 use Rattle.std.proofs.lemmas.List.{take_more}
 use Rattle.std.proofs.lemmas.Option.{none-some, same_Some}
 use Rattle.iiif_scene.specs.Scenes.{IsProper}
@@ -8,8 +9,11 @@ use Rattle.iiif_machine.specs.Worlds.{World, ◌>>=◌}
 use Rattle.iiif_machine.specs.Steps.{step, run}
 use Rattle.iiif_machine.specs.Promises.{After, Follows}
 use Rattle.iiif_machine.specs.declared.events.Event.{Event}
+use Rattle.iiif_machine.specs.declared.events.WorldFault.{WorldFault}
+use Rattle.iiif_machine.specs.declared.events.WorldFault.TheVariants.{NotNow, NoMemory}
 use Rattle.iiif_machine.proofs.Promised.{each_step}
 use Rattle.iiif_world.specs.Code.{IsSoundWorld}
+use Rattle.iiif_world.specs.Stepping.{IsFault, RunsCompose, StopsAt}
 use Rattle.iiif_world.proofs.Stepped.{bind_by}
 
 abbrev Goes : World → World → Type 0
@@ -32,14 +36,30 @@ more_by : (o : Option World) (v u : World) (f g : World → Option World) → ((
 more_by None v u f g h is = absurd (none-some v is)
 more_by (Some z) v u f g h is = h z is
 
-run_more : (w v u : World) (es : List Event) (e : Event) → run w es ≡ Some v → step v e ≡ Some u → run w (es ++ e ∷ []) ≡ Some u
+pub runs_compose : RunsCompose
 unfolding run
-run_more w v u [] e is next = bind_by (step w e) (λ z. run z []) u (ap (λ (z : World). step z e) (same_Some w v is) ∙ next) refl
-run_more w v u (x ∷ es) e is next = more_by (step w x) v u (λ z. run z es) (λ z. run z (es ++ e ∷ [])) (λ z h. run_more z v u es e h next)
-    is
+runs_compose w v u [] fs is next = ap (λ (z : World). run z fs) (same_Some w v is) ∙ next
+runs_compose w v u (x ∷ es) fs is next = more_by (step w x) v u (λ z. run z es) (λ z. run z (es ++ fs))
+    (λ z h. runs_compose z v u es fs h next) is
+
+one_run : (w v : World) (e : Event) → step w e ≡ Some v → run w (e ∷ []) ≡ Some v
+unfolding run
+one_run w v e is = bind_by (step w e) (λ z. run z []) v is refl
 
 pub run_next : (w v u : World) (es : List Event) (i : ℕ) (e : Event) → i < length es → e ≡ get_or es i e → run w (take i es) ≡ Some v →
     step v e ≡ Some u →
     run w (take (i + 1) es) ≡ Some u
 run_next w v u es i e less is before next =
-    ap (run w) (take_more es i e less ∙ ap (λ (x : Event). take i es ++ x ∷ []) (sym is)) ∙ run_more w v u (take i es) e before next
+    ap (run w) (take_more es i e less ∙ ap (λ (x : Event). take i es ++ x ∷ []) (sym is)) ∙
+    runs_compose w v u (take i es) (e ∷ []) before (one_run v u e next)
+
+why_by : (v : World) (e : Event) (f : WorldFault) → (f ≡ NotNow → step v e ≡ None) → (f ≡ NoMemory → ¬ (step v e ≡ None)) → IsFault v e f
+why_by v e NotNow not_now no_memory = not_now refl
+why_by v e NoMemory not_now no_memory = no_memory refl
+
+-- an event that does nothing stops the list
+pub stops_by : (w v u : World) (es : List Event) (i : ℕ) (e : Event) (f : WorldFault) → run w (take i es) ≡ Some v →
+    slice_get es i ≡ Some e →
+    u ≡ v → (f ≡ NotNow → step v e ≡ None) → (f ≡ NoMemory → ¬ (step v e ≡ None)) → StopsAt w es i f u
+stops_by w v u es i e f before at same not_now no_memory =
+    subst (StopsAt w es i f) (sym same) (record { event = e; before = before; there = at; why = why_by v e f not_now no_memory })

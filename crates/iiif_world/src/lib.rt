@@ -6,6 +6,7 @@ pub mod contents;
 mod entering;
 mod knowing;
 mod landing;
+pub mod laws;
 mod loading;
 mod making;
 mod settling;

@@ -23,17 +23,15 @@ impl Model for World {
 }
 
 impl World {
-    ghost use Rattle.std.specs.Prelude.{◌≡◌, ℕ, length, take, slice_get, Some, None, IfErr, IfOk, OnErr, OnOk, MatchOption};
+    ghost use Rattle.std.specs.Prelude.{◌≡◌, length, take, slice_get, Some, None, IfErr, IfOk, OnErr, OnOk, MatchOption, MatchResult};
     ghost use Rattle.iiif_machine.specs.Steps.{run, step};
     ghost use Rattle.iiif_machine.specs.Worlds.{answers};
-    ghost use Rattle.iiif_machine.specs.Worlds as worlds;
     ghost use Rattle.iiif_machine.specs.Promises.{Follows};
     ghost use Rattle.iiif_machine.specs.Headline.{Headline};
-    ghost use Rattle.iiif_machine.specs.declared.events.Event.{Event};
     ghost use Rattle.iiif_machine.specs.declared.rows.Answer.{Answer};
     ghost use Rattle.iiif_machine.specs.declared.events.WorldFault.{WorldFault};
     ghost use Rattle.iiif_world.specs.Code.{world_of, IsSoundWorld};
-    ghost use Rattle.iiif_world.specs.Stepping.{AreRightAnswers, IsRightAnswer};
+    ghost use Rattle.iiif_world.specs.Stepping.{AreRightAnswers, IsRightAnswer, StopsAt};
 
     /// The world of these contents.
     pub(crate) fn of(contents: Contents) -> World
@@ -92,30 +90,28 @@ impl World {
         self.contents().answers()
     }
 
-    /// Events, one after another.
+    /// Events, one after another. The world is the one after those that were done, also where it stops at one.
     ///
     /// # Errors
     ///
     /// The place of the first event that was not allowed, with `NotNow`; or of one that was, and for which memory was refused, with
-    /// `NoMemory`.
-    pub fn run(self, events: &[Event]) -> Result<World, (usize, WorldFault)>
-        ensures ok { IfOk result (λ w. run (world_of self) events.now ≡ Some (world_of w)) }
-        ensures err { IfErr result (λ e. (v : worlds.World) × (x : Event) × (run (world_of self) (take e.0 events.now) ≡ Some v)
-            × (slice_get events.now e.0 ≡ Some x) × (e.1 ≡ WorldFault.NotNow → step v x ≡ None) ×
-            (e.1 ≡ WorldFault.NoMemory → ¬ (step v x ≡ None))) }
-        ensures follows { IfOk result (λ w. Follows (world_of self) (world_of w)) }
-        ensures sound { IfOk result (λ w. IsSoundWorld (world_of w)) }
-        ensures headline { IfOk result (λ w. Headline (world_of self) events.now (world_of w)) }
+    /// `NoMemory`. The world is the one in which that event would have happened.
+    pub fn run(&mut self, events: &[Event]) -> Result<(), (usize, WorldFault)>
+        ensures ok { OnOk result (run (world_of self.old) events.now ≡ Some (world_of self.new)) }
+        ensures err { IfErr result (λ e. StopsAt (world_of self.old) events.now e.0 e.1 (world_of self.new)) }
+        ensures follows { Follows (world_of self.old) (world_of self.new) }
+        ensures sound { IsSoundWorld (world_of self.new) }
+        ensures headline { MatchResult result (λ _. Headline (world_of self.old) events.now (world_of self.new))
+            (λ e. Headline (world_of self.old) (take e.0 events.now) (world_of self.new)) }
     {
-        let mut world = self;
-        // They are sound, and so is what comes of them.
-        world.contents();
+        // It is sound, and so is what comes of it.
+        self.contents();
         for (place, event) in events.iter().enumerate() {
-            match world.step(event) {
+            match self.step(event) {
                 Ok(()) => {}
                 Err(fault) => return Err((place, fault)),
             }
         }
-        Ok(world)
+        Ok(())
     }
 }
