@@ -1,6 +1,6 @@
 -- Sources of files.
 use Rattle.std.proofs.Common.{◌≡◌, ℕ, ◌+◌, ◌-◌, ◌<◌, ◌≤◌, List, ◌++◌, length, take, drop, get_or, replicate, ap, ◌∙◌, arith}
-use Rattle.std.proofs.lemmas.List.{append-nil, take_all}
+use Rattle.std.proofs.lemmas.List.{append-nil, take_all, length-append, length-take, length-replicate}
 use Rattle.std.proofs.lemmas.List.Sums.{sum_by_more}
 use Rattle.std.specs.List.{sum_by}
 use Rattle.iiif_io.specs.Counting.{capped}
@@ -16,6 +16,13 @@ whole held n all =
     let none : n - length held ≡ 0 = omega arith in
     ap (λ front. front ++ replicate (n - length held) 0) (ap (λ k. take k held) all ∙ take_all (length held) held (omega arith))
     ∙ (ap (λ k. held ++ replicate k 0) none ∙ append-nil held)
+
+-- as many bytes as there are to be
+pub fitted_length : (n : ℕ) (held : List ℕ) → length (fitted n held) ≡ n
+fitted_length n held =
+    let zeros : List ℕ = replicate (n - length held) 0 in
+    let padded : length zeros ≡ n - length held = length-replicate {A = ℕ} (n - length held) 0 in
+    omega (arith, length-append (take n held) zeros, length-take n held, padded)
 
 -- a capped sum with one more
 pub added : {X : Type 0} (f : X → ℕ) (xs : List X) (i : ℕ) (d : X) (before more : ℕ) → before ≡ capped (sum_by f (take i xs)) →

@@ -38,6 +38,7 @@ pub record IsSourceOf {R : Type 0} {d : _} (holds : List ℕ → List ℕ) (keep
   pub same : is_sample path ≡ false → keeps path → bytes_of holds source ≡ holds path
   pub kept : is_sample path ≡ false → keeps path → keeps_of keeps source
   pub held : 0 < hold → length (bytes_of holds source) ≤ hold → is_held source ≡ true
+  pub small : is_sample path ≡ false → is_held source ≡ true → (0 < hold) × (length (bytes_of holds source) ≤ hold)
 
 -- the item of an image's name and path
 pub record IsItemOf {R : Type 0} {d : _} (holds : List ℕ → List ℕ) (keeps : List ℕ → Type 0) (hold : ℕ)

@@ -1,6 +1,6 @@
 //! Files that are held in memory.
 
-ghost use Rattle.std.specs.Prelude.{◌≡◌, ◌≤◌, IfOk};
+ghost use Rattle.std.specs.Prelude.{◌≡◌, ◌≤◌, IfOk, length};
 
 use iiif_source::{MemSource, ReadFault, Source};
 use std::alloc::Global;
@@ -20,7 +20,8 @@ pub(crate) fn held<R, S: Source<R>>(
     alloc: Global,
     source: &S,
 ) -> Result<MemSource, HoldFault>
-    ensures { S.keeps source.now → IfOk result (λ s. s ≡ S.bytes source.now) }
+    ensures bytes { S.keeps source.now → IfOk result (λ s. s ≡ S.bytes source.now) }
+    ensures length { IfOk result (λ s. length s ≡ length (S.bytes source.now)) }
 {
     let Ok(mut bytes) = vec![in alloc; 0u8; source.len() as usize] else {
         return Err(HoldFault::NoMemory);

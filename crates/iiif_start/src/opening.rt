@@ -1,6 +1,6 @@
 //! The images that the words name.
 
-ghost use Rattle.std.specs.Prelude.{◌≡◌, IfOk, IfSome, None, length, map, string_bytes, true};
+ghost use Rattle.std.specs.Prelude.{◌≡◌, ◌≤◌, IfOk, IfSome, None, length, map, string_bytes, true};
 ghost use Rattle.std.specs.Arc.{arc_value};
 ghost use Rattle.std.specs.List.{AllZip};
 ghost use Rattle.iiif_tiff.specs.Tiff.{refusal_of, scheme};
@@ -117,7 +117,7 @@ fn opened_file<'a, R: Opens>(
 }
 
 /// A file of at most so many bytes as a source in memory. It is read once, and then closed. None of a longer one.
-#[tactic(auto, using(crate::proofs::SourceLemmas::whole))]
+#[tactic(auto, using(crate::proofs::SourceLemmas::whole, crate::proofs::SourceLemmas::fitted_length))]
 fn small<'a, R: Opens>(
     rt: &R,
     alloc: Global,
@@ -125,7 +125,8 @@ fn small<'a, R: Opens>(
     path: &str,
     hold: u64,
 ) -> Result<Option<MemSource>, Stop<'a>>
-    ensures { R.keeps path.now → IfOk result (λ found. IfSome found (λ s. s ≡ R.holds path.now)) }
+    ensures bytes { R.keeps path.now → IfOk result (λ found. IfSome found (λ s. s ≡ R.holds path.now)) }
+    ensures small { IfOk result (λ found. IfSome found (λ s. length s ≤ hold)) }
 {
     let (file, len) = opened_file(rt, alloc, name, path)?;
     if len > hold {
