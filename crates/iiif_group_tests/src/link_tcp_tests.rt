@@ -61,6 +61,7 @@ fn shape_for(key: &TileKey) -> Shape
 }
 
 /// What a node does with an ask.
+#[derive(Drop)]
 enum Way {
     /// It closes the connection as soon as it has seen a magic of the second version.
     KnowsOneVersion,
@@ -294,7 +295,10 @@ fn right_reply_is_the_tile_and_each_failure_a_fault_in_time(rt: HostRuntime) {
 const LOST: Option<Came> = Some((Err(LinkFault::Wire(WireFault::Io)), true));
 
 /// Whether an ask of a node comes to that.
-fn is_lost(rt: &HostRuntime, alloc: Global, node: &Peer) -> bool {
+fn is_lost<R>(rt: &R, alloc: Global, node: &Peer) -> bool
+where
+    R: Net<Listener = TcpListener, Stream = TcpStream> + Threads + Wait + Clock + Sync,
+{
     let watch = Stopwatch::new();
     let link = link_to(alloc, node, &watch, None);
     Asker { alloc, link: &link }.act(rt) == LOST
@@ -328,20 +332,23 @@ fn are_turns(log: &[u8]) -> bool {
 }
 
 /// What is written to a log.
-fn written(rt: &HostRuntime, log: &Log) -> Vec<u8> {
-    let mut lines = Vec::new(rt.alloc());
+fn written<R: Wait + Clock>(rt: &R, alloc: Global, log: &Log) -> Vec<u8> {
+    let mut lines = Vec::new(alloc);
     log.close(rt);
-    write_lines(rt, rt.alloc(), log, &mut lines);
+    write_lines(rt, alloc, log, &mut lines);
     lines
 }
 
 /// Asks over a link to a node whose name isn't known, four times, and a second later once more, where the node is looked up and answers.
-fn is_left_alone_and_tried(
-    rt: &HostRuntime,
+fn is_left_alone_and_tried<R>(
+    rt: &R,
+    alloc: Global,
     listener: &TcpListener,
     link: &TcpLink<'_, Deep>,
-) -> bool {
-    let alloc = rt.alloc();
+) -> bool
+where
+    R: Net<Listener = TcpListener, Stream = TcpStream> + Threads + Wait + Clock + Sync,
+{
     let asker = Asker { alloc, link };
     for _ in 0..4u32 {
         if asker.act(rt) != LOST {
@@ -375,10 +382,10 @@ fn node_that_fails_is_left_alone_and_looked_up_by_the_ask_that_tries_it(
     let (listener, node) = listening(&rt, alloc).ok_or("no listener")?;
     let (watch, log) = (Stopwatch::new(), Log::new(alloc)?);
     let link = link_to(alloc, &node, &watch, Some(&log));
-    assert!(rt; is_left_alone_and_tried(&rt, &listener, &link));
+    assert!(rt; is_left_alone_and_tried(&rt, alloc, &listener, &link));
     assert!(rt; node.health().asks(&rt) == ENDS);
     assert!(rt; watch.durations(&rt).all == 4);
-    assert!(rt; are_turns(&written(&rt, &log)));
+    assert!(rt; are_turns(&written(&rt, alloc, &log)));
     Ok(())
 }
 
