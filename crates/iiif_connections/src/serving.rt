@@ -9,13 +9,14 @@ use iiif_io::Outlet;
 use iiif_keys::{SumKey, System, TileKey};
 use iiif_listener::{Company, Visit};
 use iiif_open_files::Opens;
-use iiif_server::{Gate, Link, Node};
+use iiif_server::{Gate, Link, Node, SumCalls, TileCalls};
 use iiif_services::{Addresses, Listeners, logged, serve_all};
 use iiif_start::{Stop, Stored};
 use std::alloc::Global;
 use std::io;
 use std::net::{Net, TcpListener, TcpStream};
 use std::sync::Wait;
+use std::sync::ledger::Ledger;
 use std::thread::Threads;
 use std::time::Clock;
 
@@ -61,21 +62,71 @@ where
         watcher,
         listeners,
     };
-    let work = || serve_all_of(rt, alloc, listeners, &viewers, &peers, &statistics);
+    let services = Services {
+        rt,
+        alloc,
+        viewers,
+        peers,
+        statistics,
+    };
+    let work = || serve_all_of(&services, listeners);
     match &watcher.log {
         Some(log) => logged(rt, alloc, log, err, &work),
         None => work(),
     }
 }
 
+/// What stands for each kind of visitor, and what visitors are served with.
+#[derive(Drop)]
+struct Services<'x, R: Opens + Wait, J: System, N, T>
+where
+    TileCalls<J>: Ledger,
+    SumCalls<J>: Ledger,
+{
+    rt: &'x R,
+    alloc: Global,
+    viewers: Viewers<'x, R, J, N, T>,
+    peers: PeerCalls<'x, R, J, N, T>,
+    statistics: Statistics<'x, R, J, N, T>,
+}
+
+impl<'x, R, J, N, T> Services<'x, R, J, N, T>
+where
+    R: Opens + Net<Listener = TcpListener, Stream = TcpStream> + Threads + Wait + Clock + Sync,
+    R::Handle: Send + Sync,
+    J: System + Send + Sync,
+    N: Link<TileKey, J, R> + Link<SumKey, J, R> + Sync,
+    T: Gate<R> + Sync,
+{
+    fn serve_viewer(&self, visit: Visit<'_, R>) {
+        self.viewers.serve(self.rt, self.alloc, visit);
+    }
+
+    fn refuse_viewer(&self) {
+        self.viewers.refused(self.rt);
+    }
+
+    fn serve_peer(&self, visit: Visit<'_, R>) {
+        self.peers.serve(self.rt, self.alloc, visit);
+    }
+
+    fn refuse_peer(&self) {
+        self.peers.refused(self.rt);
+    }
+
+    fn serve_reader(&self, visit: Visit<'_, R>) {
+        self.statistics.serve(self.rt, self.alloc, visit);
+    }
+
+    fn refuse_reader(&self) {
+        self.statistics.refused(self.rt);
+    }
+}
+
 /// Serves the connections of all listeners, each by what stands for its kind.
 fn serve_all_of<R, J, N, T>(
-    rt: &R,
-    alloc: Global,
+    services: &Services<'_, R, J, N, T>,
     listeners: &Listeners,
-    viewers: &Viewers<'_, R, J, N, T>,
-    peers: &PeerCalls<'_, R, J, N, T>,
-    statistics: &Statistics<'_, R, J, N, T>,
 ) -> io::Result<()>
 where
     R: Opens + Net<Listener = TcpListener, Stream = TcpStream> + Threads + Wait + Clock + Sync,
@@ -84,19 +135,19 @@ where
     N: Link<TileKey, J, R> + Link<SumKey, J, R> + Sync,
     T: Gate<R> + Sync,
 {
-    let serve_viewer = |visit: Visit<'_, R>| viewers.serve(rt, alloc, visit);
-    let refused_viewer = || viewers.refused(rt);
-    let serve_peer = |visit: Visit<'_, R>| peers.serve(rt, alloc, visit);
-    let refused_peer = || peers.refused(rt);
-    let serve_reader = |visit: Visit<'_, R>| statistics.serve(rt, alloc, visit);
-    let refused_reader = || statistics.refused(rt);
+    let serve_viewer = |visit: Visit<'_, R>| services.serve_viewer(visit);
+    let refuse_viewer = || services.refuse_viewer();
+    let serve_peer = |visit: Visit<'_, R>| services.serve_peer(visit);
+    let refuse_peer = || services.refuse_peer();
+    let serve_reader = |visit: Visit<'_, R>| services.serve_reader(visit);
+    let refuse_reader = || services.refuse_reader();
     serve_all(
-        rt,
-        alloc,
+        services.rt,
+        services.alloc,
         listeners,
-        (&serve_viewer, &refused_viewer),
-        (&serve_peer, &refused_peer),
-        (&serve_reader, &refused_reader),
+        (&serve_viewer, &refuse_viewer),
+        (&serve_peer, &refuse_peer),
+        (&serve_reader, &refuse_reader),
     )
 }
 
