@@ -123,6 +123,57 @@ where
     }
 }
 
+/// Serves all listeners, viewers by what stands for them and the others by these functions. One function a closure: what the prover makes of a
+/// call grows with the closures that it is given.
+fn serve_beside<R, J, N, T, G, H, L, M>(
+    services: &Services<'_, R, J, N, T>,
+    listeners: &Listeners,
+    peers: (&G, &L),
+    readers: (&H, &M),
+) -> io::Result<()>
+where
+    R: Opens + Net<Listener = TcpListener, Stream = TcpStream> + Threads + Wait + Clock + Sync,
+    R::Handle: Send + Sync,
+    J: System + Send + Sync,
+    N: Link<TileKey, J, R> + Link<SumKey, J, R> + Sync,
+    T: Gate<R> + Sync,
+    G: Fn(Visit<'_, R>) + Sync,
+    H: Fn(Visit<'_, R>) + Sync,
+    L: Fn() + Sync,
+    M: Fn() + Sync,
+    requires peer { G.IsAlwaysCallable peers.0.now }
+    requires refused_peer { L.IsAlwaysCallable peers.1.now }
+    requires reader { H.IsAlwaysCallable readers.0.now }
+    requires refused_reader { M.IsAlwaysCallable readers.1.now }
+{
+    let serve = |visit: Visit<'_, R>| services.serve_viewer(visit);
+    let refuse = || services.refuse_viewer();
+    let (rt, alloc) = (services.rt, services.alloc);
+    serve_all(rt, alloc, listeners, (&serve, &refuse), peers, readers)
+}
+
+/// Serves all listeners, viewers and other nodes by what stands for them and readers by these functions.
+fn serve_readers_by<R, J, N, T, H, M>(
+    services: &Services<'_, R, J, N, T>,
+    listeners: &Listeners,
+    readers: (&H, &M),
+) -> io::Result<()>
+where
+    R: Opens + Net<Listener = TcpListener, Stream = TcpStream> + Threads + Wait + Clock + Sync,
+    R::Handle: Send + Sync,
+    J: System + Send + Sync,
+    N: Link<TileKey, J, R> + Link<SumKey, J, R> + Sync,
+    T: Gate<R> + Sync,
+    H: Fn(Visit<'_, R>) + Sync,
+    M: Fn() + Sync,
+    requires reader { H.IsAlwaysCallable readers.0.now }
+    requires refused_reader { M.IsAlwaysCallable readers.1.now }
+{
+    let serve = |visit: Visit<'_, R>| services.serve_peer(visit);
+    let refuse = || services.refuse_peer();
+    serve_beside(services, listeners, (&serve, &refuse), readers)
+}
+
 /// Serves the connections of all listeners, each by what stands for its kind.
 fn serve_all_of<R, J, N, T>(
     services: &Services<'_, R, J, N, T>,
@@ -135,20 +186,9 @@ where
     N: Link<TileKey, J, R> + Link<SumKey, J, R> + Sync,
     T: Gate<R> + Sync,
 {
-    let serve_viewer = |visit: Visit<'_, R>| services.serve_viewer(visit);
-    let refuse_viewer = || services.refuse_viewer();
-    let serve_peer = |visit: Visit<'_, R>| services.serve_peer(visit);
-    let refuse_peer = || services.refuse_peer();
-    let serve_reader = |visit: Visit<'_, R>| services.serve_reader(visit);
-    let refuse_reader = || services.refuse_reader();
-    serve_all(
-        services.rt,
-        services.alloc,
-        listeners,
-        (&serve_viewer, &refuse_viewer),
-        (&serve_peer, &refuse_peer),
-        (&serve_reader, &refuse_reader),
-    )
+    let serve = |visit: Visit<'_, R>| services.serve_reader(visit);
+    let refuse = || services.refuse_reader();
+    serve_readers_by(services, listeners, (&serve, &refuse))
 }
 
 /// Serves at these addresses by a node, within these limits of time, with so many workers for each viewer's connection, and writes a
