@@ -1,4 +1,6 @@
 pub mod Lines
+pub mod Outcome
+pub mod Going
 pub mod SoFar
 pub mod Keys
 pub mod Words

@@ -4,14 +4,23 @@ use Rattle.std.specs.Prelude.{IfSome, OnOk, Result, Ok, Err}
 use Rattle.std.specs.Io.BufRead.{DropsThrough, first_line}
 use Rattle.std.specs.Io.KnownBytes.{Appends, IsAtEnd}
 use Rattle.std.proofs.KnownBytes.{Appends-trans}
+use Rattle.iiif_machine.specs.Worlds.{World}
+use Rattle.iiif_machine.specs.declared.events.Event.{Event}
+use Rattle.iiif_event_list.specs.Described.{plain_world}
 use Rattle.iiif_event_list.specs.declared.state.State.{State}
-use Rattle.iiif_event_list.specs.Replays.{AreLinesIn, IsNew, LineComes, LinesCome, Replays, ended_text, number_behind}
+use Rattle.iiif_event_list.specs.Replays.{AreLinesIn, IsNew, LineComes, LinesCome, Replays, done_in, ended_text, first_in, number_behind}
+use Rattle.iiif_event_list.proofs.Going.{IsGoingOn, line_goes_on, new_goes_on, right_in}
 
--- what was written so far; and whatever lines may come yet, what they come to ends the replay
+-- What was written so far, and which events of the list that is replayed were done in which first world; and whatever lines may come
+-- yet, what they come to ends the replay.
 pub record WrittenSoFar (input left : Option (List ℕ)) (n : ℕ) (s : State) (old new : Option (List ℕ)) : Type 0 where
   pub text : List ℕ
   pub written : Appends old new text
-  pub more : (lines : List (List ℕ)) (rest : List ℕ) → AreLinesIn left lines → LinesCome n lines s rest → Replays input (text ++ rest)
+  pub first : World
+  pub done : List Event
+  pub going : IsGoingOn first done s
+  pub more : (lines : List (List ℕ)) (rest : List ℕ) → AreLinesIn left lines → LinesCome n lines first done s rest →
+      Replays input (text ++ rest)
 
 nothing_appended : (a : Option (List ℕ)) → Appends a a []
 nothing_appended None = tt
@@ -26,6 +35,9 @@ pub begun : (input left : Option (List ℕ)) (s : State) (old : Option (List ℕ
 begun input left s old same new = record {
   text = [];
   written = nothing_appended old;
+  first = plain_world;
+  done = [];
+  going = new_goes_on s new;
   more = λ lines rest read come. record {
     lines = lines;
     read = subst (λ o. AreLinesIn o lines) same read;
@@ -43,17 +55,33 @@ line_read None new line lines is drops read = tt
 line_read (Some xs) new line lines is drops read = (is.0, is.1, subst (λ o. AreLinesIn o lines) drops read)
 
 pub went_on : (input left next : Option (List ℕ)) (n m : ℕ) (s t : State) (old mid new : Option (List ℕ)) (line bytes front : List ℕ)
-    → WrittenSoFar input left n s old mid → IfSome left (λ xs. (0 < length xs) × (bytes ≡ first_line xs)) × DropsThrough left next 10
-    → line ≡ bytes → m ≡ number_behind n → LineComes m line s t front → Appends mid new front → WrittenSoFar input next m t old new
-went_on input left next n m s t old mid new line bytes front so_far is same behind comes written =
-    let comes_so : LineComes m bytes s t front = subst (λ l. LineComes m l s t front) same comes in
-    let comes_behind : LineComes (number_behind n) bytes s t front = subst (λ k. LineComes k bytes s t front) behind comes_so in
+    (events : List Event) → WrittenSoFar input left n s old mid →
+    IfSome left (λ xs. (0 < length xs) × (bytes ≡ first_line xs)) × DropsThrough left next 10 →
+    line ≡ bytes → m ≡ number_behind n → LineComes m line s events t front → Appends mid new front → WrittenSoFar input next m t old new
+went_on input left next n m s t old mid new line bytes front events so_far is same behind comes written =
+    let comes_so : LineComes m bytes s events t front = subst (λ l. LineComes m l s events t front) same comes in
+    let comes_behind : LineComes (number_behind n) bytes s events t front =
+    subst (λ k. LineComes k bytes s events t front) behind comes_so in
+    let first : World = first_in t so_far.first in
+    let done : List Event = done_in t (so_far.done ++ events) in
+    let going : IsGoingOn first done t = line_goes_on m bytes s t so_far.first so_far.done events front so_far.going comes_so in
     record {
       text = so_far.text ++ front;
       written = Appends-trans old mid new so_far.text front so_far.written written;
+      first = first;
+      done = done;
+      going = going;
       more = λ lines rest read come. subst (Replays input) (sym (append_assoc so_far.text front rest))
-          (so_far.more (bytes ∷ lines) (front ++ rest) (line_read left next bytes lines is.0 is.1 read)
-          (t, front, rest, comes_behind, subst (λ k. LinesCome k lines t rest) behind come, refl));
+          (so_far.more (bytes ∷ lines) (front ++ rest) (line_read left next bytes lines is.0 is.1 read) (
+            t,
+            events,
+            front,
+            rest,
+            comes_behind,
+            right_in t first done going,
+            subst (λ k. LinesCome k lines first done t rest) behind come,
+            refl,
+          ));
     }
 
 nothing_left : (left : Option (List ℕ)) → IsAtEnd left → AreLinesIn left []

@@ -4,9 +4,10 @@ use Rattle.std.specs.Char.{is_not_whitespace, is_whitespace}
 use Rattle.std.specs.Str.{EmptyOrStartsWithPassing, NoCharPasses}
 use Rattle.std.specs.Io.BufRead.{drop_through, first_line}
 use Rattle.iiif_machine.specs.Worlds.{World, answers}
-use Rattle.iiif_machine.specs.Steps.{step}
+use Rattle.iiif_machine.specs.Steps.{step, run}
+use Rattle.iiif_machine.specs.Headline.{Headline}
 use Rattle.iiif_machine.specs.declared.events.Event.{Event}
-use Rattle.iiif_world.specs.Code.{world_of}
+use Rattle.iiif_world.specs.Code.{world_of, IsSoundWorld}
 use Rattle.iiif_event_list.specs.Texts.{answers_text, outcome_text}
 use Rattle.iiif_event_list.specs.Spellings.{LineWords, WordAt, IsEventOf, IsSetting}
 use Rattle.iiif_event_list.specs.Described.{first_of, plain_world}
@@ -36,22 +37,30 @@ IsNew (Described d) = first_of d ≡ plain_world
 IsNew (Begun w) = ⊥
 IsNew Lost = ⊥
 
--- An event makes of a world what it does by the machine's rules, and its line is done; where it isn't allowed the world stays as it
--- was, and its line is not now.
-abbrev pub IsOutcome : ℕ → List ℕ → World → Event → World → List ℕ → Type 0
-IsOutcome number line before e after text =
-    ((step before e ≡ Some after) × (text ≡ outcome_text number line (codes "done")))
-    ⊎ ((step before e ≡ None) × (after ≡ before) × (text ≡ outcome_text number line (codes "not now")))
+-- a world has begun, and is sound
+abbrev pub HasBegun : State → Type 0
+HasBegun (Described d) = ⊥
+HasBegun (Begun w) = IsSoundWorld (world_of w)
+HasBegun Lost = ⊥
+
+-- An event makes of a world what it does by the machine's rules: it is done, and its line says so. Where it isn't allowed no event is
+-- done, the world stays as it was, and the line is not now.
+abbrev pub IsOutcome : ℕ → List ℕ → World → Event → List Event → World → List ℕ → Type 0
+IsOutcome number line before e done after text =
+    ((done ≡ e ∷ []) × (run before done ≡ Some after) × (text ≡ outcome_text number line (codes "done")))
+    ⊎ ((done ≡ []) × (step before e ≡ None) × (after ≡ before) × (text ≡ outcome_text number line (codes "not now")))
 
 -- The words are an event, which happens in the world that has begun, or begins by it.
-pub record Happens (number : ℕ) (line : List ℕ) (ws : LineWords) (before after : State) (text : List ℕ) : Type 0 where
+pub record Happens (number : ℕ) (line : List ℕ) (ws : LineWords) (before : State) (done : List Event) (after : State) (text : List ℕ)
+    : Type 0 where
   pub event : Event
   pub spelled : IsEventOf ws event
   pub old : World
   pub new : World
   pub begun : world_in before ≡ Some old
+  pub sound : IsSoundWorld old
   pub stands : world_in after ≡ Some new
-  pub outcome : IsOutcome number line old event new text
+  pub outcome : IsOutcome number line old event done new text
 
 -- the words set something of a world that is described, and nothing is written
 pub record IsSet (ws : LineWords) (before after : State) (text : List ℕ) : Type 0 where
@@ -67,15 +76,25 @@ IsComment ws = (w : List ℕ) × WordAt ws 0 w × (slice_get w 0 ≡ Some 35)
 abbrev pub IsAlone : LineWords → List ℕ → Type 0
 IsAlone ws w = (length ws ≡ 1) × WordAt ws 0 w
 
--- What a line's words come to: nothing, where there are none, or it is a comment; at `world` the answers of the last world; at `rows` all
--- rows of the world that has begun, or begins (their text is read in the code); else a setting, or an event.
-pub data Comes (number : ℕ) (line : List ℕ) (ws : LineWords) (before after : State) (text : List ℕ) : Type 0 where
-  blank : (none : length ws ≡ 0) (same : after ≡ before) (nothing : text ≡ []) → Comes number line ws before after text
-  comment : (is : IsComment ws) (same : after ≡ before) (nothing : text ≡ []) → Comes number line ws before after text
-  next : (is : IsAlone ws (codes "world")) (new : IsNew after) (ended : text ≡ ended_text before) → Comes number line ws before after text
-  shown : (is : IsAlone ws (codes "rows")) (stands : world_in after ≡ world_in before) → Comes number line ws before after text
-  set : (is : IsSet ws before after text) → Comes number line ws before after text
-  happened : (is : Happens number line ws before after text) → Comes number line ws before after text
+-- A world begins, or has begun, and its rows are shown: their text is read in the code.
+pub record IsShown (ws : LineWords) (before after : State) : Type 0 where
+  pub alone : IsAlone ws (codes "rows")
+  pub stands : world_in after ≡ world_in before
+  pub begun : HasBegun after
+
+-- What a line's words come to, and which events are done: nothing, where there are no words, or it is a comment; at `world` the answers
+-- of the last world; at `rows` all rows of the world that has begun, or begins; else a setting, or an event.
+pub data Comes (number : ℕ) (line : List ℕ) (ws : LineWords) (before : State) (done : List Event) (after : State) (text : List ℕ)
+    : Type 0 where
+  blank : (none : length ws ≡ 0) (same : after ≡ before) (idle : done ≡ []) (nothing : text ≡ []) →
+      Comes number line ws before done after text
+  comment : (is : IsComment ws) (same : after ≡ before) (idle : done ≡ []) (nothing : text ≡ []) →
+      Comes number line ws before done after text
+  next : (is : IsAlone ws (codes "world")) (new : IsNew after) (idle : done ≡ []) (ended : text ≡ ended_text before) →
+      Comes number line ws before done after text
+  shown : (is : IsShown ws before after) (idle : done ≡ []) → Comes number line ws before done after text
+  set : (is : IsSet ws before after text) (idle : done ≡ []) → Comes number line ws before done after text
+  happened : (is : Happens number line ws before done after text) → Comes number line ws before done after text
 
 -- White space may stand before the word, which has none, and behind which white space stands, or nothing.
 pub record IsFirstWord (line word rest : List ℕ) : Type 0 where
@@ -92,19 +111,39 @@ AreWordsOf line [] = NoCharPasses is_not_whitespace line
 AreWordsOf line (w ∷ ws) = (rest : List ℕ) × IsFirstWord line w.now rest × AreWordsOf rest ws
 
 -- A line comes to what its words come to.
-abbrev pub LineComes : ℕ → List ℕ → State → State → List ℕ → Type 0
-LineComes number line before after text = (ws : LineWords) × AreWordsOf line ws × Comes number line ws before after text
+abbrev pub LineComes : ℕ → List ℕ → State → List Event → State → List ℕ → Type 0
+LineComes number line before done after text = (ws : LineWords) × AreWordsOf line ws × Comes number line ws before done after text
 
 -- the number of the line behind one, which stops at the greatest
 abbrev pub number_behind : ℕ → ℕ
 number_behind n = min (n + 1) (2 ^ 64 - 1)
 
--- What lines come to that stand behind one of this number: each what it comes to, and at the end the answers of the last world.
-abbrev pub LinesCome : ℕ → List (List ℕ) → State → List ℕ → Type 0
-LinesCome n [] s text = text ≡ ended_text s
-LinesCome n (line ∷ more) s text =
-    (t : State) × (front : List ℕ) × (rest : List ℕ) × LineComes (number_behind n) line s t front
-    × LinesCome (number_behind n) more t rest × (text ≡ front ++ rest)
+-- the world with which the list of events began that is replayed: until it begins, the one that is described
+abbrev pub first_in : State → World → World
+first_in (Described d) first = first_of d
+first_in (Begun w) first = first
+first_in Lost first = first
+
+-- the events of that list that were done: none, until it begins
+abbrev pub done_in : State → List Event → List Event
+done_in (Described d) done = []
+done_in (Begun w) done = done
+done_in Lost done = done
+
+-- The events that were done made of the first world the one that has begun, and the headline holds of them.
+abbrev pub HasHeadline : World → List Event → State → Type 0
+HasHeadline first done (Described d) = Unit {0}
+HasHeadline first done (Begun w) = (run first done ≡ Some (world_of w)) × Headline first done (world_of w)
+HasHeadline first done Lost = Unit {0}
+
+-- What lines come to that stand behind one of this number, where these events of a list were done, which began with this world: each line
+-- what it comes to, and of all events done so far the headline holds; and at the end the answers of the last world.
+abbrev pub LinesCome : ℕ → List (List ℕ) → World → List Event → State → List ℕ → Type 0
+LinesCome n [] first done s text = text ≡ ended_text s
+LinesCome n (line ∷ more) first done s text =
+    (t : State) × (new : List Event) × (front : List ℕ) × (rest : List ℕ) × LineComes (number_behind n) line s new t front
+    × HasHeadline (first_in t first) (done_in t (done ++ new)) t
+    × LinesCome (number_behind n) more (first_in t first) (done_in t (done ++ new)) t rest × (text ≡ front ++ rest)
 
 -- the lines of a text, each without the line feed, or carriage return and line feed, that ends it
 abbrev pub AreLinesOf : List ℕ → List (List ℕ) → Type 0
@@ -122,4 +161,4 @@ pub record Replays (known : Option (List ℕ)) (text : List ℕ) : Type 0 where
   pub read : AreLinesIn known lines
   pub start : State
   pub new : IsNew start
-  pub come : LinesCome 0 lines start text
+  pub come : LinesCome 0 lines plain_world [] start text

@@ -2,7 +2,7 @@
 
 ghost use Rattle.std.specs.Prelude.{◌≡◌, true, false, length, IfOk};
 ghost use Rattle.iiif_pixel.specs.Depths.{values_of};
-ghost use Rattle.iiif_world.specs.Code.{world_of};
+ghost use Rattle.iiif_world.specs.Code.{world_of, IsSoundWorld};
 ghost use Rattle.iiif_event_list.specs.Described.{first_of, plain_world};
 ghost use Rattle.iiif_event_list.specs.Spellings.{IsSetting};
 
@@ -212,7 +212,8 @@ impl Description {
 
     /// The world that was described, in which nothing has happened. `Bad`, where no world can begin so.
     pub fn begin(self, alloc: Global) -> Result<World, LineFault>
-        ensures { IfOk result (λ w. world_of w ≡ first_of self) }
+        ensures first { IfOk result (λ w. world_of w ≡ first_of self) }
+        ensures sound { IfOk result (λ w. IsSoundWorld (world_of w)) }
     {
         let Description {
             edge,

@@ -3,6 +3,7 @@
 
 ghost use Rattle.std.specs.Prelude.{ℕ, List, string_bytes, IsOk, IfOk, OnOk};
 ghost use Rattle.std.specs.Io.KnownBytes.{Appends};
+ghost use Rattle.iiif_machine.specs.declared.events.Event.{Event};
 ghost use Rattle.iiif_event_list.specs.Replays.{LineComes, Replays, ended_text};
 
 pub mod describing;
@@ -70,7 +71,7 @@ fn put_line<W: Write>(
     number: u64,
     line: &str,
 ) -> Result<(), Stop>
-    ensures { OnOk result ((text : List ℕ) × LineComes number line.now replay.old.state replay.new.state text
+    ensures { OnOk result ((text : List ℕ) × (done : List Event) × LineComes number line.now replay.old.state done replay.new.state text
         × Appends (W.contents out.old) (W.contents out.new) text) }
 {
     let text = replay.line(alloc, number, line);

@@ -1,14 +1,15 @@
 //! Worlds and their events, line by line.
 
-ghost use Rattle.std.specs.Prelude.{◌≡◌, ◌++◌, ◌<◌, true, false, codes, decimal, length, option_copied, slice_get, string_bytes, Some};
-ghost use Rattle.std.specs.Prelude.{IfOk, OnOk};
+ghost use Rattle.std.specs.Prelude.{◌≡◌, ◌++◌, ◌<◌, List, true, false, codes, decimal, length, option_copied, slice_get, string_bytes};
+ghost use Rattle.std.specs.Prelude.{Some, IfOk, OnOk};
 ghost use Rattle.iiif_machine.specs.Worlds.{answers};
+ghost use Rattle.iiif_machine.specs.declared.events.Event.{Event};
 ghost use Rattle.iiif_machine.specs.declared.events.WorldFault.{WorldFault};
 ghost use Rattle.iiif_world.specs.Code.{world_of};
 ghost use Rattle.iiif_event_list.specs.Texts.{answer_line, answers_text, outcome_text, text_of};
 ghost use Rattle.iiif_event_list.specs.Spellings.{IsSetting};
-ghost use Rattle.iiif_event_list.specs.Replays.{AreWordsOf, Comes, Happens, IsAlone, IsComment, IsDescribed, IsNew, IsOutcome, LineComes};
-ghost use Rattle.iiif_event_list.specs.Replays.{ended_text, world_in};
+ghost use Rattle.iiif_event_list.specs.Replays.{AreWordsOf, Comes, Happens, HasBegun, IsAlone, IsComment, IsDescribed, IsNew};
+ghost use Rattle.iiif_event_list.specs.Replays.{IsOutcome, LineComes, ended_text, world_in};
 
 use crate::describing::Description;
 use crate::fault::LineFault;
@@ -46,13 +47,14 @@ fn outcome(
     world: &mut World,
     number: u64,
     line: &str,
-    event: &Event,
+    event: Event,
 ) -> Result<String, LineFault>
-    ensures { IfOk result (λ text. IsOutcome number line.now (world_of world.old) event.now (world_of world.new) (string_bytes text)) }
+    ensures { IfOk result (λ text. (done : List Event)
+        × IsOutcome number line.now (world_of world.old) event done (world_of world.new) (string_bytes text)) }
 {
-    match world.step(event) {
+    match world.run(&[event]) {
         Ok(()) => outcome_line(alloc, number, line, "done"),
-        Err(fault) => not_done(alloc, number, line, fault),
+        Err(stopped) => not_done(alloc, number, line, stopped.1),
     }
 }
 
@@ -154,7 +156,8 @@ impl Replay {
 
     /// The world begins, where it has not.
     fn begin(&mut self, alloc: Global) -> Result<(), LineFault>
-        ensures { OnOk result (world_in self.new.state ≡ world_in self.old.state) }
+        ensures same { OnOk result (world_in self.new.state ≡ world_in self.old.state) }
+        ensures begun { OnOk result (HasBegun self.new.state) }
     {
         match replace(&mut self.state, State::Lost) {
             State::Described(description) => {
@@ -162,6 +165,8 @@ impl Replay {
                 Ok(())
             }
             State::Begun(world) => {
+                // It is sound.
+                world.contents();
                 self.state = State::Begun(world);
                 Ok(())
             }
@@ -181,7 +186,8 @@ impl Replay {
 
     /// All rows of the world that has begun.
     fn shown(&mut self, alloc: Global) -> Result<String, LineFault>
-        ensures { OnOk result (world_in self.new.state ≡ world_in self.old.state) }
+        ensures same { OnOk result (world_in self.new.state ≡ world_in self.old.state) }
+        ensures begun { OnOk result (HasBegun self.new.state) }
     {
         self.begin(alloc)?;
         match &self.state {
@@ -208,12 +214,13 @@ impl Replay {
         line: &str,
         words: &[&str],
     ) -> Result<String, LineFault>
-        ensures { IfOk result (λ text. Happens number line.now words.now self.old.state self.new.state (string_bytes text)) }
+        ensures { IfOk result (λ text. (done : List Event)
+            × Happens number line.now words.now self.old.state done self.new.state (string_bytes text)) }
     {
         let event = event(alloc, words)?;
         self.begin(alloc)?;
         match &mut self.state {
-            State::Begun(world) => outcome(alloc, world, number, line, &event),
+            State::Begun(world) => outcome(alloc, world, number, line, event),
             State::Described(_) | State::Lost => Err(LineFault::Bad),
         }
     }
@@ -237,7 +244,8 @@ impl Replay {
         line: &str,
         words: &[&str],
     ) -> Result<String, LineFault>
-        ensures { IfOk result (λ text. Comes number line.now words.now self.old.state self.new.state (string_bytes text)) }
+        ensures { IfOk result (λ text. (done : List Event)
+            × Comes number line.now words.now self.old.state done self.new.state (string_bytes text)) }
     {
         if self.set(alloc, words)? {
             return Ok(String::new(alloc));
@@ -253,7 +261,8 @@ impl Replay {
         line: &str,
         words: &[&str],
     ) -> Result<String, LineFault>
-        ensures { IfOk result (λ text. Comes number line.now words.now self.old.state self.new.state (string_bytes text)) }
+        ensures { IfOk result (λ text. (done : List Event)
+            × Comes number line.now words.now self.old.state done self.new.state (string_bytes text)) }
     {
         if words.is_empty() || is_comment(words) {
             return Ok(String::new(alloc));
@@ -271,7 +280,8 @@ impl Replay {
     /// `rows` all rows; else nothing. `Bad`, where it is no setting and no event, sets something of a world that has begun, or comes where
     /// the world can't begin: then each further event is `Bad` until `world`. After `NoMemory` an event may be done, or the world lost.
     pub fn line(&mut self, alloc: Global, number: u64, line: &str) -> Result<String, LineFault>
-        ensures { IfOk result (λ text. LineComes number line.now self.old.state self.new.state (string_bytes text)) }
+        ensures { IfOk result (λ text. (done : List Event)
+            × LineComes number line.now self.old.state done self.new.state (string_bytes text)) }
     {
         let words = words_of(alloc, line)?;
         self.come(alloc, number, line, &words)

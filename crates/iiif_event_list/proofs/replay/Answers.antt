@@ -13,8 +13,8 @@ loop-line-preserved g c =
     went_on (g.R.Read.remaining c.args.reader) (known c.loop-line.line-iterator) (known c.next.new.self) c.loop-line.number
     c.saturating_add-number.result
     c.loop-line.replay.state c.put_line.new.replay.state (contents c.args.out.now) (contents c.loop-line.out) (contents c.put_line.new.out)
-    c.as_str.result.now (string_bytes c.in-Ok.line) came.0 c.loop-line.invariant (rw c.in-Ok.is at c.in-Some.ensures.steps.1)
-    c.as_str.ensures.value c.saturating_add-number.ensures came.1 came.2
+    c.as_str.result.now (string_bytes c.in-Ok.line) came.0 came.1 c.loop-line.invariant (rw c.in-Ok.is at c.in-Some.ensures.steps.1)
+    c.as_str.ensures.value c.saturating_add-number.ensures came.2 came.3
 
 pub returns : goal.returns
 returns g c =
