@@ -24,7 +24,7 @@ use std::time::Clock;
 /// viewers' calls left in the node's groups. The watcher is told of each connection of a viewer or another node, and of each answer to a
 /// viewer; what its log is told is written to the last writer. It ends where a listener does, once all connections have ended.
 pub fn serve<'x, R, J, N, T, E>(
-    rt: &R,
+    rt: &'x R,
     alloc: Global,
     node: &'x Node<R, Stored<R>, J, N, T>,
     workers: u32,
