@@ -9,8 +9,9 @@ ghost use Rattle.iiif_connections.specs.Held.{AllHeld};
 ghost use Rattle.iiif_program.specs.Alone.{IsAnswerOfHeld};
 ghost use Rattle.iiif_start.specs.Stored.{bytes_of, keeps_of, stored_gave};
 
+use crate::makings::Makings;
 use crate::one::answer_one;
-use iiif_connections::{Catalogue, Config, Node};
+use iiif_connections::Node;
 use iiif_io::Outlet;
 use iiif_keys::System;
 use iiif_open_files::Opens;
@@ -21,14 +22,6 @@ use std::sync::Wait;
 use std::sync::ledger::Blank;
 use std::thread::Threads;
 use std::time::Clock;
-
-/// What a node that asks no other is made of: what it was told, its images, and the bytes of each group's cache.
-#[derive(Drop)]
-pub struct Alone<R: Opens + Wait> {
-    pub config: Config,
-    pub catalogue: Catalogue<R, Stored<R>>,
-    pub cache_bytes: u64,
-}
 
 /// The target that is asked for. It has a type of its own, since ghost members can't be picked at a call that takes a `&str`.
 #[derive(Drop)]
@@ -41,7 +34,7 @@ struct Asked<'t> {
 pub fn answer_alone<'a, R, O>(
     rt: &R,
     alloc: Global,
-    alone: Alone<R>,
+    alone: Makings<R>,
     target: &str,
     out: &mut O,
 ) -> Result<(), Stop<'a>>
@@ -62,7 +55,7 @@ where
 fn answer_counted<'a, R, O, J: System + Send + Sync>(
     rt: &R,
     alloc: Global,
-    alone: Alone<R>,
+    alone: Makings<R>,
     blanks: (Blank, Blank),
     asked: &Asked<'_>,
     out: &mut O,
@@ -86,7 +79,7 @@ where
         × IsAnswerOfHeld (bytes_of R.holds) alone.config alone.catalogue asked.now.target.now ((before : O) × O.fails before out.new) text
         result }
 {
-    let Alone {
+    let Makings {
         config,
         catalogue,
         cache_bytes,

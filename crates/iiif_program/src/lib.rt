@@ -7,6 +7,10 @@ pub use iiif_start::stop;
 
 pub mod alone;
 mod hex;
+mod listening;
+pub mod makings;
 mod one;
 pub mod program;
 mod settings;
+mod target;
+mod work;

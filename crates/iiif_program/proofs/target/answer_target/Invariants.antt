@@ -1,0 +1,18 @@
+use Rattle.std.specs.Prelude.{false}
+use Rattle.iiif_images.specs.Named.{gave_of, pictures_of, stable_of}
+use Rattle.iiif_start.specs.Stored.{bytes_of, keeps_of, stored_gave}
+use Rattle.iiif_program.proofs.target.answer_target.Given as goal
+
+-- what the catalogue shows, and the ledgers that were just made; of other nodes nothing is promised
+abbrev pub ghosts-one_among : goal.ghosts-one_among
+ghosts-one_among g a = record {
+  pictures = pictures_of (bytes_of g.R.Opens.holds) a.made.catalogue;
+  edge = a.made.config.edge;
+  gave = gave_of stored_gave a.made.catalogue;
+  stable = stable_of (keeps_of g.R.Opens.keeps) a.made.catalogue;
+  honest = false;
+  tiles_name = a.blanks.0.name;
+  tiles_parts = a.blanks.0.parts;
+  sums_name = a.blanks.1.name;
+  sums_parts = a.blanks.1.parts;
+}

@@ -1,0 +1,162 @@
+//! The node that listens where the words say.
+
+ghost use Rattle.std.specs.Prelude.{◌≡◌, ◌<◌, ◌^◌, ℕ, List, Some, None, false, true};
+ghost use Rattle.iiif_source.specs.declared.ReadFault.{ReadFault};
+ghost use Rattle.iiif_images.specs.Collection.{item_named};
+ghost use Rattle.iiif_images.specs.Named.{gave_of, pictures_of};
+ghost use Rattle.iiif_start.specs.Stored.{bytes_of, keeps_of, stored_gave};
+ghost use Rattle.iiif_answers.specs.Settings.{refusal_of};
+ghost use Rattle.iiif_program.specs.Lines.{settings_in};
+
+use crate::makings::{Makings, makings_of, watcher_of};
+use crate::work::Listening;
+use iiif_command_line::Options;
+use iiif_connections::serving::listen;
+use iiif_connections::{Gate, Link, Node, Watcher, among};
+use iiif_io::Outlet;
+use iiif_keys::{SumKey, System, TileKey};
+use iiif_open_files::Opens;
+use iiif_start::{Stop, Stored, touch};
+use std::alloc::Global;
+use std::marker::Brand;
+use std::net::{Net, TcpListener, TcpStream};
+use std::rt::Clock;
+use std::sync::Wait;
+use std::sync::ledger::Blank;
+use std::thread::Threads;
+
+/// Serves those who connect, by a node as the options ask for.
+pub(crate) fn serve<'a, R, E>(
+    rt: &R,
+    alloc: Global,
+    options: &Options<'a>,
+    listening: &Listening<'_>,
+    err: &mut E,
+) -> Result<(), Stop<'a>>
+where
+    R: Opens + Net<Listener = TcpListener, Stream = TcpStream> + Threads + Wait + Clock + Sync,
+    R: AllocGlobal,
+    R::Handle: Send + Sync,
+    E: Outlet + Send,
+    requires { refusal_of (settings_in options.now) ≡ None }
+{
+    let made = makings_of(rt, alloc, options)?;
+    let watcher = watcher_of(alloc, options, &made, listening.logs)?;
+    let blanks = (Blank::new(65_537), Blank::new(65_537));
+    if options.peers.is_empty() {
+        return serve_alone::<R, E, Brand>(rt, made, blanks, &watcher, listening, err);
+    }
+    watcher.neighbours.look_up(rt, alloc);
+    serve_among::<R, E, Brand>(rt, made, blanks, &watcher, listening, err)
+}
+
+/// Serves by a node that asks no other.
+fn serve_alone<'a, R, E, J: System + Send + Sync>(
+    rt: &R,
+    made: Makings<R>,
+    blanks: (Blank, Blank),
+    watcher: &Watcher,
+    listening: &Listening<'_>,
+    err: &mut E,
+) -> Result<(), Stop<'a>>
+where
+    R: Opens + Net<Listener = TcpListener, Stream = TcpStream> + Threads + Wait + Clock + Sync,
+    R: AllocGlobal,
+    R::Handle: Send + Sync,
+    E: Outlet + Send,
+    requires bytes { made.cache_bytes < 2 ^ 63 }
+    requires pictures { (name : List ℕ) → J.pictures name ≡ pictures_of (bytes_of R.holds) made.catalogue name }
+    requires gave { (name : List ℕ) (f : ReadFault) → J.gave name f ≡ gave_of stored_gave made.catalogue name f }
+    requires stable { (name : List ℕ) (item : _) → item_named made.catalogue name ≡ Some item → J.stable name →
+        ∥ keeps_of R.keeps item.source ∥₁ }
+    requires kept { (name : List ℕ) (item : _) → item_named made.catalogue name ≡ Some item → keeps_of R.keeps item.source →
+        J.stable name }
+    requires edge { made.config.edge ≡ J.edge }
+    requires honest { J.honest ≡ true }
+    requires tiles { (blanks.0.name ≡ J.tiles_name) × (blanks.0.parts ≡ J.tiles_parts) × (J.tiles_parts ≡ 65537) }
+    requires sums { (blanks.1.name ≡ J.sums_name) × (blanks.1.parts ≡ J.sums_parts) × (J.sums_parts ≡ 65537) }
+{
+    let Makings {
+        config,
+        catalogue,
+        cache_bytes,
+    } = made;
+    let (alloc, workers) = (rt.alloc(), config.workers());
+    let (tiles, sums) = blanks;
+    let Ok(node) = Node::<R, Stored<R>, J>::alone(
+        alloc,
+        config,
+        catalogue,
+        cache_bytes,
+        tiles,
+        sums,
+    ) else {
+        return Err(Stop::Memory);
+    };
+    serve_by(rt, &node, workers, watcher, listening, err)
+}
+
+/// Serves by a node that asks the watcher's others.
+fn serve_among<'a, R, E, J: System + Send + Sync>(
+    rt: &R,
+    made: Makings<R>,
+    blanks: (Blank, Blank),
+    watcher: &Watcher,
+    listening: &Listening<'_>,
+    err: &mut E,
+) -> Result<(), Stop<'a>>
+where
+    R: Opens + Net<Listener = TcpListener, Stream = TcpStream> + Threads + Wait + Clock + Sync,
+    R: AllocGlobal,
+    R::Handle: Send + Sync,
+    E: Outlet + Send,
+    requires bytes { made.cache_bytes < 2 ^ 63 }
+    requires pictures { (name : List ℕ) → J.pictures name ≡ pictures_of (bytes_of R.holds) made.catalogue name }
+    requires gave { (name : List ℕ) (f : ReadFault) → J.gave name f ≡ gave_of stored_gave made.catalogue name f }
+    requires stable { (name : List ℕ) (item : _) → item_named made.catalogue name ≡ Some item → J.stable name →
+        ∥ keeps_of R.keeps item.source ∥₁ }
+    requires kept { (name : List ℕ) (item : _) → item_named made.catalogue name ≡ Some item → keeps_of R.keeps item.source →
+        J.stable name }
+    requires edge { made.config.edge ≡ J.edge }
+    requires honest { J.honest ≡ false }
+    requires tiles { (blanks.0.name ≡ J.tiles_name) × (blanks.0.parts ≡ J.tiles_parts) × (J.tiles_parts ≡ 65537) }
+    requires sums { (blanks.1.name ≡ J.sums_name) × (blanks.1.parts ≡ J.sums_parts) × (J.sums_parts ≡ 65537) }
+{
+    let Makings {
+        config,
+        catalogue,
+        cache_bytes,
+    } = made;
+    let (alloc, workers) = (rt.alloc(), config.workers());
+    let (tiles, sums) = blanks;
+    match among::<R, J>(alloc, config, catalogue, watcher, cache_bytes, tiles, sums) {
+        Ok(node) => serve_by(rt, &node, workers, watcher, listening, err),
+        Err(_) => Err(Stop::Memory),
+    }
+}
+
+/// Serves by a node, with so many workers for each viewer's connection.
+fn serve_by<'a, R, E, J, N, T>(
+    rt: &R,
+    node: &Node<R, Stored<R>, J, N, T>,
+    workers: u32,
+    watcher: &Watcher,
+    listening: &Listening<'_>,
+    err: &mut E,
+) -> Result<(), Stop<'a>>
+where
+    R: Opens + Net<Listener = TcpListener, Stream = TcpStream> + Threads + Wait + Clock + Sync,
+    R: AllocGlobal,
+    R::Handle: Send + Sync,
+    E: Outlet + Send,
+    J: System + Send + Sync,
+    N: Link<TileKey, J, R> + Link<SumKey, J, R> + Sync,
+    T: Gate<R> + Sync,
+{
+    let alloc = rt.alloc();
+    if touch(alloc, listening.touch_bytes).is_err() {
+        return Err(Stop::Memory);
+    }
+    let (times, addresses) = (listening.times, &listening.addresses);
+    listen(rt, alloc, node, workers, times, addresses, watcher, err)
+}

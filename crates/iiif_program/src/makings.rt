@@ -1,0 +1,61 @@
+//! What the node of the program is made of.
+
+ghost use Rattle.std.specs.Prelude.{◌≡◌, ◌<◌, ◌^◌, None, IfOk};
+ghost use Rattle.iiif_answers.specs.Settings.{refusal_of};
+ghost use Rattle.iiif_program.specs.Lines.{settings_in};
+
+use crate::settings::config;
+use iiif_command_line::Options;
+use iiif_connections::{Catalogue, Config, Nodes, Times, Watcher};
+use iiif_open_files::Opens;
+use iiif_start::{Held, Stop, Stored, catalogue};
+use std::alloc::Global;
+use std::sync::Wait;
+
+/// What a node is made of: what it was told, its images, and the bytes of each group's cache.
+#[derive(Drop)]
+pub struct Makings<R: Opens + Wait> {
+    pub config: Config,
+    pub catalogue: Catalogue<R, Stored<R>>,
+    pub cache_bytes: u64,
+}
+
+/// What the node of the options is made of: the images are opened.
+pub(crate) fn makings_of<'a, R: Opens + Wait>(
+    rt: &R,
+    alloc: Global,
+    options: &Options<'a>,
+) -> Result<Makings<R>, Stop<'a>>
+    requires { refusal_of (settings_in options.now) ≡ None }
+    ensures config { IfOk result (λ m. m.config ≡ settings_in options.now) }
+    ensures bytes { IfOk result (λ m. m.cache_bytes < 2 ^ 63) }
+{
+    let config = config(alloc, options)?;
+    let (images, hold) = (&options.images, options.hold);
+    let catalogue = catalogue(rt, alloc, images, options.open_files, hold)?;
+    Ok(Makings {
+        config,
+        catalogue,
+        cache_bytes: options.cache_bytes,
+    })
+}
+
+/// Who is told of the answers of a node that is made of these, in a log too where one is wanted, and of the asks of the other nodes of the
+/// options. The only error is want of memory.
+pub(crate) fn watcher_of<'a, R: Opens + Wait>(
+    alloc: Global,
+    options: &Options<'a>,
+    made: &Makings<R>,
+    logs: bool,
+) -> Result<Watcher, Stop<'a>> {
+    let nodes = Nodes {
+        own: options.name,
+        peers: &options.peers,
+        ask: Times::within(options.limits).ask,
+    };
+    let held = Held::among(&made.catalogue, &options.images);
+    match Watcher::new(alloc, logs, held, &nodes) {
+        Ok(watcher) => Ok(watcher),
+        Err(_) => Err(Stop::Memory),
+    }
+}

@@ -1,0 +1,127 @@
+//! The answer to the one target of the words.
+
+ghost use Rattle.std.specs.Prelude.{◌≡◌, ◌<◌, ◌^◌, ℕ, List, Some, None, false};
+ghost use Rattle.iiif_source.specs.declared.ReadFault.{ReadFault};
+ghost use Rattle.iiif_images.specs.Collection.{item_named};
+ghost use Rattle.iiif_images.specs.Named.{gave_of, pictures_of};
+ghost use Rattle.iiif_start.specs.Stored.{bytes_of, keeps_of, stored_gave};
+ghost use Rattle.iiif_answers.specs.Settings.{refusal_of};
+ghost use Rattle.iiif_program.specs.Lines.{settings_in};
+
+use crate::alone::answer_alone;
+use crate::makings::{Makings, makings_of, watcher_of};
+use crate::one::{answer_in_hex, answer_one, written_in_hex};
+use crate::work::One;
+use iiif_command_line::Options;
+use iiif_connections::{Watcher, among};
+use iiif_io::Outlet;
+use iiif_keys::System;
+use iiif_open_files::Opens;
+use iiif_start::Stop;
+use std::alloc::Global;
+use std::marker::Brand;
+use std::net::{Net, TcpListener, TcpStream};
+use std::rt::Clock;
+use std::sync::Wait;
+use std::sync::ledger::Blank;
+use std::thread::Threads;
+
+/// Writes the body of the answer to a target, by a node as the options ask for.
+pub(crate) fn answer_target<'a, R, O>(
+    rt: &R,
+    alloc: Global,
+    options: &Options<'a>,
+    one: &One<'_>,
+    out: &mut O,
+) -> Result<(), Stop<'a>>
+where
+    R: Opens
+        + Net<Listener = TcpListener, Stream = TcpStream>
+        + Threads
+        + Wait
+        + Clock
+        + Sync
+        + AllocGlobal,
+    R::Handle: Send + Sync,
+    O: Outlet,
+    requires { refusal_of (settings_in options.now) ≡ None }
+{
+    let made = makings_of(rt, alloc, options)?;
+    if options.peers.is_empty() {
+        return one_alone(rt, alloc, made, one, out);
+    }
+    let watcher = watcher_of(alloc, options, &made, false)?;
+    watcher.neighbours.look_up(rt, alloc);
+    let blanks = (Blank::new(65_537), Blank::new(65_537));
+    one_among::<R, O, Brand>(rt, made, blanks, &watcher, one, out)
+}
+
+/// Writes the body of the answer to a target by a node that asks no other, perhaps as hexadecimal digits.
+fn one_alone<'a, R, O>(
+    rt: &R,
+    alloc: Global,
+    made: Makings<R>,
+    one: &One<'_>,
+    out: &mut O,
+) -> Result<(), Stop<'a>>
+where
+    R: Opens + Threads + Wait + Clock + Sync,
+    R::Handle: Send + Sync,
+    O: Outlet,
+    requires bytes { made.cache_bytes < 2 ^ 63 }
+{
+    if !one.hex {
+        return answer_alone(rt, alloc, made, one.target, out);
+    }
+    let mut body = Vec::new(alloc);
+    let answered = answer_alone(rt, alloc, made, one.target, &mut body);
+    written_in_hex(answered, &body, out)
+}
+
+/// Writes the body of the answer to a target by a node that asks the watcher's others, perhaps as hexadecimal digits.
+fn one_among<'a, R, O, J: System + Send + Sync>(
+    rt: &R,
+    made: Makings<R>,
+    blanks: (Blank, Blank),
+    watcher: &Watcher,
+    one: &One<'_>,
+    out: &mut O,
+) -> Result<(), Stop<'a>>
+where
+    R: Opens
+        + Net<Listener = TcpListener, Stream = TcpStream>
+        + Threads
+        + Wait
+        + Clock
+        + Sync
+        + AllocGlobal,
+    R::Handle: Send + Sync,
+    O: Outlet,
+    requires bytes { made.cache_bytes < 2 ^ 63 }
+    requires pictures { (name : List ℕ) → J.pictures name ≡ pictures_of (bytes_of R.holds) made.catalogue name }
+    requires gave { (name : List ℕ) (f : ReadFault) → J.gave name f ≡ gave_of stored_gave made.catalogue name f }
+    requires stable { (name : List ℕ) (item : _) → item_named made.catalogue name ≡ Some item → J.stable name →
+        ∥ keeps_of R.keeps item.source ∥₁ }
+    requires kept { (name : List ℕ) (item : _) → item_named made.catalogue name ≡ Some item → keeps_of R.keeps item.source →
+        J.stable name }
+    requires edge { made.config.edge ≡ J.edge }
+    requires honest { J.honest ≡ false }
+    requires tiles { (blanks.0.name ≡ J.tiles_name) × (blanks.0.parts ≡ J.tiles_parts) × (J.tiles_parts ≡ 65537) }
+    requires sums { (blanks.1.name ≡ J.sums_name) × (blanks.1.parts ≡ J.sums_parts) × (J.sums_parts ≡ 65537) }
+{
+    let Makings {
+        config,
+        catalogue,
+        cache_bytes,
+    } = made;
+    let (alloc, workers) = (rt.alloc(), config.workers());
+    let (tiles, sums) = blanks;
+    let Ok(node) = among::<R, J>(alloc, config, catalogue, watcher, cache_bytes, tiles, sums) else {
+        return Err(Stop::Memory);
+    };
+    if one.hex {
+        answer_in_hex(rt, alloc, &node, workers, one.target, out)
+    } else {
+        answer_one(rt, alloc, &node, workers, one.target, out)
+    }
+}

@@ -1,0 +1,61 @@
+//! What is asked of a node.
+
+use iiif_command_line::{Mode, Options};
+use iiif_connections::Times;
+use iiif_services::Addresses;
+
+/// One target, and whether the body of its answer is written as hexadecimal digits.
+#[derive(Clone, Copy, Debug)]
+pub(crate) struct One<'a> {
+    pub target: &'a str,
+    pub hex: bool,
+}
+
+/// Where a node listens, for how long it waits, whether a line is written for each answer, and how much memory is written to before it
+/// listens.
+#[derive(Clone, Copy, Debug)]
+pub(crate) struct Listening<'a> {
+    pub addresses: Addresses<'a>,
+    pub times: Times,
+    pub logs: bool,
+    pub touch_bytes: u64,
+}
+
+/// What is asked of a node: the answer to one target, or an answer to each call of those who connect.
+#[derive(Clone, Copy, Debug)]
+pub(crate) enum Work<'a> {
+    One(One<'a>),
+    Listen(Listening<'a>),
+}
+
+impl<'a> Work<'a> {
+    /// What the options ask of a node. A check of the images asks nothing of one.
+    pub(crate) fn of(options: &'a Options<'_>) -> Option<Work<'a>> {
+        match options.mode {
+            Mode::One { target, hex } => Some(Work::One(One { target, hex })),
+            Mode::Listen {
+                viewers,
+                peers,
+                log,
+                stats,
+                peer_only,
+            } => Some(Work::Listen(Listening {
+                addresses: Addresses {
+                    viewers,
+                    peers,
+                    statistics: stats,
+                    per_address: options.limits.per_address,
+                    known: if peer_only {
+                        Some(options.peers.as_slice())
+                    } else {
+                        None
+                    },
+                },
+                times: Times::within(options.limits),
+                logs: log,
+                touch_bytes: options.touch_bytes,
+            })),
+            Mode::Check => None,
+        }
+    }
+}
