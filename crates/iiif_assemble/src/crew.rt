@@ -64,7 +64,7 @@ fn begun<'a, G: Items<K, V, P, R>, K, V: Drop, P, R: Wait>(
 {
     let mut values = Vec::new(alloc);
     for n in 0..items.len() {
-        if items.len() - n > 1 {
+        if items.len() - n > 1 && !group.is_at_hand(rt, &keys[items[n]]) {
             if let Some(helper) = idle.take(rt) {
                 return Ok(SoFar {
                     values,
@@ -143,7 +143,8 @@ fn halved<
     ensures values { IfOk result (λ v. AreValues (G.means group.now) keys.now items.now (map arc_value v.items)) }
     ensures fault { IfErr result (IsItemFault (G.means group.now) (G.failed group.now) keys.now items.now) }
 {
-    let half = items.len() / 2;
+    // The larger half, as who ends first waits, while a helper that ends first helps again.
+    let half = items.len() - items.len() / 2;
     let (mine, theirs) = items.split_at(half);
     let (first, rest) = join(
         rt,
