@@ -294,14 +294,13 @@ fn right_reply_is_the_tile_and_each_failure_a_fault_in_time(rt: HostRuntime) {
 /// A fault of the connection, in time.
 const LOST: Option<Came> = Some((Err(LinkFault::Wire(WireFault::Io)), true));
 
-/// Whether an ask of a node comes to that.
-fn is_lost<R>(rt: &R, alloc: Global, node: &Peer) -> bool
+/// Whether an ask over a link comes to that.
+fn is_lost<R>(rt: &R, alloc: Global, link: &TcpLink<'_, Deep>) -> bool
 where
     R: Net<Listener = TcpListener, Stream = TcpStream> + Threads + Wait + Clock + Sync,
 {
-    let watch = Stopwatch::new();
-    let link = link_to(alloc, node, &watch, None);
-    Asker { alloc, link: &link }.act(rt) == LOST
+    let asker = Asker { alloc, link };
+    asker.act(rt) == LOST
 }
 
 #[test]
@@ -312,8 +311,11 @@ fn dead_node_is_a_fault_of_the_connection(rt: HostRuntime) -> Result<(), Fail> {
     drop(listener);
     let nowhere = node_at(alloc, "no port").ok_or("no memory")?;
     nowhere.look_up(&rt, alloc);
-    assert!(rt; is_lost(&rt, alloc, &dead));
-    assert!(rt; is_lost(&rt, alloc, &nowhere));
+    let watch = Stopwatch::new();
+    let to_dead = link_to(alloc, &dead, &watch, None);
+    let to_nowhere = link_to(alloc, &nowhere, &watch, None);
+    assert!(rt; is_lost(&rt, alloc, &to_dead));
+    assert!(rt; is_lost(&rt, alloc, &to_nowhere));
     Ok(())
 }
 
