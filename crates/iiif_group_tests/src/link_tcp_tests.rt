@@ -294,12 +294,15 @@ fn right_reply_is_the_tile_and_each_failure_a_fault_in_time(rt: HostRuntime) {
 /// A fault of the connection, in time.
 const LOST: Option<Came> = Some((Err(LinkFault::Wire(WireFault::Io)), true));
 
-/// Whether an ask over a link comes to that.
-fn is_lost<R>(rt: &R, alloc: Global, link: &TcpLink<'_, Deep>) -> bool
+/// Whether an ask of a node comes to that.
+fn is_lost<R>(rt: &R, alloc: Global, node: Peer) -> bool
 where
     R: Net<Listener = TcpListener, Stream = TcpStream> + Threads + Wait + Clock + Sync,
 {
-    let asker = Asker { alloc, link };
+    node.look_up(rt, alloc);
+    let watch = Stopwatch::new();
+    let link = link_to(alloc, &node, &watch, None);
+    let asker = Asker { alloc, link: &link };
     asker.act(rt) == LOST
 }
 
@@ -307,15 +310,10 @@ where
 fn dead_node_is_a_fault_of_the_connection(rt: HostRuntime) -> Result<(), Fail> {
     let alloc = rt.alloc();
     let (listener, dead) = listening(&rt, alloc).ok_or("no listener")?;
-    dead.look_up(&rt, alloc);
     drop(listener);
     let nowhere = node_at(alloc, "no port").ok_or("no memory")?;
-    nowhere.look_up(&rt, alloc);
-    let watch = Stopwatch::new();
-    let to_dead = link_to(alloc, &dead, &watch, None);
-    let to_nowhere = link_to(alloc, &nowhere, &watch, None);
-    assert!(rt; is_lost(&rt, alloc, &to_dead));
-    assert!(rt; is_lost(&rt, alloc, &to_nowhere));
+    assert!(rt; is_lost(&rt, alloc, dead));
+    assert!(rt; is_lost(&rt, alloc, nowhere));
     Ok(())
 }
 
