@@ -11,10 +11,10 @@ import time
 BASE = "http://localhost/iiif"
 
 
-def picture(path, width, height, channels=1, edge=256):
+def picture(path, width, height, channels=1, edge=256, bits=8):
     """A TIFF file of black tiles that all stand at one place: small, however large the picture is."""
     across, down = -(-width // edge), -(-height // edge)
-    tile = bytes(edge * edge * channels)
+    tile = bytes(edge * edge * channels * bits // 8)
     count = across * down
     entries, extra, start = [], b"", 8
     head = 8 + 2 + 12 * 11 + 4
@@ -32,7 +32,7 @@ def picture(path, width, height, channels=1, edge=256):
     place = head + (2 * channels + 6 if channels > 1 else 0) + 8 * count + 64
     field(256, 4, [width])
     field(257, 4, [height])
-    field(258, 3, [8] * channels)
+    field(258, 3, [bits] * channels)
     field(259, 3, [1])
     field(262, 3, [2 if channels == 3 else 1])
     field(277, 3, [channels])
