@@ -1,12 +1,13 @@
-"""The built program at its edges: words that aren't UTF-8, outputs that take nothing, and reads that fail while it answers.
+"""The built program at its edges: words that aren't UTF-8 or that the parser refuses, outputs that take nothing, and reads that fail
+while it answers.
 
     /usr/bin/python3 tests/edges/edges.py --program crates/iiif_serve/out/iiif_serve
 
 Needs `cc`: `fail.c` is built and loaded in front of the C library, and fails the reads of an image's file from the first, the second and so
 on, until a run meets none. Then the start has to be refused, the answer has to be `L1 source`, or it is cut, the status 1 and the line
 `run: source`. So it is where one read alone fails of a file of whole tiles, for an image and an overview, whatever the bands and the
-workers: it isn't tried again. What must be said stands here, in the words of the manual page and docs/OPERATING.md. Prints how many runs there were; each
-that was wrong is named on standard error, and then the status is 1.
+workers: it isn't tried again. What must be said stands here, in the words of the manual page and docs/OPERATING.md. Prints how many runs
+there were; each that was wrong is named on standard error, and then the status is 1.
 """
 import argparse
 import itertools
@@ -42,6 +43,16 @@ def words(program, path):
     for given in ([b"\xff"], [*BASE, b"--one", target, "a=:sample"], [*IMAGE, b"\xc3=" + path.encode()], [b"--help", b"\x80"]):
         got = run(program, given)
         yield f"{given}", got, got == (2, b"", NOT_UTF8)
+
+
+def parsed(program, path):
+    """Words that the parser refuses: its whole text stands behind `line: `, in the words of clap's documents."""
+    more = b"\n\nFor more information, try '--help'.\n"
+    got = run(program, ["--edgy", "3"])
+    tip = b"line: error: unexpected argument '--edgy' found\n\n  tip: a similar argument exists: '--edge'\n\nUsage: "
+    yield "an option that is none", got, got[:2] == (2, b"") and got[2].startswith(tip) and got[2].endswith(more)
+    got = run(program, [*BASE, "--band"])
+    yield "no value", got, got == (2, b"", b"line: error: a value is required for '--band <ROWS>' but none was supplied" + more)
 
 
 def outputs(program, path):
@@ -141,7 +152,7 @@ def main():
         path = os.path.join(room, "sample.tif")
         with open(path, "wb") as file:
             file.write(files.SAMPLE)
-        for part in (words, outputs, reads, one_read):
+        for part in (words, parsed, outputs, reads, one_read):
             for what, got, is_right in part(program, path):
                 runs += 1
                 wrong += not is_right
