@@ -1,4 +1,4 @@
-"""The cache in bytes beside an evaluation of its definition in Python, on lists of calls by chance.
+"""The cache in bytes beside an evaluation of its definition in Python, on random lists of calls.
 
     tools/build cache
     /usr/bin/python3 bench/cache/lists.py /tmp/lifthorg-bench/crates/cache_bench/out/cache_bench [COUNT] [SEED]

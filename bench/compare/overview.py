@@ -1,4 +1,4 @@
-"""The overview of 100 megapixels beside the program before bands and caches, by turns: from the command line, and asked of a server.
+"""The overview of 100 megapixels beside the program before bands and caches, alternating: from the command line, and asked of a server.
 
     /usr/bin/python3 bench/compare/overview.py --program crates/iiif_serve/out/iiif_serve --before BUILD [--rounds 11] [--strict]
 
@@ -6,7 +6,7 @@ The gray file of 10,000 square in tiles of compare.py, 1,024 wide, by the progra
 the command line each without an environment and in the one that the manual has for one large image, and there this one also with no caches and one band
 of all rows, as docs/OPERATING.md has it: the program before keeps nothing, either. As a server each as its own package starts it, which is
 without an environment for the one before, and for this one in the unit's and with the memory touched that the package's options say. A server
-is started anew for each answer, so its caches are empty, and the clock runs from the request until the last byte. All run by turns, each round
+is started anew for each answer, so its caches are empty, and the clock runs from the request until the last byte. All run alternating, each round
 begun with another. Each answer of this program is compared with the exact averages. Right before each run, whichever it is, --warm MiB are touched and given back: a
 virtual machine whose host takes back what lies free has to ask for it again else, which costs more than the whole answer, and more at one time than at another. Prints
 the medians of the wall clock with the least in brackets, and from the command line those of the processor time of all threads and of the new pages that were touched; then what one worker and

@@ -13,8 +13,8 @@ Prints Markdown tables. Everything is drawn from one seed (--seed, 1 if left out
 The catalogue: of 20 images 15 are pages (RGB, 2,480 by 3,508), 4 newspapers (gray, 5,000 by 7,000), 1 a map (RGB, 12,000 by 9,000), in
 tiles of 256. A viewer picks an image by Zipf's law (weight 1 / rank), opens it as viewers/own.html does in a canvas of 1,280 by 720, zooms
 in by steps of 1.5 about one place until one sample is one dot, moves three times by half a canvas, and leaves. It asks for each tile once
-and one after another, all of one node, which is picked by chance. So many viewers are there at a time, and each request comes from one of
-them by chance. A first part of the viewers only fills the caches; what the others do is counted.
+and one after another, all of one node, which is picked at random. So many viewers are there at a time, and each request comes from one of
+them at random. A first part of the viewers only fills the caches; what the others do is counted.
 """
 import argparse
 import itertools
@@ -110,7 +110,7 @@ class Site:
         return n if self.system.nodes[n].alive else self.other(n, hash_of(name))
 
     def other(self, n, number):
-        """Another node in the place of a lost one, so that what is drawn by chance stays as it was."""
+        """Another node in the place of a lost one, so that what is drawn at random stays as it was."""
         return (n + 1 + number % (len(self.system.nodes) - 1)) % len(self.system.nodes)
 
     def lose(self, n):

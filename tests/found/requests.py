@@ -1,11 +1,11 @@
-"""The program beside an evaluation of the definitions in Python, on requests by chance.
+"""The program beside an evaluation of the definitions in Python, on random requests.
 
     /usr/bin/python3 tests/found/requests.py crates/iiif_serve/out/iiif_serve [COUNT] [SEED]
 
 Pictures of up to 70 by 70 (gray and RGB of 8 and 16 bits, bits), in both byte orders, gray ones also counted down from white, in strips
 and tiles, some with samples about the half at which bits become white; edges from 1 to 64, regions, sizes up to twice the region's, turns
-and qualities by chance, in bands of 1, 3 or 64 rows, by 1, 2 or 5 workers, with caches of 0, 100 or 67,108,864 bytes. The averages are exact fractions over the whole region, place by place, so nothing here knows of tiles or blocks. The status is
-1 where an answer differs. With `sixteen` as a fourth word all pictures have 16 bits.
+and qualities at random, in bands of 1, 3 or 64 rows, by 1, 2 or 5 workers, with caches of 0, 100 or 67,108,864 bytes. The averages are
+exact fractions over the whole region, place by place, so nothing here knows of tiles or blocks. The status is 1 where an answer differs. With `sixteen` as a fourth word all pictures have 16 bits.
 """
 import os
 import random

@@ -2,7 +2,7 @@
 
     /usr/bin/python3 tests/found/validator.py crates/iiif_serve/out/iiif_serve
 
-The picture has 10 by 10 coloured squares with a side of 100, as the validator's own, here of colours by chance. Needs numpy. Each line
+The picture has 10 by 10 coloured squares with a side of 100, as the validator's own, here of random colours. Needs numpy. Each line
 names the test, the target and what was answered; the status is 1 where that isn't what is wanted.
 """
 import struct

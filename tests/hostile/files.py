@@ -1,4 +1,4 @@
-"""Files changed by chance: what the program makes of each beside the evaluation of `tiff`."""
+"""Files changed at random: what the program makes of each beside the evaluation of `tiff`."""
 import os
 import random
 import struct

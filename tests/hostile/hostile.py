@@ -1,4 +1,4 @@
-"""The running program beside an independent evaluation, on hostile input by chance.
+"""The running program beside an independent evaluation, on random hostile input.
 
     /usr/bin/python3 tests/hostile/hostile.py --program crates/iiif_serve/out/iiif_serve --files 100000 --targets 100000 --inputs 20000 --messages 20000
 
@@ -51,7 +51,7 @@ def main():
             print(f"{name}: {said}; {len(found)} wrong; {time.monotonic() - start:.0f} s, seed {args.seed}", flush=True)
             for line in found[:40]:
                 print(f"wrong: {name}: {line}", file=sys.stderr)
-    print(f"hostile: {asked} inputs by chance, and those by hand, {wrong} wrong")
+    print(f"hostile: {asked} random inputs, and those by hand, {wrong} wrong")
     return 1 if wrong else 0
 
 

@@ -1,4 +1,4 @@
-"""Inputs of connections by chance: heads in and out of the grammar, pipelined, cut anywhere, in pieces."""
+"""Random inputs of connections: heads in and out of the grammar, pipelined, cut anywhere, in pieces."""
 import random
 
 import heads
@@ -106,7 +106,7 @@ def limits():
 
 
 def run(args, room):
-    """Every cut first, then by chance up to the count."""
+    """Every cut first, then random ones up to the count."""
     chance, found = random.Random(args.seed), []
     names, shown = targets.pictures(chance, room)
     answers = Answers(running.BASE, shown, args.edge, args.max, False)

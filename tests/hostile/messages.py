@@ -1,4 +1,4 @@
-"""Messages by chance to the port for other nodes, where the program has one: each reply compared whole with the evaluation of `wire`."""
+"""Random messages to the port for other nodes, where the program has one: each reply compared whole with the evaluation of `wire`."""
 import random
 
 import program as running
@@ -67,7 +67,7 @@ def fixed_inputs(edge):
 
 
 def run(args, room):
-    """The fixed inputs first, then by chance up to the count."""
+    """The fixed inputs first, then random ones up to the count."""
     if "--peer-listen" not in running.options_of(args.program):
         return "left out: the program has no --peer-listen", []
     chance, found = random.Random(args.seed), []

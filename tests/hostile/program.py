@@ -12,7 +12,7 @@ BASE = "http://localhost/iiif"
 
 
 # Ports below those that the system gives to connections, so that none of these takes one before a server does; one after another from
-# a place by chance, so that no two of a program's listeners, which aren't bound yet, are given the same.
+# a random place, so that no two of a program's listeners, which aren't bound yet, are given the same.
 PORTS = range(20_000, 32_000)
 ROUND = itertools.count(random.SystemRandom().randrange(len(PORTS)))
 

@@ -1,4 +1,4 @@
-"""Targets by chance over connections that stay, each answer compared whole with the evaluation of `images`."""
+"""Random targets over connections that stay, each answer compared whole with the evaluation of `images`."""
 import os
 import random
 import sys
@@ -109,7 +109,7 @@ def garbage(chance):
 
 
 def is_target(target):
-    """Whether the bytes can stand as a target in a request line; others are heads by chance, which `inputs` tries."""
+    """Whether the bytes can stand as a target in a request line; others are random heads, which `inputs` tries."""
     try:
         return bool(target) and all(b > 32 and b != 127 for b in target) and target.decode("utf-8") is not None
     except UnicodeDecodeError:

@@ -1,4 +1,4 @@
-"""Lists of events by chance, replayed by the built program and by an evaluation of the definitions in Python.
+"""Random lists of events, replayed by the built program and by an evaluation of the definitions in Python.
 
     /usr/bin/python3 tests/machine/lists.py crates/iiif_replay/out/iiif_replay [--count N] [--seed N] [--each N] [--jobs N]
 
@@ -116,7 +116,7 @@ def rows(world):
         yield "reply %d: %s %s" % (n, key_text(key), outcome_text(key, outcome))
 
 
-# Worlds and events by chance
+# Random worlds and events
 
 def a_picture(chance):
     w, h = chance.randint(1, 4), chance.randint(1, 4)

@@ -1,4 +1,4 @@
-"""Whether the lists by chance would show a wrong rule: one rule at a time of the evaluation is turned, and its lists are replayed.
+"""Whether the random lists would show a wrong rule: one rule at a time of the evaluation is turned, and its lists are replayed.
 
     /usr/bin/python3 tests/machine/mutants.py crates/iiif_replay/out/iiif_replay [--count N] [--jobs N]
 

@@ -5,7 +5,7 @@ cases is its own. So each tile and each sum is asked for at the other node, whic
 
 Four kinds of runs, each on new servers and on one: the growths are refused to the node that is asked for images; to the node that it asks,
 and then the answer has to be the case's own; and to the node whose port for peers is asked, and then each reply has to be its own or that
-of a want of memory, or the connection closes behind whole replies or a strict prefix of one. The fourth has one node alone, all of whose
+of out of memory, or the connection closes behind whole replies or a strict prefix of one. The fourth has one node alone, all of whose
 keys are owned by a node that lies: its reply has one byte changed, or is for another key and has another value. What comes has to be
 what a node without others may answer, the same again the case's own, and no value that is kept may be counted as another node's. That
 is tried at a start by `--one` too.
@@ -103,7 +103,7 @@ def replies_kind(asks, own, got):
         want = wire.reply(version, key, WANT, b"")
         if not rest:
             return "+".join(kinds + ["closed"])
-        for name, text in (("own", reply), ("want of memory", want)):
+        for name, text in (("own", reply), ("out of memory", want)):
             if rest.startswith(text):
                 kinds.append(name)
                 at += len(text)

@@ -13,9 +13,9 @@ which the connection closes, or `run: memory` or `image NAME: 8` where the progr
 Then the same is asked again with ample memory, on the same server, and has to be the case's own. Where the program has peers, `peers` does
 the same with two nodes that ask each other, and with one that asks a node which lies.
 
-Tests: those whose name ends in `after_a_refused_growth` make the refused call again by themselves; each is run alone. It has to pass, or to end with a
-want of memory while it is being prepared. With --all the other tests run too: of them nothing is judged, as a test that compares with
-its own answer stops where that is a want of memory.
+Tests: those whose name ends in `after_a_refused_growth` make the refused call again by themselves; each is run alone. It has to pass, or to end out
+of memory while it is being prepared. With --all the other tests run too: of them nothing is judged, as a test that compares with
+its own answer stops where that is out of memory.
 
 Prints a line for each case: how many refusals, and what came. The status is 1 where something else came.
 """
@@ -115,7 +115,7 @@ def tests(binaries, control, everything):
                 if not control.refused():
                     break
                 text = done.stdout + done.stderr
-                kind = "passed" if done.returncode == 0 else "want of memory" if done.returncode == 101 and any(word in text for word in WANTS) else "OTHER"
+                kind = "passed" if done.returncode == 0 else "out of memory" if done.returncode == 101 and any(word in text for word in WANTS) else "OTHER"
                 count(kinds, kind)
                 if kind == "OTHER" and judged:
                     wrong.append(f"growth {n}: {text.strip()[:300]!r}")

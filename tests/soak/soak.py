@@ -48,7 +48,7 @@ class Soak:
         self.others[what] = self.others.get(what, 0) + 1
 
     def call(self, chance):
-        """A call by chance."""
+        """A random call."""
         step = min(self.picture.across, chance.choices([1, 2, 4, 8, 16, 32, 64], [50, 20, 12, 8, 5, 3, 2])[0])
         many = self.picture.across // step
         return self.told(step, chance.randrange(many), chance.randrange(many), chance.choice([0, 0, 0, 0, 1, 2, 3]), chance.random() < 0.1)

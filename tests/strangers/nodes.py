@@ -41,7 +41,7 @@ def tile_target(chance):
 
 
 def view(port, ends, seed, times):
-    """Asks for tiles by chance until a moment, and notes when each began and how long it took."""
+    """Asks for random tiles until a moment, and notes when each began and how long it took."""
     chance = random.Random(seed)
     while time.monotonic() < ends:
         try:

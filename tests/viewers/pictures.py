@@ -23,7 +23,7 @@ EVALUATION = module_of("tests/found/requests.py")
 
 
 class Picture:
-    """Samples by chance: rows of places, each a list of its channels. Bits are 0 and 1."""
+    """Random samples: rows of places, each a list of its channels. Bits are 0 and 1."""
 
     def __init__(self, width, height, channels, bits, white, seed=1):
         self.width, self.height, self.channels, self.bits, self.white = width, height, channels, bits, white
