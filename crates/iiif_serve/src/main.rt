@@ -32,9 +32,8 @@
 //!    are held in memory.
 //! 3. `iiif_program` makes the node of them, with its limits and its caches, and does what the words ask for.
 //! 4. `iiif_services` listens, `iiif_listener` starts a thread for each connection, and `iiif_connections` serves it.
-//! 5. `iiif_server` answers a connection's calls in order: `iiif_http_front` reads their heads, `iiif_request` and `iiif_canonical` what
-//! they
-//!    ask for, `iiif_answers` has the texts of refusals, redirects and information.
+//! 5. `iiif_server` answers a connection's calls in order: `iiif_http_front` reads their heads, `iiif_request` and `iiif_canonical` read
+//!    what they ask for, `iiif_answers` has the texts of refusals, redirects and information.
 //! 6. `iiif_delivery` sends an image in bands. `iiif_planner` says which tiles and sums a band needs, `iiif_tile_group` and
 //!    `iiif_sum_group` have them in caches with shared flights, and ask the node that owns them. `iiif_assemble` makes the band's rows.
 //! 7. `iiif_tiff_read` reads a tile's samples from its file, `iiif_tiff_write` makes the file that is answered.
@@ -46,10 +45,8 @@
 //! `answer_alone` in `iiif_program`, which answers `--one`, and of `Viewers::serve_over` in `iiif_connections`, which answers a connection.
 //! Their sources are then the bytes that one read of each file gave at the start. Of a file that is read when it is asked for, it is proved
 //! for each runtime whose files keep their bytes; that the system is one can't be proved. Of other nodes it is assumed that they are
-//! honest.
-//! `docs/PROMISES.md` names the clauses. Of `main` itself: that it ends, or serves on, without a fault of memory, and that its status is
-//! one of
-//! the three.
+//! honest. `docs/PROMISES.md` names the clauses. Of `main` itself: that it ends, or serves on, without a fault of memory, and that its
+//! status is one of the three.
 #![tactic(auto)]
 
 use iiif_program::program::program;
