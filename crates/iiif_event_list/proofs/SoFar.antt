@@ -1,5 +1,6 @@
 -- How the replay of a reader goes on line by line.
-use Rattle.std.proofs.Common.{◌≡◌, ◌++◌, ◌<◌, append_assoc, ℕ, List, [], ◌∷◌, length, Option, Some, None, refl, sym, ap, subst}
+use Rattle.std.proofs.Common.{◌≡◌, ◌⊎◌, inl, inr, ◌++◌, ◌<◌, append_assoc, ℕ, List, [], ◌∷◌, length, Option, Some, None, refl, sym, ap}
+use Rattle.std.proofs.Common.{subst, ◌∙◌}
 use Rattle.std.specs.Prelude.{IfSome, OnOk, Result, Ok, Err}
 use Rattle.std.specs.Io.BufRead.{DropsThrough, first_line}
 use Rattle.std.specs.Io.KnownBytes.{Appends, IsAtEnd}
@@ -8,6 +9,7 @@ use Rattle.iiif_machine.specs.Worlds.{World}
 use Rattle.iiif_machine.specs.declared.events.Event.{Event}
 use Rattle.iiif_event_list.specs.Described.{plain_world}
 use Rattle.iiif_event_list.specs.declared.state.State.{State}
+use Rattle.iiif_event_list.specs.Replays.{AreFirstLinesIn, IsBad, LinesStop, Stops}
 use Rattle.iiif_event_list.specs.Replays.{AreLinesIn, IsNew, LineComes, LinesCome, Replays, done_in, ended_text, first_in, number_behind}
 use Rattle.iiif_event_list.proofs.Going.{IsGoingOn, line_goes_on, new_goes_on, right_in}
 
@@ -21,6 +23,7 @@ pub record WrittenSoFar (input left : Option (List ℕ)) (n : ℕ) (s : State) (
   pub going : IsGoingOn first done s
   pub more : (lines : List (List ℕ)) (rest : List ℕ) → AreLinesIn left lines → LinesCome n lines first done s rest →
       Replays input (text ++ rest)
+  pub stops : (lines : List (List ℕ)) (m : ℕ) → AreFirstLinesIn left lines → LinesStop n lines s m → Stops input m
 
 nothing_appended : (a : Option (List ℕ)) → Appends a a []
 nothing_appended None = tt
@@ -46,6 +49,13 @@ begun input left s old same new = record {
     come =
         come;
   };
+  stops = λ lines m read stop. record {
+    lines = lines;
+    read = subst (λ o. AreFirstLinesIn o lines) same read;
+    start = s;
+    new = new;
+    stop = stop;
+  };
 }
 
 line_read : (old new : Option (List ℕ)) (line : List ℕ) (lines : List (List ℕ))
@@ -54,14 +64,31 @@ line_read : (old new : Option (List ℕ)) (line : List ℕ) (lines : List (List 
 line_read None new line lines is drops read = tt
 line_read (Some xs) new line lines is drops read = (is.0, is.1, subst (λ o. AreLinesIn o lines) drops read)
 
+first_line_read : (old new : Option (List ℕ)) (line : List ℕ) (lines : List (List ℕ))
+    → IfSome old (λ xs. (0 < length xs) × (line ≡ first_line xs)) → DropsThrough old new 10 → AreFirstLinesIn new lines →
+    AreFirstLinesIn old (line ∷ lines)
+first_line_read None new line lines is drops read = tt
+first_line_read (Some xs) new line lines is drops read = (is.0, is.1, subst (λ o. AreFirstLinesIn o lines) drops read)
+
+none_read : (o : Option (List ℕ)) → AreFirstLinesIn o []
+none_read None = tt
+none_read (Some xs) = tt
+
+-- a bad line stops the replay
+pub stopped : (input left next : Option (List ℕ)) (n m k : ℕ) (s : State) (old mid : Option (List ℕ)) (line bytes : List ℕ)
+    → WrittenSoFar input left n s old mid → IfSome left (λ xs. (0 < length xs) × (bytes ≡ first_line xs)) × DropsThrough left next 10
+    → line ≡ bytes → m ≡ number_behind n → (k ≡ m) × IsBad line s → Stops input k
+stopped input left next n m k s old mid line bytes so_far is same behind bad =
+    so_far.stops (bytes ∷ []) k (first_line_read left next bytes [] is.0 is.1 (none_read next))
+    (inl (refl, bad.0 ∙ behind, subst (λ l. IsBad l s) same bad.1))
+
 pub went_on : (input left next : Option (List ℕ)) (n m : ℕ) (s t : State) (old mid new : Option (List ℕ)) (line bytes front : List ℕ)
     (events : List Event) → WrittenSoFar input left n s old mid →
     IfSome left (λ xs. (0 < length xs) × (bytes ≡ first_line xs)) × DropsThrough left next 10 →
     line ≡ bytes → m ≡ number_behind n → LineComes m line s events t front → Appends mid new front → WrittenSoFar input next m t old new
 went_on input left next n m s t old mid new line bytes front events so_far is same behind comes written =
     let comes_so : LineComes m bytes s events t front = subst (λ l. LineComes m l s events t front) same comes in
-    let comes_behind : LineComes (number_behind n) bytes s events t front =
-    subst (λ k. LineComes k bytes s events t front) behind comes_so in
+    let comes_behind : LineComes (number_behind n) bytes s events t front = subst (λ k. LineComes k bytes s events t front) behind comes_so in
     let first : World = first_in t so_far.first in
     let done : List Event = done_in t (so_far.done ++ events) in
     let going : IsGoingOn first done t = line_goes_on m bytes s t so_far.first so_far.done events front so_far.going comes_so in
@@ -82,6 +109,8 @@ went_on input left next n m s t old mid new line bytes front events so_far is sa
             subst (λ k. LinesCome k lines first done t rest) behind come,
             refl,
           ));
+      stops = λ lines k read stop. so_far.stops (bytes ∷ lines) k (first_line_read left next bytes lines is.0 is.1 read)
+          (inr (t, events, front, comes_behind, subst (λ j. LinesStop j lines t k) behind stop));
     }
 
 nothing_left : (left : Option (List ℕ)) → IsAtEnd left → AreLinesIn left []

@@ -9,8 +9,8 @@ use Rattle.iiif_machine.specs.Headline.{Headline}
 use Rattle.iiif_machine.specs.declared.events.Event.{Event}
 use Rattle.iiif_world.specs.Code.{world_of, IsSoundWorld}
 use Rattle.iiif_event_list.specs.Texts.{answers_text, outcome_text}
-use Rattle.iiif_event_list.specs.Spellings.{LineWords, WordAt, IsEventOf, IsSetting}
-use Rattle.iiif_event_list.specs.Described.{first_of, plain_world}
+use Rattle.iiif_event_list.specs.Spellings.{LineWords, WordAt, IsEventOf, AreNoEvent, IsSetting}
+use Rattle.iiif_event_list.specs.Described.{CanBegin, first_of, plain_world}
 use Rattle.iiif_event_list.specs.declared.state.State.{State}
 use Rattle.iiif_event_list.specs.declared.state.State.TheVariants.{Described, Begun, Lost}
 
@@ -114,6 +114,30 @@ AreWordsOf line (w ∷ ws) = (rest : List ℕ) × IsFirstWord line w.now rest ×
 abbrev pub LineComes : ℕ → List ℕ → State → List Event → State → List ℕ → Type 0
 LineComes number line before done after text = (ws : LineWords) × AreWordsOf line ws × Comes number line ws before done after text
 
+-- No world begins so: an edge, the room, a picture or a ring is none; or the world was lost.
+abbrev pub BeginsNone : State → Type 0
+BeginsNone (Described d) = ¬ (CanBegin d)
+BeginsNone (Begun w) = ⊥
+BeginsNone Lost = Unit {0}
+
+-- Why words are bad: in a world that is only described they begin as a setting, which can't be read; or they are no event, and not
+-- `rows`; or they would begin a world that can't begin.
+pub data IsReason (ws : LineWords) (before : State) : Type 0 where
+  setting : (is : IsSetting ws) (described : IsDescribed before) → IsReason ws before
+  no_event : (none : AreNoEvent ws) (other : ¬ (IsAlone ws (codes "rows"))) → IsReason ws before
+  no_world : (none : BeginsNone before) → IsReason ws before
+
+-- There are words, which are no comment and not `world`, and a reason why they are bad.
+pub record AreBad (ws : LineWords) (before : State) : Type 0 where
+  pub some : ¬ (length ws ≡ 0)
+  pub no_comment : ¬ (IsComment ws)
+  pub not_next : ¬ (IsAlone ws (codes "world"))
+  pub why : IsReason ws before
+
+-- A line is bad where its words are.
+abbrev pub IsBad : List ℕ → State → Type 0
+IsBad line before = (ws : LineWords) × AreWordsOf line ws × AreBad ws before
+
 -- the number of the line behind one, which stops at the greatest
 abbrev pub number_behind : ℕ → ℕ
 number_behind n = min (n + 1) (2 ^ 64 - 1)
@@ -154,6 +178,30 @@ AreLinesOf input (line ∷ more) = (0 < length input) × (line ≡ first_line in
 abbrev pub AreLinesIn : Option (List ℕ) → List (List ℕ) → Type 0
 AreLinesIn None lines = Unit {0}
 AreLinesIn (Some input) lines = AreLinesOf input lines
+
+-- the first lines of a text; and those of a reader's bytes, where these are known
+abbrev pub AreFirstLinesOf : List ℕ → List (List ℕ) → Type 0
+AreFirstLinesOf input [] = Unit {0}
+AreFirstLinesOf input (line ∷ more) = (0 < length input) × (line ≡ first_line input) × AreFirstLinesOf (drop_through 10 input) more
+
+abbrev pub AreFirstLinesIn : Option (List ℕ) → List (List ℕ) → Type 0
+AreFirstLinesIn None lines = Unit {0}
+AreFirstLinesIn (Some input) lines = AreFirstLinesOf input lines
+
+-- Of lines that stand behind one of this number the last is bad, and has the other number; those before it come to something.
+abbrev pub LinesStop : ℕ → List (List ℕ) → State → ℕ → Type 0
+LinesStop n [] s m = ⊥
+LinesStop n (line ∷ more) s m = ((more ≡ []) × (m ≡ number_behind n) × IsBad line s)
+    ⊎ ((t : State) × (new : List Event) × (text : List ℕ) × LineComes (number_behind n) line s new t text
+    × LinesStop (number_behind n) more t m)
+
+-- The replay of a reader stops at the line of this number, which is the first that is bad.
+pub record Stops (known : Option (List ℕ)) (number : ℕ) : Type 0 where
+  pub lines : List (List ℕ)
+  pub read : AreFirstLinesIn known lines
+  pub start : State
+  pub new : IsNew start
+  pub stop : LinesStop 0 lines start number
 
 -- What the replay of a reader writes: what its lines come to, from a world on of which nothing was said.
 pub record Replays (known : Option (List ℕ)) (text : List ℕ) : Type 0 where

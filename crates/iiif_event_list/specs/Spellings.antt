@@ -1,10 +1,13 @@
 -- Which event the words of a line are.
 use denote.Ref.{Bor}
-use Rattle.std.specs.Prelude.{◌≡◌, ◌+◌, ℕ, List, [], ◌∷◌, ◌++◌, codes, Some, drop, length, slice_get, if◌then◌else◌}
+use Rattle.std.specs.Prelude.{◌≡◌, ◌+◌, ◌<◌, ◌≤◌, ◌^◌, ℕ, List, [], ◌∷◌, ◌++◌, Bool, true, codes, Some, drop, length, slice_get}
+use Rattle.std.specs.Prelude.{if◌then◌else◌}
+use Rattle.std.specs.List.{AllByRecursion}
 use Rattle.std.specs.Str.Parse.{IsNumeral, digits_value, without_leading_plus}
 use Rattle.iiif_pixel.specs.declared.geometry.Dim.{Dim}
 use Rattle.iiif_pixel.specs.declared.geometry.Rect.{Rect}
 use Rattle.iiif_request.specs.Spells.{SpellsRequest}
+use Rattle.iiif_keys.specs.Names.{is_name}
 use Rattle.iiif_keys.specs.declared.keys.TileKey.{TileKey}
 use Rattle.iiif_keys.specs.declared.keys.SumKey.{SumKey}
 use Rattle.iiif_scene.specs.declared.keys.Key.{Key}
@@ -115,6 +118,56 @@ IsEventOf ws (Land f kept) =
     (length ws ≡ 3) × WordAt ws 0 (codes "land") × NumberAt ws 1 f × WordAt ws 2 (if kept then codes "kept" else codes "dropped")
 IsEventOf ws (Evict i keys) = WordAt ws 0 (codes "evict") × NumberAt ws 1 i × AreKeys (drop 2 ws) keys.items
 IsEventOf ws (Stop i) = IsNumbered (codes "stop") ws i
+
+-- Numbers that the code has have 8, 32 or 64 bits, and names 1 to 1,024 bytes: so each part of an event fits its type.
+pub record FitsRect (r : Rect) : Type 0 where
+  pub column : r.x < 2 ^ 32
+  pub row : r.y < 2 ^ 32
+  pub width : r.w < 2 ^ 32
+  pub height : r.h < 2 ^ 32
+
+pub record FitsDim (d : Dim) : Type 0 where
+  pub width : d.w < 2 ^ 32
+  pub height : d.h < 2 ^ 32
+
+pub record FitsTile (k : TileKey) : Type 0 where
+  pub name : is_name k.name ≡ true
+  pub edge : k.edge < 2 ^ 32
+  pub column : k.tx < 2 ^ 32
+  pub row : k.ty < 2 ^ 32
+
+pub record FitsSum (k : SumKey) : Type 0 where
+  pub name : is_name k.name ≡ true
+  pub edge : k.edge < 2 ^ 32
+  pub rect : FitsRect k.rect
+  pub size : FitsDim k.size
+  pub level : k.level < 2 ^ 8
+  pub column : k.bx < 2 ^ 32
+  pub row : k.by < 2 ^ 32
+
+abbrev pub FitsKey : Key → Type 0
+FitsKey (Tile k) = FitsTile k
+FitsKey (Sum k) = FitsSum k
+
+abbrev pub Fits : Event → Type 0
+Fits (Want i name q) = (i < 2 ^ 64) × (is_name name ≡ true)
+Fits (Enter c) = c < 2 ^ 64
+Fits (Again f) = f < 2 ^ 64
+Fits (AskPeer f) = f < 2 ^ 64
+Fits (Serve a) = a < 2 ^ 64
+Fits (Reply c) = c < 2 ^ 64
+Fits (Take f r) = (f < 2 ^ 64) × (r < 2 ^ 64)
+Fits (Lose f) = f < 2 ^ 64
+Fits (GoLocal f) = f < 2 ^ 64
+Fits (Load f) = f < 2 ^ 64
+Fits (SourceFault f e) = (f < 2 ^ 64) × (e.place < 2 ^ 64) × (e.cause < 2 ^ 8)
+Fits (Land f kept) = f < 2 ^ 64
+Fits (Evict i keys) = (i < 2 ^ 64) × AllByRecursion FitsKey keys.items
+Fits (Stop i) = i < 2 ^ 64
+
+-- the words are no event: none whose parts fit
+abbrev pub AreNoEvent : LineWords → Type 0
+AreNoEvent ws = (e : Event) → Fits e → ¬ (IsEventOf ws e)
 
 -- the first word is that of a setting
 pub data IsSetting (ws : LineWords) : Type 0 where

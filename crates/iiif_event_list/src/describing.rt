@@ -1,9 +1,10 @@
 //! Worlds, as the lines before their first event describe them.
 
-ghost use Rattle.std.specs.Prelude.{◌≡◌, true, false, length, IfOk};
+ghost use Rattle.std.specs.Prelude.{◌≡◌, ◌⊎◌, true, false, length, IfOk, IsErrOf};
 ghost use Rattle.iiif_pixel.specs.Depths.{values_of};
 ghost use Rattle.iiif_world.specs.Code.{world_of, IsSoundWorld};
-ghost use Rattle.iiif_event_list.specs.Described.{first_of, plain_world};
+ghost use Rattle.iiif_event_list.specs.declared.fault.LineFault.{LineFault};
+ghost use Rattle.iiif_event_list.specs.Described.{CanBegin, first_of, plain_world};
 ghost use Rattle.iiif_event_list.specs.Spellings.{IsSetting};
 
 use crate::fault::LineFault;
@@ -198,6 +199,7 @@ impl Description {
     pub fn set(&mut self, alloc: Global, words: &[&str]) -> Result<bool, LineFault>
         ensures yes { IfOk result (λ set. set ≡ true → IsSetting words.now) }
         ensures no { IfOk result (λ set. set ≡ false → self.new ≡ self.old) }
+        ensures bad { IsErrOf result LineFault.Bad → (length words.now ≡ 0) ⊎ IsSetting words.now }
     {
         match word(words, 0)? {
             "edge" if words.len() == 2 => self.edge = side(words, 1)?,
@@ -214,6 +216,7 @@ impl Description {
     pub fn begin(self, alloc: Global) -> Result<World, LineFault>
         ensures first { IfOk result (λ w. world_of w ≡ first_of self) }
         ensures sound { IfOk result (λ w. IsSoundWorld (world_of w)) }
+        ensures bad { IsErrOf result LineFault.Bad → ¬ CanBegin self }
     {
         let Description {
             edge,

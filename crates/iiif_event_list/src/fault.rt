@@ -12,6 +12,11 @@ pub enum LineFault {
 }
 
 impl From<NoMemory> for LineFault {
+    ghost use Rattle.std.specs.Prelude.{◌≡◌};
+    ghost use Rattle.iiif_event_list.specs.declared.fault.LineFault.TheVariants.{NoMemory};
+
+    ghost from_gives = { λ _ f. f ≡ NoMemory };
+
     fn from(_error: NoMemory) -> LineFault {
         LineFault::NoMemory
     }

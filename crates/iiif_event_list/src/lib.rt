@@ -1,10 +1,12 @@
 //! Lists of events as text: what describes a world, events, their outcomes and answers.
 #![tactic(auto)]
 
-ghost use Rattle.std.specs.Prelude.{ℕ, List, string_bytes, IsOk, IfOk, OnOk};
+ghost use Rattle.std.specs.Prelude.{◌≡◌, ℕ, List, string_bytes, IsErrOf, IsOk, IfOk, OnOk};
 ghost use Rattle.std.specs.Io.KnownBytes.{Appends};
 ghost use Rattle.iiif_machine.specs.declared.events.Event.{Event};
-ghost use Rattle.iiif_event_list.specs.Replays.{LineComes, Replays, ended_text};
+ghost use Rattle.iiif_event_list.specs.declared.Stop.{Stop};
+ghost use Rattle.iiif_event_list.specs.declared.fault.LineFault.{LineFault};
+ghost use Rattle.iiif_event_list.specs.Replays.{IsBad, LineComes, Replays, Stops, ended_text};
 
 pub mod describing;
 pub mod fault;
@@ -24,7 +26,7 @@ use thiserror::Error;
 /// Why a replay ends early.
 #[derive(Clone, Copy, Debug, PartialEq, Eq, Error)]
 pub enum Stop {
-    /// A line is no setting and no event, by its number: the first such line, where blank lines and comments count, from 1 on.
+    /// A line is bad, by its number: the first such line, where blank lines and comments count, from 1 on.
     #[error("line {0}")]
     Line(u64),
     /// Memory was refused.
@@ -39,6 +41,11 @@ pub enum Stop {
 }
 
 impl From<io::Error> for Stop {
+    ghost use Rattle.std.specs.Prelude.{◌≡◌, ◌⊎◌};
+    ghost use Rattle.iiif_event_list.specs.declared.Stop.TheVariants.{Memory, Write};
+
+    ghost from_gives = { λ _ stop. (stop ≡ Memory) ⊎ (stop ≡ Write) };
+
     fn from(error: io::Error) -> Stop {
         if error.kind() == ErrorKind::OutOfMemory {
             Stop::Memory
@@ -52,6 +59,7 @@ impl From<io::Error> for Stop {
 fn put<W: Write>(out: &mut W, number: u64, text: Result<String, LineFault>) -> Result<(), Stop>
     ensures came { OnOk result (IsOk text) }
     ensures written { OnOk result (IfOk text (λ t. Appends (W.contents out.old) (W.contents out.new) (string_bytes t))) }
+    ensures bad { (n : ℕ) → IsErrOf result (Stop.Line n) → (n ≡ number) × IsErrOf text LineFault.Bad }
 {
     match text {
         Ok(text) => {
@@ -71,8 +79,9 @@ fn put_line<W: Write>(
     number: u64,
     line: &str,
 ) -> Result<(), Stop>
-    ensures { OnOk result ((text : List ℕ) × (done : List Event) × LineComes number line.now replay.old.state done replay.new.state text
+    ensures come { OnOk result ((text : List ℕ) × (done : List Event) × LineComes number line.now replay.old.state done replay.new.state text
         × Appends (W.contents out.old) (W.contents out.new) text) }
+    ensures bad { (n : ℕ) → IsErrOf result (Stop.Line n) → (n ≡ number) × IsBad line.now replay.old.state }
 {
     let text = replay.line(alloc, number, line);
     put(out, number, text)
@@ -80,7 +89,8 @@ fn put_line<W: Write>(
 
 /// Writes the answers of the last world, and flushes.
 fn put_end<W: Write>(alloc: Global, out: &mut W, replay: &Replay, number: u64) -> Result<(), Stop>
-    ensures { OnOk result (Appends (W.contents out.old) (W.contents out.new) (ended_text replay.now.state)) }
+    ensures end { OnOk result (Appends (W.contents out.old) (W.contents out.new) (ended_text replay.now.state)) }
+    ensures bad { (n : ℕ) → ¬ IsErrOf result (Stop.Line n) }
 {
     let text = replay.ended(alloc);
     put(out, number, text)?;
@@ -95,7 +105,9 @@ pub fn replay<R, W>(alloc: Global, reader: R, out: &mut W) -> Result<(), Stop>
 where
     R: BufRead + Drop,
     W: Write,
-    ensures { OnOk result ((text : List ℕ) × Replays (R.remaining reader) text × Appends (W.contents out.old) (W.contents out.new) text) }
+    ensures come { OnOk result ((text : List ℕ) × Replays (R.remaining reader) text
+        × Appends (W.contents out.old) (W.contents out.new) text) }
+    ensures bad { (n : ℕ) → IsErrOf result (Stop.Line n) → Stops (R.remaining reader) n }
 {
     let mut replay = Replay::new(alloc);
     let mut number = 0u64;

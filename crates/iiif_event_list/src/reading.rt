@@ -1,7 +1,11 @@
 //! Events, read from the words of a line.
 
-ghost use Rattle.std.specs.Prelude.{◌+◌, ◌++◌, ◌∷◌, [], ◌<◌, ◌≤◌, ◌^◌, ◌≡◌, codes, length, string_bytes, IfOk, OnOk};
-ghost use Rattle.iiif_event_list.specs.Spellings.{AddsKey, AreKeys, IsDimAt, IsEventOf, IsKey, IsNumbered, IsRectAt, IsRequestAt};
+ghost use Rattle.std.specs.Prelude.{◌+◌, ◌++◌, ◌∷◌, [], ◌<◌, ◌≤◌, ◌^◌, ◌≡◌, true, codes, length, string_bytes, IfOk, IsErrOf, OnOk};
+ghost use Rattle.iiif_event_list.specs.Code.{BadUnless, HasEvict, HasKey, HasKeys, HasLand, HasName, HasNumber, HasOne, HasRect, HasRequest};
+ghost use Rattle.iiif_event_list.specs.Code.{HasSides, HasSourceFault, HasSum, HasTake, HasTile, HasWant, HasWord, is_numbered};
+ghost use Rattle.iiif_event_list.specs.declared.fault.LineFault.{LineFault};
+ghost use Rattle.iiif_event_list.specs.Spellings.{AddsKey, AreKeys, AreNoEvent, IsDimAt, IsEventOf, IsKey, IsNumbered, IsRectAt};
+ghost use Rattle.iiif_event_list.specs.Spellings.{IsRequestAt};
 ghost use Rattle.iiif_event_list.specs.Spellings.{LineWords, NumberAt, WordAt, count_of};
 
 use crate::fault::LineFault;
@@ -15,7 +19,8 @@ use std::alloc::Global;
 
 /// The number at a place.
 pub(crate) fn number(words: &[&str], at: usize) -> Result<u64, LineFault>
-    ensures { IfOk result (NumberAt words.now at) }
+    ensures read { IfOk result (NumberAt words.now at) }
+    ensures bad { BadUnless (HasNumber words.now at 64) result }
 {
     let Some(word) = words.get(at) else {
         return Err(LineFault::Bad);
@@ -28,7 +33,8 @@ pub(crate) fn number(words: &[&str], at: usize) -> Result<u64, LineFault>
 
 /// The number at a place, where it is a side or a column.
 pub(crate) fn side(words: &[&str], at: usize) -> Result<u32, LineFault>
-    ensures { IfOk result (NumberAt words.now at) }
+    ensures read { IfOk result (NumberAt words.now at) }
+    ensures bad { BadUnless (HasNumber words.now at 32) result }
 {
     match u32::try_from(number(words, at)?) {
         Ok(side) => Ok(side),
@@ -38,7 +44,8 @@ pub(crate) fn side(words: &[&str], at: usize) -> Result<u32, LineFault>
 
 /// The number at a place, where it counts rows.
 pub(crate) fn count(words: &[&str], at: usize) -> Result<usize, LineFault>
-    ensures { IfOk result (NumberAt words.now at) }
+    ensures read { IfOk result (NumberAt words.now at) }
+    ensures bad { BadUnless (HasNumber words.now at 64) result }
 {
     match usize::try_from(number(words, at)?) {
         Ok(count) => Ok(count),
@@ -48,7 +55,8 @@ pub(crate) fn count(words: &[&str], at: usize) -> Result<usize, LineFault>
 
 /// The number at a place, where it is a byte.
 fn byte(words: &[&str], at: usize) -> Result<u8, LineFault>
-    ensures { IfOk result (NumberAt words.now at) }
+    ensures read { IfOk result (NumberAt words.now at) }
+    ensures bad { BadUnless (HasNumber words.now at 8) result }
 {
     match u8::try_from(number(words, at)?) {
         Ok(byte) => Ok(byte),
@@ -58,7 +66,8 @@ fn byte(words: &[&str], at: usize) -> Result<u8, LineFault>
 
 /// The word at a place.
 pub(crate) fn word<'a>(words: &[&'a str], at: usize) -> Result<&'a str, LineFault>
-    ensures { IfOk result (λ w. WordAt words.now at w.now) }
+    ensures read { IfOk result (λ w. WordAt words.now at w.now) }
+    ensures bad { BadUnless (HasWord words.now at) result }
 {
     match words.get(at) {
         Some(word) => Ok(*word),
@@ -68,14 +77,16 @@ pub(crate) fn word<'a>(words: &[&'a str], at: usize) -> Result<&'a str, LineFaul
 
 /// The text of the word at a place.
 fn text(alloc: Global, words: &[&str], at: usize) -> Result<String, LineFault>
-    ensures { IfOk result (λ t. WordAt words.now at (string_bytes t)) }
+    ensures read { IfOk result (λ t. WordAt words.now at (string_bytes t)) }
+    ensures bad { BadUnless (HasWord words.now at) result }
 {
     Ok(String::from_str(alloc, word(words, at)?)?)
 }
 
 /// The name at a place.
 pub(crate) fn name(alloc: Global, words: &[&str], at: usize) -> Result<Name, LineFault>
-    ensures { IfOk result (WordAt words.now at) }
+    ensures read { IfOk result (WordAt words.now at) }
+    ensures bad { BadUnless (HasName words.now at) result }
 {
     let text = text(alloc, words, at)?;
     if !is_name(text.as_str()) {
@@ -86,7 +97,8 @@ pub(crate) fn name(alloc: Global, words: &[&str], at: usize) -> Result<Name, Lin
 
 /// The number of an event that has one.
 fn one(words: &[&str]) -> Result<usize, LineFault>
-    ensures { IfOk result (λ n. (length words.now ≡ 2) × NumberAt words.now 1 n) }
+    ensures read { IfOk result (λ n. (length words.now ≡ 2) × NumberAt words.now 1 n) }
+    ensures bad { BadUnless (HasOne words.now) result }
 {
     if words.len() != 2 {
         return Err(LineFault::Bad);
@@ -97,7 +109,8 @@ fn one(words: &[&str]) -> Result<usize, LineFault>
 /// The request of four words from a place on: region, size, rotation and quality.
 fn request(alloc: Global, words: &[&str], at: usize) -> Result<ShortRequest, LineFault>
     requires { at + 4 < 2 ^ 32 }
-    ensures { IfOk result (IsRequestAt words.now at) }
+    ensures read { IfOk result (IsRequestAt words.now at) }
+    ensures bad { BadUnless (HasRequest words.now at) result }
 {
     let words = Words {
         region: text(alloc, words, at)?,
@@ -118,7 +131,8 @@ fn request(alloc: Global, words: &[&str], at: usize) -> Result<ShortRequest, Lin
 /// `want NODE NAME REGION SIZE ROTATION QUALITY`
 fn want(alloc: Global, words: &[&str]) -> Result<Event, LineFault>
     requires { WordAt words.now 0 (codes "want") }
-    ensures { IfOk result (IsEventOf words.now) }
+    ensures read { IfOk result (IsEventOf words.now) }
+    ensures bad { BadUnless (HasWant words.now) result }
 {
     if words.len() != 7 {
         return Err(LineFault::Bad);
@@ -132,7 +146,8 @@ fn want(alloc: Global, words: &[&str]) -> Result<Event, LineFault>
 /// `tile NAME EDGE COLUMN ROW`
 fn tile(alloc: Global, words: &[&str]) -> Result<Key, LineFault>
     requires { WordAt words.now 0 (codes "tile") }
-    ensures { IfOk result (IsKey words.now) }
+    ensures read { IfOk result (IsKey words.now) }
+    ensures bad { BadUnless (HasTile words.now) result }
 {
     Ok(Key::Tile(TileKey {
         name: name(alloc, words, 1)?,
@@ -145,7 +160,8 @@ fn tile(alloc: Global, words: &[&str]) -> Result<Key, LineFault>
 /// The rectangle of four numbers from a place on.
 fn rect(words: &[&str], at: usize) -> Result<Rect, LineFault>
     requires { at + 3 < 2 ^ 32 }
-    ensures { IfOk result (IsRectAt words.now at) }
+    ensures read { IfOk result (IsRectAt words.now at) }
+    ensures bad { BadUnless (HasRect words.now at) result }
 {
     Ok(Rect {
         x: side(words, at)?,
@@ -158,7 +174,8 @@ fn rect(words: &[&str], at: usize) -> Result<Rect, LineFault>
 /// The sides of two numbers from a place on.
 fn dim(words: &[&str], at: usize) -> Result<Dim, LineFault>
     requires { at + 1 < 2 ^ 32 }
-    ensures { IfOk result (IsDimAt words.now at) }
+    ensures read { IfOk result (IsDimAt words.now at) }
+    ensures bad { BadUnless (HasSides words.now at) result }
 {
     Ok(Dim {
         w: side(words, at)?,
@@ -169,7 +186,8 @@ fn dim(words: &[&str], at: usize) -> Result<Dim, LineFault>
 /// `sum NAME EDGE X Y W H COLUMNS ROWS LEVEL COLUMN ROW`
 fn sum(alloc: Global, words: &[&str]) -> Result<Key, LineFault>
     requires { WordAt words.now 0 (codes "sum") }
-    ensures { IfOk result (IsKey words.now) }
+    ensures read { IfOk result (IsKey words.now) }
+    ensures bad { BadUnless (HasSum words.now) result }
 {
     Ok(Key::Sum(SumKey {
         name: name(alloc, words, 1)?,
@@ -184,7 +202,8 @@ fn sum(alloc: Global, words: &[&str]) -> Result<Key, LineFault>
 
 /// The key that words begin with.
 fn key(alloc: Global, words: &[&str]) -> Result<Key, LineFault>
-    ensures { IfOk result (IsKey words.now) }
+    ensures read { IfOk result (IsKey words.now) }
+    ensures bad { BadUnless (HasKey words.now) result }
 {
     match word(words, 0)? {
         "tile" => tile(alloc, words),
@@ -215,6 +234,7 @@ fn push(keys: &mut Vec<Key>, key: Key) -> Result<(), NoMemory>
 /// Adds the key that words begin with, and says how many of them it has.
 fn add_key(alloc: Global, words: &[&str], keys: &mut Vec<Key>) -> Result<usize, LineFault>
     ensures key { IfOk result (AddsKey words.now keys.old.items keys.new.items) }
+    ensures bad { BadUnless (HasKey words.now) result }
     ensures some { IfOk result (λ count. 0 < count) }
     ensures within { IfOk result (λ count. count ≤ 12) }
 {
@@ -225,9 +245,11 @@ fn add_key(alloc: Global, words: &[&str], keys: &mut Vec<Key>) -> Result<usize, 
 }
 
 /// The keys of words that are keys, one behind the other.
-#[tactic(auto, using(crate::proofs::Keys::no_key_yet, crate::proofs::Keys::one_key_more, crate::proofs::Keys::all_keys))]
+#[tactic(auto, using(crate::proofs::Keys::no_key_yet, crate::proofs::Keys::one_key_more, crate::proofs::Keys::all_keys,
+    crate::proofs::Bad::all_left, crate::proofs::Bad::one_left))]
 fn keys_of(alloc: Global, words: &[&str]) -> Result<Vec<Key>, LineFault>
-    ensures { IfOk result (λ keys. AreKeys words.now keys.items) }
+    ensures read { IfOk result (λ keys. AreKeys words.now keys.items) }
+    ensures bad { BadUnless (HasKeys words.now) result }
 {
     let mut keys = Vec::new(alloc);
     let mut at = 0usize;
@@ -241,7 +263,8 @@ fn keys_of(alloc: Global, words: &[&str]) -> Result<Vec<Key>, LineFault>
 /// `evict NODE KEY..`
 fn evict(alloc: Global, words: &[&str]) -> Result<Event, LineFault>
     requires { WordAt words.now 0 (codes "evict") }
-    ensures { IfOk result (IsEventOf words.now) }
+    ensures read { IfOk result (IsEventOf words.now) }
+    ensures bad { BadUnless (HasEvict words.now) result }
 {
     if words.len() < 2 {
         return Err(LineFault::Bad);
@@ -255,7 +278,8 @@ fn evict(alloc: Global, words: &[&str]) -> Result<Event, LineFault>
 /// `take FLIGHT REPLY`
 fn take(words: &[&str]) -> Result<Event, LineFault>
     requires { WordAt words.now 0 (codes "take") }
-    ensures { IfOk result (IsEventOf words.now) }
+    ensures read { IfOk result (IsEventOf words.now) }
+    ensures bad { BadUnless (HasTake words.now) result }
 {
     if words.len() != 3 {
         return Err(LineFault::Bad);
@@ -266,7 +290,8 @@ fn take(words: &[&str]) -> Result<Event, LineFault>
 /// `source_fault FLIGHT PLACE CAUSE`
 fn source_fault(words: &[&str]) -> Result<Event, LineFault>
     requires { WordAt words.now 0 (codes "source_fault") }
-    ensures { IfOk result (IsEventOf words.now) }
+    ensures read { IfOk result (IsEventOf words.now) }
+    ensures bad { BadUnless (HasSourceFault words.now) result }
 {
     if words.len() != 4 {
         return Err(LineFault::Bad);
@@ -281,7 +306,8 @@ fn source_fault(words: &[&str]) -> Result<Event, LineFault>
 /// `land FLIGHT kept` or `land FLIGHT dropped`
 fn land(words: &[&str]) -> Result<Event, LineFault>
     requires { WordAt words.now 0 (codes "land") }
-    ensures { IfOk result (IsEventOf words.now) }
+    ensures read { IfOk result (IsEventOf words.now) }
+    ensures bad { BadUnless (HasLand words.now) result }
 {
     if words.len() != 3 {
         return Err(LineFault::Bad);
@@ -296,7 +322,8 @@ fn land(words: &[&str]) -> Result<Event, LineFault>
 
 /// The event of this name that has a number alone.
 fn numbered(name: &str, number: usize) -> Result<Event, LineFault>
-    ensures { IfOk result (λ e. (ws : LineWords) → IsNumbered name.now ws number → IsEventOf ws e) }
+    ensures read { IfOk result (λ e. (ws : LineWords) → IsNumbered name.now ws number → IsEventOf ws e) }
+    ensures bad { BadUnless (is_numbered name.now ≡ true) result }
 {
     match name {
         "enter" => Ok(Event::Enter(number)),
@@ -315,7 +342,8 @@ fn numbered(name: &str, number: usize) -> Result<Event, LineFault>
 /// The event of a line's words, in the numbers of the world that it is meant for. `Bad`, where they are no event; whether the world allows
 /// it is not asked.
 pub fn event(alloc: Global, words: &[&str]) -> Result<Event, LineFault>
-    ensures { IfOk result (IsEventOf words.now) }
+    ensures read { IfOk result (IsEventOf words.now) }
+    ensures bad { IsErrOf result LineFault.Bad → AreNoEvent words.now }
 {
     match word(words, 0)? {
         "want" => want(alloc, words),

@@ -1,15 +1,17 @@
 //! Worlds and their events, line by line.
 
-ghost use Rattle.std.specs.Prelude.{◌≡◌, ◌++◌, ◌<◌, List, true, false, codes, decimal, length, option_copied, slice_get, string_bytes};
-ghost use Rattle.std.specs.Prelude.{Some, IfOk, OnOk};
+ghost use Rattle.std.specs.Prelude.{◌≡◌, ◌++◌, ◌<◌, ◌⊎◌, List, true, false, codes, decimal, length, option_copied, slice_get};
+ghost use Rattle.std.specs.Prelude.{string_bytes, Some, IfOk, IsErrOf, OnOk};
 ghost use Rattle.iiif_machine.specs.Worlds.{answers};
 ghost use Rattle.iiif_machine.specs.declared.events.Event.{Event};
 ghost use Rattle.iiif_machine.specs.declared.events.WorldFault.{WorldFault};
 ghost use Rattle.iiif_world.specs.Code.{world_of};
 ghost use Rattle.iiif_event_list.specs.Texts.{answer_line, answers_text, outcome_text, text_of};
-ghost use Rattle.iiif_event_list.specs.Spellings.{IsSetting};
-ghost use Rattle.iiif_event_list.specs.Replays.{AreWordsOf, Comes, Happens, HasBegun, IsAlone, IsComment, IsDescribed, IsNew};
-ghost use Rattle.iiif_event_list.specs.Replays.{IsOutcome, LineComes, ended_text, world_in};
+ghost use Rattle.iiif_event_list.specs.Code.{NeverBad};
+ghost use Rattle.iiif_event_list.specs.Spellings.{AreNoEvent, IsSetting};
+ghost use Rattle.iiif_event_list.specs.Replays.{AreBad, AreWordsOf, BeginsNone, Comes, Happens, HasBegun, IsAlone, IsBad, IsComment};
+ghost use Rattle.iiif_event_list.specs.Replays.{IsDescribed, IsNew, IsOutcome, IsReason, LineComes, ended_text, world_in};
+ghost use Rattle.iiif_event_list.specs.declared.fault.LineFault.{LineFault};
 
 use crate::describing::Description;
 use crate::fault::LineFault;
@@ -25,7 +27,8 @@ use std::mem::replace;
 
 /// The line of an event: its line's number, its words, and what it came to.
 fn outcome_line(alloc: Global, number: u64, line: &str, word: &str) -> Result<String, LineFault>
-    ensures { IfOk result (λ text. string_bytes text ≡ outcome_text number line.now word.now) }
+    ensures line { IfOk result (λ text. string_bytes text ≡ outcome_text number line.now word.now) }
+    ensures never { NeverBad result }
 {
     let words = line.trim();
     Ok(format!(in alloc; "{number} {words}: {word}\n")?)
@@ -33,7 +36,9 @@ fn outcome_line(alloc: Global, number: u64, line: &str, word: &str) -> Result<St
 
 /// The line of an event that isn't allowed now.
 fn not_done(alloc: Global, number: u64, line: &str, fault: WorldFault) -> Result<String, LineFault>
-    ensures { IfOk result (λ text. (fault ≡ WorldFault.NotNow) × (string_bytes text ≡ outcome_text number line.now (codes "not now"))) }
+    ensures line { IfOk result (λ text. (fault ≡ WorldFault.NotNow)
+        × (string_bytes text ≡ outcome_text number line.now (codes "not now"))) }
+    ensures never { NeverBad result }
 {
     match fault {
         WorldFault::NotNow => outcome_line(alloc, number, line, "not now"),
@@ -49,8 +54,9 @@ fn outcome(
     line: &str,
     event: Event,
 ) -> Result<String, LineFault>
-    ensures { IfOk result (λ text. (done : List Event)
+    ensures come { IfOk result (λ text. (done : List Event)
         × IsOutcome number line.now (world_of world.old) event done (world_of world.new) (string_bytes text)) }
+    ensures never { NeverBad result }
 {
     match world.run(&[event]) {
         Ok(()) => outcome_line(alloc, number, line, "done"),
@@ -106,7 +112,8 @@ pub fn rows(alloc: Global, world: &World) -> Result<String, NoMemory> {
 
 /// Whether the first word begins with a number sign.
 fn is_comment(words: &[&str]) -> bool
-    ensures { result ≡ true → IsComment words.now }
+    ensures yes { result ≡ true → IsComment words.now }
+    ensures no { result ≡ false → ¬ IsComment words.now }
 {
     let Some(word) = words.first() else {
         return false;
@@ -119,14 +126,16 @@ fn is_comment(words: &[&str]) -> bool
 
 /// Whether two words are the same.
 fn is_same(left: &str, right: &str) -> bool
-    ensures { result ≡ true → left.now ≡ right.now }
+    ensures yes { result ≡ true → left.now ≡ right.now }
+    ensures no { result ≡ false → ¬ (left.now ≡ right.now) }
 {
     left == right
 }
 
 /// Whether this word is the only one.
 fn is_alone(words: &[&str], name: &str) -> bool
-    ensures { result ≡ true → IsAlone words.now name.now }
+    ensures yes { result ≡ true → IsAlone words.now name.now }
+    ensures no { result ≡ false → ¬ IsAlone words.now name.now }
 {
     if words.len() != 1 {
         return false;
@@ -158,6 +167,7 @@ impl Replay {
     fn begin(&mut self, alloc: Global) -> Result<(), LineFault>
         ensures same { OnOk result (world_in self.new.state ≡ world_in self.old.state) }
         ensures begun { OnOk result (HasBegun self.new.state) }
+        ensures bad { IsErrOf result LineFault.Bad → BeginsNone self.old.state }
     {
         match replace(&mut self.state, State::Lost) {
             State::Described(description) => {
@@ -176,7 +186,8 @@ impl Replay {
 
     /// The answers of the world that has begun, a line a request; nothing, if none has.
     pub fn ended(&self, alloc: Global) -> Result<String, LineFault>
-        ensures { IfOk result (λ text. string_bytes text ≡ ended_text self.now.state) }
+        ensures text { IfOk result (λ text. string_bytes text ≡ ended_text self.now.state) }
+        ensures never { NeverBad result }
     {
         match &self.state {
             State::Begun(world) => Ok(answers(alloc, world)?),
@@ -188,6 +199,7 @@ impl Replay {
     fn shown(&mut self, alloc: Global) -> Result<String, LineFault>
         ensures same { OnOk result (world_in self.new.state ≡ world_in self.old.state) }
         ensures begun { OnOk result (HasBegun self.new.state) }
+        ensures bad { IsErrOf result LineFault.Bad → BeginsNone self.old.state }
     {
         self.begin(alloc)?;
         match &self.state {
@@ -200,6 +212,7 @@ impl Replay {
     fn next_world(&mut self, alloc: Global) -> Result<String, LineFault>
         ensures new { OnOk result (IsNew self.new.state) }
         ensures ended { IfOk result (λ text. string_bytes text ≡ ended_text self.old.state) }
+        ensures never { NeverBad result }
     {
         let text = self.ended(alloc)?;
         self.state = State::Described(Description::new(alloc));
@@ -214,8 +227,9 @@ impl Replay {
         line: &str,
         words: &[&str],
     ) -> Result<String, LineFault>
-        ensures { IfOk result (λ text. (done : List Event)
+        ensures happens { IfOk result (λ text. (done : List Event)
             × Happens number line.now words.now self.old.state done self.new.state (string_bytes text)) }
+        ensures bad { IsErrOf result LineFault.Bad → AreNoEvent words.now ⊎ BeginsNone self.old.state }
     {
         let event = event(alloc, words)?;
         self.begin(alloc)?;
@@ -227,8 +241,10 @@ impl Replay {
 
     /// Whether words set something of the world that is described.
     fn set(&mut self, alloc: Global, words: &[&str]) -> Result<bool, LineFault>
+        requires { ¬ (length words.now ≡ 0) }
         ensures yes { IfOk result (λ set. set ≡ true → IsSetting words.now × IsDescribed self.old.state × IsDescribed self.new.state) }
-        ensures no { IfOk result (λ set. set ≡ false → world_in self.new.state ≡ world_in self.old.state) }
+        ensures no { IfOk result (λ set. set ≡ false → self.new.state ≡ self.old.state) }
+        ensures bad { IsErrOf result LineFault.Bad → IsSetting words.now × IsDescribed self.old.state }
     {
         match &mut self.state {
             State::Described(description) => description.set(alloc, words),
@@ -244,8 +260,11 @@ impl Replay {
         line: &str,
         words: &[&str],
     ) -> Result<String, LineFault>
-        ensures { IfOk result (λ text. (done : List Event)
+        requires some { ¬ (length words.now ≡ 0) }
+        requires other { ¬ IsAlone words.now (codes "rows") }
+        ensures comes { IfOk result (λ text. (done : List Event)
             × Comes number line.now words.now self.old.state done self.new.state (string_bytes text)) }
+        ensures bad { IsErrOf result LineFault.Bad → IsReason words.now self.old.state }
     {
         if self.set(alloc, words)? {
             return Ok(String::new(alloc));
@@ -261,8 +280,9 @@ impl Replay {
         line: &str,
         words: &[&str],
     ) -> Result<String, LineFault>
-        ensures { IfOk result (λ text. (done : List Event)
+        ensures comes { IfOk result (λ text. (done : List Event)
             × Comes number line.now words.now self.old.state done self.new.state (string_bytes text)) }
+        ensures bad { IsErrOf result LineFault.Bad → AreBad words.now self.old.state }
     {
         if words.is_empty() || is_comment(words) {
             return Ok(String::new(alloc));
@@ -277,11 +297,16 @@ impl Replay {
     }
 
     /// What a line, of a number, comes to: an event's outcome, behind the number and the words; at `world` the answers of the last one; at
-    /// `rows` all rows; else nothing. `Bad`, where it is no setting and no event, sets something of a world that has begun, or comes where
-    /// the world can't begin: then each further event is `Bad` until `world`. After `NoMemory` an event may be done, or the world lost.
+    /// `rows` all rows; else nothing.
+    ///
+    /// # Errors
+    ///
+    /// `Bad`, where the line is no event and no setting that can be read, sets something of a world that has begun, or comes where the world
+    /// can't begin: then each further event is `Bad` until `world`. `NoMemory`: an event may be done, or the world lost.
     pub fn line(&mut self, alloc: Global, number: u64, line: &str) -> Result<String, LineFault>
-        ensures { IfOk result (λ text. (done : List Event)
+        ensures comes { IfOk result (λ text. (done : List Event)
             × LineComes number line.now self.old.state done self.new.state (string_bytes text)) }
+        ensures bad { IsErrOf result LineFault.Bad → IsBad line.now self.old.state }
     {
         let words = words_of(alloc, line)?;
         self.come(alloc, number, line, &words)

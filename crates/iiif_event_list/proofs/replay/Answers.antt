@@ -9,15 +9,15 @@ pub loop-line-preserved : goal.loop-line-preserved
 loop-line-preserved g c =
     let known = lines_known_bytes g.R.Read.remaining in
     let contents = g.W.Write.contents in
-    let came = c.in_ok-put_line.ensures in
+    let came = c.in_ok-put_line.ensures.come in
     went_on (g.R.Read.remaining c.args.reader) (known c.loop-line.line-iterator) (known c.next.new.self) c.loop-line.number
     c.saturating_add-number.result
     c.loop-line.replay.state c.put_line.new.replay.state (contents c.args.out.now) (contents c.loop-line.out) (contents c.put_line.new.out)
     c.as_str.result.now (string_bytes c.in-Ok.line) came.0 came.1 c.loop-line.invariant (rw c.in-Ok.is at c.in-Some.ensures.steps.1)
     c.as_str.ensures.value c.saturating_add-number.ensures came.2 came.3
 
-pub returns : goal.returns
-returns g c =
+pub returns-clause-come : goal.returns-clause-come
+returns-clause-come g c =
     let input = g.R.Read.remaining c.args.reader in
     let left = lines_known_bytes g.R.Read.remaining c.loop-line.line-iterator in
     let old = g.W.Write.contents c.args.out.now in
@@ -26,4 +26,4 @@ returns g c =
     on_ok_then {P = Appends mid new (ended_text c.loop-line.replay.state)} {Q = (text : List ℕ) × Replays input text × Appends old new text}
     c.put_end.result
     (finished input left c.loop-line.number c.loop-line.replay.state old mid new c.loop-line.invariant c.in-None.ensures.steps.1)
-    c.put_end.ensures
+    c.put_end.ensures.end
