@@ -50,7 +50,8 @@ bad_as P Q NoMemory g h = tt
 -- what a `?` hands on is what the call failed with
 pub bad_on : {U : Type 0} (P Q : Type 0) (r : Result U LineFault) (f : LineFault) → (Q → P) → IsBadUnless P f →
     (y : LineFault) × (r ≡ Err y) × (y ≡ f) → BadUnless Q r
-bad_on {U} P Q r f g h told = subst (BadUnless {U} Q) (sym (told.1 ∙ ap (λ (x : LineFault). Err {A = U} x) told.2)) (bad_as P Q f g h)
+bad_on {U} P Q r f g h told =
+    subst (λ (x : Result U LineFault). BadUnless Q x) (sym told.1) (bad_as P Q told.0 g (subst (IsBadUnless P) (sym told.2) h))
 
 pub not_bad : (P : Type 0) (f : LineFault) → f ≡ NoMemory → IsBadUnless P f
 not_bad P f is = subst (IsBadUnless P) (sym is) tt

@@ -24,8 +24,7 @@ unfolding run
 alone_by w v e zero fault stops now =
     let same : w ≡ v = same_Some w v stops.before in
     let event : e ≡ stops.event = same_Some e stops.event stops.there in
-    let none : step v stops.event ≡ None = subst (IsFault v stops.event) now stops.why in
-    (
+    let none : step v stops.event ≡ None = subst (IsFault v stops.event) now stops.why in (
       sym same,
       subst (λ (x : Event). step w x ≡ None) (sym event) (subst (λ (z : World). step z stops.event ≡ None) (sym same) none),
     )

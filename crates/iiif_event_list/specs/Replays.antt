@@ -114,14 +114,14 @@ AreWordsOf line (w ∷ ws) = (rest : List ℕ) × IsFirstWord line w.now rest ×
 abbrev pub LineComes : ℕ → List ℕ → State → List Event → State → List ℕ → Type 0
 LineComes number line before done after text = (ws : LineWords) × AreWordsOf line ws × Comes number line ws before done after text
 
--- No world begins so: an edge, the room, a picture or a ring is none; or the world was lost.
+-- no world begins: the one that is described can't, or the world was lost
 abbrev pub BeginsNone : State → Type 0
 BeginsNone (Described d) = ¬ (CanBegin d)
 BeginsNone (Begun w) = ⊥
 BeginsNone Lost = Unit {0}
 
--- Why words are bad: in a world that is only described they begin as a setting, which can't be read; or they are no event, and not
--- `rows`; or they would begin a world that can't begin.
+-- Why words are bad: in a world that is only described they begin as a setting, of which the code says whether it can be read; or they
+-- are no event, and not `rows`; or they would begin a world, and none begins.
 pub data IsReason (ws : LineWords) (before : State) : Type 0 where
   setting : (is : IsSetting ws) (described : IsDescribed before) → IsReason ws before
   no_event : (none : AreNoEvent ws) (other : ¬ (IsAlone ws (codes "rows"))) → IsReason ws before

@@ -15,7 +15,7 @@ ghost use Rattle.iiif_event_list.specs.declared.fault.LineFault.{LineFault};
 
 use crate::describing::Description;
 use crate::fault::LineFault;
-use crate::reading::{event, word};
+use crate::reading::event;
 use crate::rows::put_rows;
 use crate::state::{Replay, State};
 use crate::values::put_answer;
@@ -111,6 +111,7 @@ pub fn rows(alloc: Global, world: &World) -> Result<String, NoMemory> {
 }
 
 /// Whether the first word begins with a number sign.
+#[tactic(auto, using(crate::proofs::Words::comment_at))]
 fn is_comment(words: &[&str]) -> bool
     ensures yes { result ≡ true → IsComment words.now }
     ensures no { result ≡ false → ¬ IsComment words.now }
@@ -133,6 +134,7 @@ fn is_same(left: &str, right: &str) -> bool
 }
 
 /// Whether this word is the only one.
+#[tactic(auto, using(crate::proofs::Words::alone_at))]
 fn is_alone(words: &[&str], name: &str) -> bool
     ensures yes { result ≡ true → IsAlone words.now name.now }
     ensures no { result ≡ false → ¬ IsAlone words.now name.now }
@@ -140,9 +142,9 @@ fn is_alone(words: &[&str], name: &str) -> bool
     if words.len() != 1 {
         return false;
     }
-    match word(words, 0) {
-        Ok(first) => is_same(first, name),
-        Err(_) => false,
+    match words.first() {
+        Some(word) => is_same(word, name),
+        None => false,
     }
 }
 
