@@ -64,6 +64,10 @@ same_word ws i v w a b = sym a.2 ∙ (ap (λ (x : Bor (List ℕ)). x.now) (same_
 pub no_word : (ws : LineWords) (i : ℕ) → slice_get ws i ≡ None → ¬ (HasWord ws i)
 no_word ws i none h = none-some h.1.0 (sym none ∙ h.1.1)
 
+pub wordless : (ws : LineWords) → ¬ (HasWord ws 0) → length ws ≡ 0
+wordless [] none = refl
+wordless (w ∷ ws) none = absurd (none (w.now, (w, refl, refl)))
+
 pub no_number : (ws : LineWords) (i bits : ℕ) → slice_get ws i ≡ None → ¬ (HasNumber ws i bits)
 no_number ws i bits none h = no_word ws i none (h.1.0, h.1.1)
 

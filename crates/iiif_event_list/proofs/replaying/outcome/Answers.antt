@@ -4,13 +4,13 @@ use Rattle.iiif_world.specs.Code.{world_of}
 use Rattle.iiif_event_list.proofs.Outcome.{done_alone, stopped_alone}
 use Rattle.iiif_event_list.proofs.replaying.outcome.Goals as goal
 
-pub returns-in-Ok : goal.returns-in-Ok
-returns-in-Ok c =
+pub returns-in-Ok-clause-come : goal.returns-in-Ok-clause-come
+returns-in-Ok-clause-come c =
     IfOk-weaker c.outcome_line.result _ _ (λ t h. done_alone c.args.number c.args.line.now (world_of c.args.world.now)
-    (world_of c.run.new.self) c.args.event _ (string_bytes t) refl c.in-Ok.ensures.ok h) c.outcome_line.ensures
+    (world_of c.run.new.self) c.args.event _ (string_bytes t) refl c.in-Ok.ensures.ok h) c.outcome_line.ensures.line
 
-pub returns : goal.returns
-returns c =
+pub returns-clause-come : goal.returns-clause-come
+returns-clause-come c =
     IfOk-weaker c.not_done.result _ _ (λ t h. stopped_alone c.args.number c.args.line.now (world_of c.args.world.now)
     (world_of c.run.new.self) c.args.event _ c.in-Err.stopped.0 c.in-Err.stopped.1 (string_bytes t) refl c.in-Err.ensures.err h.0 h.1)
-    c.not_done.ensures
+    c.not_done.ensures.line

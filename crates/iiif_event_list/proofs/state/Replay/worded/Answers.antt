@@ -2,5 +2,5 @@ use Rattle.std.proofs.Common.{refl, rules, []}
 use Rattle.iiif_event_list.specs.Replays.{set}
 use Rattle.iiif_event_list.proofs.state.Replay.worded.Goals as goal
 
-pub returns-then-branch : goal.returns-then-branch
-returns-then-branch c = ([], set (search rules) refl)
+pub returns-then-branch-clause-comes : goal.returns-then-branch-clause-comes
+returns-then-branch-clause-comes c = ([], set (search rules) refl)
