@@ -1,11 +1,10 @@
 -- What the words of a line are not.
-use Rattle.std.proofs.Common.{◌≡◌, ◌<◌, ◌≤◌, ◌+◌, ◌^◌, ◌++◌, ℕ, List, [], ◌∷◌, Bool, true, false, codes, drop, length, Option, Some, None}
+use Rattle.std.proofs.Common.{◌≡◌, ◌<◌, ◌≤◌, ◌+◌, ◌^◌, ℕ, List, [], ◌∷◌, Bool, true, false, codes, drop, length, None}
 use Rattle.std.proofs.Common.{◌⊎◌, inl, inr, ⊎_elim, lt_irrefl, arith}
 use Rattle.std.proofs.Common.{Result, Ok, Err, refl, sym, ap, subst, ◌∙◌, Bor, true≢false, if◌then◌else◌, not-le_of_lt, bytes_eq, slice_get}
-use Rattle.std.specs.List.{AllByRecursion}
 use Rattle.std.specs.Str.Parse.{IsNumeral, digits_value, without_leading_plus}
 use Rattle.std.proofs.lemmas.Option.{none-some, same_Some, slice_get_within}
-use Rattle.std.proofs.lemmas.List.{drop-drop, drop_all}
+use Rattle.std.proofs.lemmas.List.{drop-drop}
 use Rattle.iiif_request.specs.Spells.{Says, SpellsRequest, Texts}
 use Rattle.iiif_request.specs.declared.request.Refusal.{Refusal}
 use Rattle.iiif_request.specs.declared.request.Refusal.TheVariants as refusal
@@ -20,7 +19,7 @@ use Rattle.iiif_machine.specs.declared.events.Event.TheVariants.{SourceFault, La
 use Rattle.iiif_event_list.specs.declared.fault.LineFault.{LineFault}
 use Rattle.iiif_event_list.specs.declared.fault.LineFault.TheVariants.{Bad, NoMemory}
 use Rattle.iiif_event_list.specs.Spellings.{AddsKey, AreKeys, AreNoEvent, Fits, FitsKey, FitsTile, FitsSum, IsEventOf, IsKey, IsTile, IsSum}
-use Rattle.iiif_event_list.specs.Spellings.{IsNumbered, IsRequestAt, LineWords, NumberAt, WordAt, count_of}
+use Rattle.iiif_event_list.specs.Spellings.{IsNumbered, LineWords, NumberAt, WordAt, count_of}
 use Rattle.iiif_event_list.specs.Code.{BadUnless, HasEvict, HasKey, HasKeys, HasLand, HasNumber, HasOne, HasRequest, HasSourceFault, HasSum}
 use Rattle.iiif_event_list.specs.Code.{HasTake, HasTile, HasWant, HasWord, IsBadUnless, is_numbered}
 

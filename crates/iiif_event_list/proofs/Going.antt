@@ -1,7 +1,7 @@
 -- How a list of events that is replayed goes on by a line.
-use Rattle.std.proofs.Common.{◌≡◌, ◌⊎◌, inl, inr, ◌++◌, ℕ, List, [], ◌∷◌, Option, Some, None, refl, sym, ap, subst, ◌∙◌, codes}
+use Rattle.std.proofs.Common.{◌≡◌, inl, inr, ◌++◌, ℕ, List, [], ◌∷◌, Some, refl, sym, ap, subst, ◌∙◌}
 use Rattle.std.proofs.lemmas.Option.{none-some, same_Some}
-use Rattle.iiif_machine.specs.Steps.{run, step}
+use Rattle.iiif_machine.specs.Steps.{run}
 use Rattle.iiif_machine.specs.Worlds.{World}
 use Rattle.iiif_machine.specs.declared.events.Event.{Event}
 use Rattle.iiif_world.specs.Code.{IsSoundWorld, world_of}

@@ -1,5 +1,5 @@
 -- How the replay of a reader goes on line by line.
-use Rattle.std.proofs.Common.{◌≡◌, ◌⊎◌, inl, inr, ◌++◌, ◌<◌, append_assoc, ℕ, List, [], ◌∷◌, length, Option, Some, None, refl, sym, ap}
+use Rattle.std.proofs.Common.{◌≡◌, inl, inr, ◌++◌, ◌<◌, append_assoc, ℕ, List, [], ◌∷◌, length, Option, Some, None, refl, sym, ap}
 use Rattle.std.proofs.Common.{subst, ◌∙◌}
 use Rattle.std.specs.Prelude.{IfSome, OnOk, Result, Ok, Err}
 use Rattle.std.specs.Io.BufRead.{DropsThrough, first_line}
@@ -129,3 +129,7 @@ finished input left n s old mid new so_far at_end written = (
 pub on_ok_then : {A E P Q : Type 0} (r : Result A E) → (P → Q) → OnOk r P → OnOk r Q
 on_ok_then (Ok x) f p = f p
 on_ok_then (Err e) f p = tt
+
+-- what a `?` handed on is what the call failed with
+pub same_fault : {T E : Type 0} (r : Result T E) (f g : E) → (y : E) × (r ≡ Err y) × (y ≡ f) → r ≡ Err g → f ≡ g
+same_fault r f g told is = cc

@@ -1,8 +1,10 @@
-use Rattle.std.proofs.Common.{ℕ, List, string_bytes}
+use Rattle.std.proofs.Common.{◌≡◌, ℕ, List, string_bytes}
+use Rattle.std.proofs.lemmas.Result.{err_from_is_err_and}
 use Rattle.std.specs.Io.Iter.{lines_known_bytes}
 use Rattle.std.specs.Io.KnownBytes.{Appends}
+use Rattle.iiif_event_list.specs.declared.Stop.TheVariants.{Line}
 use Rattle.iiif_event_list.specs.Replays.{Replays, ended_text}
-use Rattle.iiif_event_list.proofs.SoFar.{went_on, finished, on_ok_then}
+use Rattle.iiif_event_list.proofs.SoFar.{went_on, stopped, finished, on_ok_then, same_fault}
 use Rattle.iiif_event_list.proofs.replay.Goals as goal
 
 pub loop-line-preserved : goal.loop-line-preserved
@@ -27,3 +29,14 @@ returns-clause-come g c =
     c.put_end.result
     (finished input left c.loop-line.number c.loop-line.replay.state old mid new c.loop-line.invariant c.in-None.ensures.steps.1)
     c.put_end.ensures.end
+
+pub returns-in_err-put_line-clause-bad : goal.returns-in_err-put_line-clause-bad
+returns-in_err-put_line-clause-bad g c = λ n is.
+    let known = lines_known_bytes g.R.Read.remaining in
+    let contents = g.W.Write.contents in
+    let same : c.in_err-put_line.field-0.0 ≡ Line n = same_fault c.from_residual.result c.in_err-put_line.field-0.0 (Line n)
+    (err_from_is_err_and c.from_residual.result c.from_residual.ensures.1) is in
+    stopped (g.R.Read.remaining c.args.reader) (known c.loop-line.line-iterator) (known c.next.new.self) c.loop-line.number
+    c.saturating_add-number.result n c.loop-line.replay.state (contents c.args.out.now) (contents c.loop-line.out) c.as_str.result.now
+    (string_bytes c.in-Ok.line) c.loop-line.invariant (rw c.in-Ok.is at c.in-Some.ensures.steps.1) c.as_str.ensures.value
+    c.saturating_add-number.ensures (c.in_err-put_line.ensures.bad n (cc same))

@@ -1,4 +1,4 @@
-use Rattle.std.proofs.Common.{◌<◌, drop, length, subst, sym, arith}
+use Rattle.std.proofs.Common.{◌<◌, length, subst, sym, arith}
 use Rattle.std.proofs.lemmas.Result.{err_from_is_err_and}
 use Rattle.iiif_event_list.specs.Code.{HasKey, HasKeys}
 use Rattle.iiif_event_list.proofs.Bad.{bad_on, first_key}
