@@ -11,7 +11,8 @@ use Rattle.iiif_event_list.specs.Described.{first_of, plain_world}
 use Rattle.iiif_event_list.specs.Spellings.{LineWords}
 use Rattle.iiif_event_list.specs.declared.state.State.{State}
 use Rattle.iiif_event_list.specs.declared.state.State.TheVariants.{Described, Begun, Lost}
-use Rattle.iiif_event_list.specs.Replays.{Comes, HasBegun, HasHeadline, IsDescribed, IsNew, IsOutcome, LineComes, done_in, first_in, world_in}
+use Rattle.iiif_event_list.specs.Replays.{Comes, HasBegun, HasHeadline, IsDescribed, IsNew, IsOutcome, LineComes, done_in, first_in}
+use Rattle.iiif_event_list.specs.Replays.{world_in}
 use Rattle.iiif_event_list.specs.Replays.{blank, comment, next, shown, set, happened}
 
 -- The events that were done made of the first world, which is sound, the one that has begun; until one begins none was done.

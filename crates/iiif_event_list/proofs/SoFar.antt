@@ -88,7 +88,8 @@ pub went_on : (input left next : Option (List ℕ)) (n m : ℕ) (s t : State) (o
     line ≡ bytes → m ≡ number_behind n → LineComes m line s events t front → Appends mid new front → WrittenSoFar input next m t old new
 went_on input left next n m s t old mid new line bytes front events so_far is same behind comes written =
     let comes_so : LineComes m bytes s events t front = subst (λ l. LineComes m l s events t front) same comes in
-    let comes_behind : LineComes (number_behind n) bytes s events t front = subst (λ k. LineComes k bytes s events t front) behind comes_so in
+    let comes_behind : LineComes (number_behind n) bytes s events t front =
+    subst (λ k. LineComes k bytes s events t front) behind comes_so in
     let first : World = first_in t so_far.first in
     let done : List Event = done_in t (so_far.done ++ events) in
     let going : IsGoingOn first done t = line_goes_on m bytes s t so_far.first so_far.done events front so_far.going comes_so in

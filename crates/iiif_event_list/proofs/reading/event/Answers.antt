@@ -20,7 +20,8 @@ returns-in_err-one-in_default-clause-bad c =
       land = c.in_default.not-land;
       evict = c.in_default.not-evict;
     }) (λ has. bad_is c.from_residual-in_err-one-in_default.result (HasOne ws)
-    (bad_on (HasOne ws) (HasOne ws) c.from_residual-in_err-one-in_default.result c.in_err-one-in_default.field-0.0 (λ h. h) c.in_err-one-in_default.ensures.bad
+    (bad_on (HasOne ws) (HasOne ws) c.from_residual-in_err-one-in_default.result c.in_err-one-in_default.field-0.0 (λ h. h)
+    c.in_err-one-in_default.ensures.bad
     (err_from_is_err_and c.from_residual-in_err-one-in_default.result c.from_residual-in_err-one-in_default.ensures.1)) is has.1)
 
 pub returns-in-want-clause-bad : goal.returns-in-want-clause-bad
@@ -36,7 +37,8 @@ returns-in-take-clause-bad c =
 pub returns-in-source_fault-clause-bad : goal.returns-in-source_fault-clause-bad
 returns-in-source_fault-clause-bad c =
     let ws = c.args.words.now in
-    λ is. no_source_fault ws c.in_ok-name.name.now c.in_ok-name.ensures.read c.in-source_fault.is (bad_is c.source_fault.result (HasSourceFault ws) c.source_fault.ensures.bad is)
+    λ is. no_source_fault ws c.in_ok-name.name.now c.in_ok-name.ensures.read c.in-source_fault.is
+    (bad_is c.source_fault.result (HasSourceFault ws) c.source_fault.ensures.bad is)
 
 pub returns-in-land-clause-bad : goal.returns-in-land-clause-bad
 returns-in-land-clause-bad c =
@@ -46,4 +48,5 @@ returns-in-land-clause-bad c =
 pub returns-in-evict-clause-bad : goal.returns-in-evict-clause-bad
 returns-in-evict-clause-bad c =
     let ws = c.args.words.now in
-    λ is. no_evict ws c.in_ok-name.name.now c.in_ok-name.ensures.read c.in-evict.is (bad_is c.evict.result (HasEvict ws) c.evict.ensures.bad is)
+    λ is. no_evict ws c.in_ok-name.name.now c.in_ok-name.ensures.read c.in-evict.is
+    (bad_is c.evict.result (HasEvict ws) c.evict.ensures.bad is)

@@ -10,7 +10,9 @@ returns-in_err-at-clause-bad c =
     let ws = c.args.words.now in
     let part = c.split_at.result.1.now in
     let some : 0 < length part = omega (arith, c.split_at.ensures.back_len, c.loop-at-test.true) in
-    bad_on (HasKey part) (HasKeys ws) c.from_residual.result c.in_err-at.field-0.0 (λ has. first_key part some (subst HasKeys (sym c.split_at.ensures.back) (c.loop-at.invariant.1.left has))) c.in_err-at.ensures.bad
+    bad_on (HasKey part) (HasKeys ws) c.from_residual.result c.in_err-at.field-0.0
+    (λ has. first_key part some (subst HasKeys (sym c.split_at.ensures.back) (c.loop-at.invariant.1.left has)))
+    c.in_err-at.ensures.bad
     (err_from_is_err_and c.from_residual.result c.from_residual.ensures.1)
 
 pub returns-clause-read : goal.returns-clause-read
