@@ -79,7 +79,8 @@ fn put_line<W: Write>(
     number: u64,
     line: &str,
 ) -> Result<(), Stop>
-    ensures come { OnOk result ((text : List ℕ) × (done : List Event) × LineComes number line.now replay.old.state done replay.new.state text
+    ensures come { OnOk result ((text : List ℕ) × (done : List Event)
+        × LineComes number line.now replay.old.state done replay.new.state text
         × Appends (W.contents out.old) (W.contents out.new) text) }
     ensures bad { (n : ℕ) → IsErrOf result (Stop.Line n) → (n ≡ number) × IsBad line.now replay.old.state }
 {

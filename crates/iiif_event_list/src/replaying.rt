@@ -303,8 +303,8 @@ impl Replay {
     ///
     /// # Errors
     ///
-    /// `Bad`, where the line is no event and no setting that can be read, sets something of a world that has begun, or comes where the world
-    /// can't begin: then each further event is `Bad` until `world`. `NoMemory`: an event may be done, or the world lost.
+    /// `Bad`, where the line is no event and no setting that can be read, sets something of a world that has begun, or comes where the
+    /// world can't begin: then each further event is `Bad` until `world`. `NoMemory`: an event may be done, or the world lost.
     pub fn line(&mut self, alloc: Global, number: u64, line: &str) -> Result<String, LineFault>
         ensures comes { IfOk result (λ text. (done : List Event)
             × LineComes number line.now self.old.state done self.new.state (string_bytes text)) }
