@@ -104,6 +104,7 @@ class Clause:
     label: str  # "" where it is the only one
     text: str
     words: str  # the comment above it
+    parts: dict = field(default_factory=dict)  # the fields of the record that it names, each with its text
 
 
 @dataclass
@@ -182,6 +183,43 @@ def balanced(lines, at, column):
     return "".join(text), at, ""
 
 
+RECORD = re.compile(r"^(\s*)pub record ([^\s:({]+)")
+FIELD = re.compile(r"^\s+pub (\w+) : (.*)")
+
+
+@functools.cache
+def records(crate):
+    """The records of specs/ by module and name, each with its fields and their texts."""
+    specs, found = TOP / "crates" / crate / "specs", {}
+    for file in sorted(specs.rglob("*.antt")) if specs.exists() else []:
+        module, deep, fields, last = ".".join(file.relative_to(specs).with_suffix("").parts), None, {}, ""
+        for line in file.read_text().splitlines():
+            begun, indent = RECORD.match(line), len(line) - len(line.lstrip())
+            if begun:
+                deep, last = len(begun[1]), ""
+                fields = found.setdefault((module, begun[2]), {})
+            elif line.strip() and deep is not None and not line.strip().startswith("-- "):
+                one = FIELD.match(line)
+                if indent <= deep and not line.strip().startswith(":"):
+                    deep = None
+                elif one:
+                    last = one[1]
+                    fields[last] = one[2].strip()
+                elif last:
+                    fields[last] += " " + line.strip()
+    return found
+
+
+def parts_of(text, lines):
+    """The fields of the record that a clause is, where it is one, by what the file with these lines takes in."""
+    name = re.match(r"[^\W\d]\w*", text)
+    for line in lines if name else []:
+        taken = re.match(r"\s*ghost use Rattle\.(\w+)\.specs\.([\w.]+)\.\{(.*)\};", line)
+        if taken and name[0] in re.split(r",\s*", taken[3]) and (TOP / "crates" / taken[1]).exists():
+            return records(taken[1]).get((taken[2], name[0]), {})
+    return {}
+
+
 def functions_in(crate, file, module):
     """The functions of a file, each with its contract."""
     lines = file.read_text().splitlines()
@@ -220,7 +258,8 @@ def functions_in(crate, file, module):
                 if match:
                     said, at, rest = balanced(lines, at, match.end() - 1)
                     if match[1] == "ensures":
-                        clauses.append(Clause(match[2], re.sub(r"\s+", " ", said), sentence(comment)))
+                        said = re.sub(r"\s+", " ", said)
+                        clauses.append(Clause(match[2], said, sentence(comment), parts_of(said, lines)))
                     comment = []
                     if rest.strip().startswith(";") or "{" in rest:
                         break
@@ -279,7 +318,7 @@ def definitions(crate):
             if re.match(r"\s*-- ", line) and at >= len(head_lines):
                 comment.append(line.strip()[3:])
             elif match and not re.match(r"\s*pub (mod|use)\b|\s*unfoldable pub use\b", line):
-                inner = line.startswith(" ") and not re.match(r"\s+(abbrev|unfoldable|irreducible) pub", line)
+                inner = line.startswith(" ") and not re.match(r"\s+(?:(?:abbrev|unfoldable|irreducible) pub|pub (?:record|data)\b)", line)
                 if not inner:
                     words = re.sub(r"\s+", " ", " ".join(comment)).strip()
                     kind = line[match.end() :].partition(" : ")[2].strip()
