@@ -1,8 +1,11 @@
 //! Runs of files that are read ahead: the bytes are those of the file, in whatever order they are asked for.
 
+ghost use Rattle.std.specs.Prelude.{◌≤◌, length, IfOk};
+ghost use Rattle.std.specs.Arc.{arc_value};
+
 use crate::steps::{Ask, Bytes, Change, Outcome, Place, Shared, Step, fit, run};
 use iiif_open_files::{Opening, Opens, RowShelf, WideRows, wider};
-use iiif_source::{OpenFile, ReadFault, Runs};
+use iiif_source::{OpenFile, ReadFault, Runs, Source};
 use std::alloc::Global;
 use std::fs;
 use std::sync::Arc;
@@ -227,9 +230,16 @@ fn small_rows<R: Opens>(
     alloc: Global,
     path: &str,
     number: u64,
-) -> Result<Arc<WideRows<R>>, Fail> {
+) -> Result<Arc<WideRows<R>>, Fail>
+    ensures { IfOk result (λ w. length (arc_value w).bytes ≤ 65536) }
+{
     let opening = opening(rt, alloc, path, number)?;
-    let rows = WideRows::read(rt, alloc, &opening, 8, SMALL).ok_or("no rows")?;
+    let Ok(Some(rows)) = WideRows::read(rt, alloc, &opening, 8, SMALL) else {
+        return Err(Fail::from("no rows"));
+    };
+    if Source::<R>::len(&rows.bytes) > 65_536 {
+        return Err(Fail::from("more rows than a shelf has room for"));
+    }
     Ok(Arc::new(alloc, rows)?)
 }
 
@@ -268,7 +278,7 @@ fn is_shelved<R: Opens>(
     rt: &R,
     alloc: Global,
     path: &str,
-    shelf: &mut RowShelf<R>,
+    shelf: &mut RowShelf<R, 16, 65_536>,
     call: Shelved,
 ) -> Result<bool, Fail> {
     match call {
@@ -289,7 +299,7 @@ fn is_shelved<R: Opens>(
 fn rows_that_were_used_longest_ago_go_first(rt: HostRuntime) -> Result<(), Fail> {
     let path = "rows_small";
     fs::write(&rt, path, &[7; 8])?;
-    let mut shelf = RowShelf::new(rt.alloc(), 16);
+    let mut shelf: RowShelf<HostRuntime, 16, 65_536> = RowShelf::new(rt.alloc());
     for (place, call) in SHELVED.iter().enumerate() {
         assert!(rt;
             is_shelved(&rt, rt.alloc(), path, &mut shelf, *call)?,

@@ -1,6 +1,6 @@
 //! How a file is known again when it is opened once more.
 
-ghost use Rattle.std.specs.Prelude.{◌≡◌};
+ghost use Rattle.std.specs.Prelude.{◌≡◌, None};
 ghost use Rattle.std.specs.Fs.{metadata_len};
 ghost use Rattle.iiif_open_files.specs.Files.{change_of};
 
@@ -46,7 +46,8 @@ impl Known {
 
     /// The cause of the fault of a read, where what stands under the file's name now isn't what was there, or has another length.
     pub fn change(&self, now: &Known) -> Option<u8>
-        ensures { result ≡ change_of self.now now.now }
+        ensures change { result ≡ change_of self.now now.now }
+        ensures length { result ≡ None → now.now.len ≡ self.now.len }
     {
         let same = now.device == self.device && now.node == self.node && now.born == self.born;
         if same && now.len == self.len {

@@ -1,15 +1,17 @@
 //! The open files of many sources, and what was read ahead of them.
 
-ghost use Rattle.std.specs.Prelude.{◌≡◌, ◌*◌, length, IfOk, IfSome, IsTrue, string_bytes};
+ghost use Rattle.std.specs.Prelude.{◌≡◌, ◌*◌, ◌≤◌, length, IfErr, IfOk, IfSome, IsTrue, string_bytes};
 ghost use Rattle.std.specs.Arc.{arc_value};
-ghost use Rattle.iiif_source.specs.Runs.{AreIn, HoldsRuns};
-ghost use Rattle.iiif_open_files.specs.Rows.{AreAmong};
+ghost use Rattle.iiif_source.specs.Cause.{gave_of};
+ghost use Rattle.iiif_source.specs.Runs.{AreIn, BeginsAt, HoldsRuns};
+ghost use Rattle.iiif_open_files.specs.Kept.{size_of};
+ghost use Rattle.iiif_open_files.specs.Rows.{room_of, AreAmong};
 
 use crate::row_shelf::RowShelf;
 use crate::shelf::{Opening, Shelf};
 use crate::wide_rows::WideRows;
 use crate::widening::FEW;
-use iiif_source::{Opens, Runs};
+use iiif_source::{Opens, ReadFault, Runs};
 use std::alloc::{AllocError, Global};
 use std::num::NonZeroUsize;
 use std::sync::atomic::{AtomicU64, Ordering};
@@ -21,8 +23,8 @@ use std::sync::{Arc, Mutex, Wait};
 #[derive(Drop)]
 pub struct OpenFiles<R: Opens> {
     shelf: Mutex<Shelf<R>>,
-    many: Mutex<RowShelf<R>>,
-    few: Mutex<RowShelf<R>>,
+    many: Mutex<RowShelf<R, 16, 1_048_576>>,
+    few: Mutex<RowShelf<R, 256, 65_536>>,
     numbers: AtomicU64,
     alloc: Global,
 }
@@ -32,8 +34,8 @@ impl<R: Opens> OpenFiles<R> {
     pub fn new(alloc: Global, most: NonZeroUsize) -> Result<OpenFiles<R>, AllocError> {
         Ok(OpenFiles {
             shelf: Mutex::new(Shelf::new(alloc, most)?),
-            many: Mutex::new(RowShelf::new(alloc, 16)),
-            few: Mutex::new(RowShelf::new(alloc, 256)),
+            many: Mutex::new(RowShelf::new(alloc)),
+            few: Mutex::new(RowShelf::new(alloc)),
             numbers: AtomicU64::new(0),
             alloc,
         })
@@ -49,11 +51,6 @@ impl<R: Opens> OpenFiles<R> {
         ensures { IfOk result (λ p. arc_value p ≡ path) }
     {
         Ok(Arc::new(self.alloc, path)?)
-    }
-
-    /// Where so many rows are kept.
-    fn shelf_of(&self, count: u32) -> &Mutex<RowShelf<R>> {
-        if count > FEW { &self.many } else { &self.few }
     }
 }
 
@@ -83,7 +80,7 @@ impl<R: Opens + Wait> OpenFiles<R> {
     }
 
     /// Reads runs of an open file of so many bytes from rows that were read ahead of this opening, or reads ahead and keeps what it
-    /// read. Where it doesn't, the buffer's bytes are of no use.
+    /// read. Where it doesn't, the buffer's bytes are of no use; a fault is that of the read that was made ahead.
     pub(crate) fn read_ahead(
         &self,
         rt: &R,
@@ -91,23 +88,25 @@ impl<R: Opens + Wait> OpenFiles<R> {
         len: u64,
         runs: Runs,
         buffer: &mut [u8],
-    ) -> bool
+    ) -> Result<bool, ReadFault>
         requires runs { AreIn len runs }
         requires length { length buffer.old ≡ runs.count * runs.len }
         ensures length { length buffer.new ≡ length buffer.old }
-        ensures runs { R.keeps (string_bytes (arc_value opening.now.file.path)) → IsTrue result →
-            HoldsRuns (R.holds (string_bytes (arc_value opening.now.file.path))) runs runs.count buffer.new }
+        ensures runs { R.keeps (string_bytes (arc_value opening.now.file.path)) → IfOk result (λ done. IsTrue done →
+            HoldsRuns (R.holds (string_bytes (arc_value opening.now.file.path))) runs runs.count buffer.new) }
+        ensures place { IfErr result (λ f. BeginsAt runs f.place) }
+        ensures fault { IfErr result (λ f. IsTrue (gave_of (R.gave (string_bytes (arc_value opening.now.file.path))) f)) }
     {
         if let Some(rows) = self.find_rows(rt, opening, runs) {
             rows.copy(rt, runs, buffer);
-            return true;
+            return Ok(true);
         }
-        let Some(rows) = WideRows::ahead(rt, self.alloc, opening, len, runs) else {
-            return false;
+        let Some(rows) = WideRows::ahead(rt, self.alloc, opening, len, runs)? else {
+            return Ok(false);
         };
         rows.copy(rt, runs, buffer);
         self.keep_rows(rt, rows);
-        true
+        Ok(true)
     }
 
     /// Rows that are kept of an opening and have these runs.
@@ -116,16 +115,25 @@ impl<R: Opens + Wait> OpenFiles<R> {
         ensures number { IfSome result (λ w. (arc_value w).number ≡ opening.now.number) }
         ensures among { IfSome result (λ w. AreAmong (arc_value w).runs runs) }
     {
-        let path = opening.file.path.as_str();
-        self.shelf_of(runs.count)
-            .lock(rt)
-            .find(path, opening.number, runs)
+        if runs.count > FEW {
+            found_in(rt, &self.many, opening, runs)
+        } else {
+            found_in(rt, &self.few, opening, runs)
+        }
     }
 
     /// Keeps rows that were read ahead. They are let go where memory is wanting.
-    fn keep_rows(&self, rt: &R, rows: WideRows<R>) {
-        if let Ok(rows) = Arc::new(self.alloc, rows) {
-            self.shelf_of(rows.runs.count).lock(rt).keep(rows);
+    fn keep_rows(&self, rt: &R, rows: WideRows<R>)
+        requires { size_of rows ≤ room_of rows.runs.count }
+    {
+        let count = rows.runs.count;
+        let Ok(rows) = Arc::new(self.alloc, rows) else {
+            return;
+        };
+        if count > FEW {
+            self.many.lock(rt).keep(rows);
+        } else {
+            self.few.lock(rt).keep(rows);
         }
     }
 
@@ -134,4 +142,19 @@ impl<R: Opens + Wait> OpenFiles<R> {
         self.many.lock(rt).forget(number);
         self.few.lock(rt).forget(number);
     }
+}
+
+/// Rows on a shelf that are of an opening and have these runs.
+fn found_in<R: Opens + Wait, const MOST: usize, const ROOM: usize>(
+    rt: &R,
+    shelf: &Mutex<RowShelf<R, MOST, ROOM>>,
+    opening: &Opening<R>,
+    runs: Runs,
+) -> Option<Arc<WideRows<R>>>
+    ensures path { IfSome result (λ w. string_bytes (arc_value (arc_value w).path) ≡ string_bytes (arc_value opening.now.file.path)) }
+    ensures number { IfSome result (λ w. (arc_value w).number ≡ opening.now.number) }
+    ensures among { IfSome result (λ w. AreAmong (arc_value w).runs runs) }
+{
+    let path = opening.file.path.as_str();
+    shelf.lock(rt).find(path, opening.number, runs)
 }

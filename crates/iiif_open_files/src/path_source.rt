@@ -2,9 +2,10 @@
 
 ghost use Rattle.std.specs.Prelude.{◌||◌, ◌==◌, ◌≡◌, ◌≤◌, ◌+◌, ◌*◌, take, drop, IfErr, IfOk, IfSome, OnOk, IsTrue, length, string_bytes};
 ghost use Rattle.std.specs.Arc.{arc_value};
-ghost use Rattle.iiif_source.specs.Cause.{failed, ended};
-ghost use Rattle.iiif_source.specs.Files.{fitted, Named};
-ghost use Rattle.iiif_source.specs.Runs.{AreIn, HoldsRuns};
+ghost use Rattle.std.specs.Fs.{metadata_len};
+ghost use Rattle.iiif_source.specs.Cause.{failed, ended, gave_of};
+ghost use Rattle.iiif_source.specs.Files.{fitted, Named, Says};
+ghost use Rattle.iiif_source.specs.Runs.{AreIn, BeginsAt, HoldsRuns};
 
 use crate::known::Known;
 use crate::open_files::OpenFiles;
@@ -64,6 +65,7 @@ impl<R: Opens + Wait> PathSource<R> {
     /// opening has a number of its own, so nothing that was read ahead of an earlier one is used for it.
     fn opened(&self, rt: &R) -> Result<Opening<R>, u8>
         ensures path { IfOk result (λ o. string_bytes (arc_value o.file.path) ≡ self.now.path) }
+        ensures length { IfOk result (λ o. Says R.tells o.file.handle (λ found. metadata_len found ≡ self.now.len)) }
         ensures cause { IfErr result (λ cause. IsTrue (cause == failed || cause == ended)) }
     {
         let Ok(path) = self.path.clone() else {
@@ -85,7 +87,9 @@ impl<R: Opens + Wait> PathSource<R> {
     }
 
     /// Whether an open file is what it was.
-    fn is_unchanged(&self, rt: &R, file: &OpenFile<R>) -> bool {
+    fn is_unchanged(&self, rt: &R, file: &OpenFile<R>) -> bool
+        ensures { IsTrue result → Says R.tells file.now.handle (λ found. metadata_len found ≡ self.now.len) }
+    {
         match file.metadata(rt) {
             Ok(now) => self.known.change(&Known::of(&now)).is_none(),
             Err(_) => false,
@@ -93,8 +97,9 @@ impl<R: Opens + Wait> PathSource<R> {
     }
 
     /// Reads runs of the open file. Where they lie apart, and the file is what it was, they are taken from rows that were read ahead
-    /// of this opening, or their rows are read ahead. Where nothing can be read ahead they are read alone: so a fault is one of these
-    /// runs' own.
+    /// of this opening, or their rows are read ahead: a read of these that fails isn't made again, its fault is the runs'. Where
+    /// nothing is to be read ahead they are read alone.
+    #[tactic(auto, using(iiif_source::proofs::Faults::by_cause))]
     fn runs_of(
         &self,
         rt: &R,
@@ -108,6 +113,8 @@ impl<R: Opens + Wait> PathSource<R> {
         ensures length { length buffer.new ≡ length buffer.old }
         ensures runs { R.keeps self.now.path →
             OnOk result (HoldsRuns (fitted self.now.len (R.holds self.now.path)) runs runs.count buffer.new) }
+        ensures place { IfErr result (λ f. BeginsAt runs f.place) }
+        ensures fault { IfErr result (λ f. IsTrue (gave_of (R.gave self.now.path) f)) }
         ensures cause { IfErr result (λ f. IsTrue (f.cause == failed || f.cause == ended)) }
     {
         if runs.count > 1 && (runs.len as u64) < runs.stride {
@@ -115,7 +122,7 @@ impl<R: Opens + Wait> PathSource<R> {
                 self.files.forget_rows(rt, opening.number);
             } else if self
                 .files
-                .read_ahead(rt, opening, self.known.len, runs, buffer)
+                .read_ahead(rt, opening, self.known.len, runs, buffer)?
             {
                 return Ok(());
             }
@@ -128,6 +135,7 @@ impl<R: Opens + Wait> PathSource<R> {
     }
 
     /// Reads bytes of the open file.
+    #[tactic(auto, using(iiif_source::proofs::Faults::by_cause))]
     fn fill(
         &self,
         rt: &R,
@@ -140,6 +148,7 @@ impl<R: Opens + Wait> PathSource<R> {
         ensures bytes { R.keeps self.now.path →
             OnOk result (buffer.new ≡ take (length buffer.old) (drop at (fitted self.now.len (R.holds self.now.path)))) }
         ensures place { IfErr result (λ f. f.place ≡ at) }
+        ensures fault { IfErr result (λ f. IsTrue (gave_of (R.gave self.now.path) f)) }
         ensures cause { IfErr result (λ f. IsTrue (f.cause == failed || f.cause == ended)) }
     {
         let source = Opened {
@@ -174,6 +183,7 @@ impl<R: Opens + Wait> Source<R> for PathSource<R> {
         read
     }
 
+    #[tactic(auto, using(iiif_source::proofs::Faults::first_begins))]
     fn read_runs(&self, rt: &R, runs: Runs, buffer: &mut [u8]) -> Result<(), ReadFault> {
         if let Some(opening) = self.kept(rt) {
             return self.runs_of(rt, &opening, runs, buffer);

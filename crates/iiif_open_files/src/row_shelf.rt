@@ -1,10 +1,11 @@
 //! A bounded number of rows that were read ahead.
 
-ghost use Rattle.std.specs.Prelude.{◌≡◌, ◌==◌, ◌<◌, ◌≤◌, ◌⊎◌, ◌++◌, ◌∷◌, [], if◌then◌else◌, filter, not, string_bytes, IfSome};
+ghost use Rattle.std.specs.Prelude.{◌≡◌, ◌==◌, ◌<◌, ◌≤◌, ◌⊎◌, ◌++◌, ◌∷◌, [], All, None, if◌then◌else◌, filter, not, string_bytes, IfSome};
+ghost use Rattle.std.specs.Prelude.{slice_index_or};
 ghost use Rattle.std.specs.Arc.{arc_value};
 ghost use Rattle.std.specs.Vec.{vec_len};
 ghost use Rattle.std.specs.List.{remove};
-ghost use Rattle.iiif_open_files.specs.Kept.{number_of};
+ghost use Rattle.iiif_open_files.specs.Kept.{number_of, size_of, LastUsed};
 ghost use Rattle.iiif_open_files.specs.Rows.{AreAmong};
 
 use crate::wide_rows::WideRows;
@@ -12,32 +13,30 @@ use iiif_source::{Opens, Runs};
 use std::alloc::Global;
 use std::sync::Arc;
 
-/// Rows that were read ahead, so many at most, the ones that were used last behind all others.
+/// Rows that were read ahead: at most so many, of at most so many bytes each, the ones that were used last behind all others.
 #[derive(Drop)]
-pub struct RowShelf<R: Opens> {
+pub struct RowShelf<R: Opens, const MOST: usize, const ROOM: usize> {
     rows: Vec<Arc<WideRows<R>>>,
-    most: usize,
-    ghost some: { 0 < most },
-    ghost few: { vec_len rows ≤ most },
+    ghost some: { 0 < MOST },
+    ghost few: { vec_len rows ≤ MOST },
+    ghost small: { All (λ w. size_of (arc_value w) ≤ ROOM) rows.items },
 }
 
-impl<R: Opens> RowShelf<R> {
-    /// No rows, and room for so many.
-    pub fn new(alloc: Global, most: usize) -> RowShelf<R>
-        requires { 0 < most }
-        ensures rows { result.rows.items ≡ [] }
-        ensures most { result.most ≡ most }
+impl<R: Opens, const MOST: usize, const ROOM: usize> RowShelf<R, MOST, ROOM> {
+    /// No rows.
+    pub fn new(alloc: Global) -> RowShelf<R, MOST, ROOM>
+        requires { 0 < MOST }
+        ensures { result.rows.items ≡ [] }
     {
         RowShelf {
             rows: Vec::new(alloc),
-            most,
         }
     }
 
     /// How many are kept.
     pub fn len(&self) -> usize
         ensures count { result ≡ vec_len self.now.rows }
-        ensures within { result ≤ self.now.most }
+        ensures within { result ≤ MOST }
     {
         self.rows.len()
     }
@@ -46,6 +45,7 @@ impl<R: Opens> RowShelf<R> {
     /// looked at first.
     fn placed(&self, path: &str, number: u64, runs: Runs) -> Option<(usize, Arc<WideRows<R>>)>
         ensures place { IfSome result (λ p. p.0 < vec_len self.now.rows) }
+        ensures there { IfSome result (λ p. (d : _) → arc_value (slice_index_or self.now.rows.items p.0 d) ≡ arc_value p.1) }
         ensures path { IfSome result (λ p. string_bytes (arc_value (arc_value p.1).path) ≡ path.now) }
         ensures number { IfSome result (λ p. (arc_value p.1).number ≡ number) }
         ensures among { IfSome result (λ p. AreAmong (arc_value p.1).runs runs) }
@@ -68,13 +68,12 @@ impl<R: Opens> RowShelf<R> {
         ensures path { IfSome result (λ w. string_bytes (arc_value (arc_value w).path) ≡ path.now) }
         ensures number { IfSome result (λ w. (arc_value w).number ≡ number) }
         ensures among { IfSome result (λ w. AreAmong (arc_value w).runs runs) }
-        ensures most { self.new.most ≡ self.old.most }
+        ensures used { IfSome result (λ w. LastUsed arc_value (arc_value w) self.old.rows.items self.new.rows.items) }
+        ensures unused { result ≡ None → self.new.rows.items ≡ self.old.rows.items }
     {
         match self.placed(path, number, runs) {
             Some((place, found)) => {
-                let rows = self.rows.remove(place);
-                // One was taken out, so there is room; and rows that are lost are read again.
-                let _ = self.rows.push(rows);
+                self.rows[place..].rotate_left(1);
                 Some(found)
             }
             None => None,
@@ -83,12 +82,10 @@ impl<R: Opens> RowShelf<R> {
 
     /// Lets go the rows that were used longest ago, where there is no room for others.
     fn make_room(&mut self)
-        ensures rows { self.new.rows.items ≡ (if vec_len self.old.rows ==
-            self.old.most then remove self.old.rows.items 0 else self.old.rows.items) }
-        ensures room { vec_len self.new.rows < self.old.most }
-        ensures most { self.new.most ≡ self.old.most }
+        ensures rows { self.new.rows.items ≡ (if vec_len self.old.rows == MOST then remove self.old.rows.items 0 else self.old.rows.items) }
+        ensures room { vec_len self.new.rows < MOST }
     {
-        if self.rows.len() == self.most {
+        if self.rows.len() == MOST {
             let _oldest = self.rows.remove(0);
         }
     }
@@ -96,8 +93,8 @@ impl<R: Opens> RowShelf<R> {
     /// Keeps rows, and lets go the ones that were used longest ago where there is no room. Where memory is wanting these are let go
     /// too.
     pub fn keep(&mut self, rows: Arc<WideRows<R>>)
-        ensures most { self.new.most ≡ self.old.most }
-        ensures rows { let rest = (if vec_len self.old.rows == self.old.most then remove self.old.rows.items 0 else self.old.rows.items) in
+        requires { size_of (arc_value rows) ≤ ROOM }
+        ensures { let rest = (if vec_len self.old.rows == MOST then remove self.old.rows.items 0 else self.old.rows.items) in
             (self.new.rows.items ≡ rest ++ (rows ∷ [])) ⊎ (self.new.rows.items ≡ rest) }
     {
         self.make_room();
@@ -106,8 +103,7 @@ impl<R: Opens> RowShelf<R> {
 
     /// Lets go all rows of the opening of a number.
     pub fn forget(&mut self, number: u64)
-        ensures most { self.new.most ≡ self.old.most }
-        ensures rows { self.new.rows.items ≡ filter (λ w. not (number_of (arc_value w) == number)) self.old.rows.items }
+        ensures { self.new.rows.items ≡ filter (λ w. not (number_of (arc_value w) == number)) self.old.rows.items }
     {
         self.rows.retain(|rows| rows.number != number);
     }

@@ -1,14 +1,15 @@
 //! Rows of bytes that were read ahead.
 
-ghost use Rattle.std.specs.Prelude.{◌≡◌, ◌+◌, ◌*◌, ◌^◌, ◌<◌, ◌≤◌, ℕ, List, length, IfSome, IsTrue, string_bytes};
+ghost use Rattle.std.specs.Prelude.{◌≡◌, ◌+◌, ◌*◌, ◌^◌, ◌<◌, ◌≤◌, ℕ, List, length, IfErr, IfOk, IfSome, IsTrue, string_bytes};
 ghost use Rattle.std.specs.Arc.{arc_value};
+ghost use Rattle.iiif_source.specs.Cause.{gave_of};
 ghost use Rattle.iiif_source.specs.Files.{fitted};
-ghost use Rattle.iiif_source.specs.Runs.{AreIn, HoldsRuns};
+ghost use Rattle.iiif_source.specs.Runs.{AreIn, BeginsAt, HoldsRuns};
 ghost use Rattle.iiif_open_files.specs.Rows.{AreAmong, room_of};
 
 use crate::shelf::Opening;
 use crate::widening::wider;
-use iiif_source::{MemSource, Opened, Opens, Runs, Source};
+use iiif_source::{MemSource, Opened, Opens, ReadFault, Runs, Source};
 use std::alloc::Global;
 use std::marker::PhantomData;
 use std::sync::Arc;
@@ -29,77 +30,83 @@ pub struct WideRows<R: Opens> {
 }
 
 impl<R: Opens> WideRows<R> {
-    /// Reads runs of an open file of so many bytes. None where it can't be read, or memory is wanting.
+    /// Reads runs of an open file of so many bytes. None where memory is wanting.
     fn bytes_of(
         rt: &R,
         alloc: Global,
         opening: &Opening<R>,
         len: u64,
         runs: Runs,
-    ) -> Option<MemSource>
+    ) -> Result<Option<MemSource>, ReadFault>
         requires { AreIn len runs }
-        ensures length { IfSome result (λ bytes. length bytes ≡ runs.count * runs.len) }
-        ensures there { IfSome result (λ bytes. R.keeps (string_bytes (arc_value opening.now.file.path)) →
-            HoldsRuns (fitted len (R.holds (string_bytes (arc_value opening.now.file.path)))) runs runs.count bytes) }
+        ensures length { IfOk result (λ found. IfSome found (λ bytes. length bytes ≡ runs.count * runs.len)) }
+        ensures there { IfOk result (λ found. IfSome found (λ bytes. R.keeps (string_bytes (arc_value opening.now.file.path)) →
+            HoldsRuns (fitted len (R.holds (string_bytes (arc_value opening.now.file.path)))) runs runs.count bytes)) }
+        ensures place { IfErr result (λ f. BeginsAt runs f.place) }
+        ensures fault { IfErr result (λ f. IsTrue (gave_of (R.gave (string_bytes (arc_value opening.now.file.path))) f)) }
     {
         let Ok(mut bytes) = vec![in alloc; 0u8; runs.count as usize * runs.len] else {
-            return None;
+            return Ok(None);
         };
         let source = Opened {
             file: &opening.file,
             len,
         };
-        let Ok(()) = source.read_runs(rt, runs, &mut bytes) else {
-            return None;
-        };
-        Some(MemSource::new(bytes))
+        source.read_runs(rt, runs, &mut bytes)?;
+        Ok(Some(MemSource::new(bytes)))
     }
 
-    /// Reads rows of an open file of so many bytes. None where it can't be read, or memory is wanting.
+    /// Reads rows of an open file of so many bytes. None where memory is wanting.
     pub fn read(
         rt: &R,
         alloc: Global,
         opening: &Opening<R>,
         len: u64,
         runs: Runs,
-    ) -> Option<WideRows<R>>
+    ) -> Result<Option<WideRows<R>>, ReadFault>
         requires { AreIn len runs }
-        ensures path { IfSome result (λ w. arc_value w.path ≡ arc_value opening.now.file.path) }
-        ensures number { IfSome result (λ w. w.number ≡ opening.now.number) }
-        ensures runs { IfSome result (λ w. w.runs ≡ runs) }
+        ensures path { IfOk result (λ found. IfSome found (λ w. arc_value w.path ≡ arc_value opening.now.file.path)) }
+        ensures number { IfOk result (λ found. IfSome found (λ w. w.number ≡ opening.now.number)) }
+        ensures runs { IfOk result (λ found. IfSome found (λ w. w.runs ≡ runs)) }
+        ensures place { IfErr result (λ f. BeginsAt runs f.place) }
+        ensures fault { IfErr result (λ f. IsTrue (gave_of (R.gave (string_bytes (arc_value opening.now.file.path))) f)) }
     {
         let Ok(path) = opening.file.path.clone() else {
-            return None;
+            return Ok(None);
         };
-        let bytes = WideRows::bytes_of(rt, alloc, opening, len, runs)?;
-        Some(WideRows {
+        let Some(bytes) = WideRows::bytes_of(rt, alloc, opening, len, runs)? else {
+            return Ok(None);
+        };
+        Ok(Some(WideRows {
             path,
             number: opening.number,
             runs,
             bytes,
             of: PhantomData,
-        })
+        }))
     }
 
     /// Reads longer runs of an open file of so many bytes at the places of those that are asked for. None where there is no room for
-    /// longer ones, where the file can't be read, or memory is wanting.
+    /// longer ones, or memory is wanting.
     pub fn ahead(
         rt: &R,
         alloc: Global,
         opening: &Opening<R>,
         len: u64,
         runs: Runs,
-    ) -> Option<WideRows<R>>
+    ) -> Result<Option<WideRows<R>>, ReadFault>
         requires { AreIn len runs }
-        ensures path { IfSome result (λ w. arc_value w.path ≡ arc_value opening.now.file.path) }
-        ensures number { IfSome result (λ w. w.number ≡ opening.now.number) }
-        ensures among { IfSome result (λ w. AreAmong w.runs runs) }
-        ensures room { IfSome result (λ w. length w.bytes ≤ room_of w.runs.count) }
+        ensures path { IfOk result (λ found. IfSome found (λ w. arc_value w.path ≡ arc_value opening.now.file.path)) }
+        ensures number { IfOk result (λ found. IfSome found (λ w. w.number ≡ opening.now.number)) }
+        ensures among { IfOk result (λ found. IfSome found (λ w. AreAmong w.runs runs)) }
+        ensures room { IfOk result (λ found. IfSome found (λ w. length w.bytes ≤ room_of w.runs.count)) }
+        ensures place { IfErr result (λ f. BeginsAt runs f.place) }
+        ensures fault { IfErr result (λ f. IsTrue (gave_of (R.gave (string_bytes (arc_value opening.now.file.path))) f)) }
     {
-        match wider(runs, len) {
-            Some(rows) => WideRows::read(rt, alloc, opening, len, rows),
-            None => None,
-        }
+        let Some(rows) = wider(runs, len) else {
+            return Ok(None);
+        };
+        WideRows::read(rt, alloc, opening, len, rows)
     }
 
     /// Whether these are rows of the file of the path, of the opening of the number, and have these runs of it.

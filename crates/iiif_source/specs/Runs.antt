@@ -12,3 +12,7 @@ pub record AreIn (n : ℕ) (r : Runs) : Type 0 where
 abbrev pub HoldsRuns : List ℕ → Runs → ℕ → List ℕ → Type 0
 HoldsRuns bytes r m buffer = (j i : ℕ) → j < m → i < r.len →
     slice_index buffer (j * r.len + i) ≡ slice_index bytes (r.at + j * r.stride + i)
+
+-- One of the runs begins at the place.
+abbrev pub BeginsAt : Runs → ℕ → Type 0
+BeginsAt r place = (j : ℕ) × (j < r.count) × (place ≡ r.at + j * r.stride)

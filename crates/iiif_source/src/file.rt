@@ -52,6 +52,7 @@ impl<R: Opens + Wait> Source<R> for FileSource<R> {
         self.len
     }
 
+    #[tactic(auto, using(crate::proofs::Faults::by_cause))]
     fn read_at(&self, rt: &R, at: u64, buffer: &mut [u8]) -> Result<(), ReadFault> {
         match opened(self.path.as_str(), self.len, &self.file.read(rt)) {
             Some(source) => source.read_at(rt, at, buffer),
@@ -59,6 +60,7 @@ impl<R: Opens + Wait> Source<R> for FileSource<R> {
         }
     }
 
+    #[tactic(auto, using(crate::proofs::Faults::by_cause, crate::proofs::Faults::first_begins))]
     fn read_runs(&self, rt: &R, runs: Runs, buffer: &mut [u8]) -> Result<(), ReadFault> {
         match opened(self.path.as_str(), self.len, &self.file.read(rt)) {
             Some(source) => source.read_runs(rt, runs, buffer),

@@ -1,9 +1,9 @@
 //! The bytes of an image's source, read at any place: from memory, from a file, and from a device that fails when told.
 #![tactic(auto)]
 
-ghost use Rattle.std.specs.Prelude.{◌≡◌, ◌+◌, ◌*◌, ◌≤◌, ℕ, List, All, length, take, drop, OnOk, IfErr, Bool, IsTrue};
+ghost use Rattle.std.specs.Prelude.{◌≡◌, ◌+◌, ◌*◌, ◌^◌, ◌≤◌, ℕ, List, All, length, take, drop, OnOk, IfErr, Bool, IsTrue};
 ghost use Rattle.iiif_source.specs.declared.ReadFault.{ReadFault};
-ghost use Rattle.iiif_source.specs.Runs.{AreIn, HoldsRuns};
+ghost use Rattle.iiif_source.specs.Runs.{AreIn, BeginsAt, HoldsRuns};
 
 pub use file::FileSource;
 pub use fuse::FuseSource;
@@ -18,8 +18,11 @@ mod opened;
 mod opens;
 mod system;
 
+use thiserror::Error;
+
 /// Why a read failed: the place in the source, in bytes, where the read began, and one of the causes below.
-#[derive(Clone, Copy, Debug, PartialEq, Eq)]
+#[derive(Clone, Copy, Debug, PartialEq, Eq, Error)]
+#[error("a read of the source failed")]
 pub struct ReadFault {
     pub place: u64,
     pub cause: u8,
@@ -43,6 +46,16 @@ pub struct Runs {
     pub stride: u64,
     pub len: usize,
     pub count: u32,
+}
+
+impl Runs {
+    /// Where the run of a number begins.
+    fn begin(&self, number: u32) -> u64
+        requires { (self.now.at ≤ 2 ^ 61) × (self.now.stride ≤ 2 ^ 23) }
+        ensures { result ≡ self.now.at + number * self.now.stride }
+    {
+        self.at + number as u64 * self.stride
+    }
 }
 
 /// Bytes that are read at any place. R is the runtime that a read takes: a source in memory takes any, one behind a
@@ -70,12 +83,13 @@ pub trait Source<R> {
         ensures fault { IfErr result (λ f. IsTrue (gave self.now f)) };
 
     /// Reads runs of bytes, one after another into the buffer: by one read where they lie together, else by one read a run. A device
-    /// that takes a lock, or looks for its file, does so once for all.
+    /// that takes a lock, or looks for its file, does so once for all. A fault has the place where one of the runs begins.
     fn read_runs(&self, rt: &R, runs: Runs, buffer: &mut [u8]) -> Result<(), ReadFault>
         requires runs { AreIn (length (bytes self.now)) runs }
         requires length { length buffer.old ≡ runs.count * runs.len }
         ensures length { length buffer.new ≡ length buffer.old }
         ensures runs_there { keeps self.now → OnOk result (HoldsRuns (bytes self.now) runs runs.count buffer.new) }
+        ensures place { IfErr result (λ f. BeginsAt runs f.place) }
         ensures fault { IfErr result (λ f. IsTrue (gave self.now f)) }
     {
         if runs.len as u64 == runs.stride {
@@ -85,7 +99,7 @@ pub trait Source<R> {
         for j in 0..runs.count {
             let start = j as usize * runs.len;
             let run = &mut buffer[start..start + runs.len];
-            self.read_at(rt, runs.at + j as u64 * runs.stride, run)?;
+            self.read_at(rt, runs.begin(j), run)?;
         }
         Ok(())
     }

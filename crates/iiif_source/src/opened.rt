@@ -1,11 +1,10 @@
 //! Open files.
 
-ghost use Rattle.std.specs.Prelude.{◌||◌, ◌==◌, ◌≡◌, ◌≢◌, ℕ, IfErr, IfOk, IsTrue, length, string_bytes};
+ghost use Rattle.std.specs.Prelude.{◌||◌, ◌==◌, ◌≡◌, ℕ, IfErr, IfOk, IsTrue, length, string_bytes};
 ghost use Rattle.std.specs.Arc.{arc_value};
-ghost use Rattle.std.specs.Fs.{metadata_len};
-ghost use Rattle.std.specs.declared.io.ErrorKind.TheVariants.{UnexpectedEof};
-ghost use Rattle.iiif_source.specs.Cause.{failed, ended};
-ghost use Rattle.iiif_source.specs.Files.{fitted, Named};
+ghost use Rattle.std.specs.Fs.{file_type, metadata_len, IsFile};
+ghost use Rattle.iiif_source.specs.Cause.{failed, ended, gave_of, IsCauseOf};
+ghost use Rattle.iiif_source.specs.Files.{fitted, Named, Says};
 
 use crate::{Opens, ReadFault, Source};
 use std::fs::Metadata;
@@ -27,18 +26,28 @@ fn not_plain() -> Error {
     Error::new(ErrorKind::InvalidInput, "not a plain file")
 }
 
+/// Opens what is looked at first, and is a plain file.
+fn handle_of<R: Opens>(rt: &R, path: &str) -> io::Result<R::Handle>
+    ensures { IfOk result (λ file. IsTrue (R.is_of file path.now)) }
+{
+    let found = rt.look(path)?;
+    if !found.is_file() {
+        return Err(not_plain());
+    }
+    rt.open(path)
+}
+
 impl<R: Opens> OpenFile<R> {
     /// Opens a plain file. What is none, such as a folder, a pipe or a device, is refused by [`ErrorKind::InvalidInput`]. It is looked
     /// at before it is opened, since the opening of a pipe waits until somebody writes into it; and afterwards, since something else may
     /// have taken its name meanwhile.
     pub fn open(rt: &R, path: Arc<String>) -> io::Result<OpenFile<R>>
-        ensures { IfOk result (λ f. f.path ≡ path) }
+        ensures path { IfOk result (λ f. f.path ≡ path) }
+        ensures plain { IfOk result (λ f. Says R.tells f.handle (λ found. IsFile (file_type found))) }
     {
-        if !rt.look(path.as_str())?.is_file() {
-            return Err(not_plain());
-        }
-        let handle = rt.open(path.as_str())?;
-        if !rt.metadata(path.as_str(), &handle)?.is_file() {
+        let handle = handle_of(rt, path.as_str())?;
+        let told = rt.metadata(path.as_str(), &handle)?;
+        if !told.is_file() {
             return Err(not_plain());
         }
         Ok(OpenFile { path, handle })
@@ -46,7 +55,8 @@ impl<R: Opens> OpenFile<R> {
 
     /// What the system says of the file now.
     pub fn metadata(&self, rt: &R) -> io::Result<Metadata>
-        ensures { R.keeps (string_bytes (arc_value self.now.path)) →
+        ensures told { IfOk result (λ m. IsTrue (R.tells self.now.handle m)) }
+        ensures length { R.keeps (string_bytes (arc_value self.now.path)) →
             IfOk result (λ m. metadata_len m ≡ length (R.holds (string_bytes (arc_value self.now.path)))) }
     {
         rt.metadata(self.path.as_str(), &self.handle)
@@ -71,7 +81,7 @@ impl<R: Opens> Source<R> for Opened<'_, R> {
 
     ghost keeps = { λ s. R.keeps s.path };
 
-    ghost gave = { λ _ f. f.cause == failed || f.cause == ended };
+    ghost gave = { λ s. gave_of (R.gave s.path) };
 
     fn len(&self) -> u64 {
         self.len
@@ -90,8 +100,7 @@ impl<R: Opens> Source<R> for Opened<'_, R> {
 
 /// The cause of a read's fault: the file ended, or the read failed.
 fn cause_of(kind: ErrorKind) -> u8
-    ensures ended { kind ≡ UnexpectedEof → result ≡ ended }
-    ensures failed { kind ≢ UnexpectedEof → result ≡ failed }
+    ensures cause { IsCauseOf kind result }
     ensures known { IsTrue (result == failed || result == ended) }
 {
     match kind {

@@ -1,7 +1,7 @@
 //! The system's files. What is trusted of them stands here, and only here: that a file's bytes stay as they are, that a read gives
 //! those that stand under the path that was opened, and that the length which the system tells is theirs. Nothing of it can be
-//! proved of a system, so of its files the premise `keeps` is false. Each body is one call of the system and no more, so that
-//! nothing of ours stands below the premise.
+//! proved of a system, so of its files the premise `keeps` is false; and it may say anything of a file, and fail as it likes. Each
+//! body is one call of the system and no more, so that nothing of ours stands below the premise.
 
 ghost use Rattle.std.proofs.Common.{rules};
 ghost use Rattle.std.specs.Prelude.{[], true};
@@ -20,6 +20,12 @@ impl<R: Files<File = File>> Opens for R {
     ghost keeps = { λ _. ⊥ };
 
     ghost is_of = { λ _ _. true };
+
+    ghost shows = { λ _ _. true };
+
+    ghost tells = { λ _ _. true };
+
+    ghost gave = { λ _ _. true };
 
     ghost holds_bytes = { λ _. Prim.search rules };
 

@@ -11,5 +11,5 @@ pub loop-j-preserved : goal.loop-j-preserved
 loop-j-preserved g c = λ keeps.
     run_more (g.Self.Source.bytes c.args.self.now) c.loop-j.buffer c.read_at-in-loop-j.new.buffer c.args.runs.at c.args.runs.stride
     c.args.runs.len c.args.runs.count c.loop-j.j _
-    (search arith) c.loop-j-test.true (omega arith) c.requires.runs.within (c.in_ok-read_at-2.ensures.bytes_there keeps)
-    (c.loop-j.invariant keeps)
+    (search arith) c.loop-j-test.true (omega arith) c.requires.runs.within
+    (rw c.begin.ensures at (c.in_ok-read_at-2.ensures.bytes_there keeps)) (c.loop-j.invariant keeps)

@@ -3,8 +3,8 @@ use Rattle.iiif_source.specs.Runs.{HoldsRuns}
 use Rattle.iiif_source.proofs.Fitting.{runs_of_fitted}
 use Rattle.iiif_open_files.proofs.path_source.PathSource.runs_of.Goals as goal
 
-pub returns-then-read_ahead-clause-runs : goal.returns-then-read_ahead-clause-runs
-returns-then-read_ahead-clause-runs g c =
+pub returns-then-branch-clause-runs : goal.returns-then-branch-clause-runs
+returns-then-branch-clause-runs g c =
     let there : g.R.Opens.keeps c.args.self.now.path →
     HoldsRuns (g.R.Opens.holds c.args.self.now.path) c.args.runs c.args.runs.count c.read_ahead.new.buffer =
     rw (sym c.requires.path) (search rules) in

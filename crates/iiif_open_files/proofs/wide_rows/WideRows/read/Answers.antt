@@ -7,4 +7,4 @@ pub invariant_of-result-clause-there : goal.invariant_of-result-clause-there
 invariant_of-result-clause-there g c =
     let same : string_bytes (arc_value c.in-Ok.path) ≡ string_bytes (arc_value c.args.opening.now.file.path) = search rules in
     rw same (λ keeps. runs_of_held c.args.len (g.R.Opens.holds (string_bytes (arc_value c.args.opening.now.file.path))) _ c.args.runs
-    c.requires (c.in_ok-bytes.ensures.there keeps))
+    c.requires ((rw c.in-Some.is at c.in_ok-bytes.ensures.there) keeps))
