@@ -1,6 +1,6 @@
 -- Which list a put goes to.
 use Rattle.std.proofs.Common.{◌≡◌, Bool, true, false, not, ◌&&◌, ◌||◌, Option, Some, None, refl, sym, ap, ◌∙◌, is_some, option_map}
-use Rattle.std.specs.Option.{IfNone}
+use Rattle.std.specs.Option.{IfNone, option_or}
 use Rattle.std.specs.Prelude.{if◌then◌else◌}
 use Rattle.std.specs.Map.{lookup}
 use Rattle.iiif_tables.specs.Cache.{Kept, Cache, added, replaced, added_to, placed}
@@ -43,6 +43,21 @@ not_there false h = refl
 -- the same test, by what its parts are
 pub test_is : (a b c d h r : Bool) → a ≡ b → c ≡ d → (not a && (h || c)) ≡ r → (not b && (h || d)) ≡ r
 test_is a b c d h r p q is = cc
+
+-- what goes to hot isn't in main
+pub main_absent : (a b h c : Bool) → a ≡ b → (not a && (h || c)) ≡ true → b ≡ false
+main_absent true b h c p t = cc
+main_absent false b h c p t = sym p
+
+-- what goes to main, and isn't there, isn't in hot
+pub hot_absent : (a b c d h : Bool) → a ≡ b → c ≡ d → (not a && (h || c)) ≡ false → b ≡ false → d ≡ false
+hot_absent true b c d h p q t n = cc
+hot_absent false b c d true p q t n = cc
+hot_absent false b c d false p q t n = sym q ∙ t
+
+pub neither_there : {X : Type 0} (o p : Option X) → is_some o ≡ false → is_some p ≡ false → is_some (option_or o p) ≡ false
+neither_there None p h i = i
+neither_there (Some x) p h i = h
 
 pub if_none : {X : Type 0} {P : Type 0} (o : Option X) → (o ≡ None → P) → IfNone o P
 if_none None h = h refl

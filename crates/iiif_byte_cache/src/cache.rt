@@ -29,3 +29,18 @@ pub enum PutFault<K, E> {
     /// Memory was wanting.
     NoMemory(K, E),
 }
+
+impl<K, E> PutFault<K, E> {
+    ghost use Rattle.std.specs.Prelude.{◌≡◌};
+    ghost use Rattle.iiif_byte_cache.specs.Faults.{number_of};
+
+    /// The number by which the fault is known outside, 1 or 2.
+    pub const fn number(&self) -> u8
+        ensures { result ≡ number_of self.now }
+    {
+        match self {
+            PutFault::TooBig(_, _) => 1,
+            PutFault::NoMemory(_, _) => 2,
+        }
+    }
+}

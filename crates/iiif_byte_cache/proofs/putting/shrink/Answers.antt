@@ -1,15 +1,19 @@
 use Rattle.std.proofs.Common.{◌≡◌, suc, ◌+◌, ◌-◌, arith, sym, ap, ◌∙◌, refl}
-use Rattle.iiif_tables.specs.Cache.{bytes_in, evict_at_most}
+use Rattle.iiif_tables.specs.Cache.{bytes_in, evict_at_most, shrink}
 use Rattle.iiif_tables.proofs.CacheLaws.{evict_none, evict_one, evict_zero, shrink_within}
 use Rattle.iiif_outcome.specs.Views.{entry_size}
 use Rattle.iiif_byte_cache.specs.View.{lists_of}
 use Rattle.iiif_byte_cache.proofs.putting.shrink.Goals as goal
 
-pub returns-then-main-hot-clause-lists : goal.returns-then-main-hot-clause-lists
-returns-then-main-hot-clause-lists g c =
+pub returns-then-main-hot : goal.returns-then-main-hot
+returns-then-main-hot g c =
     let now = lists_of c.loop.main c.loop.hot c.args.limit in
-    sym (evict_none (entry_size g.K.CacheKey.key_bytes g.K.CacheKey.val_bytes) _ now
-    (omega (arith, c.if-main-hot.true, c.loop.main.sum, c.loop.hot.sum))) ∙ c.loop.invariant.lists
+    record {
+      lists = sym (evict_none (entry_size g.K.CacheKey.key_bytes g.K.CacheKey.val_bytes) _ now
+          (omega (arith, c.if-main-hot.true, c.loop.main.sum, c.loop.hot.sum))) ∙ c.loop.invariant.lists;
+      within = c.if-main-hot.true;
+      room = (c.loop.invariant.main, c.loop.invariant.hot);
+    }
 
 pub loop-preserved : goal.loop-preserved
 loop-preserved g c =
@@ -29,16 +33,15 @@ loop-preserved g c =
       fits = omega (arith, c.evict-gone.ensures.bytes, c.loop.invariant.fits);
     }
 
-pub returns-clause-lists : goal.returns-clause-lists
-returns-clause-lists g c =
-    let size = (entry_size g.K.CacheKey.key_bytes g.K.CacheKey.val_bytes) in
+pub returns : goal.returns
+returns g c =
+    let size = entry_size g.K.CacheKey.key_bytes g.K.CacheKey.val_bytes in
     let now = lists_of c.loop.main c.loop.hot c.args.limit in
-    let none : 0 ≡ c.len.result + c.len-2.result - c.loop.counter = omega (arith, c.loop-test.false) in
-    sym (evict_zero size now) ∙ ap (λ m. evict_at_most size m now) none ∙ c.loop.invariant.lists
-
-pub returns-clause-within : goal.returns-clause-within
-returns-clause-within g c =
-    let size = (entry_size g.K.CacheKey.key_bytes g.K.CacheKey.val_bytes) in
     let old = lists_of c.args.main.now c.args.hot.now c.args.limit in
-    let same = ap (bytes_in size) (returns-clause-lists g c) in
-    omega (arith, same, shrink_within size old, c.loop.main.sum, c.loop.hot.sum)
+    let none : 0 ≡ c.len.result + c.len-2.result - c.loop.counter = omega (arith, c.loop-test.false) in
+    let lists : now ≡ shrink size old = sym (evict_zero size now) ∙ ap (λ m. evict_at_most size m now) none ∙ c.loop.invariant.lists in
+    record {
+      lists = lists;
+      within = omega (arith, ap (bytes_in size) lists, shrink_within size old, c.loop.main.sum, c.loop.hot.sum);
+      room = (c.loop.invariant.main, c.loop.invariant.hot);
+    }

@@ -19,9 +19,14 @@ invariant_of-self g c =
       room = c.evict.ensures.room.1 ∙ now.room ∙ sym c.evict.ensures.room.0;
     }
 
-pub returns-clause-none : goal.returns-clause-none
-returns-clause-none g c =
+pub returns : goal.returns
+returns g c =
+    let limit = c.args.self.now.limit in
     let old = cache_of c.args.self.now in
-    if_none c.evict.result (λ h. victim_none (entry_size g.K.CacheKey.key_bytes g.K.CacheKey.val_bytes)
-    (λ k v. omega (arith, g.met.K.CacheKey.spelled k)) old
-    (sym (c.evict.ensures.victim c.args.self.now.limit) ∙ none_of _ c.evict.result h))
+    record {
+      victim = c.evict.ensures.victim limit;
+      rest = c.evict.ensures.rest limit;
+      none = if_none c.evict.result (λ h. victim_none (entry_size g.K.CacheKey.key_bytes g.K.CacheKey.val_bytes)
+          (λ k v. omega (arith, g.met.K.CacheKey.spelled k)) old
+          (sym (c.evict.ensures.victim limit) ∙ none_of _ c.evict.result h));
+    }

@@ -8,28 +8,40 @@ use Rattle.iiif_byte_cache.specs.View.{cache_of, lists_of}
 use Rattle.iiif_byte_cache.specs.View.{side}
 use Rattle.iiif_byte_cache.proofs.cache.ByteCache.put.Goals as goal
 
-pub returns-in-Ok-clause-ok : goal.returns-in-Ok-clause-ok
-returns-in-Ok-clause-ok g c =
+pub returns-in-Ok : goal.returns-in-Ok
+returns-in-Ok g c =
     let size = (entry_size g.K.CacheKey.key_bytes g.K.CacheKey.val_bytes) in
     let old = cache_of c.args.self.now in
     let entry = kept_of c.args.entry in
     let small : is_too_big size c.args.key entry.value old ≡ false =
     le-ltb old.limit (size c.args.key entry.value) (omega (arith, c.if-size-self.false, c.size-size.ensures)) in
-    c.shrink.ensures.lists
-    ∙ ap (shrink size) (c.in-Ok.ensures.ok c.args.self.now.limit)
-    ∙ sym (put_small size g.K.PartialEq.eq (side c.args.hot) c.args.key entry old small)
+    record {
+      ok = c.shrink.ensures.lists
+          ∙ ap (shrink size) (c.in-Ok.ensures.ok c.args.self.now.limit)
+          ∙ sym (put_small size g.K.PartialEq.eq (side c.args.hot) c.args.key entry old small);
+      fits = small;
+      err = tt;
+      back = tt;
+    }
 
-pub returns-in-Err-clause-err : goal.returns-in-Err-clause-err
-returns-in-Err-clause-err g c = c.in-Err.ensures.err c.args.self.now.limit
-
-pub returns-in-Err-clause-back : goal.returns-in-Err-clause-back
-returns-in-Err-clause-back g c =
+pub returns-in-Err : goal.returns-in-Err
+returns-in-Err g c =
     let size = (entry_size g.K.CacheKey.key_bytes g.K.CacheKey.val_bytes) in
     let old = cache_of c.args.self.now in
     let entry = kept_of c.args.entry in
     let small : is_too_big size c.args.key entry.value old ≡ false =
     le-ltb old.limit (size c.args.key entry.value) (omega (arith, c.if-size-self.false, c.size-size.ensures)) in
-    (ap (λ p. p.0) c.in-Err.ensures.back, ap (λ p. p.1) c.in-Err.ensures.back, small, c.in-Err.ensures.absent c.args.self.now.limit)
+    record {
+      ok = tt;
+      fits = tt;
+      err = c.in-Err.ensures.err c.args.self.now.limit;
+      back = (
+        ap (λ p. p.0) c.in-Err.ensures.back,
+        ap (λ p. p.1) c.in-Err.ensures.back,
+        small,
+        c.in-Err.ensures.absent c.args.self.now.limit,
+      );
+    }
 
 pub invariant_of-self : goal.invariant_of-self
 invariant_of-self g c =

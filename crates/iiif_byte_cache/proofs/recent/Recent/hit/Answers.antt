@@ -1,4 +1,4 @@
-use Rattle.std.proofs.Common.{sym, ap, ◌∙◌, Some, option_map, ◌≡◌, true}
+use Rattle.std.proofs.Common.{sym, ap, ◌∙◌, Some, option_map, ◌≡◌, true, rules}
 use Rattle.iiif_tables.specs.Cache.{bytes_of}
 use Rattle.iiif_outcome.specs.declared.entry.Entry.{Entry}
 use Rattle.iiif_outcome.specs.Views.{kept_of, is_of, is_known_for, entry_size}
@@ -18,30 +18,35 @@ invariant_of-self g c =
           (λ k h. ap (is_known_for g.K.PartialEq.eq k) c.share.ensures.same_known ∙ h) c.args.self.now.of_key;
     }
 
-pub returns-in_err-share-in-Some-clause-rows : goal.returns-in_err-share-in-Some-clause-rows
-returns-in_err-share-in-Some-clause-rows g c =
-    set_value-turned kept_of (g.K.PartialEq.eq c.args.key.now) c.args.self.now.list.entries _ _ (sym c.in-Some.ensures.value)
-    (sym c.share.ensures.same)
+pub returns-in_err-share-in-Some : goal.returns-in_err-share-in-Some
+returns-in_err-share-in-Some g c = record {
+  told = search rules;
+  of_key = search rules;
+  rows = set_value-turned kept_of (g.K.PartialEq.eq c.args.key.now) c.args.self.now.list.entries _ _ (sym c.in-Some.ensures.value)
+      (sym c.share.ensures.same);
+  same = search rules;
+}
 
-pub returns-in_ok-share-in-Some-clause-told : goal.returns-in_ok-share-in-Some-clause-told
-returns-in_ok-share-in-Some-clause-told g c =
-    ap Some c.in_ok-share-in-Some.ensures.shared ∙ ap (option_map kept_of) c.in-Some.ensures.value ∙
-    sym (lookup-turned kept_of (g.K.PartialEq.eq c.args.key.now) c.args.self.now.list.entries)
-
-pub returns-in_ok-share-in-Some-clause-rows : goal.returns-in_ok-share-in-Some-clause-rows
-returns-in_ok-share-in-Some-clause-rows g c =
-    set_value-turned kept_of (g.K.PartialEq.eq c.args.key.now) c.args.self.now.list.entries _ _ (sym c.in-Some.ensures.value)
-    (sym c.share.ensures.same)
-
-pub returns-in-None-clause-told : goal.returns-in-None-clause-told
-returns-in-None-clause-told g c =
-    ap (option_map kept_of) c.in-None.ensures.value ∙
-    sym (lookup-turned kept_of (g.K.PartialEq.eq c.args.key.now) c.args.self.now.list.entries)
-
-pub returns-in_ok-share-in-Some-clause-of_key : goal.returns-in_ok-share-in-Some-clause-of_key
-returns-in_ok-share-in-Some-clause-of_key g c =
+pub returns-in_ok-share-in-Some : goal.returns-in_ok-share-in-Some
+returns-in_ok-share-in-Some g c =
     let P : g.row.K.Denot × Entry g.row.K.Denot g.row.J.Denot g.row.K-Value.Denot g.K.CacheKey g.K.PartialEq g.K.Hash g.J.System → Type 0 =
     λ e. is_of g.K.PartialEq.eq e.0 e.1 ≡ true in
-    ap (is_known_for g.K.PartialEq.eq c.args.key.now) c.in_ok-share-in-Some.ensures.shared_known ∙
-    (all-lookup P g.K.PartialEq.eq g.met.K.CacheKey.identical c.args.key.now c.args.self.now.list.entries _
-    (sym c.in-Some.ensures.value) c.args.self.now.of_key)
+    record {
+      told = ap Some c.in_ok-share-in-Some.ensures.shared ∙ ap (option_map kept_of) c.in-Some.ensures.value ∙
+          sym (lookup-turned kept_of (g.K.PartialEq.eq c.args.key.now) c.args.self.now.list.entries);
+      of_key = ap (is_known_for g.K.PartialEq.eq c.args.key.now) c.in_ok-share-in-Some.ensures.shared_known ∙
+          (all-lookup P g.K.PartialEq.eq g.met.K.CacheKey.identical c.args.key.now c.args.self.now.list.entries _
+          (sym c.in-Some.ensures.value) c.args.self.now.of_key);
+      rows = set_value-turned kept_of (g.K.PartialEq.eq c.args.key.now) c.args.self.now.list.entries _ _ (sym c.in-Some.ensures.value)
+          (sym c.share.ensures.same);
+      same = search rules;
+    }
+
+pub returns-in-None : goal.returns-in-None
+returns-in-None g c = record {
+  told = ap (option_map kept_of) c.in-None.ensures.value ∙
+      sym (lookup-turned kept_of (g.K.PartialEq.eq c.args.key.now) c.args.self.now.list.entries);
+  of_key = tt;
+  rows = search rules;
+  same = search rules;
+}

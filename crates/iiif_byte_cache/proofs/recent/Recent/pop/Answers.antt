@@ -1,4 +1,4 @@
-use Rattle.std.proofs.Common.{sym, ◌∙◌, ap, arith, option_map, ◌≡◌, true}
+use Rattle.std.proofs.Common.{sym, ◌∙◌, ap, arith, option_map, ◌≡◌, true, rules}
 use Rattle.iiif_outcome.specs.Views.{kept_of, is_of, entry_size}
 use Rattle.iiif_byte_cache.proofs.Fitting.{all-less}
 use Rattle.iiif_byte_cache.proofs.Sums.{bytes_popped, oldest-rows, but_oldest-rows}
@@ -27,11 +27,12 @@ invariant_of-self-2 g c = record {
       c.args.self.now.of_key);
 }
 
-pub returns-clause-oldest : goal.returns-clause-oldest
-returns-clause-oldest g c =
-    ap (option_map (λ e. (e.0, kept_of e.1))) c.in_ok-key.ensures.value ∙
-    sym (oldest-rows kept_of (entry_size g.K.CacheKey.key_bytes g.K.CacheKey.val_bytes) c.args.self.now.list.entries)
-
-pub returns-clause-rows : goal.returns-clause-rows
-returns-clause-rows g c = rw c.pop_lru.ensures.entries
-    (sym (but_oldest-rows kept_of (entry_size g.K.CacheKey.key_bytes g.K.CacheKey.val_bytes) c.args.self.now.list.entries))
+pub returns : goal.returns
+returns g c = record {
+  oldest = ap (option_map (λ e. (e.0, kept_of e.1))) c.in_ok-key.ensures.value ∙
+      sym (oldest-rows kept_of (entry_size g.K.CacheKey.key_bytes g.K.CacheKey.val_bytes) c.args.self.now.list.entries);
+  rows = rw c.pop_lru.ensures.entries
+      (sym (but_oldest-rows kept_of (entry_size g.K.CacheKey.key_bytes g.K.CacheKey.val_bytes) c.args.self.now.list.entries));
+  bytes = omega arith;
+  room = search rules;
+}

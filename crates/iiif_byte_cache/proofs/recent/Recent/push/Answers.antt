@@ -1,4 +1,4 @@
-use Rattle.std.proofs.Common.{Some, None, ◌≡◌, ◌∙◌, arith, true}
+use Rattle.std.proofs.Common.{Some, None, ◌≡◌, ◌∙◌, arith, true, refl, rules}
 use Rattle.iiif_outcome.specs.declared.entry.Entry.{Entry}
 use Rattle.iiif_outcome.specs.Views.{kept_of, is_of, entry_size}
 use Rattle.iiif_byte_cache.proofs.Fitting.{all-put}
@@ -73,16 +73,37 @@ invariant_of-self-in-Ok-None g c =
           (all-put P g.K.PartialEq.eq g.met.K.CacheKey.identical list c.args.key c.args.entry c.requires.of_key c.args.self.now.of_key);
     }
 
-pub returns-in-Ok-Some-clause-ok : goal.returns-in-Ok-Some-clause-ok
-returns-in-Ok-Some-clause-ok g c =
-    rw c.in-Ok-Some.ensures.entries (rows_pushed kept_of (entry_size g.K.CacheKey.key_bytes g.K.CacheKey.val_bytes) g.K.PartialEq.eq
-    g.met.K.CacheKey.identical c.args.self.now.list c.args.key c.args.entry)
+pub returns-in-Ok-Some : goal.returns-in-Ok-Some
+returns-in-Ok-Some g c = record {
+  ok = rw c.in-Ok-Some.ensures.entries (rows_pushed kept_of (entry_size g.K.CacheKey.key_bytes g.K.CacheKey.val_bytes) g.K.PartialEq.eq
+      g.met.K.CacheKey.identical c.args.self.now.list c.args.key c.args.entry);
+  bytes = omega arith;
+  err = tt;
+  same = tt;
+  room = search rules;
+  back = tt;
+  absent = tt;
+}
 
-pub returns-in-Ok-None-clause-ok : goal.returns-in-Ok-None-clause-ok
-returns-in-Ok-None-clause-ok g c =
-    rw c.in-Ok-None.ensures.entries (rows_pushed kept_of (entry_size g.K.CacheKey.key_bytes g.K.CacheKey.val_bytes) g.K.PartialEq.eq
-    g.met.K.CacheKey.identical c.args.self.now.list c.args.key c.args.entry)
+pub returns-in-Ok-None : goal.returns-in-Ok-None
+returns-in-Ok-None g c = record {
+  ok = rw c.in-Ok-None.ensures.entries (rows_pushed kept_of (entry_size g.K.CacheKey.key_bytes g.K.CacheKey.val_bytes) g.K.PartialEq.eq
+      g.met.K.CacheKey.identical c.args.self.now.list c.args.key c.args.entry);
+  bytes = omega arith;
+  err = tt;
+  same = tt;
+  room = search rules;
+  back = tt;
+  absent = tt;
+}
 
-pub returns-in-Err-clause-absent : goal.returns-in-Err-clause-absent
-returns-in-Err-clause-absent g c =
-    is_some-turned kept_of (g.K.PartialEq.eq c.args.key) c.args.self.now.list.entries ∙ not_there _ c.in-Err.ensures.succeeds
+pub returns-in-Err : goal.returns-in-Err
+returns-in-Err g c = record {
+  ok = tt;
+  bytes = tt;
+  err = search rules;
+  same = refl;
+  room = search rules;
+  back = search rules;
+  absent = is_some-turned kept_of (g.K.PartialEq.eq c.args.key) c.args.self.now.list.entries ∙ not_there _ c.in-Err.ensures.succeeds;
+}

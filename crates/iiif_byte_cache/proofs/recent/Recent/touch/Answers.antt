@@ -1,4 +1,4 @@
-use Rattle.std.proofs.Common.{sym, ◌∙◌, ◌≡◌, true}
+use Rattle.std.proofs.Common.{sym, ◌∙◌, ◌≡◌, true, rules}
 use Rattle.iiif_outcome.specs.declared.entry.Entry.{Entry}
 use Rattle.iiif_outcome.specs.Views.{kept_of, is_of, entry_size}
 use Rattle.iiif_byte_cache.proofs.Fitting.{all-promoted}
@@ -17,11 +17,11 @@ invariant_of-self g c =
       of_key = rw c.promote.ensures.entries (all-promoted P test c.args.self.now.list.entries c.args.self.now.of_key);
     }
 
-pub returns-clause-rows : goal.returns-clause-rows
-returns-clause-rows g c =
+pub returns : goal.returns
+returns g c =
     let test = g.K.PartialEq.eq c.args.key.now in
-    rw c.promote.ensures.entries (sym (promoted-turned kept_of test c.args.self.now.list.entries))
-
-pub returns-clause-there : goal.returns-clause-there
-returns-clause-there g c = c.promote.ensures.value ∙
-    sym (is_some-turned kept_of (g.K.PartialEq.eq c.args.key.now) c.args.self.now.list.entries)
+    record {
+      there = c.promote.ensures.value ∙ sym (is_some-turned kept_of test c.args.self.now.list.entries);
+      rows = rw c.promote.ensures.entries (sym (promoted-turned kept_of test c.args.self.now.list.entries));
+      same = search rules;
+    }
