@@ -4,7 +4,7 @@ ghost use Rattle.std.specs.Prelude.{◌≡◌, ℕ, ◌+◌, ◌-◌, ◌*◌, �
 ghost use Rattle.iiif_pixel.specs.Geometry.{LiesIn};
 ghost use Rattle.iiif_pixel.specs.TurnPlaces.{turned_dim};
 ghost use Rattle.iiif_keys.specs.Blocks.{square};
-ghost use Rattle.iiif_bands.specs.Bands.{places_from, AreBands, IsPlanned, ListsItems};
+ghost use Rattle.iiif_bands.specs.Bands.{band_rect, places_from, AreBands, IsPlanned, ListsItems};
 ghost use Rattle.iiif_bands.specs.Code.{block_met, grown_met, one_if, tile_met, BlockIsSmall, TileIsSmall, TileReaches};
 
 use iiif_area::{meets, part_of, places_of};
@@ -155,6 +155,20 @@ pub fn band_in(
     }
 }
 
+/// Band `n` of a turned result that is cut into bands of `rows`.
+fn band_rect(dim: Dim, rows: u32, n: u32) -> Rect
+    requires { n * rows ≤ dim.h }
+    ensures { result ≡ band_rect dim rows n }
+{
+    let y = n * rows;
+    Rect {
+        x: 0,
+        y,
+        w: dim.w,
+        h: rows.min(dim.h - y),
+    }
+}
+
 /// The turned result cut from the top into bands of `rows`, the last perhaps of fewer; each lists, in the plan's order, each
 /// item that has a place of it and no other. The only error is want of memory.
 pub fn bands(
@@ -172,13 +186,7 @@ pub fn bands(
     let count = dim.h.div_ceil(rows);
     let mut bands = Vec::with_capacity(alloc, count as usize)?;
     for n in 0..count {
-        let y = n * rows;
-        let rect = Rect {
-            x: 0,
-            y,
-            w: dim.w,
-            h: rows.min(dim.h - y),
-        };
+        let rect = band_rect(dim, rows, n);
         bands.push(band_in(alloc, resolved, plan, rect)?)?;
     }
     Ok(bands)

@@ -61,6 +61,18 @@ fn is_scaled_up(resolved: &Resolved) -> bool
     resolved.size.w > resolved.rect.w || resolved.size.h > resolved.rect.h
 }
 
+/// The key of the tile in a column and a row.
+fn tile_at(name: &Name, edge: u32, tx: u32, ty: u32) -> Result<TileKey, NoMemory>
+    ensures { IfOk result (λ key. key ≡ tile_at name.now edge tx ty) }
+{
+    Ok(TileKey {
+        name: name.copy()?,
+        edge,
+        tx,
+        ty,
+    })
+}
+
 /// The tiles that have a place of the region.
 fn tiles(alloc: Global, name: &Name, edge: u32, region: Rect) -> Result<Vec<TileKey>, NoMemory>
     requires edge { IsEdge edge }
@@ -72,12 +84,7 @@ fn tiles(alloc: Global, name: &Name, edge: u32, region: Rect) -> Result<Vec<Tile
     let mut keys = Vec::with_capacity(alloc, squares.count())?;
     for ty in squares.top..squares.bottom {
         for tx in squares.left..squares.right {
-            keys.push(TileKey {
-                name: name.copy()?,
-                edge,
-                tx,
-                ty,
-            })?;
+            keys.push(tile_at(name, edge, tx, ty)?)?;
         }
     }
     Ok(keys)

@@ -10,9 +10,8 @@ loop-ty-init c = c.in_ok-keys.ensures.items ∙ sym (before_first (tile_at c.arg
 pub loop-tx-preserved : goal.loop-tx-preserved
 loop-tx-preserved c =
     let at = tile_at c.args.name.now c.args.edge in
-    let same = (λ (name : List ℕ). tile_at name c.args.edge c.loop-tx.tx c.loop-ty.ty) in
     before_pushed at c.met-squares.result c.loop-tx.tx c.loop-ty.ty _ _ _ c.loop-tx.invariant c.in_ok-push.ensures.items
-    (ap same c.in_ok-copy.ensures) c.loop-tx.auto.tx
+    c.in_ok-tile_at.ensures c.loop-tx.auto.tx
 
 pub loop-ty-preserved : goal.loop-ty-preserved
 loop-ty-preserved c =
