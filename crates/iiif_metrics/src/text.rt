@@ -6,6 +6,7 @@ ghost use Rattle.iiif_metrics.specs.Exposition.{answer_family, cache_families, f
 ghost use Rattle.iiif_metrics.specs.Exposition.{help_line, kind_word, listener_samples, open_family, refused_family, row_family};
 ghost use Rattle.iiif_metrics.specs.Exposition.{sample_line, sample_view, server_families, single, status_samples, type_line};
 ghost use Rattle.iiif_metrics.specs.Page.{text_of};
+ghost use Rattle.iiif_metrics.specs.declared.text.Kind.TheVariants as Kind;
 
 use crate::counts::Counts;
 use crate::links::{push_links, push_seconds};
@@ -44,10 +45,24 @@ pub struct Sample<'a> {
     pub value: u64,
 }
 
-/// A row of this type.
-fn row_of(kind: Kind, name: &'static str, help: &'static str, value: u64) -> Row<'static>
-    ensures { (front : List ℕ) → row_family front result ≡ single (front ++ name.now) help.now kind value }
+/// What only grows.
+fn counter(name: &'static str, help: &'static str, value: u64) -> Row<'static>
+    ensures { (front : List ℕ) → row_family front result ≡ single (front ++ name.now) help.now Kind.Counter value }
 {
+    let kind = Kind::Counter;
+    Row {
+        name,
+        help,
+        kind,
+        value,
+    }
+}
+
+/// What grows and falls.
+fn gauge(name: &'static str, help: &'static str, value: u64) -> Row<'static>
+    ensures { (front : List ℕ) → row_family front result ≡ single (front ++ name.now) help.now Kind.Gauge value }
+{
+    let kind = Kind::Gauge;
     Row {
         name,
         help,
@@ -133,67 +148,33 @@ fn cache_rows(cache: &CacheMetrics) -> [Row<'static>; 11]
 {
     let book = cache.book;
     [
-        row_of(
-            Kind::Counter,
-            "gets_total",
-            "Calls that asked for a value.",
-            book.gets,
-        ),
-        row_of(
-            Kind::Counter,
-            "hits_total",
-            "Calls that met a kept value.",
-            book.hits,
-        ),
-        row_of(
-            Kind::Counter,
+        counter("gets_total", "Calls that asked for a value.", book.gets),
+        counter("hits_total", "Calls that met a kept value.", book.hits),
+        counter(
             "joins_total",
             "Calls that joined a load in flight.",
             book.joins,
         ),
-        row_of(
-            Kind::Counter,
-            "leads_total",
-            "Calls that began a load.",
-            book.leads,
-        ),
-        row_of(
-            Kind::Counter,
+        counter("leads_total", "Calls that began a load.", book.leads),
+        counter(
             "again_hits_total",
             "Loads whose leader found the value kept by then.",
             book.again_hits,
         ),
-        row_of(
-            Kind::Counter,
-            "loads_total",
-            "Loads that were made.",
-            book.loads,
-        ),
-        row_of(
-            Kind::Counter,
+        counter("loads_total", "Loads that were made.", book.loads),
+        counter(
             "peer_total",
             "Loads whose value came from another node.",
             book.peer,
         ),
-        row_of(
-            Kind::Counter,
-            "landed_total",
-            "Loads that ended.",
-            book.landed,
-        ),
-        row_of(
-            Kind::Counter,
+        counter("landed_total", "Loads that ended.", book.landed),
+        counter(
             "faults_total",
             "Loads that ended with a fault.",
             book.faults,
         ),
-        row_of(
-            Kind::Gauge,
-            "bytes",
-            "Bytes of kept values and their keys.",
-            cache.bytes,
-        ),
-        row_of(Kind::Gauge, "entries", "Kept values.", cache.entries),
+        gauge("bytes", "Bytes of kept values and their keys.", cache.bytes),
+        gauge("entries", "Kept values.", cache.entries),
     ]
 }
 
@@ -202,14 +183,12 @@ fn held_rows(held: &HeldMetrics) -> [Row<'static>; 2]
     ensures { (front : List ℕ) → map (row_family front) result ≡ held_families front held.now }
 {
     [
-        row_of(
-            Kind::Gauge,
+        gauge(
             "bytes",
             "Bytes of the images' files that are held in memory.",
             held.bytes,
         ),
-        row_of(
-            Kind::Gauge,
+        gauge(
             "images",
             "Images whose files are held in memory.",
             held.images,
@@ -222,14 +201,12 @@ fn server_rows(counts: &Counts) -> [Row<'static>; 2]
     ensures { (front : List ℕ) → map (row_family front) result ≡ server_families front counts.now }
 {
     [
-        row_of(
-            Kind::Counter,
+        counter(
             "answers_cut_total",
             "Answers that were cut off.",
             counts.cut,
         ),
-        row_of(
-            Kind::Counter,
+        counter(
             "answer_bytes_total",
             "Bytes of answers and their heads.",
             counts.bytes,

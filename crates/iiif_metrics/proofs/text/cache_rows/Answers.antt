@@ -2,15 +2,15 @@ use Rattle.iiif_metrics.proofs.text.cache_rows.Goals as goal
 
 pub returns : goal.returns
 returns c = λ front. rw (
-  c.row_of.ensures front,
-  c.row_of-2.ensures front,
-  c.row_of-3.ensures front,
-  c.row_of-4.ensures front,
-  c.row_of-5.ensures front,
-  c.row_of-6.ensures front,
-  c.row_of-7.ensures front,
-  c.row_of-8.ensures front,
-  c.row_of-9.ensures front,
-  c.row_of-10.ensures front,
-  c.row_of-11.ensures front,
+  c.counter.ensures front,
+  c.counter-2.ensures front,
+  c.counter-3.ensures front,
+  c.counter-4.ensures front,
+  c.counter-5.ensures front,
+  c.counter-6.ensures front,
+  c.counter-7.ensures front,
+  c.counter-8.ensures front,
+  c.counter-9.ensures front,
+  c.gauge.ensures front,
+  c.gauge-2.ensures front,
 )
