@@ -123,7 +123,7 @@ silent_at bytes keeps honest gave s items reader writer _ _ _ rest h none begins
     absurd (unfinished.not_whole h rest begins.reads)
 silent_at bytes keeps honest gave s items reader writer _ _ _ rest h none begins (no_head n input text faults sent) =
     absurd (not_bad input h rest begins faults)
-silent_at bytes keeps honest gave s items reader writer _ _ _ rest h none begins (no_memory n input text sent) =
+silent_at bytes keeps honest gave s items reader writer _ _ _ rest h none begins (no_memory n input text may sent) =
     closing_by_writer writer want_of_memory text none sent
 
 pub silent : {S : Type 0} (bytes : S → List ℕ) (keeps : S → Type 0) (honest : Bool) (gave : S → ReadFault → Bool) (reader writer : Type 0) →

@@ -3,7 +3,7 @@ use Rattle.std.specs.Prelude.{◌≡◌, ℕ, ◌+◌, ◌⊎◌, ◌==◌, ◌|
 use Rattle.httparse.specs.Grammar.{RequestHead}
 use Rattle.iiif_http_front.specs.Reading.{Faults, IsUnfinished}
 use Rattle.iiif_http_front.specs.RequestHeads.{closes, BeginsWithCall}
-use Rattle.iiif_http_front.specs.declared.call.HeadFault.TheVariants.{Bad, TooLong, Cut}
+use Rattle.iiif_http_front.specs.declared.call.HeadFault.TheVariants.{Bad, TooLong, Cut, NoMemory}
 use Rattle.iiif_request.specs.declared.request.Refusal.TheVariants as refusal
 use Rattle.iiif_source.specs.declared.ReadFault.{ReadFault}
 use Rattle.iiif_answers.specs.Allowed.{Allowed}
@@ -42,6 +42,11 @@ closing r = text_of (written (Whole true) r)
 abbrev pub IsClosing : Type 0 → Response → List ℕ → Type 0
 IsClosing writer r text = (text ≡ closing r) ⊎ (writer × IsStrictPrefix text (closing r))
 
+-- Memory may be lacking before the n-th call is answered: as the connection begins, for a call that came, or for the answer to a head
+-- that is at fault. Where the input just ends, or the reader failed, nothing is said of memory.
+abbrev pub MayLackMemory : ℕ → List ℕ → Type 0
+MayLackMemory n input = (n ≡ 1) ⊎ Faults NoMemory input ⊎ Faults Bad input ⊎ Faults TooLong input
+
 -- Stream t n input output: the n-th call is the next, at the front of the input, and output is what is yet written.
 -- Each end has its cause: where the reader failed, no call is left of what came.
 pub data Stream (t : Terms) : ℕ → List ℕ → List ℕ → Type 0 where
@@ -56,7 +61,7 @@ pub data Stream (t : Terms) : ℕ → List ℕ → List ℕ → Type 0 where
   reader_failed : (n : ℕ) (input : List ℕ) → t.reader → IsUnfinished input → Stream t n input []
   no_head : (n : ℕ) (input text : List ℕ) → (Faults Bad input ⊎ Faults TooLong input)
       → IsClosing t.writer (refusal_response refusal.Head) text → Stream t n input text
-  no_memory : (n : ℕ) (input text : List ℕ) → IsClosing t.writer want_of_memory text → Stream t n input text
+  no_memory : (n : ℕ) (input text : List ℕ) → MayLackMemory n input → IsClosing t.writer want_of_memory text → Stream t n input text
 
 -- The terms of a server: each call is answered as the rule of answers allows.
 abbrev pub terms : {S : Type 0} → (S → List ℕ) → (S → Type 0) → Bool → (S → ReadFault → Bool) → Settings → List (Item S) → Type 0 → Type 0 →

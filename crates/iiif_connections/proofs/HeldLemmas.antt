@@ -173,7 +173,7 @@ module _ {S : Type 0} (bytes : S → List ℕ) (keeps : S → Type 0) (gave : S 
       stream n input _ (head_cut _ _ is) = head_cut n input is
       stream n input _ (reader_failed _ _ failed is) = reader_failed n input failed is
       stream n input output (no_head _ _ _ is sent) = no_head n input output is sent
-      stream n input output (no_memory _ _ _ sent) = no_memory n input output sent
+      stream n input output (no_memory _ _ _ is sent) = no_memory n input output is sent
 
 -- ---- Images that are held in memory
 

@@ -118,7 +118,7 @@ where
             return false;
         };
         self.node
-            .serve_watched(rt, alloc, &mut passes, reader, out, self.watcher);
+            .serve_stream(rt, alloc, &mut passes, reader, out, self.watcher);
         give_back(rt, self.node, passes);
         true
     }

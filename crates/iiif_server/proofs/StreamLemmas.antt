@@ -17,7 +17,7 @@ use Rattle.iiif_answers.specs.Responses.{Response, refusal_response, want_of_mem
 use Rattle.iiif_answers.specs.Sent.{answer_of, Answer, EndsWith, IsSent}
 use Rattle.iiif_answers.specs.Settings.{Settings}
 use Rattle.iiif_answers.specs.Streams.{Terms, Stream, IsCame, IsConnection, terms, call_limit, closes_after, IsClosing, goes_on, closed}
-use Rattle.iiif_answers.specs.Streams.{cut_off, ended, head_cut, reader_failed, no_memory, no_head}
+use Rattle.iiif_answers.specs.Streams.{cut_off, ended, head_cut, reader_failed, no_memory, no_head, MayLackMemory}
 use Rattle.iiif_answers.specs.declared.answer.Sent.{Sent}
 use Rattle.iiif_answers.specs.declared.answer.Cut.{Cut}
 use Rattle.iiif_answers.specs.declared.message.Message.{Message}
@@ -43,10 +43,10 @@ served_partly t n input rest text h close begins e part =
     cut_off n input rest text h begins (subst (λ (c : Bool). t.part h c text) e part)
 
 -- the answer to no head, or that to want of memory
-closes_for_head : (t : Terms) (n : ℕ) (input text : List ℕ) (r : Response) → CloseFor t.writer r text
+closes_for_head : (t : Terms) (n : ℕ) (input text : List ℕ) (r : Response) → MayLackMemory n input → CloseFor t.writer r text
     → (IsClosing t.writer r text → Stream t n input text) → Stream t n input text
-closes_for_head t n input text r (inl sent) to = to sent
-closes_for_head t n input text r (inr sent) to = no_memory n input text sent
+closes_for_head t n input text r may (inl sent) to = to sent
+closes_for_head t n input text r may (inr sent) to = no_memory n input text may sent
 
 -- the answer to no head, or that to want of memory, was sent
 pub head_closing : {W E : Type 0} (a : Response) (contents : W → Option (List ℕ)) (fails : W → W → Type 0) (old new : W)
@@ -150,7 +150,7 @@ next_bad t n (Some input) left old new answers sent = (
   (
     input,
     inl refl,
-    closes_for_head t n input sent.0 (refusal_response refusal.Head) sent.2
+    closes_for_head t n input sent.0 (refusal_response refusal.Head) (inr (inr (inl answers.0))) sent.2
         (λ is. no_head n input sent.0 (inl answers.0) is),
   ),
 )
@@ -164,16 +164,27 @@ next_too_long t n (Some input) left old new answers sent = (
   (
     input,
     inl refl,
-    closes_for_head t n input sent.0 (refusal_response refusal.Head) sent.2
+    closes_for_head t n input sent.0 (refusal_response refusal.Head) (inr (inr (inr answers.0))) sent.2
         (λ is. no_head n input sent.0 (inr answers.0) is),
   ),
 )
 
 -- that to want of memory was sent
-pub next_no_memory : (t : Terms) (n : ℕ) (input old new : Option (List ℕ))
+pub next_no_memory : (t : Terms) (n : ℕ) (input old new : Option (List ℕ)) → IfSome input (MayLackMemory n)
     → ((text : List ℕ) × Appends old new text × IsClosing t.writer want_of_memory text) → IfSome input (Ends t n old new)
-next_no_memory t n None old new sent = tt
-next_no_memory t n (Some input) old new sent = (sent.0, sent.1, (input, inl refl, no_memory n input sent.0 sent.2))
+next_no_memory t n None old new may sent = tt
+next_no_memory t n (Some input) old new may sent = (sent.0, sent.1, (input, inl refl, no_memory n input sent.0 may sent.2))
+
+-- a call came for which memory is lacking
+pub lacks_for_a_call : (n : ℕ) (input left : Option (List ℕ)) → IfSome input (λ i. Answers i left (Err fault.NoMemory)) →
+    IfSome input (MayLackMemory n)
+lacks_for_a_call n None left answers = tt
+lacks_for_a_call n (Some input) left answers = inr (inl answers.0)
+
+-- the connection begins
+pub lacks_at_start : (input : Option (List ℕ)) → IfSome input (MayLackMemory 1)
+lacks_at_start None = tt
+lacks_at_start (Some input) = inl refl
 
 -- ---- A connection from its first call on
 

@@ -136,35 +136,8 @@ impl<
     }
 
     /// Answers the calls of a connection in order, until its input ends, a call closes it, its 1,000th call was answered, an
-    /// answer is cut off, or a head is at fault.
-    pub fn serve_stream<I: Inlet + Drop, W: Outlet>(
-        &self,
-        rt: &R,
-        alloc: Global,
-        passes: &mut [Passes<J>],
-        reader: I,
-        out: &mut W,
-    )
-        requires { 0 < length passes.old }
-        // Where the bytes that the reader has left are known, the output is that for what came of them: all, or a first part where
-        // the reader failed.
-        ensures serves { IfSome (I.remaining reader) (λ input. (output : List ℕ) × Appends (W.contents out.old) (W.contents out.new) output
-            × ((came : List ℕ) × IsCame ((before after : I) × I.fails before after) input came
-            × IsConnection (terms S.bytes S.keeps J.honest S.gave self.now.settings self.now.items
-            ((before after : I) × I.fails before after) ((before : W) × W.fails before out.new))
-            came output)) }
-
-        // Where they are not, as at a socket, it is that for the bytes that came.
-        ensures came { (came : List ℕ) × (output : List ℕ) × Appends (W.contents out.old) (W.contents out.new) output
-            × IsConnection (terms S.bytes S.keeps J.honest S.gave self.now.settings self.now.items
-            ((before after : I) × I.fails before after) ((before : W) × W.fails before out.new))
-            came output }
-    {
-        self.serve_watched(rt, alloc, passes, reader, out, &())
-    }
-
-    /// Answers the calls of a connection as [`Node::serve_stream`] does, and tells the watch of each answer once it ended, in order.
-    pub fn serve_watched<I: Inlet + Drop, W: Outlet, V: Watch<R>>(
+    /// answer is cut off, or a head is at fault. The watch is told of each answer once it ended, in order; `()` watches nothing.
+    pub fn serve_stream<I: Inlet + Drop, W: Outlet, V: Watch<R>>(
         &self,
         rt: &R,
         alloc: Global,

@@ -82,7 +82,7 @@ fn stream_of<R: Threads + Wait + Clock + Sync, J: System + Send + Sync, V: Watch
     if passes.is_empty() {
         return None;
     }
-    node.serve_watched(rt, alloc, passes, Parts::of(input), out, watch);
+    node.serve_stream(rt, alloc, passes, Parts::of(input), out, watch);
     counted(out.taken.len(), 0)
 }
 

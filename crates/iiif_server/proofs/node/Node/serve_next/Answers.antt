@@ -1,9 +1,9 @@
-use Rattle.std.proofs.Common.{◌≡◌, ◌⊎◌, ◌++◌, Err, Some, ap, rules, ⊎_elim}
+use Rattle.std.proofs.Common.{◌≡◌, ◌⊎◌, ◌++◌, Err, Some, ap, inl, inr, rules, ⊎_elim}
 use Rattle.iiif_http_front.specs.Reading.{input_of}
 use Rattle.iiif_http_front.specs.declared.call.HeadFault.TheVariants as HeadFault
 use Rattle.iiif_answers.specs.Streams.{terms}
 use Rattle.iiif_server.proofs.StreamLemmas.{next_call, next_none, next_cut, next_failed, next_failed_here, next_bad, next_too_long}
-use Rattle.iiif_server.proofs.StreamLemmas.{next_no_memory}
+use Rattle.iiif_server.proofs.StreamLemmas.{next_no_memory, lacks_for_a_call}
 use Rattle.iiif_server.proofs.node.Node.serve_next.Goals as goal
 
 pub returns-in-Ok-None-clause-serves : goal.returns-in-Ok-None-clause-serves
@@ -39,7 +39,9 @@ returns-in-Err-NoMemory-clause-serves g c =
     next_no_memory (terms g.S.Source.bytes g.S.Source.keeps g.J.System.honest g.S.Source.gave c.args.self.now.settings c.args.self.now.items
     ((a b : g.row.I.Denot) × g.I.Inlet.fails a b) ((b : g.row.W.Denot) × g.W.Outlet.fails b c.close_for_memory-outcome.new.out))
     c.args.n (input_of g.I.Read.remaining c.args.heads.now) (g.W.Write.contents c.args.out.now)
-    (g.W.Write.contents c.close_for_memory-outcome.new.out) c.close_for_memory-outcome.ensures
+    (g.W.Write.contents c.close_for_memory-outcome.new.out)
+    (lacks_for_a_call c.args.n (input_of g.I.Read.remaining c.args.heads.now) (input_of g.I.Read.remaining c.read_head.new.self)
+    (rw c.in-Err-NoMemory.field-0-is at c.in-Err-NoMemory.ensures.answers c.requires.no_fault)) c.close_for_memory-outcome.ensures
 
 pub returns-in-Err-Cut-clause-serves : goal.returns-in-Err-Cut-clause-serves
 returns-in-Err-Cut-clause-serves g c =
@@ -104,12 +106,13 @@ returns-in-Err-Bad-clause-came g c =
 
 pub returns-in-Err-NoMemory-clause-came : goal.returns-in-Err-NoMemory-clause-came
 returns-in-Err-NoMemory-clause-came g c =
+    let came = (rw c.in-Err-NoMemory.field-0-is at c.in-Err-NoMemory.ensures.came c.requires.no_fault) in
     let sent = next_no_memory (terms g.S.Source.bytes g.S.Source.keeps g.J.System.honest g.S.Source.gave c.args.self.now.settings
     c.args.self.now.items ((a b : g.row.I.Denot) × g.I.Inlet.fails a b)
     ((b : g.row.W.Denot) × g.W.Outlet.fails b c.close_for_memory-outcome.new.out))
-    c.args.n (Some (c.args.heads.now.unread ++ (c.in-Err-NoMemory.ensures.came c.requires.no_fault).0)) (g.W.Write.contents c.args.out.now)
-    (g.W.Write.contents c.close_for_memory-outcome.new.out) c.close_for_memory-outcome.ensures in
-    ((c.in-Err-NoMemory.ensures.came c.requires.no_fault).0, sent.0, sent.1, sent.2)
+    c.args.n (Some (c.args.heads.now.unread ++ came.0)) (g.W.Write.contents c.args.out.now)
+    (g.W.Write.contents c.close_for_memory-outcome.new.out) (inr (inl came.1.0)) c.close_for_memory-outcome.ensures in
+    (came.0, sent.0, sent.1, sent.2)
 
 pub returns-in-Err-Cut-clause-came : goal.returns-in-Err-Cut-clause-came
 returns-in-Err-Cut-clause-came g c =

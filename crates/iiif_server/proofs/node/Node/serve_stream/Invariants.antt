@@ -2,7 +2,7 @@ use Rattle.std.proofs.Common.{◌≡◌, ◌≤◌, ◌-◌, None}
 use Rattle.iiif_http_front.specs.Reading.{input_of}
 use Rattle.iiif_answers.specs.Streams.{terms}
 use Rattle.iiif_server.proofs.StreamLemmas.{CameSo, GoesOnSo}
-use Rattle.iiif_server.proofs.node.Node.serve_watched.Given as goal
+use Rattle.iiif_server.proofs.node.Node.serve_stream.Given as goal
 
 abbrev pub invariant-loop-alloc : goal.invariant-loop-alloc
 invariant-loop-alloc g l =
