@@ -127,8 +127,7 @@ def reads(program, path):
 
 
 def one_read(program, path):
-    """Each read of a file of whole tiles failed alone: no run may end as if none had. An overview is made before its first band is sent.
-    What is read ahead of a file in strips, or of tiles that the picture's side cuts, is another matter: there a tile's own rows are read."""
+    """Each read of a file of whole tiles failed alone: no run may end as if none had. An overview is made before its first band is sent."""
     with tempfile.TemporaryDirectory() as room:
         large = "a=" + os.path.join(room, "tiles.tif")
         picture(large[2:], 320, 320, edge=64)

@@ -1,13 +1,16 @@
 //! What may be wrong with a line.
 
 use iiif_pixel::NoMemory;
+use thiserror::Error;
 
 /// What is wrong with a line.
-#[derive(Clone, Copy, Debug, PartialEq, Eq)]
+#[derive(Clone, Copy, Debug, PartialEq, Eq, Error)]
 pub enum LineFault {
     /// It is no setting and no event, or stands where it can't.
+    #[error("it is no setting and no event, or stands where it can't")]
     Bad,
     /// Memory was refused.
+    #[error("out of memory")]
     NoMemory,
 }
 

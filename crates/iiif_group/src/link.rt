@@ -5,15 +5,19 @@ ghost use Rattle.iiif_keys.specs.Shapes.{HasPicture};
 
 use iiif_keys::{CacheKey, Shape, System};
 use iiif_peer_wire::WireFault;
+use thiserror::Error;
 
 /// Why a link gave no value.
-#[derive(Clone, Copy, Debug, PartialEq, Eq)]
+#[derive(Clone, Copy, Debug, PartialEq, Eq, Error)]
 pub enum LinkFault {
     /// The ask wasn't written, or no reply of the key was read. Where there is no connection it is `Io`.
+    #[error("no reply of the key was read")]
     Wire(WireFault),
     /// The node refused, with this status.
+    #[error("the node refused")]
     Refused(u8),
     /// The reply's value was none of the key's kind.
+    #[error("the reply's value is none of the key")]
     Value,
 }
 

@@ -20,6 +20,7 @@ use iiif_plain_tables::plain::PlainTable;
 use iiif_ring::Ring;
 use iiif_tiff::{MAX_AREA, MAX_SIDE};
 use std::alloc::Global;
+use thiserror::Error;
 
 /// What a node is made of: its name, the names on its ring, the last version of messages that it speaks, and how many bytes and
 /// entries its tables keep at most.
@@ -33,17 +34,22 @@ pub struct Setup {
 }
 
 /// Why a world can't begin so: the first that applies.
-#[derive(Clone, Copy, Debug, PartialEq, Eq)]
+#[derive(Clone, Copy, Debug, PartialEq, Eq, Error)]
 pub enum SetupFault {
     /// A tile's side isn't 1 to 1,024.
+    #[error("a tile's side is 1 to 1,024")]
     Edge,
     /// A plan has room for no sum, or for more than 65,536.
+    #[error("a plan has room for 1 to 65,536 sums")]
     Room,
     /// A picture has more than 1,000,000 columns or rows, or more than 2^32 places, or none.
+    #[error("a picture has 1 to 1,000,000 columns and rows, and at most 2^32 places")]
     Picture,
     /// A ring names no node.
+    #[error("a ring names no node")]
     Ring,
     /// Memory was refused.
+    #[error("out of memory")]
     NoMemory,
 }
 
