@@ -12,10 +12,15 @@ use std::test::Fail;
 
 /// Three requests, and what they are answered.
 const REQUESTS: &[u8] =
-    b"GET /iiif/a HTTP/1.1\r\nHost: localhost\r\n\r\nPOST /iiif/a HTTP/1.1\r\nHost: localhost\r\n\r\nHEAD /iiif/a/full/max/0/default.tif HTTP/1.1\r\nHost: localhost\r\n\r\n";
+    b"GET /iiif/a HTTP/1.1\r\nHost: localhost\r\n\r\nPOST /iiif/a HTTP/1.1\r\nHost: localhost\r\n\r\nHEAD \
+        /iiif/a/full/max/0/default.tif HTTP/1.1\r\nHost: localhost\r\n\r\n";
 
 const ANSWERS: &[u8] =
-    b"HTTP/1.1 303 See Other\r\nAccess-Control-Allow-Origin: *\r\nLocation: http://localhost/iiif/a/info.json\r\nContent-Length: 0\r\n\r\nHTTP/1.1 405 Method Not Allowed\r\nContent-Type: text/plain\r\nAccess-Control-Allow-Origin: *\r\nAllow: GET, HEAD\r\nContent-Length: 10\r\n\r\nQ2 method\nHTTP/1.1 200 OK\r\nContent-Type: image/tiff\r\nAccess-Control-Allow-Origin: *\r\nLink: <http://localhost/iiif/a/full/max/0/default.tif>;rel=\"canonical\"\r\nContent-Length: 190\r\n\r\n";
+    b"HTTP/1.1 303 See Other\r\nAccess-Control-Allow-Origin: *\r\nLocation: http://localhost/iiif/a/info.json\r\n\
+        Content-Length: 0\r\n\r\nHTTP/1.1 405 Method Not Allowed\r\nContent-Type: text/plain\r\n\
+        Access-Control-Allow-Origin: *\r\nAllow: GET, HEAD\r\nContent-Length: 10\r\n\r\nQ2 method\nHTTP/1.1 200 OK\r\n\
+        Content-Type: image/tiff\r\nAccess-Control-Allow-Origin: *\r\nLink: \
+        <http://localhost/iiif/a/full/max/0/default.tif>;rel=\"canonical\"\r\nContent-Length: 190\r\n\r\n";
 
 /// Who makes them, and says that they are the last.
 const THREE: Sends<'static> = Sends {

@@ -19,7 +19,8 @@ const METRICS: &[u8] = b"GET /metrics HTTP/1.1\r\nHost: localhost\r\n\r\n";
 
 /// Two images and a method that isn't answered, on a connection that closes behind them.
 const THREE: &[u8] =
-    b"GET /iiif/a/full/max/0/default.tif HTTP/1.1\r\n\r\nGET /iiif/a/full/max/0/default.tif HTTP/1.1\r\n\r\nPOST /iiif/a HTTP/1.1\r\nConnection: close\r\n\r\n";
+    b"GET /iiif/a/full/max/0/default.tif HTTP/1.1\r\n\r\nGET /iiif/a/full/max/0/default.tif HTTP/1.1\r\n\r\nPOST \
+        /iiif/a HTTP/1.1\r\nConnection: close\r\n\r\n";
 
 /// Whether a text has each of these.
 fn has_all(text: &[u8], lines: &[&str]) -> bool {

@@ -68,33 +68,68 @@ const THINNEST: Image = Image {
 
 /// What the words ask for that stand in the lists below with `!360.0`, or with `270.0`.
 const ASKED: &str =
-    r#"/iiif/a/0,0,9,9/max/!360.0/color.tif => Ok(Request { region: Pixels(0, 0, 9, 9), size: Size { up: false, form: Max }, rotation: Rotation { mirror: true, degrees: Decimal { digits: 3600, places: 1 } }, quality: Color })
-/iiif/a/3,3,5,5/max/!360.0/color.tif => Ok(Request { region: Pixels(3, 3, 5, 5), size: Size { up: false, form: Max }, rotation: Rotation { mirror: true, degrees: Decimal { digits: 3600, places: 1 } }, quality: Color })
-/iiif/a/4,0,1,1/max/!360.0/color.tif => Ok(Request { region: Pixels(4, 0, 1, 1), size: Size { up: false, form: Max }, rotation: Rotation { mirror: true, degrees: Decimal { digits: 3600, places: 1 } }, quality: Color })
-/iiif/a/1,1,0,2/max/!360.0/color.tif => Ok(Request { region: Pixels(1, 1, 0, 2), size: Size { up: false, form: Max }, rotation: Rotation { mirror: true, degrees: Decimal { digits: 3600, places: 1 } }, quality: Color })
-/iiif/a/pct:25,25,50.0,50.0/max/!360.0/color.tif => Ok(Request { region: Percents(Decimal { digits: 25, places: 0 }, Decimal { digits: 25, places: 0 }, Decimal { digits: 500, places: 1 }, Decimal { digits: 500, places: 1 }), size: Size { up: false, form: Max }, rotation: Rotation { mirror: true, degrees: Decimal { digits: 3600, places: 1 } }, quality: Color })
-/iiif/a/square/max/!360.0/color.tif => Ok(Request { region: Square, size: Size { up: false, form: Max }, rotation: Rotation { mirror: true, degrees: Decimal { digits: 3600, places: 1 } }, quality: Color })
-/iiif/a/full/2,/!360.0/color.tif => Ok(Request { region: Full, size: Size { up: false, form: Width(2) }, rotation: Rotation { mirror: true, degrees: Decimal { digits: 3600, places: 1 } }, quality: Color })
-/iiif/a/full/^2,/!360.0/color.tif => Ok(Request { region: Full, size: Size { up: true, form: Width(2) }, rotation: Rotation { mirror: true, degrees: Decimal { digits: 3600, places: 1 } }, quality: Color })
-/iiif/a/full/^!2,9/!360.0/color.tif => Ok(Request { region: Full, size: Size { up: true, form: Within(2, 9) }, rotation: Rotation { mirror: true, degrees: Decimal { digits: 3600, places: 1 } }, quality: Color })
-/iiif/a/full/8,/!360.0/color.tif => Ok(Request { region: Full, size: Size { up: false, form: Width(8) }, rotation: Rotation { mirror: true, degrees: Decimal { digits: 3600, places: 1 } }, quality: Color })
-/iiif/a/full/^8,/!360.0/color.tif => Ok(Request { region: Full, size: Size { up: true, form: Width(8) }, rotation: Rotation { mirror: true, degrees: Decimal { digits: 3600, places: 1 } }, quality: Color })
-/iiif/a/full/^max/!360.0/color.tif => Ok(Request { region: Full, size: Size { up: true, form: Max }, rotation: Rotation { mirror: true, degrees: Decimal { digits: 3600, places: 1 } }, quality: Color })
-/iiif/a/full/pct:100.1/!360.0/color.tif => Ok(Request { region: Full, size: Size { up: false, form: Percent(Decimal { digits: 1001, places: 1 }) }, rotation: Rotation { mirror: true, degrees: Decimal { digits: 3600, places: 1 } }, quality: Color })
-/iiif/a/full/^pct:100.1/!360.0/color.tif => Ok(Request { region: Full, size: Size { up: true, form: Percent(Decimal { digits: 1001, places: 1 }) }, rotation: Rotation { mirror: true, degrees: Decimal { digits: 3600, places: 1 } }, quality: Color })
-/iiif/a/full/100,/!360.0/color.tif => Ok(Request { region: Full, size: Size { up: false, form: Width(100) }, rotation: Rotation { mirror: true, degrees: Decimal { digits: 3600, places: 1 } }, quality: Color })
-/iiif/a/full/!100,100/!360.0/color.tif => Ok(Request { region: Full, size: Size { up: false, form: Within(100, 100) }, rotation: Rotation { mirror: true, degrees: Decimal { digits: 3600, places: 1 } }, quality: Color })
-/iiif/a/full/pct:50/!360.0/color.tif => Ok(Request { region: Full, size: Size { up: false, form: Percent(Decimal { digits: 50, places: 0 }) }, rotation: Rotation { mirror: true, degrees: Decimal { digits: 3600, places: 1 } }, quality: Color })
-/iiif/a/full/4096,1/!360.0/color.tif => Ok(Request { region: Full, size: Size { up: false, form: Both(4096, 1) }, rotation: Rotation { mirror: true, degrees: Decimal { digits: 3600, places: 1 } }, quality: Color })
-/iiif/a/full/4097,1/!360.0/color.tif => Ok(Request { region: Full, size: Size { up: false, form: Both(4097, 1) }, rotation: Rotation { mirror: true, degrees: Decimal { digits: 3600, places: 1 } }, quality: Color })
-/iiif/a/full/max/!360.0/color.tif => Ok(Request { region: Full, size: Size { up: false, form: Max }, rotation: Rotation { mirror: true, degrees: Decimal { digits: 3600, places: 1 } }, quality: Color })
-/iiif/a/1,2,9,9/1,/270.0/gray.tif => Ok(Request { region: Pixels(1, 2, 9, 9), size: Size { up: false, form: Width(1) }, rotation: Rotation { mirror: false, degrees: Decimal { digits: 2700, places: 1 } }, quality: Gray })
-/iiif/a/pct:0.05,100.0,7,0.0000000090/^pct:0.05/!360.0/color.tif => Ok(Request { region: Percents(Decimal { digits: 5, places: 2 }, Decimal { digits: 1000, places: 1 }, Decimal { digits: 7, places: 0 }, Decimal { digits: 90, places: 10 }), size: Size { up: true, form: Percent(Decimal { digits: 5, places: 2 }) }, rotation: Rotation { mirror: true, degrees: Decimal { digits: 3600, places: 1 } }, quality: Color })
-/iiif/a/0,10,200,3000/!5,6/!360.0/color.tif => Ok(Request { region: Pixels(0, 10, 200, 3000), size: Size { up: false, form: Within(5, 6) }, rotation: Rotation { mirror: true, degrees: Decimal { digits: 3600, places: 1 } }, quality: Color })
-/iiif/a/square/^max/!360.0/color.tif => Ok(Request { region: Square, size: Size { up: true, form: Max }, rotation: Rotation { mirror: true, degrees: Decimal { digits: 3600, places: 1 } }, quality: Color })
-/iiif/a/square/^1,/!360.0/color.tif => Ok(Request { region: Square, size: Size { up: true, form: Width(1) }, rotation: Rotation { mirror: true, degrees: Decimal { digits: 3600, places: 1 } }, quality: Color })
-/iiif/a/square/^,2/!360.0/color.tif => Ok(Request { region: Square, size: Size { up: true, form: Height(2) }, rotation: Rotation { mirror: true, degrees: Decimal { digits: 3600, places: 1 } }, quality: Color })
-/iiif/a/square/^3,4/!360.0/color.tif => Ok(Request { region: Square, size: Size { up: true, form: Both(3, 4) }, rotation: Rotation { mirror: true, degrees: Decimal { digits: 3600, places: 1 } }, quality: Color })"#;
+    "/iiif/a/0,0,9,9/max/!360.0/color.tif => Ok(Request { region: Pixels(0, 0, 9, 9), size: Size { up: false, form: \
+        Max }, rotation: Rotation { mirror: true, degrees: Decimal { digits: 3600, places: 1 } }, quality: Color })
+/iiif/a/3,3,5,5/max/!360.0/color.tif => Ok(Request { region: Pixels(3, 3, 5, 5), size: Size { up: false, form: Max }, \
+        rotation: Rotation { mirror: true, degrees: Decimal { digits: 3600, places: 1 } }, quality: Color })
+/iiif/a/4,0,1,1/max/!360.0/color.tif => Ok(Request { region: Pixels(4, 0, 1, 1), size: Size { up: false, form: Max }, \
+        rotation: Rotation { mirror: true, degrees: Decimal { digits: 3600, places: 1 } }, quality: Color })
+/iiif/a/1,1,0,2/max/!360.0/color.tif => Ok(Request { region: Pixels(1, 1, 0, 2), size: Size { up: false, form: Max }, \
+        rotation: Rotation { mirror: true, degrees: Decimal { digits: 3600, places: 1 } }, quality: Color })
+/iiif/a/pct:25,25,50.0,50.0/max/!360.0/color.tif => Ok(Request { region: Percents(Decimal { digits: 25, places: 0 }, \
+        Decimal { digits: 25, places: 0 }, Decimal { digits: 500, places: 1 }, Decimal { digits: 500, places: 1 }), \
+        size: Size { up: false, form: Max }, rotation: Rotation { mirror: true, degrees: Decimal { digits: 3600, \
+        places: 1 } }, quality: Color })
+/iiif/a/square/max/!360.0/color.tif => Ok(Request { region: Square, size: Size { up: false, form: Max }, rotation: \
+        Rotation { mirror: true, degrees: Decimal { digits: 3600, places: 1 } }, quality: Color })
+/iiif/a/full/2,/!360.0/color.tif => Ok(Request { region: Full, size: Size { up: false, form: Width(2) }, rotation: \
+        Rotation { mirror: true, degrees: Decimal { digits: 3600, places: 1 } }, quality: Color })
+/iiif/a/full/^2,/!360.0/color.tif => Ok(Request { region: Full, size: Size { up: true, form: Width(2) }, rotation: \
+        Rotation { mirror: true, degrees: Decimal { digits: 3600, places: 1 } }, quality: Color })
+/iiif/a/full/^!2,9/!360.0/color.tif => Ok(Request { region: Full, size: Size { up: true, form: Within(2, 9) }, \
+        rotation: Rotation { mirror: true, degrees: Decimal { digits: 3600, places: 1 } }, quality: Color })
+/iiif/a/full/8,/!360.0/color.tif => Ok(Request { region: Full, size: Size { up: false, form: Width(8) }, rotation: \
+        Rotation { mirror: true, degrees: Decimal { digits: 3600, places: 1 } }, quality: Color })
+/iiif/a/full/^8,/!360.0/color.tif => Ok(Request { region: Full, size: Size { up: true, form: Width(8) }, rotation: \
+        Rotation { mirror: true, degrees: Decimal { digits: 3600, places: 1 } }, quality: Color })
+/iiif/a/full/^max/!360.0/color.tif => Ok(Request { region: Full, size: Size { up: true, form: Max }, rotation: \
+        Rotation { mirror: true, degrees: Decimal { digits: 3600, places: 1 } }, quality: Color })
+/iiif/a/full/pct:100.1/!360.0/color.tif => Ok(Request { region: Full, size: Size { up: false, form: Percent(Decimal { \
+        digits: 1001, places: 1 }) }, rotation: Rotation { mirror: true, degrees: Decimal { digits: 3600, places: 1 } \
+        }, quality: Color })
+/iiif/a/full/^pct:100.1/!360.0/color.tif => Ok(Request { region: Full, size: Size { up: true, form: Percent(Decimal { \
+        digits: 1001, places: 1 }) }, rotation: Rotation { mirror: true, degrees: Decimal { digits: 3600, places: 1 } \
+        }, quality: Color })
+/iiif/a/full/100,/!360.0/color.tif => Ok(Request { region: Full, size: Size { up: false, form: Width(100) }, \
+        rotation: Rotation { mirror: true, degrees: Decimal { digits: 3600, places: 1 } }, quality: Color })
+/iiif/a/full/!100,100/!360.0/color.tif => Ok(Request { region: Full, size: Size { up: false, form: Within(100, 100) }, \
+        rotation: Rotation { mirror: true, degrees: Decimal { digits: 3600, places: 1 } }, quality: Color })
+/iiif/a/full/pct:50/!360.0/color.tif => Ok(Request { region: Full, size: Size { up: false, form: Percent(Decimal { \
+        digits: 50, places: 0 }) }, rotation: Rotation { mirror: true, degrees: Decimal { digits: 3600, places: 1 } }, \
+        quality: Color })
+/iiif/a/full/4096,1/!360.0/color.tif => Ok(Request { region: Full, size: Size { up: false, form: Both(4096, 1) }, \
+        rotation: Rotation { mirror: true, degrees: Decimal { digits: 3600, places: 1 } }, quality: Color })
+/iiif/a/full/4097,1/!360.0/color.tif => Ok(Request { region: Full, size: Size { up: false, form: Both(4097, 1) }, \
+        rotation: Rotation { mirror: true, degrees: Decimal { digits: 3600, places: 1 } }, quality: Color })
+/iiif/a/full/max/!360.0/color.tif => Ok(Request { region: Full, size: Size { up: false, form: Max }, rotation: \
+        Rotation { mirror: true, degrees: Decimal { digits: 3600, places: 1 } }, quality: Color })
+/iiif/a/1,2,9,9/1,/270.0/gray.tif => Ok(Request { region: Pixels(1, 2, 9, 9), size: Size { up: false, form: Width(1) \
+        }, rotation: Rotation { mirror: false, degrees: Decimal { digits: 2700, places: 1 } }, quality: Gray })
+/iiif/a/pct:0.05,100.0,7,0.0000000090/^pct:0.05/!360.0/color.tif => Ok(Request { region: Percents(Decimal { digits: 5, \
+        places: 2 }, Decimal { digits: 1000, places: 1 }, Decimal { digits: 7, places: 0 }, Decimal { digits: 90, \
+        places: 10 }), size: Size { up: true, form: Percent(Decimal { digits: 5, places: 2 }) }, rotation: Rotation { \
+        mirror: true, degrees: Decimal { digits: 3600, places: 1 } }, quality: Color })
+/iiif/a/0,10,200,3000/!5,6/!360.0/color.tif => Ok(Request { region: Pixels(0, 10, 200, 3000), size: Size { up: false, \
+        form: Within(5, 6) }, rotation: Rotation { mirror: true, degrees: Decimal { digits: 3600, places: 1 } }, \
+        quality: Color })
+/iiif/a/square/^max/!360.0/color.tif => Ok(Request { region: Square, size: Size { up: true, form: Max }, rotation: \
+        Rotation { mirror: true, degrees: Decimal { digits: 3600, places: 1 } }, quality: Color })
+/iiif/a/square/^1,/!360.0/color.tif => Ok(Request { region: Square, size: Size { up: true, form: Width(1) }, \
+        rotation: Rotation { mirror: true, degrees: Decimal { digits: 3600, places: 1 } }, quality: Color })
+/iiif/a/square/^,2/!360.0/color.tif => Ok(Request { region: Square, size: Size { up: true, form: Height(2) }, \
+        rotation: Rotation { mirror: true, degrees: Decimal { digits: 3600, places: 1 } }, quality: Color })
+/iiif/a/square/^3,4/!360.0/color.tif => Ok(Request { region: Square, size: Size { up: true, form: Both(3, 4) }, \
+        rotation: Rotation { mirror: true, degrees: Decimal { digits: 3600, places: 1 } }, quality: Color })";
 
 /// Requests that are written as they are.
 const WRITTEN: &str =
@@ -107,11 +142,13 @@ const WRITTEN: &str =
 
 /// A part of the square, scaled and turned.
 const OF_RGB: &str =
-    r#"/iiif/a/1,2,9,9/1,/270.0/gray.tif => Ok(Resolved { rect: Rect { x: 1, y: 2, w: 3, h: 2 }, size: Dim { w: 1, h: 1 }, turn: Turn { mirror: false, quarters: 3 }, quality: Gray })"#;
+    "/iiif/a/1,2,9,9/1,/270.0/gray.tif => Ok(Resolved { rect: Rect { x: 1, y: 2, w: 3, h: 2 }, size: Dim { w: 1, h: \
+        1 }, turn: Turn { mirror: false, quarters: 3 }, quality: Gray })";
 
 /// The same of a gray one: its quality changes nothing.
 const OF_GRAY: &str =
-    r#"/iiif/a/1,2,9,9/1,/270.0/gray.tif => Ok(Resolved { rect: Rect { x: 1, y: 2, w: 3, h: 2 }, size: Dim { w: 1, h: 1 }, turn: Turn { mirror: false, quarters: 3 }, quality: Default })"#;
+    "/iiif/a/1,2,9,9/1,/270.0/gray.tif => Ok(Resolved { rect: Rect { x: 1, y: 2, w: 3, h: 2 }, size: Dim { w: 1, h: \
+        1 }, turn: Turn { mirror: false, quarters: 3 }, quality: Default })";
 
 /// Regions that are clipped, and sizes, of the square.
 const OF_SQUARE: &str = r#"/iiif/a/0,0,9,9/max/!360.0/color.tif => full/max/!0/default.tif

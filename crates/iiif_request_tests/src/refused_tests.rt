@@ -32,7 +32,13 @@ fn text(alloc: Global) -> Option<String> {
 
 /// The information of the image `a` of 4 by 4, in tiles of 2.
 const WHOLE: &str =
-    "{\"@context\":\"http://iiif.io/api/image/3/context.json\",\"extraFeatures\":[\"baseUriRedirect\",\"canonicalLinkHeader\",\"cors\",\"mirroring\",\"regionByPct\",\"regionByPx\",\"regionSquare\",\"rotationBy90s\",\"sizeByConfinedWh\",\"sizeByH\",\"sizeByPct\",\"sizeByW\",\"sizeByWh\"],\"extraFormats\":[\"tif\"],\"extraQualities\":[\"bitonal\",\"color\",\"gray\"],\"height\":4,\"id\":\"http://localhost/iiif/a\",\"maxHeight\":4096,\"maxWidth\":4096,\"preferredFormats\":[\"tif\"],\"profile\":\"level0\",\"protocol\":\"http://iiif.io/api/image\",\"tiles\":[{\"height\":2,\"scaleFactors\":[1,2],\"width\":2}],\"type\":\"ImageService3\",\"width\":4}";
+    "{\"@context\":\"http://iiif.io/api/image/3/context.json\",\"extraFeatures\":[\"baseUriRedirect\",\
+        \"canonicalLinkHeader\",\"cors\",\"mirroring\",\"regionByPct\",\"regionByPx\",\"regionSquare\",\
+        \"rotationBy90s\",\"sizeByConfinedWh\",\"sizeByH\",\"sizeByPct\",\"sizeByW\",\"sizeByWh\"],\
+        \"extraFormats\":[\"tif\"],\"extraQualities\":[\"bitonal\",\"color\",\"gray\"],\"height\":4,\
+        \"id\":\"http://localhost/iiif/a\",\"maxHeight\":4096,\"maxWidth\":4096,\"preferredFormats\":[\"tif\"],\
+        \"profile\":\"level0\",\"protocol\":\"http://iiif.io/api/image\",\"tiles\":[{\"height\":2,\"scaleFactors\":[1,\
+        2],\"width\":2}],\"type\":\"ImageService3\",\"width\":4}";
 
 #[test]
 fn information_is_written_after_a_refused_growth(rt: HostRuntime) -> Result<(), Fail> {

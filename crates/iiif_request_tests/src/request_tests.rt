@@ -8,17 +8,23 @@ use iiif_request::{
 use std::alloc::{AllocError, Global};
 
 /// One, two and five segments. Each is decoded once; a query is left unread; the last segment is parted at its first dot.
-const TARGETS: &str = r#"/iiif/a => Ok(Base("a"))
-/iiif/a/info.json => Ok(Info("a"))
-/iiif/a/full/max/0/default.tif => Ok(Image("a", Words { region: "full", size: "max", rotation: "0", quality: "default", format: "tif" }))
-/iiif/a%2Fb/0%2c0,1%2C1/%5E2,/%210/gr%61y%2Etif => Ok(Image("a/b", Words { region: "0,0,1,1", size: "^2,", rotation: "!0", quality: "gray", format: "tif" }))
-/iiif/a%252Fb/0,0,1,1/^2,/!0/gray.tif => Ok(Image("a%2Fb", Words { region: "0,0,1,1", size: "^2,", rotation: "!0", quality: "gray", format: "tif" }))
-/iiif/%C3%A4%3f/info%2ejson => Ok(Info("ä?"))
-/iiif/a/full/max/0/default.tif?b/c?d.e% => Ok(Image("a", Words { region: "full", size: "max", rotation: "0", quality: "default", format: "tif" }))
-/iiif/a?/info.json => Ok(Base("a"))
-/iiif/a/full/max/0/default.tif.tif => Ok(Image("a", Words { region: "full", size: "max", rotation: "0", quality: "default", format: "tif.tif" }))
-/iiif/a/full/max/0/default => Ok(Image("a", Words { region: "full", size: "max", rotation: "0", quality: "default", format: "" }))
-/iiif/a////. => Ok(Image("a", Words { region: "", size: "", rotation: "", quality: "", format: "" }))"#;
+const TARGETS: &str = "/iiif/a => Ok(Base(\"a\"))
+/iiif/a/info.json => Ok(Info(\"a\"))
+/iiif/a/full/max/0/default.tif => Ok(Image(\"a\", Words { region: \"full\", size: \"max\", rotation: \"0\", quality: \
+    \"default\", format: \"tif\" }))
+/iiif/a%2Fb/0%2c0,1%2C1/%5E2,/%210/gr%61y%2Etif => Ok(Image(\"a/b\", Words { region: \"0,0,1,1\", size: \"^2,\", \
+    rotation: \"!0\", quality: \"gray\", format: \"tif\" }))
+/iiif/a%252Fb/0,0,1,1/^2,/!0/gray.tif => Ok(Image(\"a%2Fb\", Words { region: \"0,0,1,1\", size: \"^2,\", rotation: \
+    \"!0\", quality: \"gray\", format: \"tif\" }))
+/iiif/%C3%A4%3f/info%2ejson => Ok(Info(\"ä?\"))
+/iiif/a/full/max/0/default.tif?b/c?d.e% => Ok(Image(\"a\", Words { region: \"full\", size: \"max\", rotation: \"0\", \
+    quality: \"default\", format: \"tif\" }))
+/iiif/a?/info.json => Ok(Base(\"a\"))
+/iiif/a/full/max/0/default.tif.tif => Ok(Image(\"a\", Words { region: \"full\", size: \"max\", rotation: \"0\", \
+    quality: \"default\", format: \"tif.tif\" }))
+/iiif/a/full/max/0/default => Ok(Image(\"a\", Words { region: \"full\", size: \"max\", rotation: \"0\", quality: \
+    \"default\", format: \"\" }))
+/iiif/a////. => Ok(Image(\"a\", Words { region: \"\", size: \"\", rotation: \"\", quality: \"\", format: \"\" }))";
 
 /// Other counts of segments, another prefix, and broken escapes. The first line's target is empty.
 const NO_TARGETS: &str = r#" => Err(Path)
@@ -50,47 +56,100 @@ const NO_TARGETS: &str = r#" => Err(Path)
 
 /// Whole requests, regions, sizes with and without `^`, and rotations with and without `!`, which keep their decimals.
 const REQUESTS: &str =
-    r#"/iiif/a/full/max/0/default.tif => Ok(Request { region: Full, size: Size { up: false, form: Max }, rotation: Rotation { mirror: false, degrees: Decimal { digits: 0, places: 0 } }, quality: Default })
-/iiif/a/pct:25,0,50.5,0.0000000001/^!2,9/!270.00/bitonal.tif => Ok(Request { region: Percents(Decimal { digits: 25, places: 0 }, Decimal { digits: 0, places: 0 }, Decimal { digits: 505, places: 1 }, Decimal { digits: 1, places: 10 }), size: Size { up: true, form: Within(2, 9) }, rotation: Rotation { mirror: true, degrees: Decimal { digits: 27000, places: 2 } }, quality: Bitonal })
-/iiif/a/full/max/0/color.tif => Ok(Request { region: Full, size: Size { up: false, form: Max }, rotation: Rotation { mirror: false, degrees: Decimal { digits: 0, places: 0 } }, quality: Color })
-/iiif/a/full/max/0/gray.tif => Ok(Request { region: Full, size: Size { up: false, form: Max }, rotation: Rotation { mirror: false, degrees: Decimal { digits: 0, places: 0 } }, quality: Gray })
-/iiif/a/square/max/0/default.tif => Ok(Request { region: Square, size: Size { up: false, form: Max }, rotation: Rotation { mirror: false, degrees: Decimal { digits: 0, places: 0 } }, quality: Default })
-/iiif/a/0,0,9,9/max/0/default.tif => Ok(Request { region: Pixels(0, 0, 9, 9), size: Size { up: false, form: Max }, rotation: Rotation { mirror: false, degrees: Decimal { digits: 0, places: 0 } }, quality: Default })
-/iiif/a/007,08,1,000000000/max/0/default.tif => Ok(Request { region: Pixels(7, 8, 1, 0), size: Size { up: false, form: Max }, rotation: Rotation { mirror: false, degrees: Decimal { digits: 0, places: 0 } }, quality: Default })
-/iiif/a/999999999,0,2,3/max/0/default.tif => Ok(Request { region: Pixels(999999999, 0, 2, 3), size: Size { up: false, form: Max }, rotation: Rotation { mirror: false, degrees: Decimal { digits: 0, places: 0 } }, quality: Default })
-/iiif/a/pct:1,2.5,03,999999999.9999999999/max/0/default.tif => Ok(Request { region: Percents(Decimal { digits: 1, places: 0 }, Decimal { digits: 25, places: 1 }, Decimal { digits: 3, places: 0 }, Decimal { digits: 9999999999999999999, places: 10 }), size: Size { up: false, form: Max }, rotation: Rotation { mirror: false, degrees: Decimal { digits: 0, places: 0 } }, quality: Default })
-/iiif/a/full/max/0/default.tif => Ok(Request { region: Full, size: Size { up: false, form: Max }, rotation: Rotation { mirror: false, degrees: Decimal { digits: 0, places: 0 } }, quality: Default })
-/iiif/a/full/^max/0/default.tif => Ok(Request { region: Full, size: Size { up: true, form: Max }, rotation: Rotation { mirror: false, degrees: Decimal { digits: 0, places: 0 } }, quality: Default })
-/iiif/a/full/2,/0/default.tif => Ok(Request { region: Full, size: Size { up: false, form: Width(2) }, rotation: Rotation { mirror: false, degrees: Decimal { digits: 0, places: 0 } }, quality: Default })
-/iiif/a/full/^2,/0/default.tif => Ok(Request { region: Full, size: Size { up: true, form: Width(2) }, rotation: Rotation { mirror: false, degrees: Decimal { digits: 0, places: 0 } }, quality: Default })
-/iiif/a/full/,3/0/default.tif => Ok(Request { region: Full, size: Size { up: false, form: Height(3) }, rotation: Rotation { mirror: false, degrees: Decimal { digits: 0, places: 0 } }, quality: Default })
-/iiif/a/full/^,3/0/default.tif => Ok(Request { region: Full, size: Size { up: true, form: Height(3) }, rotation: Rotation { mirror: false, degrees: Decimal { digits: 0, places: 0 } }, quality: Default })
-/iiif/a/full/pct:100.1/0/default.tif => Ok(Request { region: Full, size: Size { up: false, form: Percent(Decimal { digits: 1001, places: 1 }) }, rotation: Rotation { mirror: false, degrees: Decimal { digits: 0, places: 0 } }, quality: Default })
-/iiif/a/full/^pct:100.1/0/default.tif => Ok(Request { region: Full, size: Size { up: true, form: Percent(Decimal { digits: 1001, places: 1 }) }, rotation: Rotation { mirror: false, degrees: Decimal { digits: 0, places: 0 } }, quality: Default })
-/iiif/a/full/pct:050/0/default.tif => Ok(Request { region: Full, size: Size { up: false, form: Percent(Decimal { digits: 50, places: 0 }) }, rotation: Rotation { mirror: false, degrees: Decimal { digits: 0, places: 0 } }, quality: Default })
-/iiif/a/full/^pct:050/0/default.tif => Ok(Request { region: Full, size: Size { up: true, form: Percent(Decimal { digits: 50, places: 0 }) }, rotation: Rotation { mirror: false, degrees: Decimal { digits: 0, places: 0 } }, quality: Default })
-/iiif/a/full/3,4/0/default.tif => Ok(Request { region: Full, size: Size { up: false, form: Both(3, 4) }, rotation: Rotation { mirror: false, degrees: Decimal { digits: 0, places: 0 } }, quality: Default })
-/iiif/a/full/^3,4/0/default.tif => Ok(Request { region: Full, size: Size { up: true, form: Both(3, 4) }, rotation: Rotation { mirror: false, degrees: Decimal { digits: 0, places: 0 } }, quality: Default })
-/iiif/a/full/!100,9/0/default.tif => Ok(Request { region: Full, size: Size { up: false, form: Within(100, 9) }, rotation: Rotation { mirror: false, degrees: Decimal { digits: 0, places: 0 } }, quality: Default })
-/iiif/a/full/^!100,9/0/default.tif => Ok(Request { region: Full, size: Size { up: true, form: Within(100, 9) }, rotation: Rotation { mirror: false, degrees: Decimal { digits: 0, places: 0 } }, quality: Default })
-/iiif/a/full/0,00/0/default.tif => Ok(Request { region: Full, size: Size { up: false, form: Both(0, 0) }, rotation: Rotation { mirror: false, degrees: Decimal { digits: 0, places: 0 } }, quality: Default })
-/iiif/a/full/^0,00/0/default.tif => Ok(Request { region: Full, size: Size { up: true, form: Both(0, 0) }, rotation: Rotation { mirror: false, degrees: Decimal { digits: 0, places: 0 } }, quality: Default })
-/iiif/a/full/max/0/default.tif => Ok(Request { region: Full, size: Size { up: false, form: Max }, rotation: Rotation { mirror: false, degrees: Decimal { digits: 0, places: 0 } }, quality: Default })
-/iiif/a/full/max/!0/default.tif => Ok(Request { region: Full, size: Size { up: false, form: Max }, rotation: Rotation { mirror: true, degrees: Decimal { digits: 0, places: 0 } }, quality: Default })
-/iiif/a/full/max/90/default.tif => Ok(Request { region: Full, size: Size { up: false, form: Max }, rotation: Rotation { mirror: false, degrees: Decimal { digits: 90, places: 0 } }, quality: Default })
-/iiif/a/full/max/!90/default.tif => Ok(Request { region: Full, size: Size { up: false, form: Max }, rotation: Rotation { mirror: true, degrees: Decimal { digits: 90, places: 0 } }, quality: Default })
-/iiif/a/full/max/180/default.tif => Ok(Request { region: Full, size: Size { up: false, form: Max }, rotation: Rotation { mirror: false, degrees: Decimal { digits: 180, places: 0 } }, quality: Default })
-/iiif/a/full/max/!180/default.tif => Ok(Request { region: Full, size: Size { up: false, form: Max }, rotation: Rotation { mirror: true, degrees: Decimal { digits: 180, places: 0 } }, quality: Default })
-/iiif/a/full/max/270/default.tif => Ok(Request { region: Full, size: Size { up: false, form: Max }, rotation: Rotation { mirror: false, degrees: Decimal { digits: 270, places: 0 } }, quality: Default })
-/iiif/a/full/max/!270/default.tif => Ok(Request { region: Full, size: Size { up: false, form: Max }, rotation: Rotation { mirror: true, degrees: Decimal { digits: 270, places: 0 } }, quality: Default })
-/iiif/a/full/max/360/default.tif => Ok(Request { region: Full, size: Size { up: false, form: Max }, rotation: Rotation { mirror: false, degrees: Decimal { digits: 360, places: 0 } }, quality: Default })
-/iiif/a/full/max/!360/default.tif => Ok(Request { region: Full, size: Size { up: false, form: Max }, rotation: Rotation { mirror: true, degrees: Decimal { digits: 360, places: 0 } }, quality: Default })
-/iiif/a/full/max/0.0/default.tif => Ok(Request { region: Full, size: Size { up: false, form: Max }, rotation: Rotation { mirror: false, degrees: Decimal { digits: 0, places: 1 } }, quality: Default })
-/iiif/a/full/max/!0.0/default.tif => Ok(Request { region: Full, size: Size { up: false, form: Max }, rotation: Rotation { mirror: true, degrees: Decimal { digits: 0, places: 1 } }, quality: Default })
-/iiif/a/full/max/090/default.tif => Ok(Request { region: Full, size: Size { up: false, form: Max }, rotation: Rotation { mirror: false, degrees: Decimal { digits: 90, places: 0 } }, quality: Default })
-/iiif/a/full/max/!090/default.tif => Ok(Request { region: Full, size: Size { up: false, form: Max }, rotation: Rotation { mirror: true, degrees: Decimal { digits: 90, places: 0 } }, quality: Default })
-/iiif/a/full/max/360.0000000000/default.tif => Ok(Request { region: Full, size: Size { up: false, form: Max }, rotation: Rotation { mirror: false, degrees: Decimal { digits: 3600000000000, places: 10 } }, quality: Default })
-/iiif/a/full/max/!360.0000000000/default.tif => Ok(Request { region: Full, size: Size { up: false, form: Max }, rotation: Rotation { mirror: true, degrees: Decimal { digits: 3600000000000, places: 10 } }, quality: Default })"#;
+    "/iiif/a/full/max/0/default.tif => Ok(Request { region: Full, size: Size { up: false, form: Max }, rotation: \
+        Rotation { mirror: false, degrees: Decimal { digits: 0, places: 0 } }, quality: Default })
+/iiif/a/pct:25,0,50.5,0.0000000001/^!2,9/!270.00/bitonal.tif => Ok(Request { region: Percents(Decimal { digits: 25, \
+        places: 0 }, Decimal { digits: 0, places: 0 }, Decimal { digits: 505, places: 1 }, Decimal { digits: 1, \
+        places: 10 }), size: Size { up: true, form: Within(2, 9) }, rotation: Rotation { mirror: true, degrees: \
+        Decimal { digits: 27000, places: 2 } }, quality: Bitonal })
+/iiif/a/full/max/0/color.tif => Ok(Request { region: Full, size: Size { up: false, form: Max }, rotation: Rotation { \
+        mirror: false, degrees: Decimal { digits: 0, places: 0 } }, quality: Color })
+/iiif/a/full/max/0/gray.tif => Ok(Request { region: Full, size: Size { up: false, form: Max }, rotation: Rotation { \
+        mirror: false, degrees: Decimal { digits: 0, places: 0 } }, quality: Gray })
+/iiif/a/square/max/0/default.tif => Ok(Request { region: Square, size: Size { up: false, form: Max }, rotation: \
+        Rotation { mirror: false, degrees: Decimal { digits: 0, places: 0 } }, quality: Default })
+/iiif/a/0,0,9,9/max/0/default.tif => Ok(Request { region: Pixels(0, 0, 9, 9), size: Size { up: false, form: Max }, \
+        rotation: Rotation { mirror: false, degrees: Decimal { digits: 0, places: 0 } }, quality: Default })
+/iiif/a/007,08,1,000000000/max/0/default.tif => Ok(Request { region: Pixels(7, 8, 1, 0), size: Size { up: false, \
+        form: Max }, rotation: Rotation { mirror: false, degrees: Decimal { digits: 0, places: 0 } }, quality: \
+        Default })
+/iiif/a/999999999,0,2,3/max/0/default.tif => Ok(Request { region: Pixels(999999999, 0, 2, 3), size: Size { up: false, \
+        form: Max }, rotation: Rotation { mirror: false, degrees: Decimal { digits: 0, places: 0 } }, quality: \
+        Default })
+/iiif/a/pct:1,2.5,03,999999999.9999999999/max/0/default.tif => Ok(Request { region: Percents(Decimal { digits: 1, \
+        places: 0 }, Decimal { digits: 25, places: 1 }, Decimal { digits: 3, places: 0 }, Decimal { digits: \
+        9999999999999999999, places: 10 }), size: Size { up: false, form: Max }, rotation: Rotation { mirror: false, \
+        degrees: Decimal { digits: 0, places: 0 } }, quality: Default })
+/iiif/a/full/max/0/default.tif => Ok(Request { region: Full, size: Size { up: false, form: Max }, rotation: Rotation \
+        { mirror: false, degrees: Decimal { digits: 0, places: 0 } }, quality: Default })
+/iiif/a/full/^max/0/default.tif => Ok(Request { region: Full, size: Size { up: true, form: Max }, rotation: Rotation \
+        { mirror: false, degrees: Decimal { digits: 0, places: 0 } }, quality: Default })
+/iiif/a/full/2,/0/default.tif => Ok(Request { region: Full, size: Size { up: false, form: Width(2) }, rotation: \
+        Rotation { mirror: false, degrees: Decimal { digits: 0, places: 0 } }, quality: Default })
+/iiif/a/full/^2,/0/default.tif => Ok(Request { region: Full, size: Size { up: true, form: Width(2) }, rotation: \
+        Rotation { mirror: false, degrees: Decimal { digits: 0, places: 0 } }, quality: Default })
+/iiif/a/full/,3/0/default.tif => Ok(Request { region: Full, size: Size { up: false, form: Height(3) }, rotation: \
+        Rotation { mirror: false, degrees: Decimal { digits: 0, places: 0 } }, quality: Default })
+/iiif/a/full/^,3/0/default.tif => Ok(Request { region: Full, size: Size { up: true, form: Height(3) }, rotation: \
+        Rotation { mirror: false, degrees: Decimal { digits: 0, places: 0 } }, quality: Default })
+/iiif/a/full/pct:100.1/0/default.tif => Ok(Request { region: Full, size: Size { up: false, form: Percent(Decimal { \
+        digits: 1001, places: 1 }) }, rotation: Rotation { mirror: false, degrees: Decimal { digits: 0, places: 0 } }, \
+        quality: Default })
+/iiif/a/full/^pct:100.1/0/default.tif => Ok(Request { region: Full, size: Size { up: true, form: Percent(Decimal { \
+        digits: 1001, places: 1 }) }, rotation: Rotation { mirror: false, degrees: Decimal { digits: 0, places: 0 } }, \
+        quality: Default })
+/iiif/a/full/pct:050/0/default.tif => Ok(Request { region: Full, size: Size { up: false, form: Percent(Decimal { \
+        digits: 50, places: 0 }) }, rotation: Rotation { mirror: false, degrees: Decimal { digits: 0, places: 0 } }, \
+        quality: Default })
+/iiif/a/full/^pct:050/0/default.tif => Ok(Request { region: Full, size: Size { up: true, form: Percent(Decimal { \
+        digits: 50, places: 0 }) }, rotation: Rotation { mirror: false, degrees: Decimal { digits: 0, places: 0 } }, \
+        quality: Default })
+/iiif/a/full/3,4/0/default.tif => Ok(Request { region: Full, size: Size { up: false, form: Both(3, 4) }, rotation: \
+        Rotation { mirror: false, degrees: Decimal { digits: 0, places: 0 } }, quality: Default })
+/iiif/a/full/^3,4/0/default.tif => Ok(Request { region: Full, size: Size { up: true, form: Both(3, 4) }, rotation: \
+        Rotation { mirror: false, degrees: Decimal { digits: 0, places: 0 } }, quality: Default })
+/iiif/a/full/!100,9/0/default.tif => Ok(Request { region: Full, size: Size { up: false, form: Within(100, 9) }, \
+        rotation: Rotation { mirror: false, degrees: Decimal { digits: 0, places: 0 } }, quality: Default })
+/iiif/a/full/^!100,9/0/default.tif => Ok(Request { region: Full, size: Size { up: true, form: Within(100, 9) }, \
+        rotation: Rotation { mirror: false, degrees: Decimal { digits: 0, places: 0 } }, quality: Default })
+/iiif/a/full/0,00/0/default.tif => Ok(Request { region: Full, size: Size { up: false, form: Both(0, 0) }, rotation: \
+        Rotation { mirror: false, degrees: Decimal { digits: 0, places: 0 } }, quality: Default })
+/iiif/a/full/^0,00/0/default.tif => Ok(Request { region: Full, size: Size { up: true, form: Both(0, 0) }, rotation: \
+        Rotation { mirror: false, degrees: Decimal { digits: 0, places: 0 } }, quality: Default })
+/iiif/a/full/max/0/default.tif => Ok(Request { region: Full, size: Size { up: false, form: Max }, rotation: Rotation \
+        { mirror: false, degrees: Decimal { digits: 0, places: 0 } }, quality: Default })
+/iiif/a/full/max/!0/default.tif => Ok(Request { region: Full, size: Size { up: false, form: Max }, rotation: Rotation \
+        { mirror: true, degrees: Decimal { digits: 0, places: 0 } }, quality: Default })
+/iiif/a/full/max/90/default.tif => Ok(Request { region: Full, size: Size { up: false, form: Max }, rotation: Rotation \
+        { mirror: false, degrees: Decimal { digits: 90, places: 0 } }, quality: Default })
+/iiif/a/full/max/!90/default.tif => Ok(Request { region: Full, size: Size { up: false, form: Max }, rotation: \
+        Rotation { mirror: true, degrees: Decimal { digits: 90, places: 0 } }, quality: Default })
+/iiif/a/full/max/180/default.tif => Ok(Request { region: Full, size: Size { up: false, form: Max }, rotation: \
+        Rotation { mirror: false, degrees: Decimal { digits: 180, places: 0 } }, quality: Default })
+/iiif/a/full/max/!180/default.tif => Ok(Request { region: Full, size: Size { up: false, form: Max }, rotation: \
+        Rotation { mirror: true, degrees: Decimal { digits: 180, places: 0 } }, quality: Default })
+/iiif/a/full/max/270/default.tif => Ok(Request { region: Full, size: Size { up: false, form: Max }, rotation: \
+        Rotation { mirror: false, degrees: Decimal { digits: 270, places: 0 } }, quality: Default })
+/iiif/a/full/max/!270/default.tif => Ok(Request { region: Full, size: Size { up: false, form: Max }, rotation: \
+        Rotation { mirror: true, degrees: Decimal { digits: 270, places: 0 } }, quality: Default })
+/iiif/a/full/max/360/default.tif => Ok(Request { region: Full, size: Size { up: false, form: Max }, rotation: \
+        Rotation { mirror: false, degrees: Decimal { digits: 360, places: 0 } }, quality: Default })
+/iiif/a/full/max/!360/default.tif => Ok(Request { region: Full, size: Size { up: false, form: Max }, rotation: \
+        Rotation { mirror: true, degrees: Decimal { digits: 360, places: 0 } }, quality: Default })
+/iiif/a/full/max/0.0/default.tif => Ok(Request { region: Full, size: Size { up: false, form: Max }, rotation: \
+        Rotation { mirror: false, degrees: Decimal { digits: 0, places: 1 } }, quality: Default })
+/iiif/a/full/max/!0.0/default.tif => Ok(Request { region: Full, size: Size { up: false, form: Max }, rotation: \
+        Rotation { mirror: true, degrees: Decimal { digits: 0, places: 1 } }, quality: Default })
+/iiif/a/full/max/090/default.tif => Ok(Request { region: Full, size: Size { up: false, form: Max }, rotation: \
+        Rotation { mirror: false, degrees: Decimal { digits: 90, places: 0 } }, quality: Default })
+/iiif/a/full/max/!090/default.tif => Ok(Request { region: Full, size: Size { up: false, form: Max }, rotation: \
+        Rotation { mirror: true, degrees: Decimal { digits: 90, places: 0 } }, quality: Default })
+/iiif/a/full/max/360.0000000000/default.tif => Ok(Request { region: Full, size: Size { up: false, form: Max }, \
+        rotation: Rotation { mirror: false, degrees: Decimal { digits: 3600000000000, places: 10 } }, quality: \
+        Default })
+/iiif/a/full/max/!360.0000000000/default.tif => Ok(Request { region: Full, size: Size { up: false, form: Max }, \
+        rotation: Rotation { mirror: true, degrees: Decimal { digits: 3600000000000, places: 10 } }, quality: Default \
+        })";
 
 /// Words that spell no region, in pixels or percents.
 const NO_REGIONS: &str = r#"/iiif/a//max/0/default.tif => Err(Region)

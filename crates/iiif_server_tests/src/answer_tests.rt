@@ -267,10 +267,12 @@ fn tile_that_is_not_read_is_a_source_fault(rt: HostRuntime) {
 
 /// The head of the answer to a GET of the whole sample.
 pub(crate) const IMAGE_HEAD: &[u8] =
-    b"HTTP/1.1 200 OK\r\nContent-Type: image/tiff\r\nAccess-Control-Allow-Origin: *\r\nLink: <http://localhost/iiif/a/full/max/0/default.tif>;rel=\"canonical\"\r\nContent-Length: 190\r\n\r\n";
+    b"HTTP/1.1 200 OK\r\nContent-Type: image/tiff\r\nAccess-Control-Allow-Origin: *\r\nLink: \
+        <http://localhost/iiif/a/full/max/0/default.tif>;rel=\"canonical\"\r\nContent-Length: 190\r\n\r\n";
 
 const FAULT_ANSWER: &[u8] =
-    b"HTTP/1.1 500 Internal Server Error\r\nContent-Type: text/plain\r\nAccess-Control-Allow-Origin: *\r\nContent-Length: 10\r\n\r\nL1 source\n";
+    b"HTTP/1.1 500 Internal Server Error\r\nContent-Type: text/plain\r\nAccess-Control-Allow-Origin: *\r\n\
+        Content-Length: 10\r\n\r\nL1 source\n";
 
 /// The image with its head.
 const IMAGE: Case<'static> = (
@@ -297,7 +299,8 @@ const REFUSALS: &[Case<'static>] = &[
         Want::Whole(
             404,
             Text::Is(
-                b"HTTP/1.1 404 Not Found\r\nContent-Type: text/plain\r\nAccess-Control-Allow-Origin: *\r\nContent-Length: 14\r\n\r\nQ4 identifier\n",
+                b"HTTP/1.1 404 Not Found\r\nContent-Type: text/plain\r\nAccess-Control-Allow-Origin: *\r\n\
+                    Content-Length: 14\r\n\r\nQ4 identifier\n",
             ),
         ),
     ),
@@ -315,7 +318,8 @@ const REFUSALS: &[Case<'static>] = &[
         Want::Whole(
             400,
             Text::Is(
-                b"HTTP/1.1 400 Bad Request\r\nContent-Type: text/plain\r\nAccess-Control-Allow-Origin: *\r\nContent-Length: 8\r\n\r\nQ3 path\n",
+                b"HTTP/1.1 400 Bad Request\r\nContent-Type: text/plain\r\nAccess-Control-Allow-Origin: *\r\n\
+                    Content-Length: 8\r\n\r\nQ3 path\n",
             ),
         ),
     ),
@@ -324,7 +328,8 @@ const REFUSALS: &[Case<'static>] = &[
         Want::Whole(
             405,
             Text::Is(
-                b"HTTP/1.1 405 Method Not Allowed\r\nContent-Type: text/plain\r\nAccess-Control-Allow-Origin: *\r\nAllow: GET, HEAD\r\nContent-Length: 10\r\n\r\nQ2 method\n",
+                b"HTTP/1.1 405 Method Not Allowed\r\nContent-Type: text/plain\r\nAccess-Control-Allow-Origin: *\r\n\
+                    Allow: GET, HEAD\r\nContent-Length: 10\r\n\r\nQ2 method\n",
             ),
         ),
     ),
@@ -486,14 +491,27 @@ fn results_above_their_regions_that_are_refused(rt: HostRuntime) {
 }
 
 const INFORMATION: &[u8] =
-    b"{\"@context\":\"http://iiif.io/api/image/3/context.json\",\"extraFeatures\":[\"baseUriRedirect\",\"canonicalLinkHeader\",\"cors\",\"mirroring\",\"regionByPct\",\"regionByPx\",\"regionSquare\",\"rotationBy90s\",\"sizeByConfinedWh\",\"sizeByH\",\"sizeByPct\",\"sizeByW\",\"sizeByWh\"],\"extraFormats\":[\"tif\"],\"extraQualities\":[\"bitonal\",\"color\",\"gray\"],\"height\":4,\"id\":\"http://localhost/iiif/a\",\"maxHeight\":4096,\"maxWidth\":4096,\"preferredFormats\":[\"tif\"],\"profile\":\"level0\",\"protocol\":\"http://iiif.io/api/image\",\"tiles\":[{\"height\":2,\"scaleFactors\":[1,2],\"width\":2}],\"type\":\"ImageService3\",\"width\":4}";
+    b"{\"@context\":\"http://iiif.io/api/image/3/context.json\",\"extraFeatures\":[\"baseUriRedirect\",\
+        \"canonicalLinkHeader\",\"cors\",\"mirroring\",\"regionByPct\",\"regionByPx\",\"regionSquare\",\
+        \"rotationBy90s\",\"sizeByConfinedWh\",\"sizeByH\",\"sizeByPct\",\"sizeByW\",\"sizeByWh\"],\
+        \"extraFormats\":[\"tif\"],\"extraQualities\":[\"bitonal\",\"color\",\"gray\"],\"height\":4,\
+        \"id\":\"http://localhost/iiif/a\",\"maxHeight\":4096,\"maxWidth\":4096,\"preferredFormats\":[\"tif\"],\
+        \"profile\":\"level0\",\"protocol\":\"http://iiif.io/api/image\",\"tiles\":[{\"height\":2,\"scaleFactors\":[1,\
+        2],\"width\":2}],\"type\":\"ImageService3\",\"width\":4}";
 
 const INFORMATION_HEAD: &[u8] =
-    b"HTTP/1.1 200 OK\r\nContent-Type: application/ld+json;profile=\"http://iiif.io/api/image/3/context.json\"\r\nAccess-Control-Allow-Origin: *\r\nContent-Length: 564\r\n\r\n";
+    b"HTTP/1.1 200 OK\r\nContent-Type: application/ld+json;profile=\"http://iiif.io/api/image/3/context.json\"\r\n\
+        Access-Control-Allow-Origin: *\r\nContent-Length: 564\r\n\r\n";
 
 /// What a node that scales up says of the sample: after the other features, that sizes may be above their regions.
 const INFORMATION_OF_LARGER: &[u8] =
-    b"{\"@context\":\"http://iiif.io/api/image/3/context.json\",\"extraFeatures\":[\"baseUriRedirect\",\"canonicalLinkHeader\",\"cors\",\"mirroring\",\"regionByPct\",\"regionByPx\",\"regionSquare\",\"rotationBy90s\",\"sizeByConfinedWh\",\"sizeByH\",\"sizeByPct\",\"sizeByW\",\"sizeByWh\",\"sizeUpscaling\"],\"extraFormats\":[\"tif\"],\"extraQualities\":[\"bitonal\",\"color\",\"gray\"],\"height\":4,\"id\":\"http://localhost/iiif/a\",\"maxHeight\":4096,\"maxWidth\":4096,\"preferredFormats\":[\"tif\"],\"profile\":\"level0\",\"protocol\":\"http://iiif.io/api/image\",\"tiles\":[{\"height\":2,\"scaleFactors\":[1,2],\"width\":2}],\"type\":\"ImageService3\",\"width\":4}";
+    b"{\"@context\":\"http://iiif.io/api/image/3/context.json\",\"extraFeatures\":[\"baseUriRedirect\",\
+        \"canonicalLinkHeader\",\"cors\",\"mirroring\",\"regionByPct\",\"regionByPx\",\"regionSquare\",\
+        \"rotationBy90s\",\"sizeByConfinedWh\",\"sizeByH\",\"sizeByPct\",\"sizeByW\",\"sizeByWh\",\"sizeUpscaling\"],\
+        \"extraFormats\":[\"tif\"],\"extraQualities\":[\"bitonal\",\"color\",\"gray\"],\"height\":4,\
+        \"id\":\"http://localhost/iiif/a\",\"maxHeight\":4096,\"maxWidth\":4096,\"preferredFormats\":[\"tif\"],\
+        \"profile\":\"level0\",\"protocol\":\"http://iiif.io/api/image\",\"tiles\":[{\"height\":2,\"scaleFactors\":[1,\
+        2],\"width\":2}],\"type\":\"ImageService3\",\"width\":4}";
 
 static SAID: [Table; 4] = [
     (

@@ -10,20 +10,27 @@ use std::time::Clock;
 
 /// Three requests: a base URI, a method that isn't answered, and the head of a whole image.
 const REQUESTS: &[u8] =
-    b"GET /iiif/a HTTP/1.1\r\nHost: localhost\r\n\r\nPOST /iiif/a HTTP/1.1\r\nHost: localhost\r\n\r\nHEAD /iiif/a/full/max/0/default.tif HTTP/1.1\r\nHost: localhost\r\n\r\n";
+    b"GET /iiif/a HTTP/1.1\r\nHost: localhost\r\n\r\nPOST /iiif/a HTTP/1.1\r\nHost: localhost\r\n\r\nHEAD \
+        /iiif/a/full/max/0/default.tif HTTP/1.1\r\nHost: localhost\r\n\r\n";
 
 /// What they are answered.
 const ANSWERS: &[u8] =
-    b"HTTP/1.1 303 See Other\r\nAccess-Control-Allow-Origin: *\r\nLocation: http://localhost/iiif/a/info.json\r\nContent-Length: 0\r\n\r\nHTTP/1.1 405 Method Not Allowed\r\nContent-Type: text/plain\r\nAccess-Control-Allow-Origin: *\r\nAllow: GET, HEAD\r\nContent-Length: 10\r\n\r\nQ2 method\nHTTP/1.1 200 OK\r\nContent-Type: image/tiff\r\nAccess-Control-Allow-Origin: *\r\nLink: <http://localhost/iiif/a/full/max/0/default.tif>;rel=\"canonical\"\r\nContent-Length: 190\r\n\r\n";
+    b"HTTP/1.1 303 See Other\r\nAccess-Control-Allow-Origin: *\r\nLocation: http://localhost/iiif/a/info.json\r\n\
+        Content-Length: 0\r\n\r\nHTTP/1.1 405 Method Not Allowed\r\nContent-Type: text/plain\r\n\
+        Access-Control-Allow-Origin: *\r\nAllow: GET, HEAD\r\nContent-Length: 10\r\n\r\nQ2 method\nHTTP/1.1 200 OK\r\n\
+        Content-Type: image/tiff\r\nAccess-Control-Allow-Origin: *\r\nLink: \
+        <http://localhost/iiif/a/full/max/0/default.tif>;rel=\"canonical\"\r\nContent-Length: 190\r\n\r\n";
 
 const BAD_HEAD: &[u8] =
-    b"HTTP/1.1 400 Bad Request\r\nContent-Type: text/plain\r\nAccess-Control-Allow-Origin: *\r\nContent-Length: 8\r\nConnection: close\r\n\r\nQ1 head\n";
+    b"HTTP/1.1 400 Bad Request\r\nContent-Type: text/plain\r\nAccess-Control-Allow-Origin: *\r\nContent-Length: 8\r\n\
+        Connection: close\r\n\r\nQ1 head\n";
 
 const REDIRECT: &[u8] =
     b"HTTP/1.1 303 See Other\r\nAccess-Control-Allow-Origin: *\r\nLocation: http://localhost/iiif/a/info.json\r\nContent-Length: 0\r\n\r\n";
 
 const REDIRECT_CLOSES: &[u8] =
-    b"HTTP/1.1 303 See Other\r\nAccess-Control-Allow-Origin: *\r\nLocation: http://localhost/iiif/a/info.json\r\nContent-Length: 0\r\nConnection: close\r\n\r\n";
+    b"HTTP/1.1 303 See Other\r\nAccess-Control-Allow-Origin: *\r\nLocation: http://localhost/iiif/a/info.json\r\n\
+        Content-Length: 0\r\nConnection: close\r\n\r\n";
 
 /// Nothing, and all of it at once.
 const AT_ONCE: Input<'static> = Input {
@@ -246,7 +253,12 @@ fn heads_that_are_none_calls_that_close_and_no_more_than_a_thousand(rt: HostRunt
 
 /// What a redirect, the head of a refusal, a method that isn't answered and what is no head are answered.
 const FOUR_ANSWERS: &[u8] =
-    b"HTTP/1.1 303 See Other\r\nAccess-Control-Allow-Origin: *\r\nLocation: http://localhost/iiif/a/info.json\r\nContent-Length: 0\r\n\r\nHTTP/1.1 404 Not Found\r\nContent-Type: text/plain\r\nAccess-Control-Allow-Origin: *\r\nContent-Length: 14\r\n\r\nHTTP/1.1 405 Method Not Allowed\r\nContent-Type: text/plain\r\nAccess-Control-Allow-Origin: *\r\nAllow: GET, HEAD\r\nContent-Length: 10\r\n\r\nQ2 method\nHTTP/1.1 400 Bad Request\r\nContent-Type: text/plain\r\nAccess-Control-Allow-Origin: *\r\nContent-Length: 8\r\nConnection: close\r\n\r\nQ1 head\n";
+    b"HTTP/1.1 303 See Other\r\nAccess-Control-Allow-Origin: *\r\nLocation: http://localhost/iiif/a/info.json\r\n\
+        Content-Length: 0\r\n\r\nHTTP/1.1 404 Not Found\r\nContent-Type: text/plain\r\nAccess-Control-Allow-Origin: \
+        *\r\nContent-Length: 14\r\n\r\nHTTP/1.1 405 Method Not Allowed\r\nContent-Type: text/plain\r\n\
+        Access-Control-Allow-Origin: *\r\nAllow: GET, HEAD\r\nContent-Length: 10\r\n\r\nQ2 method\nHTTP/1.1 400 Bad \
+        Request\r\nContent-Type: text/plain\r\nAccess-Control-Allow-Origin: *\r\nContent-Length: 8\r\nConnection: \
+        close\r\n\r\nQ1 head\n";
 
 /// Inputs, what is answered, and what a watch is told of them: how many were begun, sent whole and cut off, how many had a call, and the
 /// sums of their bytes and of their statuses.
