@@ -1,0 +1,65 @@
+#!/usr/bin/env python3
+"""Starts what a package holds as its unit says, from the folder that it was unpacked to, and asks it for its sample's information and image.
+
+    packaging/unpacked.py PACKAGE
+"""
+import os
+import shlex
+import subprocess
+import sys
+import tempfile
+import time
+import urllib.error
+import urllib.request
+
+PORT = 18080
+WANTED = ("usr/bin/iiif_serve", "usr/share/man/man1/iiif_serve.1.gz", "usr/share/iiif-serve/viewers/leaflet.html",
+          "usr/share/doc/iiif-serve/OPERATING.md.gz", "usr/share/doc/iiif-serve/examples/nginx.conf", "etc/default/iiif-serve")
+
+
+def settings(root):
+    """What the unit's environment has from the file of defaults, as a shell reads it."""
+    words = ". \"$1\"; printf '%s\\0' \"$BASE\" \"$OPTIONS\" \"$IMAGES\""
+    said = subprocess.run(["sh", "-c", words, "sh", f"{root}/etc/default/iiif-serve"], capture_output=True, check=True).stdout
+    base, options, images = said.decode().split("\0")[:3]
+    return {"${BASE}": [base], "${LISTEN}": [f"127.0.0.1:{PORT}"], "$OPTIONS": options.split(), "$IMAGES": images.split()}
+
+
+def command(root):
+    """The unit's ExecStart, with its variables, below the folder."""
+    with open(f"{root}/lib/systemd/system/iiif-serve.service") as unit:
+        (line,) = [it.strip().removeprefix("ExecStart=") for it in unit if it.startswith("ExecStart=")]
+    named = settings(root)
+    words = [word for it in shlex.split(line) for word in named.get(it, [it])]
+    return [root + words[0], *words[1:]]
+
+
+def answer(target):
+    """The bytes of an answer of status 200, asked again while nobody listens yet."""
+    for _ in range(100):
+        try:
+            with urllib.request.urlopen(f"http://127.0.0.1:{PORT}/iiif/sample/{target}", timeout=10) as it:
+                return it.read()
+        except urllib.error.URLError:
+            time.sleep(0.1)
+    raise SystemExit(f"check: no answer to {target}")
+
+
+def main(package):
+    with tempfile.TemporaryDirectory() as root:
+        subprocess.run(["dpkg-deb", "--extract", package, root], check=True)
+        lacking = [it for it in WANTED if not os.path.exists(f"{root}/{it}")]
+        if lacking:
+            raise SystemExit(f"check: not in the package: {' '.join(lacking)}")
+        server = subprocess.Popen(command(root), stderr=subprocess.DEVNULL)
+        try:
+            if b'"type":"ImageService3"' not in answer("info.json") or len(answer("full/max/0/default.tif")) != 190:
+                raise SystemExit("check: another answer than the sample's")
+        finally:
+            server.terminate()
+            server.wait()
+    print("package: unpacked, started as its unit says, answered")
+
+
+if __name__ == "__main__":
+    main(sys.argv[1])
