@@ -24,8 +24,6 @@ MIB = 2 ** 20
 # Bounds that aren't met yet, and why.
 OPEN = {
     "an overview beside a silent node": "the first ask of it takes --peer-timeout, which is longer than three such overviews",
-    "64 large requests whose clients reset later": "who waits half a second goes on, and a block that is begun is made to its end",
-    "64 large requests whose clients close": "as of those that reset later; and that one has closed is known after a second",
 }
 
 
@@ -153,6 +151,7 @@ ATTACKS = {
     "one ask of level 20": one_ask,
     "a node that announces 64 MiB": announced,
     "64 large requests whose clients reset": gone(reset),
+    "64 large requests whose clients reset soon": gone(reset, 0.1),
     "64 large requests whose clients reset later": gone(reset, 0.8),
     "64 large requests whose clients close": gone(socket.socket.close),
     "a FIFO as an image": fifo,

@@ -277,15 +277,14 @@ module _ (laws : Laws) (j : Job) (tile_means : TileKey → TileVal → Type 0) (
       let long = length_whole start kind image (result_dim j) is_for.sides in
       (image, is_for, (omega (arith, long, offset_some kind), Appends-nil old, inl refl))
 
-  -- so much of it as was written before a band failed: nothing, or all that stood ready
-  pub load_stopped : (old new : Option (List ℕ)) (text : List ℕ) (sent held rows y : ℕ) → y < (result_dim j).h → 0 < (result_dim j).w →
-      HasCounted j kind (length (start ++ head_of kind (result_dim j))) rows text sent held y → (sent ≡ 0) ⊎ (text ≡ []) →
+  -- so much as was written before a band is there stays less than all
+  rows_left : (old new : Option (List ℕ)) (text : List ℕ) (sent held rows y : ℕ) → y < (result_dim j).h → 0 < (result_dim j).w →
+      HasCounted j kind (length (start ++ head_of kind (result_dim j))) rows text sent held y →
       (shows : Pictures) → HasPicture shows j.name j.shape → IsSource (named shows j.name) →
       HasRows shows j tile_means sum_means kind start old new text sent y →
       (image : Picture) × IsImageFor shows j tile_means sum_means image
-      × ((sent < length (start ++ file image kind)) × Appends old new (take sent (start ++ file image kind)) ×
-      ((sent ≡ 0) ⊎ (length (start ++ head_of kind (result_dim j)) ≤ sent)))
-  load_stopped old new text sent held rows y above some counted ready shows has source so_far =
+      × (sent < length (start ++ file image kind)) × Appends old new (take sent (start ++ file image kind))
+  rows_left old new text sent held rows y above some counted shows has source so_far =
       let p = named shows j.name in
       let of = picture_shown shows j has source in
       let image = so_far.has.image in
@@ -302,12 +301,44 @@ module _ (laws : Laws) (j : Job) (tile_means : TileKey → TileVal → Type 0) (
       take-append_seam so_far.written (text ++ left.0) in (
         image,
         so_far.has.is_for,
+        omega (arith, long, front, short, total),
+        subst (Appends old new) (sym part) so_far.appended,
+      )
+
+  -- so much of it as was written before a band failed: nothing, or all that stood ready
+  pub load_stopped : (old new : Option (List ℕ)) (text : List ℕ) (sent held rows y : ℕ) → y < (result_dim j).h → 0 < (result_dim j).w →
+      HasCounted j kind (length (start ++ head_of kind (result_dim j))) rows text sent held y → (sent ≡ 0) ⊎ (text ≡ []) →
+      (shows : Pictures) → HasPicture shows j.name j.shape → IsSource (named shows j.name) →
+      HasRows shows j tile_means sum_means kind start old new text sent y →
+      (image : Picture) × IsImageFor shows j tile_means sum_means image
+      × ((sent < length (start ++ file image kind)) × Appends old new (take sent (start ++ file image kind)) ×
+      ((sent ≡ 0) ⊎ (length (start ++ head_of kind (result_dim j)) ≤ sent)))
+  load_stopped old new text sent held rows y above some counted ready shows has source so_far =
+      let left = rows_left old new text sent held rows y above some counted shows has source so_far in
+      let total = counted.total in (
+        left.0,
+        left.1,
         (
-          omega (arith, long, front, short, total),
-          subst (Appends old new) (sym part) so_far.appended,
+          left.2,
+          left.3,
           ⊎_elim (λ none. inl none) (λ (none : text ≡ []). let empty : length text ≡ 0 = ap length none in
               inr (omega (arith, total, empty))) ready,
         ),
+      )
+
+  -- and so where who reads is found to be gone before a band is made
+  pub gone_stopped : {W : Type 0} (contents : W → Option (List ℕ)) (fails : W → W → Type 0) (old mid : W) (text : List ℕ)
+      (sent held rows y : ℕ) → y < (result_dim j).h → 0 < (result_dim j).w →
+      HasCounted j kind (length (start ++ head_of kind (result_dim j))) rows text sent held y → fails mid mid →
+      (shows : Pictures) → HasPicture shows j.name j.shape → IsSource (named shows j.name) →
+      HasRows shows j tile_means sum_means kind start (contents old) (contents mid) text sent y →
+      (image : Picture) × IsImageFor shows j tile_means sum_means image ×
+      WasCut contents fails old mid (start ++ file image kind) sent
+  gone_stopped contents fails old mid text sent held rows y above some counted gone shows has source so_far =
+      let left = rows_left (contents old) (contents mid) text sent held rows y above some counted shows has source so_far in (
+        left.0,
+        left.1,
+        record { strict = left.2; written = left.3; before = mid; reached = left.3; failed = gone },
       )
 
   -- so much as was written before the writer failed

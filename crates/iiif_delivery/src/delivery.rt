@@ -15,6 +15,7 @@ ghost use Rattle.iiif_delivery.specs.declared.delivery.Stopped.TheVariants.{Writ
 
 use crate::rows::{laws_of_bands, put_band};
 use crate::tile::send_tile;
+use crate::turns::{Turns, come, is_gone_meanwhile, leave};
 use iiif_assemble::{Items, Job};
 use iiif_bands::laws::bands_cut_results;
 use iiif_io::{Outlet, look, send};
@@ -103,7 +104,7 @@ fn flush<W: Outlet>(out: &mut W, text: &mut Vec<u8>, sent: u64) -> Result<u64, S
 /// Sends the image of a job behind a text in bands of `rows`, as `send_image` does where the image is not a tile as it stands.
 fn send_bands<
     T: Items<TileKey, TileVal, P, R> + Sync,
-    S: Items<SumKey, SumVal, P, R> + Sync,
+    S: Items<SumKey, SumVal, P, R> + Turns<R> + Sync,
     P: Send,
     R: Threads + Wait + Sync,
     W: Outlet,
@@ -158,9 +159,15 @@ fn send_bands<
         if let Err(more) = look(out, &text) {
             return Err(Stopped::Writer(sent + more));
         }
-        match put_band(
+        let queued = come::<S, P, R>(rt, sums, job, band, kept.as_slice());
+        if is_gone_meanwhile(rt, sums, queued, out) {
+            return Err(Stopped::Writer(sent));
+        }
+        let made = put_band(
             rt, alloc, tiles, sums, passes, job, kind, band, &mut kept, &mut text,
-        ) {
+        );
+        leave(rt, sums, queued);
+        match made {
             Ok(most) => held = held.max(most),
             Err(fault) => {
                 // Where no band was made, nothing is written.
@@ -194,14 +201,14 @@ fn send_bands<
 /// `held` counts a band of them.
 ///
 /// Of an image that is made of blocks, the sums of those of a band are held until those of the next are asked for, of 64 at most. None is
-/// asked for before its band is made.
+/// asked for before its band is made. Before some are, the job waits for its turn, and looks meanwhile whether who reads is still there.
 ///
 /// # Errors
 ///
 /// The first fault of a band, the writer's, or `NoMemory`.
 pub fn send_image<
     T: Items<TileKey, TileVal, P, R> + Sync,
-    S: Items<SumKey, SumVal, P, R> + Sync,
+    S: Items<SumKey, SumVal, P, R> + Turns<R> + Sync,
     P: Send,
     R: Threads + Wait + Sync,
     W: Outlet,

@@ -4,5 +4,7 @@
 pub mod delivery;
 mod rows;
 mod tile;
+pub mod turns;
 
 pub use delivery::{Delivered, Stopped, send_image};
+pub use turns::{Queued, Turns};

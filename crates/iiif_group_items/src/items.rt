@@ -6,6 +6,7 @@ ghost use Rattle.iiif_group_items.specs.Values.{SumIsNamed, SumMayBe, TileIsName
 
 use crate::admission::Admission;
 use iiif_assemble::Items;
+use iiif_delivery::{Queued, Turns};
 use iiif_keys::{Fault, SumKey, SumVal, System, TileKey, TileVal};
 use iiif_source::Source;
 use iiif_sum_group::{Gate, Groups, Link, Passes, SumCalls, TileCalls, taken};
@@ -14,7 +15,7 @@ use std::sync::ledger::Ledger;
 use std::sync::{Arc, Wait};
 use std::time::Clock;
 
-/// The groups of a node, as images are made of what they have, and who may make sums by several workers now.
+/// The groups of a node, as images are made of what they have, and who may make sums now.
 #[derive(Drop)]
 pub struct GroupItems<'a, R, S: Source<R>, J: System, N, T>(
     pub &'a Groups<R, S, J, N, T>,
@@ -61,7 +62,7 @@ impl<
     fn end(&self, _rt: &R) {}
 }
 
-/// Sums, in the same way. Where several workers ask for some, they wait until they are admitted.
+/// Sums, in the same way.
 impl<
     'a,
     R: Wait + Clock,
@@ -93,11 +94,23 @@ impl<
         self.0.sums().holds(rt, key)
     }
 
-    fn begin(&self, rt: &R) {
-        self.1.enter(rt);
+    fn begin(&self, _rt: &R) {}
+
+    fn end(&self, _rt: &R) {}
+}
+
+/// Whose sums are to be made waits until it is admitted.
+impl<'a, R: Wait + Clock, S: Source<R> + Drop, J: System, N, T> Turns<R>
+    for GroupItems<'a, R, S, J, N, T> {
+    fn come(&self, rt: &R, work: u64) -> Queued {
+        self.1.come(rt, work)
     }
 
-    fn end(&self, rt: &R) {
-        self.1.leave(rt);
+    fn wait(&self, rt: &R, job: Queued) -> bool {
+        self.1.wait(rt, job)
+    }
+
+    fn leave(&self, rt: &R, job: Queued) {
+        self.1.leave(rt, job);
     }
 }

@@ -6,11 +6,15 @@ ghost use Rattle.iiif_assemble.specs.Jobs.{IsJob};
 use crate::pictures::{Failing, QUARTER, Shown, UPRIGHT, job, of_samples, tens};
 use iiif_assemble::Job;
 use iiif_delivery::{Delivered, Stopped, send_image};
+use iiif_io::Outlet;
 use iiif_keys::Fault;
 use iiif_pixel::{Depth, Dim, Kind, Quality, Samples, Turn};
 use iiif_tiff_write::{OutKind, fits};
 use std::alloc::{AllocError, Global};
+use std::io;
+use std::io::{ErrorKind, Write};
 use std::sync::Wait;
+use std::sync::atomic::{AtomicU64, Ordering};
 use std::thread::Threads;
 
 /// The samples 0 to 199, twice.
@@ -40,14 +44,15 @@ struct Answer {
     asks: u64,
 }
 
-/// An image that is sent in bands of one row by so many workers.
-fn send<R: Threads + Wait + Sync>(
+/// How an image is sent in bands of one row by so many workers, and how many blocks or tiles were asked for.
+fn send_to<R: Threads + Wait + Sync, W: Outlet>(
     rt: &R,
     alloc: Global,
     shown: &Shown,
     job: &Job,
     workers: usize,
-) -> Option<Answer>
+    out: &mut W,
+) -> Option<(Result<Delivered, Stopped>, u64)>
     requires job { IsJob job.now }
     requires shape { job.now.shape ≡ shown.now.shape }
 {
@@ -63,7 +68,6 @@ fn send<R: Threads + Wait + Sync>(
         return None;
     }
     let mut passes = vec![in alloc; 0u64; workers.max(1)].ok()?;
-    let mut bytes = Vec::new(alloc);
     let end = send_image(
         rt,
         alloc,
@@ -74,13 +78,31 @@ fn send<R: Threads + Wait + Sync>(
         1,
         OutKind::Gray,
         b"",
-        &mut bytes,
+        out,
     );
     let mut asks = 0u64;
     for pass in &passes {
         asks = asks.wrapping_add(*pass);
     }
-    Some(Answer { end, bytes, asks })
+    Some((end, asks))
+}
+
+/// An image that is sent so, to memory.
+fn send<R: Threads + Wait + Sync>(
+    rt: &R,
+    alloc: Global,
+    shown: &Shown,
+    job: &Job,
+    workers: usize,
+) -> Option<Answer>
+    requires job { IsJob job.now }
+    requires shape { job.now.shape ≡ shown.now.shape }
+{
+    let mut bytes = Vec::new(alloc);
+    match send_to(rt, alloc, shown, job, workers, &mut bytes) {
+        Some((end, asks)) => Some(Answer { end, bytes, asks }),
+        None => None,
+    }
 }
 
 /// A picture scaled to 7 by 7, sent of blocks with a side of 2 by so many workers.
@@ -208,6 +230,54 @@ fn fault_that_is_met_once_ends_the_image(rt: HostRuntime) {
         assert!(rt; whole.bytes.len() as u64 == LEN && whole.asks == 100);
         assert!(rt; ends_at_once(&rt, rt.alloc(), whole));
     }
+}
+
+/// A writer whose reader is there when it is first looked for, and gone then.
+#[derive(Drop)]
+struct Leaving {
+    looks: AtomicU64,
+}
+
+impl Write for Leaving {
+    fn write(&mut self, _bytes: &[u8]) -> io::Result<usize> {
+        Err(io::Error::from(ErrorKind::BrokenPipe))
+    }
+
+    fn flush(&mut self) -> io::Result<()> {
+        Ok(())
+    }
+}
+
+impl Outlet for Leaving {
+    ghost fails = { λ _ _. Unit {0} };
+
+    fn put(&mut self, bytes: &[u8]) -> io::Result<usize> {
+        self.write(bytes)
+    }
+
+    fn is_gone(&self) -> bool {
+        self.looks.fetch_add(1, Ordering::SeqCst) > 0
+    }
+}
+
+/// How the picture is sent whose job waits, to one who goes away meanwhile, and how many blocks were asked for.
+fn left_waiting<R: Threads + Wait + Sync>(
+    rt: &R,
+    alloc: Global,
+) -> Option<(Result<Delivered, Stopped>, u64)> {
+    let shown = sample(alloc, Failing::Turn)?;
+    let mut out = Leaving {
+        looks: AtomicU64::new(0),
+    };
+    match job(alloc, shown.shape, 2, Dim { w: 7, h: 7 }, UPRIGHT, 1) {
+        Some(job) => send_to(rt, alloc, &shown, &job, 2, &mut out),
+        None => None,
+    }
+}
+
+#[test]
+fn nothing_is_asked_for_one_who_goes_away_while_the_job_waits(rt: HostRuntime) {
+    assert!(rt; left_waiting(&rt, rt.alloc()) == Some((Err(Stopped::Writer(0)), 0)));
 }
 
 /// The picture of 4 by 4 places, which is one tile, turned and sent by one worker.

@@ -12,6 +12,7 @@ ghost use Rattle.iiif_assemble.specs.Jobs.{IsJob};
 use iiif_area::{Sums, is_scalable, meets};
 use iiif_assemble::{Items, Job};
 use iiif_canonical::Resolved;
+use iiif_delivery::{Queued, Turns};
 use iiif_keys::{Fault, Name, Shape, SumKey, SumVal, TileKey, TileVal, is_name};
 use iiif_pixel::{Dim, Kind, Quality, Raster, Rect, Samples, Turn};
 use iiif_workers::Idle;
@@ -30,6 +31,8 @@ pub enum Failing {
     Blocks(Option<u32>),
     /// The block that is asked for as this one in time, from 0 on. Asked for again it doesn't fail.
     Once(u64),
+    /// None, but the turn of a job that waits for blocks doesn't come.
+    Turn,
 }
 
 impl Failing {
@@ -145,6 +148,19 @@ impl<R> Items<SumKey, SumVal, u64, R> for Shown {
     fn begin(&self, _rt: &R) {}
 
     fn end(&self, _rt: &R) {}
+}
+
+/// Each job has its turn at once, or none has.
+impl<R> Turns<R> for Shown {
+    fn come(&self, _rt: &R, work: u64) -> Queued {
+        Queued { work, number: 0 }
+    }
+
+    fn wait(&self, _rt: &R, _job: Queued) -> bool {
+        !matches!(self.fails, Failing::Turn)
+    }
+
+    fn leave(&self, _rt: &R, _job: Queued) {}
 }
 
 /// How many samples there are.

@@ -2,6 +2,7 @@
 #![tactic(auto)]
 
 pub use iiif_answers::{Cause, Config, ConfigFault, Cut, Part, Sent, is_base_url};
+pub use iiif_delivery::Queued;
 pub use iiif_group_items::Admission;
 pub use iiif_images::{AddFault, Catalogue};
 pub use iiif_keys::{Fault, is_name};

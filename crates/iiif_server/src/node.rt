@@ -46,10 +46,17 @@ use std::sync::ledger::{Blank, Ledger};
 use std::thread::Threads;
 use std::time::Clock;
 
-/// How many jobs at a time make their blocks, among so many nodes: as many as each has workers. Of several nodes all do: there a job mostly
-/// waits for replies, and who waits for a slow node is not to hold the others.
-fn jobs_at_a_time(workers: u32, nodes: usize) -> u32 {
-    if nodes > 1 { u32::MAX } else { workers }
+/// How many jobs of so many workers each make their blocks at a time: as many as each has workers, and so many that four work in all.
+fn jobs_at_a_time(workers: u32) -> u32 {
+    workers.max(4 / workers.max(1))
+}
+
+/// Who may make blocks now, among so many nodes. Of several nodes all light jobs may: there a job mostly waits for replies, and who waits
+/// for a slow node is not to hold the others.
+fn admission(alloc: Global, workers: u32, nodes: usize) -> Admission {
+    let most = jobs_at_a_time(workers);
+    let light = if nodes > 1 { u32::MAX } else { most };
+    Admission::new(alloc, light, most.div_ceil(2))
 }
 
 /// A server. Clauses see what it was told, and its images. J says what the names of the images stand for, and which ledgers count
@@ -62,7 +69,7 @@ where
 {
     config: Config,
     groups: Groups<R, S, J, N, T>,
-    /// Who may make blocks by several workers now.
+    /// Who may make blocks now.
     admission: Admission,
 }
 
@@ -107,7 +114,7 @@ impl<R, S: Source<R> + Drop, J: System, N, T> Node<R, S, J, N, T> {
         ensures items { IfOk result (λ n. n.items ≡ catalogue) }
     {
         let edge = config.edge();
-        let most = jobs_at_a_time(config.workers(), sums.links.len());
+        let admission = admission(alloc, config.workers(), sums.links.len());
         let images = Images::new(alloc, catalogue, edge);
         let group = tiles.group(alloc)?;
         let tiles = Tiles::new(alloc, images, group);
@@ -116,7 +123,7 @@ impl<R, S: Source<R> + Drop, J: System, N, T> Node<R, S, J, N, T> {
         Ok(Node {
             config,
             groups,
-            admission: Admission::new(most),
+            admission,
         })
     }
 

@@ -13,7 +13,8 @@ use Rattle.iiif_tiff_write.specs.File.{file, head_of, strip}
 use Rattle.iiif_delivery.specs.Delivery.{band_from, result_dim, Stops}
 use Rattle.iiif_delivery.specs.declared.delivery.Stopped.{Stopped}
 use Rattle.iiif_delivery.specs.Code.{IsBandFor}
-use Rattle.iiif_delivery.proofs.StepLemmas.{first_rows, none_sent, load_stopped, writer_stopped, more_rows, flushed_rows, all_sent}
+use Rattle.iiif_delivery.proofs.StepLemmas.{first_rows, none_sent, gone_stopped, load_stopped, writer_stopped}
+use Rattle.iiif_delivery.proofs.StepLemmas.{more_rows, flushed_rows, all_sent}
 use Rattle.iiif_delivery.proofs.StepLemmas.{counted_first, counted_more, counted_flushed, counted_len, counted_none, counted_before}
 use Rattle.iiif_delivery.proofs.StepLemmas.{band_at, band_above, bands_end, result_some, more_len, sent_within, counted_done}
 use Rattle.iiif_delivery.proofs.delivery.send_bands.Goals as goal
@@ -90,7 +91,7 @@ returns-then-held-eq0-clause-fault g c =
       y,
       counted_before j c.args.kind front c.args.rows c.loop-band.text.items c.loop-band.sent c.loop-band.held y
           c.loop-band.invariant.counted c.if-held-eq0.true some,
-      ⊎_elim (λ e. inl e) (λ f. inr (b, here, of_job, f)) c.in-Err-put_band.ensures.fault,
+      ⊎_elim (λ e. inl e) (λ f. inr (b, here, of_job, f)) c.in-Err-made.ensures.fault,
     )
 
 pub flush-requires : goal.flush-requires
@@ -111,7 +112,7 @@ flush-requires g c =
     ap length c.in-Ok.ensures ∙ length-append c.args.start.now (head_of c.args.kind c.turned-dim.result) in
     let within = sent_within j c.args.kind c.args.start.now c.args.rows c.loop-band.text.items c.loop-band.sent c.loop-band.held y
     c.loop-band.invariant.counted (omega arith) in
-    omega (arith, within, ap length c.in-Err-put_band.ensures.none, small, long.0, long.1, first, c.requires.len)
+    omega (arith, within, ap length c.in-Err-made.ensures.none, small, long.0, long.1, first, c.requires.len)
 
 pub returns-in-Ok-flush-clause-stopped : goal.returns-in-Ok-flush-clause-stopped
 returns-in-Ok-flush-clause-stopped g c =
@@ -126,7 +127,7 @@ returns-in-Ok-flush-clause-stopped g c =
     let y = min (i * c.args.rows) d.h in
     let above = band_above j.resolved j.plan c.args.rows bs i c.requires.rows are c.loop-band-test.true in
     let some = (result_some j c.requires.job.scalable.result_columns c.requires.job.scalable.result_rows).0 in
-    let same = c.in-Err-put_band.ensures.none in
+    let same = c.in-Err-made.ensures.none in
     let count = c.in-Ok-flush.ensures.count ∙ ap (λ (t : List ℕ). c.loop-band.sent + length t) same in
     let begun = (counted_len j c.args.kind front c.args.rows c.loop-band.text.items c.loop-band.sent c.loop-band.held y c.in-Ok-flush.all
     c.loop-band.invariant.counted
@@ -164,12 +165,12 @@ returns-in-Ok-flush-clause-fault g c =
     let row : i * c.args.rows ≡ y = omega (arith, above) in
     let here : b.rect ≡ band_from d c.args.rows y = at ∙ ap (band_from d c.args.rows) row in
     let of_job : IsBandOf j b = subst (IsBandOf j) (sym c.band-item.is) (each i b c.loop-band-test.true) in
-    let same = c.in-Err-put_band.ensures.none in
+    let same = c.in-Err-made.ensures.none in
     let count = c.in-Ok-flush.ensures.count ∙ ap (λ (t : List ℕ). c.loop-band.sent + length t) same in (
       y,
       (counted_len j c.args.kind front c.args.rows c.loop-band.text.items c.loop-band.sent c.loop-band.held y c.in-Ok-flush.all
           c.loop-band.invariant.counted (omega (arith, c.if-held-eq0.false)) count).1,
-      ⊎_elim (λ e. inl e) (λ f. inr (b, here, of_job, f)) c.in-Err-put_band.ensures.fault,
+      ⊎_elim (λ e. inl e) (λ f. inr (b, here, of_job, f)) c.in-Err-made.ensures.fault,
     )
 
 pub returns-in-Err-flush-clause-stopped : goal.returns-in-Err-flush-clause-stopped
@@ -185,7 +186,7 @@ returns-in-Err-flush-clause-stopped g c =
     let y = min (i * c.args.rows) d.h in
     let cut = c.in-Err-flush.ensures.cut in
     let was = subst (λ (t : List ℕ). WasCut g.W.Write.contents g.W.Outlet.fails c.loop-band.out c.flush.new.out t cut.0)
-    c.in-Err-put_band.ensures.none cut.2 in
+    c.in-Err-made.ensures.none cut.2 in
     λ shows has source.
     let w = writer_stopped c.laws_of_bands.ensures j tm sm c.args.kind c.args.start.now c.requires.job.quarters c.requires.channels
     g.W.Write.contents g.W.Outlet.fails c.args.out.now c.loop-band.out c.flush.new.out c.loop-band.text.items c.loop-band.sent y cut.0
@@ -218,21 +219,22 @@ flush-requires-then-len-ge-PIECE g c =
     let is : b.rect ≡ record { x = 0; y = y; w = d.w; h = n } =
     band_at j.resolved j.plan c.args.rows bs i b are c.loop-band-test.true (sym c.band-item.is) ∙
     ap (λ (k : ℕ). let r : Rect = record { x = 0; y = k; w = d.w; h = n } in r) row in
-    let made = c.in-Ok-put_band.ensures.rows in
+    let made = c.in-Ok-made.ensures.rows in
     let is_band = subst (λ (r : Rect). IsBandFor j tm sm r made.0) is made.1 in
-    let is_held = subst (λ (r : Rect). IsHeldFor (sides_of r) (channels_of j.shape.kind) c.in-Ok-put_band.most) is
-    c.in-Ok-put_band.ensures.held in
+    let is_held = subst (λ (r : Rect). IsHeldFor (sides_of r) (channels_of j.shape.kind) c.in-Ok-made.most) is
+    c.in-Ok-made.ensures.held in
     let len = more_len j tm sm c.args.kind y n made.0 is_band in
-    let counted = counted_more j c.args.kind front c.args.rows c.loop-band.text.items (strip c.args.kind made.0) c.put_band.new.text.items
+    let counted = counted_more j c.args.kind front c.args.rows c.loop-band.text.items (strip c.args.kind made.0)
+    c.put_band-made.new.text.items
     c.loop-band.sent c.loop-band.held
-    c.in-Ok-put_band.most y n y2 c.max-held.result c.loop-band.invariant.counted len is_held (omega (arith, above))
+    c.in-Ok-made.most y n y2 c.max-held.result c.loop-band.invariant.counted len is_held (omega (arith, above))
     (omega (arith, above, c.requires.rows)) (λ (zero : y ≡ 0). omega (arith, zero, row))
     (omega (arith, c.max-held.ensures)) next made.2 in
     let small = c.in-Ok.text.small in
     let long = c.in-Ok.text.ok in
     let first : length c.in-Ok.text.items ≡ length c.args.start.now + length (head_of c.args.kind c.turned-dim.result) =
     ap length c.in-Ok.ensures ∙ length-append c.args.start.now (head_of c.args.kind c.turned-dim.result) in
-    let within = sent_within j c.args.kind c.args.start.now c.args.rows c.put_band.new.text.items c.loop-band.sent c.max-held.result y2
+    let within = sent_within j c.args.kind c.args.start.now c.args.rows c.put_band-made.new.text.items c.loop-band.sent c.max-held.result y2
     counted (omega arith) in
     omega (arith, within, small, long.0, long.1, first, c.requires.len)
 
@@ -257,15 +259,15 @@ returns-in-Err-flush-2-clause-stopped g c =
     let is : b.rect ≡ record { x = 0; y = y; w = d.w; h = n } =
     band_at j.resolved j.plan c.args.rows bs i b are c.loop-band-test.true (sym c.band-item.is) ∙
     ap (λ (k : ℕ). let r : Rect = record { x = 0; y = k; w = d.w; h = n } in r) row in
-    let made = c.in-Ok-put_band.ensures.rows in
+    let made = c.in-Ok-made.ensures.rows in
     let is_band = subst (λ (r : Rect). IsBandFor j tm sm r made.0) is made.1 in
     let cut = c.in-Err-flush-2.ensures.cut in
     λ shows has source.
     let w = writer_stopped c.laws_of_bands.ensures j tm sm c.args.kind c.args.start.now c.requires.job.quarters c.requires.channels
-    g.W.Write.contents g.W.Outlet.fails c.args.out.now c.loop-band.out c.flush-then-len-ge-PIECE.new.out c.put_band.new.text.items
+    g.W.Write.contents g.W.Outlet.fails c.args.out.now c.loop-band.out c.flush-then-len-ge-PIECE.new.out c.put_band-made.new.text.items
     c.loop-band.sent y2 cut.0 (omega arith) cut.2 shows has source
     (more_rows c.laws_of_bands.ensures j tm sm c.args.kind c.args.start.now c.requires.job.quarters c.requires.channels
-    (g.W.Write.contents c.args.out.now) (g.W.Write.contents c.loop-band.out) c.loop-band.text.items c.put_band.new.text.items
+    (g.W.Write.contents c.args.out.now) (g.W.Write.contents c.loop-band.out) c.loop-band.text.items c.put_band-made.new.text.items
     c.loop-band.sent y n y2 made.0
     (omega (arith, above)) is_band made.2 next shows has source (c.loop-band.invariant.rows shows has source)) in (
       w.0,
@@ -295,45 +297,46 @@ loop-band-preserved g c =
     let is : b.rect ≡ record { x = 0; y = y; w = d.w; h = n } =
     band_at j.resolved j.plan c.args.rows bs i b are c.loop-band-test.true (sym c.band-item.is) ∙
     ap (λ (k : ℕ). let r : Rect = record { x = 0; y = k; w = d.w; h = n } in r) row in
-    let made = c.in-Ok-put_band.ensures.rows in
+    let made = c.in-Ok-made.ensures.rows in
     let is_band = subst (λ (r : Rect). IsBandFor j tm sm r made.0) is made.1 in
-    let is_held = subst (λ (r : Rect). IsHeldFor (sides_of r) (channels_of j.shape.kind) c.in-Ok-put_band.most) is
-    c.in-Ok-put_band.ensures.held in
+    let is_held = subst (λ (r : Rect). IsHeldFor (sides_of r) (channels_of j.shape.kind) c.in-Ok-made.most) is
+    c.in-Ok-made.ensures.held in
     let len = more_len j tm sm c.args.kind y n made.0 is_band in
-    let counted = counted_more j c.args.kind front c.args.rows c.loop-band.text.items (strip c.args.kind made.0) c.put_band.new.text.items
+    let counted = counted_more j c.args.kind front c.args.rows c.loop-band.text.items (strip c.args.kind made.0)
+    c.put_band-made.new.text.items
     c.loop-band.sent c.loop-band.held
-    c.in-Ok-put_band.most y n y2 c.max-held.result c.loop-band.invariant.counted len is_held (omega (arith, above))
+    c.in-Ok-made.most y n y2 c.max-held.result c.loop-band.invariant.counted len is_held (omega (arith, above))
     (omega (arith, above, c.requires.rows)) (λ (zero : y ≡ 0). omega (arith, zero, row))
     (omega (arith, c.max-held.ensures)) next made.2 in
     elim c.if-len-ge-PIECE.branch [
       | then-len-ge-PIECE+in-Ok-flush-2 w ↦
           let none = ap (λ v. v.items) w.text-is ∙ w.in-Ok-flush-2.ensures.none in
           let count = w.sent-is ∙ w.in-Ok-flush-2.ensures.count in
-          let written = subst (λ o. Appends (g.W.Write.contents c.loop-band.out) (g.W.Write.contents o) c.put_band.new.text.items)
+          let written = subst (λ o. Appends (g.W.Write.contents c.loop-band.out) (g.W.Write.contents o) c.put_band-made.new.text.items)
           (sym w.out-is) w.in-Ok-flush-2.ensures.whole in
           record {
             rows = λ shows has source.
                 flushed_rows c.laws_of_bands.ensures j tm sm c.args.kind c.args.start.now c.requires.job.quarters c.requires.channels
                 (g.W.Write.contents c.args.out.now) (g.W.Write.contents c.loop-band.out) (g.W.Write.contents c.if-len-ge-PIECE.out)
-                c.put_band.new.text.items
+                c.put_band-made.new.text.items
                 c.if-len-ge-PIECE.text.items c.loop-band.sent c.if-len-ge-PIECE.sent y2 written none count shows
                 (more_rows c.laws_of_bands.ensures j tm sm c.args.kind c.args.start.now c.requires.job.quarters c.requires.channels
                 (g.W.Write.contents c.args.out.now) (g.W.Write.contents c.loop-band.out) c.loop-band.text.items
-                c.put_band.new.text.items c.loop-band.sent y n y2 made.0
+                c.put_band-made.new.text.items c.loop-band.sent y n y2 made.0
                 (omega (arith, above)) is_band made.2 next shows has source (c.loop-band.invariant.rows shows has source));
-            counted = counted_flushed j c.args.kind front c.args.rows c.put_band.new.text.items c.if-len-ge-PIECE.text.items
+            counted = counted_flushed j c.args.kind front c.args.rows c.put_band-made.new.text.items c.if-len-ge-PIECE.text.items
                 c.loop-band.sent c.max-held.result y2 c.if-len-ge-PIECE.sent counted
                 (omega (arith, next, above, c.requires.rows)) count none;
-            kept = c.put_band.ensures.kept;
+            kept = c.put_band-made.ensures.kept;
           }
       | else-len-ge-PIECE w ↦
           rw (w.out-is, w.text-is, w.sent-is) (record {
             rows = λ shows has source. (more_rows c.laws_of_bands.ensures j tm sm c.args.kind c.args.start.now c.requires.job.quarters
                 c.requires.channels (g.W.Write.contents c.args.out.now) (g.W.Write.contents c.loop-band.out) c.loop-band.text.items
-                c.put_band.new.text.items c.loop-band.sent y n y2 made.0
+                c.put_band-made.new.text.items c.loop-band.sent y n y2 made.0
                 (omega (arith, above)) is_band made.2 next shows has source (c.loop-band.invariant.rows shows has source));
             counted = counted;
-            kept = c.put_band.ensures.kept;
+            kept = c.put_band-made.ensures.kept;
           })
     ]
 
@@ -435,3 +438,20 @@ returns-in-Err-clause-stopped g c =
     g.W.Write.contents g.W.Outlet.fails c.args.out.now c.loop-band.out c.loop-band.out c.loop-band.text.items c.loop-band.sent y
     c.in-Err.more (omega (arith, above)) cut
     shows has source (c.loop-band.invariant.rows shows has source)
+
+pub returns-then-is_gone_meanwhile-clause-stopped : goal.returns-then-is_gone_meanwhile-clause-stopped
+returns-then-is_gone_meanwhile-clause-stopped g c =
+    let i = c.loop-band.band-index in
+    let bs = c.deref-band-items.result.now in
+    let j = c.args.job.now in
+    let d = result_dim j in
+    let are = subst (AreBands j.resolved j.plan c.args.rows) (sym c.deref-band-items.ensures.value) c.in-Ok-bands.ensures.bands in
+    let above = band_above j.resolved j.plan c.args.rows bs i c.requires.rows are c.loop-band-test.true in
+    let y = min (i * c.args.rows) d.h in
+    let some = (result_some j c.requires.job.scalable.result_columns c.requires.job.scalable.result_rows).0 in
+    let gone = c.is_gone_meanwhile.ensures c.if-is_gone_meanwhile.true in
+    λ shows has source.
+    gone_stopped c.laws_of_bands.ensures j (g.T.Items.means c.args.tiles.now) (g.S.Items.means c.args.sums.now) c.args.kind
+    c.args.start.now c.requires.job.quarters c.requires.channels g.W.Write.contents g.W.Outlet.fails c.args.out.now c.loop-band.out
+    c.loop-band.text.items c.loop-band.sent c.loop-band.held c.args.rows y
+    (omega (arith, above)) some c.loop-band.invariant.counted gone shows has source (c.loop-band.invariant.rows shows has source)
