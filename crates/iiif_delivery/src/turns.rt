@@ -1,6 +1,6 @@
 //! When the blocks of a band may be made.
 
-ghost use Rattle.std.specs.Prelude.{◌≡◌, true};
+ghost use Rattle.std.specs.Prelude.{◌≡◌, ◌*◌, ◌-◌, ◌/◌, ◌^◌, length, max, min, true};
 
 use iiif_assemble::{Items, Job, KeptSum, WithKept};
 use iiif_bands::Band;
@@ -16,10 +16,11 @@ pub struct Queued {
     pub number: u64,
 }
 
-/// Who may make blocks now. R is the runtime. Nothing is promised of it: a job whose turn doesn't come waits for some time.
+/// Who may make blocks now. R is the runtime. Nothing is promised of when a turn comes: a job whose turn doesn't waits for some time.
 pub trait Turns<R> {
     /// A job of so much work comes.
-    fn come(&self, rt: &R, work: u64) -> Queued;
+    fn come(&self, rt: &R, work: u64) -> Queued
+        ensures { result.work ≡ work };
 
     /// Waits for a job's turn, or for a moment, and says whether it has come.
     fn wait(&self, rt: &R, job: Queued) -> bool;
@@ -32,7 +33,10 @@ pub trait Turns<R> {
 const MOMENTS: u32 = 1200;
 
 /// About how many pixels of the image the blocks of a band have: of a region that is cut into `blocks` its share of them.
-fn work_of(job: &Job, blocks: usize, band: &Band) -> u64 {
+fn work_of(job: &Job, blocks: usize, band: &Band) -> u64
+    ensures { result ≡ min (min (job.now.resolved.rect.w * job.now.resolved.rect.h) (2 ^ 64 - 1) / max blocks 1 * length band.now.items.items)
+        (2 ^ 64 - 1) }
+{
     let rect = job.resolved.rect;
     let region = u64::from(rect.w).saturating_mul(u64::from(rect.h));
     let each = region / (blocks as u64).max(1);
@@ -75,12 +79,14 @@ pub(crate) fn is_gone_meanwhile<S: Turns<R>, R, W: Outlet>(
         return false;
     };
     for _ in 0..MOMENTS {
-        if turns.wait(rt, job) {
-            return false;
-        }
+        let has_come = turns.wait(rt, job);
+        // Once the turn has come too: who went away since the last look is not worked for.
         if out.is_gone() {
             turns.leave(rt, job);
             return true;
+        }
+        if has_come {
+            return false;
         }
     }
     false

@@ -7,3 +7,4 @@ pub use items::GroupItems;
 pub mod admission;
 pub mod items;
 pub mod laws;
+mod order;

@@ -260,12 +260,13 @@ impl Outlet for Leaving {
     }
 }
 
-/// How the picture is sent whose job waits, to one who goes away meanwhile, and how many blocks were asked for.
-fn left_waiting<R: Threads + Wait + Sync>(
+/// How the picture is sent to one who goes away meanwhile, and how many blocks were asked for.
+fn left<R: Threads + Wait + Sync>(
     rt: &R,
     alloc: Global,
+    fails: Failing,
 ) -> Option<(Result<Delivered, Stopped>, u64)> {
-    let shown = sample(alloc, Failing::Turn)?;
+    let shown = sample(alloc, fails)?;
     let mut out = Leaving {
         looks: AtomicU64::new(0),
     };
@@ -275,9 +276,12 @@ fn left_waiting<R: Threads + Wait + Sync>(
     }
 }
 
+/// The first job's turn doesn't come, that of the second does.
 #[test]
-fn nothing_is_asked_for_one_who_goes_away_while_the_job_waits(rt: HostRuntime) {
-    assert!(rt; left_waiting(&rt, rt.alloc()) == Some((Err(Stopped::Writer(0)), 0)));
+fn nothing_is_asked_for_one_who_goes_away_until_the_turn_has_come(rt: HostRuntime) {
+    for fails in [Failing::Turn, Failing::Nothing] {
+        assert!(rt; left(&rt, rt.alloc(), fails) == Some((Err(Stopped::Writer(0)), 0)));
+    }
 }
 
 /// The picture of 4 by 4 places, which is one tile, turned and sent by one worker.

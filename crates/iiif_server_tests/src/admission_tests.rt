@@ -6,6 +6,7 @@ use std::time::{Clock, Duration, Instant};
 
 /// Work that is light, and work that is heavy.
 const LIGHT: u64 = 1_000_000;
+
 const HEAVY: u64 = 400_000_000;
 
 /// Whether a job waits for as long as one does behind jobs that don't end, or for half of that. None where it waits longer, or the clock
@@ -22,12 +23,7 @@ fn is_late<R: Wait + Clock>(rt: &R, admission: &Admission, job: Queued) -> Optio
 }
 
 /// Whether jobs that come one after another wait for so long, or don't.
-fn have_waited<R: Wait + Clock>(
-    rt: &R,
-    admission: &Admission,
-    work: u64,
-    waits: &[bool],
-) -> bool {
+fn have_waited<R: Wait + Clock>(rt: &R, admission: &Admission, work: u64, waits: &[bool]) -> bool {
     for wait in waits {
         if is_late(rt, admission, admission.come(rt, work)) != Some(*wait) {
             return false;

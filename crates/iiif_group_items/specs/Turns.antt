@@ -1,0 +1,48 @@
+-- Jobs that wait for their turn, and those that have it.
+use Rattle.std.specs.Prelude.{◌≡◌, ℕ, ◌+◌, ◌<◌, ◌≤◌, List, ◌∷◌, ◌++◌, [], length, slice_index_or}
+use Rattle.std.specs.List.{remove}
+use Rattle.iiif_group_items.specs.declared.order.Order.{Order}
+use Rattle.iiif_group_items.specs.declared.order.Waiting.{Waiting}
+
+-- no job
+abbrev pub nobody : Waiting
+nobody = record { number = 0; rank = 0 }
+
+-- the job at this place of those that wait
+abbrev pub at : List Waiting → ℕ → Waiting
+at jobs place = slice_index_or jobs place nobody
+
+-- at this place a job of this number waits
+abbrev pub WaitsAt : List Waiting → ℕ → ℕ → Type 0
+WaitsAt jobs place n = (place < length jobs) × ((at jobs place).number ≡ n)
+
+-- none of this number waits
+abbrev pub WaitsNot : List Waiting → ℕ → Type 0
+WaitsNot jobs n = (place : ℕ) → place < length jobs → (at jobs place).number ≡ n → ⊥
+
+-- at this place waits the one that is let in next: none has a lower rank
+abbrev pub IsNext : List Waiting → ℕ → Type 0
+IsNext jobs place = (place < length jobs) × ((other : ℕ) → other < length jobs → (at jobs place).rank ≤ (at jobs other).rank)
+
+-- fewer are at work than may be, and nobody waits
+abbrev pub HasRoom : Order → Type 0
+HasRoom order = (order.at_work < order.most) × (order.waiting.items ≡ [])
+
+-- how many came and haven't left: those at work, and those that wait
+abbrev pub there : Order → ℕ
+there order = order.at_work + length order.waiting.items
+
+-- one of this number waits no longer, and all others do
+abbrev pub WaitsNoLonger : Order → Order → ℕ → Type 0
+WaitsNoLonger old new n =
+    (place : ℕ) × WaitsAt old.waiting.items place n × (new.waiting.items ≡ remove old.waiting.items place)
+
+-- it is the one that was next
+abbrev pub IsLetIn : Order → Order → ℕ → Type 0
+IsLetIn old new n =
+    (place : ℕ) × WaitsAt old.waiting.items place n × IsNext old.waiting.items place
+    × (new.waiting.items ≡ remove old.waiting.items place)
+
+-- one of this number waits too, behind the others
+abbrev pub WaitsToo : Order → Order → ℕ → Type 0
+WaitsToo old new n = (rank : ℕ) × (new.waiting.items ≡ old.waiting.items ++ record { number = n; rank = rank } ∷ [])
