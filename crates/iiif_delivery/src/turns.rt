@@ -34,8 +34,8 @@ const MOMENTS: u32 = 1200;
 
 /// About how many pixels of the image the blocks of a band have: of a region that is cut into `blocks` its share of them.
 fn work_of(job: &Job, blocks: usize, band: &Band) -> u64
-    ensures { result ≡ min (min (job.now.resolved.rect.w * job.now.resolved.rect.h) (2 ^ 64 - 1) / max blocks 1 * length band.now.items.items)
-        (2 ^ 64 - 1) }
+    ensures { result ≡ min (min (job.now.resolved.rect.w * job.now.resolved.rect.h) (2 ^ 64 - 1) / max blocks 1
+        * length band.now.items.items) (2 ^ 64 - 1) }
 {
     let rect = job.resolved.rect;
     let region = u64::from(rect.w).saturating_mul(u64::from(rect.h));

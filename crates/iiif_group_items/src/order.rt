@@ -146,7 +146,8 @@ impl Order {
     /// A job is done, and the next one is let in: it says which. Or a job waits no longer, and none is let in.
     pub(crate) fn leave(&mut self, number: u64) -> Option<u64>
         ensures next { IfSome result (λ n. WaitsNot self.old.waiting.items number × IsLetIn self.old self.new n) }
-        ensures none { IfNone result (WaitsNoLonger self.old self.new number ⊎ ((self.old.waiting.items ≡ []) × (self.new.waiting.items ≡ []))) }
+        ensures none { IfNone result (WaitsNoLonger self.old self.new number
+            ⊎ ((self.old.waiting.items ≡ []) × (self.new.waiting.items ≡ []))) }
         ensures counted { there self.old + 1 < 2 ^ 64 → 0 < self.old.at_work → there self.new + 1 ≡ there self.old }
     {
         if self.give_up(number) {
