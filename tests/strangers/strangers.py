@@ -154,6 +154,7 @@ ATTACKS = {
     "64 large requests whose clients reset soon": gone(reset, 0.1),
     "64 large requests whose clients reset later": gone(reset, 0.8),
     "64 large requests whose clients close": gone(socket.socket.close),
+    "64 large requests whose clients close later": gone(socket.socket.close, 0.8),
     "a FIFO as an image": fifo,
     "names with escapes": escapes,
     "one who is no node": no_node,

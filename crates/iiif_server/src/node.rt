@@ -1,6 +1,6 @@
 //! A node: what it was told, its images, their tiles and sums, and its answers.
 
-ghost use Rattle.std.specs.Prelude.{◌≡◌, ◌<◌, ◌^◌, ℕ, List, Some, true, false, IfOk, IsTrue, length};
+ghost use Rattle.std.specs.Prelude.{◌≡◌, ◌<◌, ◌≤◌, ◌^◌, ℕ, List, Some, true, false, IfOk, IsTrue, length};
 ghost use Rattle.std.specs.Io.KnownBytes.{Appends};
 ghost use Rattle.iiif_source.specs.declared.ReadFault.{ReadFault};
 ghost use Rattle.iiif_pixel.specs.Picture.{Picture, dim_of};
@@ -47,7 +47,9 @@ use std::thread::Threads;
 use std::time::Clock;
 
 /// How many jobs of so many workers each make their blocks at a time: as many as each has workers, and so many that four work in all.
-fn jobs_at_a_time(workers: u32) -> u32 {
+fn jobs_at_a_time(workers: u32) -> u32
+    ensures { (0 < result) × (workers ≤ result) }
+{
     workers.max(4 / workers.max(1))
 }
 
