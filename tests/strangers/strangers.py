@@ -59,6 +59,8 @@ def gone(end, stay=0.0):
     """64 clients ask for 400 megapixels each, stay for so many seconds, and end their connections so: how long the next three wait."""
     def attack(program, room):
         with Server(program, [f"huge={room}/huge.tif", "s=:sample"]) as server:
+            # Until the connection by which the server was found has left its place.
+            time.sleep(0.5)
             links = []
             for place in range(64):
                 links.append(connected(server.port))
