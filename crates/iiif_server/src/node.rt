@@ -58,7 +58,7 @@ fn jobs_at_a_time(workers: u32) -> u32
 fn admission(alloc: Global, workers: u32, nodes: usize) -> Admission {
     let most = jobs_at_a_time(workers);
     let light = if nodes > 1 { u32::MAX } else { most };
-    Admission::new(alloc, light, most.div_ceil(2))
+    Admission::new(alloc, light, most)
 }
 
 /// A server. Clauses see what it was told, and its images. J says what the names of the images stand for, and which ledgers count
