@@ -1,12 +1,14 @@
 -- Sums merged one after another, the sums of a block with one part, and the faults of loads.
 use Rattle.std.proofs.Common.{◌≡◌, ℕ, zero, suc, ◌+◌, ◌-◌, ◌<◌, ◌≤◌, ◌⊎◌, inl, inr, Bool, true, false, List, [], ◌∷◌, ◌++◌, length}
-use Rattle.std.proofs.Common.{get_or, take, map, fold, All, Global, Result, Err, refl, sym, subst, ap, ◌∙◌, arith}
+use Rattle.std.proofs.Common.{get_or, take, not, map, fold, All, Global, Result, Err, refl, sym, subst, ap, ◌∙◌, arith}
 use Rattle.std.specs.Prelude.{if◌then◌else◌, ◌==◌, count_by, cond, IfErr, IsTrue}
 use Rattle.std.proofs.Math.Dec.{eqb-suc-zero}
+use Rattle.std.specs.List.{filter}
 use Rattle.std.specs.Arc.{arc_value}
 use Rattle.std.specs.declared.sync.Arc.{Arc}
 use Rattle.std.proofs.lemmas.List.{length-map, map-append, take_all, take_more}
-use Rattle.std.proofs.lemmas.List.Elements.{All-get_or}
+use Rattle.std.proofs.lemmas.List.Elements.{All-append, All-cons, All-get_or, All-head, All-nil, All-tail}
+use Rattle.std.proofs.lemmas.List.Filters.{length-filter_both}
 use Rattle.std.proofs.lemmas.List.Sums.{fold-append}
 use Rattle.std.proofs.lemmas.Result.{IfErr-at_err}
 use Rattle.iiif_outcome.specs.Outcomes.{is_given}
@@ -21,7 +23,7 @@ use Rattle.iiif_area.proofs.GridLaws.{has_place-tested}
 use Rattle.iiif_images.specs.Faults.{IsLoadFault}
 use Rattle.iiif_keys.specs.Blocks.{part_in, places_in, NamesPart, SumFitsIn}
 use Rattle.iiif_keys.specs.Laws.{IsBelow, PartsAreBelow, PartsCut, PartsFit, PartsMakeMeaning}
-use Rattle.iiif_keys.specs.Meaning.{no_sums, sum_meaning, sums_below}
+use Rattle.iiif_keys.specs.Meaning.{meets_rect, no_sums, quarters, sum_is_shaped, sum_meaning, sums_below, SumHasShape}
 use Rattle.iiif_keys.specs.Names.{Pictures, named, IsSource}
 use Rattle.iiif_keys.specs.Shapes.{HasPicture}
 use Rattle.iiif_keys.specs.declared.fault.Fault.{Fault}
@@ -32,7 +34,7 @@ use Rattle.iiif_keys.specs.declared.values.SumVal.{SumVal}
 use Rattle.iiif_keys.proofs.Cuts.{counted}
 use Rattle.iiif_keys.proofs.Shaped.{kind_with_channels}
 use Rattle.iiif_source.specs.declared.ReadFault.{ReadFault}
-use Rattle.iiif_sum_group.specs.Values.{sums_in, ArePlaces, AreSums}
+use Rattle.iiif_sum_group.specs.Values.{sums_in, ArePlaces, AreSums, AreValuesOf, MayBeSums}
 
 -- one more of what is alike in two lists
 pub mapped_more : {A B C : Type 0} (f : A → C) (h : B → C) (keys : List A) (values : List B) (i : ℕ) (q : A) (v : B) → i < length keys →
@@ -45,6 +47,59 @@ mapped_more {A} {B} {C} f h keys values i q v inside is made before =
     ∙ ap (λ (u : C). map f (take i keys) ++ u ∷ []) made
     ∙ sym (map-append f (take i keys) (q ∷ []))
     ∙ ap (λ (ks : List A). map f ks) (sym more)
+
+-- the values of one part more
+pub one_value_more : (shows : Pictures) (s : Shape) (trusted : Type 0) (keys : List SumKey) (i : ℕ) (q : SumKey) (v : Arc SumVal Global)
+    (old new : List (Arc SumVal Global)) → i < length keys → get_or keys i q ≡ q
+    → (trusted → arc_value v ≡ sum_meaning shows q) → SumHasShape s q (arc_value v) → AreValuesOf shows s trusted (take i keys) old →
+    new ≡ old ++ v ∷ [] → AreValuesOf shows s trusted (take (i + 1) keys) new
+one_value_more shows s trusted keys i q v old new inside is meant shape before kept =
+    let P : Arc SumVal Global → Type 0 = λ x. (sums_in x).channels ≡ channels_of s.kind in
+    let here : P v = shape.sums_a_place in
+    let more : AreValuesOf shows s trusted (take (i + 1) keys) (old ++ v ∷ []) = record {
+      meant = λ t. mapped_more (λ q. (sum_meaning shows q).sums) sums_in keys old i q v inside is (ap (λ (u : SumVal). u.sums) (meant t))
+          (before.meant t);
+      places = mapped_more (places_in s.dim) (λ x. (sums_in x).rect) keys old i q v inside is shape.places before.places;
+      channels = All-append P old (v ∷ []) before.channels (All-cons P v [] here (All-nil P));
+    } in
+    subst (AreValuesOf shows s trusted (take (i + 1) keys)) (sym kept) more
+
+-- a block has at most four parts
+pub few_parts : (k : SumKey) → length (sums_below k) ≤ 4
+few_parts k =
+    let both : length (filter meets_rect (quarters k)) + length (filter (λ q. not (meets_rect q)) (quarters k)) ≡ 4 =
+    length-filter_both meets_rect (λ q. not (meets_rect q)) (λ q. refl) (quarters k) in
+    omega (arith, both)
+
+cons_alike : {C : Type 0} (x y : C) (xs ys : List C) → x ≡ y → xs ≡ ys → x ∷ xs ≡ y ∷ ys
+cons_alike {C} x y xs ys e es = ap (λ (z : C). z ∷ xs) e ∙ ap (λ (zs : List C). y ∷ zs) es
+
+-- values that may be answered for the parts of a block are the values of these
+pub answered_values : ((shows : Pictures) (s : Shape) (k : SumKey) (v : SumVal) → HasPicture shows k.name s →
+    (IsTrue (sum_is_shaped shows k v) → SumHasShape s k v) × (SumHasShape s k v → IsTrue (sum_is_shaped shows k v)))
+    → (shows : Pictures) (s : Shape) (stable : List ℕ → Type 0) (honest : Bool) (block : SumKey) (keys : List SumKey)
+    (values : List (Arc SumVal Global)) → HasPicture shows block.name s → All (IsBelow block) keys →
+    MayBeSums shows stable honest keys values → AreValuesOf shows s (stable block.name × IsTrue honest) keys values
+answered_values shapes shows s stable honest block [] [] known below are = record {
+  meant = λ t. refl;
+  places = refl;
+  channels = All-nil (λ (x : Arc SumVal Global). (sums_in x).channels ≡ channels_of s.kind);
+}
+answered_values shapes shows s stable honest block [] (v ∷ vs) known below are = absurd are
+answered_values shapes shows s stable honest block (k ∷ ks) [] known below are = absurd are
+answered_values shapes shows s stable honest block (k ∷ ks) (v ∷ vs) known below are =
+    let P : Arc SumVal Global → Type 0 = λ x. (sums_in x).channels ≡ channels_of s.kind in
+    let is : IsBelow block k = All-head (IsBelow block) k ks below in
+    let rest = answered_values shapes shows s stable honest block ks vs known (All-tail (IsBelow block) k ks below) are.1 in
+    let here : HasPicture shows k.name s = subst (λ (n : List ℕ). HasPicture shows n s) (sym is.name) known in
+    let shape : SumHasShape s k (arc_value v) = (shapes shows s k (arc_value v) here).0 are.0.has_shape in
+    record {
+      meant = λ t. cons_alike (sums_in v) (sum_meaning shows k).sums (map sums_in vs) (map (λ q. (sum_meaning shows q).sums) ks)
+          (ap (λ (u : SumVal). u.sums) (are.0.meant (subst stable (sym is.name) t.0) t.1)) (rest.meant t);
+      places = cons_alike (sums_in v).rect (places_in s.dim k) (map (λ x. (sums_in x).rect) vs) (map (places_in s.dim) ks) shape.places
+          rest.places;
+      channels = All-cons P v vs shape.sums_a_place rest.channels;
+    }
 
 not_zero : (l : ℕ) → 0 < l → (l == 0) ≡ false
 not_zero zero h = absurd (omega arith)

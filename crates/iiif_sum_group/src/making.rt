@@ -7,14 +7,13 @@ ghost use Rattle.std.specs.Result.{ForErr, ForOk};
 ghost use Rattle.iiif_pixel.specs.Geometry.{channels_of};
 ghost use Rattle.iiif_area.specs.Grid.{merged};
 ghost use Rattle.iiif_keys.specs.Blocks.{places_in, IsOfBlock, SumFitsIn};
-ghost use Rattle.iiif_keys.specs.Laws.{IsBelow};
 ghost use Rattle.iiif_keys.specs.Meaning.{no_sums, sum_is_shaped, sum_meaning, sums_below, tile_below};
 ghost use Rattle.iiif_keys.specs.Names.{named, IsSource};
 ghost use Rattle.iiif_keys.specs.Shapes.{HasPicture};
 ghost use Rattle.iiif_outcome.specs.Outcomes.{is_given};
 ghost use Rattle.iiif_singleflight.specs.Views.{receipt_known};
 ghost use Rattle.iiif_group.specs.Beginning.{open_key, OutcomeIs};
-ghost use Rattle.iiif_sum_group.specs.Values.{sums_in, ArePlaces, AreSums};
+ghost use Rattle.iiif_sum_group.specs.Values.{sums_in, AreValuesOf, MayBeAsked};
 
 use crate::groups::Groups;
 use crate::passes::{Passes, SumCalls};
@@ -78,6 +77,33 @@ fn total(
         total.merge(&**value);
     }
     Ok(total)
+}
+
+/// The value of a block above level 0, of the values of its quarters. Where it has one alone, that one's sums are its own: they are taken
+/// as they are.
+pub(crate) fn whole<J: System>(
+    alloc: Global,
+    shape: &Shape,
+    key: &SumKey,
+    values: Vec<Arc<SumVal>>,
+) -> Result<Arc<SumVal>, Fault>
+    requires known { HasPicture J.pictures key.now.name shape.now }
+    requires source { IsSource (named J.pictures key.now.name) }
+    requires fits { SumFitsIn shape.now.dim (channels_of shape.now.kind) key.now }
+    requires level { 0 < key.now.level }
+    requires values { AreValuesOf J.pictures shape.now (J.stable key.now.name × IsTrue J.honest) (sums_below key.now) values.items }
+    ensures meant { J.stable key.now.name → IsTrue J.honest → ForOk result (λ v. arc_value v ≡ sum_meaning J.pictures key.now) }
+    ensures shaped { ForOk result (λ v. IsTrue (sum_is_shaped J.pictures key.now (arc_value v))) }
+    ensures given { ForErr result (λ f. IsTrue (is_given (J.gave key.now.name) f)) }
+{
+    // Laws of parts and of keys.
+    parts_are_exact();
+    parts_make_the_meaning();
+    SumKey::laws();
+    if values.len() == 1 {
+        return Ok(only(values));
+    }
+    for_all(alloc, total(alloc, shape, key, &values))
 }
 
 impl<
@@ -168,8 +194,7 @@ impl<
         }
     }
 
-    /// The value of a block above level 0, made of its quarters. Where it has one alone, that one's sums are its own: they are taken
-    /// as they are.
+    /// The value of a block above level 0, made of its quarters.
     #[cycle(sums)]
     fn of_parts(
         &self,
@@ -190,15 +215,10 @@ impl<
         ensures counted { (passes.old.tile.gets ≤ passes.new.tile.gets) × (passes.old.sum.gets ≤ passes.new.sum.gets) }
         ensures parts { (passes.new.tile.parts ≡ passes.old.tile.parts) × (passes.new.sum.parts ≡ passes.old.sum.parts) }
     {
-        // Laws of parts and of keys.
+        // A law of parts.
         parts_are_exact();
-        parts_make_the_meaning();
-        SumKey::laws();
         let values = self.values(rt, passes, shape, key, quarters)?;
-        if values.len() == 1 {
-            return Ok(only(values));
-        }
-        for_all(self.alloc, total(self.alloc, shape, key, &values))
+        whole::<J>(self.alloc, shape, key, values)
     }
 
     /// The values of a block's parts, in their order. They are asked one after another, and each is waited for.
@@ -211,13 +231,9 @@ impl<
         key: &SumKey,
         keys: &[SumKey],
     ) -> Result<Vec<Arc<SumVal>>, Fault>
-        requires known { HasPicture J.pictures key.now.name shape.now }
-        requires source { IsSource (named J.pictures key.now.name) }
-        requires below { All (IsBelow key.now) keys.now }
-        requires fits { All (SumFitsIn shape.now.dim (channels_of shape.now.kind)) keys.now }
-        ensures meant { J.stable key.now.name → IsTrue J.honest → IfOk result (λ v. AreSums J.pictures keys.now v.items) }
-        ensures places { IfOk result (λ v. ArePlaces shape.now.dim keys.now v.items) }
-        ensures channels { IfOk result (λ v. All (λ x. (sums_in x).channels ≡ channels_of shape.now.kind) v.items) }
+        requires level { 0 < key.now.level }
+        requires may { MayBeAsked J.pictures shape.now key.now keys.now }
+        ensures values { IfOk result (λ v. AreValuesOf J.pictures shape.now (J.stable key.now.name × IsTrue J.honest) keys.now v.items) }
         ensures given { IfErr result (λ f. IsTrue (is_given (J.gave key.now.name) f)) }
         ensures counted { (passes.old.tile.gets ≤ passes.new.tile.gets) × (passes.old.sum.gets ≤ passes.new.sum.gets) }
         ensures parts { (passes.new.tile.parts ≡ passes.old.tile.parts) × (passes.new.sum.parts ≡ passes.old.sum.parts) }

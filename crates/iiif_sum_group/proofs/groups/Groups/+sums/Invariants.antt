@@ -1,17 +1,14 @@
-use Rattle.std.proofs.Common.{◌≡◌, ℕ, All, ◌*◌, ◌+◌, ◌≤◌, take}
+use Rattle.std.proofs.Common.{◌≡◌, ◌*◌, ◌+◌, ◌≤◌, take}
 use Rattle.std.specs.Prelude.{IsTrue}
-use Rattle.iiif_pixel.specs.Geometry.{channels_of}
-use Rattle.iiif_sum_group.specs.Values.{sums_in, ArePlaces, AreSums}
+use Rattle.iiif_sum_group.specs.Values.{AreValuesOf}
 use Rattle.iiif_sum_group.proofs.groups.Groups.+sums.Given as goal
 
 -- the parts so far
 abbrev pub invariant-values-loop-part : goal.invariant-values-loop-part
 invariant-values-loop-part g l =
     record {
-      meant : g.J.System.stable l.key.name → IsTrue g.J.System.honest →
-          AreSums g.J.System.pictures (take l.part-index l.keys) l.values.items;
-      places : ArePlaces l.shape.dim (take l.part-index l.keys) l.values.items;
-      channels : All (λ x. (sums_in x).channels ≡ channels_of l.shape.kind) l.values.items;
+      values : AreValuesOf g.J.System.pictures l.shape (g.J.System.stable l.key.name × IsTrue g.J.System.honest) (take l.part-index l.keys)
+          l.values.items;
       tile : l.fn.passes.tile.gets ≤ l.passes.tile.gets;
       sum : l.fn.passes.sum.gets ≤ l.passes.sum.gets;
       tile_parts : l.passes.tile.parts ≡ l.fn.passes.tile.parts;

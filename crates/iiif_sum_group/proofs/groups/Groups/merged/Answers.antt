@@ -1,0 +1,7 @@
+use Rattle.iiif_sum_group.proofs.SumLemmas.{answered_values}
+use Rattle.iiif_sum_group.proofs.groups.Groups.merged.Goals as goal
+
+pub whole-requires-clause-values : goal.whole-requires-clause-values
+whole-requires-clause-values g c =
+    answered_values c.laws.ensures.shapes g.J.System.pictures _ g.J.System.stable g.J.System.honest c.args.key.now _
+    c.args.values.items c.in-Ok.ensures.known (c.parts_are_exact.ensures.below c.args.key.now c.requires.level) c.requires.values
