@@ -11,3 +11,4 @@ pub mod JobLemmas
 pub mod GrowLemmas
 pub mod KeptLemmas
 pub mod TileLemmas
+pub mod PartLemmas

@@ -28,7 +28,8 @@ values_gave means keys (i ∷ is) [] h = absurd h
 values_gave {K} {V} means keys (i ∷ is) (v ∷ vs) h =
     All-cons (HasItem keys (λ k. (w : V) × means k w)) i is (h.0.0, h.0.1, h.0.2, (v, h.0.3)) (values_gave means keys is vs h.1)
 
-take_drop : {X : Type 0} (i : ℕ) (xs : List X) (x : X) → i < length xs → xs ≡ take i xs ++ get_or xs i x ∷ drop (i + 1) xs
+-- a list at one of its places
+pub take_drop : {X : Type 0} (i : ℕ) (xs : List X) (x : X) → i < length xs → xs ≡ take i xs ++ get_or xs i x ∷ drop (i + 1) xs
 take_drop {X} i xs x h =
     let next : suc i ≡ i + 1 = omega arith in
     sym (take-append-drop i xs) ∙ ap (λ (ys : List X). take i xs ++ ys) (drop-cons xs i x h) ∙

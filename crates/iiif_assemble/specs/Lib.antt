@@ -4,3 +4,4 @@ pub mod Faults
 pub mod Code
 pub mod Kept
 pub mod Lone
+pub mod Opening

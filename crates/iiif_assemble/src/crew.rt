@@ -8,6 +8,7 @@ ghost use Rattle.iiif_assemble.specs.Gathering.{AreValues, IsItemFault};
 ghost use denote.Param.Send.{IsSync};
 
 use crate::items::Items;
+use crate::parts::{Crew, value_of};
 use iiif_keys::Fault;
 use iiif_workers::{Helper, Idle};
 use std::alloc::Global;
@@ -15,7 +16,7 @@ use std::sync::{Arc, Wait};
 use std::thread::{Threads, join};
 
 /// Appends a value.
-fn keep<V: Drop>(values: &mut Vec<Arc<V>>, value: Arc<V>) -> Result<(), Fault>
+pub(crate) fn keep<V: Drop>(values: &mut Vec<Arc<V>>, value: Arc<V>) -> Result<(), Fault>
     ensures ok { OnOk result (values.new.items ≡ values.old.items ++ value ∷ []) }
     ensures err { IfErr result (λ f. f ≡ Fault.NoMemory) }
 {
@@ -26,7 +27,10 @@ fn keep<V: Drop>(values: &mut Vec<Arc<V>>, value: Arc<V>) -> Result<(), Fault>
 }
 
 /// One list of values behind another.
-fn joined<V: Drop>(mut first: Vec<Arc<V>>, rest: Vec<Arc<V>>) -> Result<Vec<Arc<V>>, Fault>
+pub(crate) fn joined<V: Drop>(
+    mut first: Vec<Arc<V>>,
+    rest: Vec<Arc<V>>,
+) -> Result<Vec<Arc<V>>, Fault>
     ensures ok { IfOk result (λ v. v.items ≡ first.items ++ rest.items) }
     ensures err { IfErr result (λ f. f ≡ Fault.NoMemory) }
 {
@@ -45,7 +49,14 @@ struct SoFar<'a, V, P> {
 }
 
 /// The values of items, asked one after another until more than one is left and another worker has nothing to do; or the first fault.
-fn begun<'a, G: Items<K, V, P, R>, K, V: Drop, P, R: Wait>(
+fn begun<
+    'a,
+    G: Items<K, V, P, R> + Sync,
+    K: Sync,
+    V: Drop + Send + Sync,
+    P: Send,
+    R: Threads + Wait + Sync,
+>(
     rt: &R,
     alloc: Global,
     group: &G,
@@ -63,8 +74,15 @@ fn begun<'a, G: Items<K, V, P, R>, K, V: Drop, P, R: Wait>(
     ensures fault { IfErr result (IsItemFault (G.means group.now) (G.failed group.now) keys.now items.now) }
 {
     let mut values = Vec::new(alloc);
+    let crew = Crew {
+        rt,
+        alloc,
+        group,
+        idle,
+    };
     for n in 0..items.len() {
-        if items.len() - n > 1 && !group.is_at_hand(rt, &keys[items[n]]) {
+        let key = &keys[items[n]];
+        if items.len() - n > 1 && !group.is_at_hand(rt, key) {
             if let Some(helper) = idle.take(rt) {
                 return Ok(SoFar {
                     values,
@@ -72,7 +90,7 @@ fn begun<'a, G: Items<K, V, P, R>, K, V: Drop, P, R: Wait>(
                 });
             }
         }
-        match group.get(rt, own, idle, &keys[items[n]]) {
+        match value_of(&crew, own, key) {
             Ok(value) => keep(&mut values, value)?,
             Err(fault) => return Err(fault),
         }

@@ -1,20 +1,21 @@
 //! Sums of blocks that are kept from band to band.
 
-ghost use Rattle.std.specs.Prelude.{◌≡◌, ◌<◌, All, Contains, IfErr, IfOk, IfSome, OnOk, length};
+ghost use Rattle.std.specs.Prelude.{◌≡◌, ◌<◌, All, Contains, Err, IfErr, IfOk, IfSome, OnOk, length};
 ghost use Rattle.std.specs.Arc.{arc_value};
 ghost use Rattle.iiif_assemble.specs.Faults.{IsSumsFault};
 ghost use Rattle.iiif_assemble.specs.Gathering.{IsItemFault};
 ghost use Rattle.iiif_assemble.specs.Kept.{AreKept, IsKeptToo};
+ghost use Rattle.iiif_assemble.specs.Opening.{AreValuesOf, IsFaultOf};
 ghost use Rattle.iiif_assemble.specs.Jobs.{IsBandOf, IsJob, SumsServe};
 
 use crate::crew::gathered;
 use crate::items::Items;
 use crate::job::Job;
+use crate::opened::Opened;
 use iiif_bands::Band;
 use iiif_keys::{CacheKey, Fault, SumKey, SumVal};
 use iiif_pixel::NoMemory;
 use iiif_planner::Plan;
-use iiif_workers::Idle;
 use std::alloc::Global;
 use std::sync::{Arc, Wait};
 use std::thread::Threads;
@@ -49,26 +50,50 @@ fn kept_for<'a>(kept: &'a [KeptSum], key: &SumKey) -> Option<&'a KeptSum>
 
 /// What is kept is what may be answered for its key: a key may be asked for where this holds.
 impl<'a, S: Items<SumKey, SumVal, P, R>, P, R> Items<SumKey, SumVal, P, R> for WithKept<'a, S> {
+    type Open = S::Open;
+
     ghost fits = { λ a k. S.fits a.sums.now k × AreKept (S.means a.sums.now) a.kept.now };
 
     ghost means = { λ a k v. S.means a.sums.now k v };
 
     ghost failed = { λ a k f. S.failed a.sums.now k f };
 
-    fn get(
+    ghost rank = { λ a k. S.rank a.sums.now k };
+
+    ghost is_open = { λ a o k parts. S.is_open a.sums.now o k parts };
+
+    fn open(
         &self,
         rt: &R,
         pass: &mut P,
-        idle: &Idle<'_, P>,
         key: &SumKey,
-    ) -> Result<Arc<SumVal>, Fault> {
+    ) -> Result<Opened<SumKey, SumVal, S::Open>, Fault> {
         match kept_for(self.kept, key) {
             Some(sum) => match Arc::try_clone(&sum.value) {
-                Ok(value) => Ok(value),
+                Ok(value) => Ok(Opened::Known(value)),
                 Err(_) => Err(Fault::NoMemory),
             },
-            None => self.sums.get(rt, pass, idle, key),
+            None => self.sums.open(rt, pass, key),
         }
+    }
+
+    fn close(
+        &self,
+        rt: &R,
+        load: S::Open,
+        key: &SumKey,
+        parts: Vec<SumKey>,
+        values: Result<Vec<Arc<SumVal>>, Fault>,
+    ) -> Result<Arc<SumVal>, Fault>
+        requires fits { S.fits self.now.sums.now key.now × AreKept (S.means self.now.sums.now) self.now.kept.now }
+        requires open { S.is_open self.now.sums.now load key.now parts.items }
+        requires values { IfOk values (λ v. AreValuesOf (S.means self.now.sums.now) parts.items v.items) }
+        requires fault { IfErr values (IsFaultOf (S.failed self.now.sums.now) key.now) }
+        ensures value { IfOk result (λ v. S.means self.now.sums.now key.now (arc_value v)) }
+        ensures fault { IfErr result (IsFaultOf (S.failed self.now.sums.now) key.now) }
+        ensures same { IfErr values (λ f. result ≡ Err f) }
+    {
+        self.sums.close(rt, load, key, parts, values)
     }
 
     fn is_at_hand(&self, rt: &R, key: &SumKey) -> bool {

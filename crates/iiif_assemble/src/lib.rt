@@ -10,6 +10,8 @@ pub mod job;
 pub mod kept;
 pub mod lone;
 mod merging;
+pub mod opened;
+mod parts;
 mod pasting;
 
 pub use band::{assemble, assemble_band};
@@ -17,3 +19,4 @@ pub use items::Items;
 pub use job::{Job, Made};
 pub use kept::{KeptSum, WithKept, keep_band};
 pub use lone::lone_tile;
+pub use opened::Opened;

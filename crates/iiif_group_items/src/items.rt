@@ -1,16 +1,23 @@
 //! The groups of a node as what has the values of keys.
 
-ghost use Rattle.std.specs.Prelude.{◌≡◌, IsTrue};
+ghost use Rattle.std.specs.Prelude.{◌≡◌, ◌<◌, [], Err, IfErr, IfOk, IsTrue, Ok};
+ghost use Rattle.std.specs.Arc.{arc_value};
+ghost use Rattle.std.specs.declared.alloc.Global.{Global};
+ghost use Rattle.std.specs.declared.sync.Arc.{Arc};
+ghost use Rattle.iiif_assemble.specs.Opening.{AreValuesOf, IsFaultOf};
+ghost use Rattle.iiif_assemble.specs.declared.opened.Opened.TheVariants.{Known};
+ghost use Rattle.iiif_group.specs.Beginning.{open_key};
+ghost use Rattle.iiif_keys.specs.Meaning.{sums_below};
 ghost use Rattle.iiif_outcome.specs.Outcomes.{is_given};
-ghost use Rattle.iiif_group_items.specs.Values.{SumIsNamed, SumMayBe, TileIsNamed, TileMayBe};
+ghost use Rattle.iiif_group_items.specs.Values.{SumGave, SumIsNamed, SumMayBe, TileGave, TileIsNamed, TileMayBe};
 
 use crate::admission::Admission;
-use iiif_assemble::Items;
+use iiif_assemble::{Items, Opened};
 use iiif_delivery::{Queued, Turns};
+use iiif_keys::laws::parts_are_exact;
 use iiif_keys::{Fault, SumKey, SumVal, System, TileKey, TileVal};
 use iiif_source::Source;
-use iiif_sum_group::{Gate, Groups, Link, Passes, SumCalls, TileCalls, taken};
-use iiif_workers::Idle;
+use iiif_sum_group::{Begun, Gate, Groups, Link, Open, Passes, SumCalls, TileCalls, taken};
 use std::sync::ledger::Ledger;
 use std::sync::{Arc, Wait};
 use std::time::Clock;
@@ -25,6 +32,20 @@ where
     TileCalls<J>: Ledger,
     SumCalls<J>: Ledger;
 
+/// The least level of a block whose parts are shared out: below it they are tiles, for which a thread costs as much as it saves.
+const SHARED: u8 = 2;
+
+/// A value that is there, or why it isn't.
+fn known<K, V, O>(came: Result<Arc<V>, Fault>) -> Result<Opened<K, V, O>, Fault>
+    ensures value { IfOk result (λ b. (v : Arc V Global) × (came ≡ Ok v) × (b ≡ Known v)) }
+    ensures fault { IfErr result (λ f. came ≡ Err f) }
+{
+    match came {
+        Ok(value) => Ok(Opened::Known(value)),
+        Err(fault) => Err(fault),
+    }
+}
+
 /// Tiles: what is kept, or what a flight ends with. A worker asks with a pass of each group.
 impl<
     'a,
@@ -34,21 +55,50 @@ impl<
     N: Link<TileKey, J, R> + Link<SumKey, J, R>,
     T: Gate<R>,
 > Items<TileKey, TileVal, Passes<J>, R> for GroupItems<'a, R, S, J, N, T> {
+    type Open = ();
+
     ghost fits = { λ _ k. TileIsNamed J.pictures J.edge k };
 
     ghost means = { λ _ k v. TileMayBe J.pictures J.stable J.honest k v };
 
     ghost failed = { λ _ k f. IsTrue (is_given (J.gave k.name) f) };
 
-    fn get(
+    ghost rank = { λ _ k. 0 };
+
+    ghost is_open = { λ _ o k parts. parts ≡ [] };
+
+    fn open(
         &self,
         rt: &R,
         pass: &mut Passes<J>,
-        _idle: &Idle<'_, Passes<J>>,
         key: &TileKey,
-    ) -> Result<Arc<TileVal>, Fault> {
+    ) -> Result<Opened<TileKey, TileVal, ()>, Fault> {
         match self.0.tiles().get(rt, &mut pass.tile, key) {
-            Ok(receipt) => taken(receipt, key),
+            Ok(receipt) => known(taken(receipt, key)),
+            Err(fault) => Err(fault),
+        }
+    }
+
+    /// No tile has parts.
+    fn close(
+        &self,
+        _rt: &R,
+        _load: (),
+        key: &TileKey,
+        parts: Vec<TileKey>,
+        values: Result<Vec<Arc<TileVal>>, Fault>,
+    ) -> Result<Arc<TileVal>, Fault>
+        requires fits { TileIsNamed J.pictures J.edge key.now }
+        requires open { parts.items ≡ [] }
+        requires values { IfOk values (λ v. AreValuesOf (TileMayBe J.pictures J.stable J.honest) parts.items v.items) }
+        requires fault { IfErr values (IsFaultOf (TileGave J.gave) key.now) }
+        ensures value { IfOk result (λ v. TileMayBe J.pictures J.stable J.honest key.now (arc_value v)) }
+        ensures fault { IfErr result (IsFaultOf (TileGave J.gave) key.now) }
+        ensures same { IfErr values (λ f. result ≡ Err f) }
+    {
+        drop(parts);
+        match values {
+            Ok(_) => Err(Fault::NoMemory),
             Err(fault) => Err(fault),
         }
     }
@@ -71,23 +121,58 @@ impl<
     N: Link<TileKey, J, R> + Link<SumKey, J, R>,
     T: Gate<R>,
 > Items<SumKey, SumVal, Passes<J>, R> for GroupItems<'a, R, S, J, N, T> {
+    type Open = Open<SumKey, J, SumCalls<J>>;
+
     ghost fits = { λ _ k. SumIsNamed J.pictures J.edge k };
 
     ghost means = { λ _ k v. SumMayBe J.pictures J.stable J.honest k v };
 
     ghost failed = { λ _ k f. IsTrue (is_given (J.gave k.name) f) };
 
-    fn get(
+    ghost rank = { λ _ k. k.level };
+
+    ghost is_open = { λ _ o k parts. (open_key o ≡ k) × (parts ≡ sums_below k) × (0 < k.level) };
+
+    fn open(
         &self,
         rt: &R,
         pass: &mut Passes<J>,
-        _idle: &Idle<'_, Passes<J>>,
         key: &SumKey,
-    ) -> Result<Arc<SumVal>, Fault> {
-        match self.0.get(rt, pass, key) {
-            Ok(receipt) => taken(receipt, key),
+    ) -> Result<Opened<SumKey, SumVal, Open<SumKey, J, SumCalls<J>>>, Fault> {
+        // A law of parts.
+        parts_are_exact();
+        if key.level < SHARED {
+            return match self.0.get(rt, pass, key) {
+                Ok(receipt) => known(taken(receipt, key)),
+                Err(fault) => Err(fault),
+            };
+        }
+        let parts = self.0.quarters(key)?;
+        match self.0.begin(rt, pass, key) {
+            Ok(Begun::Known(receipt)) => known(taken(receipt, key)),
+            Ok(Begun::Load(load)) => Ok(Opened::Parts(load, parts)),
             Err(fault) => Err(fault),
         }
+    }
+
+    fn close(
+        &self,
+        rt: &R,
+        load: Open<SumKey, J, SumCalls<J>>,
+        key: &SumKey,
+        parts: Vec<SumKey>,
+        values: Result<Vec<Arc<SumVal>>, Fault>,
+    ) -> Result<Arc<SumVal>, Fault>
+        requires fits { SumIsNamed J.pictures J.edge key.now }
+        requires open { (open_key load ≡ key.now) × (parts.items ≡ sums_below key.now) × (0 < key.now.level) }
+        requires values { IfOk values (λ v. AreValuesOf (SumMayBe J.pictures J.stable J.honest) parts.items v.items) }
+        requires fault { IfErr values (IsFaultOf (SumGave J.gave) key.now) }
+        ensures value { IfOk result (λ v. SumMayBe J.pictures J.stable J.honest key.now (arc_value v)) }
+        ensures fault { IfErr result (IsFaultOf (SumGave J.gave) key.now) }
+        ensures same { IfErr values (λ f. result ≡ Err f) }
+    {
+        drop(parts);
+        self.0.finish(rt, load, key, values)
     }
 
     fn is_at_hand(&self, rt: &R, key: &SumKey) -> bool {

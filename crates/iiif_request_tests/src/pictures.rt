@@ -1,6 +1,6 @@
 //! Gray pictures that are held whole, and requests on them that are planned.
 
-ghost use Rattle.std.specs.Prelude.{◌≡◌, ◌<◌, ◌≤◌, ◌⊎◌, IfOk, IfErr, IfSome, length};
+ghost use Rattle.std.specs.Prelude.{◌≡◌, ◌<◌, ◌≤◌, ◌⊎◌, Err, IfOk, IfErr, IfSome, length};
 ghost use Rattle.std.specs.Arc.{arc_value};
 ghost use Rattle.iiif_pixel.specs.Depths.{values_of};
 ghost use Rattle.iiif_pixel.specs.Geometry.{channels_of, top_of};
@@ -8,14 +8,14 @@ ghost use Rattle.iiif_pixel.specs.Picture.{dim_of};
 ghost use Rattle.iiif_keys.specs.Blocks.{SumFitsIn, TileFitsIn};
 ghost use Rattle.iiif_keys.specs.Meaning.{SumHasShape, TileHasShape};
 ghost use Rattle.iiif_assemble.specs.Jobs.{IsJob};
+ghost use Rattle.iiif_assemble.specs.Opening.{AreValuesOf, IsFaultOf};
 
 use iiif_area::{Sums, is_scalable, meets};
-use iiif_assemble::{Items, Job};
+use iiif_assemble::{Items, Job, Opened};
 use iiif_canonical::Resolved;
 use iiif_delivery::{Queued, Turns};
 use iiif_keys::{Fault, Name, Shape, SumKey, SumVal, TileKey, TileVal, is_name};
 use iiif_pixel::{Dim, Kind, Quality, Raster, Rect, Samples, Turn};
-use iiif_workers::Idle;
 use std::alloc::Global;
 use std::sync::Arc;
 use std::sync::atomic::{AtomicU64, Ordering};
@@ -76,19 +76,24 @@ pub struct Shown {
 }
 
 impl<R> Items<TileKey, TileVal, u64, R> for Shown {
+    type Open = ();
+
     ghost fits = { λ s k. TileFitsIn s.shape.dim (channels_of s.shape.kind) k };
 
     ghost means = { λ s k v. TileHasShape s.shape k v };
 
     ghost failed = { λ s k f. Unit {0} };
 
-    fn get(
+    ghost rank = { λ s k. 0 };
+
+    ghost is_open = { λ s o k parts. Unit {0} };
+
+    fn open(
         &self,
         _rt: &R,
         pass: &mut u64,
-        _idle: &Idle<'_, u64>,
         key: &TileKey,
-    ) -> Result<Arc<TileVal>, Fault> {
+    ) -> Result<Opened<TileKey, TileVal, ()>, Fault> {
         *pass = pass.wrapping_add(1);
         if let Some(fault) = self.fails.of_tile(key) {
             return Err(fault);
@@ -96,8 +101,31 @@ impl<R> Items<TileKey, TileVal, u64, R> for Shown {
         let at = key.rect_in(self.shape.dim);
         let raster = self.raster.crop(at)?;
         match Arc::new(self.alloc, TileVal { raster }) {
-            Ok(value) => Ok(value),
+            Ok(value) => Ok(Opened::Known(value)),
             Err(_) => Err(Fault::NoMemory),
+        }
+    }
+
+    /// None has parts.
+    fn close(
+        &self,
+        _rt: &R,
+        _load: (),
+        key: &TileKey,
+        parts: Vec<TileKey>,
+        values: Result<Vec<Arc<TileVal>>, Fault>,
+    ) -> Result<Arc<TileVal>, Fault>
+        requires fits { TileFitsIn self.now.shape.dim (channels_of self.now.shape.kind) key.now }
+        requires values { IfOk values (λ v. AreValuesOf (TileHasShape self.now.shape) parts.items v.items) }
+        requires fault { IfErr values (IsFaultOf (λ k f. Unit {0}) key.now) }
+        ensures value { IfOk result (λ v. TileHasShape self.now.shape key.now (arc_value v)) }
+        ensures fault { IfErr result (IsFaultOf (λ k f. Unit {0}) key.now) }
+        ensures same { IfErr values (λ f. result ≡ Err f) }
+    {
+        drop(parts);
+        match values {
+            Ok(_) => Err(Fault::NoMemory),
+            Err(fault) => Err(fault),
         }
     }
 
@@ -111,19 +139,24 @@ impl<R> Items<TileKey, TileVal, u64, R> for Shown {
 }
 
 impl<R> Items<SumKey, SumVal, u64, R> for Shown {
+    type Open = ();
+
     ghost fits = { λ s k. SumFitsIn s.shape.dim (channels_of s.shape.kind) k };
 
     ghost means = { λ s k v. SumHasShape s.shape k v };
 
     ghost failed = { λ s k f. Unit {0} };
 
-    fn get(
+    ghost rank = { λ s k. 0 };
+
+    ghost is_open = { λ s o k parts. Unit {0} };
+
+    fn open(
         &self,
         _rt: &R,
         pass: &mut u64,
-        _idle: &Idle<'_, u64>,
         key: &SumKey,
-    ) -> Result<Arc<SumVal>, Fault> {
+    ) -> Result<Opened<SumKey, SumVal, ()>, Fault> {
         *pass = pass.wrapping_add(1);
         let before = self.asks.fetch_add(1, Ordering::SeqCst);
         if self.fails.has_block(key, before) {
@@ -136,8 +169,31 @@ impl<R> Items<SumKey, SumVal, u64, R> for Shown {
         let raster = self.raster.crop(at)?;
         let sums = Sums::of_tile(self.alloc, &raster, at, key.rect, key.size)?;
         match Arc::new(self.alloc, SumVal { sums }) {
-            Ok(value) => Ok(value),
+            Ok(value) => Ok(Opened::Known(value)),
             Err(_) => Err(Fault::NoMemory),
+        }
+    }
+
+    /// None has parts.
+    fn close(
+        &self,
+        _rt: &R,
+        _load: (),
+        key: &SumKey,
+        parts: Vec<SumKey>,
+        values: Result<Vec<Arc<SumVal>>, Fault>,
+    ) -> Result<Arc<SumVal>, Fault>
+        requires fits { SumFitsIn self.now.shape.dim (channels_of self.now.shape.kind) key.now }
+        requires values { IfOk values (λ v. AreValuesOf (SumHasShape self.now.shape) parts.items v.items) }
+        requires fault { IfErr values (IsFaultOf (λ k f. Unit {0}) key.now) }
+        ensures value { IfOk result (λ v. SumHasShape self.now.shape key.now (arc_value v)) }
+        ensures fault { IfErr result (IsFaultOf (λ k f. Unit {0}) key.now) }
+        ensures same { IfErr values (λ f. result ≡ Err f) }
+    {
+        drop(parts);
+        match values {
+            Ok(_) => Err(Fault::NoMemory),
+            Err(fault) => Err(fault),
         }
     }
 

@@ -1,0 +1,142 @@
+//! A value made of its parts, asked by several workers.
+
+ghost use Rattle.std.specs.Prelude.{◌≡◌, ◌≤◌, ◌<◌, ◌++◌, All, IfOk, IfErr, length};
+ghost use Rattle.std.specs.Arc.{arc_value};
+ghost use Rattle.iiif_assemble.specs.Opening.{AreValuesOf, IsFaultOf, IsPart, IsPartsFault};
+ghost use denote.Param.Send.{IsSync};
+
+use crate::crew::{joined, keep};
+use crate::items::Items;
+use crate::opened::Opened;
+use iiif_keys::Fault;
+use iiif_workers::{Helper, Idle};
+use std::alloc::Global;
+use std::sync::{Arc, Wait};
+use std::thread::{Threads, join};
+
+/// What has the values, and who has nothing to do.
+#[derive(Drop)]
+pub(crate) struct Crew<'x, 'a, G, P, R> {
+    pub rt: &'x R,
+    pub alloc: Global,
+    pub group: &'x G,
+    pub idle: &'x Idle<'a, P>,
+}
+
+/// The value of a key. Of one that is made of parts, workers that have nothing to do ask for some of these.
+#[cycle(parts)]
+pub(crate) fn value_of<
+    G: Items<K, V, P, R> + Sync,
+    K: Sync,
+    V: Drop + Send + Sync,
+    P: Send,
+    R: Threads + Wait + Sync,
+>(crew: &Crew<'_, '_, G, P, R>, own: &mut P, key: &K) -> Result<Arc<V>, Fault>
+    requires { G.fits crew.now.group.now key.now }
+    ensures value { IfOk result (λ v. G.means crew.now.group.now key.now (arc_value v)) }
+    ensures fault { IfErr result (IsFaultOf (G.failed crew.now.group.now) key.now) }
+{
+    match crew.group.open(crew.rt, own, key) {
+        Ok(Opened::Known(value)) => Ok(value),
+        Ok(Opened::Parts(load, parts)) => {
+            let values = shared(crew, own, key, &parts);
+            crew.group.close(crew.rt, load, key, parts, values)
+        }
+        Err(fault) => Err(fault),
+    }
+}
+
+/// The values of parts of a key, in their order, each asked once; or the fault of the first of them that failed. Where a worker has nothing
+/// to do it asks for the last of them, while this one asks for the others. So behind a part that failed none is begun; one that is under
+/// way is ended, as others may wait for it.
+#[cycle(parts)]
+fn shared<
+    G: Items<K, V, P, R> + Sync,
+    K: Sync,
+    V: Drop + Send + Sync,
+    P: Send,
+    R: Threads + Wait + Sync,
+>(crew: &Crew<'_, '_, G, P, R>, own: &mut P, key: &K, parts: &[K]) -> Result<Vec<Arc<V>>, Fault>
+    requires few { length parts.now ≤ 4 }
+    requires parts { All (IsPart (G.fits crew.now.group.now) (G.rank crew.now.group.now) (G.failed crew.now.group.now) key.now) parts.now }
+    ensures values { IfOk result (λ v. AreValuesOf (G.means crew.now.group.now) parts.now v.items) }
+    ensures fault { IfErr result (IsPartsFault (G.means crew.now.group.now) (G.failed crew.now.group.now) parts.now) }
+{
+    if parts.len() < 2 {
+        return in_turn(crew, own, key, parts);
+    }
+    let Some(helper) = crew.idle.take(crew.rt) else {
+        let (front, back) = parts.split_at(1);
+        let first = in_turn(crew, own, key, front)?;
+        let rest = shared(crew, own, key, back)?;
+        return joined(first, rest);
+    };
+    let (front, back) = parts.split_at(parts.len() - 1);
+    let (first, rest) = join(
+        crew.rt,
+        || -> Result<Vec<Arc<V>>, Fault>
+            requires { IsSync R.row × (length front.now ≤ 3) × All (IsPart (G.fits crew.now.group.now) (G.rank crew.now.group.now)
+                (G.failed crew.now.group.now) key.now) front.now }
+            ensures { IfOk result (λ v. AreValuesOf (G.means crew.entry.now.group.now) front.entry.now v.items)
+                × IfErr result (IsPartsFault (G.means crew.entry.now.group.now) (G.failed crew.entry.now.group.now) front.entry.now) }
+        { shared(crew, own, key, front) },
+        || -> Result<Vec<Arc<V>>, Fault>
+            requires { IsSync R.row × All (IsPart (G.fits crew.now.group.now) (G.rank crew.now.group.now) (G.failed crew.now.group.now)
+                key.now) back.now }
+            ensures { IfOk result (λ v. AreValuesOf (G.means crew.entry.now.group.now) back.entry.now v.items)
+                × IfErr result (IsPartsFault (G.means crew.entry.now.group.now) (G.failed crew.entry.now.group.now) back.entry.now) }
+        { helped(crew, helper, key, back) },
+    );
+    match first {
+        Ok(first) => match rest {
+            Ok(rest) => joined(first, rest),
+            Err(later) => Err(later),
+        },
+        Err(earlier) => Err(earlier),
+    }
+}
+
+/// The same by a worker that had nothing to do, and has nothing to do again then.
+#[cycle(parts)]
+fn helped<
+    'a,
+    G: Items<K, V, P, R> + Sync,
+    K: Sync,
+    V: Drop + Send + Sync,
+    P: Send,
+    R: Threads + Wait + Sync,
+>(
+    crew: &Crew<'_, 'a, G, P, R>,
+    mut helper: Helper<'a, P>,
+    key: &K,
+    parts: &[K],
+) -> Result<Vec<Arc<V>>, Fault>
+    requires { All (IsPart (G.fits crew.now.group.now) (G.rank crew.now.group.now) (G.failed crew.now.group.now) key.now) parts.now }
+    ensures values { IfOk result (λ v. AreValuesOf (G.means crew.now.group.now) parts.now v.items) }
+    ensures fault { IfErr result (IsPartsFault (G.means crew.now.group.now) (G.failed crew.now.group.now) parts.now) }
+{
+    let values = in_turn(crew, helper.pass, key, parts);
+    crew.idle.put(crew.rt, helper);
+    values
+}
+
+/// The same, asked one after another.
+#[cycle(parts)]
+fn in_turn<
+    G: Items<K, V, P, R> + Sync,
+    K: Sync,
+    V: Drop + Send + Sync,
+    P: Send,
+    R: Threads + Wait + Sync,
+>(crew: &Crew<'_, '_, G, P, R>, own: &mut P, key: &K, parts: &[K]) -> Result<Vec<Arc<V>>, Fault>
+    requires { All (IsPart (G.fits crew.now.group.now) (G.rank crew.now.group.now) (G.failed crew.now.group.now) key.now) parts.now }
+    ensures values { IfOk result (λ v. AreValuesOf (G.means crew.now.group.now) parts.now v.items) }
+    ensures fault { IfErr result (IsPartsFault (G.means crew.now.group.now) (G.failed crew.now.group.now) parts.now) }
+{
+    let mut values = Vec::new(crew.alloc);
+    for part in parts {
+        let value = value_of(crew, own, part)?;
+        keep(&mut values, value)?;
+    }
+    Ok(values)
+}
