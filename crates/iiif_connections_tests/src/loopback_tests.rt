@@ -81,18 +81,17 @@ const MEAN: Sends<'static> = Sends {
 const PLACES: Scene<'static, 'static> = Scene { edge: 1, ..SAMPLE };
 
 /// Scenes, viewers, and what is counted then. No group is asked for anything of three requests without an image's samples. Of an image that
-/// is asked for twice each of four tiles is loaded once for all viewers. Of the mean two workers ask for the 16 blocks of level 0, and then
-/// for the block, which asks for 4 of level 1, and these for the 16 again, which are kept by now; how often the two ask for the same is
-/// chance. Each of the 21 blocks is made once, the 16 of their tiles, which are loaded once.
+/// is asked for twice each of four tiles is loaded once for all viewers. Of the mean two workers ask for each of 21 blocks and of 16 tiles
+/// once, and it is loaded.
 static VIEWERS: [(Scene<'static, 'static>, Sends<'static>, [Option<u64>; 4]); 4] = [
     (SAMPLE, THREE, [Some(0), None, None, None]),
     (SAMPLE, THREE_AND_STAYS, [Some(0), None, None, None]),
     (SAMPLE, TWICE, [Some(8), Some(4), Some(4), Some(0)]),
-    (PLACES, MEAN, [None, None, Some(37), Some(0)]),
+    (PLACES, MEAN, [Some(37), Some(0), Some(37), Some(0)]),
 ];
 
 #[test]
-fn parts_are_asked_first_and_loaded_once(rt: HostRuntime) {
+fn each_part_is_asked_for_once_and_loaded(rt: HostRuntime) {
     for (scene, viewer, known) in &VIEWERS {
         let counts = served(&rt, &rt, scene, Visit::Sends(viewer));
         assert!(rt; are_known(counts, known), "{counts:?}");

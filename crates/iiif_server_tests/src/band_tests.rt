@@ -2,8 +2,8 @@
 
 use crate::answer_tests::{FAULT, STEPS};
 use crate::cases::{
-    Ask, BY_FIVE, BY_ONE, BY_TWO, Case, HALF, IS_NOT_SO, IS_SO, LARGER, SLOWLY, Setup, Table, Text,
-    Variant, WHOLE, Want,
+    Ask, BY_FIVE, BY_ONE, BY_TWO, Case, HALF, IS_NOT_SO, IS_SO, LARGER, ONE, SLOWLY, Setup, Table,
+    Text, Variant, WHOLE, Want,
 };
 use crate::files::{HALVED_FILE, SAMPLE_FILE};
 use crate::nodes::{all_are, are_right, wrong_variant};
@@ -202,31 +202,64 @@ fn workers_meet_and_one_meets_no_other(rt: HostRuntime) {
     all_are(&rt, &MEETINGS);
 }
 
-const MEAN: Case<'static> = (
-    Ask::Body(b"/iiif/a/full/1,1/0/default.tif"),
-    Want::Whole(200, Text::Long(175, &[75])),
-);
+pub(crate) const MEAN: Case<'static> = (Ask::Body(ONE), Want::Whole(200, Text::Long(175, &[75])));
+
+const EACH_ASKED_ONCE: Case<'static> = (Ask::Sums, Want::Booked(21, 21, 21));
+
+const EACH_READ_ONCE: Case<'static> = (Ask::Reads, Want::Booked(16, 16, 0));
+
+const MADE_ONCE: &[Case<'static>] = &[MEAN, EACH_ASKED_ONCE, EACH_READ_ONCE];
 
 /// At one place and an edge of 1 the sample is one block of level 2. Below it stand 4 of level 1 and 16 of level 0: 21 in all, each asked
-/// for once, by one worker or by three.
-static ASKED: [Table; 2] = [
+/// for once, by one worker, by two or by four, and each tile is read once.
+static ASKED: [Table; 3] = [
+    ("by one", Setup { edge: 1, ..AT_ONCE }, MADE_ONCE),
     (
-        "by one",
-        Setup { edge: 1, ..AT_ONCE },
-        &[MEAN, (Ask::Sums, Want::Booked(21, 21, 21))],
-    ),
-    (
-        "by three",
+        "by two",
         Setup {
             edge: 1,
-            workers: 3,
+            workers: 2,
             ..AT_ONCE
         },
-        &[MEAN, (Ask::Sums, Want::Booked(21, 21, 21))],
+        MADE_ONCE,
+    ),
+    (
+        "by four",
+        Setup {
+            edge: 1,
+            workers: 4,
+            ..AT_ONCE
+        },
+        MADE_ONCE,
     ),
 ];
 
 #[test]
 fn parts_are_asked_for_once(rt: HostRuntime) {
     all_are(&rt, &ASKED);
+}
+
+/// The same, the first load of a tile being held for so many turns.
+const HELD: Setup<'static> = Setup {
+    edge: 1,
+    turns: 10_000,
+    ..AT_ONCE
+};
+
+const SHARES: &[Case<'static>] = &[MEAN, (Ask::Alone, IS_NOT_SO), EACH_ASKED_ONCE];
+
+/// By several workers another load comes while the first is held, though all tiles are of one block. Each part is asked for once.
+static SHARED: [Table; 3] = [
+    ("by two", Setup { workers: 2, ..HELD }, SHARES),
+    ("by nine", Setup { workers: 9, ..HELD }, SHARES),
+    (
+        "by one",
+        Setup { turns: 50, ..HELD },
+        &[MEAN, (Ask::Alone, IS_SO), EACH_ASKED_ONCE],
+    ),
+];
+
+#[test]
+fn parts_of_one_block_are_made_by_several_workers(rt: HostRuntime) {
+    all_are(&rt, &SHARED);
 }

@@ -10,6 +10,8 @@ pub(crate) const WHOLE: &[u8] = b"/iiif/a/full/max/0/default.tif";
 
 pub(crate) const HALF: &[u8] = b"/iiif/a/full/2,/0/default.tif";
 
+pub(crate) const ONE: &[u8] = b"/iiif/a/full/1,1/0/default.tif";
+
 /// What a node is made of, and how it makes its images.
 #[derive(Clone, Copy)]
 pub(crate) struct Setup<'a> {

@@ -26,10 +26,13 @@ use std::sync::ledger::Blank;
 use std::thread::Threads;
 use std::time::Clock;
 
-/// The gate of a node, and what is told of its answers.
+/// The gates of a node, and what is told of its answers.
 #[derive(Drop)]
 pub(crate) struct Seen {
+    /// At which tiles meet.
     pub gate: Meeting,
+    /// The same of sums, which don't wait for one another.
+    pub open: Meeting,
     pub told: Told,
 }
 
@@ -128,7 +131,7 @@ fn right_of<R: Threads + Wait + Clock + Sync>(
     let config = settings(alloc, setup)?;
     let images = images(rt, alloc, setup)?;
     let tiles = stock(alloc, setup.bytes, &seen.gate, Blank::new(65_537))?;
-    let sums = stock(alloc, setup.bytes, &seen.gate, Blank::new(65_537))?;
+    let sums = stock(alloc, setup.bytes, &seen.open, Blank::new(65_537))?;
     right_by::<R, Brand>(
         rt,
         alloc,
@@ -150,6 +153,7 @@ fn first_wrong<R: Threads + Wait + Clock + Sync + AllocGlobal>(
 ) -> Option<usize> {
     let seen = Seen {
         gate: Meeting::new(setup.turns),
+        open: Meeting::new(0),
         told: Told::new(),
     };
     match right_of(rt, rt.alloc(), setup, &seen, cases) {

@@ -1,7 +1,8 @@
 //! A read that fails once: it is told, whichever of all it is, and isn't tried again for the same answer.
 
 use crate::answer_tests::FAULT;
-use crate::cases::{Ask, Case, HALF, NODE, Setup, Text, WHOLE, Want};
+use crate::band_tests::MEAN;
+use crate::cases::{Ask, Case, HALF, NODE, ONE, Setup, Text, WHOLE, Want};
 use crate::files::{HALVED_FILE, SAMPLE_FILE};
 use crate::nodes::are_right;
 use std::sync::Wait;
@@ -33,12 +34,24 @@ const SAMPLE_CUT: &[Case<'static>] = &[
     EACH_READ_ONCE,
 ];
 
+/// The sample at one place is a block of level 2, with 4 of level 1 and 16 of level 0 below it. Each of these 21 is loaded once, and those
+/// of the tile whose read failed, one of each level, in vain before.
+const EACH_LOADED_ONCE: Case<'static> = (Ask::Sums, Want::Booked(24, 42, 24));
+
+const ONE_REFUSED: &[Case<'static>] = &[
+    (Ask::Body(ONE), FAULT),
+    MEAN,
+    EACH_READ_ONCE,
+    EACH_LOADED_ONCE,
+];
+
 /// A name, the rows of a band, the first and the last of the reads that fail, one of them each time, and what comes then.
 type Once = (&'static str, u32, u64, u64, &'static [Case<'static>]);
 
 /// Half the sample is made of one block, whose reads all come before the first band. Of the whole sample in bands of one row four tiles are
 /// read for each band, so that a fault behind the first four cuts.
-static ONCE: [Once; 5] = [
+static ONCE: [Once; 6] = [
+    ("one place", 64, 1, TILES, ONE_REFUSED),
     ("half, in bands of 1", 1, 1, TILES, HALF_REFUSED),
     ("half, in a band", 64, 1, TILES, HALF_REFUSED),
     ("whole, first of bands of 1", 1, 1, 4, SAMPLE_REFUSED),
