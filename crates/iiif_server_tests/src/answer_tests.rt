@@ -1,6 +1,8 @@
 //! Answers of nodes: bodies, answers to calls, and failures of sources and writers.
 
-use crate::cases::{Ask, Case, HALF, LARGER, NODE, SLOWLY, Setup, Table, Text, Verb, WHOLE, Want};
+use crate::cases::{
+    Ask, Case, HALF, LARGER, NODE, NOTHING_IS_READ, SLOWLY, Setup, Table, Text, Verb, WHOLE, Want,
+};
 use crate::files::{DEEP, DEEP_HIGH_FIRST, SAMPLE_FILE};
 use crate::nodes::{all_are, are_right};
 use std::alloc::Global;
@@ -56,7 +58,7 @@ const SCALED: &[Case<'static>] = &[
     ),
 ];
 
-/// Targets that are refused, and the lines that say why.
+/// Targets that are refused, and the lines that say why. Nothing is read for them.
 const REFUSED: &[Case<'static>] = &[
     (
         Ask::Body(b"/iiif/a%2/full/max/0/default.tif"),
@@ -114,6 +116,7 @@ const REFUSED: &[Case<'static>] = &[
         Ask::Body(b"/iiif/a/full/pct:100.1/0/default.tif"),
         Want::Whole(400, Text::Is(b"Q12 larger\n")),
     ),
+    NOTHING_IS_READ,
 ];
 
 /// The sample's body, how it ends where a read fails, and the answer to a target that is no image.
@@ -138,7 +141,10 @@ const HALF_BODY: &[Case<'static>] = &[(
     Want::Whole(200, Text::Framed(b"II", b"")),
 )];
 
-const REDIRECTED: &[Case<'static>] = &[(Ask::Body(b"/iiif/a"), Want::Whole(303, Text::Is(b"")))];
+const REDIRECTED: &[Case<'static>] = &[
+    (Ask::Body(b"/iiif/a"), Want::Whole(303, Text::Is(b""))),
+    NOTHING_IS_READ,
+];
 
 const ESCAPED: &[Case<'static>] = &[(
     Ask::Body(b"/iiif/a%2Fb/full/max/0/default.tif?x=1"),
@@ -219,29 +225,67 @@ fn bodies_of_16_bits(rt: HostRuntime) {
     all_are(&rt, &DEEP_BODIES);
 }
 
-/// How much is held of an image, and of what is none.
-static HELD: [Table; 2] = [
-    (
-        "turned",
-        SLOWLY,
-        &[(
-            Ask::Body(b"/iiif/a/full/max/90/default.tif"),
-            Want::Held(200, 4, 8, Text::Long(190, b"")),
-        )],
-    ),
-    (
-        "information",
-        SLOWLY,
-        &[(
-            Ask::Body(b"/iiif/a/info.json"),
-            Want::Held(200, 0, 0, Text::Framed(b"{", b"}")),
-        )],
-    ),
+/// The sample a quarter turned: the first row is the first column, from its lower end.
+pub(crate) const TURNED: &[u8] = &[
+    120, 80, 40, 0, 130, 90, 50, 10, 140, 100, 60, 20, 150, 110, 70, 30,
 ];
+
+/// Of four samples a row, at least a row is held and at most a band twice.
+const HELD_BY_ROW: &[Case<'static>] = &[(
+    Ask::Body(b"/iiif/a/full/max/90/default.tif"),
+    Want::Held(200, 4, 8, Text::Long(190, TURNED)),
+)];
+
+/// A band of more rows than there are has four.
+const HELD_AT_ONCE: &[Case<'static>] = &[(
+    Ask::Body(b"/iiif/a/full/max/90/default.tif"),
+    Want::Held(200, 4, 32, Text::Long(190, TURNED)),
+)];
+
+/// The same of two samples a row, each a mean.
+const HELD_HALF: &[Case<'static>] = &[(
+    Ask::Body(b"/iiif/a/full/2,/90/default.tif"),
+    Want::Held(200, 2, 4, Text::Long(178, &[105, 25, 125, 45])),
+)];
+
+/// How much is held of an image, whoever makes it.
+static HELD: [Table; 3] = [
+    ("by row", SLOWLY, HELD_BY_ROW),
+    ("at once", Setup { rows: 64, ..SLOWLY }, HELD_AT_ONCE),
+    ("half, by row", SLOWLY, HELD_HALF),
+];
+
+/// Nothing is held of what is no image.
+static NOT_HELD: [Table; 1] = [(
+    "information",
+    SLOWLY,
+    &[(
+        Ask::Body(b"/iiif/a/info.json"),
+        Want::Held(200, 0, 0, Text::Framed(b"{", b"}")),
+    )],
+)];
+
+/// The number of workers by whom these don't come as they are to.
+fn other_workers<R: Threads + Wait + Clock + Sync + AllocGlobal>(
+    rt: &R,
+    setup: &Setup<'_>,
+    cases: &[Case<'_>],
+) -> Option<u32> {
+    for workers in [1, 2, 4] {
+        if !are_right(rt, &Setup { workers, ..*setup }, cases) {
+            return Some(workers);
+        }
+    }
+    None
+}
 
 #[test]
 fn row_of_a_turned_sample_is_held_at_most_twice(rt: HostRuntime) {
-    all_are(&rt, &HELD);
+    for (name, setup, cases) in &HELD {
+        let other = other_workers(&rt, setup, cases);
+        assert!(rt; other.is_none(), "{name}, by {other:?}");
+    }
+    all_are(&rt, &NOT_HELD);
 }
 
 /// Whether a body is the line of a source that fails where one of its first four reads does, and whole where none of a thousand does. Four
@@ -275,13 +319,13 @@ const FAULT_ANSWER: &[u8] =
         Content-Length: 10\r\n\r\nL1 source\n";
 
 /// The image with its head.
-const IMAGE: Case<'static> = (
+pub(crate) const IMAGE: Case<'static> = (
     Ask::Call(Verb::Get, WHOLE),
     Want::Whole(200, Text::Joined(IMAGE_HEAD, &SAMPLE_FILE)),
 );
 
 /// The same where a read fails before the first band.
-const UNREAD: Case<'static> = (
+pub(crate) const UNREAD: Case<'static> = (
     Ask::Call(Verb::Get, WHOLE),
     Want::Whole(500, Text::Is(FAULT_ANSWER)),
 );
@@ -292,7 +336,7 @@ const HEADED: Case<'static> = (
     Want::Whole(200, Text::Is(IMAGE_HEAD)),
 );
 
-/// Refusals with their heads.
+/// Refusals with their heads, for which nothing is read.
 const REFUSALS: &[Case<'static>] = &[
     (
         Ask::Call(Verb::Get, b"/iiif/zz/info.json"),
@@ -333,6 +377,7 @@ const REFUSALS: &[Case<'static>] = &[
             ),
         ),
     ),
+    NOTHING_IS_READ,
 ];
 
 /// A head alone, for which nothing is read, and then an image, for which the first read fails.
@@ -433,15 +478,18 @@ fn results_above_their_regions(rt: HostRuntime) {
     all_are(&rt, &RESULTS);
 }
 
-/// Refusals with and without the option.
+/// Refusals with and without the option. Nothing is read for the one that no other table has.
 static REFUSED_RESULTS: [Table; 6] = [
     (
         "full/^5000,",
         LARGER,
-        &[(
-            Ask::Call(Verb::Get, b"/iiif/a/full/^5000,/0/default.tif"),
-            Want::Whole(400, Text::Framed(b"", b"\r\nQ14 limit\n")),
-        )],
+        &[
+            (
+                Ask::Call(Verb::Get, b"/iiif/a/full/^5000,/0/default.tif"),
+                Want::Whole(400, Text::Framed(b"", b"\r\nQ14 limit\n")),
+            ),
+            NOTHING_IS_READ,
+        ],
     ),
     (
         "full/8,",
@@ -513,38 +561,51 @@ const INFORMATION_OF_LARGER: &[u8] =
         \"profile\":\"level0\",\"protocol\":\"http://iiif.io/api/image\",\"tiles\":[{\"height\":2,\"scaleFactors\":[1,\
         2],\"width\":2}],\"type\":\"ImageService3\",\"width\":4}";
 
+/// What is said of the sample, for which nothing of it is read.
 static SAID: [Table; 4] = [
     (
         "GET",
         NODE,
-        &[(
-            Ask::Call(Verb::Get, b"/iiif/a/info.json"),
-            Want::Whole(200, Text::Joined(INFORMATION_HEAD, INFORMATION)),
-        )],
+        &[
+            (
+                Ask::Call(Verb::Get, b"/iiif/a/info.json"),
+                Want::Whole(200, Text::Joined(INFORMATION_HEAD, INFORMATION)),
+            ),
+            NOTHING_IS_READ,
+        ],
     ),
     (
         "HEAD",
         NODE,
-        &[(
-            Ask::Call(Verb::Head, b"/iiif/a/info.json"),
-            Want::Whole(200, Text::Is(INFORMATION_HEAD)),
-        )],
+        &[
+            (
+                Ask::Call(Verb::Head, b"/iiif/a/info.json"),
+                Want::Whole(200, Text::Is(INFORMATION_HEAD)),
+            ),
+            NOTHING_IS_READ,
+        ],
     ),
     (
         "body",
         NODE,
-        &[(
-            Ask::Body(b"/iiif/a/info.json"),
-            Want::Whole(200, Text::Is(INFORMATION)),
-        )],
+        &[
+            (
+                Ask::Body(b"/iiif/a/info.json"),
+                Want::Whole(200, Text::Is(INFORMATION)),
+            ),
+            NOTHING_IS_READ,
+        ],
     ),
     (
         "upscale",
         LARGER,
-        &[(
-            Ask::Body(b"/iiif/a/info.json"),
-            Want::Whole(200, Text::Is(INFORMATION_OF_LARGER)),
-        )],
+        &[
+            (
+                Ask::Body(b"/iiif/a/info.json"),
+                Want::Whole(200, Text::Is(INFORMATION_OF_LARGER)),
+            ),
+            NOTHING_IS_READ,
+        ],
     ),
 ];
 

@@ -1,9 +1,9 @@
 //! Bodies in bands.
 
-use crate::answer_tests::{FAULT, STEPS};
+use crate::answer_tests::{FAULT, IMAGE, IMAGE_HEAD, STEPS, TURNED, UNREAD};
 use crate::cases::{
     Ask, BY_FIVE, BY_ONE, BY_TWO, Case, HALF, IS_NOT_SO, IS_SO, LARGER, ONE, SLOWLY, Setup, Table,
-    Text, Variant, WHOLE, Want,
+    Text, Variant, Verb, WHOLE, Want,
 };
 use crate::files::{HALVED_FILE, SAMPLE_FILE};
 use crate::nodes::{all_are, are_right, wrong_variant};
@@ -25,13 +25,7 @@ type Body = (&'static [u8], usize, &'static [u8]);
 /// Bodies, by hand.
 static CASES: [Body; 9] = [
     (WHOLE, 190, STEPS),
-    (
-        b"/iiif/a/full/max/90/default.tif",
-        190,
-        &[
-            120, 80, 40, 0, 130, 90, 50, 10, 140, 100, 60, 20, 150, 110, 70, 30,
-        ],
-    ),
+    (b"/iiif/a/full/max/90/default.tif", 190, TURNED),
     (HALF, 178, &[25, 45, 105, 125]),
     (
         b"/iiif/a/full/3,3/0/default.tif",
@@ -81,12 +75,26 @@ const MENDED: Case<'static> = (Ask::Mend, Want::Whole(0, Text::Is(b"")));
 const SAMPLE_REFUSED: &[Case<'static>] = &[(Ask::Body(WHOLE), FAULT), MENDED, SAMPLE_IS_WHOLE];
 
 const SAMPLE_CUT: &[Case<'static>] = &[
-    (Ask::Body(WHOLE), Want::Front(&SAMPLE_FILE)),
+    (Ask::Body(WHOLE), Want::Front(b"", &SAMPLE_FILE)),
     MENDED,
     SAMPLE_IS_WHOLE,
 ];
 
 const SAMPLE_SENT: &[Case<'static>] = &[SAMPLE_IS_WHOLE, MENDED, SAMPLE_IS_WHOLE];
+
+/// The same of an answer with its head, which is sent before a later band fails.
+const ANSWER_REFUSED: &[Case<'static>] = &[UNREAD, MENDED, IMAGE];
+
+const ANSWER_CUT: &[Case<'static>] = &[
+    (
+        Ask::Call(Verb::Get, WHOLE),
+        Want::Front(IMAGE_HEAD, &SAMPLE_FILE),
+    ),
+    MENDED,
+    IMAGE,
+];
+
+const ANSWER_SENT: &[Case<'static>] = &[IMAGE, MENDED, IMAGE];
 
 const HALF_REFUSED: &[Case<'static>] = &[(Ask::Body(HALF), FAULT), MENDED, HALF_IS_WHOLE];
 
@@ -100,14 +108,20 @@ type Failing = (
 );
 
 /// Images of the sample, of tiles and of blocks. All reads of one band come before its first byte is sent: none of them cuts.
-static FAILING: [Failing; 4] = [
+static FAILING: [Failing; 6] = [
     (
         "whole, slowly",
         SLOWLY,
         &[SAMPLE_REFUSED, SAMPLE_CUT, SAMPLE_SENT],
     ),
+    (
+        "answer, slowly",
+        SLOWLY,
+        &[ANSWER_REFUSED, ANSWER_CUT, ANSWER_SENT],
+    ),
     ("half, slowly", SLOWLY, &[HALF_REFUSED, HALF_SENT]),
     ("whole, at once", AT_ONCE, &[SAMPLE_REFUSED, SAMPLE_SENT]),
+    ("answer, at once", AT_ONCE, &[ANSWER_REFUSED, ANSWER_SENT]),
     ("half, at once", AT_ONCE, &[HALF_REFUSED, HALF_SENT]),
 ];
 

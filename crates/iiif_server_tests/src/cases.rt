@@ -140,8 +140,8 @@ pub(crate) enum Want<'a> {
     Full(usize, usize, &'a [u8]),
     /// The same on a connection, which ends there.
     Ended(usize, usize, &'a [u8]),
-    /// The source failed behind the first sample of this body, and before its last.
-    Front(&'a [u8]),
+    /// The source failed behind this head and the first sample of this body, and before its last.
+    Front(&'a [u8], &'a [u8]),
 }
 
 /// Something is so.
@@ -152,6 +152,9 @@ pub(crate) const IS_NOT_SO: Want<'static> = Want::Held(0, 0, 0, Text::Is(b""));
 
 /// An ask and what is to come of it.
 pub(crate) type Case<'a> = (Ask<'a>, Want<'a>);
+
+/// Nothing of the file was read so far.
+pub(crate) const NOTHING_IS_READ: Case<'static> = (Ask::Reads, Want::Booked(0, 0, 0));
 
 /// The edge of a node's tiles, the rows of its bands, its workers, and how many bytes it keeps.
 pub(crate) type Variant = (u32, u32, u32, u64);
@@ -255,9 +258,12 @@ fn are_front(bytes: &[u8], count: usize, whole: &[u8]) -> bool {
     bytes.len() == count && whole.starts_with(bytes)
 }
 
-/// Whether these are a body's front that ends behind its first sample and before its last.
-fn are_cut(bytes: &[u8], whole: &[u8]) -> bool {
-    174 < bytes.len() && bytes.len() < whole.len() && whole.starts_with(bytes)
+/// Whether these are a head and a body's front that ends behind its first sample and before its last.
+fn are_cut(bytes: &[u8], head: &[u8], body: &[u8]) -> bool {
+    match bytes.strip_prefix(head) {
+        Some(sent) => 174 < sent.len() && sent.len() < body.len() && body.starts_with(sent),
+        None => false,
+    }
 }
 
 impl<'a> Want<'a> {
@@ -293,10 +299,10 @@ impl<'a> Want<'a> {
             Want::Full(room, _, whole) => {
                 is_all && cut.cause == Cause::Writer && are_front(bytes, room, whole)
             }
-            Want::Front(whole) => {
+            Want::Front(head, body) => {
                 is_all
                     && matches!(cut.cause, Cause::Load(Fault::Source(_)))
-                    && are_cut(bytes, whole)
+                    && are_cut(bytes, head, body)
             }
             _ => false,
         }

@@ -8,8 +8,9 @@ use iiif_io::{CountingSink, FixedBuffer};
 use iiif_source::MemSource;
 use std::marker::Brand;
 
-/// What holds of answers at any devices holds where the bytes of images stand in memory, the reader never fails, and the writer never
-/// fails or where its room is full.
+/// The laws are proved of any source, reader, writer and ledgers that keep their traits' contracts. That there are such, so that no law is
+/// about nothing, is what their proofs don't show: here are some, as bytes of images in memory, a reader that never fails, and a writer
+/// that never fails, or where its room is full. At run time nothing is computed.
 #[test]
 fn laws_of_answers_stand_at_memory() {
     calls_are_not_passed_over::<(), MemSource, Brand, &'static [u8], CountingSink>();

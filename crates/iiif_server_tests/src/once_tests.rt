@@ -29,7 +29,7 @@ const SAMPLE_REFUSED: &[Case<'static>] = &[
 ];
 
 const SAMPLE_CUT: &[Case<'static>] = &[
-    (Ask::Body(WHOLE), Want::Front(&SAMPLE_FILE)),
+    (Ask::Body(WHOLE), Want::Front(b"", &SAMPLE_FILE)),
     SAMPLE_IS_WHOLE,
     EACH_READ_ONCE,
 ];

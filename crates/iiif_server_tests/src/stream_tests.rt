@@ -1,7 +1,7 @@
 //! Connections, and what a watch is told of their answers.
 
 use crate::answer_tests::IMAGE_HEAD;
-use crate::cases::{Ask, IS_SO, Input, ONE_WORKER, Table, Text, Want};
+use crate::cases::{Ask, IS_SO, Input, NOTHING_IS_READ, ONE_WORKER, Table, Text, Want};
 use crate::nodes::{all_are, are_right};
 use std::alloc::Global;
 use std::sync::Wait;
@@ -49,7 +49,8 @@ fn wrong_place<R: Threads + Wait + Clock + Sync + AllocGlobal>(rt: &R) -> Option
             second,
             ..AT_ONCE
         };
-        if !are_right(rt, &ONE_WORKER, &[(Ask::Stream(input), ALL_ANSWERED)]) {
+        let cases = [(Ask::Stream(input), ALL_ANSWERED), NOTHING_IS_READ];
+        if !are_right(rt, &ONE_WORKER, &cases) {
             return Some(place);
         }
     }
@@ -62,6 +63,42 @@ const ALL_ANSWERED: Want<'static> = Want::Whole(0, Text::Is(ANSWERS));
 fn three_requests_cut_at_every_place(rt: HostRuntime) {
     if let Some(place) = wrong_place(&rt) {
         panic!(rt; "{place}");
+    }
+}
+
+/// Where the head of each of the three requests ends, and where the answer to it does.
+static ENDS: [(usize, usize); 3] = [(41, 122), (83, 263), (148, 433)];
+
+/// What is answered to so many bytes of the three requests: each head that has come whole, and nothing of what follows.
+fn answers_to(count: usize) -> &'static [u8] {
+    let mut answered = 0usize;
+    for (head, answer) in &ENDS {
+        if *head <= count {
+            answered = *answer;
+        }
+    }
+    let (answers, _) = ANSWERS.split_at(answered.min(ANSWERS.len()));
+    answers
+}
+
+/// The first number of bytes behind which the three requests end and aren't answered as they are to be.
+fn wrong_end<R: Threads + Wait + Clock + Sync + AllocGlobal>(rt: &R) -> Option<usize> {
+    for count in 0..=REQUESTS.len() {
+        let (first, _) = REQUESTS.split_at(count.min(REQUESTS.len()));
+        let input = Input { first, ..AT_ONCE };
+        let want = Want::Whole(0, Text::Is(answers_to(count)));
+        if !are_right(rt, &ONE_WORKER, &[(Ask::Stream(input), want)]) {
+            return Some(count);
+        }
+    }
+    None
+}
+
+#[test]
+fn three_requests_that_end_behind_every_byte(rt: HostRuntime) {
+    assert!(rt; answers_to(REQUESTS.len()) == ANSWERS);
+    if let Some(count) = wrong_end(&rt) {
+        panic!(rt; "{count}");
     }
 }
 
@@ -95,10 +132,11 @@ const CALL: &[u8] = b"GET /iiif/a HTTP/1.1\r\n\r\n";
 /// What comes on a connection, and what is answered.
 struct Connection {
     what: &'static str,
-    /// This, and that so many times,
+    /// This, that so many times, and what is behind it,
     front: &'static [u8],
     part: &'static [u8],
     count: u32,
+    end: &'static [u8],
     /// in pieces of so many bytes, in so many reads before the reader fails.
     piece: usize,
     reads: usize,
@@ -113,6 +151,7 @@ const SILENT: Connection = Connection {
     front: b"",
     part: b"",
     count: 0,
+    end: b"",
     piece: 4096,
     reads: usize::MAX,
     redirects: 0,
@@ -217,17 +256,18 @@ fn repeated(alloc: Global, front: &[u8], part: &[u8], count: u32) -> Option<Vec<
     Some(bytes)
 }
 
-/// Whether a connection is answered as it is to be.
+/// Whether a connection is answered as it is to be, and nothing of the image is read for it.
 fn is_served<R: Threads + Wait + Clock + Sync + AllocGlobal>(
     rt: &R,
     connection: &Connection,
 ) -> Option<bool> {
-    let first = repeated(
+    let mut first = repeated(
         rt.alloc(),
         connection.front,
         connection.part,
         connection.count,
     )?;
+    first.extend_from_slice(connection.end).ok()?;
     let mut text = repeated(rt.alloc(), b"", REDIRECT, connection.redirects)?;
     text.extend_from_slice(connection.last).ok()?;
     let input = Input {
@@ -237,7 +277,7 @@ fn is_served<R: Threads + Wait + Clock + Sync + AllocGlobal>(
         reads: connection.reads,
     };
     let case = (Ask::Stream(input), Want::Whole(0, Text::Is(&text)));
-    Some(are_right(rt, &ONE_WORKER, &[case]))
+    Some(are_right(rt, &ONE_WORKER, &[case, NOTHING_IS_READ]))
 }
 
 #[test]
@@ -248,6 +288,94 @@ fn heads_that_are_none_calls_that_close_and_no_more_than_a_thousand(rt: HostRunt
             "{}",
             connection.what
         );
+    }
+}
+
+/// The line of a call, and the beginning of a field: 25 bytes.
+const LONG: Connection = Connection {
+    what: "a long field",
+    front: b"GET /iiif/a HTTP/1.1\r\nX: ",
+    part: b"x",
+    ..SILENT
+};
+
+/// The line of a call, fields, and another call behind an empty line.
+const MANY: Connection = Connection {
+    what: "64 fields",
+    front: b"GET /iiif/a HTTP/1.1\r\n",
+    part: b"A: 1\r\n",
+    count: 64,
+    end: b"\r\nGET /iiif/a HTTP/1.1\r\n\r\n",
+    redirects: 2,
+    ..SILENT
+};
+
+/// Heads of up to 64 fields and of more, whole ones and such that end sooner. A 65th line is refused whatever follows it.
+static FIELDS: [Connection; 4] = [
+    MANY,
+    Connection {
+        what: "64 fields, no end",
+        end: b"",
+        redirects: 0,
+        ..MANY
+    },
+    Connection {
+        what: "65 fields",
+        count: 65,
+        redirects: 0,
+        last: BAD_HEAD,
+        ..MANY
+    },
+    Connection {
+        what: "65 fields, no end",
+        count: 65,
+        end: b"",
+        redirects: 0,
+        last: BAD_HEAD,
+        ..MANY
+    },
+];
+
+/// Heads of up to 8,192 bytes and of more, with the empty line at their end: 25 + 8,163 + 4. Behind a whole one another call is answered.
+/// Of 8,192 bytes without an end no head can be made, and of one fewer one may come yet.
+static LENGTHS: [Connection; 4] = [
+    Connection {
+        what: "8,192 bytes",
+        count: 8163,
+        end: b"\r\n\r\nGET /iiif/a HTTP/1.1\r\n\r\n",
+        redirects: 2,
+        ..LONG
+    },
+    Connection {
+        what: "8,193 bytes",
+        count: 8164,
+        end: b"\r\n\r\nGET /iiif/a HTTP/1.1\r\n\r\n",
+        last: BAD_HEAD,
+        ..LONG
+    },
+    Connection {
+        what: "8,191 bytes, no end",
+        count: 8166,
+        ..LONG
+    },
+    Connection {
+        what: "8,192 bytes, no end",
+        count: 8167,
+        last: BAD_HEAD,
+        ..LONG
+    },
+];
+
+#[test]
+fn heads_of_the_most_fields_and_bytes_are_answered_and_longer_ones_close(rt: HostRuntime) {
+    for connections in [&FIELDS, &LENGTHS] {
+        for connection in connections {
+            assert!(rt;
+                is_served(&rt, connection) == Some(true),
+                "{}",
+                connection.what
+            );
+        }
     }
 }
 
