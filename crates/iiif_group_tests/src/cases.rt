@@ -15,6 +15,8 @@ pub(crate) struct Case {
     pub owner: Owner,
     /// Which read of `a` fails first.
     pub fuse: u64,
+    /// How many bytes the node keeps of tiles, and of sums.
+    pub bytes: u64,
     /// The first read of `a` waits until another is inside.
     pub reads_meet: bool,
     /// The first that asks the owner waits until another asks it.
@@ -27,6 +29,7 @@ pub(crate) struct Case {
 fn set_up<'a>(case: &Case, gate: &'a Bar, asks: &'a Bar) -> Setup<'a> {
     Setup {
         fuse: case.fuse,
+        bytes: case.bytes,
         meets: case.reads_meet,
         stands: matches!(case.owner, Owner::Itself),
         way: way_to(&case.owner, asks),

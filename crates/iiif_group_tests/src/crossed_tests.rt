@@ -6,7 +6,7 @@ use crate::calls::{Call, LAST, Step};
 use crate::cases::{Case, first_wrong};
 use crate::crossings::Crossing;
 use crate::messages::{CHANGED, OTHER, RIGHT, WIDE};
-use crate::nodes::{Owner, Setup};
+use crate::nodes::{Owner, ROOMY, Setup};
 use crate::peers::{LIMIT, Way};
 use crate::runs::Stages;
 use crate::scenes::{QUIET, Scene, Seen, played};
@@ -70,6 +70,7 @@ where
 fn setup<'a>(peer: &'a TcpListener, gate: &'a Bar, crossing: Option<Crossing<'a>>) -> Setup<'a> {
     Setup {
         fuse: 99,
+        bytes: ROOMY,
         meets: false,
         stands: false,
         way: Way::Tcp(peer),
@@ -174,6 +175,7 @@ static OTHERS: [Case; 2] = [
         what: "Each ask gets the reply of its key.",
         owner: Owner::Refuses,
         fuse: 99,
+        bytes: ROOMY,
         reads_meet: false,
         asks_meet: false,
         scene: Scene::Replies,
@@ -183,6 +185,7 @@ static OTHERS: [Case; 2] = [
         what: "65,536 passes are given out, and no more.",
         owner: Owner::Itself,
         fuse: 99,
+        bytes: ROOMY,
         reads_meet: false,
         asks_meet: false,
         scene: Scene::GivesOut(65_536),

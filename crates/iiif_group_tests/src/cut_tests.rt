@@ -3,7 +3,7 @@
 use crate::bars::Bar;
 use crate::calls::{Call, HALVED, LAST, Step, WHOLE};
 use crate::messages::{Exchange, SUMS, TILE};
-use crate::nodes::Setup;
+use crate::nodes::{ROOMY, Setup};
 use crate::peers::Way;
 use crate::runs::Stages;
 use crate::scenes::{Scene, played};
@@ -61,6 +61,7 @@ where
     let (asked, reply) = (cut.exchange.ask.len(), cut.exchange.reply);
     let setup = Setup {
         fuse: 99,
+        bytes: ROOMY,
         meets: false,
         stands: false,
         way: Way::Cut {

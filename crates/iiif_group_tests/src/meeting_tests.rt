@@ -4,7 +4,7 @@
 use crate::calls::{Answer, Call, FIRST, SECOND, Step};
 use crate::cases::{Case, first_wrong};
 use crate::meetings::Meeting;
-use crate::nodes::{NO_COUNTS, ONE, Owner, THREE, TWO};
+use crate::nodes::{NO_COUNTS, ONE, Owner, ROOMY, THREE, TWO};
 use crate::peers::GIVEN;
 use crate::scenes::{QUIET, Scene, Seen};
 use iiif_keys::Fault;
@@ -17,30 +17,34 @@ const FUSED: Answer = Err(Fault::Source(ReadFault {
     cause: ReadFault::FUSE,
 }));
 
+/// Two calls for the tile (0, 0), of which one joins the other, and a third behind them.
+pub(crate) const FOR_ONE_TILE: Meeting = Meeting {
+    call: Call::Begin,
+    columns: (0, 0),
+    joins: true,
+    mends: false,
+    answers: (Ok(FIRST), Ok(FIRST), Ok(FIRST)),
+};
+
+/// Two calls, of which one led and loaded.
+pub(crate) const JOINED: Book = Book {
+    gets: 2,
+    joins: 1,
+    ..ONE
+};
+
 static MEETINGS: [Case; 5] = [
     Case {
         what: "Two calls for one key share one load.",
         owner: Owner::Itself,
         fuse: 99,
+        bytes: ROOMY,
         reads_meet: false,
         asks_meet: false,
-        scene: Scene::Meets(Meeting {
-            call: Call::Begin,
-            columns: (0, 0),
-            joins: true,
-            mends: false,
-            answers: (Ok(FIRST), Ok(FIRST), Ok(FIRST)),
-        }),
+        scene: Scene::Meets(FOR_ONE_TILE),
         seen: Seen {
             are_same: (true, true),
-            books: (
-                Book {
-                    gets: 2,
-                    joins: 1,
-                    ..ONE
-                },
-                NO_COUNTS,
-            ),
+            books: (JOINED, NO_COUNTS),
             tiles: (
                 Book {
                     gets: 3,
@@ -58,6 +62,7 @@ static MEETINGS: [Case; 5] = [
         what: "A call is answered while another is held at the gate.",
         owner: Owner::Itself,
         fuse: 99,
+        bytes: ROOMY,
         reads_meet: false,
         asks_meet: false,
         scene: Scene::Meets(Meeting {
@@ -85,6 +90,7 @@ static MEETINGS: [Case; 5] = [
         what: "Who joins a call whose owner refused has the load, whose own flight is what is kept.",
         owner: Owner::Refuses,
         fuse: 99,
+        bytes: ROOMY,
         reads_meet: false,
         asks_meet: false,
         scene: Scene::Meets(Meeting {
@@ -122,6 +128,7 @@ static MEETINGS: [Case; 5] = [
         what: "Two asks of the owner overlap.",
         owner: Owner::Gives,
         fuse: 99,
+        bytes: ROOMY,
         reads_meet: false,
         asks_meet: true,
         scene: Scene::Meets(Meeting {
@@ -141,6 +148,7 @@ static MEETINGS: [Case; 5] = [
         what: "A source's fault is told to both, and isn't kept: the call after it loads again.",
         owner: Owner::Itself,
         fuse: 1,
+        bytes: ROOMY,
         reads_meet: false,
         asks_meet: false,
         scene: Scene::Meets(Meeting {
@@ -194,6 +202,7 @@ static CROWDS: [Case; 2] = [
         what: "Three calls that join a load read nothing, and pass no gate.",
         owner: Owner::Itself,
         fuse: 99,
+        bytes: ROOMY,
         reads_meet: false,
         asks_meet: false,
         scene: Scene::Crowds(Meeting {
@@ -213,6 +222,7 @@ static CROWDS: [Case; 2] = [
         what: "Three calls that join a load are told its fault, and the source is read once.",
         owner: Owner::Itself,
         fuse: 1,
+        bytes: ROOMY,
         reads_meet: false,
         asks_meet: false,
         scene: Scene::Crowds(Meeting {
@@ -241,6 +251,7 @@ static AT_ONCE: [Case; 2] = [
         what: "Loads of two tiles overlap.",
         owner: Owner::Itself,
         fuse: 99,
+        bytes: ROOMY,
         reads_meet: true,
         asks_meet: false,
         scene: Scene::Overlaps(&[
@@ -258,6 +269,7 @@ static AT_ONCE: [Case; 2] = [
         what: "Loads of two blocks of level 0 overlap, each of which is made of its tile.",
         owner: Owner::Itself,
         fuse: 99,
+        bytes: ROOMY,
         reads_meet: true,
         asks_meet: false,
         scene: Scene::Overlaps(&[

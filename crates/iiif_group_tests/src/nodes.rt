@@ -44,11 +44,16 @@ const DEEP: &[u8] = &[
 /// The images of a node: their names, their files, and which of their reads fails first. Of `a` it is said by the node's own setup.
 static IMAGES: [(&str, &[u8], u64); 3] = [("a", SAMPLE, 0), ("g", DEEP, 99), ("f", SAMPLE, 1)];
 
+/// Bytes for all that a scene keeps.
+pub(crate) const ROOMY: u64 = 9999;
+
 /// How a node is set up.
 #[derive(Drop)]
 pub(crate) struct Setup<'a> {
     /// Which read of the image `a` fails first.
     pub fuse: u64,
+    /// How many bytes it keeps of tiles, and of sums.
+    pub bytes: u64,
     /// Whether the first read of `a` waits until another is inside.
     pub meets: bool,
     /// Whether the node owns its keys. Else another owns all of them.
@@ -161,7 +166,8 @@ pub(crate) fn shared<'a, K: CacheKey, J: System, L: Ledger>(
     };
     let entries = NonZeroUsize::MIN.saturating_add(7);
     let own = if setup.stands { Some(0) } else { None };
-    Ok(Group::new(alloc, 9999, entries, setup.gate, ring, own, links, blank)?)
+    let bytes = setup.bytes.min(ROOMY);
+    Ok(Group::new(alloc, bytes, entries, setup.gate, ring, own, links, blank)?)
 }
 
 /// A pass of each group.

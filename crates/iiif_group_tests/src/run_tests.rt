@@ -1,9 +1,13 @@
-//! Steps of one thread at a node: each public call, owners that are asked, sources that fail, and growths of memory that are refused.
+//! Steps at a node: each public call, owners that are asked, sources that fail, caches that keep nothing, and growths of memory that are
+//! refused.
 
 use crate::bars::Bar;
 use crate::calls::{Call, FIRST, HALVED, LAST, NONE, SECOND, Step, WHOLE};
 use crate::cases::{Case, first_wrong};
-use crate::nodes::{FIVE, FOUR, NO_COUNTS, ONE, Owner, SEVEN, SIX, Setup, THREE, TWO, way_to};
+use crate::meeting_tests::{FOR_ONE_TILE, JOINED};
+use crate::nodes::{
+    FIVE, FOUR, NO_COUNTS, ONE, Owner, ROOMY, SEVEN, SIX, Setup, THREE, TWO, way_to,
+};
 use crate::peers::GIVEN;
 use crate::runs::Stages;
 use crate::scenes::{QUIET, Scene, Seen, played};
@@ -11,6 +15,30 @@ use iiif_keys::Fault;
 use iiif_source::ReadFault;
 use iiif_tables::Book;
 use std::test::Fail;
+
+/// Two calls that share a load, and a third that leads again.
+const JOINED_AND_ONE: Book = Book {
+    gets: 3,
+    joins: 1,
+    ..TWO
+};
+
+/// So many calls, each of which led and loaded.
+const TEN: Book = Book {
+    gets: 10,
+    leads: 10,
+    loads: 10,
+    landed: 10,
+    ..NO_COUNTS
+};
+
+const ELEVEN: Book = Book {
+    gets: 11,
+    leads: 11,
+    loads: 11,
+    landed: 11,
+    ..NO_COUNTS
+};
 
 /// The fault of the first read, which is of the samples.
 const FUSED: Fault = Fault::Source(ReadFault {
@@ -23,6 +51,7 @@ static EACH_CALL: [Case; 4] = [
         what: "Tiles that are kept aren't read again, however they are called for.",
         owner: Owner::Itself,
         fuse: 99,
+        bytes: ROOMY,
         reads_meet: false,
         asks_meet: false,
         scene: Scene::Runs(Stages {
@@ -57,6 +86,7 @@ static EACH_CALL: [Case; 4] = [
         what: "Each part of sums is asked once, and then the sums are kept.",
         owner: Owner::Itself,
         fuse: 99,
+        bytes: ROOMY,
         reads_meet: false,
         asks_meet: false,
         scene: Scene::Runs(Stages {
@@ -83,6 +113,7 @@ static EACH_CALL: [Case; 4] = [
         what: "The fault of a source is not kept.",
         owner: Owner::Itself,
         fuse: 1,
+        bytes: ROOMY,
         reads_meet: false,
         asks_meet: false,
         scene: Scene::Runs(Stages {
@@ -103,6 +134,7 @@ static EACH_CALL: [Case; 4] = [
         what: "A tile and sums are loaded, and got by this node alone.",
         owner: Owner::Itself,
         fuse: 99,
+        bytes: ROOMY,
         reads_meet: false,
         asks_meet: false,
         scene: Scene::Runs(Stages {
@@ -148,12 +180,64 @@ fn each_call_gives_its_value_and_shares_come_home(rt: HostRuntime) {
     assert!(rt; wrong.is_empty(), "{wrong}");
 }
 
+/// A cache of one byte has room for no entry, as the key alone is longer: each call leads, and loads.
+static NEVER_KEPT: [Case; 2] = [
+    Case {
+        what: "A tile that isn't kept is read for each call, and so are those below sums.",
+        owner: Owner::Itself,
+        fuse: 99,
+        bytes: 1,
+        reads_meet: false,
+        asks_meet: false,
+        scene: Scene::Runs(Stages {
+            first: &[
+                (Step::Tile(Call::Begin, (0, 0)), Ok(FIRST)),
+                (Step::Tile(Call::Get, (0, 0)), Ok(FIRST)),
+                (Step::Tile(Call::GetLocal, (0, 0)), Ok(FIRST)),
+            ],
+            then: &[(WHOLE, Ok(HALVED)), (WHOLE, Ok(HALVED))],
+            hands_in: false,
+        }),
+        // Three calls, and then twice the whole, its four parts, and the tile of each.
+        seen: Seen {
+            books: (THREE, NO_COUNTS),
+            tiles: (ELEVEN, 11),
+            sums: (TEN, 10),
+            done: ([5, 2, 2, 2], 21),
+            ..QUIET
+        },
+    },
+    Case {
+        what: "Two calls that meet share one load, and a third, which finds nothing kept, leads again.",
+        owner: Owner::Itself,
+        fuse: 99,
+        bytes: 1,
+        reads_meet: false,
+        asks_meet: false,
+        scene: Scene::Meets(FOR_ONE_TILE),
+        seen: Seen {
+            are_same: (true, false),
+            books: (JOINED, NO_COUNTS),
+            tiles: (JOINED_AND_ONE, 0),
+            done: ([2, 0, 0, 0], 2),
+            ..QUIET
+        },
+    },
+];
+
+#[test]
+fn cache_of_one_byte_keeps_nothing_and_each_call_has_its_value(rt: HostRuntime) {
+    let wrong = first_wrong(&rt, rt.alloc(), &NEVER_KEPT);
+    assert!(rt; wrong.is_empty(), "{wrong}");
+}
+
 /// Who owns the keys of a node, and a call for the tile (0, 0) of `a`.
 static OWNERS: [Case; 5] = [
     Case {
         what: "A node loads what it owns.",
         owner: Owner::Itself,
         fuse: 99,
+        bytes: ROOMY,
         reads_meet: false,
         asks_meet: false,
         scene: Scene::Runs(Stages {
@@ -172,6 +256,7 @@ static OWNERS: [Case; 5] = [
         what: "What the owner gives is taken.",
         owner: Owner::Gives,
         fuse: 99,
+        bytes: ROOMY,
         reads_meet: false,
         asks_meet: false,
         scene: Scene::Runs(Stages {
@@ -189,6 +274,7 @@ static OWNERS: [Case; 5] = [
         what: "No owner is asked by a node alone.",
         owner: Owner::Gives,
         fuse: 99,
+        bytes: ROOMY,
         reads_meet: false,
         asks_meet: false,
         scene: Scene::Runs(Stages {
@@ -207,6 +293,7 @@ static OWNERS: [Case; 5] = [
         what: "A tile of another shape leads to a load.",
         owner: Owner::GivesWide,
         fuse: 99,
+        bytes: ROOMY,
         reads_meet: false,
         asks_meet: false,
         scene: Scene::Runs(Stages {
@@ -225,6 +312,7 @@ static OWNERS: [Case; 5] = [
         what: "A refusal leads to a load.",
         owner: Owner::Refuses,
         fuse: 99,
+        bytes: ROOMY,
         reads_meet: false,
         asks_meet: false,
         scene: Scene::Runs(Stages {
@@ -296,6 +384,7 @@ fn sums_and_books_are_right_after_a_refused_growth(rt: HostRuntime) -> Result<()
     let open = Bar::new(true);
     let setup = Setup {
         fuse: 99,
+        bytes: ROOMY,
         meets: false,
         stands: true,
         way: way_to(&Owner::Itself, &open),
