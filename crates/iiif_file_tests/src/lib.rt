@@ -21,6 +21,4 @@ mod steps;
 #[cfg(test)]
 mod tiff_read_tests;
 #[cfg(test)]
-mod tiff_tests;
-#[cfg(test)]
 mod tiff_write_tests;

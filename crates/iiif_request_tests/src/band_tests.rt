@@ -1,10 +1,9 @@
 //! Bands by hand.
 
 use crate::pictures::{ROOM, job};
-use iiif_bands::{Band, laws};
+use iiif_bands::Band;
 use iiif_keys::Shape;
 use iiif_pixel::{Depth, Dim, Kind, Rect, Turn};
-use iiif_planner::laws as plans;
 use std::alloc::Global;
 
 /// Whether there are two bands: of three rows and all four items, and of these rows and items.
@@ -70,12 +69,4 @@ fn last_band_is_lower_and_has_the_tiles_of_its_row(rt: HostRuntime) {
     for (k, cut) in CUTS.iter().enumerate() {
         assert!(rt; is_cut(rt.alloc(), cut), "cut {k}");
     }
-}
-
-#[test]
-fn laws_of_plans_and_bands_are_called() {
-    plans::each_is_listed_once();
-    plans::level_is_greatest();
-    laws::items_in_order::<u64>();
-    laws::bands_cut_results();
 }

@@ -4,9 +4,7 @@ ghost use Rattle.std.specs.Prelude.{◌≤◌, ◌<◌};
 ghost use Rattle.iiif_request.specs.Requests.{IsShort, IsShortRegion, IsShortForm, HasShortDecimals};
 
 use crate::answers::{Image, Subject, first_wrong};
-use iiif_canonical::{
-    Limits, canonical, canonical_means_the_same, escapes_read_back, resolve, text, uri,
-};
+use iiif_canonical::{Limits, canonical, resolve, text, uri};
 use iiif_pixel::{Dim, Kind, Quality, Rect};
 use iiif_request::{Decimal, Form, Region, Request, Rotation, Size, Target, Words, parse, split};
 use std::alloc::Global;
@@ -302,12 +300,6 @@ fn are_greatest(alloc: Global, want: &str) -> bool {
 #[test]
 fn greatest_numbers(rt: HostRuntime) {
     assert!(rt; are_greatest(rt.alloc(), "full/max/!0/default.tif"));
-}
-
-#[test]
-fn laws_are_called() {
-    canonical_means_the_same();
-    escapes_read_back();
 }
 
 /// Whether words for an image of this identifier ask for this of the image `a/b`.
