@@ -4,6 +4,7 @@ use crate::rows_tests;
 use crate::steps::{Ask, Bytes, Change, Outcome, Shared, Step, both_answer, open_files, play, run};
 use iiif_open_files::Known;
 use iiif_source::ReadFault;
+use std::fs;
 use std::test::Fail;
 
 const FIVE: &[Step] = &[
@@ -285,4 +286,27 @@ fn change_of_a_file_has_its_cause(rt: HostRuntime) {
         };
         assert!(rt; was.change(&now) == *cause, "case {case}");
     }
+}
+
+/// A moment in 2001, in nanoseconds since the beginning of 1970.
+const IN_2001: u64 = 1_000_000_000_000_000_000;
+
+/// Two files of a folder differ in their nodes, a device in its device; the moment when a file was made is known where the system says it.
+#[test]
+fn files_are_known_by_device_node_and_moment(rt: HostRuntime) -> Result<(), Fail> {
+    fs::write(&rt, "known_one", &[1])?;
+    fs::write(&rt, "known_two", &[1])?;
+    let told = fs::metadata(&rt, "known_one")?;
+    let one = Known::of(&told);
+    let two = Known::of(&fs::metadata(&rt, "known_two")?);
+    let null = Known::of(&fs::metadata(&rt, "/dev/null")?);
+    fs::remove_file(&rt, "known_one")?;
+    fs::remove_file(&rt, "known_two")?;
+    assert!(rt;
+        one.device == two.device && one.node != two.node,
+        "{one:?} {two:?}"
+    );
+    assert!(rt; null.device != one.device, "{one:?} {null:?}");
+    assert!(rt; (one.born > IN_2001) == told.created().is_ok(), "{one:?}");
+    Ok(())
 }

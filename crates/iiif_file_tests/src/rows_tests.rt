@@ -99,6 +99,20 @@ const ANEW: &[Step] = &[
     Step::Change("rows_beside", Change::Removed),
 ];
 
+/// A file that is opened anew twice, and written over in between: what was read ahead of the first time isn't used for the second.
+const TWICE: &[Step] = &[
+    Step::Open("rows_twice", Bytes::Numbered(1, 4000)),
+    Step::Open("rows_between", Bytes::Numbered(2, 4000)),
+    Step::Ask(0, Ask::Runs(1, (0, 100, 4, 8), Outcome::Right)),
+    Step::Ask(0, Ask::Runs(1, (0, 100, 4, 20), Outcome::Right)),
+    Step::Ask(1, Ask::Runs(2, (0, 100, 4, 8), Outcome::Right)),
+    Step::Change("rows_twice", Change::Written(Bytes::Numbered(3, 4000))),
+    Step::Ask(0, Ask::Runs(3, (4, 100, 4, 8), Outcome::Right)),
+    Step::Ask(0, Ask::Runs(3, (4, 100, 4, 20), Outcome::Right)),
+    Step::Change("rows_twice", Change::Removed),
+    Step::Change("rows_between", Change::Removed),
+];
+
 /// Columns of 20 groups of rows, more than are kept.
 const GROUPS: &[(usize, Ask)] = &[
     (0, Ask::Runs(5, (0, 5000, 4, 20), Outcome::Right)),
@@ -133,7 +147,8 @@ pub(crate) const SHARED: Shared = Shared {
 };
 
 /// How many files are kept open, and what is done.
-static LISTS: [(usize, &[(u32, &[Step])]); 5] = [
+static LISTS: [(usize, &[(u32, &[Step])]); 6] = [
+    (1, &[(1, TWICE)]),
     (1, &[(1, ORDERS)]),
     (1, &[(1, EDGES)]),
     (2, &[(1, TWO)]),
