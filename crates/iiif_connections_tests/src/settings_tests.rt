@@ -1,6 +1,7 @@
-//! What is set where words leave it out.
+//! What is set where words leave it out, and the lines of a program that ends while it runs.
 
 use iiif_command_line::{Options, matches, options_in};
+use iiif_start::Stop;
 
 const BASE: &str = "http://localhost/iiif";
 
@@ -30,5 +31,22 @@ fn settings_that_are_left_out(rt: HostRuntime) {
     match options_in(rt.alloc(), &found, BASE, Ok(b"")) {
         Ok(options) => assert!(rt; are_left_out(&options), "{options:?}"),
         Err(fault) => assert!(rt; false, "{fault:?}"),
+    }
+}
+
+/// Why the program ends while it runs, and the line of the manual page for it.
+static ENDS: [(Stop<'static>, &[u8]); 4] = [
+    (Stop::Memory, b"run: memory\n"),
+    (Stop::Write, b"run: write\n"),
+    (Stop::Source, b"run: source\n"),
+    (Stop::Listen, b"run: listen\n"),
+];
+
+#[test]
+fn program_that_ends_while_it_runs_says_why(rt: HostRuntime) {
+    for (stop, line) in ENDS.iter().copied() {
+        let mut err = Vec::new(rt.alloc());
+        let status = stop.told(&mut err);
+        assert!(rt; status == 1 && err.as_slice() == line, "{stop:?}");
     }
 }
