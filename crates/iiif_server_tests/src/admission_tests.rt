@@ -2,8 +2,6 @@
 
 use iiif_server::{Admission, Queued};
 use std::sync::Wait;
-use std::thread;
-use std::thread::Threads;
 use std::time::{Clock, Duration, Instant};
 
 /// Work that is light, and work that is heavy.
@@ -84,51 +82,4 @@ fn less_work_comes_first(rt: HostRuntime) {
     assert!(rt; is_late(&rt, &admission, most) == Some(false));
     admission.leave(&rt, most);
     assert!(rt; is_late(&rt, &admission, same) == Some(false));
-}
-
-/// When a job came, and when it went on.
-fn entered<R: Wait + Clock>(
-    rt: &R,
-    admission: &Admission,
-    begun: Instant,
-) -> Option<(Duration, Duration)> {
-    let came = begun.elapsed(rt).ok()?;
-    admission.enter(rt);
-    let went = begun.elapsed(rt).ok()?;
-    Some((came, went))
-}
-
-/// When a job left that was done after a while.
-fn left<R: Wait + Clock>(rt: &R, admission: &Admission, begun: Instant) -> Option<Duration> {
-    thread::sleep(rt, Duration::from_millis(150));
-    let left = begun.elapsed(rt).ok()?;
-    admission.leave(rt);
-    Some(left)
-}
-
-/// Whether a job that waits for the only place goes on as that is left. None where it came hardly before, so that it may not have waited.
-fn is_woken<R: Threads + Wait + Clock + Sync>(rt: &R) -> Option<bool> {
-    let admission = Admission::new(1);
-    admission.enter(rt);
-    let begun = Instant::now(rt).ok()?;
-    let (waited, left) = thread::join(
-        rt,
-        || entered(rt, &admission, begun),
-        || left(rt, &admission, begun),
-    );
-    let (came, went) = waited?;
-    if left? < came.saturating_add(Duration::from_millis(100)) {
-        return None;
-    }
-    Some(went < came.saturating_add(Duration::from_millis(500)))
-}
-
-/// A busy machine may wake it late, so it is tried a few times. Who is woken by nobody waits for as long as any does, each time.
-#[test]
-fn who_waits_is_woken_by_who_leaves(rt: HostRuntime) {
-    let mut woken = false;
-    for _ in 0..8u32 {
-        woken = woken || is_woken(&rt) == Some(true);
-    }
-    assert!(rt; woken);
 }
