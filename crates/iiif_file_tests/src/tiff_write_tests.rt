@@ -293,9 +293,16 @@ fn has_rows_again(picture: &Raster, kind: OutKind, out: &mut Vec<u8>, rows: &[u8
 /// With ample memory the rows are put at once. `tests/refused` runs this with the first growth refused, with the second, and so on.
 #[test]
 fn rows_are_put_after_a_refused_growth(rt: HostRuntime) -> Result<(), Fail> {
-    let gray = raster(rt.alloc(), GRAY).ok_or("out of memory")?;
+    // Each is made once more where it was refused.
+    let gray = match raster(rt.alloc(), GRAY) {
+        Some(gray) => gray,
+        None => raster(rt.alloc(), GRAY).ok_or("out of memory")?,
+    };
     for (kind, rows) in REFUSED_ROWS.iter() {
-        let mut out = Vec::from_slice(rt.alloc(), &[1, 2, 3])?;
+        let mut out = match Vec::from_slice(rt.alloc(), &[1, 2, 3]) {
+            Ok(out) => out,
+            Err(_) => Vec::from_slice(rt.alloc(), &[1, 2, 3])?,
+        };
         assert!(rt; has_rows_again(&gray, *kind, &mut out, *rows));
     }
     Ok(())
