@@ -68,18 +68,23 @@ needed_is bytes d f g i row n known row-is n-is =
 pub number_is : (f : ℕ → ℕ) (xs : List ℕ) (n i : ℕ) → xs ≡ map f (range_with_len 0 n) → i < n → get_or xs i 0 ≡ f i
 number_is f xs n i xs-is lt = rw xs-is (get_or-map-range_with_len f 0 n i i 0 lt (omega arith))
 
+-- the tag of the pieces' byte counts
+pub tag_known : (bytes : List ℕ) (d : Dim) (f : Format) (g : Grid) (tag : ℕ) → IsKnown bytes d f g →
+    tag ≡ (if g.tiled then tiff.TileByteCounts else tiff.StripByteCounts) → tag ≡ tiff.counts_tag bytes
+tag_known bytes d f g tag known tag-is = tag-is ∙ rw known.grid_is.tiled refl
+
 -- what the lists say of piece i
 pub piece_known : (bytes : List ℕ) (d : Dim) (f : Format) (g : Grid) (tag : ℕ) (offsets counts : List ℕ) (i row n : ℕ) → i < g.count →
-    row ≡ div_ceil (g.width * channels_of f.kind * f.bits) 8
+    tag ≡ (if g.tiled then tiff.TileByteCounts else tiff.StripByteCounts) → row ≡ div_ceil (g.width * channels_of f.kind * f.bits) 8
     → n ≡ (if g.tiled then g.height else min g.height (d.h - i * g.height)) * row
-    → (IsKnown bytes d f g × (tag ≡ tiff.counts_tag bytes) × (offsets ≡ map (tiff.piece_offset bytes) (range_with_len 0 g.count)) ×
+    → (IsKnown bytes d f g × (offsets ≡ map (tiff.piece_offset bytes) (range_with_len 0 g.count)) ×
     (counts ≡ map (tiff.piece_byte_count bytes) (range_with_len 0 g.count)))
     → (tag ≡ tiff.counts_tag bytes) × (get_or offsets i 0 ≡ tiff.piece_offset bytes i) ×
     (get_or counts i 0 ≡ tiff.piece_byte_count bytes i) × (n ≡ tiff.piece_bytes (tiff.scheme bytes) i)
-piece_known bytes d f g tag offsets counts i row n lt row-is n-is p = (
-  p.1,
-  number_is (tiff.piece_offset bytes) offsets g.count i p.2 lt,
-  number_is (tiff.piece_byte_count bytes) counts g.count i p.3 lt,
+piece_known bytes d f g tag offsets counts i row n lt tag-is row-is n-is p = (
+  tag_known bytes d f g tag p.0 tag-is,
+  number_is (tiff.piece_offset bytes) offsets g.count i p.1 lt,
+  number_is (tiff.piece_byte_count bytes) counts g.count i p.2 lt,
   needed_is bytes d f g i row n p.0 row-is n-is,
 )
 
@@ -99,7 +104,7 @@ pub lists_are : (bytes : List ℕ) (d : Dim) (f : Format) (g : Grid) (ot ct : �
 unfolding first_values
 lists_are bytes d f g ot ct offsets counts known ot-is ct-is os cs =
     let o : ot ≡ tiff.offsets_tag bytes = ot-is ∙ rw known.grid_is.tiled refl in
-    let c : ct ≡ tiff.counts_tag bytes = ct-is ∙ rw known.grid_is.tiled refl in
+    let c : ct ≡ tiff.counts_tag bytes = tag_known bytes d f g ct known ct-is in
     let n : g.count ≡ tiff.pieces bytes = known.grid_is.count in
     let a : offsets ≡ map (tiff.piece_offset bytes) (range_with_len 0 g.count) = os.1 ∙ ap (λ (t : ℕ). first_values bytes t g.count) o in
     record {

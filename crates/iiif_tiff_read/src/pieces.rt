@@ -81,7 +81,6 @@ impl<'a, R, S: Source<R>> Fields<'a, R, S> {
         dim: Dim,
         format: Format,
         grid: &Grid,
-        counts_tag: u16,
         offsets: &[u32],
         counts: &[u32],
     ) -> Result<(), OpenFault>
@@ -89,13 +88,13 @@ impl<'a, R, S: Source<R>> Fields<'a, R, S> {
         requires lengths { (length offsets.now ≡ grid.now.count) × (length counts.now ≡ grid.now.count) }
         ensures in_file { OnOk result (FitsIn (scheme_of dim format grid.now offsets.now) (length (S.bytes self.now.source.now))) }
         ensures checks { Answers (IsKnown (S.bytes self.now.source.now) dim format grid.now ×
-            (counts_tag ≡ tiff.counts_tag (S.bytes self.now.source.now)) ×
             (offsets.now ≡ map (piece_offset (S.bytes self.now.source.now)) (range_with_len 0 grid.now.count))
             × (counts.now ≡ map (piece_byte_count (S.bytes self.now.source.now)) (range_with_len 0 grid.now.count)))
             (S.gave self.now.source.now) (first (map (piece (S.bytes self.now.source.now)) (range_with_len 0 grid.now.count)))
             (λ _. Unit {0}) result }
         ensures memory { IfErr result IsNotMemory }
     {
+        let tags = Tags::of(grid.tiled);
         let row_bytes = grid.row_bytes(format);
         for i in 0..grid.count {
             let piece = Piece {
@@ -103,7 +102,7 @@ impl<'a, R, S: Source<R>> Fields<'a, R, S> {
                 count: counts[i as usize],
                 needed: grid.piece_bytes(dim, row_bytes, i),
             };
-            self.check_piece(counts_tag, piece)?;
+            self.check_piece(tags.counts, piece)?;
         }
         Ok(())
     }
@@ -127,7 +126,7 @@ impl<'a, R, S: Source<R>> Fields<'a, R, S> {
         let tags = Tags::of(grid.tiled);
         let offsets = self.list(alloc, tags.offsets, grid.count)?;
         let counts = self.list(alloc, tags.counts, grid.count)?;
-        self.check_pieces(dim, format, grid, tags.counts, &offsets, &counts)?;
+        self.check_pieces(dim, format, grid, &offsets, &counts)?;
         Ok(offsets)
     }
 }

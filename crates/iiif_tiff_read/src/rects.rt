@@ -27,6 +27,13 @@ pub struct Part {
     pub rows: u32,
 }
 
+/// A part with the rectangle that it is of.
+#[derive(Clone, Copy)]
+struct Cut {
+    rect: Rect,
+    part: Part,
+}
+
 impl Image {
     /// How many bytes a row of a piece takes.
     fn row_bytes(&self) -> u64
@@ -103,32 +110,32 @@ impl Image {
         rt: &R,
         alloc: Global,
         source: &S,
-        rect: Rect,
-        part: Part,
+        cut: Cut,
         samples: &mut [u8],
     ) -> Result<(), LoadFault>
         requires sound { IsSound (image_units self.now) }
         requires in_file { FitsIn (image_units self.now) (length (S.bytes source.now)) }
-        requires part { IsPart (image_units self.now) rect part }
-        requires length { length samples.old ≡ rect.w * rect.h * (image_units self.now).channels }
-        ensures held { OnOk result (S.keeps source.now → HoldsPart (S.bytes source.now) (image_units self.now) rect part samples.new) }
-        ensures rest { OnOk result (KeepsOthers (image_units self.now) rect part samples.old samples.new) }
+        requires part { IsPart (image_units self.now) cut.rect cut.part }
+        requires length { length samples.old ≡ cut.rect.w * cut.rect.h * (image_units self.now).channels }
+        ensures held { OnOk result (S.keeps source.now →
+            HoldsPart (S.bytes source.now) (image_units self.now) cut.rect cut.part samples.new) }
+        ensures rest { OnOk result (KeepsOthers (image_units self.now) cut.rect cut.part samples.old samples.new) }
         ensures fault { IfErr result (IsLoadFault (S.gave source.now)) }
     {
         let units = self.format.units();
-        let x = rect.x + part.left;
+        let x = cut.rect.x + cut.part.left;
         let rows = Rows {
             bits: self.format.unit_bits(),
-            at: self.row_place(x, rect.y + part.top),
+            at: self.row_place(x, cut.rect.y + cut.part.top),
             stride: self.row_bytes(),
             first: (x % self.grid.width) as usize * units,
         };
         let window = Window {
-            width: rect.w as usize * units,
-            left: part.left as usize * units,
-            top: part.top,
-            columns: part.columns as usize * units,
-            rows: part.rows,
+            width: cut.rect.w as usize * units,
+            left: cut.part.left as usize * units,
+            top: cut.part.top,
+            columns: cut.part.columns as usize * units,
+            rows: cut.part.rows,
         };
         read_window(rt, alloc, source, rows, window, samples)
     }
@@ -163,7 +170,7 @@ impl Image {
                     columns,
                     rows,
                 };
-                self.read_part(rt, alloc, source, rect, part, samples)?;
+                self.read_part(rt, alloc, source, Cut { rect, part }, samples)?;
                 left += columns;
             }
             top += rows;

@@ -11,8 +11,7 @@ abbrev pub invariant-loop-i : goal.invariant-loop-i
 invariant-loop-i g l = ((k : ℕ) → k < l.i → slice_index l.offsets k + tiff.piece_bytes (scheme_of l.dim l.fn.format l.grid l.offsets) k ≤
     length (g.S.Source.bytes l.self.source.now))
     × ((IsKnown (g.S.Source.bytes l.self.source.now) l.dim l.fn.format l.grid ×
-    (l.counts_tag ≡ tiff.counts_tag (g.S.Source.bytes l.self.source.now))
-    × (l.offsets ≡ map (piece_offset (g.S.Source.bytes l.self.source.now)) (range_with_len 0 l.grid.count))
+    (l.offsets ≡ map (piece_offset (g.S.Source.bytes l.self.source.now)) (range_with_len 0 l.grid.count))
     × (l.counts ≡ map (piece_byte_count (g.S.Source.bytes l.self.source.now)) (range_with_len 0 l.grid.count)))
     → first (map (piece (g.S.Source.bytes l.self.source.now)) (range_with_len l.i (l.grid.count - l.i))) ≡ first
     (map (piece (g.S.Source.bytes l.self.source.now)) (range_with_len 0 l.grid.count)))
