@@ -1,3 +1,4 @@
 pub mod Beginning
 pub mod Code
+pub mod Ending
 pub mod Faults

@@ -1,8 +1,7 @@
 //! How a call begins.
 
-ghost use Rattle.std.specs.Prelude.{◌≡◌, ◌+◌, ◌≤◌, IfOk, OnErr, OnOk};
-ghost use Rattle.iiif_keys.specs.Shapes.{HasPicture};
-ghost use Rattle.iiif_group.specs.Beginning.{BegunFor, gate_of, LoadsIf};
+ghost use Rattle.std.specs.Prelude.{IfOk};
+ghost use Rattle.iiif_group.specs.Beginning.{gate_of, BegunOf, CountsOnce, CountsTwiceAtMost, IsPartOf, LoadsIf};
 
 use crate::begun::{Begun, Open};
 use crate::gate::Gate;
@@ -29,19 +28,22 @@ impl<K: CacheKey, J: System, L: Ledger, N, T> Group<K, J, L, N, T> {
     where
         N: Link<K, J, R>,
         T: Gate<R>,
-        requires known { HasPicture J.pictures (K.name_of key.now) shape.now }
-        requires fits { K.fits_in shape.now key.now }
-        ensures begun { IfOk result (λ b. BegunFor key.now (J.stable (K.name_of key.now)) J.honest (K.meaning J.pictures key.now)
-            (K.is_shaped J.pictures key.now) (J.gave (K.name_of key.now)) b) }
-        ensures counted { OnOk result ((pass.old.gets + 1 ≤ pass.new.gets) × (pass.new.gets ≤ pass.old.gets + 2)) }
-        ensures refused { OnErr result (pass.new.gets ≡ pass.old.gets) }
-        ensures parts { pass.new.parts ≡ pass.old.parts }
+        requires { IsPartOf K.CacheKey.own J.System key.now shape.now }
+        ensures begun { IfOk result (BegunOf key.now) }
+        ensures counts { CountsTwiceAtMost pass.old pass.new result }
         ensures gated { IfOk result (LoadsIf (T.passed (gate_of self.now) (K.key_bytes key.now))) }
     {
         let bytes = key.bytes(self.alloc)?;
-        match self.peer(&bytes) {
-            None => self.begin_own(rt, pass, key, &bytes),
-            Some(link) => self.begin_wide(rt, pass, key, &bytes, shape, link),
+        let Some(link) = self.peer(&bytes) else {
+            return self.begin_own(rt, pass, key, &bytes);
+        };
+        match self.enter(rt, pass, key, Class::Wide)? {
+            Entered::Hit(receipt) => Ok(Begun::Known(receipt)),
+            Entered::Joined(flight) => Ok(Begun::Known(self.meet(rt, flight))),
+            Entered::Lead(wide) => match self.ask_owner(rt, wide, shape, link) {
+                Ok(receipt) => Ok(Begun::Known(receipt)),
+                Err(wide) => Ok(self.go_local(rt, pass, key, &bytes, wide)),
+            },
         }
     }
 
@@ -54,11 +56,8 @@ impl<K: CacheKey, J: System, L: Ledger, N, T> Group<K, J, L, N, T> {
     ) -> Result<Begun<K, J, L>, NoMemory>
     where
         T: Gate<R>,
-        ensures begun { IfOk result (λ b. BegunFor key.now (J.stable (K.name_of key.now)) J.honest (K.meaning J.pictures key.now)
-            (K.is_shaped J.pictures key.now) (J.gave (K.name_of key.now)) b) }
-        ensures counted { OnOk result (pass.new.gets ≡ pass.old.gets + 1) }
-        ensures refused { OnErr result (pass.new.gets ≡ pass.old.gets) }
-        ensures parts { pass.new.parts ≡ pass.old.parts }
+        ensures begun { IfOk result (BegunOf key.now) }
+        ensures counts { CountsOnce pass.old pass.new result }
         ensures gated { IfOk result (LoadsIf (T.passed (gate_of self.now) (K.key_bytes key.now))) }
     {
         let bytes = key.bytes(self.alloc)?;

@@ -1,20 +1,15 @@
 //! What leaders do.
 
-ghost use Rattle.std.specs.Prelude.{◌≡◌, ◌≢◌, ℕ, ◌+◌, ◌≤◌, Err, IfErr, IfNone, IfOk, IfSome, IsFalse, IsSomeAnd, IsTrue, OnErr, OnOk};
-ghost use Rattle.std.specs.Prelude.{slice_get, Some};
-ghost use Rattle.std.specs.Option.{ForSome};
-ghost use Rattle.std.specs.Arc.{arc_value};
-ghost use Rattle.iiif_keys.specs.Shapes.{HasPicture};
-ghost use Rattle.iiif_tables.specs.declared.table.Class.TheVariants.{Local, Wide};
-ghost use Rattle.iiif_singleflight.specs.Views.{flight_key, lead_cell, lead_class, lead_key, receipt_cell, receipt_known};
-ghost use Rattle.iiif_ring.specs.Owner.{IsOwner};
-ghost use Rattle.iiif_group.specs.Beginning.{BegunFor, gate_of, LoadsIf, outcome_of};
+ghost use Rattle.std.specs.Prelude.{◌≡◌, IfOk, IsTrue};
+ghost use Rattle.iiif_singleflight.specs.Views.{flight_key, lead_key};
+ghost use Rattle.iiif_group.specs.Beginning.{gate_of, BegunOf, CountsOnce, IsPartOf, LoadsIf};
+ghost use Rattle.iiif_group.specs.Code.{AreLed, CountsOnceAtMost, EndsOrGoesOn, IsOf, IsPeer, IsWideOf, Relays};
 
 use crate::begun::{Begun, Open};
 use crate::gate::Gate;
 use crate::group::Group;
 use crate::link::Link;
-use crate::outcomes::{boxed, shared};
+use crate::outcomes::{boxed, share_outcome};
 use crate::steps::Origin;
 use crate::told::Told;
 use iiif_keys::{CacheKey, Fault, Shape, System};
@@ -27,9 +22,7 @@ use std::sync::ledger::Ledger;
 impl<K: CacheKey, J: System, L: Ledger, N, T> Group<K, J, L, N, T> {
     /// The link to the node that owns a key. None where this node does.
     pub(crate) fn peer(&self, key: &[u8]) -> Option<&N>
-        ensures own { IfNone result (IsSomeAnd self.now.own (λ i. IsSomeAnd (slice_get self.now.ring i) (IsOwner self.now.ring key.now))) }
-        ensures peer { IfSome result (λ link. (i : ℕ) × (self.now.own ≢ Some i) ×
-            IsSomeAnd (slice_get self.now.ring i) (IsOwner self.now.ring key.now) × (slice_get self.now.links.items i ≡ Some link.now)) }
+        ensures { IsPeer self.now key.now result }
     {
         let owner = self.ring.owner(key);
         if self.own == Some(owner) {
@@ -46,17 +39,10 @@ impl<K: CacheKey, J: System, L: Ledger, N, T> Group<K, J, L, N, T> {
         lead: Lead<K, J, L>,
         mut receipt: Receipt<K, J, L>,
     ) -> (Told<K, J, L>, bool)
-        requires { IfSome (receipt_known receipt) (λ x. arc_value x.key ≡ lead_key lead) }
-        ensures key { IfSome (receipt_known result.0.receipt) (λ x. arc_value x.key ≡ lead_key lead) }
-        ensures exact { IsTrue result.1 → IfNone result.0.refused
-            (IfSome (receipt_known receipt) (λ x.
-            IfSome (receipt_known result.0.receipt) (λ y. outcome_of y.outcome ≡ outcome_of x.outcome))) }
-        ensures wanting { IsFalse result.1 → IfNone result.0.refused
-            (IfSome (receipt_known result.0.receipt) (λ x. outcome_of x.outcome ≡ Err Fault.NoMemory)) }
-        ensures fault { IfSome (receipt_known receipt) (λ x. OnErr x.outcome (IsTrue result.1)) }
-        ensures cell { receipt_cell result.0.receipt ≡ lead_cell lead }
+        requires { IsOf (lead_key lead) receipt }
+        ensures { Relays lead receipt result.0 result.1 }
     {
-        let (outcome, exact) = shared(receipt.outcome());
+        let (outcome, exact) = share_outcome(receipt.outcome());
         let told = self.finish(rt, lead, outcome, Origin::Flight);
         (told, exact)
     }
@@ -69,7 +55,7 @@ impl<K: CacheKey, J: System, L: Ledger, N, T> Group<K, J, L, N, T> {
         flight: Flight<K, J, L>,
     ) -> Receipt<K, J, L>
         requires { flight_key flight ≡ lead_key lead }
-        ensures { IfSome (receipt_known result) (λ x. arc_value x.key ≡ lead_key lead) }
+        ensures { IsOf (lead_key lead) result }
     {
         let receipt = self.meet(rt, flight);
         self.relay(rt, lead, receipt).0.receipt
@@ -85,11 +71,8 @@ impl<K: CacheKey, J: System, L: Ledger, N, T> Group<K, J, L, N, T> {
     ) -> Begun<K, J, L>
     where
         T: Gate<R>,
-        requires local { lead_class local ≡ Local }
-        requires wide { ForSome wide (λ w. lead_class w ≡ Wide) }
-        requires key { ForSome wide (λ w. lead_key w ≡ lead_key local) }
-        ensures begun { BegunFor (lead_key local) (J.stable (K.name_of (lead_key local))) J.honest (K.meaning J.pictures (lead_key local))
-            (K.is_shaped J.pictures (lead_key local)) (J.gave (K.name_of (lead_key local))) result }
+        requires { AreLed local wide }
+        ensures begun { BegunOf (lead_key local) result }
         ensures gated { LoadsIf (T.passed (gate_of self.now) bytes.now) result }
     {
         match self.look(rt, local) {
@@ -114,11 +97,8 @@ impl<K: CacheKey, J: System, L: Ledger, N, T> Group<K, J, L, N, T> {
     ) -> Result<Begun<K, J, L>, NoMemory>
     where
         T: Gate<R>,
-        ensures begun { IfOk result (λ b. BegunFor key.now (J.stable (K.name_of key.now)) J.honest (K.meaning J.pictures key.now)
-            (K.is_shaped J.pictures key.now) (J.gave (K.name_of key.now)) b) }
-        ensures counted { OnOk result (pass.new.gets ≡ pass.old.gets + 1) }
-        ensures refused { OnErr result (pass.new.gets ≡ pass.old.gets) }
-        ensures parts { pass.new.parts ≡ pass.old.parts }
+        ensures begun { IfOk result (BegunOf key.now) }
+        ensures counts { CountsOnce pass.old pass.new result }
         ensures gated { IfOk result (LoadsIf (T.passed (gate_of self.now) bytes.now)) }
     {
         match self.enter(rt, pass, key, Class::Local)? {
@@ -130,8 +110,7 @@ impl<K: CacheKey, J: System, L: Ledger, N, T> Group<K, J, L, N, T> {
 
     /// Whether a value has the shape of a key that fits.
     fn is_shaped(&self, key: &K, shape: &Shape, value: &K::Value) -> bool
-        requires known { HasPicture J.pictures (K.name_of key.now) shape.now }
-        requires fits { K.fits_in shape.now key.now }
+        requires { IsPartOf K.CacheKey.own J.System key.now shape.now }
         ensures { IsTrue result → IsTrue (K.is_shaped J.pictures key.now value.now) }
     {
         key.shaped(shape, value)
@@ -148,10 +127,8 @@ impl<K: CacheKey, J: System, L: Ledger, N, T> Group<K, J, L, N, T> {
     ) -> Result<Receipt<K, J, L>, Lead<K, J, L>>
     where
         N: Link<K, J, R>,
-        requires known { HasPicture J.pictures (K.name_of (lead_key lead)) shape.now }
-        requires fits { K.fits_in shape.now (lead_key lead) }
-        ensures ended { IfOk result (λ r. IfSome (receipt_known r) (λ x. arc_value x.key ≡ lead_key lead)) }
-        ensures back { IfErr result (λ l. (lead_key l ≡ lead_key lead) × (lead_class l ≡ lead_class lead)) }
+        requires { IsPartOf K.CacheKey.own J.System (lead_key lead) shape.now }
+        ensures { EndsOrGoesOn lead result }
     {
         match link.ask(rt, lead.key(), shape) {
             Ok(value) if self.is_shaped(lead.key(), shape, &value) => {
@@ -162,8 +139,27 @@ impl<K: CacheKey, J: System, L: Ledger, N, T> Group<K, J, L, N, T> {
         }
     }
 
+    /// What the leader of a wide flight does first: it looks again, and then asks the owner.
+    pub(crate) fn ask_owner<R: Wait>(
+        &self,
+        rt: &R,
+        lead: Lead<K, J, L>,
+        shape: &Shape,
+        link: &N,
+    ) -> Result<Receipt<K, J, L>, Lead<K, J, L>>
+    where
+        N: Link<K, J, R>,
+        requires { IsPartOf K.CacheKey.own J.System (lead_key lead) shape.now }
+        ensures { EndsOrGoesOn lead result }
+    {
+        match self.look(rt, lead) {
+            Ok(receipt) => Ok(receipt),
+            Err(lead) => self.ask(rt, lead, shape, link),
+        }
+    }
+
     /// The leader of a wide flight whose owner was asked in vain enters the local class.
-    fn go_local<R: Wait>(
+    pub(crate) fn go_local<R: Wait>(
         &self,
         rt: &R,
         pass: &mut Pass<L>,
@@ -173,12 +169,9 @@ impl<K: CacheKey, J: System, L: Ledger, N, T> Group<K, J, L, N, T> {
     ) -> Begun<K, J, L>
     where
         T: Gate<R>,
-        requires key { lead_key wide ≡ key.now }
-        requires class { lead_class wide ≡ Wide }
-        ensures begun { BegunFor key.now (J.stable (K.name_of key.now)) J.honest (K.meaning J.pictures key.now)
-            (K.is_shaped J.pictures key.now) (J.gave (K.name_of key.now)) result }
-        ensures counted { (pass.old.gets ≤ pass.new.gets) × (pass.new.gets ≤ pass.old.gets + 1) }
-        ensures parts { pass.new.parts ≡ pass.old.parts }
+        requires { IsWideOf key.now wide }
+        ensures begun { BegunOf key.now result }
+        ensures counts { CountsOnceAtMost pass.old pass.new }
         ensures gated { LoadsIf (T.passed (gate_of self.now) bytes.now) result }
     {
         match self.enter(rt, pass, key, Class::Local) {
@@ -189,69 +182,6 @@ impl<K: CacheKey, J: System, L: Ledger, N, T> Group<K, J, L, N, T> {
             Ok(Entered::Hit(receipt)) => Begun::Known(self.relay(rt, wide, receipt).0.receipt),
             Ok(Entered::Joined(flight)) => Begun::Known(self.follow(rt, wide, flight)),
             Ok(Entered::Lead(local)) => self.lead_local(rt, local, Some(wide), bytes),
-        }
-    }
-
-    /// What the leader of a wide flight does.
-    fn lead_wide<R: Wait>(
-        &self,
-        rt: &R,
-        pass: &mut Pass<L>,
-        key: &K,
-        bytes: &[u8],
-        shape: &Shape,
-        link: &N,
-        wide: Lead<K, J, L>,
-    ) -> Begun<K, J, L>
-    where
-        N: Link<K, J, R>,
-        T: Gate<R>,
-        requires known { HasPicture J.pictures (K.name_of key.now) shape.now }
-        requires fits { K.fits_in shape.now key.now }
-        requires key { lead_key wide ≡ key.now }
-        requires class { lead_class wide ≡ Wide }
-        ensures begun { BegunFor key.now (J.stable (K.name_of key.now)) J.honest (K.meaning J.pictures key.now)
-            (K.is_shaped J.pictures key.now) (J.gave (K.name_of key.now)) result }
-        ensures counted { (pass.old.gets ≤ pass.new.gets) × (pass.new.gets ≤ pass.old.gets + 1) }
-        ensures parts { pass.new.parts ≡ pass.old.parts }
-        ensures gated { LoadsIf (T.passed (gate_of self.now) bytes.now) result }
-    {
-        let wide = match self.look(rt, wide) {
-            Ok(receipt) => return Begun::Known(receipt),
-            Err(wide) => wide,
-        };
-        match self.ask(rt, wide, shape, link) {
-            Ok(receipt) => Begun::Known(receipt),
-            Err(wide) => self.go_local(rt, pass, key, bytes, wide),
-        }
-    }
-
-    /// A call for a key that another node owns.
-    pub(crate) fn begin_wide<R: Wait>(
-        &self,
-        rt: &R,
-        pass: &mut Pass<L>,
-        key: &K,
-        bytes: &[u8],
-        shape: &Shape,
-        link: &N,
-    ) -> Result<Begun<K, J, L>, NoMemory>
-    where
-        N: Link<K, J, R>,
-        T: Gate<R>,
-        requires known { HasPicture J.pictures (K.name_of key.now) shape.now }
-        requires fits { K.fits_in shape.now key.now }
-        ensures begun { IfOk result (λ b. BegunFor key.now (J.stable (K.name_of key.now)) J.honest (K.meaning J.pictures key.now)
-            (K.is_shaped J.pictures key.now) (J.gave (K.name_of key.now)) b) }
-        ensures counted { OnOk result ((pass.old.gets + 1 ≤ pass.new.gets) × (pass.new.gets ≤ pass.old.gets + 2)) }
-        ensures refused { OnErr result (pass.new.gets ≡ pass.old.gets) }
-        ensures parts { pass.new.parts ≡ pass.old.parts }
-        ensures gated { IfOk result (LoadsIf (T.passed (gate_of self.now) bytes.now)) }
-    {
-        match self.enter(rt, pass, key, Class::Wide)? {
-            Entered::Hit(receipt) => Ok(Begun::Known(receipt)),
-            Entered::Joined(flight) => Ok(Begun::Known(self.meet(rt, flight))),
-            Entered::Lead(wide) => Ok(self.lead_wide(rt, pass, key, bytes, shape, link, wide)),
         }
     }
 }

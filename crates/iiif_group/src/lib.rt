@@ -8,7 +8,7 @@ pub use group::Group;
 pub use iiif_singleflight::Kept;
 pub use link::{Link, LinkFault, NoLink};
 pub use lists::Lists;
-pub use outcomes::{boxed, shared, taken};
+pub use outcomes::{boxed, share_outcome, taken};
 
 mod beginning;
 pub mod begun;

@@ -1,13 +1,11 @@
 //! Outcomes that are shared.
 
-ghost use Rattle.std.specs.Prelude.{◌≡◌, Bool, Err, IfSome, IsFalse, IsTrue, OnErr, Some};
+ghost use Rattle.std.specs.Prelude.{◌≡◌};
 ghost use Rattle.std.specs.Result.{ForErr, ForOk};
 ghost use Rattle.std.specs.Arc.{arc_value};
-ghost use Rattle.iiif_source.specs.declared.ReadFault.{ReadFault};
 ghost use Rattle.iiif_keys.specs.declared.fault.Fault.{Fault};
-ghost use Rattle.iiif_outcome.specs.Outcomes.{is_given, value_of};
-ghost use Rattle.iiif_singleflight.specs.Views.{receipt_known};
-ghost use Rattle.iiif_group.specs.Beginning.{outcome_of};
+ghost use Rattle.iiif_group.specs.Beginning.{OutcomeFor, Shares};
+ghost use Rattle.iiif_group.specs.Code.{IsOf};
 
 use iiif_keys::{CacheKey, Fault, System};
 use iiif_singleflight::Receipt;
@@ -16,13 +14,8 @@ use std::sync::Arc;
 use std::sync::ledger::Ledger;
 
 /// A share of an outcome, and whether it is that: want of memory where the value refuses another share. A fault is always told as it is.
-pub fn shared<V: Drop>(outcome: &Result<Arc<V>, Fault>) -> (Result<Arc<V>, Fault>, bool)
-    ensures ok { ForOk result.0 (λ v. value_of outcome.now ≡ Some (arc_value v)) }
-    ensures err { (gave : ReadFault → Bool) → ForErr outcome.now (λ f. IsTrue (is_given gave f)) →
-        ForErr result.0 (λ f. IsTrue (is_given gave f)) }
-    ensures same { IsTrue result.1 → outcome_of result.0 ≡ outcome_of outcome.now }
-    ensures wanting { IsFalse result.1 → outcome_of result.0 ≡ Err Fault.NoMemory }
-    ensures fault { OnErr outcome.now (IsTrue result.1) }
+pub fn share_outcome<V: Drop>(outcome: &Result<Arc<V>, Fault>) -> (Result<Arc<V>, Fault>, bool)
+    ensures { Shares outcome.now result.0 result.1 }
 {
     match outcome {
         Ok(value) => match Arc::try_clone(value) {
@@ -49,10 +42,8 @@ pub fn taken<K: CacheKey, J: System, L: Ledger>(
     mut receipt: Receipt<K, J, L>,
     key: &K,
 ) -> Result<Arc<K::Value>, Fault>
-    requires { IfSome (receipt_known receipt) (λ x. arc_value x.key ≡ key.now) }
-    ensures meant { J.stable (K.name_of key.now) → IsTrue J.honest → ForOk result (λ v. arc_value v ≡ K.meaning J.pictures key.now) }
-    ensures shaped { ForOk result (λ v. IsTrue (K.is_shaped J.pictures key.now (arc_value v))) }
-    ensures given { ForErr result (λ f. IsTrue (is_given (J.gave (K.name_of key.now)) f)) }
+    requires { IsOf key.now receipt }
+    ensures { OutcomeFor K.CacheKey.own J.System key.now result }
 {
-    shared(receipt.outcome()).0
+    share_outcome(receipt.outcome()).0
 }

@@ -1,15 +1,6 @@
 //! What a group does while it holds its lock.
 
-ghost use Rattle.std.specs.Prelude.{◌≡◌, ◌+◌, IfOk, IfSome, IsTrue, MatchOption, OnErr, OnOk};
-ghost use Rattle.std.specs.Result.{ForErr, ForOk};
-ghost use Rattle.std.specs.Arc.{arc_value};
-ghost use Rattle.iiif_tables.specs.Flights.{land as landed};
-ghost use Rattle.iiif_outcome.specs.Outcomes.{is_given, value_of};
-ghost use Rattle.iiif_outcome.specs.Views.{entry_size};
-ghost use Rattle.iiif_singleflight.specs.Views.{landing_cell, landing_kept, landing_known, landing_own, landing_refused, landing_taken};
-ghost use Rattle.iiif_singleflight.specs.Views.{lead_cell, lead_class, lead_key, lead_ticket};
-ghost use Rattle.iiif_singleflight.specs.View.{table_of};
-ghost use Rattle.iiif_group.specs.Code.{EntersFor, place_of};
+ghost use Rattle.iiif_group.specs.Code.{Lands, OutcomeOf};
 
 use iiif_keys::{CacheKey, Fault, System};
 use iiif_pixel::NoMemory;
@@ -37,17 +28,8 @@ pub fn land<K: CacheKey, J: System, L: Ledger>(
     outcome: Result<Arc<K::Value>, Fault>,
     origin: Origin,
 ) -> Landing<K, J, L>
-    requires meant { J.stable (K.name_of (lead_key lead)) → IsTrue J.honest →
-        ForOk outcome (λ v. arc_value v ≡ K.meaning J.pictures (lead_key lead)) }
-    requires shaped { ForOk outcome (λ v. IsTrue (K.is_shaped J.pictures (lead_key lead) (arc_value v))) }
-    requires given { ForErr outcome (λ f. IsTrue (is_given (J.gave (K.name_of (lead_key lead))) f)) }
-    ensures table { table_of K.eq home.new.table ≡ landed K.eq (entry_size K.key_bytes K.val_bytes) (landing_kept result) (lead_class lead)
-        (lead_key lead) (lead_ticket lead) (value_of outcome) (place_of origin) (table_of K.eq home.old.table) }
-    ensures taken { IsTrue (landing_taken result) → IfSome (landing_known result) (λ x. x.outcome ≡ outcome) }
-    ensures own { IsTrue (landing_own result) → IfSome (landing_known result) (λ x. arc_value x.key ≡ lead_key lead) }
-    ensures refused { MatchOption (landing_refused result) (IsTrue (landing_taken result))
-        (λ b. (b.value.outcome ≡ outcome) × (arc_value b.value.key ≡ lead_key lead)) }
-    ensures cell { landing_cell result ≡ lead_cell lead }
+    requires { OutcomeOf lead outcome }
+    ensures { Lands home.old.table home.new.table lead outcome origin result }
 {
     let place = match origin {
         Origin::Peer => Place::Peer,

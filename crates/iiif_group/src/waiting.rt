@@ -1,13 +1,8 @@
 //! The calls of a group's lock, and waiting for flights.
 
-ghost use Rattle.std.specs.Prelude.{◌≡◌, ◌+◌, IfErr, IfNone, IfOk, IfSome, IsTrue, OnErr, OnOk};
-ghost use Rattle.std.specs.Result.{ForErr, ForOk};
-ghost use Rattle.std.specs.Arc.{arc_value};
-ghost use Rattle.iiif_outcome.specs.Outcomes.{is_given};
-ghost use Rattle.iiif_singleflight.specs.Views.{flight_cell, flight_key, flight_ticket, landing_cell, landing_known, landing_own};
-ghost use Rattle.iiif_singleflight.specs.Views.{landing_refused, lead_cell, lead_class, lead_key, receipt_cell, receipt_known};
-ghost use Rattle.iiif_singleflight.specs.Views.{receipt_ticket};
-ghost use Rattle.iiif_group.specs.Code.{EntersFor};
+ghost use Rattle.std.specs.Prelude.{IfOk};
+ghost use Rattle.iiif_group.specs.Beginning.{CountsOnce};
+ghost use Rattle.iiif_group.specs.Code.{EndsOrGoesOn, EntersFor, FindsAgain, Finishes, Meets, OutcomeOf, Tells};
 
 use crate::group::Group;
 use crate::steps::{Origin, land};
@@ -28,18 +23,15 @@ impl<K: CacheKey, J: System, L: Ledger, N, T> Group<K, J, L, N, T> {
         key: &K,
         class: Class,
     ) -> Result<Entered<K, J, L>, NoMemory>
-        ensures entered { IfOk result (λ e. EntersFor class key.now e) }
-        ensures counted { OnOk result (pass.new.gets ≡ pass.old.gets + 1) }
-        ensures refused { OnErr result (pass.new.gets ≡ pass.old.gets) }
-        ensures parts { pass.new.parts ≡ pass.old.parts }
+        ensures entered { IfOk result (EntersFor class key.now) }
+        ensures counts { CountsOnce pass.old pass.new result }
     {
         self.home.lock(rt).table.enter(pass, key, class)
     }
 
     /// Waits until a flight has landed. The receipt is of this flight: of its ticket, and of the cell by which all learn who joined it.
     pub(crate) fn meet<R: Wait>(&self, rt: &R, flight: Flight<K, J, L>) -> Receipt<K, J, L>
-        ensures flight { (receipt_cell result ≡ flight_cell flight) × (receipt_ticket result ≡ flight_ticket flight) }
-        ensures key { IfSome (receipt_known result) (λ x. arc_value x.key ≡ flight_key flight) }
+        ensures { Meets flight result }
     {
         let landed = self.landed.of(flight.ticket());
         let mut flight = flight;
@@ -60,9 +52,7 @@ impl<K: CacheKey, J: System, L: Ledger, N, T> Group<K, J, L, N, T> {
         rt: &R,
         lead: &Lead<K, J, L>,
     ) -> Result<Option<Arc<K::Value>>, NoMemory>
-        ensures meant { IfOk result (λ o. IfSome o
-            (λ v. J.stable (K.name_of (lead_key lead.now)) → IsTrue J.honest → arc_value v ≡ K.meaning J.pictures (lead_key lead.now))) }
-        ensures shaped { IfOk result (λ o. IfSome o (λ v. IsTrue (K.is_shaped J.pictures (lead_key lead.now) (arc_value v)))) }
+        ensures { FindsAgain lead.now result }
     {
         self.home.lock(rt).table.again(lead)
     }
@@ -71,9 +61,7 @@ impl<K: CacheKey, J: System, L: Ledger, N, T> Group<K, J, L, N, T> {
     /// another of this flight stands in it, by which they learn too who joined. A cell with none of this flight tells nobody: the
     /// leader then waits for good, as they do.
     fn tell<R: Wait>(&self, rt: &R, landing: Landing<K, J, L>) -> Told<K, J, L>
-        ensures own { IsTrue (landing_own landing) }
-        ensures receipt { (receipt_known result.receipt ≡ landing_known landing) × (receipt_cell result.receipt ≡ landing_cell landing) }
-        ensures refused { result.refused ≡ landing_refused landing }
+        ensures { Tells landing result }
     {
         let landed = self.landed.of(landing.ticket());
         landed.notify_all();
@@ -96,14 +84,8 @@ impl<K: CacheKey, J: System, L: Ledger, N, T> Group<K, J, L, N, T> {
         outcome: Result<Arc<K::Value>, Fault>,
         origin: Origin,
     ) -> Told<K, J, L>
-        requires meant { J.stable (K.name_of (lead_key lead)) → IsTrue J.honest →
-            ForOk outcome (λ v. arc_value v ≡ K.meaning J.pictures (lead_key lead)) }
-        requires shaped { ForOk outcome (λ v. IsTrue (K.is_shaped J.pictures (lead_key lead) (arc_value v))) }
-        requires given { ForErr outcome (λ f. IsTrue (is_given (J.gave (K.name_of (lead_key lead))) f)) }
-        ensures key { IfSome (receipt_known result.receipt) (λ x. arc_value x.key ≡ lead_key lead) }
-        ensures ended { IfNone result.refused (IfSome (receipt_known result.receipt) (λ x. x.outcome ≡ outcome)) }
-        ensures refused { IfSome result.refused (λ b. (b.value.outcome ≡ outcome) × (arc_value b.value.key ≡ lead_key lead)) }
-        ensures cell { receipt_cell result.receipt ≡ lead_cell lead }
+        requires { OutcomeOf lead outcome }
+        ensures { Finishes lead outcome result }
     {
         let mut home = self.home.lock(rt);
         let landing = land(&mut *home, lead, outcome, origin);
@@ -118,8 +100,7 @@ impl<K: CacheKey, J: System, L: Ledger, N, T> Group<K, J, L, N, T> {
         rt: &R,
         lead: Lead<K, J, L>,
     ) -> Result<Receipt<K, J, L>, Lead<K, J, L>>
-        ensures ended { IfOk result (λ r. IfSome (receipt_known r) (λ x. arc_value x.key ≡ lead_key lead)) }
-        ensures back { IfErr result (λ l. (lead_key l ≡ lead_key lead) × (lead_class l ≡ lead_class lead)) }
+        ensures { EndsOrGoesOn lead result }
     {
         match self.again(rt, &lead) {
             Err(_) => Ok(

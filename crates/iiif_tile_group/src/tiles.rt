@@ -1,19 +1,13 @@
 //! Tiles, loaded from their sources or shared by a group.
 
-ghost use Rattle.std.specs.Prelude.{◌≡◌, ◌+◌, ◌≤◌, IfOk, IfErr, IfSome, IsTrue, OnErr, OnOk};
-ghost use Rattle.std.specs.Arc.{arc_value};
-ghost use Rattle.std.specs.Result.{ForOk, ForErr};
+ghost use Rattle.std.specs.Prelude.{◌≡◌};
 ghost use Rattle.iiif_pixel.specs.Geometry.{channels_of};
-ghost use Rattle.iiif_keys.specs.Blocks.{NamesPart, TileFitsIn};
-ghost use Rattle.iiif_keys.specs.Meaning.{tile_is_shaped, tile_meaning};
+ghost use Rattle.iiif_keys.specs.Blocks.{TileFitsIn};
 ghost use Rattle.iiif_keys.specs.Shapes.{shape_of};
-ghost use Rattle.iiif_outcome.specs.Outcomes.{is_given};
-ghost use Rattle.iiif_singleflight.specs.Views.{receipt_known};
-ghost use Rattle.iiif_group.specs.Beginning.{OutcomeIs};
-ghost use Rattle.iiif_images.specs.Faults.{IsGetFault, IsLoadFault};
 ghost use Rattle.iiif_images.specs.Items.{item_of};
 ghost use Rattle.iiif_images.specs.Named.{picture_in, IsImageOf};
 ghost use Rattle.iiif_images.specs.Views.{items_in};
+ghost use Rattle.iiif_tile_group.specs.Calls.{EndsWith, Gets, GetsLocal, Loads};
 ghost use Rattle.iiif_tile_group.specs.Views.{items_tiled};
 
 use crate::calls::TileCalls;
@@ -68,12 +62,7 @@ impl<R, S: Source<R> + Drop, J: System, N, T> Tiles<R, S, J, N, T> {
 
     /// The tile that a key names, from its image's source. Nothing is looked up, and nothing kept.
     pub fn load(&self, rt: &R, key: &TileKey) -> Result<TileVal, Fault>
-        ensures meant { J.stable key.now.name → IfOk result (λ v. v ≡ tile_meaning J.pictures key.now) }
-        ensures shaped { IfOk result (λ v. IsTrue (tile_is_shaped J.pictures key.now v)) }
-        ensures names { IfOk result (λ v. NamesPart J.pictures J.edge key.now.name key.now.edge
-            (λ s. TileFitsIn s.dim (channels_of s.kind) key.now)) }
-        ensures fault { IfErr result (IsLoadFault J.pictures J.edge key.now.name key.now.edge
-            (λ s. TileFitsIn s.dim (channels_of s.kind) key.now) (J.gave key.now.name)) }
+        ensures { Loads J.System key.now result }
     {
         self.images.load(rt, key)
     }
@@ -89,9 +78,7 @@ impl<R, S: Source<R> + Drop, J: System, N, T> Tiles<R, S, J, N, T> {
         requires image { IsImageOf J.pictures J.gave J.stable S.bytes S.gave S.keeps key.now.name (item_of entry.now) }
         requires shape { shape_of (picture_in S.bytes (item_of entry.now)) ≡ shape.now }
         requires fits { TileFitsIn shape.now.dim (channels_of shape.now.kind) key.now }
-        ensures meant { J.stable key.now.name → IsTrue J.honest → ForOk result (λ v. arc_value v ≡ tile_meaning J.pictures key.now) }
-        ensures shaped { ForOk result (λ v. IsTrue (tile_is_shaped J.pictures key.now (arc_value v))) }
-        ensures given { ForErr result (λ f. IsTrue (is_given (J.gave key.now.name) f)) }
+        ensures { EndsWith J.System key.now result }
     {
         match self.images.made(rt, entry, shape, key) {
             Ok(value) => boxed(self.alloc, value),
@@ -115,16 +102,7 @@ impl<R: Wait, S: Source<R> + Drop, J: System, N: Link<TileKey, J, R>, T: Gate<R>
         pass: &mut Pass<TileCalls<J>>,
         key: &TileKey,
     ) -> Result<Receipt<TileKey, J, TileCalls<J>>, Fault>
-        ensures outcome { IfOk result (λ r. IfSome (receipt_known r) (λ x. (arc_value x.key ≡ key.now)
-            × OutcomeIs (J.stable key.now.name) J.honest (tile_meaning J.pictures key.now) (tile_is_shaped J.pictures key.now)
-            (J.gave key.now.name) x.outcome)) }
-        ensures counted { OnOk result ((pass.old.gets + 1 ≤ pass.new.gets) × (pass.new.gets ≤ pass.old.gets + 2)) }
-        ensures refused { OnErr result (pass.new.gets ≡ pass.old.gets) }
-        ensures parts { pass.new.parts ≡ pass.old.parts }
-        ensures names { IfOk result (λ r. NamesPart J.pictures J.edge key.now.name key.now.edge
-            (λ s. TileFitsIn s.dim (channels_of s.kind) key.now)) }
-        ensures fault { IfErr result (IsGetFault J.pictures J.edge key.now.name key.now.edge
-            (λ s. TileFitsIn s.dim (channels_of s.kind) key.now)) }
+        ensures { Gets key.now pass.old pass.new result }
     {
         let (entry, shape) = self.images.image_of(key)?;
         match self.group.begin(rt, pass, key, &shape) {
@@ -147,16 +125,7 @@ impl<R: Wait, S: Source<R> + Drop, J: System, N, T: Gate<R>> Tiles<R, S, J, N, T
         pass: &mut Pass<TileCalls<J>>,
         key: &TileKey,
     ) -> Result<Receipt<TileKey, J, TileCalls<J>>, Fault>
-        ensures outcome { IfOk result (λ r. IfSome (receipt_known r) (λ x. (arc_value x.key ≡ key.now)
-            × OutcomeIs (J.stable key.now.name) J.honest (tile_meaning J.pictures key.now) (tile_is_shaped J.pictures key.now)
-            (J.gave key.now.name) x.outcome)) }
-        ensures counted { OnOk result (pass.new.gets ≡ pass.old.gets + 1) }
-        ensures refused { OnErr result (pass.new.gets ≡ pass.old.gets) }
-        ensures parts { pass.new.parts ≡ pass.old.parts }
-        ensures names { IfOk result (λ r. NamesPart J.pictures J.edge key.now.name key.now.edge
-            (λ s. TileFitsIn s.dim (channels_of s.kind) key.now)) }
-        ensures fault { IfErr result (IsGetFault J.pictures J.edge key.now.name key.now.edge
-            (λ s. TileFitsIn s.dim (channels_of s.kind) key.now)) }
+        ensures { GetsLocal key.now pass.old pass.new result }
     {
         let (entry, shape) = self.images.image_of(key)?;
         match self.group.begin_local(rt, pass, key) {
