@@ -220,6 +220,16 @@ fn fill_columns(
     }
 }
 
+/// What a result column takes of the first column of its span, of those between, each of weight `c`, and of the last.
+#[inline(always)]
+pub(crate) fn taken_of(span: Span, c: u64, first: u64, inner: u64, last: u64) -> u64
+    requires { span.first * first + c * inner + span.last * last < 2 ^ 64 }
+    ensures { result ≡ span.first * first + c * inner + span.last * last }
+{
+    let between = c * inner;
+    span.first * first + between + span.last * last
+}
+
 /// What a result column takes of channel `k` of column sums.
 fn span_sum(columns: &[u64], channels: usize, k: usize, c: u64, span: Span) -> u64
     requires in_order { span.start ≤ span.end }
@@ -238,9 +248,9 @@ fn span_sum(columns: &[u64], channels: usize, k: usize, c: u64, span: Span) -> u
     for t in span.start + 1..span.end - 1 {
         inner += columns[t * channels + k];
     }
-    let first = span.first * columns[span.start * channels + k];
-    let last = span.last * columns[(span.end - 1) * channels + k];
-    first + c * inner + last
+    let first = columns[span.start * channels + k];
+    let last = columns[(span.end - 1) * channels + k];
+    taken_of(span, c, first, inner, last)
 }
 
 /// Appends what each of `count` result places takes of its `n` columns, which it has whole. It is made anew for the numbers that scales

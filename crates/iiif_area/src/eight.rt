@@ -8,9 +8,9 @@ ghost use Rattle.iiif_pixel.specs.Scaling.{area_sum, sum_from};
 ghost use Rattle.iiif_area.specs.Places.{IsScalable};
 ghost use Rattle.iiif_area.specs.Code.{column_sum, span_total, tile_sample, IsMore};
 
-use crate::columns::{Span, spans, whole_columns};
+use crate::columns::{Span, spans, taken_of, whole_columns};
 use crate::places::Share;
-use crate::rows::{join_ends, join_rows, row_of, sum_four, sum_one};
+use crate::rows::{RowWeights, join_ends, join_rows, row_of, sum_four, sum_one};
 use crate::weights::{Axis, sources, weight};
 use iiif_pixel::{Depth, NoMemory, Raster, Rect};
 use std::alloc::{AllocError, Global};
@@ -144,7 +144,12 @@ fn fill_columns(
         return;
     }
     sum_inner(short, tile, held, start + 1, end - 1);
-    join_rows(columns, first, above, last, below, short, rows.c as u16);
+    let weights = RowWeights {
+        above,
+        between: rows.c as u16,
+        below,
+    };
+    join_rows(columns, first, short, last, weights);
 }
 
 /// The sums of the samples of the rows from `from` up to `to` of the part that a tile of 8 bits holds in its rectangle `held`.
@@ -195,9 +200,9 @@ fn span_sum(columns: &[u32], channels: usize, k: usize, c: u64, span: Span) -> u
     for t in span.start + 1..span.end - 1 {
         inner += u64::from(columns[t * channels + k]);
     }
-    let first = span.first * u64::from(columns[span.start * channels + k]);
-    let last = span.last * u64::from(columns[(span.end - 1) * channels + k]);
-    first + c * inner + last
+    let first = u64::from(columns[span.start * channels + k]);
+    let last = u64::from(columns[(span.end - 1) * channels + k]);
+    taken_of(span, c, first, inner, last)
 }
 
 /// Appends what each of `count` result places takes of its `n` columns, which it has whole. It is made anew for the numbers that scales

@@ -129,26 +129,34 @@ pub(crate) fn join_ends(columns: &mut [u32], first: &[u8], above: u16, last: &[u
     }
 }
 
-/// Writes to each of `columns` the samples of two rows at its index, times their weights, and the number of `short`, times `weight`.
+/// What a result row takes of its first source row, of each between, and of its last.
+#[derive(Clone, Copy)]
+pub(crate) struct RowWeights {
+    pub above: u16,
+    pub between: u16,
+    pub below: u16,
+}
+
+/// Writes to each of `columns` the samples of two rows at its index, and the number of `short`, which is of those between, each times its
+/// weight.
 pub(crate) fn join_rows(
     columns: &mut [u32],
     first: &[u8],
-    above: u16,
-    last: &[u8],
-    below: u16,
     short: &[u16],
-    weight: u16,
+    last: &[u8],
+    weights: RowWeights,
 )
     requires same { (length first.now ≡ length columns.old) × (length last.now ≡ length columns.old) ×
         (length short.now ≡ length columns.old) }
     requires room { (t : ℕ) → t < length columns.old
-        → above * slice_index first.now t + weight * slice_index short.now t + below * slice_index last.now t < 2 ^ 32 }
+        → weights.above * slice_index first.now t + weights.between * slice_index short.now t + weights.below * slice_index last.now t
+        < 2 ^ 32 }
     ensures { EachIndex columns.new (λ t. slice_index columns.new t
-        ≡ above * slice_index first.now t + weight * slice_index short.now t + below * slice_index last.now t) }
+        ≡ weights.above * slice_index first.now t + weights.between * slice_index short.now t + weights.below * slice_index last.now t) }
 {
     for (t, column) in columns.iter_mut().enumerate() {
-        *column = u32::from(above) * u32::from(first[t])
-            + u32::from(weight) * u32::from(short[t])
-            + u32::from(below) * u32::from(last[t]);
+        *column = u32::from(weights.above) * u32::from(first[t])
+            + u32::from(weights.between) * u32::from(short[t])
+            + u32::from(weights.below) * u32::from(last[t]);
     }
 }

@@ -32,6 +32,15 @@ overflow_add-inner-in-loop-t c =
     c.requires.fits in
     omega arith
 
+pub taken_of-requires : goal.taken_of-requires
+unfolding span_total
+taken_of-requires c =
+    let s = c.args.span in
+    let f : ℕ → ℕ = λ t. get_or c.args.columns.now (t * c.args.channels + c.args.k) 0 in
+    let count : c.loop-t.t - (s.start + 1) ≡ s.end - 1 - (s.start + 1) = omega arith in
+    let inner = c.loop-t.invariant.added ∙ ap (λ n. sum_from (s.start + 1) n f) count in
+    omega (arith, c.requires.fits, ap (λ u. c.args.c * u) inner)
+
 pub returns : goal.returns
 unfolding span_total
 returns c =
@@ -39,22 +48,6 @@ returns c =
     let f : ℕ → ℕ = λ t. get_or c.args.columns.now (t * c.args.channels + c.args.k) 0 in
     let count : c.loop-t.t - (s.start + 1) ≡ s.end - 1 - (s.start + 1) = omega arith in
     let inner = c.loop-t.invariant.added ∙ ap (λ n. sum_from (s.start + 1) n f) count in
-    ap (λ u. s.first * get_or c.args.columns.now (s.start * c.args.channels + c.args.k) 0 + c.args.c * u + s.last * get_or
+    c.taken_of.ensures
+    ∙ ap (λ u. s.first * get_or c.args.columns.now (s.start * c.args.channels + c.args.k) 0 + c.args.c * u + s.last * get_or
     c.args.columns.now ((s.end - 1) * c.args.channels + c.args.k) 0) inner
-
-pub overflow_add-result-2 : goal.overflow_add-result-2
-overflow_add-result-2 c = omega (arith, returns c)
-
-pub overflow_add-result : goal.overflow_add-result
-overflow_add-result c = omega (arith, returns c)
-
-pub overflow_mul-result : goal.overflow_mul-result
-overflow_mul-result c = omega (arith, returns c)
-
-pub overflow_mul-first-2 : goal.overflow_mul-first-2
-unfolding span_total
-overflow_mul-first-2 c = omega (arith, c.requires.fits)
-
-pub overflow_mul-last-2 : goal.overflow_mul-last-2
-unfolding span_total
-overflow_mul-last-2 c = omega (arith, c.requires.fits)

@@ -36,6 +36,18 @@ overflow_add-inner c =
     c.requires.fits in
     omega arith
 
+pub taken_of-requires : goal.taken_of-requires
+unfolding span_total
+taken_of-requires c =
+    let s = c.args.span in
+    let f : ℕ → ℕ = λ t. get_or c.args.columns.now (t * c.args.channels + c.args.k) 0 in
+    let count : c.loop-t.t - (s.start + 1) ≡ s.end - 1 - (s.start + 1) = omega arith in
+    let inner = c.loop-t.invariant.added ∙ ap (λ n. sum_from (s.start + 1) n f) count in
+    let e = ap (λ u. s.first * u) c.from-first.ensures in
+    let d = ap (λ u. s.last * u) c.from-last.ensures in
+    let m = ap (λ u. c.args.c * u) inner in
+    omega (arith, c.requires.fits)
+
 pub returns : goal.returns
 unfolding span_total
 returns c =
@@ -43,24 +55,7 @@ returns c =
     let f : ℕ → ℕ = λ t. get_or c.args.columns.now (t * c.args.channels + c.args.k) 0 in
     let count : c.loop-t.t - (s.start + 1) ≡ s.end - 1 - (s.start + 1) = omega arith in
     let inner = c.loop-t.invariant.added ∙ ap (λ n. sum_from (s.start + 1) n f) count in
-    let e = ap (λ u. s.first * u) c.from.ensures in
-    let d = ap (λ u. s.last * u) c.from-2.ensures in
+    let e = ap (λ u. s.first * u) c.from-first.ensures in
+    let d = ap (λ u. s.last * u) c.from-last.ensures in
     let m = ap (λ u. c.args.c * u) inner in
-    omega arith
-
-pub overflow_add-result-2 : goal.overflow_add-result-2
-overflow_add-result-2 c = omega (arith, returns c)
-
-pub overflow_add-result : goal.overflow_add-result
-overflow_add-result c = omega (arith, returns c)
-
-pub overflow_mul-result : goal.overflow_mul-result
-overflow_mul-result c = omega (arith, returns c)
-
-pub overflow_mul-first : goal.overflow_mul-first
-unfolding span_total
-overflow_mul-first c = omega (arith, c.requires.fits, ap (λ u. c.args.span.first * u) c.from.ensures)
-
-pub overflow_mul-last : goal.overflow_mul-last
-unfolding span_total
-overflow_mul-last c = omega (arith, c.requires.fits, ap (λ u. c.args.span.last * u) c.from-2.ensures)
+    omega (arith, c.taken_of.ensures)
