@@ -63,7 +63,7 @@ impl Job {
         ensures shape { IfOk result (λ j. j.shape ≡ shape) }
         ensures resolved { IfOk result (λ j. j.resolved ≡ resolved) }
     {
-        let plan = plan(alloc, &name, &resolved, shape.dim, shape.kind, edge, room)?;
+        let plan = plan(alloc, &name, &resolved, shape, edge, room)?;
         Ok(Job {
             name,
             edge,

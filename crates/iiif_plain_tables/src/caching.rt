@@ -14,6 +14,13 @@ use iiif_pixel::NoMemory;
 use iiif_scene::{Key, Value};
 use iiif_tables::Place;
 
+/// How a value that lands is kept: by which place, and whether at all.
+#[derive(Clone, Copy)]
+pub struct Retention {
+    pub place: Place,
+    pub keep: bool,
+}
+
 /// Two lists with one limit in bytes, each with the entry that was used last at its front.
 #[derive(Drop)]
 pub struct PlainCache {
@@ -136,24 +143,23 @@ impl PlainCache {
     /// A value that has landed is kept by its place, where it is to be kept; a fault isn't. After an error all is as before.
     pub(crate) fn keep(
         &mut self,
-        place: Place,
+        retention: Retention,
         peer: u64,
         key: &Key,
         ticket: u64,
         value: Option<Value>,
-        keep: bool,
     ) -> Result<(), NoMemory>
-        ensures ok { OnOk result (cache_of self.new
-            ≡ (if keep then keeping key_eq entry_size place peer key.now ticket value (cache_of self.old) else cache_of self.old)) }
+        ensures ok { OnOk result (cache_of self.new ≡ (if retention.keep
+            then keeping key_eq entry_size retention.place peer key.now ticket value (cache_of self.old) else cache_of self.old)) }
         ensures err { OnErr result (cache_of self.new ≡ cache_of self.old) }
     {
-        if !keep {
+        if !retention.keep {
             return Ok(());
         }
         let Some(value) = value else {
             return Ok(());
         };
-        let hot = match place {
+        let hot = match retention.place {
             Place::Nowhere => return Ok(()),
             Place::Main => false,
             Place::Peer => {

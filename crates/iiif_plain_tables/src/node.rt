@@ -10,6 +10,7 @@ ghost use Rattle.iiif_machine.specs.Steps.{node_without};
 ghost use Rattle.iiif_plain_tables.specs.Nodes.{entered_of, node_of};
 ghost use Rattle.iiif_plain_tables.specs.Rows.{kept_of};
 
+use crate::caching::Retention;
 use crate::keys::bytes_of;
 use crate::listing::Found;
 use crate::plain::PlainTable;
@@ -18,7 +19,7 @@ use iiif_keys::Name;
 use iiif_pixel::NoMemory;
 use iiif_ring::Ring;
 use iiif_scene::{Key, Value};
-use iiif_tables::{Class, Place};
+use iiif_tables::Class;
 use std::alloc::Global;
 
 /// A node: its name, the names on its ring, the last version of messages that it speaks, and its tables.
@@ -104,17 +105,16 @@ impl Node {
         class: Class,
         ticket: u64,
         value: Option<Value>,
-        place: Place,
-        keep: bool,
+        retention: Retention,
     ) -> Result<(), NoMemory>
         ensures ok { OnOk result ((o : Outcome) → value_of o ≡ value
             → node_of self.new ≡ put_table (node_of self.old) key.now
-            (landed (table_at (node_of self.old) key.now) key.now class ticket o place keep)) }
+            (landed (table_at (node_of self.old) key.now) key.now class ticket o retention.place retention.keep)) }
         ensures err { OnErr result (node_of self.new ≡ node_of self.old) }
     {
         match key {
-            Key::Tile(_) => self.tiles.land(key, class, ticket, value, place, keep),
-            Key::Sum(_) => self.sums.land(key, class, ticket, value, place, keep),
+            Key::Tile(_) => self.tiles.land(key, class, ticket, value, retention),
+            Key::Sum(_) => self.sums.land(key, class, ticket, value, retention),
         }
     }
 

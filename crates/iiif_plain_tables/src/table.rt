@@ -12,7 +12,7 @@ ghost use Rattle.iiif_plain_tables.specs.Nodes.{entered_of, table_of};
 ghost use Rattle.iiif_plain_tables.specs.Open.{is_named};
 ghost use Rattle.iiif_plain_tables.specs.declared.plain.OpenFlight.{OpenFlight};
 
-use crate::caching::PlainCache;
+use crate::caching::{PlainCache, Retention};
 use crate::keys::same;
 use crate::listing::Found;
 use crate::plain::{OpenFlight, PlainTable};
@@ -239,10 +239,10 @@ impl PlainTable {
         class: Class,
         ticket: u64,
         value: Option<Value>,
-        place: Place,
-        keep: bool,
+        retention: Retention,
     ) -> Result<(), NoMemory>
-        ensures ok { OnOk result (table_of self.new ≡ landed key_eq entry_size keep class key.now ticket value place (table_of self.old)) }
+        ensures ok { OnOk result (table_of self.new
+            ≡ landed key_eq entry_size retention.keep class key.now ticket value retention.place (table_of self.old)) }
         ensures err { OnErr result (table_of self.new ≡ table_of self.old) }
     {
         let Some(at) = open_at(&self.flights, class, key) else {
@@ -252,10 +252,10 @@ impl PlainTable {
             return Ok(());
         }
         let found = self.flights[at].found;
-        let Some(book) = counted(&self.book, found, &value, place) else {
+        let Some(book) = counted(&self.book, found, &value, retention.place) else {
             return Err(AllocError);
         };
-        self.cache.keep(place, book.peer, key, ticket, value, keep)?;
+        self.cache.keep(retention, book.peer, key, ticket, value)?;
         self.close(at, class, key);
         self.book = book;
         Ok(())

@@ -10,30 +10,28 @@ use crate::levels::Scaled;
 use crate::plans::Plan;
 use crate::squares::Squares;
 use iiif_canonical::Resolved;
-use iiif_keys::{Name, SumKey, TileKey, side_of};
-use iiif_pixel::{Dim, Kind, NoMemory, Rect};
+use iiif_keys::{Name, Shape, SumKey, TileKey, side_of};
+use iiif_pixel::{Dim, NoMemory, Rect};
 use std::alloc::Global;
 
-/// The plan of a request on the named image, which has the sides `dim`, in places, and is of this kind: the tiles with this edge
-/// that the region meets, where it keeps its size or a side of the result is above its side; else the blocks that it meets, of
-/// the greatest level at which a block has at most `room` sums, or of level 0 where there is none. Each is listed once, row by
-/// row. The only error is want of memory.
+/// The plan of a request on the named image of this shape: the tiles with this edge that the region meets, where it keeps its size
+/// or a side of the result is above its side; else the blocks that it meets, of the greatest level at which a block has at most
+/// `room` sums, or of level 0 where there is none. Each is listed once, row by row. The only error is want of memory.
 pub fn plan(
     alloc: Global,
     name: &Name,
     resolved: &Resolved,
-    dim: Dim,
-    kind: Kind,
+    shape: Shape,
     edge: u32,
     room: u64,
 ) -> Result<Plan, NoMemory>
     requires edge { IsEdge edge }
     requires room { room ≤ 65536 }
-    requires inside { LiesIn resolved.now.rect dim }
+    requires inside { LiesIn resolved.now.rect shape.dim }
     requires columns { (0 < resolved.now.size.w) × (0 < resolved.now.rect.w) }
     requires rows { (0 < resolved.now.size.h) × (0 < resolved.now.rect.h) }
-    ensures plan { IfOk result (IsPlan name.now edge dim (channels_of kind) room resolved.now) }
-    ensures exact { IfOk result (HasItems name.now edge dim (channels_of kind) room resolved.now) }
+    ensures plan { IfOk result (IsPlan name.now edge shape.dim (channels_of shape.kind) room resolved.now) }
+    ensures exact { IfOk result (HasItems name.now edge shape.dim (channels_of shape.kind) room resolved.now) }
 {
     let (rect, size) = (resolved.rect, resolved.size);
     let region = rect.dim();
@@ -45,10 +43,10 @@ pub fn plan(
     }
     let scaled = Scaled {
         edge,
-        image: dim,
+        image: shape.dim,
         region,
         size,
-        channels: kind.channels() as u64,
+        channels: shape.kind.channels() as u64,
         room,
     };
     Ok(Plan::Sum(blocks(alloc, name, edge, rect, size, scaled.level())?))

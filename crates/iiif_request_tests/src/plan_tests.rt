@@ -2,8 +2,8 @@
 
 use crate::pictures::{ROOM, UPRIGHT, named};
 use iiif_canonical::Resolved;
-use iiif_keys::{SumKey, TileKey};
-use iiif_pixel::{Dim, Kind, Quality, Rect};
+use iiif_keys::{Shape, SumKey, TileKey};
+use iiif_pixel::{Depth, Dim, Kind, Quality, Rect};
 use iiif_planner::{Plan, plan};
 use std::alloc::Global;
 
@@ -431,7 +431,12 @@ fn is_planned(alloc: Global, case: &Case) -> bool {
         turn: UPRIGHT,
         quality: Quality::Default,
     };
-    match plan(alloc, &name, &resolved, dim, kind, edge, room) {
+    let shape = Shape {
+        dim,
+        kind,
+        depth: Depth::Eight,
+    };
+    match plan(alloc, &name, &resolved, shape, edge, room) {
         Ok(plan) => is_of(&plan, edge, &resolved, wanted),
         Err(_) => matches!(wanted, Wanted::Memory),
     }

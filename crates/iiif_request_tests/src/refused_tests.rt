@@ -6,8 +6,8 @@ use crate::pictures::{ROOM, UPRIGHT};
 use crate::plan_tests::{FOUR, are_blocks, are_tiles};
 use iiif_canonical::{Limits, Resolved};
 use iiif_info::info;
-use iiif_keys::{Name, Parts, SumKey, is_name, parts};
-use iiif_pixel::{Dim, Kind, Quality, Rect};
+use iiif_keys::{Name, Parts, Shape, SumKey, is_name, parts};
+use iiif_pixel::{Depth, Dim, Kind, Quality, Rect};
 use iiif_planner::{Plan, plan};
 use std::alloc::Global;
 use std::test::Fail;
@@ -66,16 +66,12 @@ fn planned(alloc: Global, name: &Name, from: u32, side: u32) -> Option<Plan> {
         turn: UPRIGHT,
         quality: Quality::Default,
     };
-    plan(
-        alloc,
-        name,
-        &resolved,
-        Dim { w: 4, h: 4 },
-        Kind::Gray,
-        2,
-        ROOM,
-    )
-    .ok()
+    let shape = Shape {
+        dim: Dim { w: 4, h: 4 },
+        kind: Kind::Gray,
+        depth: Depth::Eight,
+    };
+    plan(alloc, name, &resolved, shape, 2, ROOM).ok()
 }
 
 /// What the whole image at half its width comes to.

@@ -55,6 +55,13 @@ pub(crate) fn count(book: &mut Book, found: bool, fault: bool, place: Place)
     }
 }
 
+/// A value that arrives: by which place it is kept, and how many have come from a peer so far.
+#[derive(Clone, Copy)]
+pub(crate) struct Arrival {
+    pub place: Place,
+    pub peer: u64,
+}
+
 /// Puts an entry into one of the lists. False where it isn't put.
 fn put<K: CacheKey, J: System>(
     cache: &mut ByteCache<K, J>,
@@ -99,23 +106,23 @@ fn keep<K: CacheKey, J: System>(
 /// Keeps a value by its place: each tenth that came from a peer, and of those no other. False where nothing is put.
 fn store<K: CacheKey, J: System>(
     cache: &mut ByteCache<K, J>,
-    place: Place,
-    peer: u64,
+    arrival: Arrival,
     key: &K,
     value: Arc<K::Value>,
     receipt: &mut Receipt<K, J>,
 ) -> bool
     requires value { ForSome (receipt_known receipt.old) (λ x. value_of x.outcome ≡ Some (arc_value value)) }
     requires of_key { ForSome (receipt_known receipt.old) (λ x. arc_value x.key ≡ key.now) }
-    ensures cache { cache_of cache.new ≡ (if result then storing K.eq (entry_size K.key_bytes K.val_bytes) place peer key.now
+    ensures cache { cache_of cache.new ≡ (if result
+        then storing K.eq (entry_size K.key_bytes K.val_bytes) arrival.place arrival.peer key.now
         (record { value = arc_value value; ticket = receipt_ticket receipt.old }) (cache_of cache.old) else cache_of cache.old) }
     ensures same { SameReceipt receipt.old receipt.new }
 {
-    match place {
+    match arrival.place {
         Place::Nowhere => false,
         Place::Main => keep(cache, false, key, value, receipt),
         Place::Peer => {
-            if peer % 10 != 0 {
+            if arrival.peer % 10 != 0 {
                 return false;
             }
             keep(cache, true, key, value, receipt)
@@ -127,8 +134,7 @@ fn store<K: CacheKey, J: System>(
 pub(crate) fn keep_outcome<K: CacheKey, J: System>(
     cache: &mut ByteCache<K, J>,
     taken: bool,
-    place: Place,
-    peer: u64,
+    arrival: Arrival,
     key: &K,
     value: Option<Arc<K::Value>>,
     receipt: &mut Receipt<K, J>,
@@ -138,7 +144,7 @@ pub(crate) fn keep_outcome<K: CacheKey, J: System>(
     requires of_key { IsTrue taken → ForSome (receipt_known receipt.old) (λ x. arc_value x.key ≡ key.now) }
     ensures taken { IsTrue result → IsTrue taken }
     ensures kept { IsTrue result → IsSomeAnd value
-        (λ v. cache_of cache.new ≡ storing K.eq (entry_size K.key_bytes K.val_bytes) place peer key.now
+        (λ v. cache_of cache.new ≡ storing K.eq (entry_size K.key_bytes K.val_bytes) arrival.place arrival.peer key.now
         (record { value = arc_value v; ticket = receipt_ticket receipt.old }) (cache_of cache.old)) }
     ensures unkept { IsFalse result → cache_of cache.new ≡ cache_of cache.old }
     ensures same { SameReceipt receipt.old receipt.new }
@@ -148,7 +154,7 @@ pub(crate) fn keep_outcome<K: CacheKey, J: System>(
             if !taken {
                 return false;
             }
-            store(cache, place, peer, key, value, receipt)
+            store(cache, arrival, key, value, receipt)
         }
         None => false,
     }

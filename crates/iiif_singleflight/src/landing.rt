@@ -12,7 +12,7 @@ ghost use Rattle.iiif_singleflight.specs.Held.{open_at};
 ghost use Rattle.iiif_singleflight.specs.View.{cells_of, table_of};
 
 use crate::down::Down;
-use crate::keeping::{count, keep_outcome, share_of};
+use crate::keeping::{Arrival, count, keep_outcome, share_of};
 use crate::table::Table;
 use iiif_keys::{CacheKey, Fault, System};
 use iiif_outcome::{Ended, Lead};
@@ -69,15 +69,11 @@ impl<K: CacheKey, J: System, L: Ledger> Table<K, J, L> {
             };
         };
         count(&mut self.book, found, fault, place);
-        let kept = keep_outcome(
-            &mut self.cache,
-            taken,
+        let arrival = Arrival {
             place,
-            self.book.peer,
-            name,
-            value,
-            &mut receipt,
-        );
+            peer: self.book.peer,
+        };
+        let kept = keep_outcome(&mut self.cache, taken, arrival, name, value, &mut receipt);
         Down {
             receipt,
             taken,

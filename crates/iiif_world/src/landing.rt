@@ -18,6 +18,7 @@ ghost use Rattle.iiif_world.specs.Entering.{HasFlight};
 use crate::contents::Contents;
 use iiif_machine::{Lead, Stage, WorldFault};
 use iiif_pixel::NoMemory;
+use iiif_plain_tables::caching::Retention;
 use iiif_plain_tables::flights::{end_flight, reopen_flight, value_in};
 use iiif_scene::Value;
 use iiif_source::ReadFault;
@@ -73,7 +74,8 @@ impl Contents {
         ensures err { OnErr result (world_of self.new ≡ world_of self.old) }
     {
         let lead = &self.flights[flight].lead;
-        self.nodes[lead.node].land(&lead.key, lead.class, lead.ticket, value, place, keep)?;
+        let retention = Retention { place, keep };
+        self.nodes[lead.node].land(&lead.key, lead.class, lead.ticket, value, retention)?;
         Ok(())
     }
 

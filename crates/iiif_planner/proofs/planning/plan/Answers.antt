@@ -35,12 +35,12 @@ returns-then-eq c =
     let size = c.args.resolved.now.size in
     let same : true ≡ (nat_eq size.w r.w && nat_eq size.h r.h) =
     subst (λ (d : Dim). true ≡ (nat_eq size.w d.w && nat_eq size.h d.h)) c.dim-region.ensures c.if-eq.ensures in
-    let cover = tiles_cover c.args.name.now c.args.edge c.args.dim (channels_of c.args.kind) r c.requires.edge c.requires.inside
+    let cover = tiles_cover c.args.name.now c.args.edge c.args.shape.dim (channels_of c.args.shape.kind) r c.requires.edge c.requires.inside
     c.requires.columns.1 c.requires.rows.1 in
     record {
       plan = (
         same_sides size (sides_of r) same,
-        subst (λ (keys : List TileKey). TilesCover c.args.name.now c.args.edge c.args.dim (channels_of c.args.kind) r keys)
+        subst (λ (keys : List TileKey). TilesCover c.args.name.now c.args.edge c.args.shape.dim (channels_of c.args.shape.kind) r keys)
             (sym c.in_ok-tiles.ensures) cover,
       );
       exact = (sym same, c.in_ok-tiles.ensures);
@@ -49,13 +49,13 @@ returns-then-eq c =
 pub returns-then-is_scaled_up : goal.returns-then-is_scaled_up
 returns-then-is_scaled_up c =
     let r = c.args.resolved.now.rect in
-    let cover = tiles_cover c.args.name.now c.args.edge c.args.dim (channels_of c.args.kind) r c.requires.edge c.requires.inside
+    let cover = tiles_cover c.args.name.now c.args.edge c.args.shape.dim (channels_of c.args.shape.kind) r c.requires.edge c.requires.inside
     c.requires.columns.1 c.requires.rows.1 in
     let up : is_scaled_up c.args.resolved.now ≡ true = sym c.is_scaled_up.ensures ∙ c.if-is_scaled_up.true in
     record {
       plan = (
         up_tested c.args.resolved.now up,
-        subst (λ (keys : List TileKey). TilesCover c.args.name.now c.args.edge c.args.dim (channels_of c.args.kind) r keys)
+        subst (λ (keys : List TileKey). TilesCover c.args.name.now c.args.edge c.args.shape.dim (channels_of c.args.shape.kind) r keys)
             (sym c.in_ok-tiles-2.ensures) cover,
       );
       exact = (up, c.in_ok-tiles-2.ensures);
@@ -65,27 +65,27 @@ pub returns : goal.returns
 returns c =
     let r = c.args.resolved.now.rect in
     let size = c.args.resolved.now.size in
-    let n = channels_of c.args.kind in
+    let n = channels_of c.args.shape.kind in
     let up : is_scaled_up c.args.resolved.now ≡ false = sym c.is_scaled_up.ensures ∙ c.if-is_scaled_up.false in
     let down = down_tested c.args.resolved.now up in
     let columns : (0 < size.w) × (size.w ≤ r.w) = (c.requires.columns.0, down.0) in
     let rows : (0 < size.h) × (size.h ≤ r.h) = (c.requires.rows.0, down.1) in
     let other : false ≡ (nat_eq size.w r.w && nat_eq size.h r.h) =
     subst (λ (d : Dim). false ≡ (nat_eq size.w d.w && nat_eq size.h d.h)) c.dim-region.ensures c.if-eq.ensures in
-    let level_of = subst (λ (d : Dim). IsLevel c.args.edge c.args.dim d size c.channels.result c.args.room c.level.result)
+    let level_of = subst (λ (d : Dim). IsLevel c.args.edge c.args.shape.dim d size c.channels.result c.args.room c.level.result)
     c.dim-region.ensures c.level.ensures.level in
-    let level = subst (λ (m : ℕ). IsLevel c.args.edge c.args.dim (sides_of r) size m c.args.room c.level.result) c.channels.ensures level_of
-    in
-    let most = level_limits c.args.edge c.args.dim (sides_of r) size n c.args.room c.level.result c.requires.edge c.requires.room
-    (three_at_most c.args.kind) columns rows level in
-    let cover = blocks_cover c.args.name.now c.args.edge c.args.dim n r size c.level.result c.requires.edge c.level.ensures.within
+    let level = subst (λ (m : ℕ). IsLevel c.args.edge c.args.shape.dim (sides_of r) size m c.args.room c.level.result) c.channels.ensures
+    level_of in
+    let most = level_limits c.args.edge c.args.shape.dim (sides_of r) size n c.args.room c.level.result c.requires.edge c.requires.room
+    (three_at_most c.args.shape.kind) columns rows level in
+    let cover = blocks_cover c.args.name.now c.args.edge c.args.shape.dim n r size c.level.result c.requires.edge c.level.ensures.within
     c.requires.inside columns rows most in
     record {
       plan = (
         record { other = other_sides size (sides_of r) other; columns = down.0; rows = down.1 },
         c.level.result,
         level,
-        subst (λ (keys : List SumKey). BlocksCover c.args.name.now c.args.edge c.args.dim n r size c.level.result keys)
+        subst (λ (keys : List SumKey). BlocksCover c.args.name.now c.args.edge c.args.shape.dim n r size c.level.result keys)
             (sym c.in_ok-blocks.ensures) cover,
       );
       exact = (
@@ -93,6 +93,6 @@ returns c =
         up,
         c.in_ok-blocks.ensures
             ∙ ap (λ (l : ℕ). blocks_for c.args.name.now c.args.edge l c.args.resolved.now)
-            ((level_greatest c.args.edge c.args.dim (sides_of r) size n c.args.room c.level.result).0 level),
+            ((level_greatest c.args.edge c.args.shape.dim (sides_of r) size n c.args.room c.level.result).0 level),
       );
     }
