@@ -15,6 +15,15 @@ use std::num::NonZeroUsize;
 use std::sync::ledger::{Blank, Ledger};
 use std::sync::{Mutex, Wait};
 
+/// Where a node stands among others: the ring of all, its own place of it, if it has any, and a link for each place. The link of its own
+/// place is never asked.
+#[derive(Drop)]
+pub struct Standing<N> {
+    pub ring: Ring,
+    pub own: Option<usize>,
+    pub links: Vec<N>,
+}
+
 /// Values that are kept, and that are loaded once for all that ask for them at a time. A key of this node's own is loaded here; of
 /// another its owner is asked first.
 #[derive(Drop)]
@@ -32,23 +41,20 @@ pub struct Group<K: CacheKey, J: System, L: Ledger, N, T> {
 
 impl<K: CacheKey, J: System, L: Ledger, N, T> Group<K, J, L, N, T> {
     /// A group of a ledger that no other has, with room for so many bytes in all and so many entries a list, on a node that stands
-    /// at this place of the ring, if at any, and has a link for each place. The link of its own place is never asked. The only
-    /// error is want of memory.
+    /// there. The only error is want of memory.
     pub fn new(
         alloc: Global,
         bytes: u64,
         entries: NonZeroUsize,
         gate: T,
-        ring: Ring,
-        own: Option<usize>,
-        links: Vec<N>,
+        standing: Standing<N>,
         blank: Blank,
     ) -> Result<Self, NoMemory>
     where
         N: Drop,
         T: Drop,
-        requires links { vec_len links ≡ length ring }
-        requires own { IfSome own (λ place. place < length ring) }
+        requires links { vec_len standing.links ≡ length standing.ring }
+        requires own { IfSome standing.own (λ place. place < length standing.ring) }
         requires bytes { bytes < 2 ^ 63 }
         requires name { blank.name ≡ L.name }
         requires parts { blank.parts ≡ L.parts }
@@ -56,6 +62,7 @@ impl<K: CacheKey, J: System, L: Ledger, N, T> Group<K, J, L, N, T> {
         ensures room { IfOk result (λ g. g.room ≡ bytes) }
     {
         let (table, pass) = Table::new(alloc, bytes, entries, 65_537, blank)?;
+        let Standing { ring, own, links } = standing;
         Ok(Group {
             home: Mutex::new(Home::new(table, pass, Whole::new())),
             landed: Lists::new(),

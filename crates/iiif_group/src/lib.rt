@@ -4,7 +4,7 @@
 
 pub use begun::{Begun, Completed, Open};
 pub use gate::{Gate, NoGate};
-pub use group::Group;
+pub use group::{Group, Standing};
 pub use iiif_singleflight::Kept;
 pub use link::{Link, LinkFault, NoLink};
 pub use lists::Lists;

@@ -6,7 +6,7 @@ use crate::bars::Bar;
 use crate::crossings::Crossing;
 use crate::doorways::Doorway;
 use crate::peers::{Peer, Way};
-use iiif_group::Group;
+use iiif_group::{Group, Standing};
 use iiif_images::Catalogue;
 use iiif_keys::{CacheKey, Fault, System};
 use iiif_ring::Ring;
@@ -167,7 +167,8 @@ pub(crate) fn shared<'a, K: CacheKey, J: System, L: Ledger>(
     let entries = NonZeroUsize::MIN.saturating_add(7);
     let own = if setup.stands { Some(0) } else { None };
     let bytes = setup.bytes.min(ROOMY);
-    Ok(Group::new(alloc, bytes, entries, setup.gate, ring, own, links, blank)?)
+    let standing = Standing { ring, own, links };
+    Ok(Group::new(alloc, bytes, entries, setup.gate, standing, blank)?)
 }
 
 /// A pass of each group.

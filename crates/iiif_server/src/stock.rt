@@ -6,7 +6,7 @@ ghost use Rattle.iiif_server.specs.Stocks.{IsStock};
 use iiif_keys::{CacheKey, System};
 use iiif_pixel::NoMemory;
 use iiif_ring::Ring;
-use iiif_sum_group::{Group, NoGate, NoLink};
+use iiif_sum_group::{Group, NoGate, NoLink, Standing};
 use std::alloc::{AllocError, Global};
 use std::num::NonZeroUsize;
 use std::sync::ledger::{Blank, Ledger};
@@ -42,14 +42,17 @@ impl<N: Drop, T: Drop> Stock<N, T> {
     ) -> Result<Group<K, J, L, N, T>, NoMemory>
         requires { IsStock L.name L.parts self }
     {
+        let standing = Standing {
+            ring: self.ring,
+            own: self.own,
+            links: self.links,
+        };
         Group::new(
             alloc,
             self.bytes,
             self.entries,
             self.gate,
-            self.ring,
-            self.own,
-            self.links,
+            standing,
             self.blank,
         )
     }
