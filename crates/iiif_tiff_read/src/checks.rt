@@ -12,6 +12,7 @@ ghost use Rattle.iiif_tiff_read.specs.Code.{AreBits, endian, unit_bits, units_of
 use crate::fault::OpenFault;
 use crate::fields::Fields;
 use crate::number::ByteOrder;
+use crate::planes::may_have_planes;
 use iiif_pixel::{Depth, Dim, Kind};
 use iiif_source::Source;
 use iiif_tiff::{MAX_AREA, MAX_SIDE, tag};
@@ -155,13 +156,14 @@ impl<'a, R, S: Source<R>> Fields<'a, R, S> {
         }
     }
 
+    /// The samples of all channels stand in one plane.
     #[tactic(auto, unfolding(iiif_tiff::specs::Tiff::planar_configuration))]
     fn planar_configuration(&self, channels: u32) -> Result<(), OpenFault>
         ensures answer { TellsWhere S.bytes S.gave self.now (λ file. channels ≡ tiff.channels file) planar_configuration
             (λ _ _. Unit {0}) result }
         ensures memory { IfErr result IsNotMemory }
     {
-        if channels != 1 {
+        if may_have_planes(channels) {
             self.only(tag::PLANAR_CONFIGURATION, 1)?;
         }
         Ok(())

@@ -9,6 +9,7 @@ mod image;
 mod layout;
 mod number;
 mod pieces;
+mod planes;
 mod rects;
 mod rows;
 
