@@ -236,7 +236,8 @@ fn memory_head_stays() -> &'static [u8]
 fn memory_head_closes() -> &'static [u8]
     ensures { result.now ≡ head_in (Whole true) 500 want_of_memory.fields 10 }
 {
-    b"HTTP/1.1 500 Internal Server Error\r\nContent-Type: text/plain\r\nAccess-Control-Allow-Origin: *\r\nContent-Length: 10\r\nConnection: close\r\n\r\n"
+    b"HTTP/1.1 500 Internal Server Error\r\nContent-Type: text/plain\r\nAccess-Control-Allow-Origin: *\r\n\
+        Content-Length: 10\r\nConnection: close\r\n\r\n"
 }
 
 /// The head of the answer to want of memory, which stands ready.

@@ -123,8 +123,8 @@ where
     }
 }
 
-/// Serves all listeners, viewers by what stands for them and the others by these functions. One function a closure: what the prover makes of a
-/// call grows with the closures that it is given.
+/// Serves all listeners, viewers by what stands for them and the others by these functions. One function a closure: what the prover makes
+/// of a call grows with the closures that it is given.
 fn serve_beside<R, J, N, T, G, H, L, M>(
     services: &Services<'_, R, J, N, T>,
     listeners: &Listeners,

@@ -96,7 +96,9 @@ pub(crate) const DEEP: &str =
 #[test]
 fn crossed_rings_go_on_after_a_refused_growth(rt: HostRuntime) -> Result<(), Fail> {
     let events =
-        "want 0 p full max 0 default; want 1 p full max 0 default; enter 0; enter 1; again 0; again 1; ask_peer 0; ask_peer 1; serve 0; serve 1; enter 2; enter 3; again 2; again 3; load 2; load 3; land 2 kept; land 3 kept; reply 2; reply 3; take 0 0; take 1 1; land 0 kept; land 1 kept; serve 0; enter 4; reply 4; take 0 2";
+        "want 0 p full max 0 default; want 1 p full max 0 default; enter 0; enter 1; again 0; again 1; ask_peer 0; \
+            ask_peer 1; serve 0; serve 1; enter 2; enter 3; again 2; again 3; load 2; load 3; land 2 kept; land 3 \
+            kept; reply 2; reply 3; take 0 0; take 1 1; land 0 kept; land 1 kept; serve 0; enter 4; reply 4; take 0 2";
     let text = "request 0: image gray 8 1 1 7\nrequest 1: image gray 8 1 1 7\n";
     assert!(rt; answers_after(rt.alloc(), CROSSED, events, text)?);
     Ok(())
@@ -105,7 +107,9 @@ fn crossed_rings_go_on_after_a_refused_growth(rt: HostRuntime) -> Result<(), Fai
 #[test]
 fn stopped_node_goes_on_after_a_refused_growth(rt: HostRuntime) -> Result<(), Fail> {
     let events =
-        "want 0 p full max 0 default; enter 0; again 0; ask_peer 0; stop 0; want 0 p full max 0 default; enter 1; again 1; ask_peer 1; serve 0; enter 2; again 2; load 2; land 2 kept; reply 2; take 0 0; take 1 0; land 1 kept";
+        "want 0 p full max 0 default; enter 0; again 0; ask_peer 0; stop 0; want 0 p full max 0 default; enter 1; \
+            again 1; ask_peer 1; serve 0; enter 2; again 2; load 2; land 2 kept; reply 2; take 0 0; take 1 0; land 1 \
+            kept";
     let text = "request 0: none\nrequest 1: image gray 8 1 1 7\n";
     assert!(rt; answers_after(rt.alloc(), CROSSED, events, text)?);
     Ok(())
@@ -114,7 +118,9 @@ fn stopped_node_goes_on_after_a_refused_growth(rt: HostRuntime) -> Result<(), Fa
 #[test]
 fn lost_ask_and_fault_go_on_after_a_refused_growth(rt: HostRuntime) -> Result<(), Fail> {
     let events =
-        "want 0 p full max 0 default; enter 0; again 0; ask_peer 0; lose 0; go_local 0; enter 1; again 1; load 1; land 1 kept; land 0 kept; evict 0 tile p 1 0 0; want 0 p full max 0 default; enter 2; again 2; ask_peer 2; lose 2; go_local 2; enter 3; again 3; source_fault 3 8 3; land 3 kept; land 2 kept";
+        "want 0 p full max 0 default; enter 0; again 0; ask_peer 0; lose 0; go_local 0; enter 1; again 1; load 1; \
+            land 1 kept; land 0 kept; evict 0 tile p 1 0 0; want 0 p full max 0 default; enter 2; again 2; ask_peer 2; \
+            lose 2; go_local 2; enter 3; again 3; source_fault 3 8 3; land 3 kept; land 2 kept";
     let text = "request 0: image gray 16 1 1 700\nrequest 1: fault 8 3\n";
     assert!(rt; answers_after(rt.alloc(), DEEP, events, text)?);
     Ok(())
@@ -125,7 +131,11 @@ fn sums_go_on_after_a_refused_growth(rt: HostRuntime) -> Result<(), Fail> {
     let ramp =
         "edge 2; picture a gray 8 4 4 0 10 20 30 40 50 60 70 80 90 100 110 120 130 140 150; node n 2 1000 8 n";
     let events =
-        "want 0 a full 2, 0 default; enter 0; again 0; load 0; enter 1; enter 2; enter 3; enter 4; again 1; load 1; enter 5; again 2; load 2; enter 6; again 3; load 3; enter 7; again 4; load 4; enter 8; again 5; load 5; land 5 kept; load 1; land 1 kept; again 6; load 6; land 6 kept; load 2; land 2 kept; again 7; load 7; land 7 kept; load 3; land 3 kept; again 8; load 8; land 8 kept; load 4; land 4 kept; load 0; land 0 kept; want 0 a 4,0,1,1 max 0 default";
+        "want 0 a full 2, 0 default; enter 0; again 0; load 0; enter 1; enter 2; enter 3; enter 4; again 1; load 1; \
+            enter 5; again 2; load 2; enter 6; again 3; load 3; enter 7; again 4; load 4; enter 8; again 5; load 5; \
+            land 5 kept; load 1; land 1 kept; again 6; load 6; land 6 kept; load 2; land 2 kept; again 7; load 7; \
+            land 7 kept; load 3; land 3 kept; again 8; load 8; land 8 kept; load 4; land 4 kept; load 0; land 0 kept; \
+            want 0 a 4,0,1,1 max 0 default";
     let text = "request 0: image gray 8 2 2 25 45 105 125\nrequest 1: refused Empty\n";
     assert!(rt; answers_after(rt.alloc(), ramp, events, text)?);
     Ok(())

@@ -74,12 +74,16 @@ fn stops_at(alloc: Global, world: &str, events: &str, place: usize) -> bool {
 static RUNS: [(&str, &str, &str); 4] = [
     (
         CROSSED,
-        "want 0 p full max 0 default; want 1 p full max 0 default; enter 0; enter 1; again 0; again 1; ask_peer 0; ask_peer 1; serve 0; serve 1; enter 2; enter 3; again 2; again 3; load 2; load 3; land 2 kept; land 3 kept; reply 2; reply 3; take 0 0; take 1 1; land 0 kept; land 1 kept; serve 0; enter 4; reply 4; take 0 2",
+        "want 0 p full max 0 default; want 1 p full max 0 default; enter 0; enter 1; again 0; again 1; ask_peer 0; \
+            ask_peer 1; serve 0; serve 1; enter 2; enter 3; again 2; again 3; load 2; load 3; land 2 kept; land 3 \
+            kept; reply 2; reply 3; take 0 0; take 1 1; land 0 kept; land 1 kept; serve 0; enter 4; reply 4; take 0 2",
         "image gray 8 1 1 7;image gray 8 1 1 7;",
     ),
     (
         CROSSED,
-        "want 0 p full max 0 default; enter 0; again 0; ask_peer 0; stop 0; want 0 p full max 0 default; enter 1; again 1; ask_peer 1; serve 0; enter 2; again 2; load 2; land 2 kept; reply 2; take 0 0; take 1 0; land 1 kept",
+        "want 0 p full max 0 default; enter 0; again 0; ask_peer 0; stop 0; want 0 p full max 0 default; enter 1; \
+            again 1; ask_peer 1; serve 0; enter 2; again 2; load 2; land 2 kept; reply 2; take 0 0; take 1 0; land 1 \
+            kept",
         "none;image gray 8 1 1 7;",
     ),
     (
@@ -101,7 +105,8 @@ fn lists_run_to_their_answers(rt: HostRuntime) {
 static STOPS: [(&str, &str, usize); 3] = [
     (
         CROSSED,
-        "want 0 p full max 0 default; enter 0; again 0; ask_peer 0; serve 0; enter 1; again 1; source_fault 1 8 3; land 1 kept; enter 1; load 1",
+        "want 0 p full max 0 default; enter 0; again 0; ask_peer 0; serve 0; enter 1; again 1; source_fault 1 8 3; \
+            land 1 kept; enter 1; load 1",
         9,
     ),
     (

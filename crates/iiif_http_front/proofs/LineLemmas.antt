@@ -105,7 +105,8 @@ head_lines h is =
     let section : List ℕ = print_section h.fields h.last in
     let after_target : List ℕ = print_version h.minor ++ (print_end h.line_end ++ section) in
     let behind : List ℕ = h.method ++ (32 ∷ (h.target ++ (32 ∷ after_target))) in
-    let whole : print_request h ≡ print_blank h.blank ++ behind = to_the_right (print_blank h.blank) h.method (32 ∷ h.target) (32 ∷ print_version h.minor) (print_end h.line_end) section in
+    let whole : print_request h ≡ print_blank h.blank ++ behind =
+    to_the_right (print_blank h.blank) h.method (32 ∷ h.target) (32 ∷ print_version h.minor) (print_end h.line_end) section in
     let same : feeds (behind_blank (print_request h)) ≡ feeds (behind_blank behind) =
     ap (λ t. feeds (behind_blank t)) whole ∙ ap feeds (behind_ends h.blank behind) in
     let at_method : feeds behind ≡ feeds h.method + feeds (h.target ++ (32 ∷ after_target)) =
@@ -206,7 +207,8 @@ all_passed begun bytes i lines over so_far =
     omega (arith, so_far, ap (lines_left begun) (drop_all i bytes over), none_left begun)
 
 -- what isn't a whole head, of an input that begins with one, is a front of it
-front_of : (front rest head more : List ℕ) → front ++ rest ≡ head ++ more → length front ≤ length head → front ++ drop (length front) head ≡ head
+front_of : (front rest head more : List ℕ) → front ++ rest ≡ head ++ more → length front ≤ length head
+    → front ++ drop (length front) head ≡ head
 front_of front rest head more is short =
     let same : front ≡ take (length front) head =
     sym (take-append_seam front rest) ∙ ap (take (length front)) is ∙ take-append-le (length front) head more short in
@@ -219,8 +221,8 @@ order m n = (elim (nat_lt m n) as (λ (t : Bool). nat_lt m n ≡ t → (m < n) �
   | false ↦ λ not. inr (ltb-false m n not)
 ]) refl
 
-pub few_lines : (front rest : List ℕ) (h : RequestHead) (more : List ℕ) → ReadsRequest (front ++ rest) h more → length h.fields ≤ field_limit
-    → HasNoRequest front → HasFewFields front
+pub few_lines : (front rest : List ℕ) (h : RequestHead) (more : List ℕ) → ReadsRequest (front ++ rest) h more
+    → length h.fields ≤ field_limit → HasNoRequest front → HasFewFields front
 unfolding print_request whole_lines
 few_lines front rest h more reads few none =
     let head : List ℕ = print_request h in

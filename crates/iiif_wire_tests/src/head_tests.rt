@@ -9,7 +9,8 @@ use std::io;
 use std::io::{ErrorKind, Read};
 
 const REQUESTS: &str =
-    "GET /iiif/a HTTP/1.1\r\nHost: localhost\r\n\r\nPOST /iiif/a/full/max/0/default.tif HTTP/1.1\r\nHost: localhost\r\n\r\nHEAD /iiif/b HTTP/1.1\nHost: localhost\n\n";
+    "GET /iiif/a HTTP/1.1\r\nHost: localhost\r\n\r\nPOST /iiif/a/full/max/0/default.tif HTTP/1.1\r\nHost: \
+        localhost\r\n\r\nHEAD /iiif/b HTTP/1.1\nHost: localhost\n\n";
 
 /// The lengths of the first head, of the first two, and of all.
 const FIRST: usize = 41;
@@ -418,10 +419,12 @@ const SEE_OTHER: &str =
     "HTTP/1.1 303 See Other\r\nAccess-Control-Allow-Origin: *\r\nLocation: http://localhost/iiif/a/info.json\r\nContent-Length: 0\r\n\r\n";
 
 const NOT_ALLOWED: &str =
-    "HTTP/1.1 405 Method Not Allowed\r\nContent-Type: text/plain\r\nAccess-Control-Allow-Origin: *\r\nAllow: GET, HEAD\r\nContent-Length: 10\r\n\r\n";
+    "HTTP/1.1 405 Method Not Allowed\r\nContent-Type: text/plain\r\nAccess-Control-Allow-Origin: *\r\nAllow: GET, \
+        HEAD\r\nContent-Length: 10\r\n\r\n";
 
 const FOUND: &str =
-    "HTTP/1.1 200 OK\r\nContent-Type: image/tiff\r\nAccess-Control-Allow-Origin: *\r\nLink: <http://localhost/iiif/a/full/max/0/default.tif>;rel=\"canonical\"\r\nContent-Length: 190\r\n\r\n";
+    "HTTP/1.1 200 OK\r\nContent-Type: image/tiff\r\nAccess-Control-Allow-Origin: *\r\nLink: \
+        <http://localhost/iiif/a/full/max/0/default.tif>;rel=\"canonical\"\r\nContent-Length: 190\r\n\r\n";
 
 /// Answers: the status, the fields, how long the body is, whether the connection closes, and the head.
 static ANSWERS: [(u16, &[Field], u64, bool, &str); 4] = [

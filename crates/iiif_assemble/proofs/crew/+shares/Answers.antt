@@ -16,8 +16,8 @@ shared_out-returns-in-Ok-clause-values g t c =
     let had : AreValues means keys (take (vec_len values) items) (map arc_value values.items) =
     c.in_ok-values.ensures.values in
     IfOk-weaker c.joined.result _ _
-    (λ v e. runs_joined arc_value means keys items (take (vec_len values) items) left (vec_len values) values.items c.in-Ok.rest.items v.items
-    refl back had c.in-Ok.ensures.values e)
+    (λ v e. runs_joined arc_value means keys items (take (vec_len values) items) left (vec_len values) values.items
+    c.in-Ok.rest.items v.items refl back had c.in-Ok.ensures.values e)
     c.joined.ensures.ok
 
 pub shared_out-returns-in-Err-clause-fault : goal.shared_out-returns-in-Err-clause-fault
