@@ -193,7 +193,6 @@ where
     requires reader { H.IsAlwaysCallable readers.0.now }
     requires refused_reader { M.IsAlwaysCallable readers.1.now }
 {
-    let (serve_viewer, refused_viewer) = viewers;
     let (serve_peer, refused_peer) = peers;
     let (serve_reader, refused_reader) = readers;
     let (all, nodes) = listeners.admissions();
@@ -201,7 +200,7 @@ where
         thread::scope_env(),
         rt,
         |scope|
-            requires { F.IsAlwaysCallable serve_viewer.now × K.IsAlwaysCallable refused_viewer.now × G.IsAlwaysCallable serve_peer.now ×
+            requires { F.IsAlwaysCallable viewers.0.now × K.IsAlwaysCallable viewers.1.now × G.IsAlwaysCallable serve_peer.now ×
                 L.IsAlwaysCallable refused_peer.now × H.IsAlwaysCallable serve_reader.now × M.IsAlwaysCallable refused_reader.now }
         {
             if let Some(listener) = &listeners.peers {
@@ -230,8 +229,7 @@ where
                     return no_thread(listeners);
                 }
             }
-            let both = (serve_viewer, refused_viewer);
-            serve_beside(rt, alloc, both, &listeners.viewers, all, listeners)
+            serve_beside(rt, alloc, viewers, &listeners.viewers, all, listeners)
         },
     )
 }
