@@ -1,6 +1,6 @@
 //! Putting into two lists, and taking out of them.
 
-ghost use Rattle.std.specs.Prelude.{◌+◌, ◌^◌, ◌<◌};
+ghost use Rattle.std.specs.Prelude.{◌≡◌, ◌+◌, ◌^◌, ◌<◌};
 ghost use Rattle.iiif_byte_cache.specs.Code.{CanPlace, EvictsFrom, Places, Shrinks};
 
 use crate::recent::Recent;
@@ -42,6 +42,14 @@ pub(crate) fn place<K: CacheKey, J: System>(
     }
 }
 
+/// How many bytes both lists take.
+fn taken<K: CacheKey, J: System>(main: &Recent<K, J>, hot: &Recent<K, J>) -> u64
+    requires { main.now.bytes + hot.now.bytes < 2 ^ 64 }
+    ensures { result ≡ main.now.bytes + hot.now.bytes }
+{
+    main.bytes + hot.bytes
+}
+
 /// One entry after another goes while the lists take too many bytes.
 pub(crate) fn shrink<K: CacheKey, J: System>(
     main: &mut Recent<K, J>,
@@ -53,7 +61,7 @@ pub(crate) fn shrink<K: CacheKey, J: System>(
 {
     let count = main.list.len() + hot.list.len();
     for _ in 0..count {
-        if main.bytes + hot.bytes <= limit {
+        if taken(main, hot) <= limit {
             return;
         }
         let _gone = evict(main, hot);

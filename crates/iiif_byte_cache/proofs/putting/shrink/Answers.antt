@@ -5,13 +5,13 @@ use Rattle.iiif_outcome.specs.Views.{entry_size}
 use Rattle.iiif_byte_cache.specs.View.{lists_of}
 use Rattle.iiif_byte_cache.proofs.putting.shrink.Goals as goal
 
-pub returns-then-main-hot : goal.returns-then-main-hot
-returns-then-main-hot g c =
+pub returns-then-taken : goal.returns-then-taken
+returns-then-taken g c =
     let now = lists_of c.loop.main c.loop.hot c.args.limit in
     record {
       lists = sym (evict_none (entry_size g.K.CacheKey.key_bytes g.K.CacheKey.val_bytes) _ now
-          (omega (arith, c.if-main-hot.true, c.loop.main.sum, c.loop.hot.sum))) ∙ c.loop.invariant.lists;
-      within = c.if-main-hot.true;
+          (omega (arith, c.if-taken.true, c.taken.ensures, c.loop.main.sum, c.loop.hot.sum))) ∙ c.loop.invariant.lists;
+      within = omega (arith, c.if-taken.true, c.taken.ensures);
       room = (c.loop.invariant.main, c.loop.invariant.hot);
     }
 
@@ -24,7 +24,7 @@ loop-preserved g c =
     let one : suc n ≡ count - c.loop.counter = omega (arith, c.loop-test.true) in
     record {
       lists = ap (evict_at_most size n) (c.evict-gone.ensures.rest c.args.limit)
-          ∙ sym (evict_one size n now (omega (arith, c.if-main-hot.false, c.loop.main.sum, c.loop.hot.sum)))
+          ∙ sym (evict_one size n now (omega (arith, c.if-taken.false, c.taken.ensures, c.loop.main.sum, c.loop.hot.sum)))
           ∙ ap (λ m. evict_at_most size m now) one
           ∙ c.loop.invariant.lists;
       limit = refl;
