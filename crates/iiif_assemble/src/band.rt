@@ -20,13 +20,13 @@ use crate::items::Items;
 use crate::job::{Job, Made};
 use crate::merging::summed;
 use crate::pasting::pasted;
+use crate::workshop::Workshop;
 use iiif_area::laws::same_sides_change_nothing;
 use iiif_bands::Band;
 use iiif_keys::{Fault, SumKey, SumVal, TileKey, TileVal};
 use iiif_pixel::laws::{bands_follow, quality_of_crop, whole_stays_whole};
 use iiif_pixel::{Quality, Rect, Turn, unturn_rect};
 use iiif_planner::Plan;
-use std::alloc::Global;
 use std::sync::Wait;
 use std::thread::Threads;
 
@@ -37,10 +37,7 @@ fn scaled_part<
     P: Send,
     R: Threads + Wait + Sync,
 >(
-    rt: &R,
-    alloc: Global,
-    tiles: &T,
-    sums: &S,
+    shop: &Workshop<'_, T, S, R>,
     passes: &mut [P],
     job: &Job,
     items: &[usize],
@@ -50,25 +47,25 @@ fn scaled_part<
     requires job { IsJob job.now }
     requires inside { LiesIn from job.now.resolved.size }
     requires lists { ListsMetItems job.now.resolved from job.now.plan items.now }
-    requires tiles { TilesServe job.now (T.fits tiles.now) (T.means tiles.now) }
-    requires sums { SumsServe job.now (S.fits sums.now) (S.means sums.now) }
+    requires tiles { TilesServe job.now (T.fits shop.now.tiles.now) (T.means shop.now.tiles.now) }
+    requires sums { SumsServe job.now (S.fits shop.now.sums.now) (S.means shop.now.sums.now) }
     ensures image { IfOk result (λ m. (shows : Pictures) (p : Picture) → IsPictureOf shows job.now p
-        → TilesAreMeant shows job.now (T.means tiles.now) → SumsAreMeant shows job.now (S.means sums.now)
+        → TilesAreMeant shows job.now (T.means shop.now.tiles.now) → SumsAreMeant shows job.now (S.means shop.now.sums.now)
         → m.raster ≡ crop (scale (crop p job.now.resolved.rect) job.now.resolved.size) from) }
     ensures sides { IfOk result (λ m. dim_of m.raster ≡ sides_of from) }
     ensures channels { IfOk result (λ m. m.raster.channels ≡ channels_of job.now.shape.kind) }
     ensures top { IfOk result (λ m. m.raster.top ≡ top_of job.now.shape.depth) }
     ensures held { IfOk result (λ m. IsWithin (count_of m.raster) m.held) }
-    ensures fault { IfErr result (IsBandFault (T.means tiles.now) (T.failed tiles.now) (S.means sums.now) (S.failed sums.now) job.now.plan
-        items.now) }
+    ensures fault { IfErr result (IsBandFault (T.means shop.now.tiles.now) (T.failed shop.now.tiles.now)
+        (S.means shop.now.sums.now) (S.failed shop.now.sums.now) job.now.plan items.now) }
 {
     // Laws of scaling and of pictures.
     same_sides_change_nothing();
     whole_stays_whole();
     match &job.plan {
-        Plan::Copy(keys) => pasted(rt, alloc, tiles, passes, job, keys, items, from),
-        Plan::Grow(keys) => grown(rt, alloc, tiles, passes, job, keys, items, from),
-        Plan::Sum(keys) => summed(rt, alloc, sums, passes, job, keys, items, from),
+        Plan::Copy(keys) => pasted(shop, passes, job, keys, items, from),
+        Plan::Grow(keys) => grown(shop, passes, job, keys, items, from),
+        Plan::Sum(keys) => summed(shop, passes, job, keys, items, from),
     }
 }
 
@@ -121,34 +118,26 @@ pub fn assemble_band<
     S: Items<SumKey, SumVal, P, R> + Sync,
     P: Send,
     R: Threads + Wait + Sync,
->(
-    rt: &R,
-    alloc: Global,
-    tiles: &T,
-    sums: &S,
-    passes: &mut [P],
-    job: &Job,
-    band: &Band,
-) -> Result<Made, Fault>
+>(shop: &Workshop<'_, T, S, R>, passes: &mut [P], job: &Job, band: &Band) -> Result<Made, Fault>
     requires some { 0 < length passes.old }
     requires job { IsJob job.now }
     requires band { IsBandOf job.now band.now }
-    requires tiles { TilesServe job.now (T.fits tiles.now) (T.means tiles.now) }
-    requires sums { SumsServe job.now (S.fits sums.now) (S.means sums.now) }
-    ensures image { IfOk result (λ m. (shows : Pictures) → IsShown shows job.now (T.means tiles.now) (S.means sums.now)
+    requires tiles { TilesServe job.now (T.fits shop.now.tiles.now) (T.means shop.now.tiles.now) }
+    requires sums { SumsServe job.now (S.fits shop.now.sums.now) (S.means shop.now.sums.now) }
+    ensures image { IfOk result (λ m. (shows : Pictures) → IsShown shows job.now (T.means shop.now.tiles.now) (S.means shop.now.sums.now)
         → m.raster ≡ crop (resolved_image (named shows job.now.name) job.now.resolved) band.now.rect) }
     ensures sides { IfOk result (λ m. dim_of m.raster ≡ sides_of band.now.rect) }
     ensures channels { IfOk result (λ m. m.raster.channels ≡ channels_in job.now.resolved.quality (channels_of job.now.shape.kind)) }
     ensures top { IfOk result (λ m. m.raster.top ≡ top_in job.now.resolved.quality (top_of job.now.shape.depth)) }
     ensures held { IfOk result (λ m. IsHeldFor (sides_of band.now.rect) (channels_of job.now.shape.kind) m.held) }
-    ensures fault { IfErr result (IsBandFault (T.means tiles.now) (T.failed tiles.now) (S.means sums.now) (S.failed sums.now)
-        job.now.plan band.now.items.items) }
+    ensures fault { IfErr result (IsBandFault (T.means shop.now.tiles.now) (T.failed shop.now.tiles.now)
+        (S.means shop.now.sums.now) (S.failed shop.now.sums.now) job.now.plan band.now.items.items) }
 {
     // A law of qualities.
     quality_of_crop();
     let resolved = &job.resolved;
     let from = unturn_rect(resolved.turn, resolved.size, band.rect);
-    match scaled_part(rt, alloc, tiles, sums, passes, job, &band.items, from) {
+    match scaled_part(shop, passes, job, &band.items, from) {
         Ok(scaled) => match turned(scaled, resolved.turn) {
             Ok(turned) => qualified(turned, resolved.quality),
             Err(fault) => Err(fault),
@@ -167,26 +156,26 @@ pub fn assemble<
     S: Items<SumKey, SumVal, P, R> + Sync,
     P: Send,
     R: Threads + Wait + Sync,
->(rt: &R, alloc: Global, tiles: &T, sums: &S, passes: &mut [P], job: &Job) -> Result<Made, Fault>
+>(shop: &Workshop<'_, T, S, R>, passes: &mut [P], job: &Job) -> Result<Made, Fault>
     requires some { 0 < length passes.old }
     requires job { IsJob job.now }
-    requires tiles { TilesServe job.now (T.fits tiles.now) (T.means tiles.now) }
-    requires sums { SumsServe job.now (S.fits sums.now) (S.means sums.now) }
-    ensures image { IfOk result (λ m. (shows : Pictures) → IsShown shows job.now (T.means tiles.now) (S.means sums.now)
+    requires tiles { TilesServe job.now (T.fits shop.now.tiles.now) (T.means shop.now.tiles.now) }
+    requires sums { SumsServe job.now (S.fits shop.now.sums.now) (S.means shop.now.sums.now) }
+    ensures image { IfOk result (λ m. (shows : Pictures) → IsShown shows job.now (T.means shop.now.tiles.now) (S.means shop.now.sums.now)
         → m.raster ≡ resolved_image (named shows job.now.name) job.now.resolved) }
     ensures sides { IfOk result (λ m. dim_of m.raster ≡ turned_dim job.now.resolved.turn job.now.resolved.size) }
     ensures channels { IfOk result (λ m. m.raster.channels ≡ channels_in job.now.resolved.quality (channels_of job.now.shape.kind)) }
     ensures top { IfOk result (λ m. m.raster.top ≡ top_in job.now.resolved.quality (top_of job.now.shape.depth)) }
     ensures held { IfOk result (λ m. IsHeldFor (turned_dim job.now.resolved.turn job.now.resolved.size) (channels_of job.now.shape.kind)
         m.held) }
-    ensures fault { IfErr result (IsPlanFault (T.means tiles.now) (T.failed tiles.now) (S.means sums.now) (S.failed sums.now)
-        job.now.plan) }
+    ensures fault { IfErr result (IsPlanFault (T.means shop.now.tiles.now) (T.failed shop.now.tiles.now)
+        (S.means shop.now.sums.now) (S.failed shop.now.sums.now) job.now.plan) }
 {
     // Laws of pictures and of bands.
     whole_stays_whole();
     bands_follow();
-    match job.whole(alloc) {
-        Ok(band) => assemble_band(rt, alloc, tiles, sums, passes, job, &band),
+    match job.whole(shop.alloc) {
+        Ok(band) => assemble_band(shop, passes, job, &band),
         Err(_) => Err(Fault::NoMemory),
     }
 }

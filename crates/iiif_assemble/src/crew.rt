@@ -57,40 +57,31 @@ fn begun<
     P: Send,
     R: Threads + Wait + Sync,
 >(
-    rt: &R,
-    alloc: Global,
-    group: &G,
+    crew: &Crew<'_, 'a, G, P, R>,
     own: &mut P,
-    idle: &Idle<'a, P>,
     keys: &[K],
     items: &[usize],
 ) -> Result<SoFar<'a, V, P>, Fault>
     requires within { All (λ i. i < length keys.now) items.now }
-    requires fits { All (G.fits group.now) keys.now }
+    requires fits { All (G.fits crew.now.group.now) keys.now }
     ensures left { IfOk result (λ b. IfSome b.helper (λ h. vec_len b.values + 2 ≤ length items.now)) }
     ensures all { IfOk result (λ b. IsNone b.helper → vec_len b.values ≡ length items.now) }
-    ensures values { IfOk result (λ b. AreValues (G.means group.now) keys.now (take (vec_len b.values) items.now)
+    ensures values { IfOk result (λ b. AreValues (G.means crew.now.group.now) keys.now (take (vec_len b.values) items.now)
         (map arc_value b.values.items)) }
-    ensures fault { IfErr result (IsItemFault (G.means group.now) (G.failed group.now) keys.now items.now) }
+    ensures fault { IfErr result (IsItemFault (G.means crew.now.group.now) (G.failed crew.now.group.now) keys.now items.now) }
 {
-    let mut values = Vec::new(alloc);
-    let crew = Crew {
-        rt,
-        alloc,
-        group,
-        idle,
-    };
+    let mut values = Vec::new(crew.alloc);
     for n in 0..items.len() {
         let key = &keys[items[n]];
-        if items.len() - n > 1 && !group.is_at_hand(rt, key) {
-            if let Some(helper) = idle.take(rt) {
+        if items.len() - n > 1 && !crew.group.is_at_hand(crew.rt, key) {
+            if let Some(helper) = crew.idle.take(crew.rt) {
                 return Ok(SoFar {
                     values,
                     helper: Some(helper),
                 });
             }
         }
-        match value_of(&crew, own, key) {
+        match value_of(crew, own, key) {
             Ok(value) => keep(&mut values, value)?,
             Err(fault) => return Err(fault),
         }
@@ -112,25 +103,22 @@ fn shared_out<
     P: Send,
     R: Threads + Wait + Sync,
 >(
-    rt: &R,
-    alloc: Global,
-    group: &G,
+    crew: &Crew<'_, '_, G, P, R>,
     own: &mut P,
-    idle: &Idle<'_, P>,
     keys: &[K],
     items: &[usize],
 ) -> Result<Vec<Arc<V>>, Fault>
     requires within { All (λ i. i < length keys.now) items.now }
-    requires fits { All (G.fits group.now) keys.now }
-    ensures values { IfOk result (λ v. AreValues (G.means group.now) keys.now items.now (map arc_value v.items)) }
-    ensures fault { IfErr result (IsItemFault (G.means group.now) (G.failed group.now) keys.now items.now) }
+    requires fits { All (G.fits crew.now.group.now) keys.now }
+    ensures values { IfOk result (λ v. AreValues (G.means crew.now.group.now) keys.now items.now (map arc_value v.items)) }
+    ensures fault { IfErr result (IsItemFault (G.means crew.now.group.now) (G.failed crew.now.group.now) keys.now items.now) }
 {
-    let SoFar { values, helper } = begun(rt, alloc, group, own, idle, keys, items)?;
+    let SoFar { values, helper } = begun(crew, own, keys, items)?;
     let Some(helper) = helper else {
         return Ok(values);
     };
     let (_done, left) = items.split_at(values.len());
-    match halved(rt, alloc, group, own, helper, idle, keys, left) {
+    match halved(crew, own, helper, keys, left) {
         Ok(rest) => joined(values, rest),
         Err(fault) => Err(fault),
     }
@@ -146,36 +134,36 @@ fn halved<
     P: Send,
     R: Threads + Wait + Sync,
 >(
-    rt: &R,
-    alloc: Global,
-    group: &G,
+    crew: &Crew<'_, 'a, G, P, R>,
     own: &mut P,
     helper: Helper<'a, P>,
-    idle: &Idle<'a, P>,
     keys: &[K],
     items: &[usize],
 ) -> Result<Vec<Arc<V>>, Fault>
     requires some { 2 ≤ length items.now }
     requires within { All (λ i. i < length keys.now) items.now }
-    requires fits { All (G.fits group.now) keys.now }
-    ensures values { IfOk result (λ v. AreValues (G.means group.now) keys.now items.now (map arc_value v.items)) }
-    ensures fault { IfErr result (IsItemFault (G.means group.now) (G.failed group.now) keys.now items.now) }
+    requires fits { All (G.fits crew.now.group.now) keys.now }
+    ensures values { IfOk result (λ v. AreValues (G.means crew.now.group.now) keys.now items.now (map arc_value v.items)) }
+    ensures fault { IfErr result (IsItemFault (G.means crew.now.group.now) (G.failed crew.now.group.now) keys.now items.now) }
 {
     // The larger half, as who ends first waits, while a helper that ends first helps again.
     let half = items.len() - items.len() / 2;
     let (mine, theirs) = items.split_at(half);
     let (first, rest) = join(
-        rt,
+        crew.rt,
         || -> Result<Vec<Arc<V>>, Fault>
-            requires { IsSync R.row × All (λ i. i < length keys.now) mine.now × All (G.fits group.now) keys.now }
-            ensures { IfOk result (λ v. AreValues (G.means group.entry.now) keys.entry.now mine.entry.now (map arc_value v.items))
-                × IfErr result (IsItemFault (G.means group.entry.now) (G.failed group.entry.now) keys.entry.now mine.entry.now) }
-        { shared_out(rt, alloc, group, own, idle, keys, mine) },
+            requires { IsSync R.row × All (λ i. i < length keys.now) mine.now × All (G.fits crew.now.group.now) keys.now }
+            ensures { IfOk result (λ v. AreValues (G.means crew.entry.now.group.now) keys.entry.now mine.entry.now (map arc_value v.items))
+                × IfErr result (IsItemFault (G.means crew.entry.now.group.now) (G.failed crew.entry.now.group.now) keys.entry.now
+                mine.entry.now) }
+        { shared_out(crew, own, keys, mine) },
         || -> Result<Vec<Arc<V>>, Fault>
-            requires { IsSync R.row × All (λ i. i < length keys.now) theirs.now × All (G.fits group.now) keys.now }
-            ensures { IfOk result (λ v. AreValues (G.means group.entry.now) keys.entry.now theirs.entry.now (map arc_value v.items))
-                × IfErr result (IsItemFault (G.means group.entry.now) (G.failed group.entry.now) keys.entry.now theirs.entry.now) }
-        { helped(rt, alloc, group, helper, idle, keys, theirs) },
+            requires { IsSync R.row × All (λ i. i < length keys.now) theirs.now × All (G.fits crew.now.group.now) keys.now }
+            ensures { IfOk result (λ v. AreValues (G.means crew.entry.now.group.now) keys.entry.now theirs.entry.now
+                (map arc_value v.items))
+                × IfErr result (IsItemFault (G.means crew.entry.now.group.now) (G.failed crew.entry.now.group.now) keys.entry.now
+                theirs.entry.now) }
+        { helped(crew, helper, keys, theirs) },
     );
     match first {
         Ok(first) => match rest {
@@ -196,21 +184,18 @@ fn helped<
     P: Send,
     R: Threads + Wait + Sync,
 >(
-    rt: &R,
-    alloc: Global,
-    group: &G,
+    crew: &Crew<'_, 'a, G, P, R>,
     mut helper: Helper<'a, P>,
-    idle: &Idle<'a, P>,
     keys: &[K],
     items: &[usize],
 ) -> Result<Vec<Arc<V>>, Fault>
     requires within { All (λ i. i < length keys.now) items.now }
-    requires fits { All (G.fits group.now) keys.now }
-    ensures values { IfOk result (λ v. AreValues (G.means group.now) keys.now items.now (map arc_value v.items)) }
-    ensures fault { IfErr result (IsItemFault (G.means group.now) (G.failed group.now) keys.now items.now) }
+    requires fits { All (G.fits crew.now.group.now) keys.now }
+    ensures values { IfOk result (λ v. AreValues (G.means crew.now.group.now) keys.now items.now (map arc_value v.items)) }
+    ensures fault { IfErr result (IsItemFault (G.means crew.now.group.now) (G.failed crew.now.group.now) keys.now items.now) }
 {
-    let values = shared_out(rt, alloc, group, helper.pass, idle, keys, items);
-    idle.put(rt, helper);
+    let values = shared_out(crew, helper.pass, keys, items);
+    crew.idle.put(crew.rt, helper);
     values
 }
 
@@ -228,6 +213,36 @@ fn are_at_hand<G: Items<K, V, P, R>, K, V, P, R>(
         }
     }
     true
+}
+
+/// The values of these items of the keys, by a worker and those that have nothing to do.
+fn by_crew<
+    G: Items<K, V, P, R> + Sync,
+    K: Sync,
+    V: Drop + Send + Sync,
+    P: Send,
+    R: Threads + Wait + Sync,
+>(
+    rt: &R,
+    alloc: Global,
+    group: &G,
+    idle: &Idle<'_, P>,
+    own: &mut P,
+    asked: (&[K], &[usize]),
+) -> Result<Vec<Arc<V>>, Fault>
+    requires within { All (λ i. i < length asked.0.now) asked.1.now }
+    requires fits { All (G.fits group.now) asked.0.now }
+    ensures values { IfOk result (λ v. AreValues (G.means group.now) asked.entry.0.now asked.entry.1.now (map arc_value v.items)) }
+    ensures fault { IfErr result (IsItemFault (G.means group.now) (G.failed group.now) asked.entry.0.now asked.entry.1.now) }
+{
+    let (keys, items) = asked;
+    let crew = Crew {
+        rt,
+        alloc,
+        group,
+        idle,
+    };
+    shared_out(&crew, own, keys, items)
 }
 
 /// The values of all items, in their order, asked by one worker for each pass: by the first alone where all are at hand, so that no thread
@@ -261,13 +276,13 @@ pub(crate) fn gathered<
     };
     if others.is_empty() || are_at_hand(rt, group, keys, items) {
         let idle = Idle::none(alloc);
-        return shared_out(rt, alloc, group, own, &idle, keys, items);
+        return by_crew(rt, alloc, group, &idle, own, (keys, items));
     }
     let Ok(idle) = Idle::of(alloc, others) else {
         return Err(Fault::NoMemory);
     };
     group.begin(rt);
-    let values = shared_out(rt, alloc, group, own, &idle, keys, items);
+    let values = by_crew(rt, alloc, group, &idle, own, (keys, items));
     group.end(rt);
     values
 }

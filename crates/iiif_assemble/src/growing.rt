@@ -22,8 +22,10 @@ use crate::finishing::{count_of, finish_all};
 use crate::items::Items;
 use crate::job::{Job, Made};
 use crate::merging::count_of_sums;
+use crate::workshop::Workshop;
 use iiif_area::Sums;
 use iiif_area::laws::merging_adds;
+use iiif_canonical::Resolved;
 use iiif_keys::{Fault, Shape, TileKey, TileVal};
 use iiif_pixel::laws::whole_stays_whole;
 use iiif_pixel::{Dim, Rect};
@@ -52,38 +54,43 @@ fn add(
     total.add_tile(&value.raster, key.rect_in(shape.dim), region, size);
 }
 
-/// Adds what tiles have of a region that is scaled to `size`, one after another.
+/// Adds what tiles have of a region that is scaled, one after another.
 fn add_all(
     total: &mut Sums,
     shape: &Shape,
-    region: Rect,
-    size: Dim,
+    resolved: &Resolved,
     keys: &[TileKey],
     items: &[usize],
     values: &[Arc<TileVal>],
 )
-    requires parts { All (TileHasPart shape.now region) keys.now }
+    requires parts { All (TileHasPart shape.now resolved.now.rect) keys.now }
     requires within { All (λ i. i < length keys.now) items.now }
     requires shaped { AreValues (TileHasShape shape.now) keys.now items.now (map arc_value values.now) }
     requires channels { total.old.channels ≡ channels_of shape.now.kind }
-    requires limits { IsScalable (sides_of region) size }
+    requires limits { IsScalable (sides_of resolved.now.rect) resolved.now.size }
     ensures sums { (p : Picture) (x : TileKey) →
         AreValues (λ k v. tile_in v ≡ crop p (tile_of shape.now.dim k)) keys.now items.now (map arc_value values.now)
-        → total.new ≡ fold merged total.old (map (λ i. tile_adds p shape.now.dim region size (slice_index_or keys.now i x)) items.now) }
+        → total.new ≡ fold merged total.old (map (λ i. tile_adds p shape.now.dim resolved.now.rect resolved.now.size
+        (slice_index_or keys.now i x)) items.now) }
     ensures rect { total.new.rect ≡ total.old.rect }
     ensures channels { total.new.channels ≡ total.old.channels }
 {
     for n in 0..items.len() {
-        add(total, shape, region, size, &keys[items[n]], &values[n]);
+        add(
+            total,
+            shape,
+            resolved.rect,
+            resolved.size,
+            &keys[items[n]],
+            &values[n],
+        );
     }
 }
 
 /// The part in `from` of a result that has a side above its region's, of the tiles that have samples for a place of it. Nothing
 /// is held of the result but its sums at these places, and then the samples.
-pub(crate) fn grown<T: Items<TileKey, TileVal, P, R> + Sync, P: Send, R: Threads + Wait + Sync>(
-    rt: &R,
-    alloc: Global,
-    group: &T,
+pub(crate) fn grown<T: Items<TileKey, TileVal, P, R> + Sync, S, P: Send, R: Threads + Wait + Sync>(
+    shop: &Workshop<'_, T, S, R>,
     passes: &mut [P],
     job: &Job,
     keys: &[TileKey],
@@ -93,28 +100,28 @@ pub(crate) fn grown<T: Items<TileKey, TileVal, P, R> + Sync, P: Send, R: Threads
     requires some { 0 < length passes.old }
     requires job { IsJob job.now }
     requires cover { AreTiles job.now keys.now }
-    requires serves { TilesServe job.now (T.fits group.now) (T.means group.now) }
+    requires serves { TilesServe job.now (T.fits shop.now.tiles.now) (T.means shop.now.tiles.now) }
     requires inside { LiesIn from job.now.resolved.size }
     requires lists { ListsMet (grown_places job.now.resolved.rect job.now.resolved.size) from keys.now items.now }
     ensures image { IfOk result (λ m. (shows : Pictures) (p : Picture) → IsPictureOf shows job.now p
-        → TilesAreMeant shows job.now (T.means group.now) →
+        → TilesAreMeant shows job.now (T.means shop.now.tiles.now) →
         m.raster ≡ crop (scale (crop p job.now.resolved.rect) job.now.resolved.size) from) }
     ensures sides { IfOk result (λ m. dim_of m.raster ≡ sides_of from) }
     ensures channels { IfOk result (λ m. m.raster.channels ≡ channels_of job.now.shape.kind) }
     ensures top { IfOk result (λ m. m.raster.top ≡ top_of job.now.shape.depth) }
     ensures held { IfOk result (λ m. IsWithin (count_of m.raster) m.held) }
-    ensures fault { IfErr result (IsItemFault (T.means group.now) (T.failed group.now) keys.now items.now) }
+    ensures fault { IfErr result (IsItemFault (T.means shop.now.tiles.now) (T.failed shop.now.tiles.now) keys.now items.now) }
 {
     // Laws of sums and of pictures.
     merging_adds();
     whole_stays_whole();
-    let values = gathered(rt, alloc, group, passes, keys, items)?;
-    let Ok(mut total) = Sums::zero(alloc, from, job.shape.kind) else {
+    let values = gathered(shop.rt, shop.alloc, shop.tiles, passes, keys, items)?;
+    let Ok(mut total) = Sums::zero(shop.alloc, from, job.shape.kind) else {
         return Err(Fault::NoMemory);
     };
-    let (region, size) = (job.resolved.rect, job.resolved.size);
-    add_all(&mut total, &job.shape, region, size, keys, items, &values);
-    match finish_all(rt, alloc, &total, region.dim(), job.shape.depth) {
+    let region = job.resolved.rect;
+    add_all(&mut total, &job.shape, &job.resolved, keys, items, &values);
+    match finish_all(shop.rt, shop.alloc, &total, region.dim(), job.shape.depth) {
         Ok(raster) => {
             let held = count_of_sums(&total) + count_of(&raster);
             Ok(Made { raster, held })

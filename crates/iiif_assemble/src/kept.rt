@@ -12,6 +12,7 @@ use crate::crew::gathered;
 use crate::items::Items;
 use crate::job::Job;
 use crate::opened::Opened;
+use crate::workshop::Workshop;
 use iiif_bands::Band;
 use iiif_keys::{CacheKey, Fault, SumKey, SumVal};
 use iiif_pixel::NoMemory;
@@ -170,10 +171,8 @@ impl<'a, S> WithKept<'a, S> {
 }
 
 /// The sums of the items, to be kept: those that are kept already, and the others asked by a worker for each pass.
-fn asked<S: Items<SumKey, SumVal, P, R> + Sync, P: Send, R: Threads + Wait + Sync>(
-    rt: &R,
-    alloc: Global,
-    sums: &S,
+fn asked<T, S: Items<SumKey, SumVal, P, R> + Sync, P: Send, R: Threads + Wait + Sync>(
+    shop: &Workshop<'_, T, S, R>,
     passes: &mut [P],
     keys: &[SumKey],
     items: &[usize],
@@ -181,14 +180,17 @@ fn asked<S: Items<SumKey, SumVal, P, R> + Sync, P: Send, R: Threads + Wait + Syn
 ) -> Result<Vec<KeptSum>, Fault>
     requires some { 0 < length passes.old }
     requires within { All (λ i. i < length keys.now) items.now }
-    requires fits { All (S.fits sums.now) keys.now }
-    requires kept { AreKept (S.means sums.now) kept.now }
-    ensures kept { IfOk result (λ v. AreKept (S.means sums.now) v.items) }
-    ensures fault { IfErr result (IsItemFault (S.means sums.now) (S.failed sums.now) keys.now items.now) }
+    requires fits { All (S.fits shop.now.sums.now) keys.now }
+    requires kept { AreKept (S.means shop.now.sums.now) kept.now }
+    ensures kept { IfOk result (λ v. AreKept (S.means shop.now.sums.now) v.items) }
+    ensures fault { IfErr result (IsItemFault (S.means shop.now.sums.now) (S.failed shop.now.sums.now) keys.now items.now) }
 {
-    let before = WithKept { sums, kept };
-    let values = gathered(rt, alloc, &before, passes, keys, items)?;
-    let mut asked = Vec::new(alloc);
+    let before = WithKept {
+        sums: shop.sums,
+        kept,
+    };
+    let values = gathered(shop.rt, shop.alloc, &before, passes, keys, items)?;
+    let mut asked = Vec::new(shop.alloc);
     for n in 0..items.len() {
         keep(&mut asked, &keys[items[n]], &values[n])?;
     }
@@ -207,10 +209,8 @@ const MOST: usize = 64;
 /// # Errors
 ///
 /// The fault of the first block of the band, in the plan's order, that failed; or `NoMemory`. Then nothing is kept.
-pub fn keep_band<S: Items<SumKey, SumVal, P, R> + Sync, P: Send, R: Threads + Wait + Sync>(
-    rt: &R,
-    alloc: Global,
-    sums: &S,
+pub fn keep_band<T, S: Items<SumKey, SumVal, P, R> + Sync, P: Send, R: Threads + Wait + Sync>(
+    shop: &Workshop<'_, T, S, R>,
     passes: &mut [P],
     job: &Job,
     band: &Band,
@@ -219,10 +219,10 @@ pub fn keep_band<S: Items<SumKey, SumVal, P, R> + Sync, P: Send, R: Threads + Wa
     requires some { 0 < length passes.old }
     requires job { IsJob job.now }
     requires band { IsBandOf job.now band.now }
-    requires sums { SumsServe job.now (S.fits sums.now) (S.means sums.now) }
-    requires kept { AreKept (S.means sums.now) kept.old.items }
-    ensures kept { AreKept (S.means sums.now) kept.new.items }
-    ensures fault { IfErr result (IsSumsFault (S.means sums.now) (S.failed sums.now) job.now.plan band.now.items.items) }
+    requires sums { SumsServe job.now (S.fits shop.now.sums.now) (S.means shop.now.sums.now) }
+    requires kept { AreKept (S.means shop.now.sums.now) kept.old.items }
+    ensures kept { AreKept (S.means shop.now.sums.now) kept.new.items }
+    ensures fault { IfErr result (IsSumsFault (S.means shop.now.sums.now) (S.failed shop.now.sums.now) job.now.plan band.now.items.items) }
 {
     let Plan::Sum(keys) = &job.plan else {
         return Ok(());
@@ -232,10 +232,10 @@ pub fn keep_band<S: Items<SumKey, SumVal, P, R> + Sync, P: Send, R: Threads + Wa
         return Ok(());
     }
     let before = WithKept {
-        sums,
+        sums: shop.sums,
         kept: kept.as_slice(),
     };
-    let own = before.kept_of::<P, R>(alloc, keys, items);
+    let own = before.kept_of::<P, R>(shop.alloc, keys, items);
     kept.clear();
     let Ok(own) = own else {
         return Err(Fault::NoMemory);
@@ -244,6 +244,6 @@ pub fn keep_band<S: Items<SumKey, SumVal, P, R> + Sync, P: Send, R: Threads + Wa
         *kept = own;
         return Ok(());
     }
-    *kept = asked(rt, alloc, sums, passes, keys, items, &own)?;
+    *kept = asked(shop, passes, keys, items, &own)?;
     Ok(())
 }

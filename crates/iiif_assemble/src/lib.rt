@@ -13,6 +13,7 @@ mod merging;
 pub mod opened;
 mod parts;
 mod pasting;
+pub mod workshop;
 
 pub use band::{assemble, assemble_band};
 pub use items::Items;
@@ -20,3 +21,4 @@ pub use job::{Job, Made};
 pub use kept::{KeptSum, WithKept, keep_band};
 pub use lone::lone_tile;
 pub use opened::Opened;
+pub use workshop::Workshop;

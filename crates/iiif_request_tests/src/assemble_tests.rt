@@ -4,7 +4,7 @@ ghost use Rattle.std.specs.Prelude.{◌≡◌, ◌≤◌};
 ghost use Rattle.iiif_assemble.specs.Jobs.{IsBandOf, IsJob};
 
 use crate::pictures::{Failing, QUARTER, ROOM, Shown, UPRIGHT, job, of_samples, tens};
-use iiif_assemble::{Job, Made, assemble, assemble_band};
+use iiif_assemble::{Job, Made, Workshop, assemble, assemble_band};
 use iiif_bands::Band;
 use iiif_keys::Fault;
 use iiif_pixel::{Depth, Dim, Raster, Samples, Span, Turn};
@@ -32,7 +32,13 @@ fn image<R: Threads + Wait + Sync>(
     requires shape { job.now.shape ≡ shown.now.shape }
 {
     let mut passes = vec![in alloc; 0u64; workers.max(1)]?;
-    assemble(rt, alloc, shown, shown, &mut passes, job)
+    let shop = Workshop {
+        rt,
+        alloc,
+        tiles: shown,
+        sums: shown,
+    };
+    assemble(&shop, &mut passes, job)
 }
 
 /// What an image or its fault is to be.
@@ -232,7 +238,13 @@ fn rows<R: Threads + Wait + Sync>(
     requires band { IsBandOf job.now band.now }
 {
     let mut passes = vec![in alloc; 0u64; 1]?;
-    assemble_band(rt, alloc, shown, shown, &mut passes, job, band)
+    let shop = Workshop {
+        rt,
+        alloc,
+        tiles: shown,
+        sums: shown,
+    };
+    assemble_band(&shop, &mut passes, job, band)
 }
 
 /// Whether a band of a job's image is this row, of two of the four tiles, and 4 to 8 samples were held for it.

@@ -7,7 +7,7 @@ use Rattle.iiif_assemble.proofs.crew.+shares.Goals as goal
 
 pub shared_out-returns-in-Ok-clause-values : goal.shared_out-returns-in-Ok-clause-values
 shared_out-returns-in-Ok-clause-values g t c =
-    let means = g.G.Items.means c.args.group.now in
+    let means = g.G.Items.means c.args.crew.now.group.now in
     let keys = c.args.keys.now in
     let items = c.args.items.now in
     let values = c.in_ok-values.field-0.values in
@@ -16,13 +16,13 @@ shared_out-returns-in-Ok-clause-values g t c =
     let had : AreValues means keys (take (vec_len values) items) (map arc_value values.items) =
     c.in_ok-values.ensures.values in
     IfOk-weaker c.joined.result _ _
-    (λ v e. runs_joined arc_value means keys items (take (vec_len values) items) left (vec_len values) values.items
-    c.in-Ok.rest.items v.items refl back had c.in-Ok.ensures.values e)
+    (λ v e. runs_joined arc_value means keys items (take (vec_len values) items) left (vec_len values) values.items c.in-Ok.rest.items
+    v.items refl back had c.in-Ok.ensures.values e)
     c.joined.ensures.ok
 
 pub shared_out-returns-in-Err-clause-fault : goal.shared_out-returns-in-Err-clause-fault
 shared_out-returns-in-Err-clause-fault g t c =
-    let means = g.G.Items.means c.args.group.now in
+    let means = g.G.Items.means c.args.crew.now.group.now in
     let keys = c.args.keys.now in
     let items = c.args.items.now in
     let values = c.in_ok-values.field-0.values in
@@ -30,7 +30,7 @@ shared_out-returns-in-Err-clause-fault g t c =
     let back : left ≡ drop (vec_len values) items = subst (λ (n : ℕ). left ≡ drop n items) c.len.ensures c.split_at.ensures.back in
     let had : AreValues means keys (take (vec_len values) items) (map arc_value values.items) =
     c.in_ok-values.ensures.values in
-    second_failed means (g.G.Items.failed c.args.group.now) keys items (take (vec_len values) items) left (vec_len values)
+    second_failed means (g.G.Items.failed c.args.crew.now.group.now) keys items (take (vec_len values) items) left (vec_len values)
     (map arc_value values.items) c.in-Err.fault refl back had c.in-Err.ensures.fault
 
 pub halved-returns-in-Ok-rest-clause-values : goal.halved-returns-in-Ok-rest-clause-values
@@ -38,7 +38,7 @@ halved-returns-in-Ok-rest-clause-values g t c =
     let a = rw c.in-Ok.is at c.join-first.ensures.first.0 in
     let b = rw c.in-Ok-rest.is at c.join-first.ensures.second.0 in
     IfOk-weaker c.joined.result _ _
-    (λ v e. runs_joined arc_value (g.G.Items.means c.args.group.now) c.args.keys.now c.args.items.now c.split_at.result.0.now
+    (λ v e. runs_joined arc_value (g.G.Items.means c.args.crew.now.group.now) c.args.keys.now c.args.items.now c.split_at.result.0.now
     c.split_at.result.1.now _
     c.in-Ok.first.items c.in-Ok-rest.rest.items v.items c.split_at.ensures.front c.split_at.ensures.back a b e)
     c.joined.ensures.ok
@@ -47,6 +47,6 @@ pub halved-returns-in-Err-rest-clause-fault : goal.halved-returns-in-Err-rest-cl
 halved-returns-in-Err-rest-clause-fault g t c =
     let a = rw c.in-Ok.is at c.join-first.ensures.first.0 in
     let b = rw c.in-Err-rest.is at c.join-first.ensures.second.1 in
-    second_failed (g.G.Items.means c.args.group.now) (g.G.Items.failed c.args.group.now) c.args.keys.now c.args.items.now
+    second_failed (g.G.Items.means c.args.crew.now.group.now) (g.G.Items.failed c.args.crew.now.group.now) c.args.keys.now c.args.items.now
     c.split_at.result.0.now c.split_at.result.1.now _
     (map arc_value c.in-Ok.first.items) c.in-Err-rest.later c.split_at.ensures.front c.split_at.ensures.back a b

@@ -8,5 +8,5 @@ abbrev pub invariant-loop-n : goal.invariant-loop-n
 invariant-loop-n g l =
     record {
       count : length l.values.items ≡ l.n;
-      values : AreValues (g.G.Items.means l.group) l.keys (take l.n l.items) (map arc_value l.values.items);
+      values : AreValues (g.G.Items.means l.crew.group.now) l.keys (take l.n l.items) (map arc_value l.values.items);
     }

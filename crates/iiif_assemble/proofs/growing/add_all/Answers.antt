@@ -26,8 +26,8 @@ add-requires-clause-shaped c =
 pub loop-n-preserved : goal.loop-n-preserved
 loop-n-preserved c =
     let image = c.args.shape.now.dim in
-    let region = c.args.region in
-    let size = c.args.size in
+    let region = c.args.resolved.now.rect in
+    let size = c.args.resolved.now.size in
     let keys = c.args.keys.now in
     let items = c.args.items.now in
     let n = c.loop-n.n in
@@ -49,6 +49,7 @@ loop-n-preserved c =
 
 pub returns-clause-sums : goal.returns-clause-sums
 returns-clause-sums c p x meant =
-    merged_all (λ i. tile_adds p c.args.shape.now.dim c.args.region c.args.size (get_or c.args.keys.now i x)) c.args.items.now c.loop-n.n
+    merged_all (λ i. tile_adds p c.args.shape.now.dim c.args.resolved.now.rect c.args.resolved.now.size (get_or c.args.keys.now i x))
+    c.args.items.now c.loop-n.n
     c.args.total.now c.loop-n.total (omega arith)
     (c.loop-n.invariant.sums p x meant)

@@ -17,5 +17,6 @@ invariant-loop-n l =
       channels : l.total.channels ≡ l.fn.total.channels;
       sums : (p : Picture) (x : TileKey) → AreValues (λ k v. tile_in v ≡ crop p (tile_of l.shape.dim k)) l.keys l.items
           (map arc_value l.values)
-          → l.total ≡ fold merged l.fn.total (map (λ i. tile_adds p l.shape.dim l.region l.size (get_or l.keys i x)) (take l.n l.items));
+          → l.total ≡ fold merged l.fn.total (map (λ i. tile_adds p l.shape.dim l.resolved.rect l.resolved.size (get_or l.keys i x))
+          (take l.n l.items));
     }

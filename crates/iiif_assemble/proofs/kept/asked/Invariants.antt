@@ -3,4 +3,4 @@ use Rattle.iiif_assemble.proofs.kept.asked.Given as goal
 
 -- those so far
 abbrev pub invariant-loop-n : goal.invariant-loop-n
-invariant-loop-n g l = AreKept (g.S.Items.means l.sums) l.asked.items
+invariant-loop-n g l = AreKept (g.S.Items.means l.shop.sums.now) l.asked.items

@@ -19,7 +19,7 @@ asked-requires-clause-within g c κs within =
 pub asked-requires-clause-fits : goal.asked-requires-clause-fits
 asked-requires-clause-fits g c κs within =
     let j = c.args.job.now in
-    let fits = g.S.Items.fits c.args.sums.now in
+    let fits = g.S.Items.fits c.args.shop.now.sums.now in
     let of_plan = subst (λ (p : Plan). IsPlan j.name j.edge j.shape.dim (channels_of j.shape.kind) c.requires.job.room j.resolved p)
     c.in-Sum.is c.requires.job.is_plan in
     let level = of_plan.1 in
