@@ -23,6 +23,8 @@ use Rattle.iiif_canonical.specs.Images.{resolved_image}
 use Rattle.iiif_canonical.specs.declared.resolved.Resolved.{Resolved}
 use Rattle.iiif_keys.specs.Names.{named, IsSource, Pictures}
 use Rattle.iiif_keys.specs.Shapes.{HasPicture}
+use Rattle.iiif_keys.specs.declared.fault.Fault.{Fault}
+use Rattle.iiif_keys.specs.declared.fault.Fault.TheVariants.{NoMemory}
 use Rattle.iiif_keys.specs.declared.keys.SumKey.{SumKey}
 use Rattle.iiif_keys.specs.declared.keys.TileKey.{TileKey}
 use Rattle.iiif_keys.specs.declared.values.SumVal.{SumVal}
@@ -31,7 +33,8 @@ use Rattle.iiif_planner.specs.declared.plans.Plan.{Plan}
 use Rattle.iiif_planner.proofs.Meeting.{last_met}
 use Rattle.iiif_bands.specs.Bands.{band_rect, AreBands}
 use Rattle.iiif_bands.specs.declared.banding.Band.{Band}
-use Rattle.iiif_assemble.specs.Jobs.{channels_in, top_in, IsHeldFor}
+use Rattle.iiif_assemble.specs.Faults.{IsBandFault}
+use Rattle.iiif_assemble.specs.Jobs.{channels_in, top_in, IsBandOf, IsHeldFor}
 use Rattle.iiif_assemble.specs.declared.job.Job.{Job}
 use Rattle.iiif_assemble.proofs.ImageLemmas.{all_rows, image_top, picture_shown, quality_channels, turned_channels}
 use Rattle.iiif_tiff_write.specs.Bands.{band}
@@ -40,8 +43,10 @@ use Rattle.iiif_tiff_write.specs.OutKind.{samples_per_pixel}
 use Rattle.iiif_tiff_write.specs.declared.kind.OutKind.{OutKind}
 use Rattle.iiif_tiff_write.specs.declared.kind.OutKind.TheVariants.{Gray, Rgb, Bitonal, Gray16, Rgb16}
 use Rattle.iiif_tiff_write.proofs.Lengths.{length-head_of, length-strip, length-file}
-use Rattle.iiif_delivery.specs.Delivery.{len_with, result_dim, IsHeldInBands, IsImageFor}
-use Rattle.iiif_delivery.specs.Code.{HasCounted, HasRows, HasText, IsBandFor, Laws}
+use Rattle.iiif_delivery.specs.Delivery.{band_from, len_with, result_dim, FailsFor, IsHeldInBands, IsImageFor, Stops}
+use Rattle.iiif_delivery.specs.Code.{HasCounted, HasRows, HasText, IsBandFor, Laws, StopsFor}
+use Rattle.iiif_delivery.specs.declared.delivery.Stopped.{Stopped}
+use Rattle.iiif_delivery.specs.declared.delivery.Stopped.TheVariants.{Load}
 use Rattle.iiif_delivery.proofs.RowLemmas.{more_text, text_left}
 
 -- ---- The image that is asked for
@@ -375,6 +380,58 @@ module _ (laws : Laws) (j : Job) (tile_means : TileKey → TileVal → Type 0) (
         },
       )
 
+  -- what stood ready is written
+  pub flushed_rows : (old mid new : Option (List ℕ)) (text after : List ℕ) (sent sent2 y : ℕ) → Appends mid new text → after ≡ [] →
+      sent2 ≡ sent + length text →
+      (shows : Pictures) → HasRows shows j tile_means sum_means kind start old mid text sent y →
+      HasRows shows j tile_means sum_means kind start old new after sent2 y
+  flushed_rows old mid new text after sent sent2 y appended none written shows so_far =
+      let all = so_far.written ++ text in
+      let same : all ≡ all ++ after = sym (append-nil all) ∙ ap (λ t. all ++ t) (sym none) in
+      let count = so_far.count in
+      record {
+        written = all;
+        appended = Appends-trans _ _ _ _ _ so_far.appended appended;
+        count = omega (arith, count, written, length-append so_far.written text);
+        has = subst (λ t. HasText shows j tile_means sum_means kind start t y) same so_far.has;
+      }
+
+  -- so much of it as was written where a band can't be made
+  pub band_stopped : {W : Type 0} (contents : W → Option (List ℕ)) (fails : W → W → Type 0) (old mid new : W) (text : List ℕ)
+      (sent held rows y : ℕ) (f : Fault) (s : Stopped) → y < (result_dim j).h → 0 < (result_dim j).w →
+      HasCounted j kind (length (start ++ head_of kind (result_dim j))) rows text sent held y →
+      StopsFor contents fails mid new text sent held f s →
+      (shows : Pictures) → HasPicture shows j.name j.shape → IsSource (named shows j.name) →
+      HasRows shows j tile_means sum_means kind start (contents old) (contents mid) text sent y →
+      (image : Picture) × IsImageFor shows j tile_means sum_means image ×
+      Stops contents fails old new (length (start ++ head_of kind (result_dim j))) (start ++ file image kind) s
+  band_stopped {W} contents fails old mid new text sent held rows y f s above some counted (inl none) shows has source so_far =
+      let front = length (start ++ head_of kind (result_dim j)) in
+      let begun = counted_none j kind front rows text sent held y counted none.0 some in
+      let left = load_stopped (contents old) (contents mid) text sent held rows y above some counted (inl begun.1) shows has source so_far
+      in
+      let all = start ++ file left.0 kind in (
+        left.0,
+        left.1,
+        subst (λ (e : Stopped). Stops contents fails old new front all e) (sym none.2)
+            (subst (λ (w : W). Stops contents fails old w front all (Load sent f)) (sym none.1) left.2),
+      )
+  band_stopped contents fails old mid new text sent held rows y f s above some counted (inr (inl ready)) shows has source so_far =
+      let front = length (start ++ head_of kind (result_dim j)) in
+      let all = sent + length text in
+      let begun = (counted_len j kind front rows text sent held y all counted ready.0 refl).0 in
+      let flushed = counted_flushed j kind front rows text [] sent held y all counted begun refl refl in
+      let written = flushed_rows (contents old) (contents mid) (contents new) text [] sent all y ready.1 refl refl shows so_far in
+      let left = load_stopped (contents old) (contents new) [] all held rows y above some flushed (inr refl) shows has source written in (
+        left.0,
+        left.1,
+        subst (λ (e : Stopped). Stops contents fails old new front (start ++ file left.0 kind) e) (sym ready.2) left.2,
+      )
+  band_stopped contents fails old mid new text sent held rows y f s above some counted (inr (inr cut)) shows has source so_far =
+      let front = length (start ++ head_of kind (result_dim j)) in
+      let w = writer_stopped contents fails old mid new text sent y cut.0 (omega (arith, above)) cut.2 shows has source so_far in
+      (w.0, w.1, subst (λ (e : Stopped). Stops contents fails old new front (start ++ file w.0 kind) e) (sym cut.1) w.2)
+
   -- a band more stands ready
   pub more_rows : (old mid : Option (List ℕ)) (text after : List ℕ) (sent y n y2 : ℕ) (b : Picture) → y + n ≤ (result_dim j).h →
       IsBandFor j tile_means sum_means (record { x = 0; y = y; w = (result_dim j).w; h = n }) b → after ≡ text ++ strip kind b →
@@ -399,22 +456,6 @@ module _ (laws : Laws) (j : Job) (tile_means : TileKey → TileVal → Type 0) (
             (subst (λ t. HasText shows j tile_means sum_means kind start t (y + n)) same next);
       }
 
-  -- what stood ready is written
-  pub flushed_rows : (old mid new : Option (List ℕ)) (text after : List ℕ) (sent sent2 y : ℕ) → Appends mid new text → after ≡ [] →
-      sent2 ≡ sent + length text →
-      (shows : Pictures) → HasRows shows j tile_means sum_means kind start old mid text sent y →
-      HasRows shows j tile_means sum_means kind start old new after sent2 y
-  flushed_rows old mid new text after sent sent2 y appended none written shows so_far =
-      let all = so_far.written ++ text in
-      let same : all ≡ all ++ after = sym (append-nil all) ∙ ap (λ t. all ++ t) (sym none) in
-      let count = so_far.count in
-      record {
-        written = all;
-        appended = Appends-trans _ _ _ _ _ so_far.appended appended;
-        count = omega (arith, count, written, length-append so_far.written text);
-        has = subst (λ t. HasText shows j tile_means sum_means kind start t y) same so_far.has;
-      }
-
   -- all of it
   pub all_sent : (old new : Option (List ℕ)) (text : List ℕ) (sent y : ℕ) → y ≡ (result_dim j).h → text ≡ [] → (shows : Pictures) →
       HasRows shows j tile_means sum_means kind start old new text sent y →
@@ -432,6 +473,23 @@ module _ (laws : Laws) (j : Job) (tile_means : TileKey → TileVal → Type 0) (
       ∙ append_assoc start (head_of kind d) (strip kind image) ∙
       ap (λ (e : Dim). start ++ (head_of kind e ++ strip kind image)) (sym is_for.sides) in
       (image, is_for, subst (Appends old new) full so_far.appended, so_far.count ∙ ap length full)
+
+-- and why: that band's fault, behind the rows above it
+pub band_fails : {W : Type 0} (contents : W → Option (List ℕ)) (fails : W → W → Type 0) (j : Job) (tile_means : TileKey → TileVal → Type 0)
+    (tile_failed : TileKey → Fault → Type 0) (sum_means : SumKey → SumVal → Type 0) (sum_failed : SumKey → Fault → Type 0) (kind : OutKind)
+    (mid new : W) (text : List ℕ) (front sent held rows y : ℕ) (f : Fault) (s : Stopped) → 0 < (result_dim j).w →
+    HasCounted j kind front rows text sent held y → StopsFor contents fails mid new text sent held f s →
+    (f ≡ NoMemory) ⊎ ((b : Band) × (b.rect ≡ band_from (result_dim j) rows y) × IsBandOf j b ×
+    IsBandFault tile_means tile_failed sum_means sum_failed j.plan b.items.items f) →
+    FailsFor j tile_means tile_failed sum_means sum_failed kind rows front s
+band_fails contents fails j tm tf sm sf kind mid new text front sent held rows y f s some counted (inl none) why =
+    subst (λ (e : Stopped). FailsFor j tm tf sm sf kind rows front e) (sym none.2)
+    (y, counted_before j kind front rows text sent held y counted none.0 some, why)
+band_fails contents fails j tm tf sm sf kind mid new text front sent held rows y f s some counted (inr (inl ready)) why =
+    subst (λ (e : Stopped). FailsFor j tm tf sm sf kind rows front e) (sym ready.2)
+    (y, (counted_len j kind front rows text sent held y (sent + length text) counted ready.0 refl).1, why)
+band_fails contents fails j tm tf sm sf kind mid new text front sent held rows y f s some counted (inr (inr cut)) why =
+    subst (λ (e : Stopped). FailsFor j tm tf sm sf kind rows front e) (sym cut.1) tt
 
 -- ---- Sides
 

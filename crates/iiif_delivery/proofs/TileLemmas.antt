@@ -22,7 +22,7 @@ use Rattle.iiif_assemble.specs.declared.job.Job.{Job}
 use Rattle.iiif_tiff_write.specs.File.{file, head_of, strip}
 use Rattle.iiif_tiff_write.specs.OutKind.{samples_per_pixel}
 use Rattle.iiif_tiff_write.specs.declared.kind.OutKind.{OutKind}
-use Rattle.iiif_delivery.specs.Code.{Laws, TileStops}
+use Rattle.iiif_delivery.specs.Code.{IsSendingOf, Laws, TileStops}
 use Rattle.iiif_delivery.specs.Delivery.{band_from, result_dim, FailsFor, IsHeldInBands, IsImageFor, Stops}
 use Rattle.iiif_delivery.specs.declared.delivery.Stopped.{Stopped}
 use Rattle.iiif_delivery.specs.declared.delivery.Stopped.TheVariants.{Writer, Load}
@@ -60,6 +60,14 @@ tile_stopped laws contents fails j tile_means tile_failed sum_means kind rows st
     (stops.0, image_for shows j tile_means sum_means stops.0 has source stops.1, stops.2)
 tile_stopped laws contents fails j tile_means tile_failed sum_means kind rows start old new (Load n f) few fits stops shows has source =
     rw (stops.0, stops.1) (none_sent laws j tile_means sum_means kind start few fits (contents old) shows has source)
+
+-- why a text with a tile's file wasn't sent whole is why the image wasn't
+pub raster_stops : {W : Type 0} (contents : W → Option (List ℕ)) (fails : W → W → Type 0) (j : Job) (means : TileKey → TileVal → Type 0)
+    (failed : TileKey → Fault → Type 0) (kind : OutKind) (rows : ℕ) (start : List ℕ) (image : Picture) (old new : W) (s : Stopped) →
+    IsTileImage j means image → IsSendingOf contents fails (start ++ file image kind) old new s →
+    TileStops contents fails j means failed kind rows start old new s
+raster_stops contents fails j means failed kind rows start image old new (Writer n) is cut = (image, is, cut)
+raster_stops contents fails j means failed kind rows start image old new (Load n f) is none = (none.0, none.1, inl none.2)
 
 -- a fault of a plan's tiles is one of its band
 pub tiles_fault : (tile_means : TileKey → TileVal → Type 0) (tile_failed : TileKey → Fault → Type 0) (sum_means : SumKey → SumVal → Type 0)

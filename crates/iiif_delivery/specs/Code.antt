@@ -1,5 +1,6 @@
 -- Words of private functions.
-use Rattle.std.specs.Prelude.{◌≡◌, ℕ, ◌+◌, ◌-◌, ◌*◌, ◌<◌, ◌≤◌, ◌⊎◌, min, List, ◌++◌, Option, length, nat_lt, if◌then◌else◌}
+use Rattle.std.specs.Prelude.{◌≡◌, ℕ, ◌+◌, ◌-◌, ◌*◌, ◌^◌, ◌<◌, ◌≤◌, ◌⊎◌, min, List, ◌++◌, Option, Result, length, nat_lt, if◌then◌else◌}
+use Rattle.std.specs.Prelude.{IfErr, IfOk, IfSome, IsNone, OnErr}
 use Rattle.std.specs.Io.KnownBytes.{Appends}
 use Rattle.iiif_io.specs.Sending.{WasCut}
 use Rattle.iiif_pixel.specs.Geometry.{channels_of, sides_of, top_of}
@@ -16,16 +17,26 @@ use Rattle.iiif_keys.specs.declared.keys.SumKey.{SumKey}
 use Rattle.iiif_keys.specs.declared.keys.TileKey.{TileKey}
 use Rattle.iiif_keys.specs.declared.values.SumVal.{SumVal}
 use Rattle.iiif_keys.specs.declared.values.TileVal.{TileVal}
-use Rattle.iiif_assemble.specs.Jobs.{channels_in, top_in, IsShown}
+use Rattle.iiif_bands.specs.declared.banding.Band.{Band}
+use Rattle.iiif_assemble.specs.Faults.{IsBandFault}
+use Rattle.iiif_assemble.specs.Jobs.{channels_in, top_in, IsHeldFor, IsShown}
+use Rattle.iiif_assemble.specs.Kept.{AreKept}
 use Rattle.iiif_assemble.specs.Lone.{IsFirstFault, IsTileImage}
+use Rattle.iiif_assemble.specs.declared.items.Items as items
 use Rattle.iiif_assemble.specs.declared.job.Job.{Job}
+use Rattle.iiif_assemble.specs.declared.kept.KeptSum.{KeptSum}
+use Rattle.iiif_assemble.specs.declared.workshop.Workshop.{Workshop}
 use Rattle.iiif_tiff_write.specs.Bands.{band}
-use Rattle.iiif_tiff_write.specs.File.{file, head_of, row_len, strip}
+use Rattle.iiif_tiff_write.specs.File.{file, file_len, head_of, row_len, strip}
 use Rattle.iiif_tiff_write.specs.Laws.{StripOfAllRows, StripOfMoreRows, StripOfNoRows}
+use Rattle.iiif_tiff_write.specs.OutKind.{out_depth, samples_per_pixel}
 use Rattle.iiif_tiff_write.specs.declared.kind.OutKind.{OutKind}
-use Rattle.iiif_delivery.specs.Delivery.{result_dim, IsImageFor}
+use Rattle.iiif_tiff_write.specs.declared.kind.OutKind.TheVariants.{Gray, Rgb}
+use Rattle.iiif_delivery.specs.Delivery.{result_dim, IsHeldIn, IsImageFor}
+use Rattle.iiif_delivery.specs.declared.delivery.Delivered.{Delivered}
 use Rattle.iiif_delivery.specs.declared.delivery.Stopped.{Stopped}
 use Rattle.iiif_delivery.specs.declared.delivery.Stopped.TheVariants.{Writer, Load}
+use Rattle.iiif_delivery.specs.declared.sending.Sending.{Sending}
 
 -- what is relied on of pictures and of files
 pub record Laws : Type 0 where
@@ -89,6 +100,13 @@ abbrev pub IsSendingOf : {W : Type 0} → (W → Option (List ℕ)) → (W → W
 IsSendingOf contents fails text old new (Writer n) = WasCut contents fails old new text n
 IsSendingOf contents fails text old new (Load n f) = (n ≡ 0) × (new ≡ old) × (f ≡ fault.NoMemory)
 
+-- Why a sending stops where a band can't be made: before any was nothing is written; else what stands ready, unless the writer fails.
+abbrev pub StopsFor : {W : Type 0} → (W → Option (List ℕ)) → (W → W → Type 0) → W → W → List ℕ → ℕ → ℕ → Fault → Stopped → Type 0
+StopsFor contents fails old new text sent held f stopped =
+    ((held ≡ 0) × (new ≡ old) × (stopped ≡ Load sent f))
+    ⊎ (((0 < held) × Appends (contents old) (contents new) text × (stopped ≡ Load (sent + length text) f))
+    ⊎ ((m : ℕ) × (stopped ≡ Writer (sent + m)) × WasCut contents fails old new text m))
+
 -- Why the sending of an image stopped that is a tile as it stands: the writer failed within the whole text; or the tile could not be had,
 -- and nothing was written.
 abbrev pub TileStops : {W : Type 0} → (W → Option (List ℕ)) → (W → W → Type 0) → Job → (TileKey → TileVal → Type 0) →
@@ -96,3 +114,41 @@ abbrev pub TileStops : {W : Type 0} → (W → Option (List ℕ)) → (W → W �
 TileStops contents fails j means failed kind rows start old new (Writer n) =
     (image : Picture) × IsTileImage j means image × WasCut contents fails old new (start ++ file image kind) n
 TileStops contents fails j means failed kind rows start old new (Load n f) = (n ≡ 0) × (new ≡ old) × IsFirstFault j means failed rows f
+
+-- A picture of 8 bits, as a file of this kind has it, whose length fits.
+pub record IsInBytes (kind : OutKind) (p : Picture) : Type 0 where
+  pub kind_is : (kind ≡ Gray) ⊎ (kind ≡ Rgb)
+  pub channels : p.channels ≡ samples_per_pixel kind
+  pub depth : p.top ≡ top_of (out_depth kind)
+  pub len : file_len kind (dim_of p) < 2 ^ 32
+
+-- A text and a picture's file were sent, so many bytes; or why not.
+pub record SendsRaster {W : Type 0} (contents : W → Option (List ℕ)) (fails : W → W → Type 0) (start : List ℕ) (kind : OutKind)
+    (p : Picture) (old new : W) (result : Result ℕ Stopped) : Type 0 where
+  pub whole : IfOk result (λ n. Appends (contents old) (contents new) (start ++ file p kind) × (n ≡ length (start ++ file p kind)))
+  pub stopped : IfErr result (IsSendingOf contents fails (start ++ file p kind) old new)
+
+module _ {T P R O : Type 0} (tile : items.Ghosts T TileKey TileVal P R O) (tiles : T) (s : Sending) where
+  -- An image that is a tile as it stands was sent, or why not; nothing is sent of another.
+  pub record SendsTile {W : Type 0} (contents : W → Option (List ℕ)) (fails : W → W → Type 0) (old new : W)
+      (result : Option (Result Delivered Stopped)) : Type 0 where
+    pub none : IsNone result → new ≡ old
+    pub whole : IfSome result (λ r. IfOk r (λ d. (image : Picture) × IsTileImage s.job.now (tile.means tiles) image
+        × Appends (contents old) (contents new) (s.start.now ++ file image s.kind) ×
+        (d.bytes ≡ length (s.start.now ++ file image s.kind))))
+    pub held : IfSome result (λ r. IfOk r (IsHeldIn s))
+    pub stopped : IfSome result (λ r. IfErr r
+        (TileStops contents fails s.job.now (tile.means tiles) (tile.failed tiles) s.kind s.rows s.start.now old new))
+
+module _ {T S R P O U : Type 0} (tile : items.Ghosts T TileKey TileVal P R O) (sum : items.Ghosts S SumKey SumVal P R U)
+    (shop : Workshop T S R) (s : Sending) where
+  -- The rows of a band were appended to a text, and so much was held; or why not. What is kept stays values of its keys.
+  pub record PutsBand (b : Band) (sums : List KeptSum) (old new : List ℕ) (result : Result ℕ Fault) : Type 0 where
+    pub kept : AreKept (sum.means shop.sums.now) sums
+    pub rows : IfOk result (λ held. (p : Picture) ×
+        IsBandFor s.job.now (tile.means shop.tiles.now) (sum.means shop.sums.now) b.rect p × (new ≡ old ++ strip s.kind p))
+    pub none : OnErr result (new ≡ old)
+    pub held : IfOk result (IsHeldFor (sides_of b.rect) (channels_of s.job.now.shape.kind))
+    pub fault : IfErr result (λ f. (f ≡ fault.NoMemory) ⊎
+        IsBandFault (tile.means shop.tiles.now) (tile.failed shop.tiles.now) (sum.means shop.sums.now) (sum.failed shop.sums.now)
+        s.job.now.plan b.items.items f)

@@ -1,5 +1,6 @@
 -- What is sent of an image, and what is held of it meanwhile.
-use Rattle.std.specs.Prelude.{◌≡◌, ℕ, ◌+◌, ◌-◌, ◌*◌, ◌<◌, ◌≤◌, ◌⊎◌, ◌==◌, min, List, Option, length, take, if◌then◌else◌}
+use Rattle.std.specs.Prelude.{◌≡◌, ℕ, ◌+◌, ◌-◌, ◌*◌, ◌^◌, ◌<◌, ◌≤◌, ◌⊎◌, ◌==◌, ◌++◌, min, List, Option, Result, length, take}
+use Rattle.std.specs.Prelude.{if◌then◌else◌, IfErr, IfOk}
 use Rattle.std.specs.Io.KnownBytes.{Appends}
 use Rattle.iiif_io.specs.Sending.{WasCut}
 use Rattle.iiif_pixel.specs.Geometry.{channels_of, top_of}
@@ -8,7 +9,8 @@ use Rattle.iiif_pixel.specs.TurnPlaces.{turned_dim}
 use Rattle.iiif_pixel.specs.declared.geometry.Dim.{Dim}
 use Rattle.iiif_pixel.specs.declared.geometry.Rect.{Rect}
 use Rattle.iiif_canonical.specs.Images.{resolved_image}
-use Rattle.iiif_keys.specs.Names.{named, Pictures}
+use Rattle.iiif_keys.specs.Names.{named, IsSource, Pictures}
+use Rattle.iiif_keys.specs.Shapes.{HasPicture}
 use Rattle.iiif_keys.specs.declared.fault.Fault.{Fault}
 use Rattle.iiif_keys.specs.declared.fault.Fault.TheVariants as fault
 use Rattle.iiif_keys.specs.declared.keys.SumKey.{SumKey}
@@ -17,12 +19,17 @@ use Rattle.iiif_keys.specs.declared.values.SumVal.{SumVal}
 use Rattle.iiif_keys.specs.declared.values.TileVal.{TileVal}
 use Rattle.iiif_bands.specs.declared.banding.Band.{Band}
 use Rattle.iiif_assemble.specs.Faults.{IsBandFault}
-use Rattle.iiif_assemble.specs.Jobs.{channels_in, top_in, IsBandOf, IsShown}
+use Rattle.iiif_assemble.specs.Jobs.{channels_in, top_in, IsBandOf, IsJob, IsShown, SumsServe, TilesServe}
+use Rattle.iiif_assemble.specs.declared.items.Items as items
 use Rattle.iiif_assemble.specs.declared.job.Job.{Job}
-use Rattle.iiif_tiff_write.specs.File.{row_len}
+use Rattle.iiif_assemble.specs.declared.workshop.Workshop.{Workshop}
+use Rattle.iiif_tiff_write.specs.File.{file, file_len, head_of, row_len}
+use Rattle.iiif_tiff_write.specs.OutKind.{out_depth, samples_per_pixel}
 use Rattle.iiif_tiff_write.specs.declared.kind.OutKind.{OutKind}
+use Rattle.iiif_delivery.specs.declared.delivery.Delivered.{Delivered}
 use Rattle.iiif_delivery.specs.declared.delivery.Stopped.{Stopped}
 use Rattle.iiif_delivery.specs.declared.delivery.Stopped.TheVariants.{Writer, Load}
+use Rattle.iiif_delivery.specs.declared.sending.Sending.{Sending}
 
 -- the sides of a job's result
 abbrev pub result_dim : Job → Dim
@@ -67,3 +74,52 @@ FailsFor j tile tile_failed sum sum_failed kind rows front (Load n f) =
     (y : ℕ) × (n ≡ len_with kind front (result_dim j).w y)
     × ((f ≡ fault.NoMemory) ⊎ ((b : Band) × (b.rect ≡ band_from (result_dim j) rows y) × IsBandOf j b ×
     IsBandFault tile tile_failed sum sum_failed j.plan b.items.items f))
+
+-- how many bytes stand before the rows of what is sent
+abbrev pub front_len : Sending → ℕ
+front_len s = length (s.start.now ++ head_of s.kind (result_dim s.job.now))
+
+-- what was held of it, of its bands
+abbrev pub IsHeldIn : Sending → Delivered → Type 0
+IsHeldIn s d = IsHeldInBands (result_dim s.job.now) s.rows (channels_of s.job.now.shape.kind) d.held
+
+module _ {T S R P O U : Type 0} (tile : items.Ghosts T TileKey TileVal P R O) (sum : items.Ghosts S SumKey SumVal P R U)
+    (shop : Workshop T S R) (s : Sending) where
+  -- So may be sent: the job is planned, and bands have rows; who has tiles and sums may be asked for the job's, and answers what has
+  -- their shape; and the file has the image's channels and depth, and a length that fits.
+  pub record MaySend : Type 0 where
+    pub job : IsJob s.job.now
+    pub rows : 0 < s.rows
+    pub tiles : TilesServe s.job.now (tile.fits shop.tiles.now) (tile.means shop.tiles.now)
+    pub sums : SumsServe s.job.now (sum.fits shop.sums.now) (sum.means shop.sums.now)
+    pub channels : channels_in s.job.now.resolved.quality (channels_of s.job.now.shape.kind) ≡ samples_per_pixel s.kind
+    pub depth : top_in s.job.now.resolved.quality (top_of s.job.now.shape.depth) ≡ top_of (out_depth s.kind)
+    pub len : file_len s.kind (result_dim s.job.now) < 2 ^ 32
+
+  -- An image for the job was sent whole behind the text, where the job's name has a picture as a source holds it.
+  abbrev pub SendsWhole : {W : Type 0} → (W → Option (List ℕ)) → W → W → Delivered → Type 0
+  SendsWhole contents old new d =
+      (shows : Pictures) → HasPicture shows s.job.now.name s.job.now.shape → IsSource (named shows s.job.now.name)
+      → (image : Picture) × IsImageFor shows s.job.now (tile.means shop.tiles.now) (sum.means shop.sums.now) image
+      × Appends (contents old) (contents new) (s.start.now ++ file image s.kind) ×
+      (d.bytes ≡ length (s.start.now ++ file image s.kind))
+
+  -- It was sent so far before it stopped.
+  abbrev pub StopsWithin : {W : Type 0} → (W → Option (List ℕ)) → (W → W → Type 0) → W → W → Stopped → Type 0
+  StopsWithin contents fails old new stopped =
+      (shows : Pictures) → HasPicture shows s.job.now.name s.job.now.shape → IsSource (named shows s.job.now.name)
+      → (image : Picture) × IsImageFor shows s.job.now (tile.means shop.tiles.now) (sum.means shop.sums.now) image
+      × Stops contents fails old new (front_len s) (s.start.now ++ file image s.kind) stopped
+
+  -- So it is why a load stopped it.
+  abbrev pub FailsIn : Stopped → Type 0
+  FailsIn = FailsFor s.job.now (tile.means shop.tiles.now) (tile.failed shop.tiles.now) (sum.means shop.sums.now)
+      (sum.failed shop.sums.now) s.kind s.rows (front_len s)
+
+  -- What a sending comes to: the image was sent whole, and so much was held of it; or the sending stopped within it, and why.
+  pub record Sends {W : Type 0} (contents : W → Option (List ℕ)) (fails : W → W → Type 0) (old new : W)
+      (result : Result Delivered Stopped) : Type 0 where
+    pub whole : IfOk result (SendsWhole contents old new)
+    pub held : IfOk result (IsHeldIn s)
+    pub stopped : IfErr result (StopsWithin contents fails old new)
+    pub fault : IfErr result FailsIn

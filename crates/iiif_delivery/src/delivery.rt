@@ -1,22 +1,18 @@
 //! Images, sent.
 
-ghost use Rattle.std.specs.Prelude.{◌≡◌, ℕ, ◌+◌, ◌*◌, ◌<◌, ◌≤◌, ◌⊎◌, [], ◌++◌, ◌^◌, min, IfOk, IfErr, OnOk, length};
+ghost use Rattle.std.specs.Prelude.{◌≡◌, ◌+◌, ◌*◌, ◌<◌, ◌≤◌, ◌⊎◌, ℕ, [], ◌++◌, ◌^◌, min, IfOk, IfErr, OnOk, length};
 ghost use Rattle.std.specs.Io.KnownBytes.{Appends};
 ghost use Rattle.iiif_io.specs.Sending.{WasCut};
-ghost use Rattle.iiif_pixel.specs.Geometry.{channels_of, top_of};
-ghost use Rattle.iiif_pixel.specs.Picture.{Picture};
-ghost use Rattle.iiif_keys.specs.Names.{named, IsSource, Pictures};
-ghost use Rattle.iiif_keys.specs.Shapes.{HasPicture};
-ghost use Rattle.iiif_assemble.specs.Jobs.{channels_in, top_in, IsJob, SumsServe, TilesServe};
-ghost use Rattle.iiif_tiff_write.specs.File.{file, file_len, head_of, row_len, strip_offset};
-ghost use Rattle.iiif_tiff_write.specs.OutKind.{out_depth, samples_per_pixel};
-ghost use Rattle.iiif_delivery.specs.Delivery.{result_dim, FailsFor, IsHeldInBands, IsImageFor, Stops};
+ghost use Rattle.iiif_tiff_write.specs.File.{file_len, head_of, row_len, strip_offset};
+ghost use Rattle.iiif_delivery.specs.Code.{StopsFor};
+ghost use Rattle.iiif_delivery.specs.Delivery.{FailsIn, IsHeldIn, MaySend, Sends, SendsWhole, StopsWithin};
 ghost use Rattle.iiif_delivery.specs.declared.delivery.Stopped.TheVariants.{Writer};
 
 use crate::rows::{laws_of_bands, put_band};
+use crate::sending::Sending;
 use crate::tile::send_tile;
 use crate::turns::{Turns, come, is_gone_meanwhile, leave};
-use iiif_assemble::{Items, Job};
+use iiif_assemble::{Items, Workshop};
 use iiif_bands::laws::bands_cut_results;
 use iiif_io::{Outlet, look, send};
 use iiif_keys::{Fault, SumKey, SumVal, TileKey, TileVal};
@@ -67,19 +63,13 @@ fn room(kind: OutKind, dim: Dim, rows: u32) -> usize
 
 /// What stands before the rows: the head of an answer, and that of the file. Room for the rows is made here, so that bytes needn't be moved
 /// as more come.
-fn front(
-    alloc: Global,
-    start: &[u8],
-    kind: OutKind,
-    dim: Dim,
-    rows: u32,
-) -> Result<Vec<u8>, NoMemory>
-    requires { file_len kind dim < 2 ^ 32 }
-    ensures { IfOk result (λ v. v.items ≡ start.now ++ head_of kind dim) }
+fn front(alloc: Global, sending: &Sending<'_>, dim: Dim) -> Result<Vec<u8>, NoMemory>
+    requires { file_len sending.now.kind dim < 2 ^ 32 }
+    ensures { IfOk result (λ v. v.items ≡ sending.now.start.now ++ head_of sending.now.kind dim) }
 {
-    let mut text = Vec::from_slice(alloc, start)?;
-    text.reserve_exact(room(kind, dim, rows))?;
-    text.extend_from_slice(head(kind, dim).as_slice())?;
+    let mut text = Vec::from_slice(alloc, sending.start)?;
+    text.reserve_exact(room(sending.kind, dim, sending.rows))?;
+    text.extend_from_slice(head(sending.kind, dim).as_slice())?;
     Ok(text)
 }
 
@@ -101,7 +91,21 @@ fn flush<W: Outlet>(out: &mut W, text: &mut Vec<u8>, sent: u64) -> Result<u64, S
     }
 }
 
-/// Sends the image of a job behind a text in bands of `rows`, as `send_image` does where the image is not a tile as it stands.
+/// Why a sending stops where a band can't be made. Before any was made nothing is written, else what stands ready.
+fn stop<W: Outlet>(out: &mut W, text: &mut Vec<u8>, sent: u64, held: u64, fault: Fault) -> Stopped
+    requires { sent + length text.old.items < 2 ^ 64 }
+    ensures { StopsFor W.contents W.fails out.old out.new text.old.items sent held fault result }
+{
+    if held == 0 {
+        return Stopped::Load(sent, fault);
+    }
+    match flush(out, text, sent) {
+        Ok(all) => Stopped::Load(all, fault),
+        Err(stopped) => stopped,
+    }
+}
+
+/// Sends an image in bands, as `send_image` does where it is not a tile as it stands.
 fn send_bands<
     T: Items<TileKey, TileVal, P, R> + Sync,
     S: Items<SumKey, SumVal, P, R> + Turns<R> + Sync,
@@ -109,76 +113,45 @@ fn send_bands<
     R: Threads + Wait + Sync,
     W: Outlet,
 >(
-    rt: &R,
-    alloc: Global,
-    tiles: &T,
-    sums: &S,
+    shop: &Workshop<'_, T, S, R>,
     passes: &mut [P],
-    job: &Job,
-    rows: u32,
-    kind: OutKind,
-    start: &[u8],
+    sending: &Sending<'_>,
     out: &mut W,
 ) -> Result<Delivered, Stopped>
     requires some { 0 < length passes.old }
-    requires job { IsJob job.now }
-    requires rows { 0 < rows }
-    requires tiles { TilesServe job.now (T.fits tiles.now) (T.means tiles.now) }
-    requires sums { SumsServe job.now (S.fits sums.now) (S.means sums.now) }
-    requires channels { channels_in job.now.resolved.quality (channels_of job.now.shape.kind) ≡ samples_per_pixel kind }
-    requires depth { top_in job.now.resolved.quality (top_of job.now.shape.depth) ≡ top_of (out_depth kind) }
-    requires len { file_len kind (result_dim job.now) < 2 ^ 32 }
-    ensures whole { IfOk result (λ d. (shows : Pictures) → HasPicture shows job.now.name job.now.shape → IsSource (named shows job.now.name)
-        → (image : Picture) × IsImageFor shows job.now (T.means tiles.now) (S.means sums.now) image
-        × Appends (W.contents out.old) (W.contents out.new) (start.now ++ file image kind) ×
-        (d.bytes ≡ length (start.now ++ file image kind))) }
-    ensures held { IfOk result (λ d. IsHeldInBands (result_dim job.now) rows (channels_of job.now.shape.kind) d.held) }
-    ensures stopped { IfErr result (λ s. (shows : Pictures) → HasPicture shows job.now.name job.now.shape →
-        IsSource (named shows job.now.name)
-        → (image : Picture) × IsImageFor shows job.now (T.means tiles.now) (S.means sums.now) image
-        × Stops W.contents W.fails out.old out.new (length (start.now ++ head_of kind (result_dim job.now))) (start.now ++ file image kind)
-        s) }
-    ensures fault { IfErr result (FailsFor job.now (T.means tiles.now) (T.failed tiles.now) (S.means sums.now) (S.failed sums.now) kind rows
-        (length (start.now ++ head_of kind (result_dim job.now)))) }
+    requires sending { MaySend T.Items S.Items shop.now sending.now }
+    ensures whole { IfOk result (SendsWhole T.Items S.Items shop.now sending.now W.contents out.old out.new) }
+    ensures held { IfOk result (IsHeldIn sending.now) }
+    ensures stopped { IfErr result (StopsWithin T.Items S.Items shop.now sending.now W.contents W.fails out.old out.new) }
+    ensures fault { IfErr result (FailsIn T.Items S.Items shop.now sending.now) }
 {
     // Laws of bands.
     bands_cut_results();
     laws_of_bands();
-    let dim = job.resolved.size.turned(job.resolved.turn);
-    let Ok(mut text) = front(alloc, start, kind, dim, rows) else {
+    let dim = sending.job.resolved.size.turned(sending.job.resolved.turn);
+    let Ok(mut text) = front(shop.alloc, sending, dim) else {
         return Err(Stopped::Load(0, Fault::NoMemory));
     };
-    let Ok(bands) = job.bands(alloc, rows) else {
+    let Ok(bands) = sending.job.bands(shop.alloc, sending.rows) else {
         return Err(Stopped::Load(0, Fault::NoMemory));
     };
     let mut sent = 0u64;
     let mut held = 0u64;
-    let mut kept = Vec::new(alloc);
+    let mut kept = Vec::new(shop.alloc);
     for band in &bands {
         // Nothing is made for one who is gone. Where no rows wait, some were just written.
         if let Err(more) = look(out, &text) {
             return Err(Stopped::Writer(sent + more));
         }
-        let queued = come::<S, P, R>(rt, sums, job, band, kept.as_slice());
-        if is_gone_meanwhile(rt, sums, queued, out) {
+        let queued = come::<S, P, R>(shop.rt, shop.sums, sending.job, band, kept.as_slice());
+        if is_gone_meanwhile(shop.rt, shop.sums, queued, out) {
             return Err(Stopped::Writer(sent));
         }
-        let made = put_band(
-            rt, alloc, tiles, sums, passes, job, kind, band, &mut kept, &mut text,
-        );
-        leave(rt, sums, queued);
+        let made = put_band(shop, passes, sending, band, &mut kept, &mut text);
+        leave(shop.rt, shop.sums, queued);
         match made {
             Ok(most) => held = held.max(most),
-            Err(fault) => {
-                // Where no band was made, nothing is written.
-                if held == 0 {
-                    return Err(Stopped::Load(sent, fault));
-                }
-                match flush(out, &mut text, sent) {
-                    Ok(all) => return Err(Stopped::Load(all, fault)),
-                    Err(stopped) => return Err(stopped),
-                }
-            }
+            Err(fault) => return Err(stop(out, &mut text, sent, held, fault)),
         }
         if text.len() >= PIECE {
             match flush(out, &mut text, sent) {
@@ -193,8 +166,8 @@ fn send_bands<
     }
 }
 
-/// Sends the image of a job behind a text, in bands of `rows`: each is made, and dropped but for its rows in the file before the next is
-/// made. The text goes out with the rows of the first, and rows once they take 64 KiB, or where a band that follows can't be made. There is
+/// Sends the image of a job behind a text, in bands: each is made, and dropped but for its rows in the file before the next is made. The
+/// text goes out with the rows of the first, and rows once they take 64 KiB, or where a band that follows can't be made. There is
 /// a worker for each pass, and which of them asks for an item changes nothing.
 ///
 /// An image of 8 bits that is a tile as it stands is not made in bands: the tile's samples are its rows, and go out as they are. Then
@@ -213,42 +186,19 @@ pub fn send_image<
     R: Threads + Wait + Sync,
     W: Outlet,
 >(
-    rt: &R,
-    alloc: Global,
-    tiles: &T,
-    sums: &S,
+    shop: &Workshop<'_, T, S, R>,
     passes: &mut [P],
-    job: &Job,
-    rows: u32,
-    kind: OutKind,
-    start: &[u8],
+    sending: &Sending<'_>,
     out: &mut W,
 ) -> Result<Delivered, Stopped>
     requires some { 0 < length passes.old }
-    requires job { IsJob job.now }
-    requires rows { 0 < rows }
-    requires tiles { TilesServe job.now (T.fits tiles.now) (T.means tiles.now) }
-    requires sums { SumsServe job.now (S.fits sums.now) (S.means sums.now) }
-    requires channels { channels_in job.now.resolved.quality (channels_of job.now.shape.kind) ≡ samples_per_pixel kind }
-    requires depth { top_in job.now.resolved.quality (top_of job.now.shape.depth) ≡ top_of (out_depth kind) }
-    requires len { file_len kind (result_dim job.now) < 2 ^ 32 }
-    ensures whole { IfOk result (λ d. (shows : Pictures) → HasPicture shows job.now.name job.now.shape → IsSource (named shows job.now.name)
-        → (image : Picture) × IsImageFor shows job.now (T.means tiles.now) (S.means sums.now) image
-        × Appends (W.contents out.old) (W.contents out.new) (start.now ++ file image kind) ×
-        (d.bytes ≡ length (start.now ++ file image kind))) }
-    ensures held { IfOk result (λ d. IsHeldInBands (result_dim job.now) rows (channels_of job.now.shape.kind) d.held) }
-    ensures stopped { IfErr result (λ s. (shows : Pictures) → HasPicture shows job.now.name job.now.shape →
-        IsSource (named shows job.now.name)
-        → (image : Picture) × IsImageFor shows job.now (T.means tiles.now) (S.means sums.now) image
-        × Stops W.contents W.fails out.old out.new (length (start.now ++ head_of kind (result_dim job.now))) (start.now ++ file image kind)
-        s) }
-    ensures fault { IfErr result (FailsFor job.now (T.means tiles.now) (T.failed tiles.now) (S.means sums.now) (S.failed sums.now) kind rows
-        (length (start.now ++ head_of kind (result_dim job.now)))) }
+    requires sending { MaySend T.Items S.Items shop.now sending.now }
+    ensures { Sends T.Items S.Items shop.now sending.now W.contents W.fails out.old out.new result }
 {
     // Laws of pictures and of files.
     laws_of_bands();
-    match send_tile(rt, alloc, tiles, passes, job, rows, kind, start, out) {
+    match send_tile(shop, passes, sending, out) {
         Some(result) => result,
-        None => send_bands(rt, alloc, tiles, sums, passes, job, rows, kind, start, out),
+        None => send_bands(shop, passes, sending, out),
     }
 }

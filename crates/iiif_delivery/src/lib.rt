@@ -3,8 +3,10 @@
 
 pub mod delivery;
 mod rows;
+pub mod sending;
 mod tile;
 pub mod turns;
 
 pub use delivery::{Delivered, Stopped, send_image};
+pub use sending::Sending;
 pub use turns::{Queued, Turns};

@@ -1,23 +1,18 @@
 //! The rows of a band.
 
-ghost use Rattle.std.specs.Prelude.{◌≡◌, ◌<◌, ◌⊎◌, ◌++◌, IfOk, IfErr, OnErr, length};
-ghost use Rattle.iiif_pixel.specs.Geometry.{channels_of, sides_of, top_of};
-ghost use Rattle.iiif_pixel.specs.Picture.{Picture};
-ghost use Rattle.iiif_keys.specs.declared.fault.Fault.TheVariants as Fault;
+ghost use Rattle.std.specs.Prelude.{◌<◌, length};
 ghost use Rattle.iiif_assemble.specs.Kept.{AreKept};
-ghost use Rattle.iiif_assemble.specs.Faults.{IsBandFault};
-ghost use Rattle.iiif_assemble.specs.Jobs.{channels_in, top_in, IsBandOf, IsHeldFor, IsJob, SumsServe, TilesServe};
-ghost use Rattle.iiif_tiff_write.specs.File.{strip};
-ghost use Rattle.iiif_tiff_write.specs.OutKind.{out_depth, samples_per_pixel};
-ghost use Rattle.iiif_delivery.specs.Code.{IsBandFor, Laws};
+ghost use Rattle.iiif_assemble.specs.Jobs.{IsBandOf};
+ghost use Rattle.iiif_delivery.specs.Code.{Laws, PutsBand};
+ghost use Rattle.iiif_delivery.specs.Delivery.{MaySend};
 
-use iiif_assemble::{Items, Job, KeptSum, WithKept, assemble_band, keep_band};
+use crate::sending::Sending;
+use iiif_assemble::{Items, KeptSum, WithKept, Workshop, assemble_band, keep_band};
 use iiif_bands::Band;
 use iiif_keys::{Fault, SumKey, SumVal, TileKey, TileVal};
 use iiif_pixel::laws::{bands_follow, whole_stays_whole};
 use iiif_tiff_write::laws::bands_join;
-use iiif_tiff_write::{OutKind, put_rows};
-use std::alloc::Global;
+use iiif_tiff_write::put_rows;
 use std::sync::Wait;
 use std::thread::Threads;
 
@@ -40,46 +35,39 @@ pub(crate) fn put_band<
     P: Send,
     R: Threads + Wait + Sync,
 >(
-    rt: &R,
-    alloc: Global,
-    tiles: &T,
-    sums: &S,
+    shop: &Workshop<'_, T, S, R>,
     passes: &mut [P],
-    job: &Job,
-    kind: OutKind,
+    sending: &Sending<'_>,
     band: &Band,
     kept: &mut Vec<KeptSum>,
     text: &mut Vec<u8>,
 ) -> Result<u64, Fault>
     requires some { 0 < length passes.old }
-    requires job { IsJob job.now }
-    requires band { IsBandOf job.now band.now }
-    requires tiles { TilesServe job.now (T.fits tiles.now) (T.means tiles.now) }
-    requires sums { SumsServe job.now (S.fits sums.now) (S.means sums.now) }
-    requires channels { channels_in job.now.resolved.quality (channels_of job.now.shape.kind) ≡ samples_per_pixel kind }
-    requires depth { top_in job.now.resolved.quality (top_of job.now.shape.depth) ≡ top_of (out_depth kind) }
-    requires kept { AreKept (S.means sums.now) kept.old.items }
-    ensures kept { AreKept (S.means sums.now) kept.new.items }
-    ensures rows { IfOk result (λ held. (b : Picture) × IsBandFor job.now (T.means tiles.now) (S.means sums.now) band.now.rect b
-        × (text.new.items ≡ text.old.items ++ strip kind b)) }
-    ensures none { OnErr result (text.new.items ≡ text.old.items) }
-    ensures held { IfOk result (λ held. IsHeldFor (sides_of band.now.rect) (channels_of job.now.shape.kind) held) }
-    ensures fault { IfErr result (λ f. (f ≡ Fault.NoMemory)
-        ⊎ IsBandFault (T.means tiles.now) (T.failed tiles.now) (S.means sums.now) (S.failed sums.now) job.now.plan band.now.items.items f) }
+    requires sending { MaySend T.Items S.Items shop.now sending.now }
+    requires band { IsBandOf sending.now.job.now band.now }
+    requires kept { AreKept (S.means shop.now.sums.now) kept.old.items }
+    ensures { PutsBand T.Items S.Items shop.now sending.now band.now kept.new.items text.old.items text.new.items result }
 {
-    match keep_band(rt, alloc, sums, passes, job, band, kept) {
+    let job = sending.job;
+    match keep_band(shop, passes, job, band, kept) {
         Ok(()) => {}
         Err(fault) => return Err(fault),
     }
     let sums = WithKept {
-        sums,
+        sums: shop.sums,
         kept: kept.as_slice(),
     };
-    match assemble_band(rt, alloc, tiles, &sums, passes, job, band) {
+    let keeping = Workshop {
+        rt: shop.rt,
+        alloc: shop.alloc,
+        tiles: shop.tiles,
+        sums: &sums,
+    };
+    match assemble_band(&keeping, passes, job, band) {
         Ok(made) => {
             // Whole, so that its top is known from its depth.
             made.raster.is_whole();
-            match put_rows(&made.raster, kind, text) {
+            match put_rows(&made.raster, sending.kind, text) {
                 Ok(()) => Ok(made.held),
                 Err(_) => Err(Fault::NoMemory),
             }

@@ -1,20 +1,15 @@
 //! Images that are a tile, sent as it stands.
 
-ghost use Rattle.std.specs.Prelude.{◌≡◌, ◌^◌, ◌<◌, ◌⊎◌, ◌++◌, IfOk, IfErr, IfSome, IsNone, length};
-ghost use Rattle.std.specs.Io.KnownBytes.{Appends};
-ghost use Rattle.iiif_pixel.specs.Geometry.{channels_of, top_of};
-ghost use Rattle.iiif_pixel.specs.Picture.{Picture, dim_of};
-ghost use Rattle.iiif_assemble.specs.Jobs.{channels_in, top_in, IsJob, TilesServe};
-ghost use Rattle.iiif_assemble.specs.Lone.{IsTileImage};
-ghost use Rattle.iiif_tiff_write.specs.File.{file, file_len, head_of};
-ghost use Rattle.iiif_tiff_write.specs.OutKind.{out_depth, samples_per_pixel};
-ghost use Rattle.iiif_delivery.specs.Code.{IsSendingOf, TileStops};
-ghost use Rattle.iiif_delivery.specs.Delivery.{result_dim, IsHeldInBands};
+ghost use Rattle.std.specs.Prelude.{◌≡◌, ◌^◌, ◌<◌, ◌++◌, IfOk, length};
+ghost use Rattle.iiif_tiff_write.specs.File.{file_len, head_of};
+ghost use Rattle.iiif_delivery.specs.Code.{IsInBytes, SendsRaster, SendsTile};
+ghost use Rattle.iiif_delivery.specs.Delivery.{MaySend};
 
 use crate::delivery::{Delivered, Stopped};
-use iiif_assemble::{Items, Job, lone_tile};
+use crate::sending::Sending;
+use iiif_assemble::{Items, Workshop, lone_tile};
 use iiif_io::{Outlet, send_both};
-use iiif_keys::{Fault, TileKey, TileVal};
+use iiif_keys::{Fault, SumKey, SumVal, TileKey, TileVal};
 use iiif_pixel::{Dim, NoMemory, Raster};
 use iiif_tiff_write::{OutKind, byte_rows, head};
 use std::alloc::Global;
@@ -41,13 +36,8 @@ fn send_raster<W: Outlet>(
     kind: OutKind,
     raster: &Raster,
 ) -> Result<u64, Stopped>
-    requires kind { (kind ≡ OutKind.Gray) ⊎ (kind ≡ OutKind.Rgb) }
-    requires channels { raster.now.channels ≡ samples_per_pixel kind }
-    requires depth { raster.now.top ≡ top_of (out_depth kind) }
-    requires len { file_len kind (dim_of raster.now) < 2 ^ 32 }
-    ensures whole { IfOk result (λ n. Appends (W.contents out.old) (W.contents out.new) (start.now ++ file raster.now kind) ×
-        (n ≡ length (start.now ++ file raster.now kind))) }
-    ensures stopped { IfErr result (IsSendingOf W.contents W.fails (start.now ++ file raster.now kind) out.old out.new) }
+    requires { IsInBytes kind raster.now }
+    ensures { SendsRaster W.contents W.fails start.now kind raster.now out.old out.new result }
 {
     let rows = byte_rows(raster, kind);
     let Ok(text) = front(alloc, start, kind, raster.dim()) else {
@@ -63,46 +53,33 @@ fn send_raster<W: Outlet>(
 /// where it is no such tile; nothing was sent then.
 pub(crate) fn send_tile<
     T: Items<TileKey, TileVal, P, R> + Sync,
+    S: Items<SumKey, SumVal, P, R>,
     P: Send,
     R: Threads + Wait + Sync,
     W: Outlet,
 >(
-    rt: &R,
-    alloc: Global,
-    tiles: &T,
+    shop: &Workshop<'_, T, S, R>,
     passes: &mut [P],
-    job: &Job,
-    rows: u32,
-    kind: OutKind,
-    start: &[u8],
+    sending: &Sending<'_>,
     out: &mut W,
 ) -> Option<Result<Delivered, Stopped>>
     requires some { 0 < length passes.old }
-    requires job { IsJob job.now }
-    requires tiles { TilesServe job.now (T.fits tiles.now) (T.means tiles.now) }
-    requires channels { channels_in job.now.resolved.quality (channels_of job.now.shape.kind) ≡ samples_per_pixel kind }
-    requires depth { top_in job.now.resolved.quality (top_of job.now.shape.depth) ≡ top_of (out_depth kind) }
-    requires len { file_len kind (result_dim job.now) < 2 ^ 32 }
-    ensures none { IsNone result → out.new ≡ out.old }
-    ensures whole { IfSome result (λ r. IfOk r (λ d. (image : Picture) × IsTileImage job.now (T.means tiles.now) image
-        × Appends (W.contents out.old) (W.contents out.new) (start.now ++ file image kind) ×
-        (d.bytes ≡ length (start.now ++ file image kind)))) }
-    ensures held { IfSome result (λ r. IfOk r (λ d. IsHeldInBands (result_dim job.now) rows (channels_of job.now.shape.kind) d.held)) }
-    ensures stopped { IfSome result (λ r. IfErr r
-        (TileStops W.contents W.fails job.now (T.means tiles.now) (T.failed tiles.now) kind rows start.now out.old out.new)) }
+    requires sending { MaySend T.Items S.Items shop.now sending.now }
+    ensures { SendsTile T.Items shop.now.tiles.now sending.now W.contents W.fails out.old out.new result }
 {
-    match kind {
+    match sending.kind {
         OutKind::Gray | OutKind::Rgb => {}
         OutKind::Bitonal | OutKind::Gray16 | OutKind::Rgb16 => return None,
     }
-    let tile = match lone_tile(rt, alloc, tiles, passes, job, rows) {
+    let (job, rows) = (sending.job, sending.rows);
+    let tile = match lone_tile(shop.rt, shop.alloc, shop.tiles, passes, job, rows) {
         Ok(found) => found?,
         Err(fault) => return Some(Err(Stopped::Load(0, fault))),
     };
     let raster = &tile.raster;
     let dim = raster.dim();
     let held = u64::from(rows.min(dim.h)) * u64::from(dim.w) * job.shape.kind.channels() as u64;
-    match send_raster(alloc, out, start, kind, raster) {
+    match send_raster(shop.alloc, out, sending.start, sending.kind, raster) {
         Ok(bytes) => Some(Ok(Delivered { bytes, held })),
         Err(stopped) => Some(Err(stopped)),
     }

@@ -4,8 +4,8 @@ ghost use Rattle.std.specs.Prelude.{◌≡◌};
 ghost use Rattle.iiif_assemble.specs.Jobs.{IsJob};
 
 use crate::pictures::{Failing, QUARTER, Shown, UPRIGHT, job, of_samples, tens};
-use iiif_assemble::Job;
-use iiif_delivery::{Delivered, Stopped, send_image};
+use iiif_assemble::{Job, Workshop};
+use iiif_delivery::{Delivered, Sending, Stopped, send_image};
 use iiif_io::Outlet;
 use iiif_keys::Fault;
 use iiif_pixel::{Depth, Dim, Kind, Quality, Samples, Turn};
@@ -68,18 +68,19 @@ fn send_to<R: Threads + Wait + Sync, W: Outlet>(
         return None;
     }
     let mut passes = vec![in alloc; 0u64; workers.max(1)].ok()?;
-    let end = send_image(
+    let shop = Workshop {
         rt,
         alloc,
-        shown,
-        shown,
-        &mut passes,
+        tiles: shown,
+        sums: shown,
+    };
+    let sending = Sending {
         job,
-        1,
-        OutKind::Gray,
-        b"",
-        out,
-    );
+        rows: 1,
+        kind: OutKind::Gray,
+        start: b"",
+    };
+    let end = send_image(&shop, &mut passes, &sending, out);
     let mut asks = 0u64;
     for pass in &passes {
         asks = asks.wrapping_add(*pass);

@@ -9,10 +9,12 @@ use Rattle.iiif_delivery.proofs.delivery.send_bands.Given as goal
 -- the bands so far
 abbrev pub invariant-loop-band : goal.invariant-loop-band
 invariant-loop-band g l =
+    let s = l.sending in
+    let j = s.job.now in
+    let y = min (l.band-index * s.rows) (result_dim j).h in
     record {
-      rows : HaveRows l.job (g.T.Items.means l.tiles) (g.S.Items.means l.sums) l.kind l.start (g.W.Write.contents l.fn.out)
-          (g.W.Write.contents l.out) l.text.items l.sent (min (l.band-index * l.rows) (result_dim l.job).h);
-      counted : HasCounted l.job l.kind (length (l.start ++ head_of l.kind (result_dim l.job))) l.rows l.text.items l.sent l.held
-          (min (l.band-index * l.rows) (result_dim l.job).h);
-      kept : AreKept (g.S.Items.means l.sums) l.kept.items;
+      rows : HaveRows j (g.T.Items.means l.shop.tiles.now) (g.S.Items.means l.shop.sums.now) s.kind s.start.now
+          (g.W.Write.contents l.fn.out) (g.W.Write.contents l.out) l.text.items l.sent y;
+      counted : HasCounted j s.kind (length (s.start.now ++ head_of s.kind (result_dim j))) s.rows l.text.items l.sent l.held y;
+      kept : AreKept (g.S.Items.means l.shop.sums.now) l.kept.items;
     }

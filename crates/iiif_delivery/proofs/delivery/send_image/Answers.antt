@@ -1,37 +1,30 @@
 use Rattle.std.proofs.lemmas.Result.{IfErr-weaker, IfOk-weaker}
-use Rattle.std.proofs.Common.{length}
-use Rattle.std.specs.Prelude.{◌++◌}
-use Rattle.iiif_tiff_write.specs.File.{head_of}
-use Rattle.iiif_delivery.specs.Delivery.{result_dim}
+use Rattle.iiif_delivery.specs.Delivery.{front_len}
 use Rattle.iiif_delivery.proofs.TileLemmas.{image_for, tile_fails, tile_stopped}
 use Rattle.iiif_delivery.proofs.delivery.send_image.Goals as goal
 
-pub returns-in-Some-clause-stopped : goal.returns-in-Some-clause-stopped
-returns-in-Some-clause-stopped g c =
-    IfErr-weaker c.in-Some.result _ _
-    (λ s stops.
-    tile_stopped c.laws_of_bands.ensures g.W.Write.contents g.W.Outlet.fails c.args.job.now (g.T.Items.means c.args.tiles.now)
-    (g.T.Items.failed c.args.tiles.now) (g.S.Items.means c.args.sums.now)
-    c.args.kind c.args.rows c.args.start.now c.args.out.now c.send_tile.new.out s c.requires.job.quarters c.requires.channels stops)
-    c.in-Some.ensures.stopped
-
-pub returns-in-Some-clause-fault : goal.returns-in-Some-clause-fault
-returns-in-Some-clause-fault g c =
-    IfErr-weaker c.in-Some.result _ _
-    (λ s stops.
-    tile_fails g.W.Write.contents g.W.Outlet.fails c.args.job.now (g.T.Items.means c.args.tiles.now) (g.T.Items.failed c.args.tiles.now)
-    (g.S.Items.means c.args.sums.now) (g.S.Items.failed c.args.sums.now)
-    c.args.kind c.args.rows (length (c.args.start.now ++ head_of c.args.kind (result_dim c.args.job.now))) c.args.start.now c.args.out.now
-    c.send_tile.new.out s stops)
-    c.in-Some.ensures.stopped
-
-pub returns-in-Some-clause-whole : goal.returns-in-Some-clause-whole
-returns-in-Some-clause-whole g c =
-    IfOk-weaker c.in-Some.result _ _
-    (λ d sent shows has source. (
-      sent.0,
-      image_for shows c.args.job.now (g.T.Items.means c.args.tiles.now) (g.S.Items.means c.args.sums.now) sent.0 has source sent.1,
-      sent.2,
-      sent.3,
-    ))
-    c.in-Some.ensures.whole
+pub returns-in-Some : goal.returns-in-Some
+returns-in-Some g c =
+    let s = c.args.sending.now in
+    let j = s.job.now in
+    let tm = g.T.Items.means c.args.shop.now.tiles.now in
+    let tf = g.T.Items.failed c.args.shop.now.tiles.now in
+    let sm = g.S.Items.means c.args.shop.now.sums.now in
+    let sf = g.S.Items.failed c.args.shop.now.sums.now in
+    let may = c.requires.sending in
+    record {
+      whole = IfOk-weaker c.in-Some.result _ _
+          (λ d sent shows has source. (sent.0, image_for shows j tm sm sent.0 has source sent.1, sent.2, sent.3))
+          c.in-Some.ensures.whole;
+      held = c.in-Some.ensures.held;
+      stopped = IfErr-weaker c.in-Some.result _ _
+          (λ e stops.
+          tile_stopped c.laws_of_bands.ensures g.W.Write.contents g.W.Outlet.fails j tm tf sm s.kind s.rows s.start.now c.args.out.now
+          c.send_tile.new.out e may.job.quarters may.channels stops)
+          c.in-Some.ensures.stopped;
+      fault = IfErr-weaker c.in-Some.result _ _
+          (λ e stops.
+          tile_fails g.W.Write.contents g.W.Outlet.fails j tm tf sm sf s.kind s.rows (front_len s) s.start.now c.args.out.now
+          c.send_tile.new.out e stops)
+          c.in-Some.ensures.stopped;
+    }

@@ -5,8 +5,8 @@ use Rattle.iiif_pixel.proofs.Parts.{same_dim}
 use Rattle.iiif_delivery.proofs.TileLemmas.{file_in_parts}
 use Rattle.iiif_delivery.proofs.tile.send_raster.Goals as goal
 
-pub returns-clause-stopped : goal.returns-clause-stopped
-returns-clause-stopped g c =
+pub returns : goal.returns
+returns g c =
     let image = c.args.raster.now in
     let rows = c.byte_rows-rows.result.now in
     let text : c.deref.result.now ≡ c.in-Ok.text.items = c.deref.ensures.value in
@@ -15,4 +15,8 @@ returns-clause-stopped g c =
     c.byte_rows-rows.ensures sides in
     let cut = subst (λ (t : List ℕ). WasCut g.W.Write.contents g.W.Outlet.fails c.args.out.now c.send_both.new.out (t ++ rows)
     c.in-Err.sent) text c.in-Err.ensures.cut in
-    subst (λ (t : List ℕ). WasCut g.W.Write.contents g.W.Outlet.fails c.args.out.now c.send_both.new.out t c.in-Err.sent) whole cut
+    record {
+      whole = tt;
+      stopped = subst (λ (t : List ℕ). WasCut g.W.Write.contents g.W.Outlet.fails c.args.out.now c.send_both.new.out t c.in-Err.sent)
+          whole cut;
+    }
