@@ -1,2 +1,6 @@
 pub mod Values
 pub mod Views
+pub mod Outcomes
+pub mod Calls
+pub mod Code
+pub mod Asking

@@ -1,14 +1,9 @@
 //! Tiles and sums of the images that a node has.
 
-ghost use Rattle.std.specs.Prelude.{◌≡◌, ◌+◌, ◌≤◌, IfErr, IfOk, IfSome, IsTrue, OnErr, OnOk};
-ghost use Rattle.std.specs.Arc.{arc_value};
-ghost use Rattle.iiif_pixel.specs.Geometry.{channels_of};
-ghost use Rattle.iiif_keys.specs.Blocks.{NamesPart, SumFitsIn};
-ghost use Rattle.iiif_keys.specs.Meaning.{sum_is_shaped, sum_meaning};
-ghost use Rattle.iiif_singleflight.specs.Views.{receipt_known};
-ghost use Rattle.iiif_group.specs.Beginning.{OutcomeIs};
-ghost use Rattle.iiif_images.specs.Faults.{IsGetFault, IsLoadFault};
+ghost use Rattle.std.specs.Prelude.{◌≡◌};
 ghost use Rattle.iiif_tile_group.specs.Views.{items_tiled};
+ghost use Rattle.iiif_sum_group.specs.Calls.{Gets, Loads};
+ghost use Rattle.iiif_sum_group.specs.Code.{Copies};
 ghost use Rattle.iiif_sum_group.specs.Views.{items_served};
 
 use crate::passes::{Passes, SumCalls};
@@ -24,8 +19,7 @@ use std::sync::ledger::Ledger;
 
 /// The same sums, for one caller. The only fault is want of memory.
 fn copied(alloc: Global, value: &SumVal) -> Result<SumVal, Fault>
-    ensures value { IfOk result (λ v. v ≡ value.now) }
-    ensures fault { IfErr result (λ f. f ≡ Fault.NoMemory) }
+    ensures { Copies value.now result }
 {
     let from = &value.sums;
     let mut sums = Vec::new(alloc);
@@ -85,14 +79,7 @@ impl<
     /// The sums that a key names, made of the sums and the tiles below it. They aren't kept; those below are asked of the groups.
     #[tactic(auto, using(crate::proofs::SumLemmas::load_fault))]
     pub fn load(&self, rt: &R, passes: &mut Passes<J>, key: &SumKey) -> Result<SumVal, Fault>
-        ensures meant { J.stable key.now.name → IsTrue J.honest → IfOk result (λ v. v ≡ sum_meaning J.pictures key.now) }
-        ensures shaped { IfOk result (λ v. IsTrue (sum_is_shaped J.pictures key.now v)) }
-        ensures names { IfOk result (λ v. NamesPart J.pictures J.edge key.now.name key.now.edge
-            (λ s. SumFitsIn s.dim (channels_of s.kind) key.now)) }
-        ensures fault { IfErr result (IsLoadFault J.pictures J.edge key.now.name key.now.edge
-            (λ s. SumFitsIn s.dim (channels_of s.kind) key.now) (J.gave key.now.name)) }
-        ensures counted { (passes.old.tile.gets ≤ passes.new.tile.gets) × (passes.old.sum.gets ≤ passes.new.sum.gets) }
-        ensures parts { (passes.new.tile.parts ≡ passes.old.tile.parts) × (passes.new.sum.parts ≡ passes.old.sum.parts) }
+        ensures { Loads J.System key.now passes.old passes.new result }
     {
         let (_entry, shape) = self.tiles.images().image_of(key)?;
         match self.made(rt, passes, &shape, key) {
@@ -109,17 +96,7 @@ impl<
         passes: &mut Passes<J>,
         key: &SumKey,
     ) -> Result<Receipt<SumKey, J, SumCalls<J>>, Fault>
-        ensures outcome { IfOk result (λ r. IfSome (receipt_known r) (λ x. (arc_value x.key ≡ key.now)
-            × OutcomeIs (J.stable key.now.name) J.honest (sum_meaning J.pictures key.now) (sum_is_shaped J.pictures key.now)
-            (J.gave key.now.name) x.outcome)) }
-        ensures risen { OnOk result (passes.old.sum.gets + 1 ≤ passes.new.sum.gets) }
-        ensures refused { OnErr result ((passes.new.tile.gets ≡ passes.old.tile.gets) × (passes.new.sum.gets ≡ passes.old.sum.gets)) }
-        ensures counted { (passes.old.tile.gets ≤ passes.new.tile.gets) × (passes.old.sum.gets ≤ passes.new.sum.gets) }
-        ensures parts { (passes.new.tile.parts ≡ passes.old.tile.parts) × (passes.new.sum.parts ≡ passes.old.sum.parts) }
-        ensures names { IfOk result (λ r. NamesPart J.pictures J.edge key.now.name key.now.edge
-            (λ s. SumFitsIn s.dim (channels_of s.kind) key.now)) }
-        ensures fault { IfErr result (IsGetFault J.pictures J.edge key.now.name key.now.edge
-            (λ s. SumFitsIn s.dim (channels_of s.kind) key.now)) }
+        ensures { Gets key.now passes.old passes.new result }
     {
         let (_entry, shape) = self.tiles.images().image_of(key)?;
         self.part(rt, passes, &shape, key)
@@ -132,17 +109,7 @@ impl<
         passes: &mut Passes<J>,
         key: &SumKey,
     ) -> Result<Receipt<SumKey, J, SumCalls<J>>, Fault>
-        ensures outcome { IfOk result (λ r. IfSome (receipt_known r) (λ x. (arc_value x.key ≡ key.now)
-            × OutcomeIs (J.stable key.now.name) J.honest (sum_meaning J.pictures key.now) (sum_is_shaped J.pictures key.now)
-            (J.gave key.now.name) x.outcome)) }
-        ensures risen { OnOk result (passes.old.sum.gets + 1 ≤ passes.new.sum.gets) }
-        ensures refused { OnErr result ((passes.new.tile.gets ≡ passes.old.tile.gets) × (passes.new.sum.gets ≡ passes.old.sum.gets)) }
-        ensures counted { (passes.old.tile.gets ≤ passes.new.tile.gets) × (passes.old.sum.gets ≤ passes.new.sum.gets) }
-        ensures parts { (passes.new.tile.parts ≡ passes.old.tile.parts) × (passes.new.sum.parts ≡ passes.old.sum.parts) }
-        ensures names { IfOk result (λ r. NamesPart J.pictures J.edge key.now.name key.now.edge
-            (λ s. SumFitsIn s.dim (channels_of s.kind) key.now)) }
-        ensures fault { IfErr result (IsGetFault J.pictures J.edge key.now.name key.now.edge
-            (λ s. SumFitsIn s.dim (channels_of s.kind) key.now)) }
+        ensures { Gets key.now passes.old passes.new result }
     {
         let (_entry, shape) = self.tiles.images().image_of(key)?;
         match self.sums.begin_local(rt, &mut passes.sum, key) {

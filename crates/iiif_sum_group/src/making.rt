@@ -1,19 +1,14 @@
 //! How sums are made of their parts.
 
-ghost use Rattle.std.specs.Prelude.{◌≡◌, ◌⊎◌, ◌+◌, ◌<◌, ◌≤◌, ◌++◌, ◌∷◌, [], All, Err, IfErr, IfOk, IfSome, IsTrue, Ok, OnErr, OnOk};
-ghost use Rattle.std.specs.Prelude.{fold, length, map};
-ghost use Rattle.std.specs.Arc.{arc_value};
-ghost use Rattle.std.specs.Result.{ForErr, ForOk};
-ghost use Rattle.iiif_pixel.specs.Geometry.{channels_of};
-ghost use Rattle.iiif_area.specs.Grid.{merged};
-ghost use Rattle.iiif_keys.specs.Blocks.{places_in, IsOfBlock, SumFitsIn};
-ghost use Rattle.iiif_keys.specs.Meaning.{no_sums, sum_is_shaped, sum_meaning, sums_below, tile_below};
+ghost use Rattle.std.specs.Prelude.{◌≡◌, ◌<◌, ◌∷◌, [], IfErr, IfOk, IsTrue, length};
 ghost use Rattle.iiif_keys.specs.Names.{named, IsSource};
 ghost use Rattle.iiif_keys.specs.Shapes.{HasPicture};
 ghost use Rattle.iiif_outcome.specs.Outcomes.{is_given};
-ghost use Rattle.iiif_singleflight.specs.Views.{receipt_known};
-ghost use Rattle.iiif_group.specs.Beginning.{open_key, OutcomeIs};
-ghost use Rattle.iiif_sum_group.specs.Values.{sums_in, AreValuesOf, MayBeAsked};
+ghost use Rattle.iiif_group.specs.Beginning.{open_key};
+ghost use Rattle.iiif_sum_group.specs.Asking.{Asks, HasAsManyParts, Makes, MakesOne, Rises};
+ghost use Rattle.iiif_sum_group.specs.Code.{Boxes, CanTotal, FitsShape, HasQuarters, HasTile, HasValues, Keeps, Totals};
+ghost use Rattle.iiif_sum_group.specs.Outcomes.{EndsWith, KnowsSums};
+ghost use Rattle.iiif_sum_group.specs.Values.{AreValuesOf, MayBeAsked};
 
 use crate::groups::Groups;
 use crate::passes::{Passes, SumCalls};
@@ -27,8 +22,7 @@ use std::sync::{Arc, Wait};
 
 /// Appends a value.
 fn keep(values: &mut Vec<Arc<SumVal>>, value: Arc<SumVal>) -> Result<(), Fault>
-    ensures ok { OnOk result (values.new.items ≡ values.old.items ++ value ∷ []) }
-    ensures err { IfErr result (λ f. f ≡ Fault.NoMemory) }
+    ensures { Keeps values.old.items values.new.items value result }
 {
     match values.push(value) {
         Ok(()) => Ok(()),
@@ -38,8 +32,7 @@ fn keep(values: &mut Vec<Arc<SumVal>>, value: Arc<SumVal>) -> Result<(), Fault>
 
 /// What was made, for all that wait.
 fn for_all(alloc: Global, made: Result<SumVal, Fault>) -> Result<Arc<SumVal>, Fault>
-    ensures ok { ForOk result (λ v. made ≡ Ok (arc_value v)) }
-    ensures err { ForErr result (λ f. (f ≡ Fault.NoMemory) ⊎ (made ≡ Err f)) }
+    ensures { Boxes made result }
 {
     match made {
         Ok(value) => boxed(alloc, value),
@@ -63,12 +56,8 @@ fn total(
     key: &SumKey,
     values: &[Arc<SumVal>],
 ) -> Result<SumVal, Fault>
-    requires block { IsOfBlock shape.now.dim key.now }
-    requires channels { All (λ x. (sums_in x).channels ≡ channels_of shape.now.kind) values.now }
-    ensures sums { IfOk result (λ v. v.sums ≡ fold merged (no_sums shape.now.dim (channels_of shape.now.kind) key.now)
-        (map sums_in values.now)) }
-    ensures places { IfOk result (λ v. (v.sums.rect ≡ places_in shape.now.dim key.now) × (v.sums.channels ≡ channels_of shape.now.kind)) }
-    ensures fault { IfErr result (λ f. f ≡ Fault.NoMemory) }
+    requires { CanTotal shape.now key.now values.now }
+    ensures { Totals shape.now key.now values.now result }
 {
     let Ok(mut total) = SumVal::zero(alloc, key, shape) else {
         return Err(Fault::NoMemory);
@@ -87,14 +76,8 @@ pub(crate) fn whole<J: System>(
     key: &SumKey,
     values: Vec<Arc<SumVal>>,
 ) -> Result<Arc<SumVal>, Fault>
-    requires known { HasPicture J.pictures key.now.name shape.now }
-    requires source { IsSource (named J.pictures key.now.name) }
-    requires fits { SumFitsIn shape.now.dim (channels_of shape.now.kind) key.now }
-    requires level { 0 < key.now.level }
-    requires values { AreValuesOf J.pictures shape.now (J.stable key.now.name × IsTrue J.honest) (sums_below key.now) values.items }
-    ensures meant { J.stable key.now.name → IsTrue J.honest → ForOk result (λ v. arc_value v ≡ sum_meaning J.pictures key.now) }
-    ensures shaped { ForOk result (λ v. IsTrue (sum_is_shaped J.pictures key.now (arc_value v))) }
-    ensures given { ForErr result (λ f. IsTrue (is_given (J.gave key.now.name) f)) }
+    requires { HasValues J.System key.now shape.now values.items }
+    ensures { EndsWith J.System key.now result }
 {
     // Laws of parts and of keys.
     parts_are_exact();
@@ -122,16 +105,8 @@ impl<
         key: &SumKey,
         tile: &TileKey,
     ) -> Result<SumVal, Fault>
-        requires known { HasPicture J.pictures key.now.name shape.now }
-        requires source { IsSource (named J.pictures key.now.name) }
-        requires fits { SumFitsIn shape.now.dim (channels_of shape.now.kind) key.now }
-        requires level { key.now.level ≡ 0 }
-        requires tile { tile.now ≡ tile_below key.now }
-        ensures meant { J.stable key.now.name → IsTrue J.honest → IfOk result (λ v. v ≡ sum_meaning J.pictures key.now) }
-        ensures shaped { IfOk result (λ v. IsTrue (sum_is_shaped J.pictures key.now v)) }
-        ensures given { IfErr result (λ f. IsTrue (is_given (J.gave key.now.name) f)) }
-        ensures counted { (passes.old.tile.gets ≤ passes.new.tile.gets) × (passes.old.sum.gets ≤ passes.new.sum.gets) }
-        ensures parts { (passes.new.tile.parts ≡ passes.old.tile.parts) × (passes.new.sum.parts ≡ passes.old.sum.parts) }
+        requires { HasTile J.System key.now shape.now tile.now }
+        ensures { MakesOne J.System key.now passes.old passes.new result }
     {
         // Laws of keys.
         TileKey::laws();
@@ -155,12 +130,8 @@ impl<
         made: Result<Arc<SumVal>, Fault>,
     ) -> Receipt<SumKey, J, SumCalls<J>>
         requires key { open_key load ≡ key.now }
-        requires meant { J.stable key.now.name → IsTrue J.honest → ForOk made (λ v. arc_value v ≡ sum_meaning J.pictures key.now) }
-        requires shaped { ForOk made (λ v. IsTrue (sum_is_shaped J.pictures key.now (arc_value v))) }
-        requires given { ForErr made (λ f. IsTrue (is_given (J.gave key.now.name) f)) }
-        ensures { IfSome (receipt_known result) (λ x. (arc_value x.key ≡ key.now)
-            × OutcomeIs (J.stable key.now.name) J.honest (sum_meaning J.pictures key.now) (sum_is_shaped J.pictures key.now)
-            (J.gave key.now.name) x.outcome) }
+        requires made { EndsWith J.System key.now made }
+        ensures { KnowsSums key.now result }
     {
         self.sums.complete(rt, load, key, made).receipt
     }
@@ -176,12 +147,8 @@ impl<
     ) -> Result<Arc<SumVal>, Fault>
         requires known { HasPicture J.pictures key.now.name shape.now }
         requires source { IsSource (named J.pictures key.now.name) }
-        requires fits { SumFitsIn shape.now.dim (channels_of shape.now.kind) key.now }
-        ensures meant { J.stable key.now.name → IsTrue J.honest → ForOk result (λ v. arc_value v ≡ sum_meaning J.pictures key.now) }
-        ensures shaped { ForOk result (λ v. IsTrue (sum_is_shaped J.pictures key.now (arc_value v))) }
-        ensures given { ForErr result (λ f. IsTrue (is_given (J.gave key.now.name) f)) }
-        ensures counted { (passes.old.tile.gets ≤ passes.new.tile.gets) × (passes.old.sum.gets ≤ passes.new.sum.gets) }
-        ensures parts { (passes.new.tile.parts ≡ passes.old.tile.parts) × (passes.new.sum.parts ≡ passes.old.sum.parts) }
+        requires fits { FitsShape shape.now key.now }
+        ensures { Makes J.System key.now passes.old passes.new result }
     {
         // A law of keys.
         fitting_keys_have_parts();
@@ -204,16 +171,8 @@ impl<
         key: &SumKey,
         quarters: &[SumKey],
     ) -> Result<Arc<SumVal>, Fault>
-        requires known { HasPicture J.pictures key.now.name shape.now }
-        requires source { IsSource (named J.pictures key.now.name) }
-        requires fits { SumFitsIn shape.now.dim (channels_of shape.now.kind) key.now }
-        requires level { 0 < key.now.level }
-        requires quarters { quarters.now ≡ sums_below key.now }
-        ensures meant { J.stable key.now.name → IsTrue J.honest → ForOk result (λ v. arc_value v ≡ sum_meaning J.pictures key.now) }
-        ensures shaped { ForOk result (λ v. IsTrue (sum_is_shaped J.pictures key.now (arc_value v))) }
-        ensures given { ForErr result (λ f. IsTrue (is_given (J.gave key.now.name) f)) }
-        ensures counted { (passes.old.tile.gets ≤ passes.new.tile.gets) × (passes.old.sum.gets ≤ passes.new.sum.gets) }
-        ensures parts { (passes.new.tile.parts ≡ passes.old.tile.parts) × (passes.new.sum.parts ≡ passes.old.sum.parts) }
+        requires { HasQuarters J.System key.now shape.now quarters.now }
+        ensures { Makes J.System key.now passes.old passes.new result }
     {
         // A law of parts.
         parts_are_exact();
@@ -235,8 +194,8 @@ impl<
         requires may { MayBeAsked J.pictures shape.now key.now keys.now }
         ensures values { IfOk result (λ v. AreValuesOf J.pictures shape.now (J.stable key.now.name × IsTrue J.honest) keys.now v.items) }
         ensures given { IfErr result (λ f. IsTrue (is_given (J.gave key.now.name) f)) }
-        ensures counted { (passes.old.tile.gets ≤ passes.new.tile.gets) × (passes.old.sum.gets ≤ passes.new.sum.gets) }
-        ensures parts { (passes.new.tile.parts ≡ passes.old.tile.parts) × (passes.new.sum.parts ≡ passes.old.sum.parts) }
+        ensures counted { Rises passes.old passes.new }
+        ensures parts { HasAsManyParts passes.old passes.new }
     {
         // Laws of keys.
         SumKey::laws();
@@ -260,15 +219,8 @@ impl<
     ) -> Result<Receipt<SumKey, J, SumCalls<J>>, Fault>
         requires known { HasPicture J.pictures key.now.name shape.now }
         requires source { IsSource (named J.pictures key.now.name) }
-        requires fits { SumFitsIn shape.now.dim (channels_of shape.now.kind) key.now }
-        ensures outcome { IfOk result (λ r. IfSome (receipt_known r) (λ x. (arc_value x.key ≡ key.now)
-            × OutcomeIs (J.stable key.now.name) J.honest (sum_meaning J.pictures key.now) (sum_is_shaped J.pictures key.now)
-            (J.gave key.now.name) x.outcome)) }
-        ensures fault { IfErr result (λ f. f ≡ Fault.NoMemory) }
-        ensures risen { OnOk result (passes.old.sum.gets + 1 ≤ passes.new.sum.gets) }
-        ensures refused { OnErr result ((passes.new.tile.gets ≡ passes.old.tile.gets) × (passes.new.sum.gets ≡ passes.old.sum.gets)) }
-        ensures counted { (passes.old.tile.gets ≤ passes.new.tile.gets) × (passes.old.sum.gets ≤ passes.new.sum.gets) }
-        ensures parts { (passes.new.tile.parts ≡ passes.old.tile.parts) × (passes.new.sum.parts ≡ passes.old.sum.parts) }
+        requires fits { FitsShape shape.now key.now }
+        ensures { Asks key.now passes.old passes.new result }
     {
         match self.sums.begin(rt, &mut passes.sum, key, shape) {
             Ok(Begun::Known(receipt)) => Ok(receipt),

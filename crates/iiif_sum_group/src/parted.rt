@@ -1,14 +1,10 @@
 //! Sums whose parts are asked for by who asks for them: a worker begins with a key, and ends with the values of its parts.
 
-ghost use Rattle.std.specs.Prelude.{◌≡◌, ◌+◌, ◌<◌, ◌≤◌, Err, IfErr, IfOk, IsTrue, OnErr, OnOk};
-ghost use Rattle.std.specs.Arc.{arc_value};
-ghost use Rattle.std.specs.Result.{ForErr, ForOk};
-ghost use Rattle.iiif_pixel.specs.Geometry.{channels_of};
-ghost use Rattle.iiif_images.specs.Faults.{IsGetFault};
-ghost use Rattle.iiif_keys.specs.Blocks.{NamesPart, SumFitsIn};
-ghost use Rattle.iiif_keys.specs.Meaning.{sum_is_shaped, sum_meaning, sums_below};
-ghost use Rattle.iiif_outcome.specs.Outcomes.{is_given};
-ghost use Rattle.iiif_group.specs.Beginning.{open_key, BegunFor};
+ghost use Rattle.std.specs.Prelude.{◌≡◌, ◌<◌};
+ghost use Rattle.iiif_keys.specs.Meaning.{sums_below};
+ghost use Rattle.iiif_group.specs.Beginning.{open_key};
+ghost use Rattle.iiif_sum_group.specs.Calls.{Begins};
+ghost use Rattle.iiif_sum_group.specs.Outcomes.{AreOfQuarters, EndsWith, Finishes, Quarters};
 ghost use Rattle.iiif_sum_group.specs.Values.{MayBeSums};
 
 use crate::groups::Groups;
@@ -30,11 +26,7 @@ impl<
     /// The keys of a block's quarters.
     pub fn quarters(&self, key: &SumKey) -> Result<Vec<SumKey>, Fault>
         requires level { 0 < key.now.level }
-        ensures parts { IfOk result (λ v. v.items ≡ sums_below key.now) }
-        ensures names { IfOk result (λ v. NamesPart J.pictures J.edge key.now.name key.now.edge
-            (λ s. SumFitsIn s.dim (channels_of s.kind) key.now)) }
-        ensures fault { IfErr result (IsGetFault J.pictures J.edge key.now.name key.now.edge
-            (λ s. SumFitsIn s.dim (channels_of s.kind) key.now)) }
+        ensures { Quarters J.System key.now result }
     {
         // A law of keys.
         fitting_keys_have_parts();
@@ -55,16 +47,7 @@ impl<
         passes: &mut Passes<J>,
         key: &SumKey,
     ) -> Result<Begun<SumKey, J, SumCalls<J>>, Fault>
-        ensures begun { IfOk result (λ b. BegunFor key.now (J.stable key.now.name) J.honest (sum_meaning J.pictures key.now)
-            (sum_is_shaped J.pictures key.now) (J.gave key.now.name) b) }
-        ensures counted { OnOk result ((passes.old.sum.gets + 1 ≤ passes.new.sum.gets) × (passes.new.sum.gets ≤ passes.old.sum.gets + 2)) }
-        ensures tiles { passes.new.tile ≡ passes.old.tile }
-        ensures refused { OnErr result (passes.new.sum.gets ≡ passes.old.sum.gets) }
-        ensures parts { passes.new.sum.parts ≡ passes.old.sum.parts }
-        ensures names { IfOk result (λ b. NamesPart J.pictures J.edge key.now.name key.now.edge
-            (λ s. SumFitsIn s.dim (channels_of s.kind) key.now)) }
-        ensures fault { IfErr result (IsGetFault J.pictures J.edge key.now.name key.now.edge
-            (λ s. SumFitsIn s.dim (channels_of s.kind) key.now)) }
+        ensures { Begins key.now passes.old passes.new result }
     {
         let (_entry, shape) = self.tiles.images().image_of(key)?;
         match self.sums.begin(rt, &mut passes.sum, key, &shape) {
@@ -77,9 +60,7 @@ impl<
     fn merged(&self, key: &SumKey, values: Vec<Arc<SumVal>>) -> Result<Arc<SumVal>, Fault>
         requires level { 0 < key.now.level }
         requires values { MayBeSums J.pictures J.stable J.honest (sums_below key.now) values.items }
-        ensures meant { J.stable key.now.name → IsTrue J.honest → ForOk result (λ v. arc_value v ≡ sum_meaning J.pictures key.now) }
-        ensures shaped { ForOk result (λ v. IsTrue (sum_is_shaped J.pictures key.now (arc_value v))) }
-        ensures given { ForErr result (λ f. IsTrue (is_given (J.gave key.now.name) f)) }
+        ensures { EndsWith J.System key.now result }
     {
         // Laws of parts and of keys.
         parts_are_exact();
@@ -100,13 +81,8 @@ impl<
         values: Result<Vec<Arc<SumVal>>, Fault>,
     ) -> Result<Arc<SumVal>, Fault>
         requires key { open_key load ≡ key.now }
-        requires level { 0 < key.now.level }
-        requires values { IfOk values (λ v. MayBeSums J.pictures J.stable J.honest (sums_below key.now) v.items) }
-        requires given { IfErr values (λ f. IsTrue (is_given (J.gave key.now.name) f)) }
-        ensures meant { J.stable key.now.name → IsTrue J.honest → ForOk result (λ v. arc_value v ≡ sum_meaning J.pictures key.now) }
-        ensures shaped { ForOk result (λ v. IsTrue (sum_is_shaped J.pictures key.now (arc_value v))) }
-        ensures given { ForErr result (λ f. IsTrue (is_given (J.gave key.now.name) f)) }
-        ensures same { IfErr values (λ f. result ≡ Err f) }
+        requires values { AreOfQuarters J.System key.now values }
+        ensures { Finishes J.System key.now values result }
     {
         match values {
             Ok(values) => taken(self.end(rt, load, key, self.merged(key, values)), key),

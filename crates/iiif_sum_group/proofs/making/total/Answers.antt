@@ -9,11 +9,14 @@ use Rattle.iiif_keys.specs.Meaning.{no_sums}
 use Rattle.iiif_sum_group.proofs.SumLemmas.{total_all, total_more}
 use Rattle.iiif_sum_group.proofs.making.total.Goals as goal
 
-pub returns-clause-sums : goal.returns-clause-sums
-returns-clause-sums c =
-    total_all sums_in c.args.values.now c.loop-value.value-index
-    (no_sums c.args.shape.now.dim (channels_of c.args.shape.now.kind) c.args.key.now) c.loop-value.total.sums (omega arith)
-    c.loop-value.invariant.sums
+pub returns : goal.returns
+returns c = record {
+  sums = total_all sums_in c.args.values.now c.loop-value.value-index
+      (no_sums c.args.shape.now.dim (channels_of c.args.shape.now.kind) c.args.key.now) c.loop-value.total.sums (omega arith)
+      c.loop-value.invariant.sums;
+  places = (c.loop-value.invariant.places, c.loop-value.invariant.channels);
+  fault = tt;
+}
 
 pub merge-requires : goal.merge-requires
 merge-requires c =

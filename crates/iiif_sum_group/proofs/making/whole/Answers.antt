@@ -1,4 +1,4 @@
-use Rattle.std.proofs.Common.{arith, ◌≡◌, ◌∷◌, [], All, fold, map, sym, subst, Global, IsTrue}
+use Rattle.std.proofs.Common.{arith, rules, ◌≡◌, ◌∷◌, [], All, fold, map, sym, subst, Global, IsTrue}
 use Rattle.std.proofs.lemmas.List.Elements.{All-get_or}
 use Rattle.std.proofs.lemmas.Result.{IfOk-at_ok}
 use Rattle.std.specs.Arc.{arc_value}
@@ -12,66 +12,54 @@ use Rattle.iiif_sum_group.specs.Values.{sums_in, AreSums, AreValuesOf}
 use Rattle.iiif_sum_group.proofs.SumLemmas.{all_values, only_places, only_value, wanting}
 use Rattle.iiif_sum_group.proofs.making.whole.Goals as goal
 
-pub returns-then-len-eq1-clause-meant : goal.returns-then-len-eq1-clause-meant
-returns-then-len-eq1-clause-meant g c = λ stable honest x e.
-    let shows = g.J.System.pictures in
-    let s = c.args.shape.now in
-    let key = c.args.key.now in
-    let trusted = g.J.System.stable key.name × IsTrue g.J.System.honest in
-    let exact = c.parts_are_exact.ensures in
-    let only : Arc SumVal Global = c.only.result in
-    let had : AreValuesOf shows s trusted (sums_below key) (only ∷ []) =
-    subst (AreValuesOf shows s trusted (sums_below key)) c.only.ensures c.requires.values in
-    IfOk-at_ok (λ (v : Arc SumVal Global). arc_value v ≡ sum_meaning shows key) e
-    (only_value exact.cut exact.fit exact.below shows key s only c.requires.known c.requires.level c.requires.fits had.places
-    (had.meant (stable, honest)))
-
-pub returns-then-len-eq1-clause-shaped : goal.returns-then-len-eq1-clause-shaped
-returns-then-len-eq1-clause-shaped g c = λ x e.
+pub returns-then-len-eq1 : goal.returns-then-len-eq1
+returns-then-len-eq1 g c =
     let shows = g.J.System.pictures in
     let s = c.args.shape.now in
     let n = channels_of s.kind in
     let key = c.args.key.now in
-    let trusted = g.J.System.stable key.name × IsTrue g.J.System.honest in
+    let trusted : Type 0 = g.J.System.stable key.name × IsTrue g.J.System.honest in
     let exact = c.parts_are_exact.ensures in
     let only : Arc SumVal Global = c.only.result in
-    let P : Arc SumVal Global → Type 0 = λ v. (sums_in v).channels ≡ n in
     let had : AreValuesOf shows s trusted (sums_below key) (only ∷ []) =
-    subst (AreValuesOf shows s trusted (sums_below key)) c.only.ensures c.requires.values in
+    subst (AreValuesOf shows s trusted (sums_below key)) c.only.ensures c.requires.values_are in
+    let P : Arc SumVal Global → Type 0 = λ v. (sums_in v).channels ≡ n in
     let rect = only_places exact.cut exact.fit exact.below s.dim n key only c.requires.level c.requires.fits had.places in
     let channels : P only = All-get_or P (only ∷ []) 0 only (omega arith) had.channels in
     let shaped = (c.laws.ensures.shapes shows s key (arc_value only) c.requires.known).1 (record { places = rect; sums_a_place = channels })
     in
-    IfOk-at_ok (λ (v : Arc SumVal Global). IsTrue (sum_is_shaped shows key (arc_value v))) e shaped
+    record {
+      meant = λ stable honest x e. IfOk-at_ok (λ (v : Arc SumVal Global). arc_value v ≡ sum_meaning shows key) e
+          (only_value exact.cut exact.fit exact.below shows key s only c.requires.known c.requires.level c.requires.fits had.places
+          (had.meant (stable, honest)));
+      shaped = λ x e. IfOk-at_ok (λ (v : Arc SumVal Global). IsTrue (sum_is_shaped shows key (arc_value v))) e shaped;
+      given = search rules;
+    }
 
-pub total-requires-clause-channels : goal.total-requires-clause-channels
-total-requires-clause-channels g c =
+pub total-requires : goal.total-requires
+total-requires g c =
     let P : Arc SumVal Global → Type 0 = λ x. (sums_in x).channels ≡ channels_of c.args.shape.now.kind in
-    subst (All P) (sym c.deref.ensures.value) c.requires.values.channels
+    record { block = search rules; channels = subst (All P) (sym c.deref.ensures.value) c.requires.values_are.channels }
 
-pub returns-clause-meant : goal.returns-clause-meant
-returns-clause-meant g c = λ stable honest x e.
+pub returns : goal.returns
+returns g c =
     let shows = g.J.System.pictures in
     let s = c.args.shape.now in
     let key = c.args.key.now in
     let values = c.deref.result.now in
     let start : Grid = no_sums s.dim (channels_of s.kind) key in
-    let are : AreSums shows (sums_below key) values =
-    subst (AreSums shows (sums_below key)) (sym c.deref.ensures.value) (c.requires.values.meant (stable, honest)) in
-    let sums = IfOk-at_ok (λ (v : SumVal). v.sums ≡ fold merged start (map sums_in values)) (c.for_all.ensures.ok x e) c.total.ensures.sums
-    in
-    all_values c.parts_make_the_meaning.ensures shows key s (arc_value x) values c.requires.known c.requires.source c.requires.fits
-    c.requires.level are sums
-
-pub returns-clause-shaped : goal.returns-clause-shaped
-returns-clause-shaped g c = λ x e.
-    let shows = g.J.System.pictures in
-    let s = c.args.shape.now in
-    let key = c.args.key.now in
-    let places = IfOk-at_ok (λ (v : SumVal). (v.sums.rect ≡ places_in s.dim key) × (v.sums.channels ≡ channels_of s.kind))
-    (c.for_all.ensures.ok x e) c.total.ensures.places in
-    (c.laws.ensures.shapes shows s key (arc_value x) c.requires.known).1 (record { places = places.0; sums_a_place = places.1 })
-
-pub returns-clause-given : goal.returns-clause-given
-returns-clause-given g c = λ f e.
-    wanting (g.J.System.gave c.args.key.now.name) c.total.result f c.total.ensures.fault (c.for_all.ensures.err f e)
+    record {
+      meant = λ stable honest x e.
+          let are : AreSums shows (sums_below key) values =
+          subst (AreSums shows (sums_below key)) (sym c.deref.ensures.value) (c.requires.values_are.meant (stable, honest)) in
+          let sums = IfOk-at_ok (λ (v : SumVal). v.sums ≡ fold merged start (map sums_in values)) (c.for_all.ensures.ok x e)
+          c.total.ensures.sums in
+          all_values c.parts_make_the_meaning.ensures shows key s (arc_value x) values c.requires.known c.requires.source c.requires.fits
+          c.requires.level are sums;
+      shaped = λ x e.
+          let places = IfOk-at_ok (λ (v : SumVal). (v.sums.rect ≡ places_in s.dim key) × (v.sums.channels ≡ channels_of s.kind))
+          (c.for_all.ensures.ok x e) c.total.ensures.places in
+          (c.laws.ensures.shapes shows s key (arc_value x) c.requires.known).1
+          (record { places = places.0; sums_a_place = places.1 });
+      given = λ f e. wanting (g.J.System.gave key.name) c.total.result f c.total.ensures.fault (c.for_all.ensures.err f e);
+    }

@@ -56,13 +56,19 @@ of_parts-values-requires g t c κs within =
       below = exact.below key c.requires.level;
       fits = exact.fit s.dim (channels_of s.kind) key c.requires.level c.requires.fits;
     } in
-    let may : MayBeAsked shows s key c.args.quarters.now = subst (MayBeAsked shows s key) (sym c.requires.quarters) all in
+    let may : MayBeAsked shows s key c.args.quarters.now = subst (MayBeAsked shows s key) (sym c.requires.quarters_are) all in
     let falls : 4 * key.level < t = omega (arith, c.decreases) in
     (falls, (within.0, (within.1.0, (within.1.1.0, (within.1.1.1.0, (within.1.1.1.1, (c.requires.level, may)))))))
 
-pub of_parts-whole-requires-clause-values : goal.of_parts-whole-requires-clause-values
-of_parts-whole-requires-clause-values g t c =
+pub of_parts-whole-requires : goal.of_parts-whole-requires
+of_parts-whole-requires g t c =
     let key = c.args.key.now in
-    subst (λ (ks : List SumKey). AreValuesOf g.J.System.pictures c.args.shape.now
-    (g.J.System.stable key.name × IsTrue g.J.System.honest) ks c.in_ok-values.values.items) c.requires.quarters
-    c.in_ok-values.ensures.values
+    record {
+      known = c.requires.known;
+      source = c.requires.source;
+      fits = c.requires.fits;
+      level = c.requires.level;
+      values_are = subst (λ (ks : List SumKey). AreValuesOf g.J.System.pictures c.args.shape.now
+          (g.J.System.stable key.name × IsTrue g.J.System.honest) ks c.in_ok-values.values.items) c.requires.quarters_are
+          c.in_ok-values.ensures.values;
+    }

@@ -1,7 +1,13 @@
+use Rattle.std.proofs.Common.{rules}
 use Rattle.iiif_sum_group.proofs.SumLemmas.{answered_values}
 use Rattle.iiif_sum_group.proofs.groups.Groups.merged.Goals as goal
 
-pub whole-requires-clause-values : goal.whole-requires-clause-values
-whole-requires-clause-values g c =
-    answered_values c.laws.ensures.shapes g.J.System.pictures _ g.J.System.stable g.J.System.honest c.args.key.now _
-    c.args.values.items c.in-Ok.ensures.known (c.parts_are_exact.ensures.below c.args.key.now c.requires.level) c.requires.values
+pub whole-requires : goal.whole-requires
+whole-requires g c = record {
+  known = c.in-Ok.ensures.known;
+  source = search rules;
+  fits = search rules;
+  level = c.requires.level;
+  values_are = answered_values c.laws.ensures.shapes g.J.System.pictures _ g.J.System.stable g.J.System.honest c.args.key.now _
+      c.args.values.items c.in-Ok.ensures.known (c.parts_are_exact.ensures.below c.args.key.now c.requires.level) c.requires.values;
+}

@@ -1,4 +1,4 @@
-use Rattle.std.proofs.Common.{◌∙◌, ap, refl, subst, sym}
+use Rattle.std.proofs.Common.{◌∙◌, rules, ap, refl, subst, sym}
 use Rattle.std.specs.Arc.{arc_value}
 use Rattle.std.specs.Prelude.{IsTrue}
 use Rattle.iiif_keys.specs.Meaning.{tile_below, tile_is_shaped, tile_meaning, TileHasShape}
@@ -14,21 +14,24 @@ of_tile-requires-clause-tile g c =
     let s = c.args.shape.now in
     let below = tile_below c.args.key.now in
     let value = arc_value c.in_ok-value.value in
-    let shaped = subst (λ (t : TileKey). IsTrue (tile_is_shaped shows t value)) c.requires.tile
+    let shaped = subst (λ (t : TileKey). IsTrue (tile_is_shaped shows t value)) c.requires.tile_is
     (c.in_ok-value.ensures.shaped c.in_ok-value.value refl) in
     subst (λ (v : TileVal). TileHasShape s below v) (sym c.deref.ensures)
     ((c.laws.ensures.shapes shows s below value c.requires.known).0 shaped)
 
-pub returns-in-Ok-of_tile-clause-meant : goal.returns-in-Ok-of_tile-clause-meant
-returns-in-Ok-of_tile-clause-meant g c = λ stable honest.
+pub returns-in-Ok-of_tile : goal.returns-in-Ok-of_tile
+returns-in-Ok-of_tile g c =
     let shows = g.J.System.pictures in
     let known = c.requires.known in
-    let at_tile = subst (λ (t : TileKey). g.J.System.stable t.name) (sym c.requires.tile) stable in
-    let meant = c.in_ok-value.ensures.meant at_tile honest c.in_ok-value.value refl in
-    c.in-Ok-of_tile.ensures.meaning shows (named shows c.args.key.now.name) known.known (ap (λ (s : Shape). s.dim) known.shape)
-    (c.deref.ensures ∙ meant ∙ ap (λ (t : TileKey). tile_meaning shows t) c.requires.tile)
-
-pub returns-in-Ok-of_tile-clause-shaped : goal.returns-in-Ok-of_tile-clause-shaped
-returns-in-Ok-of_tile-clause-shaped g c =
-    (c.laws-2.ensures.shapes g.J.System.pictures c.args.shape.now c.args.key.now c.in-Ok-of_tile.sums c.requires.known).1
-    c.in-Ok-of_tile.ensures.shape
+    record {
+      meant = λ stable honest.
+          let at_tile = subst (λ (t : TileKey). g.J.System.stable t.name) (sym c.requires.tile_is) stable in
+          let meant = c.in_ok-value.ensures.meant at_tile honest c.in_ok-value.value refl in
+          c.in-Ok-of_tile.ensures.meaning shows (named shows c.args.key.now.name) known.known (ap (λ (s : Shape). s.dim) known.shape)
+          (c.deref.ensures ∙ meant ∙ ap (λ (t : TileKey). tile_meaning shows t) c.requires.tile_is);
+      shaped = (c.laws-2.ensures.shapes shows c.args.shape.now c.args.key.now c.in-Ok-of_tile.sums c.requires.known).1
+          c.in-Ok-of_tile.ensures.shape;
+      given = tt;
+      counted = search rules;
+      parts = search rules;
+    }

@@ -1,0 +1,52 @@
+-- What is made of what is asked for: words of private functions.
+use Rattle.std.specs.Prelude.{◌≡◌, ◌+◌, ◌≤◌, IfErr, IfOk, IsTrue, OnErr, OnOk, Result}
+use Rattle.std.specs.Arc.{arc_value}
+use Rattle.std.specs.Result.{ForErr, ForOk}
+use Rattle.std.specs.declared.alloc.Global.{Global}
+use Rattle.std.specs.declared.sync.Arc.{Arc}
+use Rattle.iiif_keys.specs.Meaning.{sum_is_shaped, sum_meaning}
+use Rattle.iiif_keys.specs.declared.fault.Fault.{Fault}
+use Rattle.iiif_keys.specs.declared.fault.Fault.TheVariants.{NoMemory}
+use Rattle.iiif_keys.specs.declared.keys.SumKey.{SumKey}
+use Rattle.iiif_keys.specs.declared.system.System as system
+use Rattle.iiif_keys.specs.declared.values.SumVal.{SumVal}
+use Rattle.iiif_outcome.specs.Outcomes.{is_given}
+use Rattle.iiif_singleflight.specs.declared.receipt.Receipt.{Receipt}
+use Rattle.iiif_sum_group.specs.Outcomes.{KnowsSums}
+use Rattle.iiif_sum_group.specs.declared.passes.Passes.{Passes}
+
+module _ {J : Type 0} where
+  -- what is asked for is counted
+  abbrev pub Rises : Passes J → Passes J → Type 0
+  Rises old new = (old.tile.gets ≤ new.tile.gets) × (old.sum.gets ≤ new.sum.gets)
+
+  -- the counts are shared out among as many as before
+  abbrev pub HasAsManyParts : Passes J → Passes J → Type 0
+  HasAsManyParts old new = (new.tile.parts ≡ old.tile.parts) × (new.sum.parts ≡ old.sum.parts)
+
+module _ {J : Type 0} (node : system.Ghosts J) (key : SumKey) (old new : Passes J) where
+  -- The value of the key, for one caller; or why not. What it is made of is counted as it was asked for.
+  pub record MakesOne (result : Result SumVal Fault) : Type 0 where
+    pub meant : node.stable key.name → IsTrue node.honest → IfOk result (λ v. v ≡ sum_meaning node.pictures key)
+    pub shaped : IfOk result (λ v. IsTrue (sum_is_shaped node.pictures key v))
+    pub given : IfErr result (λ f. IsTrue (is_given (node.gave key.name) f))
+    pub counted : (old.tile.gets ≤ new.tile.gets) × (old.sum.gets ≤ new.sum.gets)
+    pub parts : (new.tile.parts ≡ old.tile.parts) × (new.sum.parts ≡ old.sum.parts)
+
+  -- the same, for all that wait
+  pub record Makes (result : Result (Arc SumVal Global) Fault) : Type 0 where
+    pub meant : node.stable key.name → IsTrue node.honest → ForOk result (λ v. arc_value v ≡ sum_meaning node.pictures key)
+    pub shaped : ForOk result (λ v. IsTrue (sum_is_shaped node.pictures key (arc_value v)))
+    pub given : ForErr result (λ f. IsTrue (is_given (node.gave key.name) f))
+    pub counted : (old.tile.gets ≤ new.tile.gets) × (old.sum.gets ≤ new.sum.gets)
+    pub parts : (new.tile.parts ≡ old.tile.parts) × (new.sum.parts ≡ old.sum.parts)
+
+module _ {J L : Type 0} {a b c : _} {d : system.Ghosts J} where
+  -- What a flight of the key ended with; or memory was wanting. It is counted, and so are the calls for what it is made of.
+  pub record Asks (key : SumKey) (old new : Passes J) (result : Result (Receipt SumKey J L SumVal a b c d) Fault) : Type 0 where
+    pub outcome : IfOk result (KnowsSums key)
+    pub risen : OnOk result (old.sum.gets + 1 ≤ new.sum.gets)
+    pub refused : OnErr result ((new.tile.gets ≡ old.tile.gets) × (new.sum.gets ≡ old.sum.gets))
+    pub counted : (old.tile.gets ≤ new.tile.gets) × (old.sum.gets ≤ new.sum.gets)
+    pub parts : (new.tile.parts ≡ old.tile.parts) × (new.sum.parts ≡ old.sum.parts)
+    pub fault : IfErr result (λ f. f ≡ NoMemory)
