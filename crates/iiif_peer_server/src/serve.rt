@@ -28,11 +28,17 @@ pub trait Answers<R, P> {
         ensures allowed { answers self.now ask.now.version ask.now.group ask.now.key.items result.0 result.1.items };
 }
 
+/// Who answers the asks of a connection, and what it takes.
+#[derive(Drop)]
+struct Desk<'a, 's, R, S> {
+    rt: &'a R,
+    alloc: Global,
+    service: &'s S,
+}
+
 /// Answers the next ask of a connection, which is its `n`-th. Says whether another may follow.
 fn serve_next<R, P, S: Answers<R, P>, I: Inlet, W: Outlet>(
-    rt: &R,
-    alloc: Global,
-    service: &S,
+    desk: &Desk<'_, '_, R, S>,
     passes: &mut P,
     reader: &mut I,
     n: u32,
@@ -40,15 +46,15 @@ fn serve_next<R, P, S: Answers<R, P>, I: Inlet, W: Outlet>(
 ) -> bool
     requires few { n ≤ ask_limit }
     ensures served { (text : List ℕ) × Appends (W.contents out.old) (W.contents out.new) text
-        × Served (S.answers service.now) (LeftAt I.fails reader.new) (LeftAt W.fails out.new)
+        × Served (S.answers desk.now.service.now) (LeftAt I.fails reader.new) (LeftAt W.fails out.new)
         n (I.remaining reader.old) (I.remaining reader.new) text result }
     ensures few { IsTrue result → n < ask_limit }
 {
-    let ask = match read_ask(alloc, reader) {
+    let ask = match read_ask(desk.alloc, reader) {
         Ok(Some(ask)) => ask,
         Ok(None) | Err(_) => return false,
     };
-    let (status, value) = service.answer(rt, alloc, passes, &ask);
+    let (status, value) = desk.service.answer(desk.rt, desk.alloc, passes, &ask);
     match write_reply(out, ask.version, &ask.key, status, &value) {
         Ok(()) => n < ASK_LIMIT,
         Err(_) => false,
@@ -70,8 +76,9 @@ pub fn serve_peer<R, P, S: Answers<R, P>, I: Inlet, W: Outlet>(
         × IsExchange (S.answers service.now) (LeftAt I.fails reader.new) (LeftAt W.fails out.new) (IsInput (I.remaining reader.new)) came
         output }
 {
+    let desk = Desk { rt, alloc, service };
     let mut n = 1;
-    while serve_next(rt, alloc, service, passes, reader, n, out) {
+    while serve_next(&desk, passes, reader, n, out) {
         n += 1;
     }
 }

@@ -3,14 +3,14 @@ use Rattle.iiif_peer_wire.specs.Faults.{LeftAt}
 use Rattle.iiif_peer_server.proofs.ExchangeLemmas.{CameSo}
 use Rattle.iiif_peer_server.proofs.serve.serve_peer.Given as goal
 
-abbrev pub invariant-loop-alloc : goal.invariant-loop-alloc
-invariant-loop-alloc g l =
+abbrev pub invariant-loop-desk : goal.invariant-loop-desk
+invariant-loop-desk g l =
     record {
       few : l.n ≤ 1000;
-      came : CameSo (g.S.Answers.answers l.service) (LeftAt g.I.Inlet.fails) (LeftAt g.W.Outlet.fails) g.I.Read.remaining l.n
+      came : CameSo (g.S.Answers.answers l.fn.service) (LeftAt g.I.Inlet.fails) (LeftAt g.W.Outlet.fails) g.I.Read.remaining l.n
           (g.I.Read.remaining l.fn.reader)
           (g.I.Read.remaining l.reader) (g.W.Write.contents l.fn.out) (g.W.Write.contents l.out);
     }
 
-abbrev pub decreases-loop-alloc : goal.decreases-loop-alloc
-decreases-loop-alloc g l = 1000 - l.n
+abbrev pub decreases-loop-desk : goal.decreases-loop-desk
+decreases-loop-desk g l = 1000 - l.n
