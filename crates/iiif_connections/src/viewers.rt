@@ -15,7 +15,7 @@ use iiif_keys::{SumKey, System, TileKey};
 use iiif_listener::{Company, Pace, PacedWriter, Visit, close};
 use iiif_metrics::Visitors;
 use iiif_open_files::Opens;
-use iiif_server::{Gate, Link, Node, SumCalls, TileCalls};
+use iiif_server::{Gate, Link, Node, Serving, SumCalls, TileCalls};
 use iiif_start::Stored;
 use std::alloc::Global;
 use std::sync::Wait;
@@ -117,8 +117,12 @@ where
         let Some(mut passes) = passes_of(rt, alloc, self.node, self.workers) else {
             return false;
         };
-        self.node
-            .serve_stream(rt, alloc, &mut passes, reader, out, self.watcher);
+        let serving = Serving {
+            rt,
+            alloc,
+            watch: self.watcher,
+        };
+        self.node.serve_stream(&serving, &mut passes, reader, out);
         give_back(rt, self.node, passes);
         true
     }

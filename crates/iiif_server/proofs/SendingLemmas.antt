@@ -300,7 +300,7 @@ pub head_allowed : {S W E : Type 0} (s : Settings) (part : Part) (close : Bool) 
     IfOk m (λ x. (image : Picture) → dim_of image ≡ turned_dim a.resolved.turn a.resolved.size →
     answer_of x ≡ written (Head close) (image_response s.base item.name a.canonical image a.kind)) →
     IfOk m (λ x. IsSent contents fails old new (answer_of x) result) →
-    IfErr m (λ _. IsSent contents fails old new (written (Head close) want_of_memory) result) →
+    IfErr m (λ _. IsSent contents fails old new (written part want_of_memory) result) →
     (text : List ℕ) × Appends (contents old) (contents new) text ×
     Allowed s part gave (ReachesImageOf kept item q a p) ((before : W) × fails before new) text result
 head_allowed s part close gave kept item q a p contents fails old new m result is few kind_is made sent memory =
@@ -311,5 +311,4 @@ head_allowed s part close gave kept item q a p contents fails old new m result i
     (IfOk-weaker m _ _
     (λ x f. f asked (resolved_sides p a.resolved few) ∙
     ap (λ (k : OutKind). written (Head close) (image_response s.base item.name a.canonical asked k)) kind_is
-    ∙ ap (λ (y : Part). written y (response_of s (given g))) (sym is)) made) sent
-    (subst (λ (y : Part). IfErr m (λ _. IsSent contents fails old new (written y want_of_memory) result)) (sym is) memory)
+    ∙ ap (λ (y : Part). written y (response_of s (given g))) (sym is)) made) sent memory

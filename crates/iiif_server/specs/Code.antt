@@ -1,9 +1,12 @@
 -- Words of private functions.
-use Rattle.std.specs.Prelude.{◌≡◌, ℕ, ◌⊎◌, Bool, true, false, not, List, Option, Some, Ok, Err}
+use Rattle.std.specs.Prelude.{◌≡◌, ℕ, ◌⊎◌, Bool, true, false, not, List, Option, Result, Some, Ok, Err, IsTrue}
+use Rattle.std.specs.Io.KnownBytes.{Appends}
 use Rattle.httparse.specs.Grammar.{RequestHead}
 use Rattle.iiif_http_front.specs.RequestHeads.{BeginsWithCall}
 use Rattle.iiif_source.specs.declared.ReadFault.{ReadFault}
-use Rattle.iiif_pixel.specs.Picture.{Picture}
+use Rattle.iiif_pixel.specs.Picture.{Picture, dim_of}
+use Rattle.iiif_pixel.specs.TurnPlaces.{turned_dim}
+use Rattle.iiif_tiff_write.specs.OutKind.{out_kind_of}
 use Rattle.iiif_canonical.specs.Images.{resolved_image}
 use Rattle.iiif_request.specs.declared.request.Request.{Request}
 use Rattle.iiif_keys.specs.Names.{named, IsSource, Pictures}
@@ -13,14 +16,16 @@ use Rattle.iiif_images.specs.Named.{picture_in}
 use Rattle.iiif_assemble.specs.Jobs.{IsJob}
 use Rattle.iiif_assemble.specs.declared.job.Job.{Job}
 use Rattle.iiif_answers.specs.Allowed.{Allowed}
-use Rattle.iiif_answers.specs.Answers.{Reply, given, IsSentFor}
+use Rattle.iiif_answers.specs.Answers.{Reply, given, IsPictureOf, IsSentFor}
 use Rattle.iiif_answers.specs.Calls.{RepliesToCall, part_of}
+use Rattle.iiif_answers.specs.Kinds.{depth_of, kind_of}
 use Rattle.iiif_answers.specs.Outcomes.{given_of}
-use Rattle.iiif_answers.specs.Responses.{Response, want_of_memory}
+use Rattle.iiif_answers.specs.Responses.{Response, image_response, want_of_memory, written}
 use Rattle.iiif_answers.specs.Settings.{Settings}
 use Rattle.iiif_answers.specs.declared.accepted.Accepted.{Accepted}
 use Rattle.iiif_answers.specs.declared.answer.Sent.{Sent}
 use Rattle.iiif_answers.specs.declared.answer.Cut as cut
+use Rattle.iiif_answers.specs.declared.part.Part.{Part}
 use Rattle.iiif_answers.specs.Streams.{Terms, Stream, IsCame, IsClosing, closes_after}
 
 -- the answer to no call, or that to want of memory, was sent before a connection closes
@@ -67,3 +72,22 @@ pub record IsJobFor {S : Type 0} (shows : Pictures) (gave : List ℕ → ReadFau
 abbrev pub ReachesImageOf : {S : Type 0} → Type 0 → Item S → Request → Accepted → Picture → Reply S → Type 0
 ReachesImageOf kept item q a p r = (image : Picture) × IsSentFor kept (resolved_image p a.resolved) image ×
     (r ≡ given (given_of item q a p image))
+
+-- a text was sent that is allowed with this result
+abbrev pub SendsAllowed : {S W : Type 0} → Settings → Part → (S → ReadFault → Bool) → (Reply S → Type 0) → (W → Option (List ℕ)) →
+    (W → W → Type 0) → W → W → Result Sent cut.Cut → Type 0
+SendsAllowed {S} {W} s part gave reaches contents fails old new result =
+    (text : List ℕ) × Appends (contents old) (contents new) text × Allowed s part gave reaches ((before : W) × fails before new) text result
+
+-- so it is for an accepted request of an item, which has a picture of the kind that was accepted
+abbrev pub SendsFor : {S W : Type 0} → (S → List ℕ) → (S → Type 0) → (S → ReadFault → Bool) → Bool → Settings → Part → Item S →
+    Accepted → (W → Option (List ℕ)) → (W → W → Type 0) → W → W → Result Sent cut.Cut → Type 0
+SendsFor bytes keeps gave honest s part item a contents fails old new result =
+    (q : Request) (p : Picture) → IsPictureOf bytes keeps item p → a.kind ≡ out_kind_of (kind_of p) (depth_of p) q.quality
+    → SendsAllowed s part gave (ReachesImageOf (keeps item.source × IsTrue honest) item q a p) contents fails old new result
+
+-- the head of the answer with an image of these sides, whatever its samples
+abbrev pub IsHeadFor : Settings → Part → List ℕ → Accepted → List ℕ → Type 0
+IsHeadFor s part name a head =
+    (image : Picture) → dim_of image ≡ turned_dim a.resolved.turn a.resolved.size
+    → head ≡ (written part (image_response s.base name a.canonical image a.kind)).head

@@ -8,11 +8,14 @@ pub use iiif_images::{AddFault, Catalogue};
 pub use iiif_keys::{Fault, is_name};
 pub use iiif_sum_group::{Gate, Kept, Link, NoGate, NoLink, Passes, SumCalls, TileCalls};
 pub use node::Node;
+pub use serving::Serving;
 pub use stock::Stock;
 pub use watch::Watch;
 
+mod asking;
 pub mod node;
 pub mod peers;
+pub mod serving;
 pub mod stock;
 pub mod stream;
 pub mod watch;

@@ -1,24 +1,20 @@
 //! A node: what it was told, its images, their tiles and sums, and its answers.
 
-ghost use Rattle.std.specs.Prelude.{◌≡◌, ◌<◌, ◌≤◌, ◌^◌, ℕ, List, Some, true, false, IfOk, IsTrue, length};
+ghost use Rattle.std.specs.Prelude.{◌≡◌, ◌<◌, ◌≤◌, ◌^◌, ℕ, List, Some, false, true, IfOk, length};
 ghost use Rattle.std.specs.Io.KnownBytes.{Appends};
 ghost use Rattle.iiif_source.specs.declared.ReadFault.{ReadFault};
-ghost use Rattle.iiif_pixel.specs.Picture.{Picture, dim_of};
-ghost use Rattle.iiif_pixel.specs.TurnPlaces.{turned_dim};
-ghost use Rattle.iiif_request.specs.declared.request.Request.{Request};
-ghost use Rattle.iiif_tiff_write.specs.OutKind.{out_kind_of};
 ghost use Rattle.iiif_images.specs.Collection.{Item, item_named};
 ghost use Rattle.iiif_images.specs.Items.{item_of};
 ghost use Rattle.iiif_images.specs.Named.{gave_of, pictures_of};
-ghost use Rattle.iiif_answers.specs.Answers.{given, Given, IsPictureOf, Replies};
+ghost use Rattle.iiif_answers.specs.Answers.{given, Given, Replies};
 ghost use Rattle.iiif_answers.specs.Allowed.{Allowed, IsFramedText};
 ghost use Rattle.iiif_answers.specs.Calls.{RepliesToCall, part_of};
-ghost use Rattle.iiif_server.specs.Code.{IsJobFor, ReachesImageOf};
-ghost use Rattle.iiif_answers.specs.Kinds.{depth_of, kind_of};
+ghost use Rattle.iiif_server.specs.Code.{IsHeadFor, IsJobFor, SendsAllowed, SendsFor};
 ghost use Rattle.iiif_answers.specs.Outcomes.{IsReady};
-ghost use Rattle.iiif_answers.specs.Responses.{image_response, is_loaded, written};
+ghost use Rattle.iiif_answers.specs.Responses.{is_loaded};
 ghost use Rattle.iiif_answers.specs.declared.part.Part.TheVariants.{Body};
 
+use crate::asking::{Asked, Host, Planned};
 use crate::stock::Stock;
 use iiif_answers::accepted::Accepted;
 use iiif_answers::calls::{is_answered, part_of};
@@ -27,8 +23,8 @@ use iiif_answers::message::{message_of, refusal_message};
 use iiif_answers::outcome::{Outcome, outcome_of};
 use iiif_answers::sending::{send_fault, send_message};
 use iiif_answers::{Cause, Config, Cut, Part, Sent};
-use iiif_assemble::Job;
-use iiif_delivery::{Stopped, send_image};
+use iiif_assemble::{Job, Workshop};
+use iiif_delivery::{Sending, Stopped, send_image};
 use iiif_group_items::laws::groups_serve_jobs;
 use iiif_group_items::{Admission, GroupItems};
 use iiif_http_front::Call;
@@ -216,84 +212,73 @@ impl<
     /// Sends an image for an accepted request, band by band.
     fn send_loaded<W: Outlet>(
         &self,
-        rt: &R,
-        alloc: Global,
+        host: &Host<'_, R>,
         passes: &mut [Passes<J>],
-        part: Part,
-        entry: &Entry<R, S>,
-        accepted: &Accepted,
+        asked: &Asked<'_, R, S>,
         out: &mut W,
     ) -> Result<Sent, Cut>
         requires some { 0 < length passes.old }
-        requires ready { IsReady entry.now.layout accepted.now }
-        requires found { item_named self.now.items entry.now.name ≡ Some (item_of entry.now) }
-        requires loaded { is_loaded part ≡ true }
-        ensures { (q : Request) (p : Picture) → IsPictureOf S.bytes S.keeps (item_of entry.now) p →
-            accepted.now.kind ≡ out_kind_of (kind_of p) (depth_of p) q.quality
-            → (text : List ℕ) × Appends (W.contents out.old) (W.contents out.new) text
-            × Allowed self.now.settings part S.gave
-            (ReachesImageOf (S.keeps entry.now.source × IsTrue J.honest) (item_of entry.now) q accepted.now p)
-            ((before : W) × W.fails before out.new) text result }
+        requires ready { IsReady asked.now.entry.now.layout asked.now.accepted.now }
+        requires found { item_named self.now.items asked.now.entry.now.name ≡ Some (item_of asked.now.entry.now) }
+        requires loaded { is_loaded asked.now.part ≡ true }
+        ensures { SendsFor S.bytes S.keeps S.gave J.honest self.now.settings asked.now.part (item_of asked.now.entry.now)
+            asked.now.accepted.now W.contents W.fails out.old out.new result }
     {
         let Ok(head) = image_head(
-            alloc,
-            part,
+            host.alloc,
+            asked.part,
             self.config.base(),
-            entry.name.as_str(),
-            accepted,
+            asked.entry.name.as_str(),
+            asked.accepted,
         ) else {
-            return send_message(out, part, Err(AllocError));
+            return send_message(out, asked.part, Err(AllocError));
         };
-        let Ok(job) = self.job(alloc, entry, accepted) else {
-            return send_message(out, part, Err(AllocError));
+        let Ok(job) = self.job(host.alloc, asked.entry, asked.accepted) else {
+            return send_message(out, asked.part, Err(AllocError));
         };
-        self.send_job(rt, alloc, passes, part, entry, accepted, &job, &head, out)
+        let planned = Planned {
+            job: &job,
+            head: &head,
+        };
+        self.send_job(host, passes, asked, &planned, out)
     }
 
     /// Sends the image of a job for an accepted request behind its head, band by band.
     fn send_job<W: Outlet>(
         &self,
-        rt: &R,
-        alloc: Global,
+        host: &Host<'_, R>,
         passes: &mut [Passes<J>],
-        part: Part,
-        entry: &Entry<R, S>,
-        accepted: &Accepted,
-        job: &Job,
-        head: &[u8],
+        asked: &Asked<'_, R, S>,
+        planned: &Planned<'_>,
         out: &mut W,
     ) -> Result<Sent, Cut>
         requires some { 0 < length passes.old }
-        requires ready { IsReady entry.now.layout accepted.now }
-        requires loaded { is_loaded part ≡ true }
-        requires job { IsJobFor J.pictures J.gave J.stable J.edge S.bytes S.gave S.keeps (item_of entry.now) accepted.now job.now }
-        requires head { (image : Picture) → dim_of image ≡ turned_dim accepted.now.resolved.turn accepted.now.resolved.size
-            → head.now ≡ (written part (image_response self.now.settings.base entry.now.name accepted.now.canonical image
-            accepted.now.kind)).head }
-        ensures { (q : Request) (p : Picture) → IsPictureOf S.bytes S.keeps (item_of entry.now) p →
-            accepted.now.kind ≡ out_kind_of (kind_of p) (depth_of p) q.quality
-            → (text : List ℕ) × Appends (W.contents out.old) (W.contents out.new) text
-            × Allowed self.now.settings part S.gave
-            (ReachesImageOf (S.keeps entry.now.source × IsTrue J.honest) (item_of entry.now) q accepted.now p)
-            ((before : W) × W.fails before out.new) text result }
+        requires ready { IsReady asked.now.entry.now.layout asked.now.accepted.now }
+        requires loaded { is_loaded asked.now.part ≡ true }
+        requires job { IsJobFor J.pictures J.gave J.stable J.edge S.bytes S.gave S.keeps (item_of asked.now.entry.now)
+            asked.now.accepted.now planned.now.job.now }
+        requires head { IsHeadFor self.now.settings asked.now.part asked.now.entry.now.name asked.now.accepted.now planned.now.head.now }
+        ensures { SendsFor S.bytes S.keeps S.gave J.honest self.now.settings asked.now.part (item_of asked.now.entry.now)
+            asked.now.accepted.now W.contents W.fails out.old out.new result }
     {
         // Laws of images and of groups.
-        picture_is_shown(entry);
-        groups_serve_jobs::<J>(job);
+        picture_is_shown(asked.entry);
+        groups_serve_jobs::<J>(planned.job);
         let items = GroupItems(&self.groups, &self.admission);
+        let shop = Workshop {
+            rt: host.rt,
+            alloc: host.alloc,
+            tiles: &items,
+            sums: &items,
+        };
         let rows = self.config.band();
-        match send_image(
-            rt,
-            alloc,
-            &items,
-            &items,
-            passes,
-            job,
+        let sending = Sending {
+            job: planned.job,
             rows,
-            accepted.kind,
-            head,
-            out,
-        ) {
+            kind: asked.accepted.kind,
+            start: planned.head,
+        };
+        match send_image(&shop, passes, &sending, out) {
             Ok(delivered) => Ok(Sent {
                 status: 200,
                 bytes: delivered.bytes,
@@ -305,7 +290,7 @@ impl<
             }),
             Err(Stopped::Load(sent, fault)) => {
                 if sent == 0 {
-                    send_fault(alloc, part, fault, out)
+                    send_fault(host.alloc, asked.part, fault, out)
                 } else {
                     Err(Cut {
                         sent,
@@ -319,60 +304,60 @@ impl<
     /// Sends that part of the answer to an accepted request: for a head the passes stay as they are.
     fn send_accepted<W: Outlet>(
         &self,
-        rt: &R,
-        alloc: Global,
+        host: &Host<'_, R>,
         passes: &mut [Passes<J>],
-        part: Part,
-        entry: &Entry<R, S>,
-        accepted: &Accepted,
+        asked: &Asked<'_, R, S>,
         out: &mut W,
     ) -> Result<Sent, Cut>
         requires some { 0 < length passes.old }
-        requires ready { IsReady entry.now.layout accepted.now }
-        requires found { item_named self.now.items entry.now.name ≡ Some (item_of entry.now) }
-        ensures allowed { (q : Request) (p : Picture) → IsPictureOf S.bytes S.keeps (item_of entry.now) p →
-            accepted.now.kind ≡ out_kind_of (kind_of p) (depth_of p) q.quality
-            → (text : List ℕ) × Appends (W.contents out.old) (W.contents out.new) text
-            × Allowed self.now.settings part S.gave
-            (ReachesImageOf (S.keeps entry.now.source × IsTrue J.honest) (item_of entry.now) q accepted.now p)
-            ((before : W) × W.fails before out.new) text result }
-        ensures unasked { is_loaded part ≡ false → passes.new ≡ passes.old }
+        requires ready { IsReady asked.now.entry.now.layout asked.now.accepted.now }
+        requires found { item_named self.now.items asked.now.entry.now.name ≡ Some (item_of asked.now.entry.now) }
+        ensures allowed { SendsFor S.bytes S.keeps S.gave J.honest self.now.settings asked.now.part (item_of asked.now.entry.now)
+            asked.now.accepted.now W.contents W.fails out.old out.new result }
+        ensures unasked { is_loaded asked.now.part ≡ false → passes.new ≡ passes.old }
     {
-        match part {
+        match asked.part {
             Part::Head(close) => {
-                let message = head_message(alloc, close, &self.config, entry, accepted);
-                send_message(out, part, message)
+                let message = head_message(
+                    host.alloc,
+                    close,
+                    &self.config,
+                    asked.entry,
+                    asked.accepted,
+                );
+                send_message(out, asked.part, message)
             }
-            Part::Body | Part::Whole(_) => {
-                self.send_loaded(rt, alloc, passes, part, entry, accepted, out)
-            }
+            Part::Body | Part::Whole(_) => self.send_loaded(host, passes, asked, out),
         }
     }
 
     /// Sends that part of the answer to a target.
     fn answer<W: Outlet>(
         &self,
-        rt: &R,
-        alloc: Global,
+        host: &Host<'_, R>,
         passes: &mut [Passes<J>],
         part: Part,
         target: &[u8],
         out: &mut W,
     ) -> Result<Sent, Cut>
         requires some { 0 < length passes.old }
-        ensures allowed { (text : List ℕ) × Appends (W.contents out.old) (W.contents out.new) text
-            × Allowed self.now.settings part S.gave (Replies S.bytes S.keeps J.honest self.now.settings self.now.items target.now)
-            ((before : W) × W.fails before out.new) text result }
+        ensures allowed { SendsAllowed self.now.settings part S.gave (Replies S.bytes S.keeps J.honest self.now.settings self.now.items
+            target.now) W.contents W.fails out.old out.new result }
         ensures unasked { ((g : Given S) → Replies S.bytes S.keeps J.honest self.now.settings self.now.items target.now (given g) →
             is_loaded part ≡ false)
             → passes.new ≡ passes.old }
     {
-        match outcome_of(alloc, &self.config, self.images(), target) {
+        match outcome_of(host.alloc, &self.config, self.images(), target) {
             Outcome::Image(entry, accepted) => {
-                self.send_accepted(rt, alloc, passes, part, entry, &accepted, out)
+                let asked = Asked {
+                    part,
+                    entry,
+                    accepted: &accepted,
+                };
+                self.send_accepted(host, passes, &asked, out)
             }
             told => {
-                let message = message_of(alloc, part, &self.config, &told);
+                let message = message_of(host.alloc, part, &self.config, &told);
                 send_message(out, part, message)
             }
         }
@@ -396,7 +381,8 @@ impl<
         ensures unasked { ((g : Given S) → ¬ Replies S.bytes S.keeps J.honest self.now.settings self.now.items target.now (given g))
             → passes.new ≡ passes.old }
     {
-        self.answer(rt, alloc, passes, Part::Body, target, out)
+        let host = Host { rt, alloc };
+        self.answer(&host, passes, Part::Body, target, out)
     }
 
     /// Answers a call: to GET with head and body, to HEAD with the same head alone. Where no image is loaded, as for HEAD, the passes
@@ -422,7 +408,8 @@ impl<
     {
         let part = part_of(call);
         if is_answered(call) {
-            self.answer(rt, alloc, passes, part, &call.target, out)
+            let host = Host { rt, alloc };
+            self.answer(&host, passes, part, &call.target, out)
         } else {
             let message = refusal_message(alloc, part, Refusal::Method);
             send_message(out, part, message)

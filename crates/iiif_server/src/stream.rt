@@ -9,6 +9,7 @@ ghost use Rattle.iiif_answers.specs.Responses.{refusal_response, want_of_memory}
 ghost use Rattle.iiif_request.specs.declared.request.Refusal.TheVariants as refusal;
 
 use crate::node::Node;
+use crate::serving::Serving;
 use crate::watch::Watch;
 use iiif_answers::message::refusal_message;
 use iiif_answers::sending::send_message;
@@ -68,21 +69,21 @@ impl<
     /// Answers a call, of which the watch is told, and says whether another may follow.
     fn serve_call<W: Outlet, V: Watch<R>>(
         &self,
-        rt: &R,
-        alloc: Global,
+        serving: &Serving<'_, '_, R, V>,
         passes: &mut [Passes<J>],
         call: &Call,
         out: &mut W,
-        watch: &V,
     ) -> bool
         requires { 0 < length passes.old }
         ensures { (text : List ℕ) × Appends (W.contents out.old) (W.contents out.new) text
             × IsAnswered S.bytes S.keeps J.honest S.gave self.now.settings self.now.items ((before : W) × W.fails before out.new)
             call.now.method call.now.target.items call.now.close text result }
     {
-        let begun = watch.begin(rt);
-        let outcome = self.serve_one(rt, alloc, passes, call, out);
-        watch.answered(rt, begun, Some(call), &outcome);
+        let begun = serving.watch.begin(serving.rt);
+        let outcome = self.serve_one(serving.rt, serving.alloc, passes, call, out);
+        serving
+            .watch
+            .answered(serving.rt, begun, Some(call), &outcome);
         match outcome {
             Ok(_) => !call.close,
             Err(_) => false,
@@ -92,13 +93,11 @@ impl<
     /// Answers the next call of a connection, which is its `n`-th, or what ended it. Says whether more may follow.
     fn serve_next<I: Inlet + Drop, W: Outlet, V: Watch<R>>(
         &self,
-        rt: &R,
-        alloc: Global,
+        serving: &Serving<'_, '_, R, V>,
         passes: &mut [Passes<J>],
         heads: &mut Heads<I>,
         n: u32,
         out: &mut W,
-        watch: &V,
     ) -> bool
         requires some { 0 < length passes.old }
         requires no_fault { heads.old.fault ≡ None }
@@ -119,32 +118,30 @@ impl<
             Ok(Some(call)) => closing_call(call, n),
             Ok(None) => return false,
             Err(HeadFault::Bad | HeadFault::TooLong) => {
-                let begun = watch.begin(rt);
-                let outcome = close_for_head(alloc, out);
-                watch.answered(rt, begun, None, &outcome);
+                let begun = serving.watch.begin(serving.rt);
+                let outcome = close_for_head(serving.alloc, out);
+                serving.watch.answered(serving.rt, begun, None, &outcome);
                 return false;
             }
             Err(HeadFault::NoMemory) => {
-                let begun = watch.begin(rt);
+                let begun = serving.watch.begin(serving.rt);
                 let outcome = close_for_memory(out);
-                watch.answered(rt, begun, None, &outcome);
+                serving.watch.answered(serving.rt, begun, None, &outcome);
                 return false;
             }
             Err(HeadFault::Cut | HeadFault::Io) => return false,
         };
-        self.serve_call(rt, alloc, passes, &call, out, watch)
+        self.serve_call(serving, passes, &call, out)
     }
 
     /// Answers the calls of a connection in order, until its input ends, a call closes it, its 1,000th call was answered, an
     /// answer is cut off, or a head is at fault. The watch is told of each answer once it ended, in order; `()` watches nothing.
     pub fn serve_stream<I: Inlet + Drop, W: Outlet, V: Watch<R>>(
         &self,
-        rt: &R,
-        alloc: Global,
+        serving: &Serving<'_, '_, R, V>,
         passes: &mut [Passes<J>],
         reader: I,
         out: &mut W,
-        watch: &V,
     )
         requires { 0 < length passes.old }
         // Where the bytes that the reader has left are known, the output is that for what came of them: all, or a first part where
@@ -161,14 +158,14 @@ impl<
             ((before after : I) × I.fails before after) ((before : W) × W.fails before out.new))
             came output }
     {
-        let Ok(mut heads) = Heads::new(alloc, reader) else {
-            let begun = watch.begin(rt);
+        let Ok(mut heads) = Heads::new(serving.alloc, reader) else {
+            let begun = serving.watch.begin(serving.rt);
             let outcome = close_for_memory(out);
-            watch.answered(rt, begun, None, &outcome);
+            serving.watch.answered(serving.rt, begun, None, &outcome);
             return;
         };
         let mut n = 1;
-        while self.serve_next(rt, alloc, passes, &mut heads, n, out, watch) {
+        'calls: while self.serve_next(serving, passes, &mut heads, n, out) {
             n += 1;
         }
     }

@@ -9,7 +9,7 @@ use http::Method;
 use iiif_http_front::Call;
 use iiif_io::fakes::FailingWriter;
 use iiif_keys::System;
-use iiif_server::{Cut, NoLink, Node, Passes, Sent, Watch};
+use iiif_server::{Cut, NoLink, Node, Passes, Sent, Serving, Watch};
 use std::alloc::Global;
 use std::sync::Wait;
 use std::sync::atomic::Ordering;
@@ -82,7 +82,8 @@ fn stream_of<R: Threads + Wait + Clock + Sync, J: System + Send + Sync, V: Watch
     if passes.is_empty() {
         return None;
     }
-    node.serve_stream(rt, alloc, passes, Parts::of(input), out, watch);
+    let serving = Serving { rt, alloc, watch };
+    node.serve_stream(&serving, passes, Parts::of(input), out);
     counted(out.taken.len(), 0)
 }
 

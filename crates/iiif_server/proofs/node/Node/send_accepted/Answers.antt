@@ -10,10 +10,10 @@ use Rattle.iiif_server.proofs.node.Node.send_accepted.Goals as goal
 pub returns-in-Head-clause-allowed : goal.returns-in-Head-clause-allowed
 returns-in-Head-clause-allowed g c q p is kind =
     let made = rw (ap (λ (n : Service g.row.S.Denot). n.settings.base) c.self.view_is) at c.head_message-message.ensures in
-    head_allowed c.args.self.now.settings c.args.part c.in-Head.close g.S.Source.gave
-    (g.S.Source.keeps c.args.entry.now.source × IsTrue g.J.System.honest) (item_of c.args.entry.now)
-    q c.args.accepted.now p g.W.Write.contents g.W.Outlet.fails c.args.out.now c.send_message.new.out c.head_message-message.result
-    c.send_message.result c.in-Head.is
+    head_allowed c.args.self.now.settings c.args.asked.now.part c.in-Head.close g.S.Source.gave
+    (g.S.Source.keeps c.args.asked.now.entry.now.source × IsTrue g.J.System.honest) (item_of c.args.asked.now.entry.now)
+    q c.args.asked.now.accepted.now p g.W.Write.contents g.W.Outlet.fails c.args.out.now c.send_message.new.out
+    c.head_message-message.result c.send_message.result c.in-Head.is
     c.requires.ready.quarters kind made c.send_message.ensures.made c.send_message.ensures.memory
 
 pub returns-in-Body-clause-unasked : goal.returns-in-Body-clause-unasked

@@ -8,16 +8,16 @@ use Rattle.iiif_server.proofs.node.Node.send_loaded.Goals as goal
 
 pub returns-in_default : goal.returns-in_default
 returns-in_default g c q p is kind =
-    memory_allowed c.args.self.now.settings c.args.part g.S.Source.gave
-    (ReachesImageOf (g.S.Source.keeps c.args.entry.now.source × IsTrue g.J.System.honest) (item_of c.args.entry.now) q c.args.accepted.now
-    p) g.W.Write.contents g.W.Outlet.fails
+    memory_allowed c.args.self.now.settings c.args.asked.now.part g.S.Source.gave
+    (ReachesImageOf (g.S.Source.keeps c.args.asked.now.entry.now.source × IsTrue g.J.System.honest) (item_of c.args.asked.now.entry.now) q
+    c.args.asked.now.accepted.now p) g.W.Write.contents g.W.Outlet.fails
     c.args.out.now c.send_message.new.out c.send_message.result c.send_message.ensures.memory
 
 pub returns-in_default-job : goal.returns-in_default-job
 returns-in_default-job g c q p is kind =
-    memory_allowed c.args.self.now.settings c.args.part g.S.Source.gave
-    (ReachesImageOf (g.S.Source.keeps c.args.entry.now.source × IsTrue g.J.System.honest) (item_of c.args.entry.now) q c.args.accepted.now
-    p) g.W.Write.contents g.W.Outlet.fails
+    memory_allowed c.args.self.now.settings c.args.asked.now.part g.S.Source.gave
+    (ReachesImageOf (g.S.Source.keeps c.args.asked.now.entry.now.source × IsTrue g.J.System.honest) (item_of c.args.asked.now.entry.now) q
+    c.args.asked.now.accepted.now p) g.W.Write.contents g.W.Outlet.fails
     c.args.out.now c.send_message-in_default-job.new.out c.send_message-in_default-job.result c.send_message-in_default-job.ensures.memory
 
 pub send_job-requires-clause-head : goal.send_job-requires-clause-head

@@ -19,8 +19,8 @@ returns-in_default g c = record {
       (sent.2.0, sent.0, sent.1, sent.2.2);
 }
 
-pub loop-alloc-init : goal.loop-alloc-init
-loop-alloc-init g c = record {
+pub calls-init : goal.calls-init
+calls-init g c = record {
   no_fault = ap (λ (r : Reading g.row.I.Denot). r.fault) c.in-Ok.ensures;
   few = omega arith;
   goes_on = begins_so (λ after. terms g.S.Source.bytes g.S.Source.keeps g.J.System.honest g.S.Source.gave c.args.self.now.settings
@@ -32,39 +32,39 @@ loop-alloc-init g c = record {
       (g.W.Write.contents c.args.out.now);
 }
 
-pub loop-alloc-preserved : goal.loop-alloc-preserved
-loop-alloc-preserved g c =
-    let more : c.loop-alloc.n < 1000 = c.serve_next.ensures.few c.loop-alloc-test.true in
+pub calls-preserved : goal.calls-preserved
+calls-preserved g c =
+    let more : c.calls.n < 1000 = c.serve_next.ensures.few c.calls-test.true in
     record {
-      no_fault = c.serve_next.ensures.goes_on c.loop-alloc-test.true;
+      no_fault = c.serve_next.ensures.goes_on c.calls-test.true;
       few = omega (arith, more);
       goes_on = goes_further (λ after. terms g.S.Source.bytes g.S.Source.keeps g.J.System.honest g.S.Source.gave c.args.self.now.settings
           c.args.self.now.items ((a b : g.row.I.Denot) × g.I.Inlet.fails a b) ((b : g.row.W.Denot) × g.W.Outlet.fails b after))
-          c.loop-alloc.n (g.I.Read.remaining c.args.reader) (input_of g.I.Read.remaining c.loop-alloc.heads)
-          (input_of g.I.Read.remaining c.serve_next.new.heads) (g.W.Write.contents c.args.out.now) (g.W.Write.contents c.loop-alloc.out)
+          c.calls.n (g.I.Read.remaining c.args.reader) (input_of g.I.Read.remaining c.calls.heads)
+          (input_of g.I.Read.remaining c.serve_next.new.heads) (g.W.Write.contents c.args.out.now) (g.W.Write.contents c.calls.out)
           (g.W.Write.contents c.serve_next.new.out)
-          c.serve_next.new.out c.serve_next.result (λ a b h close text whole. whole) c.loop-alloc-test.true c.loop-alloc.invariant.goes_on
+          c.serve_next.new.out c.serve_next.result (λ a b h close text whole. whole) c.calls-test.true c.calls.invariant.goes_on
           c.serve_next.ensures.serves;
       came = came_further (λ after. terms g.S.Source.bytes g.S.Source.keeps g.J.System.honest g.S.Source.gave c.args.self.now.settings
           c.args.self.now.items ((a b : g.row.I.Denot) × g.I.Inlet.fails a b) ((b : g.row.W.Denot) × g.W.Outlet.fails b after))
-          c.loop-alloc.n c.loop-alloc.heads.unread (Some c.serve_next.new.heads.unread) (g.W.Write.contents c.args.out.now)
-          (g.W.Write.contents c.loop-alloc.out) (g.W.Write.contents c.serve_next.new.out) c.serve_next.new.out c.serve_next.result
+          c.calls.n c.calls.heads.unread (Some c.serve_next.new.heads.unread) (g.W.Write.contents c.args.out.now)
+          (g.W.Write.contents c.calls.out) (g.W.Write.contents c.serve_next.new.out) c.serve_next.new.out c.serve_next.result
           (λ a b h close text whole. whole)
-          c.loop-alloc-test.true c.loop-alloc.invariant.came c.serve_next.ensures.came;
+          c.calls-test.true c.calls.invariant.came c.serve_next.ensures.came;
     }
 
 pub returns : goal.returns
 returns g c = record {
   serves = ends_so (λ after. terms g.S.Source.bytes g.S.Source.keeps g.J.System.honest g.S.Source.gave c.args.self.now.settings
-      c.args.self.now.items ((a b : g.row.I.Denot) × g.I.Inlet.fails a b) ((b : g.row.W.Denot) × g.W.Outlet.fails b after)) c.loop-alloc.n
-      (g.I.Read.remaining c.args.reader) (input_of g.I.Read.remaining c.loop-alloc.heads)
-      (input_of g.I.Read.remaining c.serve_next.new.heads) (g.W.Write.contents c.args.out.now) (g.W.Write.contents c.loop-alloc.out)
+      c.args.self.now.items ((a b : g.row.I.Denot) × g.I.Inlet.fails a b) ((b : g.row.W.Denot) × g.W.Outlet.fails b after)) c.calls.n
+      (g.I.Read.remaining c.args.reader) (input_of g.I.Read.remaining c.calls.heads)
+      (input_of g.I.Read.remaining c.serve_next.new.heads) (g.W.Write.contents c.args.out.now) (g.W.Write.contents c.calls.out)
       (g.W.Write.contents c.serve_next.new.out)
-      c.serve_next.new.out c.serve_next.result c.loop-alloc-test.false c.loop-alloc.invariant.goes_on c.serve_next.ensures.serves;
+      c.serve_next.new.out c.serve_next.result c.calls-test.false c.calls.invariant.goes_on c.serve_next.ensures.serves;
   came = came_at_end (λ after. terms g.S.Source.bytes g.S.Source.keeps g.J.System.honest g.S.Source.gave c.args.self.now.settings
-      c.args.self.now.items ((a b : g.row.I.Denot) × g.I.Inlet.fails a b) ((b : g.row.W.Denot) × g.W.Outlet.fails b after)) c.loop-alloc.n
-      c.loop-alloc.heads.unread (Some c.serve_next.new.heads.unread) (g.W.Write.contents c.args.out.now)
-      (g.W.Write.contents c.loop-alloc.out) (g.W.Write.contents c.serve_next.new.out) c.serve_next.new.out c.serve_next.result
-      c.loop-alloc-test.false
-      c.loop-alloc.invariant.came c.serve_next.ensures.came;
+      c.args.self.now.items ((a b : g.row.I.Denot) × g.I.Inlet.fails a b) ((b : g.row.W.Denot) × g.W.Outlet.fails b after)) c.calls.n
+      c.calls.heads.unread (Some c.serve_next.new.heads.unread) (g.W.Write.contents c.args.out.now)
+      (g.W.Write.contents c.calls.out) (g.W.Write.contents c.serve_next.new.out) c.serve_next.new.out c.serve_next.result
+      c.calls-test.false
+      c.calls.invariant.came c.serve_next.ensures.came;
 }

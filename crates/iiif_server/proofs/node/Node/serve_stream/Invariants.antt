@@ -4,8 +4,8 @@ use Rattle.iiif_answers.specs.Streams.{terms}
 use Rattle.iiif_server.proofs.StreamLemmas.{CameSo, GoesOnSo}
 use Rattle.iiif_server.proofs.node.Node.serve_stream.Given as goal
 
-abbrev pub invariant-loop-alloc : goal.invariant-loop-alloc
-invariant-loop-alloc g l =
+abbrev pub invariant-calls : goal.invariant-calls
+invariant-calls g l =
     record {
       no_fault : l.heads.fault ≡ None;
       few : l.n ≤ 1000;
@@ -17,5 +17,5 @@ invariant-loop-alloc g l =
           (g.W.Write.contents l.out);
     }
 
-abbrev pub decreases-loop-alloc : goal.decreases-loop-alloc
-decreases-loop-alloc g l = 1000 - l.n
+abbrev pub decreases-calls : goal.decreases-calls
+decreases-calls g l = 1000 - l.n
