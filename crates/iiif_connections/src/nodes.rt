@@ -97,15 +97,15 @@ fn stock<'p, J: System>(
 }
 
 /// A node that asks the watcher's others for the values of the keys that they own, whose groups have room for so many bytes each. The names
-/// of the nodes are at most 64, and each stands once. The watcher is told of the asks. The only error is want of memory.
+/// of the nodes are at most 64, and each stands once. The watcher is told of the asks. The blanks are those of tiles and of sums. The only
+/// error is want of memory.
 pub fn among<'p, R: Opens + Wait, J: System>(
     alloc: Global,
     config: Config,
     catalogue: Catalogue<R, Stored<R>>,
     watcher: &'p Watcher,
     bytes: u64,
-    tiles: Blank,
-    sums: Blank,
+    blanks: (Blank, Blank),
 ) -> Result<Node<R, Stored<R>, J, TcpLink<'p, J>>, NoMemory>
     requires pictures { (name : List ℕ) → J.pictures name ≡ pictures_of (bytes_of R.holds) catalogue name }
     requires gave { (name : List ℕ) (f : ReadFault) → J.gave name f ≡ gave_of stored_gave catalogue name f }
@@ -115,12 +115,13 @@ pub fn among<'p, R: Opens + Wait, J: System>(
     requires edge { config.edge ≡ J.edge }
     requires honest { J.honest ≡ false }
     requires bytes { bytes < 2 ^ 63 }
-    requires tiles { (tiles.name ≡ J.tiles_name) × (tiles.parts ≡ J.tiles_parts) × (J.tiles_parts ≡ 65537) }
-    requires sums { (sums.name ≡ J.sums_name) × (sums.parts ≡ J.sums_parts) × (J.sums_parts ≡ 65537) }
+    requires tiles { (blanks.0.name ≡ J.tiles_name) × (blanks.0.parts ≡ J.tiles_parts) × (J.tiles_parts ≡ 65537) }
+    requires sums { (blanks.1.name ≡ J.sums_name) × (blanks.1.parts ≡ J.sums_parts) × (J.sums_parts ≡ 65537) }
     ensures settings { IfOk result (λ n. n.settings ≡ config) }
     ensures items { IfOk result (λ n. n.items ≡ catalogue) }
 {
-    let tiles = stock(alloc, watcher, bytes, tiles)?;
-    let sums = stock(alloc, watcher, bytes, sums)?;
+    let (of_tiles, of_sums) = blanks;
+    let tiles = stock(alloc, watcher, bytes, of_tiles)?;
+    let sums = stock(alloc, watcher, bytes, of_sums)?;
     Node::new(alloc, config, catalogue, tiles, sums)
 }

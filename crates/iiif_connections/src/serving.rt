@@ -1,10 +1,9 @@
 //! A node that serves.
 
+use crate::manner::Manner;
 use crate::peers::PeerCalls;
 use crate::statistics::Statistics;
-use crate::times::Times;
 use crate::viewers::Viewers;
-use crate::watcher::Watcher;
 use iiif_io::Outlet;
 use iiif_keys::{SumKey, System, TileKey};
 use iiif_listener::{Company, Visit};
@@ -21,15 +20,13 @@ use std::thread::Threads;
 use std::time::Clock;
 
 /// Serves the viewers of a node, and other nodes and who asks for the statistics where there are listeners for them: these find what the
-/// viewers' calls left in the node's groups. The watcher is told of each connection of a viewer or another node, and of each answer to a
-/// viewer; what its log is told is written to the last writer. It ends where a listener does, once all connections have ended.
+/// viewers' calls left in the node's groups. What the watcher's log is told is written to the last writer. It ends where a listener does,
+/// once all connections have ended.
 pub fn serve<'x, R, J, N, T, E>(
     rt: &'x R,
     alloc: Global,
     node: &'x Node<R, Stored<R>, J, N, T>,
-    workers: u32,
-    times: Times,
-    watcher: &'x Watcher,
+    manner: Manner<'x>,
     listeners: &'x Listeners,
     err: &mut E,
 ) -> io::Result<()>
@@ -41,6 +38,11 @@ where
     T: Gate<R> + Sync,
     E: Outlet + Send,
 {
+    let Manner {
+        workers,
+        times,
+        watcher,
+    } = manner;
     let tally = &watcher.tally;
     let company = Company::new();
     let viewers = Viewers {
@@ -191,17 +193,14 @@ where
     serve_readers_by(services, listeners, (&serve, &refuse))
 }
 
-/// Serves at these addresses by a node, within these limits of time, with so many workers for each viewer's connection, and writes a
-/// line for each answer to a viewer where the watcher has a log. It ends where a listener does: an address is none, or the listener was
-/// stopped.
+/// Serves at these addresses by a node, and writes a line for each answer to a viewer where the watcher has a log. It ends where a listener
+/// does: an address is none, or the listener was stopped.
 pub fn listen<'a, R, J, N, T, E>(
     rt: &R,
     alloc: Global,
     node: &Node<R, Stored<R>, J, N, T>,
-    workers: u32,
-    times: Times,
+    manner: Manner<'_>,
     addresses: &Addresses<'_>,
-    watcher: &Watcher,
     err: &mut E,
 ) -> Result<(), Stop<'a>>
 where
@@ -215,7 +214,7 @@ where
     let Ok(listeners) = Listeners::bind(rt, alloc, addresses) else {
         return Err(Stop::Listen);
     };
-    match serve(rt, alloc, node, workers, times, watcher, &listeners, err) {
+    match serve(rt, alloc, node, manner, &listeners, err) {
         Ok(()) => Ok(()),
         Err(_) => Err(Stop::Listen),
     }

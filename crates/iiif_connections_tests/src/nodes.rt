@@ -10,7 +10,7 @@ use crate::pipe::{Inflow, Pipe};
 use iiif_canonical::Limits;
 use iiif_connections::serving::serve;
 use iiif_connections::times::USUAL;
-use iiif_connections::{Catalogue, Config, Link, Node, Nodes, Times, Watcher, among};
+use iiif_connections::{Catalogue, Config, Link, Manner, Node, Nodes, Times, Watcher, among};
 use iiif_keys::{SumKey, System, TileKey};
 use iiif_open_files::Opens;
 use iiif_services::Listeners;
@@ -155,16 +155,12 @@ where
 {
     let pipe = stage.pipe;
     let mut log = Inflow { rt, pipe };
-    let _ = serve(
-        rt,
-        alloc,
-        node,
-        2,
+    let manner = Manner {
+        workers: 2,
         times,
-        stage.watcher,
-        stage.listeners,
-        &mut log,
-    );
+        watcher: stage.watcher,
+    };
+    let _ = serve(rt, alloc, node, manner, stage.listeners, &mut log);
     if are_home(rt, alloc, node) {
         Some(counted(rt, node, stage.watcher))
     } else {
@@ -226,7 +222,8 @@ where
     requires sums { (sums.name ≡ J.sums_name) × (sums.parts ≡ J.sums_parts) × (J.sums_parts ≡ 65537) }
 {
     let watcher = stage.watcher;
-    let node = among::<R, J>(alloc, config, catalogue, watcher, ROOM, tiles, sums).ok()?;
+    let blanks = (tiles, sums);
+    let node = among::<R, J>(alloc, config, catalogue, watcher, ROOM, blanks).ok()?;
     serve_by(rt, alloc, &node, times, stage)
 }
 

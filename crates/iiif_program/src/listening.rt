@@ -12,7 +12,7 @@ use crate::makings::{Makings, makings_of, watcher_of};
 use crate::work::Listening;
 use iiif_command_line::Options;
 use iiif_connections::serving::listen;
-use iiif_connections::{Gate, Link, Node, Watcher, among};
+use iiif_connections::{Gate, Link, Manner, Node, Watcher, among};
 use iiif_io::Outlet;
 use iiif_keys::{SumKey, System, TileKey};
 use iiif_open_files::Opens;
@@ -24,6 +24,12 @@ use std::rt::Clock;
 use std::sync::Wait;
 use std::sync::ledger::Blank;
 use std::thread::Threads;
+
+/// Where a node stands: what it listens at, and who watches it.
+struct Post<'p, 'w> {
+    listening: &'p Listening<'w>,
+    watcher: &'p Watcher,
+}
 
 /// Serves those who connect, by a node as the options ask for.
 pub(crate) fn serve<'a, R, E>(
@@ -42,12 +48,16 @@ where
 {
     let made = makings_of(rt, alloc, options)?;
     let watcher = watcher_of(alloc, options, &made, listening.logs)?;
+    let post = Post {
+        listening,
+        watcher: &watcher,
+    };
     let blanks = (Blank::new(65_537), Blank::new(65_537));
     if options.peers.is_empty() {
-        return serve_alone::<R, E, Brand>(rt, made, blanks, &watcher, listening, err);
+        return serve_alone::<R, E, Brand>(rt, made, blanks, &post, err);
     }
     watcher.neighbours.look_up(rt, alloc);
-    serve_among::<R, E, Brand>(rt, made, blanks, &watcher, listening, err)
+    serve_among::<R, E, Brand>(rt, made, blanks, &post, err)
 }
 
 /// Serves by a node that asks no other.
@@ -55,8 +65,7 @@ fn serve_alone<'a, R, E, J: System + Send + Sync>(
     rt: &R,
     made: Makings<R>,
     blanks: (Blank, Blank),
-    watcher: &Watcher,
-    listening: &Listening<'_>,
+    post: &Post<'_, '_>,
     err: &mut E,
 ) -> Result<(), Stop<'a>>
 where
@@ -93,7 +102,7 @@ where
     ) else {
         return Err(Stop::Memory);
     };
-    serve_by(rt, &node, workers, watcher, listening, err)
+    serve_by(rt, &node, workers, post, err)
 }
 
 /// Serves by a node that asks the watcher's others.
@@ -101,8 +110,7 @@ fn serve_among<'a, R, E, J: System + Send + Sync>(
     rt: &R,
     made: Makings<R>,
     blanks: (Blank, Blank),
-    watcher: &Watcher,
-    listening: &Listening<'_>,
+    post: &Post<'_, '_>,
     err: &mut E,
 ) -> Result<(), Stop<'a>>
 where
@@ -128,9 +136,8 @@ where
         cache_bytes,
     } = made;
     let (alloc, workers) = (rt.alloc(), config.workers());
-    let (tiles, sums) = blanks;
-    match among::<R, J>(alloc, config, catalogue, watcher, cache_bytes, tiles, sums) {
-        Ok(node) => serve_by(rt, &node, workers, watcher, listening, err),
+    match among::<R, J>(alloc, config, catalogue, post.watcher, cache_bytes, blanks) {
+        Ok(node) => serve_by(rt, &node, workers, post, err),
         Err(_) => Err(Stop::Memory),
     }
 }
@@ -140,8 +147,7 @@ fn serve_by<'a, R, E, J, N, T>(
     rt: &R,
     node: &Node<R, Stored<R>, J, N, T>,
     workers: u32,
-    watcher: &Watcher,
-    listening: &Listening<'_>,
+    post: &Post<'_, '_>,
     err: &mut E,
 ) -> Result<(), Stop<'a>>
 where
@@ -154,9 +160,14 @@ where
     T: Gate<R> + Sync,
 {
     let alloc = rt.alloc();
+    let listening = post.listening;
     if touch(alloc, listening.touch_bytes).is_err() {
         return Err(Stop::Memory);
     }
-    let (times, addresses) = (listening.times, &listening.addresses);
-    listen(rt, alloc, node, workers, times, addresses, watcher, err)
+    let manner = Manner {
+        workers,
+        times: listening.times,
+        watcher: post.watcher,
+    };
+    listen(rt, alloc, node, manner, &listening.addresses, err)
 }

@@ -115,8 +115,7 @@ where
         cache_bytes,
     } = made;
     let (alloc, workers) = (rt.alloc(), config.workers());
-    let (tiles, sums) = blanks;
-    let Ok(node) = among::<R, J>(alloc, config, catalogue, watcher, cache_bytes, tiles, sums) else {
+    let Ok(node) = among::<R, J>(alloc, config, catalogue, watcher, cache_bytes, blanks) else {
         return Err(Stop::Memory);
     };
     if one.hex {
