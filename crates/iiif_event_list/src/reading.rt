@@ -245,13 +245,7 @@ fn add_key(alloc: Global, words: &[&str], keys: &mut Vec<Key>) -> Result<usize, 
 }
 
 /// The keys of words that are keys, one behind the other.
-#[tactic(auto, using(
-    crate::proofs::Keys::no_key_yet,
-    crate::proofs::Keys::one_key_more,
-    crate::proofs::Keys::all_keys,
-    crate::proofs::Bad::all_left,
-    crate::proofs::Bad::one_left
-))]
+#[tactic(auto, using(crate::proofs::Keys::no_key_yet, crate::proofs::Keys::one_key_more, crate::proofs::Keys::all_keys, crate::proofs::Bad::all_left, crate::proofs::Bad::one_left))]
 fn keys_of(alloc: Global, words: &[&str]) -> Result<Vec<Key>, LineFault>
     ensures read { IfOk result (λ keys. AreKeys words.now keys.items) }
     ensures bad { BadUnless (HasKeys words.now) result }

@@ -18,12 +18,7 @@ fn longer(found: Option<(usize, u64)>, place: usize, standing: Standing) -> Opti
 }
 
 /// The place whose connection is idle longest. None where none is idle.
-#[tactic(auto, using(
-    crate::proofs::IdleLemmas::next_at,
-    crate::proofs::IdleLemmas::none_at_first,
-    crate::proofs::IdleLemmas::longest_of,
-    crate::proofs::IdleLemmas::none_of
-))]
+#[tactic(auto, using(crate::proofs::IdleLemmas::next_at, crate::proofs::IdleLemmas::none_at_first, crate::proofs::IdleLemmas::longest_of, crate::proofs::IdleLemmas::none_of))]
 pub fn longest_idle(seats: &[Seat]) -> Option<usize>
     ensures some { IfSome result (λ place. IsLongestIdle seats.now place) }
     ensures none { IfNone result (NoneIsIdle seats.now) }
