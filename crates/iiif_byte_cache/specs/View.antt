@@ -20,7 +20,7 @@ lists_of main hot limit = record {
 
 -- its two lists, what they may take, and how many entries each may have
 abbrev pub cache_of : {K J V : Type 0} {a b c d : _} → ByteCache K J V a b c d → Cache K V
-cache_of c = lists_of c.main c.hot c.limit
+cache_of c = lists_of c.lists.main c.lists.hot c.limit
 
 -- the side that a put is for
 abbrev pub side : Bool → Side

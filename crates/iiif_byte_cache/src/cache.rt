@@ -5,20 +5,19 @@ ghost use Rattle.iiif_tables.specs.Cache.{entries_of};
 ghost use Rattle.iiif_outcome.specs.Views.{kept_of};
 ghost use Rattle.iiif_byte_cache.specs.Rows.{rows};
 
-use crate::recent::Recent;
+use crate::lists::Lists;
 use iiif_keys::{CacheKey, System};
 
 /// Two lists of entries, and how many bytes they may take together.
 #[derive(Drop)]
 pub struct ByteCache<K: CacheKey, J: System> {
-    pub(crate) main: Recent<K, J>,
-    pub(crate) hot: Recent<K, J>,
+    pub(crate) lists: Lists<K, J>,
     pub(crate) limit: u64,
-    pub ghost within: { main.bytes + hot.bytes ≤ limit },
+    pub ghost within: { lists.main.bytes + lists.hot.bytes ≤ limit },
     pub ghost small: { limit < 2 ^ 63 },
-    pub ghost single: { (q : K) → entries_of K.eq q (rows kept_of main.list.entries) + entries_of K.eq q (rows kept_of hot.list.entries)
-        ≤ 1 },
-    pub ghost room: { hot.list.cap ≡ main.list.cap },
+    pub ghost single: { (q : K) → entries_of K.eq q (rows kept_of lists.main.list.entries)
+        + entries_of K.eq q (rows kept_of lists.hot.list.entries) ≤ 1 },
+    pub ghost room: { lists.hot.list.cap ≡ lists.main.list.cap },
 }
 
 /// Why an entry was not put. The key and the entry are handed back.

@@ -7,7 +7,7 @@ ghost use Rattle.iiif_byte_cache.specs.OneList.{IsOf};
 ghost use Rattle.iiif_byte_cache.specs.View.{side};
 
 use crate::cache::{ByteCache, PutFault};
-use crate::putting::{evict, place, shrink};
+use crate::lists::Lists;
 use crate::recent::Recent;
 use iiif_keys::{CacheKey, System};
 use iiif_outcome::Entry;
@@ -29,8 +29,7 @@ impl<K: CacheKey, J: System> ByteCache<K, J> {
         let main = Recent::new(alloc, entries)?;
         let hot = Recent::new(alloc, entries)?;
         Ok(ByteCache {
-            main,
-            hot,
+            lists: Lists { main, hot },
             limit: bytes,
         })
     }
@@ -39,42 +38,42 @@ impl<K: CacheKey, J: System> ByteCache<K, J> {
     pub fn bytes(&self) -> u64
         ensures { Takes self.now result }
     {
-        self.main.bytes + self.hot.bytes
+        self.lists.bytes()
     }
 
     /// How many entries there are. It takes no memory.
     pub fn len(&self) -> usize
         ensures { result ≡ count_of self.now }
     {
-        self.main.list.len() + self.hot.list.len()
+        self.lists.main.list.len() + self.lists.hot.list.len()
     }
 
     /// Whether something is kept for the key. Nothing changes, and it takes no memory.
     pub fn holds(&self, key: &K) -> bool
         ensures { result ≡ keeps self.now key.now }
     {
-        self.main.contains(key) || self.hot.contains(key)
+        self.lists.main.contains(key) || self.lists.hot.contains(key)
     }
 
     /// The keys of the main list, in order, as for tests and measurements. The only error is want of memory.
     pub fn main_keys(&self, alloc: Global) -> Result<Vec<K>, NoMemory>
         ensures { IfOk result (AreMainKeys self.now) }
     {
-        self.main.keys(alloc)
+        self.lists.main.keys(alloc)
     }
 
     /// The keys of the hot list, in order.
     pub fn hot_keys(&self, alloc: Global) -> Result<Vec<K>, NoMemory>
         ensures { IfOk result (AreHotKeys self.now) }
     {
-        self.hot.keys(alloc)
+        self.lists.hot.keys(alloc)
     }
 
     /// Takes out the entry that goes next. None where there is no entry. It takes no memory.
     pub fn evict_oldest(&mut self) -> Option<(K, Entry<K, J>)>
         ensures { Evicts self.old self.new result }
     {
-        evict(&mut self.main, &mut self.hot)
+        self.lists.evict()
     }
 
     /// Puts an entry at the front of the main list, or of the list that has its key; then the oldest go while the entries take too
@@ -103,9 +102,9 @@ impl<K: CacheKey, J: System> ByteCache<K, J> {
         if size > self.limit {
             return Err(PutFault::TooBig(key, entry));
         }
-        match place(&mut self.main, &mut self.hot, hot, key, entry, size) {
+        match self.lists.place(hot, key, entry, size) {
             Ok(()) => {
-                shrink(&mut self.main, &mut self.hot, self.limit);
+                self.lists.shrink(self.limit);
                 Ok(())
             }
             Err((key, entry)) => Err(PutFault::NoMemory(key, entry)),
@@ -116,10 +115,10 @@ impl<K: CacheKey, J: System> ByteCache<K, J> {
     pub fn touch(&mut self, key: &K)
         ensures { Touches key.now self.old self.new }
     {
-        if self.main.touch(key) {
+        if self.lists.main.touch(key) {
             return;
         }
-        let _there = self.hot.touch(key);
+        let _there = self.lists.hot.touch(key);
     }
 
     /// What is kept for the key, for one who hits it, and nothing changes; `touch` afterwards can't fail. It takes no memory: the
@@ -127,9 +126,9 @@ impl<K: CacheKey, J: System> ByteCache<K, J> {
     pub fn hit(&mut self, key: &K) -> Result<Option<Entry<K, J>>, NoMemory>
         ensures { Hits key.now self.old self.new result }
     {
-        if let Some(hit) = self.main.hit(key)? {
+        if let Some(hit) = self.lists.main.hit(key)? {
             return Ok(Some(hit));
         }
-        self.hot.hit(key)
+        self.lists.hot.hit(key)
     }
 }

@@ -16,11 +16,11 @@ impl<K: CacheKey, J: System> ByteCache<K, J> {
             self.entry (Touches key.now self.old)) }
         ensures value { LendsKept self.old key.now result }
     {
-        if self.main.touch(key) {
-            self.main.list.peek(key)
+        if self.lists.main.touch(key) {
+            self.lists.main.list.peek(key)
         } else {
-            let _there = self.hot.touch(key);
-            self.hot.list.peek(key)
+            let _there = self.lists.hot.touch(key);
+            self.lists.hot.list.peek(key)
         }
     }
 }

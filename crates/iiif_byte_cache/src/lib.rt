@@ -8,5 +8,5 @@ pub mod cache;
 mod calls;
 mod getting;
 mod listing;
-mod putting;
+mod lists;
 mod recent;

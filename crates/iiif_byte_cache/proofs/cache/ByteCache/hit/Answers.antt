@@ -33,7 +33,7 @@ invariant_of-self-2 g c =
     record {
       within = omega (arith, c.hit.ensures.same.0, c.hit-2.ensures.same.0, now.within);
       small = now.small;
-      single = subst (λ l. Single g.K.PartialEq.eq (record (lists_of c.hit.new.self now.hot now.limit) { hot = l }))
+      single = subst (λ l. Single g.K.PartialEq.eq (record (lists_of c.hit.new.self now.lists.hot now.limit) { hot = l }))
           (sym c.hit-2.ensures.rows) main;
       room = c.hit-2.ensures.same.1 ∙ now.room ∙ sym c.hit.ensures.same.1;
     }

@@ -49,7 +49,7 @@ invariant_of-self g c =
     let eq = g.K.PartialEq.eq in
     let old = cache_of now in
     let entry = kept_of c.args.entry in
-    let next = lists_of c.place.new.main c.place.new.hot now.limit in
+    let next = lists_of c.place.new.self.main c.place.new.self.hot now.limit in
     let put : Single eq next = subst (Single eq) (sym (c.in-Ok.ensures.ok now.limit))
     (single_placed eq g.met.K.Eq.laws c.args.key (side c.args.hot) entry old now.single) in
     record {

@@ -25,11 +25,11 @@ invariant_of-self-2 g c =
     let old = cache_of now in
     let main = subst (λ l. Single eq (record old { main = l })) (sym c.touch.ensures.rows)
     (touched_single eq c.args.key.now old now.single true) in
-    let front = touched_single eq c.args.key.now (lists_of c.touch.new.self now.hot now.limit) main false in
+    let front = touched_single eq c.args.key.now (lists_of c.touch.new.self now.lists.hot now.limit) main false in
     record {
       within = omega (arith, c.touch.ensures.same.0, c.touch-there.ensures.same.0, now.within);
       small = now.small;
-      single = subst (λ l. Single eq (record (lists_of c.touch.new.self now.hot now.limit) { hot = l })) (sym c.touch-there.ensures.rows)
+      single = subst (λ l. Single eq (record (lists_of c.touch.new.self now.lists.hot now.limit) { hot = l })) (sym c.touch-there.ensures.rows)
           front;
       room = c.touch-there.ensures.same.1 ∙ now.room ∙ sym c.touch.ensures.same.1;
     }

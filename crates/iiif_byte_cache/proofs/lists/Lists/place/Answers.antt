@@ -5,16 +5,16 @@ use Rattle.iiif_outcome.specs.Views.{kept_of}
 use Rattle.iiif_byte_cache.proofs.Placing.{goes_to_hot, goes_to_main, hot_absent, main_absent, neither_there, test_is}
 use Rattle.iiif_byte_cache.specs.Rows.{rows, pushed}
 use Rattle.iiif_byte_cache.specs.View.{lists_of}
-use Rattle.iiif_byte_cache.proofs.putting.place.Goals as goal
+use Rattle.iiif_byte_cache.proofs.lists.Lists.place.Goals as goal
 
 pub returns-then-in_main-for_hot : goal.returns-then-in_main-for_hot
 returns-then-in_main-for_hot g c =
     let eq = g.K.PartialEq.eq in
     let kept = kept_of c.args.entry in
-    let hot = rows kept_of c.args.hot.now.list.entries in
+    let hot = rows kept_of c.args.self.now.hot.list.entries in
     record {
       ok = λ limit.
-          let old = lists_of c.args.main.now c.args.hot.now limit in
+          let old = lists_of c.args.self.now.main c.args.self.now.hot limit in
           on_ok_weaker c.push.result
           (λ e. same_cache _ _ _ _ _ _ _ refl (e ∙ ap (λ r. pushed eq r c.args.key kept hot) c.requires.room) refl
           ∙ sym (goes_to_hot eq c.args.key kept old c.args.for_hot
@@ -38,7 +38,7 @@ returns-else-in_main-for_hot g c =
     let push = c.push-else-in_main-for_hot in
     record {
       ok = λ limit.
-          let old = lists_of c.args.main.now c.args.hot.now limit in
+          let old = lists_of c.args.self.now.main c.args.self.now.hot limit in
           on_ok_weaker push.result
           (λ e. same_cache _ _ _ _ _ _ _ e refl push.ensures.room
           ∙ sym (goes_to_main eq c.args.key kept old c.args.for_hot
