@@ -26,6 +26,7 @@ use std::sync::ledger::Blank;
 use std::thread::Threads;
 
 /// Where a node stands: what it listens at, and who watches it.
+#[derive(Drop)]
 struct Post<'p, 'w> {
     listening: &'p Listening<'w>,
     watcher: &'p Watcher,
