@@ -7,7 +7,7 @@ from pathlib import Path
 
 TOP = Path(__file__).resolve().parents[1]
 # Crates of tests that aren't named so.
-TESTS = ("iiif_sample_keys", "iiif_program_cases", "iiif_matrix")
+TESTS = ("iiif_sample_keys", "iiif_program_cases")
 
 
 def is_test(crate):
