@@ -1,4 +1,5 @@
 pub mod Nodes
 pub mod Stocks
 pub mod Code
+pub mod Answering
 pub mod Peers

@@ -1,18 +1,13 @@
 //! A node: what it was told, its images, their tiles and sums, and its answers.
 
 ghost use Rattle.std.specs.Prelude.{◌≡◌, ◌<◌, ◌≤◌, ◌^◌, ℕ, List, Some, false, true, IfOk, length};
-ghost use Rattle.std.specs.Io.KnownBytes.{Appends};
 ghost use Rattle.iiif_source.specs.declared.ReadFault.{ReadFault};
 ghost use Rattle.iiif_images.specs.Collection.{Item, item_named};
 ghost use Rattle.iiif_images.specs.Items.{item_of};
 ghost use Rattle.iiif_images.specs.Named.{gave_of, pictures_of};
-ghost use Rattle.iiif_answers.specs.Answers.{given, Given, Replies};
-ghost use Rattle.iiif_answers.specs.Allowed.{Allowed, IsFramedText};
-ghost use Rattle.iiif_answers.specs.Calls.{RepliesToCall, part_of};
-ghost use Rattle.iiif_server.specs.Code.{IsHeadFor, IsJobFor, SendsAllowed, SendsFor};
-ghost use Rattle.iiif_answers.specs.Outcomes.{IsReady};
+ghost use Rattle.iiif_server.specs.Answering.{SendsBody, SendsPart, ServesOne};
+ghost use Rattle.iiif_server.specs.Code.{HasImages, IsAccepted, IsHeadFor, IsJobOn, SendsFor};
 ghost use Rattle.iiif_answers.specs.Responses.{is_loaded};
-ghost use Rattle.iiif_answers.specs.declared.part.Part.TheVariants.{Body};
 
 use crate::asking::{Asked, Host, Planned};
 use crate::stock::Stock;
@@ -132,22 +127,15 @@ impl<R, S: Source<R> + Drop, J: System, N, T> Node<R, S, J, N, T> {
 
     /// Its images.
     pub(crate) fn images(&self) -> &Catalogue<R, S>
-        ensures items { result.now ≡ self.now.items }
-        ensures edge { self.now.settings.edge ≡ J.edge }
-        ensures kept { (name : List ℕ) (item : Item S) → item_named self.now.items name ≡ Some item → S.keeps item.source → J.stable name }
-        ensures pictures { (name : List ℕ) → J.pictures name ≡ pictures_of S.bytes result.now name }
-        ensures gave { (name : List ℕ) (f : ReadFault) → J.gave name f ≡ gave_of S.gave result.now name f }
-        ensures stable { (name : List ℕ) (item : Item S) → item_named result.now name ≡ Some item → J.stable name →
-            ∥ S.keeps item.source ∥₁ }
+        ensures { HasImages S.bytes S.gave S.keeps J.System self.now result.now }
     {
         self.groups.tiles().images().catalogue()
     }
 
     /// What an accepted request of one of its images comes to, planned.
     fn job(&self, alloc: Global, entry: &Entry<R, S>, accepted: &Accepted) -> Result<Job, NoMemory>
-        requires ready { IsReady entry.now.layout accepted.now }
-        requires found { item_named self.now.items entry.now.name ≡ Some (item_of entry.now) }
-        ensures { IfOk result (IsJobFor J.pictures J.gave J.stable J.edge S.bytes S.gave S.keeps (item_of entry.now) accepted.now) }
+        requires { IsAccepted self.now.items (item_of entry.now) accepted.now }
+        ensures { IfOk result (IsJobOn J.System S.bytes S.gave S.keeps (item_of entry.now) accepted.now) }
     {
         // Read, so that it is known what the names stand for.
         let _images = self.images();
@@ -218,11 +206,10 @@ impl<
         out: &mut W,
     ) -> Result<Sent, Cut>
         requires some { 0 < length passes.old }
-        requires ready { IsReady asked.now.entry.now.layout asked.now.accepted.now }
-        requires found { item_named self.now.items asked.now.entry.now.name ≡ Some (item_of asked.now.entry.now) }
+        requires accepted { IsAccepted self.now.items (item_of asked.now.entry.now) asked.now.accepted.now }
         requires loaded { is_loaded asked.now.part ≡ true }
-        ensures { SendsFor S.bytes S.keeps S.gave J.honest self.now.settings asked.now.part (item_of asked.now.entry.now)
-            asked.now.accepted.now W.contents W.fails out.old out.new result }
+        ensures { SendsFor S.bytes S.keeps S.gave J.honest self.now.settings asked.now.part (item_of asked.now.entry.now) asked.now.accepted.now
+            W.contents W.fails out.old out.new result }
     {
         let Ok(head) = image_head(
             host.alloc,
@@ -253,13 +240,12 @@ impl<
         out: &mut W,
     ) -> Result<Sent, Cut>
         requires some { 0 < length passes.old }
-        requires ready { IsReady asked.now.entry.now.layout asked.now.accepted.now }
+        requires accepted { IsAccepted self.now.items (item_of asked.now.entry.now) asked.now.accepted.now }
         requires loaded { is_loaded asked.now.part ≡ true }
-        requires job { IsJobFor J.pictures J.gave J.stable J.edge S.bytes S.gave S.keeps (item_of asked.now.entry.now)
-            asked.now.accepted.now planned.now.job.now }
+        requires job { IsJobOn J.System S.bytes S.gave S.keeps (item_of asked.now.entry.now) asked.now.accepted.now planned.now.job.now }
         requires head { IsHeadFor self.now.settings asked.now.part asked.now.entry.now.name asked.now.accepted.now planned.now.head.now }
-        ensures { SendsFor S.bytes S.keeps S.gave J.honest self.now.settings asked.now.part (item_of asked.now.entry.now)
-            asked.now.accepted.now W.contents W.fails out.old out.new result }
+        ensures { SendsFor S.bytes S.keeps S.gave J.honest self.now.settings asked.now.part (item_of asked.now.entry.now) asked.now.accepted.now
+            W.contents W.fails out.old out.new result }
     {
         // Laws of images and of groups.
         picture_is_shown(asked.entry);
@@ -310,10 +296,9 @@ impl<
         out: &mut W,
     ) -> Result<Sent, Cut>
         requires some { 0 < length passes.old }
-        requires ready { IsReady asked.now.entry.now.layout asked.now.accepted.now }
-        requires found { item_named self.now.items asked.now.entry.now.name ≡ Some (item_of asked.now.entry.now) }
-        ensures allowed { SendsFor S.bytes S.keeps S.gave J.honest self.now.settings asked.now.part (item_of asked.now.entry.now)
-            asked.now.accepted.now W.contents W.fails out.old out.new result }
+        requires accepted { IsAccepted self.now.items (item_of asked.now.entry.now) asked.now.accepted.now }
+        ensures allowed { SendsFor S.bytes S.keeps S.gave J.honest self.now.settings asked.now.part (item_of asked.now.entry.now) asked.now.accepted.now
+            W.contents W.fails out.old out.new result }
         ensures unasked { is_loaded asked.now.part ≡ false → passes.new ≡ passes.old }
     {
         match asked.part {
@@ -340,12 +325,9 @@ impl<
         target: &[u8],
         out: &mut W,
     ) -> Result<Sent, Cut>
-        requires some { 0 < length passes.old }
-        ensures allowed { SendsAllowed self.now.settings part S.gave (Replies S.bytes S.keeps J.honest self.now.settings self.now.items
-            target.now) W.contents W.fails out.old out.new result }
-        ensures unasked { ((g : Given S) → Replies S.bytes S.keeps J.honest self.now.settings self.now.items target.now (given g) →
-            is_loaded part ≡ false)
-            → passes.new ≡ passes.old }
+        requires { 0 < length passes.old }
+        ensures { SendsPart S.bytes S.keeps S.gave J.honest self.now W.contents W.fails out.old out.new passes.old passes.new result
+            part target.now }
     {
         match outcome_of(host.alloc, &self.config, self.images(), target) {
             Outcome::Image(entry, accepted) => {
@@ -372,14 +354,9 @@ impl<
         target: &[u8],
         out: &mut W,
     ) -> Result<Sent, Cut>
-        requires some { 0 < length passes.old }
-        ensures allowed { (text : List ℕ) × Appends (W.contents out.old) (W.contents out.new) text
-            × Allowed self.now.settings Body S.gave (Replies S.bytes S.keeps J.honest self.now.settings self.now.items target.now)
-            ((before : W) × W.fails before out.new) text result }
-        ensures framed { (text : List ℕ) × Appends (W.contents out.old) (W.contents out.new) text ×
-            IsFramedText S self.now.settings Body text result }
-        ensures unasked { ((g : Given S) → ¬ Replies S.bytes S.keeps J.honest self.now.settings self.now.items target.now (given g))
-            → passes.new ≡ passes.old }
+        requires { 0 < length passes.old }
+        ensures { SendsBody S.bytes S.keeps S.gave J.honest self.now W.contents W.fails out.old out.new passes.old passes.new result
+            target.now }
     {
         let host = Host { rt, alloc };
         self.answer(&host, passes, Part::Body, target, out)
@@ -395,16 +372,9 @@ impl<
         call: &Call,
         out: &mut W,
     ) -> Result<Sent, Cut>
-        requires some { 0 < length passes.old }
-        ensures allowed { (text : List ℕ) × Appends (W.contents out.old) (W.contents out.new) text
-            × Allowed self.now.settings (part_of call.now.method call.now.close) S.gave
-            (RepliesToCall S.bytes S.keeps J.honest self.now.settings self.now.items call.now.method call.now.target.items)
-            ((before : W) × W.fails before out.new) text result }
-        ensures framed { (text : List ℕ) × Appends (W.contents out.old) (W.contents out.new) text
-            × IsFramedText S self.now.settings (part_of call.now.method call.now.close) text result }
-        ensures unasked { ((g : Given S) → RepliesToCall S.bytes S.keeps J.honest self.now.settings self.now.items call.now.method
-            call.now.target.items (given g)
-            → is_loaded (part_of call.now.method call.now.close) ≡ false) → passes.new ≡ passes.old }
+        requires { 0 < length passes.old }
+        ensures { ServesOne S.bytes S.keeps S.gave J.honest self.now W.contents W.fails out.old out.new passes.old passes.new result
+            call.now }
     {
         let part = part_of(call);
         if is_answered(call) {

@@ -1,11 +1,6 @@
 //! Connections of other nodes.
 
-ghost use Rattle.std.specs.Prelude.{ℕ, List};
-ghost use Rattle.std.specs.Io.KnownBytes.{Appends};
-ghost use Rattle.iiif_peer_server.specs.Exchanges.{IsExchange};
-ghost use Rattle.iiif_peer_wire.specs.Faults.{LeftAt};
-ghost use Rattle.iiif_peer_wire.specs.Reading.{IsInput};
-ghost use Rattle.iiif_server.specs.Peers.{RepliesToAsk};
+ghost use Rattle.iiif_server.specs.Peers.{RepliesToAsk, ServesPeer};
 
 use crate::node::Node;
 use iiif_io::{Inlet, Outlet};
@@ -56,11 +51,8 @@ impl<
         reader: &mut I,
         out: &mut W,
     )
-        // What came is the input, where that is known. So it is one relation for memory and for sockets.
-        ensures { (came : List ℕ) × (output : List ℕ) × IsInput (I.remaining reader.old) came ×
-            Appends (W.contents out.old) (W.contents out.new) output
-            × IsExchange (RepliesToAsk S.bytes S.gave S.keeps J.honest self.now) (LeftAt I.fails reader.new) (LeftAt W.fails out.new)
-            (IsInput (I.remaining reader.new)) came output }
+        ensures { ServesPeer S.bytes S.gave S.keeps J.honest self.now I.remaining I.fails W.contents W.fails reader.old reader.new
+            out.old out.new }
     {
         serve_peer(rt, alloc, self, passes, reader, out)
     }

@@ -1,10 +1,9 @@
 //! Connections.
 
-ghost use Rattle.std.specs.Prelude.{◌≡◌, ◌≤◌, ◌<◌, ◌==◌, ◌||◌, ◌++◌, ℕ, List, true, IfSome, None, Some, length};
-ghost use Rattle.std.specs.Io.KnownBytes.{Appends};
-ghost use Rattle.iiif_http_front.specs.Reading.{input_of};
-ghost use Rattle.iiif_server.specs.Code.{CloseFor, IsAnswered, Served};
-ghost use Rattle.iiif_answers.specs.Streams.{IsCame, IsConnection, call_limit, terms, IsClosing};
+ghost use Rattle.std.specs.Prelude.{◌≡◌, ◌≤◌, ◌<◌, ◌==◌, ◌||◌, true, None, length};
+ghost use Rattle.iiif_server.specs.Answering.{ServesStream, terms_of};
+ghost use Rattle.iiif_server.specs.Code.{AnswersCall, CloseFor, SendsSome, ServesNext};
+ghost use Rattle.iiif_answers.specs.Streams.{call_limit, IsClosing};
 ghost use Rattle.iiif_answers.specs.Responses.{refusal_response, want_of_memory};
 ghost use Rattle.iiif_request.specs.declared.request.Refusal.TheVariants as refusal;
 
@@ -30,16 +29,14 @@ pub const CALL_LIMIT: u32 = 1000;
 
 /// Sends the answer to want of memory, after which the connection closes.
 fn close_for_memory<W: Outlet>(out: &mut W) -> Result<Sent, Cut>
-    ensures { (text : List ℕ) × Appends (W.contents out.old) (W.contents out.new) text
-        × IsClosing ((before : W) × W.fails before out.new) want_of_memory text }
+    ensures { SendsSome W.contents out.old out.new (IsClosing ((before : W) × W.fails before out.new) want_of_memory) }
 {
     send_message(out, Part::Whole(true), Err(AllocError))
 }
 
 /// Sends the answer to a head that is none, or to want of memory, after which the connection closes.
 fn close_for_head<W: Outlet>(alloc: Global, out: &mut W) -> Result<Sent, Cut>
-    ensures { (text : List ℕ) × Appends (W.contents out.old) (W.contents out.new) text
-        × CloseFor ((before : W) × W.fails before out.new) (refusal_response refusal.Head) text }
+    ensures { SendsSome W.contents out.old out.new (CloseFor ((before : W) × W.fails before out.new) (refusal_response refusal.Head)) }
 {
     let part = Part::Whole(true);
     let message = refusal_message(alloc, part, Refusal::Head);
@@ -75,9 +72,7 @@ impl<
         out: &mut W,
     ) -> bool
         requires { 0 < length passes.old }
-        ensures { (text : List ℕ) × Appends (W.contents out.old) (W.contents out.new) text
-            × IsAnswered S.bytes S.keeps J.honest S.gave self.now.settings self.now.items ((before : W) × W.fails before out.new)
-            call.now.method call.now.target.items call.now.close text result }
+        ensures { AnswersCall S.bytes S.keeps S.gave J.honest self.now W.contents W.fails out.old out.new call.now result }
     {
         let begun = serving.watch.begin(serving.rt);
         let outcome = self.serve_one(serving.rt, serving.alloc, passes, call, out);
@@ -102,15 +97,8 @@ impl<
         requires some { 0 < length passes.old }
         requires no_fault { heads.old.fault ≡ None }
         requires few { n ≤ 1000 }
-        ensures serves { IfSome (input_of I.remaining heads.old)
-            (λ input. (text : List ℕ) × Appends (W.contents out.old) (W.contents out.new) text
-            × Served (terms S.bytes S.keeps J.honest S.gave self.now.settings self.now.items ((before after : I) × I.fails before after)
-            ((before : W) × W.fails before out.new))
-            n input (input_of I.remaining heads.new) text result) }
-        ensures came { (came : List ℕ) × (text : List ℕ) × Appends (W.contents out.old) (W.contents out.new) text
-            × Served (terms S.bytes S.keeps J.honest S.gave self.now.settings self.now.items ((before after : I) × I.fails before after)
-            ((before : W) × W.fails before out.new))
-            n (heads.old.unread ++ came) (Some heads.new.unread) text result }
+        ensures next { ServesNext (terms_of S.bytes S.keeps S.gave J.honest self.now I.fails W.fails out.new) n I.remaining W.contents
+            heads.old heads.new out.old out.new result }
         ensures goes_on { result ≡ true → heads.new.fault ≡ None }
         ensures few { result ≡ true → n < 1000 }
     {
@@ -144,19 +132,8 @@ impl<
         out: &mut W,
     )
         requires { 0 < length passes.old }
-        // Where the bytes that the reader has left are known, the output is that for what came of them: all, or a first part where
-        // the reader failed.
-        ensures serves { IfSome (I.remaining reader) (λ input. (output : List ℕ) × Appends (W.contents out.old) (W.contents out.new) output
-            × ((came : List ℕ) × IsCame ((before after : I) × I.fails before after) input came
-            × IsConnection (terms S.bytes S.keeps J.honest S.gave self.now.settings self.now.items
-            ((before after : I) × I.fails before after) ((before : W) × W.fails before out.new))
-            came output)) }
-
-        // Where they are not, as at a socket, it is that for the bytes that came.
-        ensures came { (came : List ℕ) × (output : List ℕ) × Appends (W.contents out.old) (W.contents out.new) output
-            × IsConnection (terms S.bytes S.keeps J.honest S.gave self.now.settings self.now.items
-            ((before after : I) × I.fails before after) ((before : W) × W.fails before out.new))
-            came output }
+        ensures { ServesStream (terms_of S.bytes S.keeps S.gave J.honest self.now I.fails W.fails out.new) I.remaining W.contents reader
+            out.old out.new }
     {
         let Ok(mut heads) = Heads::new(serving.alloc, reader) else {
             let begun = serving.watch.begin(serving.rt);

@@ -44,13 +44,13 @@ calls-preserved g c =
           (input_of g.I.Read.remaining c.serve_next.new.heads) (g.W.Write.contents c.args.out.now) (g.W.Write.contents c.calls.out)
           (g.W.Write.contents c.serve_next.new.out)
           c.serve_next.new.out c.serve_next.result (λ a b h close text whole. whole) c.calls-test.true c.calls.invariant.goes_on
-          c.serve_next.ensures.serves;
+          c.serve_next.ensures.next.serves;
       came = came_further (λ after. terms g.S.Source.bytes g.S.Source.keeps g.J.System.honest g.S.Source.gave c.args.self.now.settings
           c.args.self.now.items ((a b : g.row.I.Denot) × g.I.Inlet.fails a b) ((b : g.row.W.Denot) × g.W.Outlet.fails b after))
           c.calls.n c.calls.heads.unread (Some c.serve_next.new.heads.unread) (g.W.Write.contents c.args.out.now)
           (g.W.Write.contents c.calls.out) (g.W.Write.contents c.serve_next.new.out) c.serve_next.new.out c.serve_next.result
           (λ a b h close text whole. whole)
-          c.calls-test.true c.calls.invariant.came c.serve_next.ensures.came;
+          c.calls-test.true c.calls.invariant.came c.serve_next.ensures.next.came;
     }
 
 pub returns : goal.returns
@@ -60,11 +60,11 @@ returns g c = record {
       (g.I.Read.remaining c.args.reader) (input_of g.I.Read.remaining c.calls.heads)
       (input_of g.I.Read.remaining c.serve_next.new.heads) (g.W.Write.contents c.args.out.now) (g.W.Write.contents c.calls.out)
       (g.W.Write.contents c.serve_next.new.out)
-      c.serve_next.new.out c.serve_next.result c.calls-test.false c.calls.invariant.goes_on c.serve_next.ensures.serves;
+      c.serve_next.new.out c.serve_next.result c.calls-test.false c.calls.invariant.goes_on c.serve_next.ensures.next.serves;
   came = came_at_end (λ after. terms g.S.Source.bytes g.S.Source.keeps g.J.System.honest g.S.Source.gave c.args.self.now.settings
       c.args.self.now.items ((a b : g.row.I.Denot) × g.I.Inlet.fails a b) ((b : g.row.W.Denot) × g.W.Outlet.fails b after)) c.calls.n
       c.calls.heads.unread (Some c.serve_next.new.heads.unread) (g.W.Write.contents c.args.out.now)
       (g.W.Write.contents c.calls.out) (g.W.Write.contents c.serve_next.new.out) c.serve_next.new.out c.serve_next.result
       c.calls-test.false
-      c.calls.invariant.came c.serve_next.ensures.came;
+      c.calls.invariant.came c.serve_next.ensures.next.came;
 }
