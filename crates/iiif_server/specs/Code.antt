@@ -1,16 +1,17 @@
 -- Words of private functions.
-use Rattle.std.specs.Prelude.{◌≡◌, ℕ, ◌⊎◌, ◌++◌, Bool, true, false, not, List, Option, Result, Some, Ok, Err, IsTrue, IfSome}
+use Rattle.std.specs.Prelude.{◌≡◌, ℕ, ◌⊎◌, ◌++◌, ◌==◌, ◌||◌, Bool, true, false, not, List, Option, Result, Some, Ok, Err, IfSome}
 use Rattle.std.specs.Io.KnownBytes.{Appends}
 use Rattle.httparse.specs.Grammar.{RequestHead}
 use Rattle.iiif_http_front.specs.Reading.{Reading, input_of}
 use Rattle.iiif_http_front.specs.RequestHeads.{BeginsWithCall}
 use Rattle.iiif_http_front.specs.declared.call.Call.{Call}
 use Rattle.iiif_source.specs.declared.ReadFault.{ReadFault}
+use Rattle.iiif_source.specs.declared.Source as source
 use Rattle.iiif_pixel.specs.Picture.{Picture, dim_of}
 use Rattle.iiif_pixel.specs.TurnPlaces.{turned_dim}
-use Rattle.iiif_tiff_write.specs.OutKind.{out_kind_of}
 use Rattle.iiif_canonical.specs.Images.{resolved_image}
 use Rattle.iiif_request.specs.declared.request.Request.{Request}
+use Rattle.iiif_request.specs.declared.request.Refusal.TheVariants as refusal
 use Rattle.iiif_keys.specs.Names.{named, IsSource, Pictures}
 use Rattle.iiif_keys.specs.Shapes.{HasPicture}
 use Rattle.iiif_keys.specs.declared.system.System as system
@@ -19,17 +20,17 @@ use Rattle.iiif_images.specs.Named.{gave_of, picture_in, pictures_of}
 use Rattle.iiif_assemble.specs.Jobs.{IsJob}
 use Rattle.iiif_assemble.specs.declared.job.Job.{Job}
 use Rattle.iiif_answers.specs.Allowed.{Allowed}
-use Rattle.iiif_answers.specs.Answers.{Reply, given, IsPictureOf, IsSentFor}
+use Rattle.iiif_answers.specs.Answers.{Reply, given, IsSentFor}
 use Rattle.iiif_answers.specs.Calls.{RepliesToCall, part_of}
-use Rattle.iiif_answers.specs.Kinds.{depth_of, kind_of}
-use Rattle.iiif_answers.specs.Outcomes.{given_of, IsReady}
-use Rattle.iiif_answers.specs.Responses.{Response, image_response, want_of_memory, written}
+use Rattle.iiif_answers.specs.Outcomes.{given_of}
+use Rattle.iiif_answers.specs.Responses.{Response, image_response, refusal_response, want_of_memory, written}
 use Rattle.iiif_answers.specs.Settings.{Settings}
 use Rattle.iiif_answers.specs.declared.accepted.Accepted.{Accepted}
 use Rattle.iiif_answers.specs.declared.answer.Sent.{Sent}
 use Rattle.iiif_answers.specs.declared.answer.Cut as cut
 use Rattle.iiif_answers.specs.declared.part.Part.{Part}
-use Rattle.iiif_answers.specs.Streams.{Terms, Stream, IsCame, IsClosing, closes_after}
+use Rattle.iiif_answers.specs.Streams.{Terms, Stream, IsCame, IsClosing, call_limit, closes_after}
+use Rattle.iiif_server.specs.Answering.{terms_at}
 use Rattle.iiif_server.specs.Nodes.{Service}
 
 -- the answer to no call, or that to want of memory, was sent before a connection closes
@@ -83,55 +84,54 @@ abbrev pub SendsAllowed : {S W : Type 0} → Settings → Part → (S → ReadFa
 SendsAllowed {S} {W} s part gave reaches contents fails old new result =
     (text : List ℕ) × Appends (contents old) (contents new) text × Allowed s part gave reaches ((before : W) × fails before new) text result
 
--- so it is for an accepted request of an item, which has a picture of the kind that was accepted
-abbrev pub SendsFor : {S W : Type 0} → (S → List ℕ) → (S → Type 0) → (S → ReadFault → Bool) → Bool → Settings → Part → Item S →
-    Accepted → (W → Option (List ℕ)) → (W → W → Type 0) → W → W → Result Sent cut.Cut → Type 0
-SendsFor bytes keeps gave honest s part item a contents fails old new result =
-    (q : Request) (p : Picture) → IsPictureOf bytes keeps item p → a.kind ≡ out_kind_of (kind_of p) (depth_of p) q.quality
-    → SendsAllowed s part gave (ReachesImageOf (keeps item.source × IsTrue honest) item q a p) contents fails old new result
-
 -- the head of the answer with an image of these sides, whatever its samples
 abbrev pub IsHeadFor : Settings → Part → List ℕ → Accepted → List ℕ → Type 0
 IsHeadFor s part name a head =
     (image : Picture) → dim_of image ≡ turned_dim a.resolved.turn a.resolved.size
     → head ≡ (written part (image_response s.base name a.canonical image a.kind)).head
 
--- an item is found among these, and its request was accepted
-pub record IsAccepted {S : Type 0} (items : List (Item S)) (item : Item S) (a : Accepted) : Type 0 where
-  pub ready : IsReady item.layout a
-  pub found : item_named items item.name ≡ Some item
-
 -- the names of a node's images stand for what these show
-pub record HasImages {S J : Type 0} (bytes : S → List ℕ) (gave : S → ReadFault → Bool) (keeps : S → Type 0) (names : system.Ghosts J)
-    (node : Service S) (images : List (Item S)) : Type 0 where
+pub record HasImages {S R J : Type 0} (names : system.Ghosts J) (sources : source.Ghosts S R) (node : Service S) (images : List (Item S)) :
+    Type 0 where
   pub items : images ≡ node.items
   pub edge : node.settings.edge ≡ names.edge
-  pub kept : (name : List ℕ) (item : Item S) → item_named node.items name ≡ Some item → keeps item.source → names.stable name
-  pub pictures : (name : List ℕ) → names.pictures name ≡ pictures_of bytes images name
-  pub gave_is : (name : List ℕ) (f : ReadFault) → names.gave name f ≡ gave_of gave images name f
-  pub stable : (name : List ℕ) (item : Item S) → item_named images name ≡ Some item → names.stable name → ∥ keeps item.source ∥₁
+  pub kept : (name : List ℕ) (item : Item S) → item_named node.items name ≡ Some item → sources.keeps item.source → names.stable name
+  pub pictures : (name : List ℕ) → names.pictures name ≡ pictures_of sources.bytes images name
+  pub gave : (name : List ℕ) (f : ReadFault) → names.gave name f ≡ gave_of sources.gave images name f
+  pub stable : (name : List ℕ) (item : Item S) → item_named images name ≡ Some item → names.stable name → ∥ sources.keeps item.source ∥₁
 
--- a job for what a request of an item comes to
-abbrev pub IsJobOn : {S J : Type 0} → system.Ghosts J → (S → List ℕ) → (S → ReadFault → Bool) → (S → Type 0) → Item S → Accepted → Job →
-    Type 0
-IsJobOn names bytes gave keeps item a j = IsJobFor names.pictures names.gave names.stable names.edge bytes gave keeps item a j
+-- an answer to no call, or a first part of it, was sent before a connection closes
+abbrev pub Closes : {W : Type 0} → (W → Option (List ℕ)) → (W → W → Type 0) → W → W → Response → Type 0
+Closes {W} contents fails old new r =
+    (text : List ℕ) × Appends (contents old) (contents new) text × IsClosing ((before : W) × fails before new) r text
 
--- a text was sent of which this holds
-abbrev pub SendsSome : {W : Type 0} → (W → Option (List ℕ)) → W → W → (List ℕ → Type 0) → Type 0
-SendsSome contents old new holds = (text : List ℕ) × Appends (contents old) (contents new) text × holds text
-
--- so it is for a call
-abbrev pub AnswersCall : {S W : Type 0} → (S → List ℕ) → (S → Type 0) → (S → ReadFault → Bool) → Bool → Service S →
-    (W → Option (List ℕ)) → (W → W → Type 0) → W → W → Call → Bool → Type 0
-AnswersCall {S} {W} bytes keeps gave honest node contents fails old new call more =
+-- so was that to a head that is none, or that to want of memory
+abbrev pub ClosesForHead : {W : Type 0} → (W → Option (List ℕ)) → (W → W → Type 0) → W → W → Type 0
+ClosesForHead {W} contents fails old new =
     (text : List ℕ) × Appends (contents old) (contents new) text
-    × IsAnswered bytes keeps honest gave node.settings node.items ((before : W) × fails before new) call.method call.target.items call.close
-    text more
+    × CloseFor ((before : W) × fails before new) (refusal_response refusal.Head) text
 
--- The next call of a connection was answered, which is its n-th, or what ended it.
-pub record ServesNext {I W : Type 0} (t : Terms) (n : ℕ) (remaining : I → Option (List ℕ)) (contents : W → Option (List ℕ))
-    (before after : Reading I) (old new : W) (more : Bool) : Type 0 where
+-- the n-th call of a connection, which closes it where it is the last that is answered
+pub record IsNthCall (call : Call) (n : ℕ) (nth : Call) : Type 0 where
+  pub method : nth.method ≡ call.method
+  pub target : nth.target.items ≡ call.target.items
+  pub close : nth.close ≡ (call.close || n == call_limit)
+
+-- a text was sent by which a call is answered, and another may follow or none
+abbrev pub EndsCall : {S R W : Type 0} → source.Ghosts S R → Bool → Service S → Call → (W → Option (List ℕ)) → (W → W → Type 0) → W → W →
+    Bool → Type 0
+EndsCall {S} {R} {W} sources honest node call contents fails old new more =
+    (text : List ℕ) × Appends (contents old) (contents new) text
+    × IsAnswered sources.bytes sources.keeps honest sources.gave node.settings node.items ((before : W) × fails before new) call.method
+    call.target.items call.close text more
+
+-- The next call of a connection was answered, which is its n-th, or what ended it: of the bytes that its reader has left, where they are
+-- known, and of those that came.
+pub record ServesNext {S R I W : Type 0} (sources : source.Ghosts S R) (honest : Bool) (node : Service S) (remaining : I → Option (List ℕ))
+    (reader_fails : I → I → Type 0) (contents : W → Option (List ℕ)) (writer_fails : W → W → Type 0) (n : ℕ) (before after : Reading I)
+    (old new : W) (more : Bool) : Type 0 where
   pub serves : IfSome (input_of remaining before) (λ input. (text : List ℕ) × Appends (contents old) (contents new) text
-      × Served t n input (input_of remaining after) text more)
+      × Served (terms_at sources honest node remaining reader_fails contents writer_fails new) n input (input_of remaining after) text more)
   pub came : (came : List ℕ) × (text : List ℕ) × Appends (contents old) (contents new) text
-      × Served t n (before.unread ++ came) (Some after.unread) text more
+      × Served (terms_at sources honest node remaining reader_fails contents writer_fails new) n (before.unread ++ came) (Some after.unread)
+      text more

@@ -2,6 +2,7 @@
 use Rattle.std.specs.Prelude.{ℕ, Bool, List, Option}
 use Rattle.std.specs.Io.KnownBytes.{Appends}
 use Rattle.iiif_source.specs.declared.ReadFault.{ReadFault}
+use Rattle.iiif_source.specs.declared.Source as source
 use Rattle.iiif_images.specs.Named.{gave_of, pictures_of, stable_of}
 use Rattle.iiif_peer_groups.specs.Kinds.{System, system}
 use Rattle.iiif_peer_groups.specs.Replying.{MayReply}
@@ -25,9 +26,9 @@ RepliesToAsk bytes gave keeps honest node version group key status value =
 
 -- The asks of another node's connection are answered in their order. What came is the input, where that is known: so it is one relation
 -- for memory and for sockets.
-abbrev pub ServesPeer : {S I W : Type 0} → (S → List ℕ) → (S → ReadFault → Bool) → (S → Type 0) → Bool → Service S →
-    (I → Option (List ℕ)) → (I → I → Type 0) → (W → Option (List ℕ)) → (W → W → Type 0) → I → I → W → W → Type 0
-ServesPeer bytes gave keeps honest node remaining reader_fails contents writer_fails before after old new =
+abbrev pub ServesPeer : {S R I W : Type 0} → source.Ghosts S R → Bool → Service S → (I → Option (List ℕ)) → (I → I → Type 0) →
+    (W → Option (List ℕ)) → (W → W → Type 0) → I → I → W → W → Type 0
+ServesPeer sources honest node remaining reader_fails contents writer_fails before after old new =
     (came : List ℕ) × (output : List ℕ) × IsInput (remaining before) came × Appends (contents old) (contents new) output
-    × IsExchange (RepliesToAsk bytes gave keeps honest node) (LeftAt reader_fails after) (LeftAt writer_fails new)
+    × IsExchange (RepliesToAsk sources.bytes sources.gave sources.keeps honest node) (LeftAt reader_fails after) (LeftAt writer_fails new)
     (IsInput (remaining after)) came output

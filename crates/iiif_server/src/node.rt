@@ -1,13 +1,14 @@
 //! A node: what it was told, its images, their tiles and sums, and its answers.
 
-ghost use Rattle.std.specs.Prelude.{◌≡◌, ◌<◌, ◌≤◌, ◌^◌, ℕ, List, Some, false, true, IfOk, length};
-ghost use Rattle.iiif_source.specs.declared.ReadFault.{ReadFault};
-ghost use Rattle.iiif_images.specs.Collection.{Item, item_named};
-ghost use Rattle.iiif_images.specs.Items.{item_of};
-ghost use Rattle.iiif_images.specs.Named.{gave_of, pictures_of};
-ghost use Rattle.iiif_server.specs.Answering.{SendsBody, SendsPart, ServesOne};
-ghost use Rattle.iiif_server.specs.Code.{HasImages, IsAccepted, IsHeadFor, IsJobOn, SendsFor};
+ghost use Rattle.std.specs.Prelude.{◌≡◌, ◌<◌, ◌≤◌, ◌^◌, false, true, IfOk, length};
+ghost use Rattle.iiif_answers.specs.Outcomes.{IsReady};
 ghost use Rattle.iiif_answers.specs.Responses.{is_loaded};
+ghost use Rattle.iiif_answers.specs.declared.part.Part.TheVariants.{Body};
+ghost use Rattle.iiif_server.specs.Answering.{FramesCall, FramesPart, SendsForCall, SendsForTarget};
+ghost use Rattle.iiif_server.specs.Answering.{SparesForCall, SparesForTarget, SparesUnlessImage};
+ghost use Rattle.iiif_server.specs.Asking.{IsFound, IsJobOn, PlansHead, PlansJob, SendsFor, WasAccepted, WasFound};
+ghost use Rattle.iiif_server.specs.Code.{HasImages};
+ghost use Rattle.iiif_server.specs.Nodes.{StandsFor};
 
 use crate::asking::{Asked, Host, Planned};
 use crate::stock::Stock;
@@ -95,12 +96,7 @@ impl<R, S: Source<R> + Drop, J: System, N, T> Node<R, S, J, N, T> {
     where
         N: Drop,
         T: Drop,
-        requires pictures { (name : List ℕ) → J.pictures name ≡ pictures_of S.bytes catalogue name }
-        requires gave { (name : List ℕ) (f : ReadFault) → J.gave name f ≡ gave_of S.gave catalogue name f }
-        requires stable { (name : List ℕ) (item : Item S) → item_named catalogue name ≡ Some item → J.stable name →
-            ∥ S.keeps item.source ∥₁ }
-        requires kept { (name : List ℕ) (item : Item S) → item_named catalogue name ≡ Some item → S.keeps item.source → J.stable name }
-        requires edge { config.edge ≡ J.edge }
+        requires names { StandsFor J.System S.Source config.edge catalogue }
         requires tiles { IsStock J.tiles_name J.tiles_parts tiles }
         requires sums { IsStock J.sums_name J.sums_parts sums }
         ensures settings { IfOk result (λ n. n.settings ≡ config) }
@@ -127,15 +123,16 @@ impl<R, S: Source<R> + Drop, J: System, N, T> Node<R, S, J, N, T> {
 
     /// Its images.
     pub(crate) fn images(&self) -> &Catalogue<R, S>
-        ensures { HasImages S.bytes S.gave S.keeps J.System self.now result.now }
+        ensures { HasImages J.System S.Source self.now result.now }
     {
         self.groups.tiles().images().catalogue()
     }
 
     /// What an accepted request of one of its images comes to, planned.
     fn job(&self, alloc: Global, entry: &Entry<R, S>, accepted: &Accepted) -> Result<Job, NoMemory>
-        requires { IsAccepted self.now.items (item_of entry.now) accepted.now }
-        ensures { IfOk result (IsJobOn J.System S.bytes S.gave S.keeps (item_of entry.now) accepted.now) }
+        requires ready { IsReady entry.now.layout accepted.now }
+        requires found { IsFound self.now entry.now }
+        ensures { IfOk result (IsJobOn J.System S.Source entry.now accepted.now) }
     {
         // Read, so that it is known what the names stand for.
         let _images = self.images();
@@ -144,6 +141,8 @@ impl<R, S: Source<R> + Drop, J: System, N, T> Node<R, S, J, N, T> {
 }
 
 impl<R, S: Source<R> + Drop, J: System> Node<R, S, J, NoLink, NoGate> {
+    ghost use Rattle.iiif_server.specs.Stocks.{IsBlankOf};
+
     /// A node that asks no other, whose groups have room for so many bytes each. The only error is want of memory.
     pub fn alone(
         alloc: Global,
@@ -153,15 +152,10 @@ impl<R, S: Source<R> + Drop, J: System> Node<R, S, J, NoLink, NoGate> {
         tiles: Blank,
         sums: Blank,
     ) -> Result<Self, NoMemory>
-        requires pictures { (name : List ℕ) → J.pictures name ≡ pictures_of S.bytes catalogue name }
-        requires gave { (name : List ℕ) (f : ReadFault) → J.gave name f ≡ gave_of S.gave catalogue name f }
-        requires stable { (name : List ℕ) (item : Item S) → item_named catalogue name ≡ Some item → J.stable name →
-            ∥ S.keeps item.source ∥₁ }
-        requires kept { (name : List ℕ) (item : Item S) → item_named catalogue name ≡ Some item → S.keeps item.source → J.stable name }
-        requires edge { config.edge ≡ J.edge }
+        requires names { StandsFor J.System S.Source config.edge catalogue }
         requires bytes { bytes < 2 ^ 63 }
-        requires tiles { (tiles.name ≡ J.tiles_name) × (tiles.parts ≡ J.tiles_parts) × (J.tiles_parts ≡ 65537) }
-        requires sums { (sums.name ≡ J.sums_name) × (sums.parts ≡ J.sums_parts) × (J.sums_parts ≡ 65537) }
+        requires tiles { IsBlankOf J.tiles_name J.tiles_parts tiles }
+        requires sums { IsBlankOf J.sums_name J.sums_parts sums }
         ensures settings { IfOk result (λ n. n.settings ≡ config) }
         ensures items { IfOk result (λ n. n.items ≡ catalogue) }
     {
@@ -206,10 +200,10 @@ impl<
         out: &mut W,
     ) -> Result<Sent, Cut>
         requires some { 0 < length passes.old }
-        requires accepted { IsAccepted self.now.items (item_of asked.now.entry.now) asked.now.accepted.now }
+        requires ready { WasAccepted asked.now }
+        requires found { WasFound self.now asked.now }
         requires loaded { is_loaded asked.now.part ≡ true }
-        ensures { SendsFor S.bytes S.keeps S.gave J.honest self.now.settings asked.now.part (item_of asked.now.entry.now) asked.now.accepted.now
-            W.contents W.fails out.old out.new result }
+        ensures { SendsFor S.Source J.honest self.now asked.now W.contents W.fails out.old out.new result }
     {
         let Ok(head) = image_head(
             host.alloc,
@@ -240,12 +234,11 @@ impl<
         out: &mut W,
     ) -> Result<Sent, Cut>
         requires some { 0 < length passes.old }
-        requires accepted { IsAccepted self.now.items (item_of asked.now.entry.now) asked.now.accepted.now }
+        requires ready { WasAccepted asked.now }
         requires loaded { is_loaded asked.now.part ≡ true }
-        requires job { IsJobOn J.System S.bytes S.gave S.keeps (item_of asked.now.entry.now) asked.now.accepted.now planned.now.job.now }
-        requires head { IsHeadFor self.now.settings asked.now.part asked.now.entry.now.name asked.now.accepted.now planned.now.head.now }
-        ensures { SendsFor S.bytes S.keeps S.gave J.honest self.now.settings asked.now.part (item_of asked.now.entry.now) asked.now.accepted.now
-            W.contents W.fails out.old out.new result }
+        requires job { PlansJob J.System S.Source asked.now planned.now }
+        requires head { PlansHead self.now asked.now planned.now }
+        ensures { SendsFor S.Source J.honest self.now asked.now W.contents W.fails out.old out.new result }
     {
         // Laws of images and of groups.
         picture_is_shown(asked.entry);
@@ -296,9 +289,9 @@ impl<
         out: &mut W,
     ) -> Result<Sent, Cut>
         requires some { 0 < length passes.old }
-        requires accepted { IsAccepted self.now.items (item_of asked.now.entry.now) asked.now.accepted.now }
-        ensures allowed { SendsFor S.bytes S.keeps S.gave J.honest self.now.settings asked.now.part (item_of asked.now.entry.now) asked.now.accepted.now
-            W.contents W.fails out.old out.new result }
+        requires ready { WasAccepted asked.now }
+        requires found { WasFound self.now asked.now }
+        ensures allowed { SendsFor S.Source J.honest self.now asked.now W.contents W.fails out.old out.new result }
         ensures unasked { is_loaded asked.now.part ≡ false → passes.new ≡ passes.old }
     {
         match asked.part {
@@ -325,9 +318,9 @@ impl<
         target: &[u8],
         out: &mut W,
     ) -> Result<Sent, Cut>
-        requires { 0 < length passes.old }
-        ensures { SendsPart S.bytes S.keeps S.gave J.honest self.now W.contents W.fails out.old out.new passes.old passes.new result
-            part target.now }
+        requires some { 0 < length passes.old }
+        ensures allowed { SendsForTarget S.Source J.honest self.now part target.now W.contents W.fails out.old out.new result }
+        ensures unasked { SparesForTarget S.Source J.honest self.now part target.now passes.old passes.new }
     {
         match outcome_of(host.alloc, &self.config, self.images(), target) {
             Outcome::Image(entry, accepted) => {
@@ -354,9 +347,10 @@ impl<
         target: &[u8],
         out: &mut W,
     ) -> Result<Sent, Cut>
-        requires { 0 < length passes.old }
-        ensures { SendsBody S.bytes S.keeps S.gave J.honest self.now W.contents W.fails out.old out.new passes.old passes.new result
-            target.now }
+        requires some { 0 < length passes.old }
+        ensures allowed { SendsForTarget S.Source J.honest self.now Body target.now W.contents W.fails out.old out.new result }
+        ensures framed { FramesPart self.now Body W.contents out.old out.new result }
+        ensures unasked { SparesUnlessImage S.Source J.honest self.now target.now passes.old passes.new }
     {
         let host = Host { rt, alloc };
         self.answer(&host, passes, Part::Body, target, out)
@@ -372,9 +366,10 @@ impl<
         call: &Call,
         out: &mut W,
     ) -> Result<Sent, Cut>
-        requires { 0 < length passes.old }
-        ensures { ServesOne S.bytes S.keeps S.gave J.honest self.now W.contents W.fails out.old out.new passes.old passes.new result
-            call.now }
+        requires some { 0 < length passes.old }
+        ensures allowed { SendsForCall S.Source J.honest self.now call.now W.contents W.fails out.old out.new result }
+        ensures framed { FramesCall self.now call.now W.contents out.old out.new result }
+        ensures unasked { SparesForCall S.Source J.honest self.now call.now passes.old passes.new }
     {
         let part = part_of(call);
         if is_answered(call) {

@@ -51,8 +51,7 @@ impl<
         reader: &mut I,
         out: &mut W,
     )
-        ensures { ServesPeer S.bytes S.gave S.keeps J.honest self.now I.remaining I.fails W.contents W.fails reader.old reader.new
-            out.old out.new }
+        ensures { ServesPeer S.Source J.honest self.now I.remaining I.fails W.contents W.fails reader.old reader.new out.old out.new }
     {
         serve_peer(rt, alloc, self, passes, reader, out)
     }

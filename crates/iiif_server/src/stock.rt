@@ -1,7 +1,7 @@
 //! What the groups of a node are made with.
 
-ghost use Rattle.std.specs.Prelude.{◌≡◌, ◌<◌, ◌^◌, ℕ, IfOk, length};
-ghost use Rattle.iiif_server.specs.Stocks.{IsStock};
+ghost use Rattle.std.specs.Prelude.{◌≡◌, ◌<◌, ◌^◌, IfOk, length};
+ghost use Rattle.iiif_server.specs.Stocks.{HasStock, HasStocks, IsStock};
 
 use iiif_keys::{CacheKey, System};
 use iiif_pixel::NoMemory;
@@ -74,7 +74,7 @@ impl Stock<NoLink, NoGate> {
     /// That of a node which has no others beside it, with room for so many bytes. The only error is want of memory.
     pub fn alone(alloc: Global, bytes: u64, blank: Blank) -> Result<Self, NoMemory>
         requires { bytes < 2 ^ 63 }
-        ensures { (name parts : ℕ) → blank.name ≡ name → blank.parts ≡ parts → parts ≡ 65537 → IfOk result (IsStock name parts) }
+        ensures { HasStock blank (λ stock. stock) result }
     {
         let Some(entries) = NonZeroUsize::new(ENTRIES) else {
             return Err(AllocError);
@@ -101,10 +101,7 @@ impl Stock<NoLink, NoGate> {
         sums: Blank,
     ) -> Result<(Self, Self), NoMemory>
         requires { bytes < 2 ^ 63 }
-        ensures tiles { (name parts : ℕ) → tiles.name ≡ name → tiles.parts ≡ parts → parts ≡ 65537 →
-            IfOk result (λ both. IsStock name parts both.0) }
-        ensures sums { (name parts : ℕ) → sums.name ≡ name → sums.parts ≡ parts → parts ≡ 65537 →
-            IfOk result (λ both. IsStock name parts both.1) }
+        ensures { HasStocks tiles sums result }
     {
         let tiles = Stock::alone(alloc, bytes, tiles)?;
         let sums = Stock::alone(alloc, bytes, sums)?;

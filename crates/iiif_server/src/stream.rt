@@ -1,11 +1,9 @@
 //! Connections.
 
-ghost use Rattle.std.specs.Prelude.{◌≡◌, ◌≤◌, ◌<◌, ◌==◌, ◌||◌, true, None, length};
-ghost use Rattle.iiif_server.specs.Answering.{ServesStream, terms_of};
-ghost use Rattle.iiif_server.specs.Code.{AnswersCall, CloseFor, SendsSome, ServesNext};
-ghost use Rattle.iiif_answers.specs.Streams.{call_limit, IsClosing};
-ghost use Rattle.iiif_answers.specs.Responses.{refusal_response, want_of_memory};
-ghost use Rattle.iiif_request.specs.declared.request.Refusal.TheVariants as refusal;
+ghost use Rattle.std.specs.Prelude.{◌≡◌, ◌≤◌, ◌<◌, true, None, length};
+ghost use Rattle.iiif_answers.specs.Responses.{want_of_memory};
+ghost use Rattle.iiif_server.specs.Answering.{ServesCame, ServesKnown};
+ghost use Rattle.iiif_server.specs.Code.{Closes, ClosesForHead, EndsCall, IsNthCall, ServesNext};
 
 use crate::node::Node;
 use crate::serving::Serving;
@@ -29,14 +27,14 @@ pub const CALL_LIMIT: u32 = 1000;
 
 /// Sends the answer to want of memory, after which the connection closes.
 fn close_for_memory<W: Outlet>(out: &mut W) -> Result<Sent, Cut>
-    ensures { SendsSome W.contents out.old out.new (IsClosing ((before : W) × W.fails before out.new) want_of_memory) }
+    ensures { Closes W.contents W.fails out.old out.new want_of_memory }
 {
     send_message(out, Part::Whole(true), Err(AllocError))
 }
 
 /// Sends the answer to a head that is none, or to want of memory, after which the connection closes.
 fn close_for_head<W: Outlet>(alloc: Global, out: &mut W) -> Result<Sent, Cut>
-    ensures { SendsSome W.contents out.old out.new (CloseFor ((before : W) × W.fails before out.new) (refusal_response refusal.Head)) }
+    ensures { ClosesForHead W.contents W.fails out.old out.new }
 {
     let part = Part::Whole(true);
     let message = refusal_message(alloc, part, Refusal::Head);
@@ -45,9 +43,7 @@ fn close_for_head<W: Outlet>(alloc: Global, out: &mut W) -> Result<Sent, Cut>
 
 /// A call as the `n`-th of its connection: the last one that is answered closes it.
 fn closing_call(call: Call, n: u32) -> Call
-    ensures method { result.method ≡ call.method }
-    ensures target { result.target.items ≡ call.target.items }
-    ensures close { result.close ≡ (call.close || n == call_limit) }
+    ensures { IsNthCall call n result }
 {
     Call {
         method: call.method,
@@ -72,7 +68,7 @@ impl<
         out: &mut W,
     ) -> bool
         requires { 0 < length passes.old }
-        ensures { AnswersCall S.bytes S.keeps S.gave J.honest self.now W.contents W.fails out.old out.new call.now result }
+        ensures { EndsCall S.Source J.honest self.now call.now W.contents W.fails out.old out.new result }
     {
         let begun = serving.watch.begin(serving.rt);
         let outcome = self.serve_one(serving.rt, serving.alloc, passes, call, out);
@@ -97,8 +93,8 @@ impl<
         requires some { 0 < length passes.old }
         requires no_fault { heads.old.fault ≡ None }
         requires few { n ≤ 1000 }
-        ensures next { ServesNext (terms_of S.bytes S.keeps S.gave J.honest self.now I.fails W.fails out.new) n I.remaining W.contents
-            heads.old heads.new out.old out.new result }
+        ensures next { ServesNext S.Source J.honest self.now I.remaining I.fails W.contents W.fails n heads.old heads.new out.old out.new
+            result }
         ensures goes_on { result ≡ true → heads.new.fault ≡ None }
         ensures few { result ≡ true → n < 1000 }
     {
@@ -132,8 +128,8 @@ impl<
         out: &mut W,
     )
         requires { 0 < length passes.old }
-        ensures { ServesStream (terms_of S.bytes S.keeps S.gave J.honest self.now I.fails W.fails out.new) I.remaining W.contents reader
-            out.old out.new }
+        ensures serves { ServesKnown S.Source J.honest self.now I.remaining I.fails W.contents W.fails reader out.old out.new }
+        ensures came { ServesCame S.Source J.honest self.now I.remaining I.fails W.contents W.fails out.old out.new }
     {
         let Ok(mut heads) = Heads::new(serving.alloc, reader) else {
             let begun = serving.watch.begin(serving.rt);

@@ -13,7 +13,7 @@ returns g c =
     let inside = ap (λ (n : Service g.row.S.Denot). item_named n.items item.name) c.self.view_is ∙ c.requires.found in
     job_for g.J.System.pictures g.J.System.gave g.J.System.stable g.J.System.edge g.S.Source.bytes g.S.Source.gave g.S.Source.keeps
     c.images-images.result.now item
-    c.args.accepted.now c.edge.result c.job_of.result images.pictures images.gave_is images.stable found
+    c.args.accepted.now c.edge.result c.job_of.result images.pictures images.gave images.stable found
     (c.self.invariant.kept item.name item inside)
     (c.edge.ensures.value ∙ c.self.invariant.has_edge) c.job_of.ensures.source c.job_of.ensures.job c.job_of.ensures.name
     c.job_of.ensures.edge c.job_of.ensures.resolved

@@ -14,7 +14,7 @@ returns-in-Head-clause-allowed g c q p is kind =
     (g.S.Source.keeps c.args.asked.now.entry.now.source × IsTrue g.J.System.honest) (item_of c.args.asked.now.entry.now)
     q c.args.asked.now.accepted.now p g.W.Write.contents g.W.Outlet.fails c.args.out.now c.send_message.new.out
     c.head_message-message.result c.send_message.result c.in-Head.is
-    c.requires.accepted.ready.quarters kind made c.send_message.ensures.made c.send_message.ensures.memory
+    c.requires.ready.quarters kind made c.send_message.ensures.made c.send_message.ensures.memory
 
 pub returns-in-Body-clause-unasked : goal.returns-in-Body-clause-unasked
 returns-in-Body-clause-unasked g c none = ⊎_elim (λ is. absurd (false≢true (sym none ∙ ap is_loaded is)))

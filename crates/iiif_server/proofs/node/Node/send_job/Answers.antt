@@ -22,10 +22,10 @@ send_image-requires-clause-sending g c κs within =
       tiles = c.groups_serve_jobs.ensures.tiles;
       sums = c.groups_serve_jobs.ensures.sums;
       channels = fits_channels g.J.System.pictures g.J.System.gave g.J.System.stable g.J.System.edge g.S.Source.bytes g.S.Source.gave
-          g.S.Source.keeps item a c.args.planned.now.job.now of c.requires.accepted.ready;
+          g.S.Source.keeps item a c.args.planned.now.job.now of c.requires.ready;
       depth = fits_depth g.J.System.pictures g.J.System.gave g.J.System.stable g.J.System.edge g.S.Source.bytes g.S.Source.gave
-          g.S.Source.keeps item a c.args.planned.now.job.now of c.requires.accepted.ready;
-      len = subst (λ (r : Resolved). file_len a.kind (turned_dim r.turn r.size) < 2 ^ 32) (sym of.resolved) c.requires.accepted.ready.len;
+          g.S.Source.keeps item a c.args.planned.now.job.now of c.requires.ready;
+      len = subst (λ (r : Resolved). file_len a.kind (turned_dim r.turn r.size) < 2 ^ 32) (sym of.resolved) c.requires.ready.len;
     }
 
 pub returns-in-Ok : goal.returns-in-Ok
@@ -44,7 +44,7 @@ returns-in-Ok g c q p is kind =
     c.in-Ok.delivered.held of is made.1.sides rows c.in-Ok.ensures.held in
     whole_allowed s part g.S.Source.gave kept item q a p
     head
-    g.W.Write.contents g.W.Outlet.fails c.requires.loaded c.requires.accepted.ready.quarters kind c.requires.head
+    g.W.Write.contents g.W.Outlet.fails c.requires.loaded c.requires.ready.quarters kind c.requires.head
     made.0 c.args.out.now c.send_image.new.out c.in-Ok.delivered.bytes c.in-Ok.delivered.held sent made.2 made.3 held
 
 pub returns-in-Err-Writer : goal.returns-in-Err-Writer
@@ -59,7 +59,7 @@ returns-in-Err-Writer g c q p is kind =
     c.groups_serve_jobs.ensures.shown (λ k. c.picture_is_shown.ensures p k is) made.1 in
     writer_allowed s part g.S.Source.gave kept item q a p
     head
-    g.W.Write.contents g.W.Outlet.fails c.requires.loaded c.requires.accepted.ready.quarters kind c.requires.head
+    g.W.Write.contents g.W.Outlet.fails c.requires.loaded c.requires.ready.quarters kind c.requires.head
     made.0 c.args.out.now c.send_image.new.out c.in-Err-Writer.sent sent made.2
 
 pub returns-then-sent-eq0 : goal.returns-then-sent-eq0
@@ -77,7 +77,7 @@ returns-then-sent-eq0 g c q p is kind =
     c.if-sent-eq0.true made.2.1 in
     none_allowed s part g.S.Source.gave kept item q a p
     head
-    g.W.Write.contents g.W.Outlet.fails c.requires.loaded c.requires.accepted.ready.quarters kind c.requires.head
+    g.W.Write.contents g.W.Outlet.fails c.requires.loaded c.requires.ready.quarters kind c.requires.head
     c.args.out.now c.send_image.new.out c.send_fault.new.out c.in-Err-Load.fault c.send_fault.result nothing failed c.send_fault.ensures
 
 pub returns-else-sent-eq0 : goal.returns-else-sent-eq0
@@ -96,7 +96,7 @@ returns-else-sent-eq0 g c q p is kind =
     let front = length (head ++ head_of a.kind (result_dim j)) in
     load_allowed s part g.S.Source.gave kept item q a p
     head
-    g.W.Write.contents g.W.Outlet.fails c.requires.loaded c.requires.accepted.ready.quarters kind c.requires.head
+    g.W.Write.contents g.W.Outlet.fails c.requires.loaded c.requires.ready.quarters kind c.requires.head
     made.0 c.args.out.now c.send_image.new.out c.in-Err-Load.sent front c.in-Err-Load.fault sent made.2.0 made.2.1
     (omega (arith, c.if-sent-eq0.false))
     (omega (
