@@ -25,7 +25,8 @@ SIDE, EDGE, LIMIT = 4, 2, 16_384
 CACHES, BANDS, WORKERS = (0, 100, 67_108_864), (1, 3, 64), (1, 2, 5)
 TURNS = [mirror + degrees for mirror in ("", "!") for degrees in ("0", "90", "180", "270")]
 QUALITIES = ("default", "color", "gray", "bitonal")
-AT_ONCE = 400
+# Calls of a connection: a server closes one behind a thousand.
+AT_ONCE = 800
 
 
 def sample():
@@ -44,19 +45,18 @@ def targets():
 
 
 def asked(server, calls, wanted):
-    """How many answers of a kept connection are none of those that are wanted, and the first of their targets."""
-    wrong = []
-    with server.connect() as link:
-        for at in range(0, len(calls), AT_ONCE):
-            some = calls[at:at + AT_ONCE]
-            text = b"".join(b"GET " + target + b" HTTP/1.1\r\nHost: localhost\r\n\r\n" for target in some)
+    """The targets whose answers aren't those that are wanted: of a connection at most the first, since the rest of it can't be told."""
+    for at in range(0, len(calls), AT_ONCE):
+        some = calls[at:at + AT_ONCE]
+        text = b"".join(b"GET " + target + b" HTTP/1.1\r\nHost: localhost\r\n\r\n" for target in some)
+        with server.connect() as link:
             sender = threading.Thread(target=link.sendall, args=(text,))
             sender.start()
             for target, answer in zip(some, wanted[at:at + AT_ONCE]):
                 if exactly(link, len(answer)) != answer:
-                    return wrong + [target]
+                    yield target
+                    break
             sender.join()
-    return wrong
 
 
 def main():
