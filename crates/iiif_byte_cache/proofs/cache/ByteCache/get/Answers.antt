@@ -31,8 +31,8 @@ invariant_of-self-else-touch g c =
     record {
       within = omega (arith, c.touch.ensures.same.0, c.touch-there.ensures.same.0, now.within);
       small = now.small;
-      single = subst (λ l. Single eq (record (lists_of c.touch.new.self now.lists.hot now.limit) { hot = l })) (sym c.touch-there.ensures.rows)
-          front;
+      single = subst (λ l. Single eq (record (lists_of c.touch.new.self now.lists.hot now.limit) { hot = l }))
+          (sym c.touch-there.ensures.rows) front;
       room = c.touch-there.ensures.same.1 ∙ now.room ∙ sym c.touch.ensures.same.1;
     }
 

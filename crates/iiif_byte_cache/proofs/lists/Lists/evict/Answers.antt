@@ -10,7 +10,8 @@ returns-then-self g c =
     record {
       victim = λ limit.
           let old = lists_of c.args.self.now.main c.args.self.now.hot limit in
-          c.pop.ensures.oldest ∙ sym (victim_hot size old (large size old _ _ c.args.self.now.main.sum c.args.self.now.hot.sum c.if-self.true));
+          c.pop.ensures.oldest
+          ∙ sym (victim_hot size old (large size old _ _ c.args.self.now.main.sum c.args.self.now.hot.sum c.if-self.true));
       rest = λ limit.
           let old = lists_of c.args.self.now.main c.args.self.now.hot limit in
           same_cache _ _ _ _ _ _ _ refl c.pop.ensures.rows refl
