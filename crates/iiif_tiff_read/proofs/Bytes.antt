@@ -99,18 +99,23 @@ is_entry e o file bytes b start count i b-is bytes-is below o-is tag kind count-
     let x : e.inside ≡ take 4 (drop (start + 12 * i + 8) file) = inside ∙ inside_of file bytes b start count i p in
     rw (t, k, n, x, o-is) refl
 
--- the entries are all there
-pub all_entries : (o : Order) (bytes : List ℕ) (start count : ℕ) (es : List Entry) → o ≡ tiff.order bytes → start ≡ tiff.directory bytes →
+-- the directory is all there
+pub all_there : (o : Order) (bytes : List ℕ) (start count : ℕ) → o ≡ tiff.order bytes → start ≡ tiff.directory bytes →
     count ≡ number o w16 bytes start
     → start + 2 ≤ length bytes → start + 2 + 12 * count ≤ length bytes →
-    entry_views es ≡ map (λ k. tiff.entry bytes (start + 2 + 12 * k)) (range_with_len 0 count)
-    → (tiff.directory_fits bytes ≡ None) × (entry_views es ≡ tiff.entries bytes)
-unfolding tiff.directory_fits tiff.entries
-all_entries o bytes start count es o-is s count-is first second views =
+    (tiff.directory_fits bytes ≡ None) × (count ≡ tiff.entry_count bytes)
+unfolding tiff.directory_fits
+all_there o bytes start count o-is s count-is first second =
     let n : count ≡ tiff.entry_count bytes = count-is ∙ rw (o-is, s) refl in
     let a : ltb (length bytes) (tiff.directory bytes + 2) ≡ false = le-ltb _ _ (omega arith) in
     let b : ltb (length bytes) (tiff.directory bytes + 2 + 12 * tiff.entry_count bytes) ≡ false = le-ltb _ _ (omega arith) in
-    (rw (a, b) refl, views ∙ rw (s, n) refl)
+    (rw (a, b) refl, n)
+
+-- the entries are those of the directory
+pub all_entries : (bytes : List ℕ) (start count : ℕ) (es : List Entry) → start ≡ tiff.directory bytes → count ≡ tiff.entry_count bytes →
+    entry_views es ≡ map (λ k. tiff.entry bytes (start + 2 + 12 * k)) (range_with_len 0 count) → entry_views es ≡ tiff.entries bytes
+unfolding tiff.entries
+all_entries bytes start count es s n views = views ∙ rw (s, n) refl
 
 find_view : (tag : ℕ) (es : List Entry) → option_map entry_view (find (λ e. e.tag == tag) es) ≡ find (λ e. e.tag == tag) (entry_views es)
 find_view tag [] = refl

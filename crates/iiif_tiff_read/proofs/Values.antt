@@ -69,6 +69,25 @@ kind_from a b false e = absurd cc
 pub kind_is : (t : FieldType) (k : ℕ) → option_map code (Some t) ≡ (if is_unsigned k then Some k else None) → k ≡ code t
 kind_is t k e = kind_from (code t) k (is_unsigned k) e
 
+-- nothing is refused of an entry of few bytes
+pub fits_inside : (bytes : List ℕ) (e : tiff.Entry) (t : FieldType) (tag : ℕ) (allowed : Bool) → e.kind ≡ code t →
+    e.count * size (code t) ≤ 4 → allowed ≡ true → entry_fits bytes tag allowed e ≡ None
+unfolding entry_fits
+fits_inside bytes e t tag allowed k-is le is =
+    let inside : leb (e.count * size (code t)) 4 ≡ true = le-leb _ _ le in
+    rw (is, k-is, unsigned_code t, inside) refl
+
+-- nor of one whose bytes are in the file
+pub fits_outside : (bytes : List ℕ) (o : Order) (e : tiff.Entry) (t : FieldType) (tag off : ℕ) (allowed : Bool) → o ≡ tiff.order bytes →
+    e.kind ≡ code t → 4 < e.count * size (code t) → off ≡ number o w32 e.inside 0 → off + e.count * size (code t) ≤ length bytes →
+    allowed ≡ true → entry_fits bytes tag allowed e ≡ None
+unfolding entry_fits
+fits_outside bytes o e t tag off allowed o-is k-is lt off-is fits is =
+    let outside : leb (e.count * size (code t)) 4 ≡ false = lt-leb _ _ lt in
+    let at : off ≡ offset bytes e = off-is ∙ rw o-is refl in
+    let whole : ltb (length bytes) (offset bytes e + e.count * size (code t)) ≡ false = le-ltb _ _ (omega arith) in
+    rw (is, k-is, unsigned_code t, outside, whole) refl
+
 pub all_inside : (bytes : List ℕ) (o : Order) (e : tiff.Entry) (t : FieldType) (tag n : ℕ) (items : List ℕ) → o ≡ tiff.order bytes →
     e.kind ≡ code t → e.count * size (code t) ≤ 4
     → items ≡ map (λ i. number o (width_of (code t)) e.inside (i * size (code t))) (range_with_len 0 n) →
@@ -78,7 +97,7 @@ all_inside bytes o e t tag n items o-is k-is le items-is =
     let inside : leb (e.count * size (code t)) 4 ≡ true = le-leb _ _ le in
     let each : (i : ℕ) → i < n → number o (width_of (code t)) e.inside (i * size (code t)) ≡ tiff.value bytes e i = λ i below.
     rw (k-is, inside, ← o-is) refl in (
-      rw (k-is, unsigned_code t, inside) refl,
+      fits_inside bytes e t tag true k-is le refl,
       items-is ∙
           same_on_range (λ i. number o (width_of (code t)) e.inside (i * size (code t))) (tiff.value bytes e) n each,
     )
@@ -92,12 +111,11 @@ unfolding entry_fits tiff.value
 all_outside bytes o e t tag n off items buffer o-is k-is lt off-is fits buffer-is items-is =
     let outside : leb (e.count * size (code t)) 4 ≡ false = lt-leb _ _ lt in
     let at : off ≡ offset bytes e = off-is ∙ rw o-is refl in
-    let whole : ltb (length bytes) (offset bytes e + e.count * size (code t)) ≡ false = le-ltb _ _ (omega arith) in
     let each : (i : ℕ) → i < n → number o (width_of (code t)) buffer (i * size (code t)) ≡ tiff.value bytes e i =
     λ i below. rw (buffer-is, k-is, outside, ← at, ← o-is)
     (number_within t o (drop off bytes) (n * size (code t)) (i * size (code t))
     (row_fits i (size (code t)) n (size (code t)) below (omega arith))) in (
-      rw (k-is, unsigned_code t, outside, whole) refl,
+      fits_outside bytes o e t tag off true o-is k-is lt off-is fits refl,
       items-is ∙
           same_on_range (λ i. number o (width_of (code t)) buffer (i * size (code t))) (tiff.value bytes e) n each,
     )

@@ -1,6 +1,6 @@
 -- What the reader's own types stand for. Only private contracts and the layout's model cite these words.
 use Rattle.std.specs.Prelude.{◌≡◌, ◌≢◌, ℕ, ◌+◌, ◌-◌, ◌*◌, ◌/◌, ◌%◌, ◌<◌, ◌≤◌, ◌^◌, ◌⊎◌, Bool, IsTrue, false, List, length, map}
-use Rattle.std.specs.Prelude.{slice_index, Option, Result, ◌==◌, if◌then◌else◌}
+use Rattle.std.specs.Prelude.{slice_index, Option, None, Result, ◌==◌, if◌then◌else◌}
 use Rattle.std.specs.Int.{div_ceil}
 use Rattle.std.specs.List.{range_with_len}
 use Rattle.iiif_pixel.specs.Geometry.{channels_of, LiesIn}
@@ -137,6 +137,17 @@ IsNotMemory (opens.BadField tag) = Unit {0}
 IsNotMemory opens.TooLarge = Unit {0}
 IsNotMemory (opens.Source f) = Unit {0}
 IsNotMemory opens.NoMemory = ⊥
+
+-- The fault is want of memory only where the checks name no refusal, where the premise holds: what they refuse is never answered so.
+abbrev pub IsMemoryAfter : Type 0 → Option Refusal → OpenFault → Type 0
+IsMemoryAfter premise check opens.NotTiff = Unit {0}
+IsMemoryAfter premise check opens.Truncated = Unit {0}
+IsMemoryAfter premise check (opens.Missing tag) = Unit {0}
+IsMemoryAfter premise check (opens.Unsupported tag) = Unit {0}
+IsMemoryAfter premise check (opens.BadField tag) = Unit {0}
+IsMemoryAfter premise check opens.TooLarge = Unit {0}
+IsMemoryAfter premise check (opens.Source f) = Unit {0}
+IsMemoryAfter premise check opens.NoMemory = premise → check ≡ None
 
 abbrev pub image_scheme : Image → Scheme
 image_scheme i = scheme_of i.dim i.format i.grid i.offsets.items

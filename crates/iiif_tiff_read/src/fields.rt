@@ -9,7 +9,7 @@ ghost use Rattle.iiif_tiff.specs.Tiff.{entry_fits, value, values, values_or, one
 ghost use Rattle.iiif_tiff.specs.Tiff as tiff;
 ghost use Rattle.iiif_tiff_read.specs.Code.{endian, entry_view, entry_views, first_values, AreTrue, Reads, Tells, TellsWhere};
 ghost use Rattle.iiif_tiff_read.specs.Faults.{Answers};
-ghost use Rattle.iiif_tiff_read.specs.Code.{IsDeviceFault, IsNotMemory};
+ghost use Rattle.iiif_tiff_read.specs.Code.{IsDeviceFault, IsMemoryAfter, IsNotMemory};
 
 use crate::fault::OpenFault;
 use crate::number::{ByteOrder, Few, FieldType};
@@ -125,17 +125,14 @@ fn decode_entries(
     Ok(entries)
 }
 
-/// The entries of the first directory, by one read.
+/// How many entries the first directory has, all of which are in the file. It stands apart since it takes no memory.
 #[tactic(auto, unfolding(iiif_tiff::specs::Tiff::directory_fits))]
-fn read_directory<R, S: Source<R>>(
-    rt: &R,
-    alloc: Global,
-    source: &S,
-    header: Header,
-) -> Result<Vec<Entry>, OpenFault>
-    ensures { Answers (S.keeps source.now × (endian header.order ≡ tiff.order (S.bytes source.now)) ×
+fn entry_count<R, S: Source<R>>(rt: &R, source: &S, header: Header) -> Result<u16, OpenFault>
+    ensures count { Answers (S.keeps source.now × (endian header.order ≡ tiff.order (S.bytes source.now)) ×
         (header.directory ≡ tiff.directory (S.bytes source.now))) (S.gave source.now) (directory_fits (S.bytes source.now))
-        (λ v. entry_views v.items ≡ entries (S.bytes source.now)) result }
+        (λ n. n ≡ tiff.entry_count (S.bytes source.now)) result }
+    ensures in_file { IfOk result (λ n. header.directory + 2 + 12 * n ≤ length (S.bytes source.now)) }
+    ensures memory { IfErr result IsNotMemory }
 {
     let len = source.len();
     let start = header.directory as u64;
@@ -147,7 +144,25 @@ fn read_directory<R, S: Source<R>>(
     if len < start + 2 + size {
         return Err(OpenFault::Truncated);
     }
-    let bytes = bytes_at(rt, alloc, source, start + 2, size as usize)?;
+    Ok(count)
+}
+
+/// The entries of the first directory, by one read.
+fn read_directory<R, S: Source<R>>(
+    rt: &R,
+    alloc: Global,
+    source: &S,
+    header: Header,
+) -> Result<Vec<Entry>, OpenFault>
+    ensures entries { Answers (S.keeps source.now × (endian header.order ≡ tiff.order (S.bytes source.now)) ×
+        (header.directory ≡ tiff.directory (S.bytes source.now))) (S.gave source.now) (directory_fits (S.bytes source.now))
+        (λ v. entry_views v.items ≡ entries (S.bytes source.now)) result }
+    ensures memory { IfErr result (IsMemoryAfter (S.keeps source.now × (endian header.order ≡ tiff.order (S.bytes source.now)) ×
+        (header.directory ≡ tiff.directory (S.bytes source.now))) (directory_fits (S.bytes source.now))) }
+{
+    let count = entry_count(rt, source, header)?;
+    let start = header.directory as u64 + 2;
+    let bytes = bytes_at(rt, alloc, source, start, 12 * count as usize)?;
     Ok(decode_entries(alloc, header.order, &bytes, count)?)
 }
 
@@ -173,6 +188,7 @@ impl<'a, R, S: Source<R>> Fields<'a, R, S> {
         ensures source { IfOk result (λ f. f.source.now ≡ source.now) }
         ensures reads { Answers (S.keeps source.now) (S.gave source.now) (opening (S.bytes source.now))
             (λ f. Reads (S.bytes source.now) f.order f.entries.items) result }
+        ensures memory { IfErr result (IsMemoryAfter (S.keeps source.now) (opening (S.bytes source.now))) }
     {
         let header = read_header(rt, source)?;
         let entries = read_directory(rt, alloc, source, header)?;
@@ -257,6 +273,8 @@ impl<'a, R, S: Source<R>> Fields<'a, R, S> {
         ensures values { TellsWhere S.bytes S.gave self.now (λ _. S.keeps self.now.source.now)
             (λ file. entry_fits file tag allowed (entry_view entry))
             (λ file v. v.items ≡ values file (entry_view entry) n) result }
+        ensures memory { IfErr result (IsMemoryAfter (AreTrue S.bytes self.now)
+            (entry_fits (S.bytes self.now.source.now) tag allowed (entry_view entry))) }
     {
         let kind = match FieldType::of(entry.kind) {
             Some(kind) if allowed => kind,
@@ -330,6 +348,7 @@ impl<'a, R, S: Source<R>> Fields<'a, R, S> {
         ensures length { IfOk result (λ v. length v.items ≡ n) }
         ensures values { TellsWhere S.bytes S.gave self.now (λ _. S.keeps self.now.source.now) (λ file. needed file tag (nat_le n))
             (λ file v. v.items ≡ first_values file tag n) result }
+        ensures memory { IfErr result (IsMemoryAfter (AreTrue S.bytes self.now) (needed (S.bytes self.now.source.now) tag (nat_le n))) }
     {
         match self.find(tag) {
             Some(entry) => self.first_values(alloc, tag, entry, n <= entry.count, n),
