@@ -1,9 +1,14 @@
 -- What the leads, flights and receipts of a table are to those who hold them.
-use Rattle.std.specs.Prelude.{ℕ, Bool, Option}
+use Rattle.std.specs.Prelude.{ℕ, Bool, Option, None, Some, Result, Err, Ok}
 use Rattle.std.specs.Global.{Box}
+use Rattle.std.specs.declared.alloc.Global.{Global}
+use Rattle.std.specs.declared.sync.Arc.{Arc}
+use Rattle.iiif_keys.specs.declared.fault.Fault.{Fault}
 use Rattle.iiif_tables.specs.declared.table.Class.{Class}
+use Rattle.iiif_tables.specs.declared.table.Place.{Place}
 use Rattle.iiif_outcome.specs.declared.landed.Landed.{Landed}
 use Rattle.iiif_outcome.specs.Views as plain
+use Rattle.iiif_singleflight.specs.declared.ending.Ending.{Ending}
 use Rattle.iiif_singleflight.specs.declared.entered.Entered.{Entered}
 use Rattle.iiif_singleflight.specs.declared.entered.Entered.TheVariants as entered
 use Rattle.iiif_singleflight.specs.declared.met.Met.{Met}
@@ -11,6 +16,7 @@ use Rattle.iiif_singleflight.specs.declared.met.Met.TheVariants as met
 use Rattle.iiif_singleflight.specs.declared.flight.Flight.{Flight}
 use Rattle.iiif_singleflight.specs.declared.landed.Landing.{Landing}
 use Rattle.iiif_singleflight.specs.declared.lead.Lead.{Lead}
+use Rattle.iiif_singleflight.specs.declared.looked.Looked.{Looked}
 use Rattle.iiif_singleflight.specs.declared.receipt.Receipt.{Receipt}
 
 module _ {K J L V : Type 0} {a b c d : _} where
@@ -34,6 +40,10 @@ module _ {K J L V : Type 0} {a b c d : _} where
 
   abbrev pub lead_class : Lead K J L V a b c d → Class
   lead_class l = plain.lead_class l.inner
+
+  -- the lead of one who looked again and found nothing
+  abbrev pub lead_of : Looked K J L V a b c d → Lead K J L V a b c d
+  lead_of l = l.lead
 
   abbrev pub receipt_ticket : Receipt K J L V a b c d → ℕ
   receipt_ticket r = plain.receipt_ticket r.inner
@@ -79,3 +89,29 @@ module _ {K J L V : Type 0} {a b c d : _} where
   met_of (entered.Hit r) = met.Hit r.inner
   met_of (entered.Joined f) = met.Joined f.inner
   met_of (entered.Lead l) = met.Lead l.inner
+
+-- what was found where a flight ends so: its value, or a fault
+abbrev pub found_in : {V A : Type 0} → Result (Arc V A) Fault → Result (Option (Arc V A)) Fault
+found_in (Ok v) = Ok (Some v)
+found_in (Err f) = Err f
+
+module _ {K J L V : Type 0} {a b c d e : _} where
+  -- how a flight is to end: its lead, its outcome, and where the value is kept
+  abbrev pub ending_lead : Ending K J L V a b c d e → Lead K J L V a b c d
+  ending_lead e = e.lead
+
+  abbrev pub ending_outcome : Ending K J L V a b c d e → Result (Arc V Global) Fault
+  ending_outcome e = e.outcome
+
+  abbrev pub ending_place : Ending K J L V a b c d e → Place
+  ending_place e = e.place
+
+  -- what a leader found who looked again: a value that is kept, or nothing, or want of memory
+  abbrev pub found_by : Result (Ending K J L V a b c d e) (Looked K J L V a b c d) → Result (Option (Arc V Global)) Fault
+  found_by (Ok e) = found_in e.outcome
+  found_by (Err l) = Ok None
+
+  -- the lead of a leader who looked again, which its ending has, or which comes back
+  abbrev pub lead_back : Result (Ending K J L V a b c d e) (Looked K J L V a b c d) → Lead K J L V a b c d
+  lead_back (Ok e) = e.lead
+  lead_back (Err l) = l.lead

@@ -1,19 +1,24 @@
 //! What those may do who hold a lead, a flight, a receipt or a landing of a table.
 
 ghost use Rattle.std.specs.Prelude.{◌≡◌, ◌↔◌, IfErr, IfOk, IfSome, IsTrue};
+ghost use Rattle.std.specs.Result.{ForErr, ForOk};
 ghost use Rattle.std.specs.Arc.{arc_value};
-ghost use Rattle.iiif_singleflight.specs.Views.{flight_cell, flight_key, flight_ticket, landing_cell, landing_kept, landing_known};
-ghost use Rattle.iiif_singleflight.specs.Views.{landing_own, landing_refused, landing_taken, landing_ticket, lead_class, lead_key};
-ghost use Rattle.iiif_singleflight.specs.Views.{lead_ticket, receipt_cell, receipt_known, receipt_ticket, SameReceipt};
+ghost use Rattle.iiif_outcome.specs.Outcomes.{is_given};
+ghost use Rattle.iiif_singleflight.specs.Views.{ending_lead, ending_outcome, ending_place, flight_cell, flight_key, flight_ticket};
+ghost use Rattle.iiif_singleflight.specs.Views.{landing_cell, landing_kept, landing_known, landing_own, landing_refused, landing_taken};
+ghost use Rattle.iiif_singleflight.specs.Views.{landing_ticket, lead_class, lead_key, lead_of, lead_ticket, receipt_cell, receipt_known};
+ghost use Rattle.iiif_singleflight.specs.Views.{receipt_ticket, SameReceipt};
 
 use crate::down::Down;
+use crate::ending::Ending;
 use crate::flight::Flight;
 use crate::landed::Landing;
 use crate::lead::Lead;
+use crate::looked::Looked;
 use crate::receipt::Receipt;
 use iiif_keys::{CacheKey, Fault, System};
 use iiif_outcome::Landed;
-use iiif_tables::Class;
+use iiif_tables::{Class, Place};
 use std::sync::Arc;
 use std::sync::ledger::Ledger;
 
@@ -37,6 +42,33 @@ impl<K: CacheKey, J: System, L: Ledger> Lead<K, J, L> {
         ensures { result ≡ lead_class self.now }
     {
         self.inner.class()
+    }
+}
+
+impl<K: CacheKey, J: System, L: Ledger> Looked<K, J, L> {
+    /// The key of the flight.
+    pub fn key(&self) -> &K
+        ensures { result.now ≡ lead_key (lead_of self.now) }
+    {
+        self.lead.key()
+    }
+
+    /// The flight is to end with what came by asking or loading, and its value to be kept there.
+    pub fn end(self, outcome: Result<Arc<K::Value>, Fault>, place: Place) -> Ending<K, J, L>
+        requires meant { J.stable (K.name_of (lead_key (lead_of self))) → IsTrue J.honest →
+            ForOk outcome (λ v. arc_value v ≡ K.meaning J.pictures (lead_key (lead_of self))) }
+        requires shaped { ForOk outcome (λ v. IsTrue (K.is_shaped J.pictures (lead_key (lead_of self)) (arc_value v))) }
+        requires given { ForErr outcome (λ f. IsTrue (is_given (J.gave (K.name_of (lead_key (lead_of self)))) f)) }
+        ensures lead { ending_lead result ≡ lead_of self }
+        ensures outcome { ending_outcome result ≡ outcome }
+        ensures place { ending_place result ≡ place }
+    {
+        let Looked { lead } = self;
+        Ending {
+            lead,
+            outcome,
+            place,
+        }
     }
 }
 

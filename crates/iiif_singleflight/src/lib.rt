@@ -2,6 +2,7 @@
 //! is kept, the flights that are open, and what was counted.
 #![tactic(auto)]
 
+pub use ending::Ending;
 pub use entered::Entered;
 pub use flight::Flight;
 pub use home::Home;
@@ -9,6 +10,7 @@ pub use home::Home;
 pub use iiif_tables::{Book, Class, Place};
 pub use landed::Landing;
 pub use lead::Lead;
+pub use looked::Looked;
 pub use pass::Pass;
 pub use receipt::Receipt;
 pub use table::{Kept, Table};
@@ -16,6 +18,7 @@ pub use whole::Whole;
 
 mod calls;
 mod down;
+pub mod ending;
 pub mod entered;
 mod entering;
 pub mod flight;
@@ -25,6 +28,7 @@ mod keeping;
 pub mod landed;
 mod landing;
 pub mod lead;
+pub mod looked;
 mod looking;
 mod making;
 mod met;
