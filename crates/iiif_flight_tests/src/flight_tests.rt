@@ -83,6 +83,20 @@ fn counted<L: Ledger, R: Wait>(rt: &R, home: &Mutex<Shared<L>>) -> (Book, usize)
     (home.table.book(), home.table.kept().entries)
 }
 
+/// A leader looks again, and lands what it finds, or else what tells this.
+fn look_and_land<L: Ledger>(
+    alloc: Global,
+    home: &mut Shared<L>,
+    lead: Lead<Sample, Lax, L>,
+    tells: Told,
+) -> Receipt<Sample, Lax, L> {
+    let ending = match home.table.again(lead) {
+        Ok(ending) => ending,
+        Err(looked) => looked.end(landing_of(alloc, tells), Place::Main),
+    };
+    home.table.land(ending).into_receipt().0
+}
+
 /// Waits until one has joined, and lands.
 fn landed<L: Ledger, R: Wait + Clock>(
     rt: &R,
@@ -97,12 +111,8 @@ fn landed<L: Ledger, R: Wait + Clock>(
         }
         thread::sleep(rt, Duration::from_millis(1));
     }
-    let outcome = landing_of(alloc, tells);
-    home.lock(rt)
-        .table
-        .land(lead, outcome, Place::Main)
-        .into_receipt()
-        .0
+    let mut home = home.lock(rt);
+    look_and_land(alloc, &mut *home, lead, tells)
 }
 
 /// What a call of the wide class meets that enters with this pass.
@@ -189,31 +199,11 @@ fn land_beside<L: Ledger>(
     tells: Told,
 ) {
     match home.table.enter(pass, key, Class::Local) {
-        Ok(Entered::Lead(lead)) => {
-            let outcome = landing_of(alloc, tells);
-            let _ = home.table.land(lead, outcome, Place::Main);
-        }
+        Ok(Entered::Lead(lead)) => drop(look_and_land(alloc, home, lead, tells)),
         Ok(Entered::Hit(_)) => {}
         Ok(Entered::Joined(_)) => {}
         Err(_) => {}
     }
-}
-
-/// A leader looks again, and lands what it finds, or else a fault.
-fn look_and_land<L: Ledger>(
-    alloc: Global,
-    home: &mut Shared<L>,
-    lead: Lead<Sample, Lax, L>,
-) -> Look {
-    let outcome = match home.table.again(&lead) {
-        Ok(Some(value)) => Ok(value),
-        _ => landing_of(alloc, Err(Fault::Source(FAULT))),
-    };
-    let (mut receipt, _) = home
-        .table
-        .land(lead, outcome, Place::Nowhere)
-        .into_receipt();
-    (told(&mut receipt), home.table.book())
 }
 
 /// A call of the wide class leads, one of the local class lands meanwhile, and then the leader looks again.
@@ -229,7 +219,8 @@ fn look_again<L: Ledger>(
         Entered::Joined(_) => None,
         Entered::Lead(lead) => {
             land_beside(alloc, home, pass, &key, tells);
-            Some(look_and_land(alloc, home, lead))
+            let mut receipt = look_and_land(alloc, home, lead, Err(Fault::Source(FAULT)));
+            Some((told(&mut receipt), home.table.book()))
         }
     }
 }

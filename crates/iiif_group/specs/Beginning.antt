@@ -12,7 +12,7 @@ use Rattle.iiif_keys.specs.declared.fault.Fault.TheVariants.{NoMemory}
 use Rattle.iiif_keys.specs.declared.keys.Shape.{Shape}
 use Rattle.iiif_keys.specs.declared.system.System as system
 use Rattle.iiif_outcome.specs.Outcomes.{is_given, value_of}
-use Rattle.iiif_singleflight.specs.Views.{lead_cell, lead_key, receipt_known}
+use Rattle.iiif_singleflight.specs.Views.{lead_cell, lead_key, lead_of, receipt_known}
 use Rattle.iiif_singleflight.specs.declared.pass.Pass.{Pass}
 use Rattle.iiif_singleflight.specs.declared.receipt.Receipt.{Receipt}
 use Rattle.iiif_group.specs.declared.begun.Begun.{Begun}
@@ -55,7 +55,7 @@ pub record Shares {V A : Type 0} (outcome share : Result (Arc V A) Fault) (exact
 module _ {K J L V : Type 0} {a b c d e : _} where
   -- the key of the value that has to be loaded
   abbrev pub open_key : Open K J L V a b c d e → K
-  open_key o = lead_key o.local
+  open_key o = lead_key (lead_of o.local)
 
   -- the key's owner was asked in vain
   abbrev pub was_asked : Open K J L V a b c d e → Bool
@@ -64,11 +64,11 @@ module _ {K J L V : Type 0} {a b c d e : _} where
   -- The cell of the flight that the call entered first, by which all who joined it learn its outcome: of the wide one where the key's
   -- owner was asked in vain, else of the local one.
   abbrev pub IsFirstFlight : Open K J L V a b c d e → ℕ → Type 0
-  IsFirstFlight o cell = MatchOption o.wide (cell ≡ lead_cell o.local) (λ w. cell ≡ lead_cell w)
+  IsFirstFlight o cell = MatchOption o.wide (cell ≡ lead_cell (lead_of o.local)) (λ w. cell ≡ lead_cell (lead_of w))
 
   -- the cell of the local flight
   abbrev pub IsLocalFlight : Open K J L V a b c d e → ℕ → Type 0
-  IsLocalFlight o cell = cell ≡ lead_cell o.local
+  IsLocalFlight o cell = cell ≡ lead_cell (lead_of o.local)
 
   -- the outcome of a flight of this key, or the duty to load its value
   abbrev pub BegunFor : K → Type 0 → Bool → V → (V → Bool) → (ReadFault → Bool) → Begun K J L V a b c d e → Type 0

@@ -3,21 +3,21 @@
 ghost use Rattle.std.specs.Prelude.{◌≡◌};
 ghost use Rattle.std.specs.Option.{ForSome};
 ghost use Rattle.iiif_tables.specs.declared.table.Class.TheVariants.{Local, Wide};
-ghost use Rattle.iiif_singleflight.specs.Views.{lead_class, lead_key};
+ghost use Rattle.iiif_singleflight.specs.Views.{lead_class, lead_key, lead_of};
 
 use iiif_keys::{CacheKey, System};
 use iiif_outcome::Landed;
-use iiif_singleflight::{Lead, Receipt};
+use iiif_singleflight::{Looked, Receipt};
 use std::sync::ledger::Ledger;
 
 /// The duty to load the value of a key, and to complete that. It can't be dropped. It leads the local flight of the key, and its
-/// wide one too where the owner was asked in vain.
+/// wide one too where the owner was asked in vain: of both the leader has looked again.
 pub struct Open<K: CacheKey, J: System, L: Ledger> {
-    pub(crate) local: Lead<K, J, L>,
-    pub(crate) wide: Option<Lead<K, J, L>>,
-    pub ghost local_is: { lead_class local ≡ Local },
-    pub ghost wide_is: { ForSome wide (λ w. lead_class w ≡ Wide) },
-    pub ghost one_key: { ForSome wide (λ w. lead_key w ≡ lead_key local) },
+    pub(crate) local: Looked<K, J, L>,
+    pub(crate) wide: Option<Looked<K, J, L>>,
+    pub ghost local_is: { lead_class (lead_of local) ≡ Local },
+    pub ghost wide_is: { ForSome wide (λ w. lead_class (lead_of w) ≡ Wide) },
+    pub ghost one_key: { ForSome wide (λ w. lead_key (lead_of w) ≡ lead_key (lead_of local)) },
 }
 
 /// What a call begins with.

@@ -1,7 +1,7 @@
 //! What leaders do.
 
 ghost use Rattle.std.specs.Prelude.{◌≡◌, IfOk, IsTrue};
-ghost use Rattle.iiif_singleflight.specs.Views.{flight_key, lead_key};
+ghost use Rattle.iiif_singleflight.specs.Views.{flight_key, lead_key, lead_of};
 ghost use Rattle.iiif_group.specs.Beginning.{gate_of, BegunOf, CountsOnce, IsPartOf, LoadsIf};
 ghost use Rattle.iiif_group.specs.Code.{AreLed, CountsOnceAtMost, EndsOrGoesOn, IsOf, IsPeer, IsWideOf, Relays};
 
@@ -14,7 +14,7 @@ use crate::steps::Origin;
 use crate::told::Told;
 use iiif_keys::{CacheKey, Fault, Shape, System};
 use iiif_pixel::NoMemory;
-use iiif_singleflight::{Entered, Flight, Lead, Pass, Receipt};
+use iiif_singleflight::{Entered, Flight, Lead, Looked, Pass, Receipt};
 use iiif_tables::Class;
 use std::sync::Wait;
 use std::sync::ledger::Ledger;
@@ -36,10 +36,10 @@ impl<K: CacheKey, J: System, L: Ledger, N, T> Group<K, J, L, N, T> {
     fn relay<R: Wait>(
         &self,
         rt: &R,
-        lead: Lead<K, J, L>,
+        lead: Looked<K, J, L>,
         mut receipt: Receipt<K, J, L>,
     ) -> (Told<K, J, L>, bool)
-        requires { IsOf (lead_key lead) receipt }
+        requires { IsOf (lead_key (lead_of lead)) receipt }
         ensures { Relays lead receipt result.0 result.1 }
     {
         let (outcome, exact) = share_outcome(receipt.outcome());
@@ -51,11 +51,11 @@ impl<K: CacheKey, J: System, L: Ledger, N, T> Group<K, J, L, N, T> {
     fn follow<R: Wait>(
         &self,
         rt: &R,
-        lead: Lead<K, J, L>,
+        lead: Looked<K, J, L>,
         flight: Flight<K, J, L>,
     ) -> Receipt<K, J, L>
-        requires { flight_key flight ≡ lead_key lead }
-        ensures { IsOf (lead_key lead) result }
+        requires { flight_key flight ≡ lead_key (lead_of lead) }
+        ensures { IsOf (lead_key (lead_of lead)) result }
     {
         let receipt = self.meet(rt, flight);
         self.relay(rt, lead, receipt).0.receipt
@@ -66,7 +66,7 @@ impl<K: CacheKey, J: System, L: Ledger, N, T> Group<K, J, L, N, T> {
         &self,
         rt: &R,
         local: Lead<K, J, L>,
-        wide: Option<Lead<K, J, L>>,
+        wide: Option<Looked<K, J, L>>,
         bytes: &[u8],
     ) -> Begun<K, J, L>
     where
@@ -116,19 +116,19 @@ impl<K: CacheKey, J: System, L: Ledger, N, T> Group<K, J, L, N, T> {
         key.shaped(shape, value)
     }
 
-    /// The leader of a wide flight asks the owner of its key: what the flight ended with, where a value of the key's shape came. Else
-    /// the lead back.
+    /// The leader of a wide flight, who has looked again, asks the owner of its key: what the flight ended with, where a value of the
+    /// key's shape came. Else the lead back.
     fn ask<R: Wait>(
         &self,
         rt: &R,
-        lead: Lead<K, J, L>,
+        lead: Looked<K, J, L>,
         shape: &Shape,
         link: &N,
-    ) -> Result<Receipt<K, J, L>, Lead<K, J, L>>
+    ) -> Result<Receipt<K, J, L>, Looked<K, J, L>>
     where
         N: Link<K, J, R>,
-        requires { IsPartOf K.CacheKey.own J.System (lead_key lead) shape.now }
-        ensures { EndsOrGoesOn lead result }
+        requires { IsPartOf K.CacheKey.own J.System (lead_key (lead_of lead)) shape.now }
+        ensures { EndsOrGoesOn (lead_of lead) result }
     {
         match link.ask(rt, lead.key(), shape) {
             Ok(value) if self.is_shaped(lead.key(), shape, &value) => {
@@ -146,7 +146,7 @@ impl<K: CacheKey, J: System, L: Ledger, N, T> Group<K, J, L, N, T> {
         lead: Lead<K, J, L>,
         shape: &Shape,
         link: &N,
-    ) -> Result<Receipt<K, J, L>, Lead<K, J, L>>
+    ) -> Result<Receipt<K, J, L>, Looked<K, J, L>>
     where
         N: Link<K, J, R>,
         requires { IsPartOf K.CacheKey.own J.System (lead_key lead) shape.now }
@@ -165,7 +165,7 @@ impl<K: CacheKey, J: System, L: Ledger, N, T> Group<K, J, L, N, T> {
         pass: &mut Pass<L>,
         key: &K,
         bytes: &[u8],
-        wide: Lead<K, J, L>,
+        wide: Looked<K, J, L>,
     ) -> Begun<K, J, L>
     where
         T: Gate<R>,

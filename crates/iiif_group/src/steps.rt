@@ -4,7 +4,7 @@ ghost use Rattle.iiif_group.specs.Code.{Lands, OutcomeOf};
 
 use iiif_keys::{CacheKey, Fault, System};
 use iiif_pixel::NoMemory;
-use iiif_singleflight::{Entered, Home, Landing, Lead, Pass};
+use iiif_singleflight::{Entered, Home, Landing, Looked, Pass};
 use iiif_tables::{Class, Place};
 use std::sync::Arc;
 use std::sync::ledger::Ledger;
@@ -24,7 +24,7 @@ pub enum Origin {
 /// tenth, that of another flight not again.
 pub fn land<K: CacheKey, J: System, L: Ledger>(
     home: &mut Home<K, J, L>,
-    lead: Lead<K, J, L>,
+    lead: Looked<K, J, L>,
     outcome: Result<Arc<K::Value>, Fault>,
     origin: Origin,
 ) -> Landing<K, J, L>
@@ -36,5 +36,5 @@ pub fn land<K: CacheKey, J: System, L: Ledger>(
         Origin::Load => Place::Main,
         Origin::Flight => Place::Nowhere,
     };
-    home.table.land(lead, outcome, place)
+    home.table.land(lead.end(outcome, place))
 }

@@ -1,15 +1,16 @@
 //! The calls of a group's lock, and waiting for flights.
 
-ghost use Rattle.std.specs.Prelude.{IfOk};
+ghost use Rattle.std.specs.Prelude.{◌≡◌, IfOk};
 ghost use Rattle.iiif_group.specs.Beginning.{CountsOnce};
-ghost use Rattle.iiif_group.specs.Code.{EndsOrGoesOn, EntersFor, FindsAgain, Finishes, Meets, OutcomeOf, Tells};
+ghost use Rattle.iiif_singleflight.specs.Views.{ending_lead, lead_back, lead_key};
+ghost use Rattle.iiif_group.specs.Code.{EndsOrGoesOn, EntersFor, Finishes, IsOf, Meets, OutcomeOf, Tells};
 
 use crate::group::Group;
 use crate::steps::{Origin, land};
 use crate::told::Told;
 use iiif_keys::{CacheKey, Fault, System};
 use iiif_pixel::NoMemory;
-use iiif_singleflight::{Entered, Flight, Landing, Lead, Pass, Receipt};
+use iiif_singleflight::{Ending, Entered, Flight, Landing, Lead, Looked, Pass, Receipt};
 use iiif_tables::Class;
 use std::sync::ledger::Ledger;
 use std::sync::{Arc, Wait};
@@ -46,13 +47,13 @@ impl<K: CacheKey, J: System, L: Ledger, N, T> Group<K, J, L, N, T> {
         unreachable!()
     }
 
-    /// A leader looks again: the value of its key, where one is kept by now.
+    /// A leader looks again: how its flight ends, where a value is kept by now or memory is wanting.
     fn again<R: Wait>(
         &self,
         rt: &R,
-        lead: &Lead<K, J, L>,
-    ) -> Result<Option<Arc<K::Value>>, NoMemory>
-        ensures { FindsAgain lead.now result }
+        lead: Lead<K, J, L>,
+    ) -> Result<Ending<K, J, L>, Looked<K, J, L>>
+        ensures { lead_back result ≡ lead }
     {
         self.home.lock(rt).table.again(lead)
     }
@@ -80,7 +81,7 @@ impl<K: CacheKey, J: System, L: Ledger, N, T> Group<K, J, L, N, T> {
     pub(crate) fn finish<R: Wait>(
         &self,
         rt: &R,
-        lead: Lead<K, J, L>,
+        lead: Looked<K, J, L>,
         outcome: Result<Arc<K::Value>, Fault>,
         origin: Origin,
     ) -> Told<K, J, L>
@@ -93,22 +94,28 @@ impl<K: CacheKey, J: System, L: Ledger, N, T> Group<K, J, L, N, T> {
         self.tell(rt, landing)
     }
 
+    /// Ends a flight with what its leader found by looking again, and tells those that wait.
+    fn end<R: Wait>(&self, rt: &R, ending: Ending<K, J, L>) -> Receipt<K, J, L>
+        ensures { IsOf (lead_key (ending_lead ending)) result }
+    {
+        let mut home = self.home.lock(rt);
+        let landing = home.table.land(ending);
+        drop(home);
+        self.tell(rt, landing).receipt
+    }
+
     /// The leader of a flight looks again: what the flight ended with, where a value is kept by now or memory is wanting. Else the
-    /// lead back.
+    /// lead back, by which it may ask or load.
     pub(crate) fn look<R: Wait>(
         &self,
         rt: &R,
         lead: Lead<K, J, L>,
-    ) -> Result<Receipt<K, J, L>, Lead<K, J, L>>
+    ) -> Result<Receipt<K, J, L>, Looked<K, J, L>>
         ensures { EndsOrGoesOn lead result }
     {
-        match self.again(rt, &lead) {
-            Err(_) => Ok(
-                self.finish(rt, lead, Err(Fault::NoMemory), Origin::Flight)
-                    .receipt,
-            ),
-            Ok(Some(value)) => Ok(self.finish(rt, lead, Ok(value), Origin::Flight).receipt),
-            Ok(None) => Err(lead),
+        match self.again(rt, lead) {
+            Ok(ending) => Ok(self.end(rt, ending)),
+            Err(looked) => Err(looked),
         }
     }
 }
