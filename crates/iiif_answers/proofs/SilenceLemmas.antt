@@ -128,5 +128,6 @@ silent_at bytes keeps honest gave s items reader writer _ _ _ rest h none begins
 
 pub silent : {S : Type 0} (bytes : S → List ℕ) (keeps : S → Type 0) (honest : Bool) (gave : S → ReadFault → Bool) (reader writer : Type 0) →
     NoSilence bytes keeps honest gave reader writer
-silent bytes keeps honest gave reader writer s items input rest h begins stream =
+silent bytes keeps honest gave reader writer s items input rest h begins (inl stream) =
     silent_at bytes keeps honest gave s items reader writer 1 input [] rest h refl begins stream
+silent bytes keeps honest gave reader writer s items input rest h begins (inr sent) = closing_by_writer writer want_of_memory [] refl sent

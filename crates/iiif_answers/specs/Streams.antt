@@ -42,10 +42,10 @@ closing r = text_of (written (Whole true) r)
 abbrev pub IsClosing : Type 0 → Response → List ℕ → Type 0
 IsClosing writer r text = (text ≡ closing r) ⊎ (writer × IsStrictPrefix text (closing r))
 
--- Memory may be lacking before the n-th call is answered: as the connection begins, for a call that came, or for the answer to a head
--- that is at fault. Where the input just ends, or the reader failed, nothing is said of memory.
-abbrev pub MayLackMemory : ℕ → List ℕ → Type 0
-MayLackMemory n input = (n ≡ 1) ⊎ Faults NoMemory input ⊎ Faults Bad input ⊎ Faults TooLong input
+-- Memory may be lacking for a call that came, or for the answer to a head that is at fault. Where the input just ends, or the reader
+-- failed, nothing is said of memory, at the first call as at any other.
+abbrev pub MayLackMemory : List ℕ → Type 0
+MayLackMemory input = Faults NoMemory input ⊎ Faults Bad input ⊎ Faults TooLong input
 
 -- Stream t n input output: the n-th call is the next, at the front of the input, and output is what is yet written.
 -- Each end has its cause: where the reader failed, no call is left of what came.
@@ -61,7 +61,7 @@ pub data Stream (t : Terms) : ℕ → List ℕ → List ℕ → Type 0 where
   reader_failed : (n : ℕ) (input : List ℕ) → t.reader → IsUnfinished input → Stream t n input []
   no_head : (n : ℕ) (input text : List ℕ) → (Faults Bad input ⊎ Faults TooLong input)
       → IsClosing t.writer (refusal_response refusal.Head) text → Stream t n input text
-  no_memory : (n : ℕ) (input text : List ℕ) → MayLackMemory n input → IsClosing t.writer want_of_memory text → Stream t n input text
+  no_memory : (n : ℕ) (input text : List ℕ) → MayLackMemory input → IsClosing t.writer want_of_memory text → Stream t n input text
 
 -- The terms of a server: each call is answered as the rule of answers allows.
 abbrev pub terms : {S : Type 0} → (S → List ℕ) → (S → Type 0) → Bool → (S → ReadFault → Bool) → Settings → List (Item S) → Type 0 → Type 0 →
@@ -81,6 +81,7 @@ terms bytes keeps honest gave settings items reader writer = record {
 abbrev pub IsCame : Type 0 → List ℕ → List ℕ → Type 0
 IsCame reader input came = (came ≡ input) ⊎ (reader × ((rest : List ℕ) × (input ≡ came ++ rest)))
 
--- a whole connection
+-- A whole connection: its calls from the first on; or memory was lacking as it began, whatever its input is, and the answer to that
+-- alone is sent.
 abbrev pub IsConnection : Terms → List ℕ → List ℕ → Type 0
-IsConnection t input output = Stream t 1 input output
+IsConnection t input output = Stream t 1 input output ⊎ IsClosing t.writer want_of_memory output

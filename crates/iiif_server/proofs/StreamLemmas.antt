@@ -43,7 +43,7 @@ served_partly t n input rest text h close begins e part =
     cut_off n input rest text h begins (subst (λ (c : Bool). t.part h c text) e part)
 
 -- the answer to no head, or that to want of memory
-closes_for_head : (t : Terms) (n : ℕ) (input text : List ℕ) (r : Response) → MayLackMemory n input → CloseFor t.writer r text
+closes_for_head : (t : Terms) (n : ℕ) (input text : List ℕ) (r : Response) → MayLackMemory input → CloseFor t.writer r text
     → (IsClosing t.writer r text → Stream t n input text) → Stream t n input text
 closes_for_head t n input text r may (inl sent) to = to sent
 closes_for_head t n input text r may (inr sent) to = no_memory n input text may sent
@@ -150,7 +150,7 @@ next_bad t n (Some input) left old new answers sent = (
   (
     input,
     inl refl,
-    closes_for_head t n input sent.0 (refusal_response refusal.Head) (inr (inr (inl answers.0))) sent.2
+    closes_for_head t n input sent.0 (refusal_response refusal.Head) (inr (inl answers.0)) sent.2
         (λ is. no_head n input sent.0 (inl answers.0) is),
   ),
 )
@@ -164,27 +164,39 @@ next_too_long t n (Some input) left old new answers sent = (
   (
     input,
     inl refl,
-    closes_for_head t n input sent.0 (refusal_response refusal.Head) (inr (inr (inr answers.0))) sent.2
+    closes_for_head t n input sent.0 (refusal_response refusal.Head) (inr (inr answers.0)) sent.2
         (λ is. no_head n input sent.0 (inr answers.0) is),
   ),
 )
 
 -- that to want of memory was sent
-pub next_no_memory : (t : Terms) (n : ℕ) (input old new : Option (List ℕ)) → IfSome input (MayLackMemory n)
+pub next_no_memory : (t : Terms) (n : ℕ) (input old new : Option (List ℕ)) → IfSome input MayLackMemory
     → ((text : List ℕ) × Appends old new text × IsClosing t.writer want_of_memory text) → IfSome input (Ends t n old new)
 next_no_memory t n None old new may sent = tt
 next_no_memory t n (Some input) old new may sent = (sent.0, sent.1, (input, inl refl, no_memory n input sent.0 may sent.2))
 
 -- a call came for which memory is lacking
-pub lacks_for_a_call : (n : ℕ) (input left : Option (List ℕ)) → IfSome input (λ i. Answers i left (Err fault.NoMemory)) →
-    IfSome input (MayLackMemory n)
-lacks_for_a_call n None left answers = tt
-lacks_for_a_call n (Some input) left answers = inr (inl answers.0)
+pub lacks_for_a_call : (input left : Option (List ℕ)) → IfSome input (λ i. Answers i left (Err fault.NoMemory)) →
+    IfSome input MayLackMemory
+lacks_for_a_call None left answers = tt
+lacks_for_a_call (Some input) left answers = inl answers.0
 
--- the connection begins
-pub lacks_at_start : (input : Option (List ℕ)) → IfSome input (MayLackMemory 1)
-lacks_at_start None = tt
-lacks_at_start (Some input) = inl refl
+-- what was written for a whole connection, with what came of the input
+abbrev pub IsWritten : Terms → Option (List ℕ) → Option (List ℕ) → List ℕ → Type 0
+IsWritten t old new input = (text : List ℕ) × Appends old new text ×
+    ((came : List ℕ) × IsCame t.reader input came × IsConnection t came text)
+
+-- memory was lacking as the connection began
+pub none_at_start : (t : Terms) (input old new : Option (List ℕ))
+    → ((text : List ℕ) × Appends old new text × IsClosing t.writer want_of_memory text) → IfSome input (IsWritten t old new)
+none_at_start t None old new sent = tt
+none_at_start t (Some input) old new sent = (sent.0, sent.1, (input, inl refl, inr sent.2))
+
+-- the same of the bytes that came: none were read
+pub none_at_start_here : (t : Terms) (old new : Option (List ℕ))
+    → ((text : List ℕ) × Appends old new text × IsClosing t.writer want_of_memory text)
+    → (came : List ℕ) × (output : List ℕ) × Appends old new output × IsConnection t came output
+none_at_start_here t old new sent = ([], sent.0, sent.1, inr sent.2)
 
 -- ---- A connection from its first call on
 
@@ -285,7 +297,8 @@ came_of reader input done rest came whole (inr failed) =
 -- the connection has ended
 pub ends_so : {W : Type 0} (t : W → Terms) (n : ℕ) (input left after old mid new : Option (List ℕ)) (now : W) (more : Bool) → more ≡ false →
     GoesOnSo t n input left old mid
-    → IfSome left (λ i. (text : List ℕ) × Appends mid new text × Served (t now) n i after text more) → IfSome input (Ends (t now) 1 old new)
+    → IfSome left (λ i. (text : List ℕ) × Appends mid new text × Served (t now) n i after text more) →
+    IfSome input (IsWritten (t now) old new)
 ends_so t n None left after old mid new now more is_last on sent = tt
 ends_so t n (Some input) left after old mid new now more is_last on sent =
     let call = known (λ i. (text : List ℕ) × Appends mid new text × Served (t now) n i after text more) left on.1 on.3 sent in
@@ -293,7 +306,7 @@ ends_so t n (Some input) left after old mid new now more is_last on sent =
     subst (λ (b : Bool). Served (t now) n on.1 after call.0 b) is_last call.2 in (
       on.4.0 ++ call.0,
       Appends-trans old mid new on.4.0 call.0 on.4.1 call.1,
-      (on.0 ++ served.0, came_of (t now).reader input on.0 on.1 served.0 on.2 served.1, on.4.2 now served.0 call.0 served.2),
+      (on.0 ++ served.0, came_of (t now).reader input on.0 on.1 served.0 on.2 served.1, inl (on.4.2 now served.0 call.0 served.2)),
     )
 
 pub came_at_end : {W : Type 0} (t : W → Terms) (n : ℕ) (unread : List ℕ) (after old mid new : Option (List ℕ)) (now : W) (more : Bool) →
@@ -303,7 +316,7 @@ pub came_at_end : {W : Type 0} (t : W → Terms) (n : ℕ) (unread : List ℕ) (
 came_at_end t n unread after old mid new now more is_last on sent =
     let served : (came : List ℕ) × IsCame (t now).reader (unread ++ sent.0) came × Stream (t now) n came sent.1 =
     subst (λ (b : Bool). Served (t now) n (unread ++ sent.0) after sent.1 b) is_last sent.3 in
-    (on.0 ++ served.0, on.1.0 ++ sent.1, Appends-trans old mid new on.1.0 sent.1 on.1.1 sent.2, on.1.2 now served.0 sent.1 served.2)
+    (on.0 ++ served.0, on.1.0 ++ sent.1, Appends-trans old mid new on.1.0 sent.1 on.1.1 sent.2, inl (on.1.2 now served.0 sent.1 served.2))
 
 -- the input of a new reader of heads is its reader's
 pub at_start : {R : Type 0} (remaining : R → Option (List ℕ)) (heads : Reading R) (reader : R)

@@ -1,4 +1,4 @@
-use Rattle.std.proofs.Common.{◌≡◌, ◌⊎◌, ◌++◌, Err, Some, ap, inl, inr, rules, ⊎_elim}
+use Rattle.std.proofs.Common.{◌≡◌, ◌⊎◌, ◌++◌, Err, Some, ap, inl, rules, ⊎_elim}
 use Rattle.iiif_http_front.specs.Reading.{input_of}
 use Rattle.iiif_http_front.specs.declared.call.HeadFault.TheVariants as HeadFault
 use Rattle.iiif_answers.specs.Streams.{terms}
@@ -75,7 +75,7 @@ returns-in-Err-NoMemory-clause-next g c = record {
       ((b : g.row.W.Denot) × g.W.Outlet.fails b c.close_for_memory-outcome.new.out))
       c.args.n (input_of g.I.Read.remaining c.args.heads.now) (g.W.Write.contents c.args.out.now)
       (g.W.Write.contents c.close_for_memory-outcome.new.out)
-      (lacks_for_a_call c.args.n (input_of g.I.Read.remaining c.args.heads.now) (input_of g.I.Read.remaining c.read_head.new.self)
+      (lacks_for_a_call (input_of g.I.Read.remaining c.args.heads.now) (input_of g.I.Read.remaining c.read_head.new.self)
       (rw c.in-Err-NoMemory.field-0-is at c.in-Err-NoMemory.ensures.answers c.requires.no_fault)) c.close_for_memory-outcome.ensures;
   came =
       let came = (rw c.in-Err-NoMemory.field-0-is at c.in-Err-NoMemory.ensures.came c.requires.no_fault) in
@@ -83,7 +83,7 @@ returns-in-Err-NoMemory-clause-next g c = record {
       c.args.self.now.items ((a b : g.row.I.Denot) × g.I.Inlet.fails a b)
       ((b : g.row.W.Denot) × g.W.Outlet.fails b c.close_for_memory-outcome.new.out))
       c.args.n (Some (c.args.heads.now.unread ++ came.0)) (g.W.Write.contents c.args.out.now)
-      (g.W.Write.contents c.close_for_memory-outcome.new.out) (inr (inl came.1.0)) c.close_for_memory-outcome.ensures in
+      (g.W.Write.contents c.close_for_memory-outcome.new.out) (inl came.1.0) c.close_for_memory-outcome.ensures in
       (came.0, sent.0, sent.1, sent.2);
 }
 

@@ -1,22 +1,20 @@
-use Rattle.std.proofs.Common.{[], Some, ap, arith, ◌<◌}
+use Rattle.std.proofs.Common.{Some, ap, arith, ◌<◌}
 use Rattle.iiif_http_front.specs.Reading.{Reading, input_of}
 use Rattle.iiif_answers.specs.Streams.{terms}
-use Rattle.iiif_server.proofs.StreamLemmas.{begins_so, goes_further, ends_so, next_no_memory, at_start, came_at_end, came_further}
-use Rattle.iiif_server.proofs.StreamLemmas.{nothing_came, lacks_at_start}
+use Rattle.iiif_server.proofs.StreamLemmas.{begins_so, goes_further, ends_so, at_start, came_at_end, came_further, nothing_came}
+use Rattle.iiif_server.proofs.StreamLemmas.{none_at_start, none_at_start_here}
 use Rattle.iiif_server.proofs.node.Node.serve_stream.Goals as goal
 
 pub returns-in_default : goal.returns-in_default
 returns-in_default g c = record {
-  serves = next_no_memory (terms g.S.Source.bytes g.S.Source.keeps g.J.System.honest g.S.Source.gave c.args.self.now.settings
+  serves = none_at_start (terms g.S.Source.bytes g.S.Source.keeps g.J.System.honest g.S.Source.gave c.args.self.now.settings
       c.args.self.now.items ((a b : g.row.I.Denot) × g.I.Inlet.fails a b)
-      ((b : g.row.W.Denot) × g.W.Outlet.fails b c.close_for_memory-outcome.new.out)) 1 (g.I.Read.remaining c.args.reader)
-      (g.W.Write.contents c.args.out.now) (g.W.Write.contents c.close_for_memory-outcome.new.out)
-      (lacks_at_start (g.I.Read.remaining c.args.reader)) c.close_for_memory-outcome.ensures;
-  came = let sent = next_no_memory (terms g.S.Source.bytes g.S.Source.keeps g.J.System.honest g.S.Source.gave c.args.self.now.settings
+      ((b : g.row.W.Denot) × g.W.Outlet.fails b c.close_for_memory-outcome.new.out)) (g.I.Read.remaining c.args.reader)
+      (g.W.Write.contents c.args.out.now) (g.W.Write.contents c.close_for_memory-outcome.new.out) c.close_for_memory-outcome.ensures;
+  came = none_at_start_here (terms g.S.Source.bytes g.S.Source.keeps g.J.System.honest g.S.Source.gave c.args.self.now.settings
       c.args.self.now.items ((a b : g.row.I.Denot) × g.I.Inlet.fails a b)
-      ((b : g.row.W.Denot) × g.W.Outlet.fails b c.close_for_memory-outcome.new.out)) 1 (Some []) (g.W.Write.contents c.args.out.now)
-      (g.W.Write.contents c.close_for_memory-outcome.new.out) (lacks_at_start (Some [])) c.close_for_memory-outcome.ensures in
-      (sent.2.0, sent.0, sent.1, sent.2.2);
+      ((b : g.row.W.Denot) × g.W.Outlet.fails b c.close_for_memory-outcome.new.out)) (g.W.Write.contents c.args.out.now)
+      (g.W.Write.contents c.close_for_memory-outcome.new.out) c.close_for_memory-outcome.ensures;
 }
 
 pub calls-init : goal.calls-init
