@@ -8,7 +8,7 @@ ghost use Rattle.iiif_assemble.specs.Gathering.{AreValues, IsItemFault};
 ghost use denote.Param.Send.{IsSync};
 
 use crate::items::Items;
-use crate::parts::{Crew, SHARES, value_of};
+use crate::parts::{Crew, value_of};
 use iiif_keys::Fault;
 use iiif_workers::{Helper, Idle};
 use std::alloc::Global;
@@ -81,7 +81,7 @@ fn begun<
                 });
             }
         }
-        match value_of(crew, own, key, SHARES) {
+        match value_of(crew, own, key) {
             Ok(value) => keep(&mut values, value)?,
             Err(fault) => return Err(fault),
         }

@@ -14,9 +14,6 @@ use std::alloc::Global;
 use std::sync::{Arc, Wait};
 use std::thread::{Threads, join};
 
-/// How many levels below a key of the plan are shared out: 16 parts at most then. Of more each would be made sooner than a thread starts.
-pub(crate) const SHARES: u32 = 2;
-
 /// What has the values, and who has nothing to do.
 #[derive(Drop)]
 pub(crate) struct Crew<'x, 'a, G, P, R> {
@@ -26,7 +23,7 @@ pub(crate) struct Crew<'x, 'a, G, P, R> {
     pub idle: &'x Idle<'a, P>,
 }
 
-/// The value of a key. Of one that is made of parts, workers that have nothing to do ask for some of these, where its level is shared out.
+/// The value of a key. Of one that is made of parts, workers that have nothing to do ask for some of these.
 #[cycle(parts)]
 pub(crate) fn value_of<
     G: Items<K, V, P, R> + Sync,
@@ -34,7 +31,7 @@ pub(crate) fn value_of<
     V: Drop + Send + Sync,
     P: Send,
     R: Threads + Wait + Sync,
->(crew: &Crew<'_, '_, G, P, R>, own: &mut P, key: &K, shares: u32) -> Result<Arc<V>, Fault>
+>(crew: &Crew<'_, '_, G, P, R>, own: &mut P, key: &K) -> Result<Arc<V>, Fault>
     requires { G.fits crew.now.group.now key.now }
     ensures value { IfOk result (λ v. G.means crew.now.group.now key.now (arc_value v)) }
     ensures fault { IfErr result (IsFaultOf (G.failed crew.now.group.now) key.now) }
@@ -42,7 +39,7 @@ pub(crate) fn value_of<
     match crew.group.open(crew.rt, own, key) {
         Ok(Opened::Known(value)) => Ok(value),
         Ok(Opened::Parts(load, parts)) => {
-            let values = shared(crew, own, key, &parts, shares);
+            let values = shared(crew, own, key, &parts);
             crew.group.close(crew.rt, load, key, parts, values)
         }
         Err(fault) => Err(fault),
@@ -59,25 +56,19 @@ fn shared<
     V: Drop + Send + Sync,
     P: Send,
     R: Threads + Wait + Sync,
->(
-    crew: &Crew<'_, '_, G, P, R>,
-    own: &mut P,
-    key: &K,
-    parts: &[K],
-    shares: u32,
-) -> Result<Vec<Arc<V>>, Fault>
+>(crew: &Crew<'_, '_, G, P, R>, own: &mut P, key: &K, parts: &[K]) -> Result<Vec<Arc<V>>, Fault>
     requires few { length parts.now ≤ 4 }
     requires parts { All (IsPart (G.fits crew.now.group.now) (G.rank crew.now.group.now) (G.failed crew.now.group.now) key.now) parts.now }
     ensures values { IfOk result (λ v. AreValuesOf (G.means crew.now.group.now) parts.now v.items) }
     ensures fault { IfErr result (IsPartsFault (G.means crew.now.group.now) (G.failed crew.now.group.now) parts.now) }
 {
-    if shares == 0 || parts.len() < 2 {
-        return in_turn(crew, own, key, parts, shares);
+    if parts.len() < 2 {
+        return in_turn(crew, own, key, parts);
     }
     let Some(helper) = crew.idle.take(crew.rt) else {
         let (front, back) = parts.split_at(1);
-        let first = in_turn(crew, own, key, front, shares)?;
-        let rest = shared(crew, own, key, back, shares)?;
+        let first = in_turn(crew, own, key, front)?;
+        let rest = shared(crew, own, key, back)?;
         return joined(first, rest);
     };
     let (front, back) = parts.split_at(parts.len() - 1);
@@ -88,13 +79,13 @@ fn shared<
                 (G.failed crew.now.group.now) key.now) front.now }
             ensures { IfOk result (λ v. AreValuesOf (G.means crew.entry.now.group.now) front.entry.now v.items)
                 × IfErr result (IsPartsFault (G.means crew.entry.now.group.now) (G.failed crew.entry.now.group.now) front.entry.now) }
-        { shared(crew, own, key, front, shares) },
+        { shared(crew, own, key, front) },
         || -> Result<Vec<Arc<V>>, Fault>
             requires { IsSync R.row × All (IsPart (G.fits crew.now.group.now) (G.rank crew.now.group.now) (G.failed crew.now.group.now)
                 key.now) back.now }
             ensures { IfOk result (λ v. AreValuesOf (G.means crew.entry.now.group.now) back.entry.now v.items)
                 × IfErr result (IsPartsFault (G.means crew.entry.now.group.now) (G.failed crew.entry.now.group.now) back.entry.now) }
-        { helped(crew, helper, key, back, shares) },
+        { helped(crew, helper, key, back) },
     );
     match first {
         Ok(first) => match rest {
@@ -119,13 +110,12 @@ fn helped<
     mut helper: Helper<'a, P>,
     key: &K,
     parts: &[K],
-    shares: u32,
 ) -> Result<Vec<Arc<V>>, Fault>
     requires { All (IsPart (G.fits crew.now.group.now) (G.rank crew.now.group.now) (G.failed crew.now.group.now) key.now) parts.now }
     ensures values { IfOk result (λ v. AreValuesOf (G.means crew.now.group.now) parts.now v.items) }
     ensures fault { IfErr result (IsPartsFault (G.means crew.now.group.now) (G.failed crew.now.group.now) parts.now) }
 {
-    let values = in_turn(crew, helper.pass, key, parts, shares);
+    let values = in_turn(crew, helper.pass, key, parts);
     crew.idle.put(crew.rt, helper);
     values
 }
@@ -138,20 +128,14 @@ fn in_turn<
     V: Drop + Send + Sync,
     P: Send,
     R: Threads + Wait + Sync,
->(
-    crew: &Crew<'_, '_, G, P, R>,
-    own: &mut P,
-    key: &K,
-    parts: &[K],
-    shares: u32,
-) -> Result<Vec<Arc<V>>, Fault>
+>(crew: &Crew<'_, '_, G, P, R>, own: &mut P, key: &K, parts: &[K]) -> Result<Vec<Arc<V>>, Fault>
     requires { All (IsPart (G.fits crew.now.group.now) (G.rank crew.now.group.now) (G.failed crew.now.group.now) key.now) parts.now }
     ensures values { IfOk result (λ v. AreValuesOf (G.means crew.now.group.now) parts.now v.items) }
     ensures fault { IfErr result (IsPartsFault (G.means crew.now.group.now) (G.failed crew.now.group.now) parts.now) }
 {
     let mut values = Vec::new(crew.alloc);
     for part in parts {
-        let value = value_of(crew, own, part, shares.saturating_sub(1))?;
+        let value = value_of(crew, own, part)?;
         keep(&mut values, value)?;
     }
     Ok(values)
