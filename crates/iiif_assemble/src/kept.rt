@@ -1,10 +1,10 @@
 //! Sums of blocks that are kept from band to band.
 
-ghost use Rattle.std.specs.Prelude.{◌≡◌, ◌<◌, All, Contains, Err, IfErr, IfOk, IfSome, OnOk, length};
+ghost use Rattle.std.specs.Prelude.{◌≡◌, ◌<◌, ◌≤◌, All, Contains, Err, IfErr, IfOk, IfSome, OnOk, length, true};
 ghost use Rattle.std.specs.Arc.{arc_value};
 ghost use Rattle.iiif_assemble.specs.Faults.{IsSumsFault};
 ghost use Rattle.iiif_assemble.specs.Gathering.{IsItemFault};
-ghost use Rattle.iiif_assemble.specs.Kept.{AreKept, IsKeptToo};
+ghost use Rattle.iiif_assemble.specs.Kept.{AreKept, AreOfItems, AreOneEach, HasAll, IsKeptToo, IsOfItems, KeepsFew};
 ghost use Rattle.iiif_assemble.specs.Opening.{AreValuesOf, IsFaultOf};
 ghost use Rattle.iiif_assemble.specs.Jobs.{IsBandOf, IsJob, SumsServe};
 
@@ -111,22 +111,25 @@ impl<'a, S: Items<SumKey, SumVal, P, R>, P, R> Items<SumKey, SumVal, P, R> for W
 }
 
 /// Whether the sums of all these items are kept.
-fn has_all(kept: &[KeptSum], keys: &[SumKey], items: &[usize]) -> bool {
+fn has_all(kept: &[KeptSum], keys: &[SumKey], items: &[usize]) -> bool
+    ensures { result ≡ true → HasAll keys.now items.now kept.now }
+{
     for item in items {
-        match keys.get(*item) {
-            Some(key) => {
-                if kept_for(kept, key).is_none() {
-                    return false;
-                }
-            }
-            None => return false,
-        }
+        let Some(key) = keys.get(*item) else {
+            return false;
+        };
+        let Some(_sum) = kept_for(kept, key) else {
+            return false;
+        };
     }
     true
 }
 
 /// Whether a key is that of one of the items.
-fn is_of(key: &SumKey, keys: &[SumKey], items: &[usize]) -> bool {
+#[tactic(auto, using(crate::proofs::KeptLemmas::item_is))]
+fn is_of(key: &SumKey, keys: &[SumKey], items: &[usize]) -> bool
+    ensures { result ≡ true → IsOfItems keys.now items.now key.now }
+{
     for item in items {
         if let Some(own) = keys.get(*item) {
             if own == key {
@@ -149,6 +152,7 @@ fn keep(kept: &mut Vec<KeptSum>, key: &SumKey, value: &Arc<SumVal>) -> Result<()
 
 impl<'a, S> WithKept<'a, S> {
     /// Of the sums that are kept those of the items. The only error is want of memory.
+    #[tactic(auto, using(crate::proofs::KeptLemmas::kept_more, crate::proofs::KeptLemmas::of_items_more, crate::proofs::KeptLemmas::one_longer))]
     fn kept_of<P, R>(
         &self,
         alloc: Global,
@@ -158,7 +162,8 @@ impl<'a, S> WithKept<'a, S> {
     where
         S: Items<SumKey, SumVal, P, R>,
         requires { AreKept (S.means self.now.sums.now) self.now.kept.now }
-        ensures { IfOk result (λ v. AreKept (S.means self.now.sums.now) v.items) }
+        ensures kept { IfOk result (λ v. AreKept (S.means self.now.sums.now) v.items) }
+        ensures few { IfOk result (λ v. AreOfItems keys.now items.now v.items × (length v.items ≤ length self.now.kept.now)) }
     {
         let mut rest = Vec::new(alloc);
         for sum in self.kept {
@@ -171,6 +176,7 @@ impl<'a, S> WithKept<'a, S> {
 }
 
 /// The sums of the items, to be kept: those that are kept already, and the others asked by a worker for each pass.
+#[tactic(auto, using(crate::proofs::KeptLemmas::each_of_all))]
 fn asked<T, S: Items<SumKey, SumVal, P, R> + Sync, P: Send, R: Threads + Wait + Sync>(
     shop: &Workshop<'_, T, S, R>,
     passes: &mut [P],
@@ -183,6 +189,7 @@ fn asked<T, S: Items<SumKey, SumVal, P, R> + Sync, P: Send, R: Threads + Wait + 
     requires fits { All (S.fits shop.now.sums.now) keys.now }
     requires kept { AreKept (S.means shop.now.sums.now) kept.now }
     ensures kept { IfOk result (λ v. AreKept (S.means shop.now.sums.now) v.items) }
+    ensures few { IfOk result (λ v. AreOneEach keys.now items.now v.items) }
     ensures fault { IfErr result (IsItemFault (S.means shop.now.sums.now) (S.failed shop.now.sums.now) keys.now items.now) }
 {
     let before = WithKept {
@@ -204,11 +211,12 @@ const MOST: usize = 64;
 /// for which a worker for each pass asks. What is kept of bands that are gone is dropped before. So each block of a job is asked for once,
 /// also where it has places of several bands, however little a cache keeps.
 ///
-/// Where a band has more than 64 blocks, none is kept: they are asked for once it is made.
+/// Where a band has more than 64 blocks, only those of them stay that were kept: the others are asked for once it is made.
 ///
 /// # Errors
 ///
 /// The fault of the first block of the band, in the plan's order, that failed; or `NoMemory`. Then nothing is kept.
+#[tactic(auto, using(crate::proofs::KeptLemmas::all_keep, crate::proofs::KeptLemmas::each_kept, crate::proofs::KeptLemmas::none_kept, crate::proofs::KeptLemmas::some_kept, crate::proofs::KeptLemmas::tiles_keep))]
 pub fn keep_band<T, S: Items<SumKey, SumVal, P, R> + Sync, P: Send, R: Threads + Wait + Sync>(
     shop: &Workshop<'_, T, S, R>,
     passes: &mut [P],
@@ -222,6 +230,7 @@ pub fn keep_band<T, S: Items<SumKey, SumVal, P, R> + Sync, P: Send, R: Threads +
     requires sums { SumsServe job.now (S.fits shop.now.sums.now) (S.means shop.now.sums.now) }
     requires kept { AreKept (S.means shop.now.sums.now) kept.old.items }
     ensures kept { AreKept (S.means shop.now.sums.now) kept.new.items }
+    ensures few { KeepsFew job.now.plan band.now.items.items kept.old.items kept.new.items result }
     ensures fault { IfErr result (IsSumsFault (S.means shop.now.sums.now) (S.failed shop.now.sums.now) job.now.plan band.now.items.items) }
 {
     let Plan::Sum(keys) = &job.plan else {

@@ -20,7 +20,7 @@ use Rattle.iiif_keys.specs.declared.values.TileVal.{TileVal}
 use Rattle.iiif_bands.specs.declared.banding.Band.{Band}
 use Rattle.iiif_assemble.specs.Faults.{IsBandFault}
 use Rattle.iiif_assemble.specs.Jobs.{channels_in, top_in, IsHeldFor, IsShown}
-use Rattle.iiif_assemble.specs.Kept.{AreKept}
+use Rattle.iiif_assemble.specs.Kept.{AreFew, AreKept}
 use Rattle.iiif_assemble.specs.Lone.{IsFirstFault, IsTileImage}
 use Rattle.iiif_assemble.specs.declared.items.Items as items
 use Rattle.iiif_assemble.specs.declared.job.Job.{Job}
@@ -142,9 +142,10 @@ module _ {T P R O : Type 0} (tile : items.Ghosts T TileKey TileVal P R O) (tiles
 
 module _ {T S R P O U : Type 0} (tile : items.Ghosts T TileKey TileVal P R O) (sum : items.Ghosts S SumKey SumVal P R U)
     (shop : Workshop T S R) (s : Sending) where
-  -- The rows of a band were appended to a text, and so much was held; or why not. What is kept stays values of its keys.
+  -- The rows of a band were appended to a text, and so much was held; or why not. What is kept stays values of its keys, and few.
   pub record PutsBand (b : Band) (sums : List KeptSum) (old new : List ℕ) (result : Result ℕ Fault) : Type 0 where
     pub kept : AreKept (sum.means shop.sums.now) sums
+    pub few : AreFew sums
     pub rows : IfOk result (λ held. (p : Picture) ×
         IsBandFor s.job.now (tile.means shop.tiles.now) (sum.means shop.sums.now) b.rect p × (new ≡ old ++ strip s.kind p))
     pub none : OnErr result (new ≡ old)

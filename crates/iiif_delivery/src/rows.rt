@@ -1,7 +1,7 @@
 //! The rows of a band.
 
 ghost use Rattle.std.specs.Prelude.{◌<◌, length};
-ghost use Rattle.iiif_assemble.specs.Kept.{AreKept};
+ghost use Rattle.iiif_assemble.specs.Kept.{AreFew, AreKept};
 ghost use Rattle.iiif_assemble.specs.Jobs.{IsBandOf};
 ghost use Rattle.iiif_delivery.specs.Code.{Laws, PutsBand};
 ghost use Rattle.iiif_delivery.specs.Delivery.{MaySend};
@@ -46,6 +46,7 @@ pub(crate) fn put_band<
     requires sending { MaySend T.Items S.Items shop.now sending.now }
     requires band { IsBandOf sending.now.job.now band.now }
     requires kept { AreKept (S.means shop.now.sums.now) kept.old.items }
+    requires few { AreFew kept.old.items }
     ensures { PutsBand T.Items S.Items shop.now sending.now band.now kept.new.items text.old.items text.new.items result }
 {
     let job = sending.job;

@@ -1,6 +1,6 @@
 use Rattle.std.proofs.Common.{arith, sym}
 use Rattle.std.specs.Arc.{arc_value}
-use Rattle.iiif_assemble.proofs.KeptLemmas.{kept_more}
+use Rattle.iiif_assemble.proofs.KeptLemmas.{each_more, kept_more}
 use Rattle.iiif_assemble.proofs.ZipLemmas.{value_at, values_len}
 use Rattle.iiif_assemble.proofs.kept.asked.Goals as goal
 
@@ -18,4 +18,9 @@ loop-n-preserved g c =
     let meant = value_at arc_value means c.args.keys.now c.args.items.now c.in_ok-values.values.items c.loop-n.n k v
     c.in_ok-values.ensures.values c.loop-n-test.true
     (sym c.index-keys-items.is) (sym c.index.ensures) in
-    kept_more means c.loop-n.asked.items c.keep.new.kept.items k (arc_value v) c.loop-n.invariant meant c.in_ok-keep.ensures
+    record {
+      kept = kept_more means c.loop-n.asked.items c.keep.new.kept.items k (arc_value v) c.loop-n.invariant.kept meant c.in_ok-keep.ensures;
+      each = each_more c.args.keys.now c.args.items.now c.loop-n.asked.items c.keep.new.kept.items c.loop-n.n k (arc_value v)
+          c.loop-n-test.true c.loop-n.invariant.each (c.requires.within c.loop-n.n 0 c.loop-n-test.true) (sym c.index-keys-items.is)
+          c.in_ok-keep.ensures;
+    }

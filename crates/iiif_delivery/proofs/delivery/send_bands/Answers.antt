@@ -49,6 +49,7 @@ loop-band-init g c =
       counted = counted_first j s.kind (length (s.start.now ++ head_of s.kind d)) s.rows (min (0 * s.rows) d.h)
           c.in-Ok.text.items (ap length is) none;
       kept = search rules;
+      few = search rules;
     }
 
 pub returns-in-Err-made-clause-stopped : goal.returns-in-Err-made-clause-stopped
@@ -207,6 +208,7 @@ loop-band-preserved g c =
                 c.loop-band.sent c.max-held.result y2 c.if-len-ge-PIECE.sent counted
                 (omega (arith, next, above, c.requires.sending.rows)) count none;
             kept = c.put_band-made.ensures.kept;
+            few = c.put_band-made.ensures.few;
           }
       | else-len-ge-PIECE w ↦
           rw (w.out-is, w.text-is, w.sent-is) (record {
@@ -216,6 +218,7 @@ loop-band-preserved g c =
                 (omega (arith, above)) is_band made.2 next shows has source (c.loop-band.invariant.rows shows has source));
             counted = counted;
             kept = c.put_band-made.ensures.kept;
+            few = c.put_band-made.ensures.few;
           })
     ]
 

@@ -1,7 +1,7 @@
 use Rattle.std.proofs.Common.{◌*◌, length, min}
 use Rattle.std.specs.Prelude.{◌++◌}
 use Rattle.iiif_tiff_write.specs.File.{head_of}
-use Rattle.iiif_assemble.specs.Kept.{AreKept}
+use Rattle.iiif_assemble.specs.Kept.{AreFew, AreKept}
 use Rattle.iiif_delivery.specs.Delivery.{result_dim}
 use Rattle.iiif_delivery.specs.Code.{HasCounted, HaveRows}
 use Rattle.iiif_delivery.proofs.delivery.send_bands.Given as goal
@@ -17,4 +17,5 @@ invariant-loop-band g l =
           (g.W.Write.contents l.fn.out) (g.W.Write.contents l.out) l.text.items l.sent y;
       counted : HasCounted j s.kind (length (s.start.now ++ head_of s.kind (result_dim j))) s.rows l.text.items l.sent l.held y;
       kept : AreKept (g.S.Items.means l.shop.sums.now) l.kept.items;
+      few : AreFew l.kept.items;
     }
