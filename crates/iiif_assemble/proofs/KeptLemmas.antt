@@ -13,7 +13,8 @@ use Rattle.iiif_keys.specs.declared.values.SumVal.{SumVal}
 use Rattle.iiif_planner.specs.declared.plans.Plan.{Plan}
 use Rattle.iiif_planner.specs.declared.plans.Plan.TheVariants.{Copy, Grow, Sum}
 use Rattle.iiif_assemble.specs.Gathering.{HasItem}
-use Rattle.iiif_assemble.specs.Kept.{most_kept, AreFew, AreKept, AreOfItems, AreOneEach, HasAll, HasKept, IsKeptToo, IsOfItems, KeepsFew, KeepsOwn}
+use Rattle.iiif_assemble.specs.Kept.{most_kept, AreFew, AreKept, AreOfItems, AreOneEach, HasAll, HasKept, IsKeptToo, IsOfItems}
+use Rattle.iiif_assemble.specs.Kept.{KeepsFew, KeepsOwn}
 use Rattle.iiif_assemble.specs.declared.kept.KeptSum.{KeptSum}
 use Rattle.iiif_assemble.proofs.ZipLemmas.{all_values, one_more}
 

@@ -17,7 +17,8 @@ loop-sum-preserved g c =
     elim c.if-is_of.branch [
       | then-is_of+in_ok-keep w ↦
           rw w.rest-is (record {
-            kept = kept_more means before w.keep.new.kept.items s.key (arc_value s.value) c.loop-sum.invariant.kept own w.in_ok-keep.ensures;
+            kept = kept_more means before w.keep.new.kept.items s.key (arc_value s.value) c.loop-sum.invariant.kept own
+                w.in_ok-keep.ensures;
             own = of_items_more c.args.keys.now c.args.items.now before w.keep.new.kept.items s.key (arc_value s.value)
                 c.loop-sum.invariant.own (c.is_of.ensures w.if-is_of.true) w.in_ok-keep.ensures;
             few = omega (
