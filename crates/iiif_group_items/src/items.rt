@@ -32,8 +32,9 @@ where
     TileCalls<J>: Ledger,
     SumCalls<J>: Ledger;
 
-/// The least level of a block whose parts are shared out: below it they are tiles, for which a thread costs as much as it saves.
-const SHARED: u8 = 2;
+/// The least level of a block whose parts are shared out. These are of up to 64 tiles, which take some milliseconds to load: for fewer a
+/// thread costs as much as it saves.
+const SHARED: u8 = 4;
 
 /// A value that is there, or why it isn't.
 fn known<K, V, O>(came: Result<Arc<V>, Fault>) -> Result<Opened<K, V, O>, Fault>

@@ -5,7 +5,7 @@ use crate::cases::{
     Ask, BY_FIVE, BY_ONE, BY_TWO, Case, HALF, IS_NOT_SO, IS_SO, LARGER, ONE, SLOWLY, Setup, Table,
     Text, Variant, Verb, WHOLE, Want,
 };
-use crate::files::{HALVED_FILE, SAMPLE_FILE};
+use crate::files::{BROAD, HALVED_FILE, SAMPLE_FILE};
 use crate::nodes::{all_are, are_right, wrong_variant};
 use std::sync::Wait;
 use std::thread::Threads;
@@ -253,14 +253,18 @@ fn parts_are_asked_for_once(rt: HostRuntime) {
     all_are(&rt, &ASKED);
 }
 
-/// The same, the first load of a tile being held for so many turns.
+/// At one place and an edge of 1 this picture is a block of level 4, the least whose parts are shared out: 341 blocks in all. The first
+/// load of a tile is held for so many turns.
 const HELD: Setup<'static> = Setup {
+    file: &BROAD,
     edge: 1,
     turns: 10_000,
     ..AT_ONCE
 };
 
-const SHARES: &[Case<'static>] = &[MEAN, (Ask::Alone, IS_NOT_SO), EACH_ASKED_ONCE];
+const EACH_OF_ALL_ONCE: Case<'static> = (Ask::Sums, Want::Booked(341, 341, 341));
+
+const SHARES: &[Case<'static>] = &[MEAN, (Ask::Alone, IS_NOT_SO), EACH_OF_ALL_ONCE];
 
 /// By several workers another load comes while the first is held, though all tiles are of one block. Each part is asked for once.
 static SHARED: [Table; 3] = [
@@ -269,7 +273,7 @@ static SHARED: [Table; 3] = [
     (
         "by one",
         Setup { turns: 50, ..HELD },
-        &[MEAN, (Ask::Alone, IS_SO), EACH_ASKED_ONCE],
+        &[MEAN, (Ask::Alone, IS_SO), EACH_OF_ALL_ONCE],
     ),
 ];
 
