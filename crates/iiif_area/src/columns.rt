@@ -1,25 +1,21 @@
 //! The sums over a tile: each result row adds up the tile's columns, and each result place takes its part of them.
 
 ghost use Rattle.std.specs.Prelude.{◌≡◌, ℕ, ◌+◌, ◌*◌, ◌<◌, ◌≤◌, ◌^◌, length, slice_index, slice_index_or, true, vec_len, vec_capacity};
-ghost use Rattle.std.specs.Prelude.{EachIndex, IfOk, IfSome};
+ghost use Rattle.std.specs.Prelude.{IfOk, IfSome};
 ghost use Rattle.iiif_pixel.specs.Geometry.{LiesIn, top_of};
-ghost use Rattle.iiif_pixel.specs.Picture.{samples_of, sample_at};
+ghost use Rattle.iiif_pixel.specs.Picture.{samples_of};
 ghost use Rattle.iiif_pixel.specs.Scaling.{area_sum, sum_from};
 ghost use Rattle.iiif_area.specs.Places.{places_of, IsScalable};
-ghost use Rattle.iiif_area.specs.Code.{column_sum, span_total, tile_sample, IsMore, IsSpan, IsWholeSpan};
+ghost use Rattle.iiif_area.specs.Code.{rows_of, span_total, tile_sample, IsMore, IsSpan, IsWholeSpan};
 
-use crate::eight;
+use crate::cell::Cell;
+use crate::column_sums::ColumnSums;
+use crate::narrow::{Narrow, is_short};
 use crate::places::Share;
-use crate::rows::{add_row, add_sums, sum_row};
 use crate::weights::{Axis, sources, weight};
+use crate::wide::Wide;
 use iiif_pixel::{Kind, NoMemory, Raster, Rect};
 use std::alloc::{AllocError, Global};
-
-/// Of so few source rows each is added with its weight: adding them up apart costs a pass over all columns.
-const FEW: u32 = 6;
-
-/// The sums of so many samples, each of at most 65,535, fit in 32 bits. Rows past them are added with their weight.
-const RUN: u32 = 65_536;
 
 /// The columns of a part that a result column takes something of, counted from the part's first, and what it takes of the
 /// first and of the last. Of a single one it takes all as the first.
@@ -46,23 +42,23 @@ pub(crate) fn tile_sums(
     ensures { IfOk result (λ v. v.items ≡ samples_of rect.w rect.h tile.now.channels
         (λ i j k. area_sum share.region share.size share.part (tile_sample tile.now share.corner share.part k) (rect.x + i) (rect.y + j))) }
 {
-    if eight::is_short(tile.depth(), share.rows()) {
+    if is_short(tile.depth(), share.rows()) {
         match tile.kind() {
-            Kind::Gray => eight::sums_by(alloc, tile, 1, share, rect),
-            Kind::Rgb => eight::sums_by(alloc, tile, 3, share, rect),
+            Kind::Gray => sums_by::<Narrow>(alloc, tile, 1, share, rect),
+            Kind::Rgb => sums_by::<Narrow>(alloc, tile, 3, share, rect),
         }
     } else {
         match tile.kind() {
-            Kind::Gray => sums_by(alloc, tile, 1, share, rect),
-            Kind::Rgb => sums_by(alloc, tile, 3, share, rect),
+            Kind::Gray => sums_by::<Wide>(alloc, tile, 1, share, rect),
+            Kind::Rgb => sums_by::<Wide>(alloc, tile, 3, share, rect),
         }
     }
 }
 
-/// The same of any tile with so many channels. It is made anew for each number that is passed, so that no place costs a loop over
-/// channels.
+/// The same of a tile with so many channels, by sums of columns that it fits in. It is made anew for each number that is passed, so that no
+/// place costs a loop over channels.
 #[inline(always)]
-fn sums_by(
+fn sums_by<C: ColumnSums>(
     alloc: Global,
     tile: &Raster,
     channels: usize,
@@ -70,6 +66,7 @@ fn sums_by(
     rect: Rect,
 ) -> Result<Vec<u64>, NoMemory>
     requires channels { channels ≡ tile.now.channels }
+    requires fits { C.fits tile.now (rows_of share) }
     requires limits { IsScalable share.region share.size }
     requires inside { LiesIn share.part share.region }
     requires held { (share.corner.0 + share.part.w ≤ tile.now.width) × (share.corner.1 + share.part.h ≤ tile.now.height) }
@@ -81,10 +78,7 @@ fn sums_by(
     // No sample is above 65,535, so the sums fit.
     tile.is_whole();
     let (held, rows) = (share.held(), share.rows());
-    let mut cells = vec![in alloc; 0u64; held.w as usize * channels]?;
-    let columns = cells.as_mut_slice();
-    let mut scratch = vec![in alloc; 0u32; held.w as usize * channels]?;
-    let inner = scratch.as_mut_slice();
+    let mut columns = C::new(alloc, held.w as usize * channels)?;
     let spans = spans(alloc, rect.x, rect.w, share.columns())?;
     let Some(count) = tile.kind().count(rect.dim()) else {
         return Err(AllocError);
@@ -93,16 +87,16 @@ fn sums_by(
     let c = share.size.w;
     let whole = whole_columns(&spans, c);
     for j in 0..rect.h {
-        let row = rect.y + j;
-        fill_columns(columns, inner, tile, held, rows, row);
+        columns.fill(tile, held, rows, rect.y + j);
+        let cells = columns.cells();
         if let Some(n) = whole {
-            sums = with_whole(sums, columns, channels, c, n, rect.w as usize);
+            sums = with_whole(sums, cells, channels, c, n, rect.w as usize);
             continue;
         }
         for i in 0..rect.w {
             for k in 0..channels {
                 let span = spans[i as usize];
-                let sum = span_sum(columns, channels, k, u64::from(c), span);
+                let sum = span_sum(cells, channels, k, u64::from(c), span);
                 sums.push_reserved(sum);
             }
         }
@@ -111,12 +105,7 @@ fn sums_by(
 }
 
 /// The spans of `results` result columns from `first` on.
-pub(crate) fn spans(
-    alloc: Global,
-    first: u32,
-    results: u32,
-    axis: Axis,
-) -> Result<Vec<Span>, NoMemory>
+fn spans(alloc: Global, first: u32, results: u32, axis: Axis) -> Result<Vec<Span>, NoMemory>
     requires divides { 0 < axis.c }
     requires inside { axis.from + axis.count ≤ axis.a }
     requires results { first + results ≤ axis.c }
@@ -156,7 +145,7 @@ fn span_of(i: u32, axis: Axis) -> Span
 
 /// How many columns each of the spans has, where all have as many, at least two, whole and side by side from the first on, and
 /// columns are scaled to `c`.
-pub(crate) fn whole_columns(spans: &[Span], c: u32) -> Option<usize>
+fn whole_columns(spans: &[Span], c: u32) -> Option<usize>
     ensures many { IfSome result (λ n. 1 < n) }
     ensures each { IfSome result (λ n. (i : ℕ) (d : Span) → i < length spans.now → IsWholeSpan c n i (slice_index_or spans.now i d)) }
 {
@@ -177,52 +166,9 @@ pub(crate) fn whole_columns(spans: &[Span], c: u32) -> Option<usize>
     Some(columns)
 }
 
-/// What result row `j` takes of each column of the part that a tile holds in its rectangle `held`. Rows that it takes whole
-/// are added up without their weight in `inner`, since numbers of 32 bits take less than half of the time. `inner` is 0 before
-/// and after.
-#[inline(never)]
-fn fill_columns(
-    columns: &mut [u64],
-    inner: &mut [u32],
-    tile: &Raster,
-    held: Rect,
-    rows: Axis,
-    j: u32,
-)
-    requires divides { 0 < rows.c }
-    requires samples { (x y k : ℕ) → sample_at tile.now x y k ≤ 65535 }
-    requires inside { rows.from + rows.count ≤ rows.a }
-    requires rows { rows.count ≡ held.h }
-    requires held { (held.x + held.w ≤ tile.now.width) × (held.y + held.h ≤ tile.now.height) }
-    requires corner { held.y + held.h < 2 ^ 32 }
-    requires room { length columns.old ≡ held.w * tile.now.channels }
-    requires inner { length inner.old ≡ length columns.old }
-    requires clear { EachIndex inner.old (λ t. slice_index inner.old t ≡ 0) }
-    ensures clear { EachIndex inner.new (λ t. slice_index inner.new t ≡ 0) }
-    ensures sums { (t k : ℕ) → t < held.w → k < tile.now.channels →
-        slice_index columns.new (t * tile.now.channels + k) ≡ column_sum tile.now held rows j t k }
-{
-    columns.fill(0);
-    let (start, end) = sources(j, rows);
-    let many = end - start > FEW;
-    for s in start..end {
-        let row = tile.span(held.x, held.y + s, held.w);
-        let weight = weight(j, rows.from + s, rows.a, rows.c);
-        if many && weight == u64::from(rows.c) && s - start < RUN {
-            sum_row(inner, row);
-        } else {
-            add_row(columns, row, weight as u32);
-        }
-    }
-    if many {
-        add_sums(columns, inner, rows.c);
-        inner.fill(0);
-    }
-}
-
 /// What a result column takes of the first column of its span, of those between, each of weight `c`, and of the last.
 #[inline(always)]
-pub(crate) fn taken_of(span: Span, c: u64, first: u64, inner: u64, last: u64) -> u64
+fn taken_of(span: Span, c: u64, first: u64, inner: u64, last: u64) -> u64
     requires { span.first * first + c * inner + span.last * last < 2 ^ 64 }
     ensures { result ≡ span.first * first + c * inner + span.last * last }
 {
@@ -231,34 +177,34 @@ pub(crate) fn taken_of(span: Span, c: u64, first: u64, inner: u64, last: u64) ->
 }
 
 /// What a result column takes of channel `k` of column sums.
-fn span_sum(columns: &[u64], channels: usize, k: usize, c: u64, span: Span) -> u64
+fn span_sum<N: Cell>(columns: &[N], channels: usize, k: usize, c: u64, span: Span) -> u64
     requires in_order { span.start ≤ span.end }
     requires within { span.end * channels ≤ length columns.now }
     requires channel { k < channels }
     requires none { span.start ≡ span.end → span.first ≡ 0 }
     requires single { span.end ≤ span.start + 1 → span.last ≡ 0 }
     requires takes { 0 < c }
-    requires fits { span_total columns.now channels k c span < 2 ^ 64 }
-    ensures { result ≡ span_total columns.now channels k c span }
+    requires fits { span_total (N.numbers columns.now) channels k c span < 2 ^ 64 }
+    ensures { result ≡ span_total (N.numbers columns.now) channels k c span }
 {
     if span.start == span.end {
         return 0;
     }
     let mut inner = 0;
     for t in span.start + 1..span.end - 1 {
-        inner += columns[t * channels + k];
+        inner += N::at(columns, t * channels + k);
     }
-    let first = columns[span.start * channels + k];
-    let last = columns[(span.end - 1) * channels + k];
+    let first = N::at(columns, span.start * channels + k);
+    let last = N::at(columns, (span.end - 1) * channels + k);
     taken_of(span, c, first, inner, last)
 }
 
 /// Appends what each of `count` result places takes of its `n` columns, which it has whole. It is made anew for the numbers that scales
 /// by a power of two have, so that the sums of several places are made at once.
 #[inline(always)]
-fn with_whole(
+fn with_whole<N: Cell>(
     sums: Vec<u64>,
-    columns: &[u64],
+    columns: &[N],
     channels: usize,
     c: u32,
     n: usize,
@@ -268,9 +214,9 @@ fn with_whole(
     requires within { count * n * channels ≤ length columns.now }
     requires takes { 0 < c }
     requires fits { (i k : ℕ) → i < count → k < channels →
-        c * sum_from (i * n) n (λ t. slice_index columns.now (t * channels + k)) < 2 ^ 64 }
+        c * sum_from (i * n) n (λ t. slice_index (N.numbers columns.now) (t * channels + k)) < 2 ^ 64 }
     ensures row { IsMore sums.items result.items channels (count * channels)
-        (λ i k. c * sum_from (i * n) n (λ t. slice_index columns.now (t * channels + k))) }
+        (λ i k. c * sum_from (i * n) n (λ t. slice_index (N.numbers columns.now) (t * channels + k))) }
     ensures capacity { vec_capacity result ≡ vec_capacity sums }
 {
     match n {
@@ -283,9 +229,9 @@ fn with_whole(
 
 /// The same of any number of columns.
 #[inline(always)]
-fn with_whole_of(
+fn with_whole_of<N: Cell>(
     mut sums: Vec<u64>,
-    columns: &[u64],
+    columns: &[N],
     channels: usize,
     c: u32,
     n: usize,
@@ -295,9 +241,9 @@ fn with_whole_of(
     requires within { count * n * channels ≤ length columns.now }
     requires takes { 0 < c }
     requires fits { (i k : ℕ) → i < count → k < channels →
-        c * sum_from (i * n) n (λ t. slice_index columns.now (t * channels + k)) < 2 ^ 64 }
+        c * sum_from (i * n) n (λ t. slice_index (N.numbers columns.now) (t * channels + k)) < 2 ^ 64 }
     ensures row { IsMore sums.items result.items channels (count * channels)
-        (λ i k. c * sum_from (i * n) n (λ t. slice_index columns.now (t * channels + k))) }
+        (λ i k. c * sum_from (i * n) n (λ t. slice_index (N.numbers columns.now) (t * channels + k))) }
     ensures capacity { vec_capacity result ≡ vec_capacity sums }
 {
     for i in 0..count {
@@ -311,15 +257,15 @@ fn with_whole_of(
 
 /// The sum of channel `k` of the `n` columns from `start` on.
 #[inline(always)]
-fn sum_of(columns: &[u64], channels: usize, k: usize, start: usize, n: usize) -> u64
+fn sum_of<N: Cell>(columns: &[N], channels: usize, k: usize, start: usize, n: usize) -> u64
     requires channel { k < channels }
     requires within { (start + n) * channels ≤ length columns.now }
-    requires fits { sum_from start n (λ t. slice_index columns.now (t * channels + k)) < 2 ^ 64 }
-    ensures { result ≡ sum_from start n (λ t. slice_index columns.now (t * channels + k)) }
+    requires fits { sum_from start n (λ t. slice_index (N.numbers columns.now) (t * channels + k)) < 2 ^ 64 }
+    ensures { result ≡ sum_from start n (λ t. slice_index (N.numbers columns.now) (t * channels + k)) }
 {
     let mut sum = 0;
     for t in 0..n {
-        sum += columns[(start + t) * channels + k];
+        sum += N::at(columns, (start + t) * channels + k);
     }
     sum
 }

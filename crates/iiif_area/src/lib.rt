@@ -3,14 +3,17 @@
 
 mod adding;
 pub mod averages;
+mod cell;
+mod column_sums;
 mod columns;
-mod eight;
 pub mod laws;
 mod merging;
+mod narrow;
 pub mod places;
 mod rows;
 pub mod sums;
 pub mod weights;
+mod wide;
 
 pub use averages::Averager;
 pub use places::{corner_of, is_inside, is_scalable, meets, part_of, places_of};

@@ -1,8 +1,8 @@
 use Rattle.std.proofs.Common.{◌≡◌, ℕ, ◌+◌, ◌-◌, ◌*◌, ◌<◌, ◌≤◌, get_or, length}
 use Rattle.iiif_pixel.specs.Picture.{sample_at}
 use Rattle.iiif_pixel.specs.Scaling.{sum_from, weight_of}
-use Rattle.iiif_area.specs.declared.columns.TheConstants.{FEW}
-use Rattle.iiif_area.proofs.columns.fill_columns.Given as goal
+use Rattle.iiif_area.specs.declared.wide.TheConstants.{FEW}
+use Rattle.iiif_area.proofs.wide.fill_wide.Given as goal
 
 abbrev pub invariant-loop-s : goal.invariant-loop-s
 invariant-loop-s l = record {

@@ -4,7 +4,7 @@ use Rattle.iiif_area.proofs.ColumnLaws.{row-length}
 use Rattle.iiif_area.proofs.EightLaws.{run_fits, column_of-none, column_of-one, column_of-two, column_of-parts, column_of-fits}
 use Rattle.iiif_area.proofs.GridLaws.{entry-lt, index_parts}
 use Rattle.iiif_area.proofs.WeightLaws.{weight-le_result}
-use Rattle.iiif_area.proofs.eight.fill_columns.Goals as goal
+use Rattle.iiif_area.proofs.narrow.fill_narrow.Goals as goal
 
 pub returns-then-start-end : goal.returns-then-start-end
 returns-then-start-end c = record {

@@ -4,7 +4,7 @@ use Rattle.iiif_area.proofs.ColumnLaws.{row-length, row-le}
 use Rattle.iiif_area.proofs.EightLaws.{next_sample, next_samples}
 use Rattle.iiif_area.proofs.GridLaws.{entry-lt}
 use Rattle.iiif_area.proofs.SumLaws.{sum_from-start, sum_from-end}
-use Rattle.iiif_area.proofs.eight.sum_inner.Goals as goal
+use Rattle.iiif_area.proofs.narrow.sum_inner.Goals as goal
 
 pub loop-s-init : goal.loop-s-init
 loop-s-init c = record {

@@ -5,8 +5,8 @@ use Rattle.iiif_area.proofs.ColumnLaws.{next_row, held-none, held-more, held-add
 use Rattle.iiif_area.proofs.GridLaws.{entry-lt, index_parts}
 use Rattle.iiif_area.proofs.SumLaws.{sum_from-start}
 use Rattle.iiif_area.proofs.WeightLaws.{weight-le}
-use Rattle.iiif_area.proofs.columns.fill_columns.Goals as goal
-use Rattle.iiif_area.proofs.columns.fill_columns.Goals.{then-many+then-weight-from+then-s-start-lt-RUN, else-many}
+use Rattle.iiif_area.proofs.wide.fill_wide.Goals as goal
+use Rattle.iiif_area.proofs.wide.fill_wide.Goals.{then-many+then-weight-from+then-s-start-lt-RUN, else-many}
 
 pub loop-s-init : goal.loop-s-init
 loop-s-init c = record {

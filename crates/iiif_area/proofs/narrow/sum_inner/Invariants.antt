@@ -1,7 +1,7 @@
 use Rattle.std.proofs.Common.{◌≡◌, ℕ, ◌+◌, ◌-◌, ◌*◌, ◌<◌, ◌≤◌, get_or, length}
 use Rattle.iiif_pixel.specs.Picture.{sample_at}
 use Rattle.iiif_pixel.specs.Scaling.{sum_from}
-use Rattle.iiif_area.proofs.eight.sum_inner.Given as goal
+use Rattle.iiif_area.proofs.narrow.sum_inner.Given as goal
 
 abbrev pub invariant-loop-s : goal.invariant-loop-s
 invariant-loop-s l = record {

@@ -1,6 +1,0 @@
-use Rattle.std.proofs.Common.{◌≡◌, ◌+◌, ◌*◌, get_or}
-use Rattle.iiif_pixel.specs.Scaling.{sum_from}
-use Rattle.iiif_area.proofs.eight.sum_of.Given as goal
-
-abbrev pub invariant-loop-t : goal.invariant-loop-t
-invariant-loop-t l = record { added : l.sum ≡ sum_from l.start l.t (λ t. get_or l.columns (t * l.channels + l.k) 0) }
