@@ -6,10 +6,12 @@ use Rattle.iiif_breaker.specs.declared.breaker.State.{State}
 use Rattle.iiif_breaker.specs.declared.breaker.State.TheVariants.{Closed, Open, HalfOpen}
 use Rattle.iiif_breaker.specs.declared.outcome.Outcome.{Outcome}
 use Rattle.iiif_breaker.specs.declared.outcome.Outcome.TheVariants.{Answered, Refused, Failed, TimedOut}
-use Rattle.iiif_breaker.specs.Breaking.{asked, asked_state, failed, faulted, first, is_asked, is_closed, longest, reported, unknown}
+use Rattle.iiif_breaker.specs.Breaking.{asked, asked_state, failed, faulted, first, is_asked, is_closed, longest, opened, reported}
+use Rattle.iiif_breaker.specs.Breaking.{rest_of, silent, unknown}
 use Rattle.std.proofs.lemmas.List.Elements.{All-tail}
-use Rattle.iiif_breaker.specs.Laws.{Event, Would, Ended, happens, run, is_answer, IsBefore, AreBefore, IsAskedAgain, is_open, period}
-use Rattle.iiif_breaker.specs.Laws.{IsUnanswered, IsAskedOnceAPeriod, HasPeriod, IsClosedByAnAnswer, IsLeftAlone, IsUnmovedByLateFaults}
+use Rattle.iiif_breaker.specs.Laws.{Event, Would, Ended, InVain, happens, run, is_answer, IsBefore, AreBefore, IsAskedAgain}
+use Rattle.iiif_breaker.specs.Laws.{is_open, period, IsUnanswered, IsAskedOnceAPeriod, HasPeriod, IsClosedByAnAnswer, IsLeftAlone}
+use Rattle.iiif_breaker.specs.Laws.{IsLeftAloneByALook, IsNeverClosedByALook, IsUnmovedAfterALook, IsUnmovedByLateFaults}
 
 -- what holds of a link, and is kept by a fault that counts, is kept by a fault of any number
 kept_if : (P : Breaker → Type 0) (b c : Breaker) (same : Bool) → P b → P c → P (if same then c else b)
@@ -36,6 +38,14 @@ within_failed last m openings late (Closed faults) w before = grind arith
 within_failed last m openings late (Open until wait) w before = w
 within_failed last m openings late (HalfOpen since wait) w before = grind arith
 
+within_opened : (last m openings wait : ℕ) → m ≤ last → wait ≤ longest → Within last (opened openings m wait).state
+within_opened last m openings wait before least = grind arith
+
+within_silent : (last m openings : ℕ) (s : State) → Within last s → m ≤ last → Within last (opened openings m (rest_of s)).state
+within_silent last m openings (Closed faults) w before = within_opened last m openings first before (omega arith)
+within_silent last m openings (Open until wait) w before = within_opened last m openings wait before w.1
+within_silent last m openings (HalfOpen since wait) w before = within_opened last m openings wait before w.1
+
 within_step : (last : ℕ) (b : Breaker) (e : Event) → Within last b.state → IsBefore last b e → Within last (happens b e).state
 within_step last b (Would m) w before = within_asked last m b.state w before
 within_step last b (Ended m number Answered) w before = record {}
@@ -44,6 +54,7 @@ within_step last b (Ended m number Failed) w before =
     kept (λ c. Within last c.state) b m number false w (within_failed last m b.openings false b.state w (before refl))
 within_step last b (Ended m number TimedOut) w before =
     kept (λ c. Within last c.state) b m number true w (within_failed last m b.openings true b.state w (before refl))
+within_step last b (InVain m) w before = within_silent last m b.openings b.state w before
 
 within_run : (last : ℕ) (b : Breaker) (es : List Event) → Within last b.state → AreBefore last b es → Within last (run b es).state
 within_run last b [] w before = w
@@ -74,12 +85,18 @@ periods_failed m openings late (Closed faults) p = grind arith
 periods_failed m openings late (Open until wait) p = p
 periods_failed m openings late (HalfOpen since wait) p = grind arith
 
+periods_silent : (m openings : ℕ) (s : State) → Periods s → Periods (opened openings m (rest_of s)).state
+periods_silent m openings (Closed faults) p = (omega arith, omega arith)
+periods_silent m openings (Open until wait) p = p
+periods_silent m openings (HalfOpen since wait) p = p
+
 periods_step : (b : Breaker) (e : Event) → Periods b.state → Periods (happens b e).state
 periods_step b (Would m) p = periods_asked m b.state p
 periods_step b (Ended m number Answered) p = record {}
 periods_step b (Ended m number Refused) p = record {}
 periods_step b (Ended m number Failed) p = kept (λ c. Periods c.state) b m number false p (periods_failed m b.openings false b.state p)
 periods_step b (Ended m number TimedOut) p = kept (λ c. Periods c.state) b m number true p (periods_failed m b.openings true b.state p)
+periods_step b (InVain m) p = periods_silent m b.openings b.state p
 
 periods_run : (b : Breaker) (es : List Event) → Periods b.state → Periods (run b es).state
 periods_run b [] p = p
@@ -110,6 +127,15 @@ rests_failed from p m openings late (Closed faults) most small least r = absurd 
 rests_failed from p m openings late (Open until wait) most small least r = r
 rests_failed from p m openings late (HalfOpen since wait) most small least r = grind arith
 
+rests_opened : (from p m openings wait : ℕ) → from + p < 2 ^ 64 → from ≤ m → p ≤ wait → Rests from p (opened openings m wait).state
+rests_opened from p m openings wait small least enough = grind arith
+
+rests_silent : (from p m openings : ℕ) (s : State) → from + p < 2 ^ 64 → from ≤ m → Rests from p s →
+    Rests from p (opened openings m (rest_of s)).state
+rests_silent from p m openings (Closed faults) small least r = absurd r
+rests_silent from p m openings (Open until wait) small least r = rests_opened from p m openings wait small least r.1
+rests_silent from p m openings (HalfOpen since wait) small least r = rests_opened from p m openings wait small least r.1
+
 rests_step : (from p : ℕ) (b : Breaker) (e : Event) → p ≤ longest → from + p < 2 ^ 64 → IsUnanswered from e → Rests from p b.state →
     Rests from p (happens b e).state
 rests_step from p b (Would m) most small un r = rests_asked from p m b.state un r
@@ -119,6 +145,7 @@ rests_step from p b (Ended m number Failed) most small un r =
     kept (λ c. Rests from p c.state) b m number false r (rests_failed from p m b.openings false b.state most small un.0 r)
 rests_step from p b (Ended m number TimedOut) most small un r =
     kept (λ c. Rests from p c.state) b m number true r (rests_failed from p m b.openings true b.state most small un.0 r)
+rests_step from p b (InVain m) most small un r = rests_silent from p m b.openings b.state small un r
 
 rests_run : (from p : ℕ) (b : Breaker) (es : List Event) → p ≤ longest → from + p < 2 ^ 64 → All (IsUnanswered from) es →
     Rests from p b.state → Rests from p (run b es).state
@@ -146,6 +173,23 @@ once b from to between p shut now un small allowed_then =
 pub once_a_period : IsAskedOnceAPeriod
 once_a_period before between from to shut now un small allowed_then =
     once (run unknown before) from to between (has_period before shut) shut now un small allowed_then
+
+-- a link that a look found silent is left alone for a second at least
+rest_least : (s : State) → Periods s → first ≤ rest_of s
+rest_least (Closed faults) p = omega arith
+rest_least (Open until wait) p = p.0
+rest_least (HalfOpen since wait) p = p.0
+
+pub left_by_look : IsLeftAloneByALook
+left_by_look before between from to un small asked_then =
+    let b = run unknown before in
+    let least = rest_least b.state (periods_run unknown before (record {})) in
+    let rests = rests_opened from first from b.openings (rest_of b.state) small (omega arith) least in
+    rests_end from first to (run (silent b from) between).state (omega arith)
+    (rests_run from first (silent b from) between (omega arith) small un rests) asked_then
+
+pub never_closed : IsNeverClosedByALook
+never_closed b moment = refl
 
 pub closed_by : IsClosedByAnAnswer
 closed_by b moment number now Answered answers = (refl, refl)
@@ -193,6 +237,7 @@ reached_step n b (Ended m number Answered) small r = r
 reached_step n b (Ended m number Refused) small r = r
 reached_step n b (Ended m number Failed) small r = kept (Reached n) b m number false r (reached_failed n m b.openings false b.state small r)
 reached_step n b (Ended m number TimedOut) small r = kept (Reached n) b m number true r (reached_failed n m b.openings true b.state small r)
+reached_step n b (InVain m) small r = grind arith
 
 reached_run : (n : ℕ) (b : Breaker) (es : List Event) → n < 2 ^ 64 → Reached n b → Reached n (run b es)
 reached_run n b [] small r = r
@@ -236,4 +281,10 @@ pub unmoved_by : IsUnmovedByLateFaults
 unmoved_by b moment later outcome late between small was is fault =
     let c = reported b moment b.openings outcome in
     let above = reached_run (b.openings + 1) c between small (counts_reported b moment outcome small was is) in
+    unmoved (run c between) later b.openings late fault (omega (arith, above))
+
+pub unmoved_after_look : IsUnmovedAfterALook
+unmoved_after_look b moment later late between small fault =
+    let c = silent b moment in
+    let above = reached_run (b.openings + 1) c between small (grind arith) in
     unmoved (run c between) later b.openings late fault (omega (arith, above))

@@ -15,6 +15,10 @@ first = 1000
 abbrev pub longest : ℕ
 longest = 60000
 
+-- how long before a link would be asked again a look at its node is due
+abbrev pub soon : ℕ
+soon = 1000
+
 -- nothing is known of a link
 abbrev pub unknown : Breaker
 unknown = record { state = Closed 0; openings = 0 }
@@ -56,6 +60,20 @@ reported b now number Answered = record { state = Closed 0; openings = b.opening
 reported b now number Refused = record { state = Closed 0; openings = b.openings }
 reported b now number Failed = faulted b now number false
 reported b now number TimedOut = faulted b now number true
+
+-- whether its node is to be looked at now: it is asked, or soon would be
+abbrev pub is_due : State → ℕ → Bool
+is_due s now = is_asked s (min (now + soon) (2 ^ 64 - 1))
+
+-- how long it is left alone where a look at its node is in vain: the first rest where all ask it, else as long again as its last
+abbrev pub rest_of : State → ℕ
+rest_of (Closed faults) = first
+rest_of (Open until wait) = wait
+rest_of (HalfOpen since wait) = wait
+
+-- what is known after a look in vain
+abbrev pub silent : Breaker → ℕ → Breaker
+silent b now = opened b.openings now (rest_of b.state)
 
 abbrev pub is_closed : State → Bool
 is_closed (Closed faults) = true

@@ -1,5 +1,5 @@
 -- How often a link was asked. Counts stay at the greatest number of 64 bits.
-use Rattle.std.specs.Prelude.{ℕ, ◌+◌, ◌-◌, ◌^◌, min}
+use Rattle.std.specs.Prelude.{ℕ, ◌+◌, ◌-◌, ◌^◌, ◌==◌, Bool, true, false, min, if◌then◌else◌}
 use Rattle.iiif_breaker.specs.declared.counts.Asks.{Asks}
 use Rattle.iiif_breaker.specs.declared.outcome.Outcome.{Outcome}
 use Rattle.iiif_breaker.specs.declared.outcome.Outcome.TheVariants.{Answered, Refused, Failed, TimedOut}
@@ -50,3 +50,7 @@ counted a TimedOut = record {
 -- one more wasn't made, since the link was left alone
 abbrev pub skipped : Asks → Asks
 skipped a = record { answered = a.answered; refused = a.refused; failed = a.failed; timed_out = a.timed_out; skipped = more a.skipped }
+
+-- whether a node answered any since these were all, be it by a refusal
+abbrev pub has_answers_since : Asks → Asks → Bool
+has_answers_since a before = if a.answered == before.answered then (if a.refused == before.refused then false else true) else true

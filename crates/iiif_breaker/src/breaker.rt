@@ -1,7 +1,7 @@
 //! A link that is left alone for a while once it failed.
 
 ghost use Rattle.std.specs.Prelude.{◌≡◌, Some, None, if◌then◌else◌};
-ghost use Rattle.iiif_breaker.specs.Breaking.{asked, is_asked, opened, reported, unknown};
+ghost use Rattle.iiif_breaker.specs.Breaking.{asked, is_asked, is_due, opened, reported, silent, unknown};
 
 use crate::outcome::Outcome;
 
@@ -13,6 +13,9 @@ pub const FIRST: u64 = 1_000;
 
 /// How long at most.
 pub const LONGEST: u64 = 60_000;
+
+/// How long before a link would be asked again a look at its node is due, in milliseconds.
+pub const SOON: u64 = 1_000;
 
 /// Whether a link is asked.
 #[derive(Clone, Copy, Debug, PartialEq, Eq)]
@@ -68,26 +71,49 @@ impl Breaker {
         self.openings = self.openings.saturating_add(1);
     }
 
+    /// Whether it is asked now.
+    fn is_asked(&self, now: u64) -> bool
+        ensures { result ≡ is_asked self.now.state now }
+    {
+        match self.state {
+            State::Closed { .. } => true,
+            State::Open { until, .. } => until <= now,
+            State::HalfOpen { since, wait } => wait <= now.saturating_sub(since),
+        }
+    }
+
+    /// Whether it is to be looked at now: it is asked, or soon would be.
+    pub fn is_due(&self, now: u64) -> bool
+        ensures { result ≡ is_due self.now.state now }
+    {
+        self.is_asked(now.saturating_add(SOON))
+    }
+
+    /// Leaves the link alone since a look at its node was in vain: for a second where it was asked, and else for as long again as it was.
+    pub fn found_silent(&mut self, now: u64)
+        ensures { self.new ≡ silent self.old now }
+    {
+        let wait = match self.state {
+            State::Closed { .. } => FIRST,
+            State::Open { wait, .. } => wait,
+            State::HalfOpen { wait, .. } => wait,
+        };
+        self.open(now, wait);
+    }
+
     /// The number for an ask that is made now, which is given back with its outcome; none where the link is left alone. Where it was left
     /// alone until now, the one who is given a number is to ask, since no other is given one for as long again.
     pub fn may_ask(&mut self, now: u64) -> Option<u64>
         ensures value { result ≡ (if is_asked self.old.state now then Some self.old.openings else None) }
         ensures state { self.new ≡ asked self.old now }
     {
+        if !self.is_asked(now) {
+            return None;
+        }
         match self.state {
             State::Closed { .. } => {}
-            State::Open { until, wait } => {
-                if now < until {
-                    return None;
-                }
-                self.state = State::HalfOpen { since: now, wait };
-            }
-            State::HalfOpen { since, wait } => {
-                if now.saturating_sub(since) < wait {
-                    return None;
-                }
-                self.state = State::HalfOpen { since: now, wait };
-            }
+            State::Open { wait, .. } => self.state = State::HalfOpen { since: now, wait },
+            State::HalfOpen { wait, .. } => self.state = State::HalfOpen { since: now, wait },
         }
         Some(self.openings)
     }

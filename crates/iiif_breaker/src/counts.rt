@@ -1,7 +1,7 @@
 //! How often a link was asked.
 
 ghost use Rattle.std.specs.Prelude.{◌≡◌};
-ghost use Rattle.iiif_breaker.specs.Counting.{counted, none, skipped};
+ghost use Rattle.iiif_breaker.specs.Counting.{counted, has_answers_since, none, skipped};
 
 use crate::outcome::Outcome;
 
@@ -44,6 +44,13 @@ impl Asks {
             Outcome::Failed => self.failed = self.failed.saturating_add(1),
             Outcome::TimedOut => self.timed_out = self.timed_out.saturating_add(1),
         }
+    }
+
+    /// Whether a node answered any since these were all, be it by a refusal.
+    pub fn has_answers_since(&self, before: &Asks) -> bool
+        ensures { result ≡ has_answers_since self.now before.now }
+    {
+        self.answered != before.answered || self.refused != before.refused
     }
 
     /// One more that wasn't made.

@@ -1,8 +1,8 @@
 //! What is kept of a link.
 
-ghost use Rattle.std.specs.Prelude.{◌≡◌, IfNone, IfSome, true, false};
-ghost use Rattle.iiif_breaker.specs.Breaking.{asked, change_of, is_asked, is_closed, reported, unknown};
-ghost use Rattle.iiif_breaker.specs.Counting.{counted, none, skipped};
+ghost use Rattle.std.specs.Prelude.{◌≡◌, IfNone, IfSome, true, false, if◌then◌else◌};
+ghost use Rattle.iiif_breaker.specs.Breaking.{asked, change_of, is_asked, is_closed, is_due, reported, silent, unknown};
+ghost use Rattle.iiif_breaker.specs.Counting.{counted, has_answers_since, none, skipped};
 
 use crate::breaker::{Breaker, State};
 use crate::change::Change;
@@ -14,6 +14,17 @@ fn is_closed(state: State) -> bool
     ensures { result ≡ is_closed state }
 {
     matches!(state, State::Closed { .. })
+}
+
+/// What is told of a link that was so and is so now.
+fn change_of(was: State, now: State) -> Option<Change>
+    ensures { result ≡ change_of was now }
+{
+    match (is_closed(was), is_closed(now)) {
+        (true, false) => Some(Change::LeftAlone),
+        (false, true) => Some(Change::AskedAgain),
+        _ => None,
+    }
 }
 
 /// What is known of a link, and how its asks ended so far.
@@ -69,13 +80,31 @@ impl LinkRecord {
         ensures breaker { self.new.breaker ≡ reported self.old.breaker now number outcome }
         ensures asks { self.new.asks ≡ counted self.old.asks outcome }
     {
-        let was_closed = is_closed(self.breaker.state());
+        let was = self.breaker.state();
         self.breaker.report(now, number, outcome);
         self.asks.count(outcome);
-        match (was_closed, is_closed(self.breaker.state())) {
-            (true, false) => Some(Change::LeftAlone),
-            (false, true) => Some(Change::AskedAgain),
-            _ => None,
+        change_of(was, self.breaker.state())
+    }
+
+    /// Whether its node is to be looked at now.
+    pub fn is_due(&self, now: u64) -> bool
+        ensures { result ≡ is_due self.now.breaker.state now }
+    {
+        self.breaker.is_due(now)
+    }
+
+    /// Takes in a look at its node that was in vain, and says what becomes of the link. Before are the asks of the moment when the look
+    /// began: where one was answered since, the node is there.
+    pub fn found_silent(&mut self, now: u64, before: &Asks) -> Option<Change>
+        ensures change { result ≡ change_of self.old.breaker.state self.new.breaker.state }
+        ensures breaker { self.new.breaker ≡ (if has_answers_since self.old.asks before.now then self.old.breaker else
+            silent self.old.breaker now) }
+        ensures asks { self.new.asks ≡ self.old.asks }
+    {
+        let was = self.breaker.state();
+        if !self.asks.has_answers_since(before) {
+            self.breaker.found_silent(now);
         }
+        change_of(was, self.breaker.state())
     }
 }

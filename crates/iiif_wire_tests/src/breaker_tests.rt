@@ -1,6 +1,6 @@
 //! A link that fails and comes back, moment by moment.
 
-use iiif_breaker::{Change, Durations, LinkRecord, Outcome, State};
+use iiif_breaker::{Asks, Change, Durations, LinkRecord, Outcome, State};
 use std::rt::HostRuntime;
 
 /// Whether a link is asked at a moment, and that ask ends so.
@@ -104,6 +104,63 @@ fn turns_are_told_and_refusals_counted_apart(rt: HostRuntime) {
     assert!(rt; link.report(201, 1, Outcome::Answered).is_none());
     let asks = link.asks();
     assert!(rt; asks.timed_out == 2 && asks.refused == 1 && asks.answered == 1 && asks.failed == 0);
+}
+
+#[test]
+fn looks_in_vain_leave_a_link_alone_and_count_no_ask(rt: HostRuntime) {
+    let mut link = LinkRecord::new();
+    let none = Asks::new();
+    assert!(rt; link.found_silent(100, &none) == Some(Change::LeftAlone));
+    assert!(rt; link.may_ask(1_099).is_none());
+    assert!(rt; link.found_silent(1_099, &none).is_none());
+    assert!(rt; link.may_ask(2_098).is_none());
+    assert!(rt; link.may_ask(2_099) == Some(2));
+    assert!(rt; link.found_silent(2_200, &none).is_none());
+    link.report(2_300, 2, Outcome::TimedOut);
+    assert!(rt;
+        link.state()
+            == State::Open {
+                until: 3_200,
+                wait: 1_000
+            }
+    );
+    assert!(rt; link.report(2_400, 2, Outcome::Answered) == Some(Change::AskedAgain));
+    let asks = link.asks();
+    assert!(rt; asks.timed_out == 1 && asks.skipped == 2 && asks.answered == 1 && asks.failed == 0);
+}
+
+#[test]
+fn look_in_vain_keeps_the_rest_and_is_due_a_second_before_its_end(rt: HostRuntime) {
+    let mut link = opened();
+    assert!(rt; link.is_due(100));
+    assert!(rt; ends(&mut link, 1_100, Outcome::TimedOut));
+    assert!(rt; !link.is_due(2_099));
+    assert!(rt; link.is_due(2_100));
+    let before = link.asks();
+    assert!(rt; link.found_silent(2_100, &before).is_none());
+    assert!(rt;
+        link.state()
+            == State::Open {
+                until: 4_100,
+                wait: 2_000
+            }
+    );
+    assert!(rt; !link.is_due(3_099));
+    assert!(rt; link.is_due(3_100));
+}
+
+#[test]
+fn look_in_vain_says_nothing_of_a_node_that_answered_since(rt: HostRuntime) {
+    let mut link = LinkRecord::new();
+    let first = link.asks();
+    link.report(100, 0, Outcome::Answered);
+    let second = link.asks();
+    link.report(101, 0, Outcome::Refused);
+    assert!(rt; link.found_silent(200, &first).is_none());
+    assert!(rt; link.found_silent(201, &second).is_none());
+    assert!(rt; link.state() == State::Closed { faults: 0 });
+    let last = link.asks();
+    assert!(rt; link.found_silent(202, &last) == Some(Change::LeftAlone));
 }
 
 #[test]
