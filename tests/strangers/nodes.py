@@ -91,14 +91,25 @@ def overview(server):
     return time.monotonic() - begun
 
 
+def hang(node):
+    node.send_signal(signal.SIGSTOP)
+
+
+def overviews(program, room, act, options, count=9):
+    """Seconds of an overview at one of two nodes, at once after that became of the other, and of the one in the middle of so many later."""
+    with Cluster(program, room, ["a", "b"], ["--cache-bytes", 0, *options]) as nodes:
+        # Until each has seen the other.
+        time.sleep(1)
+        act(nodes["b"])
+        first = overview(nodes["a"])
+        time.sleep(1.5)
+        return first, sorted(overview(nodes["a"]) for _ in range(count))[count // 2]
+
+
 def silent_beside_dead(program, room, options=()):
-    """Seconds of an overview at one of two nodes while the other hangs, and while it is dead."""
-    took = []
-    for act in (lambda node: node.send_signal(signal.SIGSTOP), lambda node: node.stop()):
-        with Cluster(program, room, ["a", "b"], ["--cache-bytes", 0, *options]) as nodes:
-            act(nodes["b"])
-            took.append(overview(nodes["a"]))
-    return took
+    """Seconds of an overview at one of two nodes once the other hung for a second, once it is dead, and at the moment when it hangs."""
+    (first, hangs), (_, dead) = (overviews(program, room, act, options) for act in (hang, Server.stop))
+    return hangs, dead, first
 
 
 def page(port, target):
@@ -165,6 +176,8 @@ def announce(listener, over, sent):
     def reply(link):
         with link:
             head = link.recv(9)
+            if len(head) < 9:
+                return
             key = link.recv(struct.unpack(">I", head[5:9])[0])
             link.sendall(b"IGR" + head[3:4] + struct.pack(">I", len(key)) + key + b"\0" + struct.pack(">I", 1 << 26))
             for _ in range(63):

@@ -22,10 +22,7 @@ from places import Server, asked_once, connected, get, picture, reset
 MIB = 2 ** 20
 
 # Bounds that aren't met yet, and why.
-OPEN = {
-    "an overview beside a silent node": "the first ask of it takes --peer-timeout, which is longer than three such overviews",
-    "the same where an ask may take 0.02 s": "that is longer than three such overviews, too, where the processors have nothing else to do",
-}
+OPEN = {}
 
 
 def hung(program, room):
@@ -34,14 +31,14 @@ def hung(program, room):
     return measured, "0.80; 1 s", rate >= 0.8 * dead and slow <= 1
 
 
-def silent(program, room):
-    hangs, dead = nodes.silent_beside_dead(program, room)
-    return f"{hangs:.2f} s, {hangs / dead:.1f} times as long as with it dead", "3 times", hangs <= 3 * dead
+def silent(program, room, options=()):
+    hangs, dead, first = nodes.silent_beside_dead(program, room, options)
+    measured = f"{hangs:.3f} s, {hangs / dead:.1f} times as long as with it dead; in the first moment {first:.2f} s"
+    return measured, "3 times", hangs <= 3 * dead
 
 
 def silent_in_short(program, room):
-    hangs, dead = nodes.silent_beside_dead(program, room, ["--peer-timeout", 20])
-    return f"{hangs:.2f} s, {hangs / dead:.1f} times as long as with it dead", "3 times", hangs <= 3 * dead
+    return silent(program, room, ["--peer-timeout", 20])
 
 
 def told_of(program, room):

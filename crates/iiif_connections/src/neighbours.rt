@@ -1,12 +1,13 @@
 //! The nodes of a ring, and what is known of them.
 
+use iiif_log::Log;
 use iiif_metrics::{LinkMetrics, PeerMetrics};
 use iiif_peer_link::{Peer, Stopwatch};
 use iiif_pixel::NoMemory;
 use std::alloc::Global;
-use std::net::Net;
+use std::net::{Net, TcpStream};
 use std::sync::Wait;
-use std::time::Duration;
+use std::time::{Clock, Duration};
 
 /// The nodes of a ring, and how they are reached.
 #[derive(Clone, Copy, Debug)]
@@ -49,6 +50,17 @@ impl Neighbours {
     pub fn look_up<R: Net + Wait>(&self, rt: &R, alloc: Global) {
         for peer in &self.others {
             peer.look_up(rt, alloc);
+        }
+    }
+
+    /// Looks at each of the others where that is due, one after the other. What becomes of the links is told to the log, where there
+    /// is one.
+    pub fn look<R>(&self, rt: &R, alloc: Global, log: Option<&Log>)
+    where
+        R: Net<Stream = TcpStream> + Clock + Wait,
+    {
+        for peer in &self.others {
+            peer.look(rt, alloc, log);
         }
     }
 

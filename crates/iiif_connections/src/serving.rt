@@ -9,7 +9,7 @@ use iiif_keys::{SumKey, System, TileKey};
 use iiif_listener::{Company, Visit};
 use iiif_open_files::Opens;
 use iiif_server::{Gate, Link, Node, SumCalls, TileCalls};
-use iiif_services::{Addresses, Listeners, logged, serve_all};
+use iiif_services::{Addresses, Listeners, logged, looking, serve_all};
 use iiif_start::{Stop, Stored};
 use std::alloc::Global;
 use std::io;
@@ -20,8 +20,8 @@ use std::thread::Threads;
 use std::time::Clock;
 
 /// Serves the viewers of a node, and other nodes and who asks for the statistics where there are listeners for them: these find what the
-/// viewers' calls left in the node's groups. What the watcher's log is told is written to the last writer. It ends where a listener does,
-/// once all connections have ended.
+/// viewers' calls left in the node's groups. A thread looks at the watcher's other nodes where there are any. What the watcher's log is
+/// told is written to the last writer. It ends where a listener does, once all connections have ended.
 pub fn serve<'x, R, J, N, T, E>(
     rt: &'x R,
     alloc: Global,
@@ -71,7 +71,7 @@ where
         peers,
         statistics,
     };
-    let work = || serve_all_of(&services, listeners);
+    let work = || services.serve_beside_looks(listeners);
     match &watcher.log {
         Some(log) => logged(rt, alloc, log, err, &work),
         None => work(),
@@ -122,6 +122,17 @@ where
 
     fn refuse_reader(&self) {
         self.statistics.refused(self.rt);
+    }
+
+    /// Serves all listeners, while a thread looks at the other nodes where there are any.
+    fn serve_beside_looks(&self, listeners: &Listeners) -> io::Result<()> {
+        let work = || serve_all_of(self, listeners);
+        let (rt, alloc, watcher) = (self.rt, self.alloc, self.viewers.watcher);
+        if watcher.neighbours.others.is_empty() {
+            return work();
+        }
+        let look = || watcher.neighbours.look(rt, alloc, watcher.log.as_ref());
+        looking(rt, listeners, &look, &work)
     }
 }
 

@@ -106,13 +106,13 @@ pub(crate) struct Asked {
     pub taken: u64,
 }
 
-/// How often it is looked for an ask.
-const LOOKS: u32 = 4_000;
+/// How often it is tried to take a connection.
+const TRIES: u32 = 4_000;
 
 /// The first connection that comes to a listener, unless none comes.
 fn taken(rt: &HostRuntime, listener: &TcpListener) -> Option<TcpStream> {
     listener.set_nonblocking(true).ok()?;
-    for _ in 0..LOOKS {
+    for _ in 0..TRIES {
         if let Ok((stream, _)) = listener.accept() {
             return Some(stream);
         }
@@ -121,15 +121,18 @@ fn taken(rt: &HostRuntime, listener: &TcpListener) -> Option<TcpStream> {
     None
 }
 
-/// Does this with an ask. Says whether it is for a tile, in the second version where the connection is closed at that.
-fn is_asked(rt: &HostRuntime, mut stream: TcpStream, way: Way) -> bool {
+/// Does this with an ask. Says whether it is for a tile, in the second version where the connection is closed at that. None where nothing
+/// is asked: who looks whether a node is there sends nothing.
+fn is_asked(rt: &HostRuntime, mut stream: TcpStream, way: Way) -> Option<bool> {
     if let Way::KnowsOneVersion = way {
         let mut magic = [0u8; 4];
-        return stream.read_exact(&mut magic).is_ok() && &magic == b"IGA2";
+        stream.read_exact(&mut magic).ok()?;
+        return Some(&magic == b"IGA2");
     }
-    let Ok(Some(ask)) = read_ask(rt.alloc(), &mut stream) else {
-        return false;
+    let Ok(ask) = read_ask(rt.alloc(), &mut stream) else {
+        return Some(false);
     };
+    let ask = ask?;
     match way {
         Way::IsSilent => thread::sleep(rt, Duration::from_millis(2 * LIMIT)),
         Way::Drips => drip(rt, &mut stream),
@@ -138,7 +141,20 @@ fn is_asked(rt: &HostRuntime, mut stream: TcpStream, way: Way) -> bool {
         }
         _ => {}
     }
-    ask.version == Version::One && ask.group == 1
+    Some(ask.version == Version::One && ask.group == 1)
+}
+
+/// Whether the first ask that comes to a listener is a good one. This is done with it.
+fn is_asked_at(rt: &HostRuntime, listener: &TcpListener, way: Way) -> bool {
+    for _ in 0..TRIES {
+        let Some(stream) = taken(rt, listener) else {
+            return false;
+        };
+        if let Some(is_good) = is_asked(rt, stream, way) {
+            return is_good;
+        }
+    }
+    false
 }
 
 /// Whether the owner is asked well for what a viewer sends, and whether that is answered as it is to be.
@@ -152,10 +168,7 @@ pub(crate) fn are_asked_and_answered(
     let Some(viewer) = asking(rt, viewers, sends.request, sends.ends) else {
         return false;
     };
-    let Some(stream) = taken(rt, owner) else {
-        return false;
-    };
-    is_asked(rt, stream, asked.way) && is_answered(rt.alloc(), viewer, sends.wanted)
+    is_asked_at(rt, owner, asked.way) && is_answered(rt.alloc(), viewer, sends.wanted)
 }
 
 /// Whether the reply to the ask for the tile (1, 1) is the right one.

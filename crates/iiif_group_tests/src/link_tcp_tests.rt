@@ -7,7 +7,7 @@ use crate::acts::{Act, two};
 use crate::keys::{
     DEEP_REPLY, DEEP_REPLY_ONE, DEEP_VALUE, OTHER_REPLY, SHORT_VALUE_REPLY, UNKNOWN_REPLY, tile,
 };
-use iiif_breaker::Asks;
+use iiif_breaker::{Asks, State};
 use iiif_group::{Link, LinkFault, NoLink};
 use iiif_keys::{CacheKey, Shape, System, TileKey};
 use iiif_log::{Log, write_lines};
@@ -386,6 +386,86 @@ fn node_that_fails_is_left_alone_and_looked_up_by_the_ask_that_tries_it(
     assert!(rt; node.health().asks(&rt) == ENDS);
     assert!(rt; watch.durations(&rt).all == 4);
     assert!(rt; are_turns(&written(&rt, alloc, &log)));
+    Ok(())
+}
+
+/// Who takes a connection, and ends it once the other does.
+#[derive(Drop)]
+struct Ender<'a> {
+    listener: &'a TcpListener,
+}
+
+impl<'a, R: Clock> Act<R> for Ender<'a> {
+    type Came = bool;
+
+    /// Whether it ended before its first byte.
+    fn act(&self, _rt: &R) -> bool {
+        let mut byte = [0u8; 1];
+        match self.listener.accept() {
+            Ok((mut stream, _)) => matches!(stream.read(&mut byte), Ok(0)),
+            Err(_) => false,
+        }
+    }
+}
+
+/// Who looks at a node.
+#[derive(Drop)]
+struct Looker<'a> {
+    alloc: Global,
+    node: &'a Peer,
+    log: &'a Log,
+}
+
+impl<'a, R: Net<Stream = TcpStream> + Clock + Wait> Act<R> for Looker<'a> {
+    type Came = State;
+
+    /// Whether the node is asked then.
+    fn act(&self, rt: &R) -> State {
+        self.node.look(rt, self.alloc, Some(self.log));
+        self.node.health().state(rt)
+    }
+}
+
+/// No fault came.
+const ASKED: State = State::Closed { faults: 0 };
+
+/// Looks at a node that was never there, is there, is silent, and is there: whether it is asked, is, isn't, and isn't, for no ask answered.
+fn is_looked_at<R>(rt: &R, listener: &TcpListener, looker: &Looker<'_>) -> bool
+where
+    R: Net<Listener = TcpListener, Stream = TcpStream> + Threads + Wait + Clock + Sync,
+{
+    let ender = Ender { listener };
+    if looker.act(rt) != ASKED || listener.accept().is_err() {
+        return false;
+    }
+    if two(rt, &ender, looker) != (true, ASKED) {
+        return false;
+    }
+    if !matches!(looker.act(rt), State::Open { wait: 1_000, .. }) || listener.accept().is_err() {
+        return false;
+    }
+    matches!(
+        two(rt, &ender, looker),
+        (true, State::Open { wait: 1_000, .. })
+    )
+}
+
+#[test]
+fn node_that_hangs_is_found_silent_by_a_look(rt: HostRuntime) -> Result<(), Fail> {
+    let alloc = rt.alloc();
+    let (listener, node) = listening(&rt, alloc).ok_or("no listener")?;
+    node.look_up(&rt, alloc);
+    let log = Log::new(alloc)?;
+    let looker = Looker {
+        alloc,
+        node: &node,
+        log: &log,
+    };
+    assert!(rt; is_looked_at(&rt, &listener, &looker));
+    assert!(rt; node.health().asks(&rt) == Asks::new());
+    let written = written(&rt, alloc, &log);
+    let text = str::from_utf8(&written)?;
+    assert!(rt; text.ends_with(TURNS.0) && text.lines().count() == 1);
     Ok(())
 }
 

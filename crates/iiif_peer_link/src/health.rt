@@ -1,18 +1,21 @@
 //! What is known of a node from one ask to the next.
 
 use crate::addresses::Addresses;
+use crate::look::Look;
 use iiif_breaker::{Asks, Change, LinkRecord, Outcome, State};
 use std::alloc::Global;
 use std::net::SocketAddr;
 use std::sync::{Mutex, Wait};
 use std::time::{Clock, Instant};
 
-/// When the node was first asked, its addresses, whether they are to be looked up, and how its asks ended.
+/// When the node was first asked or looked at, its addresses, whether they are to be looked up, whether a look found it there so far, and
+/// how its asks ended.
 #[derive(Drop)]
 struct Memory {
     start: Option<Instant>,
     addresses: Addresses,
     is_to_look_up: bool,
+    was_met: bool,
     record: LinkRecord,
 }
 
@@ -29,15 +32,16 @@ pub struct Turn {
     pub address: Option<SocketAddr>,
 }
 
-/// What is known of a node. Each ask that is made begins with its turn and ends with a report. All is done under a lock, as [`LinkRecord`]
-/// and [`Addresses`] say.
+/// What is known of a node. Each ask that is made begins with its turn and ends with a report, and each look ends with what it found. All
+/// is done under a lock, as [`LinkRecord`] and [`Addresses`] say.
 #[derive(Drop)]
 pub struct Health {
     memory: Mutex<Memory>,
 }
 
 impl Memory {
-    /// The milliseconds since the node was first asked, which is now where it wasn't yet. The last moment of all where there is no clock.
+    /// The milliseconds since the node was first asked or looked at, which is now where it wasn't yet. The last moment of all where there
+    /// is no clock.
     fn moment<R: Clock>(&mut self, rt: &R) -> u64 {
         let Ok(now) = Instant::now(rt) else {
             return u64::MAX;
@@ -46,9 +50,26 @@ impl Memory {
         u64::try_from(now.duration_since(start).as_millis()).unwrap_or(u64::MAX)
     }
 
+    /// Whether not all ask the node, since it failed.
+    fn is_left_alone(&self) -> bool {
+        !matches!(self.record.state(), State::Closed { .. })
+    }
+
+    /// A look.
+    fn look(&self) -> Look {
+        let is_left_alone = self.is_left_alone();
+        Look {
+            before: self.record.asks(),
+            is_left_alone,
+            is_to_look_up: is_left_alone && self.is_to_look_up,
+            place: self.addresses.place(),
+            address: self.addresses.asked(),
+        }
+    }
+
     /// An ask of this number.
     fn turn(&self, number: u64) -> Turn {
-        let is_probe = !matches!(self.record.state(), State::Closed { .. });
+        let is_probe = self.is_left_alone();
         Turn {
             number,
             is_probe,
@@ -67,6 +88,7 @@ impl Health {
                 start: None,
                 addresses: Addresses::unknown(alloc),
                 is_to_look_up: true,
+                was_met: false,
                 record: LinkRecord::new(),
             }),
         }
@@ -112,6 +134,50 @@ impl Health {
             memory.is_to_look_up = memory.is_to_look_up || turn.is_probe;
         }
         memory.record.report(now, turn.number, outcome)
+    }
+
+    /// A look that is made now. None where none is due.
+    pub fn begin_look<R: Clock + Wait>(&self, rt: &R) -> Option<Look> {
+        let mut guard = self.memory.lock(rt);
+        let memory = &mut *guard;
+        let now = memory.moment(rt);
+        if memory.record.is_due(now) {
+            Some(memory.look())
+        } else {
+            None
+        }
+    }
+
+    /// The same look with the address that is known by now.
+    pub fn look_again<R: Wait>(&self, rt: &R, look: &Look) -> Look {
+        let guard = self.memory.lock(rt);
+        let mut again = *look;
+        again.place = guard.addresses.place();
+        again.address = guard.addresses.asked();
+        again
+    }
+
+    /// Takes in that a look found the node there.
+    pub fn met<R: Wait>(&self, rt: &R) {
+        self.memory.lock(rt).was_met = true;
+    }
+
+    /// Takes in that a look was in vain, and says what becomes of the link: where an ask was answered since the look began, nothing does.
+    /// Then the next address is asked; where the node was left alone already, the next look or ask that tries it looks its name up. One
+    /// that no look found there yet may be about to begin: it is left to the asks.
+    pub fn missed<R: Clock + Wait>(&self, rt: &R, look: &Look) -> Option<Change> {
+        let mut guard = self.memory.lock(rt);
+        let memory = &mut *guard;
+        if !memory.was_met {
+            return None;
+        }
+        let now = memory.moment(rt);
+        let change = memory.record.found_silent(now, &look.before);
+        if memory.is_left_alone() {
+            memory.addresses.leave(look.place);
+            memory.is_to_look_up = memory.is_to_look_up || look.is_left_alone;
+        }
+        change
     }
 
     /// How its asks ended so far.

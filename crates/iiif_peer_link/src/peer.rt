@@ -1,10 +1,11 @@
 //! Other nodes, as links reach them.
 
 use crate::health::{Health, Turn};
-use iiif_breaker::Durations;
+use iiif_breaker::{Change, Durations};
+use iiif_log::{Log, Moment, PeerTurn, Turn as Told};
 pub use std::alloc::AllocError as NoMemory;
 use std::alloc::Global;
-use std::net::{Net, SocketAddr, ToSocketAddrs};
+use std::net::{Net, SocketAddr, TcpStream, ToSocketAddrs};
 use std::sync::{Mutex, Wait};
 use std::time::{Clock, Duration};
 
@@ -16,6 +17,17 @@ pub struct Peer {
     address: String,
     limit: Duration,
     health: Health,
+}
+
+/// How long a look may take at most, in milliseconds.
+const LOOK: u64 = 250;
+
+/// The log's word for what became of a link.
+fn told_of(change: Change) -> Told {
+    match change {
+        Change::LeftAlone => Told::LeftAlone,
+        Change::AskedAgain => Told::AskedAgain,
+    }
 }
 
 /// What an address stands for. Where it can't be looked up, nothing.
@@ -75,6 +87,42 @@ impl Peer {
         }
         self.look_up(rt, alloc);
         Some(self.health.again(rt, &turn))
+    }
+
+    /// Looks whether the node is there, where a look is due, so that no ask has to find out: it connects, ends what it sends, and waits for
+    /// the node to do so too, for as long as an ask may take and a quarter of a second at most. A node that isn't there is left alone, and
+    /// one that is left alone isn't asked again for that. What becomes of the link is told to the log, where there is one.
+    pub fn look<R>(&self, rt: &R, alloc: Global, log: Option<&Log>)
+    where
+        R: Net<Stream = TcpStream> + Clock + Wait,
+    {
+        let Some(mut look) = self.health.begin_look(rt) else {
+            return;
+        };
+        if look.is_to_look_up {
+            self.look_up(rt, alloc);
+            look = self.health.look_again(rt, &look);
+        }
+        if look.is_met(rt, self.limit.min(Duration::from_millis(LOOK))) {
+            self.health.met(rt);
+        } else {
+            let change = self.health.missed(rt, &look);
+            self.tell(rt, log, change);
+        }
+    }
+
+    /// Tells the log what became of the link, where there is a log and something did.
+    pub fn tell<R: Clock + Wait>(&self, rt: &R, log: Option<&Log>, change: Option<Change>) {
+        if let (Some(change), Some(log)) = (change, log) {
+            log.tell_turn(
+                rt,
+                &PeerTurn {
+                    at: Moment::now(rt),
+                    name: self.name.as_bytes(),
+                    turn: told_of(change),
+                },
+            );
+        }
     }
 }
 

@@ -9,10 +9,9 @@ use crate::peer::{Peer, Stopwatch};
 use crate::timed::{Deadline, Timed};
 use crate::values::{sum_over, tile_over};
 use crate::within::Within;
-use iiif_breaker::Change;
 use iiif_group::{Link, LinkFault};
 use iiif_keys::{Shape, SumKey, SumVal, System, TileKey, TileVal};
-use iiif_log::{Log, Moment, PeerTurn, Turn as Told};
+use iiif_log::Log;
 use iiif_peer_wire::WireFault;
 use std::alloc::Global;
 use std::io;
@@ -72,14 +71,6 @@ fn connect<'a, R: Net<Stream = TcpStream> + Clock>(
     })
 }
 
-/// The log's word for what became of a link.
-fn told_of(change: Change) -> Told {
-    match change {
-        Change::LeftAlone => Told::LeftAlone,
-        Change::AskedAgain => Told::AskedAgain,
-    }
-}
-
 impl<'p, J: System> TcpLink<'p, J> {
     /// A link to a node. How long its asks take is counted by the stopwatch, and what becomes of it is told to the log, where there is one.
     pub fn new(
@@ -112,16 +103,7 @@ impl<'p, J: System> TcpLink<'p, J> {
         };
         self.watch.count(rt, deadline.micros());
         let change = self.peer.health().report(rt, turn, outcome);
-        if let (Some(change), Some(log)) = (change, self.log) {
-            log.tell_turn(
-                rt,
-                &PeerTurn {
-                    at: Moment::now(rt),
-                    name: self.peer.name().as_bytes(),
-                    turn: told_of(change),
-                },
-            );
-        }
+        self.peer.tell(rt, self.log, change);
     }
 }
 

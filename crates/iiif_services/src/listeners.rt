@@ -8,8 +8,11 @@ use std::io::ErrorKind;
 use std::net::{IpAddr, Net, TcpListener, TcpStream, ToSocketAddrs};
 use std::sync::{Mutex, Wait};
 use std::thread::Threads;
-use std::time::Clock;
+use std::time::{Clock, Duration};
 use std::{io, thread};
+
+/// How long is waited from one look to the next, in milliseconds.
+const BETWEEN_LOOKS: u64 = 250;
 
 /// Addresses and ports, and who may come there.
 #[derive(Clone, Copy, Debug)]
@@ -251,6 +254,51 @@ where
         {
             let ended = work();
             log.close(rt);
+            ended
+        },
+    );
+    ended
+}
+
+/// Looks every so often until the listeners are over.
+fn look_on<R, L>(rt: &R, listeners: &Listeners, look: &L)
+where
+    R: Wait + Clock,
+    L: Fn(),
+    requires { L.IsAlwaysCallable look.now }
+{
+    for _ in rt.forever() {
+        if listeners.is_over(rt) {
+            return;
+        }
+        look();
+        thread::sleep(rt, Duration::from_millis(BETWEEN_LOOKS));
+    }
+}
+
+/// Does some work, which ends where the listeners do, while a thread of its own looks every so often. Where no thread can be started, the
+/// work is done without.
+pub fn looking<R, L, W>(rt: &R, listeners: &Listeners, look: &L, work: &W) -> io::Result<()>
+where
+    R: Threads + Wait + Clock + Sync,
+    L: Fn() + Sync,
+    W: Fn() -> io::Result<()>,
+    requires look { L.IsAlwaysCallable look.now }
+    requires work { W.IsAlwaysCallable work.now }
+{
+    let (_, ended) = thread::join(
+        rt,
+        ||
+            requires { L.IsAlwaysCallable look.now }
+        {
+            look_on(rt, listeners, look);
+        },
+        ||
+            requires { W.IsAlwaysCallable work.now }
+        {
+            let ended = work();
+            // However it ended, nothing more is looked at.
+            listeners.end(rt);
             ended
         },
     );
