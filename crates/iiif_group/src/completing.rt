@@ -3,13 +3,15 @@
 ghost use Rattle.std.specs.Prelude.{◌≡◌};
 ghost use Rattle.iiif_group.specs.Beginning.{open_key, KnowsOf, OutcomeFor};
 ghost use Rattle.iiif_group.specs.Ending.{HandsBack, HasLoaded, IsExact, IsOfFirst, IsOfLocal, IsWanting, TellsFault};
+ghost use Rattle.iiif_group.specs.Code.{Finishes, OutcomeOf, Tells};
 
 use crate::begun::{Completed, Open};
 use crate::group::Group;
 use crate::outcomes::share_outcome;
-use crate::steps::Origin;
 use crate::told::Told;
 use iiif_keys::{CacheKey, Fault, System};
+use iiif_singleflight::{Landing, Looked};
+use iiif_tables::Place;
 use std::sync::ledger::Ledger;
 use std::sync::{Arc, Wait};
 
@@ -39,7 +41,7 @@ impl<K: CacheKey, J: System, L: Ledger, N, T> Group<K, J, L, N, T> {
         let Open { local, wide } = load;
         match wide {
             None => {
-                let Told { receipt, refused } = self.finish(rt, local, outcome, Origin::Load);
+                let Told { receipt, refused } = self.finish(rt, local, outcome, Place::Main);
                 Completed {
                     receipt,
                     loaded: None,
@@ -49,8 +51,8 @@ impl<K: CacheKey, J: System, L: Ledger, N, T> Group<K, J, L, N, T> {
             }
             Some(wide) => {
                 let (second, same) = share_outcome(&outcome);
-                let local = self.finish(rt, local, outcome, Origin::Load);
-                let Told { receipt, refused } = self.finish(rt, wide, second, Origin::Flight);
+                let local = self.finish(rt, local, outcome, Place::Main);
+                let Told { receipt, refused } = self.finish(rt, wide, second, Place::Nowhere);
                 Completed {
                     receipt,
                     loaded: Some(local.receipt),
@@ -59,5 +61,38 @@ impl<K: CacheKey, J: System, L: Ledger, N, T> Group<K, J, L, N, T> {
                 }
             }
         }
+    }
+    /// Ends a flight, and tells those that wait.
+    pub(crate) fn finish<R: Wait>(
+        &self,
+        rt: &R,
+        lead: Looked<K, J, L>,
+        outcome: Result<Arc<K::Value>, Fault>,
+        place: Place,
+    ) -> Told<K, J, L>
+        requires { OutcomeOf lead outcome }
+        ensures { Finishes lead outcome result }
+    {
+        let landing = self.land(rt, lead, outcome, place);
+        self.tell(rt, landing)
+    }
+
+    /// Tells those that wait, and the leader how its flight ended. Where the cell refused the leader's outcome, which no run meets,
+    /// another of this flight stands in it, by which they learn too who joined. A cell with none of this flight tells nobody: the
+    /// leader then waits for good, as they do.
+    pub(crate) fn tell<R: Wait>(&self, rt: &R, landing: Landing<K, J, L>) -> Told<K, J, L>
+        ensures { Tells landing result }
+    {
+        let landed = self.landed.of(landing.ticket());
+        landed.notify_all();
+        if landing.is_own() {
+            let (receipt, refused) = landing.into_receipt();
+            return Told { receipt, refused };
+        }
+        let mut home = self.home.lock(rt);
+        for _ in rt.forever() {
+            home = landed.wait(rt, home);
+        }
+        unreachable!()
     }
 }

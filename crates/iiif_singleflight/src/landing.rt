@@ -12,7 +12,7 @@ ghost use Rattle.iiif_singleflight.specs.Held.{open_at};
 ghost use Rattle.iiif_singleflight.specs.View.{cells_of, table_of};
 
 use crate::down::Down;
-use crate::keeping::{Arrival, count, keep_outcome, share_of};
+use crate::keeping::{Arrival, count, keep, share_of};
 use crate::table::Table;
 use iiif_keys::{CacheKey, Fault, System};
 use iiif_outcome::{Ended, Lead};
@@ -73,7 +73,8 @@ impl<K: CacheKey, J: System, L: Ledger> Table<K, J, L> {
             place,
             peer: self.book.peer,
         };
-        let kept = keep_outcome(&mut self.cache, taken, arrival, name, value, &mut receipt);
+        let value = value.filter(|_| taken);
+        let kept = keep(&mut self.cache, arrival, name, value, &mut receipt);
         Down {
             receipt,
             taken,

@@ -1,4 +1,6 @@
-use Rattle.std.proofs.Common.{◌≡◌, ◌-◌, Some, None, false, refl, sym, ap, ◌∙◌, arith}
+use Rattle.std.proofs.Common.{◌≡◌, ◌-◌, Bool, Option, Some, None, MatchOption, true, false, refl, sym, ap, ◌∙◌, arith}
+use Rattle.std.proofs.lemmas.Grind.{common_steps}
+use Rattle.std.specs.Bool.{then_some}
 use Rattle.std.specs.Arc.{arc_value}
 use Rattle.iiif_tables.specs.Flights.{is_found, storing, keeping, counting}
 use Rattle.iiif_outcome.specs.Outcomes.{value_of}
@@ -40,6 +42,16 @@ invariant_of-self-2 g c =
       counted = ap (λ b. b.gets) c.count.ensures ∙ (counted_gets c.in-Some.found c.is_err-fault.result c.args.place t.book ∙ t.counted);
     }
 
+-- what a test leaves over was there
+left_over : {T : Type 0} (Gives : T → Bool → Type 0) (was left : Option T) →
+    MatchOption was (left ≡ None) (λ x. (b : Bool) × Gives x b × (left ≡ then_some b x)) → (x : T) → left ≡ Some x → was ≡ Some x
+left_over Gives None left none x is = cc (none, is)
+left_over Gives (Some y) left (true, gives, h) x is = cc (h, is)
+left_over Gives (Some y) left (false, gives, h) x is = cc (h, is)
+
+pub returns-clause-kept : goal.returns-clause-kept
+returns-clause-kept g c = grind (arith, common_steps)
+
 pub returns-clause-table : goal.returns-clause-table
 returns-clause-table g c =
     let t = c.args.self.now in
@@ -54,9 +66,9 @@ returns-clause-table g c =
     let own_ticket : n ≡ lead_ticket l = c.ticket-ticket.ensures in
     let plain = table_of eq t in
     let vo = value_of c.args.outcome in
-    let kept = c.keep_outcome-kept.result in
+    let kept = c.keep-kept.result in
     let old = cache_of t.cache in
-    let new = cache_of c.keep_outcome-kept.new.cache in
+    let new = cache_of c.keep-kept.new.cache in
     let peer = c.count.new.book.peer in
     let ticket = receipt_ticket c.set-receipt.result.receipt in
     let fl = plain.flights cl k in
@@ -68,17 +80,19 @@ returns-clause-table g c =
     let met = land-open eq cl k plain size kept n vo c.args.place tk.0 in
     let cache = kept_is kept old new (keeping eq size c.args.place b.peer k n vo old)
     (λ y.
-    let v = some_and c.share_of-value.result (λ v.
+    let v = some_and c.filter-value.result (λ v.
     new ≡ storing eq size c.args.place peer k (record { value = arc_value v; ticket = ticket }) old)
-    (c.keep_outcome-kept.ensures.kept y) in
-    let is : vo ≡ Some (arc_value v.0) = at_some c.share_of-value.result v.0 (λ v. vo ≡ Some (arc_value v)) v.1 c.share_of-value.ensures in
-    let own : ticket ≡ n = (c.set-receipt.ensures.taken (c.keep_outcome-kept.ensures.taken y)).1 ∙ sym own_ticket in
+    (c.keep-kept.ensures.kept y) in
+    let was : c.share_of-value.result ≡ Some v.0 = left_over _ _ _ c.filter-value.ensures v.0 v.1 in
+    let taken : c.set-receipt.result.taken ≡ true = returns-clause-kept g c y in
+    let is : vo ≡ Some (arc_value v.0) = at_some c.share_of-value.result v.0 (λ v. vo ≡ Some (arc_value v)) was c.share_of-value.ensures in
+    let own : ticket ≡ n = (c.set-receipt.ensures.taken taken).1 ∙ sym own_ticket in
     let to : storing eq size c.args.place peer k (record { value = arc_value v.0; ticket = ticket }) old ≡ keeping eq size c.args.place peer
     k n (Some (arc_value v.0)) old = ap (λ x. storing eq size c.args.place peer k (record { value = arc_value v.0; ticket = x }) old)
     own in
     v.2 ∙ (to ∙ (ap (λ x. keeping eq size c.args.place peer k n x old) (sym is) ∙
     ap (λ x. keeping eq size c.args.place x.peer k n vo old) book)))
-    c.keep_outcome-kept.ensures.unkept in
+    c.keep-kept.ensures.unkept in
     let q = ap (each_of the_flight) c.in-Some.ensures.closed ∙ each-with eq cl k the_flight None (open_at eq t.opens) in
     let a : aloft c.close.new.self ≡ aloft t.opens - 1 = omega (arith, c.in-Some.ensures.aloft) in
     rw (← key, ← class, ← own_ticket) (same_tables cache q a book ∙ sym met)
