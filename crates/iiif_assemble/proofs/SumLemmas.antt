@@ -1,11 +1,10 @@
 -- The sums of a part of a result, of the blocks that have a place of it.
-use Rattle.std.proofs.Common.{◌≡◌, ℕ, ◌+◌, ◌-◌, ◌*◌, ◌^◌, ◌<◌, ◌≤◌, min, List, [], ◌∷◌, ◌++◌, Bool, true, false, cond, All, length, get_or}
-use Rattle.std.proofs.Common.{map, fold, take, Some, refl, sym, subst, ap, ◌∙◌, if◌then◌else◌}
+use Rattle.std.proofs.Common.{◌≡◌, ℕ, ◌+◌, ◌-◌, ◌*◌, ◌^◌, min, List, [], ◌∷◌, Bool, true, false, cond, All, get_or}
+use Rattle.std.proofs.Common.{map, fold, Some, refl, sym, subst, ap, ◌∙◌, if◌then◌else◌}
 use Rattle.std.specs.List.{filter}
 use Rattle.std.proofs.lemmas.Bool.{both_ways}
 use Rattle.std.proofs.lemmas.List.Elements.{All-head, All-tail, All-weaker}
-use Rattle.std.proofs.lemmas.List.{get_or_default, map-append, take_more, take_all}
-use Rattle.std.proofs.lemmas.List.Sums.{fold-append}
+use Rattle.std.proofs.lemmas.List.{get_or_default}
 use Rattle.iiif_pixel.specs.Geometry.{HasPlace, LiesIn, sides_of}
 use Rattle.iiif_pixel.specs.Picture.{Picture, IsWhole, dim_of}
 use Rattle.iiif_pixel.specs.Operations.{crop}
@@ -139,21 +138,6 @@ block_meant shows name p image region size k v known sides same b made =
     ∙ ap (λ (d : Dim). sums_of (crop p k.rect) k.size (part_in d k)) sides
     ∙ ap (λ (r : Rect). sums_of (crop p r) k.size (part_in image k)) b.rect
     ∙ ap (λ (d : Dim). sums_of (crop p region) d (part_in image k)) b.to_size
-
--- one value more is added
-pub merged_more : {A : Type 0} (f : A → Grid) (values : List A) (i : ℕ) (a : A) (start old new : Grid) → i < length values →
-    get_or values i a ≡ a →
-    old ≡ fold merged start (map f (take i values)) → new ≡ merged old (f a) → new ≡ fold merged start (map f (take (i + 1) values))
-merged_more {A} f values i a start old new within is before made =
-    let taken : take (i + 1) values ≡ take i values ++ a ∷ [] = take_more values i a within ∙ ap (λ (x : A). take i values ++ x ∷ []) is in
-    made ∙ ap (λ (g : Grid). merged g (f a)) before
-    ∙ sym (fold-append merged start (map f (take i values)) (f a ∷ []))
-    ∙ ap (λ gs. fold merged start gs) (sym (map-append f (take i values) (a ∷ [])))
-    ∙ ap (λ (xs : List A). fold merged start (map f xs)) (sym taken)
-
-pub merged_all : {A : Type 0} (f : A → Grid) (values : List A) (i : ℕ) (start new : Grid) → length values ≤ i →
-    new ≡ fold merged start (map f (take i values)) → new ≡ fold merged start (map f values)
-merged_all {A} f values i start new end made = made ∙ ap (λ (xs : List A). fold merged start (map f xs)) (take_all i values end)
 
 -- the samples of a band
 pub total_finished : (from : Rect) (q : Picture) (size : Dim) (n top : ℕ) (values : List SumVal) → IsWhole q → LiesIn from size →

@@ -24,20 +24,12 @@ use crate::job::{Job, Made};
 use crate::workshop::Workshop;
 use iiif_area::laws::merging_adds;
 use iiif_area::{Sums, is_inside};
-use iiif_keys::{Fault, SumKey, SumVal};
+use iiif_keys::{Fault, SumKey, SumVal, add_sums};
 use iiif_pixel::Rect;
 use iiif_pixel::laws::whole_stays_whole;
 use std::alloc::Global;
 use std::sync::{Arc, Wait};
 use std::thread::Threads;
-
-/// Adds a value's sums.
-fn add(total: &mut Sums, value: &Arc<SumVal>)
-    requires { (sums_in (arc_value value.now)).channels ≡ total.old.channels }
-    ensures { total.new ≡ merged total.old (sums_in (arc_value value.now)) }
-{
-    total.merge(&value.sums);
-}
 
 /// How many sums there are.
 pub(crate) fn count_of_sums(total: &Sums) -> u64
@@ -45,18 +37,6 @@ pub(crate) fn count_of_sums(total: &Sums) -> u64
     ensures small { result < 2 ^ 63 }
 {
     total.sums().len() as u64
-}
-
-/// Adds the sums of values, one after another.
-fn add_all(total: &mut Sums, values: &[Arc<SumVal>])
-    requires { All (λ v. (sums_in (arc_value v)).channels ≡ total.old.channels) values.now }
-    ensures sums { total.new ≡ fold merged total.old (map (λ v. (sums_in (arc_value v))) values.now) }
-    ensures places { total.new.rect ≡ total.old.rect }
-    ensures channels { total.new.channels ≡ total.old.channels }
-{
-    for value in values {
-        add(total, value);
-    }
 }
 
 /// The samples in `from` that the sums of values make together. Nothing is held but the sums at these places, and then the samples.
@@ -78,7 +58,7 @@ fn made_of_all<R: Threads + Sync>(
     let Ok(mut total) = Sums::zero(alloc, from, job.shape.kind) else {
         return Err(Fault::NoMemory);
     };
-    add_all(&mut total, values);
+    add_sums(&mut total, values);
     match finish_all(rt, alloc, &total, job.resolved.rect.dim(), job.shape.depth) {
         Ok(raster) => {
             let held = count_of_sums(&total) + count_of(&raster);

@@ -1,7 +1,8 @@
 //! Which keys fit an image, and every block of small pictures beside the plain way.
 
-ghost use Rattle.std.specs.Prelude.{◌≡◌};
-ghost use Rattle.iiif_keys.specs.Meaning.{tile_below};
+ghost use Rattle.std.specs.Prelude.{◌≡◌, All, IfSome};
+ghost use Rattle.iiif_pixel.specs.Geometry.{channels_of};
+ghost use Rattle.iiif_keys.specs.Meaning.{sums_in, tile_below};
 
 use crate::block_plain;
 use crate::key_tests::name;
@@ -9,6 +10,7 @@ use iiif_area::Sums;
 use iiif_keys::{CacheKey, Parts, Shape, SumKey, SumVal, TileKey, TileVal, parts};
 use iiif_pixel::{Depth, Dim, Kind, Raster, Rect};
 use std::alloc::Global;
+use std::sync::Arc;
 
 /// A block, by all that a key of sums has but the name, which is `a`.
 #[derive(Clone, Copy)]
@@ -292,26 +294,28 @@ fn of_tile(scene: &Scene, key: &SumKey, tile: &TileKey) -> Option<SumVal>
     SumVal::of_tile(scene.alloc, key, shape, &value).ok()
 }
 
-/// Adds the sums of keys, which the plain way gives, to a value.
-fn add_sums(scene: &Scene, value: &mut SumVal, keys: &[SumKey]) -> Option<()> {
+/// The values of keys, as the plain way gives them.
+fn plain_values(scene: &Scene, keys: &[SumKey]) -> Option<Vec<Arc<SumVal>>>
+    ensures { IfSome result (λ v. All (λ x. (sums_in x).channels ≡ channels_of scene.now.shape.kind) v.items) }
+{
+    let mut values = Vec::new(scene.alloc);
     for key in keys {
-        let more = plain_value(scene, key)?;
-        if more.sums.kind() != value.sums.kind() {
+        let value = plain_value(scene, key)?;
+        if value.sums.kind() != scene.shape.kind {
             return None;
         }
-        value.merge(&more);
+        values.push(Arc::new(scene.alloc, value).ok()?).ok()?;
     }
-    Some(())
+    Some(values)
 }
 
-/// The value of a key with the sums of these keys, which the plain way gives.
+/// The value of a key, made of those of these keys as the plain way gives them.
 fn of_sums(scene: &Scene, key: &SumKey, keys: &[SumKey]) -> Option<SumVal> {
     if !key.fits(key.edge, &scene.shape) {
         return None;
     }
-    let mut value = SumVal::zero(scene.alloc, key, &scene.shape).ok()?;
-    add_sums(scene, &mut value, keys)?;
-    Some(value)
+    let values = plain_values(scene, keys)?;
+    SumVal::of_parts(scene.alloc, key, &scene.shape, &values).ok()
 }
 
 /// The value that the parts of a key make: of a tile of the picture, or of sums that the plain way gives.

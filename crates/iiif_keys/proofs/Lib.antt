@@ -4,6 +4,7 @@ pub mod Examples
 pub mod KeyBytes
 pub mod KeyTests
 pub mod Meant
+pub mod Merging
 pub mod Numbers
 pub mod Named
 pub mod Names

@@ -9,7 +9,7 @@ pub use name::{Name, is_name};
 pub use places::{LEVEL_LIMIT, side_of};
 pub use splitting::parts;
 pub use system::System;
-pub use values::{SumVal, TileVal};
+pub use values::{SumVal, TileVal, add_sums};
 
 pub mod cache_key;
 pub mod entries;

@@ -6,10 +6,9 @@ use Rattle.std.proofs.Math.Dec.{eqb-suc-zero}
 use Rattle.std.specs.List.{filter}
 use Rattle.std.specs.Arc.{arc_value}
 use Rattle.std.specs.declared.sync.Arc.{Arc}
-use Rattle.std.proofs.lemmas.List.{length-map, map-append, take_all, take_more}
+use Rattle.std.proofs.lemmas.List.{length-map, map-append, take_more}
 use Rattle.std.proofs.lemmas.List.Elements.{All-append, All-cons, All-get_or, All-head, All-nil, All-tail}
 use Rattle.std.proofs.lemmas.List.Filters.{length-filter_both}
-use Rattle.std.proofs.lemmas.List.Sums.{fold-append}
 use Rattle.std.proofs.lemmas.Result.{IfErr-at_err}
 use Rattle.iiif_outcome.specs.Outcomes.{is_given}
 use Rattle.iiif_pixel.specs.Geometry.{channels_of, sides_of, HasPlace}
@@ -23,7 +22,7 @@ use Rattle.iiif_area.proofs.GridLaws.{has_place-tested}
 use Rattle.iiif_images.specs.Faults.{IsLoadFault}
 use Rattle.iiif_keys.specs.Blocks.{part_in, places_in, NamesPart, SumFitsIn}
 use Rattle.iiif_keys.specs.Laws.{IsBelow, PartsAreBelow, PartsCut, PartsFit, PartsMakeMeaning}
-use Rattle.iiif_keys.specs.Meaning.{meets_rect, no_sums, quarters, sum_is_shaped, sum_meaning, sums_below, SumHasShape}
+use Rattle.iiif_keys.specs.Meaning.{meets_rect, no_sums, quarters, sum_is_shaped, sum_meaning, sums_below, sums_in, SumHasShape}
 use Rattle.iiif_keys.specs.Names.{Pictures, named, IsSource}
 use Rattle.iiif_keys.specs.Shapes.{HasPicture}
 use Rattle.iiif_keys.specs.declared.fault.Fault.{Fault}
@@ -34,7 +33,7 @@ use Rattle.iiif_keys.specs.declared.values.SumVal.{SumVal}
 use Rattle.iiif_keys.proofs.Cuts.{counted}
 use Rattle.iiif_keys.proofs.Shaped.{kind_with_channels}
 use Rattle.iiif_source.specs.declared.ReadFault.{ReadFault}
-use Rattle.iiif_sum_group.specs.Values.{sums_in, ArePlaces, AreSums, AreValuesOf, MayBeSums}
+use Rattle.iiif_sum_group.specs.Values.{ArePlaces, AreSums, AreValuesOf, MayBeSums}
 
 -- one more of what is alike in two lists
 pub mapped_more : {A B C : Type 0} (f : A → C) (h : B → C) (keys : List A) (values : List B) (i : ℕ) (q : A) (v : B) → i < length keys →
@@ -138,23 +137,6 @@ pub all_values : PartsMakeMeaning → (shows : Pictures) (k : SumKey) (s : Shape
 all_values makes shows k s v values has source fits above are made =
     all_parts makes shows k s v has source fits above
     (made ∙ ap (λ (gs : List Grid). fold merged (no_sums s.dim (channels_of s.kind) k) gs) are)
-
--- one value more
-pub total_more : {A : Type 0} (h : A → Grid) (values : List A) (i : ℕ) (v : A) (start mid new : Grid) → i < length values →
-    get_or values i v ≡ v
-    → mid ≡ fold merged start (map h (take i values)) → new ≡ merged mid (h v) → new ≡ fold merged start (map h (take (i + 1) values))
-total_more h values i v start mid new inside is before made =
-    let more = take_more values i v inside ∙ ap (λ x. take i values ++ x ∷ []) is in
-    made ∙ ap (λ (g : Grid). merged g (h v)) before
-    ∙ sym (fold-append merged start (map h (take i values)) (h v ∷ []))
-    ∙ ap (λ gs. fold merged start gs) (sym (map-append h (take i values) (v ∷ [])))
-    ∙ ap (λ vs. fold merged start (map h vs)) (sym more)
-
--- all values
-pub total_all : {A : Type 0} (h : A → Grid) (values : List A) (i : ℕ) (start new : Grid) → length values ≤ i →
-    new ≡ fold merged start (map h (take i values))
-    → new ≡ fold merged start (map h values)
-total_all h values i start new past e = e ∙ ap (λ vs. fold merged start (map h vs)) (take_all i values past)
 
 -- rectangles that aren't empty and have the same places are one
 same_rect : (r s : Rect) → 0 < r.w → 0 < r.h → 0 < s.w → 0 < s.h → ((x y : ℕ) → HasPlace r x y → HasPlace s x y) →

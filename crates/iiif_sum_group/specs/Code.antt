@@ -8,7 +8,7 @@ use Rattle.std.specs.declared.sync.Arc.{Arc}
 use Rattle.iiif_pixel.specs.Geometry.{channels_of}
 use Rattle.iiif_area.specs.Grid.{merged}
 use Rattle.iiif_keys.specs.Blocks.{places_in, IsOfBlock, SumFitsIn}
-use Rattle.iiif_keys.specs.Meaning.{no_sums, sums_below, tile_below}
+use Rattle.iiif_keys.specs.Meaning.{no_sums, sums_below, sums_in, tile_below}
 use Rattle.iiif_keys.specs.Names.{named, IsSource}
 use Rattle.iiif_keys.specs.Shapes.{HasPicture}
 use Rattle.iiif_keys.specs.declared.fault.Fault.{Fault}
@@ -18,7 +18,7 @@ use Rattle.iiif_keys.specs.declared.keys.SumKey.{SumKey}
 use Rattle.iiif_keys.specs.declared.keys.TileKey.{TileKey}
 use Rattle.iiif_keys.specs.declared.system.System as system
 use Rattle.iiif_keys.specs.declared.values.SumVal.{SumVal}
-use Rattle.iiif_sum_group.specs.Values.{sums_in, AreValuesOf}
+use Rattle.iiif_sum_group.specs.Values.{AreValuesOf}
 
 -- what was made, or that memory was wanting
 pub record Copies (value : SumVal) (result : Result SumVal Fault) : Type 0 where

@@ -6,19 +6,14 @@ use Rattle.std.specs.declared.sync.Arc.{Arc}
 use Rattle.std.specs.declared.alloc.Global.{Global}
 use Rattle.iiif_pixel.specs.declared.geometry.Dim.{Dim}
 use Rattle.iiif_pixel.specs.Geometry.{channels_of}
-use Rattle.iiif_area.specs.Grid.{Grid}
 use Rattle.iiif_keys.specs.Blocks.{places_in, SumFitsIn}
 use Rattle.iiif_keys.specs.Laws.{IsBelow}
-use Rattle.iiif_keys.specs.Meaning.{sum_is_shaped, sum_meaning}
+use Rattle.iiif_keys.specs.Meaning.{sum_is_shaped, sum_meaning, sums_in}
 use Rattle.iiif_keys.specs.Names.{named, IsSource, Pictures}
 use Rattle.iiif_keys.specs.Shapes.{HasPicture}
 use Rattle.iiif_keys.specs.declared.keys.Shape.{Shape}
 use Rattle.iiif_keys.specs.declared.keys.SumKey.{SumKey}
 use Rattle.iiif_keys.specs.declared.values.SumVal.{SumVal}
-
--- the sums that a value has
-abbrev pub sums_in : Arc SumVal Global → Grid
-sums_in x = let v : SumVal = arc_value x in v.sums
 
 -- the sums of these values are those that these keys mean
 abbrev pub AreSums : Pictures → List SumKey → List (Arc SumVal Global) → Type 0

@@ -48,27 +48,18 @@ fn only(mut values: Vec<Arc<SumVal>>) -> Arc<SumVal>
     values.remove(0)
 }
 
-/// The sums of a block, of the values of its parts. They are made once all of these are there, so that no block holds sums of its
-/// own while it waits for those below.
-fn total(
-    alloc: Global,
-    shape: &Shape,
-    key: &SumKey,
-    values: &[Arc<SumVal>],
-) -> Result<SumVal, Fault>
-    requires { CanTotal shape.now key.now values.now }
-    ensures { Totals shape.now key.now values.now result }
+/// The value of a block above level 0, of the values of its parts.
+fn total(alloc: Global, shape: &Shape, key: &SumKey, parts: &[Arc<SumVal>]) -> Result<SumVal, Fault>
+    requires { CanTotal shape.now key.now parts.now }
+    ensures { Totals shape.now key.now parts.now result }
 {
-    let Ok(mut total) = SumVal::zero(alloc, key, shape) else {
-        return Err(Fault::NoMemory);
-    };
-    for value in values {
-        total.merge(&**value);
+    match SumVal::of_parts(alloc, key, shape, parts) {
+        Ok(total) => Ok(total),
+        Err(_) => Err(Fault::NoMemory),
     }
-    Ok(total)
 }
 
-/// The value of a block above level 0, of the values of its quarters. Where it has one alone, that one's sums are its own: they are taken
+/// The same for all that wait, of the values of its quarters. Where it has one alone, that one's sums are its own: they are taken
 /// as they are.
 pub(crate) fn whole<J: System>(
     alloc: Global,

@@ -6,8 +6,8 @@ use Rattle.iiif_area.specs.Grid.{Grid, merged}
 use Rattle.iiif_keys.specs.Blocks.{tile_of}
 use Rattle.iiif_keys.specs.Meaning.{TileHasShape}
 use Rattle.iiif_keys.specs.declared.keys.TileKey.{TileKey}
+use Rattle.iiif_keys.proofs.Merging.{merged_all, merged_more}
 use Rattle.iiif_assemble.specs.Code.{tile_adds, tile_in}
-use Rattle.iiif_assemble.proofs.SumLemmas.{merged_more, merged_all}
 use Rattle.iiif_assemble.proofs.ZipLemmas.{value_at, values_len}
 use Rattle.iiif_assemble.proofs.growing.add_all.Goals as goal
 

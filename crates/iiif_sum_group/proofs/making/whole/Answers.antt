@@ -6,9 +6,9 @@ use Rattle.std.specs.declared.sync.Arc.{Arc}
 use Rattle.iiif_pixel.specs.Geometry.{channels_of}
 use Rattle.iiif_area.specs.Grid.{Grid, merged}
 use Rattle.iiif_keys.specs.Blocks.{places_in}
-use Rattle.iiif_keys.specs.Meaning.{no_sums, sum_is_shaped, sum_meaning, sums_below}
+use Rattle.iiif_keys.specs.Meaning.{no_sums, sum_is_shaped, sum_meaning, sums_below, sums_in}
 use Rattle.iiif_keys.specs.declared.values.SumVal.{SumVal}
-use Rattle.iiif_sum_group.specs.Values.{sums_in, AreSums, AreValuesOf}
+use Rattle.iiif_sum_group.specs.Values.{AreSums, AreValuesOf}
 use Rattle.iiif_sum_group.proofs.SumLemmas.{all_values, only_places, only_value, wanting}
 use Rattle.iiif_sum_group.proofs.making.whole.Goals as goal
 
