@@ -1,5 +1,7 @@
 //! What nobody works with.
 
+ghost use Rattle.std.specs.Prelude.{◌≡◌, ◌<◌, [], IfSome, length};
+
 use std::alloc::{AllocError, Global};
 use std::sync::{Mutex, Wait};
 
@@ -19,7 +21,9 @@ pub struct Idle<'a, P> {
 
 impl<'a, P> Idle<'a, P> {
     /// No worker.
-    pub fn none(alloc: Global) -> Idle<'a, P> {
+    pub fn none(alloc: Global) -> Idle<'a, P>
+        ensures { result.places.items ≡ [] }
+    {
         Idle {
             places: Vec::new(alloc),
         }
@@ -34,13 +38,10 @@ impl<'a, P> Idle<'a, P> {
         Ok(Idle { places })
     }
 
-    /// Whether there is none, idle or at work.
-    pub fn is_empty(&self) -> bool {
-        self.places.is_empty()
-    }
-
-    /// One that has nothing to do. It isn't waited for.
-    pub fn take<R: Wait>(&self, rt: &R) -> Option<Helper<'a, P>> {
+    /// One that has nothing to do, with its own place here. It isn't waited for.
+    pub fn take<R: Wait>(&self, rt: &R) -> Option<Helper<'a, P>>
+        ensures { IfSome result (λ h. h.place < length self.now.places.items) }
+    {
         for place in 0..self.places.len() {
             if let Some(pass) = self.places[place].lock(rt).take() {
                 return Some(Helper { place, pass });
