@@ -393,9 +393,11 @@ def prepared(args, jobs):
 
 
 def turned(programs, turn):
-    """The programs, another one of them first in each round: who runs behind another finds the memory that it gave back."""
+    """The programs, another one of them first in each round, and backwards once all were: who runs behind another finds the memory that it
+    gave back."""
     first = turn % len(programs)
-    return programs[first:] + programs[:first]
+    order = programs[first:] + programs[:first]
+    return order[:: -1 if turn // len(programs) % 2 else 1]
 
 
 def measured(args, jobs, wanted):
