@@ -149,14 +149,9 @@ fn halved<
     // The larger half, as who ends first waits, while a helper that ends first helps again.
     let half = items.len() - items.len() / 2;
     let (mine, theirs) = items.split_at(half);
-    let (first, rest) = join(
+    // The helper has the thread that is started, so this worker goes on at once.
+    let (rest, first) = join(
         crew.rt,
-        || -> Result<Vec<Arc<V>>, Fault>
-            requires { IsSync R.row × All (λ i. i < length keys.now) mine.now × All (G.fits crew.now.group.now) keys.now }
-            ensures { IfOk result (λ v. AreValues (G.means crew.entry.now.group.now) keys.entry.now mine.entry.now (map arc_value v.items))
-                × IfErr result (IsItemFault (G.means crew.entry.now.group.now) (G.failed crew.entry.now.group.now) keys.entry.now
-                mine.entry.now) }
-        { shared_out(crew, own, keys, mine) },
         || -> Result<Vec<Arc<V>>, Fault>
             requires { IsSync R.row × All (λ i. i < length keys.now) theirs.now × All (G.fits crew.now.group.now) keys.now }
             ensures { IfOk result (λ v. AreValues (G.means crew.entry.now.group.now) keys.entry.now theirs.entry.now
@@ -164,6 +159,12 @@ fn halved<
                 × IfErr result (IsItemFault (G.means crew.entry.now.group.now) (G.failed crew.entry.now.group.now) keys.entry.now
                 theirs.entry.now) }
         { helped(crew, helper, keys, theirs) },
+        || -> Result<Vec<Arc<V>>, Fault>
+            requires { IsSync R.row × All (λ i. i < length keys.now) mine.now × All (G.fits crew.now.group.now) keys.now }
+            ensures { IfOk result (λ v. AreValues (G.means crew.entry.now.group.now) keys.entry.now mine.entry.now (map arc_value v.items))
+                × IfErr result (IsItemFault (G.means crew.entry.now.group.now) (G.failed crew.entry.now.group.now) keys.entry.now
+                mine.entry.now) }
+        { shared_out(crew, own, keys, mine) },
     );
     match first {
         Ok(first) => match rest {

@@ -72,20 +72,21 @@ fn shared<
         return joined(first, rest);
     };
     let (front, back) = parts.split_at(parts.len() - 1);
-    let (first, rest) = join(
+    // The helper has the thread that is started, so this worker goes on at once.
+    let (rest, first) = join(
         crew.rt,
-        || -> Result<Vec<Arc<V>>, Fault>
-            requires { IsSync R.row × (length front.now ≤ 3) × All (IsPart (G.fits crew.now.group.now) (G.rank crew.now.group.now)
-                (G.failed crew.now.group.now) key.now) front.now }
-            ensures { IfOk result (λ v. AreValuesOf (G.means crew.entry.now.group.now) front.entry.now v.items)
-                × IfErr result (IsPartsFault (G.means crew.entry.now.group.now) (G.failed crew.entry.now.group.now) front.entry.now) }
-        { shared(crew, own, key, front) },
         || -> Result<Vec<Arc<V>>, Fault>
             requires { IsSync R.row × All (IsPart (G.fits crew.now.group.now) (G.rank crew.now.group.now) (G.failed crew.now.group.now)
                 key.now) back.now }
             ensures { IfOk result (λ v. AreValuesOf (G.means crew.entry.now.group.now) back.entry.now v.items)
                 × IfErr result (IsPartsFault (G.means crew.entry.now.group.now) (G.failed crew.entry.now.group.now) back.entry.now) }
         { helped(crew, helper, key, back) },
+        || -> Result<Vec<Arc<V>>, Fault>
+            requires { IsSync R.row × (length front.now ≤ 3) × All (IsPart (G.fits crew.now.group.now) (G.rank crew.now.group.now)
+                (G.failed crew.now.group.now) key.now) front.now }
+            ensures { IfOk result (λ v. AreValuesOf (G.means crew.entry.now.group.now) front.entry.now v.items)
+                × IfErr result (IsPartsFault (G.means crew.entry.now.group.now) (G.failed crew.entry.now.group.now) front.entry.now) }
+        { shared(crew, own, key, front) },
     );
     match first {
         Ok(first) => match rest {

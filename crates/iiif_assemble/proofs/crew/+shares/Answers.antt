@@ -35,8 +35,8 @@ shared_out-returns-in-Err-clause-fault g t c =
 
 pub halved-returns-in-Ok-rest-clause-values : goal.halved-returns-in-Ok-rest-clause-values
 halved-returns-in-Ok-rest-clause-values g t c =
-    let a = rw c.in-Ok.is at c.join-first.ensures.first.0 in
-    let b = rw c.in-Ok-rest.is at c.join-first.ensures.second.0 in
+    let a = rw c.in-Ok.is at c.join-rest.ensures.second.0 in
+    let b = rw c.in-Ok-rest.is at c.join-rest.ensures.first.0 in
     IfOk-weaker c.joined.result _ _
     (λ v e. runs_joined arc_value (g.G.Items.means c.args.crew.now.group.now) c.args.keys.now c.args.items.now c.split_at.result.0.now
     c.split_at.result.1.now _
@@ -45,8 +45,8 @@ halved-returns-in-Ok-rest-clause-values g t c =
 
 pub halved-returns-in-Err-rest-clause-fault : goal.halved-returns-in-Err-rest-clause-fault
 halved-returns-in-Err-rest-clause-fault g t c =
-    let a = rw c.in-Ok.is at c.join-first.ensures.first.0 in
-    let b = rw c.in-Err-rest.is at c.join-first.ensures.second.1 in
+    let a = rw c.in-Ok.is at c.join-rest.ensures.second.0 in
+    let b = rw c.in-Err-rest.is at c.join-rest.ensures.first.1 in
     second_failed (g.G.Items.means c.args.crew.now.group.now) (g.G.Items.failed c.args.crew.now.group.now) c.args.keys.now c.args.items.now
     c.split_at.result.0.now c.split_at.result.1.now _
     (map arc_value c.in-Ok.first.items) c.in-Err-rest.later c.split_at.ensures.front c.split_at.ensures.back a b

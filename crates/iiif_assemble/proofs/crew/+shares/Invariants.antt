@@ -12,7 +12,7 @@ abbrev pub decreases-helped : goal.decreases-helped
 decreases-helped g l = 4 * length l.items.now + 4
 
 abbrev pub decreases-halved-join+arg2 : goal.decreases-halved-join+arg2
-decreases-halved-join+arg2 g l = 4 * length l.mine.now + 5
+decreases-halved-join+arg2 g l = 4 * length l.theirs.now + 5
 
 abbrev pub decreases-halved-join+arg3 : goal.decreases-halved-join+arg3
-decreases-halved-join+arg3 g l = 4 * length l.theirs.now + 5
+decreases-halved-join+arg3 g l = 4 * length l.mine.now + 5

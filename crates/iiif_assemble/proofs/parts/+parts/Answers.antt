@@ -27,8 +27,8 @@ shared-returns-in_default-clause-values g t c =
 
 pub shared-returns-in-Ok-rest-clause-values : goal.shared-returns-in-Ok-rest-clause-values
 shared-returns-in-Ok-rest-clause-values g t c =
-    let a = rw c.in-Ok.is at c.join-first.ensures.first.0 in
-    let b = rw c.in-Ok-rest.is at c.join-first.ensures.second.0 in
+    let a = rw c.in-Ok.is at c.join-rest.ensures.second.0 in
+    let b = rw c.in-Ok-rest.is at c.join-rest.ensures.first.0 in
     IfOk-weaker c.joined-in-Ok-rest.result _ _
     (λ v e. both_values (g.G.Items.means c.args.crew.now.group.now) (length c.args.parts.now - 1) c.args.parts.now
     c.split_at-2.result.0.now c.split_at-2.result.1.now c.in-Ok.first.items c.in-Ok-rest.rest.items v.items
@@ -55,8 +55,8 @@ shared-returns-in_err-rest-clause-fault g t c =
 
 pub shared-returns-in-Err-rest-clause-fault : goal.shared-returns-in-Err-rest-clause-fault
 shared-returns-in-Err-rest-clause-fault g t c =
-    let a = rw c.in-Ok.is at c.join-first.ensures.first.0 in
-    let b = rw c.in-Err-rest.is at c.join-first.ensures.second.1 in
+    let a = rw c.in-Ok.is at c.join-rest.ensures.second.0 in
+    let b = rw c.in-Err-rest.is at c.join-rest.ensures.first.1 in
     back_failed (g.G.Items.means c.args.crew.now.group.now) (g.G.Items.failed c.args.crew.now.group.now) (length c.args.parts.now - 1)
     c.args.parts.now c.split_at-2.result.0.now c.split_at-2.result.1.now c.in-Ok.first.items c.in-Err-rest.later c.split_at-2.ensures.front
     c.split_at-2.ensures.back a b

@@ -20,7 +20,7 @@ abbrev pub decreases-helped : goal.decreases-helped
 decreases-helped g l = 16 * g.G.Items.rank l.crew.now.group.now l.key.now + 2
 
 abbrev pub decreases-shared-join+arg2 : goal.decreases-shared-join+arg2
-decreases-shared-join+arg2 g l = 16 * g.G.Items.rank l.crew.now.group.now l.key.now + 2 * length l.front.now + 4
+decreases-shared-join+arg2 g l = 16 * g.G.Items.rank l.crew.now.group.now l.key.now + 3
 
 abbrev pub decreases-shared-join+arg3 : goal.decreases-shared-join+arg3
-decreases-shared-join+arg3 g l = 16 * g.G.Items.rank l.crew.now.group.now l.key.now + 3
+decreases-shared-join+arg3 g l = 16 * g.G.Items.rank l.crew.now.group.now l.key.now + 2 * length l.front.now + 4
