@@ -4,12 +4,13 @@ use crate::manner::Manner;
 use crate::peers::PeerCalls;
 use crate::statistics::Statistics;
 use crate::viewers::Viewers;
+use crate::watcher::Watcher;
 use iiif_io::Outlet;
 use iiif_keys::{SumKey, System, TileKey};
 use iiif_listener::{Company, Visit};
 use iiif_open_files::Opens;
 use iiif_server::{Gate, Link, Node, SumCalls, TileCalls};
-use iiif_services::{Addresses, Listeners, logged, looking, serve_all};
+use iiif_services::{Addresses, Listeners, logged, serve_all};
 use iiif_start::{Stop, Stored};
 use std::alloc::Global;
 use std::io;
@@ -71,7 +72,7 @@ where
         peers,
         statistics,
     };
-    let work = || services.serve_beside_looks(listeners);
+    let work = || serve_all_of(&services, listeners);
     match &watcher.log {
         Some(log) => logged(rt, alloc, log, err, &work),
         None => work(),
@@ -124,15 +125,14 @@ where
         self.statistics.refused(self.rt);
     }
 
-    /// Serves all listeners, while a thread looks at the other nodes where there are any.
-    fn serve_beside_looks(&self, listeners: &Listeners) -> io::Result<()> {
-        let work = || serve_all_of(self, listeners);
-        let (rt, alloc, watcher) = (self.rt, self.alloc, self.viewers.watcher);
+    /// Who looks at the other nodes, where there are any.
+    fn lookout(&self) -> Option<&Watcher> {
+        let watcher = self.viewers.watcher;
         if watcher.neighbours.others.is_empty() {
-            return work();
+            None
+        } else {
+            Some(watcher)
         }
-        let look = || watcher.neighbours.look(rt, alloc, watcher.log.as_ref());
-        looking(rt, listeners, &look, &work)
     }
 }
 
@@ -162,6 +162,7 @@ where
     let serve = |visit: Visit<'_, R>| services.serve_viewer(visit);
     let refuse = || services.refuse_viewer();
     let (rt, alloc) = (services.rt, services.alloc);
+    let peers = (peers.0, peers.1, services.lookout());
     serve_all(rt, alloc, listeners, (&serve, &refuse), peers, readers)
 }
 

@@ -9,8 +9,10 @@ use iiif_log::{Answered, Log, Moment, Outcome};
 use iiif_metrics::Tally;
 use iiif_pixel::NoMemory;
 use iiif_server::{Cut, Sent, Watch};
+use iiif_services::Lookout;
 use iiif_start::Held;
 use std::alloc::Global;
+use std::net::{Net, TcpStream};
 use std::sync::Wait;
 use std::time::{Clock, Instant};
 
@@ -135,5 +137,15 @@ impl<R: Wait + Clock> Watch<R> for Watcher {
             let millis = millis_since(rt, begun);
             log.tell(rt, &answered(Moment::now(rt), millis, call, outcome));
         }
+    }
+}
+
+/// What becomes of the links is told to the log.
+impl<R> Lookout<R> for Watcher
+where
+    R: Net<Stream = TcpStream> + Clock + Wait,
+{
+    fn look(&self, rt: &R, alloc: Global) {
+        self.neighbours.look(rt, alloc, self.log.as_ref());
     }
 }

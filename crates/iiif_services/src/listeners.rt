@@ -1,5 +1,6 @@
 //! The addresses that are listened on, and what goes on beside them.
 
+use crate::lookout::Lookout;
 use iiif_io::Outlet;
 use iiif_listener::{Admission, Visit, serve_each, stop};
 use iiif_log::{Log, write_lines};
@@ -170,15 +171,31 @@ fn no_thread(listeners: &Listeners) -> io::Result<()> {
     Err(io::Error::from(ErrorKind::WouldBlock))
 }
 
+/// Has a lookout look every so often until the listeners are over.
+fn look_on<R, O>(rt: &R, alloc: Global, listeners: &Listeners, lookout: &O)
+where
+    R: Wait + Clock,
+    O: Lookout<R>,
+{
+    for _ in rt.forever() {
+        if listeners.is_over(rt) {
+            return;
+        }
+        lookout.look(rt, alloc);
+        thread::sleep(rt, Duration::from_millis(BETWEEN_LOOKS));
+    }
+}
+
 /// Serves viewers, other nodes and who asks for the statistics by two functions each, where they have listeners, until a listener ends,
 /// which then stops the others; and answers once all connections have ended. Where a thread is wanting for one of the listeners, it
-/// ends at once. The second function of each is told of the connections of that listener that were closed unanswered.
-pub fn serve_all<R, F, G, H, K, L, M>(
+/// ends at once. The second function of each is told of the connections of that listener that were closed unanswered. The lookout has a
+/// thread of its own meanwhile; where none can be started, nobody looks.
+pub fn serve_all<R, F, G, H, K, L, M, O>(
     rt: &R,
     alloc: Global,
     listeners: &Listeners,
     viewers: (&F, &K),
-    peers: (&G, &L),
+    peers: (&G, &L, Option<&O>),
     readers: (&H, &M),
 ) -> io::Result<()>
 where
@@ -189,6 +206,7 @@ where
     K: Fn() + Sync,
     L: Fn() + Sync,
     M: Fn() + Sync,
+    O: Lookout<R> + Sync,
     requires viewer { F.IsAlwaysCallable viewers.0.now }
     requires refused_viewer { K.IsAlwaysCallable viewers.1.now }
     requires peer { G.IsAlwaysCallable peers.0.now }
@@ -196,23 +214,21 @@ where
     requires reader { H.IsAlwaysCallable readers.0.now }
     requires refused_reader { M.IsAlwaysCallable readers.1.now }
 {
-    let (serve_peer, refused_peer) = peers;
-    let (serve_reader, refused_reader) = readers;
+    let served = (peers.0, peers.1);
     let (all, nodes) = listeners.admissions();
     thread::scope(
         thread::scope_env(),
         rt,
         |scope|
-            requires { F.IsAlwaysCallable viewers.0.now × K.IsAlwaysCallable viewers.1.now × G.IsAlwaysCallable serve_peer.now ×
-                L.IsAlwaysCallable refused_peer.now × H.IsAlwaysCallable serve_reader.now × M.IsAlwaysCallable refused_reader.now }
+            requires { F.IsAlwaysCallable viewers.0.now × K.IsAlwaysCallable viewers.1.now × G.IsAlwaysCallable served.0.now ×
+                L.IsAlwaysCallable served.1.now × H.IsAlwaysCallable readers.0.now × M.IsAlwaysCallable readers.1.now }
         {
             if let Some(listener) = &listeners.peers {
                 let started = scope.spawn(
                     move ||
-                        requires { G.IsAlwaysCallable serve_peer.now × L.IsAlwaysCallable refused_peer.now }
+                        requires { G.IsAlwaysCallable served.0.now × L.IsAlwaysCallable served.1.now }
                     {
-                        let both = (serve_peer, refused_peer);
-                        let _ = serve_beside(rt, alloc, both, listener, nodes, listeners);
+                        let _ = serve_beside(rt, alloc, served, listener, nodes, listeners);
                     },
                 );
                 if started.is_err() {
@@ -222,15 +238,17 @@ where
             if let Some(listener) = &listeners.statistics {
                 let started = scope.spawn(
                     move ||
-                        requires { H.IsAlwaysCallable serve_reader.now × M.IsAlwaysCallable refused_reader.now }
+                        requires { H.IsAlwaysCallable readers.0.now × M.IsAlwaysCallable readers.1.now }
                     {
-                        let both = (serve_reader, refused_reader);
-                        let _ = serve_beside(rt, alloc, both, listener, all, listeners);
+                        let _ = serve_beside(rt, alloc, readers, listener, all, listeners);
                     },
                 );
                 if started.is_err() {
                     return no_thread(listeners);
                 }
+            }
+            if let Some(lookout) = peers.2 {
+                let _ = scope.spawn(move || look_on(rt, alloc, listeners, lookout));
             }
             serve_beside(rt, alloc, viewers, &listeners.viewers, all, listeners)
         },
@@ -254,51 +272,6 @@ where
         {
             let ended = work();
             log.close(rt);
-            ended
-        },
-    );
-    ended
-}
-
-/// Looks every so often until the listeners are over.
-fn look_on<R, L>(rt: &R, listeners: &Listeners, look: &L)
-where
-    R: Wait + Clock,
-    L: Fn(),
-    requires { L.IsAlwaysCallable look.now }
-{
-    for _ in rt.forever() {
-        if listeners.is_over(rt) {
-            return;
-        }
-        look();
-        thread::sleep(rt, Duration::from_millis(BETWEEN_LOOKS));
-    }
-}
-
-/// Does some work, which ends where the listeners do, while a thread of its own looks every so often. Where no thread can be started, the
-/// work is done without.
-pub fn looking<R, L, W>(rt: &R, listeners: &Listeners, look: &L, work: &W) -> io::Result<()>
-where
-    R: Threads + Wait + Clock + Sync,
-    L: Fn() + Sync,
-    W: Fn() -> io::Result<()>,
-    requires look { L.IsAlwaysCallable look.now }
-    requires work { W.IsAlwaysCallable work.now }
-{
-    let (_, ended) = thread::join(
-        rt,
-        ||
-            requires { L.IsAlwaysCallable look.now }
-        {
-            look_on(rt, listeners, look);
-        },
-        ||
-            requires { W.IsAlwaysCallable work.now }
-        {
-            let ended = work();
-            // However it ended, nothing more is looked at.
-            listeners.end(rt);
             ended
         },
     );
