@@ -95,21 +95,24 @@ def hang(node):
     node.send_signal(signal.SIGSTOP)
 
 
-def overviews(program, room, act, options, count=9):
-    """Seconds of an overview at one of two nodes, at once after that became of the other, and of the one in the middle of so many later."""
+def first_overview(program, room, act, wait, options):
+    """Seconds of the first overview at one of two nodes, so long after that became of the other."""
     with Cluster(program, room, ["a", "b"], ["--cache-bytes", 0, *options]) as nodes:
         # Until each has seen the other.
         time.sleep(1)
         act(nodes["b"])
-        first = overview(nodes["a"])
-        time.sleep(1.5)
-        return first, sorted(overview(nodes["a"]) for _ in range(count))[count // 2]
+        time.sleep(wait)
+        return overview(nodes["a"])
 
 
 def silent_beside_dead(program, room, options=()):
-    """Seconds of an overview at one of two nodes once the other hung for a second, once it is dead, and at the moment when it hangs."""
-    (first, hangs), (_, dead) = (overviews(program, room, act, options) for act in (hang, Server.stop))
-    return hangs, dead, first
+    """Seconds of the first overview at one of two nodes once the other hung for a second, which only looks can have found by then; once it
+    is dead; and at the moment when it hangs. The first two are the medians of three each."""
+
+    def middle(act):
+        return sorted(first_overview(program, room, act, 1, options) for _ in range(3))[1]
+
+    return middle(hang), middle(Server.stop), first_overview(program, room, hang, 0, options)
 
 
 def page(port, target):
