@@ -364,7 +364,11 @@ def table(title, jobs, medians, cell):
 
 
 def version(command):
-    text = subprocess.run(command, capture_output=True, text=True).stdout.strip()
+    """The first line that a program says of itself, or that it isn't there."""
+    try:
+        text = subprocess.run(command, capture_output=True, text=True).stdout.strip()
+    except FileNotFoundError:
+        return f"no {command[0]}"
     return text.split("\n")[0]
 
 

@@ -1,6 +1,6 @@
 """All figures of docs/PERFORMANCE.md in one run, before and after.
 
-    /usr/bin/python3 bench/compare/figures.py --before /work/before [--rounds 7] [--jobs ..] > figures.md
+    /usr/bin/python3 bench/compare/figures.py --before FOLDER [--rounds 7] [--jobs ..] > figures.md
 
 The benchmarks are built first, by `tools/build` (--benches tells where), and iiif_serve by `rt run`. --before is the top of another checkout
 with the programs of both in crates/NAME/out; a benchmark that isn't built before has no column of it. The plain programs are built by `rustc
