@@ -1,5 +1,5 @@
--- The quarters of a block as parts of it.
-use Rattle.std.proofs.Common.{◌≡◌, ◌∙◌, ℕ, Bool, ◌<◌, List, All, Some, IsTrue, sym, subst, arith}
+-- The quarters of a block as parts of it, and what is told of an outcome.
+use Rattle.std.proofs.Common.{◌≡◌, ◌∙◌, ℕ, Bool, ◌<◌, List, All, Some, IsTrue, Result, Ok, Err, IfOk, IfErr, sym, subst, refl, arith}
 use Rattle.iiif_source.specs.declared.ReadFault.{ReadFault}
 use Rattle.iiif_pixel.specs.Geometry.{channels_of}
 use Rattle.iiif_keys.specs.Laws.{IsBelow, PartsAreBelow, PartsFit}
@@ -30,3 +30,12 @@ quarters_are_parts below fit shows edge gave k above names = λ i d within.
       lower = omega (arith, is.level);
       fails = λ f given. subst (λ (n : List ℕ). IsTrue (is_given (gave n) f)) is.name given;
     }
+
+-- what holds of each value, or fault, that an outcome may be holds of it
+pub value_told : {V E : Type 0} (o : Result V E) (P : V → Type 0) → ((v : V) → o ≡ Ok v → P v) → IfOk o P
+value_told (Ok v) P holds = holds v refl
+value_told (Err f) P holds = tt
+
+pub fault_told : {V E : Type 0} (o : Result V E) (P : E → Type 0) → ((f : E) → o ≡ Err f → P f) → IfErr o P
+fault_told (Ok v) P holds = tt
+fault_told (Err f) P holds = holds f refl

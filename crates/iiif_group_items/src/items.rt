@@ -173,7 +173,13 @@ impl<
         ensures same { IfErr values (λ f. result ≡ Err f) }
     {
         drop(parts);
-        self.0.finish(rt, load, key, values)
+        match values {
+            Ok(values) => taken(self.0.finish(rt, load, key, Ok(values)).receipt, key),
+            Err(fault) => {
+                drop(self.0.finish(rt, load, key, Err(fault)));
+                Err(fault)
+            }
+        }
     }
 
     fn is_at_hand(&self, rt: &R, key: &SumKey) -> bool {

@@ -16,6 +16,8 @@ use Rattle.iiif_outcome.specs.Outcomes.{is_given}
 use Rattle.iiif_singleflight.specs.Views.{receipt_known}
 use Rattle.iiif_singleflight.specs.declared.receipt.Receipt.{Receipt}
 use Rattle.iiif_group.specs.Beginning.{OutcomeIs}
+use Rattle.iiif_group.specs.Ending.{IsExact, TellsFault}
+use Rattle.iiif_group.specs.declared.begun.Completed.{Completed}
 use Rattle.iiif_images.specs.Faults.{IsGetFault}
 use Rattle.iiif_sum_group.specs.Values.{MayBeSums}
 
@@ -59,3 +61,13 @@ module _ {J : Type 0} (node : system.Ghosts J) (key : SumKey) {A : Type 0} (valu
     pub shaped : ForOk result (λ v. IsTrue (sum_is_shaped node.pictures key (arc_value v)))
     pub given : ForErr result (λ f. IsTrue (is_given (node.gave key.name) f))
     pub same : IfErr values (λ f. result ≡ Err f)
+
+module _ {J L : Type 0} {a b c : _} {d : system.Ghosts J} where
+  -- A load of the key has ended with what the values of its quarters come to, which is what all that wait are told; a fault as it is.
+  pub record TellsAll {A : Type 0} (key : SumKey) (values : Result (Vec (Arc SumVal Global) A) Fault)
+      (end : Completed SumKey J L SumVal a b c d) : Type 0 where
+    pub known : KnowsSums key end.receipt
+    pub outcome : Result (Arc SumVal Global) Fault
+    pub comes : Finishes d key values outcome
+    pub exact : IsExact outcome end
+    pub fault : TellsFault outcome end

@@ -4,13 +4,13 @@ ghost use Rattle.std.specs.Prelude.{◌≡◌, ◌<◌};
 ghost use Rattle.iiif_keys.specs.Meaning.{sums_below};
 ghost use Rattle.iiif_group.specs.Beginning.{open_key};
 ghost use Rattle.iiif_sum_group.specs.Calls.{Begins};
-ghost use Rattle.iiif_sum_group.specs.Outcomes.{AreOfQuarters, EndsWith, Finishes, Quarters};
+ghost use Rattle.iiif_sum_group.specs.Outcomes.{AreOfQuarters, EndsWith, Quarters, TellsAll};
 ghost use Rattle.iiif_sum_group.specs.Values.{MayBeSums};
 
 use crate::groups::Groups;
 use crate::making::whole;
 use crate::passes::{Passes, SumCalls};
-use iiif_group::{Begun, Gate, Link, Open, taken};
+use iiif_group::{Begun, Completed, Gate, Link, Open};
 use iiif_keys::laws::{fitting_keys_have_parts, parts_are_exact};
 use iiif_keys::{CacheKey, Fault, Parts, SumKey, SumVal, System, TileKey, parts};
 use iiif_source::Source;
@@ -71,7 +71,7 @@ impl<
         whole::<J>(self.alloc, &shape, key, values)
     }
 
-    /// Ends what was begun with a key above level 0, with the values of its quarters or why there are none: what all that wait learn. Why
+    /// Ends what was begun with a key above level 0, with the values of its quarters or why there are none, and tells all that wait. Why
     /// there are none is why the key has none.
     pub fn finish(
         &self,
@@ -79,17 +79,14 @@ impl<
         load: Open<SumKey, J, SumCalls<J>>,
         key: &SumKey,
         values: Result<Vec<Arc<SumVal>>, Fault>,
-    ) -> Result<Arc<SumVal>, Fault>
+    ) -> Completed<SumKey, J, SumCalls<J>>
         requires key { open_key load ≡ key.now }
         requires values { AreOfQuarters J.System key.now values }
-        ensures { Finishes J.System key.now values result }
+        ensures { TellsAll key.now values result }
     {
         match values {
-            Ok(values) => taken(self.end(rt, load, key, self.merged(key, values)), key),
-            Err(fault) => {
-                drop(self.end(rt, load, key, Err(fault)));
-                Err(fault)
-            }
+            Ok(values) => self.sums.complete(rt, load, key, self.merged(key, values)),
+            Err(fault) => self.sums.complete(rt, load, key, Err(fault)),
         }
     }
 }
