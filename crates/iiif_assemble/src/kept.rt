@@ -208,10 +208,10 @@ fn asked<T, S: Items<SumKey, SumVal, P, R> + Sync, P: Send, R: Threads + Wait + 
 const MOST: usize = 64;
 
 /// Sees to it that the sums of a band's blocks are kept, where the job's plan is of blocks: those that are kept already, and the others,
-/// for which a worker for each pass asks. What is kept of bands that are gone is dropped before. So each block of a job is asked for once,
-/// also where it has places of several bands, however little a cache keeps.
+/// for which a worker for each pass asks, once what is kept of bands that are gone is dropped. So where no band has more than 64 blocks,
+/// each block of a job is asked for once, also where it has places of several bands, however little a cache keeps.
 ///
-/// Where a band has more than 64 blocks, only those of them stay that were kept: the others are asked for once it is made.
+/// Of a band of more blocks only those stay that were kept: the others are asked for once it is made.
 ///
 /// # Errors
 ///
