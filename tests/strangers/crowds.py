@@ -107,6 +107,8 @@ def held_by_drips(server):
 
 def cut_after(server):
     """How long an answer lasts that is taken at 230 bytes a second: until its connection is reset or its thread is gone."""
+    # Until the connection by which the server was found has ended.
+    time.sleep(0.5)
     before = server.threads()
     begun = time.monotonic()
     with connected(server.port, 30, 2048) as link:

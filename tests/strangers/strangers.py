@@ -90,7 +90,7 @@ def drips(program, room):
 def slow_reader(program, room):
     with Server(program, [f"big={room}/big.tif"], ["--max", 8192]) as server:
         took = crowds.cut_after(server)
-    return f"cut after {took:.0f} s", "90 s", took <= 90
+    return f"cut after {took:.0f} s", "30 to 90 s", 30 <= took <= 90
 
 
 def steady_reader(program, room):
