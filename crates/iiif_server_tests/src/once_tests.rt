@@ -3,7 +3,7 @@
 use crate::answer_tests::FAULT;
 use crate::band_tests::MEAN;
 use crate::cases::{Ask, Case, HALF, NODE, ONE, Setup, Text, WHOLE, Want};
-use crate::files::{HALVED_FILE, SAMPLE_FILE};
+use crate::files::{BROAD, HALVED_FILE, SAMPLE_FILE};
 use crate::nodes::are_right;
 use std::sync::Wait;
 use std::thread::Threads;
@@ -45,6 +45,21 @@ const ONE_REFUSED: &[Case<'static>] = &[
     EACH_LOADED_ONCE,
 ];
 
+/// How many tiles the broad picture has at an edge of 1.
+const BROAD_TILES: u64 = 256;
+
+const BROAD_REFUSED: &[Case<'static>] = &[
+    (Ask::Body(ONE), FAULT),
+    MEAN,
+    (
+        Ask::Reads,
+        Want::Booked(BROAD_TILES + 1, BROAD_TILES + 1, 0),
+    ),
+];
+
+/// At one place the broad picture is a block of level 4, whose parts are shared out among the workers.
+static SHARED_ONCE: Once = ("parts of one block", 64, 1, BROAD_TILES, BROAD_REFUSED);
+
 /// A name, the rows of a band, the first and the last of the reads that fail, one of them each time, and what comes then.
 type Once = (&'static str, u32, u64, u64, &'static [Case<'static>]);
 
@@ -59,15 +74,17 @@ static ONCE: [Once; 6] = [
     ("whole, in a band", 64, 1, TILES, SAMPLE_REFUSED),
 ];
 
-/// The first read whose failing doesn't end a body in this way, by so many workers. None where there is none.
+/// The first read of a file whose failing doesn't end a body in this way, by so many workers. None where there is none.
 fn other_end<R: Threads + Wait + Clock + Sync + AllocGlobal>(
     rt: &R,
+    file: &'static [u8],
     once: &Once,
     workers: u32,
 ) -> Option<u64> {
     let (_, rows, first, last, cases) = *once;
     for k in first..=last {
         let setup = Setup {
+            file,
             edge: 1,
             rows,
             workers,
@@ -86,8 +103,16 @@ fn other_end<R: Threads + Wait + Clock + Sync + AllocGlobal>(
 fn a_read_that_fails_once_is_told_and_not_tried_again(rt: HostRuntime) {
     for once in &ONCE {
         for workers in [1, 2, 4] {
-            let other = other_end(&rt, once, workers);
+            let other = other_end(&rt, NODE.file, once, workers);
             assert!(rt; other.is_none(), "{}, by {workers}: {other:?}", once.0);
         }
+    }
+}
+
+#[test]
+fn a_read_that_fails_once_is_told_where_parts_are_shared_out(rt: HostRuntime) {
+    for workers in [1, 2, 4] {
+        let other = other_end(&rt, &BROAD, &SHARED_ONCE, workers);
+        assert!(rt; other.is_none(), "by {workers}: {other:?}");
     }
 }
