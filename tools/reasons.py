@@ -33,8 +33,10 @@ GOALS = [
     (r"-(init|preserved|smaller)(-\d+)?(-clause-\w+)?$", "an invariant of a loop"),
     (r"^invariant_of", "an invariant of a type"),
 ]
-# A closed value: a number, a truth value, a constructor with nothing in it. The line may end before the other one.
-VALUES = re.compile(r"differ only where one has `(?:\d+|true|false|[A-Z]\w*|\[\]|\(\))`")
+# A closed value: a number, a truth value, a constructor with nothing in it. The line may end before the other one, or is of two that were
+# computed as a whole.
+VALUE = r"(?:\d+|true|false|[A-Z]\w*|\[\]|\(\))"
+VALUES = re.compile(rf"differ only where one has `{VALUE}`|expected type `◌≡◌ {{A = [^`{{}}]*}} {VALUE} {VALUE}`")
 
 
 def unfit(reason):

@@ -1,5 +1,6 @@
 pub mod CacheLaws
 pub mod Caches
+pub mod Examples
 pub mod FlightLaws
 pub mod Keeping
 pub mod Lists
