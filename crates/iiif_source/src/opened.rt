@@ -27,7 +27,7 @@ fn not_plain() -> Error {
 }
 
 /// Opens what is looked at first, and is a plain file.
-fn handle_of<R: Opens>(rt: &R, path: &str) -> io::Result<R::Handle>
+fn open_handle<R: Opens>(rt: &R, path: &str) -> io::Result<R::Handle>
     ensures { IfOk result (λ file. IsTrue (R.is_of file path.now)) }
 {
     let found = rt.look(path)?;
@@ -45,7 +45,7 @@ impl<R: Opens> OpenFile<R> {
         ensures path { IfOk result (λ f. f.path ≡ path) }
         ensures plain { IfOk result (λ f. Says R.tells f.handle (λ found. IsFile (file_type found))) }
     {
-        let handle = handle_of(rt, path.as_str())?;
+        let handle = open_handle(rt, path.as_str())?;
         let told = rt.metadata(path.as_str(), &handle)?;
         if !told.is_file() {
             return Err(not_plain());
