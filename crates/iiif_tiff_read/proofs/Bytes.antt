@@ -9,7 +9,7 @@ use Rattle.std.proofs.lemmas.List.FromFn.{map-range_with_len_more}
 use Rattle.iiif_tiff.specs.Tiff.{Order, Little, Big, number}
 use Rattle.iiif_tiff.specs.Tiff as tiff
 use Rattle.iiif_tiff_read.specs.declared.number.ByteOrder.{ByteOrder}
-use Rattle.iiif_tiff_read.specs.declared.fields.Entry.{Entry}
+use Rattle.iiif_tiff_read.specs.declared.fields.FieldEntry.{FieldEntry}
 use Rattle.std.specs.Prelude.{option_map, find, ◌==◌}
 use Rattle.iiif_tiff_read.specs.Code.{entry_view, entry_views, Reads}
 
@@ -39,7 +39,7 @@ long_in Big bytes at n i le = rw (
 ) refl
 
 -- one more entry
-pub one_more : (bytes : List ℕ) (start i : ℕ) (es : List Entry) (e : Entry) →
+pub one_more : (bytes : List ℕ) (start i : ℕ) (es : List FieldEntry) (e : FieldEntry) →
     entry_views es ≡ map (λ k. tiff.entry bytes (start + 12 * k)) (range_with_len 0 i)
     → entry_view e ≡ tiff.entry bytes (start + 12 * i) →
     entry_views (es ++ e ∷ []) ≡ map (λ k. tiff.entry bytes (start + 12 * k)) (range_with_len 0 (i + 1))
@@ -85,7 +85,7 @@ inside_of file bytes b start count i p =
     ap (take (12 * count - (12 * i + 8))) (drop-drop (12 * i + 8) start file ∙ ap (λ (m : ℕ). drop m file) same) in
     ap (take 4) behind ∙ take-take 4 (12 * count - (12 * i + 8)) (drop (start + 12 * i + 8) file) (omega (arith, p.below))
 
-pub is_entry : (e : Entry) (o : Order) (file bytes b : List ℕ) (start count i : ℕ) →
+pub is_entry : (e : FieldEntry) (o : Order) (file bytes b : List ℕ) (start count i : ℕ) →
     b ≡ take (length bytes - 12 * i) (drop (12 * i) bytes) → bytes ≡ take (12 * count) (drop start file) → i < count → o ≡ tiff.order file
     → e.tag ≡ number o w16 b 0 → e.kind ≡ number o w16 b 2 → e.count ≡ number o w32 b 4 → e.inside ≡ take 4 (drop 8 b) →
     entry_view e ≡ tiff.entry file (start + 12 * i)
@@ -112,18 +112,18 @@ all_there o bytes start count o-is s count-is first second =
     (rw (a, b) refl, n)
 
 -- the entries are those of the directory
-pub all_entries : (bytes : List ℕ) (start count : ℕ) (es : List Entry) → start ≡ tiff.directory bytes → count ≡ tiff.entry_count bytes →
+pub all_entries : (bytes : List ℕ) (start count : ℕ) (es : List FieldEntry) → start ≡ tiff.directory bytes → count ≡ tiff.entry_count bytes →
     entry_views es ≡ map (λ k. tiff.entry bytes (start + 2 + 12 * k)) (range_with_len 0 count) → entry_views es ≡ tiff.entries bytes
 unfolding tiff.entries
 all_entries bytes start count es s n views = views ∙ rw (s, n) refl
 
-find_view : (tag : ℕ) (es : List Entry) → option_map entry_view (find (λ e. e.tag == tag) es) ≡ find (λ e. e.tag == tag) (entry_views es)
+find_view : (tag : ℕ) (es : List FieldEntry) → option_map entry_view (find (λ e. e.tag == tag) es) ≡ find (λ e. e.tag == tag) (entry_views es)
 find_view tag [] = refl
 find_view tag (e ∷ es) = elim (e.tag == tag) as
     (λ b. option_map entry_view (cond b (Some e) (find (λ x. x.tag == tag) es)) ≡ cond b (Some (entry_view e))
     (find (λ x. x.tag == tag) (entry_views es))) [ true ↦ refl | false ↦ find_view tag es ]
 
-pub first_view : (bytes : List ℕ) (o : ByteOrder) (es : List Entry) (tag : ℕ) (r : Option Entry) → Reads bytes o es →
+pub first_view : (bytes : List ℕ) (o : ByteOrder) (es : List FieldEntry) (tag : ℕ) (r : Option FieldEntry) → Reads bytes o es →
     r ≡ find (λ e. e.tag == tag) es → option_map entry_view r ≡ tiff.entry_of bytes tag
 unfolding tiff.entry_of
 first_view bytes o es tag r reads r-is = rw (r-is, ← reads.entries_are) (find_view tag es)

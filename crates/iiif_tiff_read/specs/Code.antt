@@ -15,7 +15,7 @@ use Rattle.iiif_tiff_read.specs.declared.number.ByteOrder.{ByteOrder}
 use Rattle.iiif_tiff_read.specs.declared.number.ByteOrder.TheVariants as orders
 use Rattle.iiif_tiff_read.specs.declared.number.FieldType.{FieldType}
 use Rattle.iiif_tiff_read.specs.declared.number.FieldType.TheVariants as types
-use Rattle.iiif_tiff_read.specs.declared.fields.Entry.{Entry}
+use Rattle.iiif_tiff_read.specs.declared.fields.FieldEntry.{FieldEntry}
 use Rattle.iiif_tiff_read.specs.declared.fields.Fields.{Fields}
 use Rattle.iiif_tiff_read.specs.declared.grid.Grid.{Grid}
 use Rattle.iiif_tiff_read.specs.declared.checks.Format.{Format}
@@ -36,10 +36,10 @@ code types.Byte = 1
 code types.Short = 3
 code types.Long = 4
 
-abbrev pub entry_view : Entry → tiff.Entry
+abbrev pub entry_view : FieldEntry → tiff.Entry
 entry_view e = record { tag = e.tag; kind = e.kind; count = e.count; inside = e.inside }
 
-abbrev pub entry_views : List Entry → List tiff.Entry
+abbrev pub entry_views : List FieldEntry → List tiff.Entry
 entry_views es = map entry_view es
 
 -- the first n values of the field with a tag
@@ -47,7 +47,7 @@ unfoldable pub first_values : List ℕ → ℕ → ℕ → List ℕ
 first_values bytes tag n = map (λ i. tiff.value_or bytes tag i 0) (range_with_len 0 n)
 
 -- The byte order and the entries are those of the bytes.
-pub record Reads (bytes : List ℕ) (o : ByteOrder) (es : List Entry) : Type 0 where
+pub record Reads (bytes : List ℕ) (o : ByteOrder) (es : List FieldEntry) : Type 0 where
   pub order_is : endian o ≡ tiff.order bytes
   pub entries_are : entry_views es ≡ tiff.entries bytes
 

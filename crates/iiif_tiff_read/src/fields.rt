@@ -18,23 +18,23 @@ use std::alloc::{AllocError, Global};
 
 /// An entry of the directory: its values stand in its last four bytes, or at the offset that stands there.
 #[derive(Clone, Copy)]
-pub struct Entry {
+pub struct FieldEntry {
     pub tag: u16,
     pub kind: u16,
     pub count: u32,
     pub inside: [u8; 4],
 }
 
-impl Entry {
+impl FieldEntry {
     /// The entry at the front of the bytes.
-    fn decode(order: ByteOrder, bytes: &[u8]) -> Entry
+    fn decode(order: ByteOrder, bytes: &[u8]) -> FieldEntry
         requires { 12 ≤ length bytes.now }
         ensures tag { result.tag ≡ number (endian order) w16 bytes.now 0 }
         ensures kind { result.kind ≡ number (endian order) w16 bytes.now 2 }
         ensures count { result.count ≡ number (endian order) w32 bytes.now 4 }
         ensures inside { result.inside ≡ take 4 (drop 8 bytes.now) }
     {
-        Entry {
+        FieldEntry {
             tag: order.short([bytes[0], bytes[1]]),
             kind: order.short([bytes[2], bytes[3]]),
             count: order.long([bytes[4], bytes[5], bytes[6], bytes[7]]),
@@ -112,7 +112,7 @@ fn decode_entries(
     order: ByteOrder,
     bytes: &[u8],
     count: u16,
-) -> Result<Vec<Entry>, AllocError>
+) -> Result<Vec<FieldEntry>, AllocError>
     requires { length bytes.now ≡ 12 * count }
     ensures { IfOk result (λ v. (file : List ℕ) (start : ℕ) → endian order ≡ tiff.order file →
         bytes.now ≡ take (12 * count) (drop start file)
@@ -120,7 +120,7 @@ fn decode_entries(
 {
     let mut entries = Vec::with_capacity(alloc, count as usize)?;
     for i in 0..count {
-        entries.push(Entry::decode(order, &bytes[12 * i as usize..]))?;
+        entries.push(FieldEntry::decode(order, &bytes[12 * i as usize..]))?;
     }
     Ok(entries)
 }
@@ -153,7 +153,7 @@ fn read_directory<R, S: Source<R>>(
     alloc: Global,
     source: &S,
     header: Header,
-) -> Result<Vec<Entry>, OpenFault>
+) -> Result<Vec<FieldEntry>, OpenFault>
     ensures entries { Answers (S.keeps source.now × (endian header.order ≡ tiff.order (S.bytes source.now)) ×
         (header.directory ≡ tiff.directory (S.bytes source.now))) (S.gave source.now) (directory_fits (S.bytes source.now))
         (λ v. entry_views v.items ≡ entries (S.bytes source.now)) result }
@@ -166,7 +166,7 @@ fn read_directory<R, S: Source<R>>(
     Ok(decode_entries(alloc, header.order, &bytes, count)?)
 }
 
-fn first_with(entries: &[Entry], tag: u16) -> Option<Entry>
+fn first_with(entries: &[FieldEntry], tag: u16) -> Option<FieldEntry>
     ensures { result ≡ find (λ e. e.tag == tag) entries.now }
 {
     entries.iter().copied().find(|entry| entry.tag == tag)
@@ -178,7 +178,7 @@ pub struct Fields<'a, R, S> {
     rt: &'a R,
     source: &'a S,
     order: ByteOrder,
-    entries: Vec<Entry>,
+    entries: Vec<FieldEntry>,
 }
 
 impl<'a, R, S: Source<R>> Fields<'a, R, S> {
@@ -215,7 +215,7 @@ impl<'a, R, S: Source<R>> Fields<'a, R, S> {
     }
 
     /// The first entry with a tag.
-    fn find(&self, tag: u16) -> Option<Entry>
+    fn find(&self, tag: u16) -> Option<FieldEntry>
         ensures { AreTrue S.bytes self.now → option_map entry_view result ≡ entry_of (S.bytes self.now.source.now) tag }
     {
         first_with(&self.entries, tag)
@@ -223,7 +223,7 @@ impl<'a, R, S: Source<R>> Fields<'a, R, S> {
 
     /// The only value of an entry with a tag.
     #[tactic(auto, unfolding(iiif_tiff::specs::Tiff::entry_fits, iiif_tiff::specs::Tiff::value))]
-    fn only_value(&self, tag: u16, entry: Entry) -> Result<u32, OpenFault>
+    fn only_value(&self, tag: u16, entry: FieldEntry) -> Result<u32, OpenFault>
         ensures answer { Tells S.bytes S.gave self.now (λ file. entry_fits file tag (one entry.count) (entry_view entry))
             (λ file v. v ≡ value file (entry_view entry) 0) result }
         ensures memory { IfErr result IsNotMemory }
@@ -264,7 +264,7 @@ impl<'a, R, S: Source<R>> Fields<'a, R, S> {
         &self,
         alloc: Global,
         tag: u16,
-        entry: Entry,
+        entry: FieldEntry,
         allowed: bool,
         n: u32,
     ) -> Result<Vec<u32>, OpenFault>
@@ -300,7 +300,7 @@ impl<'a, R, S: Source<R>> Fields<'a, R, S> {
 
     /// All values of an entry with a tag, where its count is allowed.
     #[tactic(auto, unfolding(iiif_tiff::specs::Tiff::entry_fits))]
-    fn few_values(&self, tag: u16, entry: Entry, allowed: bool) -> Result<Few, OpenFault>
+    fn few_values(&self, tag: u16, entry: FieldEntry, allowed: bool) -> Result<Few, OpenFault>
         requires { IsTrue allowed → entry.count ≤ 3 }
         ensures values { TellsWhere S.bytes S.gave self.now (λ _. S.keeps self.now.source.now)
             (λ file. entry_fits file tag allowed (entry_view entry))
