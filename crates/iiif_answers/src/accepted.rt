@@ -7,7 +7,7 @@ ghost use Rattle.iiif_answers.specs.Outcomes.{Accepts, IsReady};
 ghost use Rattle.iiif_answers.specs.Settings.{AreLegal};
 
 use iiif_canonical::{Limits, Resolved, canonical, resolve};
-use iiif_images::Entry;
+use iiif_images::ImageEntry;
 use iiif_request::{Refusal, Request, Words, parse};
 use iiif_source::Source;
 use iiif_tiff::shows_one_picture;
@@ -25,7 +25,7 @@ pub struct Accepted {
 
 /// What the words of a request come to for an image, of which nothing is loaded.
 pub(crate) fn accept<R, S: Source<R>>(
-    entry: &Entry<R, S>,
+    entry: &ImageEntry<R, S>,
     limits: &Limits,
     words: &Words,
 ) -> Result<Accepted, Refusal>

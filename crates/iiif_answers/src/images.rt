@@ -26,7 +26,7 @@ use http::StatusCode;
 use iiif_assemble::Job;
 use iiif_canonical::uri;
 use iiif_http_front::Field;
-use iiif_images::Entry;
+use iiif_images::ImageEntry;
 use iiif_pixel::{Dim, NoMemory, Turn};
 use iiif_request::Request;
 use iiif_source::Source;
@@ -112,7 +112,7 @@ pub fn head_message<R, S: Source<R>>(
     alloc: Global,
     close: bool,
     config: &Config,
-    entry: &Entry<R, S>,
+    entry: &ImageEntry<R, S>,
     accepted: &Accepted,
 ) -> Result<Message, NoMemory>
     requires ready { IsReady entry.now.layout accepted.now }
@@ -132,7 +132,7 @@ pub fn head_message<R, S: Source<R>>(
 pub fn job_of<R, S: Source<R>>(
     alloc: Global,
     edge: u32,
-    entry: &Entry<R, S>,
+    entry: &ImageEntry<R, S>,
     accepted: &Accepted,
 ) -> Result<Job, NoMemory>
     requires edge { IsEdge edge }
@@ -150,7 +150,7 @@ pub fn job_of<R, S: Source<R>>(
 }
 
 /// Computes nothing: its contract says that the picture which the bytes of an image show is the one of its name, where they are kept.
-pub fn picture_is_shown<R, S: Source<R>>(entry: &Entry<R, S>)
+pub fn picture_is_shown<R, S: Source<R>>(entry: &ImageEntry<R, S>)
     ensures { (p : Picture) → S.keeps entry.now.source → IsPictureOf S.bytes S.keeps (item_of entry.now) p →
         picture_in S.bytes (item_of entry.now) ≡ p }
 {

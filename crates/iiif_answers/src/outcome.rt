@@ -10,7 +10,7 @@ ghost use Rattle.iiif_images.specs.Items.{item_of};
 
 use crate::accepted::{Accepted, accept};
 use crate::config::Config;
-use iiif_images::{Catalogue, Entry};
+use iiif_images::{Catalogue, ImageEntry};
 use iiif_pixel::Dim;
 use iiif_request::{Refusal, SplitFault, Target, split};
 use iiif_source::Source;
@@ -22,9 +22,9 @@ use std::alloc::Global;
 #[derive(Drop)]
 pub enum Outcome<'a, R, S: Source<R>> {
     Refused(Refusal),
-    Redirect(&'a Entry<R, S>),
-    Information(&'a Entry<R, S>, Dim),
-    Image(&'a Entry<R, S>, Accepted),
+    Redirect(&'a ImageEntry<R, S>),
+    Information(&'a ImageEntry<R, S>, Dim),
+    Image(&'a ImageEntry<R, S>, Accepted),
     NoMemory,
 }
 
@@ -40,7 +40,7 @@ fn identifier(target: &Target) -> &str
 }
 
 /// The sides of an image.
-fn sides<R, S: Source<R>>(entry: &Entry<R, S>) -> Dim
+fn sides<R, S: Source<R>>(entry: &ImageEntry<R, S>) -> Dim
     ensures { (p : Picture) × IsPictureOf S.bytes S.keeps (item_of entry.now) p × (dim_of p ≡ result) }
 {
     // A law: the file that was opened shows one picture.

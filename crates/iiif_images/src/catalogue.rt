@@ -6,7 +6,7 @@ ghost use Rattle.iiif_tiff_read.specs.Layouts.{FitsIn};
 ghost use Rattle.iiif_images.specs.Collection.{item_named, number_of, Takes};
 ghost use Rattle.iiif_images.specs.Items.{item_of};
 
-use crate::entry::Entry;
+use crate::entry::ImageEntry;
 use iiif_keys::{Name, is_name};
 use iiif_source::Source;
 use iiif_tiff_read::Layout;
@@ -42,7 +42,7 @@ impl AddFault {
 /// Images with names of their own. Clauses see them in the order in which they were taken in.
 #[derive(Drop)]
 pub struct Catalogue<R, S: Source<R>> {
-    entries: IndexMap<String, Entry<R, S>>,
+    entries: IndexMap<String, ImageEntry<R, S>>,
 }
 
 impl<R, S: Source<R>> Model for Catalogue<R, S> {
@@ -98,7 +98,7 @@ impl<R, S: Source<R> + Drop> Catalogue<R, S> {
         let Ok(name) = Name::new(name) else {
             return Err(AddFault::NoMemory);
         };
-        let entry = Entry {
+        let entry = ImageEntry {
             name,
             source,
             layout,
@@ -111,7 +111,7 @@ impl<R, S: Source<R> + Drop> Catalogue<R, S> {
     }
 
     /// The image of a name. It takes the same time among many images as among few.
-    pub fn find(&self, name: &str) -> Option<&Entry<R, S>>
+    pub fn find(&self, name: &str) -> Option<&ImageEntry<R, S>>
         ensures { option_map (λ e. item_of e.now) result ≡ item_named self.now name.now }
     {
         self.entries.get(name)

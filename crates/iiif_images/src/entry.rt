@@ -11,7 +11,7 @@ use std::marker::PhantomData;
 
 /// An image: its name, its source, and what its file says of it, which is right where the source's bytes don't change.
 #[derive(Drop)]
-pub struct Entry<R, S: Source<R>> {
+pub struct ImageEntry<R, S: Source<R>> {
     pub name: Name,
     pub source: S,
     pub layout: Layout,
@@ -21,7 +21,7 @@ pub struct Entry<R, S: Source<R>> {
     pub ghost shown: { S.keeps source → layout ≡ scheme (S.bytes source) },
 }
 
-impl<R, S: Source<R>> Entry<R, S> {
+impl<R, S: Source<R>> ImageEntry<R, S> {
     ghost use Rattle.iiif_keys.specs.Names.{IsSource};
     ghost use Rattle.iiif_keys.specs.Shapes.{shape_of};
     ghost use Rattle.iiif_images.specs.Items.{item_of};

@@ -14,7 +14,7 @@ ghost use Rattle.iiif_images.specs.Items.{item_of};
 ghost use Rattle.iiif_images.specs.Named.{gave_of, picture_in, pictures_of, IsImageOf};
 
 use crate::catalogue::Catalogue;
-use crate::entry::Entry;
+use crate::entry::ImageEntry;
 use iiif_keys::{CacheKey, Fault, Shape, System, TileKey, TileVal};
 use iiif_source::Source;
 use iiif_tiff_read::LoadFault;
@@ -81,7 +81,7 @@ impl<R, S: Source<R> + Drop, J: System> Images<R, S, J> {
     }
 
     /// The image of a key that names something, and its shape. It takes no memory.
-    pub fn image_of<K: CacheKey>(&self, key: &K) -> Result<(&Entry<R, S>, Shape), Fault>
+    pub fn image_of<K: CacheKey>(&self, key: &K) -> Result<(&ImageEntry<R, S>, Shape), Fault>
         ensures image { IfOk result (λ r. IsImageOf J.pictures J.gave J.stable S.bytes S.gave S.keeps (K.name_of key.now)
             (item_of r.0.now)) }
         ensures shape { IfOk result (λ r. shape_of (picture_in S.bytes (item_of r.0.now)) ≡ r.1) }
@@ -105,7 +105,7 @@ impl<R, S: Source<R> + Drop, J: System> Images<R, S, J> {
     fn read(
         &self,
         rt: &R,
-        entry: &Entry<R, S>,
+        entry: &ImageEntry<R, S>,
         shape: &Shape,
         key: &TileKey,
     ) -> Result<TileVal, Fault>
@@ -128,10 +128,10 @@ impl<R, S: Source<R> + Drop, J: System> Images<R, S, J> {
     }
 
     /// The tile that a key names, of the image that `image_of` gave for it.
-    pub fn made(
+    pub fn make_tile(
         &self,
         rt: &R,
-        entry: &Entry<R, S>,
+        entry: &ImageEntry<R, S>,
         shape: &Shape,
         key: &TileKey,
     ) -> Result<TileVal, Fault>
@@ -157,6 +157,6 @@ impl<R, S: Source<R> + Drop, J: System> Images<R, S, J> {
             (λ s. TileFitsIn s.dim (channels_of s.kind) key.now) (J.gave key.now.name)) }
     {
         let (entry, shape) = self.image_of(key)?;
-        self.made(rt, entry, &shape, key)
+        self.make_tile(rt, entry, &shape, key)
     }
 }

@@ -2,7 +2,7 @@
 #![tactic(auto)]
 
 pub use catalogue::{AddFault, Catalogue};
-pub use entry::Entry;
+pub use entry::ImageEntry;
 pub use images::Images;
 
 pub mod catalogue;

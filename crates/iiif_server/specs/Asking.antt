@@ -7,7 +7,7 @@ use Rattle.iiif_request.specs.declared.request.Request.{Request}
 use Rattle.iiif_keys.specs.declared.system.System as system
 use Rattle.iiif_images.specs.Collection.{item_named}
 use Rattle.iiif_images.specs.Items.{item_of}
-use Rattle.iiif_images.specs.declared.entry.Entry.{Entry}
+use Rattle.iiif_images.specs.declared.entry.ImageEntry.{ImageEntry}
 use Rattle.iiif_assemble.specs.declared.job.Job.{Job}
 use Rattle.iiif_answers.specs.Answers.{IsPictureOf}
 use Rattle.iiif_answers.specs.Kinds.{depth_of, kind_of}
@@ -21,7 +21,7 @@ use Rattle.iiif_server.specs.declared.asking.Asked.{Asked}
 use Rattle.iiif_server.specs.declared.asking.Planned.{Planned}
 
 -- an entry is found among the node's images
-abbrev pub IsFound : {R S : Type 0} {d : _} → Service S → Entry R S d → Type 0
+abbrev pub IsFound : {R S : Type 0} {d : _} → Service S → ImageEntry R S d → Type 0
 IsFound node entry = item_named node.items entry.name ≡ Some (item_of entry)
 
 -- the image of which something is asked is one of the node's, and that was accepted
@@ -32,7 +32,7 @@ abbrev pub WasAccepted : {R S : Type 0} {d : _} → Asked R S d → Type 0
 WasAccepted asked = IsReady asked.entry.now.layout asked.accepted.now
 
 -- a job for what a request of an entry comes to
-abbrev pub IsJobOn : {S R J : Type 0} {d : _} → system.Ghosts J → source.Ghosts S R → Entry R S d → Accepted → Job → Type 0
+abbrev pub IsJobOn : {S R J : Type 0} {d : _} → system.Ghosts J → source.Ghosts S R → ImageEntry R S d → Accepted → Job → Type 0
 IsJobOn names sources entry a j =
     IsJobFor names.pictures names.gave names.stable names.edge sources.bytes sources.gave sources.keeps (item_of entry) a j
 

@@ -3,7 +3,7 @@
 use iiif_answers::Part;
 use iiif_answers::accepted::Accepted;
 use iiif_assemble::Job;
-use iiif_images::Entry;
+use iiif_images::ImageEntry;
 use iiif_source::Source;
 use std::alloc::Global;
 
@@ -20,7 +20,7 @@ pub(crate) struct Host<'a, R> {
 #[derive(Drop)]
 pub(crate) struct Asked<'a, R, S: Source<R>> {
     pub part: Part,
-    pub entry: &'a Entry<R, S>,
+    pub entry: &'a ImageEntry<R, S>,
     pub accepted: &'a Accepted,
 }
 

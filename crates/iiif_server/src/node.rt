@@ -24,7 +24,7 @@ use iiif_delivery::{Sending, Stopped, send_image};
 use iiif_group_items::laws::groups_serve_jobs;
 use iiif_group_items::{Admission, GroupItems};
 use iiif_http_front::Call;
-use iiif_images::{Catalogue, Entry, Images};
+use iiif_images::{Catalogue, ImageEntry, Images};
 use iiif_io::Outlet;
 use iiif_keys::{SumKey, System, TileKey};
 use iiif_pixel::NoMemory;
@@ -129,7 +129,12 @@ impl<R, S: Source<R> + Drop, J: System, N, T> Node<R, S, J, N, T> {
     }
 
     /// What an accepted request of one of its images comes to, planned.
-    fn job(&self, alloc: Global, entry: &Entry<R, S>, accepted: &Accepted) -> Result<Job, NoMemory>
+    fn job(
+        &self,
+        alloc: Global,
+        entry: &ImageEntry<R, S>,
+        accepted: &Accepted,
+    ) -> Result<Job, NoMemory>
         requires ready { IsReady entry.now.layout accepted.now }
         requires found { IsFound self.now entry.now }
         ensures { IfOk result (IsJobOn J.System S.Source entry.now accepted.now) }

@@ -6,7 +6,7 @@ ghost use Rattle.iiif_io.specs.Counting.{capped};
 ghost use Rattle.iiif_start.specs.Held.{all_bytes_held, bytes_in, count_in, images_held};
 
 use crate::stored::Stored;
-use iiif_images::{Catalogue, Entry};
+use iiif_images::{Catalogue, ImageEntry};
 use iiif_open_files::Opens;
 use iiif_source::Source;
 use std::sync::Wait;
@@ -44,7 +44,7 @@ impl Held {
 }
 
 /// What is held of an image, where there is one.
-fn held_of<R: Opens + Wait>(entry: Option<&Entry<R, Stored<R>>>) -> Held
+fn held_of<R: Opens + Wait>(entry: Option<&ImageEntry<R, Stored<R>>>) -> Held
     ensures images { result.images ≡ count_in (option_map (λ e. item_of e.now) entry.entry) }
     ensures bytes { result.bytes ≡ bytes_in (option_map (λ e. item_of e.now) entry.entry) }
 {

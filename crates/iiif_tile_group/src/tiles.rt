@@ -12,7 +12,7 @@ ghost use Rattle.iiif_tile_group.specs.Views.{items_tiled};
 
 use crate::calls::TileCalls;
 use iiif_group::{Begun, Gate, Group, Link, boxed};
-use iiif_images::{Entry, Images};
+use iiif_images::{ImageEntry, Images};
 use iiif_keys::{Fault, Shape, System, TileKey, TileVal};
 use iiif_singleflight::{Pass, Receipt};
 use iiif_source::Source;
@@ -71,7 +71,7 @@ impl<R, S: Source<R> + Drop, J: System, N, T> Tiles<R, S, J, N, T> {
     fn outcome(
         &self,
         rt: &R,
-        entry: &Entry<R, S>,
+        entry: &ImageEntry<R, S>,
         shape: &Shape,
         key: &TileKey,
     ) -> Result<Arc<TileVal>, Fault>
@@ -80,7 +80,7 @@ impl<R, S: Source<R> + Drop, J: System, N, T> Tiles<R, S, J, N, T> {
         requires fits { TileFitsIn shape.now.dim (channels_of shape.now.kind) key.now }
         ensures { EndsWith J.System key.now result }
     {
-        match self.images.made(rt, entry, shape, key) {
+        match self.images.make_tile(rt, entry, shape, key) {
             Ok(value) => boxed(self.alloc, value),
             Err(fault) => Err(fault),
         }

@@ -1,6 +1,6 @@
 use Rattle.iiif_images.specs.Items.{item_of}
 use Rattle.iiif_images.proofs.ShownLemmas.{picture_shape, picture_source}
-use Rattle.iiif_images.proofs.entry.Entry.shape.Goals as goal
+use Rattle.iiif_images.proofs.entry.ImageEntry.shape.Goals as goal
 
 pub returns-clause-shape : goal.returns-clause-shape
 returns-clause-shape g c =

@@ -7,7 +7,7 @@ use Rattle.iiif_keys.specs.Meaning.{tile_meaning}
 use Rattle.iiif_images.specs.Items.{item_of}
 use Rattle.iiif_images.specs.Named.{picture_in}
 use Rattle.iiif_images.proofs.ShownLemmas.{picture_dim, picture_depth, picture_kind, tile_is, tile_val_prop}
-use Rattle.iiif_images.proofs.images.Images.made.Goals as goal
+use Rattle.iiif_images.proofs.images.Images.make_tile.Goals as goal
 
 pub read-requires-clause-dim : goal.read-requires-clause-dim
 read-requires-clause-dim g c = picture_dim g.S.Source.bytes (item_of c.args.entry.now) c.args.shape.now c.requires.shape
