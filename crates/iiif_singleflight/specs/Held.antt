@@ -5,15 +5,15 @@ use Rattle.iiif_tables.specs.declared.table.Class.{Class}
 use Rattle.iiif_tables.specs.declared.table.Class.TheVariants.{Wide, Local}
 use Rattle.iiif_outcome.specs.Views.{flight_cell, flight_ticket}
 use Rattle.iiif_singleflight.specs.Seen.{Seen}
-use Rattle.iiif_singleflight.specs.declared.named.Open.{Open}
-use Rattle.iiif_singleflight.specs.declared.opens.Opens.{Opens}
+use Rattle.iiif_singleflight.specs.declared.named.OpenFlight.{OpenFlight}
+use Rattle.iiif_singleflight.specs.declared.opens.OpenFlights.{OpenFlights}
 
 -- what is seen of an open flight
-abbrev pub seen : {K J V : Type 0} {a b c d : _} → Open K J V a b c d → Seen
+abbrev pub seen : {K J V : Type 0} {a b c d : _} → OpenFlight K J V a b c d → Seen
 seen o = record { flight = record { ticket = flight_ticket o.flight; found = o.found }; cell = flight_cell o.flight }
 
 -- what is open for a key
-abbrev pub held : {K J V S : Type 0} {a b c d : _} → (K → K → Bool) → HashMap K (Open K J V a b c d) S → K → Option Seen
+abbrev pub held : {K J V S : Type 0} {a b c d : _} → (K → K → Bool) → HashMap K (OpenFlight K J V a b c d) S → K → Option Seen
 held eq m q = option_map seen (get eq m q)
 
 -- one of two, by class
@@ -22,9 +22,9 @@ per_class w l Wide = w
 per_class w l Local = l
 
 -- what is open for each class and key
-abbrev pub open_at : {K J V : Type 0} {a b c d : _} → (K → K → Bool) → Opens K J V a b c d → Class → K → Option Seen
+abbrev pub open_at : {K J V : Type 0} {a b c d : _} → (K → K → Bool) → OpenFlights K J V a b c d → Class → K → Option Seen
 open_at eq o c q = per_class (held eq o.wide.map q) (held eq o.local.map q) c
 
 -- how many are open
-abbrev pub aloft : {K J V : Type 0} {a b c d : _} → Opens K J V a b c d → ℕ
+abbrev pub aloft : {K J V : Type 0} {a b c d : _} → OpenFlights K J V a b c d → ℕ
 aloft o = hash_map_len o.wide.map + hash_map_len o.local.map

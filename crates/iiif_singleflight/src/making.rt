@@ -7,7 +7,7 @@ ghost use Rattle.iiif_tables.specs.Flights.{empty_table, IsBook};
 ghost use Rattle.iiif_outcome.specs.Views.{entry_size};
 ghost use Rattle.iiif_singleflight.specs.View.{cells_of, table_of};
 
-use crate::opens::Opens;
+use crate::opens::OpenFlights;
 use crate::pass::Pass;
 use crate::table::{Kept, Table};
 use iiif_byte_cache::ByteCache;
@@ -50,7 +50,7 @@ impl<K: CacheKey, J: System, L: Ledger> Table<K, J, L> {
         };
         let table = Table {
             cache,
-            opens: Opens::new(alloc),
+            opens: OpenFlights::new(alloc),
             book,
             tally,
             alloc,

@@ -11,7 +11,7 @@ use std::collections::HashMap;
 
 /// A flight that is open.
 #[derive(Drop)]
-pub struct Open<K: CacheKey, J: System> {
+pub struct OpenFlight<K: CacheKey, J: System> {
     pub(crate) flight: Flight<K, J>,
     /// Its leader found the value by looking again.
     pub(crate) found: bool,
@@ -20,6 +20,6 @@ pub struct Open<K: CacheKey, J: System> {
 /// The flights that are open in a class, one at most for a key.
 #[derive(Drop)]
 pub struct Named<K: CacheKey, J: System> {
-    pub(crate) map: HashMap<K, Open<K, J>>,
+    pub(crate) map: HashMap<K, OpenFlight<K, J>>,
     pub ghost keyed: { (q : K) → ForSome (get K.eq map q) (λ o. flight_key o.flight ≡ q) },
 }

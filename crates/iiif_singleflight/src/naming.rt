@@ -10,7 +10,7 @@ ghost use Rattle.iiif_tables.specs.Flights.{has_ticket, is_found};
 ghost use Rattle.iiif_singleflight.specs.Seen.{the_flight, found_of};
 ghost use Rattle.iiif_singleflight.specs.Held.{held};
 
-use crate::named::{Named, Open};
+use crate::named::{Named, OpenFlight};
 use iiif_keys::{CacheKey, System};
 use iiif_outcome::{Flight, Lead};
 use iiif_pixel::NoMemory;
@@ -65,7 +65,7 @@ impl<K: CacheKey, J: System> Named<K, J> {
         let (lead, flight) = Lead::open(alloc, key, class, ticket)?;
         match self.map.insert(
             name,
-            Open {
+            OpenFlight {
                 flight,
                 found: false,
             },

@@ -9,20 +9,20 @@ ghost use Rattle.iiif_singleflight.specs.Seen.{with_at, the_flight, found_of};
 ghost use Rattle.iiif_singleflight.specs.Held.{open_at, aloft};
 
 use crate::named::Named;
-use crate::opens::Opens;
+use crate::opens::OpenFlights;
 use iiif_keys::{CacheKey, System};
 use iiif_outcome::{Flight, Lead};
 use iiif_pixel::NoMemory;
 use iiif_tables::Class;
 use std::alloc::Global;
 
-impl<K: CacheKey, J: System> Opens<K, J> {
+impl<K: CacheKey, J: System> OpenFlights<K, J> {
     /// None is open.
-    pub fn new(alloc: Global) -> Opens<K, J>
+    pub fn new(alloc: Global) -> OpenFlights<K, J>
         ensures none { open_at K.eq result ≡ (λ c q. None) }
         ensures aloft { aloft result ≡ 0 }
     {
-        Opens {
+        OpenFlights {
             wide: Named::new(alloc),
             local: Named::new(alloc),
         }

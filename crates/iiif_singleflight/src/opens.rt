@@ -5,7 +5,7 @@ use iiif_keys::{CacheKey, System};
 
 /// The flights that are open: one at most for each class and key.
 #[derive(Drop)]
-pub struct Opens<K: CacheKey, J: System> {
+pub struct OpenFlights<K: CacheKey, J: System> {
     pub(crate) wide: Named<K, J>,
     pub(crate) local: Named<K, J>,
 }

@@ -4,7 +4,7 @@ ghost use Rattle.std.specs.Prelude.{◌≡◌};
 ghost use Rattle.iiif_tables.specs.Flights.{IsBook};
 ghost use Rattle.iiif_singleflight.specs.Held.{aloft};
 
-use crate::opens::Opens;
+use crate::opens::OpenFlights;
 use iiif_byte_cache::ByteCache;
 use iiif_keys::{CacheKey, System};
 use iiif_tables::Book;
@@ -16,7 +16,7 @@ use std::sync::ledger::{Book as Tally, Ledger};
 #[derive(Drop)]
 pub struct Table<K: CacheKey, J: System, L: Ledger> {
     pub(crate) cache: ByteCache<K, J>,
-    pub(crate) opens: Opens<K, J>,
+    pub(crate) opens: OpenFlights<K, J>,
     pub(crate) book: Book,
     pub(crate) tally: Tally<L>,
     pub(crate) alloc: Global,

@@ -2,7 +2,7 @@ use Rattle.std.proofs.Common.{◌≡◌, Some, false, sym, ap, ◌∙◌}
 use Rattle.std.specs.HashMap.{get}
 use Rattle.iiif_outcome.specs.Views.{flight_key}
 use Rattle.std.specs.Map.{lookup}
-use Rattle.iiif_singleflight.specs.declared.named.Open.{Open}
+use Rattle.iiif_singleflight.specs.declared.named.OpenFlight.{OpenFlight}
 use Rattle.iiif_singleflight.proofs.Keyed.{keyed_with, either_way}
 use Rattle.iiif_singleflight.proofs.named.Named.open.Goals as goal
 
@@ -11,9 +11,9 @@ invariant_of-self-2 g c =
     let eq = g.K.PartialEq.eq in
     let m = c.reserve.new.self in
     let n = c.insert.new.self in
-    let w : Open g.row.K.Denot g.row.J.Denot g.row.K-Value.Denot g.K.CacheKey g.K.PartialEq g.K.Hash g.J.System =
+    let w : OpenFlight g.row.K.Denot g.row.J.Denot g.row.K-Value.Denot g.K.CacheKey g.K.PartialEq g.K.Hash g.J.System =
     record { flight = c.in_ok-lead.flight; found = false } in
-    let before : (q : g.row.K.Denot) (x : Open g.row.K.Denot g.row.J.Denot g.row.K-Value.Denot g.K.CacheKey g.K.PartialEq g.K.Hash
+    let before : (q : g.row.K.Denot) (x : OpenFlight g.row.K.Denot g.row.J.Denot g.row.K-Value.Denot g.K.CacheKey g.K.PartialEq g.K.Hash
     g.J.System) → get eq m q ≡ Some x → flight_key x.flight ≡ q = λ q x is.
     c.args.self.now.keyed q x (sym (c.in_ok-reserve.ensures.entries.2 q) ∙ is) in
     let key = c.in_ok-lead.ensures.flight.0 ∙ sym c.in_ok-name.ensures in
