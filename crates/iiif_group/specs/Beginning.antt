@@ -17,7 +17,7 @@ use Rattle.iiif_singleflight.specs.declared.pass.Pass.{Pass}
 use Rattle.iiif_singleflight.specs.declared.receipt.Receipt.{Receipt}
 use Rattle.iiif_group.specs.declared.begun.Begun.{Begun}
 use Rattle.iiif_group.specs.declared.begun.Begun.TheVariants.{Known, Load}
-use Rattle.iiif_group.specs.declared.begun.Open.{Open}
+use Rattle.iiif_group.specs.declared.begun.OpenLoad.{OpenLoad}
 use Rattle.iiif_group.specs.declared.group.Group.{Group}
 
 -- An outcome of a key: a value of its shape, which is its meaning where the bytes of its image are stable and the other nodes are
@@ -54,20 +54,20 @@ pub record Shares {V A : Type 0} (outcome share : Result (Arc V A) Fault) (exact
 
 module _ {K J L V : Type 0} {a b c d e : _} where
   -- the key of the value that has to be loaded
-  abbrev pub open_key : Open K J L V a b c d e → K
+  abbrev pub open_key : OpenLoad K J L V a b c d e → K
   open_key o = lead_key (lead_of o.local)
 
   -- the key's owner was asked in vain
-  abbrev pub was_asked : Open K J L V a b c d e → Bool
+  abbrev pub was_asked : OpenLoad K J L V a b c d e → Bool
   was_asked o = is_some o.wide
 
   -- The cell of the flight that the call entered first, by which all who joined it learn its outcome: of the wide one where the key's
   -- owner was asked in vain, else of the local one.
-  abbrev pub IsFirstFlight : Open K J L V a b c d e → ℕ → Type 0
+  abbrev pub IsFirstFlight : OpenLoad K J L V a b c d e → ℕ → Type 0
   IsFirstFlight o cell = MatchOption o.wide (cell ≡ lead_cell (lead_of o.local)) (λ w. cell ≡ lead_cell (lead_of w))
 
   -- the cell of the local flight
-  abbrev pub IsLocalFlight : Open K J L V a b c d e → ℕ → Type 0
+  abbrev pub IsLocalFlight : OpenLoad K J L V a b c d e → ℕ → Type 0
   IsLocalFlight o cell = cell ≡ lead_cell (lead_of o.local)
 
   -- the outcome of a flight of this key, or the duty to load its value

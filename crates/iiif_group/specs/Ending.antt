@@ -10,7 +10,7 @@ use Rattle.iiif_keys.specs.declared.system.System as system
 use Rattle.iiif_singleflight.specs.Views.{receipt_cell, receipt_known}
 use Rattle.iiif_group.specs.Beginning.{outcome_of, was_asked, IsFirstFlight, IsLocalFlight}
 use Rattle.iiif_group.specs.declared.begun.Completed.{Completed}
-use Rattle.iiif_group.specs.declared.begun.Open.{Open}
+use Rattle.iiif_group.specs.declared.begun.OpenLoad.{OpenLoad}
 
 module _ {K J L V : Type 0} {a : cache_key.Ghosts K V} {b c : _} {d : system.Ghosts J} where
   -- a receipt that is exact has the load's own outcome
@@ -27,18 +27,18 @@ module _ {K J L V : Type 0} {a : cache_key.Ghosts K V} {b c : _} {d : system.Gho
 
 module _ {K J L V : Type 0} {a : cache_key.Ghosts K V} {b c : _} {d : system.Ghosts J} {e : _} where
   -- the receipt of the local flight, where the other is of the wide one, has the load's own outcome
-  abbrev pub HasLoaded : Open K J L V a b c d e → K → Result (Arc V Global) Fault → Completed K J L V a b c d → Type 0
+  abbrev pub HasLoaded : OpenLoad K J L V a b c d e → K → Result (Arc V Global) Fault → Completed K J L V a b c d → Type 0
   HasLoaded load key outcome end = MatchOption end.loaded (IsFalse (was_asked load))
       (λ r. IfSome (receipt_known r) (λ x. (arc_value x.key ≡ key) × IfNone end.refused (x.outcome ≡ outcome)))
 
   -- a receipt that isn't exact is of a wide flight, and has want of memory
-  abbrev pub IsWanting : Open K J L V a b c d e → Completed K J L V a b c d → Type 0
+  abbrev pub IsWanting : OpenLoad K J L V a b c d e → Completed K J L V a b c d → Type 0
   IsWanting load end = IfNone end.refused (IsFalse end.exact → IsTrue (was_asked load) ×
       IfSome (receipt_known end.receipt) (λ x. outcome_of x.outcome ≡ Err NoMemory))
 
   -- each receipt is of its flight's cell
-  abbrev pub IsOfFirst : Open K J L V a b c d e → Completed K J L V a b c d → Type 0
+  abbrev pub IsOfFirst : OpenLoad K J L V a b c d e → Completed K J L V a b c d → Type 0
   IsOfFirst load end = IsFirstFlight load (receipt_cell end.receipt)
 
-  abbrev pub IsOfLocal : Open K J L V a b c d e → Completed K J L V a b c d → Type 0
+  abbrev pub IsOfLocal : OpenLoad K J L V a b c d e → Completed K J L V a b c d → Type 0
   IsOfLocal load end = IfSome end.loaded (λ r. IsLocalFlight load (receipt_cell r))

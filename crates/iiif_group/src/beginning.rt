@@ -6,12 +6,12 @@ ghost use Rattle.iiif_singleflight.specs.Views.{lead_key, lead_of};
 ghost use Rattle.iiif_group.specs.Beginning.{gate_of, BegunOf, CountsOnce, CountsTwiceAtMost, IsPartOf, LoadsIf};
 ghost use Rattle.iiif_group.specs.Code.{CountsOnceAtMost, EndsOrGoesOn, EndsOrIsLed, IsLedFor, IsOf, IsPeer, IsToldBy, Relays};
 
-use crate::begun::{Begun, Open};
+use crate::begun::{Begun, OpenLoad};
 use crate::gate::Gate;
 use crate::group::Group;
 use crate::link::Link;
 use crate::met::Met;
-use crate::outcomes::{boxed, share_outcome};
+use crate::outcomes::{share, share_outcome};
 use crate::told::Told;
 use iiif_keys::{CacheKey, Fault, Shape, System};
 use iiif_pixel::NoMemory;
@@ -98,7 +98,7 @@ impl<K: CacheKey, J: System, L: Ledger, N, T> Group<K, J, L, N, T> {
             Ok(receipt) => Ok(Begun::Known(receipt)),
             Err(local) => {
                 self.gate.pass(rt, bytes);
-                Ok(Begun::Load(Open { local, wide: None }))
+                Ok(Begun::Load(OpenLoad { local, wide: None }))
             }
         }
     }
@@ -138,7 +138,7 @@ impl<K: CacheKey, J: System, L: Ledger, N, T> Group<K, J, L, N, T> {
     {
         match link.ask(rt, wide.key(), shape) {
             Ok(value) if wide.key().shaped(shape, &value) => {
-                let outcome = boxed(self.alloc, value);
+                let outcome = share(self.alloc, value);
                 Ok(self.finish(rt, wide, outcome, Place::Peer).receipt)
             }
             _ => Err(wide),
@@ -171,7 +171,7 @@ impl<K: CacheKey, J: System, L: Ledger, N, T> Group<K, J, L, N, T> {
             Ok(Err(local)) => {
                 self.gate.pass(rt, bytes);
                 let wide = Some(wide);
-                Begun::Load(Open { local, wide })
+                Begun::Load(OpenLoad { local, wide })
             }
         }
     }

@@ -12,7 +12,7 @@ use std::sync::ledger::Ledger;
 
 /// The duty to load the value of a key, and to complete that. It can't be dropped. It leads the local flight of the key, and its
 /// wide one too where the owner was asked in vain: of both the leader has looked again.
-pub struct Open<K: CacheKey, J: System, L: Ledger> {
+pub struct OpenLoad<K: CacheKey, J: System, L: Ledger> {
     pub(crate) local: Looked<K, J, L>,
     pub(crate) wide: Option<Looked<K, J, L>>,
     pub ghost local_is: { lead_class (lead_of local) ≡ Local },
@@ -25,7 +25,7 @@ pub enum Begun<K: CacheKey, J: System, L: Ledger> {
     /// What a flight of the key ended with.
     Known(Receipt<K, J, L>),
     /// Nobody has the value: it has to be loaded here.
-    Load(Open<K, J, L>),
+    Load(OpenLoad<K, J, L>),
 }
 
 /// How a load ended.

@@ -5,7 +5,7 @@ ghost use Rattle.iiif_group.specs.Beginning.{open_key, KnowsOf, OutcomeFor};
 ghost use Rattle.iiif_group.specs.Ending.{HandsBack, HasLoaded, IsExact, IsOfFirst, IsOfLocal, IsWanting, TellsFault};
 ghost use Rattle.iiif_group.specs.Code.{Finishes, OutcomeOf, Tells};
 
-use crate::begun::{Completed, Open};
+use crate::begun::{Completed, OpenLoad};
 use crate::group::Group;
 use crate::outcomes::share_outcome;
 use crate::told::Told;
@@ -23,7 +23,7 @@ impl<K: CacheKey, J: System, L: Ledger, N, T> Group<K, J, L, N, T> {
     pub fn complete<R: Wait>(
         &self,
         rt: &R,
-        load: Open<K, J, L>,
+        load: OpenLoad<K, J, L>,
         key: &K,
         outcome: Result<Arc<K::Value>, Fault>,
     ) -> Completed<K, J, L>
@@ -38,7 +38,7 @@ impl<K: CacheKey, J: System, L: Ledger, N, T> Group<K, J, L, N, T> {
         ensures flight { IsOfFirst load result }
         ensures local { IsOfLocal load result }
     {
-        let Open { local, wide } = load;
+        let OpenLoad { local, wide } = load;
         match wide {
             None => {
                 let Told { receipt, refused } = self.finish(rt, local, outcome, Place::Main);

@@ -4,7 +4,7 @@ ghost use Rattle.std.specs.Prelude.{◌≡◌, ℕ, ◌+◌, ◌<◌, ◌^◌, l
 ghost use Rattle.std.specs.List.{sum_by};
 ghost use Rattle.iiif_tables.specs.Flights.{IsBook};
 
-use crate::lists::Lists;
+use crate::wait_lists::WaitLists;
 use iiif_keys::{CacheKey, System};
 use iiif_pixel::NoMemory;
 use iiif_ring::Ring;
@@ -29,7 +29,7 @@ pub struct Standing<N> {
 #[derive(Drop)]
 pub struct Group<K: CacheKey, J: System, L: Ledger, N, T> {
     pub(crate) home: Mutex<Home<K, J, L>>,
-    pub(crate) landed: Lists,
+    pub(crate) landed: WaitLists,
     pub(crate) ring: Ring,
     pub(crate) own: Option<usize>,
     pub(crate) links: Vec<N>,
@@ -65,7 +65,7 @@ impl<K: CacheKey, J: System, L: Ledger, N, T> Group<K, J, L, N, T> {
         let Standing { ring, own, links } = standing;
         Ok(Group {
             home: Mutex::new(Home::new(table, pass, Whole::new())),
-            landed: Lists::new(),
+            landed: WaitLists::new(),
             ring,
             own,
             links,

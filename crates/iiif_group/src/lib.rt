@@ -2,13 +2,13 @@
 //! stands behind a lock, and nothing is loaded, asked or passed while the lock is held.
 #![tactic(auto)]
 
-pub use begun::{Begun, Completed, Open};
+pub use begun::{Begun, Completed, OpenLoad};
 pub use gate::{Gate, NoGate};
 pub use group::{Group, Standing};
 pub use iiif_singleflight::Kept;
 pub use link::{Link, LinkFault, NoLink};
-pub use lists::Lists;
-pub use outcomes::{boxed, share_outcome, taken};
+pub use outcomes::{share, share_outcome, take_outcome};
+pub use wait_lists::WaitLists;
 
 mod beginning;
 pub mod begun;
@@ -16,8 +16,8 @@ mod completing;
 pub mod gate;
 pub mod group;
 pub mod link;
-pub mod lists;
 mod met;
 pub mod outcomes;
 mod told;
+pub mod wait_lists;
 mod waiting;

@@ -27,7 +27,7 @@ pub fn share_outcome<V: Drop>(outcome: &Result<Arc<V>, Fault>) -> (Result<Arc<V>
 }
 
 /// A value that many may share, or want of memory.
-pub fn boxed<V: Drop>(alloc: Global, value: V) -> Result<Arc<V>, Fault>
+pub fn share<V: Drop>(alloc: Global, value: V) -> Result<Arc<V>, Fault>
     ensures ok { ForOk result (λ v. arc_value v ≡ value) }
     ensures err { ForErr result (λ f. f ≡ Fault.NoMemory) }
 {
@@ -38,7 +38,7 @@ pub fn boxed<V: Drop>(alloc: Global, value: V) -> Result<Arc<V>, Fault>
 }
 
 /// A share of the outcome of a receipt of this key, or want of memory.
-pub fn taken<K: CacheKey, J: System, L: Ledger>(
+pub fn take_outcome<K: CacheKey, J: System, L: Ledger>(
     mut receipt: Receipt<K, J, L>,
     key: &K,
 ) -> Result<Arc<K::Value>, Fault>

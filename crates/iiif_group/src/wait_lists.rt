@@ -5,14 +5,14 @@ use std::sync::Condvar;
 /// Those who wait for flights, or for their turn, in 16 lists by numbers: what comes to pass for a number wakes those of its list alone, so
 /// that few are woken who wait for another one.
 #[derive(Drop)]
-pub struct Lists {
+pub struct WaitLists {
     lists: [Condvar; 16],
 }
 
-impl Lists {
+impl WaitLists {
     /// Nobody waits.
-    pub fn new() -> Lists {
-        Lists {
+    pub fn new() -> WaitLists {
+        WaitLists {
             lists: [
                 Condvar::new(),
                 Condvar::new(),

@@ -17,7 +17,9 @@ use iiif_delivery::{Queued, Turns};
 use iiif_keys::laws::parts_are_exact;
 use iiif_keys::{Fault, SumKey, SumVal, System, TileKey, TileVal};
 use iiif_source::Source;
-use iiif_sum_group::{Begun, Gate, Groups, Link, Open, Passes, SumCalls, TileCalls, taken};
+use iiif_sum_group::{
+    Begun, Gate, Groups, Link, OpenLoad, Passes, SumCalls, TileCalls, take_outcome,
+};
 use std::sync::ledger::Ledger;
 use std::sync::{Arc, Wait};
 use std::time::Clock;
@@ -75,7 +77,7 @@ impl<
         key: &TileKey,
     ) -> Result<Opened<TileKey, TileVal, ()>, Fault> {
         match self.0.tiles().get(rt, &mut pass.tile, key) {
-            Ok(receipt) => known(taken(receipt, key)),
+            Ok(receipt) => known(take_outcome(receipt, key)),
             Err(fault) => Err(fault),
         }
     }
@@ -122,7 +124,7 @@ impl<
     N: Link<TileKey, J, R> + Link<SumKey, J, R>,
     T: Gate<R>,
 > Items<SumKey, SumVal, Passes<J>, R> for GroupItems<'a, R, S, J, N, T> {
-    type Open = Open<SumKey, J, SumCalls<J>>;
+    type Open = OpenLoad<SumKey, J, SumCalls<J>>;
 
     ghost fits = { λ _ k. SumIsNamed J.pictures J.edge k };
 
@@ -139,18 +141,18 @@ impl<
         rt: &R,
         pass: &mut Passes<J>,
         key: &SumKey,
-    ) -> Result<Opened<SumKey, SumVal, Open<SumKey, J, SumCalls<J>>>, Fault> {
+    ) -> Result<Opened<SumKey, SumVal, OpenLoad<SumKey, J, SumCalls<J>>>, Fault> {
         // A law of parts.
         parts_are_exact();
         if key.level < SHARED {
             return match self.0.get(rt, pass, key) {
-                Ok(receipt) => known(taken(receipt, key)),
+                Ok(receipt) => known(take_outcome(receipt, key)),
                 Err(fault) => Err(fault),
             };
         }
         let parts = self.0.quarters(key)?;
         match self.0.begin(rt, pass, key) {
-            Ok(Begun::Known(receipt)) => known(taken(receipt, key)),
+            Ok(Begun::Known(receipt)) => known(take_outcome(receipt, key)),
             Ok(Begun::Load(load)) => Ok(Opened::Parts(load, parts)),
             Err(fault) => Err(fault),
         }
@@ -159,7 +161,7 @@ impl<
     fn close(
         &self,
         rt: &R,
-        load: Open<SumKey, J, SumCalls<J>>,
+        load: OpenLoad<SumKey, J, SumCalls<J>>,
         key: &SumKey,
         parts: Vec<SumKey>,
         values: Result<Vec<Arc<SumVal>>, Fault>,
@@ -174,7 +176,7 @@ impl<
     {
         drop(parts);
         match values {
-            Ok(values) => taken(self.0.finish(rt, load, key, Ok(values)).receipt, key),
+            Ok(values) => take_outcome(self.0.finish(rt, load, key, Ok(values)).receipt, key),
             Err(fault) => {
                 drop(self.0.finish(rt, load, key, Err(fault)));
                 Err(fault)

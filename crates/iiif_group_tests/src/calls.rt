@@ -10,7 +10,7 @@ ghost use Rattle.iiif_outcome.specs.Outcomes.{is_given};
 use crate::doorways::Doorway;
 use crate::keys::{block_twice, tile};
 use crate::nodes::Node;
-use iiif_group::{Begun, Open, boxed};
+use iiif_group::{Begun, OpenLoad, share};
 use iiif_keys::{Fault, SumKey, SumVal, System, TileKey, TileVal};
 use iiif_pixel::Span;
 use iiif_singleflight::{Pass, Receipt};
@@ -119,7 +119,7 @@ fn loaded<R: Wait + Clock, J: System>(
     ensures given { ForErr result (λ f. IsTrue (is_given (J.gave key.now.name) f)) }
 {
     match node.tiles().load(rt, key) {
-        Ok(value) => boxed(alloc, value),
+        Ok(value) => share(alloc, value),
         Err(_) => Err(Fault::NoMemory),
     }
 }
@@ -129,7 +129,7 @@ fn ended<R: Wait + Clock, J: System>(
     rt: &R,
     alloc: Global,
     node: &Node<'_, R, J>,
-    load: Open<TileKey, J, TileCalls<J>>,
+    load: OpenLoad<TileKey, J, TileCalls<J>>,
     key: &TileKey,
 ) -> Result<Receipt<TileKey, J, TileCalls<J>>, Fault>
     requires { open_key load ≡ key.now }

@@ -10,7 +10,7 @@ ghost use Rattle.iiif_peer_wire.specs.Messages.{value_limit};
 
 use iiif_keys::{CacheKey, Fault, Shape, System};
 use iiif_singleflight::Receipt;
-use iiif_sum_group::taken;
+use iiif_sum_group::take_outcome;
 use std::alloc::Global;
 use std::sync::ledger::Ledger;
 
@@ -42,7 +42,7 @@ pub(crate) fn value_bytes<K: CacheKey, J: System, L: Ledger>(
 {
     // Laws of keys.
     K::laws();
-    let value = taken(receipt, key)?;
+    let value = take_outcome(receipt, key)?;
     // Compared, so that the value is known to be one that can be sent.
     let _shaped = key.shaped(shape, &*value);
     match K::value_bytes(alloc, &*value) {

@@ -4,7 +4,7 @@
 pub use groups::Groups;
 // What callers of the groups need of a group and of tiles.
 pub use iiif_group::{
-    Begun, Gate, Group, Kept, Link, Lists, NoGate, NoLink, Open, Standing, taken,
+    Begun, Gate, Group, Kept, Link, NoGate, NoLink, OpenLoad, Standing, WaitLists, take_outcome,
 };
 pub use iiif_tile_group::{TileCalls, Tiles};
 pub use passes::{Passes, SumCalls};

@@ -12,7 +12,7 @@ ghost use Rattle.iiif_sum_group.specs.Values.{AreValuesOf, MayBeAsked};
 
 use crate::groups::Groups;
 use crate::passes::{Passes, SumCalls};
-use iiif_group::{Begun, Gate, Link, Open, boxed, taken};
+use iiif_group::{Begun, Gate, Link, OpenLoad, share, take_outcome};
 use iiif_keys::laws::{fitting_keys_have_parts, parts_are_exact, parts_make_the_meaning};
 use iiif_keys::{CacheKey, Fault, Parts, Shape, SumKey, SumVal, System, TileKey, parts};
 use iiif_singleflight::Receipt;
@@ -35,7 +35,7 @@ fn for_all(alloc: Global, made: Result<SumVal, Fault>) -> Result<Arc<SumVal>, Fa
     ensures { Boxes made result }
 {
     match made {
-        Ok(value) => boxed(alloc, value),
+        Ok(value) => share(alloc, value),
         Err(fault) => Err(fault),
     }
 }
@@ -105,7 +105,7 @@ impl<
         let Ok(receipt) = self.tiles.get(rt, &mut passes.tile, tile) else {
             return Err(Fault::NoMemory);
         };
-        let value = taken(receipt, tile)?;
+        let value = take_outcome(receipt, tile)?;
         match SumVal::of_tile(self.alloc, key, shape, &*value) {
             Ok(sums) => Ok(sums),
             Err(_) => Err(Fault::NoMemory),
@@ -116,7 +116,7 @@ impl<
     pub(crate) fn end(
         &self,
         rt: &R,
-        load: Open<SumKey, J, SumCalls<J>>,
+        load: OpenLoad<SumKey, J, SumCalls<J>>,
         key: &SumKey,
         made: Result<Arc<SumVal>, Fault>,
     ) -> Receipt<SumKey, J, SumCalls<J>>
@@ -193,7 +193,7 @@ impl<
         let mut values = Vec::new(self.alloc);
         for part in keys {
             let receipt = self.part(rt, passes, shape, part)?;
-            let value = taken(receipt, part)?;
+            let value = take_outcome(receipt, part)?;
             keep(&mut values, value)?;
         }
         Ok(values)

@@ -10,7 +10,7 @@ ghost use Rattle.iiif_sum_group.specs.Values.{MayBeSums};
 use crate::groups::Groups;
 use crate::making::whole;
 use crate::passes::{Passes, SumCalls};
-use iiif_group::{Begun, Completed, Gate, Link, Open};
+use iiif_group::{Begun, Completed, Gate, Link, OpenLoad};
 use iiif_keys::laws::{fitting_keys_have_parts, parts_are_exact};
 use iiif_keys::{CacheKey, Fault, Parts, SumKey, SumVal, System, TileKey, parts};
 use iiif_source::Source;
@@ -76,7 +76,7 @@ impl<
     pub fn finish(
         &self,
         rt: &R,
-        load: Open<SumKey, J, SumCalls<J>>,
+        load: OpenLoad<SumKey, J, SumCalls<J>>,
         key: &SumKey,
         values: Result<Vec<Arc<SumVal>>, Fault>,
     ) -> Completed<SumKey, J, SumCalls<J>>

@@ -11,7 +11,7 @@ ghost use Rattle.iiif_tile_group.specs.Calls.{EndsWith, Gets, GetsLocal, Loads};
 ghost use Rattle.iiif_tile_group.specs.Views.{items_tiled};
 
 use crate::calls::TileCalls;
-use iiif_group::{Begun, Gate, Group, Link, boxed};
+use iiif_group::{Begun, Gate, Group, Link, share};
 use iiif_images::{ImageEntry, Images};
 use iiif_keys::{Fault, Shape, System, TileKey, TileVal};
 use iiif_singleflight::{Pass, Receipt};
@@ -81,7 +81,7 @@ impl<R, S: Source<R> + Drop, J: System, N, T> Tiles<R, S, J, N, T> {
         ensures { EndsWith J.System key.now result }
     {
         match self.images.make_tile(rt, entry, shape, key) {
-            Ok(value) => boxed(self.alloc, value),
+            Ok(value) => share(self.alloc, value),
             Err(fault) => Err(fault),
         }
     }
