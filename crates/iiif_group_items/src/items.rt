@@ -11,7 +11,7 @@ ghost use Rattle.iiif_keys.specs.Meaning.{sums_below};
 ghost use Rattle.iiif_outcome.specs.Outcomes.{is_given};
 ghost use Rattle.iiif_group_items.specs.Values.{SumGave, SumIsNamed, SumMayBe, TileGave, TileIsNamed, TileMayBe};
 
-use crate::admission::Admission;
+use crate::job_queue::JobQueue;
 use iiif_assemble::{Items, Opened};
 use iiif_delivery::{Queued, Turns};
 use iiif_keys::laws::parts_are_exact;
@@ -28,7 +28,7 @@ use std::time::Clock;
 #[derive(Drop)]
 pub struct GroupItems<'a, R, S: Source<R>, J: System, N, T>(
     pub &'a Groups<R, S, J, N, T>,
-    pub &'a Admission,
+    pub &'a JobQueue,
 )
 where
     TileCalls<J>: Ledger,

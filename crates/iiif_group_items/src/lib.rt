@@ -1,10 +1,10 @@
 //! Values as images are made of them, asked of the groups of a node.
 #![tactic(auto)]
 
-pub use admission::Admission;
 pub use items::GroupItems;
+pub use job_queue::JobQueue;
 
-pub mod admission;
 pub mod items;
+pub mod job_queue;
 pub mod laws;
 mod order;

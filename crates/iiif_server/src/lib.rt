@@ -3,7 +3,7 @@
 
 pub use iiif_answers::{Cause, Config, ConfigFault, Cut, Part, Sent, is_base_url};
 pub use iiif_delivery::Queued;
-pub use iiif_group_items::Admission;
+pub use iiif_group_items::JobQueue;
 pub use iiif_images::{AddFault, Catalogue};
 pub use iiif_keys::{Fault, is_name};
 pub use iiif_sum_group::{Gate, Kept, Link, NoGate, NoLink, Passes, SumCalls, TileCalls};

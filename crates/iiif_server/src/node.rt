@@ -22,7 +22,7 @@ use iiif_answers::{Cause, Config, Cut, Part, Sent};
 use iiif_assemble::{Job, Workshop};
 use iiif_delivery::{Sending, Stopped, send_image};
 use iiif_group_items::laws::groups_serve_jobs;
-use iiif_group_items::{Admission, GroupItems};
+use iiif_group_items::{GroupItems, JobQueue};
 use iiif_http_front::Call;
 use iiif_images::{Catalogue, ImageEntry, Images};
 use iiif_io::Outlet;
@@ -47,10 +47,10 @@ fn jobs_at_a_time(workers: u32) -> u32
 
 /// Who may make blocks now, among so many nodes. Of several nodes all light jobs may: there a job mostly waits for replies, and who waits
 /// for a slow node is not to hold the others.
-fn admission(alloc: Global, workers: u32, nodes: usize) -> Admission {
+fn job_queue(alloc: Global, workers: u32, nodes: usize) -> JobQueue {
     let most = jobs_at_a_time(workers);
     let light = if nodes > 1 { u32::MAX } else { most };
-    Admission::new(alloc, light, most)
+    JobQueue::new(alloc, light, most)
 }
 
 /// A server. Clauses see what it was told, and its images. J says what the names of the images stand for, and which ledgers count
@@ -64,7 +64,7 @@ where
     config: Config,
     groups: Groups<R, S, J, N, T>,
     /// Who may make blocks now.
-    admission: Admission,
+    queue: JobQueue,
 }
 
 impl<R, S: Source<R>, J: System, N, T> Model for Node<R, S, J, N, T>
@@ -103,7 +103,7 @@ impl<R, S: Source<R> + Drop, J: System, N, T> Node<R, S, J, N, T> {
         ensures items { IfOk result (λ n. n.items ≡ catalogue) }
     {
         let edge = config.edge();
-        let admission = admission(alloc, config.workers(), sums.links.len());
+        let queue = job_queue(alloc, config.workers(), sums.links.len());
         let images = Images::new(alloc, catalogue, edge);
         let group = tiles.group(alloc)?;
         let tiles = Tiles::new(alloc, images, group);
@@ -112,7 +112,7 @@ impl<R, S: Source<R> + Drop, J: System, N, T> Node<R, S, J, N, T> {
         Ok(Node {
             config,
             groups,
-            admission,
+            queue,
         })
     }
 
@@ -248,7 +248,7 @@ impl<
         // Laws of images and of groups.
         picture_is_shown(asked.entry);
         groups_serve_jobs::<J>(planned.job);
-        let items = GroupItems(&self.groups, &self.admission);
+        let items = GroupItems(&self.groups, &self.queue);
         let shop = Workshop {
             rt: host.rt,
             alloc: host.alloc,

@@ -5,8 +5,6 @@
 #![tactic(auto)]
 
 #[cfg(test)]
-mod admission_tests;
-#[cfg(test)]
 mod answer_tests;
 #[cfg(test)]
 mod assembly_tests;
@@ -26,6 +24,8 @@ mod faulty;
 mod file_tests;
 #[cfg(test)]
 mod files;
+#[cfg(test)]
+mod job_queue_tests;
 #[cfg(test)]
 mod law_tests;
 #[cfg(test)]

@@ -102,15 +102,15 @@ impl Queue {
 /// Who may make the blocks of an image now. Without it each of 64 viewers has its workers, who take the processors from one another.
 /// Heavy jobs have a queue of their own: light ones don't wait for them, and of many whose viewers go away few are begun.
 #[derive(Drop)]
-pub struct Admission {
+pub struct JobQueue {
     light: Queue,
     heavy: Queue,
 }
 
-impl Admission {
+impl JobQueue {
     /// Room for so many light jobs at a time, and for so many heavy ones.
-    pub fn new(alloc: Global, light: u32, heavy: u32) -> Admission {
-        Admission {
+    pub fn new(alloc: Global, light: u32, heavy: u32) -> JobQueue {
+        JobQueue {
             light: Queue::new(alloc, light),
             heavy: Queue::new(alloc, heavy),
         }
