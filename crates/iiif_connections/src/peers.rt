@@ -3,7 +3,7 @@
 use crate::connections::ends;
 use crate::times::Times;
 use iiif_keys::{SumKey, System, TileKey};
-use iiif_listener::{Company, Pace, PacedWriter, Visit, close};
+use iiif_listener::{OpenConnections, Pace, PacedWriter, Visit, close};
 use iiif_metrics::{Tally, Visitors};
 use iiif_open_files::Opens;
 use iiif_server::{Gate, Link, Node, SumCalls, TileCalls};
@@ -25,7 +25,7 @@ where
     /// Where the connections are counted.
     pub tally: &'a Tally,
     /// The connections that are open, of viewers too.
-    pub company: &'a Company,
+    pub company: &'a OpenConnections,
 }
 
 impl<

@@ -7,7 +7,7 @@ use crate::viewers::Viewers;
 use crate::watcher::Watcher;
 use iiif_io::Outlet;
 use iiif_keys::{SumKey, System, TileKey};
-use iiif_listener::{Company, Visit};
+use iiif_listener::{OpenConnections, Visit};
 use iiif_open_files::Opens;
 use iiif_server::{Gate, Link, Node, SumCalls, TileCalls};
 use iiif_services::{Addresses, Listeners, logged, serve_all};
@@ -45,7 +45,7 @@ where
         watcher,
     } = manner;
     let tally = &watcher.tally;
-    let company = Company::new();
+    let company = OpenConnections::new();
     let viewers = Viewers {
         node,
         workers,

@@ -7,7 +7,7 @@ use crate::connections::ends;
 use crate::times::Times;
 use crate::watcher::Watcher;
 use iiif_keys::System;
-use iiif_listener::{Company, Pace, PacedWriter, Visit, close};
+use iiif_listener::{OpenConnections, Pace, PacedWriter, Visit, close};
 use iiif_metrics::{
     CacheMetrics, HeldMetrics, Measure, Metrics, PeerMetrics, Service, Services, Visitors,
     serve_metrics,
@@ -112,7 +112,7 @@ impl<'a, R: Opens + Wait + Clock, J: System, N, T> Statistics<'a, R, J, N, T> {
             return false;
         };
         // Nobody is counted in it, so the call is waited for at once.
-        let company = Company::new();
+        let company = OpenConnections::new();
         let connection = (&place, stream);
         let Ok((reader, mut out)) = ends(rt, alloc, &self.times, &pace, &company, connection) else {
             return false;

@@ -12,7 +12,7 @@ use crate::times::Times;
 use crate::watcher::Watcher;
 use iiif_io::{Inlet, Outlet};
 use iiif_keys::{SumKey, System, TileKey};
-use iiif_listener::{Company, Pace, PacedWriter, Visit, close};
+use iiif_listener::{OpenConnections, Pace, PacedWriter, Visit, close};
 use iiif_metrics::Visitors;
 use iiif_open_files::Opens;
 use iiif_server::{Gate, Link, Node, Serving, SumCalls, TileCalls};
@@ -37,7 +37,7 @@ where
     /// Who is told of the connections and their answers.
     pub watcher: &'a Watcher,
     /// The connections that are open, of other nodes too.
-    pub company: &'a Company,
+    pub company: &'a OpenConnections,
 }
 
 impl<

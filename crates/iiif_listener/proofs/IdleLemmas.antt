@@ -4,8 +4,8 @@ use Rattle.std.proofs.Common.{nat_lt, if◌then◌else◌, zero, suc, inl, inr, 
 use Rattle.std.proofs.Math.Seq.{get_or-append_seam}
 use Rattle.std.proofs.lemmas.List.{length-take-le, take_all, take_more}
 use Rattle.iiif_listener.specs.declared.seat.Seat.{Seat}
-use Rattle.iiif_listener.specs.declared.seat.Standing.{Standing}
-use Rattle.iiif_listener.specs.declared.seat.Standing.TheVariants.{Free, AtWork, Idle}
+use Rattle.iiif_listener.specs.declared.seat.SeatState.{SeatState}
+use Rattle.iiif_listener.specs.declared.seat.SeatState.TheVariants.{Free, AtWork, Idle}
 use Rattle.iiif_listener.specs.Places.{IsIdle, IsLongestIdle, NoneIsIdle, at, chosen, nobody}
 
 -- what was found among these
@@ -98,7 +98,7 @@ one_found xs x since is None none = (
 )
 one_found xs x since is (Some f) so = of_two xs x since f (nat_lt since f.1) is refl so
 
-by_standing : (xs : List Seat) (x : Seat) (s : Standing) (found : Option (ℕ × ℕ)) → x.standing ≡ s → IsChosen xs found →
+by_standing : (xs : List Seat) (x : Seat) (s : SeatState) (found : Option (ℕ × ℕ)) → x.standing ≡ s → IsChosen xs found →
     IsChosen (xs ++ x ∷ []) (chosen found (length xs) s)
 by_standing xs x Free None is so = same_found xs x (λ t other. free_waits_not t (sym is ∙ other)) None so
 by_standing xs x Free (Some f) is so = same_found xs x (λ t other. free_waits_not t (sym is ∙ other)) (Some f) so

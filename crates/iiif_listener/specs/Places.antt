@@ -3,8 +3,8 @@ use Rattle.std.specs.Prelude.{◌≡◌, ◌⊎◌, ℕ, ◌<◌, ◌≤◌, ◌
 use Rattle.std.specs.Prelude.{slice_index_or, slice_set}
 use Rattle.std.specs.List.{filter}
 use Rattle.iiif_listener.specs.declared.seat.Seat.{Seat}
-use Rattle.iiif_listener.specs.declared.seat.Standing.{Standing}
-use Rattle.iiif_listener.specs.declared.seat.Standing.TheVariants.{Free, AtWork, Idle}
+use Rattle.iiif_listener.specs.declared.seat.SeatState.{SeatState}
+use Rattle.iiif_listener.specs.declared.seat.SeatState.TheVariants.{Free, AtWork, Idle}
 use Rattle.iiif_listener.specs.declared.table.Table.{Table}
 use Rattle.iiif_listener.specs.declared.ticket.Ticket.{Ticket}
 
@@ -20,7 +20,7 @@ nobody = record { number = 0; address = 0; standing = Free }
 abbrev pub at : List Seat → ℕ → Seat
 at seats place = slice_index_or seats place nobody
 
-abbrev pub is_free : Standing → Bool
+abbrev pub is_free : SeatState → Bool
 is_free Free = true
 is_free AtWork = false
 is_free (Idle since) = false
@@ -38,7 +38,7 @@ abbrev pub NoneIsIdle : List Seat → Type 0
 NoneIsIdle seats = (place since : ℕ) → IsIdle seats place since → ⊥
 
 -- of the one that was chosen so far and the one at a place that which waits longer
-abbrev pub chosen : Option (ℕ × ℕ) → ℕ → Standing → Option (ℕ × ℕ)
+abbrev pub chosen : Option (ℕ × ℕ) → ℕ → SeatState → Option (ℕ × ℕ)
 chosen None place (Idle since) = Some (place, since)
 chosen (Some found) place (Idle since) = if nat_lt since found.1 then Some (place, since) else Some found
 chosen found place Free = found
@@ -83,7 +83,7 @@ abbrev pub keeps : List Seat → Ticket → Bool
 keeps seats ticket = (at seats ticket.place).number == ticket.number
 
 -- the places where it does something else from now on, if it still has its own
-abbrev pub standing_so : List Seat → Ticket → Standing → List Seat
+abbrev pub standing_so : List Seat → Ticket → SeatState → List Seat
 standing_so seats ticket standing =
     if keeps seats ticket then slice_set seats ticket.place (record (at seats ticket.place) { standing = standing }) else seats
 

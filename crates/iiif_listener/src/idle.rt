@@ -3,16 +3,16 @@
 ghost use Rattle.std.specs.Prelude.{◌≡◌, IfNone, IfSome};
 ghost use Rattle.iiif_listener.specs.Places.{IsLongestIdle, NoneIsIdle, chosen};
 
-use crate::seat::{Seat, Standing};
+use crate::seat::{Seat, SeatState};
 
 /// Of the connection that was chosen so far, if one was, and the one at a place, which is idle longer. The one so far where both are
 /// idle since the same turn.
-fn longer(found: Option<(usize, u64)>, place: usize, standing: Standing) -> Option<(usize, u64)>
+fn longer(found: Option<(usize, u64)>, place: usize, standing: SeatState) -> Option<(usize, u64)>
     ensures { result ≡ chosen found place standing }
 {
     match (found, standing) {
-        (None, Standing::Idle(since)) => Some((place, since)),
-        (Some((_, first)), Standing::Idle(since)) if since < first => Some((place, since)),
+        (None, SeatState::Idle(since)) => Some((place, since)),
+        (Some((_, first)), SeatState::Idle(since)) if since < first => Some((place, since)),
         _ => found,
     }
 }

@@ -21,7 +21,7 @@ pub trait Serve<R: Wait> {
     fn serve(&self, rt: &R, alloc: Global, visit: Visit<'_, R>);
 
     /// Is told of a connection that was closed unanswered.
-    fn refused(&self, _rt: &R) {}
+    fn report_refused(&self, _rt: &R) {}
 }
 
 /// Serves each connection that a listener takes by a function, in a thread of its own, up to 64 at once. For one more the connection is
@@ -86,7 +86,7 @@ pub fn serve_listener<R: Threads + Wait + Clock + Sync, V: Serve<R> + Sync>(
     admission: Admission<'_>,
 ) -> io::Result<()> {
     let serve = |visit: Visit<'_, R>| service.serve(rt, alloc, visit);
-    let refused = || service.refused(rt);
+    let refused = || service.report_refused(rt);
     serve_each(rt, alloc, &serve, &refused, listener, admission)
 }
 

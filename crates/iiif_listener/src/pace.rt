@@ -2,10 +2,10 @@
 
 ghost use Rattle.std.specs.Prelude.{◌≤◌, IfOk, IfSome, length};
 
-use crate::company::Company;
 use crate::flow::Flow;
+use crate::open_connections::OpenConnections;
 use crate::places::Place;
-use crate::warm::Warm;
+use crate::primed_memory::PrimedMemory;
 use iiif_io::{Inlet, Outlet, is_ended, is_reset};
 use std::io;
 use std::io::{ErrorKind, Read, Write};
@@ -104,9 +104,9 @@ pub struct PacedReader<'a, R: Clock + Wait> {
     /// Its place.
     pub place: &'a Place<'a, R>,
     /// The connections that are open: where this one is alone, the next head is looked for a moment before it is waited for.
-    pub company: &'a Company,
+    pub company: &'a OpenConnections,
     /// What is written to before it is looked for, as much as stood behind the last answer's head: the next one is likely of that size.
-    pub warm: Warm,
+    pub warm: PrimedMemory,
 }
 
 /// Reads what came, without waiting. None where nothing did in a moment.

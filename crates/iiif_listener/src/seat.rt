@@ -2,7 +2,7 @@
 
 /// What a connection does at its place.
 #[derive(Clone, Copy, Debug, PartialEq, Eq)]
-pub enum Standing {
+pub enum SeatState {
     /// No connection is there.
     Free,
     /// A request of it is read or answered, or it is closed.
@@ -18,5 +18,5 @@ pub struct Seat {
     pub number: u64,
     /// Where it comes from, as [`crate::address_of`] has it.
     pub address: u128,
-    pub standing: Standing,
+    pub standing: SeatState,
 }

@@ -1,12 +1,12 @@
 //! Which connections have the places of a listener.
 
 ghost use Rattle.std.specs.Prelude.{◌≡◌, ◌⊎◌, ◌<◌, IfNone, IfSome, length, slice_set, true};
-ghost use Rattle.iiif_listener.specs.declared.seat.Standing.TheVariants.{AtWork, Idle};
+ghost use Rattle.iiif_listener.specs.declared.seat.SeatState.TheVariants.{AtWork, Idle};
 ghost use Rattle.iiif_listener.specs.Places.{IsCrowded, IsFull, IsVacancy, NoneIsFree, at, connections_of, is_free as is_free_spec, is_of};
 ghost use Rattle.iiif_listener.specs.Places.{is_taken, keeps, left_by, most, standing_so, taken};
 
 use crate::idle::longest_idle;
-use crate::seat::{Seat, Standing};
+use crate::seat::{Seat, SeatState};
 use crate::ticket::Ticket;
 
 /// The most open connections of a listener, and how many may still end beside them whose places others have.
@@ -16,7 +16,7 @@ pub const MOST: u32 = 64;
 const NOBODY: Seat = Seat {
     number: 0,
     address: 0,
-    standing: Standing::Free,
+    standing: SeatState::Free,
 };
 
 /// The places of a listener, each with its connection.
@@ -34,8 +34,8 @@ fn is_free(seat: &Seat) -> bool
     ensures { result ≡ is_free_spec seat.now.standing }
 {
     match seat.standing {
-        Standing::Free => true,
-        Standing::AtWork | Standing::Idle(_) => false,
+        SeatState::Free => true,
+        SeatState::AtWork | SeatState::Idle(_) => false,
     }
 }
 
@@ -128,7 +128,7 @@ impl Table {
         self.seats[place] = Seat {
             number,
             address,
-            standing: Standing::AtWork,
+            standing: SeatState::AtWork,
         };
         Some(Ticket { place, number })
     }
@@ -141,7 +141,7 @@ impl Table {
     }
 
     /// A connection does something else from now on. It says whether it still has its place: where not, nothing changes.
-    fn stand(&mut self, ticket: Ticket, standing: Standing) -> bool
+    fn stand(&mut self, ticket: Ticket, standing: SeatState) -> bool
         ensures value { result ≡ keeps self.old.seats ticket }
         ensures state { self.new ≡ record self.old { seats = standing_so self.old.seats ticket standing } }
     {
@@ -158,7 +158,7 @@ impl Table {
         ensures seats { self.new.seats ≡ standing_so self.old.seats ticket (Idle self.new.turns) }
     {
         self.turns = self.turns.saturating_add(1);
-        self.stand(ticket, Standing::Idle(self.turns))
+        self.stand(ticket, SeatState::Idle(self.turns))
     }
 
     /// A request of a connection came. It says whether the connection still has its place.
@@ -166,7 +166,7 @@ impl Table {
         ensures value { result ≡ keeps self.old.seats ticket }
         ensures seats { self.new.seats ≡ standing_so self.old.seats ticket AtWork }
     {
-        self.stand(ticket, Standing::AtWork)
+        self.stand(ticket, SeatState::AtWork)
     }
 
     /// A connection has ended. It says whether it had its place until now.

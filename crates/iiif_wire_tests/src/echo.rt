@@ -36,7 +36,7 @@ impl Echo {
 }
 
 impl<R: Wait> Serve<R> for Echo {
-    fn refused(&self, _rt: &R) {
+    fn report_refused(&self, _rt: &R) {
         self.turned_away.fetch_add(1, Ordering::SeqCst);
     }
 

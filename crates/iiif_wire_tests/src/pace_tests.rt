@@ -3,7 +3,7 @@
 use crate::echo::connected;
 use iiif_io::{Inlet, Outlet};
 use iiif_listener::{
-    Company, Flow, Pace, PacedReader, PacedWriter, Places, Rate, Visit, Warm, close,
+    Flow, OpenConnections, Pace, PacedReader, PacedWriter, Places, PrimedMemory, Rate, Visit, close,
 };
 use std::alloc::Global;
 use std::io::{Read, Write};
@@ -14,8 +14,8 @@ use std::thread::Threads;
 use std::time::{Clock, Duration};
 
 /// So many connections.
-fn company_of(count: u32) -> Company {
-    let company = Company::new();
+fn company_of(count: u32) -> OpenConnections {
+    let company = OpenConnections::new();
     for _ in 0..count {
         company.enter();
     }
@@ -55,7 +55,7 @@ fn read_drops<R: Clock + Wait>(
         idle: Duration::from_millis(400),
         place: &place,
         company: &company,
-        warm: Warm::new(alloc),
+        warm: PrimedMemory::new(alloc),
     };
     Some(count_drops(&mut reader, &mut out, answers))
 }

@@ -2,7 +2,7 @@
 
 use crate::echo::connected;
 use iiif_listener::{
-    Admission, Places, Retry, Seat, Standing, Table, Ticket, address_of, after_failure,
+    Admission, Places, Retry, Seat, SeatState, Table, Ticket, address_of, after_failure,
     longest_idle,
 };
 use std::alloc::Global;
@@ -63,7 +63,7 @@ fn an_address_has_as_many_as_it_may(rt: HostRuntime) -> Result<(), Fail> {
 }
 
 /// A place whose connection does this.
-fn seat(standing: Standing) -> Seat {
+fn seat(standing: SeatState) -> Seat {
     Seat {
         number: 1,
         address: 1,
@@ -74,11 +74,11 @@ fn seat(standing: Standing) -> Seat {
 #[test]
 fn the_longest_idle(rt: HostRuntime) {
     let seats = [
-        seat(Standing::Free),
-        seat(Standing::Idle(9)),
-        seat(Standing::AtWork),
-        seat(Standing::Idle(4)),
-        seat(Standing::Idle(4)),
+        seat(SeatState::Free),
+        seat(SeatState::Idle(9)),
+        seat(SeatState::AtWork),
+        seat(SeatState::Idle(4)),
+        seat(SeatState::Idle(4)),
     ];
     assert!(rt; longest_idle(&seats) == Some(3) && longest_idle(&seats[..2]) == Some(1));
     assert!(rt; longest_idle(&seats[..1]).is_none() && longest_idle(&[]).is_none());

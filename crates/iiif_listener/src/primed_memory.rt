@@ -11,14 +11,14 @@ const MOST: usize = 262_144;
 /// Memory that is written to while a viewer takes its answer, and given back before the next is made. The allocator hands out again what
 /// it was given back last: so the next answer of that size is made in memory that stands in the processor's cache.
 #[derive(Drop)]
-pub struct Warm {
+pub struct PrimedMemory {
     bytes: Vec<u8>,
 }
 
-impl Warm {
+impl PrimedMemory {
     /// None yet.
-    pub fn new(alloc: Global) -> Warm {
-        Warm {
+    pub fn new(alloc: Global) -> PrimedMemory {
+        PrimedMemory {
             bytes: Vec::new(alloc),
         }
     }

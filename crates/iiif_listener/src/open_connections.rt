@@ -4,14 +4,14 @@ use std::sync::atomic::{AtomicU64, Ordering};
 
 /// The connections that are open.
 #[derive(Drop)]
-pub struct Company {
+pub struct OpenConnections {
     open: AtomicU64,
 }
 
-impl Company {
+impl OpenConnections {
     /// None is open.
-    pub fn new() -> Company {
-        Company {
+    pub fn new() -> OpenConnections {
+        OpenConnections {
             open: AtomicU64::new(0),
         }
     }
