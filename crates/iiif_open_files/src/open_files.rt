@@ -42,12 +42,12 @@ impl<R: Opens> OpenFiles<R> {
     }
 
     /// A number that no earlier source and no earlier opening has.
-    pub(crate) fn number(&self) -> u64 {
+    pub(crate) fn take_number(&self) -> u64 {
         self.numbers.fetch_add(1, Ordering::SeqCst)
     }
 
     /// A path that is shared by a source and what it opens.
-    pub(crate) fn shared(&self, path: String) -> Result<Arc<String>, AllocError>
+    pub(crate) fn share_path(&self, path: String) -> Result<Arc<String>, AllocError>
         ensures { IfOk result (λ p. arc_value p ≡ path) }
     {
         Ok(Arc::new(self.alloc, path)?)

@@ -37,14 +37,14 @@ impl<R: Opens + Wait> PathSource<R> {
         ensures path { IfOk result (λ s. s.path ≡ string_bytes path) }
         ensures length { R.keeps (string_bytes path) → IfOk result (λ s. s.len ≡ length (R.holds (string_bytes path))) }
     {
-        let path = files.shared(path)?;
+        let path = files.share_path(path)?;
         let file = OpenFile::open(rt, path.clone()?)?;
         let known = Known::of(&file.metadata(rt)?);
         let opening = Opening {
-            number: files.number(),
+            number: files.take_number(),
             file,
         };
-        let number = files.number();
+        let number = files.take_number();
         files.keep(rt, number, opening);
         Ok(PathSource {
             files,
@@ -55,7 +55,7 @@ impl<R: Opens + Wait> PathSource<R> {
     }
 
     /// The file, where it is kept open.
-    fn kept(&self, rt: &R) -> Option<Arc<Opening<R>>>
+    fn find_kept(&self, rt: &R) -> Option<Arc<Opening<R>>>
         ensures { IfSome result (λ o. string_bytes (arc_value (arc_value o).file.path) ≡ self.now.path) }
     {
         self.files.find(rt, self.number, self.path.as_str())
@@ -63,7 +63,7 @@ impl<R: Opens + Wait> PathSource<R> {
 
     /// The file, opened again, or the cause of the fault of a read: it is gone, it can't be opened, or it isn't what it was. The
     /// opening has a number of its own, so nothing that was read ahead of an earlier one is used for it.
-    fn opened(&self, rt: &R) -> Result<Opening<R>, u8>
+    fn reopen(&self, rt: &R) -> Result<Opening<R>, u8>
         ensures path { IfOk result (λ o. string_bytes (arc_value o.file.path) ≡ self.now.path) }
         ensures length { IfOk result (λ o. Says R.tells o.file.handle (λ found. metadata_len found ≡ self.now.len)) }
         ensures cause { IfErr result (λ cause. IsTrue (cause == failed || cause == ended)) }
@@ -79,7 +79,7 @@ impl<R: Opens + Wait> PathSource<R> {
         };
         match self.known.change(&Known::of(&now)) {
             None => Ok(Opening {
-                number: self.files.number(),
+                number: self.files.take_number(),
                 file,
             }),
             Some(cause) => Err(cause),
@@ -100,7 +100,7 @@ impl<R: Opens + Wait> PathSource<R> {
     /// of this opening, or their rows are read ahead: a read of these that fails isn't made again, its fault is the runs'. Where
     /// nothing is to be read ahead they are read alone.
     #[tactic(auto, using(iiif_source::proofs::Faults::by_cause))]
-    fn runs_of(
+    fn read_runs_of(
         &self,
         rt: &R,
         opening: &Opening<R>,
@@ -171,10 +171,10 @@ impl<R: Opens + Wait> Source<R> for PathSource<R> {
     }
 
     fn read_at(&self, rt: &R, at: u64, buffer: &mut [u8]) -> Result<(), ReadFault> {
-        if let Some(opening) = self.kept(rt) {
+        if let Some(opening) = self.find_kept(rt) {
             return self.fill(rt, &opening, at, buffer);
         }
-        let opening = match self.opened(rt) {
+        let opening = match self.reopen(rt) {
             Ok(opening) => opening,
             Err(cause) => return Err(ReadFault { place: at, cause }),
         };
@@ -185,17 +185,17 @@ impl<R: Opens + Wait> Source<R> for PathSource<R> {
 
     #[tactic(auto, using(iiif_source::proofs::Faults::first_begins))]
     fn read_runs(&self, rt: &R, runs: Runs, buffer: &mut [u8]) -> Result<(), ReadFault> {
-        if let Some(opening) = self.kept(rt) {
-            return self.runs_of(rt, &opening, runs, buffer);
+        if let Some(opening) = self.find_kept(rt) {
+            return self.read_runs_of(rt, &opening, runs, buffer);
         }
-        let opening = match self.opened(rt) {
+        let opening = match self.reopen(rt) {
             Ok(opening) => opening,
             Err(cause) => {
                 let place = runs.at;
                 return Err(ReadFault { place, cause });
             }
         };
-        let read = self.runs_of(rt, &opening, runs, buffer);
+        let read = self.read_runs_of(rt, &opening, runs, buffer);
         self.files.keep(rt, self.number, opening);
         read
     }

@@ -60,7 +60,7 @@ fn short_at<R, S: Source<R>>(
 }
 
 /// The bytes at a place, by one read.
-pub fn bytes_at<R, S: Source<R>>(
+pub fn read_bytes_at<R, S: Source<R>>(
     rt: &R,
     alloc: Global,
     source: &S,
@@ -162,7 +162,7 @@ fn read_directory<R, S: Source<R>>(
 {
     let count = entry_count(rt, source, header)?;
     let start = header.directory as u64 + 2;
-    let bytes = bytes_at(rt, alloc, source, start, 12 * count as usize)?;
+    let bytes = read_bytes_at(rt, alloc, source, start, 12 * count as usize)?;
     Ok(decode_entries(alloc, header.order, &bytes, count)?)
 }
 
@@ -288,7 +288,7 @@ impl<'a, R, S: Source<R>> Fields<'a, R, S> {
         if self.source.len() < offset + entry.count as u64 * size {
             return Err(OpenFault::Truncated);
         }
-        let bytes = bytes_at(
+        let bytes = read_bytes_at(
             self.rt,
             alloc,
             self.source,

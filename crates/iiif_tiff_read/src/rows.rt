@@ -84,7 +84,7 @@ pub fn pairs_interpreted(
 }
 
 /// The bytes of the runs, one run after another.
-fn runs_at<R, S: Source<R>>(
+fn read_runs_at<R, S: Source<R>>(
     rt: &R,
     alloc: Global,
     source: &S,
@@ -262,7 +262,7 @@ pub fn read_window<R, S: Source<R>>(
         source.read_runs(rt, runs, &mut samples[start..end])?;
         return Ok(());
     }
-    let read = runs_at(rt, alloc, source, runs)?;
+    let read = read_runs_at(rt, alloc, source, runs)?;
     put_rows(rows.bits, &read, span, window, samples);
     Ok(())
 }

@@ -18,8 +18,8 @@ read_runs-requires-clause-length g c =
     rw ((c.span_of-span.ensures.whole c.if-rows-eq8.true).1, c.if-window.true)
     (length-mid (v.top * v.width) _ (v.rows * v.width) c.args.samples.now m-is total)
 
-pub runs_at-requires : goal.runs_at-requires
-runs_at-requires g c = record {
+pub read_runs_at-requires : goal.read_runs_at-requires
+read_runs_at-requires g c = record {
   runs = runs_in c.args.rows.at c.args.rows.stride c.args.window.rows _ c.span_of-span.result c.requires.small.0 c.requires.small.1
       c.requires.rows
       (span_in_row c.args.rows.bits c.args.rows.first c.args.window.columns c.args.rows.stride c.span_of-span.result c.requires.bits

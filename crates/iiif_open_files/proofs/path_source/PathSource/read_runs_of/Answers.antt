@@ -1,7 +1,7 @@
 use Rattle.std.proofs.Common.{rules, sym}
 use Rattle.iiif_source.specs.Runs.{HoldsRuns}
 use Rattle.iiif_source.proofs.Fitting.{runs_of_fitted}
-use Rattle.iiif_open_files.proofs.path_source.PathSource.runs_of.Goals as goal
+use Rattle.iiif_open_files.proofs.path_source.PathSource.read_runs_of.Goals as goal
 
 pub returns-then-branch-clause-runs : goal.returns-then-branch-clause-runs
 returns-then-branch-clause-runs g c =
