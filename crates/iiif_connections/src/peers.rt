@@ -66,17 +66,17 @@ impl<
 
     /// Answers the asks of a connection in order, and closes it. The connection is counted.
     pub fn serve(&self, rt: &R, alloc: Global, visit: Visit<'_, R>) {
-        self.tally.opened(rt, Visitors::Peers);
+        self.tally.count_opened(rt, Visitors::Peers);
         self.company.enter();
         if !self.answer(rt, alloc, visit) {
             self.refused(rt);
         }
         self.company.leave();
-        self.tally.closed(rt, Visitors::Peers);
+        self.tally.count_closed(rt, Visitors::Peers);
     }
 
     /// Counts a connection that was closed unanswered.
     pub fn refused(&self, rt: &R) {
-        self.tally.refused(rt, Visitors::Peers);
+        self.tally.count_refused(rt, Visitors::Peers);
     }
 }

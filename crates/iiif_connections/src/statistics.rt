@@ -127,15 +127,15 @@ impl<'a, R: Opens + Wait + Clock, J: System, N, T> Statistics<'a, R, J, N, T> {
 
     /// Answers the one call of a connection, and closes it. The connection is counted.
     pub fn serve(&self, rt: &R, alloc: Global, visit: Visit<'_, R>) {
-        self.watcher.tally.opened(rt, Visitors::Statistics);
+        self.watcher.tally.count_opened(rt, Visitors::Statistics);
         if !self.answer(rt, alloc, visit) {
             self.refused(rt);
         }
-        self.watcher.tally.closed(rt, Visitors::Statistics);
+        self.watcher.tally.count_closed(rt, Visitors::Statistics);
     }
 
     /// Counts a connection that was closed unanswered.
     pub fn refused(&self, rt: &R) {
-        self.watcher.tally.refused(rt, Visitors::Statistics);
+        self.watcher.tally.count_refused(rt, Visitors::Statistics);
     }
 }

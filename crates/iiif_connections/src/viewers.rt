@@ -54,18 +54,18 @@ where
     /// watcher is told of it, and of each answer once it ended.
     pub fn serve(&self, rt: &R, alloc: Global, visit: Visit<'_, R>) {
         let tally = &self.watcher.tally;
-        tally.opened(rt, Visitors::Viewers);
+        tally.count_opened(rt, Visitors::Viewers);
         self.company.enter();
         if !self.answer(rt, alloc, visit) {
             self.refused(rt);
         }
         self.company.leave();
-        tally.closed(rt, Visitors::Viewers);
+        tally.count_closed(rt, Visitors::Viewers);
     }
 
     /// Counts a connection that was closed unanswered.
     pub fn refused(&self, rt: &R) {
-        self.watcher.tally.refused(rt, Visitors::Viewers);
+        self.watcher.tally.count_refused(rt, Visitors::Viewers);
     }
 
     /// The same, but for the connection's being told. It says whether the connection was served.

@@ -130,8 +130,8 @@ impl<R: Wait + Clock> Watch<R> for Watcher {
         outcome: &Result<Sent, Cut>,
     ) {
         match outcome {
-            Ok(sent) => self.tally.answered(rt, sent.status, sent.bytes),
-            Err(cut) => self.tally.cut_off(rt, cut.sent),
+            Ok(sent) => self.tally.count_answer(rt, sent.status, sent.bytes),
+            Err(cut) => self.tally.count_cut(rt, cut.sent),
         }
         if let Some(log) = &self.log {
             let millis = millis_since(rt, begun);

@@ -5,8 +5,8 @@ use Rattle.std.specs.List.{flat_map}
 use Rattle.iiif_metrics.specs.declared.counts.Counts.{Counts}
 use Rattle.iiif_metrics.specs.declared.metrics.CacheMetrics.{CacheMetrics}
 use Rattle.iiif_metrics.specs.declared.metrics.HeldMetrics.{HeldMetrics}
-use Rattle.iiif_metrics.specs.declared.text.Kind.{Kind}
-use Rattle.iiif_metrics.specs.declared.text.Kind.TheVariants.{Counter, Gauge, Histogram}
+use Rattle.iiif_metrics.specs.declared.text.MetricKind.{MetricKind}
+use Rattle.iiif_metrics.specs.declared.text.MetricKind.TheVariants.{Counter, Gauge, Histogram}
 use Rattle.iiif_metrics.specs.declared.text.Row.{Row}
 use Rattle.iiif_metrics.specs.declared.text.Sample.{Sample}
 
@@ -14,11 +14,11 @@ use Rattle.iiif_metrics.specs.declared.text.Sample.{Sample}
 pub record Family : Type 0 where
   pub name : List ℕ
   pub help : List ℕ
-  pub kind : Kind
+  pub kind : MetricKind
   pub samples : List (List ℕ × ℕ)
 
 -- the type of a family
-abbrev pub kind_word : Kind → List ℕ
+abbrev pub kind_word : MetricKind → List ℕ
 kind_word Counter = codes "counter"
 kind_word Gauge = codes "gauge"
 kind_word Histogram = codes "histogram"
@@ -28,7 +28,7 @@ unfoldable pub help_line : List ℕ → List ℕ → List ℕ
 help_line name help = codes "# HELP " ++ name ++ codes " " ++ help ++ codes "\n"
 
 -- the line of type of a family of this name
-unfoldable pub type_line : List ℕ → Kind → List ℕ
+unfoldable pub type_line : List ℕ → MetricKind → List ℕ
 type_line name kind = codes "# TYPE " ++ name ++ codes " " ++ kind_word kind ++ codes "\n"
 
 -- the line of a sample of this name
@@ -40,7 +40,7 @@ abbrev pub family_text : Family → List ℕ
 family_text f = help_line f.name f.help ++ type_line f.name f.kind ++ flat_map (sample_line f.name) f.samples
 
 -- a family of one sample without labels
-abbrev pub single : List ℕ → List ℕ → Kind → ℕ → Family
+abbrev pub single : List ℕ → List ℕ → MetricKind → ℕ → Family
 single name help kind value = record { name = name; help = help; kind = kind; samples = ([], value) ∷ [] }
 
 -- what a cache and its flights counted, and what is kept, under names with this front
@@ -137,5 +137,5 @@ abbrev pub sample_view : Sample → List ℕ × ℕ
 sample_view s = (s.labels.now, s.value)
 
 -- samples as a family
-abbrev pub family_of : List ℕ → List ℕ → Kind → List Sample → Family
+abbrev pub family_of : List ℕ → List ℕ → MetricKind → List Sample → Family
 family_of name help kind samples = record { name = name; help = help; kind = kind; samples = map sample_view samples }

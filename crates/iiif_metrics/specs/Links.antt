@@ -7,8 +7,8 @@ use Rattle.iiif_breaker.specs.declared.counts.Asks.{Asks}
 use Rattle.iiif_breaker.specs.declared.durations.Durations.{Durations}
 use Rattle.iiif_metrics.specs.Exposition.{help_line, sample_line, type_line}
 use Rattle.iiif_metrics.specs.declared.metrics.LinkMetrics.{LinkMetrics}
-use Rattle.iiif_metrics.specs.declared.text.Kind.{Kind}
-use Rattle.iiif_metrics.specs.declared.text.Kind.TheVariants.{Counter, Gauge, Histogram}
+use Rattle.iiif_metrics.specs.declared.text.MetricKind.{MetricKind}
+use Rattle.iiif_metrics.specs.declared.text.MetricKind.TheVariants.{Counter, Gauge, Histogram}
 
 -- a byte of a label's value: the backslash, quotes and the line feed stand behind a backslash, the last as n
 abbrev pub label_byte : ℕ → List ℕ
@@ -50,7 +50,7 @@ abbrev pub state_of_link : LinkMetrics → List ℕ
 state_of_link l = sample_line (codes "iiif_peer_state") (link_sample (string_bytes l.name) (codes "\"}", state_number l.state))
 
 -- the lines of help and of type of a family
-abbrev pub head_lines : List ℕ → List ℕ → Kind → List ℕ
+abbrev pub head_lines : List ℕ → List ℕ → MetricKind → List ℕ
 head_lines name help kind = help_line name help ++ type_line name kind
 
 -- what is told of each link

@@ -77,7 +77,7 @@ impl Counts {
     }
 
     /// An answer of this status was sent whole, which took so many bytes.
-    pub fn answered(&mut self, status: u16, bytes: u64)
+    pub fn count_answer(&mut self, status: u16, bytes: u64)
         ensures { self.new ≡ with_answer status bytes self.old }
     {
         let place = place_of(status);
@@ -86,7 +86,7 @@ impl Counts {
     }
 
     /// An answer was cut off behind so many bytes.
-    pub fn cut_off(&mut self, bytes: u64)
+    pub fn count_cut(&mut self, bytes: u64)
         ensures { self.new ≡ with_cut bytes self.old }
     {
         self.cut = self.cut.saturating_add(1);
@@ -94,7 +94,7 @@ impl Counts {
     }
 
     /// A connection was opened.
-    pub fn opened(&mut self, visitors: Visitors)
+    pub fn count_opened(&mut self, visitors: Visitors)
         ensures { self.new ≡ with_opened visitors self.old }
     {
         let place = listener_place(visitors);
@@ -102,7 +102,7 @@ impl Counts {
     }
 
     /// A connection was closed.
-    pub fn closed(&mut self, visitors: Visitors)
+    pub fn count_closed(&mut self, visitors: Visitors)
         ensures { self.new ≡ with_closed visitors self.old }
     {
         let place = listener_place(visitors);
@@ -110,7 +110,7 @@ impl Counts {
     }
 
     /// A connection was closed unanswered.
-    pub fn refused(&mut self, visitors: Visitors)
+    pub fn count_refused(&mut self, visitors: Visitors)
         ensures { self.new ≡ with_refused visitors self.old }
     {
         let place = listener_place(visitors);
@@ -133,28 +133,28 @@ impl Tally {
     }
 
     /// An answer was sent whole.
-    pub fn answered<R: Wait>(&self, rt: &R, status: u16, bytes: u64) {
-        self.counts.lock(rt).answered(status, bytes);
+    pub fn count_answer<R: Wait>(&self, rt: &R, status: u16, bytes: u64) {
+        self.counts.lock(rt).count_answer(status, bytes);
     }
 
     /// An answer was cut off.
-    pub fn cut_off<R: Wait>(&self, rt: &R, bytes: u64) {
-        self.counts.lock(rt).cut_off(bytes);
+    pub fn count_cut<R: Wait>(&self, rt: &R, bytes: u64) {
+        self.counts.lock(rt).count_cut(bytes);
     }
 
     /// A connection was opened.
-    pub fn opened<R: Wait>(&self, rt: &R, visitors: Visitors) {
-        self.counts.lock(rt).opened(visitors);
+    pub fn count_opened<R: Wait>(&self, rt: &R, visitors: Visitors) {
+        self.counts.lock(rt).count_opened(visitors);
     }
 
     /// A connection was closed.
-    pub fn closed<R: Wait>(&self, rt: &R, visitors: Visitors) {
-        self.counts.lock(rt).closed(visitors);
+    pub fn count_closed<R: Wait>(&self, rt: &R, visitors: Visitors) {
+        self.counts.lock(rt).count_closed(visitors);
     }
 
     /// A connection was closed unanswered.
-    pub fn refused<R: Wait>(&self, rt: &R, visitors: Visitors) {
-        self.counts.lock(rt).refused(visitors);
+    pub fn count_refused<R: Wait>(&self, rt: &R, visitors: Visitors) {
+        self.counts.lock(rt).count_refused(visitors);
     }
 
     /// What was counted so far.

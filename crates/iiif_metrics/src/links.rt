@@ -8,7 +8,7 @@ ghost use Rattle.iiif_metrics.specs.Links.{link_labels, links_text, seconds_text
 
 use crate::metrics::LinkMetrics;
 use crate::text::{
-    Kind, NoMemory, Sample, push_help, push_sample, push_samples, push_type, sample_of,
+    MetricKind, NoMemory, Sample, push_help, push_sample, push_samples, push_type, sample_of,
 };
 use iiif_breaker::{Asks, Durations, State};
 use std::alloc::Global;
@@ -132,7 +132,7 @@ fn push_head(
     text: &mut Vec<u8>,
     name: &str,
     help: &str,
-    kind: Kind,
+    kind: MetricKind,
 ) -> Result<(), NoMemory>
     ensures { OnOk result (text.new.items ≡ text.old.items ++ head_lines name.now help.now kind) }
 {
@@ -175,7 +175,7 @@ pub(crate) fn push_links(
         text,
         ASKS,
         "Asks of another node by how they ended, and those that weren't made.",
-        Kind::Counter,
+        MetricKind::Counter,
     )?;
     push_all_asks(alloc, text, links)?;
     push_head(
@@ -183,7 +183,7 @@ pub(crate) fn push_links(
         text,
         STATE,
         "0 where another node is asked, 1 where one ask tries it, 2 where it is left alone.",
-        Kind::Gauge,
+        MetricKind::Gauge,
     )?;
     push_all_states(alloc, text, links)?;
     Ok(())
@@ -219,7 +219,7 @@ pub(crate) fn push_seconds(text: &mut String, durations: &Durations) -> Result<(
     ensures { OnOk result (string_bytes text.new ≡ string_bytes text.old ++ seconds_text durations.now) }
 {
     push_help(text, "", SECONDS, "How long asks of other nodes took.")?;
-    push_type(text, "", SECONDS, Kind::Histogram)?;
+    push_type(text, "", SECONDS, MetricKind::Histogram)?;
     let samples = bucket_samples_of(&durations.within, durations.all);
     push_samples(text, "", "iiif_peer_ask_seconds_bucket", &samples)?;
     push_sum(text, durations.micros)?;

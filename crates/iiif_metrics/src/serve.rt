@@ -98,7 +98,11 @@ fn no_head(alloc: Global) -> Result<Vec<u8>, NoMemory>
 }
 
 /// The answer that tells the counters.
-fn told(alloc: Global, metrics: &Metrics, peers: &PeerMetrics) -> Result<Vec<u8>, NoMemory>
+fn metrics_message(
+    alloc: Global,
+    metrics: &Metrics,
+    peers: &PeerMetrics,
+) -> Result<Vec<u8>, NoMemory>
     ensures { IfOk result (λ text. text.items ≡ metrics_answer metrics.now peers.now) }
 {
     let body = metrics_text(alloc, metrics, peers)?;
@@ -125,7 +129,7 @@ fn health_status(services: &Services) -> StatusCode
 }
 
 /// The answer that tells which services go on.
-fn told_health(alloc: Global, services: &Services) -> Result<Vec<u8>, NoMemory>
+fn health_message(alloc: Global, services: &Services) -> Result<Vec<u8>, NoMemory>
     ensures { IfOk result (λ text. text.items ≡ health_answer services.now) }
 {
     let body = services_text(alloc, services)?;
@@ -149,10 +153,10 @@ pub fn answer_bytes(alloc: Global, call: &Call, telling: &Telling) -> Result<Vec
         return other_method(alloc);
     }
     if is_metrics(&call.target) {
-        return told(alloc, &telling.metrics, &telling.peers);
+        return metrics_message(alloc, &telling.metrics, &telling.peers);
     }
     if is_health(&call.target) {
-        return told_health(alloc, &telling.services);
+        return health_message(alloc, &telling.services);
     }
     other_target(alloc)
 }

@@ -6,7 +6,7 @@ ghost use Rattle.iiif_metrics.specs.Exposition.{answer_family, cache_families, f
 ghost use Rattle.iiif_metrics.specs.Exposition.{help_line, kind_word, listener_samples, open_family, refused_family, row_family};
 ghost use Rattle.iiif_metrics.specs.Exposition.{sample_line, sample_view, server_families, single, status_samples, type_line};
 ghost use Rattle.iiif_metrics.specs.Page.{text_of};
-ghost use Rattle.iiif_metrics.specs.declared.text.Kind.TheVariants as Kind;
+ghost use Rattle.iiif_metrics.specs.declared.text.MetricKind.TheVariants as MetricKind;
 
 use crate::counts::Counts;
 use crate::links::{push_links, push_seconds};
@@ -20,7 +20,7 @@ const USUAL_LENGTH: usize = 4096;
 
 /// The type of a family of samples.
 #[derive(Clone, Copy, Debug, PartialEq, Eq)]
-pub enum Kind {
+pub enum MetricKind {
     /// It never falls while the server runs.
     Counter,
     Gauge,
@@ -34,7 +34,7 @@ pub struct Row<'a> {
     /// The name, without its front.
     pub name: &'a str,
     pub help: &'a str,
-    pub kind: Kind,
+    pub kind: MetricKind,
     pub value: u64,
 }
 
@@ -47,9 +47,9 @@ pub struct Sample<'a> {
 
 /// What only grows.
 fn counter(name: &'static str, help: &'static str, value: u64) -> Row<'static>
-    ensures { (front : List ℕ) → row_family front result ≡ single (front ++ name.now) help.now Kind.Counter value }
+    ensures { (front : List ℕ) → row_family front result ≡ single (front ++ name.now) help.now MetricKind.Counter value }
 {
-    let kind = Kind::Counter;
+    let kind = MetricKind::Counter;
     Row {
         name,
         help,
@@ -60,9 +60,9 @@ fn counter(name: &'static str, help: &'static str, value: u64) -> Row<'static>
 
 /// What grows and falls.
 fn gauge(name: &'static str, help: &'static str, value: u64) -> Row<'static>
-    ensures { (front : List ℕ) → row_family front result ≡ single (front ++ name.now) help.now Kind.Gauge value }
+    ensures { (front : List ℕ) → row_family front result ≡ single (front ++ name.now) help.now MetricKind.Gauge value }
 {
-    let kind = Kind::Gauge;
+    let kind = MetricKind::Gauge;
     Row {
         name,
         help,
@@ -72,13 +72,13 @@ fn gauge(name: &'static str, help: &'static str, value: u64) -> Row<'static>
 }
 
 /// The word for a type.
-fn kind_text(kind: Kind) -> &'static str
+fn kind_text(kind: MetricKind) -> &'static str
     ensures { result.now ≡ kind_word kind }
 {
     match kind {
-        Kind::Counter => "counter",
-        Kind::Gauge => "gauge",
-        Kind::Histogram => "histogram",
+        MetricKind::Counter => "counter",
+        MetricKind::Gauge => "gauge",
+        MetricKind::Histogram => "histogram",
     }
 }
 
@@ -101,7 +101,7 @@ pub(crate) fn push_type(
     text: &mut String,
     front: &str,
     name: &str,
-    kind: Kind,
+    kind: MetricKind,
 ) -> Result<(), NoMemory>
     ensures { OnOk result (string_bytes text.new ≡ string_bytes text.old ++ type_line (front.now ++ name.now) kind) }
 {
@@ -269,7 +269,7 @@ fn push_family(
     text: &mut String,
     name: &str,
     help: &str,
-    kind: Kind,
+    kind: MetricKind,
     samples: &[Sample<'_>],
 ) -> Result<(), NoMemory>
     ensures { OnOk result (string_bytes text.new ≡ string_bytes text.old ++ family_text (family_of name.now help.now kind samples.now)) }
@@ -288,7 +288,7 @@ fn push_open(text: &mut String, open_now: &[u64; 3]) -> Result<(), NoMemory>
         text,
         "iiif_connections_open",
         "Connections that are open.",
-        Kind::Gauge,
+        MetricKind::Gauge,
         &listener_samples_in(open_now),
     )
 }
@@ -301,7 +301,7 @@ fn push_refused(text: &mut String, refused: &[u64; 3]) -> Result<(), NoMemory>
         text,
         "iiif_connections_refused_total",
         "Connections that were closed unanswered.",
-        Kind::Counter,
+        MetricKind::Counter,
         &listener_samples_in(refused),
     )
 }
@@ -314,7 +314,7 @@ fn push_answers(text: &mut String, whole: &[u64; 8]) -> Result<(), NoMemory>
         text,
         "iiif_answers_total",
         "Answers that were sent whole.",
-        Kind::Counter,
+        MetricKind::Counter,
         &status_samples_in(whole),
     )
 }

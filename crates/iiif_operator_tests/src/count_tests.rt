@@ -7,16 +7,16 @@ use std::sync::Wait;
 /// answers were sent and one cut off.
 fn counted<R: Wait>(rt: &R) -> Counts {
     let tally = Tally::new();
-    tally.opened(rt, Visitors::Viewers);
-    tally.opened(rt, Visitors::Viewers);
-    tally.refused(rt, Visitors::Peers);
-    tally.refused(rt, Visitors::Statistics);
-    tally.refused(rt, Visitors::Statistics);
-    tally.answered(rt, 200, 1000);
-    tally.answered(rt, 501, 10);
-    tally.answered(rt, 418, 1);
-    tally.cut_off(rt, 100);
-    tally.closed(rt, Visitors::Viewers);
+    tally.count_opened(rt, Visitors::Viewers);
+    tally.count_opened(rt, Visitors::Viewers);
+    tally.count_refused(rt, Visitors::Peers);
+    tally.count_refused(rt, Visitors::Statistics);
+    tally.count_refused(rt, Visitors::Statistics);
+    tally.count_answer(rt, 200, 1000);
+    tally.count_answer(rt, 501, 10);
+    tally.count_answer(rt, 418, 1);
+    tally.count_cut(rt, 100);
+    tally.count_closed(rt, Visitors::Viewers);
     tally.counts(rt)
 }
 

@@ -1,7 +1,7 @@
 use Rattle.std.proofs.Common.{◌≡◌, ℕ, List, ◌++◌, append_assoc, codes}
 use Rattle.std.specs.List.{flat_map}
 use Rattle.iiif_metrics.specs.Links.{asks_of_link, head_lines, state_of_link}
-use Rattle.iiif_metrics.specs.declared.text.Kind.TheVariants.{Counter, Gauge}
+use Rattle.iiif_metrics.specs.declared.text.MetricKind.TheVariants.{Counter, Gauge}
 use Rattle.iiif_metrics.proofs.links.push_links.Goals as goal
 
 joined : (old first asks second states : List ℕ) →

@@ -2,7 +2,7 @@ use Rattle.std.proofs.Common.{◌≡◌, ℕ, List, [], ◌++◌, append_assoc, 
 use Rattle.std.specs.List.{flat_map}
 use Rattle.iiif_metrics.specs.Exposition.{help_line, sample_line, type_line}
 use Rattle.iiif_metrics.specs.Links.{bucket_samples, sum_line}
-use Rattle.iiif_metrics.specs.declared.text.Kind.TheVariants.{Histogram}
+use Rattle.iiif_metrics.specs.declared.text.MetricKind.TheVariants.{Histogram}
 use Rattle.iiif_metrics.proofs.links.push_seconds.Goals as goal
 
 joined : (old help type samples sum count : List ℕ) →
