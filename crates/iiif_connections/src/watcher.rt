@@ -122,7 +122,7 @@ impl<R: Wait + Clock> Watch<R> for Watcher {
         }
     }
 
-    fn answered(
+    fn report(
         &self,
         rt: &R,
         begun: Option<Instant>,

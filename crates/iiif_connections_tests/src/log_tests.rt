@@ -97,7 +97,7 @@ fn log_of<R: Wait + Clock>(
     let watcher = Watcher::new(alloc, true, HELD, &nodes)?;
     let call = call_of(alloc, target)?;
     for outcome in outcomes {
-        Watch::<R>::answered(&watcher, rt, None, Some(&call), outcome);
+        Watch::<R>::report(&watcher, rt, None, Some(&call), outcome);
     }
     let mut written = Vec::new(alloc);
     if let Some(log) = &watcher.log {

@@ -74,7 +74,7 @@ impl<
         let outcome = self.serve_one(serving.rt, serving.alloc, passes, call, out);
         serving
             .watch
-            .answered(serving.rt, begun, Some(call), &outcome);
+            .report(serving.rt, begun, Some(call), &outcome);
         match outcome {
             Ok(_) => !call.close,
             Err(_) => false,
@@ -104,13 +104,13 @@ impl<
             Err(HeadFault::Bad | HeadFault::TooLong) => {
                 let begun = serving.watch.begin(serving.rt);
                 let outcome = close_for_head(serving.alloc, out);
-                serving.watch.answered(serving.rt, begun, None, &outcome);
+                serving.watch.report(serving.rt, begun, None, &outcome);
                 return false;
             }
             Err(HeadFault::NoMemory) => {
                 let begun = serving.watch.begin(serving.rt);
                 let outcome = close_for_memory(out);
-                serving.watch.answered(serving.rt, begun, None, &outcome);
+                serving.watch.report(serving.rt, begun, None, &outcome);
                 return false;
             }
             Err(HeadFault::Cut | HeadFault::Io) => return false,
@@ -134,7 +134,7 @@ impl<
         let Ok(mut heads) = Heads::new(serving.alloc, reader) else {
             let begun = serving.watch.begin(serving.rt);
             let outcome = close_for_memory(out);
-            serving.watch.answered(serving.rt, begun, None, &outcome);
+            serving.watch.report(serving.rt, begun, None, &outcome);
             return;
         };
         let mut n = 1;

@@ -12,13 +12,7 @@ pub trait Watch<R> {
     fn begin(&self, rt: &R) -> Self::Begun;
 
     /// That answer ended so. There is no call where what came is no head, or where memory was wanting to read it.
-    fn answered(
-        &self,
-        rt: &R,
-        begun: Self::Begun,
-        call: Option<&Call>,
-        outcome: &Result<Sent, Cut>,
-    );
+    fn report(&self, rt: &R, begun: Self::Begun, call: Option<&Call>, outcome: &Result<Sent, Cut>);
 }
 
 /// Nobody.
@@ -27,5 +21,5 @@ impl<R> Watch<R> for () {
 
     fn begin(&self, _rt: &R) {}
 
-    fn answered(&self, _rt: &R, _begun: (), _call: Option<&Call>, _outcome: &Result<Sent, Cut>) {}
+    fn report(&self, _rt: &R, _begun: (), _call: Option<&Call>, _outcome: &Result<Sent, Cut>) {}
 }

@@ -92,7 +92,7 @@ impl<R> Watch<R> for Told {
         self.begun.fetch_add(1, Ordering::SeqCst)
     }
 
-    fn answered(&self, _rt: &R, _begun: u64, call: Option<&Call>, outcome: &Result<Sent, Cut>) {
+    fn report(&self, _rt: &R, _begun: u64, call: Option<&Call>, outcome: &Result<Sent, Cut>) {
         if call.is_some() {
             self.calls.fetch_add(1, Ordering::SeqCst);
         }
