@@ -14,7 +14,7 @@ use iiif_connections::{Catalogue, Config, Link, Manner, Node, Nodes, Times, Watc
 use iiif_keys::{SumKey, System, TileKey};
 use iiif_open_files::Opens;
 use iiif_services::Listeners;
-use iiif_start::{Held, Stored, catalogue};
+use iiif_start::{Held, Stored, open_catalogue};
 use std::alloc::Global;
 use std::marker::Brand;
 use std::net::{Net, TcpListener, TcpStream};
@@ -248,7 +248,7 @@ where
     let times = scene.times;
     let config = Config::new(alloc, BASE, scene.edge, limits, 64, 2).ok()?;
     let open_files = NonZeroUsize::new(scene.open_files)?;
-    let catalogue = catalogue(rt, alloc, scene.images, open_files, scene.hold).ok()?;
+    let catalogue = open_catalogue(rt, alloc, scene.images, open_files, scene.hold).ok()?;
     let (tiles, sums) = (Blank::new(65_537), Blank::new(65_537));
     if scene.owner.is_none() {
         return serve_alone::<R, Brand>(rt, alloc, config, catalogue, tiles, sums, times, stage);

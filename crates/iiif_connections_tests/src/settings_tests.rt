@@ -46,7 +46,7 @@ static ENDS: [(Stop<'static>, &[u8]); 4] = [
 fn program_that_ends_while_it_runs_says_why(rt: HostRuntime) {
     for (stop, line) in ENDS.iter().copied() {
         let mut err = Vec::new(rt.alloc());
-        let status = stop.told(&mut err);
+        let status = stop.report(&mut err);
         assert!(rt; status == 1 && err.as_slice() == line, "{stop:?}");
     }
 }

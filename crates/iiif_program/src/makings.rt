@@ -8,7 +8,7 @@ use crate::settings::config;
 use iiif_command_line::Options;
 use iiif_connections::{Catalogue, Config, Nodes, Times, Watcher};
 use iiif_open_files::Opens;
-use iiif_start::{Held, Stop, Stored, catalogue};
+use iiif_start::{Held, Stop, Stored, open_catalogue};
 use std::alloc::Global;
 use std::sync::Wait;
 
@@ -32,7 +32,7 @@ pub(crate) fn makings_of<'a, R: Opens + Wait>(
 {
     let config = config(alloc, options)?;
     let (images, hold) = (&options.images, options.hold);
-    let catalogue = catalogue(rt, alloc, images, options.open_files, hold)?;
+    let catalogue = open_catalogue(rt, alloc, images, options.open_files, hold)?;
     Ok(Makings {
         config,
         catalogue,

@@ -14,7 +14,7 @@ use iiif_command_line::{Options, matches};
 use iiif_io::Outlet;
 use iiif_open_files::{Opens, Texts};
 use iiif_start::check::check;
-use iiif_start::{Stop, ended, list_of, refused};
+use iiif_start::{Stop, read_list, report_end, report_fault};
 use std::alloc::Global;
 use std::convert::AsStr;
 use std::net::{Net, TcpListener, TcpStream};
@@ -60,7 +60,7 @@ where
     };
     match matches {
         Ok(matches) => with_matches(rt, alloc, &matches, out, err),
-        Err(error) if error.kind() == ErrorKind::OutOfMemory => ended(err, "run: memory", 1),
+        Err(error) if error.kind() == ErrorKind::OutOfMemory => report_end(err, "run: memory", 1),
         Err(error) if error.use_stderr() => {
             // Where the words can't be written, the status says it.
             let _ = write!(err, "line: {error}");
@@ -68,7 +68,7 @@ where
         }
         Err(text) => {
             if write!(out, "{text}").is_err() {
-                return ended(err, "run: write", 1);
+                return report_end(err, "run: write", 1);
             }
             0
         }
@@ -97,18 +97,18 @@ where
     E: Outlet + Send,
     ensures { result ≤ 2 }
 {
-    let text = list_of(rt, alloc, matches);
+    let text = read_list(rt, alloc, matches);
     let list = match &text {
         Ok(text) => Ok(text.as_slice()),
         Err(fault) => Err(*fault),
     };
     let options = match options_of(alloc, matches, list) {
         Ok(options) => options,
-        Err(fault) => return refused(err, fault, matches.get_str("list")),
+        Err(fault) => return report_fault(err, fault, matches.get_str("list")),
     };
     match answer(rt, alloc, &options, out, err) {
         Ok(()) => 0,
-        Err(stop) => stop.told(err),
+        Err(stop) => stop.report(err),
     }
 }
 

@@ -52,7 +52,7 @@
 #![tactic(auto)]
 
 use iiif_program::program::program;
-use iiif_program::stop::ended;
+use iiif_program::stop::report_end;
 use std::alloc::Global;
 use std::io::ErrorKind;
 use std::process::ExitCode;
@@ -76,12 +76,12 @@ fn main(rt: HostRuntime) -> ExitCode {
     let args = match std::env::args(&rt) {
         Ok(args) => args,
         Err(error) if error.kind() == ErrorKind::OutOfMemory => {
-            return ExitCode::from(ended(&mut err, "run: memory", 1));
+            return ExitCode::from(report_end(&mut err, "run: memory", 1));
         }
-        Err(_) => return ExitCode::from(ended(&mut err, NOT_UTF8, 2)),
+        Err(_) => return ExitCode::from(report_end(&mut err, NOT_UTF8, 2)),
     };
     let Ok(words) = args.skip(1).collect::<Vec<String>>(rt.alloc()) else {
-        return ExitCode::from(ended(&mut err, "run: memory", 1));
+        return ExitCode::from(report_end(&mut err, "run: memory", 1));
     };
     keep_memory(rt.alloc());
     let mut out = rt.stdout();

@@ -4,7 +4,7 @@ ghost use Rattle.std.specs.Prelude.{◌≡◌, IfOk, map};
 ghost use Rattle.iiif_start.specs.Statuses.{end_of, has_unfit};
 
 use crate::name::Word;
-use crate::opening::{opened, shelf};
+use crate::opening::{open_image, shelf};
 use crate::stop::Stop;
 use crate::unfit::Unfit;
 use iiif_command_line::Options;
@@ -33,10 +33,10 @@ pub struct Checked<'a> {
 
 impl<'a> Checked<'a> {
     /// Says in a line what the image is, or as at a start why it can't be served.
-    fn told<O: Outlet>(&self, out: &mut O) -> io::Result<()> {
+    fn report<O: Outlet>(&self, out: &mut O) -> io::Result<()> {
         let Found { shape, is_held } = match &self.found {
             Ok(found) => found,
-            Err(unfit) => return unfit.told(out, Word(self.name)),
+            Err(unfit) => return unfit.report(out, Word(self.name)),
         };
         let kind = match shape.kind {
             Kind::Gray => "gray",
@@ -65,7 +65,7 @@ where
     ensures { IfOk result (λ c. c.name.now ≡ image.entry.0.now) }
 {
     let (name, path) = image;
-    let found = match opened(rt, alloc, files, name, path, hold) {
+    let found = match open_image(rt, alloc, files, name, path, hold) {
         Ok((source, layout)) => Ok(Found {
             shape: Shape {
                 dim: layout.dim(),
@@ -82,7 +82,7 @@ where
 
 /// Opens the images, in order, and says of each what it is. The only errors are want of memory and a line that can't be written.
 #[tactic(auto, using(crate::proofs::Names::names_more))]
-fn looked_at<'a, R, O>(
+fn check_each<'a, R, O>(
     rt: &R,
     alloc: Global,
     files: &Arc<OpenFiles<R>>,
@@ -98,7 +98,7 @@ where
     let mut all = Vec::new(alloc);
     for image in images {
         let image = look(rt, alloc, files, *image, hold)?;
-        match image.told(out) {
+        match image.report(out) {
             Ok(()) => {}
             Err(error) if error.kind() == ErrorKind::OutOfMemory => return Err(Stop::Memory),
             Err(_) => return Err(Stop::Write),
@@ -140,6 +140,6 @@ where
     O: Outlet,
 {
     let files = shelf(alloc, options.open_files)?;
-    let all = looked_at(rt, alloc, &files, &options.images, options.hold, out)?;
+    let all = check_each(rt, alloc, &files, &options.images, options.hold, out)?;
     end_of(&all)
 }

@@ -15,7 +15,7 @@ pub(crate) enum HoldFault {
 
 /// All bytes of a source, read at once, as a source in memory.
 #[tactic(auto, using(crate::proofs::SourceLemmas::all_read))]
-pub(crate) fn held<R, S: Source<R>>(
+pub(crate) fn read_whole<R, S: Source<R>>(
     rt: &R,
     alloc: Global,
     source: &S,

@@ -4,12 +4,12 @@
 
 pub use check::{Checked, Found};
 pub use held::Held;
-pub use opening::{catalogue, list_of};
-pub use stop::{Stop, ended};
+pub use opening::{open_catalogue, read_list};
+pub use stop::{Stop, report_end};
 pub use stored::Stored;
 pub use touching::touch;
 pub use unfit::Unfit;
-pub use wrong::refused;
+pub use wrong::report_fault;
 
 pub mod check;
 pub mod held;

@@ -7,7 +7,7 @@ ghost use Rattle.iiif_tiff.specs.Tiff.{refusal_of, scheme};
 ghost use Rattle.iiif_tiff_read.specs.Layouts.{FitsIn};
 ghost use Rattle.iiif_start.specs.Stored.{bytes_of, is_held, keeps_of, IsItemOf, IsSourceOf};
 
-use crate::holding::{HoldFault, held};
+use crate::holding::{HoldFault, read_whole};
 use crate::sample::sample;
 use crate::stop::Stop;
 use crate::stored::Stored;
@@ -24,7 +24,7 @@ use std::num::NonZeroUsize;
 use std::sync::{Arc, Wait};
 
 /// The text of the list of images, empty where none is named.
-pub fn list_of<R>(rt: &R, alloc: Global, matches: &ArgMatches<'_>) -> Result<Vec<u8>, LineFault>
+pub fn read_list<R>(rt: &R, alloc: Global, matches: &ArgMatches<'_>) -> Result<Vec<u8>, LineFault>
 where
     R: Texts,
 {
@@ -53,7 +53,7 @@ pub(crate) fn shelf<'a, R: Opens>(
 }
 
 /// The built-in source.
-fn sampled<'a, R: Opens>(alloc: Global) -> Result<Stored<R>, Stop<'a>>
+fn sample_source<'a, R: Opens>(alloc: Global) -> Result<Stored<R>, Stop<'a>>
     ensures { IfOk result (λ s. is_held s ≡ true) }
 {
     match sample(alloc) {
@@ -83,7 +83,7 @@ fn shortened<'a>(name: &'a str) -> Stop<'a> {
 }
 
 /// A path that is shared.
-fn shared(alloc: Global, path: &str) -> Result<Arc<String>, AllocError>
+fn share_path(alloc: Global, path: &str) -> Result<Arc<String>, AllocError>
     ensures { IfOk result (λ p. string_bytes (arc_value p) ≡ path.now) }
 {
     let path = String::from_str(alloc, path)?;
@@ -94,7 +94,7 @@ fn shared(alloc: Global, path: &str) -> Result<Arc<String>, AllocError>
 }
 
 /// The file of an image of this name, opened, and how many bytes it has.
-fn opened_file<'a, R: Opens>(
+fn open_measured<'a, R: Opens>(
     rt: &R,
     alloc: Global,
     name: &'a str,
@@ -103,7 +103,7 @@ fn opened_file<'a, R: Opens>(
     ensures path { IfOk result (λ f. string_bytes (arc_value f.0.path) ≡ path.now) }
     ensures length { R.keeps path.now → IfOk result (λ f. f.1 ≡ length (R.holds path.now)) }
 {
-    let Ok(path) = shared(alloc, path) else {
+    let Ok(path) = share_path(alloc, path) else {
         return Err(Stop::Memory);
     };
     let file = match OpenFile::open(rt, path) {
@@ -118,7 +118,7 @@ fn opened_file<'a, R: Opens>(
 
 /// A file of at most so many bytes as a source in memory. It is read once, and then closed. None of a longer one.
 #[tactic(auto, using(crate::proofs::SourceLemmas::whole, crate::proofs::SourceLemmas::fitted_length))]
-fn small<'a, R: Opens>(
+fn hold_small<'a, R: Opens>(
     rt: &R,
     alloc: Global,
     name: &'a str,
@@ -128,12 +128,12 @@ fn small<'a, R: Opens>(
     ensures bytes { R.keeps path.now → IfOk result (λ found. IfSome found (λ s. s ≡ R.holds path.now)) }
     ensures small { IfOk result (λ found. IfSome found (λ s. length s ≤ hold)) }
 {
-    let (file, len) = opened_file(rt, alloc, name, path)?;
+    let (file, len) = open_measured(rt, alloc, name, path)?;
     if len > hold {
         return Ok(None);
     }
     let source = Opened { file: &file, len };
-    match held(rt, alloc, &source) {
+    match read_whole(rt, alloc, &source) {
         Ok(source) => Ok(Some(source)),
         Err(HoldFault::NoMemory) => Err(Stop::Memory),
         Err(HoldFault::Read(fault)) => Err(unread(name, fault)),
@@ -141,7 +141,7 @@ fn small<'a, R: Opens>(
 }
 
 /// A file as a source that is opened when it is read.
-fn large<'a, R>(
+fn open_large<'a, R>(
     rt: &R,
     alloc: Global,
     files: &Arc<OpenFiles<R>>,
@@ -167,7 +167,7 @@ where
 
 /// A file as the source of an image of this name. With a hold above 0 one of at most so many bytes is held in memory.
 #[tactic(auto, using(crate::proofs::SourceLemmas::whole))]
-fn filed<'a, R>(
+fn open_file<'a, R>(
     rt: &R,
     alloc: Global,
     files: &Arc<OpenFiles<R>>,
@@ -180,11 +180,11 @@ where
     ensures { IfOk result (λ s. IsSourceOf R.holds R.keeps hold path.now s) }
 {
     if hold > 0 {
-        if let Some(source) = small(rt, alloc, name, path, hold)? {
+        if let Some(source) = hold_small(rt, alloc, name, path, hold)? {
             return Ok(Stored::Memory(source));
         }
     }
-    let source = large(rt, alloc, files, name, path)?;
+    let source = open_large(rt, alloc, files, name, path)?;
     if hold > 0 && source.len() <= hold {
         return Err(shortened(name));
     }
@@ -192,7 +192,7 @@ where
 }
 
 /// The source of a file's name.
-fn stored<'a, R>(
+fn open_source<'a, R>(
     rt: &R,
     alloc: Global,
     files: &Arc<OpenFiles<R>>,
@@ -205,14 +205,14 @@ where
     ensures { IfOk result (λ s. IsSourceOf R.holds R.keeps hold path.now s) }
 {
     if path == ":sample" {
-        sampled(alloc)
+        sample_source(alloc)
     } else {
-        filed(rt, alloc, files, name, path, hold)
+        open_file(rt, alloc, files, name, path, hold)
     }
 }
 
 /// An image's source, and what its file says of it.
-pub(crate) fn opened<'a, R>(
+pub(crate) fn open_image<'a, R>(
     rt: &R,
     alloc: Global,
     files: &Arc<OpenFiles<R>>,
@@ -227,7 +227,7 @@ where
     ensures accepted { IfOk result (λ o. keeps_of R.keeps o.0 → refusal_of (bytes_of R.holds o.0) ≡ None) }
     ensures shown { IfOk result (λ o. keeps_of R.keeps o.0 → o.1 ≡ scheme (bytes_of R.holds o.0)) }
 {
-    let source = stored(rt, alloc, files, name, path, hold)?;
+    let source = open_source(rt, alloc, files, name, path, hold)?;
     match open(rt, alloc, &source) {
         Ok(layout) => Ok((source, layout)),
         Err(fault) => Err(Stop::Image(name, Unfit::Refused(fault))),
@@ -237,7 +237,7 @@ where
 /// The images, opened in the order given. Where `hold` is above 0, each file of at most so many bytes is read once, held in memory, and
 /// closed; of the others so many stay open.
 #[tactic(auto, using(crate::proofs::Names::names_more, crate::proofs::Names::zip_more))]
-pub fn catalogue<'a, R>(
+pub fn open_catalogue<'a, R>(
     rt: &R,
     alloc: Global,
     images: &[(&'a str, &'a str)],
@@ -253,7 +253,7 @@ where
     let mut catalogue = Catalogue::new(alloc);
     for image in images {
         let (name, path) = *image;
-        let (source, layout) = opened(rt, alloc, &files, name, path, hold)?;
+        let (source, layout) = open_image(rt, alloc, &files, name, path, hold)?;
         let Ok(text) = String::from_str(alloc, name) else {
             return Err(Stop::Memory);
         };

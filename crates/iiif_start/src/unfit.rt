@@ -50,7 +50,7 @@ impl Unfit {
     }
 
     /// Says of an image why it can't be served, and in a second line what to do. The name is escaped as in the log. It needs no memory.
-    pub(crate) fn told<W: Write>(&self, out: &mut W, name: Word<'_>) -> io::Result<()>
+    pub(crate) fn report<W: Write>(&self, out: &mut W, name: Word<'_>) -> io::Result<()>
         ensures { OnOk result ((remedy : List ℕ) × (list_all is_line_byte remedy ≡ true) ×
             Appends (W.contents out.old) (W.contents out.new) (unfit_lines name.entry.0.now (unfit_number self.now) remedy)) }
     {

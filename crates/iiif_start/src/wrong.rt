@@ -5,7 +5,7 @@ ghost use Rattle.std.specs.List.{list_all};
 ghost use Rattle.iiif_advice.specs.Lines.{is_line_byte};
 ghost use Rattle.iiif_start.specs.Statuses.{status_of_words};
 
-use crate::stop::ended;
+use crate::stop::report_end;
 use iiif_command_line::LineFault;
 use std::io;
 use std::io::Write;
@@ -59,11 +59,11 @@ fn say<E: Write>(err: &mut E, fault: LineFault, list: Option<&str>) -> io::Resul
 
 /// Says what is wrong with the words, where the list of images is in this file, and gives the program's status: 1 where memory is
 /// wanting, else 2.
-pub fn refused<E: Write>(err: &mut E, fault: LineFault, list: Option<&str>) -> u8
+pub fn report_fault<E: Write>(err: &mut E, fault: LineFault, list: Option<&str>) -> u8
     ensures { result ≡ status_of_words fault }
 {
     match fault {
-        LineFault::NoMemory => ended(err, "run: memory", 1),
+        LineFault::NoMemory => report_end(err, "run: memory", 1),
         _ => {
             // Where the words can't be written, the status says it.
             let _ = say(err, fault, list);

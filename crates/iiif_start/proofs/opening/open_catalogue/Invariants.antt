@@ -1,7 +1,7 @@
 use Rattle.std.proofs.Common.{◌≡◌, map, take}
 use Rattle.std.specs.List.{AllZip}
 use Rattle.iiif_start.specs.Stored.{IsItemOf}
-use Rattle.iiif_start.proofs.opening.catalogue.Given as goal
+use Rattle.iiif_start.proofs.opening.open_catalogue.Given as goal
 
 -- the images so far are the first ones
 abbrev pub invariant-loop-image : goal.invariant-loop-image

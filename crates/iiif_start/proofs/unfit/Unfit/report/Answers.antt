@@ -5,7 +5,7 @@ use Rattle.std.specs.Io.KnownBytes.{Appends}
 use Rattle.iiif_advice.specs.Lines.{is_line_byte}
 use Rattle.iiif_start.specs.Statuses.{unfit_number}
 use Rattle.iiif_start.specs.Told.{unfit_lines}
-use Rattle.iiif_start.proofs.unfit.Unfit.told.Goals as goal
+use Rattle.iiif_start.proofs.unfit.Unfit.report.Goals as goal
 
 pub returns : goal.returns
 returns g c =

@@ -1,5 +1,5 @@
 use Rattle.std.proofs.Common.{◌≡◌, map, take}
-use Rattle.iiif_start.proofs.check.looked_at.Given as goal
+use Rattle.iiif_start.proofs.check.check_each.Given as goal
 
 -- the images that were looked at are the first ones
 abbrev pub invariant-loop-image : goal.invariant-loop-image
