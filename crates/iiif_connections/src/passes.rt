@@ -11,7 +11,7 @@ use std::sync::Wait;
 
 /// As many passes as there are workers. None, and none is kept, where one of them or memory for them is wanting, and where there is no
 /// worker. Whoever has them gives them back to the node once nothing more is made with them.
-pub fn passes_of<R: Opens + Wait, J: System, N, T>(
+pub fn take_passes<R: Opens + Wait, J: System, N, T>(
     rt: &R,
     alloc: Global,
     node: &Node<R, Stored<R>, J, N, T>,

@@ -69,14 +69,14 @@ impl<
         self.tally.count_opened(rt, Visitors::Peers);
         self.company.enter();
         if !self.answer(rt, alloc, visit) {
-            self.refused(rt);
+            self.count_refused(rt);
         }
         self.company.leave();
         self.tally.count_closed(rt, Visitors::Peers);
     }
 
     /// Counts a connection that was closed unanswered.
-    pub fn refused(&self, rt: &R) {
+    pub fn count_refused(&self, rt: &R) {
         self.tally.count_refused(rt, Visitors::Peers);
     }
 }

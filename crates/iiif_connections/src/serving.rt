@@ -10,7 +10,7 @@ use iiif_keys::{SumKey, System, TileKey};
 use iiif_listener::{OpenConnections, Visit};
 use iiif_open_files::Opens;
 use iiif_server::{Gate, Link, Node, SumCalls, TileCalls};
-use iiif_services::{Addresses, Listeners, logged, serve_all};
+use iiif_services::{Addresses, Listeners, run_logged, serve_all};
 use iiif_start::{Stop, Stored};
 use std::alloc::Global;
 use std::io;
@@ -74,7 +74,7 @@ where
     };
     let work = || serve_all_of(&services, listeners);
     match &watcher.log {
-        Some(log) => logged(rt, alloc, log, err, &work),
+        Some(log) => run_logged(rt, alloc, log, err, &work),
         None => work(),
     }
 }
@@ -106,7 +106,7 @@ where
     }
 
     fn refuse_viewer(&self) {
-        self.viewers.refused(self.rt);
+        self.viewers.count_refused(self.rt);
     }
 
     fn serve_peer(&self, visit: Visit<'_, R>) {
@@ -114,7 +114,7 @@ where
     }
 
     fn refuse_peer(&self) {
-        self.peers.refused(self.rt);
+        self.peers.count_refused(self.rt);
     }
 
     fn serve_reader(&self, visit: Visit<'_, R>) {
@@ -122,7 +122,7 @@ where
     }
 
     fn refuse_reader(&self) {
-        self.statistics.refused(self.rt);
+        self.statistics.count_refused(self.rt);
     }
 
     /// Who looks at the other nodes, where there are any.

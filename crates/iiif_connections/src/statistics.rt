@@ -129,13 +129,13 @@ impl<'a, R: Opens + Wait + Clock, J: System, N, T> Statistics<'a, R, J, N, T> {
     pub fn serve(&self, rt: &R, alloc: Global, visit: Visit<'_, R>) {
         self.watcher.tally.count_opened(rt, Visitors::Statistics);
         if !self.answer(rt, alloc, visit) {
-            self.refused(rt);
+            self.count_refused(rt);
         }
         self.watcher.tally.count_closed(rt, Visitors::Statistics);
     }
 
     /// Counts a connection that was closed unanswered.
-    pub fn refused(&self, rt: &R) {
+    pub fn count_refused(&self, rt: &R) {
         self.watcher.tally.count_refused(rt, Visitors::Statistics);
     }
 }

@@ -7,7 +7,7 @@ ghost use Rattle.iiif_connections.specs.Held.{AllHeld, terms_of_held};
 ghost use Rattle.iiif_start.specs.Stored.{bytes_of};
 
 use crate::connections::ends;
-use crate::passes::{give_back, passes_of};
+use crate::passes::{give_back, take_passes};
 use crate::times::Times;
 use crate::watcher::Watcher;
 use iiif_io::{Inlet, Outlet};
@@ -57,14 +57,14 @@ where
         tally.count_opened(rt, Visitors::Viewers);
         self.company.enter();
         if !self.answer(rt, alloc, visit) {
-            self.refused(rt);
+            self.count_refused(rt);
         }
         self.company.leave();
         tally.count_closed(rt, Visitors::Viewers);
     }
 
     /// Counts a connection that was closed unanswered.
-    pub fn refused(&self, rt: &R) {
+    pub fn count_refused(&self, rt: &R) {
         self.watcher.tally.count_refused(rt, Visitors::Viewers);
     }
 
@@ -114,7 +114,7 @@ where
             came output }
         ensures unanswered { result ≡ false → out.new ≡ out.old }
     {
-        let Some(mut passes) = passes_of(rt, alloc, self.node, self.workers) else {
+        let Some(mut passes) = take_passes(rt, alloc, self.node, self.workers) else {
             return false;
         };
         let serving = Serving {

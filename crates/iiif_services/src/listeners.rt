@@ -54,7 +54,7 @@ fn bind_some<R: Net<Listener = TcpListener, Stream = TcpStream>>(
 }
 
 /// The IP addresses of nodes. A name of which none is found has none.
-fn addresses_of<R: Net>(
+fn look_up_addresses<R: Net>(
     rt: &R,
     alloc: Global,
     nodes: &[(&str, &str)],
@@ -71,13 +71,13 @@ fn addresses_of<R: Net>(
 }
 
 /// The only IP addresses from which other nodes' connections are taken, where not all are.
-fn known_in<R: Net>(
+fn look_up_known<R: Net>(
     rt: &R,
     alloc: Global,
     addresses: &Addresses<'_>,
 ) -> Result<Option<Vec<IpAddr>>, AllocError> {
     match addresses.known {
-        Some(nodes) => Ok(Some(addresses_of(rt, alloc, nodes)?)),
+        Some(nodes) => Ok(Some(look_up_addresses(rt, alloc, nodes)?)),
         None => Ok(None),
     }
 }
@@ -89,7 +89,7 @@ impl Listeners {
         alloc: Global,
         addresses: &Addresses<'_>,
     ) -> io::Result<Listeners> {
-        let Ok(known) = known_in(rt, alloc, addresses) else {
+        let Ok(known) = look_up_known(rt, alloc, addresses) else {
             return Err(io::Error::from(ErrorKind::OutOfMemory));
         };
         Ok(Listeners {
@@ -257,7 +257,13 @@ where
 
 /// Does some work while a thread of its own writes the lines of a log, and answers once the work ended and the last line is written.
 /// Where no thread can be started, the lines are written behind the work.
-pub fn logged<R, E, W>(rt: &R, alloc: Global, log: &Log, err: &mut E, work: &W) -> io::Result<()>
+pub fn run_logged<R, E, W>(
+    rt: &R,
+    alloc: Global,
+    log: &Log,
+    err: &mut E,
+    work: &W,
+) -> io::Result<()>
 where
     R: Threads + Wait + Sync,
     E: Outlet + Send,
