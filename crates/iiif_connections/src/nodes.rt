@@ -25,16 +25,16 @@ const ENTRIES: usize = 4096;
 
 /// Names, and a link to each.
 #[derive(Drop)]
-struct Ways<'p, J: System> {
+struct NamedLinks<'p, J: System> {
     names: Vec<String>,
     links: Vec<TcpLink<'p, J>>,
     ghost one_each: { vec_len names ≡ vec_len links },
 }
 
-impl<'p, J: System> Ways<'p, J> {
+impl<'p, J: System> NamedLinks<'p, J> {
     /// None.
-    fn new(alloc: Global) -> Ways<'p, J> {
-        Ways {
+    fn new(alloc: Global) -> NamedLinks<'p, J> {
+        NamedLinks {
             names: Vec::new(alloc),
             links: Vec::new(alloc),
         }
@@ -46,10 +46,10 @@ impl<'p, J: System> Ways<'p, J> {
         alloc: Global,
         peer: &'p Peer,
         watcher: &'p Watcher,
-    ) -> Result<Ways<'p, J>, NoMemory>
+    ) -> Result<NamedLinks<'p, J>, NoMemory>
         requires { J.honest ≡ false }
     {
-        let Ways {
+        let NamedLinks {
             mut names,
             mut links,
         } = self;
@@ -57,7 +57,7 @@ impl<'p, J: System> Ways<'p, J> {
         let link = TcpLink::new(alloc, peer, &watcher.neighbours.watch, log);
         names.push(String::from_str(alloc, peer.name())?)?;
         links.push(link)?;
-        Ok(Ways { names, links })
+        Ok(NamedLinks { names, links })
     }
 }
 
@@ -77,11 +77,11 @@ fn stock<'p, J: System>(
         return Err(AllocError);
     };
     let neighbours = &watcher.neighbours;
-    let mut ways = Ways::new(alloc).with(alloc, &neighbours.own, watcher)?;
+    let mut named = NamedLinks::new(alloc).with(alloc, &neighbours.own, watcher)?;
     for peer in &neighbours.others {
-        ways = ways.with(alloc, peer, watcher)?;
+        named = named.with(alloc, peer, watcher)?;
     }
-    let Ways { names, links } = ways;
+    let NamedLinks { names, links } = named;
     let Ok(ring) = Ring::new(alloc, names) else {
         return Err(AllocError);
     };

@@ -7,7 +7,7 @@ use crate::keys::{
 use iiif_group::LinkFault;
 use iiif_io::fakes::{FailingReader, FailingWriter};
 use iiif_keys::{CacheKey, Shape, SumKey, TileKey};
-use iiif_peer_link::{ask_over, sum_over, tile_over};
+use iiif_peer_link::{ask_over, ask_sum_over, ask_tile_over};
 use iiif_peer_wire::{Version, WireFault};
 use std::alloc::Global;
 
@@ -33,7 +33,7 @@ fn tile_came(
     if !key.fits(2, shape) {
         return None;
     }
-    match tile_over(alloc, input, out, key, shape) {
+    match ask_tile_over(alloc, input, out, key, shape) {
         Ok(value) => Some(Ok(TileKey::value_bytes(alloc, &value).ok()?)),
         Err(fault) => Some(Err(fault)),
     }
@@ -50,7 +50,7 @@ fn sum_came(
     if !key.fits(2, shape) {
         return None;
     }
-    match sum_over(alloc, input, out, key, shape) {
+    match ask_sum_over(alloc, input, out, key, shape) {
         Ok(value) => Some(Ok(SumKey::value_bytes(alloc, &value).ok()?)),
         Err(fault) => Some(Err(fault)),
     }

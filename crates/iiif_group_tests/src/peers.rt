@@ -7,7 +7,7 @@ use crate::calls::Numbers;
 use iiif_group::{Link, LinkFault, NoLink};
 use iiif_io::fakes::{FailingReader, FailingWriter};
 use iiif_keys::{Shape, SumKey, SumVal, System, TileKey, TileVal};
-use iiif_peer_link::{Peer as Node, Stopwatch, TcpLink, sum_over, tile_over};
+use iiif_peer_link::{Peer as Node, Stopwatch, TcpLink, ask_sum_over, ask_tile_over};
 use iiif_peer_wire::WireFault;
 use iiif_pixel::{Dim, Kind, Raster, Samples};
 use std::alloc::Global;
@@ -130,7 +130,7 @@ impl<'a, J: System, R: Net<Stream = TcpStream> + Clock + Wait> Link<TileKey, J, 
             }
             Way::Cut { reply, reads, room } => {
                 let (mut reader, mut out) = ends(self.alloc, reply, *reads, *room);
-                tile_over(self.alloc, &mut reader, &mut out, key, shape)
+                ask_tile_over(self.alloc, &mut reader, &mut out, key, shape)
             }
             Way::Tcp(listener) => {
                 let node = self.behind(rt, listener)?;
@@ -150,7 +150,7 @@ impl<'a, J: System, R: Net<Stream = TcpStream> + Clock + Wait> Link<SumKey, J, R
             }
             Way::Cut { reply, reads, room } => {
                 let (mut reader, mut out) = ends(self.alloc, reply, *reads, *room);
-                sum_over(self.alloc, &mut reader, &mut out, key, shape)
+                ask_sum_over(self.alloc, &mut reader, &mut out, key, shape)
             }
             Way::Tcp(listener) => {
                 let node = self.behind(rt, listener)?;

@@ -113,7 +113,7 @@ impl Health {
     }
 
     /// Takes in what a look-up found, unless that is nothing.
-    pub fn found<R: Wait>(&self, rt: &R, found: Vec<SocketAddr>) {
+    pub fn keep_found<R: Wait>(&self, rt: &R, found: Vec<SocketAddr>) {
         if found.is_empty() {
             return;
         }
@@ -158,14 +158,14 @@ impl Health {
     }
 
     /// Takes in that a look found the node there.
-    pub fn met<R: Wait>(&self, rt: &R) {
+    pub fn report_met<R: Wait>(&self, rt: &R) {
         self.memory.lock(rt).was_met = true;
     }
 
     /// Takes in that a look was in vain, and says what becomes of the link: where an ask was answered since the look began, nothing does.
     /// Then the next address is asked; where the node was left alone already, the next look or ask that tries it looks its name up. One
     /// that no look found there yet may be about to begin: it is left to the asks.
-    pub fn missed<R: Clock + Wait>(&self, rt: &R, look: &Look) -> Option<Change> {
+    pub fn report_missed<R: Clock + Wait>(&self, rt: &R, look: &Look) -> Option<Change> {
         let mut guard = self.memory.lock(rt);
         let memory = &mut *guard;
         if !memory.was_met {

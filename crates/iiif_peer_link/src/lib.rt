@@ -9,7 +9,7 @@ pub use look::Look;
 pub use peer::{NoMemory, Peer, Stopwatch};
 pub use tcp::TcpLink;
 pub use timed::{Deadline, Timed};
-pub use values::{sum_over, tile_over};
+pub use values::{ask_sum_over, ask_tile_over};
 pub use versions::version_for;
 pub use within::Within;
 

@@ -31,7 +31,11 @@ fn told_of(change: Change) -> Told {
 }
 
 /// What an address stands for. Where it can't be looked up, nothing.
-fn found_at<R: Net>(rt: &R, alloc: Global, address: &str) -> Result<Vec<SocketAddr>, NoMemory> {
+fn look_up_address<R: Net>(
+    rt: &R,
+    alloc: Global,
+    address: &str,
+) -> Result<Vec<SocketAddr>, NoMemory> {
     let mut all = Vec::new(alloc);
     if let Ok(found) = address.to_socket_addrs(rt) {
         for one in found {
@@ -74,8 +78,8 @@ impl Peer {
 
     /// Looks its address up, without a limit of time. Where nothing is found, what was found before stays.
     pub fn look_up<R: Net + Wait>(&self, rt: &R, alloc: Global) {
-        if let Ok(found) = found_at(rt, alloc, self.address.as_str()) {
-            self.health.found(rt, found);
+        if let Ok(found) = look_up_address(rt, alloc, self.address.as_str()) {
+            self.health.keep_found(rt, found);
         }
     }
 
@@ -104,9 +108,9 @@ impl Peer {
             look = self.health.look_again(rt, &look);
         }
         if look.is_met(rt, self.limit.min(Duration::from_millis(LOOK))) {
-            self.health.met(rt);
+            self.health.report_met(rt);
         } else {
-            let change = self.health.missed(rt, &look);
+            let change = self.health.report_missed(rt, &look);
             self.tell(rt, log, change);
         }
     }

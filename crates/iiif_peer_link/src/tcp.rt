@@ -7,7 +7,7 @@ use crate::health::Turn;
 use crate::lengths::{sum_reply_len, tile_reply_len};
 use crate::peer::{Peer, Stopwatch};
 use crate::timed::{Deadline, Timed};
-use crate::values::{sum_over, tile_over};
+use crate::values::{ask_sum_over, ask_tile_over};
 use crate::within::Within;
 use iiif_group::{Link, LinkFault};
 use iiif_keys::{Shape, SumKey, SumVal, System, TileKey, TileVal};
@@ -121,7 +121,7 @@ impl<'p, J: System, R: Net<Stream = TcpStream> + Clock + Wait> Link<TileKey, J, 
                     mut reader,
                     mut out,
                 } = open;
-                tile_over(self.alloc, &mut reader, &mut out, key, shape)
+                ask_tile_over(self.alloc, &mut reader, &mut out, key, shape)
             }
             Err(_) => Err(LOST),
         };
@@ -141,7 +141,7 @@ impl<'p, J: System, R: Net<Stream = TcpStream> + Clock + Wait> Link<SumKey, J, R
                     mut reader,
                     mut out,
                 } = open;
-                sum_over(self.alloc, &mut reader, &mut out, key, shape)
+                ask_sum_over(self.alloc, &mut reader, &mut out, key, shape)
             }
             Err(_) => Err(LOST),
         };

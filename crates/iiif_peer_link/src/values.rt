@@ -18,7 +18,7 @@ use iiif_peer_wire::WireFault;
 use std::alloc::Global;
 
 /// Asks for the value of a key that fits an image of this shape, in a group, in the version of the image's depth.
-fn value_over<K: CacheKey, I: Inlet, W: Outlet>(
+fn ask_value_over<K: CacheKey, I: Inlet, W: Outlet>(
     alloc: Global,
     reader: &mut I,
     out: &mut W,
@@ -59,7 +59,7 @@ fn value_over<K: CacheKey, I: Inlet, W: Outlet>(
 }
 
 /// Asks for the tile of a key that fits an image of this shape.
-pub fn tile_over<I: Inlet, W: Outlet>(
+pub fn ask_tile_over<I: Inlet, W: Outlet>(
     alloc: Global,
     reader: &mut I,
     out: &mut W,
@@ -74,11 +74,11 @@ pub fn tile_over<I: Inlet, W: Outlet>(
         (terms W.contents W.fails I.remaining I.fails out.old out.new reader.old reader.new (wire_version shape.now.depth) tiles
         (tile_key_bytes key.now))) }
 {
-    value_over(alloc, reader, out, 1, key, shape)
+    ask_value_over(alloc, reader, out, 1, key, shape)
 }
 
 /// Asks for the sums of a key that fits an image of this shape.
-pub fn sum_over<I: Inlet, W: Outlet>(
+pub fn ask_sum_over<I: Inlet, W: Outlet>(
     alloc: Global,
     reader: &mut I,
     out: &mut W,
@@ -93,5 +93,5 @@ pub fn sum_over<I: Inlet, W: Outlet>(
         (terms W.contents W.fails I.remaining I.fails out.old out.new reader.old reader.new (wire_version shape.now.depth) sums
         (sum_key_bytes key.now))) }
 {
-    value_over(alloc, reader, out, 2, key, shape)
+    ask_value_over(alloc, reader, out, 2, key, shape)
 }

@@ -1,5 +1,5 @@
 use Rattle.std.proofs.Common.{rules, ◌≤◌, ◌<◌, ◌^◌, length, arith}
-use Rattle.iiif_peer_link.proofs.values.value_over.Goals as goal
+use Rattle.iiif_peer_link.proofs.values.ask_value_over.Goals as goal
 
 pub ask_over-requires : goal.ask_over-requires
 ask_over-requires g c =
