@@ -6,7 +6,7 @@ ghost use Rattle.iiif_outcome.specs.Outcomes.{is_given};
 
 use crate::cache_tests::sample;
 use iiif_keys::Fault;
-use iiif_outcome::learned_apart;
+use iiif_outcome::learn_apart;
 use iiif_sample_keys::{Lax, Sample};
 use iiif_singleflight::entered::Entered;
 use iiif_singleflight::home::Home;
@@ -431,7 +431,7 @@ fn ended(alloc: Global) -> Option<iiif_outcome::Flight<Sample, Lax>> {
 fn both_learn<R: Threads + Sync>(rt: &R, alloc: Global) -> Option<[(u64, Told); 2]> {
     let mut one = ended(alloc)?;
     let other = one.join().ok()?;
-    let (mut a, mut b) = learned_apart(rt, one, other)?;
+    let (mut a, mut b) = learn_apart(rt, one, other)?;
     Some([ticket_of(&mut a), ticket_of(&mut b)])
 }
 

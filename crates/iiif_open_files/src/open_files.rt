@@ -101,7 +101,7 @@ impl<R: Opens + Wait> OpenFiles<R> {
             rows.copy(rt, runs, buffer);
             return Ok(true);
         }
-        let Some(rows) = WideRows::ahead(rt, self.alloc, opening, len, runs)? else {
+        let Some(rows) = WideRows::read_ahead(rt, self.alloc, opening, len, runs)? else {
             return Ok(false);
         };
         rows.copy(rt, runs, buffer);
@@ -116,9 +116,9 @@ impl<R: Opens + Wait> OpenFiles<R> {
         ensures among { IfSome result (λ w. AreAmong (arc_value w).runs runs) }
     {
         if runs.count > FEW {
-            found_in(rt, &self.many, opening, runs)
+            find_in(rt, &self.many, opening, runs)
         } else {
-            found_in(rt, &self.few, opening, runs)
+            find_in(rt, &self.few, opening, runs)
         }
     }
 
@@ -145,7 +145,7 @@ impl<R: Opens + Wait> OpenFiles<R> {
 }
 
 /// Rows on a shelf that are of an opening and have these runs.
-fn found_in<R: Opens + Wait, const MOST: usize, const ROOM: usize>(
+fn find_in<R: Opens + Wait, const MOST: usize, const ROOM: usize>(
     rt: &R,
     shelf: &Mutex<RowShelf<R, MOST, ROOM>>,
     opening: &Opening<R>,

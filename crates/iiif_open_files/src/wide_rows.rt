@@ -31,7 +31,7 @@ pub struct WideRows<R: Opens> {
 
 impl<R: Opens> WideRows<R> {
     /// Reads runs of an open file of so many bytes. None where memory is wanting.
-    fn bytes_of(
+    fn read_bytes(
         rt: &R,
         alloc: Global,
         opening: &Opening<R>,
@@ -74,7 +74,7 @@ impl<R: Opens> WideRows<R> {
         let Ok(path) = opening.file.path.clone() else {
             return Ok(None);
         };
-        let Some(bytes) = WideRows::bytes_of(rt, alloc, opening, len, runs)? else {
+        let Some(bytes) = WideRows::read_bytes(rt, alloc, opening, len, runs)? else {
             return Ok(None);
         };
         Ok(Some(WideRows {
@@ -88,7 +88,7 @@ impl<R: Opens> WideRows<R> {
 
     /// Reads longer runs of an open file of so many bytes at the places of those that are asked for. None where there is no room for
     /// longer ones, or memory is wanting.
-    pub fn ahead(
+    pub fn read_ahead(
         rt: &R,
         alloc: Global,
         opening: &Opening<R>,

@@ -9,7 +9,7 @@ use iiif_keys::{CacheKey, System};
 use std::thread::{Threads, join};
 
 /// What two threads learn of one flight is one outcome of one ticket, a fault too. None where one of them learns nothing yet.
-pub fn learned_apart<K: CacheKey + Send + Sync, J: System + Send + Sync, R: Threads + Sync>(
+pub fn learn_apart<K: CacheKey + Send + Sync, J: System + Send + Sync, R: Threads + Sync>(
     rt: &R,
     one: Flight<K, J>,
     other: Flight<K, J>,

@@ -2,7 +2,7 @@
 //! the flight learn it there, and a cache keeps it with the receipt of the flight.
 #![tactic(auto)]
 
-pub use apart::learned_apart;
+pub use apart::learn_apart;
 pub use entry::Entry;
 pub use flight::Flight;
 pub use landed::Landed;

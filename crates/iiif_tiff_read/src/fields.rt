@@ -44,7 +44,7 @@ impl FieldEntry {
 }
 
 /// The number of two bytes at a place.
-fn short_at<R, S: Source<R>>(
+fn read_short_at<R, S: Source<R>>(
     rt: &R,
     source: &S,
     order: ByteOrder,
@@ -127,7 +127,7 @@ fn decode_entries(
 
 /// How many entries the first directory has, all of which are in the file. It stands apart since it takes no memory.
 #[tactic(auto, unfolding(iiif_tiff::specs::Tiff::directory_fits))]
-fn entry_count<R, S: Source<R>>(rt: &R, source: &S, header: Header) -> Result<u16, OpenFault>
+fn read_entry_count<R, S: Source<R>>(rt: &R, source: &S, header: Header) -> Result<u16, OpenFault>
     ensures count { Answers (S.keeps source.now × (endian header.order ≡ tiff.order (S.bytes source.now)) ×
         (header.directory ≡ tiff.directory (S.bytes source.now))) (S.gave source.now) (directory_fits (S.bytes source.now))
         (λ n. n ≡ tiff.entry_count (S.bytes source.now)) result }
@@ -139,7 +139,7 @@ fn entry_count<R, S: Source<R>>(rt: &R, source: &S, header: Header) -> Result<u1
     if len < start + 2 {
         return Err(OpenFault::Truncated);
     }
-    let count = short_at(rt, source, header.order, start)?;
+    let count = read_short_at(rt, source, header.order, start)?;
     let size = 12 * count as u64;
     if len < start + 2 + size {
         return Err(OpenFault::Truncated);
@@ -160,7 +160,7 @@ fn read_directory<R, S: Source<R>>(
     ensures memory { IfErr result (IsMemoryAfter (S.keeps source.now × (endian header.order ≡ tiff.order (S.bytes source.now)) ×
         (header.directory ≡ tiff.directory (S.bytes source.now))) (directory_fits (S.bytes source.now))) }
 {
-    let count = entry_count(rt, source, header)?;
+    let count = read_entry_count(rt, source, header)?;
     let start = header.directory as u64 + 2;
     let bytes = read_bytes_at(rt, alloc, source, start, 12 * count as usize)?;
     Ok(decode_entries(alloc, header.order, &bytes, count)?)

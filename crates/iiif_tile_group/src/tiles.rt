@@ -68,7 +68,7 @@ impl<R, S: Source<R> + Drop, J: System, N, T> Tiles<R, S, J, N, T> {
     }
 
     /// The same of the image that `image_of` gave for the key, for all that wait.
-    fn outcome(
+    fn make_outcome(
         &self,
         rt: &R,
         entry: &ImageEntry<R, S>,
@@ -108,7 +108,7 @@ impl<R: Wait, S: Source<R> + Drop, J: System, N: Link<TileKey, J, R>, T: Gate<R>
         match self.group.begin(rt, pass, key, &shape) {
             Ok(Begun::Known(receipt)) => Ok(receipt),
             Ok(Begun::Load(load)) => {
-                let outcome = self.outcome(rt, entry, &shape, key);
+                let outcome = self.make_outcome(rt, entry, &shape, key);
                 Ok(self.group.complete(rt, load, key, outcome).receipt)
             }
             Err(_) => Err(Fault::NoMemory),
@@ -131,7 +131,7 @@ impl<R: Wait, S: Source<R> + Drop, J: System, N, T: Gate<R>> Tiles<R, S, J, N, T
         match self.group.begin_local(rt, pass, key) {
             Ok(Begun::Known(receipt)) => Ok(receipt),
             Ok(Begun::Load(load)) => {
-                let outcome = self.outcome(rt, entry, &shape, key);
+                let outcome = self.make_outcome(rt, entry, &shape, key);
                 Ok(self.group.complete(rt, load, key, outcome).receipt)
             }
             Err(_) => Err(Fault::NoMemory),
