@@ -84,7 +84,7 @@ fn put_line<W: Write>(
         × Appends (W.contents out.old) (W.contents out.new) text) }
     ensures bad { (n : ℕ) → IsErrOf result (Stop.Line n) → (n ≡ number) × IsBad line.now replay.old.state }
 {
-    let text = replay.line(alloc, number, line);
+    let text = replay.run_line(alloc, number, line);
     put(out, number, text)
 }
 

@@ -47,7 +47,7 @@ fn not_done(alloc: Global, number: u64, line: &str, fault: WorldFault) -> Result
 }
 
 /// What an event came to, behind its line's number and its words.
-fn outcome(
+fn run_one(
     alloc: Global,
     world: &mut World,
     number: u64,
@@ -198,7 +198,7 @@ impl Replay {
     }
 
     /// All rows of the world that has begun.
-    fn shown(&mut self, alloc: Global) -> Result<String, LineFault>
+    fn show(&mut self, alloc: Global) -> Result<String, LineFault>
         ensures same { OnOk result (world_in self.new.state ≡ world_in self.old.state) }
         ensures begun { OnOk result (HasBegun self.new.state) }
         ensures bad { IsErrOf result LineFault.Bad → BeginsNone self.old.state }
@@ -222,7 +222,7 @@ impl Replay {
     }
 
     /// An event.
-    fn event(
+    fn run_event(
         &mut self,
         alloc: Global,
         number: u64,
@@ -236,7 +236,7 @@ impl Replay {
         let event = event(alloc, words)?;
         self.begin(alloc)?;
         match &mut self.state {
-            State::Begun(world) => outcome(alloc, world, number, line, event),
+            State::Begun(world) => run_one(alloc, world, number, line, event),
             State::Described(_) | State::Lost => Err(LineFault::Bad),
         }
     }
@@ -255,7 +255,7 @@ impl Replay {
     }
 
     /// What the words of a line that is no comment come to.
-    fn worded(
+    fn run_words(
         &mut self,
         alloc: Global,
         number: u64,
@@ -271,7 +271,7 @@ impl Replay {
         if self.set(alloc, words)? {
             return Ok(String::new(alloc));
         }
-        self.event(alloc, number, line, words)
+        self.run_event(alloc, number, line, words)
     }
 
     /// What words come to, which are those of a line.
@@ -293,9 +293,9 @@ impl Replay {
             return self.next_world(alloc);
         }
         if is_alone(words, "rows") {
-            return self.shown(alloc);
+            return self.show(alloc);
         }
-        self.worded(alloc, number, line, words)
+        self.run_words(alloc, number, line, words)
     }
 
     /// What a line, of a number, comes to: an event's outcome, behind the number and the words; at `world` the answers of the last one; at
@@ -305,7 +305,7 @@ impl Replay {
     ///
     /// `Bad`, where the line is no event and no setting that can be read, sets something of a world that has begun, or comes where the
     /// world can't begin: then each further event is `Bad` until `world`. `NoMemory`: an event may be done, or the world lost.
-    pub fn line(&mut self, alloc: Global, number: u64, line: &str) -> Result<String, LineFault>
+    pub fn run_line(&mut self, alloc: Global, number: u64, line: &str) -> Result<String, LineFault>
         ensures comes { IfOk result (λ text. (done : List Event)
             × LineComes number line.now self.old.state done self.new.state (string_bytes text)) }
         ensures bad { IsErrOf result LineFault.Bad → IsBad line.now self.old.state }

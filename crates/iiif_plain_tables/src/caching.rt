@@ -43,7 +43,7 @@ impl PlainCache {
     }
 
     /// The key's entry goes.
-    pub(crate) fn without(&mut self, key: &Key)
+    pub(crate) fn remove(&mut self, key: &Key)
         ensures { cache_of self.new ≡ lacking key_eq key.now (cache_of self.old) }
     {
         remove_in(&mut self.main, key);
@@ -51,11 +51,11 @@ impl PlainCache {
     }
 
     /// The keys' entries go.
-    pub(crate) fn without_all(&mut self, keys: &[Key])
+    pub(crate) fn remove_all(&mut self, keys: &[Key])
         ensures { cache_of self.new ≡ fold (λ c k. lacking key_eq k c) (cache_of self.old) keys.now }
     {
         for key in keys {
-            self.without(key);
+            self.remove(key);
         }
     }
 

@@ -29,7 +29,7 @@ pub(crate) fn place_of(list: &[Entry], key: &Key) -> Option<usize>
 }
 
 /// The entry at a place goes to the front.
-pub(crate) fn to_front(list: &mut Vec<Entry>, place: usize)
+pub(crate) fn move_to_front(list: &mut Vec<Entry>, place: usize)
     requires { place < vec_len list.old }
     ensures { (e : Entry) → slice_get list.old.items place ≡ Some e → list.new.items ≡ e ∷ remove list.old.items place }
 {
@@ -62,7 +62,7 @@ pub(crate) fn touch_in(list: &mut Vec<Entry>, key: &Key) -> bool
 {
     match place_of(list, key) {
         Some(place) => {
-            to_front(list, place);
+            move_to_front(list, place);
             true
         }
         None => false,

@@ -144,7 +144,7 @@ impl PlainTable {
     pub(crate) fn evict(&mut self, keys: &[Key])
         ensures { table_of self.new ≡ evicted (table_of self.old) keys.now }
     {
-        self.cache.without_all(keys);
+        self.cache.remove_all(keys);
     }
 
     /// A call enters. After an error all is as before.

@@ -28,5 +28,5 @@ returns-then-is_alone-clause-comes c =
 
 pub returns-then-is_alone-2-clause-comes : goal.returns-then-is_alone-2-clause-comes
 returns-then-is_alone-2-clause-comes c =
-    shown_comes c.args.number c.args.line.now c.args.words.now c.args.self.now.state c.shown.new.self.state c.shown.result
-    (c.is_alone-2.ensures.yes c.if-is_alone-2.true) c.shown.ensures.same c.shown.ensures.begun
+    shown_comes c.args.number c.args.line.now c.args.words.now c.args.self.now.state c.show.new.self.state c.show.result
+    (c.is_alone-2.ensures.yes c.if-is_alone-2.true) c.show.ensures.same c.show.ensures.begun

@@ -1,7 +1,7 @@
 use Rattle.std.proofs.Common.{refl}
 use Rattle.iiif_tables.specs.Cache.{without as lacking}
 use Rattle.iiif_tables.proofs.CacheLaws.{same_cache}
-use Rattle.iiif_plain_tables.proofs.caching.PlainCache.without.Goals as goal
+use Rattle.iiif_plain_tables.proofs.caching.PlainCache.remove.Goals as goal
 
 pub returns : goal.returns
 unfolding lacking

@@ -2,7 +2,7 @@ use Rattle.std.proofs.Common.{refl, string_bytes}
 use Rattle.std.proofs.lemmas.Result.{IfOk-weaker}
 use Rattle.iiif_world.specs.Code.{world_of}
 use Rattle.iiif_event_list.proofs.Outcome.{done_alone, stopped_alone}
-use Rattle.iiif_event_list.proofs.replaying.outcome.Goals as goal
+use Rattle.iiif_event_list.proofs.replaying.run_one.Goals as goal
 
 pub returns-in-Ok-clause-come : goal.returns-in-Ok-clause-come
 returns-in-Ok-clause-come c =
