@@ -3,7 +3,7 @@
 ghost use Rattle.std.specs.Prelude.{◌≡◌, ◌<◌, ◌≤◌, ◌^◌, IfOk, IfSome};
 
 use clap::{Arg, ArgAction, ArgMatches, Command};
-use iiif_image_list::{Fault, ImageList, LineFault as ListFault};
+use iiif_image_list::{Fault, ImageList, ListFault};
 use iiif_request::numerals::numeral;
 use std::alloc::Global;
 use std::convert::AsStr;

@@ -22,7 +22,7 @@ pub enum Fault {
 /// The line of a text that is at fault, counted from 1, and why.
 #[derive(Clone, Copy, Debug, PartialEq, Eq, Error)]
 #[error("line {line}: {fault}")]
-pub struct LineFault {
+pub struct ListFault {
     pub line: u64,
     pub fault: Fault,
 }

@@ -6,7 +6,7 @@ ghost use Rattle.std.specs.Str.Lines.{lines};
 ghost use Rattle.iiif_image_list.specs.Lists.{image_of, images_of, has_blank_around, has_name, is_blank, is_loose, line_at, refusal_of};
 ghost use Rattle.iiif_image_list.specs.Lists.{refusal_of_line, shown, unmarked, AreTaken, EndsAtByte, EndsAtLine, IsList, Takes};
 
-use crate::fault::{Fault, LineFault};
+use crate::fault::{Fault, ListFault};
 use iiif_keys::is_name;
 use indexmap::IndexMap;
 use indexmap::map::Iter;
@@ -74,7 +74,7 @@ impl<'a> ImageList<'a> {
     /// Takes the images of a text, behind its byte order mark where it begins with one: of each line, which a line feed ends, or a
     /// carriage return and a line feed. A line that is empty or begins with `#` names none. It ends at the first line with a fault,
     /// counted from 1.
-    pub fn add_text(&mut self, text: &'a [u8]) -> Result<(), LineFault>
+    pub fn add_text(&mut self, text: &'a [u8]) -> Result<(), ListFault>
         ensures list { OnOk result (IsList self.old (unmarked text.now) self.new) }
         ensures line { IsUtf8 (unmarked text.now) →
             IfErr result (λ f. EndsAtLine self.old (lines (unmarked text.now)) f.line f.fault self.new) }
@@ -85,14 +85,14 @@ impl<'a> ImageList<'a> {
     }
 
     /// Takes the images of a text without a byte order mark.
-    fn add_unmarked(&mut self, text: &'a [u8]) -> Result<(), LineFault>
+    fn add_unmarked(&mut self, text: &'a [u8]) -> Result<(), ListFault>
         ensures list { OnOk result (IsList self.old text.now self.new) }
         ensures line { IsUtf8 text.now → IfErr result (λ f. EndsAtLine self.old (lines text.now) f.line f.fault self.new) }
         ensures byte { ¬ (IsUtf8 text.now) → IfErr result (λ f. EndsAtByte self.old text.now f.line f.fault self.new) }
     {
         match str::from_utf8(text) {
             Ok(text) => self.add_lines(text),
-            Err(error) => Err(LineFault {
+            Err(error) => Err(ListFault {
                 line: line_of(text, error.valid_up_to()),
                 fault: Fault::Encoding,
             }),
@@ -100,7 +100,7 @@ impl<'a> ImageList<'a> {
     }
 
     /// Takes the images of a text's lines.
-    fn add_lines(&mut self, text: &'a str) -> Result<(), LineFault>
+    fn add_lines(&mut self, text: &'a str) -> Result<(), ListFault>
         ensures each { OnOk result (AreTaken self.old (lines text.now) (length (lines text.now))) }
         ensures taken { OnOk result (self.new ≡ self.old ++ images_of (lines text.now)) }
         ensures ends { IfErr result (λ f. EndsAtLine self.old (lines text.now) f.line f.fault self.new) }
@@ -110,7 +110,7 @@ impl<'a> ImageList<'a> {
             line += 1;
             match self.add_line(words) {
                 Ok(()) => {}
-                Err(fault) => return Err(LineFault { line, fault }),
+                Err(fault) => return Err(ListFault { line, fault }),
             }
         }
         Ok(())

@@ -1,6 +1,6 @@
 //! Images named by words and by the lines of texts.
 
-use iiif_image_list::{Fault, ImageList, LineFault};
+use iiif_image_list::{Fault, ImageList, ListFault};
 use std::alloc::Global;
 use std::process::Abort;
 
@@ -207,7 +207,7 @@ static FAULTS: [(&[u8], u64, Fault); 16] = [
 fn is_refused(alloc: Global, text: &[u8], line: u64, fault: Fault) -> bool {
     let mut list = ImageList::new(alloc);
     list.add("first=one.tif") == Ok(())
-        && list.add_text(text) == Err(LineFault { line, fault })
+        && list.add_text(text) == Err(ListFault { line, fault })
         && list.has("a") == (line > 1 && fault != Fault::Encoding)
         && list.has("first")
 }
@@ -220,7 +220,7 @@ fn first_line_at_fault_is_told(rt: HostRuntime) {
 }
 
 /// Whether a line's fault is written so.
-fn is_said(alloc: Global, fault: LineFault, text: &str) -> bool {
+fn is_said(alloc: Global, fault: ListFault, text: &str) -> bool {
     match format!(in alloc; "{fault}") {
         Ok(said) => said.as_str() == text,
         Err(_) => false,
@@ -229,12 +229,12 @@ fn is_said(alloc: Global, fault: LineFault, text: &str) -> bool {
 
 #[test]
 fn faults_are_said_in_words(rt: HostRuntime) {
-    let fault = LineFault {
+    let fault = ListFault {
         line: 12,
         fault: Fault::Twice,
     };
     assert!(rt; is_said(rt.alloc(), fault, "line 12: there is an image of that name"));
-    let fault = LineFault {
+    let fault = ListFault {
         line: 3,
         fault: Fault::Blank,
     };
