@@ -8,7 +8,7 @@ ghost use Rattle.iiif_start.specs.Stored.{bytes_of, keeps_of, stored_gave};
 ghost use Rattle.iiif_answers.specs.Settings.{refusal_of};
 ghost use Rattle.iiif_program.specs.Lines.{settings_in};
 
-use crate::makings::{Makings, makings_of, watcher_of};
+use crate::makings::{Makings, open_makings, watcher_of};
 use crate::work::Listening;
 use iiif_command_line::Options;
 use iiif_connections::serving::listen;
@@ -47,7 +47,7 @@ where
     E: Outlet + Send,
     requires { refusal_of (settings_in options.now) ≡ None }
 {
-    let made = makings_of(rt, alloc, options)?;
+    let made = open_makings(rt, alloc, options)?;
     let watcher = watcher_of(alloc, options, &made, listening.logs)?;
     let post = Post {
         listening,

@@ -21,7 +21,7 @@ pub struct Makings<R: Opens + Wait> {
 }
 
 /// What the node of the options is made of: the images are opened.
-pub(crate) fn makings_of<'a, R: Opens + Wait>(
+pub(crate) fn open_makings<'a, R: Opens + Wait>(
     rt: &R,
     alloc: Global,
     options: &Options<'a>,

@@ -50,7 +50,7 @@ where
     let Some(mut passes) = passes_of(rt, alloc, node, workers) else {
         return Err(Stop::Memory);
     };
-    let sent = node.body_one(rt, alloc, &mut passes, target.as_bytes(), out);
+    let sent = node.send_body(rt, alloc, &mut passes, target.as_bytes(), out);
     give_back(rt, node, passes);
     match sent {
         Ok(_) => Ok(()),
@@ -77,11 +77,11 @@ where
 {
     let mut body = Vec::new(alloc);
     let answered = answer_one(rt, alloc, node, workers, target, &mut body);
-    written_in_hex(answered, &body, out)
+    write_in_hex(answered, &body, out)
 }
 
 /// Writes a body as hexadecimal digits, where its answer wasn't cut off. In memory the writer fails for want of it alone.
-pub(crate) fn written_in_hex<'a, O: Outlet>(
+pub(crate) fn write_in_hex<'a, O: Outlet>(
     answered: Result<(), Stop<'a>>,
     body: &[u8],
     out: &mut O,

@@ -59,7 +59,7 @@ where
         matches(alloc, words)
     };
     match matches {
-        Ok(matches) => with_matches(rt, alloc, &matches, out, err),
+        Ok(matches) => answer_matches(rt, alloc, &matches, out, err),
         Err(error) if error.kind() == ErrorKind::OutOfMemory => report_end(err, "run: memory", 1),
         Err(error) if error.use_stderr() => {
             // Where the words can't be written, the status says it.
@@ -76,7 +76,7 @@ where
 }
 
 /// Answers what the parsed words ask for.
-fn with_matches<R, O, E>(
+fn answer_matches<R, O, E>(
     rt: &R,
     alloc: Global,
     matches: &ArgMatches<'_>,

@@ -9,8 +9,8 @@ ghost use Rattle.iiif_answers.specs.Settings.{refusal_of};
 ghost use Rattle.iiif_program.specs.Lines.{settings_in};
 
 use crate::alone::answer_alone;
-use crate::makings::{Makings, makings_of, watcher_of};
-use crate::one::{answer_in_hex, answer_one, written_in_hex};
+use crate::makings::{Makings, open_makings, watcher_of};
+use crate::one::{answer_in_hex, answer_one, write_in_hex};
 use crate::work::One;
 use iiif_command_line::Options;
 use iiif_connections::{Watcher, among};
@@ -46,18 +46,18 @@ where
     O: Outlet,
     requires { refusal_of (settings_in options.now) ≡ None }
 {
-    let made = makings_of(rt, alloc, options)?;
+    let made = open_makings(rt, alloc, options)?;
     if options.peers.is_empty() {
-        return one_alone(rt, alloc, made, one, out);
+        return write_one_alone(rt, alloc, made, one, out);
     }
     let watcher = watcher_of(alloc, options, &made, false)?;
     watcher.neighbours.look_up(rt, alloc);
     let blanks = (Blank::new(65_537), Blank::new(65_537));
-    one_among::<R, O, Brand>(rt, made, blanks, &watcher, one, out)
+    write_one_among::<R, O, Brand>(rt, made, blanks, &watcher, one, out)
 }
 
 /// Writes the body of the answer to a target by a node that asks no other, perhaps as hexadecimal digits.
-fn one_alone<'a, R, O>(
+fn write_one_alone<'a, R, O>(
     rt: &R,
     alloc: Global,
     made: Makings<R>,
@@ -75,11 +75,11 @@ where
     }
     let mut body = Vec::new(alloc);
     let answered = answer_alone(rt, alloc, made, one.target, &mut body);
-    written_in_hex(answered, &body, out)
+    write_in_hex(answered, &body, out)
 }
 
 /// Writes the body of the answer to a target by a node that asks the watcher's others, perhaps as hexadecimal digits.
-fn one_among<'a, R, O, J: System + Send + Sync>(
+fn write_one_among<'a, R, O, J: System + Send + Sync>(
     rt: &R,
     made: Makings<R>,
     blanks: (Blank, Blank),

@@ -344,7 +344,7 @@ impl<
     }
 
     /// Sends the body of the answer to a GET of a target. Where it is no image, the passes stay as they are.
-    pub fn body_one<W: Outlet>(
+    pub fn send_body<W: Outlet>(
         &self,
         rt: &R,
         alloc: Global,

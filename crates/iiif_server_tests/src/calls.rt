@@ -28,7 +28,7 @@ fn body_of<R: Threads + Wait + Clock + Sync, J: System + Send + Sync>(
     if passes.is_empty() {
         return None;
     }
-    Some(node.body_one(rt, alloc, passes, target, out))
+    Some(node.send_body(rt, alloc, passes, target, out))
 }
 
 fn method_of(verb: Verb) -> Method {

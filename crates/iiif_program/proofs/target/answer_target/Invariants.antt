@@ -4,8 +4,8 @@ use Rattle.iiif_start.specs.Stored.{bytes_of, keeps_of, stored_gave}
 use Rattle.iiif_program.proofs.target.answer_target.Given as goal
 
 -- what the catalogue shows, and the ledgers that were just made; of other nodes nothing is promised
-abbrev pub ghosts-one_among : goal.ghosts-one_among
-ghosts-one_among g a = record {
+abbrev pub ghosts-write_one_among : goal.ghosts-write_one_among
+ghosts-write_one_among g a = record {
   pictures = pictures_of (bytes_of g.R.Opens.holds) a.made.catalogue;
   edge = a.made.config.edge;
   gave = gave_of stored_gave a.made.catalogue;
