@@ -55,7 +55,7 @@ impl<
     }
 
     /// The bytes of the tile that the bytes of a key name.
-    fn tile(
+    fn get_tile(
         &self,
         rt: &R,
         alloc: Global,
@@ -75,7 +75,7 @@ impl<
     }
 
     /// The bytes of the sums that the bytes of a key name.
-    fn sums(
+    fn get_sums(
         &self,
         rt: &R,
         alloc: Global,
@@ -108,10 +108,10 @@ impl<
     fn answer(&self, rt: &R, alloc: Global, passes: &mut Passes<J>, ask: &Ask) -> (u8, Vec<u8>) {
         let key = ask.key.as_slice();
         if ask.group == 1 {
-            let outcome = self.tile(rt, alloc, passes, ask.version, key);
+            let outcome = self.get_tile(rt, alloc, passes, ask.version, key);
             return reply_of(alloc, outcome);
         }
-        let outcome = self.sums(rt, alloc, passes, ask.version, key);
+        let outcome = self.get_sums(rt, alloc, passes, ask.version, key);
         reply_of(alloc, outcome)
     }
 }

@@ -270,7 +270,7 @@ pub fn ask_from<R: Inlet>(alloc: Global, reader: &mut R) -> Result<Option<Ask>, 
 }
 
 /// Reads a reply of the version for the key.
-pub fn reply_from<R: Inlet>(
+pub fn read_reply_fields<R: Inlet>(
     alloc: Global,
     reader: &mut R,
     version: Version,

@@ -8,7 +8,7 @@ ghost use Rattle.sha2.specs.Sha256.{sha256};
 ghost use Rattle.iiif_peer_wire.specs.Reading.{IsInput, reply_at};
 
 use crate::fault::WireFault;
-use crate::fields::reply_from;
+use crate::fields::read_reply_fields;
 use crate::sending::send_part;
 use crate::version::Version;
 use iiif_io::{Inlet, Outlet, send};
@@ -97,5 +97,5 @@ pub fn read_reply<R: Inlet>(
     ensures memory { IsErrOf result WireFault.NoMemory → (text : List ℕ) × IsFrontOfReply version asked_key.now text
         × Consumes (R.remaining reader.old) (R.remaining reader.new) text }
 {
-    reply_from(alloc, reader, version, asked_key)
+    read_reply_fields(alloc, reader, version, asked_key)
 }

@@ -112,12 +112,14 @@ all_there o bytes start count o-is s count-is first second =
     (rw (a, b) refl, n)
 
 -- the entries are those of the directory
-pub all_entries : (bytes : List ℕ) (start count : ℕ) (es : List FieldEntry) → start ≡ tiff.directory bytes → count ≡ tiff.entry_count bytes →
+pub all_entries : (bytes : List ℕ) (start count : ℕ) (es : List FieldEntry) → start ≡ tiff.directory bytes →
+    count ≡ tiff.entry_count bytes →
     entry_views es ≡ map (λ k. tiff.entry bytes (start + 2 + 12 * k)) (range_with_len 0 count) → entry_views es ≡ tiff.entries bytes
 unfolding tiff.entries
 all_entries bytes start count es s n views = views ∙ rw (s, n) refl
 
-find_view : (tag : ℕ) (es : List FieldEntry) → option_map entry_view (find (λ e. e.tag == tag) es) ≡ find (λ e. e.tag == tag) (entry_views es)
+find_view : (tag : ℕ) (es : List FieldEntry) →
+    option_map entry_view (find (λ e. e.tag == tag) es) ≡ find (λ e. e.tag == tag) (entry_views es)
 find_view tag [] = refl
 find_view tag (e ∷ es) = elim (e.tag == tag) as
     (λ b. option_map entry_view (cond b (Some e) (find (λ x. x.tag == tag) es)) ≡ cond b (Some (entry_view e))

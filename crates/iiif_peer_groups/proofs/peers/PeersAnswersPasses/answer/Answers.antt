@@ -8,9 +8,9 @@ returns-then-ask-eq1-clause-allowed g c =
     let node = system g.J.System.pictures g.J.System.edge g.J.System.gave g.J.System.stable g.J.System.honest in
     inl (
       c.if-ask-eq1.true,
-      rw c.as_slice-key.ensures.value at (replied tile_kind node c.args.ask.now.version c.as_slice-key.result.now c.tile-outcome.result
+      rw c.as_slice-key.ensures.value at (replied tile_kind node c.args.ask.now.version c.as_slice-key.result.now c.get_tile-outcome.result
           c.reply_of.result.0
-          c.reply_of.result.1.items c.tile-outcome.ensures.value c.tile-outcome.ensures.fault c.reply_of.ensures),
+          c.reply_of.result.1.items c.get_tile-outcome.ensures.value c.get_tile-outcome.ensures.fault c.reply_of.ensures),
     )
 
 pub returns-clause-allowed : goal.returns-clause-allowed
@@ -19,7 +19,7 @@ returns-clause-allowed g c =
     let second : c.args.ask.now.group ≡ 2 = ⊎_elim (λ one. absurd (c.if-ask-eq1.false one)) (λ two. two) c.requires.group_known in
     inr (
       second,
-      rw c.as_slice-key.ensures.value at (replied sum_kind node c.args.ask.now.version c.as_slice-key.result.now c.sums-outcome.result
+      rw c.as_slice-key.ensures.value at (replied sum_kind node c.args.ask.now.version c.as_slice-key.result.now c.get_sums-outcome.result
           c.reply_of-2.result.0
-          c.reply_of-2.result.1.items c.sums-outcome.ensures.value c.sums-outcome.ensures.fault c.reply_of-2.ensures),
+          c.reply_of-2.result.1.items c.get_sums-outcome.ensures.value c.get_sums-outcome.ensures.fault c.reply_of-2.ensures),
     )

@@ -5,7 +5,7 @@ use Rattle.iiif_peer_wire.specs.Code.{Unread}
 use Rattle.iiif_peer_wire.specs.Messages.{reply_magic, field, IsReply}
 use Rattle.iiif_peer_wire.specs.Reading.{digest_at, key_at, magic_at, reply_at, value_at}
 use Rattle.iiif_peer_wire.proofs.Taken.{exit_fault, unread_behind, unread_first}
-use Rattle.iiif_peer_wire.proofs.fields.reply_from.Goals as goal
+use Rattle.iiif_peer_wire.proofs.fields.read_reply_fields.Goals as goal
 use Rattle.sha2.specs.Sha256.{sha256}
 use Rattle.iiif_peer_wire.proofs.Wanted.{WantsReply, reply_front}
 use Rattle.iiif_peer_wire.proofs.Whole.{reply_at-no_magic, reply_at-no_key, reply_at-no_value, reply_at-no_digest, reply_text-parts}
