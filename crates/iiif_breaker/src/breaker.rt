@@ -90,7 +90,7 @@ impl Breaker {
     }
 
     /// Leaves the link alone since a look at its node was in vain: for a second where it was asked, and else for as long again as it was.
-    pub fn found_silent(&mut self, now: u64)
+    pub fn report_silent(&mut self, now: u64)
         ensures { self.new ≡ silent self.old now }
     {
         let wait = match self.state {

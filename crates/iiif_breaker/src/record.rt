@@ -95,7 +95,7 @@ impl LinkRecord {
 
     /// Takes in a look at its node that was in vain, and says what becomes of the link. Before are the asks of the moment when the look
     /// began: where one was answered since, the node is there.
-    pub fn found_silent(&mut self, now: u64, before: &Asks) -> Option<Change>
+    pub fn report_silent(&mut self, now: u64, before: &Asks) -> Option<Change>
         ensures change { result ≡ change_of self.old.breaker.state self.new.breaker.state }
         ensures breaker { self.new.breaker ≡ (if has_answers_since self.old.asks before.now then self.old.breaker else
             silent self.old.breaker now) }
@@ -103,7 +103,7 @@ impl LinkRecord {
     {
         let was = self.breaker.state();
         if !self.asks.has_answers_since(before) {
-            self.breaker.found_silent(now);
+            self.breaker.report_silent(now);
         }
         change_of(was, self.breaker.state())
     }

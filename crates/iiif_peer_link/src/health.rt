@@ -172,7 +172,7 @@ impl Health {
             return None;
         }
         let now = memory.moment(rt);
-        let change = memory.record.found_silent(now, &look.before);
+        let change = memory.record.report_silent(now, &look.before);
         if memory.is_left_alone() {
             memory.addresses.leave(look.place);
             memory.is_to_look_up = memory.is_to_look_up || look.is_left_alone;

@@ -110,12 +110,12 @@ fn turns_are_told_and_refusals_counted_apart(rt: HostRuntime) {
 fn looks_in_vain_leave_a_link_alone_and_count_no_ask(rt: HostRuntime) {
     let mut link = LinkRecord::new();
     let none = Asks::new();
-    assert!(rt; link.found_silent(100, &none) == Some(Change::LeftAlone));
+    assert!(rt; link.report_silent(100, &none) == Some(Change::LeftAlone));
     assert!(rt; link.may_ask(1_099).is_none());
-    assert!(rt; link.found_silent(1_099, &none).is_none());
+    assert!(rt; link.report_silent(1_099, &none).is_none());
     assert!(rt; link.may_ask(2_098).is_none());
     assert!(rt; link.may_ask(2_099) == Some(2));
-    assert!(rt; link.found_silent(2_200, &none).is_none());
+    assert!(rt; link.report_silent(2_200, &none).is_none());
     link.report(2_300, 2, Outcome::TimedOut);
     assert!(rt;
         link.state()
@@ -137,7 +137,7 @@ fn look_in_vain_keeps_the_rest_and_is_due_a_second_before_its_end(rt: HostRuntim
     assert!(rt; !link.is_due(2_099));
     assert!(rt; link.is_due(2_100));
     let before = link.asks();
-    assert!(rt; link.found_silent(2_100, &before).is_none());
+    assert!(rt; link.report_silent(2_100, &before).is_none());
     assert!(rt;
         link.state()
             == State::Open {
@@ -156,11 +156,11 @@ fn look_in_vain_says_nothing_of_a_node_that_answered_since(rt: HostRuntime) {
     link.report(100, 0, Outcome::Answered);
     let second = link.asks();
     link.report(101, 0, Outcome::Refused);
-    assert!(rt; link.found_silent(200, &first).is_none());
-    assert!(rt; link.found_silent(201, &second).is_none());
+    assert!(rt; link.report_silent(200, &first).is_none());
+    assert!(rt; link.report_silent(201, &second).is_none());
     assert!(rt; link.state() == State::Closed { faults: 0 });
     let last = link.asks();
-    assert!(rt; link.found_silent(202, &last) == Some(Change::LeftAlone));
+    assert!(rt; link.report_silent(202, &last) == Some(Change::LeftAlone));
 }
 
 #[test]
