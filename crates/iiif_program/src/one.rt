@@ -7,7 +7,7 @@ ghost use Rattle.iiif_program.specs.Alone.{IsAnswerOfHeld};
 ghost use Rattle.iiif_start.specs.Stored.{bytes_of};
 
 use crate::hex::write_hex;
-use iiif_connections::passes::{give_back, passes_of};
+use iiif_connections::passes::{give_back, take_passes};
 use iiif_connections::{Cause, Gate, Link, Node};
 use iiif_io::Outlet;
 use iiif_keys::{Fault, SumKey, System, TileKey};
@@ -47,7 +47,7 @@ where
         × IsAnswerOfHeld (bytes_of R.holds) node.now.settings node.now.items target.now ((before : O) × O.fails before out.new) text
         result }
 {
-    let Some(mut passes) = passes_of(rt, alloc, node, workers) else {
+    let Some(mut passes) = take_passes(rt, alloc, node, workers) else {
         return Err(Stop::Memory);
     };
     let sent = node.send_body(rt, alloc, &mut passes, target.as_bytes(), out);
