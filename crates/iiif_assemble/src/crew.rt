@@ -282,8 +282,5 @@ pub(crate) fn gathered<
     let Ok(idle) = Idle::of(alloc, others) else {
         return Err(Fault::NoMemory);
     };
-    group.begin(rt);
-    let values = by_crew(rt, alloc, group, &idle, own, (keys, items));
-    group.end(rt);
-    values
+    by_crew(rt, alloc, group, &idle, own, (keys, items))
 }

@@ -100,14 +100,6 @@ impl<'a, S: Items<SumKey, SumVal, P, R>, P, R> Items<SumKey, SumVal, P, R> for W
     fn is_at_hand(&self, rt: &R, key: &SumKey) -> bool {
         kept_for(self.kept, key).is_some() || self.sums.is_at_hand(rt, key)
     }
-
-    fn begin(&self, rt: &R) {
-        self.sums.begin(rt)
-    }
-
-    fn end(&self, rt: &R) {
-        self.sums.end(rt)
-    }
 }
 
 /// Whether the sums of all these items are kept.

@@ -109,10 +109,6 @@ impl<
     fn is_at_hand(&self, rt: &R, key: &TileKey) -> bool {
         self.0.tiles().group().holds(rt, key)
     }
-
-    fn begin(&self, _rt: &R) {}
-
-    fn end(&self, _rt: &R) {}
 }
 
 /// Sums, in the same way.
@@ -187,10 +183,6 @@ impl<
     fn is_at_hand(&self, rt: &R, key: &SumKey) -> bool {
         self.0.sums().holds(rt, key)
     }
-
-    fn begin(&self, _rt: &R) {}
-
-    fn end(&self, _rt: &R) {}
 }
 
 /// Whose sums are to be made waits until it is admitted.

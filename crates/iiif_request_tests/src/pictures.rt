@@ -132,10 +132,6 @@ impl<R> Items<TileKey, TileVal, u64, R> for Shown {
     fn is_at_hand(&self, _rt: &R, _key: &TileKey) -> bool {
         false
     }
-
-    fn begin(&self, _rt: &R) {}
-
-    fn end(&self, _rt: &R) {}
 }
 
 impl<R> Items<SumKey, SumVal, u64, R> for Shown {
@@ -200,10 +196,6 @@ impl<R> Items<SumKey, SumVal, u64, R> for Shown {
     fn is_at_hand(&self, _rt: &R, _key: &SumKey) -> bool {
         false
     }
-
-    fn begin(&self, _rt: &R) {}
-
-    fn end(&self, _rt: &R) {}
 }
 
 /// Each job has its turn at once, or none has.
