@@ -6,6 +6,7 @@ ghost use Rattle.iiif_images.specs.Collection.{item_named};
 ghost use Rattle.iiif_images.specs.Named.{gave_of, pictures_of};
 ghost use Rattle.iiif_start.specs.Stored.{bytes_of, keeps_of, stored_gave};
 ghost use Rattle.iiif_server.specs.Stocks.{IsStock};
+ghost use Rattle.iiif_keys.specs.Ledgers.{all_parts};
 
 use crate::watcher::Watcher;
 use iiif_keys::System;
@@ -71,7 +72,7 @@ fn stock<'p, J: System>(
 ) -> Result<Stock<TcpLink<'p, J>, NoGate>, NoMemory>
     requires honest { J.honest ≡ false }
     requires bytes { bytes < 2 ^ 63 }
-    ensures { (name parts : ℕ) → blank.name ≡ name → blank.parts ≡ parts → parts ≡ 65537 → IfOk result (IsStock name parts) }
+    ensures { (name parts : ℕ) → blank.name ≡ name → blank.parts ≡ parts → parts ≡ all_parts → IfOk result (IsStock name parts) }
 {
     let Some(entries) = NonZeroUsize::new(ENTRIES) else {
         return Err(AllocError);
@@ -115,8 +116,8 @@ pub fn among<'p, R: Opens + Wait, J: System>(
     requires edge { config.edge ≡ J.edge }
     requires honest { J.honest ≡ false }
     requires bytes { bytes < 2 ^ 63 }
-    requires tiles { (blanks.0.name ≡ J.tiles_name) × (blanks.0.parts ≡ J.tiles_parts) × (J.tiles_parts ≡ 65537) }
-    requires sums { (blanks.1.name ≡ J.sums_name) × (blanks.1.parts ≡ J.sums_parts) × (J.sums_parts ≡ 65537) }
+    requires tiles { (blanks.0.name ≡ J.tiles_name) × (blanks.0.parts ≡ J.tiles_parts) × (J.tiles_parts ≡ all_parts) }
+    requires sums { (blanks.1.name ≡ J.sums_name) × (blanks.1.parts ≡ J.sums_parts) × (J.sums_parts ≡ all_parts) }
     ensures settings { IfOk result (λ n. n.settings ≡ config) }
     ensures items { IfOk result (λ n. n.items ≡ catalogue) }
 {

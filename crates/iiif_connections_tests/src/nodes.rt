@@ -5,13 +5,14 @@ ghost use Rattle.iiif_source.specs.declared.ReadFault.{ReadFault};
 ghost use Rattle.iiif_images.specs.Collection.{item_named};
 ghost use Rattle.iiif_images.specs.Named.{gave_of, pictures_of};
 ghost use Rattle.iiif_start.specs.Stored.{bytes_of, keeps_of, stored_gave};
+ghost use Rattle.iiif_keys.specs.Ledgers.{all_parts};
 
 use crate::pipe::{Inflow, Pipe};
 use iiif_canonical::Limits;
 use iiif_connections::serving::serve;
 use iiif_connections::times::USUAL;
 use iiif_connections::{Catalogue, Config, Link, Manner, Node, Nodes, Times, Watcher, among};
-use iiif_keys::{SumKey, System, TileKey};
+use iiif_keys::{PARTS, SumKey, System, TileKey};
 use iiif_open_files::Opens;
 use iiif_services::Listeners;
 use iiif_start::{Held, Stored, open_catalogue};
@@ -189,8 +190,8 @@ where
         ∥ keeps_of R.keeps item.source ∥₁ }
     requires kept { (name : List ℕ) (item : _) → item_named catalogue name ≡ Some item → keeps_of R.keeps item.source → J.stable name }
     requires edge { config.edge ≡ J.edge }
-    requires tiles { (tiles.name ≡ J.tiles_name) × (tiles.parts ≡ J.tiles_parts) × (J.tiles_parts ≡ 65537) }
-    requires sums { (sums.name ≡ J.sums_name) × (sums.parts ≡ J.sums_parts) × (J.sums_parts ≡ 65537) }
+    requires tiles { (tiles.name ≡ J.tiles_name) × (tiles.parts ≡ J.tiles_parts) × (J.tiles_parts ≡ all_parts) }
+    requires sums { (sums.name ≡ J.sums_name) × (sums.parts ≡ J.sums_parts) × (J.sums_parts ≡ all_parts) }
 {
     let node = Node::<R, Stored<R>, J>::alone(alloc, config, catalogue, ROOM, tiles, sums).ok()?;
     serve_by(rt, alloc, &node, times, stage)
@@ -218,8 +219,8 @@ where
     requires kept { (name : List ℕ) (item : _) → item_named catalogue name ≡ Some item → keeps_of R.keeps item.source → J.stable name }
     requires edge { config.edge ≡ J.edge }
     requires honest { J.honest ≡ false }
-    requires tiles { (tiles.name ≡ J.tiles_name) × (tiles.parts ≡ J.tiles_parts) × (J.tiles_parts ≡ 65537) }
-    requires sums { (sums.name ≡ J.sums_name) × (sums.parts ≡ J.sums_parts) × (J.sums_parts ≡ 65537) }
+    requires tiles { (tiles.name ≡ J.tiles_name) × (tiles.parts ≡ J.tiles_parts) × (J.tiles_parts ≡ all_parts) }
+    requires sums { (sums.name ≡ J.sums_name) × (sums.parts ≡ J.sums_parts) × (J.sums_parts ≡ all_parts) }
 {
     let watcher = stage.watcher;
     let blanks = (tiles, sums);
@@ -249,7 +250,7 @@ where
     let config = Config::new(alloc, BASE, scene.edge, limits, 64, 2).ok()?;
     let open_files = NonZeroUsize::new(scene.open_files)?;
     let catalogue = open_catalogue(rt, alloc, scene.images, open_files, scene.hold).ok()?;
-    let (tiles, sums) = (Blank::new(65_537), Blank::new(65_537));
+    let (tiles, sums) = (Blank::new(PARTS), Blank::new(PARTS));
     if scene.owner.is_none() {
         return serve_alone::<R, Brand>(rt, alloc, config, catalogue, tiles, sums, times, stage);
     }

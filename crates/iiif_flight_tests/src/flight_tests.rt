@@ -3,9 +3,10 @@
 ghost use Rattle.std.specs.Prelude.{◌≡◌, true, IsTrue};
 ghost use Rattle.std.specs.Result.{ForErr};
 ghost use Rattle.iiif_outcome.specs.Outcomes.{is_given};
+ghost use Rattle.iiif_keys.specs.Ledgers.{all_parts};
 
 use crate::cache_tests::sample;
-use iiif_keys::Fault;
+use iiif_keys::{Fault, PARTS};
 use iiif_outcome::learn_apart;
 use iiif_sample_keys::{Lax, Sample};
 use iiif_singleflight::entered::Entered;
@@ -33,10 +34,10 @@ type Told = Result<u16, Fault>;
 fn made<L: Ledger>(alloc: Global, bytes: u32, blank: Blank) -> Option<Shared<L>>
     requires name { blank.name ≡ L.name }
     requires parts { blank.parts ≡ L.parts }
-    requires all { L.parts ≡ 65537 }
+    requires all { L.parts ≡ all_parts }
 {
     let entries = NonZeroUsize::new(8)?;
-    let (table, pass) = Table::new(alloc, u64::from(bytes), entries, 65_537, blank).ok()?;
+    let (table, pass) = Table::new(alloc, u64::from(bytes), entries, PARTS, blank).ok()?;
     Some(Home::new(table, pass, Whole::new()))
 }
 
@@ -236,7 +237,7 @@ fn look_and_meet<L: Ledger + Send + Sync, R: Threads + Wait + Clock + Sync>(
 ) -> Option<(Look, Met)>
     requires name { blank.name ≡ L.name }
     requires parts { blank.parts ≡ L.parts }
-    requires all { L.parts ≡ 65537 }
+    requires all { L.parts ≡ all_parts }
 {
     let mut home: Shared<L> = made(alloc, bytes, blank)?;
     let mut one = home.pass()?;
@@ -403,7 +404,7 @@ static MEETINGS: [(u32, Told, Look, Met); 4] = [
 #[test]
 fn leader_that_looks_again_finds_values_alone_and_two_threads_share_one_load(rt: HostRuntime) {
     for (line, (bytes, tells, look, met)) in MEETINGS.iter().enumerate() {
-        let seen = look_and_meet::<Brand, _>(&rt, rt.alloc(), *bytes, *tells, Blank::new(65_537));
+        let seen = look_and_meet::<Brand, _>(&rt, rt.alloc(), *bytes, *tells, Blank::new(PARTS));
         assert!(rt; seen == Some((*look, *met)), "{line}");
     }
 }

@@ -3,9 +3,10 @@
 ghost use Rattle.std.specs.Prelude.{◌≡◌, ℕ, ◌+◌, ◌<◌, ◌^◌, length, vec_len, IfErr, IfOk, IfSome};
 ghost use Rattle.std.specs.List.{sum_by};
 ghost use Rattle.iiif_tables.specs.Flights.{IsBook};
+ghost use Rattle.iiif_keys.specs.Ledgers.{all_parts};
 
 use crate::wait_lists::WaitLists;
-use iiif_keys::{CacheKey, System};
+use iiif_keys::{CacheKey, PARTS, System};
 use iiif_pixel::NoMemory;
 use iiif_ring::Ring;
 use iiif_singleflight::{Home, Kept, Pass, Table, Whole};
@@ -58,10 +59,10 @@ impl<K: CacheKey, J: System, L: Ledger, N, T> Group<K, J, L, N, T> {
         requires bytes { bytes < 2 ^ 63 }
         requires name { blank.name ≡ L.name }
         requires parts { blank.parts ≡ L.parts }
-        requires all { L.parts ≡ 65537 }
+        requires all { L.parts ≡ all_parts }
         ensures room { IfOk result (λ g. g.room ≡ bytes) }
     {
-        let (table, pass) = Table::new(alloc, bytes, entries, 65_537, blank)?;
+        let (table, pass) = Table::new(alloc, bytes, entries, PARTS, blank)?;
         let Standing { ring, own, links } = standing;
         Ok(Group {
             home: Mutex::new(Home::new(table, pass, Whole::new())),

@@ -28,6 +28,7 @@ struct Deep;
 
 impl System for Deep {
     ghost use Rattle.std.specs.Prelude.{Some, [], ◌∷◌, true, false};
+    ghost use Rattle.iiif_keys.specs.Ledgers.{all_parts};
 
     ghost pictures = { λ _. Some (record { width = 2; height = 1; channels = 1; top = 65535; samples = 0 ∷ 65535 ∷ [] }) };
 
@@ -41,11 +42,11 @@ impl System for Deep {
 
     ghost tiles_name = { 0 };
 
-    ghost tiles_parts = { 65537 };
+    ghost tiles_parts = { all_parts };
 
     ghost sums_name = { 1 };
 
-    ghost sums_parts = { 65537 };
+    ghost sums_parts = { all_parts };
 }
 
 /// The shape of that picture, whichever name it has.

@@ -1,6 +1,7 @@
 //! Nodes over files in memory: their images, their gates, and their ways to the node that owns their keys.
 
 ghost use Rattle.std.specs.Prelude.{◌≡◌, IfOk, false, length};
+ghost use Rattle.iiif_keys.specs.Ledgers.{all_parts};
 
 use crate::bars::Bar;
 use crate::crossings::Crossing;
@@ -157,7 +158,7 @@ pub(crate) fn shared<'a, K: CacheKey, J: System, L: Ledger>(
 ) -> Result<Group<K, J, L, Peer<'a, J>, &'a Bar>, Fault>
     requires name { blank.name ≡ L.name }
     requires parts { blank.parts ≡ L.parts }
-    requires all { L.parts ≡ 65537 }
+    requires all { L.parts ≡ all_parts }
     requires honest { J.honest ≡ false }
 {
     let ring = ring(alloc)?;

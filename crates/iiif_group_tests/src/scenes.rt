@@ -4,6 +4,7 @@ ghost use Rattle.std.specs.Prelude.{◌≡◌, ℕ, List, Some, false};
 ghost use Rattle.iiif_source.specs.declared.ReadFault.{ReadFault};
 ghost use Rattle.iiif_images.specs.Collection.{Item, item_named};
 ghost use Rattle.iiif_images.specs.Named.{gave_of, pictures_of};
+ghost use Rattle.iiif_keys.specs.Ledgers.{all_parts};
 
 use crate::crossings::{crossed, serves};
 use crate::doorways::{Doorway, Reads};
@@ -11,7 +12,7 @@ use crate::meetings::{Meeting, crowded, met, overlapped};
 use crate::nodes::{NO_COUNTS, Node, Setup, catalogue, shared};
 use crate::runs::{Stages, Steps, gives_out, ran};
 use iiif_images::{Catalogue, Images};
-use iiif_keys::{Fault, System};
+use iiif_keys::{Fault, PARTS, System};
 use iiif_source::Source;
 use iiif_sum_group::{Groups, Tiles};
 use iiif_tables::Book;
@@ -118,8 +119,8 @@ where
     requires stable { (name : List ℕ) (item : Item _) → item_named catalogue name ≡ Some item → J.stable name →
         ∥ ⟦<Doorway as Source<R>>⟧.keeps item.source ∥₁ }
     requires edge { J.edge ≡ 2 }
-    requires tiles { (tiles.name ≡ J.tiles_name) × (tiles.parts ≡ J.tiles_parts) × (J.tiles_parts ≡ 65537) }
-    requires sums { (sums.name ≡ J.sums_name) × (sums.parts ≡ J.sums_parts) × (J.sums_parts ≡ 65537) }
+    requires tiles { (tiles.name ≡ J.tiles_name) × (tiles.parts ≡ J.tiles_parts) × (J.tiles_parts ≡ all_parts) }
+    requires sums { (sums.name ≡ J.sums_name) × (sums.parts ≡ J.sums_parts) × (J.sums_parts ≡ all_parts) }
     requires honest { J.honest ≡ false }
 {
     let images = Images::new(alloc, catalogue, 2);
@@ -152,6 +153,6 @@ where
     R: Net<Listener = TcpListener, Stream = TcpStream> + Threads + Wait + Clock + Send + Sync,
 {
     let catalogue = catalogue_twice(rt, alloc, setup).ok_or(Fault::NoMemory)?;
-    let (tiles, sums) = (Blank::new(65_537), Blank::new(65_537));
+    let (tiles, sums) = (Blank::new(PARTS), Blank::new(PARTS));
     seen_over::<_, Brand>(rt, alloc, catalogue, setup, scene, tiles, sums)
 }

@@ -8,7 +8,7 @@ pub use keys::{Parts, Shape, SumKey, TileKey};
 pub use name::{Name, is_name};
 pub use places::{LEVEL_LIMIT, side_of};
 pub use splitting::parts;
-pub use system::System;
+pub use system::{PARTS, System};
 pub use values::{SumVal, TileVal, add_sums};
 
 pub mod cache_key;

@@ -6,6 +6,9 @@ ghost use Rattle.iiif_keys.specs.Names.{Pictures};
 
 use std::marker::Brand;
 
+/// How many parts the ledger of a group has: one for each of the 65,536 passes that can be out, and one that stays home.
+pub const PARTS: u64 = 65_537;
+
 /// What the names of a node stand for, what is relied on, and which ledgers count its calls. It has no function: it is the one
 /// type parameter of all that is said of a node and never run.
 pub trait System {

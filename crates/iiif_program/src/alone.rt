@@ -8,12 +8,13 @@ ghost use Rattle.iiif_images.specs.Named.{gave_of, pictures_of};
 ghost use Rattle.iiif_connections.specs.Held.{AllHeld};
 ghost use Rattle.iiif_program.specs.Alone.{IsAnswerOfHeld};
 ghost use Rattle.iiif_start.specs.Stored.{bytes_of, keeps_of, stored_gave};
+ghost use Rattle.iiif_keys.specs.Ledgers.{all_parts};
 
 use crate::makings::Makings;
 use crate::one::answer_one;
 use iiif_connections::Node;
 use iiif_io::Outlet;
-use iiif_keys::System;
+use iiif_keys::{PARTS, System};
 use iiif_open_files::Opens;
 use iiif_start::{Stop, Stored};
 use std::alloc::Global;
@@ -46,7 +47,7 @@ where
     ensures held { AllHeld alone.catalogue → (text : List ℕ) × Appends (O.contents out.old) (O.contents out.new) text
         × IsAnswerOfHeld (bytes_of R.holds) alone.config alone.catalogue target.now ((before : O) × O.fails before out.new) text result }
 {
-    let (tiles, sums) = (Blank::new(65_537), Blank::new(65_537));
+    let (tiles, sums) = (Blank::new(PARTS), Blank::new(PARTS));
     let asked = Asked { target };
     answer_counted::<R, O, Brand>(rt, alloc, alone, (tiles, sums), &asked, out)
 }
@@ -73,8 +74,8 @@ where
         J.stable name }
     requires edge { alone.config.edge ≡ J.edge }
     requires honest { J.honest ≡ true }
-    requires tiles { (blanks.0.name ≡ J.tiles_name) × (blanks.0.parts ≡ J.tiles_parts) × (J.tiles_parts ≡ 65537) }
-    requires sums { (blanks.1.name ≡ J.sums_name) × (blanks.1.parts ≡ J.sums_parts) × (J.sums_parts ≡ 65537) }
+    requires tiles { (blanks.0.name ≡ J.tiles_name) × (blanks.0.parts ≡ J.tiles_parts) × (J.tiles_parts ≡ all_parts) }
+    requires sums { (blanks.1.name ≡ J.sums_name) × (blanks.1.parts ≡ J.sums_parts) × (J.sums_parts ≡ all_parts) }
     ensures held { AllHeld alone.catalogue → (text : List ℕ) × Appends (O.contents out.old) (O.contents out.new) text
         × IsAnswerOfHeld (bytes_of R.holds) alone.config alone.catalogue asked.now.target.now ((before : O) × O.fails before out.new) text
         result }

@@ -7,6 +7,7 @@ ghost use Rattle.iiif_images.specs.Named.{gave_of, pictures_of};
 ghost use Rattle.iiif_start.specs.Stored.{bytes_of, keeps_of, stored_gave};
 ghost use Rattle.iiif_answers.specs.Settings.{refusal_of};
 ghost use Rattle.iiif_program.specs.Lines.{settings_in};
+ghost use Rattle.iiif_keys.specs.Ledgers.{all_parts};
 
 use crate::makings::{Makings, open_makings, watcher_of};
 use crate::work::Listening;
@@ -14,7 +15,7 @@ use iiif_command_line::Options;
 use iiif_connections::serving::listen;
 use iiif_connections::{Gate, Link, Manner, Node, Watcher, among};
 use iiif_io::Outlet;
-use iiif_keys::{SumKey, System, TileKey};
+use iiif_keys::{PARTS, SumKey, System, TileKey};
 use iiif_open_files::Opens;
 use iiif_start::{Stop, Stored, touch};
 use std::alloc::Global;
@@ -53,7 +54,7 @@ where
         listening,
         watcher: &watcher,
     };
-    let blanks = (Blank::new(65_537), Blank::new(65_537));
+    let blanks = (Blank::new(PARTS), Blank::new(PARTS));
     if options.peers.is_empty() {
         return serve_alone::<R, E, Brand>(rt, made, blanks, &post, err);
     }
@@ -83,8 +84,8 @@ where
         J.stable name }
     requires edge { made.config.edge ≡ J.edge }
     requires honest { J.honest ≡ true }
-    requires tiles { (blanks.0.name ≡ J.tiles_name) × (blanks.0.parts ≡ J.tiles_parts) × (J.tiles_parts ≡ 65537) }
-    requires sums { (blanks.1.name ≡ J.sums_name) × (blanks.1.parts ≡ J.sums_parts) × (J.sums_parts ≡ 65537) }
+    requires tiles { (blanks.0.name ≡ J.tiles_name) × (blanks.0.parts ≡ J.tiles_parts) × (J.tiles_parts ≡ all_parts) }
+    requires sums { (blanks.1.name ≡ J.sums_name) × (blanks.1.parts ≡ J.sums_parts) × (J.sums_parts ≡ all_parts) }
 {
     let Makings {
         config,
@@ -128,8 +129,8 @@ where
         J.stable name }
     requires edge { made.config.edge ≡ J.edge }
     requires honest { J.honest ≡ false }
-    requires tiles { (blanks.0.name ≡ J.tiles_name) × (blanks.0.parts ≡ J.tiles_parts) × (J.tiles_parts ≡ 65537) }
-    requires sums { (blanks.1.name ≡ J.sums_name) × (blanks.1.parts ≡ J.sums_parts) × (J.sums_parts ≡ 65537) }
+    requires tiles { (blanks.0.name ≡ J.tiles_name) × (blanks.0.parts ≡ J.tiles_parts) × (J.tiles_parts ≡ all_parts) }
+    requires sums { (blanks.1.name ≡ J.sums_name) × (blanks.1.parts ≡ J.sums_parts) × (J.sums_parts ≡ all_parts) }
 {
     let Makings {
         config,

@@ -7,6 +7,7 @@ ghost use Rattle.iiif_images.specs.Named.{gave_of, pictures_of};
 ghost use Rattle.iiif_start.specs.Stored.{bytes_of, keeps_of, stored_gave};
 ghost use Rattle.iiif_answers.specs.Settings.{refusal_of};
 ghost use Rattle.iiif_program.specs.Lines.{settings_in};
+ghost use Rattle.iiif_keys.specs.Ledgers.{all_parts};
 
 use crate::alone::answer_alone;
 use crate::makings::{Makings, open_makings, watcher_of};
@@ -15,7 +16,7 @@ use crate::work::One;
 use iiif_command_line::Options;
 use iiif_connections::{Watcher, among};
 use iiif_io::Outlet;
-use iiif_keys::System;
+use iiif_keys::{PARTS, System};
 use iiif_open_files::Opens;
 use iiif_start::Stop;
 use std::alloc::Global;
@@ -52,7 +53,7 @@ where
     }
     let watcher = watcher_of(alloc, options, &made, false)?;
     watcher.neighbours.look_up(rt, alloc);
-    let blanks = (Blank::new(65_537), Blank::new(65_537));
+    let blanks = (Blank::new(PARTS), Blank::new(PARTS));
     write_one_among::<R, O, Brand>(rt, made, blanks, &watcher, one, out)
 }
 
@@ -106,8 +107,8 @@ where
         J.stable name }
     requires edge { made.config.edge ≡ J.edge }
     requires honest { J.honest ≡ false }
-    requires tiles { (blanks.0.name ≡ J.tiles_name) × (blanks.0.parts ≡ J.tiles_parts) × (J.tiles_parts ≡ 65537) }
-    requires sums { (blanks.1.name ≡ J.sums_name) × (blanks.1.parts ≡ J.sums_parts) × (J.sums_parts ≡ 65537) }
+    requires tiles { (blanks.0.name ≡ J.tiles_name) × (blanks.0.parts ≡ J.tiles_parts) × (J.tiles_parts ≡ all_parts) }
+    requires sums { (blanks.1.name ≡ J.sums_name) × (blanks.1.parts ≡ J.sums_parts) × (J.sums_parts ≡ all_parts) }
 {
     let Makings {
         config,

@@ -7,6 +7,7 @@ pub struct Lax;
 
 impl System for Lax {
     ghost use Rattle.std.specs.Prelude.{None, true, false};
+    ghost use Rattle.iiif_keys.specs.Ledgers.{all_parts};
 
     ghost pictures = { λ _. None };
 
@@ -20,9 +21,9 @@ impl System for Lax {
 
     ghost tiles_name = { 0 };
 
-    ghost tiles_parts = { 65537 };
+    ghost tiles_parts = { all_parts };
 
     ghost sums_name = { 1 };
 
-    ghost sums_parts = { 65537 };
+    ghost sums_parts = { all_parts };
 }

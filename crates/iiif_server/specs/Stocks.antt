@@ -1,6 +1,7 @@
 -- What the groups of a node are made with.
 use Rattle.std.specs.Prelude.{◌≡◌, ℕ, ◌<◌, ◌^◌, length, vec_len, Result, IfOk, IfSome}
 use Rattle.std.specs.declared.sync.ledger.Blank.{Blank}
+use Rattle.iiif_keys.specs.Ledgers.{all_parts}
 use Rattle.iiif_server.specs.declared.stock.Stock.{Stock}
 
 -- A group can be made of it, with the ledger of this name and of so many parts: there is a link for each place of the ring.
@@ -10,16 +11,16 @@ pub record IsStock {N T : Type 0} (name parts : ℕ) (s : Stock N T) : Type 0 wh
   pub bytes : s.bytes < 2 ^ 63
   pub blank_name : s.blank.name ≡ name
   pub blank_parts : s.blank.parts ≡ parts
-  pub all : parts ≡ 65537
+  pub all : parts ≡ all_parts
 
 -- a ledger of this name, and of as many parts as that of a group has
 abbrev pub IsBlankOf : ℕ → ℕ → Blank → Type 0
-IsBlankOf name parts blank = (blank.name ≡ name) × (blank.parts ≡ parts) × (parts ≡ 65537)
+IsBlankOf name parts blank = (blank.name ≡ name) × (blank.parts ≡ parts) × (parts ≡ all_parts)
 
 -- what was made has a stock with this ledger, where that has as many parts as that of a group
 abbrev pub HasStock : {A E N T : Type 0} → Blank → (A → Stock N T) → Result A E → Type 0
 HasStock blank part result =
-    (name parts : ℕ) → blank.name ≡ name → blank.parts ≡ parts → parts ≡ 65537 → IfOk result (λ made. IsStock name parts (part made))
+    (name parts : ℕ) → blank.name ≡ name → blank.parts ≡ parts → parts ≡ all_parts → IfOk result (λ made. IsStock name parts (part made))
 
 -- the same of two stocks, with the ledgers of tiles and of sums
 pub record HasStocks {E N T : Type 0} (of_tiles of_sums : Blank) (result : Result (Stock N T × Stock N T) E) : Type 0 where

@@ -1,6 +1,7 @@
 //! A gate at which loads meet, and groups with that gate.
 
 ghost use Rattle.std.specs.Prelude.{◌≡◌, ℕ, IfSome};
+ghost use Rattle.iiif_keys.specs.Ledgers.{all_parts};
 ghost use Rattle.iiif_server.specs.Stocks.{IsStock};
 
 use iiif_ring::Ring;
@@ -61,7 +62,7 @@ pub(crate) fn stock<'a>(
     gate: &'a Meeting,
     blank: Blank,
 ) -> Option<Stock<NoLink, &'a Meeting>>
-    ensures { (name parts : ℕ) → blank.name ≡ name → blank.parts ≡ parts → parts ≡ 65537 → IfSome result (IsStock name parts) }
+    ensures { (name parts : ℕ) → blank.name ≡ name → blank.parts ≡ parts → parts ≡ all_parts → IfSome result (IsStock name parts) }
 {
     let entries = NonZeroUsize::new(1024)?;
     let mut names = Vec::new(alloc);

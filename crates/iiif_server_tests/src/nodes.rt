@@ -14,7 +14,7 @@ use crate::faulty::Faulty;
 use crate::meeting::{Meeting, stock};
 use crate::told::Told;
 use iiif_canonical::Limits;
-use iiif_keys::System;
+use iiif_keys::{PARTS, System};
 use iiif_server::{Catalogue, Config, NoLink, Node, Stock};
 use iiif_source::MemSource;
 use iiif_tiff_read::open;
@@ -130,8 +130,8 @@ fn right_of<R: Threads + Wait + Clock + Sync>(
 ) -> Option<usize> {
     let config = settings(alloc, setup)?;
     let images = images(rt, alloc, setup)?;
-    let tiles = stock(alloc, setup.bytes, &seen.gate, Blank::new(65_537))?;
-    let sums = stock(alloc, setup.bytes, &seen.open, Blank::new(65_537))?;
+    let tiles = stock(alloc, setup.bytes, &seen.gate, Blank::new(PARTS))?;
+    let sums = stock(alloc, setup.bytes, &seen.open, Blank::new(PARTS))?;
     right_by::<R, Brand>(
         rt,
         alloc,

@@ -2,12 +2,13 @@
 
 ghost use Rattle.std.specs.Prelude.{◌≡◌, ◌≢◌, ◌^◌, ℕ, ◌+◌, ◌<◌, ◌≤◌, IfSome, IfOk, IfErr, IfNone, OnOk};
 ghost use Rattle.std.specs.List.{sum_by};
+ghost use Rattle.iiif_keys.specs.Ledgers.{all_parts};
 ghost use Rattle.iiif_singleflight.specs.View.{cells_of, table_of};
 
 use crate::pass::Pass;
 use crate::table::Table;
 use crate::whole::Whole;
-use iiif_keys::{CacheKey, System};
+use iiif_keys::{CacheKey, PARTS, System};
 use iiif_tables::Book;
 use std::sync::ledger::{Ledger, Share};
 
@@ -95,16 +96,16 @@ impl<K: CacheKey, J: System, L: Ledger> Home<K, J, L> {
     pub fn gather(&mut self, passes: Vec<Pass<L>>) -> Result<(Book, u64), Vec<Pass<L>>>
         ensures ok { IfOk result (λ r. (r.0.gets ≡ r.1 + sum_by (λ p. p.gets) passes.items) × (r.1 ≡ self.old.gets)) }
         ensures book { IfOk result (λ r. r.0 ≡ (table_of K.eq self.old.table).book) }
-        ensures home { OnOk result ((self.new.parts ≡ 65537) × (self.new.gets ≡ (table_of K.eq self.new.table).book.gets)) }
+        ensures home { OnOk result ((self.new.parts ≡ all_parts) × (self.new.gets ≡ (table_of K.eq self.new.table).book.gets)) }
         ensures err { IfErr result (λ ps. (ps.items ≡ passes.items) × (self.new.parts ≡ self.old.parts) × (self.new.gets ≡ self.old.gets)) }
-        ensures missing { IfErr result (λ ps. self.old.parts + sum_by (λ p. p.parts) passes.items ≢ 65537) }
+        ensures missing { IfErr result (λ ps. self.old.parts + sum_by (λ p. p.parts) passes.items ≢ all_parts) }
         ensures table { table_of K.eq self.new.table ≡ table_of K.eq self.old.table }
         ensures cells { cells_of K.eq self.new.table ≡ cells_of K.eq self.old.table }
     {
         let Some(parts) = parts_of(passes.as_slice()) else {
             return Err(passes);
         };
-        if parts.checked_add(self.parts) != Some(65_537) {
+        if parts.checked_add(self.parts) != Some(PARTS) {
             return Err(passes);
         }
         let home = self.gets;

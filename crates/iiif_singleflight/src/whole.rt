@@ -1,6 +1,7 @@
 //! How many parts a ledger has.
 
 ghost use Rattle.std.specs.Prelude.{◌≡◌};
+ghost use Rattle.iiif_keys.specs.Ledgers.{all_parts};
 
 use std::marker::PhantomData;
 use std::sync::ledger::Ledger;
@@ -9,13 +10,13 @@ use std::sync::ledger::Ledger;
 #[derive(Drop)]
 pub struct Whole<L: Ledger> {
     of: PhantomData<L>,
-    pub ghost parts: { L.parts ≡ 65537 },
+    pub ghost parts: { L.parts ≡ all_parts },
 }
 
 impl<L: Ledger> Whole<L> {
     /// All of a ledger.
     pub fn new() -> Whole<L>
-        requires { L.parts ≡ 65537 }
+        requires { L.parts ≡ all_parts }
     {
         Whole { of: PhantomData }
     }
