@@ -114,7 +114,7 @@ impl<K: CacheKey, J: System, L: Ledger, N, T> Group<K, J, L, N, T> {
 
     /// Whether a value is kept for the key now. It counts as no call.
     pub fn holds<R: Wait>(&self, rt: &R, key: &K) -> bool {
-        self.home.lock(rt).table.holds(key)
+        self.lock(rt).table.holds(key)
     }
 
     /// Whether this node owns the key, so that no other is asked for it. False where memory is wanting.
