@@ -1,5 +1,5 @@
 -- What is made of what is asked for: words of private functions.
-use Rattle.std.specs.Prelude.{◌≡◌, ◌+◌, ◌≤◌, IfErr, IfOk, IsTrue, OnErr, OnOk, Result}
+use Rattle.std.specs.Prelude.{◌≡◌, ◌+◌, ◌≤◌, IfErr, IfOk, IsTrue, List, OnErr, OnOk, Result, length}
 use Rattle.std.specs.Arc.{arc_value}
 use Rattle.std.specs.Result.{ForErr, ForOk}
 use Rattle.std.specs.declared.alloc.Global.{Global}
@@ -14,11 +14,22 @@ use Rattle.iiif_outcome.specs.Outcomes.{is_given}
 use Rattle.iiif_singleflight.specs.declared.receipt.Receipt.{Receipt}
 use Rattle.iiif_sum_group.specs.Outcomes.{KnowsSums}
 use Rattle.iiif_sum_group.specs.declared.passes.Passes.{Passes}
+use Rattle.iiif_sum_group.specs.declared.unmade.Unmade.{Unmade}
+use Rattle.iiif_sum_group.specs.declared.unmade.Unmade.TheVariants.{Part, Total}
+
+-- what is told where a block has no value
+abbrev pub fault_in : Unmade → Fault
+fault_in (Part f) = f
+fault_in Total = NoMemory
 
 module _ {J : Type 0} where
   -- what is asked for is counted
   abbrev pub Rises : Passes J → Passes J → Type 0
   Rises old new = (old.tile.gets ≤ new.tile.gets) × (old.sum.gets ≤ new.sum.gets)
+
+  -- each of these keys was asked for
+  abbrev pub AskedAll : List SumKey → Passes J → Passes J → Type 0
+  AskedAll keys old new = old.sum.gets + length keys ≤ new.sum.gets
 
   -- the counts are shared out among as many as before
   abbrev pub HasAsManyParts : Passes J → Passes J → Type 0
@@ -38,6 +49,14 @@ module _ {J : Type 0} (node : system.Ghosts J) (key : SumKey) (old new : Passes 
     pub meant : node.stable key.name → IsTrue node.honest → ForOk result (λ v. arc_value v ≡ sum_meaning node.pictures key)
     pub shaped : ForOk result (λ v. IsTrue (sum_is_shaped node.pictures key (arc_value v)))
     pub given : ForErr result (λ f. IsTrue (is_given (node.gave key.name) f))
+    pub counted : (old.tile.gets ≤ new.tile.gets) × (old.sum.gets ≤ new.sum.gets)
+    pub parts : (new.tile.parts ≡ old.tile.parts) × (new.sum.parts ≡ old.sum.parts)
+
+  -- the same of a block above level 0, where it is known why it has no value
+  pub record MakesOfParts (result : Result (Arc SumVal Global) Unmade) : Type 0 where
+    pub meant : node.stable key.name → IsTrue node.honest → ForOk result (λ v. arc_value v ≡ sum_meaning node.pictures key)
+    pub shaped : ForOk result (λ v. IsTrue (sum_is_shaped node.pictures key (arc_value v)))
+    pub given : ForErr result (λ u. IsTrue (is_given (node.gave key.name) (fault_in u)))
     pub counted : (old.tile.gets ≤ new.tile.gets) × (old.sum.gets ≤ new.sum.gets)
     pub parts : (new.tile.parts ≡ old.tile.parts) × (new.sum.parts ≡ old.sum.parts)
 

@@ -13,3 +13,4 @@ pub mod groups;
 mod making;
 pub mod parted;
 pub mod passes;
+mod unmade;

@@ -1,17 +1,19 @@
 //! How sums are made of their parts.
 
-ghost use Rattle.std.specs.Prelude.{◌≡◌, ◌<◌, ◌∷◌, [], IfErr, IfOk, IsTrue, length};
+ghost use Rattle.std.specs.Prelude.{◌≡◌, ◌<◌, ◌∷◌, [], Err, IfErr, IfOk, IsTrue, OnOk, length};
 ghost use Rattle.iiif_keys.specs.Names.{named, IsSource};
 ghost use Rattle.iiif_keys.specs.Shapes.{HasPicture};
 ghost use Rattle.iiif_outcome.specs.Outcomes.{is_given};
 ghost use Rattle.iiif_group.specs.Beginning.{open_key};
-ghost use Rattle.iiif_sum_group.specs.Asking.{Asks, HasAsManyParts, Makes, MakesOne, Rises};
+ghost use Rattle.iiif_sum_group.specs.Asking.{AskedAll, Asks, HasAsManyParts, Makes, MakesOfParts, MakesOne, Rises};
+ghost use Rattle.iiif_sum_group.specs.declared.unmade.Unmade.TheVariants.{Total};
 ghost use Rattle.iiif_sum_group.specs.Code.{Boxes, CanTotal, FitsShape, HasQuarters, HasTile, HasValues, Keeps, Totals};
 ghost use Rattle.iiif_sum_group.specs.Outcomes.{EndsWith, KnowsSums};
 ghost use Rattle.iiif_sum_group.specs.Values.{AreValuesOf, MayBeAsked};
 
 use crate::groups::Groups;
 use crate::passes::{Passes, SumCalls};
+use crate::unmade::Unmade;
 use iiif_group::{Begun, Gate, Link, OpenLoad, share, take_outcome};
 use iiif_keys::laws::{fitting_keys_have_parts, parts_are_exact, parts_make_the_meaning};
 use iiif_keys::{CacheKey, Fault, Parts, Shape, SumKey, SumVal, System, TileKey, parts};
@@ -147,12 +149,16 @@ impl<
             Ok(Parts::Tile(tile)) => {
                 for_all(self.alloc, self.of_tile(rt, passes, shape, key, &tile))
             }
-            Ok(Parts::Sums(quarters)) => self.of_parts(rt, passes, shape, key, &quarters),
+            Ok(Parts::Sums(quarters)) => match self.of_parts(rt, passes, shape, key, &quarters) {
+                Ok(value) => Ok(value),
+                Err(unmade) => Err(unmade.fault()),
+            },
             Err(_) => Err(Fault::NoMemory),
         }
     }
 
-    /// The value of a block above level 0, made of its quarters.
+    /// The value of a block above level 0, made of its quarters. Memory for it is taken once each of these was asked for, so a block that
+    /// waits for its parts holds no sums of its own.
     #[cycle(sums)]
     fn of_parts(
         &self,
@@ -161,14 +167,20 @@ impl<
         shape: &Shape,
         key: &SumKey,
         quarters: &[SumKey],
-    ) -> Result<Arc<SumVal>, Fault>
+    ) -> Result<Arc<SumVal>, Unmade>
         requires { HasQuarters J.System key.now shape.now quarters.now }
-        ensures { Makes J.System key.now passes.old passes.new result }
+        ensures made { MakesOfParts J.System key.now passes.old passes.new result }
+        ensures late { result ≡ Err Total → AskedAll quarters.now passes.old passes.new }
     {
         // A law of parts.
         parts_are_exact();
-        let values = self.values(rt, passes, shape, key, quarters)?;
-        whole::<J>(self.alloc, shape, key, values)
+        match self.values(rt, passes, shape, key, quarters) {
+            Ok(values) => match whole::<J>(self.alloc, shape, key, values) {
+                Ok(value) => Ok(value),
+                Err(_) => Err(Unmade::Total),
+            },
+            Err(fault) => Err(Unmade::Part(fault)),
+        }
     }
 
     /// The values of a block's parts, in their order. They are asked one after another, and each is waited for.
@@ -186,6 +198,7 @@ impl<
         ensures values { IfOk result (λ v. AreValuesOf J.pictures shape.now (J.stable key.now.name × IsTrue J.honest) keys.now v.items) }
         ensures given { IfErr result (λ f. IsTrue (is_given (J.gave key.now.name) f)) }
         ensures counted { Rises passes.old passes.new }
+        ensures asked { OnOk result (AskedAll keys.now passes.old passes.new) }
         ensures parts { HasAsManyParts passes.old passes.new }
     {
         // Laws of keys.

@@ -32,7 +32,7 @@ values-loop-part-preserved g t c =
           ((c.laws.ensures.shapes shows s k (arc_value v) known).0 (c.in_ok-value.ensures.shaped v refl)) before.values
           c.in_ok-keep.ensures.ok;
       tile = omega (arith, before.tile, asked.counted.0);
-      sum = omega (arith, before.sum, asked.counted.1);
+      sum = omega (arith, before.sum, asked.risen);
       tile_parts = asked.parts.0 ∙ before.tile_parts;
       sum_parts = asked.parts.1 ∙ before.sum_parts;
     }
@@ -43,6 +43,11 @@ values-returns-clause-values g t c =
     subst (λ (ks : List SumKey). AreValuesOf g.J.System.pictures c.args.shape.now
     (g.J.System.stable c.args.key.now.name × IsTrue g.J.System.honest) ks c.loop-part.values.items)
     (take_all c.loop-part.part-index c.args.keys.now past) c.loop-part.invariant.values
+
+pub values-returns-clause-asked : goal.values-returns-clause-asked
+values-returns-clause-asked g t c =
+    let past : length c.args.keys.now ≤ c.loop-part.part-index = omega arith in
+    omega (arith, past, c.loop-part.invariant.sum)
 
 pub of_parts-values-requires : goal.of_parts-values-requires
 of_parts-values-requires g t c κs within =
@@ -69,6 +74,6 @@ of_parts-whole-requires g t c =
       fits = c.requires.fits;
       level = c.requires.level;
       values_are = subst (λ (ks : List SumKey). AreValuesOf g.J.System.pictures c.args.shape.now
-          (g.J.System.stable key.name × IsTrue g.J.System.honest) ks c.in_ok-values.values.items) c.requires.quarters_are
-          c.in_ok-values.ensures.values;
+          (g.J.System.stable key.name × IsTrue g.J.System.honest) ks c.in-Ok.values.items) c.requires.quarters_are
+          c.in-Ok.ensures.values;
     }

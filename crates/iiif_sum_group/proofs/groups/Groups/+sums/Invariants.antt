@@ -10,7 +10,7 @@ invariant-values-loop-part g l =
       values : AreValuesOf g.J.System.pictures l.shape (g.J.System.stable l.key.name × IsTrue g.J.System.honest) (take l.part-index l.keys)
           l.values.items;
       tile : l.fn.passes.tile.gets ≤ l.passes.tile.gets;
-      sum : l.fn.passes.sum.gets ≤ l.passes.sum.gets;
+      sum : l.fn.passes.sum.gets + l.part-index ≤ l.passes.sum.gets;
       tile_parts : l.passes.tile.parts ≡ l.fn.passes.tile.parts;
       sum_parts : l.passes.sum.parts ≡ l.fn.passes.sum.parts;
     }
