@@ -314,7 +314,7 @@ fn image_words<'a>(alloc: Global) -> Arg<'a> {
 /// The command without options.
 fn bare_command<'a>(alloc: Global) -> Command<'a> {
     Command::new(alloc, "iiif_serve")
-        .version("0.1.0")
+        .version("1.0.0")
         .about("Answers requests of the IIIF Image API 3.0 from uncompressed TIFF files")
         .no_binary_name(true)
 }
