@@ -49,7 +49,7 @@ def unfit(reason):
     name = goal[1] or goal[2] if goal else ""
     if re.search(r"types (first )?differ|differ only where|expected type", reason):
         return None if VALUES.search(reason) else "two types that differ in a written proof"
-    if re.match(r"returns|ensures", name):
+    if re.match(r"(\w+-)?(returns|ensures)", name) and not re.search(GOALS[0][0], name):
         return None
     return next((told for pattern, told in GOALS if re.search(pattern, name)), "no goal of a contract is named")
 

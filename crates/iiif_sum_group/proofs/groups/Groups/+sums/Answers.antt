@@ -49,6 +49,9 @@ values-returns-clause-asked g t c =
     let past : length c.args.keys.now ≤ c.loop-part.part-index = omega arith in
     omega (arith, past, c.loop-part.invariant.sum)
 
+-- Nothing is left to prove of the clause `late`: an edit writes here what would be, of a body that makes the total first;
+-- and no arithmetic proves it, as no part was asked by then.
+
 pub of_parts-values-requires : goal.of_parts-values-requires
 of_parts-values-requires g t c κs within =
     let shows = g.J.System.pictures in
