@@ -42,7 +42,7 @@ pub struct Group<K: CacheKey, J: System, L: Ledger, N, T> {
 
 impl<K: CacheKey, J: System, L: Ledger, N, T> Group<K, J, L, N, T> {
     /// A group of a ledger that no other has, with room for so many bytes in all and so many entries a list, on a node that stands
-    /// there. The only error is want of memory.
+    /// there. The only error is lack of memory.
     pub fn new(
         alloc: Global,
         bytes: u64,
@@ -114,10 +114,10 @@ impl<K: CacheKey, J: System, L: Ledger, N, T> Group<K, J, L, N, T> {
 
     /// Whether a value is kept for the key now. It counts as no call.
     pub fn holds<R: Wait>(&self, rt: &R, key: &K) -> bool {
-        self.lock(rt).table.holds(key)
+        self.home.lock(rt).table.holds(key)
     }
 
-    /// Whether this node owns the key, so that no other is asked for it. False where memory is wanting.
+    /// Whether this node owns the key, so that no other is asked for it. False where memory runs out.
     pub fn owns(&self, key: &K) -> bool {
         match key.bytes(self.alloc) {
             Ok(bytes) => self.peer(&bytes).is_none(),

@@ -11,7 +11,7 @@ use iiif_pixel::NoMemory;
 use iiif_singleflight::{Entered, Flight, Home, Landing, Looked, Pass, Receipt};
 use iiif_tables::{Class, Place};
 use std::sync::ledger::Ledger;
-use std::sync::{Arc, MutexGuard, Wait};
+use std::sync::{Arc, Wait};
 
 /// A call enters, and where it leads it looks again. Where that finds something, its flight lands with it.
 fn enter<K: CacheKey, J: System, L: Ledger>(
@@ -46,20 +46,7 @@ fn land<K: CacheKey, J: System, L: Ledger>(
     home.table.land(lead.end(outcome, place))
 }
 
-/// How often the lock is tried before its thread sleeps.
-const TRIES: u32 = 1_000;
-
 impl<K: CacheKey, J: System, L: Ledger, N, T> Group<K, J, L, N, T> {
-    /// Takes the lock. It is held for a microsecond, and who sleeps for it is woken in some fifty: so it is tried before.
-    pub(crate) fn lock<R: Wait>(&self, rt: &R) -> MutexGuard<'_, Home<K, J, L>> {
-        for _ in 0..TRIES {
-            if let Some(home) = self.home.try_lock() {
-                return home;
-            }
-        }
-        self.home.lock(rt)
-    }
-
     /// A call enters, and looks again where it leads, both while the lock is held once.
     pub(crate) fn enter<R: Wait>(
         &self,
@@ -71,7 +58,7 @@ impl<K: CacheKey, J: System, L: Ledger, N, T> Group<K, J, L, N, T> {
         ensures met { IfOk result (MeetsFor class key.now) }
         ensures counts { CountsOnce pass.old pass.new result }
     {
-        let mut home = self.lock(rt);
+        let mut home = self.home.lock(rt);
         enter(&mut *home, pass, key, class)
     }
 
@@ -86,7 +73,7 @@ impl<K: CacheKey, J: System, L: Ledger, N, T> Group<K, J, L, N, T> {
         requires { OutcomeOf lead outcome }
         ensures { ComesOf lead outcome result }
     {
-        let mut home = self.lock(rt);
+        let mut home = self.home.lock(rt);
         land(&mut *home, lead, outcome, place)
     }
 
@@ -96,7 +83,7 @@ impl<K: CacheKey, J: System, L: Ledger, N, T> Group<K, J, L, N, T> {
     {
         let landed = self.landed.of(flight.ticket());
         let mut flight = flight;
-        let mut home = self.lock(rt);
+        let mut home = self.home.lock(rt);
         for _ in rt.forever() {
             match flight.learn() {
                 Ok(receipt) => return receipt,
