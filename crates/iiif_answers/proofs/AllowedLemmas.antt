@@ -110,7 +110,7 @@ other_part s part asked gave Reaches writer old new result same sent =
 
 -- ---- Answers that are made before they are sent
 
--- An answer that may be given, or that to want of memory, was sent.
+-- An answer that may be given, or that to lack of memory, was sent.
 pub message_allowed : {S W E : Type 0} (s : Settings) (part : Part) (gave : S → ReadFault → Bool) (Reaches : Reply S → Type 0)
     (contents : W → Option (List ℕ)) (fails : W → W → Type 0) (old new : W) (m : Result Message E) (result : Result Sent Cut)
     → IfOk m (λ x. (a : Response) × MayTell s part gave Reaches a × (answer_of x ≡ written part a))
@@ -127,7 +127,7 @@ message_allowed s part gave Reaches contents fails old new (Err e) result tell m
       (want_of_memory, (memory_wanted, refl), refl),
 )
 
--- A refusal, a redirect, information, or that to want of memory, was sent.
+-- A refusal, a redirect, information, or that to lack of memory, was sent.
 pub told_allowed : {S W E : Type 0} (s : Settings) (part : Part) (gave : S → ReadFault → Bool) (Reaches : Reply S → Type 0)
     (contents : W → Option (List ℕ)) (fails : W → W → Type 0) (old new : W) (m : Result Message E) (result : Result Sent Cut) (a : Response)
     → MayTell s part gave Reaches a → IfOk m (λ x. answer_of x ≡ written part a)
@@ -138,7 +138,7 @@ pub told_allowed : {S W E : Type 0} (s : Settings) (part : Part) (gave : S → R
 told_allowed s part gave Reaches contents fails old new m result a tell is made memory =
     message_allowed s part gave Reaches contents fails old new m result (may_be_given s part gave Reaches m a tell is) made memory
 
--- The answer to want of memory was sent.
+-- The answer to lack of memory was sent.
 pub memory_allowed : {S W : Type 0} (s : Settings) (part : Part) (gave : S → ReadFault → Bool) (Reaches : Reply S → Type 0)
     (contents : W → Option (List ℕ)) (fails : W → W → Type 0) (old new : W) (result : Result Sent Cut) →
     IsSent contents fails old new (written part want_of_memory) result

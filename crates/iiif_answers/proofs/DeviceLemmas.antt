@@ -1,4 +1,4 @@
--- What takes the place of an accepted image over devices that never fail: nothing but want of memory.
+-- What takes the place of an accepted image over devices that never fail: nothing but lack of memory.
 use Rattle.std.proofs.Common.{◌≡◌, ◌⊎◌, inl, inr, ℕ, Bool, true, false, List, Some, Result, Ok, Err, IsTrue, refl, sym, ap, ◌∙◌, subst}
 use Rattle.std.proofs.lemmas.Option.{none-some, same_Some}
 use Rattle.iiif_source.specs.declared.ReadFault.{ReadFault}

@@ -92,7 +92,7 @@ not_bad input h rest begins (inl faults) =
 not_bad input h rest begins (inr faults) =
     answered_call input h rest (Some input) (Err fault.TooLong) begins (faults, refl) (λ call same. cc) (λ same. cc) (λ same. cc)
 
--- the answer to want of memory is not empty either
+-- the answer to lack of memory is not empty either
 closing_by_writer : (writer : Type 0) (r : Response) (text : List ℕ) → text ≡ [] → IsClosing writer r text → writer
 closing_by_writer writer r text none (inl whole) =
     absurd (not_empty text (text_of (written (Whole true) r)) none (part_some r false true) whole)

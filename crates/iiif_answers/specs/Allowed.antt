@@ -27,7 +27,7 @@ use Rattle.iiif_answers.specs.declared.part.Part.{Part}
 use Rattle.iiif_answers.specs.declared.part.Part.TheVariants.{Body, Whole, Head}
 
 -- Which answers may be given. Reaches: the call reaches that reply. gave: the faults of reads that a source gave. The call's
--- own; where it reaches an image that is loaded for it, that of a fault that the image's source gave; and that of want of
+-- own; where it reaches an image that is loaded for it, that of a fault that the image's source gave; and that of lack of
 -- memory.
 pub data MayAnswer {S : Type 0} (settings : Settings) (part : Part) (gave : S → ReadFault → Bool) (Reaches : Reply S → Type 0) : Response →
     Type 0 where
@@ -58,7 +58,7 @@ Holds settings part gave Reaches _ memory_wanted held = held ≡ 0
 abbrev pub MayTell : {S : Type 0} → Settings → Part → (S → ReadFault → Bool) → (Reply S → Type 0) → Response → Type 0
 MayTell settings part gave Reaches a = (may : MayAnswer settings part gave Reaches a) × Holds settings part gave Reaches a may 0
 
--- an image's load fails by a fault that its source gave, or for want of memory
+-- an image's load fails by a fault that its source gave, or for lack of memory
 abbrev pub MayFail : {S : Type 0} → (S → ReadFault → Bool) → S → Fault → Type 0
 MayFail gave source (Source f) = IsTrue (gave source f)
 MayFail gave source NoMemory = Unit {0}

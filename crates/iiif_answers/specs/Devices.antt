@@ -14,8 +14,8 @@ use Rattle.iiif_answers.specs.declared.answer.Cause.TheVariants.{Load}
 use Rattle.iiif_answers.specs.declared.answer.Sent.{Sent}
 use Rattle.iiif_answers.specs.declared.part.Part.{Part}
 
--- An image that the call reaches was sent whole, with status 200; or the answer to want of memory was, with 500; or such an image was
--- cut off somewhere in its body, for want of memory.
+-- An image that the call reaches was sent whole, with status 200; or the answer to lack of memory was, with 500; or such an image was
+-- cut off somewhere in its body, for lack of memory.
 abbrev pub IsWholeOrWanting : {S : Type 0} → Settings → Part → (Reply S → Type 0) → List ℕ → Result Sent Cut → Type 0
 IsWholeOrWanting {S} settings part Reaches text (Ok sent) =
     ((g : Given S) × Reaches (given g) × (text ≡ text_of (written part (response_of settings (given g)))) × (sent.status ≡ 200))

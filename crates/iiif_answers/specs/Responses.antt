@@ -96,7 +96,7 @@ response_of s (described item d) = information_response s item.name d
 response_of s (given g) = image_response s.base g.item.name g.canonical g.image
     (out_kind_of (kind_of g.picture) (depth_of g.picture) g.request.quality)
 
--- the answers where a read of the image's source failed, and where memory was wanting
+-- the answers where a read of the image's source failed, and where memory ran out
 abbrev pub source_fault : Response
 source_fault = line_response 500 [] (codes "L1 source")
 

@@ -68,7 +68,7 @@ pub record AreLegal (l : Limits) : Type 0 where
   pub height : (1 ≤ l.max_h) × (l.max_h ≤ 16384)
 
 -- A configuration has the settings that it was made of, and comes where none of them is refused; a fault is the first refusal,
--- or want of memory.
+-- or lack of memory.
 abbrev pub Configures : Settings → Result Settings ConfigFault → Type 0
 Configures s (Ok c) = (c ≡ s) × (refusal_of s ≡ None)
 Configures s (Err NoMemory) = ⊤

@@ -11,7 +11,7 @@ use std::alloc::Global;
 use std::marker::Model;
 use thiserror::Error;
 
-/// Why settings are refused: the first of the first five that applies, in this order, or want of memory.
+/// Why settings are refused: the first of the first five that applies, in this order, or lack of memory.
 #[derive(Clone, Copy, Debug, PartialEq, Eq, Error)]
 pub enum ConfigFault {
     #[error("the base URL is none")]

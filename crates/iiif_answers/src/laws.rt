@@ -34,7 +34,7 @@ pub fn heads_read_back<R, S: Source<R>>()
     written_head_reads_back();
 }
 
-/// So where the source of an accepted image gave no fault and the writer didn't fail, the image is sent whole; or, for want of memory,
+/// So where the source of an accepted image gave no fault and the writer didn't fail, the image is sent whole; or, for lack of memory,
 /// that is answered or the image is cut off. Nothing else takes its place.
 pub fn whole_over_honest_devices<R, S: Source<R>, J: System, W: Outlet>()
     ensures { (last : W) → WholeOverHonestDevices S.bytes S.keeps J.honest S.gave ((before : W) × W.fails before last) }

@@ -201,7 +201,7 @@ fn information_message(
     )
 }
 
-/// What is told where a target comes to no image. The only error is want of memory.
+/// What is told where a target comes to no image. The only error is lack of memory.
 pub fn message_of<R, S: Source<R>>(
     alloc: Global,
     part: Part,
@@ -225,14 +225,14 @@ pub fn message_of<R, S: Source<R>>(
     }
 }
 
-/// The head of the answer to want of memory, where the connection goes on.
+/// The head of the answer to lack of memory, where the connection goes on.
 fn memory_head_stays() -> &'static [u8]
     ensures { result.now ≡ head_in (Whole false) 500 want_of_memory.fields 10 }
 {
     b"HTTP/1.1 500 Internal Server Error\r\nContent-Type: text/plain\r\nAccess-Control-Allow-Origin: *\r\nContent-Length: 10\r\n\r\n"
 }
 
-/// The head of the answer to want of memory, where the connection closes.
+/// The head of the answer to lack of memory, where the connection closes.
 fn memory_head_closes() -> &'static [u8]
     ensures { result.now ≡ head_in (Whole true) 500 want_of_memory.fields 10 }
 {
@@ -240,7 +240,7 @@ fn memory_head_closes() -> &'static [u8]
         Content-Length: 10\r\nConnection: close\r\n\r\n"
 }
 
-/// The head of the answer to want of memory, which stands ready.
+/// The head of the answer to lack of memory, which stands ready.
 pub(crate) fn memory_head(part: Part) -> &'static [u8]
     ensures { result.now ≡ (written part want_of_memory).head }
 {
@@ -253,7 +253,7 @@ pub(crate) fn memory_head(part: Part) -> &'static [u8]
     }
 }
 
-/// The body of the answer to want of memory, which stands ready.
+/// The body of the answer to lack of memory, which stands ready.
 pub(crate) fn memory_body(part: Part) -> &'static [u8]
     ensures { result.now ≡ (written part want_of_memory).body }
 {

@@ -18,7 +18,7 @@ use iiif_tiff::shows_one_picture;
 use std::alloc::Global;
 
 /// What a target comes to: a refusal; the place of an image's information; that information, with the image's sides; an
-/// accepted request of an image; or want of memory.
+/// accepted request of an image; or lack of memory.
 #[derive(Drop)]
 pub enum Outcome<'a, R, S: Source<R>> {
     Refused(Refusal),

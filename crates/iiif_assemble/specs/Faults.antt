@@ -10,7 +10,7 @@ use Rattle.iiif_planner.specs.declared.plans.Plan.{Plan}
 use Rattle.iiif_planner.specs.declared.plans.Plan.TheVariants.{Copy, Grow, Sum}
 use Rattle.iiif_assemble.specs.Gathering.{IsItemFault}
 
--- want of memory, or the fault of the first of these items of the plan that failed
+-- lack of memory, or the fault of the first of these items of the plan that failed
 abbrev pub IsBandFault : (TileKey → TileVal → Type 0) → (TileKey → Fault → Type 0) → (SumKey → SumVal → Type 0) →
     (SumKey → Fault → Type 0) → Plan → List ℕ → Fault → Type 0
 IsBandFault tile tile_failed sum sum_failed (Copy keys) items fault = IsItemFault tile tile_failed keys.items items fault

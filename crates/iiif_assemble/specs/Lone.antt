@@ -42,7 +42,7 @@ IsTilesFault means failed (Copy keys) b f = IsItemFault means failed keys.items 
 IsTilesFault means failed (Grow keys) b f = IsItemFault means failed keys.items b.items.items f
 IsTilesFault means failed (Sum keys) b f = f ≡ NoMemory
 
--- Why the first band of so many rows of a job's image could not be made: memory was wanting, or a tile of it failed.
+-- Why the first band of so many rows of a job's image could not be made: memory ran out, or a tile of it failed.
 abbrev pub IsFirstFault : Job → (TileKey → TileVal → Type 0) → (TileKey → Fault → Type 0) → ℕ → Fault → Type 0
 IsFirstFault j means failed rows f =
     (f ≡ NoMemory)

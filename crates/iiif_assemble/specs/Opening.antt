@@ -19,7 +19,7 @@ pub record IsPart {K : Type 0} (may : K → Type 0) (rank : K → ℕ) (failed :
 abbrev pub AreValuesOf : {K V : Type 0} → (K → V → Type 0) → List K → List (Arc V Global) → Type 0
 AreValuesOf means parts values = AllZip means parts (map arc_value values)
 
--- what a value can't be made for: want of memory, or what the load came to
+-- what a value can't be made for: lack of memory, or what the load came to
 abbrev pub IsFaultOf : {K : Type 0} → (K → Fault → Type 0) → K → Fault → Type 0
 IsFaultOf failed key f = (f ≡ NoMemory) ⊎ failed key f
 
@@ -33,7 +33,7 @@ pub record FirstPartFailed {K V : Type 0} (means : K → V → Type 0) (failed :
     pub gave : All (λ k. (v : V) × means k v) before
     pub fault_of : failed part fault
 
--- what these parts have no values for: want of memory, or the first fault
+-- what these parts have no values for: lack of memory, or the first fault
 abbrev pub IsPartsFault : {K V : Type 0} → (K → V → Type 0) → (K → Fault → Type 0) → List K → Fault → Type 0
 IsPartsFault means failed parts fault = (fault ≡ NoMemory) ⊎ FirstPartFailed means failed parts fault
 

@@ -43,7 +43,7 @@ pub struct Made {
 
 impl Job {
     /// What a request comes to on the named image of this shape, planned: of tiles with this edge, and of blocks with at most
-    /// `room` sums where there are such. The only error is want of memory.
+    /// `room` sums where there are such. The only error is lack of memory.
     pub fn new(
         alloc: Global,
         name: Name,
@@ -73,7 +73,7 @@ impl Job {
         })
     }
 
-    /// The bands of `rows` of the job's result, from the top, the last perhaps of fewer. The only error is want of memory.
+    /// The bands of `rows` of the job's result, from the top, the last perhaps of fewer. The only error is lack of memory.
     pub fn bands(&self, alloc: Global, rows: u32) -> Result<Vec<Band>, NoMemory>
         requires job { IsJob self.now }
         requires rows { 0 < rows }
@@ -87,7 +87,7 @@ impl Job {
         bands(alloc, &self.resolved, &self.plan, rows)
     }
 
-    /// The first of the bands of `rows`. The only error is want of memory.
+    /// The first of the bands of `rows`. The only error is lack of memory.
     pub fn first(&self, alloc: Global, rows: u32) -> Result<Band, NoMemory>
         requires job { IsJob self.now }
         ensures rect { IfOk result (λ b. b.rect ≡ band_rect (turned_dim self.now.resolved.turn self.now.resolved.size) rows 0) }
@@ -105,7 +105,7 @@ impl Job {
         band_in(alloc, &self.resolved, &self.plan, rect)
     }
 
-    /// The band of all rows. The only error is want of memory.
+    /// The band of all rows. The only error is lack of memory.
     pub fn whole(&self, alloc: Global) -> Result<Band, NoMemory>
         requires { IsJob self.now }
         ensures rect { IfOk result (λ b. b.rect ≡ whole_of (turned_dim self.now.resolved.turn self.now.resolved.size)) }

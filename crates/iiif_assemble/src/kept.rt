@@ -143,7 +143,7 @@ fn keep(kept: &mut Vec<KeptSum>, key: &SumKey, value: &Arc<SumVal>) -> Result<()
 }
 
 impl<'a, S> WithKept<'a, S> {
-    /// Of the sums that are kept those of the items. The only error is want of memory.
+    /// Of the sums that are kept those of the items. The only error is lack of memory.
     #[tactic(auto, using(crate::proofs::KeptLemmas::kept_more, crate::proofs::KeptLemmas::of_items_more, crate::proofs::KeptLemmas::one_longer))]
     fn kept_of<P, R>(
         &self,

@@ -124,7 +124,7 @@ fn blocks_in(alloc: Global, keys: &[SumKey], rect: Rect) -> Result<Vec<usize>, N
     Ok(items)
 }
 
-/// The band in a rectangle of the turned result: the items of the plan that have a place of it. The only error is want of
+/// The band in a rectangle of the turned result: the items of the plan that have a place of it. The only error is lack of
 /// memory.
 pub fn band_in(
     alloc: Global,
@@ -170,7 +170,7 @@ fn band_rect(dim: Dim, rows: u32, n: u32) -> Rect
 }
 
 /// The turned result cut from the top into bands of `rows`, the last perhaps of fewer; each lists, in the plan's order, each
-/// item that has a place of it and no other. The only error is want of memory.
+/// item that has a place of it and no other. The only error is lack of memory.
 pub fn bands(
     alloc: Global,
     resolved: &Resolved,

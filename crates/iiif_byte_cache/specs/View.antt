@@ -27,7 +27,7 @@ abbrev pub side : Bool → Side
 side true = hot_side
 side false = main_side
 
--- Why an entry was not put, and that it is handed back with its key. Memory is wanting only to one that isn't too big, and for a key
+-- Why an entry was not put, and that it is handed back with its key. Memory runs out only for one that isn't too big, and for a key
 -- that isn't there.
 abbrev pub IsRefusal : {K E : Type 0} → K → E → Bool → Bool → PutFault K E → Type 0
 IsRefusal key entry big there (TooBig k e) = (k ≡ key) × (e ≡ entry) × (big ≡ true)

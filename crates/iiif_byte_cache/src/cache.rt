@@ -25,7 +25,7 @@ pub struct ByteCache<K: CacheKey, J: System> {
 pub enum PutFault<K, E> {
     /// The entry by itself takes more bytes than the cache may hold.
     TooBig(K, E),
-    /// Memory was wanting.
+    /// Memory ran out.
     NoMemory(K, E),
 }
 

@@ -16,7 +16,7 @@ use std::alloc::Global;
 use std::num::NonZeroUsize;
 
 impl<K: CacheKey, J: System> ByteCache<K, J> {
-    /// An empty cache, for so many bytes in all and so many entries a list. The only error is want of memory; room for entries is
+    /// An empty cache, for so many bytes in all and so many entries a list. The only error is lack of memory; room for entries is
     /// taken as they come.
     pub fn new(
         alloc: Global,
@@ -55,7 +55,7 @@ impl<K: CacheKey, J: System> ByteCache<K, J> {
         self.lists.main.contains(key) || self.lists.hot.contains(key)
     }
 
-    /// The keys of the main list, in order, as for tests and measurements. The only error is want of memory.
+    /// The keys of the main list, in order, as for tests and measurements. The only error is lack of memory.
     pub fn main_keys(&self, alloc: Global) -> Result<Vec<K>, NoMemory>
         ensures { IfOk result (AreMainKeys self.now) }
     {

@@ -73,7 +73,7 @@ impl<K: CacheKey, J: System> Recent<K, J> {
         Some((key, entry))
     }
 
-    /// The keys, in order. The only error is want of memory.
+    /// The keys, in order. The only error is lack of memory.
     pub fn keys(&self, alloc: Global) -> Result<Vec<K>, NoMemory>
         ensures { IfOk result (AreKeys self.now) }
     {

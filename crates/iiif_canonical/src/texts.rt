@@ -145,7 +145,7 @@ pub(crate) fn push_text(out: &mut String, request: &Request) -> Result<(), NoMem
 ///
 /// # Errors
 ///
-/// `NoMemory` where memory for the text is wanting.
+/// `NoMemory` where memory for the text runs out.
 pub fn text(alloc: Global, request: &Request) -> Result<String, NoMemory>
     requires { HasShortDecimals request.now }
     ensures value { IfOk result (λ s. string_bytes s ≡ text_of request.now) }

@@ -35,7 +35,7 @@ pub fn push_escaped(out: &mut String, id: &str) -> Result<(), NoMemory>
 ///
 /// # Errors
 ///
-/// `NoMemory` where memory for the text is wanting.
+/// `NoMemory` where memory for the text runs out.
 #[tactic(auto, unfolding(crate::specs::Texts::image_uri_of))]
 pub fn image_uri(alloc: Global, base: &str, id: &str) -> Result<String, NoMemory>
     ensures { IfOk result (λ s. string_bytes s ≡ image_uri_of base.now id.now) }
@@ -52,7 +52,7 @@ pub fn image_uri(alloc: Global, base: &str, id: &str) -> Result<String, NoMemory
 ///
 /// # Errors
 ///
-/// `NoMemory` where memory for the text is wanting.
+/// `NoMemory` where memory for the text runs out.
 #[tactic(auto, unfolding(crate::specs::Texts::uri_of))]
 pub fn uri(alloc: Global, base: &str, id: &str, request: &Request) -> Result<String, NoMemory>
     requires { HasShortDecimals request.now }

@@ -63,7 +63,7 @@ impl<'p, J: System> NamedLinks<'p, J> {
 }
 
 /// What a group of a node among others is made with, with room for so many bytes. This node stands first in the ring, and its own link is
-/// never asked. The only error is want of memory.
+/// never asked. The only error is lack of memory.
 fn stock<'p, J: System>(
     alloc: Global,
     watcher: &'p Watcher,
@@ -99,7 +99,7 @@ fn stock<'p, J: System>(
 
 /// A node that asks the watcher's others for the values of the keys that they own, whose groups have room for so many bytes each. The names
 /// of the nodes are at most 64, and each stands once. The watcher is told of the asks. The blanks are those of tiles and of sums. The only
-/// error is want of memory.
+/// error is lack of memory.
 pub fn among<'p, R: Opens + Wait, J: System>(
     alloc: Global,
     config: Config,

@@ -9,7 +9,7 @@ use iiif_start::Stored;
 use std::alloc::Global;
 use std::sync::Wait;
 
-/// As many passes as there are workers. None, and none is kept, where one of them or memory for them is wanting, and where there is no
+/// As many passes as there are workers. None, and none is kept, where one of them or memory for them runs out, and where there is no
 /// worker. Whoever has them gives them back to the node once nothing more is made with them.
 pub fn take_passes<R: Opens + Wait, J: System, N, T>(
     rt: &R,

@@ -35,7 +35,7 @@ impl<
     N: Link<TileKey, J, R> + Link<SumKey, J, R>,
     T: Gate<R>,
 > PeerCalls<'a, R, J, N, T> {
-    /// Answers the asks of a connection in order, and closes it. It says whether the connection was served: where a pass is wanting, it is
+    /// Answers the asks of a connection in order, and closes it. It says whether the connection was served: where a pass is missing, it is
     /// closed unanswered.
     fn answer(&self, rt: &R, alloc: Global, visit: Visit<'_, R>) -> bool {
         let Visit { stream, place } = visit;

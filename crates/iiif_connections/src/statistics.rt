@@ -104,7 +104,7 @@ impl<'a, R: Opens + Wait, J: System, N, T> Measure<R> for Statistics<'a, R, J, N
 }
 
 impl<'a, R: Opens + Wait + Clock, J: System, N, T> Statistics<'a, R, J, N, T> {
-    /// Answers the one call of a connection, and closes it. It says whether the connection was served: where memory is wanting, it is
+    /// Answers the one call of a connection, and closes it. It says whether the connection was served: where memory runs out, it is
     /// closed unanswered.
     fn answer(&self, rt: &R, alloc: Global, visit: Visit<'_, R>) -> bool {
         let Visit { stream, place } = visit;

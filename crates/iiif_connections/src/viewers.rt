@@ -50,7 +50,7 @@ impl<
 where
     R::Handle: Send + Sync,
 {
-    /// Answers the calls of a connection in order, and closes it. Where passes for its workers are wanting, it is closed unanswered. The
+    /// Answers the calls of a connection in order, and closes it. Where passes for its workers are missing, it is closed unanswered. The
     /// watcher is told of it, and of each answer once it ended.
     pub fn serve(&self, rt: &R, alloc: Global, visit: Visit<'_, R>) {
         let tally = &self.watcher.tally;
@@ -88,7 +88,7 @@ where
     }
 
     /// Answers the calls of a connection in order, over any reader and writer. It says whether passes for its workers were there: where
-    /// they are wanting, nothing is answered. Of a node that holds all its images in memory and asks no other, nothing is assumed in what
+    /// they are missing, nothing is answered. Of a node that holds all its images in memory and asks no other, nothing is assumed in what
     /// is said of its answers.
     pub fn serve_over<I: Inlet + Drop, W: Outlet>(
         &self,

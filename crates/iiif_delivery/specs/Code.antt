@@ -95,7 +95,7 @@ pub record HasCounted (j : Job) (kind : OutKind) (front rows : ℕ) (text : List
   pub begun : ((y ≡ 0) × (sent ≡ 0) × (held ≡ 0)) ⊎ ((0 < y) × ((result_dim j).w * channels_of j.shape.kind ≤ held))
   pub first : 0 < y → min rows (result_dim j).h * (result_dim j).w * channels_of j.shape.kind ≤ held
 
--- Why a text wasn't sent whole: the writer failed within it; or memory was wanting, and nothing was written.
+-- Why a text wasn't sent whole: the writer failed within it; or memory ran out, and nothing was written.
 abbrev pub IsSendingOf : {W : Type 0} → (W → Option (List ℕ)) → (W → W → Type 0) → List ℕ → W → W → Stopped → Type 0
 IsSendingOf contents fails text old new (Writer n) = WasCut contents fails old new text n
 IsSendingOf contents fails text old new (Load n f) = (n ≡ 0) × (new ≡ old) × (f ≡ fault.NoMemory)

@@ -65,7 +65,7 @@ len_with kind front w y = if y == 0 then 0 else front + row_len kind w * y
 abbrev pub band_from : Dim → ℕ → ℕ → Rect
 band_from d rows y = record { x = 0; y = y; w = d.w; h = min rows (d.h - y) }
 
--- Why a load stopped the sending in bands of so many rows: the rows above a band were written, and memory was wanting, or that band could
+-- Why a load stopped the sending in bands of so many rows: the rows above a band were written, and memory ran out, or that band could
 -- not be made.
 abbrev pub FailsFor : Job → (TileKey → TileVal → Type 0) → (TileKey → Fault → Type 0) → (SumKey → SumVal → Type 0) →
     (SumKey → Fault → Type 0) → OutKind → ℕ → ℕ → Stopped → Type 0

@@ -1,4 +1,4 @@
-//! Files that are opened and read again once a growth of memory was refused: the answer is want of memory, what was there stays, and the
+//! Files that are opened and read again once a growth of memory was refused: the answer is lack of memory, what was there stays, and the
 //! second call gives the case's own answer. `tests/refused` runs each test with the first growth refused, with the second, and so on;
 //! with ample memory each call answers at once.
 

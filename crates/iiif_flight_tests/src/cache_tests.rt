@@ -14,8 +14,8 @@ type Cache = ByteCache<Sample, Lax>;
 
 type Kept = Entry<Sample, Lax>;
 
-/// What came of a put: it is kept; or it is above the limit, and this number and this value came back; or else, where memory was
-/// wanting, the same pair didn't come back, the cache wasn't as before, or it wasn't put then either.
+/// What came of a put: it is kept; or it is above the limit, and this number and this value came back; or else, where memory ran
+/// out, the same pair didn't come back, the cache wasn't as before, or it wasn't put then either.
 type Came = Result<(), Option<(u32, u16)>>;
 
 /// A call of a cache, and what is to come of it.
@@ -53,7 +53,7 @@ fn pair(alloc: Global, number: u32, value: u16, ticket: u64) -> Option<(Sample, 
     Some((key, entry))
 }
 
-/// An empty cache, asked for once more where memory was wanting.
+/// An empty cache, asked for once more where memory ran out.
 fn cache(alloc: Global, bytes: u32, entries: usize) -> Option<Cache> {
     let entries = NonZeroUsize::new(entries)?;
     match ByteCache::new(alloc, u64::from(bytes), entries) {
@@ -74,7 +74,7 @@ fn is_put(cache: &mut Cache, is_hot: bool, key: Sample, entry: Kept) -> bool
     answer.is_ok()
 }
 
-/// Puts a pair into a list, and once more the pair that came back where memory was wanting.
+/// Puts a pair into a list, and once more the pair that came back where memory ran out.
 fn put_pair(cache: &mut Cache, is_hot: bool, key: Sample, entry: Kept) -> Came
     requires { IsTrue (is_of ⟦<Sample as PartialEq>⟧.eq key entry) }
 {
@@ -159,7 +159,7 @@ fn evicted(cache: &mut Cache) -> Option<(u32, u64)> {
     Some((key.number(), entry.into_receipt().ticket()))
 }
 
-/// Whether a step comes to what it is to. None where memory was wanting before its call.
+/// Whether a step comes to what it is to. None where memory ran out before its call.
 fn is_right(alloc: Global, cache: &mut Cache, step: &Step) -> Option<bool> {
     match step {
         Step::Main(number, value, ticket, came) => {
@@ -264,7 +264,7 @@ static SCENES: [Scene; 7] = [
     (60, 8, HIT_AND_TOUCH),
 ];
 
-/// The same once more where memory was wanting before a call.
+/// The same once more where memory ran out before a call.
 fn wrong_again(alloc: Global, scene: &Scene) -> Option<Option<usize>> {
     match wrong_in(alloc, scene) {
         None => wrong_in(alloc, scene),
@@ -272,7 +272,7 @@ fn wrong_again(alloc: Global, scene: &Scene) -> Option<Option<usize>> {
     }
 }
 
-/// A put that memory is wanting for leaves the cache as it was, and the pair that comes back is put again.
+/// A put that memory runs out for leaves the cache as it was, and the pair that comes back is put again.
 #[test]
 fn steps_come_to_what_they_are_to_after_a_refused_growth(rt: HostRuntime) {
     for (line, scene) in SCENES.iter().enumerate() {

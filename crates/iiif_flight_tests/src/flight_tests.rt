@@ -375,7 +375,7 @@ static MEETINGS: [(u32, Told, Look, Met); 4] = [
             ),
         ),
     ),
-    // The same where memory was wanting.
+    // The same where memory ran out.
     (
         1000,
         NO_MEMORY,

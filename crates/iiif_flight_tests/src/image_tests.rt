@@ -79,7 +79,7 @@ static TAKEN: [Taken; 7] = [
     ("", "c", "d", Err(AddFault::Name)),
 ];
 
-/// Whether the sample is taken in under a name as it is to be, once more where memory was wanting, which has to leave this name and the
+/// Whether the sample is taken in under a name as it is to be, once more where memory ran out, which has to leave this name and the
 /// one before as they were.
 fn is_taken(alloc: Global, catalogue: &mut Catalogue<(), Fused>, taken: &Taken) -> bool {
     let (name, before, missing, answer) = taken;

@@ -21,7 +21,7 @@ use Rattle.iiif_group.specs.declared.begun.OpenLoad.{OpenLoad}
 use Rattle.iiif_group.specs.declared.group.Group.{Group}
 
 -- An outcome of a key: a value of its shape, which is its meaning where the bytes of its image are stable and the other nodes are
--- honest; or a fault that the image's source gave, or want of memory.
+-- honest; or a fault that the image's source gave, or lack of memory.
 abbrev pub OutcomeIs : {V A : Type 0} → Type 0 → Bool → V → (V → Bool) → (ReadFault → Bool) → Result (Arc V A) Fault → Type 0
 OutcomeIs stable honest meaning shaped gave o =
     (stable → IsTrue honest → ForOk o (λ v. arc_value v ≡ meaning)) × ForOk o (λ v. IsTrue (shaped (arc_value v))) ×
@@ -44,7 +44,7 @@ abbrev pub outcome_of : {V A E : Type 0} → Result (Arc V A) E → Result V E
 outcome_of (Ok v) = Ok (arc_value v)
 outcome_of (Err e) = Err e
 
--- A share of an outcome, and whether it is that: want of memory where the value refuses another share. A fault is told as it is.
+-- A share of an outcome, and whether it is that: lack of memory where the value refuses another share. A fault is told as it is.
 pub record Shares {V A : Type 0} (outcome share : Result (Arc V A) Fault) (exact : Bool) : Type 0 where
   pub ok : ForOk share (λ v. value_of outcome ≡ Some (arc_value v))
   pub err : (gave : ReadFault → Bool) → ForErr outcome (λ f. IsTrue (is_given gave f)) → ForErr share (λ f. IsTrue (is_given gave f))

@@ -99,7 +99,7 @@ module _ {K J L V : Type 0} {a : cache_key.Ghosts K V} {b : partial_eq.Ghosts K}
   abbrev pub EndsOrGoesOn : Looked K J L V a b c d → Result (Receipt K J L V a b c d) (Looked K J L V a b c d) → Type 0
   EndsOrGoesOn led result = EndsOrIsLed (lead_class (lead_of led)) (lead_key (lead_of led)) result
 
-  -- a flight ends with the outcome of another of its key, or with want of memory
+  -- a flight ends with the outcome of another of its key, or with lack of memory
   pub record Relays (led : Looked K J L V a b c d) (receipt : Receipt K J L V a b c d) (told : Told K J L V a b c d) (same : Bool)
       : Type 0 where
     pub key : IsOf (lead_key (lead_of led)) told.receipt

@@ -31,7 +31,7 @@ module _ {K J L V : Type 0} {a : cache_key.Ghosts K V} {b c : _} {d : system.Gho
   HasLoaded load key outcome end = MatchOption end.loaded (IsFalse (was_asked load))
       (λ r. IfSome (receipt_known r) (λ x. (arc_value x.key ≡ key) × IfNone end.refused (x.outcome ≡ outcome)))
 
-  -- a receipt that isn't exact is of a wide flight, and has want of memory
+  -- a receipt that isn't exact is of a wide flight, and has lack of memory
   abbrev pub IsWanting : OpenLoad K J L V a b c d e → Completed K J L V a b c d → Type 0
   IsWanting load end = IfNone end.refused (IsFalse end.exact → IsTrue (was_asked load) ×
       IfSome (receipt_known end.receipt) (λ x. outcome_of x.outcome ≡ Err NoMemory))

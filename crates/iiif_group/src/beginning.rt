@@ -23,7 +23,7 @@ use std::sync::ledger::Ledger;
 impl<K: CacheKey, J: System, L: Ledger, N, T> Group<K, J, L, N, T> {
     /// What a flight of a key that fits ended with, or the duty to load its value, behind the gate. Of a key that another node owns
     /// that node is asked first; where it gives no value of the key's shape, the call enters a second time, as by `begin_local`. The
-    /// only error is want of memory at the first entering; later it is the outcome of the flight.
+    /// only error is lack of memory at the first entering; later it is the outcome of the flight.
     pub fn begin<R: Wait>(
         &self,
         rt: &R,
@@ -176,7 +176,7 @@ impl<K: CacheKey, J: System, L: Ledger, N, T> Group<K, J, L, N, T> {
         }
     }
 
-    /// A flight ends with the outcome of another of its key, and whether it was given that: want of memory where the value refuses it
+    /// A flight ends with the outcome of another of its key, and whether it was given that: lack of memory where the value refuses it
     /// a share. A fault is always told as it is.
     fn relay<R: Wait>(
         &self,

@@ -35,7 +35,7 @@ pub struct Completed<K: CacheKey, J: System, L: Ledger> {
     pub receipt: Receipt<K, J, L>,
     /// Of the local flight, where the other is the wide one: it has the outcome of the load.
     pub loaded: Option<Receipt<K, J, L>>,
-    /// Whether the first receipt has the outcome of the load. It has want of memory where the value refused the wide flight a share.
+    /// Whether the first receipt has the outcome of the load. It has lack of memory where the value refused the wide flight a share.
     pub exact: bool,
     /// The outcome back that a cell refused, because another of the same flight stands in it.
     pub refused: Option<Box<Landed<K, J>>>,

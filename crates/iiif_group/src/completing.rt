@@ -16,8 +16,8 @@ use std::sync::ledger::Ledger;
 use std::sync::{Arc, Wait};
 
 impl<K: CacheKey, J: System, L: Ledger, N, T> Group<K, J, L, N, T> {
-    /// Ends a load with a value that is its key's meaning, or with a fault that its source gave or want of memory, and tells those
-    /// that wait. The local flight has that outcome. So has the wide one, if the call leads one; but it has want of memory where the
+    /// Ends a load with a value that is its key's meaning, or with a fault that its source gave or lack of memory, and tells those
+    /// that wait. The local flight has that outcome. So has the wide one, if the call leads one; but it has lack of memory where the
     /// value refuses it a share. A fault needs no share, so both have it. Each receipt is that of its flight's own cell, by which all
     /// who joined it learn the same. Where a cell refused its outcome, which no run meets, the receipt has the one that stands there.
     pub fn complete<R: Wait>(

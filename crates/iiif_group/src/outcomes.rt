@@ -13,7 +13,7 @@ use std::alloc::Global;
 use std::sync::Arc;
 use std::sync::ledger::Ledger;
 
-/// A share of an outcome, and whether it is that: want of memory where the value refuses another share. A fault is always told as it is.
+/// A share of an outcome, and whether it is that: lack of memory where the value refuses another share. A fault is always told as it is.
 pub fn share_outcome<V: Drop>(outcome: &Result<Arc<V>, Fault>) -> (Result<Arc<V>, Fault>, bool)
     ensures { Shares outcome.now result.0 result.1 }
 {
@@ -26,7 +26,7 @@ pub fn share_outcome<V: Drop>(outcome: &Result<Arc<V>, Fault>) -> (Result<Arc<V>
     }
 }
 
-/// A value that many may share, or want of memory.
+/// A value that many may share, or lack of memory.
 pub fn share<V: Drop>(alloc: Global, value: V) -> Result<Arc<V>, Fault>
     ensures ok { ForOk result (λ v. arc_value v ≡ value) }
     ensures err { ForErr result (λ f. f ≡ Fault.NoMemory) }
@@ -37,7 +37,7 @@ pub fn share<V: Drop>(alloc: Global, value: V) -> Result<Arc<V>, Fault>
     }
 }
 
-/// A share of the outcome of a receipt of this key, or want of memory.
+/// A share of the outcome of a receipt of this key, or lack of memory.
 pub fn take_outcome<K: CacheKey, J: System, L: Ledger>(
     mut receipt: Receipt<K, J, L>,
     key: &K,

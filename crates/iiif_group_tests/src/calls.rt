@@ -107,7 +107,7 @@ fn sums_told<J: System>(came: Result<Receipt<SumKey, J, SumCalls<J>>, Fault>) ->
     }
 }
 
-/// The tile of a key from its source, or want of memory.
+/// The tile of a key from its source, or lack of memory.
 fn loaded<R: Wait + Clock, J: System>(
     rt: &R,
     alloc: Global,
@@ -124,7 +124,7 @@ fn loaded<R: Wait + Clock, J: System>(
     }
 }
 
-/// Loads what is owed. Want of memory where the receipt has another outcome.
+/// Loads what is owed. Lack of memory where the receipt has another outcome.
 fn ended<R: Wait + Clock, J: System>(
     rt: &R,
     alloc: Global,

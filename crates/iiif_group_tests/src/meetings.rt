@@ -100,7 +100,7 @@ impl<'a, 'b, R: Wait + Clock, J: System> Act<R> for Lifter<'a, 'b, R, J> {
 }
 
 /// Two calls at once, of which the first to load is held at the gate until the other is as far as told. None where it doesn't come so
-/// far, or a pass was wanting.
+/// far, or a pass was missing.
 fn both<'a, R, J>(
     rt: &R,
     alloc: Global,
@@ -174,7 +174,7 @@ where
     })
 }
 
-/// Gives passes of tiles back, and says what their calls came to. None where a pass was wanting.
+/// Gives passes of tiles back, and says what their calls came to. None where a pass was missing.
 fn returned<R: Wait + Clock, J: System>(
     rt: &R,
     node: &Node<'_, R, J>,

@@ -46,12 +46,12 @@ refusal_of images word =
     if not (is_name (image_of word).name) then Some Name else (
     if has_name images (image_of word).name then Some Twice else None))
 
--- what speaks against something, or want of memory
+-- what speaks against something, or lack of memory
 abbrev pub IsRefusal : Option Fault → Fault → Type 0
 IsRefusal refusal NoMemory = Unit {0}
 IsRefusal refusal fault = refusal ≡ Some fault
 
--- It is taken only where nothing speaks against it; a fault is what does, or want of memory.
+-- It is taken only where nothing speaks against it; a fault is what does, or lack of memory.
 abbrev pub Takes : Option Fault → Result (Unit {0}) Fault → Type 0
 Takes refusal (Ok _) = refusal ≡ None
 Takes refusal (Err fault) = IsRefusal refusal fault

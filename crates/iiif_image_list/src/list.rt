@@ -138,7 +138,7 @@ impl<'a> ImageList<'a> {
         self.files.iter()
     }
 
-    /// The images, in order, as pairs of a name and a file. The only error is want of memory.
+    /// The images, in order, as pairs of a name and a file. The only error is lack of memory.
     pub fn into_pairs(self, alloc: Global) -> Result<Vec<(&'a str, &'a str)>, AllocError>
         ensures { IfOk result (λ pairs. shown pairs.items ≡ self.entry) }
     {

@@ -27,7 +27,7 @@ refusal_of_name items name =
     if not (is_name name) then Some Name else (
     if is_some (item_named items name) then Some Twice else None)
 
--- An image of that name is taken in only where nothing speaks against it; a fault is what does, or want of memory.
+-- An image of that name is taken in only where nothing speaks against it; a fault is what does, or lack of memory.
 abbrev pub Takes : {S : Type 0} → List (Item S) → List ℕ → Result (Unit {0}) AddFault → Type 0
 Takes items name (Ok _) = refusal_of_name items name ≡ None
 Takes items name (Err NoMemory) = Unit {0}

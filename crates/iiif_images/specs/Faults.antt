@@ -14,14 +14,14 @@ IsKeyFault shows edge name own fits_in BadKey = IsSome (shows name) × ¬ (Names
 IsKeyFault shows edge name own fits_in (Source f) = ⊥
 IsKeyFault shows edge name own fits_in NoMemory = ⊥
 
--- Why a load gives no value: the key names nothing; or it names something, and its source gave that fault, or memory was wanting.
+-- Why a load gives no value: the key names nothing; or it names something, and its source gave that fault, or memory ran out.
 abbrev pub IsLoadFault : Pictures → ℕ → List ℕ → ℕ → (Shape → Type 0) → (ReadFault → Bool) → Fault → Type 0
 IsLoadFault shows edge name own fits_in gave UnknownName = shows name ≡ None
 IsLoadFault shows edge name own fits_in gave BadKey = IsSome (shows name) × ¬ (NamesPart shows edge name own fits_in)
 IsLoadFault shows edge name own fits_in gave (Source f) = NamesPart shows edge name own fits_in × IsTrue (gave f)
 IsLoadFault shows edge name own fits_in gave NoMemory = NamesPart shows edge name own fits_in
 
--- Why a call answers no receipt: the key names nothing; or it names something, and memory was wanting.
+-- Why a call answers no receipt: the key names nothing; or it names something, and memory ran out.
 abbrev pub IsGetFault : Pictures → ℕ → List ℕ → ℕ → (Shape → Type 0) → Fault → Type 0
 IsGetFault shows edge name own fits_in UnknownName = shows name ≡ None
 IsGetFault shows edge name own fits_in BadKey = IsSome (shows name) × ¬ (NamesPart shows edge name own fits_in)

@@ -15,7 +15,7 @@ use std::alloc::Global;
 use std::marker::{Model, PhantomData};
 use thiserror::Error;
 
-/// Why an image isn't taken in: its name's length, a name that is there already, or want of memory.
+/// Why an image isn't taken in: its name's length, a name that is there already, or lack of memory.
 #[derive(Clone, Copy, Debug, PartialEq, Eq, Error)]
 pub enum AddFault {
     #[error("a name has 1 to 1,024 bytes")]

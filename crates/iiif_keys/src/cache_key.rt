@@ -85,11 +85,11 @@ pub trait CacheKey: Drop + Eq + Hash {
     fn size(&self, value: &Self::Value) -> u64
         ensures { result ≡ length (key_bytes self.now) + length (val_bytes value.now) };
 
-    /// An equal key. The only error is want of memory.
+    /// An equal key. The only error is lack of memory.
     fn copy(&self) -> Result<Self, NoMemory>
         ensures { IfOk result (λ k. k ≡ self.now) };
 
-    /// The key's bytes. The only error is want of memory.
+    /// The key's bytes. The only error is lack of memory.
     fn bytes(&self, alloc: Global) -> Result<Vec<u8>, NoMemory>
         ensures { IfOk result (λ v. v.items ≡ key_bytes self.now) };
 
@@ -100,7 +100,7 @@ pub trait CacheKey: Drop + Eq + Hash {
         ensures refused { IfErr result (λ f. (key_refusal bytes.now ≡ Some f) ⊎
             ((key_refusal bytes.now ≡ None) × (f ≡ KeyFault.NoMemory))) };
 
-    /// The value's bytes. The only error is want of memory.
+    /// The value's bytes. The only error is lack of memory.
     fn value_bytes(alloc: Global, value: &Self::Value) -> Result<Vec<u8>, NoMemory>
         ensures { IfOk result (λ v. v.items ≡ val_bytes value.now) };
 

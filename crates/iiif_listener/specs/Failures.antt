@@ -17,7 +17,7 @@ is_passing kinds.ConnectionReset = true
 is_passing kinds.Interrupted = true
 is_passing _ = false
 
--- what is done after a failure of this kind, however many came before it: where files, memory or the like are wanting, the listener
+-- what is done after a failure of this kind, however many came before it: where files, memory or the like run out, the listener
 -- waits, and tries again
 abbrev pub retry_after : ErrorKind → Retry
 retry_after kind =

@@ -12,7 +12,7 @@ use std::thread::Threads;
 use std::time::{Clock, Duration};
 use std::{io, thread};
 
-/// How long a listener is left alone where files or memory are wanting, in milliseconds.
+/// How long a listener is left alone where files or memory run out, in milliseconds.
 const PAUSE: u64 = 10;
 
 /// What is done with a connection. R is the runtime.
@@ -26,7 +26,7 @@ pub trait Serve<R: Wait> {
 
 /// Serves each connection that a listener takes by a function, in a thread of its own, up to 64 at once. For one more the connection is
 /// ended that waits longest for its next request. Where none waits it is closed unanswered, and so is one that isn't admitted, or for which
-/// no thread can be started; each of these is told by the second function. Where none can be taken, as where files or memory are wanting,
+/// no thread can be started; each of these is told by the second function. Where none can be taken, as where files or memory run out,
 /// the listener waits and goes on, however long that lasts. It ends where it is stopped, once the connections have ended, or at once where
 /// there is no memory for the places.
 pub fn serve_each<R, F, G>(

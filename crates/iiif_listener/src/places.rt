@@ -66,7 +66,7 @@ impl Places {
     }
 
     /// A place for a connection that comes from there: one that is free, or else that of the connection which waits longest for its next
-    /// request, and is ended. None where none of them waits, where this address has as many as it may, or where a handle is wanting: then
+    /// request, and is ended. None where none of them waits, where this address has as many as it may, or where a handle is missing: then
     /// the connection is closed.
     pub fn enter<'a, R: Wait>(
         &'a self,

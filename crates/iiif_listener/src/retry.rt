@@ -10,7 +10,7 @@ use std::io::ErrorKind;
 pub enum Retry {
     /// The connection was gone before it was taken: at once.
     AtOnce,
-    /// Files, memory or the like are wanting: in a while.
+    /// Files, memory or the like run out: in a while.
     Later,
     /// The socket is stopped, or was never one that listens.
     Never,

@@ -27,7 +27,7 @@ pub struct Log {
 }
 
 impl Log {
-    /// A log without a line. The only error is want of memory.
+    /// A log without a line. The only error is lack of memory.
     pub fn new(alloc: Global) -> Result<Log, NoMemory> {
         Ok(Log {
             alloc,

@@ -59,7 +59,7 @@ fn push_service(text: &mut String, name: &str, service: Service) -> Result<(), N
     }
 }
 
-/// A line for each service that the node was started with. The only error is want of memory.
+/// A line for each service that the node was started with. The only error is lack of memory.
 pub fn services_text(alloc: Global, services: &Services) -> Result<Vec<u8>, NoMemory>
     ensures { IfOk result (λ bytes. bytes.items ≡ health_text services.now) }
 {

@@ -34,7 +34,7 @@ pub trait Measure<R> {
     /// What was counted so far.
     fn measure(&self, rt: &R) -> Metrics;
 
-    /// What was counted so far of asks of other nodes. The only error is want of memory.
+    /// What was counted so far of asks of other nodes. The only error is lack of memory.
     fn peers(&self, rt: &R, alloc: Global) -> Result<PeerMetrics, NoMemory>;
 
     /// Which services go on.
@@ -145,7 +145,7 @@ fn health_message(alloc: Global, services: &Services) -> Result<Vec<u8>, NoMemor
 }
 
 /// The answer to a call: to GET of `/metrics` the counters, to GET of `/health` the services, 404 to GET of another target, 405 to another
-/// method. The only error is want of memory.
+/// method. The only error is lack of memory.
 pub fn answer_bytes(alloc: Global, call: &Call, telling: &Telling) -> Result<Vec<u8>, NoMemory>
     ensures { IfOk result (λ text. text.items ≡ answer_text call.now.method call.now.target.items telling.now) }
 {
@@ -219,7 +219,7 @@ fn reply<R, M: Measure<R>, W: Outlet>(
     }
 }
 
-/// Answers the one call of a connection, which closes behind it. A head that is none is answered by 400. Where memory is wanting, nothing
+/// Answers the one call of a connection, which closes behind it. A head that is none is answered by 400. Where memory runs out, nothing
 /// is answered.
 pub fn serve_metrics<R, M: Measure<R>, I: Inlet + Drop, W: Outlet>(
     rt: &R,

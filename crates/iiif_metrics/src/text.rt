@@ -319,7 +319,7 @@ fn push_answers(text: &mut String, whole: &[u64; 8]) -> Result<(), NoMemory>
     )
 }
 
-/// All that is told, in the text format of version 0.0.4. The only error is want of memory.
+/// All that is told, in the text format of version 0.0.4. The only error is lack of memory.
 pub fn metrics_text(
     alloc: Global,
     metrics: &Metrics,

@@ -72,7 +72,7 @@ impl<R: Opens + Wait> OpenFiles<R> {
         }
     }
 
-    /// Keeps the open file of a source's number. It is closed where memory is wanting.
+    /// Keeps the open file of a source's number. It is closed where memory runs out.
     pub(crate) fn keep(&self, rt: &R, number: u64, file: Opening<R>) {
         if let Ok(file) = Arc::new(self.alloc, file) {
             self.shelf.lock(rt).keep(number, file);
@@ -122,7 +122,7 @@ impl<R: Opens + Wait> OpenFiles<R> {
         }
     }
 
-    /// Keeps rows that were read ahead. They are let go where memory is wanting.
+    /// Keeps rows that were read ahead. They are let go where memory runs out.
     fn keep_rows(&self, rt: &R, rows: WideRows<R>)
         requires { size_of rows ≤ room_of rows.runs.count }
     {

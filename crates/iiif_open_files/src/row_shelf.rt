@@ -90,7 +90,7 @@ impl<R: Opens, const MOST: usize, const ROOM: usize> RowShelf<R, MOST, ROOM> {
         }
     }
 
-    /// Keeps rows, and lets go the ones that were used longest ago where there is no room. Where memory is wanting these are let go
+    /// Keeps rows, and lets go the ones that were used longest ago where there is no room. Where memory runs out these are let go
     /// too.
     pub fn keep(&mut self, rows: Arc<WideRows<R>>)
         requires { size_of (arc_value rows) ≤ ROOM }

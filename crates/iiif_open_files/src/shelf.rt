@@ -58,7 +58,7 @@ impl<R: Opens> Shelf<R> {
         file
     }
 
-    /// Keeps the file of a number. Where memory is wanting the shelf stays as it was, and the file is let go.
+    /// Keeps the file of a number. Where memory runs out the shelf stays as it was, and the file is let go.
     pub fn keep(&mut self, number: u64, file: Arc<Opening<R>>)
         ensures { (self.new.files ≡ lru_cache (put_entries nat_eq self.old.files number file) self.old.files.cap) ⊎
             (self.new.files ≡ self.old.files) }

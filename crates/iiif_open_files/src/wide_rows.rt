@@ -30,7 +30,7 @@ pub struct WideRows<R: Opens> {
 }
 
 impl<R: Opens> WideRows<R> {
-    /// Reads runs of an open file of so many bytes. None where memory is wanting.
+    /// Reads runs of an open file of so many bytes. None where memory runs out.
     fn read_bytes(
         rt: &R,
         alloc: Global,
@@ -56,7 +56,7 @@ impl<R: Opens> WideRows<R> {
         Ok(Some(MemSource::new(bytes)))
     }
 
-    /// Reads rows of an open file of so many bytes. None where memory is wanting.
+    /// Reads rows of an open file of so many bytes. None where memory runs out.
     pub fn read(
         rt: &R,
         alloc: Global,
@@ -87,7 +87,7 @@ impl<R: Opens> WideRows<R> {
     }
 
     /// Reads longer runs of an open file of so many bytes at the places of those that are asked for. None where there is no room for
-    /// longer ones, or memory is wanting.
+    /// longer ones, or memory runs out.
     pub fn read_ahead(
         rt: &R,
         alloc: Global,

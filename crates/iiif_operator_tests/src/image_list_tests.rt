@@ -11,9 +11,9 @@ enum Step {
     Word(&'static str),
     /// A word is refused.
     Refused(&'static str, Fault),
-    /// A word names an image, once more where memory was wanting.
+    /// A word names an image, once more where memory ran out.
     WordAgain(&'static str),
-    /// The lines of a text name images, once more where memory was wanting, which is told of the first line.
+    /// The lines of a text name images, once more where memory ran out, which is told of the first line.
     TextAgain(&'static [u8]),
     /// Whether there is an image of a name.
     Has(&'static str, bool),
@@ -32,7 +32,7 @@ fn has_images(list: &ImageList<'_>, images: &[(&str, &str)]) -> bool {
     rest.next().is_none()
 }
 
-/// Whether a word names an image, once more where memory was wanting.
+/// Whether a word names an image, once more where memory ran out.
 fn is_named_again(list: &mut ImageList<'static>, word: &'static str) -> bool {
     match list.add(word) {
         Ok(()) => true,
@@ -40,7 +40,7 @@ fn is_named_again(list: &mut ImageList<'static>, word: &'static str) -> bool {
     }
 }
 
-/// Whether the lines of a text name images, once more where memory was wanting: that is told of the first line, and nothing is
+/// Whether the lines of a text name images, once more where memory ran out: that is told of the first line, and nothing is
 /// named then.
 fn goes_on(list: &mut ImageList<'static>, text: &'static [u8]) -> bool {
     match list.add_text(text) {

@@ -11,7 +11,7 @@ abbrev pub value_of : {V A E : Type 0} → Result (Arc V A) E → Option V
 value_of (Ok v) = Some (arc_value v)
 value_of (Err e) = None
 
--- A fault that a flight may end with, where the source of the image gave these: one of them, or want of memory. No flight is of a
+-- A fault that a flight may end with, where the source of the image gave these: one of them, or lack of memory. No flight is of a
 -- key that names nothing.
 abbrev pub is_given : (ReadFault → Bool) → Fault → Bool
 is_given gave (Source f) = gave f

@@ -11,7 +11,7 @@ use std::sync::Arc;
 
 /// What a flight landed with: a value of its key, or a fault. A value is its key's meaning, where the bytes of the image are
 /// stable and the other nodes are honest; its shape is the meaning's in any case. A fault is one that the image's source gave,
-/// or want of memory.
+/// or lack of memory.
 #[derive(Drop)]
 pub struct Landed<K: CacheKey, J: System> {
     pub key: Arc<K>,

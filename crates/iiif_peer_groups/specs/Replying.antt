@@ -43,7 +43,7 @@ module _ {K V : Type 0} (kind : Kind K V) (node : System) (version : Version) wh
   FaultOf k f = IsLoadFault node.pictures node.edge (kind.name_of k) (kind.edge_of k) (ServesIn k) (node.gave (kind.name_of k)) f
 
   -- Why there is no value: an unknown name; else bytes that spell no key, or one that names nothing in this version; a fault that the
-  -- image's source gave; or want of memory.
+  -- image's source gave; or lack of memory.
   abbrev pub HasFault : List ℕ → Fault → Type 0
   HasFault bytes (Source f) = (k : K) × Spells bytes k × FaultOf k (Source f)
   HasFault bytes NoMemory = Unit {0}

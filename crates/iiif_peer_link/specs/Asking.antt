@@ -63,7 +63,7 @@ Failed t (Wire fault) = WireFailed t fault
 Failed t (Refused status) = (0 < status) × Replied t status []
 Failed t Value = ⊥
 
--- The same of an ask whose value is read too: what came may be no value of the key's kind, or memory may be wanting anywhere.
+-- The same of an ask whose value is read too: what came may be no value of the key's kind, or memory may run out anywhere.
 abbrev pub FailedFor : (List ℕ → Option KeyFault) → Terms → LinkFault → Type 0
 FailedFor refusal t (Wire NoMemory) = Unit {0}
 FailedFor refusal t (Wire fault) = WireFailed t fault

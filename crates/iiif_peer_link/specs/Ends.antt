@@ -11,7 +11,7 @@ use Rattle.iiif_group.specs.declared.link.LinkFault.TheVariants.{Wire, Refused, 
 abbrev pub faulty : Bool → Option Outcome
 faulty late = if late then Some TimedOut else Some Failed
 
--- A node that refuses is there, and answers. Want of memory here says nothing of the node.
+-- A node that refuses is there, and answers. Lack of memory here says nothing of the node.
 abbrev pub fault_end : LinkFault → Bool → Option Outcome
 fault_end (Refused status) late = Some Refuses
 fault_end Value late = faulty late

@@ -46,7 +46,7 @@ fn look_up_address<R: Net>(
 }
 
 impl Peer {
-    /// A node that wasn't asked yet, and whose address wasn't looked up. The only error is want of memory.
+    /// A node that wasn't asked yet, and whose address wasn't looked up. The only error is lack of memory.
     pub fn new(
         alloc: Global,
         name: &str,

@@ -9,7 +9,7 @@ use Rattle.iiif_peer_wire.specs.declared.version.Version.{Version}
 use Rattle.iiif_peer_wire.specs.Code.{Came}
 use Rattle.iiif_peer_wire.specs.Messages.{ask_magic, field, IsFrontOfAsk, IsFrontOfReply, IsGroup, reply_magic}
 
--- a fault that is want of memory comes inside an ask, or inside a reply for the key
+-- a fault that is lack of memory comes inside an ask, or inside a reply for the key
 abbrev pub WantsAsk : Option (List ℕ) → Option (List ℕ) → WireFault → Type 0
 WantsAsk old new fault = fault ≡ NoMemory → (text : List ℕ) × IsFrontOfAsk text × Consumes old new text
 

@@ -38,7 +38,7 @@ impl Model for Raster {
 }
 
 impl Raster {
-    /// A picture of zeros. Sides with more samples than addresses are answered as want of memory too.
+    /// A picture of zeros. Sides with more samples than addresses are answered as lack of memory too.
     pub fn new(alloc: Global, dim: Dim, kind: Kind, depth: Depth) -> Result<Raster, NoMemory>
         ensures { IfOk result (λ r. r ≡ picture_of dim.w dim.h (channels_of kind) (top_of depth) (λ x y k. 0)) }
     {
@@ -148,7 +148,7 @@ impl Raster {
         self.samples.put(start, samples);
     }
 
-    /// The part in a rectangle (IIIF Image API 3.0, 4.1 Region). The only error is want of memory.
+    /// The part in a rectangle (IIIF Image API 3.0, 4.1 Region). The only error is lack of memory.
     pub fn crop(&self, rect: Rect) -> Result<Raster, NoMemory>
         requires { LiesIn rect (dim_of self.now) }
         ensures { IfOk result (λ r. r ≡ crop self.now rect) }
@@ -168,7 +168,7 @@ impl Raster {
         })
     }
 
-    /// Mirrored where the turn says so, and then turned clockwise (IIIF Image API 3.0, 4.3 Rotation). The only error is want of
+    /// Mirrored where the turn says so, and then turned clockwise (IIIF Image API 3.0, 4.3 Rotation). The only error is lack of
     /// memory.
     pub fn turn(&self, by: Turn) -> Result<Raster, NoMemory>
         requires { by.quarters < 4 }
@@ -186,7 +186,7 @@ impl Raster {
     }
 
     /// In another quality, place by place (IIIF Image API 3.0, 4.4 Quality); `Default` and `Color` change nothing. The only error
-    /// is want of memory.
+    /// is lack of memory.
     pub fn quality(&self, to: Quality) -> Result<Raster, NoMemory>
         ensures { IfOk result (λ r. r ≡ quality self.now to) }
     {
@@ -197,7 +197,7 @@ impl Raster {
         }
     }
 
-    /// An equal raster. The only error is want of memory.
+    /// An equal raster. The only error is lack of memory.
     pub fn copy(&self) -> Result<Raster, NoMemory>
         ensures { IfOk result (λ r. r ≡ self.now) }
     {

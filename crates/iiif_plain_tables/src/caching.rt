@@ -59,7 +59,7 @@ impl PlainCache {
         }
     }
 
-    /// What is kept for a key. The only error is want of memory.
+    /// What is kept for a key. The only error is lack of memory.
     pub(crate) fn kept(&self, key: &Key) -> Result<Option<Found>, NoMemory>
         ensures { IfOk result (λ r. option_map kept_of r ≡ kept_for key_eq key.now (cache_of self.now)) }
     {

@@ -17,7 +17,7 @@ use iiif_planner::Plan;
 use iiif_scene::Key;
 use std::alloc::{AllocError, Global};
 
-/// The keys of tiles. The only error is want of memory.
+/// The keys of tiles. The only error is lack of memory.
 fn tile_keys(alloc: Global, tiles: Vec<TileKey>) -> Result<Vec<Key>, NoMemory>
     ensures { IfOk result (λ v. v.items ≡ map (λ k. Key.Tile k) tiles.items) }
 {
@@ -28,7 +28,7 @@ fn tile_keys(alloc: Global, tiles: Vec<TileKey>) -> Result<Vec<Key>, NoMemory>
     Ok(keys)
 }
 
-/// The keys of sums. The only error is want of memory.
+/// The keys of sums. The only error is lack of memory.
 fn sum_keys(alloc: Global, sums: Vec<SumKey>) -> Result<Vec<Key>, NoMemory>
     ensures { IfOk result (λ v. v.items ≡ map (λ k. Key.Sum k) sums.items) }
 {
@@ -39,7 +39,7 @@ fn sum_keys(alloc: Global, sums: Vec<SumKey>) -> Result<Vec<Key>, NoMemory>
     Ok(keys)
 }
 
-/// The keys of a plan, in its order. The only error is want of memory.
+/// The keys of a plan, in its order. The only error is lack of memory.
 pub fn keys_of(alloc: Global, plan: Plan) -> Result<Vec<Key>, NoMemory>
     ensures { IfOk result (λ v. v.items ≡ keys_in plan) }
 {
@@ -50,7 +50,7 @@ pub fn keys_of(alloc: Global, plan: Plan) -> Result<Vec<Key>, NoMemory>
     }
 }
 
-/// The key of the tile that a block of level 0 is. The only error is want of memory.
+/// The key of the tile that a block of level 0 is. The only error is lack of memory.
 fn one_key(alloc: Global, key: &SumKey, tile: TileKey) -> Result<Vec<Key>, NoMemory>
     requires { (key.now.level ≡ 0) × (tile ≡ tile_below key.now) }
     ensures { IfOk result (λ v. parts_of (Key.Sum key.now) ≡ Some v.items) }
@@ -60,7 +60,7 @@ fn one_key(alloc: Global, key: &SumKey, tile: TileKey) -> Result<Vec<Key>, NoMem
     Ok(keys)
 }
 
-/// The keys of the blocks below. The only error is want of memory.
+/// The keys of the blocks below. The only error is lack of memory.
 fn part_keys(alloc: Global, key: &SumKey, sums: Vec<SumKey>) -> Result<Vec<Key>, NoMemory>
     requires { (0 < key.now.level) × (sums.items ≡ sums_below key.now) }
     ensures { IfOk result (λ v. parts_of (Key.Sum key.now) ≡ Some v.items) }
@@ -69,7 +69,7 @@ fn part_keys(alloc: Global, key: &SumKey, sums: Vec<SumKey>) -> Result<Vec<Key>,
     Ok(keys)
 }
 
-/// The keys of a sum's parts. The only error is want of memory.
+/// The keys of a sum's parts. The only error is lack of memory.
 #[tactic(auto, unfolding(iiif_scene::specs::Keys::parts_of))]
 pub fn parts_in(alloc: Global, key: &SumKey) -> Result<Vec<Key>, NoMemory>
     requires { HasParts key.now }
@@ -103,7 +103,7 @@ fn fresh_call(
     })
 }
 
-/// A node's calls of some keys. The only error is want of memory.
+/// A node's calls of some keys. The only error is lack of memory.
 pub fn calls_of(
     alloc: Global,
     number: usize,
@@ -120,7 +120,7 @@ pub fn calls_of(
     Ok(calls)
 }
 
-/// The numbers of `count` calls, from `first` on. The only error is want of memory.
+/// The numbers of `count` calls, from `first` on. The only error is lack of memory.
 pub fn numbers_of(alloc: Global, first: usize, count: usize) -> Result<Vec<usize>, NoMemory>
     ensures { IfOk result (λ v. (keys : List Key) → length keys ≡ count → v.items ≡ numbers first keys) }
 {

@@ -50,7 +50,7 @@ pub fn open_for(flights: &[Flight], caller: &Caller) -> Option<usize>
     flights.iter().position(|f| is_open_for(caller, f))
 }
 
-/// A copy of an outcome's value. The only error is want of memory.
+/// A copy of an outcome's value. The only error is lack of memory.
 pub fn value_in(
     alloc: Global,
     outcome: &Result<Value, ReadFault>,

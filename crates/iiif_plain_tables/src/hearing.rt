@@ -20,7 +20,7 @@ pub enum Heard {
     Fault(ReadFault),
 }
 
-/// An equal outcome. The only error is want of memory.
+/// An equal outcome. The only error is lack of memory.
 pub fn copied_outcome(
     alloc: Global,
     outcome: &Result<Value, ReadFault>,

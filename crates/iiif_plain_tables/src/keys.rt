@@ -35,7 +35,7 @@ pub fn name_of(key: &Key) -> &Name
     }
 }
 
-/// The bytes by which a key is written. The only error is want of memory.
+/// The bytes by which a key is written. The only error is lack of memory.
 #[tactic(auto, unfolding(iiif_scene::specs::Keys::key_bytes))]
 pub(crate) fn bytes_of(alloc: Global, key: &Key) -> Result<Vec<u8>, NoMemory>
     ensures { IfOk result (λ v. v.items ≡ key_bytes key.now) }
@@ -116,7 +116,7 @@ pub(crate) fn size(key: &Key, value: &Value) -> u64
     key_len(key) + value_len(value)
 }
 
-/// An equal value. The only error is want of memory.
+/// An equal value. The only error is lack of memory.
 pub fn copied(alloc: Global, value: &Value) -> Result<Value, NoMemory>
     ensures { IfOk result (λ v. v ≡ value.now) }
 {

@@ -125,7 +125,7 @@ pub struct Found {
     pub ticket: u64,
 }
 
-/// What the key's entry has. The only error is want of memory.
+/// What the key's entry has. The only error is lack of memory.
 pub(crate) fn find_in(list: &Vec<Entry>, key: &Key) -> Result<Option<Found>, NoMemory>
     ensures { IfOk result (λ r. option_map kept_of r ≡ lookup (key_eq key.now) (rows list.now.items)) }
 {

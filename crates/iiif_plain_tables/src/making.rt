@@ -18,7 +18,7 @@ use iiif_pixel::laws::{bands_follow, whole_stays_whole};
 use iiif_pixel::{Dim, NoMemory, Raster, Rect};
 use std::alloc::Global;
 
-/// A tile of a picture. The only error is want of memory.
+/// A tile of a picture. The only error is lack of memory.
 pub fn tile(picture: &Raster, key: &TileKey) -> Result<TileVal, NoMemory>
     requires { TileFitsIn (dim_of picture.now) picture.now.channels key.now }
     ensures { IfOk result (λ v. v ≡ record { raster = crop picture.now (tile_of (dim_of picture.now) key.now) }) }
@@ -29,7 +29,7 @@ pub fn tile(picture: &Raster, key: &TileKey) -> Result<TileVal, NoMemory>
     })
 }
 
-/// The sums of a block of a picture. The only error is want of memory.
+/// The sums of a block of a picture. The only error is lack of memory.
 pub fn sums(alloc: Global, picture: &Raster, key: &SumKey) -> Result<SumVal, NoMemory>
     requires fits { SumFitsIn (dim_of picture.now) picture.now.channels key.now }
     requires source { IsSource picture.now }
@@ -72,7 +72,7 @@ fn scaled(alloc: Global, region: &Raster, size: Dim) -> Result<Raster, NoMemory>
     Ok(scaled)
 }
 
-/// The image that a request comes to: the rectangle of the picture, scaled, turned, in its quality. The only error is want of memory.
+/// The image that a request comes to: the rectangle of the picture, scaled, turned, in its quality. The only error is lack of memory.
 pub fn image(alloc: Global, picture: &Raster, resolved: &Resolved) -> Result<Raster, NoMemory>
     requires inside { LiesIn resolved.now.rect (dim_of picture.now) }
     requires sizes { IsScalable (sides_of resolved.now.rect) resolved.now.size }

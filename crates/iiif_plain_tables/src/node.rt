@@ -58,7 +58,7 @@ impl Node {
         self.sums.empty();
     }
 
-    /// What is kept for a key. The only error is want of memory.
+    /// What is kept for a key. The only error is lack of memory.
     #[tactic(auto, unfolding(iiif_scene::specs::Keys::is_tile))]
     pub fn kept(&self, key: &Key) -> Result<Option<Found>, NoMemory>
         ensures { IfOk result (λ r. option_map kept_of r ≡ kept_for key_eq key.now (table_at (node_of self.now) key.now).cache) }
@@ -118,7 +118,7 @@ impl Node {
         }
     }
 
-    /// The name of the key's owner. The only error is want of memory.
+    /// The name of the key's owner. The only error is lack of memory.
     #[tactic(auto, unfolding(iiif_machine::specs::Worlds::owner_of))]
     pub fn owner(&self, alloc: Global, key: &Key) -> Result<&str, NoMemory>
         ensures { IfOk result (λ name. name.now ≡ owner_of (node_of self.now) key.now) }
@@ -128,7 +128,7 @@ impl Node {
         Ok(self.ring.names()[place].as_str())
     }
 
-    /// The class of a call for the key. The only error is want of memory.
+    /// The class of a call for the key. The only error is lack of memory.
     pub(crate) fn class(&self, alloc: Global, key: &Key) -> Result<Class, NoMemory>
         ensures { IfOk result (λ c. c ≡ class_at (node_of self.now) key.now) }
     {

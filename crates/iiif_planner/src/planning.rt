@@ -16,7 +16,7 @@ use std::alloc::Global;
 
 /// The plan of a request on the named image of this shape: the tiles with this edge that the region meets, where it keeps its size
 /// or a side of the result is above its side; else the blocks that it meets, of the greatest level at which a block has at most
-/// `room` sums, or of level 0 where there is none. Each is listed once, row by row. The only error is want of memory.
+/// `room` sums, or of level 0 where there is none. Each is listed once, row by row. The only error is lack of memory.
 pub fn plan(
     alloc: Global,
     name: &Name,

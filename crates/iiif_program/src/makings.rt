@@ -41,7 +41,7 @@ pub(crate) fn open_makings<'a, R: Opens + Wait>(
 }
 
 /// Who is told of the answers of a node that is made of these, in a log too where one is wanted, and of the asks of the other nodes of the
-/// options. The only error is want of memory.
+/// options. The only error is lack of memory.
 pub(crate) fn watcher_of<'a, R: Opens + Wait>(
     alloc: Global,
     options: &Options<'a>,

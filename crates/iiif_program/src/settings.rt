@@ -36,7 +36,7 @@ pub(crate) fn options_of<'t, 'a: 't>(
     options_in(alloc, matches, base, list)
 }
 
-/// The settings in the options. Those of a line that isn't wrong are legal, so the only error is want of memory.
+/// The settings in the options. Those of a line that isn't wrong are legal, so the only error is lack of memory.
 pub(crate) fn config<'a>(alloc: Global, options: &Options<'a>) -> Result<Config, Stop<'a>>
     requires { refusal_of (settings_in options.now) ≡ None }
     ensures { IfOk result (λ c. c ≡ settings_in options.now) }

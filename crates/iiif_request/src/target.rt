@@ -256,7 +256,7 @@ fn target_in(alloc: Global, prefix: &[u8], target: &[u8]) -> Result<Target, Spli
 ///
 /// # Errors
 ///
-/// `Path` where the target asks for nothing; `NoMemory` where memory for a text is wanting. Either
+/// `Path` where the target asks for nothing; `NoMemory` where memory for a text runs out. Either
 /// is answered once the segments were counted, so that a target of another count takes no memory.
 pub fn split(alloc: Global, prefix: &[u8], target: &[u8]) -> Result<Target, SplitFault>
     ensures target { IfOk result (λ t. AsksFor prefix.now target.now (resource_of t)) }

@@ -103,7 +103,7 @@ fn escaped(alloc: Global, id: &str) -> Option<String> {
     Some(name)
 }
 
-/// What a text comes to; none where it is no text for this, or memory is wanting.
+/// What a text comes to; none where it is no text for this, or memory runs out.
 fn answer(alloc: Global, subject: Subject, given: &str) -> Option<String> {
     match subject {
         Subject::Targets => asked(alloc, given),

@@ -21,7 +21,7 @@ enum Wanted {
     Blocks(u8, Places),
     /// Of so many blocks of a level, of which the last stands here.
     Many(usize, u8, (u32, u32)),
-    /// There is none, as memory is wanting.
+    /// There is none, as memory runs out.
     Memory,
 }
 

@@ -1,4 +1,4 @@
-//! Information and plans that are asked for again once a growth of memory was refused: the answer is want of memory, and the second call
+//! Information and plans that are asked for again once a growth of memory was refused: the answer is lack of memory, and the second call
 //! gives the case's own answer. `tests/refused` runs each test with the first growth refused, with the second, and so on; with ample
 //! memory each call answers at once.
 

@@ -20,7 +20,7 @@ pub enum Value {
 }
 
 impl Key {
-    /// An equal key. The only error is want of memory.
+    /// An equal key. The only error is lack of memory.
     pub fn copy(&self) -> Result<Key, NoMemory>
         ensures { IfOk result (λ key. key ≡ self.now) }
     {

@@ -42,13 +42,13 @@ served_partly : (t : Terms) (n : ℕ) (input rest text : List ℕ) (h : RequestH
 served_partly t n input rest text h close begins e part =
     cut_off n input rest text h begins (subst (λ (c : Bool). t.part h c text) e part)
 
--- the answer to no head, or that to want of memory
+-- the answer to no head, or that to lack of memory
 closes_for_head : (t : Terms) (n : ℕ) (input text : List ℕ) (r : Response) → MayLackMemory input → CloseFor t.writer r text
     → (IsClosing t.writer r text → Stream t n input text) → Stream t n input text
 closes_for_head t n input text r may (inl sent) to = to sent
 closes_for_head t n input text r may (inr sent) to = no_memory n input text may sent
 
--- the answer to no head, or that to want of memory, was sent
+-- the answer to no head, or that to lack of memory, was sent
 pub head_closing : {W E : Type 0} (a : Response) (contents : W → Option (List ℕ)) (fails : W → W → Type 0) (old new : W)
     (m : Result Message E) (result : Result Sent Cut)
     → IfOk m (λ x. answer_of x ≡ written (Whole true) a)
@@ -169,7 +169,7 @@ next_too_long t n (Some input) left old new answers sent = (
   ),
 )
 
--- that to want of memory was sent
+-- that to lack of memory was sent
 pub next_no_memory : (t : Terms) (n : ℕ) (input old new : Option (List ℕ)) → IfSome input MayLackMemory
     → ((text : List ℕ) × Appends old new text × IsClosing t.writer want_of_memory text) → IfSome input (Ends t n old new)
 next_no_memory t n None old new may sent = tt

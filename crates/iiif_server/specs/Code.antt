@@ -33,7 +33,7 @@ use Rattle.iiif_answers.specs.Streams.{Terms, Stream, IsCame, IsClosing, call_li
 use Rattle.iiif_server.specs.Answering.{terms_at}
 use Rattle.iiif_server.specs.Nodes.{Service}
 
--- the answer to no call, or that to want of memory, was sent before a connection closes
+-- the answer to no call, or that to lack of memory, was sent before a connection closes
 abbrev pub CloseFor : Type 0 → Response → List ℕ → Type 0
 CloseFor writer r text = IsClosing writer r text ⊎ IsClosing writer want_of_memory text
 
@@ -105,7 +105,7 @@ abbrev pub Closes : {W : Type 0} → (W → Option (List ℕ)) → (W → W → 
 Closes {W} contents fails old new r =
     (text : List ℕ) × Appends (contents old) (contents new) text × IsClosing ((before : W) × fails before new) r text
 
--- so was that to a head that is none, or that to want of memory
+-- so was that to a head that is none, or that to lack of memory
 abbrev pub ClosesForHead : {W : Type 0} → (W → Option (List ℕ)) → (W → W → Type 0) → W → W → Type 0
 ClosesForHead {W} contents fails old new =
     (text : List ℕ) × Appends (contents old) (contents new) text

@@ -85,7 +85,7 @@ where
 impl<R, S: Source<R> + Drop, J: System, N, T> Node<R, S, J, N, T> {
     ghost use Rattle.iiif_server.specs.Stocks.{IsStock};
 
-    /// A node of these images, where J says what their names stand for. The only error is want of memory.
+    /// A node of these images, where J says what their names stand for. The only error is lack of memory.
     pub fn new(
         alloc: Global,
         config: Config,
@@ -148,7 +148,7 @@ impl<R, S: Source<R> + Drop, J: System, N, T> Node<R, S, J, N, T> {
 impl<R, S: Source<R> + Drop, J: System> Node<R, S, J, NoLink, NoGate> {
     ghost use Rattle.iiif_server.specs.Stocks.{IsBlankOf};
 
-    /// A node that asks no other, whose groups have room for so many bytes each. The only error is want of memory.
+    /// A node that asks no other, whose groups have room for so many bytes each. The only error is lack of memory.
     pub fn alone(
         alloc: Global,
         config: Config,
@@ -170,7 +170,7 @@ impl<R, S: Source<R> + Drop, J: System> Node<R, S, J, NoLink, NoGate> {
 }
 
 impl<R: Wait, S: Source<R> + Drop, J: System, N, T> Node<R, S, J, N, T> {
-    /// The passes of a worker: one of each group. None where one of them is wanting.
+    /// The passes of a worker: one of each group. None where one of them is missing.
     pub fn pass(&self, rt: &R) -> Option<Passes<J>> {
         let tiles = self.groups.tiles().group();
         let tile = tiles.pass(rt)?;

@@ -35,7 +35,7 @@ pub struct Stock<N, T> {
 }
 
 impl<N: Drop, T: Drop> Stock<N, T> {
-    /// The group that is made of it. The only error is want of memory.
+    /// The group that is made of it. The only error is lack of memory.
     pub(crate) fn group<K: CacheKey, J: System, L: Ledger>(
         self,
         alloc: Global,
@@ -71,7 +71,7 @@ fn own_ring(alloc: Global) -> Result<Ring, NoMemory>
 }
 
 impl Stock<NoLink, NoGate> {
-    /// That of a node which has no others beside it, with room for so many bytes. The only error is want of memory.
+    /// That of a node which has no others beside it, with room for so many bytes. The only error is lack of memory.
     pub fn alone(alloc: Global, bytes: u64, blank: Blank) -> Result<Self, NoMemory>
         requires { bytes < 2 ^ 63 }
         ensures { HasStock blank (λ stock. stock) result }

@@ -25,14 +25,14 @@ use std::time::Clock;
 /// The most calls of one connection.
 pub const CALL_LIMIT: u32 = 1000;
 
-/// Sends the answer to want of memory, after which the connection closes.
+/// Sends the answer to lack of memory, after which the connection closes.
 fn close_for_memory<W: Outlet>(out: &mut W) -> Result<Sent, Cut>
     ensures { Closes W.contents W.fails out.old out.new want_of_memory }
 {
     send_message(out, Part::Whole(true), Err(AllocError))
 }
 
-/// Sends the answer to a head that is none, or to want of memory, after which the connection closes.
+/// Sends the answer to a head that is none, or to lack of memory, after which the connection closes.
 fn close_for_head<W: Outlet>(alloc: Global, out: &mut W) -> Result<Sent, Cut>
     ensures { ClosesForHead W.contents W.fails out.old out.new }
 {

@@ -11,7 +11,7 @@ pub trait Watch<R> {
     /// An answer begins: a head was read, or what came is none.
     fn begin(&self, rt: &R) -> Self::Begun;
 
-    /// That answer ended so. There is no call where what came is no head, or where memory was wanting to read it.
+    /// That answer ended so. There is no call where what came is no head, or where memory ran out to read it.
     fn report(&self, rt: &R, begun: Self::Begun, call: Option<&Call>, outcome: &Result<Sent, Cut>);
 }
 

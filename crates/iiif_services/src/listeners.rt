@@ -187,7 +187,7 @@ where
 }
 
 /// Serves viewers, other nodes and who asks for the statistics by two functions each, where they have listeners, until a listener ends,
-/// which then stops the others; and answers once all connections have ended. Where a thread is wanting for one of the listeners, it
+/// which then stops the others; and answers once all connections have ended. Where a thread is missing for one of the listeners, it
 /// ends at once. The second function of each is told of the connections of that listener that were closed unanswered. The lookout has a
 /// thread of its own meanwhile; where none can be started, nobody looks.
 pub fn serve_all<R, F, G, H, K, L, M, O>(

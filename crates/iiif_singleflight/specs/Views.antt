@@ -106,7 +106,7 @@ module _ {K J L V : Type 0} {a b c d e : _} where
   abbrev pub ending_place : Ending K J L V a b c d e → Place
   ending_place e = e.place
 
-  -- what a leader found who looked again: a value that is kept, or nothing, or want of memory
+  -- what a leader found who looked again: a value that is kept, or nothing, or lack of memory
   abbrev pub found_by : Result (Ending K J L V a b c d e) (Looked K J L V a b c d) → Result (Option (Arc V Global)) Fault
   found_by (Ok e) = found_in e.outcome
   found_by (Err l) = Ok None

@@ -32,7 +32,7 @@ use std::marker::PhantomData;
 use std::sync::ledger::Ledger;
 
 impl<K: CacheKey, J: System, L: Ledger> Table<K, J, L> {
-    /// A call for a key enters: it hits, joins or leads, and its pass has one call more. The only error is want of memory, or that
+    /// A call for a key enters: it hits, joins or leads, and its pass has one call more. The only error is lack of memory, or that
     /// 2^64 - 1 calls have entered.
     pub fn enter(
         &mut self,
@@ -90,7 +90,7 @@ impl<K: CacheKey, J: System, L: Ledger> Table<K, J, L> {
         }
     }
 
-    /// Ends a flight: it closes and is counted, and its value is kept by its place. It never refuses: where memory is wanting the
+    /// Ends a flight: it closes and is counted, and its value is kept by its place. It never refuses: where memory runs out the
     /// value isn't kept. Where the cell refuses the outcome, because another stands in it, the outcome comes back.
     pub fn land(&mut self, ending: Ending<K, J, L>) -> Landing<K, J, L>
         ensures table { table_of K.eq self.new ≡ landed K.eq (entry_size K.key_bytes K.val_bytes) (landing_kept result)

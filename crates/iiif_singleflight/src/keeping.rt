@@ -83,7 +83,7 @@ fn list_of(arrival: Arrival) -> Option<List>
 }
 
 /// Puts a value that arrives into its list, with the receipt of its flight. False where nothing is put: there is no value or no list
-/// for it, memory is wanting, or the value is too big.
+/// for it, memory runs out, or the value is too big.
 pub(crate) fn keep<K: CacheKey, J: System>(
     cache: &mut ByteCache<K, J>,
     arrival: Arrival,

@@ -20,7 +20,7 @@ use std::sync::ledger::{Blank, Ledger};
 
 impl<K: CacheKey, J: System, L: Ledger> Table<K, J, L> {
     /// A table of a ledger that no other has, with room for so many bytes in all and so many entries a list, and the pass that has
-    /// all parts of the ledger. The only error is want of memory.
+    /// all parts of the ledger. The only error is lack of memory.
     pub fn new(
         alloc: Global,
         bytes: u64,

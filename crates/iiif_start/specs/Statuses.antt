@@ -20,7 +20,7 @@ status_of Write = 1
 status_of Source = 1
 status_of Listen = 1
 
--- of words that are at fault: 1 where memory is wanting, else 2
+-- of words that are at fault: 1 where memory runs out, else 2
 abbrev pub status_of_words : LineFault → ℕ
 status_of_words NoMemory = 1
 status_of_words fault = 2

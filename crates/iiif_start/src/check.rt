@@ -80,7 +80,7 @@ where
     Ok(Checked { name, found })
 }
 
-/// Opens the images, in order, and says of each what it is. The only errors are want of memory and a line that can't be written.
+/// Opens the images, in order, and says of each what it is. The only errors are lack of memory and a line that can't be written.
 #[tactic(auto, using(crate::proofs::Names::names_more))]
 fn check_each<'a, R, O>(
     rt: &R,

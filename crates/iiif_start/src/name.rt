@@ -8,7 +8,7 @@ use std::fmt;
 use std::fmt::{Display, Formatter};
 
 /// A name as one word of visible ASCII, as the log writes a target: so it can't end a line, nor say anything to a terminal. It is written
-/// without memory, so that a line which names an image comes where memory is wanting, too.
+/// without memory, so that a line which names an image comes where memory runs out, too.
 #[derive(Clone, Copy, Debug)]
 pub struct Word<'a>(pub &'a str);
 

@@ -14,7 +14,7 @@ const PIECE: u64 = 1_048_576;
 ///
 /// # Errors
 ///
-/// Want of memory; what was taken until then is given back.
+/// Lack of memory; what was taken until then is given back.
 pub fn touch(alloc: Global, bytes: u64) -> Result<usize, AllocError>
     ensures { IfOk result (λ n. n ≡ div_ceil bytes 1048576) }
 {

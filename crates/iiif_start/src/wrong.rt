@@ -57,8 +57,8 @@ fn say<E: Write>(err: &mut E, fault: LineFault, list: Option<&str>) -> io::Resul
     }
 }
 
-/// Says what is wrong with the words, where the list of images is in this file, and gives the program's status: 1 where memory is
-/// wanting, else 2.
+/// Says what is wrong with the words, where the list of images is in this file, and gives the program's status: 1 where memory
+/// ran out, else 2.
 pub fn report_fault<E: Write>(err: &mut E, fault: LineFault, list: Option<&str>) -> u8
     ensures { result ≡ status_of_words fault }
 {

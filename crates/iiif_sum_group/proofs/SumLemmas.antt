@@ -228,7 +228,7 @@ only_value cut fit below shows k s v has above fits places are =
     ∙ ap (λ (r : Rect). sums_of (crop p k.rect) k.size r) part in
     ap (λ (g : Grid). let u : SumVal = record { sums = g } in u) sums
 
--- want of memory may always be told: where what was made wanted it too
+-- lack of memory may always be told: where what was made wanted it too
 pub wanting : (gave : ReadFault → Bool) {V : Type 0} (made : Result V Fault) (f : Fault) → IfErr made (λ e. e ≡ NoMemory) →
     (f ≡ NoMemory) ⊎ (made ≡ Err f) → IsTrue (is_given gave f)
 wanting gave made f want (inl is) = subst (λ (e : Fault). is_given gave e ≡ true) (sym is) refl

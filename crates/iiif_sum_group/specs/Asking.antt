@@ -61,7 +61,7 @@ module _ {J : Type 0} (node : system.Ghosts J) (key : SumKey) (old new : Passes 
     pub parts : (new.tile.parts ≡ old.tile.parts) × (new.sum.parts ≡ old.sum.parts)
 
 module _ {J L : Type 0} {a b c : _} {d : system.Ghosts J} where
-  -- What a flight of the key ended with; or memory was wanting. It is counted, and so are the calls for what it is made of.
+  -- What a flight of the key ended with; or memory ran out. It is counted, and so are the calls for what it is made of.
   pub record Asks (key : SumKey) (old new : Passes J) (result : Result (Receipt SumKey J L SumVal a b c d) Fault) : Type 0 where
     pub outcome : IfOk result (KnowsSums key)
     pub risen : OnOk result (old.sum.gets + 1 ≤ new.sum.gets)

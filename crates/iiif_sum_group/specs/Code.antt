@@ -20,7 +20,7 @@ use Rattle.iiif_keys.specs.declared.system.System as system
 use Rattle.iiif_keys.specs.declared.values.SumVal.{SumVal}
 use Rattle.iiif_sum_group.specs.Values.{AreValuesOf}
 
--- what was made, or that memory was wanting
+-- what was made, or that memory ran out
 pub record Copies (value : SumVal) (result : Result SumVal Fault) : Type 0 where
   pub value_is : IfOk result (λ v. v ≡ value)
   pub fault : IfErr result (λ f. f ≡ NoMemory)

@@ -26,7 +26,7 @@ module _ {J : Type 0} (node : system.Ghosts J) (key : SumKey) where
   abbrev pub NamesBlock : Type 0
   NamesBlock = NamesPart node.pictures node.edge key.name key.edge (λ s. SumFitsIn s.dim (channels_of s.kind) key)
 
-  -- why it can't be asked for: it names none, or memory is wanting
+  -- why it can't be asked for: it names none, or memory runs out
   abbrev pub IsRefused : Fault → Type 0
   IsRefused = IsGetFault node.pictures node.edge key.name key.edge (λ s. SumFitsIn s.dim (channels_of s.kind) key)
 

@@ -17,7 +17,7 @@ use std::alloc::Global;
 use std::sync::Wait;
 use std::sync::ledger::Ledger;
 
-/// The same sums, for one caller. The only fault is want of memory.
+/// The same sums, for one caller. The only fault is lack of memory.
 fn copied(alloc: Global, value: &SumVal) -> Result<SumVal, Fault>
     ensures { Copies value.now result }
 {
@@ -88,7 +88,7 @@ impl<
         }
     }
 
-    /// What a flight of the key ended with: the sums that it names, or a fault of its source or want of memory. Where another node
+    /// What a flight of the key ended with: the sums that it names, or a fault of its source or lack of memory. Where another node
     /// owns the key, that node is asked first.
     pub fn get(
         &self,

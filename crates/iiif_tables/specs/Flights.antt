@@ -138,7 +138,7 @@ module _ {K V : Type 0} (eq : K → K → Bool) where
     }
 
     -- The flight of this class, key and ticket lands with a value, or with a fault (None): it closes and is counted, and the value is
-    -- kept by its place, but not where `keep` is false, as where memory is wanting. Where no such flight is open, nothing changes.
+    -- kept by its place, but not where `keep` is false, as where memory runs out. Where no such flight is open, nothing changes.
     unfoldable pub land : Bool → Class → K → ℕ → Option V → Place → Table K V → Table K V
     land keep class k n value place t =
         if has_ticket n (t.flights class k)

@@ -56,7 +56,7 @@ abbrev pub AreTrue : {R S : Type 0} → (S → List ℕ) → Fields R S → Type
 AreTrue bytes f = Reads (bytes f.source.now) f.order f.entries.items
 
 -- The answer that fields give to a check of their file: a value where it applies nowhere, else its refusal, or a fault of
--- the device, or want of memory; of a file with these fields, of which Known is known besides.
+-- the device, or lack of memory; of a file with these fields, of which Known is known besides.
 abbrev pub TellsWhere : {R S X : Type 0} → (S → List ℕ) → (S → ReadFault → Bool) → Fields R S → (List ℕ → Type 0) →
     (List ℕ → Option Refusal) → (List ℕ → X → Type 0) → Result X OpenFault → Type 0
 TellsWhere bytes gave f Known check Right result =
@@ -116,7 +116,7 @@ pub record IsSound (s : Scheme) : Type 0 where
   pub across : s.tiles_across ≡ div_ceil s.width s.piece_width
   pub count : length s.offsets ≡ s.tiles_across * div_ceil s.height s.piece_height
 
--- A fault of reading bytes: the device's, or want of memory.
+-- A fault of reading bytes: the device's, or lack of memory.
 abbrev pub IsDeviceFault : (ReadFault → Bool) → OpenFault → Type 0
 IsDeviceFault gave (opens.Source f) = IsTrue (gave f)
 IsDeviceFault gave opens.NoMemory = Unit {0}
@@ -127,7 +127,7 @@ IsDeviceFault gave (opens.Unsupported tag) = ⊥
 IsDeviceFault gave (opens.BadField tag) = ⊥
 IsDeviceFault gave opens.TooLarge = ⊥
 
--- The fault is not want of memory: a check that takes none never answers that.
+-- The fault is not lack of memory: a check that takes none never answers that.
 abbrev pub IsNotMemory : OpenFault → Type 0
 IsNotMemory opens.NotTiff = Unit {0}
 IsNotMemory opens.Truncated = Unit {0}
@@ -138,7 +138,7 @@ IsNotMemory opens.TooLarge = Unit {0}
 IsNotMemory (opens.Source f) = Unit {0}
 IsNotMemory opens.NoMemory = ⊥
 
--- The fault is want of memory only where the checks name no refusal, where the premise holds: what they refuse is never answered so.
+-- The fault is lack of memory only where the checks name no refusal, where the premise holds: what they refuse is never answered so.
 abbrev pub IsMemoryAfter : Type 0 → Option Refusal → OpenFault → Type 0
 IsMemoryAfter premise check opens.NotTiff = Unit {0}
 IsMemoryAfter premise check opens.Truncated = Unit {0}

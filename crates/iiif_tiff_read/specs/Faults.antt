@@ -7,7 +7,7 @@ use Rattle.iiif_tiff_read.specs.declared.fault.OpenFault.TheVariants as opens
 use Rattle.iiif_tiff_read.specs.declared.fault.LoadFault.{LoadFault}
 use Rattle.iiif_tiff_read.specs.declared.fault.LoadFault.TheVariants as loads
 
--- The fault is the refusal that the checks name, where the premise holds; or one that the device gave; or want of memory.
+-- The fault is the refusal that the checks name, where the premise holds; or one that the device gave; or lack of memory.
 abbrev pub IsOpenFault : Type 0 → (ReadFault → Bool) → Option Refusal → OpenFault → Type 0
 IsOpenFault premise gave check opens.NotTiff = premise → check ≡ Some NotTiff
 IsOpenFault premise gave check opens.Truncated = premise → check ≡ Some Truncated
@@ -23,7 +23,7 @@ abbrev pub Answers : {X : Type 0} → Type 0 → (ReadFault → Bool) → Option
 Answers premise gave check Right (Ok x) = premise → (check ≡ None) × Right x
 Answers premise gave check Right (Err e) = IsOpenFault premise gave check e
 
--- The fault is one that the device gave, or want of memory.
+-- The fault is one that the device gave, or lack of memory.
 abbrev pub IsLoadFault : (ReadFault → Bool) → LoadFault → Type 0
 IsLoadFault gave (loads.Source f) = IsTrue (gave f)
 IsLoadFault gave loads.NoMemory = Unit {0}

@@ -94,7 +94,7 @@ impl<R: Wait, S: Source<R> + Drop, J: System, N: Link<TileKey, J, R>, T: Gate<R>
     N,
     T,
 > {
-    /// What a flight of the key ended with: the tile that it names, or a fault of its source or want of memory. Where another node
+    /// What a flight of the key ended with: the tile that it names, or a fault of its source or lack of memory. Where another node
     /// owns the key, that node is asked first.
     pub fn get(
         &self,

@@ -1,4 +1,4 @@
-//! Messages that are read again once a growth of memory was refused: the answer is want of memory, and on a connection that is made anew
+//! Messages that are read again once a growth of memory was refused: the answer is lack of memory, and on a connection that is made anew
 //! the second call gives the case's own answer. `tests/refused` runs each test with the first growth refused, with the second, and so
 //! on; with ample memory each call answers at once.
 

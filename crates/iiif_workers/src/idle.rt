@@ -29,7 +29,7 @@ impl<'a, P> Idle<'a, P> {
         }
     }
 
-    /// A worker for each of these. The only error is want of memory.
+    /// A worker for each of these. The only error is lack of memory.
     pub fn of(alloc: Global, passes: &'a mut [P]) -> Result<Idle<'a, P>, AllocError> {
         let mut places = Vec::new(alloc);
         for pass in passes.iter_mut() {

@@ -25,7 +25,7 @@ use Rattle.iiif_machine.specs.Worlds.{World, ◌>>=◌, learned, speaker, with_c
 use Rattle.iiif_world.specs.Entering.{takes}
 use Rattle.iiif_world.proofs.Stepped.{bind_by, bind_none}
 
--- where an event is allowed, an error is want of memory
+-- where an event is allowed, an error is lack of memory
 pub memory_wanted : {A : Type 0} (w v : World) (e : Event) (r : Result A WorldFault) → step w e ≡ Some v →
     IfErr r (λ f. f ≡ NoMemory → ¬ (step w e ≡ None))
 memory_wanted w v e (Ok x) is = tt

@@ -32,7 +32,7 @@ impl Contents {
         Some(outcome)
     }
 
-    /// What a call in a state knows. The only error is want of memory, and only where it knows something.
+    /// What a call in a state knows. The only error is lack of memory, and only where it knows something.
     fn known(&self, state: &CallState) -> Result<Option<Result<Value, ReadFault>>, NoMemory>
         ensures ok { IfOk result (λ o. o ≡ known_by (world_of self.now).flights state.now) }
         ensures err { OnErr result (¬ (known_by (world_of self.now).flights state.now ≡ None)) }
@@ -49,7 +49,7 @@ impl Contents {
         }
     }
 
-    /// What a call knows. The only error is want of memory, and only where the call knows something.
+    /// What a call knows. The only error is lack of memory, and only where the call knows something.
     pub(crate) fn learned(&self, call: usize) -> Result<Option<Result<Value, ReadFault>>, NoMemory>
         ensures ok { IfOk result (λ o. o ≡ learned (world_of self.now) call) }
         ensures err { OnErr result (¬ (learned (world_of self.now) call ≡ None)) }

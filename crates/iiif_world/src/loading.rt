@@ -118,7 +118,7 @@ impl Contents {
         Ok(())
     }
 
-    /// The calls of the parts of a flight's sum, and their numbers. The only error is want of memory.
+    /// The calls of the parts of a flight's sum, and their numbers. The only error is lack of memory.
     fn calls_for(&self, flight: usize) -> Result<(Vec<Call>, Vec<usize>), NoMemory>
         requires proper { IsProper (world_of self.now).scene }
         requires honest { IsHonestWorld (world_of self.now) }

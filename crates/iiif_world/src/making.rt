@@ -11,7 +11,7 @@ use iiif_plain_tables::making::{sums, tile};
 use iiif_scene::{Key, Value};
 
 impl Contents {
-    /// The value that a key names, made of the whole picture. The only error is want of memory.
+    /// The value that a key names, made of the whole picture. The only error is lack of memory.
     #[tactic(auto, unfolding(iiif_scene::specs::Keys::meaning))]
     pub(crate) fn meaning(&self, key: &Key) -> Result<Value, NoMemory>
         requires proper { IsProper (world_of self.now).scene }

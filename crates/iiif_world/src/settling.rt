@@ -120,7 +120,7 @@ impl Contents {
         Ok(all)
     }
 
-    /// What settling will change. The only error is want of memory.
+    /// What settling will change. The only error is lack of memory.
     pub(crate) fn settling(&self) -> Result<Settling, NoMemory>
         requires proper { IsProper (world_of self.now).scene }
         requires honest { IsHonestWorld (world_of self.now) }

@@ -147,7 +147,7 @@ fn rings_name_nodes(setups: &[Setup]) -> bool
     true
 }
 
-/// The nodes that are made so. The only error is want of memory.
+/// The nodes that are made so. The only error is lack of memory.
 fn nodes_of(alloc: Global, setups: Vec<Setup>) -> Result<Vec<Node>, NoMemory>
     ensures { IfOk result (λ v. map node_of v.items ≡ map node_for setups.items) }
 {

@@ -12,7 +12,7 @@ use crate::contents::Contents;
 use iiif_machine::{Answer, Event, Progress, WorldFault};
 use iiif_pixel::NoMemory;
 
-/// An equal answer. The only error is want of memory.
+/// An equal answer. The only error is lack of memory.
 fn copied_answer(answer: &Answer) -> Result<Answer, NoMemory>
     ensures { IfOk result (λ a. a ≡ answer.now) }
 {
@@ -23,7 +23,7 @@ fn copied_answer(answer: &Answer) -> Result<Answer, NoMemory>
     }
 }
 
-/// What came of a request, if it is answered. The only error is want of memory.
+/// What came of a request, if it is answered. The only error is lack of memory.
 fn answer_in(progress: &Progress) -> Result<Option<Answer>, NoMemory>
     ensures { IfOk result (λ a. a ≡ answer_in progress.now) }
 {

@@ -63,7 +63,7 @@ impl Contents {
         }
     }
 
-    /// The keys of the plan of what a request comes to. The only error is want of memory.
+    /// The keys of the plan of what a request comes to. The only error is lack of memory.
     fn items_of(
         &self,
         name: &Name,
@@ -89,7 +89,7 @@ impl Contents {
         Ok(keys)
     }
 
-    /// A request that is accepted, and the calls of its plan's items. The only error is want of memory.
+    /// A request that is accepted, and the calls of its plan's items. The only error is lack of memory.
     fn accepted(
         &self,
         at: &Node,
@@ -114,7 +114,7 @@ impl Contents {
         Ok((Wanted { wish, progress }, calls))
     }
 
-    /// What a request that comes to a node adds to the world, where it is allowed. The only error is want of memory, and only where it
+    /// What a request that comes to a node adds to the world, where it is allowed. The only error is lack of memory, and only where it
     /// is allowed.
     fn wanted(
         &self,

@@ -82,7 +82,7 @@ impl World {
         self.contents().answer(request)
     }
 
-    /// The answers, by the requests' numbers: none where a request waits, or went with its node. The only error is want of memory.
+    /// The answers, by the requests' numbers: none where a request waits, or went with its node. The only error is lack of memory.
     pub fn answers(&self) -> Result<Vec<Option<Answer>>, NoMemory>
         ensures answers { IfOk result (λ v. v.items ≡ answers (world_of self.now)) }
         ensures right { IfOk result (λ v. AreRightAnswers (world_of self.now) v.items) }
