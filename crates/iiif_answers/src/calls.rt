@@ -25,8 +25,8 @@ pub fn part_of(call: &Call) -> Part
     ensures { result ≡ part_of call.now.method call.now.close }
 {
     if is_head(call) {
-        Part::Head(call.close)
+        Part::Head { closes: call.close }
     } else {
-        Part::Whole(call.close)
+        Part::Whole { closes: call.close }
     }
 }

@@ -119,7 +119,7 @@ pub fn head_message<R, S: Source<R>>(
     ensures { IfOk result (λ m. (p : Picture) → dim_of p ≡ turned_dim accepted.now.resolved.turn accepted.now.resolved.size
         → answer_of m ≡ written (Head close) (image_response config.now.base entry.now.name accepted.now.canonical p accepted.now.kind)) }
 {
-    let part = Part::Head(close);
+    let part = Part::Head { closes: close };
     let head = image_head(alloc, part, config.base(), entry.name.as_str(), accepted)?;
     Ok(Message {
         status: 200,

@@ -65,8 +65,8 @@ pub(crate) fn head_in(
 {
     match part {
         Part::Body => Ok(Vec::new(alloc)),
-        Part::Whole(close) => head_bytes(alloc, status, fields, length, close),
-        Part::Head(close) => head_bytes(alloc, status, fields, length, close),
+        Part::Whole { closes: close } => head_bytes(alloc, status, fields, length, close),
+        Part::Head { closes: close } => head_bytes(alloc, status, fields, length, close),
     }
 }
 
@@ -85,8 +85,8 @@ fn body_in(alloc: Global, part: Part, body: Vec<u8>) -> Vec<u8>
     ensures { result.items ≡ body_in part body.items }
 {
     match part {
-        Part::Body | Part::Whole(_) => body,
-        Part::Head(_) => Vec::new(alloc),
+        Part::Body | Part::Whole { .. } => body,
+        Part::Head { .. } => Vec::new(alloc),
     }
 }
 
@@ -246,10 +246,10 @@ pub(crate) fn memory_head(part: Part) -> &'static [u8]
 {
     match part {
         Part::Body => b"",
-        Part::Whole(true) => memory_head_closes(),
-        Part::Whole(false) => memory_head_stays(),
-        Part::Head(true) => memory_head_closes(),
-        Part::Head(false) => memory_head_stays(),
+        Part::Whole { closes: true } => memory_head_closes(),
+        Part::Whole { closes: false } => memory_head_stays(),
+        Part::Head { closes: true } => memory_head_closes(),
+        Part::Head { closes: false } => memory_head_stays(),
     }
 }
 
@@ -258,7 +258,7 @@ pub(crate) fn memory_body(part: Part) -> &'static [u8]
     ensures { result.now ≡ (written part want_of_memory).body }
 {
     match part {
-        Part::Body | Part::Whole(_) => b"L2 memory\n",
-        Part::Head(_) => b"",
+        Part::Body | Part::Whole { .. } => b"L2 memory\n",
+        Part::Head { .. } => b"",
     }
 }

@@ -300,7 +300,7 @@ impl<
         ensures unasked { is_loaded asked.now.part ≡ false → passes.new ≡ passes.old }
     {
         match asked.part {
-            Part::Head(close) => {
+            Part::Head { closes: close } => {
                 let message = head_message(
                     host.alloc,
                     close,
@@ -310,7 +310,7 @@ impl<
                 );
                 send_message(out, asked.part, message)
             }
-            Part::Body | Part::Whole(_) => self.send_loaded(host, passes, asked, out),
+            Part::Body | Part::Whole { .. } => self.send_loaded(host, passes, asked, out),
         }
     }
 

@@ -29,14 +29,14 @@ pub const CALL_LIMIT: u32 = 1000;
 fn close_for_memory<W: Outlet>(out: &mut W) -> Result<Sent, Cut>
     ensures { Closes W.contents W.fails out.old out.new want_of_memory }
 {
-    send_message(out, Part::Whole(true), Err(AllocError))
+    send_message(out, Part::Whole { closes: true }, Err(AllocError))
 }
 
 /// Sends the answer to a head that is none, or to lack of memory, after which the connection closes.
 fn close_for_head<W: Outlet>(alloc: Global, out: &mut W) -> Result<Sent, Cut>
     ensures { ClosesForHead W.contents W.fails out.old out.new }
 {
-    let part = Part::Whole(true);
+    let part = Part::Whole { closes: true };
     let message = refusal_message(alloc, part, Refusal::Head);
     send_message(out, part, message)
 }
