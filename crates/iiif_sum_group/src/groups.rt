@@ -82,7 +82,7 @@ impl<
         ensures { Loads J.System key.now passes.old passes.new result }
     {
         let (_entry, shape) = self.tiles.images().image_of(key)?;
-        match self.made(rt, passes, &shape, key) {
+        match self.make(rt, passes, &shape, key) {
             Ok(value) => copied(self.alloc, &*value),
             Err(fault) => Err(fault),
         }
@@ -99,7 +99,7 @@ impl<
         ensures { Gets key.now passes.old passes.new result }
     {
         let (_entry, shape) = self.tiles.images().image_of(key)?;
-        self.part(rt, passes, &shape, key)
+        self.ask_part(rt, passes, &shape, key)
     }
 
     /// The same by this node alone, whoever owns the key; the owners of its parts are asked. So is served what another node asks.
@@ -115,7 +115,7 @@ impl<
         match self.sums.begin_local(rt, &mut passes.sum, key) {
             Ok(Begun::Known(receipt)) => Ok(receipt),
             Ok(Begun::Load(load)) => {
-                let made = self.made(rt, passes, &shape, key);
+                let made = self.make(rt, passes, &shape, key);
                 Ok(self.end(rt, load, key, made))
             }
             Err(_) => Err(Fault::NoMemory),

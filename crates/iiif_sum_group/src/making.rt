@@ -90,7 +90,7 @@ impl<
     T: Gate<R>,
 > Groups<R, S, J, N, T> {
     /// The sums of the tile that a block of level 0 is.
-    fn of_tile(
+    fn make_of_tile(
         &self,
         rt: &R,
         passes: &mut Passes<J>,
@@ -131,7 +131,7 @@ impl<
 
     /// The value of a key that fits, made of its parts: of one tile, or of sums of the level below.
     #[cycle(sums)]
-    pub(crate) fn made(
+    pub(crate) fn make(
         &self,
         rt: &R,
         passes: &mut Passes<J>,
@@ -147,9 +147,9 @@ impl<
         fitting_keys_have_parts();
         match parts(self.alloc, key) {
             Ok(Parts::Tile(tile)) => {
-                for_all(self.alloc, self.of_tile(rt, passes, shape, key, &tile))
+                for_all(self.alloc, self.make_of_tile(rt, passes, shape, key, &tile))
             }
-            Ok(Parts::Sums(quarters)) => match self.of_parts(rt, passes, shape, key, &quarters) {
+            Ok(Parts::Sums(quarters)) => match self.make_of_parts(rt, passes, shape, key, &quarters) {
                 Ok(value) => Ok(value),
                 Err(unmade) => Err(unmade.fault()),
             },
@@ -160,7 +160,7 @@ impl<
     /// The value of a block above level 0, made of its quarters. Memory for it is taken once each of these was asked for, so a block that
     /// waits for its parts holds no sums of its own.
     #[cycle(sums)]
-    fn of_parts(
+    fn make_of_parts(
         &self,
         rt: &R,
         passes: &mut Passes<J>,
@@ -174,7 +174,7 @@ impl<
     {
         // A law of parts.
         parts_are_exact();
-        match self.values(rt, passes, shape, key, quarters) {
+        match self.ask_parts(rt, passes, shape, key, quarters) {
             Ok(values) => match whole::<J>(self.alloc, shape, key, values) {
                 Ok(value) => Ok(value),
                 Err(_) => Err(Unmade::Total),
@@ -185,7 +185,7 @@ impl<
 
     /// The values of a block's parts, in their order. They are asked one after another, and each is waited for.
     #[cycle(sums)]
-    fn values(
+    fn ask_parts(
         &self,
         rt: &R,
         passes: &mut Passes<J>,
@@ -205,7 +205,7 @@ impl<
         SumKey::laws();
         let mut values = Vec::new(self.alloc);
         for part in keys {
-            let receipt = self.part(rt, passes, shape, part)?;
+            let receipt = self.ask_part(rt, passes, shape, part)?;
             let value = take_outcome(receipt, part)?;
             keep(&mut values, value)?;
         }
@@ -214,7 +214,7 @@ impl<
 
     /// What a flight of a key that fits ended with.
     #[cycle(sums)]
-    pub(crate) fn part(
+    pub(crate) fn ask_part(
         &self,
         rt: &R,
         passes: &mut Passes<J>,
@@ -229,7 +229,7 @@ impl<
         match self.sums.begin(rt, &mut passes.sum, key, shape) {
             Ok(Begun::Known(receipt)) => Ok(receipt),
             Ok(Begun::Load(load)) => {
-                let made = self.made(rt, passes, shape, key);
+                let made = self.make(rt, passes, shape, key);
                 Ok(self.end(rt, load, key, made))
             }
             Err(_) => Err(Fault::NoMemory),

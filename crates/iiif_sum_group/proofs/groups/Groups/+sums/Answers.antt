@@ -11,8 +11,8 @@ use Rattle.iiif_sum_group.specs.Values.{AreValuesOf, MayBeAsked}
 use Rattle.iiif_sum_group.proofs.SumLemmas.{one_value_more}
 use Rattle.iiif_sum_group.proofs.groups.Groups.+sums.Goals as goal
 
-pub values-loop-part-preserved : goal.values-loop-part-preserved
-values-loop-part-preserved g t c =
+pub ask_parts-loop-part-preserved : goal.ask_parts-loop-part-preserved
+ask_parts-loop-part-preserved g t c =
     let shows = g.J.System.pictures in
     let s = c.args.shape.now in
     let keys = c.args.keys.now in
@@ -37,23 +37,23 @@ values-loop-part-preserved g t c =
       sum_parts = asked.parts.1 ∙ before.sum_parts;
     }
 
-pub values-returns-clause-values : goal.values-returns-clause-values
-values-returns-clause-values g t c =
+pub ask_parts-returns-clause-values : goal.ask_parts-returns-clause-values
+ask_parts-returns-clause-values g t c =
     let past : length c.args.keys.now ≤ c.loop-part.part-index = omega arith in
     subst (λ (ks : List SumKey). AreValuesOf g.J.System.pictures c.args.shape.now
     (g.J.System.stable c.args.key.now.name × IsTrue g.J.System.honest) ks c.loop-part.values.items)
     (take_all c.loop-part.part-index c.args.keys.now past) c.loop-part.invariant.values
 
-pub values-returns-clause-asked : goal.values-returns-clause-asked
-values-returns-clause-asked g t c =
+pub ask_parts-returns-clause-asked : goal.ask_parts-returns-clause-asked
+ask_parts-returns-clause-asked g t c =
     let past : length c.args.keys.now ≤ c.loop-part.part-index = omega arith in
     omega (arith, past, c.loop-part.invariant.sum)
 
 -- Nothing is left to prove of the clause `late`: an edit writes here what would be, of a body that makes the total first;
 -- and no arithmetic proves it, as no part was asked by then.
 
-pub of_parts-values-requires : goal.of_parts-values-requires
-of_parts-values-requires g t c κs within =
+pub make_of_parts-ask_parts-requires : goal.make_of_parts-ask_parts-requires
+make_of_parts-ask_parts-requires g t c κs within =
     let shows = g.J.System.pictures in
     let s = c.args.shape.now in
     let key = c.args.key.now in
@@ -68,8 +68,8 @@ of_parts-values-requires g t c κs within =
     let falls : 4 * key.level < t = omega (arith, c.decreases) in
     (falls, (within.0, (within.1.0, (within.1.1.0, (within.1.1.1.0, (within.1.1.1.1, (c.requires.level, may)))))))
 
-pub of_parts-whole-requires : goal.of_parts-whole-requires
-of_parts-whole-requires g t c =
+pub make_of_parts-whole-requires : goal.make_of_parts-whole-requires
+make_of_parts-whole-requires g t c =
     let key = c.args.key.now in
     record {
       known = c.requires.known;

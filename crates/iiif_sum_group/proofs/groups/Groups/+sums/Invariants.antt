@@ -4,8 +4,8 @@ use Rattle.iiif_sum_group.specs.Values.{AreValuesOf}
 use Rattle.iiif_sum_group.proofs.groups.Groups.+sums.Given as goal
 
 -- the parts so far
-abbrev pub invariant-values-loop-part : goal.invariant-values-loop-part
-invariant-values-loop-part g l =
+abbrev pub invariant-ask_parts-loop-part : goal.invariant-ask_parts-loop-part
+invariant-ask_parts-loop-part g l =
     record {
       values : AreValuesOf g.J.System.pictures l.shape (g.J.System.stable l.key.name × IsTrue g.J.System.honest) (take l.part-index l.keys)
           l.values.items;
@@ -16,14 +16,14 @@ invariant-values-loop-part g l =
     }
 
 -- the level falls from a sum to its parts, and a sum is made for its own flight
-abbrev pub decreases-part : goal.decreases-part
-decreases-part g l = 4 * l.key.now.level + 3
+abbrev pub decreases-ask_part : goal.decreases-ask_part
+decreases-ask_part g l = 4 * l.key.now.level + 3
 
-abbrev pub decreases-made : goal.decreases-made
-decreases-made g l = 4 * l.key.now.level + 2
+abbrev pub decreases-make : goal.decreases-make
+decreases-make g l = 4 * l.key.now.level + 2
 
-abbrev pub decreases-of_parts : goal.decreases-of_parts
-decreases-of_parts g l = 4 * l.key.now.level + 1
+abbrev pub decreases-make_of_parts : goal.decreases-make_of_parts
+decreases-make_of_parts g l = 4 * l.key.now.level + 1
 
-abbrev pub decreases-values : goal.decreases-values
-decreases-values g l = 4 * l.key.now.level
+abbrev pub decreases-ask_parts : goal.decreases-ask_parts
+decreases-ask_parts g l = 4 * l.key.now.level
