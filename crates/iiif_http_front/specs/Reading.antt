@@ -18,13 +18,13 @@ number_of Io = 4
 number_of NoMemory = 5
 
 -- a reader of heads: the bytes that were read and belong to no call yet, the reader, and the fault that ended it
-pub record Reading (R : Type 0) : Type 0 where
+pub record Reading (I : Type 0) : Type 0 where
   pub unread : List ℕ
-  pub reader : R
+  pub reader : I
   pub fault : Option HeadFault
 
 -- all bytes from the next head on, where those that the reader has left are known
-abbrev pub input_of : {R : Type 0} → (R → Option (List ℕ)) → Reading R → Option (List ℕ)
+abbrev pub input_of : {I : Type 0} → (I → Option (List ℕ)) → Reading I → Option (List ℕ)
 input_of remaining r = prepend_known r.unread (remaining r.reader)
 
 -- the call is what the head says (RFC 9112, sections 3 and 9)

@@ -16,24 +16,24 @@ use std::marker::Model;
 /// The heads that a reader gives. Clauses see the bytes that were read and belong to no call yet, the reader, and the
 /// fault that ended it.
 #[derive(Drop)]
-pub struct Heads<R> {
+pub struct Heads<I> {
     alloc: Global,
     unread: Unread,
-    reader: R,
+    reader: I,
     fault: Option<HeadFault>,
 }
 
-impl<R> Model for Heads<R> {
+impl<I> Model for Heads<I> {
     ghost use Rattle.iiif_http_front.specs.Reading.{Reading};
 
-    ghost Value = { Reading R };
+    ghost Value = { Reading I };
 
     ghost view = { λ h. record { unread = h.unread; reader = h.reader; fault = h.fault } };
 }
 
-impl<R: Inlet + Drop> Heads<R> {
+impl<I: Inlet + Drop> Heads<I> {
     /// Begins at the reader's next byte. All memory for reading is taken here; where it is refused the reader is dropped.
-    pub fn new(alloc: Global, reader: R) -> Result<Heads<R>, NoMemory>
+    pub fn new(alloc: Global, reader: I) -> Result<Heads<I>, NoMemory>
         ensures { IfOk result (λ heads. heads ≡ record { unread = []; reader = reader; fault = None }) }
     {
         Ok(Heads {
@@ -48,14 +48,14 @@ impl<R: Inlet + Drop> Heads<R> {
     /// leaves the reader alone.
     pub fn read_head(&mut self) -> Result<Option<Call>, HeadFault>
         // Where the bytes that the reader has left are known, the answer is that to the whole input, however it is cut.
-        ensures answers { self.old.fault ≡ None → IfSome (input_of R.remaining self.old) (λ input.
-            Answers input (input_of R.remaining self.new) result) }
+        ensures answers { self.old.fault ≡ None → IfSome (input_of I.remaining self.old) (λ input.
+            Answers input (input_of I.remaining self.new) result) }
 
         // Where they are not, as at a socket, it is the answer to the bytes that came by then.
         ensures came { self.old.fault ≡ None → (came : List ℕ) × Answers (self.old.unread ++ came) (Some self.new.unread) result }
 
         // The reader failed in this call, and the bytes that came before hold no call and nothing that is to be refused.
-        ensures io { self.old.fault ≡ None → result ≡ Err HeadFault.Io → (before : R) × R.fails before self.new.reader }
+        ensures io { self.old.fault ≡ None → result ≡ Err HeadFault.Io → (before : I) × I.fails before self.new.reader }
         ensures held { self.old.fault ≡ None → result ≡ Err HeadFault.Io → IsUnfinished self.new.unread }
 
         ensures repeats { IfSome self.old.fault (λ fault. (result ≡ Err fault) × (self.new ≡ self.old)) }
@@ -74,15 +74,15 @@ impl<R: Inlet + Drop> Heads<R> {
 }
 
 /// The next call, where no fault came yet.
-fn next_head<R: Inlet>(
+fn next_head<I: Inlet>(
     alloc: Global,
     unread: &mut Unread,
-    reader: &mut R,
+    reader: &mut I,
 ) -> Result<Option<Call>, HeadFault>
-    ensures answers { IfSome (prepend_known unread.old (R.remaining reader.old)) (λ input.
-        Answers input (prepend_known unread.new (R.remaining reader.new)) result) }
+    ensures answers { IfSome (prepend_known unread.old (I.remaining reader.old)) (λ input.
+        Answers input (prepend_known unread.new (I.remaining reader.new)) result) }
     ensures came { (came : List ℕ) × Answers (unread.old ++ came) (Some unread.new) result }
-    ensures io { result ≡ Err HeadFault.Io → (before : R) × R.fails before reader.new }
+    ensures io { result ≡ Err HeadFault.Io → (before : I) × I.fails before reader.new }
     ensures held { result ≡ Err HeadFault.Io → IsUnfinished unread.new }
 {
     'heads: loop {

@@ -58,13 +58,13 @@ impl Unread {
     }
 
     /// Reads some bytes behind these, and none only at the end. All room is brought behind them first.
-    pub fn fill<R: Inlet>(&mut self, reader: &mut R) -> io::Result<usize>
+    pub fn fill<I: Inlet>(&mut self, reader: &mut I) -> io::Result<usize>
         requires { length self.old < 8192 }
         ensures came { IfOk result (λ count. (came : List ℕ) × (length came ≡ count) × (self.new ≡ self.old ++ came)
-            × Consumes (R.remaining reader.old) (R.remaining reader.new) came) }
-        ensures end { IfOk result (λ count. count ≡ 0 → IsAtEnd (R.remaining reader.new)) }
-        ensures kept { OnErr result ((self.new ≡ self.old) × Keeps (R.remaining reader.old) (R.remaining reader.new)) }
-        ensures failed { OnErr result (R.fails reader.old reader.new) }
+            × Consumes (I.remaining reader.old) (I.remaining reader.new) came) }
+        ensures end { IfOk result (λ count. count ≡ 0 → IsAtEnd (I.remaining reader.new)) }
+        ensures kept { OnErr result ((self.new ≡ self.old) × Keeps (I.remaining reader.old) (I.remaining reader.new)) }
+        ensures failed { OnErr result (I.fails reader.old reader.new) }
     {
         self.bytes.copy_within(self.start..self.end, 0);
         self.end -= self.start;

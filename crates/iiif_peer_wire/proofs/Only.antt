@@ -43,9 +43,9 @@ read_none = Ok (None, [])
 some_is_none : (ask : Version × (ℕ × List ℕ)) (rest : List ℕ) → read_some ask rest ≡ read_none → ⊥
 some_is_none ask rest e = let both : Some ask ≡ None = ap (answer_in None) e in cc
 
-module _ {R : Type 0} (left : R → Option (List ℕ)) (fails : R → R → Type 0) (old new : R) where
+module _ {I : Type 0} (left : I → Option (List ℕ)) (fails : I → I → Type 0) (old new : I) where
   pub io_failed : {A B : Type 0} (r : Result A WireFault) (f : List ℕ → Result B WireFault) → IfErr r (Unread left fails old new f) →
-      r ≡ Err Io → (before : R) × fails before new
+      r ≡ Err Io → (before : I) × fails before new
   io_failed r f h e = let P : Result _ WireFault → Type 0 = λ x. IfErr x (Unread left fails old new f) in subst P e h
 
   pub refusals : {A B : Type 0} (r : Result A WireFault) (f : List ℕ → Result B WireFault) → IfErr r (Unread left fails old new f)

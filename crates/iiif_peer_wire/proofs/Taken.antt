@@ -55,8 +55,8 @@ cut_short old new f read took end refused = record {
   refused = λ rest none. ap f (ap (λ l. read ++ l) (none refl) ∙ append-nil read) ∙ refused;
 }
 
-module _ {R : Type 0} (left : R → Option (List ℕ)) (fails : R → R → Type 0) where
-  pub unread_behind : {A B : Type 0} (old mid new : R) (f : List ℕ → Result A WireFault) (g : List ℕ → Result B WireFault) (text : List ℕ)
+module _ {I : Type 0} (left : I → Option (List ℕ)) (fails : I → I → Type 0) where
+  pub unread_behind : {A B : Type 0} (old mid new : I) (f : List ℕ → Result A WireFault) (g : List ℕ → Result B WireFault) (text : List ℕ)
       (fault : WireFault)
       → Consumes (left old) (left mid) text → ((rest : List ℕ) → g rest ≡ Err fault → f (text ++ rest) ≡ Err fault)
       → Unread left fails mid new g fault → Unread left fails old new f fault
@@ -70,37 +70,37 @@ module _ {R : Type 0} (left : R → Option (List ℕ)) (fails : R → R → Type
   unread_behind old mid new f g text NoMemory took passes r = tt
 
   -- what is refused in the first part
-  pub unread_first : {A B : Type 0} (old new : R) (f : List ℕ → Result A WireFault) (g : List ℕ → Result B WireFault) (fault : WireFault)
+  pub unread_first : {A B : Type 0} (old new : I) (f : List ℕ → Result A WireFault) (g : List ℕ → Result B WireFault) (fault : WireFault)
       → ((rest : List ℕ) → g rest ≡ Err fault → f rest ≡ Err fault) → Unread left fails old new g fault → Unread left fails old new f fault
   unread_first old new f g fault passes r = unread_behind old old new f g [] fault (Consumes-nil (left old)) passes r
 
   -- a read that failed
-  pub unread_failed : {A : Type 0} (old new : R) (f : List ℕ → Result A WireFault) (fault : WireFault) → fault ≡ Io → (before : R) →
+  pub unread_failed : {A : Type 0} (old new : I) (f : List ℕ → Result A WireFault) (fault : WireFault) → fault ≡ Io → (before : I) →
       fails before new → Unread left fails old new f fault
   unread_failed {A} old new f fault is before failed = let P : WireFault → Type 0 = λ x. Unread left fails old new f x in
       subst P (sym is) (before, failed)
 
-  pub unread_magic : {A : Type 0} (old new : R) (f : List ℕ → Result A WireFault) (text : List ℕ) → Consumes (left old) (left new) text
+  pub unread_magic : {A : Type 0} (old new : I) (f : List ℕ → Result A WireFault) (text : List ℕ) → Consumes (left old) (left new) text
       → ((rest : List ℕ) → f (text ++ rest) ≡ Err Magic) → Unread left fails old new f Magic
   unread_magic old new f text took refused = at_once (left old) (left new) f text Magic took (λ e. cc) refused
 
-  pub unread_long : {A : Type 0} (old new : R) (f : List ℕ → Result A WireFault) (text : List ℕ) → Consumes (left old) (left new) text
+  pub unread_long : {A : Type 0} (old new : I) (f : List ℕ → Result A WireFault) (text : List ℕ) → Consumes (left old) (left new) text
       → ((rest : List ℕ) → f (text ++ rest) ≡ Err Long) → Unread left fails old new f Long
   unread_long old new f text took refused = at_once (left old) (left new) f text Long took (λ e. cc) refused
 
-  pub unread_key : {A : Type 0} (old new : R) (f : List ℕ → Result A WireFault) (text : List ℕ) → Consumes (left old) (left new) text
+  pub unread_key : {A : Type 0} (old new : I) (f : List ℕ → Result A WireFault) (text : List ℕ) → Consumes (left old) (left new) text
       → ((rest : List ℕ) → f (text ++ rest) ≡ Err Key) → Unread left fails old new f Key
   unread_key old new f text took refused = at_once (left old) (left new) f text Key took (λ e. cc) refused
 
-  pub unread_digest : {A : Type 0} (old new : R) (f : List ℕ → Result A WireFault) (text : List ℕ) → Consumes (left old) (left new) text
+  pub unread_digest : {A : Type 0} (old new : I) (f : List ℕ → Result A WireFault) (text : List ℕ) → Consumes (left old) (left new) text
       → ((rest : List ℕ) → f (text ++ rest) ≡ Err Digest) → Unread left fails old new f Digest
   unread_digest old new f text took refused = at_once (left old) (left new) f text Digest took (λ e. cc) refused
 
-  pub unread_status : {A : Type 0} (old new : R) (f : List ℕ → Result A WireFault) (text : List ℕ) → Consumes (left old) (left new) text
+  pub unread_status : {A : Type 0} (old new : I) (f : List ℕ → Result A WireFault) (text : List ℕ) → Consumes (left old) (left new) text
       → ((rest : List ℕ) → f (text ++ rest) ≡ Err Status) → Unread left fails old new f Status
   unread_status old new f text took refused = at_once (left old) (left new) f text Status took (λ e. cc) refused
 
-  pub unread_short : {A : Type 0} (old new : R) (f : List ℕ → Result A WireFault) (read : List ℕ) → Consumes (left old) (left new) read →
+  pub unread_short : {A : Type 0} (old new : I) (f : List ℕ → Result A WireFault) (read : List ℕ) → Consumes (left old) (left new) read →
       IsAtEnd (left new)
       → f read ≡ Err Short → Unread left fails old new f Short
   unread_short old new f read took end refused = cut_short (left old) (left new) f read took end refused
@@ -112,7 +112,7 @@ module _ {R : Type 0} (left : R → Option (List ℕ)) (fails : R → R → Type
   input_of (Some xs) None f fault r = absurd r.took
   input_of (Some xs) (Some ys) f fault r = (xs, refl, ap f r.took ∙ r.refused ys (λ short. r.ended short))
 
-  pub refused_input : {A : Type 0} (old new : R) (f : List ℕ → Result A WireFault) (fault : WireFault) → Unread left fails old new f fault →
+  pub refused_input : {A : Type 0} (old new : I) (f : List ℕ → Result A WireFault) (fault : WireFault) → Unread left fails old new f fault →
       IsRefusal fault
       → (input : List ℕ) × IsInput (left old) input × (f input ≡ Err fault)
   refused_input old new f Magic r is = input_of (left old) (left new) f Magic r
@@ -125,7 +125,7 @@ module _ {R : Type 0} (left : R → Option (List ℕ)) (fails : R → R → Type
   refused_input old new f NoMemory r is = absurd is
 
   -- a pull that gave nothing, where more was wanted
-  pub pulled_short : (old mid new : R) (count : ℕ) (bytes buffer : List ℕ) (n : ℕ) → Consumes (left old) (left mid) bytes
+  pub pulled_short : (old mid new : I) (count : ℕ) (bytes buffer : List ℕ) (n : ℕ) → Consumes (left old) (left mid) bytes
       → Consumes (left mid) (left new) (take n buffer) × (n ≡ 0 → 0 < length buffer → IsAtEnd (left new)) → n ≡ 0 → 0 < length buffer →
       length bytes < count
       → Unread left fails old new (bytes_at count) Short

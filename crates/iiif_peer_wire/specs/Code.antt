@@ -24,12 +24,12 @@ abbrev pub Broken : {A : Type 0} → Option (List ℕ) → Option (List ℕ) →
 Broken old new reading fault = fault ≡ Io → (text : List ℕ) × Consumes old new text × (reading text ≡ Err Short)
 
 -- the reader failed, memory was refused, or the bytes are refused
-abbrev pub Unread : {R A : Type 0} → (R → Option (List ℕ)) → (R → R → Type 0) → R → R → (List ℕ → Result A WireFault) → WireFault → Type 0
+abbrev pub Unread : {I A : Type 0} → (I → Option (List ℕ)) → (I → I → Type 0) → I → I → (List ℕ → Result A WireFault) → WireFault → Type 0
 Unread left fails old new reading Magic = Refuses (left old) (left new) reading Magic
 Unread left fails old new reading Short = Refuses (left old) (left new) reading Short
 Unread left fails old new reading Long = Refuses (left old) (left new) reading Long
 Unread left fails old new reading Key = Refuses (left old) (left new) reading Key
 Unread left fails old new reading Digest = Refuses (left old) (left new) reading Digest
 Unread left fails old new reading Status = Refuses (left old) (left new) reading Status
-Unread {R} left fails old new reading Io = LeftAt fails new
+Unread {I} left fails old new reading Io = LeftAt fails new
 Unread left fails old new reading NoMemory = ⊤

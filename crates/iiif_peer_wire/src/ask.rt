@@ -47,32 +47,32 @@ pub fn write_ask<W: Outlet>(
 
 /// Reads an ask and leaves the rest unread, or answers none where the input is at its end. Memory is taken for the key
 /// as it comes.
-pub fn read_ask<R: Inlet>(alloc: Global, reader: &mut R) -> Result<Option<Ask>, WireFault>
+pub fn read_ask<I: Inlet>(alloc: Global, reader: &mut I) -> Result<Option<Ask>, WireFault>
     // What is read was spelled, and no more of the input was taken.
     ensures known { IfOk result (λ answer. IfSome answer (λ ask. IsAsk ask.group ask.key.items)) }
     ensures text { IfOk result (λ answer. IfSome answer (λ ask.
-        Consumes (R.remaining reader.old) (R.remaining reader.new) (ask_text ask.version ask.group ask.key.items))) }
-    ensures end { IfOk result (λ answer. IfNone answer (Consumes (R.remaining reader.old) (R.remaining reader.new) []
-        × IsAtEnd (R.remaining reader.new))) }
+        Consumes (I.remaining reader.old) (I.remaining reader.new) (ask_text ask.version ask.group ask.key.items))) }
+    ensures end { IfOk result (λ answer. IfNone answer (Consumes (I.remaining reader.old) (I.remaining reader.new) []
+        × IsAtEnd (I.remaining reader.new))) }
 
     // What is spelled is read, and a clean end is none, unless a read failed or memory was refused.
     ensures only { (version : Version) (group : ℕ) (key rest : List ℕ) → IsAsk group key →
-        R.remaining reader.old ≡ Some (ask_text version group key ++ rest)
+        I.remaining reader.old ≡ Some (ask_text version group key ++ rest)
         → MatchResult result (λ answer. IsSomeAnd answer (λ ask. (ask.version ≡ version) × (ask.group ≡ group) × (ask.key.items ≡ key)) ×
-        (R.remaining reader.new ≡ Some rest))
+        (I.remaining reader.new ≡ Some rest))
         (λ fault. ¬ IsRefusal fault) }
-    ensures only_end { R.remaining reader.old ≡ Some [] → MatchResult result (λ answer. IsNone answer) (λ fault. ¬ IsRefusal fault) }
+    ensures only_end { I.remaining reader.old ≡ Some [] → MatchResult result (λ answer. IsNone answer) (λ fault. ¬ IsRefusal fault) }
 
     // A refusal is the first from the left, and `Io` says that a read failed. No ask that came is lost then: what was taken holds none.
     ensures refused { IfErr result (λ fault. IsRefusal fault
-        → (input : List ℕ) × IsInput (R.remaining reader.old) input × (ask_at input ≡ Err fault)) }
-    ensures io { IsErrOf result WireFault.Io → LeftAt R.fails reader.new }
+        → (input : List ℕ) × IsInput (I.remaining reader.old) input × (ask_at input ≡ Err fault)) }
+    ensures io { IsErrOf result WireFault.Io → LeftAt I.fails reader.new }
     ensures unfinished { IsErrOf result WireFault.Io → (text : List ℕ) × IsUnfinishedAsk text
-        × Consumes (R.remaining reader.old) (R.remaining reader.new) text }
+        × Consumes (I.remaining reader.old) (I.remaining reader.new) text }
 
     // Memory is wanted inside an ask alone, once the first bytes of its key have come.
     ensures memory { IsErrOf result WireFault.NoMemory → (text : List ℕ) × IsFrontOfAsk text
-        × Consumes (R.remaining reader.old) (R.remaining reader.new) text }
+        × Consumes (I.remaining reader.old) (I.remaining reader.new) text }
 {
     ask_from(alloc, reader)
 }

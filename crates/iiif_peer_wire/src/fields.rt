@@ -29,12 +29,12 @@ pub const VALUE_LIMIT: usize = 1 << 26;
 const CHUNK: usize = 8192;
 
 /// Reads until the buffer is full or the reader ends, and says how many bytes came.
-fn fill<R: Inlet>(reader: &mut R, buffer: &mut [u8]) -> Result<usize, WireFault>
+fn fill<I: Inlet>(reader: &mut I, buffer: &mut [u8]) -> Result<usize, WireFault>
     ensures within { IfOk result (λ came. came ≤ length buffer.new) }
-    ensures bytes { IfOk result (λ came. Consumes (R.remaining reader.old) (R.remaining reader.new) (take came buffer.new)) }
-    ensures end { IfOk result (λ came. came < length buffer.new → IsAtEnd (R.remaining reader.new)) }
-    ensures io { IfErr result (λ fault. (fault ≡ WireFault.Io) × LeftAt R.fails reader.new) }
-    ensures unfinished { IfErr result (λ _. (text : List ℕ) × Consumes (R.remaining reader.old) (R.remaining reader.new) text
+    ensures bytes { IfOk result (λ came. Consumes (I.remaining reader.old) (I.remaining reader.new) (take came buffer.new)) }
+    ensures end { IfOk result (λ came. came < length buffer.new → IsAtEnd (I.remaining reader.new)) }
+    ensures io { IfErr result (λ fault. (fault ≡ WireFault.Io) × LeftAt I.fails reader.new) }
+    ensures unfinished { IfErr result (λ _. (text : List ℕ) × Consumes (I.remaining reader.old) (I.remaining reader.new) text
         × (length text < length buffer.new)) }
 {
     let mut came = 0;
@@ -49,13 +49,13 @@ fn fill<R: Inlet>(reader: &mut R, buffer: &mut [u8]) -> Result<usize, WireFault>
 }
 
 /// Reads until the buffer is full.
-fn read_field<R: Inlet>(reader: &mut R, buffer: &mut [u8]) -> Result<(), WireFault>
-    ensures whole { OnOk result (Consumes (R.remaining reader.old) (R.remaining reader.new) buffer.new) }
+fn read_field<I: Inlet>(reader: &mut I, buffer: &mut [u8]) -> Result<(), WireFault>
+    ensures whole { OnOk result (Consumes (I.remaining reader.old) (I.remaining reader.new) buffer.new) }
     ensures bytes { OnOk result ((k : ℕ) → slice_index buffer.new k < 256) }
     ensures unread { IfErr result (λ fault. (count : ℕ) → length buffer.old ≡ count
-        → Unread R.remaining R.fails reader.old reader.new (bytes_at count) fault) }
+        → Unread I.remaining I.fails reader.old reader.new (bytes_at count) fault) }
     ensures broken { IfErr result (λ fault. (count : ℕ) → length buffer.old ≡ count
-        → Broken (R.remaining reader.old) (R.remaining reader.new) (bytes_at count) fault) }
+        → Broken (I.remaining reader.old) (I.remaining reader.new) (bytes_at count) fault) }
     ensures memory { IfErr result (λ fault. fault ≢ WireFault.NoMemory) }
 {
     let came = fill(reader, buffer)?;
@@ -66,10 +66,10 @@ fn read_field<R: Inlet>(reader: &mut R, buffer: &mut [u8]) -> Result<(), WireFau
 }
 
 /// Reads one byte.
-fn read_byte<R: Inlet>(reader: &mut R) -> Result<u8, WireFault>
-    ensures whole { IfOk result (λ byte. Consumes (R.remaining reader.old) (R.remaining reader.new) (byte ∷ [])) }
-    ensures unread { IfErr result (Unread R.remaining R.fails reader.old reader.new byte_at) }
-    ensures broken { IfErr result (Broken (R.remaining reader.old) (R.remaining reader.new) byte_at) }
+fn read_byte<I: Inlet>(reader: &mut I) -> Result<u8, WireFault>
+    ensures whole { IfOk result (λ byte. Consumes (I.remaining reader.old) (I.remaining reader.new) (byte ∷ [])) }
+    ensures unread { IfErr result (Unread I.remaining I.fails reader.old reader.new byte_at) }
+    ensures broken { IfErr result (Broken (I.remaining reader.old) (I.remaining reader.new) byte_at) }
     ensures memory { IfErr result (λ fault. fault ≢ WireFault.NoMemory) }
 {
     let mut byte = [0u8; 1];
@@ -78,12 +78,12 @@ fn read_byte<R: Inlet>(reader: &mut R) -> Result<u8, WireFault>
 }
 
 /// Reads a length of four bytes.
-fn read_length<R: Inlet>(reader: &mut R, limit: usize) -> Result<usize, WireFault>
+fn read_length<I: Inlet>(reader: &mut I, limit: usize) -> Result<usize, WireFault>
     requires { limit < 2 ^ 32 }
     ensures within { IfOk result (λ size. size ≤ limit) }
-    ensures whole { IfOk result (λ size. Consumes (R.remaining reader.old) (R.remaining reader.new) (to_be_bytes w32 size)) }
-    ensures unread { IfErr result (Unread R.remaining R.fails reader.old reader.new (length_at limit)) }
-    ensures broken { IfErr result (Broken (R.remaining reader.old) (R.remaining reader.new) (length_at limit)) }
+    ensures whole { IfOk result (λ size. Consumes (I.remaining reader.old) (I.remaining reader.new) (to_be_bytes w32 size)) }
+    ensures unread { IfErr result (Unread I.remaining I.fails reader.old reader.new (length_at limit)) }
+    ensures broken { IfErr result (Broken (I.remaining reader.old) (I.remaining reader.new) (length_at limit)) }
     ensures memory { IfErr result (λ fault. fault ≢ WireFault.NoMemory) }
 {
     let mut bytes = [0u8; 4];
@@ -96,9 +96,9 @@ fn read_length<R: Inlet>(reader: &mut R, limit: usize) -> Result<usize, WireFaul
 }
 
 /// Reads the magic of a message.
-fn read_magic<R: Inlet>(reader: &mut R, magic: [u8; 4]) -> Result<(), WireFault>
-    ensures whole { OnOk result (Consumes (R.remaining reader.old) (R.remaining reader.new) magic) }
-    ensures unread { IfErr result (Unread R.remaining R.fails reader.old reader.new (magic_at magic)) }
+fn read_magic<I: Inlet>(reader: &mut I, magic: [u8; 4]) -> Result<(), WireFault>
+    ensures whole { OnOk result (Consumes (I.remaining reader.old) (I.remaining reader.new) magic) }
+    ensures unread { IfErr result (Unread I.remaining I.fails reader.old reader.new (magic_at magic)) }
     ensures memory { IfErr result (λ fault. fault ≢ WireFault.NoMemory) }
 {
     let mut bytes = [0u8; 4];
@@ -110,9 +110,9 @@ fn read_magic<R: Inlet>(reader: &mut R, magic: [u8; 4]) -> Result<(), WireFault>
 }
 
 /// Reads the magic of a reply of the version.
-fn read_reply_magic<R: Inlet>(reader: &mut R, version: Version) -> Result<(), WireFault>
-    ensures whole { OnOk result (Consumes (R.remaining reader.old) (R.remaining reader.new) (reply_magic version)) }
-    ensures unread { IfErr result (Unread R.remaining R.fails reader.old reader.new (magic_at (reply_magic version))) }
+fn read_reply_magic<I: Inlet>(reader: &mut I, version: Version) -> Result<(), WireFault>
+    ensures whole { OnOk result (Consumes (I.remaining reader.old) (I.remaining reader.new) (reply_magic version)) }
+    ensures unread { IfErr result (Unread I.remaining I.fails reader.old reader.new (magic_at (reply_magic version))) }
     ensures memory { IfErr result (λ fault. fault ≢ WireFault.NoMemory) }
 {
     let digit = version.digit();
@@ -120,12 +120,12 @@ fn read_reply_magic<R: Inlet>(reader: &mut R, version: Version) -> Result<(), Wi
 }
 
 /// Reads so many bytes. Memory is taken as they come.
-fn read_bytes<R: Inlet>(alloc: Global, reader: &mut R, count: usize) -> Result<Vec<u8>, WireFault>
+fn read_bytes<I: Inlet>(alloc: Global, reader: &mut I, count: usize) -> Result<Vec<u8>, WireFault>
     ensures size { IfOk result (λ bytes. length bytes.items ≡ count) }
-    ensures whole { IfOk result (λ bytes. Consumes (R.remaining reader.old) (R.remaining reader.new) bytes.items) }
-    ensures unread { IfErr result (Unread R.remaining R.fails reader.old reader.new (bytes_at count)) }
-    ensures broken { IfErr result (Broken (R.remaining reader.old) (R.remaining reader.new) (bytes_at count)) }
-    ensures memory { IfErr result (λ fault. fault ≡ WireFault.NoMemory → Came (R.remaining reader.old) (R.remaining reader.new) [] count) }
+    ensures whole { IfOk result (λ bytes. Consumes (I.remaining reader.old) (I.remaining reader.new) bytes.items) }
+    ensures unread { IfErr result (Unread I.remaining I.fails reader.old reader.new (bytes_at count)) }
+    ensures broken { IfErr result (Broken (I.remaining reader.old) (I.remaining reader.new) (bytes_at count)) }
+    ensures memory { IfErr result (λ fault. fault ≡ WireFault.NoMemory → Came (I.remaining reader.old) (I.remaining reader.new) [] count) }
 {
     let mut bytes = Vec::new(alloc);
     let mut chunk = [0u8; CHUNK];
@@ -145,10 +145,10 @@ fn read_bytes<R: Inlet>(alloc: Global, reader: &mut R, count: usize) -> Result<V
 }
 
 /// Reads a reply's key, which is to be the one that was asked.
-fn read_key<R: Inlet>(reader: &mut R, asked: &[u8]) -> Result<(), WireFault>
+fn read_key<I: Inlet>(reader: &mut I, asked: &[u8]) -> Result<(), WireFault>
     ensures within { OnOk result (length asked.now ≤ KEY_LIMIT) }
-    ensures whole { OnOk result (Consumes (R.remaining reader.old) (R.remaining reader.new) (field asked.now)) }
-    ensures unread { IfErr result (Unread R.remaining R.fails reader.old reader.new (key_at asked.now)) }
+    ensures whole { OnOk result (Consumes (I.remaining reader.old) (I.remaining reader.new) (field asked.now)) }
+    ensures unread { IfErr result (Unread I.remaining I.fails reader.old reader.new (key_at asked.now)) }
     ensures memory { IfErr result (λ fault. fault ≢ WireFault.NoMemory) }
 {
     let size = read_length(reader, KEY_LIMIT)?;
@@ -162,14 +162,14 @@ fn read_key<R: Inlet>(reader: &mut R, asked: &[u8]) -> Result<(), WireFault>
 }
 
 /// Reads a reply's status and value.
-fn read_value<R: Inlet>(alloc: Global, reader: &mut R) -> Result<(u8, Vec<u8>), WireFault>
+fn read_value<I: Inlet>(alloc: Global, reader: &mut I) -> Result<(u8, Vec<u8>), WireFault>
     ensures status { IfOk result (λ answer. answer.0 ≤ 4) }
     ensures within { IfOk result (λ answer. length answer.1.items ≤ VALUE_LIMIT) }
     ensures no_value { IfOk result (λ answer. 0 < answer.0 → answer.1.items ≡ []) }
-    ensures whole { IfOk result (λ answer. Consumes (R.remaining reader.old) (R.remaining reader.new) (answer.0 ∷ field answer.1.items)) }
-    ensures unread { IfErr result (Unread R.remaining R.fails reader.old reader.new value_at) }
+    ensures whole { IfOk result (λ answer. Consumes (I.remaining reader.old) (I.remaining reader.new) (answer.0 ∷ field answer.1.items)) }
+    ensures unread { IfErr result (Unread I.remaining I.fails reader.old reader.new value_at) }
     ensures memory { IfErr result (λ fault. fault ≡ WireFault.NoMemory → (size : ℕ) × (size ≤ VALUE_LIMIT)
-        × Came (R.remaining reader.old) (R.remaining reader.new) (0 ∷ to_be_bytes w32 size) size) }
+        × Came (I.remaining reader.old) (I.remaining reader.new) (0 ∷ to_be_bytes w32 size) size) }
 {
     let status = read_byte(reader)?;
     if status > 4 {
@@ -184,9 +184,9 @@ fn read_value<R: Inlet>(alloc: Global, reader: &mut R) -> Result<(u8, Vec<u8>), 
 }
 
 /// Reads a reply's digest, of the key and the value.
-fn read_digest<R: Inlet>(reader: &mut R, key: &[u8], value: &[u8]) -> Result<(), WireFault>
-    ensures whole { OnOk result (Consumes (R.remaining reader.old) (R.remaining reader.new) (sha256 (key.now ++ value.now))) }
-    ensures unread { IfErr result (Unread R.remaining R.fails reader.old reader.new (digest_at (key.now ++ value.now))) }
+fn read_digest<I: Inlet>(reader: &mut I, key: &[u8], value: &[u8]) -> Result<(), WireFault>
+    ensures whole { OnOk result (Consumes (I.remaining reader.old) (I.remaining reader.new) (sha256 (key.now ++ value.now))) }
+    ensures unread { IfErr result (Unread I.remaining I.fails reader.old reader.new (digest_at (key.now ++ value.now))) }
     ensures memory { IfErr result (λ fault. fault ≢ WireFault.NoMemory) }
 {
     let mut digest = [0u8; 32];
@@ -221,15 +221,15 @@ fn ask_version(bytes: [u8; 4]) -> Option<Version>
 }
 
 /// Reads the magic of an ask, and says its version, or none where the input is at its end.
-fn read_ask_magic<R: Inlet>(reader: &mut R) -> Result<Option<Version>, WireFault>
-    ensures none { IfOk result (λ begun. IfNone begun (Consumes (R.remaining reader.old) (R.remaining reader.new) []
-        × IsAtEnd (R.remaining reader.new))) }
+fn read_ask_magic<I: Inlet>(reader: &mut I) -> Result<Option<Version>, WireFault>
+    ensures none { IfOk result (λ begun. IfNone begun (Consumes (I.remaining reader.old) (I.remaining reader.new) []
+        × IsAtEnd (I.remaining reader.new))) }
     ensures whole { IfOk result (λ begun. IfSome begun (λ version.
-        Consumes (R.remaining reader.old) (R.remaining reader.new) (ask_magic version))) }
+        Consumes (I.remaining reader.old) (I.remaining reader.new) (ask_magic version))) }
     ensures memory { IfErr result (λ fault. fault ≢ WireFault.NoMemory) }
-    ensures unread { IfErr result (Unread R.remaining R.fails reader.old reader.new ask_at) }
+    ensures unread { IfErr result (Unread I.remaining I.fails reader.old reader.new ask_at) }
     ensures unfinished { IfErr result (λ fault. fault ≡ WireFault.Io → (text : List ℕ) × IsUnfinishedAsk text
-        × Consumes (R.remaining reader.old) (R.remaining reader.new) text) }
+        × Consumes (I.remaining reader.old) (I.remaining reader.new) text) }
 {
     let mut bytes = [0u8; 4];
     let came = fill(reader, &mut bytes)?;
@@ -246,17 +246,17 @@ fn read_ask_magic<R: Inlet>(reader: &mut R) -> Result<Option<Version>, WireFault
 }
 
 /// Reads an ask, or none at the input's end.
-pub fn ask_from<R: Inlet>(alloc: Global, reader: &mut R) -> Result<Option<Ask>, WireFault>
-    ensures none { IfOk result (λ answer. IfNone answer (Consumes (R.remaining reader.old) (R.remaining reader.new) []
-        × IsAtEnd (R.remaining reader.new))) }
+pub fn ask_from<I: Inlet>(alloc: Global, reader: &mut I) -> Result<Option<Ask>, WireFault>
+    ensures none { IfOk result (λ answer. IfNone answer (Consumes (I.remaining reader.old) (I.remaining reader.new) []
+        × IsAtEnd (I.remaining reader.new))) }
     ensures known { IfOk result (λ answer. IfSome answer (λ ask. IsAsk ask.group ask.key.items)) }
     ensures whole { IfOk result (λ answer. IfSome answer (λ ask.
-        Consumes (R.remaining reader.old) (R.remaining reader.new) (ask_text ask.version ask.group ask.key.items))) }
-    ensures unread { IfErr result (Unread R.remaining R.fails reader.old reader.new ask_at) }
+        Consumes (I.remaining reader.old) (I.remaining reader.new) (ask_text ask.version ask.group ask.key.items))) }
+    ensures unread { IfErr result (Unread I.remaining I.fails reader.old reader.new ask_at) }
     ensures unfinished { IfErr result (λ fault. fault ≡ WireFault.Io → (text : List ℕ) × IsUnfinishedAsk text
-        × Consumes (R.remaining reader.old) (R.remaining reader.new) text) }
+        × Consumes (I.remaining reader.old) (I.remaining reader.new) text) }
     ensures memory { IfErr result (λ fault. fault ≡ WireFault.NoMemory → (text : List ℕ) × IsFrontOfAsk text
-        × Consumes (R.remaining reader.old) (R.remaining reader.new) text) }
+        × Consumes (I.remaining reader.old) (I.remaining reader.new) text) }
 {
     let Some(version) = read_ask_magic(reader)? else {
         return Ok(None);
@@ -270,18 +270,18 @@ pub fn ask_from<R: Inlet>(alloc: Global, reader: &mut R) -> Result<Option<Ask>, 
 }
 
 /// Reads a reply of the version for the key.
-pub fn read_reply_fields<R: Inlet>(
+pub fn read_reply_fields<I: Inlet>(
     alloc: Global,
-    reader: &mut R,
+    reader: &mut I,
     version: Version,
     asked: &[u8],
 ) -> Result<(u8, Vec<u8>), WireFault>
     ensures known { IfOk result (λ answer. IsReply asked.now answer.0 answer.1.items) }
-    ensures whole { IfOk result (λ answer. Consumes (R.remaining reader.old) (R.remaining reader.new)
+    ensures whole { IfOk result (λ answer. Consumes (I.remaining reader.old) (I.remaining reader.new)
         (reply_text version asked.now answer.0 answer.1.items)) }
-    ensures unread { IfErr result (Unread R.remaining R.fails reader.old reader.new (reply_at version asked.now)) }
+    ensures unread { IfErr result (Unread I.remaining I.fails reader.old reader.new (reply_at version asked.now)) }
     ensures memory { IfErr result (λ fault. fault ≡ WireFault.NoMemory → (text : List ℕ) × IsFrontOfReply version asked.now text
-        × Consumes (R.remaining reader.old) (R.remaining reader.new) text) }
+        × Consumes (I.remaining reader.old) (I.remaining reader.new) text) }
 {
     read_reply_magic(reader, version)?;
     read_key(reader, asked)?;
@@ -291,13 +291,13 @@ pub fn read_reply_fields<R: Inlet>(
 }
 
 /// Reads an ask's group and key.
-fn read_ask_fields<R: Inlet>(alloc: Global, reader: &mut R) -> Result<(u8, Vec<u8>), WireFault>
+fn read_ask_fields<I: Inlet>(alloc: Global, reader: &mut I) -> Result<(u8, Vec<u8>), WireFault>
     ensures known { IfOk result (λ ask. IsAsk ask.0 ask.1.items) }
-    ensures whole { IfOk result (λ ask. Consumes (R.remaining reader.old) (R.remaining reader.new) (ask.0 ∷ field ask.1.items)) }
-    ensures unread { IfErr result (Unread R.remaining R.fails reader.old reader.new ask_fields_at) }
-    ensures broken { IfErr result (Broken (R.remaining reader.old) (R.remaining reader.new) ask_fields_at) }
+    ensures whole { IfOk result (λ ask. Consumes (I.remaining reader.old) (I.remaining reader.new) (ask.0 ∷ field ask.1.items)) }
+    ensures unread { IfErr result (Unread I.remaining I.fails reader.old reader.new ask_fields_at) }
+    ensures broken { IfErr result (Broken (I.remaining reader.old) (I.remaining reader.new) ask_fields_at) }
     ensures memory { IfErr result (λ fault. fault ≡ WireFault.NoMemory → (group size : ℕ) × IsGroup group × (size ≤ KEY_LIMIT)
-        × Came (R.remaining reader.old) (R.remaining reader.new) (group ∷ to_be_bytes w32 size) size) }
+        × Came (I.remaining reader.old) (I.remaining reader.new) (group ∷ to_be_bytes w32 size) size) }
 {
     let group = read_byte(reader)?;
     if !is_group(group) {

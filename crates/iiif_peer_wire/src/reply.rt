@@ -71,31 +71,31 @@ fn write_digest<W: Outlet>(writer: &mut W, key: &[u8], value: &[u8]) -> Result<(
 
 /// Reads a reply of the version and for the key that were asked, its status and value, and leaves the rest unread. Memory is taken for the
 /// value as it comes.
-pub fn read_reply<R: Inlet>(
+pub fn read_reply<I: Inlet>(
     alloc: Global,
-    reader: &mut R,
+    reader: &mut I,
     version: Version,
     asked_key: &[u8],
 ) -> Result<(u8, Vec<u8>), WireFault>
     // What is read was spelled in this version for this key, and no more of the input was taken.
     ensures known { IfOk result (λ answer. IsReply asked_key.now answer.0 answer.1.items) }
-    ensures text { IfOk result (λ answer. Consumes (R.remaining reader.old) (R.remaining reader.new)
+    ensures text { IfOk result (λ answer. Consumes (I.remaining reader.old) (I.remaining reader.new)
         (reply_text version asked_key.now answer.0 answer.1.items)) }
 
     // What is spelled for this key is read, unless a read failed or memory was refused.
     ensures only { (status : ℕ) (value rest : List ℕ) → IsReply asked_key.now status value
-        → R.remaining reader.old ≡ Some (reply_text version asked_key.now status value ++ rest)
-        → MatchResult result (λ answer. (answer.0 ≡ status) × (answer.1.items ≡ value) × (R.remaining reader.new ≡ Some rest))
+        → I.remaining reader.old ≡ Some (reply_text version asked_key.now status value ++ rest)
+        → MatchResult result (λ answer. (answer.0 ≡ status) × (answer.1.items ≡ value) × (I.remaining reader.new ≡ Some rest))
         (λ fault. ¬ IsRefusal fault) }
 
     // A refusal is the first from the left, and `Io` says that a read failed.
     ensures refused { IfErr result (λ fault. IsRefusal fault
-        → (input : List ℕ) × IsInput (R.remaining reader.old) input × (reply_at version asked_key.now input ≡ Err fault)) }
-    ensures io { IsErrOf result WireFault.Io → LeftAt R.fails reader.new }
+        → (input : List ℕ) × IsInput (I.remaining reader.old) input × (reply_at version asked_key.now input ≡ Err fault)) }
+    ensures io { IsErrOf result WireFault.Io → LeftAt I.fails reader.new }
 
     // Memory is wanted inside a reply for this key alone, once the first bytes of its value have come.
     ensures memory { IsErrOf result WireFault.NoMemory → (text : List ℕ) × IsFrontOfReply version asked_key.now text
-        × Consumes (R.remaining reader.old) (R.remaining reader.new) text }
+        × Consumes (I.remaining reader.old) (I.remaining reader.new) text }
 {
     read_reply_fields(alloc, reader, version, asked_key)
 }

@@ -124,7 +124,7 @@ fn is_call(call: &Call, to_come: Said) -> bool {
 }
 
 /// Whether the next head is refused for this reason.
-fn fails<R: Inlet + Drop>(heads: &mut Heads<R>, to_come: HeadFault) -> bool {
+fn fails<I: Inlet + Drop>(heads: &mut Heads<I>, to_come: HeadFault) -> bool {
     match heads.read_head() {
         Ok(_) => false,
         Err(fault) => fault == to_come,
@@ -132,7 +132,7 @@ fn fails<R: Inlet + Drop>(heads: &mut Heads<R>, to_come: HeadFault) -> bool {
 }
 
 /// Whether what is to come is read next.
-fn says<R: Inlet + Drop>(heads: &mut Heads<R>, to_come: Said) -> bool {
+fn says<I: Inlet + Drop>(heads: &mut Heads<I>, to_come: Said) -> bool {
     if let Said::Fault(fault) = to_come {
         return fails(heads, fault) && fails(heads, fault);
     }
@@ -144,7 +144,7 @@ fn says<R: Inlet + Drop>(heads: &mut Heads<R>, to_come: Said) -> bool {
 }
 
 /// Whether this is read of what a reader gives.
-fn gives<R: Inlet + Drop>(alloc: Global, reader: R, want: &[Said]) -> bool {
+fn gives<I: Inlet + Drop>(alloc: Global, reader: I, want: &[Said]) -> bool {
     let Ok(mut heads) = Heads::new(alloc, reader) else {
         return false;
     };

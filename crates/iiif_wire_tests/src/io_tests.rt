@@ -56,7 +56,7 @@ fn writers_take_the_text_or_what_they_have_room_for(rt: HostRuntime) {
 type Read = Option<(usize, [u8; 4])>;
 
 /// What a read gives; none where it fails.
-fn read<R: Inlet>(reader: &mut R) -> Read {
+fn read<I: Inlet>(reader: &mut I) -> Read {
     let mut buffer = [0; 4];
     match reader.pull(&mut buffer) {
         Ok(count) => Some((count, buffer)),
@@ -65,7 +65,7 @@ fn read<R: Inlet>(reader: &mut R) -> Read {
 }
 
 /// Whether a reader gives these reads.
-fn gives<R: Inlet>(reader: &mut R, reads: [Read; 3]) -> bool {
+fn gives<I: Inlet>(reader: &mut I, reads: [Read; 3]) -> bool {
     for to_come in reads {
         if read(reader) != to_come {
             return false;

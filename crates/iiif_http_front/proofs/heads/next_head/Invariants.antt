@@ -4,7 +4,7 @@ use Rattle.iiif_http_front.proofs.heads.next_head.Given as goal
 
 abbrev pub invariant-heads : goal.invariant-heads
 invariant-heads g l = (came : List ℕ) × (l.unread ≡ l.initial.unread ++ came)
-    × Consumes (g.R.Read.remaining l.initial.reader) (g.R.Read.remaining l.reader) came
+    × Consumes (g.I.Read.remaining l.initial.reader) (g.I.Read.remaining l.reader) came
 
 abbrev pub decreases-heads : goal.decreases-heads
 decreases-heads g l = 8192 - length l.unread

@@ -12,37 +12,37 @@ use Rattle.iiif_peer_wire.proofs.Broken.{LeavesNoAsk, fields_unfinished}
 
 pub returns-in_err-group-clause-unread : goal.returns-in_err-group-clause-unread
 returns-in_err-group-clause-unread g c = let fault = c.in_err-group.field-0.0 in let version = c.in-Some.version in
-    let begun : Consumes (g.R.Read.remaining c.args.reader.now) (g.R.Read.remaining c.read_ask_magic.new.reader) (ask_magic version) =
+    let begun : Consumes (g.I.Read.remaining c.args.reader.now) (g.I.Read.remaining c.read_ask_magic.new.reader) (ask_magic version) =
     rw c.in-Some.is at c.in_ok-version.ensures.whole in
     exit_fault c.from_residual-in_err-group.result
-    (Unread g.R.Read.remaining g.R.Inlet.fails c.args.reader.now c.read_ask_fields.new.reader ask_at) fault
+    (Unread g.I.Read.remaining g.I.Inlet.fails c.args.reader.now c.read_ask_fields.new.reader ask_at) fault
     c.from_residual-in_err-group.ensures.1
-    (unread_behind g.R.Read.remaining g.R.Inlet.fails c.args.reader.now c.read_ask_magic.new.reader c.read_ask_fields.new.reader ask_at
+    (unread_behind g.I.Read.remaining g.I.Inlet.fails c.args.reader.now c.read_ask_magic.new.reader c.read_ask_fields.new.reader ask_at
     ask_fields_at (ask_magic version) fault begun
     (λ rest e. ask_at-no_fields version rest fault e) c.in_err-group.ensures.unread)
 
 pub returns-clause-whole : goal.returns-clause-whole
 returns-clause-whole g c = let version = c.in-Some.version in let group = c.in_ok-group.group in let key = c.in_ok-group.key.items in
-    let begun : Consumes (g.R.Read.remaining c.args.reader.now) (g.R.Read.remaining c.read_ask_magic.new.reader) (ask_magic version) =
+    let begun : Consumes (g.I.Read.remaining c.args.reader.now) (g.I.Read.remaining c.read_ask_magic.new.reader) (ask_magic version) =
     rw c.in-Some.is at c.in_ok-version.ensures.whole in
-    subst (Consumes (g.R.Read.remaining c.args.reader.now) (g.R.Read.remaining c.read_ask_fields.new.reader))
+    subst (Consumes (g.I.Read.remaining c.args.reader.now) (g.I.Read.remaining c.read_ask_fields.new.reader))
     (ask_text-parts version group key)
     (Consumes-trans _ _ _ (ask_magic version) (group ∷ field key) begun c.in_ok-group.ensures.whole)
 
 pub returns-in_err-group-clause-memory : goal.returns-in_err-group-clause-memory
 returns-in_err-group-clause-memory g c = let fault = c.in_err-group.field-0.0 in let version = c.in-Some.version in
-    let begun : Consumes (g.R.Read.remaining c.args.reader.now) (g.R.Read.remaining c.read_ask_magic.new.reader) (ask_magic version) =
+    let begun : Consumes (g.I.Read.remaining c.args.reader.now) (g.I.Read.remaining c.read_ask_magic.new.reader) (ask_magic version) =
     rw c.in-Some.is at c.in_ok-version.ensures.whole in
-    let old = g.R.Read.remaining c.args.reader.now in
-    let new = g.R.Read.remaining c.read_ask_fields.new.reader in
+    let old = g.I.Read.remaining c.args.reader.now in
+    let new = g.I.Read.remaining c.read_ask_fields.new.reader in
     exit_fault c.from_residual-in_err-group.result (WantsAsk old new) fault c.from_residual-in_err-group.ensures.1
-    (λ wanted. ask_front version old (g.R.Read.remaining c.read_ask_magic.new.reader) new begun (c.in_err-group.ensures.memory wanted))
+    (λ wanted. ask_front version old (g.I.Read.remaining c.read_ask_magic.new.reader) new begun (c.in_err-group.ensures.memory wanted))
 
 pub returns-in_err-group-clause-unfinished : goal.returns-in_err-group-clause-unfinished
 returns-in_err-group-clause-unfinished g c =
-    let old = g.R.Read.remaining c.args.reader.now in
-    let mid = g.R.Read.remaining c.read_ask_magic.new.reader in
-    let new = g.R.Read.remaining c.read_ask_fields.new.reader in
+    let old = g.I.Read.remaining c.args.reader.now in
+    let mid = g.I.Read.remaining c.read_ask_magic.new.reader in
+    let new = g.I.Read.remaining c.read_ask_fields.new.reader in
     let fault = c.in_err-group.field-0.0 in
     let version = c.in-Some.version in
     let begun : Consumes old mid (ask_magic version) = rw c.in-Some.is at c.in_ok-version.ensures.whole in

@@ -29,7 +29,7 @@ loop-came-preserved g c =
     (omega arith) (take-put_mid_below _ _ _ _ _ (le_refl _) within) in
     record {
       within = search rules;
-      bytes = subst (Consumes (g.R.Read.remaining c.args.reader.now) (g.R.Read.remaining c.pull.new.self))
+      bytes = subst (Consumes (g.I.Read.remaining c.args.reader.now) (g.I.Read.remaining c.pull.new.self))
           (ap (λ l. take from c.loop-came.buffer ++ l) (sym part) ∙ joined)
           (Consumes-trans _ _ _ _ _ c.loop-came.invariant.bytes c.in-Ok.ensures.bytes.0);
     }

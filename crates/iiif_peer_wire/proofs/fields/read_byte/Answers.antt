@@ -10,15 +10,15 @@ use Rattle.iiif_peer_wire.proofs.Broken.{broken_first}
 
 pub returns-in_err-read_field-clause-unread : goal.returns-in_err-read_field-clause-unread
 returns-in_err-read_field-clause-unread g c = let fault = c.in_err-read_field.field-0.0 in
-    exit_fault c.from_residual.result (Unread g.R.Read.remaining g.R.Inlet.fails c.args.reader.now c.read_field.new.reader byte_at) fault
+    exit_fault c.from_residual.result (Unread g.I.Read.remaining g.I.Inlet.fails c.args.reader.now c.read_field.new.reader byte_at) fault
     c.from_residual.ensures.1
-    (unread_first g.R.Read.remaining g.R.Inlet.fails c.args.reader.now c.read_field.new.reader byte_at (bytes_at 1) fault
+    (unread_first g.I.Read.remaining g.I.Inlet.fails c.args.reader.now c.read_field.new.reader byte_at (bytes_at 1) fault
     (λ rest e. byte_at-refused rest fault e) (c.in_err-read_field.ensures.unread 1 (search rules)))
 
 pub returns-in_err-read_field-clause-broken : goal.returns-in_err-read_field-clause-broken
 returns-in_err-read_field-clause-broken g c =
-    let old = g.R.Read.remaining c.args.reader.now in
-    let new = g.R.Read.remaining c.read_field.new.reader in
+    let old = g.I.Read.remaining c.args.reader.now in
+    let new = g.I.Read.remaining c.read_field.new.reader in
     let fault = c.in_err-read_field.field-0.0 in
     exit_fault c.from_residual.result (Broken old new byte_at) fault c.from_residual.ensures.1
     (broken_first old new byte_at (bytes_at 1) fault (λ rest e. byte_at-refused rest Short e)

@@ -6,7 +6,7 @@ abbrev pub invariant-bytes : goal.invariant-bytes
 invariant-bytes g l = record {
   within : vec_len l.bytes ≤ l.count;
   chunk : length l.chunk ≡ 8192;
-  taken : Consumes (g.R.Read.remaining l.initial.reader) (g.R.Read.remaining l.reader) l.bytes.items;
+  taken : Consumes (g.I.Read.remaining l.initial.reader) (g.I.Read.remaining l.reader) l.bytes.items;
 }
 
 abbrev pub decreases-bytes : goal.decreases-bytes

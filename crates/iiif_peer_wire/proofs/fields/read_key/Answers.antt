@@ -13,18 +13,18 @@ use Rattle.iiif_peer_wire.proofs.Parts.{key_at-no_size, key_at-no_key, key_at-ot
 
 pub returns-in_err-size-clause-unread : goal.returns-in_err-size-clause-unread
 returns-in_err-size-clause-unread g c = let fault = c.in_err-size.field-0.0 in let asked = c.args.asked.now in
-    exit_fault c.from_residual.result (Unread g.R.Read.remaining g.R.Inlet.fails c.args.reader.now c.read_length.new.reader (key_at asked))
+    exit_fault c.from_residual.result (Unread g.I.Read.remaining g.I.Inlet.fails c.args.reader.now c.read_length.new.reader (key_at asked))
     fault c.from_residual.ensures.1
-    (unread_first g.R.Read.remaining g.R.Inlet.fails c.args.reader.now c.read_length.new.reader (key_at asked) (length_at 4096) fault
+    (unread_first g.I.Read.remaining g.I.Inlet.fails c.args.reader.now c.read_length.new.reader (key_at asked) (length_at 4096) fault
     (λ rest e. key_at-no_size asked rest fault e) c.in_err-size.ensures.unread)
 
 pub returns-in_err-read_field-clause-unread : goal.returns-in_err-read_field-clause-unread
 returns-in_err-read_field-clause-unread g c = let fault = c.in_err-read_field.field-0.0 in let asked = c.args.asked.now in let size =
     c.in_ok-size.size in
     exit_fault c.from_residual-in_err-read_field.result
-    (Unread g.R.Read.remaining g.R.Inlet.fails c.args.reader.now c.read_field.new.reader (key_at asked)) fault
+    (Unread g.I.Read.remaining g.I.Inlet.fails c.args.reader.now c.read_field.new.reader (key_at asked)) fault
     c.from_residual-in_err-read_field.ensures.1
-    (unread_behind g.R.Read.remaining g.R.Inlet.fails c.args.reader.now c.read_length.new.reader c.read_field.new.reader (key_at asked)
+    (unread_behind g.I.Read.remaining g.I.Inlet.fails c.args.reader.now c.read_length.new.reader c.read_field.new.reader (key_at asked)
     (bytes_at size) (to_be_bytes w32 size) fault c.in_ok-size.ensures.whole
     (λ rest e. key_at-no_key asked size rest fault c.in_ok-size.ensures.within e) (c.in_err-read_field.ensures.unread size (search rules)))
 
@@ -35,11 +35,11 @@ returns-then-ne-clause-unread g c =
     let key = c.read_field.new.buffer in
     let is : size ≡ length key = search rules in
     let apart : bytes_eq key asked ≡ false = not-true (bytes_eq key asked) (sym c.ne.ensures ∙ c.if-ne.true) in
-    let sized : Consumes (g.R.Read.remaining c.args.reader.now) (g.R.Read.remaining c.read_length.new.reader) (to_be_bytes w32 (length key))
+    let sized : Consumes (g.I.Read.remaining c.args.reader.now) (g.I.Read.remaining c.read_length.new.reader) (to_be_bytes w32 (length key))
     =
-    subst (λ n. Consumes (g.R.Read.remaining c.args.reader.now) (g.R.Read.remaining c.read_length.new.reader) (to_be_bytes w32 n)) is
+    subst (λ n. Consumes (g.I.Read.remaining c.args.reader.now) (g.I.Read.remaining c.read_length.new.reader) (to_be_bytes w32 n)) is
     c.in_ok-size.ensures.whole in
-    let took : Consumes (g.R.Read.remaining c.args.reader.now) (g.R.Read.remaining c.read_field.new.reader) (field key) =
+    let took : Consumes (g.I.Read.remaining c.args.reader.now) (g.I.Read.remaining c.read_field.new.reader) (field key) =
     Consumes-trans _ _ _ (to_be_bytes w32 (length key)) key sized c.in_ok-read_field.ensures.whole in
-    unread_key g.R.Read.remaining g.R.Inlet.fails c.args.reader.now c.read_field.new.reader (key_at asked) (field key) took
+    unread_key g.I.Read.remaining g.I.Inlet.fails c.args.reader.now c.read_field.new.reader (key_at asked) (field key) took
     (λ rest. key_at-other asked key rest (omega (arith, is, c.in_ok-size.ensures.within)) apart)

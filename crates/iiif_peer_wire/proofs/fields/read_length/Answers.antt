@@ -13,9 +13,9 @@ use Rattle.iiif_peer_wire.proofs.Broken.{broken_first}
 
 pub returns-in_err-read_field-clause-unread : goal.returns-in_err-read_field-clause-unread
 returns-in_err-read_field-clause-unread g c = let fault = c.in_err-read_field.field-0.0 in
-    exit_fault c.from_residual.result (Unread g.R.Read.remaining g.R.Inlet.fails c.args.reader.now c.read_field.new.reader
+    exit_fault c.from_residual.result (Unread g.I.Read.remaining g.I.Inlet.fails c.args.reader.now c.read_field.new.reader
     (length_at c.args.limit)) fault c.from_residual.ensures.1
-    (unread_first g.R.Read.remaining g.R.Inlet.fails c.args.reader.now c.read_field.new.reader (length_at c.args.limit) (bytes_at 4) fault
+    (unread_first g.I.Read.remaining g.I.Inlet.fails c.args.reader.now c.read_field.new.reader (length_at c.args.limit) (bytes_at 4) fault
     (λ rest e. length_at-refused c.args.limit rest fault e) (c.in_err-read_field.ensures.unread 4 (search rules)))
 
 pub returns-then-size-limit-clause-unread : goal.returns-then-size-limit-clause-unread
@@ -24,10 +24,10 @@ returns-then-size-limit-clause-unread g c =
     let size = c.from_be_bytes-size.result in
     let is : to_be_bytes w32 size ≡ bytes = be_bytes_4 bytes size (search rules) c.in_ok-read_field.ensures.bytes
     c.from_be_bytes-size.ensures in
-    let took : Consumes (g.R.Read.remaining c.args.reader.now) (g.R.Read.remaining c.read_field.new.reader) (to_be_bytes w32 size) =
-    subst (Consumes (g.R.Read.remaining c.args.reader.now) (g.R.Read.remaining c.read_field.new.reader)) (sym is)
+    let took : Consumes (g.I.Read.remaining c.args.reader.now) (g.I.Read.remaining c.read_field.new.reader) (to_be_bytes w32 size) =
+    subst (Consumes (g.I.Read.remaining c.args.reader.now) (g.I.Read.remaining c.read_field.new.reader)) (sym is)
     c.in_ok-read_field.ensures.whole in
-    unread_long g.R.Read.remaining g.R.Inlet.fails c.args.reader.now c.read_field.new.reader (length_at c.args.limit) (to_be_bytes w32 size)
+    unread_long g.I.Read.remaining g.I.Inlet.fails c.args.reader.now c.read_field.new.reader (length_at c.args.limit) (to_be_bytes w32 size)
     took
     (λ rest. length_at-above c.args.limit size rest (search rules) (search rules))
 
@@ -37,13 +37,13 @@ returns-clause-whole g c =
     let size = c.from_be_bytes-size.result in
     let is : to_be_bytes w32 size ≡ bytes = be_bytes_4 bytes size (search rules) c.in_ok-read_field.ensures.bytes
     c.from_be_bytes-size.ensures in
-    subst (Consumes (g.R.Read.remaining c.args.reader.now) (g.R.Read.remaining c.read_field.new.reader)) (sym is)
+    subst (Consumes (g.I.Read.remaining c.args.reader.now) (g.I.Read.remaining c.read_field.new.reader)) (sym is)
     c.in_ok-read_field.ensures.whole
 
 pub returns-in_err-read_field-clause-broken : goal.returns-in_err-read_field-clause-broken
 returns-in_err-read_field-clause-broken g c =
-    let old = g.R.Read.remaining c.args.reader.now in
-    let new = g.R.Read.remaining c.read_field.new.reader in
+    let old = g.I.Read.remaining c.args.reader.now in
+    let new = g.I.Read.remaining c.read_field.new.reader in
     let fault = c.in_err-read_field.field-0.0 in
     exit_fault c.from_residual.result (Broken old new (length_at c.args.limit)) fault c.from_residual.ensures.1
     (broken_first old new (length_at c.args.limit) (bytes_at 4) fault (λ rest e. length_at-refused c.args.limit rest Short e)

@@ -10,22 +10,22 @@ use Rattle.iiif_peer_wire.proofs.Parts.{value_at-no_value}
 
 pub returns-in_err-status-clause-unread : goal.returns-in_err-status-clause-unread
 returns-in_err-status-clause-unread g c = let fault = c.in_err-status.field-0.0 in
-    exit_fault c.from_residual.result (Unread g.R.Read.remaining g.R.Inlet.fails c.args.reader.now c.read_byte.new.reader value_at) fault
+    exit_fault c.from_residual.result (Unread g.I.Read.remaining g.I.Inlet.fails c.args.reader.now c.read_byte.new.reader value_at) fault
     c.from_residual.ensures.1
-    (unread_first g.R.Read.remaining g.R.Inlet.fails c.args.reader.now c.read_byte.new.reader value_at byte_at fault
+    (unread_first g.I.Read.remaining g.I.Inlet.fails c.args.reader.now c.read_byte.new.reader value_at byte_at fault
     (λ rest e. value_at-no_status rest fault e) c.in_err-status.ensures.unread)
 
 pub returns-then-status-gt4-clause-unread : goal.returns-then-status-gt4-clause-unread
 returns-then-status-gt4-clause-unread g c = let status = c.in_ok-status.status in
-    unread_status g.R.Read.remaining g.R.Inlet.fails c.args.reader.now c.read_byte.new.reader value_at (status ∷ [])
+    unread_status g.I.Read.remaining g.I.Inlet.fails c.args.reader.now c.read_byte.new.reader value_at (status ∷ [])
     c.in_ok-status.ensures.whole (λ rest. value_at-unknown status rest c.if-status-gt4.true)
 
 pub returns-in_err-size-clause-unread : goal.returns-in_err-size-clause-unread
 returns-in_err-size-clause-unread g c = let fault = c.in_err-size.field-0.0 in let status = c.in_ok-status.status in
     exit_fault c.from_residual-in_err-size.result
-    (Unread g.R.Read.remaining g.R.Inlet.fails c.args.reader.now c.read_length.new.reader value_at) fault
+    (Unread g.I.Read.remaining g.I.Inlet.fails c.args.reader.now c.read_length.new.reader value_at) fault
     c.from_residual-in_err-size.ensures.1
-    (unread_behind g.R.Read.remaining g.R.Inlet.fails c.args.reader.now c.read_byte.new.reader c.read_length.new.reader value_at
+    (unread_behind g.I.Read.remaining g.I.Inlet.fails c.args.reader.now c.read_byte.new.reader c.read_length.new.reader value_at
     (length_at 67108864) (status ∷ []) fault c.in_ok-status.ensures.whole
     (λ rest e. value_at-no_size status rest fault c.if-status-gt4.false e) c.in_err-size.ensures.unread)
 
@@ -33,7 +33,7 @@ pub returns-then-size-ne0-clause-unread : goal.returns-then-size-ne0-clause-unre
 returns-then-size-ne0-clause-unread g c = let status = c.in_ok-status.status in let size = c.in_ok-size.size in
     let some : status ≢ 0 = search rules in
     let more : size ≢ 0 = search rules in
-    unread_status g.R.Read.remaining g.R.Inlet.fails c.args.reader.now c.read_length.new.reader value_at (status ∷ to_be_bytes w32 size)
+    unread_status g.I.Read.remaining g.I.Inlet.fails c.args.reader.now c.read_length.new.reader value_at (status ∷ to_be_bytes w32 size)
     (Consumes-trans _ _ _ (status ∷ []) (to_be_bytes w32 size) c.in_ok-status.ensures.whole c.in_ok-size.ensures.whole)
     (λ rest. value_at-fault_with_value status size rest c.if-status-gt4.false c.in_ok-size.ensures.within some more)
 
@@ -42,9 +42,9 @@ returns-in_err-value-clause-unread g c = let fault = c.in_err-value.field-0.0 in
     c.in_ok-size.size in
     let none : 0 < status → size ≡ 0 = λ h. omega arith in
     exit_fault c.from_residual-in_err-value.result
-    (Unread g.R.Read.remaining g.R.Inlet.fails c.args.reader.now c.read_bytes.new.reader value_at) fault
+    (Unread g.I.Read.remaining g.I.Inlet.fails c.args.reader.now c.read_bytes.new.reader value_at) fault
     c.from_residual-in_err-value.ensures.1
-    (unread_behind g.R.Read.remaining g.R.Inlet.fails c.args.reader.now c.read_length.new.reader c.read_bytes.new.reader value_at
+    (unread_behind g.I.Read.remaining g.I.Inlet.fails c.args.reader.now c.read_length.new.reader c.read_bytes.new.reader value_at
     (bytes_at size) (status ∷ to_be_bytes w32 size) fault
     (Consumes-trans _ _ _ (status ∷ []) (to_be_bytes w32 size) c.in_ok-status.ensures.whole c.in_ok-size.ensures.whole)
     (λ rest e. value_at-no_value status size rest fault c.if-status-gt4.false c.in_ok-size.ensures.within none e)
