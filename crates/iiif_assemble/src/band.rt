@@ -15,11 +15,11 @@ ghost use Rattle.iiif_assemble.specs.Code.{count_of, IsPictureOf, IsWithin, List
 ghost use Rattle.iiif_assemble.specs.Faults.{IsBandFault, IsPlanFault};
 
 use crate::finishing::count_of;
-use crate::growing::grown;
+use crate::growing::grow;
 use crate::items::Items;
 use crate::job::{Job, Made};
-use crate::merging::summed;
-use crate::pasting::pasted;
+use crate::merging::merge_sums;
+use crate::pasting::paste;
 use crate::workshop::Workshop;
 use iiif_area::laws::same_sides_change_nothing;
 use iiif_bands::Band;
@@ -31,13 +31,13 @@ use std::sync::Wait;
 use std::thread::Threads;
 
 /// The part in `from` of the scaled result.
-fn scaled_part<
-    T: Items<TileKey, TileVal, P, R> + Sync,
-    S: Items<SumKey, SumVal, P, R> + Sync,
+fn scale_part<
+    A: Items<TileKey, TileVal, P, R> + Sync,
+    B: Items<SumKey, SumVal, P, R> + Sync,
     P: Send,
     R: Threads + Wait + Sync,
 >(
-    shop: &Workshop<'_, T, S, R>,
+    shop: &Workshop<'_, A, B, R>,
     passes: &mut [P],
     job: &Job,
     items: &[usize],
@@ -47,30 +47,30 @@ fn scaled_part<
     requires job { IsJob job.now }
     requires inside { LiesIn from job.now.resolved.size }
     requires lists { ListsMetItems job.now.resolved from job.now.plan items.now }
-    requires tiles { TilesServe job.now (T.fits shop.now.tiles.now) (T.means shop.now.tiles.now) }
-    requires sums { SumsServe job.now (S.fits shop.now.sums.now) (S.means shop.now.sums.now) }
+    requires tiles { TilesServe job.now (A.fits shop.now.tiles.now) (A.means shop.now.tiles.now) }
+    requires sums { SumsServe job.now (B.fits shop.now.sums.now) (B.means shop.now.sums.now) }
     ensures image { IfOk result (λ m. (shows : Pictures) (p : Picture) → IsPictureOf shows job.now p
-        → TilesAreMeant shows job.now (T.means shop.now.tiles.now) → SumsAreMeant shows job.now (S.means shop.now.sums.now)
+        → TilesAreMeant shows job.now (A.means shop.now.tiles.now) → SumsAreMeant shows job.now (B.means shop.now.sums.now)
         → m.raster ≡ crop (scale (crop p job.now.resolved.rect) job.now.resolved.size) from) }
     ensures sides { IfOk result (λ m. dim_of m.raster ≡ sides_of from) }
     ensures channels { IfOk result (λ m. m.raster.channels ≡ channels_of job.now.shape.kind) }
     ensures top { IfOk result (λ m. m.raster.top ≡ top_of job.now.shape.depth) }
     ensures held { IfOk result (λ m. IsWithin (count_of m.raster) m.held) }
-    ensures fault { IfErr result (IsBandFault (T.means shop.now.tiles.now) (T.failed shop.now.tiles.now)
-        (S.means shop.now.sums.now) (S.failed shop.now.sums.now) job.now.plan items.now) }
+    ensures fault { IfErr result (IsBandFault (A.means shop.now.tiles.now) (A.failed shop.now.tiles.now)
+        (B.means shop.now.sums.now) (B.failed shop.now.sums.now) job.now.plan items.now) }
 {
     // Laws of scaling and of pictures.
     same_sides_change_nothing();
     whole_stays_whole();
     match &job.plan {
-        Plan::Copy(keys) => pasted(shop, passes, job, keys, items, from),
-        Plan::Grow(keys) => grown(shop, passes, job, keys, items, from),
-        Plan::Sum(keys) => summed(shop, passes, job, keys, items, from),
+        Plan::Copy(keys) => paste(shop, passes, job, keys, items, from),
+        Plan::Grow(keys) => grow(shop, passes, job, keys, items, from),
+        Plan::Sum(keys) => merge_sums(shop, passes, job, keys, items, from),
     }
 }
 
 /// A part turned. For a moment both are held.
-fn turned(made: Made, by: Turn) -> Result<Made, Fault>
+fn apply_turn(made: Made, by: Turn) -> Result<Made, Fault>
     requires { by.quarters < 4 }
     ensures ok { IfOk result (λ m. m.raster ≡ turn made.raster by) }
     ensures held { IsWithin (count_of made.raster) made.held → IfOk result (λ m. IsWithin (count_of m.raster) m.held) }
@@ -89,7 +89,7 @@ fn turned(made: Made, by: Turn) -> Result<Made, Fault>
 }
 
 /// A part in another quality. For a moment both are held.
-fn qualified(made: Made, to: Quality) -> Result<Made, Fault>
+fn apply_quality(made: Made, to: Quality) -> Result<Made, Fault>
     ensures ok { IfOk result (λ m. m.raster ≡ quality made.raster to) }
     ensures held { IsWithin (count_of made.raster) made.held → IfOk result (λ m. IsWithin (count_of made.raster) m.held) }
     ensures err { IfErr result (λ f. f ≡ Fault.NoMemory) }
@@ -114,32 +114,32 @@ fn qualified(made: Made, to: Quality) -> Result<Made, Fault>
 ///
 /// The fault of the first item of the band, in the plan's order, that failed; or `NoMemory`.
 pub fn assemble_band<
-    T: Items<TileKey, TileVal, P, R> + Sync,
-    S: Items<SumKey, SumVal, P, R> + Sync,
+    A: Items<TileKey, TileVal, P, R> + Sync,
+    B: Items<SumKey, SumVal, P, R> + Sync,
     P: Send,
     R: Threads + Wait + Sync,
->(shop: &Workshop<'_, T, S, R>, passes: &mut [P], job: &Job, band: &Band) -> Result<Made, Fault>
+>(shop: &Workshop<'_, A, B, R>, passes: &mut [P], job: &Job, band: &Band) -> Result<Made, Fault>
     requires some { 0 < length passes.old }
     requires job { IsJob job.now }
     requires band { IsBandOf job.now band.now }
-    requires tiles { TilesServe job.now (T.fits shop.now.tiles.now) (T.means shop.now.tiles.now) }
-    requires sums { SumsServe job.now (S.fits shop.now.sums.now) (S.means shop.now.sums.now) }
-    ensures image { IfOk result (λ m. (shows : Pictures) → IsShown shows job.now (T.means shop.now.tiles.now) (S.means shop.now.sums.now)
+    requires tiles { TilesServe job.now (A.fits shop.now.tiles.now) (A.means shop.now.tiles.now) }
+    requires sums { SumsServe job.now (B.fits shop.now.sums.now) (B.means shop.now.sums.now) }
+    ensures image { IfOk result (λ m. (shows : Pictures) → IsShown shows job.now (A.means shop.now.tiles.now) (B.means shop.now.sums.now)
         → m.raster ≡ crop (resolved_image (named shows job.now.name) job.now.resolved) band.now.rect) }
     ensures sides { IfOk result (λ m. dim_of m.raster ≡ sides_of band.now.rect) }
     ensures channels { IfOk result (λ m. m.raster.channels ≡ channels_in job.now.resolved.quality (channels_of job.now.shape.kind)) }
     ensures top { IfOk result (λ m. m.raster.top ≡ top_in job.now.resolved.quality (top_of job.now.shape.depth)) }
     ensures held { IfOk result (λ m. IsHeldFor (sides_of band.now.rect) (channels_of job.now.shape.kind) m.held) }
-    ensures fault { IfErr result (IsBandFault (T.means shop.now.tiles.now) (T.failed shop.now.tiles.now)
-        (S.means shop.now.sums.now) (S.failed shop.now.sums.now) job.now.plan band.now.items.items) }
+    ensures fault { IfErr result (IsBandFault (A.means shop.now.tiles.now) (A.failed shop.now.tiles.now)
+        (B.means shop.now.sums.now) (B.failed shop.now.sums.now) job.now.plan band.now.items.items) }
 {
     // A law of qualities.
     quality_of_crop();
     let resolved = &job.resolved;
     let from = unturn_rect(resolved.turn, resolved.size, band.rect);
-    match scaled_part(shop, passes, job, &band.items, from) {
-        Ok(scaled) => match turned(scaled, resolved.turn) {
-            Ok(turned) => qualified(turned, resolved.quality),
+    match scale_part(shop, passes, job, &band.items, from) {
+        Ok(scaled) => match apply_turn(scaled, resolved.turn) {
+            Ok(turned) => apply_quality(turned, resolved.quality),
             Err(fault) => Err(fault),
         },
         Err(fault) => Err(fault),
@@ -152,24 +152,24 @@ pub fn assemble_band<
 ///
 /// The fault of the first item of the plan that failed; or `NoMemory`.
 pub fn assemble<
-    T: Items<TileKey, TileVal, P, R> + Sync,
-    S: Items<SumKey, SumVal, P, R> + Sync,
+    A: Items<TileKey, TileVal, P, R> + Sync,
+    B: Items<SumKey, SumVal, P, R> + Sync,
     P: Send,
     R: Threads + Wait + Sync,
->(shop: &Workshop<'_, T, S, R>, passes: &mut [P], job: &Job) -> Result<Made, Fault>
+>(shop: &Workshop<'_, A, B, R>, passes: &mut [P], job: &Job) -> Result<Made, Fault>
     requires some { 0 < length passes.old }
     requires job { IsJob job.now }
-    requires tiles { TilesServe job.now (T.fits shop.now.tiles.now) (T.means shop.now.tiles.now) }
-    requires sums { SumsServe job.now (S.fits shop.now.sums.now) (S.means shop.now.sums.now) }
-    ensures image { IfOk result (λ m. (shows : Pictures) → IsShown shows job.now (T.means shop.now.tiles.now) (S.means shop.now.sums.now)
+    requires tiles { TilesServe job.now (A.fits shop.now.tiles.now) (A.means shop.now.tiles.now) }
+    requires sums { SumsServe job.now (B.fits shop.now.sums.now) (B.means shop.now.sums.now) }
+    ensures image { IfOk result (λ m. (shows : Pictures) → IsShown shows job.now (A.means shop.now.tiles.now) (B.means shop.now.sums.now)
         → m.raster ≡ resolved_image (named shows job.now.name) job.now.resolved) }
     ensures sides { IfOk result (λ m. dim_of m.raster ≡ turned_dim job.now.resolved.turn job.now.resolved.size) }
     ensures channels { IfOk result (λ m. m.raster.channels ≡ channels_in job.now.resolved.quality (channels_of job.now.shape.kind)) }
     ensures top { IfOk result (λ m. m.raster.top ≡ top_in job.now.resolved.quality (top_of job.now.shape.depth)) }
     ensures held { IfOk result (λ m. IsHeldFor (turned_dim job.now.resolved.turn job.now.resolved.size) (channels_of job.now.shape.kind)
         m.held) }
-    ensures fault { IfErr result (IsPlanFault (T.means shop.now.tiles.now) (T.failed shop.now.tiles.now)
-        (S.means shop.now.sums.now) (S.failed shop.now.sums.now) job.now.plan) }
+    ensures fault { IfErr result (IsPlanFault (A.means shop.now.tiles.now) (A.failed shop.now.tiles.now)
+        (B.means shop.now.sums.now) (B.failed shop.now.sums.now) job.now.plan) }
 {
     // Laws of pictures and of bands.
     whole_stays_whole();

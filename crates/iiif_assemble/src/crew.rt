@@ -8,7 +8,7 @@ ghost use Rattle.iiif_assemble.specs.Gathering.{AreValues, IsItemFault};
 ghost use denote.Param.Send.{IsSync};
 
 use crate::items::Items;
-use crate::parts::{Crew, value_of};
+use crate::parts::{Crew, ask};
 use iiif_keys::Fault;
 use iiif_workers::{Helper, Idle};
 use std::alloc::Global;
@@ -49,7 +49,7 @@ struct SoFar<'a, V, P> {
 }
 
 /// The values of items, asked one after another until more than one is left and another worker has nothing to do; or the first fault.
-fn begun<
+fn begin<
     'a,
     G: Items<K, V, P, R> + Sync,
     K: Sync,
@@ -81,7 +81,7 @@ fn begun<
                 });
             }
         }
-        match value_of(crew, own, key) {
+        match ask(crew, own, key) {
             Ok(value) => keep(&mut values, value)?,
             Err(fault) => return Err(fault),
         }
@@ -96,7 +96,7 @@ fn begun<
 /// to another that has nothing to do, which does the same with them. Where a worker can't be started the calling thread does its share. The
 /// fault is that of the first item that failed, whichever worker met one first. The number of workers is in no clause.
 #[cycle(shares)]
-fn shared_out<
+fn share_out<
     G: Items<K, V, P, R> + Sync,
     K: Sync,
     V: Drop + Send + Sync,
@@ -113,12 +113,12 @@ fn shared_out<
     ensures values { IfOk result (λ v. AreValues (G.means crew.now.group.now) keys.now items.now (map arc_value v.items)) }
     ensures fault { IfErr result (IsItemFault (G.means crew.now.group.now) (G.failed crew.now.group.now) keys.now items.now) }
 {
-    let SoFar { values, helper } = begun(crew, own, keys, items)?;
+    let SoFar { values, helper } = begin(crew, own, keys, items)?;
     let Some(helper) = helper else {
         return Ok(values);
     };
     let (_done, left) = items.split_at(values.len());
-    match halved(crew, own, helper, keys, left) {
+    match halve(crew, own, helper, keys, left) {
         Ok(rest) => joined(values, rest),
         Err(fault) => Err(fault),
     }
@@ -126,7 +126,7 @@ fn shared_out<
 
 /// The same by two workers, each with half of the items.
 #[cycle(shares)]
-fn halved<
+fn halve<
     'a,
     G: Items<K, V, P, R> + Sync,
     K: Sync,
@@ -158,13 +158,13 @@ fn halved<
                 (map arc_value v.items))
                 × IfErr result (IsItemFault (G.means crew.entry.now.group.now) (G.failed crew.entry.now.group.now) keys.entry.now
                 theirs.entry.now) }
-        { helped(crew, helper, keys, theirs) },
+        { help(crew, helper, keys, theirs) },
         || -> Result<Vec<Arc<V>>, Fault>
             requires { IsSync R.row × All (λ i. i < length keys.now) mine.now × All (G.fits crew.now.group.now) keys.now }
             ensures { IfOk result (λ v. AreValues (G.means crew.entry.now.group.now) keys.entry.now mine.entry.now (map arc_value v.items))
                 × IfErr result (IsItemFault (G.means crew.entry.now.group.now) (G.failed crew.entry.now.group.now) keys.entry.now
                 mine.entry.now) }
-        { shared_out(crew, own, keys, mine) },
+        { share_out(crew, own, keys, mine) },
     );
     match first {
         Ok(first) => match rest {
@@ -177,7 +177,7 @@ fn halved<
 
 /// The same by a worker that had nothing to do, and has nothing to do again then.
 #[cycle(shares)]
-fn helped<
+fn help<
     'a,
     G: Items<K, V, P, R> + Sync,
     K: Sync,
@@ -195,7 +195,7 @@ fn helped<
     ensures values { IfOk result (λ v. AreValues (G.means crew.now.group.now) keys.now items.now (map arc_value v.items)) }
     ensures fault { IfErr result (IsItemFault (G.means crew.now.group.now) (G.failed crew.now.group.now) keys.now items.now) }
 {
-    let values = shared_out(crew, helper.pass, keys, items);
+    let values = share_out(crew, helper.pass, keys, items);
     crew.idle.put(crew.rt, helper);
     values
 }
@@ -217,7 +217,7 @@ fn are_at_hand<G: Items<K, V, P, R>, K, V, P, R>(
 }
 
 /// The values of these items of the keys, by a worker and those that have nothing to do.
-fn by_crew<
+fn gather_by_crew<
     G: Items<K, V, P, R> + Sync,
     K: Sync,
     V: Drop + Send + Sync,
@@ -243,7 +243,7 @@ fn by_crew<
         group,
         idle,
     };
-    shared_out(&crew, own, keys, items)
+    share_out(&crew, own, keys, items)
 }
 
 /// The values of all items, in their order, asked by one worker for each pass: by the first alone where all are at hand, so that no thread
@@ -252,7 +252,7 @@ fn by_crew<
 /// # Errors
 ///
 /// The fault of the first item that failed, whichever worker met one first; or `NoMemory`.
-pub(crate) fn gathered<
+pub(crate) fn gather<
     G: Items<K, V, P, R> + Sync,
     K: Sync,
     V: Drop + Send + Sync,
@@ -277,10 +277,10 @@ pub(crate) fn gathered<
     };
     if others.is_empty() || are_at_hand(rt, group, keys, items) {
         let idle = Idle::none(alloc);
-        return by_crew(rt, alloc, group, &idle, own, (keys, items));
+        return gather_by_crew(rt, alloc, group, &idle, own, (keys, items));
     }
     let Ok(idle) = Idle::of(alloc, others) else {
         return Err(Fault::NoMemory);
     };
-    by_crew(rt, alloc, group, &idle, own, (keys, items))
+    gather_by_crew(rt, alloc, group, &idle, own, (keys, items))
 }

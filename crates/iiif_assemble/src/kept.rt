@@ -8,7 +8,7 @@ ghost use Rattle.iiif_assemble.specs.Kept.{AreKept, AreOfItems, AreOneEach, HasA
 ghost use Rattle.iiif_assemble.specs.Opening.{AreValuesOf, IsFaultOf};
 ghost use Rattle.iiif_assemble.specs.Jobs.{IsBandOf, IsJob, SumsServe};
 
-use crate::crew::gathered;
+use crate::crew::gather;
 use crate::items::Items;
 use crate::job::Job;
 use crate::opened::Opened;
@@ -30,9 +30,9 @@ pub struct KeptSum {
 
 /// What has sums, with some of them kept in front of it: these are answered at once, and it is asked for the others alone.
 #[derive(Drop)]
-pub struct WithKept<'a, S> {
+pub struct WithKept<'a, B> {
     /// What has the sums.
-    pub sums: &'a S,
+    pub sums: &'a B,
     /// The sums that are kept.
     pub kept: &'a [KeptSum],
 }
@@ -50,25 +50,25 @@ fn kept_for<'a>(kept: &'a [KeptSum], key: &SumKey) -> Option<&'a KeptSum>
 }
 
 /// What is kept is what may be answered for its key: a key may be asked for where this holds.
-impl<'a, S: Items<SumKey, SumVal, P, R>, P, R> Items<SumKey, SumVal, P, R> for WithKept<'a, S> {
-    type Open = S::Open;
+impl<'a, B: Items<SumKey, SumVal, P, R>, P, R> Items<SumKey, SumVal, P, R> for WithKept<'a, B> {
+    type Open = B::Open;
 
-    ghost fits = { λ a k. S.fits a.sums.now k × AreKept (S.means a.sums.now) a.kept.now };
+    ghost fits = { λ a k. B.fits a.sums.now k × AreKept (B.means a.sums.now) a.kept.now };
 
-    ghost means = { λ a k v. S.means a.sums.now k v };
+    ghost means = { λ a k v. B.means a.sums.now k v };
 
-    ghost failed = { λ a k f. S.failed a.sums.now k f };
+    ghost failed = { λ a k f. B.failed a.sums.now k f };
 
-    ghost rank = { λ a k. S.rank a.sums.now k };
+    ghost rank = { λ a k. B.rank a.sums.now k };
 
-    ghost is_open = { λ a o k parts. S.is_open a.sums.now o k parts };
+    ghost is_open = { λ a o k parts. B.is_open a.sums.now o k parts };
 
     fn open(
         &self,
         rt: &R,
         pass: &mut P,
         key: &SumKey,
-    ) -> Result<Opened<SumKey, SumVal, S::Open>, Fault> {
+    ) -> Result<Opened<SumKey, SumVal, B::Open>, Fault> {
         match kept_for(self.kept, key) {
             Some(sum) => match Arc::try_clone(&sum.value) {
                 Ok(value) => Ok(Opened::Known(value)),
@@ -81,17 +81,17 @@ impl<'a, S: Items<SumKey, SumVal, P, R>, P, R> Items<SumKey, SumVal, P, R> for W
     fn close(
         &self,
         rt: &R,
-        load: S::Open,
+        load: B::Open,
         key: &SumKey,
         parts: Vec<SumKey>,
         values: Result<Vec<Arc<SumVal>>, Fault>,
     ) -> Result<Arc<SumVal>, Fault>
-        requires fits { S.fits self.now.sums.now key.now × AreKept (S.means self.now.sums.now) self.now.kept.now }
-        requires open { S.is_open self.now.sums.now load key.now parts.items }
-        requires values { IfOk values (λ v. AreValuesOf (S.means self.now.sums.now) parts.items v.items) }
-        requires fault { IfErr values (IsFaultOf (S.failed self.now.sums.now) key.now) }
-        ensures value { IfOk result (λ v. S.means self.now.sums.now key.now (arc_value v)) }
-        ensures fault { IfErr result (IsFaultOf (S.failed self.now.sums.now) key.now) }
+        requires fits { B.fits self.now.sums.now key.now × AreKept (B.means self.now.sums.now) self.now.kept.now }
+        requires open { B.is_open self.now.sums.now load key.now parts.items }
+        requires values { IfOk values (λ v. AreValuesOf (B.means self.now.sums.now) parts.items v.items) }
+        requires fault { IfErr values (IsFaultOf (B.failed self.now.sums.now) key.now) }
+        ensures value { IfOk result (λ v. B.means self.now.sums.now key.now (arc_value v)) }
+        ensures fault { IfErr result (IsFaultOf (B.failed self.now.sums.now) key.now) }
         ensures same { IfErr values (λ f. result ≡ Err f) }
     {
         self.sums.close(rt, load, key, parts, values)
@@ -142,7 +142,7 @@ fn keep(kept: &mut Vec<KeptSum>, key: &SumKey, value: &Arc<SumVal>) -> Result<()
     Ok(())
 }
 
-impl<'a, S> WithKept<'a, S> {
+impl<'a, B> WithKept<'a, B> {
     /// Of the sums that are kept those of the items. The only error is lack of memory.
     #[tactic(auto, using(crate::proofs::KeptLemmas::kept_more, crate::proofs::KeptLemmas::of_items_more, crate::proofs::KeptLemmas::one_longer))]
     fn kept_of<P, R>(
@@ -152,9 +152,9 @@ impl<'a, S> WithKept<'a, S> {
         items: &[usize],
     ) -> Result<Vec<KeptSum>, NoMemory>
     where
-        S: Items<SumKey, SumVal, P, R>,
-        requires { AreKept (S.means self.now.sums.now) self.now.kept.now }
-        ensures kept { IfOk result (λ v. AreKept (S.means self.now.sums.now) v.items) }
+        B: Items<SumKey, SumVal, P, R>,
+        requires { AreKept (B.means self.now.sums.now) self.now.kept.now }
+        ensures kept { IfOk result (λ v. AreKept (B.means self.now.sums.now) v.items) }
         ensures few { IfOk result (λ v. AreOfItems keys.now items.now v.items × (length v.items ≤ length self.now.kept.now)) }
     {
         let mut rest = Vec::new(alloc);
@@ -169,8 +169,8 @@ impl<'a, S> WithKept<'a, S> {
 
 /// The sums of the items, to be kept: those that are kept already, and the others asked by a worker for each pass.
 #[tactic(auto, using(crate::proofs::KeptLemmas::each_of_all))]
-fn asked<T, S: Items<SumKey, SumVal, P, R> + Sync, P: Send, R: Threads + Wait + Sync>(
-    shop: &Workshop<'_, T, S, R>,
+fn gather_kept<A, B: Items<SumKey, SumVal, P, R> + Sync, P: Send, R: Threads + Wait + Sync>(
+    shop: &Workshop<'_, A, B, R>,
     passes: &mut [P],
     keys: &[SumKey],
     items: &[usize],
@@ -178,17 +178,17 @@ fn asked<T, S: Items<SumKey, SumVal, P, R> + Sync, P: Send, R: Threads + Wait + 
 ) -> Result<Vec<KeptSum>, Fault>
     requires some { 0 < length passes.old }
     requires within { All (λ i. i < length keys.now) items.now }
-    requires fits { All (S.fits shop.now.sums.now) keys.now }
-    requires kept { AreKept (S.means shop.now.sums.now) kept.now }
-    ensures kept { IfOk result (λ v. AreKept (S.means shop.now.sums.now) v.items) }
+    requires fits { All (B.fits shop.now.sums.now) keys.now }
+    requires kept { AreKept (B.means shop.now.sums.now) kept.now }
+    ensures kept { IfOk result (λ v. AreKept (B.means shop.now.sums.now) v.items) }
     ensures few { IfOk result (λ v. AreOneEach keys.now items.now v.items) }
-    ensures fault { IfErr result (IsItemFault (S.means shop.now.sums.now) (S.failed shop.now.sums.now) keys.now items.now) }
+    ensures fault { IfErr result (IsItemFault (B.means shop.now.sums.now) (B.failed shop.now.sums.now) keys.now items.now) }
 {
     let before = WithKept {
         sums: shop.sums,
         kept,
     };
-    let values = gathered(shop.rt, shop.alloc, &before, passes, keys, items)?;
+    let values = gather(shop.rt, shop.alloc, &before, passes, keys, items)?;
     let mut asked = Vec::new(shop.alloc);
     for n in 0..items.len() {
         keep(&mut asked, &keys[items[n]], &values[n])?;
@@ -209,8 +209,8 @@ const MOST: usize = 64;
 ///
 /// The fault of the first block of the band, in the plan's order, that failed; or `NoMemory`. Then nothing is kept.
 #[tactic(auto, using(crate::proofs::KeptLemmas::all_keep, crate::proofs::KeptLemmas::each_kept, crate::proofs::KeptLemmas::none_kept, crate::proofs::KeptLemmas::some_kept, crate::proofs::KeptLemmas::tiles_keep))]
-pub fn keep_band<T, S: Items<SumKey, SumVal, P, R> + Sync, P: Send, R: Threads + Wait + Sync>(
-    shop: &Workshop<'_, T, S, R>,
+pub fn keep_band<A, B: Items<SumKey, SumVal, P, R> + Sync, P: Send, R: Threads + Wait + Sync>(
+    shop: &Workshop<'_, A, B, R>,
     passes: &mut [P],
     job: &Job,
     band: &Band,
@@ -219,11 +219,11 @@ pub fn keep_band<T, S: Items<SumKey, SumVal, P, R> + Sync, P: Send, R: Threads +
     requires some { 0 < length passes.old }
     requires job { IsJob job.now }
     requires band { IsBandOf job.now band.now }
-    requires sums { SumsServe job.now (S.fits shop.now.sums.now) (S.means shop.now.sums.now) }
-    requires kept { AreKept (S.means shop.now.sums.now) kept.old.items }
-    ensures kept { AreKept (S.means shop.now.sums.now) kept.new.items }
+    requires sums { SumsServe job.now (B.fits shop.now.sums.now) (B.means shop.now.sums.now) }
+    requires kept { AreKept (B.means shop.now.sums.now) kept.old.items }
+    ensures kept { AreKept (B.means shop.now.sums.now) kept.new.items }
     ensures few { KeepsFew job.now.plan band.now.items.items kept.old.items kept.new.items result }
-    ensures fault { IfErr result (IsSumsFault (S.means shop.now.sums.now) (S.failed shop.now.sums.now) job.now.plan band.now.items.items) }
+    ensures fault { IfErr result (IsSumsFault (B.means shop.now.sums.now) (B.failed shop.now.sums.now) job.now.plan band.now.items.items) }
 {
     let Plan::Sum(keys) = &job.plan else {
         return Ok(());
@@ -245,6 +245,6 @@ pub fn keep_band<T, S: Items<SumKey, SumVal, P, R> + Sync, P: Send, R: Threads +
         *kept = own;
         return Ok(());
     }
-    *kept = asked(shop, passes, keys, items, &own)?;
+    *kept = gather_kept(shop, passes, keys, items, &own)?;
     Ok(())
 }

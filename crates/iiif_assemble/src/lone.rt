@@ -8,7 +8,7 @@ ghost use Rattle.iiif_assemble.specs.Jobs.{IsJob, TilesServe};
 ghost use Rattle.iiif_assemble.specs.Lone.{IsFirstFault, IsTileImage, IsTileItself};
 ghost use Rattle.iiif_assemble.specs.Code.{tile_in};
 
-use crate::crew::gathered;
+use crate::crew::gather;
 use crate::items::Items;
 use crate::job::Job;
 use iiif_area::laws::same_sides_change_nothing;
@@ -40,19 +40,19 @@ fn is_itself(job: &Job, key: &TileKey) -> bool
 /// # Errors
 ///
 /// The fault of that band, or `NoMemory`.
-pub fn lone_tile<T: Items<TileKey, TileVal, P, R> + Sync, P: Send, R: Threads + Wait + Sync>(
+pub fn lone_tile<A: Items<TileKey, TileVal, P, R> + Sync, P: Send, R: Threads + Wait + Sync>(
     rt: &R,
     alloc: Global,
-    tiles: &T,
+    tiles: &A,
     passes: &mut [P],
     job: &Job,
     rows: u32,
 ) -> Result<Option<Arc<TileVal>>, Fault>
     requires some { 0 < length passes.old }
     requires job { IsJob job.now }
-    requires tiles { TilesServe job.now (T.fits tiles.now) (T.means tiles.now) }
-    ensures image { IfOk result (λ found. IfSome found (λ v. IsTileImage job.now (T.means tiles.now) (tile_in (arc_value v)))) }
-    ensures fault { IfErr result (IsFirstFault job.now (T.means tiles.now) (T.failed tiles.now) rows) }
+    requires tiles { TilesServe job.now (A.fits tiles.now) (A.means tiles.now) }
+    ensures image { IfOk result (λ found. IfSome found (λ v. IsTileImage job.now (A.means tiles.now) (tile_in (arc_value v)))) }
+    ensures fault { IfErr result (IsFirstFault job.now (A.means tiles.now) (A.failed tiles.now) rows) }
 {
     // Laws of scaling and of pictures.
     same_sides_change_nothing();
@@ -66,7 +66,7 @@ pub fn lone_tile<T: Items<TileKey, TileVal, P, R> + Sync, P: Send, R: Threads + 
     let Ok(band) = job.first(alloc, rows) else {
         return Err(Fault::NoMemory);
     };
-    match gathered(rt, alloc, tiles, passes, keys, &band.items) {
+    match gather(rt, alloc, tiles, passes, keys, &band.items) {
         Ok(mut values) => Ok(values.pop()),
         Err(fault) => Err(fault),
     }

@@ -17,7 +17,7 @@ ghost use Rattle.iiif_assemble.specs.Gathering.{IsItemFault};
 ghost use Rattle.iiif_assemble.specs.Jobs.{IsJob, SumsAreMeant, SumsServe};
 ghost use Rattle.iiif_assemble.specs.Code.{count_of, sums_in, total_of, AreBlocks, IsPictureOf, IsWithin, ListsMet};
 
-use crate::crew::gathered;
+use crate::crew::gather;
 use crate::finishing::{are_few, count_of, finish_all};
 use crate::items::Items;
 use crate::job::{Job, Made};
@@ -131,8 +131,8 @@ fn made_of<R: Threads + Sync>(
 /// The part in `from` of a region that is scaled down, of the sums of the blocks that have a place of it. Nothing is held of the
 /// result but its sums at these places, and then the samples. Where that is one block, which has all these places, and they are few,
 /// nothing is held of the result but the samples.
-pub(crate) fn summed<T, S: Items<SumKey, SumVal, P, R> + Sync, P: Send, R: Threads + Wait + Sync>(
-    shop: &Workshop<'_, T, S, R>,
+pub(crate) fn merge_sums<A, B: Items<SumKey, SumVal, P, R> + Sync, P: Send, R: Threads + Wait + Sync>(
+    shop: &Workshop<'_, A, B, R>,
     passes: &mut [P],
     job: &Job,
     keys: &[SumKey],
@@ -142,21 +142,21 @@ pub(crate) fn summed<T, S: Items<SumKey, SumVal, P, R> + Sync, P: Send, R: Threa
     requires some { 0 < length passes.old }
     requires job { IsJob job.now }
     requires cover { AreBlocks job.now keys.now }
-    requires serves { SumsServe job.now (S.fits shop.now.sums.now) (S.means shop.now.sums.now) }
+    requires serves { SumsServe job.now (B.fits shop.now.sums.now) (B.means shop.now.sums.now) }
     requires inside { LiesIn from job.now.resolved.size }
     requires lists { ListsMet block_places from keys.now items.now }
     ensures image { IfOk result (λ m. (shows : Pictures) (p : Picture) → IsPictureOf shows job.now p
-        → SumsAreMeant shows job.now (S.means shop.now.sums.now) →
+        → SumsAreMeant shows job.now (B.means shop.now.sums.now) →
         m.raster ≡ crop (scale (crop p job.now.resolved.rect) job.now.resolved.size) from) }
     ensures sides { IfOk result (λ m. dim_of m.raster ≡ sides_of from) }
     ensures channels { IfOk result (λ m. m.raster.channels ≡ channels_of job.now.shape.kind) }
     ensures top { IfOk result (λ m. m.raster.top ≡ top_of job.now.shape.depth) }
     ensures held { IfOk result (λ m. IsWithin (count_of m.raster) m.held) }
-    ensures fault { IfErr result (IsItemFault (S.means shop.now.sums.now) (S.failed shop.now.sums.now) keys.now items.now) }
+    ensures fault { IfErr result (IsItemFault (B.means shop.now.sums.now) (B.failed shop.now.sums.now) keys.now items.now) }
 {
     // Laws of sums and of pictures.
     merging_adds();
     whole_stays_whole();
-    let values = gathered(shop.rt, shop.alloc, shop.sums, passes, keys, items)?;
+    let values = gather(shop.rt, shop.alloc, shop.sums, passes, keys, items)?;
     made_of(shop.rt, shop.alloc, job, &values, from)
 }

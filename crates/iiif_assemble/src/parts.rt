@@ -25,7 +25,7 @@ pub(crate) struct Crew<'x, 'a, G, P, R> {
 
 /// The value of a key. Of one that is made of parts, workers that have nothing to do ask for some of these.
 #[cycle(parts)]
-pub(crate) fn value_of<
+pub(crate) fn ask<
     G: Items<K, V, P, R> + Sync,
     K: Sync,
     V: Drop + Send + Sync,
@@ -39,7 +39,7 @@ pub(crate) fn value_of<
     match crew.group.open(crew.rt, own, key) {
         Ok(Opened::Known(value)) => Ok(value),
         Ok(Opened::Parts(load, parts)) => {
-            let values = shared(crew, own, key, &parts);
+            let values = share(crew, own, key, &parts);
             crew.group.close(crew.rt, load, key, parts, values)
         }
         Err(fault) => Err(fault),
@@ -50,7 +50,7 @@ pub(crate) fn value_of<
 /// to do it asks for the last of them, while this one asks for the others. So behind a part that failed none is begun; one that is under
 /// way is ended, as others may wait for it.
 #[cycle(parts)]
-fn shared<
+fn share<
     G: Items<K, V, P, R> + Sync,
     K: Sync,
     V: Drop + Send + Sync,
@@ -63,12 +63,12 @@ fn shared<
     ensures fault { IfErr result (IsPartsFault (G.means crew.now.group.now) (G.failed crew.now.group.now) parts.now) }
 {
     if parts.len() < 2 {
-        return in_turn(crew, own, key, parts);
+        return ask_in_turn(crew, own, key, parts);
     }
     let Some(helper) = crew.idle.take(crew.rt) else {
         let (front, back) = parts.split_at(1);
-        let first = in_turn(crew, own, key, front)?;
-        let rest = shared(crew, own, key, back)?;
+        let first = ask_in_turn(crew, own, key, front)?;
+        let rest = share(crew, own, key, back)?;
         return joined(first, rest);
     };
     let (front, back) = parts.split_at(parts.len() - 1);
@@ -80,13 +80,13 @@ fn shared<
                 key.now) back.now }
             ensures { IfOk result (λ v. AreValuesOf (G.means crew.entry.now.group.now) back.entry.now v.items)
                 × IfErr result (IsPartsFault (G.means crew.entry.now.group.now) (G.failed crew.entry.now.group.now) back.entry.now) }
-        { helped(crew, helper, key, back) },
+        { help(crew, helper, key, back) },
         || -> Result<Vec<Arc<V>>, Fault>
             requires { IsSync R.row × (length front.now ≤ 3) × All (IsPart (G.fits crew.now.group.now) (G.rank crew.now.group.now)
                 (G.failed crew.now.group.now) key.now) front.now }
             ensures { IfOk result (λ v. AreValuesOf (G.means crew.entry.now.group.now) front.entry.now v.items)
                 × IfErr result (IsPartsFault (G.means crew.entry.now.group.now) (G.failed crew.entry.now.group.now) front.entry.now) }
-        { shared(crew, own, key, front) },
+        { share(crew, own, key, front) },
     );
     match first {
         Ok(first) => match rest {
@@ -99,7 +99,7 @@ fn shared<
 
 /// The same by a worker that had nothing to do, and has nothing to do again then.
 #[cycle(parts)]
-fn helped<
+fn help<
     'a,
     G: Items<K, V, P, R> + Sync,
     K: Sync,
@@ -116,14 +116,14 @@ fn helped<
     ensures values { IfOk result (λ v. AreValuesOf (G.means crew.now.group.now) parts.now v.items) }
     ensures fault { IfErr result (IsPartsFault (G.means crew.now.group.now) (G.failed crew.now.group.now) parts.now) }
 {
-    let values = in_turn(crew, helper.pass, key, parts);
+    let values = ask_in_turn(crew, helper.pass, key, parts);
     crew.idle.put(crew.rt, helper);
     values
 }
 
 /// The same, asked one after another.
 #[cycle(parts)]
-fn in_turn<
+fn ask_in_turn<
     G: Items<K, V, P, R> + Sync,
     K: Sync,
     V: Drop + Send + Sync,
@@ -136,7 +136,7 @@ fn in_turn<
 {
     let mut values = Vec::new(crew.alloc);
     for part in parts {
-        let value = value_of(crew, own, part)?;
+        let value = ask(crew, own, part)?;
         keep(&mut values, value)?;
     }
     Ok(values)

@@ -4,13 +4,13 @@ use std::alloc::Global;
 
 /// Where images are made: who has the values of tiles and of sums, and what it takes to ask for them.
 #[derive(Drop)]
-pub struct Workshop<'a, T, S, R> {
+pub struct Workshop<'a, A, B, R> {
     /// The runtime.
     pub rt: &'a R,
     /// What memory is taken of.
     pub alloc: Global,
     /// Who has tiles.
-    pub tiles: &'a T,
+    pub tiles: &'a A,
     /// Who has sums.
-    pub sums: &'a S,
+    pub sums: &'a B,
 }

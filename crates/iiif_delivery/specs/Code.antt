@@ -128,7 +128,7 @@ pub record SendsRaster {W : Type 0} (contents : W → Option (List ℕ)) (fails 
   pub whole : IfOk result (λ n. Appends (contents old) (contents new) (start ++ file p kind) × (n ≡ length (start ++ file p kind)))
   pub stopped : IfErr result (IsSendingOf contents fails (start ++ file p kind) old new)
 
-module _ {T P R O : Type 0} (tile : items.Ghosts T TileKey TileVal P R O) (tiles : T) (s : Sending) where
+module _ {A P R O : Type 0} (tile : items.Ghosts A TileKey TileVal P R O) (tiles : A) (s : Sending) where
   -- An image that is a tile as it stands was sent, or why not; nothing is sent of another.
   pub record SendsTile {W : Type 0} (contents : W → Option (List ℕ)) (fails : W → W → Type 0) (old new : W)
       (result : Option (Result Delivered Stopped)) : Type 0 where
@@ -140,8 +140,8 @@ module _ {T P R O : Type 0} (tile : items.Ghosts T TileKey TileVal P R O) (tiles
     pub stopped : IfSome result (λ r. IfErr r
         (TileStops contents fails s.job.now (tile.means tiles) (tile.failed tiles) s.kind s.rows s.start.now old new))
 
-module _ {T S R P O U : Type 0} (tile : items.Ghosts T TileKey TileVal P R O) (sum : items.Ghosts S SumKey SumVal P R U)
-    (shop : Workshop T S R) (s : Sending) where
+module _ {A B R P O U : Type 0} (tile : items.Ghosts A TileKey TileVal P R O) (sum : items.Ghosts B SumKey SumVal P R U)
+    (shop : Workshop A B R) (s : Sending) where
   -- The rows of a band were appended to a text, and so much was held; or why not. What is kept stays values of its keys, and few.
   pub record PutsBand (b : Band) (sums : List KeptSum) (old new : List ℕ) (result : Result ℕ Fault) : Type 0 where
     pub kept : AreKept (sum.means shop.sums.now) sums

@@ -83,8 +83,8 @@ front_len s = length (s.start.now ++ head_of s.kind (result_dim s.job.now))
 abbrev pub IsHeldIn : Sending → Delivered → Type 0
 IsHeldIn s d = IsHeldInBands (result_dim s.job.now) s.rows (channels_of s.job.now.shape.kind) d.held
 
-module _ {T S R P O U : Type 0} (tile : items.Ghosts T TileKey TileVal P R O) (sum : items.Ghosts S SumKey SumVal P R U)
-    (shop : Workshop T S R) (s : Sending) where
+module _ {A B R P O U : Type 0} (tile : items.Ghosts A TileKey TileVal P R O) (sum : items.Ghosts B SumKey SumVal P R U)
+    (shop : Workshop A B R) (s : Sending) where
   -- So may be sent: the job is planned, and bands have rows; who has tiles and sums may be asked for the job's, and answers what has
   -- their shape; and the file has the image's channels and depth, and a length that fits.
   pub record MaySend : Type 0 where

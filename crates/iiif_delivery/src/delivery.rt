@@ -107,23 +107,23 @@ fn stop<W: Outlet>(out: &mut W, text: &mut Vec<u8>, sent: u64, held: u64, fault:
 
 /// Sends an image in bands, as `send_image` does where it is not a tile as it stands.
 fn send_bands<
-    T: Items<TileKey, TileVal, P, R> + Sync,
-    S: Items<SumKey, SumVal, P, R> + Turns<R> + Sync,
+    A: Items<TileKey, TileVal, P, R> + Sync,
+    B: Items<SumKey, SumVal, P, R> + Turns<R> + Sync,
     P: Send,
     R: Threads + Wait + Sync,
     W: Outlet,
 >(
-    shop: &Workshop<'_, T, S, R>,
+    shop: &Workshop<'_, A, B, R>,
     passes: &mut [P],
     sending: &Sending<'_>,
     out: &mut W,
 ) -> Result<Delivered, Stopped>
     requires some { 0 < length passes.old }
-    requires sending { MaySend T.Items S.Items shop.now sending.now }
-    ensures whole { IfOk result (SendsWhole T.Items S.Items shop.now sending.now W.contents out.old out.new) }
+    requires sending { MaySend A.Items B.Items shop.now sending.now }
+    ensures whole { IfOk result (SendsWhole A.Items B.Items shop.now sending.now W.contents out.old out.new) }
     ensures held { IfOk result (IsHeldIn sending.now) }
-    ensures stopped { IfErr result (StopsWithin T.Items S.Items shop.now sending.now W.contents W.fails out.old out.new) }
-    ensures fault { IfErr result (FailsIn T.Items S.Items shop.now sending.now) }
+    ensures stopped { IfErr result (StopsWithin A.Items B.Items shop.now sending.now W.contents W.fails out.old out.new) }
+    ensures fault { IfErr result (FailsIn A.Items B.Items shop.now sending.now) }
 {
     // Laws of bands.
     bands_cut_results();
@@ -143,7 +143,7 @@ fn send_bands<
         if let Err(more) = look(out, &text) {
             return Err(Stopped::Writer(sent + more));
         }
-        let queued = come::<S, P, R>(shop.rt, shop.sums, sending.job, band, kept.as_slice());
+        let queued = come::<B, P, R>(shop.rt, shop.sums, sending.job, band, kept.as_slice());
         if is_gone_meanwhile(shop.rt, shop.sums, queued, out) {
             return Err(Stopped::Writer(sent));
         }
@@ -180,20 +180,20 @@ fn send_bands<
 ///
 /// The first fault of a band, the writer's, or `NoMemory`.
 pub fn send_image<
-    T: Items<TileKey, TileVal, P, R> + Sync,
-    S: Items<SumKey, SumVal, P, R> + Turns<R> + Sync,
+    A: Items<TileKey, TileVal, P, R> + Sync,
+    B: Items<SumKey, SumVal, P, R> + Turns<R> + Sync,
     P: Send,
     R: Threads + Wait + Sync,
     W: Outlet,
 >(
-    shop: &Workshop<'_, T, S, R>,
+    shop: &Workshop<'_, A, B, R>,
     passes: &mut [P],
     sending: &Sending<'_>,
     out: &mut W,
 ) -> Result<Delivered, Stopped>
     requires some { 0 < length passes.old }
-    requires sending { MaySend T.Items S.Items shop.now sending.now }
-    ensures { Sends T.Items S.Items shop.now sending.now W.contents W.fails out.old out.new result }
+    requires sending { MaySend A.Items B.Items shop.now sending.now }
+    ensures { Sends A.Items B.Items shop.now sending.now W.contents W.fails out.old out.new result }
 {
     // Laws of pictures and of files.
     laws_of_bands();

@@ -30,12 +30,12 @@ pub(crate) fn laws_of_bands()
 /// then, but for its rows; the sums of its blocks are kept until those of the band behind it are.
 #[tactic(auto, using(crate::proofs::FaultLemmas::blocks_fault))]
 pub(crate) fn put_band<
-    T: Items<TileKey, TileVal, P, R> + Sync,
-    S: Items<SumKey, SumVal, P, R> + Sync,
+    A: Items<TileKey, TileVal, P, R> + Sync,
+    B: Items<SumKey, SumVal, P, R> + Sync,
     P: Send,
     R: Threads + Wait + Sync,
 >(
-    shop: &Workshop<'_, T, S, R>,
+    shop: &Workshop<'_, A, B, R>,
     passes: &mut [P],
     sending: &Sending<'_>,
     band: &Band,
@@ -43,11 +43,11 @@ pub(crate) fn put_band<
     text: &mut Vec<u8>,
 ) -> Result<u64, Fault>
     requires some { 0 < length passes.old }
-    requires sending { MaySend T.Items S.Items shop.now sending.now }
+    requires sending { MaySend A.Items B.Items shop.now sending.now }
     requires band { IsBandOf sending.now.job.now band.now }
-    requires kept { AreKept (S.means shop.now.sums.now) kept.old.items }
+    requires kept { AreKept (B.means shop.now.sums.now) kept.old.items }
     requires few { AreFew kept.old.items }
-    ensures { PutsBand T.Items S.Items shop.now sending.now band.now kept.new.items text.old.items text.new.items result }
+    ensures { PutsBand A.Items B.Items shop.now sending.now band.now kept.new.items text.old.items text.new.items result }
 {
     let job = sending.job;
     match keep_band(shop, passes, job, band, kept) {

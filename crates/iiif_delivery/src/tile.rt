@@ -52,20 +52,20 @@ fn send_raster<W: Outlet>(
 /// Sends the image of a job behind a text where it is a tile of 8 bits as it stands: the tile's samples are its rows in the file. None
 /// where it is no such tile; nothing was sent then.
 pub(crate) fn send_tile<
-    T: Items<TileKey, TileVal, P, R> + Sync,
-    S: Items<SumKey, SumVal, P, R>,
+    A: Items<TileKey, TileVal, P, R> + Sync,
+    B: Items<SumKey, SumVal, P, R>,
     P: Send,
     R: Threads + Wait + Sync,
     W: Outlet,
 >(
-    shop: &Workshop<'_, T, S, R>,
+    shop: &Workshop<'_, A, B, R>,
     passes: &mut [P],
     sending: &Sending<'_>,
     out: &mut W,
 ) -> Option<Result<Delivered, Stopped>>
     requires some { 0 < length passes.old }
-    requires sending { MaySend T.Items S.Items shop.now sending.now }
-    ensures { SendsTile T.Items shop.now.tiles.now sending.now W.contents W.fails out.old out.new result }
+    requires sending { MaySend A.Items B.Items shop.now sending.now }
+    ensures { SendsTile A.Items shop.now.tiles.now sending.now W.contents W.fails out.old out.new result }
 {
     match sending.kind {
         OutKind::Gray | OutKind::Rgb => {}

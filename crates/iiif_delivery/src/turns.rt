@@ -44,9 +44,9 @@ fn work_of(job: &Job, blocks: usize, band: &Band) -> u64
 }
 
 /// A job comes that is to make the blocks of a band. None where there is nothing to wait for: all are at hand, or it is made of tiles.
-pub(crate) fn come<S: Items<SumKey, SumVal, P, R> + Turns<R>, P, R>(
+pub(crate) fn come<B: Items<SumKey, SumVal, P, R> + Turns<R>, P, R>(
     rt: &R,
-    sums: &S,
+    sums: &B,
     job: &Job,
     band: &Band,
     kept: &[KeptSum],
@@ -67,9 +67,9 @@ pub(crate) fn come<S: Items<SumKey, SumVal, P, R> + Turns<R>, P, R>(
 
 /// Waits for a job's turn, and looks again and again whether who reads is still there. It says whether that one is gone: then the job waits
 /// no longer. One that waited for two minutes goes on.
-pub(crate) fn is_gone_meanwhile<S: Turns<R>, R, W: Outlet>(
+pub(crate) fn is_gone_meanwhile<B: Turns<R>, R, W: Outlet>(
     rt: &R,
-    turns: &S,
+    turns: &B,
     job: Option<Queued>,
     out: &W,
 ) -> bool
@@ -93,7 +93,7 @@ pub(crate) fn is_gone_meanwhile<S: Turns<R>, R, W: Outlet>(
 }
 
 /// A job has made the blocks that it came for.
-pub(crate) fn leave<S: Turns<R>, R>(rt: &R, turns: &S, job: Option<Queued>) {
+pub(crate) fn leave<B: Turns<R>, R>(rt: &R, turns: &B, job: Option<Queued>) {
     if let Some(job) = job {
         turns.leave(rt, job);
     }

@@ -30,15 +30,15 @@ pub trait Answers<R, P> {
 
 /// Who answers the asks of a connection, and what it takes.
 #[derive(Drop)]
-struct Desk<'a, 's, R, S> {
+struct Desk<'a, 's, R, A> {
     rt: &'a R,
     alloc: Global,
-    service: &'s S,
+    service: &'s A,
 }
 
 /// Answers the next ask of a connection, which is its `n`-th. Says whether another may follow.
-fn serve_next<R, P, S: Answers<R, P>, I: Inlet, W: Outlet>(
-    desk: &Desk<'_, '_, R, S>,
+fn serve_next<R, P, A: Answers<R, P>, I: Inlet, W: Outlet>(
+    desk: &Desk<'_, '_, R, A>,
     passes: &mut P,
     reader: &mut I,
     n: u32,
@@ -46,7 +46,7 @@ fn serve_next<R, P, S: Answers<R, P>, I: Inlet, W: Outlet>(
 ) -> bool
     requires few { n ≤ ask_limit }
     ensures served { (text : List ℕ) × Appends (W.contents out.old) (W.contents out.new) text
-        × Served (S.answers desk.now.service.now) (LeftAt I.fails reader.new) (LeftAt W.fails out.new)
+        × Served (A.answers desk.now.service.now) (LeftAt I.fails reader.new) (LeftAt W.fails out.new)
         n (I.remaining reader.old) (I.remaining reader.new) text result }
     ensures few { IsTrue result → n < ask_limit }
 {
@@ -63,17 +63,17 @@ fn serve_next<R, P, S: Answers<R, P>, I: Inlet, W: Outlet>(
 
 /// Answers the asks of a connection in order, each in its version with a reply of its key, until its input ends, an ask is at fault,
 /// a reply is cut off, or its 1,000th ask was answered. Then the connection is to be closed.
-pub fn serve_peer<R, P, S: Answers<R, P>, I: Inlet, W: Outlet>(
+pub fn serve_peer<R, P, A: Answers<R, P>, I: Inlet, W: Outlet>(
     rt: &R,
     alloc: Global,
-    service: &S,
+    service: &A,
     passes: &mut P,
     reader: &mut I,
     out: &mut W,
 )
     ensures { (came : List ℕ) × (output : List ℕ) × IsInput (I.remaining reader.old) came ×
         Appends (W.contents out.old) (W.contents out.new) output
-        × IsExchange (S.answers service.now) (LeftAt I.fails reader.new) (LeftAt W.fails out.new) (IsInput (I.remaining reader.new)) came
+        × IsExchange (A.answers service.now) (LeftAt I.fails reader.new) (LeftAt W.fails out.new) (IsInput (I.remaining reader.new)) came
         output }
 {
     let desk = Desk { rt, alloc, service };

@@ -11,8 +11,8 @@ use Rattle.iiif_assemble.proofs.ImageLemmas.{turned_channels}
 use Rattle.iiif_assemble.proofs.HeldLemmas.{count_is, held_for}
 use Rattle.iiif_assemble.proofs.band.assemble_band.Goals as goal
 
-pub scaled_part-requires-clause-lists : goal.scaled_part-requires-clause-lists
-scaled_part-requires-clause-lists g c κs within =
+pub scale_part-requires-clause-lists : goal.scale_part-requires-clause-lists
+scale_part-requires-clause-lists g c κs within =
     let r = c.args.job.now.resolved in
     let from = c.unturn_rect-from.result in
     let band = c.args.band.now in
@@ -20,55 +20,56 @@ scaled_part-requires-clause-lists g c κs within =
     c.unturn_rect-from.ensures.same_places c.requires.band.items in
     subst (λ (js : List ℕ). ListsMetItems r from c.args.job.now.plan js) (sym c.deref.ensures.value) met
 
-pub returns-in-Ok-turned-clause-image : goal.returns-in-Ok-turned-clause-image
-returns-in-Ok-turned-clause-image g c =
+pub returns-in-Ok-apply_turn-clause-image : goal.returns-in-Ok-apply_turn-clause-image
+returns-in-Ok-apply_turn-clause-image g c =
     let j = c.args.job.now in
-    IfOk-weaker c.qualified.result _ _
+    IfOk-weaker c.apply_quality.result _ _
     (λ m made shows shown.
     let p = named shows j.name in
     let of = picture_shown shows j shown.picture shown.source in
-    band_image p j.resolved c.unturn_rect-from.result c.args.band.now.rect c.in-Ok.scaled.raster c.in-Ok-turned.turned.raster m.raster
+    band_image p j.resolved c.unturn_rect-from.result c.args.band.now.rect c.in-Ok.scaled.raster c.in-Ok-apply_turn.turned.raster m.raster
     c.unturn_rect-from.ensures.same_part
     c.quality_of_crop.ensures c.requires.job.quarters (channels-some p of.whole) c.requires.band.inside
-    (c.in-Ok.ensures.image shows p of shown.tiles shown.sums) c.in-Ok-turned.ensures.ok made)
-    c.qualified.ensures.ok
+    (c.in-Ok.ensures.image shows p of shown.tiles shown.sums) c.in-Ok-apply_turn.ensures.ok made)
+    c.apply_quality.ensures.ok
 
-pub returns-in-Ok-turned-clause-sides : goal.returns-in-Ok-turned-clause-sides
-returns-in-Ok-turned-clause-sides g c =
+pub returns-in-Ok-apply_turn-clause-sides : goal.returns-in-Ok-apply_turn-clause-sides
+returns-in-Ok-apply_turn-clause-sides g c =
     let r = c.args.job.now.resolved in
-    IfOk-weaker c.qualified.result _ _
-    (λ m made. ap dim_of made ∙ quality_sides c.in-Ok-turned.turned.raster r.quality ∙ ap dim_of c.in-Ok-turned.ensures.ok
+    IfOk-weaker c.apply_quality.result _ _
+    (λ m made. ap dim_of made ∙ quality_sides c.in-Ok-apply_turn.turned.raster r.quality ∙ ap dim_of c.in-Ok-apply_turn.ensures.ok
     ∙ band_sides r.turn r.size c.unturn_rect-from.result c.args.band.now.rect c.in-Ok.scaled.raster c.unturn_rect-from.ensures.same_part
     c.requires.job.quarters c.in-Ok.ensures.sides)
-    c.qualified.ensures.ok
+    c.apply_quality.ensures.ok
 
-pub returns-in-Ok-turned-clause-channels : goal.returns-in-Ok-turned-clause-channels
-returns-in-Ok-turned-clause-channels g c =
+pub returns-in-Ok-apply_turn-clause-channels : goal.returns-in-Ok-apply_turn-clause-channels
+returns-in-Ok-apply_turn-clause-channels g c =
     let r = c.args.job.now.resolved in
-    IfOk-weaker c.qualified.result _ _
-    (λ m made. ap (λ (p : Picture). p.channels) made ∙ quality_channels c.in-Ok-turned.turned.raster r.quality
-    ∙ ap (channels_in r.quality) (ap (λ (p : Picture). p.channels) c.in-Ok-turned.ensures.ok ∙
+    IfOk-weaker c.apply_quality.result _ _
+    (λ m made. ap (λ (p : Picture). p.channels) made ∙ quality_channels c.in-Ok-apply_turn.turned.raster r.quality
+    ∙ ap (channels_in r.quality) (ap (λ (p : Picture). p.channels) c.in-Ok-apply_turn.ensures.ok ∙
     turned_channels r.turn c.in-Ok.scaled.raster c.requires.job.quarters ∙ c.in-Ok.ensures.channels))
-    c.qualified.ensures.ok
+    c.apply_quality.ensures.ok
 
-pub returns-in-Ok-turned-clause-top : goal.returns-in-Ok-turned-clause-top
-returns-in-Ok-turned-clause-top g c =
+pub returns-in-Ok-apply_turn-clause-top : goal.returns-in-Ok-apply_turn-clause-top
+returns-in-Ok-apply_turn-clause-top g c =
     let r = c.args.job.now.resolved in
-    IfOk-weaker c.qualified.result _ _
-    (λ m made. image_top c.in-Ok.scaled.raster c.in-Ok-turned.turned.raster m.raster r.turn r.quality (top_of c.args.job.now.shape.depth)
-    c.in-Ok.ensures.top c.in-Ok-turned.ensures.ok made)
-    c.qualified.ensures.ok
+    IfOk-weaker c.apply_quality.result _ _
+    (λ m made. image_top c.in-Ok.scaled.raster c.in-Ok-apply_turn.turned.raster m.raster r.turn r.quality
+        (top_of c.args.job.now.shape.depth)
+    c.in-Ok.ensures.top c.in-Ok-apply_turn.ensures.ok made)
+    c.apply_quality.ensures.ok
 
-pub returns-in-Ok-turned-clause-held : goal.returns-in-Ok-turned-clause-held
-returns-in-Ok-turned-clause-held g c =
+pub returns-in-Ok-apply_turn-clause-held : goal.returns-in-Ok-apply_turn-clause-held
+returns-in-Ok-apply_turn-clause-held g c =
     let r = c.args.job.now.resolved in
-    let picture = c.in-Ok-turned.turned.raster in
-    let sides = ap dim_of c.in-Ok-turned.ensures.ok
+    let picture = c.in-Ok-apply_turn.turned.raster in
+    let sides = ap dim_of c.in-Ok-apply_turn.ensures.ok
     ∙ band_sides r.turn r.size c.unturn_rect-from.result c.args.band.now.rect c.in-Ok.scaled.raster c.unturn_rect-from.ensures.same_part
     c.requires.job.quarters c.in-Ok.ensures.sides in
-    let channels = ap (λ (p : Picture). p.channels) c.in-Ok-turned.ensures.ok ∙
+    let channels = ap (λ (p : Picture). p.channels) c.in-Ok-apply_turn.ensures.ok ∙
     turned_channels r.turn c.in-Ok.scaled.raster c.requires.job.quarters ∙ c.in-Ok.ensures.channels in
     let count = count_is picture (sides_of c.args.band.now.rect) (channels_of c.args.job.now.shape.kind) sides channels in
-    IfOk-weaker c.qualified.result _ _ (λ m h.
+    IfOk-weaker c.apply_quality.result _ _ (λ m h.
     held_for (sides_of c.args.band.now.rect) (channels_of c.args.job.now.shape.kind) (count_of picture) m.held count h)
-    (c.qualified.ensures.held (c.in-Ok-turned.ensures.held c.in-Ok.ensures.held))
+    (c.apply_quality.ensures.held (c.in-Ok-apply_turn.ensures.held c.in-Ok.ensures.held))

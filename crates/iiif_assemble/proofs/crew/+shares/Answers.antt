@@ -5,8 +5,8 @@ use Rattle.iiif_assemble.specs.Gathering.{AreValues}
 use Rattle.iiif_assemble.proofs.ZipLemmas.{runs_joined, second_failed}
 use Rattle.iiif_assemble.proofs.crew.+shares.Goals as goal
 
-pub shared_out-returns-in-Ok-clause-values : goal.shared_out-returns-in-Ok-clause-values
-shared_out-returns-in-Ok-clause-values g t c =
+pub share_out-returns-in-Ok-clause-values : goal.share_out-returns-in-Ok-clause-values
+share_out-returns-in-Ok-clause-values g t c =
     let means = g.G.Items.means c.args.crew.now.group.now in
     let keys = c.args.keys.now in
     let items = c.args.items.now in
@@ -20,8 +20,8 @@ shared_out-returns-in-Ok-clause-values g t c =
     v.items refl back had c.in-Ok.ensures.values e)
     c.joined.ensures.ok
 
-pub shared_out-returns-in-Err-clause-fault : goal.shared_out-returns-in-Err-clause-fault
-shared_out-returns-in-Err-clause-fault g t c =
+pub share_out-returns-in-Err-clause-fault : goal.share_out-returns-in-Err-clause-fault
+share_out-returns-in-Err-clause-fault g t c =
     let means = g.G.Items.means c.args.crew.now.group.now in
     let keys = c.args.keys.now in
     let items = c.args.items.now in
@@ -33,8 +33,8 @@ shared_out-returns-in-Err-clause-fault g t c =
     second_failed means (g.G.Items.failed c.args.crew.now.group.now) keys items (take (vec_len values) items) left (vec_len values)
     (map arc_value values.items) c.in-Err.fault refl back had c.in-Err.ensures.fault
 
-pub halved-returns-in-Ok-rest-clause-values : goal.halved-returns-in-Ok-rest-clause-values
-halved-returns-in-Ok-rest-clause-values g t c =
+pub halve-returns-in-Ok-rest-clause-values : goal.halve-returns-in-Ok-rest-clause-values
+halve-returns-in-Ok-rest-clause-values g t c =
     let a = rw c.in-Ok.is at c.join-rest.ensures.second.0 in
     let b = rw c.in-Ok-rest.is at c.join-rest.ensures.first.0 in
     IfOk-weaker c.joined.result _ _
@@ -43,8 +43,8 @@ halved-returns-in-Ok-rest-clause-values g t c =
     c.in-Ok.first.items c.in-Ok-rest.rest.items v.items c.split_at.ensures.front c.split_at.ensures.back a b e)
     c.joined.ensures.ok
 
-pub halved-returns-in-Err-rest-clause-fault : goal.halved-returns-in-Err-rest-clause-fault
-halved-returns-in-Err-rest-clause-fault g t c =
+pub halve-returns-in-Err-rest-clause-fault : goal.halve-returns-in-Err-rest-clause-fault
+halve-returns-in-Err-rest-clause-fault g t c =
     let a = rw c.in-Ok.is at c.join-rest.ensures.second.0 in
     let b = rw c.in-Err-rest.is at c.join-rest.ensures.first.1 in
     second_failed (g.G.Items.means c.args.crew.now.group.now) (g.G.Items.failed c.args.crew.now.group.now) c.args.keys.now c.args.items.now

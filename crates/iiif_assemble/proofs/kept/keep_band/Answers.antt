@@ -9,18 +9,18 @@ use Rattle.iiif_assemble.proofs.ZipLemmas.{passed_within}
 use Rattle.iiif_assemble.proofs.KeptLemmas.{all_keep, each_kept, some_kept}
 use Rattle.iiif_assemble.proofs.kept.keep_band.Goals as goal
 
-pub asked-requires-clause-within : goal.asked-requires-clause-within
-asked-requires-clause-within g c κs within =
+pub gather_kept-requires-clause-within : goal.gather_kept-requires-clause-within
+gather_kept-requires-clause-within g c κs within =
     let b = c.args.band.now in
     let lists = subst (λ (p : Plan). ListsItems c.args.job.now.resolved p b.rect b.items.items) c.in-Sum.is c.requires.band.items in
     subst (λ (ks : List SumKey). All (λ i. i < length ks) c.as_slice-items.result.now) (sym c.deref-4.ensures.value)
     (subst (All (λ i. i < length c.in-Sum.keys.items)) (sym c.as_slice-items.ensures.value)
     (passed_within lists.0 c.in-Sum.keys.items b.items.items lists.2))
 
-pub asked-requires-clause-fits : goal.asked-requires-clause-fits
-asked-requires-clause-fits g c κs within =
+pub gather_kept-requires-clause-fits : goal.gather_kept-requires-clause-fits
+gather_kept-requires-clause-fits g c κs within =
     let j = c.args.job.now in
-    let fits = g.S.Items.fits c.args.shop.now.sums.now in
+    let fits = g.B.Items.fits c.args.shop.now.sums.now in
     let of_plan = subst (λ (p : Plan). IsPlan j.name j.edge j.shape.dim (channels_of j.shape.kind) c.requires.job.room j.resolved p)
     c.in-Sum.is c.requires.job.is_plan in
     let level = of_plan.1 in

@@ -12,8 +12,8 @@ use Rattle.iiif_assemble.specs.Lone.{IsTileImage, IsTileItself, IsTilesFault}
 use Rattle.iiif_assemble.proofs.TileLemmas.{if_some, last_value, those_within, tile_image}
 use Rattle.iiif_assemble.proofs.lone.lone_tile.Goals as goal
 
-pub gathered-requires-clause-within : goal.gathered-requires-clause-within
-gathered-requires-clause-within g c κs within =
+pub gather-requires-clause-within : goal.gather-requires-clause-within
+gather-requires-clause-within g c κs within =
     let j = c.args.job.now in
     let band = c.in-Ok.band in
     let keys = c.in-Copy.keys.items in
@@ -23,10 +23,10 @@ gathered-requires-clause-within g c κs within =
     let all_items = subst (λ (js : List ℕ). All (λ i. i < length keys) js) (sym c.deref-2.ensures.value) all in
     subst (λ (ks : List TileKey). All (λ i. i < length ks) c.deref-2.result.now) (sym c.deref.ensures.value) all_items
 
-pub returns-in-Ok-gathered-clause-image : goal.returns-in-Ok-gathered-clause-image
-returns-in-Ok-gathered-clause-image g c =
+pub returns-in-Ok-gather-clause-image : goal.returns-in-Ok-gather-clause-image
+returns-in-Ok-gather-clause-image g c =
     let j = c.args.job.now in
-    let tm = g.T.Items.means c.args.tiles.now in
+    let tm = g.A.Items.means c.args.tiles.now in
     let keys = c.deref.result.now in
     let key = c.index.result.now in
     let channels = channels_of j.shape.kind in
@@ -41,10 +41,10 @@ returns-in-Ok-gathered-clause-image g c =
     subst (IsTileFor j.name j.edge j.shape.dim channels j.resolved.rect) first (tiles 0 key (omega (arith, one))) in
     if_some c.pop.result (λ v. IsTileImage j tm (tile_in (arc_value v)))
     (λ a is.
-    let last : c.in-Ok-gathered.values.items ≡ c.pop.new.self.items ++ a ∷ [] = c.pop.ensures.items ∙
+    let last : c.in-Ok-gather.values.items ≡ c.pop.new.self.items ++ a ∷ [] = c.pop.ensures.items ∙
     ap (λ o. c.pop.new.self.items ++ option_to_list o) is in
-    let meant = last_value arc_value tm keys c.deref-2.result.now c.in-Ok-gathered.values.items c.pop.new.self.items key a one first
-    c.in-Ok-gathered.ensures.values last in
+    let meant = last_value arc_value tm keys c.deref-2.result.now c.in-Ok-gather.values.items c.pop.new.self.items key a one first
+    c.in-Ok-gather.ensures.values last in
     tile_image c.whole_stays_whole.ensures.crop c.same_sides_change_nothing.ensures j tm key (arc_value a) c.requires.job itself planned.0
     of_key.named
     (c.requires.tiles.shaped key (arc_value a) of_key meant) meant)
@@ -53,8 +53,8 @@ pub returns-clause-fault : goal.returns-clause-fault
 returns-clause-fault g c =
     let j = c.args.job.now in
     let band = c.in-Ok.band in
-    let tm = g.T.Items.means c.args.tiles.now in
-    let tf = g.T.Items.failed c.args.tiles.now in
+    let tm = g.A.Items.means c.args.tiles.now in
+    let tf = g.A.Items.failed c.args.tiles.now in
     let over_keys = subst (λ (ks : List TileKey). IsItemFault tm tf ks c.deref-2.result.now c.in-Err.fault) c.deref.ensures.value
     c.in-Err.ensures.fault in
     let of_items = subst (λ (js : List ℕ). IsItemFault tm tf c.in-Copy.keys.items js c.in-Err.fault) c.deref-2.ensures.value over_keys in

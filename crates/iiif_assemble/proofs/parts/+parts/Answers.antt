@@ -5,28 +5,28 @@ use Rattle.iiif_assemble.specs.Opening.{AreValuesOf, IsPart, IsPartsFault}
 use Rattle.iiif_assemble.proofs.PartLemmas.{back_failed, both_values, failed_first, fault_of_key, one_value_more, told}
 use Rattle.iiif_assemble.proofs.parts.+parts.Goals as goal
 
-pub in_turn-loop-part-preserved : goal.in_turn-loop-part-preserved
-in_turn-loop-part-preserved g t c =
+pub ask_in_turn-loop-part-preserved : goal.ask_in_turn-loop-part-preserved
+ask_in_turn-loop-part-preserved g t c =
     one_value_more (g.G.Items.means c.args.crew.now.group.now) c.args.parts.now c.loop-part.part-index c.part-item.result
     c.in_ok-value.value c.loop-part.values.items c.keep.new.values.items c.loop-part-test.true (sym c.part-item.is)
     c.in_ok-value.ensures.value c.loop-part.invariant c.in_ok-keep.ensures.ok
 
-pub in_turn-returns-clause-values : goal.in_turn-returns-clause-values
-in_turn-returns-clause-values g t c =
+pub ask_in_turn-returns-clause-values : goal.ask_in_turn-returns-clause-values
+ask_in_turn-returns-clause-values g t c =
     let past : length c.args.parts.now ≤ c.loop-part.part-index = omega arith in
     subst (λ ks. AreValuesOf (g.G.Items.means c.args.crew.now.group.now) ks c.loop-part.values.items)
     (take_all c.loop-part.part-index c.args.parts.now past) c.loop-part.invariant
 
-pub shared-returns-in_default-clause-values : goal.shared-returns-in_default-clause-values
-shared-returns-in_default-clause-values g t c =
+pub share-returns-in_default-clause-values : goal.share-returns-in_default-clause-values
+share-returns-in_default-clause-values g t c =
     IfOk-weaker c.joined.result _ _
     (λ v e. both_values (g.G.Items.means c.args.crew.now.group.now) 1 c.args.parts.now c.split_at.result.0.now c.split_at.result.1.now
     c.in_ok-first.first.items c.in_ok-rest.rest.items v.items
     c.split_at.ensures.front c.split_at.ensures.back c.in_ok-first.ensures.values c.in_ok-rest.ensures.values e)
     c.joined.ensures.ok
 
-pub shared-returns-in-Ok-rest-clause-values : goal.shared-returns-in-Ok-rest-clause-values
-shared-returns-in-Ok-rest-clause-values g t c =
+pub share-returns-in-Ok-rest-clause-values : goal.share-returns-in-Ok-rest-clause-values
+share-returns-in-Ok-rest-clause-values g t c =
     let a = rw c.in-Ok.is at c.join-rest.ensures.second.0 in
     let b = rw c.in-Ok-rest.is at c.join-rest.ensures.first.0 in
     IfOk-weaker c.joined-in-Ok-rest.result _ _
@@ -35,8 +35,8 @@ shared-returns-in-Ok-rest-clause-values g t c =
     c.split_at-2.ensures.front c.split_at-2.ensures.back a b e)
     c.joined-in-Ok-rest.ensures.ok
 
-pub in_turn-returns-in_err-value-clause-fault : goal.in_turn-returns-in_err-value-clause-fault
-in_turn-returns-in_err-value-clause-fault g t c =
+pub ask_in_turn-returns-in_err-value-clause-fault : goal.ask_in_turn-returns-in_err-value-clause-fault
+ask_in_turn-returns-in_err-value-clause-fault g t c =
     let means = g.G.Items.means c.args.crew.now.group.now in
     let failed = g.G.Items.failed c.args.crew.now.group.now in
     told (IsPartsFault means failed c.args.parts.now) c.from_residual.result c.in_err-value.field-0.0
@@ -44,8 +44,8 @@ in_turn-returns-in_err-value-clause-fault g t c =
     (sym c.part-item.is) c.loop-part.invariant c.in_err-value.ensures.fault)
     (err_from_is_err_and c.from_residual.result c.from_residual.ensures.1)
 
-pub shared-returns-in_err-rest-clause-fault : goal.shared-returns-in_err-rest-clause-fault
-shared-returns-in_err-rest-clause-fault g t c =
+pub share-returns-in_err-rest-clause-fault : goal.share-returns-in_err-rest-clause-fault
+share-returns-in_err-rest-clause-fault g t c =
     let means = g.G.Items.means c.args.crew.now.group.now in
     let failed = g.G.Items.failed c.args.crew.now.group.now in
     told (IsPartsFault means failed c.args.parts.now) c.from_residual-in_err-rest.result c.in_err-rest.field-0.0
@@ -53,21 +53,21 @@ shared-returns-in_err-rest-clause-fault g t c =
     c.split_at.ensures.front c.split_at.ensures.back c.in_ok-first.ensures.values c.in_err-rest.ensures.fault)
     (err_from_is_err_and c.from_residual-in_err-rest.result c.from_residual-in_err-rest.ensures.1)
 
-pub shared-returns-in-Err-rest-clause-fault : goal.shared-returns-in-Err-rest-clause-fault
-shared-returns-in-Err-rest-clause-fault g t c =
+pub share-returns-in-Err-rest-clause-fault : goal.share-returns-in-Err-rest-clause-fault
+share-returns-in-Err-rest-clause-fault g t c =
     let a = rw c.in-Ok.is at c.join-rest.ensures.second.0 in
     let b = rw c.in-Err-rest.is at c.join-rest.ensures.first.1 in
     back_failed (g.G.Items.means c.args.crew.now.group.now) (g.G.Items.failed c.args.crew.now.group.now) (length c.args.parts.now - 1)
     c.args.parts.now c.split_at-2.result.0.now c.split_at-2.result.1.now c.in-Ok.first.items c.in-Err-rest.later c.split_at-2.ensures.front
     c.split_at-2.ensures.back a b
 
-pub value_of-close-requires-clause-fault : goal.value_of-close-requires-clause-fault
-value_of-close-requires-clause-fault g t c =
+pub ask-close-requires-clause-fault : goal.ask-close-requires-clause-fault
+ask-close-requires-clause-fault g t c =
     let group = c.args.crew.now.group.now in
     let part = IsPart (g.G.Items.fits group) (g.G.Items.rank group) (g.G.Items.failed group) c.args.key.now in
     let opened = rw c.in-Ok-Parts.field-0-is at c.in-Ok-Parts.ensures.opened in
     let all : All part c.deref.result.now = subst (All part) (sym c.deref.ensures.value) opened.1 in
-    IfErr-weaker c.shared-values.result _ _
+    IfErr-weaker c.share-values.result _ _
     (λ f h. fault_of_key (g.G.Items.fits group) (g.G.Items.means group) (g.G.Items.rank group) (g.G.Items.failed group) c.args.key.now
     c.deref.result.now f all h)
-    c.shared-values.ensures.fault
+    c.share-values.ensures.fault

@@ -24,7 +24,7 @@ pub returns-in_default-clause-stopped : goal.returns-in_default-clause-stopped
 returns-in_default-clause-stopped g c =
     let s = c.args.sending.now in
     let j = s.job.now in
-    none_sent c.laws_of_bands.ensures j (g.T.Items.means c.args.shop.now.tiles.now) (g.S.Items.means c.args.shop.now.sums.now) s.kind
+    none_sent c.laws_of_bands.ensures j (g.A.Items.means c.args.shop.now.tiles.now) (g.B.Items.means c.args.shop.now.sums.now) s.kind
     s.start.now c.requires.sending.job.quarters
     c.requires.sending.channels (g.W.Write.contents c.args.out.now)
 
@@ -32,7 +32,7 @@ pub returns-in_default-bands-clause-stopped : goal.returns-in_default-bands-clau
 returns-in_default-bands-clause-stopped g c =
     let s = c.args.sending.now in
     let j = s.job.now in
-    none_sent c.laws_of_bands.ensures j (g.T.Items.means c.args.shop.now.tiles.now) (g.S.Items.means c.args.shop.now.sums.now) s.kind
+    none_sent c.laws_of_bands.ensures j (g.A.Items.means c.args.shop.now.tiles.now) (g.B.Items.means c.args.shop.now.sums.now) s.kind
     s.start.now c.requires.sending.job.quarters
     c.requires.sending.channels (g.W.Write.contents c.args.out.now)
 
@@ -43,8 +43,8 @@ loop-band-init g c =
     let is = c.in-Ok.ensures ∙ ap (λ (e : Dim). s.start.now ++ head_of s.kind e) front in
     let none : min (0 * s.rows) d.h ≡ 0 = omega arith in
     record {
-      rows = first_rows c.laws_of_bands.ensures j (g.T.Items.means c.args.shop.now.tiles.now)
-          (g.S.Items.means c.args.shop.now.sums.now) s.kind s.start.now c.requires.sending.job.quarters
+      rows = first_rows c.laws_of_bands.ensures j (g.A.Items.means c.args.shop.now.tiles.now)
+          (g.B.Items.means c.args.shop.now.sums.now) s.kind s.start.now c.requires.sending.job.quarters
           c.requires.sending.channels (g.W.Write.contents c.args.out.now) c.in-Ok.text.items (min (0 * s.rows) d.h) is none;
       counted = counted_first j s.kind (length (s.start.now ++ head_of s.kind d)) s.rows (min (0 * s.rows) d.h)
           c.in-Ok.text.items (ap length is) none;
@@ -54,8 +54,8 @@ loop-band-init g c =
 
 pub returns-in-Err-made-clause-stopped : goal.returns-in-Err-made-clause-stopped
 returns-in-Err-made-clause-stopped g c =
-    let s = c.args.sending.now in let j = s.job.now in let d = result_dim j in let tm = g.T.Items.means c.args.shop.now.tiles.now in
-    let sm = g.S.Items.means c.args.shop.now.sums.now in
+    let s = c.args.sending.now in let j = s.job.now in let d = result_dim j in let tm = g.A.Items.means c.args.shop.now.tiles.now in
+    let sm = g.B.Items.means c.args.shop.now.sums.now in
     let i = c.loop-band.band-index in let bs = c.deref-band-items.result.now in
     let are = subst (AreBands j.resolved j.plan s.rows) (sym c.deref-band-items.ensures.value) c.in-Ok-bands.ensures.bands in
     let y = min (i * s.rows) d.h in
@@ -81,8 +81,8 @@ returns-in-Err-made-clause-fault g c =
     let at = band_at j.resolved j.plan s.rows bs i b are c.loop-band-test.true (sym c.band-item.is) in
     let row : i * s.rows ≡ y = omega (arith, above) in let here : b.rect ≡ band_from d s.rows y = at ∙ ap (band_from d s.rows) row in
     let of_job : IsBandOf j b = subst (IsBandOf j) (sym c.band-item.is) (each i b c.loop-band-test.true) in
-    let tm = g.T.Items.means c.args.shop.now.tiles.now in let tf = g.T.Items.failed c.args.shop.now.tiles.now in
-    let sm = g.S.Items.means c.args.shop.now.sums.now in let sf = g.S.Items.failed c.args.shop.now.sums.now in
+    let tm = g.A.Items.means c.args.shop.now.tiles.now in let tf = g.A.Items.failed c.args.shop.now.tiles.now in
+    let sm = g.B.Items.means c.args.shop.now.sums.now in let sf = g.B.Items.failed c.args.shop.now.sums.now in
     let told = subst (λ (t : List ℕ). StopsFor g.W.Write.contents g.W.Outlet.fails c.loop-band.out c.stop.new.out t c.loop-band.sent
     c.loop-band.held c.in-Err-made.fault c.stop.result) c.in-Err-made.ensures.none c.stop.ensures in
     band_fails g.W.Write.contents g.W.Outlet.fails j tm tf sm sf s.kind c.loop-band.out c.stop.new.out c.loop-band.text.items front
@@ -101,8 +101,8 @@ stop-requires g c =
 
 pub flush-requires : goal.flush-requires
 flush-requires g c =
-    let s = c.args.sending.now in let j = s.job.now in let d = result_dim j in let tm = g.T.Items.means c.args.shop.now.tiles.now in
-    let sm = g.S.Items.means c.args.shop.now.sums.now in let front = length (s.start.now ++ head_of s.kind d) in
+    let s = c.args.sending.now in let j = s.job.now in let d = result_dim j in let tm = g.A.Items.means c.args.shop.now.tiles.now in
+    let sm = g.B.Items.means c.args.shop.now.sums.now in let front = length (s.start.now ++ head_of s.kind d) in
     let i = c.loop-band.band-index in let bs = c.deref-band-items.result.now in
     let are = subst (AreBands j.resolved j.plan s.rows) (sym c.deref-band-items.ensures.value) c.in-Ok-bands.ensures.bands in
     let y = min (i * s.rows) d.h in
@@ -134,8 +134,8 @@ flush-requires g c =
 
 pub returns-in-Err-flush-clause-stopped : goal.returns-in-Err-flush-clause-stopped
 returns-in-Err-flush-clause-stopped g c =
-    let s = c.args.sending.now in let j = s.job.now in let d = result_dim j in let tm = g.T.Items.means c.args.shop.now.tiles.now in
-    let sm = g.S.Items.means c.args.shop.now.sums.now in let front = length (s.start.now ++ head_of s.kind d) in
+    let s = c.args.sending.now in let j = s.job.now in let d = result_dim j in let tm = g.A.Items.means c.args.shop.now.tiles.now in
+    let sm = g.B.Items.means c.args.shop.now.sums.now in let front = length (s.start.now ++ head_of s.kind d) in
     let i = c.loop-band.band-index in let bs = c.deref-band-items.result.now in
     let are = subst (AreBands j.resolved j.plan s.rows) (sym c.deref-band-items.ensures.value) c.in-Ok-bands.ensures.bands in
     let y = min (i * s.rows) d.h in
@@ -165,8 +165,8 @@ returns-in-Err-flush-clause-stopped g c =
 
 pub loop-band-preserved : goal.loop-band-preserved
 loop-band-preserved g c =
-    let s = c.args.sending.now in let j = s.job.now in let d = result_dim j in let tm = g.T.Items.means c.args.shop.now.tiles.now in
-    let sm = g.S.Items.means c.args.shop.now.sums.now in let front = length (s.start.now ++ head_of s.kind d) in
+    let s = c.args.sending.now in let j = s.job.now in let d = result_dim j in let tm = g.A.Items.means c.args.shop.now.tiles.now in
+    let sm = g.B.Items.means c.args.shop.now.sums.now in let front = length (s.start.now ++ head_of s.kind d) in
     let i = c.loop-band.band-index in let bs = c.deref-band-items.result.now in
     let are = subst (AreBands j.resolved j.plan s.rows) (sym c.deref-band-items.ensures.value) c.in-Ok-bands.ensures.bands in
     let y = min (i * s.rows) d.h in
@@ -234,8 +234,8 @@ flush-requires-2 g c =
 
 pub returns-in-Ok-flush-2-clause-whole : goal.returns-in-Ok-flush-2-clause-whole
 returns-in-Ok-flush-2-clause-whole g c =
-    let s = c.args.sending.now in let j = s.job.now in let d = result_dim j in let tm = g.T.Items.means c.args.shop.now.tiles.now in
-    let sm = g.S.Items.means c.args.shop.now.sums.now in let i = c.loop-band.band-index in let bs = c.deref-band-items.result.now in
+    let s = c.args.sending.now in let j = s.job.now in let d = result_dim j in let tm = g.A.Items.means c.args.shop.now.tiles.now in
+    let sm = g.B.Items.means c.args.shop.now.sums.now in let i = c.loop-band.band-index in let bs = c.deref-band-items.result.now in
     let are = subst (AreBands j.resolved j.plan s.rows) (sym c.deref-band-items.ensures.value) c.in-Ok-bands.ensures.bands in
     let y = min (i * s.rows) d.h in
     let end = bands_end j.resolved j.plan s.rows bs i c.requires.sending.rows are c.loop-band-test.false in
@@ -262,8 +262,8 @@ returns-in-Ok-flush-2-clause-held g c =
 
 pub returns-clause-stopped : goal.returns-clause-stopped
 returns-clause-stopped g c =
-    let s = c.args.sending.now in let j = s.job.now in let d = result_dim j in let tm = g.T.Items.means c.args.shop.now.tiles.now in
-    let sm = g.S.Items.means c.args.shop.now.sums.now in let front = length (s.start.now ++ head_of s.kind d) in
+    let s = c.args.sending.now in let j = s.job.now in let d = result_dim j in let tm = g.A.Items.means c.args.shop.now.tiles.now in
+    let sm = g.B.Items.means c.args.shop.now.sums.now in let front = length (s.start.now ++ head_of s.kind d) in
     let i = c.loop-band.band-index in let y = min (i * s.rows) d.h in let cut = c.in-Err-flush-2.ensures.cut in
     λ shows has source.
     let w = writer_stopped c.laws_of_bands.ensures j tm sm s.kind s.start.now c.requires.sending.job.quarters c.requires.sending.channels
@@ -278,8 +278,8 @@ returns-clause-stopped g c =
 
 pub returns-in-Err-clause-stopped : goal.returns-in-Err-clause-stopped
 returns-in-Err-clause-stopped g c =
-    let s = c.args.sending.now in let j = s.job.now in let d = result_dim j in let tm = g.T.Items.means c.args.shop.now.tiles.now in
-    let sm = g.S.Items.means c.args.shop.now.sums.now in let i = c.loop-band.band-index in let bs = c.deref-band-items.result.now in
+    let s = c.args.sending.now in let j = s.job.now in let d = result_dim j in let tm = g.A.Items.means c.args.shop.now.tiles.now in
+    let sm = g.B.Items.means c.args.shop.now.sums.now in let i = c.loop-band.band-index in let bs = c.deref-band-items.result.now in
     let are = subst (AreBands j.resolved j.plan s.rows) (sym c.deref-band-items.ensures.value) c.in-Ok-bands.ensures.bands in
     let y = min (i * s.rows) d.h in
     let above = band_above j.resolved j.plan s.rows bs i c.requires.sending.rows are c.loop-band-test.true in
@@ -301,7 +301,7 @@ returns-then-is_gone_meanwhile-clause-stopped g c =
     let some = (result_some j c.requires.sending.job.scalable.result_columns c.requires.sending.job.scalable.result_rows).0 in
     let gone = c.is_gone_meanwhile.ensures c.if-is_gone_meanwhile.true in
     λ shows has source.
-    gone_stopped c.laws_of_bands.ensures j (g.T.Items.means c.args.shop.now.tiles.now) (g.S.Items.means c.args.shop.now.sums.now) s.kind
+    gone_stopped c.laws_of_bands.ensures j (g.A.Items.means c.args.shop.now.tiles.now) (g.B.Items.means c.args.shop.now.sums.now) s.kind
     s.start.now c.requires.sending.job.quarters c.requires.sending.channels g.W.Write.contents g.W.Outlet.fails c.args.out.now
     c.loop-band.out
     c.loop-band.text.items c.loop-band.sent c.loop-band.held s.rows y

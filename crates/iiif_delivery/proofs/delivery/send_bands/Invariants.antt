@@ -13,9 +13,9 @@ invariant-loop-band g l =
     let j = s.job.now in
     let y = min (l.band-index * s.rows) (result_dim j).h in
     record {
-      rows : HaveRows j (g.T.Items.means l.shop.tiles.now) (g.S.Items.means l.shop.sums.now) s.kind s.start.now
+      rows : HaveRows j (g.A.Items.means l.shop.tiles.now) (g.B.Items.means l.shop.sums.now) s.kind s.start.now
           (g.W.Write.contents l.fn.out) (g.W.Write.contents l.out) l.text.items l.sent y;
       counted : HasCounted j s.kind (length (s.start.now ++ head_of s.kind (result_dim j))) s.rows l.text.items l.sent l.held y;
-      kept : AreKept (g.S.Items.means l.shop.sums.now) l.kept.items;
+      kept : AreKept (g.B.Items.means l.shop.sums.now) l.kept.items;
       few : AreFew l.kept.items;
     }

@@ -7,10 +7,10 @@ pub returns-in-Some : goal.returns-in-Some
 returns-in-Some g c =
     let s = c.args.sending.now in
     let j = s.job.now in
-    let tm = g.T.Items.means c.args.shop.now.tiles.now in
-    let tf = g.T.Items.failed c.args.shop.now.tiles.now in
-    let sm = g.S.Items.means c.args.shop.now.sums.now in
-    let sf = g.S.Items.failed c.args.shop.now.sums.now in
+    let tm = g.A.Items.means c.args.shop.now.tiles.now in
+    let tf = g.A.Items.failed c.args.shop.now.tiles.now in
+    let sm = g.B.Items.means c.args.shop.now.sums.now in
+    let sf = g.B.Items.failed c.args.shop.now.sums.now in
     let may = c.requires.sending in
     record {
       whole = IfOk-weaker c.in-Some.result _ _

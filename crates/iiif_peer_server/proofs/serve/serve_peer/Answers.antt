@@ -6,7 +6,7 @@ use Rattle.iiif_peer_server.proofs.serve.serve_peer.Goals as goal
 pub loop-desk-init : goal.loop-desk-init
 loop-desk-init g c = record {
   few = omega arith;
-  came = begins_so (g.S.Answers.answers c.args.service.now) (LeftAt g.I.Inlet.fails) (LeftAt g.W.Outlet.fails) g.I.Read.remaining
+  came = begins_so (g.A.Answers.answers c.args.service.now) (LeftAt g.I.Inlet.fails) (LeftAt g.W.Outlet.fails) g.I.Read.remaining
       (g.I.Read.remaining c.args.reader.now) (g.W.Write.contents c.args.out.now);
 }
 
@@ -15,7 +15,7 @@ loop-desk-preserved g c =
     let more = c.serve_next.ensures.few c.loop-desk-test.true in
     record {
       few = omega (arith, more);
-      came = goes_further (g.S.Answers.answers c.args.service.now) (LeftAt g.I.Inlet.fails) (LeftAt g.W.Outlet.fails) g.I.Read.remaining
+      came = goes_further (g.A.Answers.answers c.args.service.now) (LeftAt g.I.Inlet.fails) (LeftAt g.W.Outlet.fails) g.I.Read.remaining
           c.serve_next.new.reader c.serve_next.new.out
           c.loop-desk.n (g.I.Read.remaining c.args.reader.now) (g.I.Read.remaining c.loop-desk.reader)
           (g.I.Read.remaining c.serve_next.new.reader)
@@ -25,7 +25,7 @@ loop-desk-preserved g c =
 
 pub returns : goal.returns
 returns g c =
-    ends_so (g.S.Answers.answers c.args.service.now) (LeftAt g.I.Inlet.fails) (LeftAt g.W.Outlet.fails) g.I.Read.remaining
+    ends_so (g.A.Answers.answers c.args.service.now) (LeftAt g.I.Inlet.fails) (LeftAt g.W.Outlet.fails) g.I.Read.remaining
     c.serve_next.new.reader c.serve_next.new.out
     c.loop-desk.n (g.I.Read.remaining c.args.reader.now) (g.I.Read.remaining c.loop-desk.reader)
     (g.W.Write.contents c.args.out.now) (g.W.Write.contents c.loop-desk.out) (g.W.Write.contents c.serve_next.new.out)

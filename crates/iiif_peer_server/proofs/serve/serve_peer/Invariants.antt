@@ -7,7 +7,7 @@ abbrev pub invariant-loop-desk : goal.invariant-loop-desk
 invariant-loop-desk g l =
     record {
       few : l.n ≤ 1000;
-      came : CameSo (g.S.Answers.answers l.fn.service) (LeftAt g.I.Inlet.fails) (LeftAt g.W.Outlet.fails) g.I.Read.remaining l.n
+      came : CameSo (g.A.Answers.answers l.fn.service) (LeftAt g.I.Inlet.fails) (LeftAt g.W.Outlet.fails) g.I.Read.remaining l.n
           (g.I.Read.remaining l.fn.reader)
           (g.I.Read.remaining l.reader) (g.W.Write.contents l.fn.out) (g.W.Write.contents l.out);
     }

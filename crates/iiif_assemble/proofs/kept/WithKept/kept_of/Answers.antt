@@ -8,7 +8,7 @@ use Rattle.iiif_assemble.proofs.kept.WithKept.kept_of.Goals.{then-is_of+in_ok-ke
 
 pub loop-sum-preserved : goal.loop-sum-preserved
 loop-sum-preserved g c =
-    let means = g.S.Items.means c.args.self.now.sums.now in
+    let means = g.B.Items.means c.args.self.now.sums.now in
     let P : KeptSum → Type 0 = λ t. means t.key (arc_value t.value) in
     let s = c.sum-item.result in
     let before = c.loop-sum.rest.items in

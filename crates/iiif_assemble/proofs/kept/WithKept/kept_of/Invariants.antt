@@ -6,7 +6,7 @@ use Rattle.iiif_assemble.proofs.kept.WithKept.kept_of.Given as goal
 abbrev pub invariant-loop-sum : goal.invariant-loop-sum
 invariant-loop-sum g l =
     record {
-      kept : AreKept (g.S.Items.means l.self.sums.now) l.rest.items;
+      kept : AreKept (g.B.Items.means l.self.sums.now) l.rest.items;
       own : AreOfItems l.keys l.items l.rest.items;
       few : length l.rest.items ≤ l.sum-index;
     }

@@ -1,6 +1,6 @@
 use Rattle.std.proofs.Common.{arith}
 use Rattle.iiif_assemble.proofs.HeldLemmas.{held_turned}
-use Rattle.iiif_assemble.proofs.band.turned.Goals as goal
+use Rattle.iiif_assemble.proofs.band.apply_turn.Goals as goal
 
 pub returns-in-Ok-clause-held : goal.returns-in-Ok-clause-held
 returns-in-Ok-clause-held c within =

@@ -1,7 +1,7 @@
 use Rattle.std.proofs.Common.{◌≡◌, length, map, take}
 use Rattle.std.specs.Arc.{arc_value}
 use Rattle.iiif_assemble.specs.Gathering.{AreValues}
-use Rattle.iiif_assemble.proofs.crew.begun.Given as goal
+use Rattle.iiif_assemble.proofs.crew.begin.Given as goal
 
 -- the items so far
 abbrev pub invariant-loop-n : goal.invariant-loop-n

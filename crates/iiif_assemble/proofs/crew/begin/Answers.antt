@@ -1,7 +1,7 @@
 use Rattle.std.proofs.Common.{inl, inr, ⊎_elim, sym, ap, length, arith, map, length-append, ◌∷◌, []}
 use Rattle.std.specs.Arc.{arc_value}
 use Rattle.iiif_assemble.proofs.ZipLemmas.{one_kept, failed_here}
-use Rattle.iiif_assemble.proofs.crew.begun.Goals as goal
+use Rattle.iiif_assemble.proofs.crew.begin.Goals as goal
 
 pub loop-n-preserved : goal.loop-n-preserved
 loop-n-preserved g c =
