@@ -131,7 +131,12 @@ fn made_of<R: Threads + Sync>(
 /// The part in `from` of a region that is scaled down, of the sums of the blocks that have a place of it. Nothing is held of the
 /// result but its sums at these places, and then the samples. Where that is one block, which has all these places, and they are few,
 /// nothing is held of the result but the samples.
-pub(crate) fn merge_sums<A, B: Items<SumKey, SumVal, P, R> + Sync, P: Send, R: Threads + Wait + Sync>(
+pub(crate) fn merge_sums<
+    A,
+    B: Items<SumKey, SumVal, P, R> + Sync,
+    P: Send,
+    R: Threads + Wait + Sync,
+>(
     shop: &Workshop<'_, A, B, R>,
     passes: &mut [P],
     job: &Job,

@@ -149,7 +149,9 @@ impl<
             Ok(Parts::Tile(tile)) => {
                 for_all(self.alloc, self.make_of_tile(rt, passes, shape, key, &tile))
             }
-            Ok(Parts::Sums(quarters)) => match self.make_of_parts(rt, passes, shape, key, &quarters) {
+            Ok(Parts::Sums(quarters)) => match self.make_of_parts(
+                rt, passes, shape, key, &quarters,
+            ) {
                 Ok(value) => Ok(value),
                 Err(unmade) => Err(unmade.fault()),
             },

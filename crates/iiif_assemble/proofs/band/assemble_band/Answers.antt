@@ -56,7 +56,7 @@ returns-in-Ok-apply_turn-clause-top g c =
     let r = c.args.job.now.resolved in
     IfOk-weaker c.apply_quality.result _ _
     (λ m made. image_top c.in-Ok.scaled.raster c.in-Ok-apply_turn.turned.raster m.raster r.turn r.quality
-        (top_of c.args.job.now.shape.depth)
+    (top_of c.args.job.now.shape.depth)
     c.in-Ok.ensures.top c.in-Ok-apply_turn.ensures.ok made)
     c.apply_quality.ensures.ok
 
