@@ -372,6 +372,12 @@ def version(command):
     return text.split("\n")[0]
 
 
+def model():
+    """What the processor is called."""
+    with open("/proc/cpuinfo") as info:
+        return re.search("model name\t: (.*)", info.read())[1]
+
+
 def load():
     return " ".join(f"{number:.1f}" for number in os.getloadavg())
 
@@ -500,11 +506,11 @@ def limits_of_memory(args, jobs):
 class Kept:
     """Standard output, and beside it a new file of bench/results."""
 
-    def __init__(self, kind):
+    def __init__(self, kind, title="Whole answers beside other programs", script="compare.py"):
         day = time.strftime("%Y-%m-%d")
         commit = subprocess.run(["git", "rev-parse", "--short", "HEAD"], cwd=RESULTS, capture_output=True, text=True).stdout.strip()
         self.file, self.screen = open(os.path.join(RESULTS, f"{day}-{kind}.md"), "x"), sys.stdout
-        self.file.write(f"# Whole answers beside other programs\n\n- Date: {day}\n- Commit: {commit}\n- Command: `bench/compare/compare.py {' '.join(sys.argv[1:])}`\n- Host: ")
+        self.file.write(f"# {title}\n\n- Date: {day}\n- Commit: {commit}\n- Command: `bench/compare/{script} {' '.join(sys.argv[1:])}`\n- Host: ")
 
     def write(self, text):
         self.screen.write(text)
@@ -521,9 +527,7 @@ def compare(args):
         sys.stdout = Kept("compare")
     jobs = [job for job, (name, *_) in enumerate(JOBS) if re.search(args.jobs, name)]
     wanted = prepared(args, jobs)
-    with open("/proc/cpuinfo") as info:
-        model = re.search("model name\t: (.*)", info.read())[1]
-    print(f"{os.cpu_count()} processors, {model}; {version(['vips', '--version'])}; {version(['gdal_translate', '--version'])};",
+    print(f"{os.cpu_count()} processors, {model()}; {version(['vips', '--version'])}; {version(['gdal_translate', '--version'])};",
           f"{version(['rustc', '--version'])}; {args.rounds} rounds; load before: {load()}")
     medians, failed = measured(args, jobs, wanted)
     print(f"load after: {load()}")
