@@ -2,6 +2,7 @@
 
 use iiif_server::{JobQueue, Queued};
 use std::sync::Wait;
+use std::thread::{Threads, join, sleep};
 use std::time::{Clock, Duration, Instant};
 
 /// Work that is light, and work that is heavy.
@@ -82,4 +83,48 @@ fn less_work_comes_first(rt: HostRuntime) {
     assert!(rt; is_late(&rt, &queue, most) == Some(false));
     queue.leave(&rt, most);
     assert!(rt; is_late(&rt, &queue, same) == Some(false));
+}
+
+/// How long a job that waits goes on waiting once another has left, for which it waited some 20 ms. None where the clock fails, or where
+/// it isn't let in.
+fn time_until_woken<R: Threads + Wait + Clock + Sync>(
+    rt: &R,
+    queue: &JobQueue,
+) -> Option<Duration> {
+    let own = queue.come(rt, HEAVY);
+    let next = queue.come(rt, HEAVY);
+    let (woken, left) = join(
+        rt,
+        || if queue.wait(rt, next) {
+            Instant::now(rt).ok()
+        } else {
+            None
+        },
+        || {
+            sleep(rt, Duration::from_millis(20));
+            let left = Instant::now(rt).ok();
+            queue.leave(rt, own);
+            left
+        },
+    );
+    queue.leave(rt, next);
+    Some(woken?.duration_since(left?))
+}
+
+/// Whether a job that waits is woken by the one that leaves, long before it looks around by itself, after 100 ms.
+fn is_woken_early<R: Threads + Wait + Clock + Sync>(rt: &R, queue: &JobQueue) -> bool {
+    match time_until_woken(rt, queue) {
+        Some(time) => time < Duration::from_millis(40),
+        None => false,
+    }
+}
+
+/// A machine with much to do may be late once.
+#[test]
+fn who_waits_is_woken_by_who_leaves(rt: HostRuntime) {
+    let queue = JobQueue::new(rt.alloc(), 1, 1);
+    let first = is_woken_early(&rt, &queue);
+    let second = is_woken_early(&rt, &queue);
+    let third = is_woken_early(&rt, &queue);
+    assert!(rt; (first && second) || (first && third) || (second && third));
 }
