@@ -5,7 +5,7 @@ use Rattle.std.specs.Io.KnownBytes.{Appends}
 use Rattle.iiif_event_list.specs.declared.Stop.TheVariants.{Line}
 use Rattle.iiif_event_list.specs.Replays.{Replays, ended_text}
 use Rattle.iiif_event_list.proofs.SoFar.{went_on, stopped, finished, on_ok_then, same_fault}
-use Rattle.iiif_event_list.proofs.replay.Goals as goal
+use Rattle.iiif_event_list.proofs.list.replay.Goals as goal
 
 pub loop-line-preserved : goal.loop-line-preserved
 loop-line-preserved g c =

@@ -1,6 +1,6 @@
 use Rattle.std.specs.Io.Iter.{lines_known_bytes}
 use Rattle.iiif_event_list.proofs.SoFar.{WrittenSoFar}
-use Rattle.iiif_event_list.proofs.replay.Given as goal
+use Rattle.iiif_event_list.proofs.list.replay.Given as goal
 
 abbrev pub invariant-loop-line : goal.invariant-loop-line
 invariant-loop-line g l =
