@@ -1,19 +1,15 @@
 #!/usr/bin/env python3
 """Which refusals of must-fail edits say something of the contract: reads the log of `rt ci` or `rt must-fail`.
 
-    python3 tools/reasons.py LOG     # how many count; a line for each other one that isn't known, and then status 1
+    python3 tools/reasons.py LOG     # how many count; a line for each other one, and then status 1
 
 A refusal counts where a goal of what a function `ensures` fails, or where two values differ. A goal's name says what it is of
 (`returns..` is of an `ensures`; `CALL-requires`, `overflow_add-X`, `bounds-..`, `LOOP-preserved` are of other things). A search that gave
-up at a limit says nothing, nor does a written proof that doesn't fit: a body that means the same is refused so, too. Those of the gate that
-are known to be refused so stand in tools/weak_edits, with what would say more in their place: they don't count, and fail nothing.
+up at a limit says nothing, nor does a written proof that doesn't fit: a body that means the same is refused so, too.
 """
-import functools
 import re
 import sys
-from pathlib import Path
 
-WEAK = Path(__file__).resolve().parent / "weak_edits"
 LINE = re.compile(r"(?:rt: )?must-fail (\S+?)\.edit: (.*)")
 # What a line says besides a goal, and what it then is.
 UNFIT = [
@@ -62,24 +58,16 @@ def tried(lines):
             yield match[1], match[2], unfit(match[2].removeprefix("refused, as it must be").removeprefix(": "))
 
 
-@functools.cache
-def weak():
-    """The edits of the gate that are known to be refused for a weaker reason."""
-    return {line.split(":")[0] for line in WEAK.read_text().splitlines() if re.match(r"\w+/[\w-]+: ", line)}
-
-
 def main(words):
     if len(words) != 1:
         print(__doc__, file=sys.stderr)
         return 2
     with open(words[0], encoding="utf-8", errors="replace") as log:
         found = list(tried(log))
-    unfits = [it for it in found if it[2]]
-    failed = [it for it in unfits if it[0] not in weak() or not it[1].startswith("refused")]
+    failed = [it for it in found if it[2]]
     for name, said, why in failed:
         print(f"FAILED: {name}: refused for another reason than a goal of a contract or values, {why}: {said}")
-    print(f"reasons: {len(found)} edits: {len(found) - len(unfits)} refused by a goal of a contract or by values, "
-          f"{len(unfits) - len(failed)} for a weaker reason that tools/weak_edits has, {len(failed)} for another")
+    print(f"reasons: {len(found)} edits: {len(found) - len(failed)} refused by a goal of a contract or by values, {len(failed)} for another reason")
     return 1 if failed else 0
 
 
