@@ -3,7 +3,7 @@
 use crate::connections::ends;
 use crate::times::Times;
 use iiif_keys::{SumKey, System, TileKey};
-use iiif_listener::{OpenConnections, Pace, PacedWriter, Visit, close};
+use iiif_listener::{OpenConnections, Pace, PacedWriter, Serve, Visit, close};
 use iiif_metrics::{Tally, Visitors};
 use iiif_open_files::Opens;
 use iiif_server::{Gate, Link, Node, SumCalls, TileCalls};
@@ -63,20 +63,28 @@ impl<
         close(rt, &place, stream);
         true
     }
+}
 
+impl<
+    'a,
+    R: Opens + Wait + Clock,
+    J: System,
+    N: Link<TileKey, J, R> + Link<SumKey, J, R>,
+    T: Gate<R>,
+> Serve<R> for PeerCalls<'a, R, J, N, T> {
     /// Answers the asks of a connection in order, and closes it. The connection is counted.
-    pub fn serve(&self, rt: &R, alloc: Global, visit: Visit<'_, R>) {
+    fn serve(&self, rt: &R, alloc: Global, visit: Visit<'_, R>) {
         self.tally.count_opened(rt, Visitors::Peers);
         self.company.enter();
         if !self.answer(rt, alloc, visit) {
-            self.count_refused(rt);
+            self.report_refused(rt);
         }
         self.company.leave();
         self.tally.count_closed(rt, Visitors::Peers);
     }
 
     /// Counts a connection that was closed unanswered.
-    pub fn count_refused(&self, rt: &R) {
+    fn report_refused(&self, rt: &R) {
         self.tally.count_refused(rt, Visitors::Peers);
     }
 }

@@ -109,22 +109,6 @@ where
         self.viewers.count_refused(self.rt);
     }
 
-    fn serve_peer(&self, visit: Visit<'_, R>) {
-        self.peers.serve(self.rt, self.alloc, visit);
-    }
-
-    fn refuse_peer(&self) {
-        self.peers.count_refused(self.rt);
-    }
-
-    fn serve_reader(&self, visit: Visit<'_, R>) {
-        self.statistics.serve(self.rt, self.alloc, visit);
-    }
-
-    fn refuse_reader(&self) {
-        self.statistics.count_refused(self.rt);
-    }
-
     /// Who looks at the other nodes, where there are any.
     fn lookout(&self) -> Option<&Watcher> {
         let watcher = self.viewers.watcher;
@@ -134,58 +118,6 @@ where
             Some(watcher)
         }
     }
-}
-
-/// Serves all listeners, viewers by what stands for them and the others by these functions. One function a closure: what the prover makes
-/// of a call grows with the closures that it is given.
-fn serve_beside<R, J, N, T, G, H, L, M>(
-    services: &Services<'_, R, J, N, T>,
-    listeners: &Listeners,
-    peers: (&G, &L),
-    readers: (&H, &M),
-) -> io::Result<()>
-where
-    R: Opens + Net<Listener = TcpListener, Stream = TcpStream> + Threads + Wait + Clock + Sync,
-    R::Handle: Send + Sync,
-    J: System + Send + Sync,
-    N: Link<TileKey, J, R> + Link<SumKey, J, R> + Sync,
-    T: Gate<R> + Sync,
-    G: Fn(Visit<'_, R>) + Sync,
-    H: Fn(Visit<'_, R>) + Sync,
-    L: Fn() + Sync,
-    M: Fn() + Sync,
-    requires peer { G.IsAlwaysCallable peers.0.now }
-    requires refused_peer { L.IsAlwaysCallable peers.1.now }
-    requires reader { H.IsAlwaysCallable readers.0.now }
-    requires refused_reader { M.IsAlwaysCallable readers.1.now }
-{
-    let serve = |visit: Visit<'_, R>| services.serve_viewer(visit);
-    let refuse = || services.refuse_viewer();
-    let (rt, alloc) = (services.rt, services.alloc);
-    let peers = (peers.0, peers.1, services.lookout());
-    serve_all(rt, alloc, listeners, (&serve, &refuse), peers, readers)
-}
-
-/// Serves all listeners, viewers and other nodes by what stands for them and readers by these functions.
-fn serve_readers_by<R, J, N, T, H, M>(
-    services: &Services<'_, R, J, N, T>,
-    listeners: &Listeners,
-    readers: (&H, &M),
-) -> io::Result<()>
-where
-    R: Opens + Net<Listener = TcpListener, Stream = TcpStream> + Threads + Wait + Clock + Sync,
-    R::Handle: Send + Sync,
-    J: System + Send + Sync,
-    N: Link<TileKey, J, R> + Link<SumKey, J, R> + Sync,
-    T: Gate<R> + Sync,
-    H: Fn(Visit<'_, R>) + Sync,
-    M: Fn() + Sync,
-    requires reader { H.IsAlwaysCallable readers.0.now }
-    requires refused_reader { M.IsAlwaysCallable readers.1.now }
-{
-    let serve = |visit: Visit<'_, R>| services.serve_peer(visit);
-    let refuse = || services.refuse_peer();
-    serve_beside(services, listeners, (&serve, &refuse), readers)
 }
 
 /// Serves the connections of all listeners, each by what stands for its kind.
@@ -200,9 +132,18 @@ where
     N: Link<TileKey, J, R> + Link<SumKey, J, R> + Sync,
     T: Gate<R> + Sync,
 {
-    let serve = |visit: Visit<'_, R>| services.serve_reader(visit);
-    let refuse = || services.refuse_reader();
-    serve_readers_by(services, listeners, (&serve, &refuse))
+    let serve = |visit: Visit<'_, R>| services.serve_viewer(visit);
+    let refuse = || services.refuse_viewer();
+    let (rt, alloc) = (services.rt, services.alloc);
+    let peers = (&services.peers, services.lookout());
+    serve_all(
+        rt,
+        alloc,
+        listeners,
+        (&serve, &refuse),
+        peers,
+        &services.statistics,
+    )
 }
 
 /// Serves at these addresses by a node, and writes a line for each answer to a viewer where the watcher has a log. It ends where a listener

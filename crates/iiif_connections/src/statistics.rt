@@ -7,7 +7,7 @@ use crate::connections::ends;
 use crate::times::Times;
 use crate::watcher::Watcher;
 use iiif_keys::System;
-use iiif_listener::{OpenConnections, Pace, PacedWriter, Visit, close};
+use iiif_listener::{OpenConnections, Pace, PacedWriter, Serve, Visit, close};
 use iiif_metrics::{
     CacheMetrics, HeldMetrics, Measure, Metrics, PeerMetrics, Service, Services, Visitors,
     serve_metrics,
@@ -124,18 +124,20 @@ impl<'a, R: Opens + Wait + Clock, J: System, N, T> Statistics<'a, R, J, N, T> {
         close(rt, &place, stream);
         true
     }
+}
 
+impl<'a, R: Opens + Wait + Clock, J: System, N, T> Serve<R> for Statistics<'a, R, J, N, T> {
     /// Answers the one call of a connection, and closes it. The connection is counted.
-    pub fn serve(&self, rt: &R, alloc: Global, visit: Visit<'_, R>) {
+    fn serve(&self, rt: &R, alloc: Global, visit: Visit<'_, R>) {
         self.watcher.tally.count_opened(rt, Visitors::Statistics);
         if !self.answer(rt, alloc, visit) {
-            self.count_refused(rt);
+            self.report_refused(rt);
         }
         self.watcher.tally.count_closed(rt, Visitors::Statistics);
     }
 
     /// Counts a connection that was closed unanswered.
-    pub fn count_refused(&self, rt: &R) {
+    fn report_refused(&self, rt: &R) {
         self.watcher.tally.count_refused(rt, Visitors::Statistics);
     }
 }

@@ -2,7 +2,7 @@
 
 use crate::lookout::Lookout;
 use iiif_io::Outlet;
-use iiif_listener::{Admission, Visit, serve_each, stop};
+use iiif_listener::{Admission, Serve, Visit, serve_each, serve_listener, stop};
 use iiif_log::{Log, write_lines};
 use std::alloc::{AllocError, Global};
 use std::io::ErrorKind;
@@ -16,7 +16,7 @@ use std::{io, thread};
 const BETWEEN_LOOKS: u64 = 250;
 
 /// Addresses and ports, and who may come there.
-#[derive(Clone, Copy, Debug)]
+#[derive(Clone, Copy)]
 pub struct Addresses<'a> {
     pub viewers: &'a str,
     pub peers: Option<&'a str>,
@@ -186,68 +186,71 @@ where
     }
 }
 
-/// Serves viewers, other nodes and who asks for the statistics by two functions each, where they have listeners, until a listener ends,
-/// which then stops the others; and answers once all connections have ended. Where a thread is missing for one of the listeners, it
-/// ends at once. The second function of each is told of the connections of that listener that were closed unanswered. The lookout has a
+/// Serves a listener by a service until it ends, and then stops all.
+fn serve_by<R, V>(
+    rt: &R,
+    alloc: Global,
+    service: &V,
+    listener: &TcpListener,
+    admission: Admission<'_>,
+    all: &Listeners,
+)
+where
+    R: Threads + Wait + Clock + Sync,
+    V: Serve<R> + Sync,
+{
+    // However it ended, all others are stopped.
+    let _ = serve_listener(rt, alloc, service, listener, admission);
+    all.end(rt);
+}
+
+/// Serves viewers by two functions, and other nodes and who asks for the statistics by a service each, where they have listeners, until a
+/// listener ends, which then stops the others; and answers once all connections have ended. Where a thread is missing for one of the
+/// listeners, it ends at once. The second function is told of the viewers' connections that were closed unanswered. The lookout has a
 /// thread of its own meanwhile; where none can be started, nobody looks.
-pub fn serve_all<R, F, G, H, K, L, M, O>(
+pub fn serve_all<R, F, K, P, S, O>(
     rt: &R,
     alloc: Global,
     listeners: &Listeners,
     viewers: (&F, &K),
-    peers: (&G, &L, Option<&O>),
-    readers: (&H, &M),
+    peers: (&P, Option<&O>),
+    readers: &S,
 ) -> io::Result<()>
 where
     R: Threads + Wait + Clock + Sync,
     F: Fn(Visit<'_, R>) + Sync,
-    G: Fn(Visit<'_, R>) + Sync,
-    H: Fn(Visit<'_, R>) + Sync,
     K: Fn() + Sync,
-    L: Fn() + Sync,
-    M: Fn() + Sync,
+    P: Serve<R> + Sync,
+    S: Serve<R> + Sync,
     O: Lookout<R> + Sync,
     requires viewer { F.IsAlwaysCallable viewers.0.now }
     requires refused_viewer { K.IsAlwaysCallable viewers.1.now }
-    requires peer { G.IsAlwaysCallable peers.0.now }
-    requires refused_peer { L.IsAlwaysCallable peers.1.now }
-    requires reader { H.IsAlwaysCallable readers.0.now }
-    requires refused_reader { M.IsAlwaysCallable readers.1.now }
 {
-    let served = (peers.0, peers.1);
+    let (served, lookout) = peers;
     let (all, nodes) = listeners.admissions();
     thread::scope(
         thread::scope_env(),
         rt,
         |scope|
-            requires { F.IsAlwaysCallable viewers.0.now × K.IsAlwaysCallable viewers.1.now × G.IsAlwaysCallable served.0.now ×
-                L.IsAlwaysCallable served.1.now × H.IsAlwaysCallable readers.0.now × M.IsAlwaysCallable readers.1.now }
+            requires { F.IsAlwaysCallable viewers.0.now × K.IsAlwaysCallable viewers.1.now }
         {
             if let Some(listener) = &listeners.peers {
-                let started = scope.spawn(
-                    move ||
-                        requires { G.IsAlwaysCallable served.0.now × L.IsAlwaysCallable served.1.now }
-                    {
-                        let _ = serve_beside(rt, alloc, served, listener, nodes, listeners);
-                    },
-                );
+                let started = scope.spawn(move || serve_by(
+                    rt, alloc, served, listener, nodes, listeners,
+                ));
                 if started.is_err() {
                     return no_thread(listeners);
                 }
             }
             if let Some(listener) = &listeners.statistics {
-                let started = scope.spawn(
-                    move ||
-                        requires { H.IsAlwaysCallable readers.0.now × M.IsAlwaysCallable readers.1.now }
-                    {
-                        let _ = serve_beside(rt, alloc, readers, listener, all, listeners);
-                    },
-                );
+                let started = scope.spawn(move || serve_by(
+                    rt, alloc, readers, listener, all, listeners,
+                ));
                 if started.is_err() {
                     return no_thread(listeners);
                 }
             }
-            if let Some(lookout) = peers.2 {
+            if let Some(lookout) = lookout {
                 let _ = scope.spawn(move || look_on(rt, alloc, listeners, lookout));
             }
             serve_beside(rt, alloc, viewers, &listeners.viewers, all, listeners)
