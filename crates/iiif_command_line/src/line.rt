@@ -79,7 +79,7 @@ const MOST_PORT: u64 = 65_535;
 const MOST_PEERS: usize = 63;
 
 /// The options that take one text each: the name, what the text is, and the help.
-const OPTIONS: [(&str, &str, &str); 17] = [
+static OPTIONS: [(&str, &str, &str); 17] = [
     ("base", "URL", "the URL that begins each image's"),
     ("edge", "PIXELS", "the edge of a tile, 256 if left out"),
     (
@@ -156,7 +156,7 @@ const OPTIONS: [(&str, &str, &str); 17] = [
 ];
 
 /// The options that take nothing: the name, and the help.
-const FLAGS: [(&str, &str); 5] = [
+static FLAGS: [(&str, &str); 5] = [
     ("upscale", "answer sizes with ^ above the region's"),
     ("hex", "write the answer's bytes as hexadecimal digits"),
     ("check", "open all images, write a line for each, and end"),
@@ -212,7 +212,7 @@ pub enum LineFault {
 
 /// How the program is run: for one target, whose answer it writes, perhaps as hexadecimal digits; or for the connections that
 /// come to an address, perhaps with those of other nodes that come to another one; or to open all images, and say what they are.
-#[derive(Clone, Copy, Debug, PartialEq, Eq)]
+#[derive(Clone, Copy, PartialEq, Eq)]
 pub enum Mode<'a> {
     One {
         target: &'a str,
@@ -232,7 +232,7 @@ pub enum Mode<'a> {
 }
 
 /// What bounds those whom a node serves and asks.
-#[derive(Clone, Copy, Debug, PartialEq, Eq)]
+#[derive(Clone, Copy, PartialEq, Eq)]
 pub struct Limits {
     /// How long an ask of another node may take as a whole, in milliseconds, from 10 to 60,000.
     pub peer_timeout: u32,
@@ -243,7 +243,7 @@ pub struct Limits {
 }
 
 /// What the words ask for.
-#[derive(Debug, Drop)]
+#[derive(Drop)]
 pub struct Options<'a> {
     pub base: &'a str,
     pub edge: u32,
@@ -322,8 +322,8 @@ fn bare_command<'a>(alloc: Global) -> Command<'a> {
 /// The command with the options that take one text each.
 fn command_of_texts<'a>(alloc: Global) -> Result<Command<'a>, clap::Error> {
     let mut command = bare_command(alloc);
-    for (name, value, help) in OPTIONS {
-        command = command.arg(text_option(alloc, name, value, help))?;
+    for (name, value, help) in OPTIONS.iter() {
+        command = command.arg(text_option(alloc, *name, *value, *help))?;
     }
     Ok(command)
 }
@@ -331,8 +331,8 @@ fn command_of_texts<'a>(alloc: Global) -> Result<Command<'a>, clap::Error> {
 /// The same, with the options that take nothing.
 fn command_of_flags<'a>(alloc: Global) -> Result<Command<'a>, clap::Error> {
     let mut command = command_of_texts(alloc)?;
-    for (name, help) in FLAGS {
-        command = command.arg(flag(alloc, name, help))?;
+    for (name, help) in FLAGS.iter() {
+        command = command.arg(flag(alloc, *name, *help))?;
     }
     Ok(command)
 }
