@@ -45,7 +45,7 @@ impl ConfigFault {
 }
 
 /// What a server was told, all of it legal.
-#[derive(Debug, Drop)]
+#[derive(Drop)]
 pub struct Config {
     base: String,
     edge: u32,

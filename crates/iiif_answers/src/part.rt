@@ -1,7 +1,7 @@
 //! Parts of answers.
 
 /// Which part of an answer is sent, and whether the connection closes after it.
-#[derive(Clone, Copy, Debug, PartialEq, Eq)]
+#[derive(Clone, Copy, PartialEq, Eq)]
 pub enum Part {
     /// The body alone.
     Body,

@@ -18,7 +18,7 @@ pub const LONGEST: u64 = 60_000;
 pub const SOON: u64 = 1_000;
 
 /// Whether a link is asked.
-#[derive(Clone, Copy, Debug, PartialEq, Eq)]
+#[derive(Clone, Copy, PartialEq, Eq)]
 pub enum State {
     /// It is asked. So many faults came in a row.
     Closed { faults: u32 },
@@ -29,7 +29,7 @@ pub enum State {
 }
 
 /// What is known of a link: whether it is asked, and how often it was opened, which is the number of each ask that is made now.
-#[derive(Clone, Copy, Debug, PartialEq, Eq)]
+#[derive(Clone, Copy, PartialEq, Eq)]
 pub struct Breaker {
     state: State,
     openings: u64,

@@ -1,7 +1,7 @@
 //! What is told of a link.
 
 /// What became of a link that is told.
-#[derive(Clone, Copy, Debug, PartialEq, Eq)]
+#[derive(Clone, Copy, PartialEq, Eq)]
 pub enum Change {
     /// It failed, and is left alone from now on.
     LeftAlone,

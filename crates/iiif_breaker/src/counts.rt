@@ -6,7 +6,7 @@ ghost use Rattle.iiif_breaker.specs.Counting.{counted, has_answers_since, none, 
 use crate::outcome::Outcome;
 
 /// How many asks of a link ended how, and how many weren't made.
-#[derive(Clone, Copy, Debug, PartialEq, Eq)]
+#[derive(Clone, Copy, PartialEq, Eq)]
 pub struct Asks {
     /// A value came.
     pub answered: u64,

@@ -4,7 +4,7 @@ ghost use Rattle.std.specs.Prelude.{◌≡◌};
 ghost use Rattle.iiif_breaker.specs.Durations.{grown, lasted, no_time};
 
 /// How long asks of all links took. A count stays at the greatest number of 64 bits.
-#[derive(Clone, Copy, Debug, PartialEq, Eq)]
+#[derive(Clone, Copy, PartialEq, Eq)]
 pub struct Durations {
     /// How many took at most 1, 5, 10, 50, 100 and 500 milliseconds, 1 second and 10 seconds.
     pub within: [u64; 8],

@@ -1,7 +1,7 @@
 //! How an ask ended.
 
 /// How an ask of another node ended.
-#[derive(Clone, Copy, Debug, PartialEq, Eq)]
+#[derive(Clone, Copy, PartialEq, Eq)]
 pub enum Outcome {
     /// A value of the key came.
     Answered,

@@ -28,7 +28,7 @@ fn change_of(was: State, now: State) -> Option<Change>
 }
 
 /// What is known of a link, and how its asks ended so far.
-#[derive(Clone, Copy, Debug, PartialEq, Eq)]
+#[derive(Clone, Copy, PartialEq, Eq)]
 pub struct LinkRecord {
     breaker: Breaker,
     asks: Asks,

@@ -23,7 +23,7 @@ use std::sync::Wait;
 use std::thread::Threads;
 
 /// An image that was sent whole.
-#[derive(Clone, Copy, Debug, PartialEq, Eq)]
+#[derive(Clone, Copy, PartialEq, Eq)]
 pub struct Delivered {
     /// How many bytes were written.
     pub bytes: u64,
@@ -32,7 +32,7 @@ pub struct Delivered {
 }
 
 /// Why an image wasn't sent whole, and how many bytes were written before.
-#[derive(Clone, Copy, Debug, PartialEq, Eq)]
+#[derive(Clone, Copy, PartialEq, Eq)]
 pub enum Stopped {
     /// The writer failed.
     Writer(u64),

@@ -9,7 +9,7 @@ use iiif_keys::{SumKey, SumVal};
 use iiif_planner::Plan;
 
 /// A job that waits for its turn, or has it: how much work it is, and its number among those that came.
-#[derive(Clone, Copy, Debug, PartialEq, Eq)]
+#[derive(Clone, Copy, PartialEq, Eq)]
 pub struct Queued {
     /// About how many pixels of the image are to be read.
     pub work: u64,

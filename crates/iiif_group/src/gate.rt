@@ -13,7 +13,7 @@ pub trait Gate<R> {
 }
 
 /// No gate: each load begins at once.
-#[derive(Clone, Copy, Debug, Drop)]
+#[derive(Clone, Copy, Drop)]
 pub struct NoGate;
 
 impl<R> Gate<R> for NoGate {

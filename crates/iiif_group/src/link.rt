@@ -47,7 +47,7 @@ pub trait Link<K: CacheKey, J: System, R> {
 }
 
 /// A link to no node: it refuses with status 3, that no image has the name.
-#[derive(Clone, Copy, Debug, Drop)]
+#[derive(Clone, Copy, Drop)]
 pub struct NoLink;
 
 impl<K: CacheKey, J: System, R> Link<K, J, R> for NoLink {

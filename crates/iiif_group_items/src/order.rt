@@ -9,7 +9,7 @@ use std::alloc::Global;
 const STEP: u64 = 4_194_304;
 
 /// A job that waits: its number, and its place among the others, the least first.
-#[derive(Clone, Copy, Debug, PartialEq, Eq)]
+#[derive(Clone, Copy, PartialEq, Eq)]
 pub(crate) struct Waiting {
     number: u64,
     rank: u64,

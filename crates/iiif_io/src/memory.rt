@@ -32,7 +32,7 @@ impl<'a> Inlet for &'a [u8] {
 }
 
 /// A writer that takes every byte, keeps none, and counts them. It never fails.
-#[derive(Clone, Copy, Debug, Drop, Default, PartialEq, Eq)]
+#[derive(Clone, Copy, Drop, Default, PartialEq, Eq)]
 pub struct CountingSink {
     /// How many bytes were written. It stops at `u64::MAX`.
     pub written: u64,

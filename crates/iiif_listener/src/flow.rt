@@ -5,14 +5,14 @@ ghost use Rattle.iiif_listener.specs.Flow.{begun, goes_on, taken_by};
 
 /// How fast an answer is to be taken: so many bytes a second, over each time of so many milliseconds for which it was waited. At 0 bytes it
 /// may be taken as slowly as one likes.
-#[derive(Clone, Copy, Debug, PartialEq, Eq)]
+#[derive(Clone, Copy, PartialEq, Eq)]
 pub struct Rate {
     pub bytes: u64,
     pub period: u32,
 }
 
 /// How an answer is taken: what was written, and how long that was waited for, since it was last looked at.
-#[derive(Clone, Copy, Debug, PartialEq, Eq, Drop)]
+#[derive(Clone, Copy, PartialEq, Eq, Drop)]
 pub struct Flow {
     rate: Rate,
     waited: u64,

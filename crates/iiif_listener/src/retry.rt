@@ -6,7 +6,7 @@ ghost use Rattle.iiif_listener.specs.Failures.{is_lasting as lasts, is_passing a
 use std::io::ErrorKind;
 
 /// When a listener that could not take a connection tries again.
-#[derive(Clone, Copy, Debug, PartialEq, Eq)]
+#[derive(Clone, Copy, PartialEq, Eq)]
 pub enum Retry {
     /// The connection was gone before it was taken: at once.
     AtOnce,

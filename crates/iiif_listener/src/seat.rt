@@ -1,7 +1,7 @@
 //! What a listener knows of a connection.
 
 /// What a connection does at its place.
-#[derive(Clone, Copy, Debug, PartialEq, Eq)]
+#[derive(Clone, Copy, PartialEq, Eq)]
 pub enum SeatState {
     /// No connection is there.
     Free,
@@ -12,7 +12,7 @@ pub enum SeatState {
 }
 
 /// A place, and the connection that has it.
-#[derive(Clone, Copy, Debug, PartialEq, Eq)]
+#[derive(Clone, Copy, PartialEq, Eq)]
 pub struct Seat {
     /// What tells the connection from those that had the place before. 0 where it is free.
     pub number: u64,

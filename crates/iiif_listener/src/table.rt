@@ -20,7 +20,7 @@ const NOBODY: Seat = Seat {
 };
 
 /// The places of a listener, each with its connection.
-#[derive(Debug, Drop)]
+#[derive(Drop)]
 pub struct Table {
     seats: [Seat; 64],
     /// How many connections came, and how often one began to wait.

@@ -3,7 +3,7 @@
 use crate::moment::Moment;
 
 /// How an answer ended.
-#[derive(Clone, Copy, Debug, PartialEq, Eq)]
+#[derive(Clone, Copy, PartialEq, Eq)]
 pub enum Outcome {
     /// It was sent whole, with this status of HTTP.
     Whole(u16),
@@ -12,7 +12,7 @@ pub enum Outcome {
 }
 
 /// An answer, as its line tells it.
-#[derive(Clone, Copy, Debug)]
+#[derive(Clone, Copy)]
 pub struct Answered<'a> {
     /// When it was done with.
     pub at: Moment,

@@ -12,7 +12,7 @@ use std::time::{Clock, SystemTime, UNIX_EPOCH};
 pub const LAST: u64 = 253_402_300_799_999;
 
 /// An instant of UTC from 1970 to the year 9999.
-#[derive(Clone, Copy, Debug, PartialEq, Eq)]
+#[derive(Clone, Copy, PartialEq, Eq)]
 pub struct Moment {
     /// The milliseconds since 1970.
     pub millis: u64,

@@ -11,7 +11,7 @@ use std::alloc::Global;
 const USUAL_LENGTH: usize = 64;
 
 /// What became of a link to another node.
-#[derive(Clone, Copy, Debug, PartialEq, Eq)]
+#[derive(Clone, Copy, PartialEq, Eq)]
 pub enum Turn {
     /// The node failed, and is left alone from now on.
     LeftAlone,
@@ -20,7 +20,7 @@ pub enum Turn {
 }
 
 /// What a line tells of a link.
-#[derive(Clone, Copy, Debug)]
+#[derive(Clone, Copy)]
 pub struct PeerTurn<'a> {
     /// When it turned.
     pub at: Moment,

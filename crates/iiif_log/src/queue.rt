@@ -12,7 +12,7 @@ use std::marker::Model;
 pub const MOST: usize = 1024;
 
 /// A line that waits, or that is taken to be written.
-#[derive(Debug, Drop)]
+#[derive(Drop)]
 pub struct Line {
     /// How many lines were lost right before it.
     pub lost: u64,
@@ -21,7 +21,7 @@ pub struct Line {
 }
 
 /// What is taken of a queue.
-#[derive(Debug, Drop)]
+#[derive(Drop)]
 pub enum Taken {
     Line(Line),
     /// Nothing waits yet.

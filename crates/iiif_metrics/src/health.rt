@@ -11,7 +11,7 @@ use std::fmt::Write;
 const USUAL_LENGTH: usize = 64;
 
 /// Whether a service goes on.
-#[derive(Clone, Copy, Debug, PartialEq, Eq)]
+#[derive(Clone, Copy, PartialEq, Eq)]
 pub enum Service {
     /// The node was started without it.
     Unwanted,
@@ -20,7 +20,7 @@ pub enum Service {
 }
 
 /// The services of a node: its listeners, and the thread that writes its log.
-#[derive(Clone, Copy, Debug, PartialEq, Eq)]
+#[derive(Clone, Copy, PartialEq, Eq)]
 pub struct Services {
     pub viewers: Service,
     pub peers: Service,

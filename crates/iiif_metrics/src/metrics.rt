@@ -6,7 +6,7 @@ use iiif_breaker::{Asks, Durations, State};
 use iiif_tables::Book;
 
 /// What a cache and its flights counted, and what is kept.
-#[derive(Clone, Copy, Debug)]
+#[derive(Clone, Copy)]
 pub struct CacheMetrics {
     pub book: Book,
     /// The bytes of the kept values and their keys.
@@ -16,7 +16,7 @@ pub struct CacheMetrics {
 }
 
 /// The images whose files are held in memory.
-#[derive(Clone, Copy, Debug)]
+#[derive(Clone, Copy)]
 pub struct HeldMetrics {
     /// The bytes of these files.
     pub bytes: u64,
@@ -25,7 +25,7 @@ pub struct HeldMetrics {
 }
 
 /// What a server counted since it was started, and what it holds.
-#[derive(Clone, Copy, Debug)]
+#[derive(Clone, Copy)]
 pub struct Metrics {
     pub tiles: CacheMetrics,
     pub sums: CacheMetrics,
@@ -34,7 +34,7 @@ pub struct Metrics {
 }
 
 /// How the asks of a node ended, and whether it is asked.
-#[derive(Debug, Drop)]
+#[derive(Drop)]
 pub struct LinkMetrics {
     /// The node's name.
     pub name: String,
@@ -44,14 +44,14 @@ pub struct LinkMetrics {
 
 /// What is told of all links: of each by itself, and how long the asks of all took. One histogram serves for all, since one for each link
 /// would be eleven lines a node, and a node that is slow is found by how its asks end.
-#[derive(Debug, Drop)]
+#[derive(Drop)]
 pub struct PeerMetrics {
     pub links: Vec<LinkMetrics>,
     pub durations: Durations,
 }
 
 /// All that may be told.
-#[derive(Debug, Drop)]
+#[derive(Drop)]
 pub struct Telling {
     pub metrics: Metrics,
     pub peers: PeerMetrics,

@@ -19,7 +19,7 @@ use std::fmt::Write;
 const USUAL_LENGTH: usize = 4096;
 
 /// The type of a family of samples.
-#[derive(Clone, Copy, Debug, PartialEq, Eq)]
+#[derive(Clone, Copy, PartialEq, Eq)]
 pub enum MetricKind {
     /// It never falls while the server runs.
     Counter,
@@ -29,7 +29,7 @@ pub enum MetricKind {
 }
 
 /// A family of one sample.
-#[derive(Clone, Copy, Debug)]
+#[derive(Clone, Copy)]
 pub struct Row<'a> {
     /// The name, without its front.
     pub name: &'a str,
@@ -39,7 +39,7 @@ pub struct Row<'a> {
 }
 
 /// A sample of a family.
-#[derive(Clone, Copy, Debug)]
+#[derive(Clone, Copy)]
 pub struct Sample<'a> {
     pub labels: &'a str,
     pub value: u64,

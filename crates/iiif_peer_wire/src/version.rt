@@ -1,7 +1,7 @@
 //! Versions of the messages.
 
 /// A version of the messages. They differ in their first four bytes alone: `IGA1` and `IGR1`, or `IGA2` and `IGR2`.
-#[derive(Clone, Copy, Debug, PartialEq, Eq)]
+#[derive(Clone, Copy, PartialEq, Eq)]
 pub enum Version {
     /// For images of 8 bits a sample.
     One,

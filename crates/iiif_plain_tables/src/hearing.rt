@@ -10,7 +10,7 @@ use iiif_source::ReadFault;
 use std::alloc::Global;
 
 /// What a call knows, or several, but for the values.
-#[derive(Clone, Copy, Debug, PartialEq, Eq)]
+#[derive(Clone, Copy, PartialEq, Eq)]
 pub enum Heard {
     /// Nothing, or one of several knows nothing.
     Nothing,

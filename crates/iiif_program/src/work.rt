@@ -5,7 +5,7 @@ use iiif_connections::Times;
 use iiif_services::Addresses;
 
 /// One target, and whether the body of its answer is written as hexadecimal digits.
-#[derive(Clone, Copy, Debug)]
+#[derive(Clone, Copy)]
 pub(crate) struct One<'a> {
     pub target: &'a str,
     pub hex: bool,
@@ -13,7 +13,7 @@ pub(crate) struct One<'a> {
 
 /// Where a node listens, for how long it waits, whether a line is written for each answer, and how much memory is written to before it
 /// listens.
-#[derive(Clone, Copy, Debug)]
+#[derive(Clone, Copy)]
 pub(crate) struct Listening<'a> {
     pub addresses: Addresses<'a>,
     pub times: Times,
@@ -22,7 +22,7 @@ pub(crate) struct Listening<'a> {
 }
 
 /// What is asked of a node: the answer to one target, or an answer to each call of those who connect.
-#[derive(Clone, Copy, Debug)]
+#[derive(Clone, Copy)]
 pub(crate) enum Work<'a> {
     One(One<'a>),
     Listen(Listening<'a>),

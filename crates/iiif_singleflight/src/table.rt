@@ -25,7 +25,7 @@ pub struct Table<K: CacheKey, J: System, L: Ledger> {
 }
 
 /// How much is kept.
-#[derive(Clone, Copy, Debug, PartialEq, Eq)]
+#[derive(Clone, Copy, PartialEq, Eq)]
 pub struct Kept {
     /// What the entries take, with their keys.
     pub bytes: u64,

@@ -40,7 +40,7 @@ impl ReadFault {
 }
 
 /// Runs of bytes in a source: where the first begins, how far apart they begin, how long each is, and how many they are.
-#[derive(Clone, Copy, Debug)]
+#[derive(Clone, Copy)]
 pub struct Runs {
     pub at: u64,
     pub stride: u64,

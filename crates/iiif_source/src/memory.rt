@@ -6,7 +6,7 @@ use crate::{ReadFault, Source};
 use std::marker::Model;
 
 /// Bytes in memory, which a read always gives: no fault is this device's.
-#[derive(Debug, Drop)]
+#[derive(Drop)]
 pub struct MemSource {
     bytes: Vec<u8>,
 }

@@ -18,14 +18,14 @@ use std::io::ErrorKind;
 use std::sync::{Arc, Wait};
 
 /// What an image is, and whether its file would be held in memory.
-#[derive(Clone, Copy, Debug)]
+#[derive(Clone, Copy)]
 pub struct Found {
     pub shape: Shape,
     pub is_held: bool,
 }
 
 /// An image that was opened once: its name, and what it is, or why it can't be served.
-#[derive(Clone, Copy, Debug)]
+#[derive(Clone, Copy)]
 pub struct Checked<'a> {
     pub name: &'a str,
     pub found: Result<Found, Unfit>,

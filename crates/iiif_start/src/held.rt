@@ -12,7 +12,7 @@ use iiif_source::Source;
 use std::sync::Wait;
 
 /// The images whose files are held in memory. Each number stops at the greatest that its type holds.
-#[derive(Clone, Copy, Debug, PartialEq, Eq)]
+#[derive(Clone, Copy, PartialEq, Eq)]
 pub struct Held {
     /// How many images they are.
     pub images: u64,

@@ -6,7 +6,7 @@ ghost use Rattle.iiif_sum_group.specs.Asking.{fault_in};
 use iiif_keys::Fault;
 
 /// Why a block above level 0 has no value.
-#[derive(Clone, Copy, Debug, PartialEq, Eq)]
+#[derive(Clone, Copy, PartialEq, Eq)]
 pub enum Unmade {
     /// One of its parts has none.
     Part(Fault),
