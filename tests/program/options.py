@@ -1,0 +1,405 @@
+"""Cases of options of a server that listens, each with the option and without it, or with two of its values.
+
+The outcomes that are wanted are those of the manual page and docs/OPERATING.md; images are those of the evaluation in tests/hostile.
+"""
+import os
+import re
+import signal
+import socket
+import sys
+import time
+import urllib.error
+import urllib.request
+
+HERE = os.path.dirname(os.path.abspath(__file__))
+sys.path.insert(0, os.path.dirname(HERE))
+from found.requests import plain  # noqa: E402
+from hostile import wire  # noqa: E402
+from hostile.images import Answers, file_of  # noqa: E402
+from hostile.program import BASE, Refused, Server, connected, exactly, free_port, to_the_end  # noqa: E402
+from hostile.tiff import judge  # noqa: E402
+from strangers.places import picture  # noqa: E402
+
+CASES = []
+SAMPLE_TARGET = "/iiif/a/full/max/0/default.tif"
+# The tile (1, 1) of edge 2, which other85 owns beside self: addresses.txt has its ask.
+LAST_TILE = "/iiif/a/2,2,2,2/max/0/default.tif"
+
+
+class Case:
+    """A case: its name, its option, what of it takes how long, and the function that gives what came, what was wanted, and the command."""
+
+    def __init__(self, option, seconds, function):
+        self.name, self.seconds, self.function, self.option = function.__name__, seconds, function, option
+
+    def options(self):
+        return [self.option]
+
+    def check(self, program, room):
+        return self.function(program, room)
+
+
+def shows(option, seconds=1):
+    """Makes a function a case in which this option makes a difference."""
+    def note(function):
+        CASES.append(Case(option, seconds, function))
+        return function
+    return note
+
+
+def asked(port, target, timeout=20):
+    """The status and the body of an answer, as far as it came."""
+    with connected(port, timeout) as link:
+        try:
+            link.sendall(f"GET {target} HTTP/1.1\r\nHost: localhost\r\nConnection: close\r\n\r\n".encode())
+        except (BrokenPipeError, ConnectionResetError):
+            return None, b""
+        head, _, body = to_the_end(link)[0].partition(b"\r\n\r\n")
+    return int(head.split()[1]) if head else None, body
+
+
+def page(port, target):
+    """The status and the text that the listener of statistics answers. It may listen later than that of viewers, and refuses a second
+    connection by --per-address, too."""
+    for _ in range(200):
+        try:
+            with urllib.request.urlopen(f"http://127.0.0.1:{port}{target}", timeout=10) as answer:
+                return answer.status, answer.read().decode()
+        except urllib.error.HTTPError as answer:
+            return answer.code, answer.read().decode()
+        except (ConnectionError, urllib.error.URLError):
+            time.sleep(0.02)
+    raise TimeoutError(f"nothing listens at {port}")
+
+
+def counter(text, name):
+    """A number of the page of counters."""
+    return next(int(line.split()[1]) for line in text.splitlines() if line.startswith(name + " "))
+
+
+def command(program, *words):
+    """The command of a server, as one can paste it."""
+    return [program, "--base", BASE, "--listen", "127.0.0.1:8080", *map(str, words)]
+
+
+def sample_in(room, name):
+    """A file of its own with the sample."""
+    path = f"{room}/{name}.tif"
+    with open(f"{room}/sample.tif", "rb") as file, open(path, "wb") as copy:
+        copy.write(file.read())
+    return path
+
+
+def sample():
+    """The built-in picture: 0, 10, 20 and so on."""
+    return judge(plain([[[10 * (4 * y + x)] for x in range(4)] for y in range(4)], 1, 8, 0, 4, "<", False))
+
+
+def sample_answers():
+    """What a server of the sample answers, by the evaluation of tests/hostile."""
+    return Answers(BASE, {"a": sample()}, 2, 4096, False)
+
+
+def sample_file(target=SAMPLE_TARGET):
+    """An image of the sample, as it is answered."""
+    return sample_answers().parts(b"GET", target.encode())[3]
+
+
+@shows("--listen")
+def listen_serves_until_it_is_stopped(program, room):
+    words = ["a=:sample"]
+    with Server(program, words) as server:
+        got = [asked(server.port, SAMPLE_TARGET), server.alive()]
+        server.process.send_signal(signal.SIGTERM)
+        got.append(server.process.wait(10))
+    return got, [(200, sample_file()), True, -signal.SIGTERM], command(program, *words)
+
+
+@shows("--hold")
+def a_held_file_is_answered_after_it_was_cut_and_removed(program, room):
+    got = []
+    for hold in (190, 189):
+        path = sample_in(room, f"held_{hold}")
+        with Server(program, ["a=" + path], ["--edge", 2, "--hold", hold]) as server:
+            os.truncate(path, 100)
+            os.remove(path)
+            got.append(asked(server.port, SAMPLE_TARGET))
+    return got, [(200, sample_file()), (500, b"L1 source\n")], command(program, "--edge", 2, "--hold", 190, "a=sample.tif")
+
+
+@shows("--cache-bytes")
+def a_cache_of_0_keeps_no_tile_for_the_second_call(program, room):
+    # The sample has four tiles of edge 2: each of two calls asks for the four, and the second finds them where they are kept.
+    got = []
+    for words in ([], ["--cache-bytes", 0]):
+        statistics = free_port()
+        with Server(program, ["a=:sample"], ["--edge", 2, "--stats-listen", f"127.0.0.1:{statistics}", *words]) as server:
+            bodies = {asked(server.port, SAMPLE_TARGET) for _ in range(2)}
+            text = page(statistics, "/metrics")[1]
+            found = [counter(text, f"iiif_tile_cache_{it}_total") for it in ("hits", "loads")]
+            got.append((bodies == {(200, sample_file())}, *found))
+    words = ["--edge", 2, "--cache-bytes", 0, "--stats-listen", "127.0.0.1:9090"]
+    return got, [(True, 4, 4), (True, 0, 8)], command(program, *words, "a=:sample")
+
+
+@shows("--band")
+def the_first_band_is_sent_before_the_second_is_read(program, room):
+    # Of 512 rows in tiles of 256 the lower tiles are cut off once the file is open: bands of 64 rows are sent as far as row 256, and one of
+    # 512 isn't.
+    rows = [[[(x + y) % 256] for x in range(512)] for y in range(512)]
+    whole, got = plain(rows, 1, 8, 256, 0, "<", False), []
+    answer = file_of(rows, "default", judge(whole))
+    for band in (64, 512):
+        path = f"{room}/bands_{band}.tif"
+        with open(path, "wb") as file:
+            file.write(whole)
+        words = ["--edge", 256, "--cache-bytes", 0, "--workers", 1, "--band", band]
+        with Server(program, ["a=" + path], words) as server:
+            os.truncate(path, 8 + 2 * 256 * 256)
+            status, body = asked(server.port, SAMPLE_TARGET)
+        got.append((status, body if len(body) < 100 else answer.startswith(body) and 0 < len(body) <= 174 + 256 * 512))
+    return got, [(200, True), (500, b"L1 source\n")], command(program, *words, "a=" + path)
+
+
+def threads_of(program, room, workers):
+    """The most threads of a server while the first band of an image is made."""
+    with Server(program, [f"a={room}/large_for_threads.tif"], ["--edge", 64, "--workers", workers]) as server:
+        most = 0
+        with connected(server.port) as link:
+            link.sendall(b"GET /iiif/a/full/2048,/0/default.tif HTTP/1.1\r\nHost: localhost\r\n\r\n")
+            link.settimeout(0.002)
+            for _ in range(20_000):
+                most = max(most, len(os.listdir(f"/proc/{server.process.pid}/task")))
+                try:
+                    if link.recv(1):
+                        break
+                except TimeoutError:
+                    pass
+        return most
+
+
+@shows("--workers", 3)
+def one_image_is_made_by_as_many_threads_as_workers_says(program, room):
+    # One worker is the connection's own thread; each further one has a thread of its own. A band of the image has 32 blocks.
+    picture(f"{room}/large_for_threads.tif", 4096, 4096, edge=64)
+    got = [threads_of(program, room, workers) for workers in (1, 2, 5)]
+    return [it - got[0] for it in got], [0, 1, 4], command(program, "--edge", 64, "--workers", 5, "a=large.tif")
+
+
+@shows("--open-files", 2)
+def as_many_files_stay_open_as_open_files_says(program, room):
+    got = []
+    with open(f"{room}/list_of_300", encoding="utf-8") as file:
+        images = [line.strip().replace("=", f"={room}/") for line in file]
+    for open_files in (4, 17, 256):
+        with Server(program, images, ["--open-files", open_files]) as server:
+            folder = f"/proc/{server.process.pid}/fd"
+            paths = [os.readlink(f"{folder}/{number}") for number in os.listdir(folder)]
+            got.append(sum("/numbered/" in path for path in paths))
+    return got, [4, 17, 256], command(program, "--open-files", 4, "--images", "list_of_300")
+
+
+@shows("--touch-bytes")
+def touched_memory_was_resident_before_it_listens(program, room):
+    mib, peaks = 2 ** 20, []
+    for touched in (0, 32 * mib):
+        with Server(program, ["a=:sample"], ["--touch-bytes", touched]) as server:
+            peaks.append(server.peak())
+    grown = peaks[1] - peaks[0]
+    return (28 * mib < grown < 40 * mib) or grown, True, command(program, "--touch-bytes", 32 * mib, "a=:sample")
+
+
+@shows("--peer-timeout", 4)
+def a_silent_node_is_waited_for_as_long_as_peer_timeout_says(program, room):
+    took, bodies = [], set()
+    for timeout in (20, 2500):
+        with socket.socket() as silent:
+            silent.bind(("127.0.0.1", 0))
+            silent.listen()
+            words = ["--edge", 2, "--peer-timeout", timeout, "--peer", "other85=127.0.0.1:%d" % silent.getsockname()[1]]
+            with Server(program, ["a=:sample"], words) as server:
+                begun = time.monotonic()
+                bodies.add(asked(server.port, LAST_TILE))
+                took.append(time.monotonic() - begun)
+    got = (bodies == {(200, sample_file(LAST_TILE))}, took[0] < 1.5 or took[0], took[1] >= 2 or took[1])
+    return got, (True, True, True), command(program, *words[:-1], "other85=127.0.0.1:9090", "a=:sample")
+
+
+@shows("--min-rate", 45)
+def a_reader_below_min_rate_is_cut_after_30_seconds(program, room):
+    # Three read 20,000 bytes a second: below 1,000,000 one is cut once it was waited for 30 s; it isn't at the default of 4,096, nor at 0.
+    picture(f"{room}/large_for_readers.tif", 4000, 4000)
+    settings = {"above": ["--min-rate", 1_000_000], "default": [], "none": ["--min-rate", 0]}
+    servers, cut_after = {}, {}
+    for name, words in settings.items():
+        statistics = free_port()
+        words = [*words, "--stats-listen", f"127.0.0.1:{statistics}"]
+        servers[name] = Server(program, [f"a={room}/large_for_readers.tif"], words), statistics
+    try:
+        links = {name: slow_link(server.port) for name, (server, _) in servers.items()}
+        begun, ends = time.monotonic(), time.monotonic() + 90
+        while time.monotonic() < ends:
+            for name, link in links.items():
+                take(link, 2000)
+                if name not in cut_after and counter(page(servers[name][1], "/metrics")[1], "iiif_answers_cut_total"):
+                    # What isn't cut soon behind the first isn't cut for its rate.
+                    cut_after[name], ends = time.monotonic() - begun, min(ends, time.monotonic() + 8)
+            time.sleep(0.1)
+        for link in links.values():
+            link.close()
+    finally:
+        for server, _ in servers.values():
+            server.stop()
+    late = cut_after.get("above", 0)
+    return (sorted(cut_after), 29 <= late or late), (["above"], True), command(program, *settings["above"], "a=large.tif")
+
+
+def slow_link(port):
+    """A connection that takes little at a time, and asks for a large image."""
+    link = socket.socket()
+    link.setsockopt(socket.SOL_SOCKET, socket.SO_RCVBUF, 4096)
+    link.settimeout(20)
+    link.connect(("127.0.0.1", port))
+    link.sendall(f"GET {SAMPLE_TARGET} HTTP/1.1\r\nHost: localhost\r\n\r\n".encode())
+    link.setblocking(False)
+    return link
+
+
+def take(link, count):
+    """Reads at most so many bytes of what came."""
+    try:
+        link.recv(count)
+    except (BlockingIOError, ConnectionResetError):
+        pass
+
+
+@shows("--per-address", 2)
+def the_second_connection_of_an_address_is_refused_by_per_address(program, room):
+    # The first one's head is half sent, so that it makes no room for another.
+    got = []
+    for words in (["--per-address", 1], []):
+        statistics = free_port()
+        with Server(program, ["a=:sample"], ["--stats-listen", f"127.0.0.1:{statistics}", *words]) as server:
+            # Until the connection by which the server was found has left its place, and one more.
+            wait_until(lambda: asked(server.port, SAMPLE_TARGET)[0] == 200)
+            wait_until(lambda: 'iiif_connections_open{listener="viewers"} 0\n' in page(statistics, "/metrics")[1])
+            with connected(server.port) as first:
+                first.sendall(f"GET {SAMPLE_TARGET} HTTP/1.1\r\n".encode())
+                wait_until(lambda: 'iiif_connections_open{listener="viewers"} 1\n' in page(statistics, "/metrics")[1])
+                second = asked(server.port, SAMPLE_TARGET)
+                first.sendall(b"Host: localhost\r\nConnection: close\r\n\r\n")
+                served = to_the_end(first)[0].endswith(sample_file())
+        got.append((second, served))
+    return got, [((None, b""), True), ((200, sample_file()), True)], command(program, "--per-address", 1, "a=:sample")
+
+
+def wait_until(is_so, seconds=10):
+    """Waits until something is so; gives up after some seconds, so that what is judged next says what is."""
+    ends = time.monotonic() + seconds
+    while not is_so() and time.monotonic() < ends:
+        time.sleep(0.02)
+
+
+@shows("--log")
+def log_writes_a_line_for_each_answer(program, room):
+    # When it ended, and then method, status, the bytes of head and body, milliseconds and target.
+    size = len(sample_answers().answer(b"GET", SAMPLE_TARGET.encode(), True))
+    line = rf"\d{{4}}-\d\d-\d\dT\d\d:\d\d:\d\d\.\d{{3}}Z GET 200 {size} \d+ {re.escape(SAMPLE_TARGET)}\n"
+    got = []
+    for words in (["--log"], []):
+        with Server(program, ["a=:sample"], words) as server:
+            asked(server.port, SAMPLE_TARGET)
+            wait_until(lambda: server.line(), 10 if words else 1)
+            server.said.seek(0)
+            text = server.said.read().decode()
+            got.append(bool(re.fullmatch(line, text)) or text)
+    return got, [True, ""], command(program, "--log", "a=:sample")
+
+
+@shows("--stats-listen")
+def stats_listen_answers_metrics_and_health(program, room):
+    statistics = free_port()
+    words = ["--stats-listen", f"127.0.0.1:{statistics}"]
+    with Server(program, ["a=:sample"], words) as server:
+        asked(server.port, SAMPLE_TARGET)
+        wait_until(lambda: 'iiif_answers_total{status="200"} 1\n' in page(statistics, "/metrics")[1])
+        told = 'iiif_answers_total{status="200"} 1\n' in page(statistics, "/metrics")[1]
+        got = [told, page(statistics, "/health"), asked(server.port, "/health")]
+    with Server(program, ["a=:sample"]):
+        got.append(is_listening(statistics))
+    return got, [True, (200, "viewers ok\nstatistics ok\n"), (400, b"Q3 path\n"), False], command(program, *words, "a=:sample")
+
+
+def is_listening(port):
+    """Whether someone listens at a port."""
+    try:
+        connected(port, 5).close()
+        return True
+    except ConnectionRefusedError:
+        return False
+
+
+def replied(port, source=None):
+    """What an ask for the tile (0, 0) of edge 2 is replied, from an address of this machine; nothing where the connection is closed."""
+    ask = wire.ask(1, 1, wire.tile_key(b"a", 2, 0, 0))
+    for _ in range(200):
+        try:
+            with socket.create_connection(("127.0.0.1", port), 10, (source, 0) if source else None) as link:
+                link.sendall(ask)
+                return exactly(link, len(reply()))
+        except ConnectionRefusedError:
+            time.sleep(0.02)
+        except (ConnectionResetError, BrokenPipeError):
+            return b""
+    return None
+
+
+def reply():
+    """The right reply: the tile's shape and its four samples."""
+    values = wire.Values({"a": sample()}, 2)
+    return values.replied(1, 1, wire.tile_key(b"a", 2, 0, 0))[0]
+
+
+@shows("--peer-listen")
+def peer_listen_replies_to_another_nodes_ask(program, room):
+    peers = free_port()
+    words = ["--edge", 2, "--peer-listen", f"127.0.0.1:{peers}"]
+    with Server(program, ["a=:sample"], words):
+        got = [replied(peers)]
+    with Server(program, ["a=:sample"], words[:2]):
+        got.append(is_listening(peers))
+    return got, [reply(), False], command(program, *words, "a=:sample")
+
+
+@shows("--peer-only")
+def peer_only_closes_who_comes_from_no_peers_address(program, room):
+    # The other node is at 127.0.0.2: who comes from 127.0.0.3 is replied without --peer-only alone.
+    got = []
+    for words in (["--peer-only"], []):
+        peers = free_port()
+        words = ["--edge", 2, "--peer-listen", f"127.0.0.1:{peers}", "--peer", "b=127.0.0.2:1", *words]
+        with Server(program, ["a=:sample"], words):
+            got.append([replied(peers, source) for source in ("127.0.0.2", "127.0.0.3")])
+    return got, [[reply(), b""], [reply(), reply()]], command(program, *words, "--peer-only", "a=:sample")
+
+
+@shows("--peer")
+def a_node_whose_peer_lies_nowhere_answers_and_says_so(program, room):
+    got = []
+    for words in (["--peer", f"other85=127.0.0.1:{free_port()}"], []):
+        statistics = free_port()
+        with Server(program, ["a=:sample"], ["--edge", 2, "--stats-listen", f"127.0.0.1:{statistics}", *words]) as server:
+            status = asked(server.port, LAST_TILE)[0]
+            text = page(statistics, "/metrics")[1]
+            got.append((status, 'iiif_peer_asks_total{peer="other85",outcome="failed"} 1\n' in text))
+    return got, [(200, True), (200, False)], command(program, "--edge", 2, "--peer", "other85=127.0.0.1:1", "a=:sample")
+
+
+@shows("NAME=FILE")
+def a_server_needs_an_image(program, room):
+    try:
+        with Server(program, []) as server:
+            got = asked(server.port, SAMPLE_TARGET)
+    except Refused as refused:
+        got = (refused.args[0], refused.args[1].splitlines()[0])
+    return got, (2, "line: image"), command(program)
