@@ -149,6 +149,18 @@ def connected(port, timeout=30):
     return link
 
 
+def wait_for(port, seconds=20):
+    """Waits until a further listener of a program is there, and until the connection by which it was found has ended."""
+    ends = time.monotonic() + seconds
+    while True:
+        try:
+            return sent_to(port, [])
+        except ConnectionRefusedError:
+            if time.monotonic() > ends:
+                raise
+            time.sleep(0.005)
+
+
 def exchanged(server, pieces, timeout=20):
     """What a connection of a viewer is answered that sends these pieces and then ends its own side."""
     return sent_to(server.port, pieces, timeout)

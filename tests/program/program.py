@@ -101,7 +101,9 @@ def told(outcome):
 
 
 def shortened(data):
-    text = repr(data)[1:]
+    """Bytes for a reader: an image by its samples, where nothing else is in its file."""
+    told = tables.described(data) if data.startswith(b"II*\0") else None
+    text = f"image {told}" if told else repr(data)[1:]
     return text if len(text) < 1200 else f"{text[:800]} .. {text[-300:]} ({len(data)} bytes)"
 
 

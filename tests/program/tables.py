@@ -27,6 +27,7 @@ import sys
 HERE = os.path.dirname(os.path.abspath(__file__))
 sys.path.insert(0, os.path.dirname(HERE))
 from hostile.images import file_of  # noqa: E402
+from hostile.tiff import Picture, judge  # noqa: E402
 
 KINDS = {"gray": (1, 8), "RGB": (3, 8), "gray of 16 bits": (1, 16), "bits": (1, 1)}
 KEYS = ("words", "repeat", "room", "status", "text", "json", "image", "digits", "begins", "stderr", "asked", "shows")
@@ -54,6 +55,17 @@ def image(text):
     places = [values[at:at + channels] for at in range(0, len(values), channels)]
     rows = [places[at:at + width] for at in range(0, len(places), width)]
     return file_of(rows, "bitonal" if bits == 1 else "default", Shape(channels, bits))
+
+
+def described(data):
+    """A file of an image as a table tells it, None where it is none that is answered."""
+    found = judge(data)
+    if not isinstance(found, Picture) or (found.channels, found.bits) not in KINDS.values():
+        return None
+    kind = next(kind for kind, it in KINDS.items() if it == (found.channels, found.bits))
+    samples = [sample for row in found.rows(0, 0, found.width, found.height) for place in row for sample in place]
+    text = f"{found.width} by {found.height} {kind}: {' '.join(map(str, samples))}"
+    return text if image(text) == data else None
 
 
 def digits(data):

@@ -10,6 +10,7 @@ keys are owned by a node that lies: its reply has one byte changed, or is for an
 what a node without others may answer, the same again the case's own, and no value that is kept may be counted as another node's. That
 is tried at a start by `--one` too.
 """
+import functools
 import itertools
 import os
 import socketserver
@@ -17,7 +18,8 @@ import sys
 import threading
 
 import starts
-from streams import HERE, STREAMS, Node, count, files, images, running, tiff
+from parts import Part
+from streams import HERE, STREAMS, Node, count, files, images, running, sample_in, tiff
 
 sys.path.insert(0, os.path.join(HERE, "..", "..", "bench", "scale"))
 import wire  # noqa: E402
@@ -33,7 +35,8 @@ def keys_of(calls):
     for _, target in calls:
         area, size, _, _ = images.spelled(target.decode().split("/")[3:])
         rect = images.rectangle(area, picture.width, picture.height)
-        request = Request(Image(b"a", picture.width, picture.height, 1), EDGE, Rect(*rect), images.sides(size, rect[2], rect[3], 4096, False))
+        result = images.sides(size, rect[2], rect[3], 4096, False)
+        request = Request(Image(b"a", picture.width, picture.height, 1), EDGE, Rect(*rect), result)
         items = request.items
         while items:
             found.update(request.key(*item) for item in items)
@@ -41,8 +44,10 @@ def keys_of(calls):
     return found
 
 
-def names_without(keys, letter):
-    """A node's own name, and its others' names, of which it owns no key."""
+@functools.cache
+def names_without(letter):
+    """A node's own name, and its others' names, of which it owns no key of the cases."""
+    keys = set().union(*(keys_of(STREAMS[case]) for case in CASES))
     for n in itertools.count():
         own, others = b"%s%d" % (letter, n), [b"%s%d-%d" % (letter, n, k) for k in range(OTHERS)]
         ring = Ring([own, *others])
@@ -55,8 +60,7 @@ class Crossed:
 
     def __init__(self, program, control, path, options):
         self.program, self.control, self.path, self.options = program, control, path, options
-        keys = set().union(*(keys_of(STREAMS[case]) for case in CASES))
-        self.names = {node: names_without(keys, node.encode()) for node in "ab"}
+        self.names = {node: names_without(node.encode()) for node in "ab"}
 
     def started(self, refusing):
         """Both nodes, of which one is under the control."""
@@ -68,6 +72,7 @@ class Crossed:
             options = ["--edge", EDGE, *self.options, "--name", own, "--peer-listen", f"127.0.0.1:{ports[node]}"]
             options += [word for name in others for word in ("--peer", f"{name}=127.0.0.1:{ports[other]}")]
             servers[node] = running.Server(self.program, ["a=" + self.path], options, self.control.env if node == refusing else None)
+            running.wait_for(ports[node])
         running.exchanged(servers[refusing], [b"GET / HTTP/1.1\r\n\r\n"])
         return servers, ports
 
@@ -117,8 +122,9 @@ def asks_tried(crossed):
     """Asks to the port for peers, of which one growth is refused, and then the same again."""
     picture = tiff.judge(files.SAMPLE)
     values = wire.Values({"a": picture}, EDGE)
-    asks = [(1, 1, wire.tile_key(b"a", EDGE, 0, 1)), (1, 2, wire.sum_key(b"a", EDGE, (0, 0, 4, 4), (2, 2), 1, 0, 0)), (2, 1, wire.tile_key(b"a", EDGE, 1, 1)),
-            (1, 1, wire.tile_key(b"zz", EDGE, 0, 0)), (1, 2, wire.sum_key(b"a", EDGE, (1, 0, 3, 3), (3, 1), 0, 1, 1))]
+    asks = [(1, 1, wire.tile_key(b"a", EDGE, 0, 1)), (1, 2, wire.sum_key(b"a", EDGE, (0, 0, 4, 4), (2, 2), 1, 0, 0)),
+            (2, 1, wire.tile_key(b"a", EDGE, 1, 1)), (1, 1, wire.tile_key(b"zz", EDGE, 0, 0)),
+            (1, 2, wire.sum_key(b"a", EDGE, (1, 0, 3, 3), (3, 1), 0, 1, 1))]
     text = b"".join(wire.ask(*ask) for ask in asks)
     own = [values.replied(*ask)[0] for ask in asks]
 
@@ -215,36 +221,41 @@ class Misled(Node):
         met, kind, wrong = super().tried(server, calls, n)
         if self.stats and server.alive():
             told = running.counters(self.stats)
-            wrong += [f"growth {n}: {told[name]} {name}" for name in ("iiif_tile_cache_peer_total", "iiif_sum_cache_peer_total") if told[name]]
+            names = ("iiif_tile_cache_peer_total", "iiif_sum_cache_peer_total")
+            wrong += [f"growth {n}: {told[name]} {name}" for name in names if told[name]]
         return met, kind, wrong
 
 
-def rows(program, control, room, options):
-    """A tile and an image that a node which lies is asked for, on one server."""
-    for name, kinds, wrong in lied_to(program, control, sample_in(room), options, ["first tile", "half width"], ["one server"], []):
-        yield name, kinds, wrong
+def misled_part(program, options, lie, case, where):
+    """Requests of one case to a node that asks one which lies so."""
+    def run(control, room):
+        with Liar(wire.Values({"a": tiff.judge(files.SAMPLE)}, EDGE), LIES[lie]) as liar:
+            node = Misled(program, control, sample_in(room), asks_of(liar, options))
+            return seen(liar, *(node.cold if where == "new servers" else node.warm)(STREAMS[case]))
+
+    return Part("peers", f"{where}, {lie}, {case}", run)
 
 
-def lied_to(program, control, path, options, cases=CASES, places=("new servers", "one server"), started=STREAMS["two images"]):
-    """Each growth refused to a node that asks a liar: at a listening server, and at a start by `--one`."""
-    values = wire.Values({"a": tiff.judge(files.SAMPLE)}, EDGE)
-    own, others = names_without(set().union(*(keys_of(STREAMS[case]) for case in CASES)), b"a")
-    for what, lie in LIES.items():
-        with Liar(values, lie) as liar:
-            asks = [*options, "--name", own] + [word for name in others for word in ("--peer", f"{name}=127.0.0.1:{liar.server_address[1]}")]
-            node = Misled(program, control, path, asks)
-            for case in cases:
-                for where in places:
-                    tried = node.cold if where == "new servers" else node.warm
-                    yield f"{where}, {what}, {case}", *seen(liar, *tried(STREAMS[case]))
-            for _, target in started:
-                control.refuse(0)
-                right = starts.one(program, control.env, target.decode(), path, options)
-                kinds, wrong = starts.each(program, control, target.decode(), path, right, asks)
-                with_all = starts.one(program, control.env, target.decode(), path, asks)
-                if with_all != right:
-                    wrong.append(f"with ample memory: status {with_all[0]}, {with_all[1][:40]!r}, {with_all[2][:80]!r}")
-                yield f"start, {what}, {target.decode()}", *seen(liar, kinds, wrong)
+def misled_start(program, options, lie, target):
+    """A start by `--one` of a node that asks one which lies so."""
+    def run(control, room):
+        with Liar(wire.Values({"a": tiff.judge(files.SAMPLE)}, EDGE), LIES[lie]) as liar:
+            asks, path = asks_of(liar, options), sample_in(room)
+            control.refuse(0)
+            right = starts.one(program, control.env, target, path, options)
+            kinds, wrong = starts.each(program, control, target, path, right, asks)
+            with_all = starts.one(program, control.env, target, path, asks)
+            if with_all != right:
+                wrong.append(f"with ample memory: status {with_all[0]}, {with_all[1][:40]!r}, {with_all[2][:80]!r}")
+            return seen(liar, kinds, wrong)
+
+    return Part("peers", f"start, {lie}, {target}", run)
+
+
+def asks_of(liar, options):
+    """The options of a node all of whose keys are owned by a liar."""
+    own, others = names_without(b"a")
+    return [*options, "--name", own] + [word for name in others for word in ("--peer", f"{name}=127.0.0.1:{liar.server_address[1]}")]
 
 
 def seen(liar, kinds, wrong):
@@ -252,23 +263,21 @@ def seen(liar, kinds, wrong):
     return kinds, wrong if liar.lately() else wrong + ["the node that lies wasn't asked"]
 
 
-def sample_in(room):
-    """The sample's file."""
-    path = os.path.join(room, "sample.tif")
-    with open(path, "wb") as file:
-        file.write(files.SAMPLE)
-    return path
+def crossed_part(program, options, where, refusing, case):
+    """Images of a node that asks another one, refused to it or to the other; or asks of another node, where there is no case."""
+    def run(control, room):
+        crossed = Crossed(program, control, sample_in(room), options)
+        tried = images_tried(crossed, STREAMS[case], refusing == "b") if case else asks_tried(crossed)
+        return crossed.run(refusing, where == "one pair", tried)
+
+    what = f"crossed rings, {'refused to the node that is asked, ' * (refusing == 'b')}{case}" if case else "asks of another node"
+    return Part("peers", f"{where}, {what}", run)
 
 
-def runs(program, control, room, options):
-    """All runs, where the program has peers."""
-    if "--peer-listen" not in running.options_of(program):
-        return
-    path = sample_in(room)
-    crossed = Crossed(program, control, path, options)
-    for where, once in (("new servers", False), ("one pair", True)):
-        for case in CASES:
-            for refusing, what in (("a", "crossed rings"), ("b", "crossed rings, refused to the node that is asked")):
-                yield f"{where}, {what}, {case}", *crossed.run(refusing, once, images_tried(crossed, STREAMS[case], refusing == "b"))
-        yield f"{where}, asks of another node", *crossed.run("a", once, asks_tried(crossed))
-    yield from lied_to(program, control, path, options)
+def parts(program, options):
+    """All cases of several nodes."""
+    places = ("new servers", "one pair")
+    found = [crossed_part(program, options, where, refusing, case) for where in places for case in CASES for refusing in "ab"]
+    found += [crossed_part(program, options, where, "a", None) for where in places]
+    found += [misled_part(program, options, lie, case, where) for lie in LIES for case in CASES for where in ("new servers", "one server")]
+    return found + [misled_start(program, options, lie, target.decode()) for lie in LIES for _, target in STREAMS["two images"]]

@@ -4,10 +4,10 @@ import os
 import struct
 import subprocess
 import sys
-import time
 
 HERE = os.path.dirname(os.path.abspath(__file__))
 sys.path.insert(0, os.path.join(HERE, "..", "hostile"))
+from parts import Part  # noqa: E402
 import files  # noqa: E402
 import images  # noqa: E402
 import program as running  # noqa: E402
@@ -16,28 +16,27 @@ import tiff  # noqa: E402
 MOST = 20_000
 
 
+def built(room):
+    """The library that refuses growths, built into a folder."""
+    library = os.path.join(room, "refuse.so")
+    subprocess.run(["cc", "-O2", "-shared", "-fPIC", "-o", library, os.path.join(HERE, "refuse.c"), "-ldl"], check=True)
+    return library
+
+
 class Control:
     """The file by which a program is told which growth is refused."""
 
-    def __init__(self, room, seconds=None):
-        self.end = None if seconds is None else time.monotonic() + seconds
-        self.is_cut = False
-        self.library = os.path.join(room, "refuse.so")
-        subprocess.run(["cc", "-O2", "-shared", "-fPIC", "-o", self.library, os.path.join(HERE, "refuse.c"), "-ldl"], check=True)
+    def __init__(self, room, library):
         path = os.path.join(room, "control")
         with open(path, "wb") as file:
             file.write(bytes(24))
-        self.file = open(path, "r+b")
-        self.shared = mmap.mmap(self.file.fileno(), 24)
-        self.env = {"LD_PRELOAD": self.library, "REFUSE_CONTROL": path}
+        with open(path, "r+b") as file:
+            self.shared = mmap.mmap(file.fileno(), 24)
+        self.env = {"LD_PRELOAD": library, "REFUSE_CONTROL": path}
 
     def growths(self):
-        """The growths to be refused, one after another, until the time ends."""
-        for n in range(1, MOST):
-            if self.end is not None and time.monotonic() > self.end:
-                self.is_cut = True
-                return
-            yield n
+        """The growths to be refused, one after another."""
+        return range(1, MOST)
 
     def refuse(self, n):
         """The n-th growth from now on is refused; none with 0."""
@@ -56,11 +55,12 @@ def said(kinds):
 
 
 THREE = [(b"GET", b"/iiif/a"), (b"POST", b"/iiif/a"), (b"HEAD", b"/iiif/a/full/max/0/default.tif")]
-STREAMS = {"three requests": THREE, "sample's image": [(b"GET", b"/iiif/a/full/max/0/default.tif")], "half width": [(b"GET", b"/iiif/a/full/2,/0/default.tif")],
+BROKEN = [(b"GET", b"/iiif/a%2/full/max/0/default.tif"), (b"GET", b"/iiif/zz/bad/max/0/default.tif")]
+PLANS = [(b"GET", b"/iiif/a/" + words + b"/0/default.tif") for words in (b"full/max", b"full/1,1", b"1,1,3,3/2,2", b"full/1,1", b"full/max")]
+STREAMS = {"three requests": THREE, "sample's image": [(b"GET", b"/iiif/a/full/max/0/default.tif")],
+           "half width": [(b"GET", b"/iiif/a/full/2,/0/default.tif")],
            "turned bits": [(b"GET", b"/iiif/a/full/3,3/!90/bitonal.tif")], "info.json": [(b"GET", b"/iiif/a/info.json")],
-           "a broken escape and an unknown name": [(b"GET", b"/iiif/a%2/full/max/0/default.tif"), (b"GET", b"/iiif/zz/bad/max/0/default.tif")],
-           "plans of tiles, of blocks, and the same again": [(b"GET", b"/iiif/a/" + words + b"/0/default.tif") for words in
-                                                            (b"full/max", b"full/1,1", b"1,1,3,3/2,2", b"full/1,1", b"full/max")],
+           "a broken escape and an unknown name": BROKEN, "plans of tiles, of blocks, and the same again": PLANS,
            "first tile": [(b"GET", b"/iiif/a/0,0,2,2/max/0/default.tif")],
            "two images": [(b"GET", b"/iiif/a/full/2,/0/default.tif"), (b"GET", b"/iiif/a/full/max/0/gray.tif")]}
 
@@ -115,6 +115,8 @@ class Node:
     def start(self):
         self.control.refuse(0)
         server = running.Server(self.program, ["a=" + self.path], self.options, self.control.env)
+        if self.stats:
+            running.wait_for(self.stats)
         self.sent(server, [(b"GET", b"/")])
         return server
 
@@ -162,3 +164,25 @@ class Node:
                     break
                 count(kinds, kind)
         return kinds, wrong
+
+
+def sample_in(room):
+    """The sample's file."""
+    path = os.path.join(room, "sample.tif")
+    with open(path, "wb") as file:
+        file.write(files.SAMPLE)
+    return path
+
+
+def parts(program, options):
+    """The streams of requests, each on a new server for each refusal, and on one."""
+    return [part_of(program, options, name, where) for name in STREAMS for where in ("new servers", "one server")]
+
+
+def part_of(program, options, name, where):
+    """One stream of requests."""
+    def run(control, room):
+        node = Node(program, control, sample_in(room), options)
+        return (node.cold if where == "new servers" else node.warm)(STREAMS[name])
+
+    return Part("connections", f"{where}, {name}", run)
