@@ -5,6 +5,8 @@
     tests/program/program.py --program PROGRAM NAME ..    # the cases whose names have one of these in them
     tests/program/program.py --list
 
+Needs `cc`, which builds pieces.c: where standard output has little room, it takes five bytes a write.
+
 Tables of cases stand in cases/, in the words of tables.py; options.py has those of servers that listen, on 127.0.0.1 alone. Each case
 runs in a room that holds data/ and the 300 files numbered/N.tif: the sample, whose first two samples are N. Cases run side by side. Of one
 that fails the name, the command, what was wanted and what came are printed; its room then stays, as the command needs it. A case that
@@ -33,6 +35,8 @@ HERE = os.path.dirname(os.path.abspath(__file__))
 MANUAL = os.path.join(HERE, "..", "..", "packaging", "iiif_serve.1")
 EVERY = "every_option_makes_a_difference"
 SECONDS = 120
+# What standard output takes of a write, where it has little room.
+PIECE = 5
 
 
 class Failed(Exception):
@@ -45,6 +49,7 @@ def made_room():
     shutil.copytree(f"{HERE}/data", room, dirs_exist_ok=True)
     with open(f"{room}/sample.tif", "rb") as file:
         sample = file.read()
+    subprocess.run(["cc", "-O2", "-shared", "-fPIC", "-o", f"{room}/pieces.so", f"{HERE}/pieces.c", "-ldl"], check=True)
     os.mkdir(f"{room}/numbered")
     for n in range(300):
         with open(f"{room}/numbered/{n}.tif", "wb") as file:
@@ -60,14 +65,20 @@ def limited(size):
     return set_limit
 
 
-def run(program, words, room, limit=None):
-    """The status, standard output and standard error of a run; with a limit standard output is a file that takes so many bytes."""
-    how = {"cwd": room, "stdin": subprocess.DEVNULL, "stderr": subprocess.PIPE, "timeout": SECONDS}
-    if limit is None:
-        done = subprocess.run([program, *words], stdout=subprocess.PIPE, **how)
-        return done.returncode, done.stdout, done.stderr
-    with tempfile.TemporaryFile() as out:
+def run(program, words, room):
+    """The status, standard output and standard error of a run."""
+    done = subprocess.run([program, *words], cwd=room, stdin=subprocess.DEVNULL, capture_output=True, timeout=SECONDS)
+    return done.returncode, done.stdout, done.stderr
+
+
+def run_in_pieces(program, words, room, limit):
+    """The same, where standard output is a file that takes so many bytes, a few a write."""
+    with tempfile.TemporaryFile() as out, tempfile.TemporaryDirectory() as marks:
+        pieces = {"LD_PRELOAD": f"{room}/pieces.so", "PIECES": str(PIECE), "PIECES_MARK": f"{marks}/mark"}
+        how = {"cwd": room, "stdin": subprocess.DEVNULL, "stderr": subprocess.PIPE, "timeout": SECONDS, "env": {**os.environ, **pieces}}
         done = subprocess.run([program, *words], stdout=out, preexec_fn=limited(limit), restore_signals=False, **how)
+        if not os.path.exists(f"{marks}/mark"):
+            raise Failed("    it wasn't written in pieces: the program doesn't call the C library's write")
         out.seek(0)
         return done.returncode, out.read(), done.stderr
 
@@ -90,7 +101,8 @@ def outcome_of(program, words, room, case):
         listener.bind(("127.0.0.1", 0))
         listener.listen()
         address = "127.0.0.1:%d" % listener.getsockname()[1]
-        got = run(program, [word.replace("LISTENER", address) for word in words], room, case.room)
+        words = [word.replace("LISTENER", address) for word in words]
+        got = run(program, words, room) if case.room is None else run_in_pieces(program, words, room, case.room)
         return got if case.asked is None else (*got, came_to(listener, max(len(case.asked), 1)))
 
 
@@ -109,7 +121,9 @@ def shortened(data):
 
 def check_table(case, program, room):
     """Runs a case of a table, and the same without what it shows."""
-    command = f"cd {room} && {shlex.join([program, *case.words])}" + (f" | head -c {case.room}" if case.room is not None else "")
+    command = f"cd {room} && {shlex.join([program, *case.words])}"
+    if case.room is not None:
+        command += f"    # standard output takes {case.room} bytes, {PIECE} at a time"
     got = outcome_of(program, case.words, room, case)
     want = (case.status, case.out, case.err) + (() if case.asked is None else (case.asked,))
     if case.begins is not None:

@@ -4,7 +4,7 @@ A case is its name, and below it a line KEY: VALUE for each of these, of which t
 
     words:   the words of the command line, as a shell reads them
     repeat:  COUNT WORD .., where {0} stands for 0, 1 and so on: more words, so many times
-    room:    the bytes that standard output takes: a file of limited size; all, where it is left out
+    room:    the bytes that standard output takes, five at a time; all, where it is left out
     status:  0, where it is left out
     text:    what standard output has, in quotation marks
     json:    the same as it stands, without quotation marks
