@@ -27,7 +27,7 @@ LAST_TILE = "/iiif/a/2,2,2,2/max/0/default.tif"
 
 
 class Case:
-    """A case: its name, its option, what of it takes how long, and the function that gives what came, what was wanted, and the command."""
+    """A case: its name, its option, its seconds, and the function that gives the outcome, the one that is wanted, and the command."""
 
     def __init__(self, option, seconds, function):
         self.name, self.seconds, self.function, self.option = function.__name__, seconds, function, option
@@ -96,7 +96,7 @@ def sample():
 
 
 def sample_answers():
-    """What a server of the sample answers, by the evaluation of tests/hostile."""
+    """Answers of a server of the sample, by the evaluation of tests/hostile."""
     return Answers(BASE, {"a": sample()}, 2, 4096, False)
 
 
@@ -331,7 +331,7 @@ def stats_listen_answers_metrics_and_health(program, room):
 
 
 def is_listening(port):
-    """Whether someone listens at a port."""
+    """Tells whether someone listens at a port."""
     try:
         connected(port, 5).close()
         return True
@@ -340,7 +340,7 @@ def is_listening(port):
 
 
 def replied(port, source=None):
-    """What an ask for the tile (0, 0) of edge 2 is replied, from an address of this machine; nothing where the connection is closed."""
+    """Asks for the tile (0, 0) of edge 2 from an address of this machine: the reply, nothing where the connection is closed."""
     ask = wire.ask(1, 1, wire.tile_key(b"a", 2, 0, 0))
     for _ in range(200):
         try:

@@ -58,7 +58,7 @@ def made_room():
 
 
 def limited(size):
-    """What a child does before it becomes the program: its files take so many bytes, and a write beyond fails by EFBIG, not by a signal."""
+    """Prepares a child before it becomes the program: its files take so many bytes, and a write beyond fails by EFBIG, not by a signal."""
     def set_limit():
         signal.signal(signal.SIGXFSZ, signal.SIG_IGN)
         resource.setrlimit(resource.RLIMIT_FSIZE, (size, size))
@@ -66,13 +66,13 @@ def limited(size):
 
 
 def run(program, words, room):
-    """The status, standard output and standard error of a run."""
+    """Runs the program: its status, standard output and standard error."""
     done = subprocess.run([program, *words], cwd=room, stdin=subprocess.DEVNULL, capture_output=True, timeout=SECONDS)
     return done.returncode, done.stdout, done.stderr
 
 
 def run_in_pieces(program, words, room, limit):
-    """The same, where standard output is a file that takes so many bytes, a few a write."""
+    """Runs the program with a standard output that takes so many bytes, a few a write."""
     with tempfile.TemporaryFile() as out, tempfile.TemporaryDirectory() as marks:
         pieces = {"LD_PRELOAD": f"{room}/pieces.so", "PIECES": str(PIECE), "PIECES_MARK": f"{marks}/mark"}
         how = {"cwd": room, "stdin": subprocess.DEVNULL, "stderr": subprocess.PIPE, "timeout": SECONDS, "env": {**os.environ, **pieces}}
@@ -84,7 +84,7 @@ def run_in_pieces(program, words, room, limit):
 
 
 def came_to(listener, count):
-    """The first bytes that came to a listener, none where nobody did."""
+    """Reads the first bytes that came to a listener: none where nobody connected."""
     listener.settimeout(0)
     try:
         link, _ = listener.accept()
@@ -96,7 +96,7 @@ def came_to(listener, count):
 
 
 def outcome_of(program, words, room, case):
-    """What a case's words come to: status, both outputs, and what came to the listener, where this is asked for."""
+    """Runs a case's words: status, both outputs, and the bytes that came to the listener, where these are asked for."""
     with socket.socket() as listener:
         listener.bind(("127.0.0.1", 0))
         listener.listen()
@@ -135,19 +135,19 @@ def check_table(case, program, room):
 
 
 def check_options(case, program, room):
-    """Runs a case of options.py, which gives what came and what was wanted, with the command behind it."""
+    """Runs a case of options.py, which gives the outcomes that came and that were wanted, and the command."""
     got, want, command = case.check(program, room)
     if got != want:
         raise Failed(f"    {shlex.join(command)}\n    got     {got!r}\n    want    {want!r}")
 
 
 def named(text):
-    """The options that a text of help or a manual page's options name."""
+    """Options that a text names."""
     return set(re.findall(r"(?<![\w-])--?[a-zA-Z][\w-]*", text))
 
 
 def check_every(program, shown):
-    """Whether each option of the help and of the manual page has a case in which it makes a difference."""
+    """Checks that each option of the help and of the manual page has a case in which it makes a difference."""
     text = subprocess.run([program, "--help"], capture_output=True, text=True, timeout=SECONDS).stdout
     known = {word for head in re.findall(r"^ +((?:-\w, )?--[\w-]+)", text, re.M) for word in named(head)}
     with open(MANUAL, encoding="utf-8") as file:
@@ -163,7 +163,7 @@ def check_every(program, shown):
 
 
 def checked(name, check, *given):
-    """Whether a case passed, how long it took, and what is said where it didn't."""
+    """Runs a check: its name, whether it passed, how long it took, and the text of its failure."""
     begun = time.monotonic()
     try:
         check(*given)

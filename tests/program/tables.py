@@ -1,4 +1,4 @@
-"""Cases of tables: what the program writes on some words, and its status.
+"""Cases of tables: the words of a command line, and the output and status that they come to.
 
 A case is its name, and below it a line KEY: VALUE for each of these, of which those of one key are joined:
 
@@ -107,7 +107,7 @@ class Case:
         self.shows = shlex.split(told("shows"))
 
     def options(self):
-        """The option that makes a difference in it, in a list; an image's word has no name of its own."""
+        """Option that makes a difference here, in a list; an image's word has no name of its own."""
         return [word if word.startswith("-") else "NAME=FILE" for word in self.shows[:1]]
 
     def without(self):

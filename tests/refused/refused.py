@@ -50,7 +50,7 @@ def tests_of(binary):
 
 
 def test_kind(done):
-    """What a refused test came to, or nothing where it isn't allowed."""
+    """Kind of a refused test's end, None where it isn't allowed."""
     if done.returncode == 0:
         return "passed"
     text = done.stdout + done.stderr
