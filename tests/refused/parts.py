@@ -3,7 +3,7 @@ import os
 
 SECONDS = os.path.join(os.path.dirname(os.path.abspath(__file__)), "seconds.txt")
 # Of a case that seconds.txt doesn't have.
-USUAL = 5.0
+USUAL = 1.0
 
 
 class Part:

@@ -17,8 +17,8 @@ Tests: of programs that know `--list` and run one test by its name, those whose 
 refused call again by themselves; each is run alone. It has to pass, or to end out of memory while it is being prepared.
 
 A round is all of these. `--slice K/N` runs slice K, from 0, of N slices of about equal seconds, as seconds.txt has them (`--note` writes
-there what the cases took); NAME those cases alone whose names have it in them. Cases run side by side, one for each processor. Prints a line for each
-case: how many refusals, and what came. The last line is `N passed, M failed`; the status is 1 where one failed, or none ran.
+there what the cases took); NAME those cases alone whose names have it in them. Cases run side by side, one for each processor. Prints a
+line for each case: how many refusals, and what came. The last line is `N passed, M failed`; the status is 1 where one failed, or none ran.
 """
 import argparse
 import concurrent.futures

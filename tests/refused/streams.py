@@ -56,7 +56,8 @@ def said(kinds):
 
 THREE = [(b"GET", b"/iiif/a"), (b"POST", b"/iiif/a"), (b"HEAD", b"/iiif/a/full/max/0/default.tif")]
 BROKEN = [(b"GET", b"/iiif/a%2/full/max/0/default.tif"), (b"GET", b"/iiif/zz/bad/max/0/default.tif")]
-PLANS = [(b"GET", b"/iiif/a/" + words + b"/0/default.tif") for words in (b"full/max", b"full/1,1", b"1,1,3,3/2,2", b"full/1,1", b"full/max")]
+PLANS = [(b"GET", b"/iiif/a/" + words + b"/0/default.tif")
+         for words in (b"full/max", b"full/1,1", b"1,1,3,3/2,2", b"full/1,1", b"full/max")]
 STREAMS = {"three requests": THREE, "sample's image": [(b"GET", b"/iiif/a/full/max/0/default.tif")],
            "half width": [(b"GET", b"/iiif/a/full/2,/0/default.tif")],
            "turned bits": [(b"GET", b"/iiif/a/full/3,3/!90/bitonal.tif")], "info.json": [(b"GET", b"/iiif/a/info.json")],
@@ -92,8 +93,8 @@ def stream_kind(calls, own, got):
 
 
 def book_faults(port):
-    """What isn't as it has to be in a program's books once nothing is under way: each call met a value, joined a load or began one, and each
-    load that began has ended."""
+    """What isn't as it has to be in a program's books once nothing is under way: each call met a value, joined a load or began one, and
+    each load that began has ended."""
     told, found = running.counters(port), []
     for front in ("iiif_tile_cache_", "iiif_sum_cache_"):
         gets, hits, joins, leads, landed = (told[f"{front}{name}_total"] for name in ("gets", "hits", "joins", "leads", "landed"))
