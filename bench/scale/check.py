@@ -2,7 +2,7 @@
 
     /usr/bin/python3 bench/scale/check.py
 
-Owners and the bytes of keys are read out of the files of `iiif_flight_tests`; plans, bands, caches and counts are listed here as the
+Owners and the bytes of keys are read out of `tests/unit`; plans, bands, caches and counts are listed here as the
 tests and the definitions have them. The cache is also compared, call by call, with the evaluation of its definition in
 bench/cache/lists.py. The status is 1 where anything differs.
 """
@@ -24,7 +24,7 @@ def same(what, found, wanted):
 
 
 def tests_of(module):
-    return (ROOT / "crates" / "iiif_flight_tests" / "src" / f"{module}.rt").read_text()
+    return (ROOT / "tests" / "unit" / "flight" / f"{module}.rs").read_text()
 
 
 def bytes_in(module, name):

@@ -1,0 +1,196 @@
+//! The lines of the log.
+
+use crate::connections::nodes::{SAMPLE, Scene};
+use crate::connections::pipe::{Pipe, given_to, new_pipe, read_from_now, wait_for_line};
+use crate::connections::viewers::{Sends, Text, connected, is_answered, is_redirected};
+use crate::connections::visits::{ANY, HELD, Visit, logged};
+use http::Method;
+use iiif_connections::{Cause, Cut, Nodes, Sent, Watch, Watcher};
+use iiif_http_front::Call;
+use iiif_log::write_lines;
+use std::alloc::Global;
+use std::io::Write;
+use std::net::{TcpListener, TcpStream};
+use std::str;
+use std::sync::Wait;
+use std::test::Fail;
+use std::time::Clock;
+
+/// The sample, by a node that logs.
+const LOGGED: Scene<'static, 'static> = Scene {
+    statistics: Some(ANY),
+    logs: true,
+    ..SAMPLE
+};
+
+/// A redirect, a method that isn't answered, a head alone, and what is no head. The answers have as many bytes as their lines say.
+const FOUR: Sends<'static> = Sends {
+    request: b"GET /iiif/a HTTP/1.1\r\n\r\nPOST /iiif/a HTTP/1.1\r\n\r\nHEAD /iiif/a/full/max/0/default.tif HTTP/1.1\r\n\r\n:\r\n\r\n",
+    ends: false,
+    wanted: Text::Long(122 + 141 + 170 + 132),
+};
+
+/// The lines that are wanted, without the moment: what stands before the milliseconds, and behind them. The bytes are those of each
+/// answer's head and body.
+static FOUR_LINES: [(&str, &str); 4] = [
+    ("GET 303 122", "/iiif/a"),
+    ("POST 405 141", "/iiif/a"),
+    ("HEAD 200 170", "/iiif/a/full/max/0/default.tif"),
+    ("\"\" 400 132", "\"\""),
+];
+
+/// Whether a line has a moment of 24 bytes, this, milliseconds, and that.
+fn is_line(line: &str, front: &str, target: &str) -> bool {
+    let Some((moment, rest)) = line.split_once(' ') else {
+        return false;
+    };
+    let Some((words, last)) = rest.rsplit_once(' ') else {
+        return false;
+    };
+    let Some((first, millis)) = words.rsplit_once(' ') else {
+        return false;
+    };
+    moment.len() == 24 && first == front && !millis.is_empty() && last == target
+}
+
+/// Whether a log has just those lines.
+fn has_four_lines(log: &[u8]) -> bool {
+    let Ok(text) = str::from_utf8(log) else {
+        return false;
+    };
+    for (line, (front, target)) in text.lines().zip(&FOUR_LINES) {
+        if !is_line(line, front, target) {
+            return false;
+        }
+    }
+    text.lines().count() == 4
+}
+
+#[test]
+fn each_answer_has_its_line(rt: HostRuntime) {
+    let pipe = new_pipe(rt.alloc(), true);
+    assert!(rt; logged(&rt, &rt, &LOGGED, Visit::Sends(&FOUR), &pipe).is_some());
+    assert!(rt; has_four_lines(&given_to(pipe)));
+}
+
+/// A call of this target.
+fn call_of(alloc: Global, target: &[u8]) -> Result<Call, Fail> {
+    Ok(Call {
+        method: Method::GET,
+        target: Vec::from_slice(alloc, target)?,
+        close: false,
+    })
+}
+
+/// What a watcher's log has once these answers to a call of this target ended.
+fn log_of<R: Wait + Clock>(
+    rt: &R,
+    alloc: Global,
+    target: &[u8],
+    outcomes: &[Result<Sent, Cut>],
+) -> Result<Vec<u8>, Fail> {
+    let nodes = Nodes {
+        own: "self",
+        peers: &[],
+        ask: 1_000,
+    };
+    let watcher = Watcher::new(alloc, true, HELD, &nodes)?;
+    let call = call_of(alloc, target)?;
+    for outcome in outcomes {
+        Watch::<R>::report(&watcher, rt, None, Some(&call), outcome);
+    }
+    let mut written = Vec::new(alloc);
+    if let Some(log) = &watcher.log {
+        log.close(rt);
+        write_lines(rt, alloc, log, &mut written);
+    }
+    Ok(written)
+}
+
+/// A log's lines behind their moments.
+fn behind_moments(alloc: Global, log: &[u8]) -> Result<String, Fail> {
+    let mut lines = String::new(alloc);
+    for line in str::from_utf8(log)?.lines() {
+        let (_, rest) = line.split_once(' ').ok_or("no moment")?;
+        lines.push_str(rest)?;
+        lines.push_str("\n")?;
+    }
+    Ok(lines)
+}
+
+/// Two answers, the second of which was cut off.
+const WHOLE_AND_CUT: [Result<Sent, Cut>; 2] = [
+    Ok(Sent {
+        status: 200,
+        bytes: 3,
+        held: 9,
+    }),
+    Err(Cut {
+        sent: 5,
+        cause: Cause::Writer,
+    }),
+];
+
+#[test]
+fn odd_bytes_are_escaped_and_cuts_are_told(rt: HostRuntime) -> Result<(), Fail> {
+    let log = log_of(&rt, rt.alloc(), b"/a\nb \"\xff", &WHOLE_AND_CUT)?;
+    let lines = behind_moments(rt.alloc(), &log)?;
+    let wanted = "GET 200 3 0 /a\\x0Ab\\x20\\x22\\xFF\nGET - 5 0 /a\\x0Ab\\x20\\x22\\xFF cut\n";
+    assert!(rt; lines.as_str() == wanted, "{lines}");
+    Ok(())
+}
+
+/// Whether a head is answered on a connection, which that closes.
+fn is_redirected_at_last(alloc: Global, mut viewer: TcpStream) -> bool {
+    let request = b"HEAD /iiif/a HTTP/1.1\r\nConnection: close\r\n\r\n";
+    if viewer.write_all(request).is_err() {
+        return false;
+    }
+    is_answered(alloc, viewer, Text::Framed(b"HTTP/1.1 303", b""))
+}
+
+/// Whether so many heads are answered on a connection, the last of which closes it: then its line was told.
+fn are_redirected(rt: &HostRuntime, viewers: &TcpListener, count: u32) -> bool {
+    let Some(mut viewer) = connected(rt, viewers) else {
+        return false;
+    };
+    for _ in 1..count {
+        if !is_redirected(&mut viewer) {
+            return false;
+        }
+    }
+    is_redirected_at_last(rt.alloc(), viewer)
+}
+
+/// Whether 1,200 heads are answered before somebody reads the log, which is read once they are.
+pub(crate) fn are_served_before_a_reader<R: Wait>(
+    rt: &R,
+    host: &HostRuntime,
+    viewers: &TcpListener,
+    pipe: &Pipe,
+) -> bool {
+    let first = are_redirected(host, viewers, 1);
+    if first {
+        wait_for_line(rt, pipe);
+    }
+    let second = are_redirected(host, viewers, 600);
+    let third = are_redirected(host, viewers, 599);
+    read_from_now(rt, pipe);
+    first && second && third
+}
+
+/// Whether a log has so many lines, of which the last are these.
+fn has_lines(log: &[u8], count: usize, last: &str) -> bool {
+    match str::from_utf8(log) {
+        Ok(text) => text.lines().count() == count && text.ends_with(last),
+        Err(_) => false,
+    }
+}
+
+#[test]
+fn viewer_waits_for_no_reader_of_the_log(rt: HostRuntime) {
+    let pipe = new_pipe(rt.alloc(), false);
+    assert!(rt; logged(&rt, &rt, &LOGGED, Visit::BeforeReader, &pipe).is_some());
+    // One line was being written, 1,024 waited, and the rest is counted.
+    assert!(rt; has_lines(&given_to(pipe), 1026, " /iiif/a\nlost 175\n"));
+}

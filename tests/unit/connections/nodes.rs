@@ -1,0 +1,259 @@
+//! Nodes that serve over loopback, alone or beside another one, and what they counted.
+
+ghost use Rattle.std.specs.Prelude.{◌≡◌, ℕ, List, Some, false};
+ghost use Rattle.iiif_source.specs.declared.ReadFault.{ReadFault};
+ghost use Rattle.iiif_images.specs.Collection.{item_named};
+ghost use Rattle.iiif_images.specs.Named.{gave_of, pictures_of};
+ghost use Rattle.iiif_start.specs.Stored.{bytes_of, keeps_of, stored_gave};
+ghost use Rattle.iiif_keys.specs.Ledgers.{all_parts};
+
+use crate::connections::pipe::{Inflow, Pipe};
+use iiif_canonical::Limits;
+use iiif_connections::serving::serve;
+use iiif_connections::times::USUAL;
+use iiif_connections::{Catalogue, Config, Link, Manner, Node, Nodes, Times, Watcher, among};
+use iiif_keys::{PARTS, SumKey, System, TileKey};
+use iiif_open_files::Opens;
+use iiif_services::Listeners;
+use iiif_start::{Held, Stored, open_catalogue};
+use std::alloc::Global;
+use std::marker::Brand;
+use std::net::{Net, TcpListener, TcpStream};
+use std::num::NonZeroUsize;
+use std::sync::Wait;
+use std::sync::ledger::Blank;
+use std::thread::Threads;
+use std::time::Clock;
+
+/// The base URL of each node.
+const BASE: &str = "http://localhost/iiif";
+
+/// What a server is made of: each image's name and file, how many of these stay open, and of how many bytes one is held in memory; the side
+/// of its tiles, the address of the node that owns each key, where there is one, and its limits of time; where its statistics are asked
+/// for, and whether it logs. Its own name is `self`.
+#[derive(Clone, Copy)]
+pub(crate) struct Scene<'i, 'o> {
+    pub images: &'i [(&'i str, &'i str)],
+    pub open_files: usize,
+    pub hold: u64,
+    pub edge: u32,
+    pub owner: Option<&'o str>,
+    pub times: Times,
+    pub statistics: Option<&'static str>,
+    pub logs: bool,
+}
+
+/// The sample under the name `a`, and no other node.
+pub(crate) const SAMPLE: Scene<'static, 'static> = Scene {
+    images: &[("a", ":sample")],
+    open_files: 4,
+    hold: 0,
+    edge: 2,
+    owner: None,
+    times: Times {
+        // However busy the machine is, a viewer who sends no more is answered.
+        gone: 600_000,
+        ..USUAL
+    },
+    statistics: None,
+    logs: false,
+};
+
+/// A node that owns each key of the sample, and of `g`, at tiles of 2 by 2, beside one of the name `self`: Python's `hashlib` worked
+/// it out.
+const OWNER: &str = "other85";
+
+/// Who is told of what a scene's node does, with these files held in memory.
+pub(crate) fn watcher_of(alloc: Global, scene: &Scene<'_, '_>, held: Held) -> Option<Watcher> {
+    let mut peers = Vec::new(alloc);
+    if let Some(owner) = scene.owner {
+        peers.push((OWNER, owner)).ok()?;
+    }
+    let nodes = Nodes {
+        own: "self",
+        peers: &peers,
+        ask: scene.times.ask,
+    };
+    Watcher::new(alloc, scene.logs, held, &nodes).ok()
+}
+
+/// How much a group keeps.
+const ROOM: u64 = 1 << 26;
+
+/// What a node counted: of its groups together, and of the whole answers to viewers, by their status.
+#[derive(Clone, Copy, Debug)]
+pub(crate) struct Counts {
+    pub gets: u64,
+    pub hits: u64,
+    pub loads: u64,
+    pub peer: u64,
+    pub whole: [u64; 8],
+}
+
+/// Whether something was counted, and the gets, hits, loads and values of peers are these, each where it is known.
+pub(crate) fn are_known(counts: Option<Counts>, known: &[Option<u64>; 4]) -> bool {
+    let Some(counts) = counts else {
+        return false;
+    };
+    let [gets, hits, loads, peer] = *known;
+    gets.unwrap_or(counts.gets) == counts.gets
+        && hits.unwrap_or(counts.hits) == counts.hits
+        && loads.unwrap_or(counts.loads) == counts.loads
+        && peer.unwrap_or(counts.peer) == counts.peer
+}
+
+/// What a node serves with: its scene, who is told, at which listeners, and where its log goes.
+#[derive(Clone, Copy)]
+pub(crate) struct Stage<'a> {
+    pub watcher: &'a Watcher,
+    pub listeners: &'a Listeners,
+    pub pipe: &'a Pipe,
+}
+
+/// What a node, and who is told of its answers, counted so far.
+fn counted<R: Opens + Wait, J: System, N>(
+    rt: &R,
+    node: &Node<R, Stored<R>, J, N>,
+    watcher: &Watcher,
+) -> Counts {
+    let tiles = node.groups().tiles().group().book(rt);
+    let sums = node.groups().sums().book(rt);
+    let whole = watcher.tally.counts(rt).whole;
+    Counts {
+        gets: tiles.gets.saturating_add(sums.gets),
+        hits: tiles.hits.saturating_add(sums.hits),
+        loads: tiles.loads.saturating_add(sums.loads),
+        peer: tiles.peer.saturating_add(sums.peer),
+        whole,
+    }
+}
+
+/// Whether all passes of a node are home.
+fn are_home<R: Opens + Wait, J: System, N>(
+    rt: &R,
+    alloc: Global,
+    node: &Node<R, Stored<R>, J, N>,
+) -> bool {
+    let groups = node.groups();
+    groups.tiles().group().gather(rt, Vec::new(alloc)).is_ok()
+        && groups.sums().gather(rt, Vec::new(alloc)).is_ok()
+}
+
+/// Serves by one node until a listener is stopped, writes the log, and says what the node counted, where each connection gave its passes
+/// back.
+fn serve_by<R, J, N>(
+    rt: &R,
+    alloc: Global,
+    node: &Node<R, Stored<R>, J, N>,
+    times: Times,
+    stage: Stage<'_>,
+) -> Option<Counts>
+where
+    R: Opens + Net<Listener = TcpListener, Stream = TcpStream> + Threads + Wait + Clock + Sync,
+    R::Handle: Send + Sync,
+    J: System + Send + Sync,
+    N: Link<TileKey, J, R> + Link<SumKey, J, R> + Sync,
+{
+    let pipe = stage.pipe;
+    let mut log = Inflow { rt, pipe };
+    let manner = Manner {
+        workers: 2,
+        times,
+        watcher: stage.watcher,
+    };
+    let _ = serve(rt, alloc, node, manner, stage.listeners, &mut log);
+    if are_home(rt, alloc, node) {
+        Some(counted(rt, node, stage.watcher))
+    } else {
+        None
+    }
+}
+
+/// The same by a node of these settings and images that asks no other.
+fn serve_alone<R, J>(
+    rt: &R,
+    alloc: Global,
+    config: Config,
+    catalogue: Catalogue<R, Stored<R>>,
+    tiles: Blank,
+    sums: Blank,
+    times: Times,
+    stage: Stage<'_>,
+) -> Option<Counts>
+where
+    R: Opens + Net<Listener = TcpListener, Stream = TcpStream> + Threads + Wait + Clock + Sync,
+    R::Handle: Send + Sync,
+    J: System + Send + Sync,
+    requires pictures { (name : List ℕ) → J.pictures name ≡ pictures_of (bytes_of R.holds) catalogue name }
+    requires gave { (name : List ℕ) (f : ReadFault) → J.gave name f ≡ gave_of stored_gave catalogue name f }
+    requires stable { (name : List ℕ) (item : _) → item_named catalogue name ≡ Some item → J.stable name →
+        ∥ keeps_of R.keeps item.source ∥₁ }
+    requires kept { (name : List ℕ) (item : _) → item_named catalogue name ≡ Some item → keeps_of R.keeps item.source → J.stable name }
+    requires edge { config.edge ≡ J.edge }
+    requires tiles { (tiles.name ≡ J.tiles_name) × (tiles.parts ≡ J.tiles_parts) × (J.tiles_parts ≡ all_parts) }
+    requires sums { (sums.name ≡ J.sums_name) × (sums.parts ≡ J.sums_parts) × (J.sums_parts ≡ all_parts) }
+{
+    let node = Node::<R, Stored<R>, J>::alone(alloc, config, catalogue, ROOM, tiles, sums).ok()?;
+    serve_by(rt, alloc, &node, times, stage)
+}
+
+/// The same by a node among others.
+fn serve_among<R, J>(
+    rt: &R,
+    alloc: Global,
+    config: Config,
+    catalogue: Catalogue<R, Stored<R>>,
+    tiles: Blank,
+    sums: Blank,
+    times: Times,
+    stage: Stage<'_>,
+) -> Option<Counts>
+where
+    R: Opens + Net<Listener = TcpListener, Stream = TcpStream> + Threads + Wait + Clock + Sync,
+    R::Handle: Send + Sync,
+    J: System + Send + Sync,
+    requires pictures { (name : List ℕ) → J.pictures name ≡ pictures_of (bytes_of R.holds) catalogue name }
+    requires gave { (name : List ℕ) (f : ReadFault) → J.gave name f ≡ gave_of stored_gave catalogue name f }
+    requires stable { (name : List ℕ) (item : _) → item_named catalogue name ≡ Some item → J.stable name →
+        ∥ keeps_of R.keeps item.source ∥₁ }
+    requires kept { (name : List ℕ) (item : _) → item_named catalogue name ≡ Some item → keeps_of R.keeps item.source → J.stable name }
+    requires edge { config.edge ≡ J.edge }
+    requires honest { J.honest ≡ false }
+    requires tiles { (tiles.name ≡ J.tiles_name) × (tiles.parts ≡ J.tiles_parts) × (J.tiles_parts ≡ all_parts) }
+    requires sums { (sums.name ≡ J.sums_name) × (sums.parts ≡ J.sums_parts) × (J.sums_parts ≡ all_parts) }
+{
+    let watcher = stage.watcher;
+    let blanks = (tiles, sums);
+    let node = among::<R, J>(alloc, config, catalogue, watcher, ROOM, blanks).ok()?;
+    serve_by(rt, alloc, &node, times, stage)
+}
+
+/// Serves by a scene's node at the listeners until one is stopped, writes the log where the watcher has one, and says what was counted.
+pub(crate) fn serve_told<R>(rt: &R, scene: &Scene<'_, '_>, stage: Stage<'_>) -> Option<Counts>
+where
+    R: Opens
+        + Net<Listener = TcpListener, Stream = TcpStream>
+        + Threads
+        + Wait
+        + Clock
+        + Sync
+        + AllocGlobal,
+    R::Handle: Send + Sync,
+{
+    let alloc = rt.alloc();
+    let limits = Limits {
+        max_w: 4096,
+        max_h: 4096,
+        upscale: false,
+    };
+    let times = scene.times;
+    let config = Config::new(alloc, BASE, scene.edge, limits, 64, 2).ok()?;
+    let open_files = NonZeroUsize::new(scene.open_files)?;
+    let catalogue = open_catalogue(rt, alloc, scene.images, open_files, scene.hold).ok()?;
+    let (tiles, sums) = (Blank::new(PARTS), Blank::new(PARTS));
+    if scene.owner.is_none() {
+        return serve_alone::<R, Brand>(rt, alloc, config, catalogue, tiles, sums, times, stage);
+    }
+    stage.watcher.neighbours.look_up(rt, alloc);
+    serve_among::<R, Brand>(rt, alloc, config, catalogue, tiles, sums, times, stage)
+}

@@ -1,0 +1,264 @@
+//! Nodes that ask each other, and nodes whose peers lie, drip, are silent or gone.
+
+use crate::connections::files::DEEP;
+use crate::connections::nodes::{Counts, SAMPLE, Scene, Stage, are_known, serve_told, watcher_of};
+use crate::connections::peers::{Asked, CHANGED, HALVED, LIMIT, OTHER, RIGHT, WIDE, Way};
+use crate::connections::pipe::new_pipe;
+use crate::connections::viewers::{Sends, Text, address_of};
+use crate::connections::visits::{ANY, HELD, Visit, listeners_of, served, visited};
+use iiif_connections::Times;
+use iiif_connections::times::USUAL;
+use iiif_listener::stop;
+use iiif_open_files::Opens;
+use iiif_services::Listeners;
+use std::alloc::Global;
+use std::net::{Net, TcpListener, TcpStream};
+use std::sync::Wait;
+use std::test::Fail;
+use std::thread::Threads;
+use std::time::Clock;
+use std::{fs, thread};
+
+/// Serves by two nodes while both are asked: what they counted, and whether both answered rightly.
+fn both_served<R>(
+    rt: &R,
+    host: &HostRuntime,
+    scenes: (&Scene<'_, '_>, &Scene<'_, '_>),
+    stages: (Stage<'_>, Stage<'_>),
+) -> (Option<Counts>, (Option<Counts>, bool))
+where
+    R: Opens
+        + Net<Listener = TcpListener, Stream = TcpStream>
+        + Threads
+        + Wait
+        + Clock
+        + Sync
+        + AllocGlobal,
+    R::Handle: Send + Sync,
+{
+    let (first, second) = scenes;
+    let (at_first, at_second) = stages;
+    let asks = Visit::Both(at_first.listeners);
+    thread::join(
+        rt,
+        || serve_told(rt, first, at_first),
+        || visited(rt, host, second, at_second, asks),
+    )
+}
+
+/// The address at which other nodes ask.
+fn peer_address(alloc: Global, listeners: &Listeners) -> Option<String> {
+    match &listeners.peers {
+        Some(peers) => address_of(alloc, peers),
+        None => None,
+    }
+}
+
+/// How many values two nodes of these listeners took from each other, for each of which the other one is the owner of each key, where
+/// both answer rightly at once.
+fn taken_between<R>(
+    rt: &R,
+    host: &HostRuntime,
+    all: (&Listeners, &Listeners),
+    addresses: (&str, &str),
+) -> Option<u64>
+where
+    R: Opens
+        + Net<Listener = TcpListener, Stream = TcpStream>
+        + Threads
+        + Wait
+        + Clock
+        + Sync
+        + AllocGlobal,
+    R::Handle: Send + Sync,
+{
+    let pipe = new_pipe(rt.alloc(), true);
+    let first = Scene {
+        owner: Some(addresses.1),
+        ..SAMPLE
+    };
+    let second = Scene {
+        owner: Some(addresses.0),
+        ..SAMPLE
+    };
+    let watcher = watcher_of(rt.alloc(), &first, HELD)?;
+    let other = watcher_of(rt.alloc(), &second, HELD)?;
+    let at_first = Stage {
+        watcher: &watcher,
+        listeners: all.0,
+        pipe: &pipe,
+    };
+    let at_second = Stage {
+        watcher: &other,
+        listeners: all.1,
+        ..at_first
+    };
+    match both_served(rt, host, (&first, &second), (at_first, at_second)) {
+        (Some(one), (Some(two), true)) => Some(one.peer.saturating_add(two.peer)),
+        _ => None,
+    }
+}
+
+/// The same of any listeners.
+fn taken_by_both<R>(rt: &R, host: &HostRuntime) -> Option<u64>
+where
+    R: Opens
+        + Net<Listener = TcpListener, Stream = TcpStream>
+        + Threads
+        + Wait
+        + Clock
+        + Sync
+        + AllocGlobal,
+    R::Handle: Send + Sync,
+{
+    let first = listeners_of(host, None)?;
+    let second = listeners_of(host, None)?;
+    let to_first = peer_address(rt.alloc(), &first)?;
+    let to_second = peer_address(rt.alloc(), &second)?;
+    taken_between(rt, host, (&first, &second), (&to_first, &to_second))
+}
+
+#[test]
+fn nodes_that_hold_each_other_for_the_owner_answer_rightly_at_once(rt: HostRuntime) {
+    let taken = taken_by_both(&rt, &rt);
+    assert!(rt; taken.unwrap_or(0) > 0, "{taken:?}");
+}
+
+/// The tile (1, 1) of the sample as an image.
+const CORNER: Sends<'static> = Sends {
+    request: b"GET /iiif/a/2,2,2,2/max/0/default.tif HTTP/1.1\r\nConnection: close\r\n\r\n",
+    ends: false,
+    wanted: Text::Framed(b"HTTP/1.1 200 OK\r\n", &[100, 110, 140, 150]),
+};
+
+/// The tile (1, 1) of the sample is asked for. Where no value of the peer is taken, the call enters once more, to load by itself.
+const OF_CORNER: Asked = Asked {
+    way: Way::Closes,
+    images: &[("a", ":sample")],
+    sends: CORNER,
+    entered: 2,
+    taken: 0,
+};
+
+/// The same of a peer whose value is right.
+const OF_RIGHT: Asked = Asked {
+    way: Way::Sends(RIGHT),
+    entered: 1,
+    taken: 1,
+    ..OF_CORNER
+};
+
+/// A peer that closes on the second version, in which samples of 16 bits are asked for.
+const OF_DEEP: Asked = Asked {
+    way: Way::KnowsOneVersion,
+    images: &[("g", "sixteen.tif")],
+    sends: Sends {
+        request: b"GET /iiif/g/full/max/0/default.tif HTTP/1.1\r\nConnection: close\r\n\r\n",
+        ends: false,
+        wanted: Text::Framed(b"HTTP/1.1 200 OK\r\n", &[0, 0, 0xff, 0xff]),
+    },
+    entered: 2,
+    taken: 0,
+};
+
+/// What is asked of peers of any kind.
+static WAYS: [Asked; 8] = [
+    Asked {
+        way: Way::Sends(CHANGED),
+        ..OF_CORNER
+    },
+    Asked {
+        way: Way::Sends(OTHER),
+        ..OF_CORNER
+    },
+    Asked {
+        way: Way::Sends(WIDE),
+        ..OF_CORNER
+    },
+    OF_CORNER,
+    Asked {
+        way: Way::IsSilent,
+        ..OF_CORNER
+    },
+    Asked {
+        way: Way::Drips,
+        ..OF_CORNER
+    },
+    OF_RIGHT,
+    OF_DEEP,
+];
+
+/// What a node counted whose peer owns every key and does so with the only ask, where it asked well and answered what is wanted.
+fn beside_owner<R>(rt: &R, host: &HostRuntime, asked: &Asked) -> Option<Counts>
+where
+    R: Opens
+        + Net<Listener = TcpListener, Stream = TcpStream>
+        + Threads
+        + Wait
+        + Clock
+        + Sync
+        + AllocGlobal,
+    R::Handle: Send + Sync,
+{
+    let owner = TcpListener::bind(host, ANY).ok()?;
+    let address = address_of(rt.alloc(), &owner)?;
+    let scene = Scene {
+        images: asked.images,
+        owner: Some(address.as_str()),
+        times: Times {
+            ask: LIMIT,
+            ..USUAL
+        },
+        ..SAMPLE
+    };
+    served(rt, host, &scene, Visit::Owner(asked, &owner))
+}
+
+#[test]
+fn peer_of_any_kind_leaves_the_answer_right(rt: HostRuntime) -> Result<(), Fail> {
+    fs::write(&rt, "sixteen.tif", &DEEP)?;
+    for asked in &WAYS {
+        let counts = beside_owner(&rt, &rt, asked);
+        let known = [Some(asked.entered), None, None, Some(asked.taken)];
+        assert!(rt; are_known(counts, &known), "{counts:?}");
+    }
+    Ok(())
+}
+
+/// What a node counted that is asked for a tile, and whose viewer sends this, beside a node that is gone and owns every key. Its listener
+/// is stopped and stays: nobody is at its address, and nobody else gets it meanwhile.
+fn beside_a_dead_one<R>(rt: &R, host: &HostRuntime, sends: &Sends<'_>) -> Option<Counts>
+where
+    R: Opens
+        + Net<Listener = TcpListener, Stream = TcpStream>
+        + Threads
+        + Wait
+        + Clock
+        + Sync
+        + AllocGlobal,
+    R::Handle: Send + Sync,
+{
+    let gone = TcpListener::bind(host, ANY).ok()?;
+    stop(&gone);
+    let address = address_of(rt.alloc(), &gone)?;
+    let scene = Scene {
+        owner: Some(address.as_str()),
+        ..SAMPLE
+    };
+    served(rt, host, &scene, Visit::NodeAndViewer(sends))
+}
+
+/// What a viewer sends, and what is counted. The owner is gone, and wasn't asked for the node's ask; for the viewer the tile was there
+/// already.
+static BESIDE_A_DEAD_ONE: [(Sends<'static>, [Option<u64>; 4]); 2] = [
+    (CORNER, [Some(2), Some(1), Some(1), Some(0)]),
+    (HALVED, [None; 4]),
+];
+
+#[test]
+fn viewers_and_nodes_share_what_is_loaded(rt: HostRuntime) {
+    for (sends, known) in &BESIDE_A_DEAD_ONE {
+        let counts = beside_a_dead_one(&rt, &rt, sends);
+        assert!(rt; are_known(counts, known), "{counts:?}");
+    }
+}

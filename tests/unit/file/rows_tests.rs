@@ -1,0 +1,325 @@
+//! Runs of files that are read ahead: the bytes are those of the file, in whatever order they are asked for.
+
+ghost use Rattle.std.specs.Prelude.{◌≤◌, length, IfOk};
+ghost use Rattle.std.specs.Arc.{arc_value};
+
+use crate::file::steps::{Ask, Bytes, Change, Outcome, Place, Shared, Step, fit, run};
+use iiif_open_files::{Opening, Opens, RowShelf, WideRows, wider};
+use iiif_source::{OpenFile, ReadFault, Runs, Source};
+use std::alloc::Global;
+use std::fs;
+use std::sync::Arc;
+use std::test::Fail;
+
+/// Twenty rows of a picture of 5,000 by 22 bytes: from left to right, from right to left, and runs that lie across those before.
+const ORDERS: &[Step] = &[
+    Step::Open("rows_orders", Bytes::Numbered(0, 110_000)),
+    Step::Ask(0, Ask::Runs(0, (0, 5000, 4, 20), Outcome::Right)),
+    Step::Ask(0, Ask::Runs(0, (4, 5000, 4, 20), Outcome::Right)),
+    Step::Ask(0, Ask::Runs(0, (28, 5000, 4, 20), Outcome::Right)),
+    Step::Ask(0, Ask::Runs(0, (32, 5000, 4, 20), Outcome::Right)),
+    Step::Ask(0, Ask::Runs(0, (4996, 5000, 4, 20), Outcome::Right)),
+    Step::Ask(0, Ask::Runs(0, (4992, 5000, 4, 20), Outcome::Right)),
+    Step::Ask(0, Ask::Runs(0, (4988, 5000, 4, 20), Outcome::Right)),
+    Step::Ask(0, Ask::Runs(0, (30, 5000, 4, 20), Outcome::Right)),
+    Step::Ask(0, Ask::Runs(0, (31, 5000, 1, 20), Outcome::Right)),
+    Step::Ask(0, Ask::Runs(0, (1, 5000, 31, 20), Outcome::Right)),
+    Step::Ask(0, Ask::Runs(0, (1, 5000, 32, 20), Outcome::Right)),
+    Step::Ask(0, Ask::Runs(0, (4, 5000, 4, 19), Outcome::Right)),
+    Step::Ask(0, Ask::Runs(0, (5004, 5000, 4, 20), Outcome::Right)),
+    Step::Ask(0, Ask::Runs(0, (4, 10_000, 4, 8), Outcome::Right)),
+    Step::Ask(0, Ask::Runs(0, (4, 5000, 4, 20), Outcome::Right)),
+    Step::Change("rows_orders", Change::Removed),
+];
+
+/// Whole rows, the last rows of the file, one run, runs that lie together, and runs without a byte.
+const EDGES: &[Step] = &[
+    Step::Open("rows_edges", Bytes::Numbered(0, 4000)),
+    Step::Ask(0, Ask::Runs(0, (0, 100, 10, 8), Outcome::Right)),
+    Step::Ask(0, Ask::Runs(0, (90, 100, 10, 8), Outcome::Right)),
+    Step::Ask(0, Ask::Runs(0, (45, 100, 55, 8), Outcome::Right)),
+    Step::Ask(0, Ask::Runs(0, (3200, 100, 10, 8), Outcome::Right)),
+    Step::Ask(0, Ask::Runs(0, (3290, 100, 10, 8), Outcome::Right)),
+    Step::Ask(0, Ask::Runs(0, (3301, 100, 10, 7), Outcome::Right)),
+    Step::Ask(0, Ask::Runs(0, (3390, 100, 4, 7), Outcome::Right)),
+    Step::Ask(0, Ask::Runs(0, (3396, 100, 4, 7), Outcome::Right)),
+    Step::Ask(0, Ask::Runs(0, (3397, 100, 4, 7), Outcome::Outside)),
+    Step::Ask(0, Ask::Runs(0, (5, 100, 4, 1), Outcome::Right)),
+    Step::Ask(0, Ask::Runs(0, (0, 100, 100, 8), Outcome::Right)),
+    Step::Ask(0, Ask::Runs(0, (0, 100, 0, 8), Outcome::Right)),
+    Step::Ask(0, Ask::Runs(0, (0, 4, 1, 200), Outcome::Right)),
+    Step::Change("rows_edges", Change::Removed),
+];
+
+/// Two files of equal rows.
+const TWO: &[Step] = &[
+    Step::Open("rows_one", Bytes::Numbered(0, 4000)),
+    Step::Open("rows_two", Bytes::Numbered(255, 4000)),
+    Step::Ask(0, Ask::Runs(0, (0, 100, 4, 8), Outcome::Right)),
+    Step::Ask(1, Ask::Runs(255, (4, 100, 4, 8), Outcome::Right)),
+    Step::Ask(1, Ask::Runs(0, (4, 100, 4, 8), Outcome::Wrong)),
+    Step::Ask(0, Ask::Runs(0, (8, 100, 4, 8), Outcome::Right)),
+    Step::Ask(1, Ask::Runs(255, (12, 100, 4, 8), Outcome::Right)),
+    Step::Change("rows_one", Change::Removed),
+    Step::Change("rows_two", Change::Removed),
+];
+
+/// A file that is cut while it is open has ended, though its rows were read ahead; as long again it holds what it holds now.
+const CUT: &[Step] = &[
+    Step::Open("rows_cut", Bytes::Numbered(7, 4000)),
+    Step::Ask(0, Ask::Runs(7, (0, 100, 4, 8), Outcome::Right)),
+    Step::Ask(0, Ask::Runs(7, (0, 100, 4, 20), Outcome::Right)),
+    Step::Change("rows_cut", Change::Resized(650)),
+    Step::Ask(
+        0,
+        Ask::Runs(7, (4, 100, 4, 8), Outcome::Fault(ReadFault::ENDED)),
+    ),
+    Step::Change("rows_cut", Change::Resized(4000)),
+    Step::Ask(0, Ask::Runs(7, (4, 100, 4, 8), Outcome::Wrong)),
+    Step::Ask(0, Ask::Runs(7, (4, 100, 4, 20), Outcome::Wrong)),
+    Step::Change("rows_cut", Change::Removed),
+];
+
+/// A file that is written over while it isn't open is read anew, and one that is another then isn't read.
+const ANEW: &[Step] = &[
+    Step::Open("rows_anew", Bytes::Numbered(1, 4000)),
+    Step::Ask(0, Ask::Runs(1, (0, 100, 4, 8), Outcome::Right)),
+    Step::Ask(0, Ask::Runs(1, (0, 100, 4, 20), Outcome::Right)),
+    Step::Open("rows_beside", Bytes::Numbered(2, 4000)),
+    Step::Change("rows_anew", Change::Written(Bytes::Numbered(3, 4000))),
+    Step::Ask(0, Ask::Runs(3, (4, 100, 4, 8), Outcome::Right)),
+    Step::Ask(0, Ask::Runs(3, (4, 100, 4, 20), Outcome::Right)),
+    Step::Ask(1, Ask::Runs(2, (4, 100, 4, 8), Outcome::Right)),
+    Step::Change("rows_anew", Change::Replaced(&[1, 2, 3])),
+    Step::Ask(
+        0,
+        Ask::Runs(3, (4, 100, 4, 8), Outcome::Fault(ReadFault::FAILED)),
+    ),
+    Step::Change("rows_anew", Change::Removed),
+    Step::Change("rows_beside", Change::Removed),
+];
+
+/// A file that is opened anew twice, and written over in between: what was read ahead of the first time isn't used for the second.
+const TWICE: &[Step] = &[
+    Step::Open("rows_twice", Bytes::Numbered(1, 4000)),
+    Step::Open("rows_between", Bytes::Numbered(2, 4000)),
+    Step::Ask(0, Ask::Runs(1, (0, 100, 4, 8), Outcome::Right)),
+    Step::Ask(0, Ask::Runs(1, (0, 100, 4, 20), Outcome::Right)),
+    Step::Ask(1, Ask::Runs(2, (0, 100, 4, 8), Outcome::Right)),
+    Step::Change("rows_twice", Change::Written(Bytes::Numbered(3, 4000))),
+    Step::Ask(0, Ask::Runs(3, (4, 100, 4, 8), Outcome::Right)),
+    Step::Ask(0, Ask::Runs(3, (4, 100, 4, 20), Outcome::Right)),
+    Step::Change("rows_twice", Change::Removed),
+    Step::Change("rows_between", Change::Removed),
+];
+
+/// Columns of 20 groups of rows, more than are kept.
+const GROUPS: &[(usize, Ask)] = &[
+    (0, Ask::Runs(5, (0, 5000, 4, 20), Outcome::Right)),
+    (0, Ask::Runs(5, (5000, 5000, 4, 20), Outcome::Right)),
+    (0, Ask::Runs(5, (10000, 5000, 4, 20), Outcome::Right)),
+    (0, Ask::Runs(5, (15000, 5000, 4, 20), Outcome::Right)),
+    (0, Ask::Runs(5, (20000, 5000, 4, 20), Outcome::Right)),
+    (0, Ask::Runs(5, (25000, 5000, 4, 20), Outcome::Right)),
+    (0, Ask::Runs(5, (30000, 5000, 4, 20), Outcome::Right)),
+    (0, Ask::Runs(5, (35000, 5000, 4, 20), Outcome::Right)),
+    (0, Ask::Runs(5, (40000, 5000, 4, 20), Outcome::Right)),
+    (0, Ask::Runs(5, (45000, 5000, 4, 20), Outcome::Right)),
+    (0, Ask::Runs(5, (50000, 5000, 4, 20), Outcome::Right)),
+    (0, Ask::Runs(5, (55000, 5000, 4, 20), Outcome::Right)),
+    (0, Ask::Runs(5, (60000, 5000, 4, 20), Outcome::Right)),
+    (0, Ask::Runs(5, (65000, 5000, 4, 20), Outcome::Right)),
+    (0, Ask::Runs(5, (70000, 5000, 4, 20), Outcome::Right)),
+    (0, Ask::Runs(5, (75000, 5000, 4, 20), Outcome::Right)),
+    (0, Ask::Runs(5, (80000, 5000, 4, 20), Outcome::Right)),
+    (0, Ask::Runs(5, (85000, 5000, 4, 20), Outcome::Right)),
+    (0, Ask::Runs(5, (90000, 5000, 4, 20), Outcome::Right)),
+    (0, Ask::Runs(5, (95000, 5000, 4, 20), Outcome::Right)),
+];
+
+/// Two threads that read them.
+pub(crate) const SHARED: Shared = Shared {
+    most: 1,
+    before: &[Step::Open("rows_shared", Bytes::Numbered(5, 200_000))],
+    asks: GROUPS,
+    turns: (50, 70),
+    behind: &[Step::Change("rows_shared", Change::Removed)],
+};
+
+/// How many files are kept open, and what is done.
+static LISTS: [(usize, &[(u32, &[Step])]); 6] = [
+    (1, &[(1, TWICE)]),
+    (1, &[(1, ORDERS)]),
+    (1, &[(1, EDGES)]),
+    (2, &[(1, TWO)]),
+    (1, &[(1, CUT)]),
+    (1, &[(1, ANEW)]),
+];
+
+#[test]
+fn runs_are_those_of_the_file(rt: HostRuntime) -> Result<(), Fail> {
+    for (most, lists) in LISTS.iter() {
+        run(&rt, *most, *lists)?;
+    }
+    Ok(())
+}
+
+/// A read whose rows are read ahead, where memory allows it.
+const GROWTH: &[Step] = &[
+    Step::Open("rows_growth", Bytes::Numbered(9, 4000)),
+    Step::Ask(0, Ask::Runs(9, (0, 100, 4, 8), Outcome::Right)),
+    Step::Ask(0, Ask::Runs(9, (4, 100, 4, 8), Outcome::Right)),
+    Step::Change("rows_growth", Change::Removed),
+];
+
+static GROWTHS: [(u32, &[Step]); 1] = [(1, GROWTH)];
+
+#[test]
+fn runs_are_read_after_a_refused_growth(rt: HostRuntime) -> Result<(), Fail> {
+    run(&rt, 1, &GROWTHS)
+}
+
+/// Runs, the length of their source, and how long the wider ones are: eight times as long; less where a row or the source ends, or
+/// 1 MiB, of up to 16 rows 64 KiB; whole rows where these are short; none where there is no room, for one run, for runs that lie
+/// together or have no byte.
+static WIDER: [(Place, u64, Option<usize>); 18] = [
+    ((0, 10_000, 256, 256), 100_000_000, Some(2048)),
+    ((9_984, 10_000, 16, 256), 100_000_000, Some(128)),
+    ((0, 10_000, 1024, 256), 100_000_000, Some(4096)),
+    ((0, 10_000, 256, 17), 100_000_000, Some(2048)),
+    ((0, 10_000, 1024, 16), 100_000_000, Some(4096)),
+    ((0, 10_000, 1024, 15), 100_000_000, Some(4096)),
+    ((0, 10_000, 1024, 8), 100_000_000, Some(8192)),
+    ((0, 2_000, 256, 256), 512_000, Some(2000)),
+    ((256, 2_000, 256, 256), 512_000, Some(1536)),
+    ((1_744, 2_000, 256, 256), 512_000, None),
+    ((0, 256, 16, 256), 65_536, Some(256)),
+    ((0, 256, 1, 256), 65_536, Some(256)),
+    ((0, 4_096, 1, 20), 100_000_000, Some(4096)),
+    ((0, 4_097, 1, 20), 100_000_000, Some(8)),
+    ((0, 10_000, 1024, 1024), 100_000_000, None),
+    ((0, 10_000, 256, 1), 100_000_000, None),
+    ((0, 256, 256, 256), 65_536, None),
+    ((0, 256, 0, 256), 65_536, None),
+];
+
+/// How long the wider runs are, where there are any.
+fn width_of(place: Place, source: u64) -> Option<usize> {
+    let (at, stride, len, count) = place;
+    let runs = Runs {
+        at,
+        stride,
+        len,
+        count,
+    };
+    if !fit(source, runs, usize::MAX) {
+        return None;
+    }
+    Some(wider(runs, source)?.len)
+}
+
+#[test]
+fn rows_are_wider_than_runs(rt: HostRuntime) {
+    for (case, (place, source, width)) in WIDER.iter().enumerate() {
+        assert!(rt; width_of(*place, *source) == *width, "case {case}");
+    }
+}
+
+const SMALL: Runs = Runs {
+    at: 0,
+    stride: 4,
+    len: 2,
+    count: 2,
+};
+
+/// An opening of a file, with a number.
+fn opening<R: Opens>(rt: &R, alloc: Global, path: &str, number: u64) -> Result<Opening<R>, Fail> {
+    let path = Arc::new(alloc, String::from_str(alloc, path)?)?;
+    let file = OpenFile::open(rt, path)?;
+    Ok(Opening { number, file })
+}
+
+/// Small rows of a file, read by the opening of a number.
+fn small_rows<R: Opens>(
+    rt: &R,
+    alloc: Global,
+    path: &str,
+    number: u64,
+) -> Result<Arc<WideRows<R>>, Fail>
+    ensures { IfOk result (λ w. length (arc_value w).bytes ≤ 65536) }
+{
+    let opening = opening(rt, alloc, path, number)?;
+    let Ok(Some(rows)) = WideRows::read(rt, alloc, &opening, 8, SMALL) else {
+        return Err(Fail::from("no rows"));
+    };
+    if Source::<R>::len(&rows.bytes) > 65_536 {
+        return Err(Fail::from("more rows than a shelf has room for"));
+    }
+    Ok(Arc::new(alloc, rows)?)
+}
+
+/// A call of a shelf, and what is to come of it.
+#[derive(Clone, Copy)]
+enum Shelved {
+    /// Rows of the openings from a number to another are kept, one after another.
+    Keep(u64, u64),
+    /// The shelf has the rows of the opening of a number, or not.
+    Has(u64, bool),
+    /// It has none of another file, though the opening has this number.
+    HasNoOther(u64),
+    Forget(u64),
+    /// It has so many rows.
+    Len(usize),
+}
+
+static SHELVED: [Shelved; 13] = [
+    Shelved::Keep(0, 16),
+    Shelved::HasNoOther(0),
+    Shelved::Len(16),
+    Shelved::Has(0, true),
+    Shelved::Keep(16, 17),
+    Shelved::Has(0, true),
+    Shelved::Has(1, false),
+    Shelved::Has(2, true),
+    Shelved::Has(16, true),
+    Shelved::Forget(0),
+    Shelved::Len(15),
+    Shelved::Has(0, false),
+    Shelved::Has(2, true),
+];
+
+/// Whether a call of a shelf, of rows of a file, comes to what it is to.
+fn is_shelved<R: Opens>(
+    rt: &R,
+    alloc: Global,
+    path: &str,
+    shelf: &mut RowShelf<R, 16, 65_536>,
+    call: Shelved,
+) -> Result<bool, Fail> {
+    match call {
+        Shelved::Keep(from, to) => {
+            for number in from..to {
+                shelf.keep(small_rows(rt, alloc, path, number)?);
+            }
+        }
+        Shelved::Has(number, kept) => return Ok(shelf.find(path, number, SMALL).is_some() == kept),
+        Shelved::HasNoOther(number) => return Ok(shelf.find("rows_other", number, SMALL).is_none()),
+        Shelved::Forget(number) => shelf.forget(number),
+        Shelved::Len(len) => return Ok(shelf.len() == len),
+    }
+    Ok(true)
+}
+
+#[test]
+fn rows_that_were_used_longest_ago_go_first(rt: HostRuntime) -> Result<(), Fail> {
+    let path = "rows_small";
+    fs::write(&rt, path, &[7; 8])?;
+    let mut shelf: RowShelf<HostRuntime, 16, 65_536> = RowShelf::new(rt.alloc());
+    for (place, call) in SHELVED.iter().enumerate() {
+        assert!(rt;
+            is_shelved(&rt, rt.alloc(), path, &mut shelf, *call)?,
+            "call {place}"
+        );
+    }
+    Ok(fs::remove_file(&rt, path)?)
+}

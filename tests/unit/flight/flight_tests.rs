@@ -1,0 +1,442 @@
+//! Tables of samples, of one thread and of two.
+
+ghost use Rattle.std.specs.Prelude.{◌≡◌, true, IsTrue};
+ghost use Rattle.std.specs.Result.{ForErr};
+ghost use Rattle.iiif_outcome.specs.Outcomes.{is_given};
+ghost use Rattle.iiif_keys.specs.Ledgers.{all_parts};
+
+use crate::flight::cache_tests::sample;
+use iiif_keys::{Fault, PARTS};
+use iiif_outcome::learn_apart;
+use crate::samples::{Lax, Sample};
+use iiif_singleflight::entered::Entered;
+use iiif_singleflight::home::Home;
+use iiif_singleflight::pass::Pass;
+use iiif_singleflight::table::Table;
+use iiif_singleflight::whole::Whole;
+use iiif_singleflight::{Flight, Lead, Receipt};
+use iiif_source::ReadFault;
+use iiif_tables::{Book, Class, Place};
+use std::alloc::Global;
+use std::marker::Brand;
+use std::num::NonZeroUsize;
+use std::sync::ledger::{Blank, Ledger};
+use std::sync::{Arc, Mutex, Wait};
+use std::thread;
+use std::thread::Threads;
+use std::time::{Clock, Duration};
+
+type Shared<L> = Home<Sample, Lax, L>;
+
+type Told = Result<u16, Fault>;
+
+/// A home for so many bytes.
+fn made<L: Ledger>(alloc: Global, bytes: u32, blank: Blank) -> Option<Shared<L>>
+    requires name { blank.name ≡ L.name }
+    requires parts { blank.parts ≡ L.parts }
+    requires all { L.parts ≡ all_parts }
+{
+    let entries = NonZeroUsize::new(8)?;
+    let (table, pass) = Table::new(alloc, u64::from(bytes), entries, PARTS, blank).ok()?;
+    Some(Home::new(table, pass, Whole::new()))
+}
+
+/// What a flight ended with, by its receipt.
+fn told<L: Ledger>(receipt: &mut Receipt<Sample, Lax, L>) -> Told {
+    match receipt.outcome() {
+        Ok(value) => Ok(**value),
+        Err(fault) => Err(*fault),
+    }
+}
+
+/// What a leader lands who is to tell this. Each source may have given any fault.
+fn landing_of(alloc: Global, tells: Told) -> Result<Arc<u16>, Fault>
+    ensures { ForErr result (λ f. IsTrue (is_given (λ _. true) f)) }
+{
+    match tells {
+        Ok(value) => match Arc::new(alloc, value) {
+            Ok(value) => Ok(value),
+            Err(_) => Err(Fault::NoMemory),
+        },
+        Err(Fault::Source(fault)) => Err(Fault::Source(fault)),
+        Err(_) => Err(Fault::NoMemory),
+    }
+}
+
+/// Learns what is landed.
+fn learned<L: Ledger, R: Wait + Clock>(
+    rt: &R,
+    mut flight: Flight<Sample, Lax, L>,
+) -> Option<Receipt<Sample, Lax, L>> {
+    for _ in 0..10_000u32 {
+        match flight.learn() {
+            Ok(receipt) => return Some(receipt),
+            Err(back) => flight = back,
+        }
+        thread::sleep(rt, Duration::from_millis(1));
+    }
+    None
+}
+
+/// What was counted, and how many entries are kept.
+fn counted<L: Ledger, R: Wait>(rt: &R, home: &Mutex<Shared<L>>) -> (Book, usize) {
+    let home = home.lock(rt);
+    (home.table.book(), home.table.kept().entries)
+}
+
+/// A leader looks again, and lands what it finds, or else what tells this.
+fn look_and_land<L: Ledger>(
+    alloc: Global,
+    home: &mut Shared<L>,
+    lead: Lead<Sample, Lax, L>,
+    tells: Told,
+) -> Receipt<Sample, Lax, L> {
+    let ending = match home.table.again(lead) {
+        Ok(ending) => ending,
+        Err(looked) => looked.end(landing_of(alloc, tells), Place::Main),
+    };
+    home.table.land(ending).into_receipt().0
+}
+
+/// Waits until one has joined, and lands.
+fn landed<L: Ledger, R: Wait + Clock>(
+    rt: &R,
+    alloc: Global,
+    home: &Mutex<Shared<L>>,
+    lead: Lead<Sample, Lax, L>,
+    tells: Told,
+) -> Receipt<Sample, Lax, L> {
+    for _ in 0..10_000u32 {
+        if counted(rt, home).0.joins == 1 {
+            break;
+        }
+        thread::sleep(rt, Duration::from_millis(1));
+    }
+    let mut home = home.lock(rt);
+    look_and_land(alloc, &mut *home, lead, tells)
+}
+
+/// What a call of the wide class meets that enters with this pass.
+fn entered<L: Ledger, R: Wait>(
+    rt: &R,
+    alloc: Global,
+    home: &Mutex<Shared<L>>,
+    pass: &mut Pass<L>,
+) -> Option<Entered<Sample, Lax, L>> {
+    let key = sample(alloc, 7)?;
+    home.lock(rt).table.enter(pass, &key, Class::Wide).ok()
+}
+
+/// Enters with this pass, which comes back; where it leads, waits until one has joined and lands; where it joined, learns what was landed.
+fn ask<L: Ledger, R: Wait + Clock>(
+    rt: &R,
+    alloc: Global,
+    home: &Mutex<Shared<L>>,
+    mut pass: Pass<L>,
+    tells: Told,
+) -> Option<(Receipt<Sample, Lax, L>, Pass<L>)> {
+    let receipt = match entered(rt, alloc, home, &mut pass)? {
+        Entered::Hit(receipt) => receipt,
+        Entered::Joined(flight) => learned(rt, flight)?,
+        Entered::Lead(lead) => landed(rt, alloc, home, lead, tells),
+    };
+    Some((receipt, pass))
+}
+
+/// What came of two calls that met, and of a third: what the leader, the one who joined and the third were told; whether the
+/// first two learned of one flight, and the third of the same; the counts before the third and how many entries were kept then, and the
+/// same behind it.
+type Met = (
+    (Told, Told, Told),
+    (bool, bool),
+    (Book, usize),
+    (Book, usize),
+);
+
+/// A third call, after two that met.
+fn third<L: Ledger, R: Wait + Clock>(
+    rt: &R,
+    alloc: Global,
+    home: &Mutex<Shared<L>>,
+    pass: Pass<L>,
+    leads: &mut Receipt<Sample, Lax, L>,
+    joins: &mut Receipt<Sample, Lax, L>,
+) -> Option<Met> {
+    let before = counted(rt, home);
+    let (mut third, _pass) = ask(rt, alloc, home, pass, Ok(42))?;
+    let same = (leads.same(joins), third.same(leads));
+    let tells = (told(leads), told(joins), told(&mut third));
+    Some((tells, same, before, counted(rt, home)))
+}
+
+/// Two threads ask for one key, and the leader lands once the other has joined; then a third call is made.
+fn meet<L: Ledger + Send + Sync, R: Threads + Wait + Clock + Sync>(
+    rt: &R,
+    alloc: Global,
+    home: &Mutex<Shared<L>>,
+    one: Pass<L>,
+    two: Pass<L>,
+    tells: Told,
+) -> Option<Met> {
+    let (a, b) = thread::join(
+        rt,
+        || ask(rt, alloc, home, one, tells),
+        || ask(rt, alloc, home, two, tells),
+    );
+    let (mut leads, pass) = a?;
+    let (mut joins, _other) = b?;
+    third(rt, alloc, home, pass, &mut leads, &mut joins)
+}
+
+/// What a leader who looked again was told, and what was counted then.
+type Look = (Told, Book);
+
+/// A call of the local class, which lands where it leads.
+fn land_beside<L: Ledger>(
+    alloc: Global,
+    home: &mut Shared<L>,
+    pass: &mut Pass<L>,
+    key: &Sample,
+    tells: Told,
+) {
+    match home.table.enter(pass, key, Class::Local) {
+        Ok(Entered::Lead(lead)) => drop(look_and_land(alloc, home, lead, tells)),
+        Ok(Entered::Hit(_)) => {}
+        Ok(Entered::Joined(_)) => {}
+        Err(_) => {}
+    }
+}
+
+/// A call of the wide class leads, one of the local class lands meanwhile, and then the leader looks again.
+fn look_again<L: Ledger>(
+    alloc: Global,
+    home: &mut Shared<L>,
+    pass: &mut Pass<L>,
+    tells: Told,
+) -> Option<Look> {
+    let key = sample(alloc, 8)?;
+    match home.table.enter(pass, &key, Class::Wide).ok()? {
+        Entered::Hit(_) => None,
+        Entered::Joined(_) => None,
+        Entered::Lead(lead) => {
+            land_beside(alloc, home, pass, &key, tells);
+            let mut receipt = look_and_land(alloc, home, lead, Err(Fault::Source(FAULT)));
+            Some((told(&mut receipt), home.table.book()))
+        }
+    }
+}
+
+/// At a new home for so many bytes a leader looks again, behind one who lands what tells this; and then two threads meet that ask for
+/// another key, of which the leader lands the same.
+fn look_and_meet<L: Ledger + Send + Sync, R: Threads + Wait + Clock + Sync>(
+    rt: &R,
+    alloc: Global,
+    bytes: u32,
+    tells: Told,
+    blank: Blank,
+) -> Option<(Look, Met)>
+    requires name { blank.name ≡ L.name }
+    requires parts { blank.parts ≡ L.parts }
+    requires all { L.parts ≡ all_parts }
+{
+    let mut home: Shared<L> = made(alloc, bytes, blank)?;
+    let mut one = home.pass()?;
+    let two = home.pass()?;
+    let look = look_again(alloc, &mut home, &mut one, tells)?;
+    let met = meet(rt, alloc, &Mutex::new(home), one, two, tells)?;
+    Some((look, met))
+}
+
+/// The fault of a read at place 3.
+const FAULT: ReadFault = ReadFault {
+    place: 3,
+    cause: ReadFault::FAILED,
+};
+
+const READ: Told = Err(Fault::Source(FAULT));
+
+const NO_MEMORY: Told = Err(Fault::NoMemory);
+
+/// Two calls that led and landed, and two that met, of which one led and landed.
+const COUNTS: Book = Book {
+    gets: 4,
+    hits: 0,
+    joins: 1,
+    leads: 3,
+    again_hits: 0,
+    loads: 3,
+    peer: 0,
+    landed: 3,
+    faults: 0,
+};
+
+/// A third call beside those that met led, and landed a value.
+const COUNTS_THEN: Book = Book {
+    gets: 5,
+    leads: 4,
+    loads: 4,
+    landed: 4,
+    ..COUNTS
+};
+
+/// Two calls that led and landed.
+const TWO: Book = Book {
+    gets: 2,
+    joins: 0,
+    leads: 2,
+    loads: 2,
+    landed: 2,
+    ..COUNTS
+};
+
+/// For how many bytes a home is; what one lands beside a leader that looks again, and the leader of two calls that meet; what the leader
+/// that looks again is told; and what comes of the calls that meet and of a third.
+static MEETINGS: [(u32, Told, Look, Met); 4] = [
+    // The leader finds what landed meanwhile. The third call hits what two threads shared.
+    (
+        1000,
+        Ok(42),
+        (
+            Ok(42),
+            Book {
+                again_hits: 1,
+                loads: 1,
+                ..TWO
+            },
+        ),
+        (
+            (Ok(42), Ok(42), Ok(42)),
+            (true, true),
+            (
+                Book {
+                    again_hits: 1,
+                    loads: 2,
+                    ..COUNTS
+                },
+                2,
+            ),
+            (
+                Book {
+                    gets: 5,
+                    hits: 1,
+                    again_hits: 1,
+                    loads: 2,
+                    ..COUNTS
+                },
+                2,
+            ),
+        ),
+    ),
+    // Nothing is kept: the leader finds nothing, and lands a fault. The third call leads.
+    (
+        1,
+        Ok(42),
+        (READ, Book { faults: 1, ..TWO }),
+        (
+            (Ok(42), Ok(42), Ok(42)),
+            (true, false),
+            (
+                Book {
+                    faults: 1,
+                    ..COUNTS
+                },
+                0,
+            ),
+            (
+                Book {
+                    faults: 1,
+                    ..COUNTS_THEN
+                },
+                0,
+            ),
+        ),
+    ),
+    // The leader finds no fault. Two calls are told the fault of a read, and a third loads again.
+    (
+        1000,
+        READ,
+        (READ, Book { faults: 2, ..TWO }),
+        (
+            (READ, READ, Ok(42)),
+            (true, false),
+            (
+                Book {
+                    faults: 3,
+                    ..COUNTS
+                },
+                0,
+            ),
+            (
+                Book {
+                    faults: 3,
+                    ..COUNTS_THEN
+                },
+                1,
+            ),
+        ),
+    ),
+    // The same where memory ran out.
+    (
+        1000,
+        NO_MEMORY,
+        (READ, Book { faults: 2, ..TWO }),
+        (
+            (NO_MEMORY, NO_MEMORY, Ok(42)),
+            (true, false),
+            (
+                Book {
+                    faults: 3,
+                    ..COUNTS
+                },
+                0,
+            ),
+            (
+                Book {
+                    faults: 3,
+                    ..COUNTS_THEN
+                },
+                1,
+            ),
+        ),
+    ),
+];
+
+#[test]
+fn leader_that_looks_again_finds_values_alone_and_two_threads_share_one_load(rt: HostRuntime) {
+    for (line, (bytes, tells, look, met)) in MEETINGS.iter().enumerate() {
+        let seen = look_and_meet::<Brand, _>(&rt, rt.alloc(), *bytes, *tells, Blank::new(PARTS));
+        assert!(rt; seen == Some((*look, *met)), "{line}");
+    }
+}
+
+/// The ticket of a receipt, and what it tells.
+fn ticket_of(receipt: &mut iiif_outcome::Receipt<Sample, Lax>) -> (u64, Told) {
+    let ticket = receipt.ticket();
+    match receipt.outcome() {
+        Ok(value) => (ticket, Ok(**value)),
+        Err(fault) => (ticket, Err(*fault)),
+    }
+}
+
+/// A flight of no table with the ticket 5, which ended with that fault. None where this wasn't taken.
+fn ended(alloc: Global) -> Option<iiif_outcome::Flight<Sample, Lax>> {
+    let key = sample(alloc, 7)?;
+    let (lead, flight) = iiif_outcome::Lead::open(alloc, &key, Class::Wide, 5).ok()?;
+    if !lead.set(landing_of(alloc, READ)).taken {
+        return None;
+    }
+    Some(flight)
+}
+
+/// What two threads learn of it.
+fn both_learn<R: Threads + Sync>(rt: &R, alloc: Global) -> Option<[(u64, Told); 2]> {
+    let mut one = ended(alloc)?;
+    let other = one.join().ok()?;
+    let (mut a, mut b) = learn_apart(rt, one, other)?;
+    Some([ticket_of(&mut a), ticket_of(&mut b)])
+}
+
+#[test]
+fn two_threads_learn_of_one_flight(rt: HostRuntime) {
+    assert!(rt; both_learn(&rt, rt.alloc()) == Some([(5, READ), (5, READ)]));
+}

@@ -1,0 +1,23 @@
+//! Tests of groups, which call only what is public: calls that share a load, are held at a gate or asked of the key's owner
+//! (`iiif_group`); sums made of their parts (`iiif_sum_group`); what a node replies to others, crossed nodes, cut replies and peers that
+//! lie (`iiif_peer_groups`); and links over TCP and over memory (`iiif_peer_link`).
+
+mod acts;
+mod bars;
+mod calls;
+mod cases;
+mod crossed_tests;
+mod crossings;
+mod cut_tests;
+mod doorways;
+mod keys;
+mod link_memory_tests;
+mod link_tcp_tests;
+mod meeting_tests;
+mod meetings;
+mod messages;
+mod nodes;
+mod peers;
+mod run_tests;
+mod runs;
+mod scenes;

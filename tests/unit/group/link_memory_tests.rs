@@ -1,0 +1,201 @@
+//! Replies in memory: right, cut, changed, for another key, and faults; readers and writers that fail.
+
+use crate::group::keys::{
+    DEEP, DEEP_ASK, DEEP_REPLY, DEEP_REPLY_ONE, DEEP_VALUE, OTHER_REPLY, SAMPLE, SHORT_VALUE_REPLY,
+    SUM_ASK, SUM_REPLY, SUM_VALUE, TILE_ASK, TILE_REPLY, TILE_VALUE, UNKNOWN_REPLY, block, tile,
+};
+use iiif_group::LinkFault;
+use iiif_io::fakes::{FailingReader, FailingWriter};
+use iiif_keys::{CacheKey, Shape, SumKey, TileKey};
+use iiif_peer_link::{ask_over, ask_sum_over, ask_tile_over};
+use iiif_peer_wire::{Version, WireFault};
+use std::alloc::Global;
+
+/// Whose value is asked for.
+enum Of {
+    /// The tile of 16 bits.
+    Deep,
+    Tile,
+    Sum,
+}
+
+/// What an ask gives: the bytes of its value, or the fault. None where the key doesn't fit, or memory was wanted.
+type Came = Option<Result<Vec<u8>, LinkFault>>;
+
+/// What an ask for a tile gives.
+fn tile_came(
+    alloc: Global,
+    key: &TileKey,
+    shape: &Shape,
+    input: &mut FailingReader<'_>,
+    out: &mut FailingWriter,
+) -> Came {
+    if !key.fits(2, shape) {
+        return None;
+    }
+    match ask_tile_over(alloc, input, out, key, shape) {
+        Ok(value) => Some(Ok(TileKey::value_bytes(alloc, &value).ok()?)),
+        Err(fault) => Some(Err(fault)),
+    }
+}
+
+/// What an ask for sums gives.
+fn sum_came(
+    alloc: Global,
+    key: &SumKey,
+    shape: &Shape,
+    input: &mut FailingReader<'_>,
+    out: &mut FailingWriter,
+) -> Came {
+    if !key.fits(2, shape) {
+        return None;
+    }
+    match ask_sum_over(alloc, input, out, key, shape) {
+        Ok(value) => Some(Ok(SumKey::value_bytes(alloc, &value).ok()?)),
+        Err(fault) => Some(Err(fault)),
+    }
+}
+
+/// What an ask gives.
+fn came(alloc: Global, of: &Of, input: &mut FailingReader<'_>, out: &mut FailingWriter) -> Came {
+    match of {
+        Of::Deep => tile_came(alloc, &tile(alloc, "g", (0, 0)).ok()?, &DEEP, input, out),
+        Of::Tile => tile_came(alloc, &tile(alloc, "a", (1, 1)).ok()?, &SAMPLE, input, out),
+        Of::Sum => sum_came(alloc, &block(alloc, 0, 0).ok()?, &SAMPLE, input, out),
+    }
+}
+
+/// Whether an ask, over a writer with so much room, sends as much of it, and a reply that is read so many bytes at a time and so often at
+/// most gives what it has to.
+fn is_right(
+    alloc: Global,
+    of: &Of,
+    reply: (&[u8], usize, usize),
+    room: usize,
+    wanted: Result<&[u8], LinkFault>,
+) -> bool {
+    let (left, piece, reads) = reply;
+    let mut input = FailingReader { left, piece, reads };
+    let mut out = FailingWriter {
+        taken: Vec::new(alloc),
+        room,
+        piece: 5,
+    };
+    let came = came(alloc, of, &mut input, &mut out);
+    let ask = match of {
+        Of::Deep => DEEP_ASK,
+        Of::Tile => TILE_ASK,
+        Of::Sum => SUM_ASK,
+    };
+    let (sent, _) = ask.split_at(room.min(ask.len()));
+    out.taken.as_slice() == sent
+        && match (came, wanted) {
+            (Some(Ok(value)), Ok(bytes)) => value.as_slice() == bytes,
+            (Some(Err(fault)), Err(wanted)) => fault == wanted,
+            _ => false,
+        }
+}
+
+/// Replies, how many bytes of them are read at a time, and what they give.
+static REPLIES: [(Of, &[u8], usize, Result<&[u8], LinkFault>); 14] = [
+    (Of::Deep, DEEP_REPLY, 1, Ok(DEEP_VALUE)),
+    (Of::Deep, DEEP_REPLY, 7, Ok(DEEP_VALUE)),
+    (Of::Deep, DEEP_REPLY, 4096, Ok(DEEP_VALUE)),
+    (Of::Tile, TILE_REPLY, 1, Ok(TILE_VALUE)),
+    (Of::Tile, TILE_REPLY, 7, Ok(TILE_VALUE)),
+    (Of::Tile, TILE_REPLY, 4096, Ok(TILE_VALUE)),
+    (Of::Sum, SUM_REPLY, 1, Ok(SUM_VALUE)),
+    (Of::Sum, SUM_REPLY, 7, Ok(SUM_VALUE)),
+    (Of::Sum, SUM_REPLY, 4096, Ok(SUM_VALUE)),
+    (
+        Of::Deep,
+        DEEP_REPLY_ONE,
+        3,
+        Err(LinkFault::Wire(WireFault::Magic)),
+    ),
+    (
+        Of::Deep,
+        OTHER_REPLY,
+        3,
+        Err(LinkFault::Wire(WireFault::Key)),
+    ),
+    (Of::Deep, SHORT_VALUE_REPLY, 3, Err(LinkFault::Value)),
+    (Of::Deep, UNKNOWN_REPLY, 3, Err(LinkFault::Refused(3))),
+    (
+        Of::Deep,
+        DEEP_ASK,
+        3,
+        Err(LinkFault::Wire(WireFault::Magic)),
+    ),
+];
+
+#[test]
+fn right_replies_give_the_values_and_others_are_faults(rt: HostRuntime) {
+    for (line, (of, reply, piece, wanted)) in REPLIES.iter().enumerate() {
+        let reply = (*reply, *piece, 1000);
+        assert!(rt; is_right(rt.alloc(), of, reply, 100, *wanted), "{line}");
+    }
+}
+
+/// Whether the reply with a byte of its value changed is refused. None where there is no such byte, or memory was wanted.
+fn is_refused(alloc: Global, at: usize) -> Option<bool> {
+    let mut reply = Vec::from_slice(alloc, DEEP_REPLY).ok()?;
+    let byte = reply.get_mut(at)?;
+    *byte ^= 1;
+    let reply = (reply.as_slice(), 4096, 1000);
+    let wanted = Err(LinkFault::Wire(WireFault::Digest));
+    Some(is_right(alloc, &Of::Deep, reply, 100, wanted))
+}
+
+#[test]
+fn reply_with_one_changed_byte(rt: HostRuntime) {
+    // The value's bytes begin behind the magic, the key, the status and the length.
+    for at in 28..41usize {
+        assert!(rt; is_refused(rt.alloc(), at) == Some(true), "at {at}");
+    }
+}
+
+/// Whether a reply that ends after so many bytes is too short, and one whose reads fail from there on a fault of reading.
+fn is_cut(alloc: Global, cut: usize) -> bool {
+    let (front, _) = DEEP_REPLY.split_at(cut.min(DEEP_REPLY.len()));
+    let short = Err(LinkFault::Wire(WireFault::Short));
+    let failed = Err(LinkFault::Wire(WireFault::Io));
+    is_right(alloc, &Of::Deep, (front, 7, 1000), 100, short)
+        && is_right(alloc, &Of::Deep, (DEEP_REPLY, 1, cut), 100, failed)
+}
+
+#[test]
+fn reply_cut_after_each_byte(rt: HostRuntime) {
+    for cut in 0..DEEP_REPLY.len() {
+        assert!(rt; is_cut(rt.alloc(), cut), "at {cut}");
+    }
+}
+
+#[test]
+fn ask_cut_after_each_byte(rt: HostRuntime) {
+    let reply = (DEEP_REPLY, 4096, 1000);
+    let failed = Err(LinkFault::Wire(WireFault::Io));
+    for room in 0..DEEP_ASK.len() {
+        assert!(rt;
+            is_right(rt.alloc(), &Of::Deep, reply, room, failed),
+            "at {room}"
+        );
+    }
+}
+
+#[test]
+fn key_of_bytes_is_asked_for(rt: HostRuntime) {
+    let mut input = FailingReader {
+        left: b"IGR1\0\0\0\x01k\x02\0\0\0\0\x82",
+        piece: 4096,
+        reads: 1000,
+    };
+    let mut out = FailingWriter {
+        taken: Vec::new(rt.alloc()),
+        room: 100,
+        piece: 5,
+    };
+    let came = ask_over(rt.alloc(), &mut input, &mut out, Version::One, 2, b"k");
+    let is_short = matches!(came, Err(LinkFault::Wire(WireFault::Short)));
+    assert!(rt; is_short && out.taken.as_slice() == b"IGA1\x02\0\0\0\x01k".as_slice());
+}

@@ -1,0 +1,158 @@
+//! What happens at a node that is made for it, and what is seen there.
+
+ghost use Rattle.std.specs.Prelude.{◌≡◌, ℕ, List, Some, false};
+ghost use Rattle.iiif_source.specs.declared.ReadFault.{ReadFault};
+ghost use Rattle.iiif_images.specs.Collection.{Item, item_named};
+ghost use Rattle.iiif_images.specs.Named.{gave_of, pictures_of};
+ghost use Rattle.iiif_keys.specs.Ledgers.{all_parts};
+
+use crate::group::crossings::{crossed, serves};
+use crate::group::doorways::{Doorway, Reads};
+use crate::group::meetings::{Meeting, crowded, met, overlapped};
+use crate::group::nodes::{NO_COUNTS, Node, Setup, catalogue, shared};
+use crate::group::runs::{Stages, Steps, gives_out, ran};
+use iiif_images::{Catalogue, Images};
+use iiif_keys::{Fault, PARTS, System};
+use iiif_source::Source;
+use iiif_sum_group::{Groups, Tiles};
+use iiif_tables::Book;
+use std::alloc::Global;
+use std::marker::Brand;
+use std::net::{Net, TcpListener, TcpStream};
+use std::sync::Wait;
+use std::sync::ledger::Blank;
+use std::thread::Threads;
+use std::time::Clock;
+
+/// What happens at a node.
+pub(crate) enum Scene {
+    /// Steps, one after another.
+    Runs(Stages),
+    /// Two calls for tiles that meet, and a third.
+    Meets(Meeting),
+    /// Four calls for one tile that meet.
+    Crowds(Meeting),
+    /// Two steps at once, and what each comes to. Their reads of the source overlap.
+    Overlaps(Steps),
+    /// All asks of other nodes are replied to.
+    Replies,
+    /// So many passes are given out, and no more.
+    GivesOut(u32),
+    /// The node and another ask each other, as its setup says.
+    Crosses,
+}
+
+/// What is seen at a node.
+#[derive(Clone, Copy, PartialEq, Eq)]
+pub(crate) struct Seen {
+    /// All came to what was wanted.
+    pub is_right: bool,
+    /// Memory was wanted for an answer, which was asked for once more.
+    pub is_refused: bool,
+    /// Of calls that meet: the two are told of one flight, and the third of the second's.
+    pub are_same: (bool, bool),
+    /// The books of the tiles and of the sums, behind the first steps or behind the two calls that meet.
+    pub books: (Book, Book),
+    /// The book of the tiles in the end, and the share of it that had come home.
+    pub tiles: (Book, u64),
+    /// The same of the sums.
+    pub sums: (Book, u64),
+    /// What was read and passed in the end, which no book has counted.
+    pub done: Done,
+}
+
+/// What loads do: how often each tile of `a` was read, and how often the gate was passed.
+pub(crate) type Done = (Reads, u64);
+
+/// Says of a scene that no pass or thread came as it has to: no image is without a name there.
+pub(crate) const ODD: Fault = Fault::UnknownName;
+
+/// All right, and nothing called for.
+pub(crate) const QUIET: Seen = Seen {
+    is_right: true,
+    is_refused: false,
+    are_same: (false, false),
+    books: (NO_COUNTS, NO_COUNTS),
+    tiles: (NO_COUNTS, 0),
+    sums: (NO_COUNTS, 0),
+    done: ([0, 0, 0, 0], 0),
+};
+
+/// What is seen of a scene at a node.
+fn shown<'a, R, J>(
+    rt: &R,
+    alloc: Global,
+    node: &'a Node<'_, R, J>,
+    setup: &'a Setup<'_>,
+    scene: &'a Scene,
+) -> Result<Seen, Fault>
+where
+    R: Net<Listener = TcpListener, Stream = TcpStream> + Threads + Wait + Clock + Send + Sync,
+    J: System + Send + Sync,
+{
+    match scene {
+        Scene::Runs(stages) => ran(rt, alloc, node, setup.gate, stages),
+        Scene::Meets(meeting) => met(rt, alloc, node, setup.gate, meeting),
+        Scene::Crowds(meeting) => crowded(rt, alloc, node, setup.gate, meeting),
+        Scene::Overlaps(steps) => overlapped(rt, alloc, node, setup.gate, steps),
+        Scene::Replies => serves(rt, alloc, node),
+        Scene::GivesOut(count) => Ok(gives_out(rt, node, *count)),
+        Scene::Crosses => crossed(rt, alloc, node, setup),
+    }
+}
+
+/// The same at a node over the images of a catalogue, at tiles of 2 by 2.
+fn seen_over<R, J>(
+    rt: &R,
+    alloc: Global,
+    catalogue: Catalogue<R, Doorway>,
+    setup: &Setup<'_>,
+    scene: &Scene,
+    tiles: Blank,
+    sums: Blank,
+) -> Result<Seen, Fault>
+where
+    R: Net<Listener = TcpListener, Stream = TcpStream> + Threads + Wait + Clock + Send + Sync,
+    J: System + Send + Sync,
+    requires pictures { (name : List ℕ) → J.pictures name ≡ pictures_of ⟦<Doorway as Source<R>>⟧.bytes catalogue name }
+    requires gave { (name : List ℕ) (f : ReadFault) → J.gave name f ≡ gave_of ⟦<Doorway as Source<R>>⟧.gave catalogue name f }
+    requires stable { (name : List ℕ) (item : Item _) → item_named catalogue name ≡ Some item → J.stable name →
+        ∥ ⟦<Doorway as Source<R>>⟧.keeps item.source ∥₁ }
+    requires edge { J.edge ≡ 2 }
+    requires tiles { (tiles.name ≡ J.tiles_name) × (tiles.parts ≡ J.tiles_parts) × (J.tiles_parts ≡ all_parts) }
+    requires sums { (sums.name ≡ J.sums_name) × (sums.parts ≡ J.sums_parts) × (J.sums_parts ≡ all_parts) }
+    requires honest { J.honest ≡ false }
+{
+    let images = Images::new(alloc, catalogue, 2);
+    let near = shared(alloc, setup, tiles)?;
+    let far = shared(alloc, setup, sums)?;
+    let node: Node<'_, R, J> = Groups::new(alloc, Tiles::new(alloc, images, near), far);
+    shown(rt, alloc, &node, setup, scene)
+}
+
+/// The images of a node, made once more where memory was wanted.
+fn catalogue_twice<R: Clock>(
+    rt: &R,
+    alloc: Global,
+    setup: &Setup<'_>,
+) -> Option<Catalogue<R, Doorway>> {
+    match catalogue(rt, alloc, setup) {
+        Some(catalogue) => Some(catalogue),
+        None => catalogue(rt, alloc, setup),
+    }
+}
+
+/// What is seen of a scene at a node that is set up for it.
+pub(crate) fn played<R>(
+    rt: &R,
+    alloc: Global,
+    setup: &Setup<'_>,
+    scene: &Scene,
+) -> Result<Seen, Fault>
+where
+    R: Net<Listener = TcpListener, Stream = TcpStream> + Threads + Wait + Clock + Send + Sync,
+{
+    let catalogue = catalogue_twice(rt, alloc, setup).ok_or(Fault::NoMemory)?;
+    let (tiles, sums) = (Blank::new(PARTS), Blank::new(PARTS));
+    seen_over::<_, Brand>(rt, alloc, catalogue, setup, scene, tiles, sums)
+}

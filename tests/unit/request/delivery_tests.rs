@@ -1,0 +1,435 @@
+//! Images that are made of blocks, sent by several workers; and one that is a tile as it stands.
+
+ghost use Rattle.std.specs.Prelude.{◌≡◌};
+ghost use Rattle.iiif_assemble.specs.Jobs.{IsJob};
+
+use crate::request::pictures::{Failing, QUARTER, Shown, UPRIGHT, job, of_samples, tens};
+use iiif_assemble::{Job, Workshop};
+use iiif_delivery::{Delivered, Sending, Stopped, send_image};
+use iiif_io::Outlet;
+use iiif_keys::Fault;
+use iiif_pixel::{Depth, Dim, Kind, Quality, Samples, Turn};
+use iiif_tiff_write::{OutKind, fits};
+use std::alloc::{AllocError, Global};
+use std::io;
+use std::io::{ErrorKind, Write};
+use std::sync::Wait;
+use std::sync::atomic::{AtomicU64, Ordering};
+use std::thread::Threads;
+
+/// The samples 0 to 199, twice.
+fn samples(alloc: Global) -> Result<Vec<u8>, AllocError> {
+    let mut samples = Vec::new(alloc);
+    for _ in 0..2 {
+        for sample in 0..200u8 {
+            samples.push(sample)?;
+        }
+    }
+    Ok(samples)
+}
+
+/// The gray picture of 20 by 20 places with those samples, of which blocks may fail, and no tile is asked for.
+fn sample(alloc: Global, fails: Failing) -> Option<Shown> {
+    let samples = samples(alloc).ok()?;
+    let dim = Dim { w: 20, h: 20 };
+    of_samples(alloc, dim, Samples::Eight(samples), fails)
+}
+
+/// How an image was sent.
+#[derive(Drop)]
+struct Answer {
+    end: Result<Delivered, Stopped>,
+    bytes: Vec<u8>,
+    /// How many blocks or tiles were asked for.
+    asks: u64,
+}
+
+/// How an image is sent in bands of one row by so many workers, and how many blocks or tiles were asked for.
+fn send_to<R: Threads + Wait + Sync, W: Outlet>(
+    rt: &R,
+    alloc: Global,
+    shown: &Shown,
+    job: &Job,
+    workers: usize,
+    out: &mut W,
+) -> Option<(Result<Delivered, Stopped>, u64)>
+    requires job { IsJob job.now }
+    requires shape { job.now.shape ≡ shown.now.shape }
+{
+    let dim = job.resolved.size.turned(job.resolved.turn);
+    let (Kind::Gray, Depth::Eight, Quality::Default) = (
+        job.shape.kind,
+        job.shape.depth,
+        job.resolved.quality,
+    ) else {
+        return None;
+    };
+    if !fits(OutKind::Gray, dim) {
+        return None;
+    }
+    let mut passes = vec![in alloc; 0u64; workers.max(1)].ok()?;
+    let shop = Workshop {
+        rt,
+        alloc,
+        tiles: shown,
+        sums: shown,
+    };
+    let sending = Sending {
+        job,
+        rows: 1,
+        kind: OutKind::Gray,
+        start: b"",
+    };
+    let end = send_image(&shop, &mut passes, &sending, out);
+    let mut asks = 0u64;
+    for pass in &passes {
+        asks = asks.wrapping_add(*pass);
+    }
+    Some((end, asks))
+}
+
+/// An image that is sent so, to memory.
+fn send<R: Threads + Wait + Sync>(
+    rt: &R,
+    alloc: Global,
+    shown: &Shown,
+    job: &Job,
+    workers: usize,
+) -> Option<Answer>
+    requires job { IsJob job.now }
+    requires shape { job.now.shape ≡ shown.now.shape }
+{
+    let mut bytes = Vec::new(alloc);
+    match send_to(rt, alloc, shown, job, workers, &mut bytes) {
+        Some((end, asks)) => Some(Answer { end, bytes, asks }),
+        None => None,
+    }
+}
+
+/// A picture scaled to 7 by 7, sent of blocks with a side of 2 by so many workers.
+fn scaled<R: Threads + Wait + Sync>(
+    rt: &R,
+    alloc: Global,
+    shown: &Shown,
+    workers: usize,
+) -> Option<Answer> {
+    match job(alloc, shown.shape, 2, Dim { w: 7, h: 7 }, UPRIGHT, 1) {
+        Some(job) => send(rt, alloc, shown, &job, workers),
+        None => None,
+    }
+}
+
+/// The picture, of which these blocks fail, sent so.
+fn sent<R: Threads + Wait + Sync>(
+    rt: &R,
+    alloc: Global,
+    fails: Failing,
+    workers: usize,
+) -> Option<Answer> {
+    match sample(alloc, fails) {
+        Some(shown) => scaled(rt, alloc, &shown, workers),
+        None => None,
+    }
+}
+
+/// The length of a file of 7 rows of 7 bytes, and of what stands before them.
+const LEN: u64 = 174 + 49;
+
+/// Whether so many workers send what one sends, and ask for each block once. There are 100 blocks, in rows of 10, and a band has a place in
+/// three rows at most.
+fn is_same<R: Threads + Wait + Sync>(
+    rt: &R,
+    alloc: Global,
+    alone: &Answer,
+    workers: usize,
+) -> bool {
+    match sent(rt, alloc, Failing::Blocks(None), workers) {
+        Some(answer) => answer.bytes == alone.bytes && answer.asks == 100,
+        None => false,
+    }
+}
+
+/// Whether the bands above this one are sent, where this row of blocks fails.
+fn ends_above<R: Threads + Wait + Sync>(
+    rt: &R,
+    alloc: Global,
+    whole: &Answer,
+    (row, band): (u32, u64),
+    workers: usize,
+) -> bool {
+    let count = match band {
+        1..=7 => 174 + 7 * band,
+        _ => 0,
+    };
+    match sent(rt, alloc, Failing::Blocks(Some(row)), workers) {
+        Some(answer) => {
+            answer.end == Err(Stopped::Load(count, Fault::UnknownName))
+                && answer.bytes.len() as u64 == count
+                && whole.bytes.as_slice().starts_with(&answer.bytes)
+        }
+        None => false,
+    }
+}
+
+/// Whether several workers send what one sends.
+fn are_same<R: Threads + Wait + Sync>(rt: &R, alloc: Global, alone: &Answer) -> bool {
+    for workers in [1, 2, 3, 4, 16] {
+        if !is_same(rt, alloc, alone, workers) {
+            return false;
+        }
+    }
+    true
+}
+
+/// Rows of blocks, and the first of the bands that they have a place in: a row of the result has 20/7 rows of the picture.
+static FAILING: [(u32, u64); 4] = [(0, 0), (3, 2), (5, 3), (9, 6)];
+
+/// Whether any number of them sends the bands above, where blocks fail.
+fn end_above<R: Threads + Wait + Sync>(rt: &R, alloc: Global, whole: &Answer) -> bool {
+    for failing in &FAILING {
+        for workers in [1, 4, 16] {
+            if !ends_above(rt, alloc, whole, *failing, workers) {
+                return false;
+            }
+        }
+    }
+    true
+}
+
+#[test]
+fn each_block_is_asked_for_once_and_bands_above_a_fault_are_sent(rt: HostRuntime) {
+    let alone = sent(&rt, rt.alloc(), Failing::Blocks(None), 1);
+    assert!(rt; alone.is_some());
+    if let Some(alone) = &alone {
+        assert!(rt; alone.bytes.len() as u64 == LEN);
+        assert!(rt; are_same(&rt, rt.alloc(), alone));
+        assert!(rt; end_above(&rt, rt.alloc(), alone));
+    }
+}
+
+/// Whether a block that fails as it is asked for, and wouldn't fail again, ends the image, whichever of all it is in time.
+fn ends_at_once<R: Threads + Wait + Sync>(rt: &R, alloc: Global, whole: &Answer) -> bool {
+    for place in [0, 1, 2, 9, 10, 29, 30, 50, 98, 99] {
+        for workers in [1, 2, 4, 16] {
+            let Some(answer) = sent(rt, alloc, Failing::Once(place), workers) else {
+                return false;
+            };
+            let is_cut = matches!(answer.end, Err(Stopped::Load(_, Fault::UnknownName)));
+            if !is_cut || !whole.bytes.as_slice().starts_with(&answer.bytes) {
+                return false;
+            }
+        }
+    }
+    true
+}
+
+#[test]
+fn fault_that_is_met_once_ends_the_image(rt: HostRuntime) {
+    let whole = sent(&rt, rt.alloc(), Failing::Blocks(None), 1);
+    assert!(rt; whole.is_some());
+    if let Some(whole) = &whole {
+        assert!(rt; whole.bytes.len() as u64 == LEN && whole.asks == 100);
+        assert!(rt; ends_at_once(&rt, rt.alloc(), whole));
+    }
+}
+
+/// A writer whose reader is there when it is first looked for, and gone then.
+#[derive(Drop)]
+struct Leaving {
+    looks: AtomicU64,
+}
+
+impl Write for Leaving {
+    fn write(&mut self, _bytes: &[u8]) -> io::Result<usize> {
+        Err(io::Error::from(ErrorKind::BrokenPipe))
+    }
+
+    fn flush(&mut self) -> io::Result<()> {
+        Ok(())
+    }
+}
+
+impl Outlet for Leaving {
+    ghost fails = { λ _ _. Unit {0} };
+
+    fn put(&mut self, bytes: &[u8]) -> io::Result<usize> {
+        self.write(bytes)
+    }
+
+    fn is_gone(&self) -> bool {
+        self.looks.fetch_add(1, Ordering::SeqCst) > 0
+    }
+}
+
+/// How the picture is sent to one who goes away meanwhile, and how many blocks were asked for.
+fn left<R: Threads + Wait + Sync>(
+    rt: &R,
+    alloc: Global,
+    fails: Failing,
+) -> Option<(Result<Delivered, Stopped>, u64)> {
+    let shown = sample(alloc, fails)?;
+    let mut out = Leaving {
+        looks: AtomicU64::new(0),
+    };
+    match job(alloc, shown.shape, 2, Dim { w: 7, h: 7 }, UPRIGHT, 1) {
+        Some(job) => send_to(rt, alloc, &shown, &job, 2, &mut out),
+        None => None,
+    }
+}
+
+/// The first job's turn doesn't come, that of the second does.
+#[test]
+fn nothing_is_asked_for_one_who_goes_away_until_the_turn_has_come(rt: HostRuntime) {
+    for fails in [Failing::Turn, Failing::Nothing] {
+        assert!(rt; left(&rt, rt.alloc(), fails) == Some((Err(Stopped::Writer(0)), 0)));
+    }
+}
+
+/// The picture of 4 by 4 places, which is one tile, turned and sent by one worker.
+fn alone<R: Threads + Wait + Sync>(
+    rt: &R,
+    alloc: Global,
+    fails: Failing,
+    turn: Turn,
+) -> Option<Answer> {
+    match tens(alloc, fails) {
+        Some(shown) => match job(alloc, shown.shape, 4, Dim { w: 4, h: 4 }, turn, 1) {
+            Some(job) => send(rt, alloc, &shown, &job, 1),
+            None => None,
+        },
+        None => None,
+    }
+}
+
+/// How often the tile is asked for, how the image is sent, and its rows in the file.
+type Lone = (
+    Failing,
+    Turn,
+    u64,
+    Result<Delivered, Stopped>,
+    &'static [u8],
+);
+
+/// The picture's rows, and those of it turned by a quarter.
+const ROWS: &[u8] = &[
+    0, 10, 20, 30, 40, 50, 60, 70, 80, 90, 100, 110, 120, 130, 140, 150,
+];
+
+const TURNED: &[u8] = &[
+    120, 80, 40, 0, 130, 90, 50, 10, 140, 100, 60, 20, 150, 110, 70, 30,
+];
+
+/// As it stands, turned, and where the tile fails. Of a band that is turned its four samples are held twice.
+static LONE: [Lone; 4] = [
+    (
+        Failing::Nothing,
+        UPRIGHT,
+        1,
+        Ok(Delivered {
+            bytes: 190,
+            held: 4,
+        }),
+        ROWS,
+    ),
+    (
+        Failing::Nothing,
+        QUARTER,
+        4,
+        Ok(Delivered {
+            bytes: 190,
+            held: 8,
+        }),
+        TURNED,
+    ),
+    (
+        Failing::FirstRow,
+        UPRIGHT,
+        1,
+        Err(Stopped::Load(0, Fault::BadKey)),
+        &[],
+    ),
+    (
+        Failing::FirstRow,
+        QUARTER,
+        1,
+        Err(Stopped::Load(0, Fault::BadKey)),
+        &[],
+    ),
+];
+
+/// Whether the picture is sent so.
+fn is_lone<R: Threads + Wait + Sync>(
+    rt: &R,
+    alloc: Global,
+    (fails, turn, asks, end, rows): &Lone,
+) -> bool {
+    match alone(rt, alloc, *fails, *turn) {
+        Some(answer) => {
+            answer.asks == *asks
+                && answer.end == *end
+                && answer.bytes.as_slice().get(174..).unwrap_or(&[]) == *rows
+        }
+        None => false,
+    }
+}
+
+#[test]
+fn a_tile_as_it_stands_is_asked_for_once(rt: HostRuntime) {
+    for lone in &LONE {
+        assert!(rt; is_lone(&rt, rt.alloc(), lone));
+    }
+}
+
+/// How many samples a picture of 300 by 300 places has: more than go out in one write.
+const MANY: usize = 90_000;
+
+/// So many samples, 0 to 249 again and again.
+fn many(alloc: Global) -> Result<Vec<u8>, AllocError> {
+    let mut samples = Vec::with_capacity(alloc, MANY)?;
+    for _ in 0..MANY / 250 {
+        for sample in 0..250u8 {
+            samples.push(sample)?;
+        }
+    }
+    Ok(samples)
+}
+
+/// The picture with these samples as one tile, sent.
+fn large<R: Threads + Wait + Sync>(rt: &R, alloc: Global, samples: Vec<u8>) -> Option<Answer> {
+    let dim = Dim { w: 300, h: 300 };
+    match of_samples(alloc, dim, Samples::Eight(samples), Failing::Nothing) {
+        Some(shown) => match job(alloc, shown.shape, 300, dim, UPRIGHT, 1) {
+            Some(job) => send(rt, alloc, &shown, &job, 1),
+            None => None,
+        },
+        None => None,
+    }
+}
+
+/// Whether it is sent whole.
+fn is_large_sent<R: Threads + Wait + Sync>(rt: &R, alloc: Global, rows: &[u8]) -> bool {
+    let Ok(samples) = many(alloc) else {
+        return false;
+    };
+    match large(rt, alloc, samples) {
+        Some(answer) => {
+            answer.asks == 1
+                && answer.end
+                    == Ok(Delivered {
+                        bytes: 90_174,
+                        held: 300,
+                    })
+                && answer.bytes.as_slice().get(174..).unwrap_or(&[]) == rows
+        }
+        None => false,
+    }
+}
+
+#[test]
+fn a_large_tile_is_sent_whole(rt: HostRuntime) {
+    let rows = many(rt.alloc());
+    assert!(rt; rows.is_ok());
+    if let Ok(rows) = &rows {
+        assert!(rt; is_large_sent(&rt, rt.alloc(), rows));
+    }
+}

@@ -1,0 +1,163 @@
+//! What is asked of a node, and whether it comes as it is to.
+
+use crate::server::cases::{Ask, Input, Verb, Want};
+use crate::server::faulty::Faulty;
+use crate::server::meeting::Meeting;
+use crate::server::nodes::Seen;
+use crate::server::told::Parts;
+use http::Method;
+use iiif_http_front::Call;
+use iiif_io::fakes::FailingWriter;
+use iiif_keys::System;
+use iiif_server::{Cut, NoLink, Node, Passes, Sent, Serving, Watch};
+use std::alloc::Global;
+use std::sync::Wait;
+use std::sync::atomic::Ordering;
+use std::thread::Threads;
+use std::time::Clock;
+
+/// How the body of a target's answer ends.
+fn body_of<R: Threads + Wait + Clock + Sync, J: System + Send + Sync>(
+    rt: &R,
+    alloc: Global,
+    node: &Node<R, Faulty, J, NoLink, &Meeting>,
+    passes: &mut [Passes<J>],
+    target: &[u8],
+    out: &mut FailingWriter,
+) -> Option<Result<Sent, Cut>> {
+    if passes.is_empty() {
+        return None;
+    }
+    Some(node.send_body(rt, alloc, passes, target, out))
+}
+
+fn method_of(verb: Verb) -> Method {
+    match verb {
+        Verb::Get => Method::GET,
+        Verb::Head => Method::HEAD,
+        Verb::Delete => Method::DELETE,
+    }
+}
+
+/// How the answer to a call ends.
+fn call_of<R: Threads + Wait + Clock + Sync, J: System + Send + Sync>(
+    rt: &R,
+    alloc: Global,
+    node: &Node<R, Faulty, J, NoLink, &Meeting>,
+    passes: &mut [Passes<J>],
+    verb: Verb,
+    target: &[u8],
+    out: &mut FailingWriter,
+) -> Option<Result<Sent, Cut>> {
+    if passes.is_empty() {
+        return None;
+    }
+    let call = Call {
+        method: method_of(verb),
+        target: Vec::from_slice(alloc, target).ok()?,
+        close: false,
+    };
+    Some(node.serve_one(rt, alloc, passes, &call, out))
+}
+
+/// So many bytes, or so much of what is counted, and no answer of a status.
+fn counted(bytes: usize, held: u64) -> Option<Result<Sent, Cut>> {
+    Some(Ok(Sent {
+        status: 0,
+        bytes: bytes as u64,
+        held,
+    }))
+}
+
+/// Answers a connection, and tells the watch.
+fn stream_of<R: Threads + Wait + Clock + Sync, J: System + Send + Sync, V: Watch<R>>(
+    rt: &R,
+    alloc: Global,
+    node: &Node<R, Faulty, J, NoLink, &Meeting>,
+    passes: &mut [Passes<J>],
+    input: Input<'_>,
+    out: &mut FailingWriter,
+    watch: &V,
+) -> Option<Result<Sent, Cut>> {
+    if passes.is_empty() {
+        return None;
+    }
+    let serving = Serving { rt, alloc, watch };
+    node.serve_stream(&serving, passes, Parts::of(input), out);
+    counted(out.taken.len(), 0)
+}
+
+/// Mends the source of the image `a`.
+fn mend<R, J: System>(node: &Node<R, Faulty, J, NoLink, &Meeting>) -> Option<Result<Sent, Cut>> {
+    let entry = node.groups().tiles().images().catalogue().find("a")?;
+    entry.source.mend();
+    counted(0, 0)
+}
+
+/// How many reads were made of the image `a`, as bytes.
+fn read<R, J: System>(node: &Node<R, Faulty, J, NoLink, &Meeting>) -> Option<Result<Sent, Cut>> {
+    let entry = node.groups().tiles().images().catalogue().find("a")?;
+    Some(Ok(Sent {
+        status: 0,
+        bytes: entry.source.reads(),
+        held: 0,
+    }))
+}
+
+/// How many sums a node was asked for, as bytes, and how many it loaded, as what was held.
+fn booked<R: Wait, J: System>(
+    rt: &R,
+    node: &Node<R, Faulty, J, NoLink, &Meeting>,
+) -> Option<Result<Sent, Cut>> {
+    let book = node.groups().sums().book(rt);
+    Some(Ok(Sent {
+        status: 0,
+        bytes: book.gets,
+        held: book.loads,
+    }))
+}
+
+/// How an ask ends.
+fn end_of<R: Threads + Wait + Clock + Sync, J: System + Send + Sync>(
+    rt: &R,
+    alloc: Global,
+    node: &Node<R, Faulty, J, NoLink, &Meeting>,
+    passes: &mut [Passes<J>],
+    seen: &Seen,
+    ask: Ask<'_>,
+    out: &mut FailingWriter,
+) -> Option<Result<Sent, Cut>> {
+    match ask {
+        Ask::Body(target) => body_of(rt, alloc, node, passes, target, out),
+        Ask::Call(verb, target) => call_of(rt, alloc, node, passes, verb, target, out),
+        Ask::Stream(input) => stream_of(rt, alloc, node, passes, input, out, &()),
+        Ask::Watched(input) => stream_of(rt, alloc, node, passes, input, out, &seen.told),
+        Ask::Mend => mend(node),
+        Ask::Sums => booked(rt, node),
+        Ask::Reads => read(node),
+        Ask::Told(counts) => counted(0, u64::from(seen.told.counts() == counts)),
+        Ask::Alone => counted(0, u64::from(seen.gate.alone.load(Ordering::SeqCst))),
+    }
+}
+
+/// Whether an ask comes as it is to.
+pub(crate) fn is_right<R: Threads + Wait + Clock + Sync, J: System + Send + Sync>(
+    rt: &R,
+    alloc: Global,
+    node: &Node<R, Faulty, J, NoLink, &Meeting>,
+    passes: &mut [Passes<J>],
+    seen: &Seen,
+    ask: Ask<'_>,
+    want: Want<'_>,
+) -> bool {
+    let (room, piece) = want.room();
+    let mut out = FailingWriter {
+        taken: Vec::new(alloc),
+        room,
+        piece,
+    };
+    match end_of(rt, alloc, node, passes, seen, ask, &mut out) {
+        Some(end) => want.fits(end, &out.taken),
+        None => false,
+    }
+}

@@ -1,0 +1,220 @@
+//! Nodes over files in memory, and what comes of what they are asked.
+
+ghost use Rattle.std.specs.Prelude.{◌≡◌, ℕ, List, Some};
+ghost use Rattle.iiif_source.specs.declared.ReadFault.{ReadFault};
+ghost use Rattle.iiif_images.specs.Collection.{Item, item_named};
+ghost use Rattle.iiif_images.specs.Named.{gave_of, pictures_of};
+ghost use Rattle.iiif_server.specs.Stocks.{IsStock};
+ghost use Rattle.iiif_server_tests.specs.Fused.{bytes_of, fused_gave, keeps_of};
+
+use crate::server::calls::is_right;
+use crate::server::cases::{Case, Setup, Table, Variant};
+use crate::server::every::{Pictured, asks};
+use crate::server::faulty::Faulty;
+use crate::server::meeting::{Meeting, stock};
+use crate::server::told::Told;
+use iiif_canonical::Limits;
+use iiif_keys::{PARTS, System};
+use iiif_server::{Catalogue, Config, NoLink, Node, Stock};
+use iiif_source::MemSource;
+use iiif_tiff_read::open;
+use std::alloc::Global;
+use std::marker::Brand;
+use std::process::Abort;
+use std::sync::Wait;
+use std::sync::ledger::Blank;
+use std::thread::Threads;
+use std::time::Clock;
+
+/// The gates of a node, and what is told of its answers.
+#[derive(Drop)]
+pub(crate) struct Seen {
+    /// At which tiles meet.
+    pub gate: Meeting,
+    /// The same of sums, which don't wait for one another.
+    pub open: Meeting,
+    pub told: Told,
+}
+
+/// The settings of a node.
+fn settings(alloc: Global, setup: &Setup<'_>) -> Option<Config> {
+    let limits = Limits {
+        max_w: setup.max,
+        max_h: setup.max,
+        upscale: setup.upscale,
+    };
+    let (edge, rows, workers) = (setup.edge, setup.rows, setup.workers);
+    Config::new(alloc, "http://localhost/iiif", edge, limits, rows, workers).ok()
+}
+
+/// The file of a node.
+fn file(alloc: Global, setup: &Setup<'_>) -> Option<Vec<u8>> {
+    let mut file = Vec::from_slice(alloc, setup.file).ok()?;
+    for (place, byte) in setup.changed {
+        *file.get_mut(*place)? = *byte;
+    }
+    Some(file)
+}
+
+/// The images of a node.
+fn images<R>(rt: &R, alloc: Global, setup: &Setup<'_>) -> Option<Catalogue<R, Faulty>> {
+    let name = String::from_str(alloc, setup.name).ok()?;
+    let source = MemSource::new(file(alloc, setup)?);
+    let Ok(layout) = open(rt, alloc, &source) else {
+        return None;
+    };
+    let mut catalogue = Catalogue::new(alloc);
+    match catalogue.add(name, Faulty::new(source, setup.k, setup.once), layout) {
+        Ok(()) => Some(catalogue),
+        Err(_) => None,
+    }
+}
+
+/// How many of these come as they are to, one after another, before the first that doesn't, by so many workers of a node.
+fn right_by_workers<R: Threads + Wait + Clock + Sync, J: System + Send + Sync>(
+    rt: &R,
+    alloc: Global,
+    node: &Node<R, Faulty, J, NoLink, &Meeting>,
+    workers: u32,
+    seen: &Seen,
+    cases: &[Case<'_>],
+) -> Option<usize> {
+    let mut passes = Vec::new(alloc);
+    for _ in 0..workers {
+        passes.push(node.pass(rt)?).ok()?;
+    }
+    let mut right = 0usize;
+    for (ask, want) in cases {
+        if !is_right(rt, alloc, node, &mut passes, seen, *ask, *want) {
+            break;
+        }
+        right = right.saturating_add(1);
+    }
+    Some(right)
+}
+
+/// The same by a new node of these images.
+fn right_by<R: Threads + Wait + Clock + Sync, J: System + Send + Sync>(
+    rt: &R,
+    alloc: Global,
+    config: Config,
+    images: Catalogue<R, Faulty>,
+    tiles: Stock<NoLink, &Meeting>,
+    sums: Stock<NoLink, &Meeting>,
+    workers: u32,
+    seen: &Seen,
+    cases: &[Case<'_>],
+) -> Option<usize>
+    requires pictures { (name : List ℕ) → J.pictures name ≡ pictures_of bytes_of images name }
+    requires gave { (name : List ℕ) (f : ReadFault) → J.gave name f ≡ gave_of fused_gave images name f }
+    requires stable { (name : List ℕ) (item : Item (List ℕ)) → item_named images name ≡ Some item → J.stable name →
+        ∥ keeps_of item.source ∥₁ }
+    requires kept { (name : List ℕ) (item : Item (List ℕ)) → item_named images name ≡ Some item → keeps_of item.source → J.stable name }
+    requires edge { config.edge ≡ J.edge }
+    requires tiles { IsStock J.tiles_name J.tiles_parts tiles }
+    requires sums { IsStock J.sums_name J.sums_parts sums }
+{
+    let node = Node::<R, Faulty, J, NoLink, &Meeting>::new(
+        alloc, config, images, tiles, sums,
+    ).ok()?;
+    right_by_workers(rt, alloc, &node, workers, seen, cases)
+}
+
+/// How many of these come as they are to of one new node, before the first that doesn't.
+fn right_of<R: Threads + Wait + Clock + Sync>(
+    rt: &R,
+    alloc: Global,
+    setup: &Setup<'_>,
+    seen: &Seen,
+    cases: &[Case<'_>],
+) -> Option<usize> {
+    let config = settings(alloc, setup)?;
+    let images = images(rt, alloc, setup)?;
+    let tiles = stock(alloc, setup.bytes, &seen.gate, Blank::new(PARTS))?;
+    let sums = stock(alloc, setup.bytes, &seen.open, Blank::new(PARTS))?;
+    right_by::<R, Brand>(
+        rt,
+        alloc,
+        config,
+        images,
+        tiles,
+        sums,
+        setup.workers,
+        seen,
+        cases,
+    )
+}
+
+/// The first of these that doesn't come as it is to of one new node, or the very first where there is no such node.
+fn first_wrong<R: Threads + Wait + Clock + Sync + AllocGlobal>(
+    rt: &R,
+    setup: &Setup<'_>,
+    cases: &[Case<'_>],
+) -> Option<usize> {
+    let seen = Seen {
+        gate: Meeting::new(setup.turns),
+        open: Meeting::new(0),
+        told: Told::new(),
+    };
+    match right_of(rt, rt.alloc(), setup, &seen, cases) {
+        Some(right) if right == cases.len() => None,
+        Some(right) => Some(right),
+        None => Some(0),
+    }
+}
+
+/// Whether all of these come as they are to of one new node.
+pub(crate) fn are_right<R: Threads + Wait + Clock + Sync + AllocGlobal>(
+    rt: &R,
+    setup: &Setup<'_>,
+    cases: &[Case<'_>],
+) -> bool {
+    first_wrong(rt, setup, cases).is_none()
+}
+
+/// The first variant of a node of which a new one doesn't answer all of these as it is to.
+pub(crate) fn wrong_variant<R: Threads + Wait + Clock + Sync + AllocGlobal>(
+    rt: &R,
+    base: &Setup<'_>,
+    variants: &[Variant],
+    cases: &[Case<'_>],
+) -> Option<Variant> {
+    for variant in variants {
+        let (edge, rows, workers, bytes) = *variant;
+        let setup = Setup {
+            edge,
+            rows,
+            workers,
+            bytes,
+            ..*base
+        };
+        if !are_right(rt, &setup, cases) {
+            return Some(*variant);
+        }
+    }
+    None
+}
+
+/// Whether a new node of each of these variants answers all of these images.
+pub(crate) fn are_answered<R: Threads + Wait + Clock + Sync + AllocGlobal>(
+    rt: &R,
+    base: &Setup<'_>,
+    variants: &[Variant],
+    images: &[Pictured],
+) -> bool {
+    match asks(rt.alloc(), images) {
+        Some(cases) => wrong_variant(rt, base, variants, &cases).is_none(),
+        None => false,
+    }
+}
+
+/// All of these tables' cases come as they are to.
+pub(crate) fn all_are<R: Threads + Wait + Clock + Sync + AllocGlobal + Abort>(
+    rt: &R,
+    tables: &[Table],
+) {
+    for (name, setup, cases) in tables {
+        let wrong = first_wrong(rt, setup, cases);
+        assert!(rt; wrong.is_none(), "{name}: case {wrong:?}");
+    }
+}

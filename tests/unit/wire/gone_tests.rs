@@ -1,0 +1,104 @@
+//! Writers whose reader stays, says that it sends no more, or resets; and one that takes what it is sent too slowly.
+
+use crate::wire::echo::connected;
+use iiif_io::Outlet;
+use iiif_listener::{Flow, Pace, PacedWriter, Rate};
+use std::io::Write;
+use std::net::{Shutdown, TcpStream};
+use std::rt::HostRuntime;
+use std::thread;
+use std::time::Duration;
+
+/// As much as is taken of no one.
+const ANY: Rate = Rate {
+    bytes: 0,
+    period: 30_000,
+};
+
+/// Whether a stream's reader is gone: at once, and where the answer is in the making for longer than is waited.
+fn gone(rt: &HostRuntime, stream: TcpStream) -> Option<(bool, bool)> {
+    let pace = Pace::new(rt, Duration::from_millis(1_000)).ok()?;
+    thread::sleep(rt, Duration::from_millis(50));
+    let mut out = PacedWriter {
+        stream,
+        rt,
+        pace: &pace,
+        patience: Duration::from_millis(60_000),
+        flow: Flow::new(ANY),
+    };
+    let at_once = out.is_gone();
+    out.patience = Duration::from_millis(20);
+    Some((at_once, out.is_gone()))
+}
+
+#[test]
+fn one_who_waits_or_sends_on_is_there(rt: HostRuntime) {
+    for sends in [false, true].iter() {
+        let Some((mut near, far)) = connected(&rt) else {
+            return;
+        };
+        if *sends {
+            assert!(rt; near.write(&[1]).is_ok());
+        }
+        let found = gone(&rt, far);
+        drop(near);
+        assert!(rt; matches!(found, Some((false, false))));
+    }
+}
+
+#[test]
+fn one_who_sends_no_more_is_gone_after_a_while(rt: HostRuntime) {
+    let Some((near, far)) = connected(&rt) else {
+        return;
+    };
+    assert!(rt; near.shutdown(Shutdown::Write).is_ok());
+    let found = gone(&rt, far);
+    drop(near);
+    assert!(rt; matches!(found, Some((false, true))));
+}
+
+/// One who leaves with bytes unread resets; a byte that it sent before hides nothing.
+#[test]
+fn one_who_resets_is_gone(rt: HostRuntime) {
+    let Some((mut near, mut far)) = connected(&rt) else {
+        return;
+    };
+    assert!(rt; near.write(&[1]).is_ok());
+    assert!(rt; far.write(&[1]).is_ok());
+    thread::sleep(&rt, Duration::from_millis(50));
+    drop(near);
+    let found = gone(&rt, far);
+    assert!(rt; matches!(found, Some((true, true))));
+}
+
+/// Writes, the milliseconds and the bytes of each, and whether the answer goes on behind it, at 4 bytes a second over each 3 seconds.
+static WRITES: [&[(u64, u64, bool)]; 4] = [
+    // At the rate, and just below it.
+    &[(1_000, 4, true), (2_000, 8, true), (3_000, 12, true)],
+    &[(1_000, 4, true), (1_999, 7, true), (1, 0, false)],
+    // What took no time pays for nothing.
+    &[
+        (0, 1_000_000, true),
+        (2_999, 0, true),
+        (0, 1_000_000, true),
+        (1, 0, false),
+    ],
+    // One long write is judged by all of its time.
+    &[(10_000, 39, false), (10_000, 40, true)],
+];
+
+#[test]
+fn slow_readers_are_cut_at_the_end_of_a_period(rt: HostRuntime) {
+    for (place, writes) in WRITES.iter().enumerate() {
+        let mut flow = Flow::new(Rate {
+            bytes: 4,
+            period: 3_000,
+        });
+        for (waited, bytes, goes_on) in writes.iter() {
+            assert!(rt;
+                flow.take(*waited, *bytes) == *goes_on,
+                "{place}: {waited} {bytes}"
+            );
+        }
+    }
+}

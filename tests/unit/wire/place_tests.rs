@@ -1,0 +1,198 @@
+//! Places, who is given one, and what a listener does that failed.
+
+use crate::wire::echo::connected;
+use iiif_listener::{
+    Admission, Places, Retry, Seat, SeatState, Table, Ticket, address_of, after_failure,
+    longest_idle,
+};
+use std::alloc::Global;
+use std::io::{ErrorKind, Read};
+use std::net::{IpAddr, Ipv4Addr, Net, TcpListener, TcpStream};
+use std::sync::Wait;
+use std::test::Fail;
+use std::thread;
+use std::thread::{Builder, Threads};
+use std::time::Duration;
+
+/// The tickets of so many connections of one address, of which each may have any number of places.
+fn entered(alloc: Global, table: &mut Table, count: u32) -> Result<Vec<Ticket>, Fail> {
+    let mut tickets = Vec::new(alloc);
+    for _ in 0..count {
+        if let Some(ticket) = table.enter(1, 0) {
+            tickets.push(ticket)?;
+        }
+    }
+    Ok(tickets)
+}
+
+#[test]
+fn sixty_four_places(rt: HostRuntime) -> Result<(), Fail> {
+    let mut table = Table::new();
+    let tickets = entered(rt.alloc(), &mut table, 70)?;
+    assert!(rt; tickets.len() == 64 && table.taken() == 64);
+    let gone = *tickets.get(7).ok_or("no ticket")?;
+    assert!(rt; table.leave(gone) && table.taken() == 63 && !table.keeps(gone));
+    assert!(rt; table.enter(2, 0).is_some() && table.enter(2, 0).is_none());
+    Ok(())
+}
+
+/// Of 64 connections the second waits longest; the first waited longer, and is at work again.
+#[test]
+fn who_waits_longest_makes_room(rt: HostRuntime) -> Result<(), Fail> {
+    let mut table = Table::new();
+    let tickets = entered(rt.alloc(), &mut table, 64)?;
+    let (first, second, third) = match tickets.as_slice() {
+        [first, second, third, ..] => (*first, *second, *third),
+        _ => return Err(Fail::from("no tickets")),
+    };
+    assert!(rt; table.rest(first) && table.rest(second) && table.rest(third) && table.work(first));
+    let one_more = table.enter(2, 0).ok_or("no place")?;
+    assert!(rt; table.keeps(first) && !table.keeps(second) && table.keeps(third));
+    assert!(rt; !table.work(second) && !table.leave(second) && table.keeps(one_more));
+    assert!(rt; table.enter(2, 0).is_some() && !table.keeps(third) && table.enter(2, 0).is_none());
+    Ok(())
+}
+
+#[test]
+fn an_address_has_as_many_as_it_may(rt: HostRuntime) -> Result<(), Fail> {
+    let mut table = Table::new();
+    let first = table.enter(1, 2).ok_or("no place")?;
+    assert!(rt; table.enter(1, 2).is_some() && table.enter(1, 2).is_none());
+    assert!(rt; table.enter(2, 2).is_some() && table.leave(first) && table.enter(1, 2).is_some());
+    Ok(())
+}
+
+/// A place whose connection does this.
+fn seat(standing: SeatState) -> Seat {
+    Seat {
+        number: 1,
+        address: 1,
+        standing,
+    }
+}
+
+#[test]
+fn the_longest_idle(rt: HostRuntime) {
+    let seats = [
+        seat(SeatState::Free),
+        seat(SeatState::Idle(9)),
+        seat(SeatState::AtWork),
+        seat(SeatState::Idle(4)),
+        seat(SeatState::Idle(4)),
+    ];
+    assert!(rt; longest_idle(&seats) == Some(3) && longest_idle(&seats[..2]) == Some(1));
+    assert!(rt; longest_idle(&seats[..1]).is_none() && longest_idle(&[]).is_none());
+}
+
+/// Addresses, and whether connections of both are counted together.
+static ADDRESSES: [(&str, &str, bool); 5] = [
+    ("10.0.0.1", "10.0.0.1", true),
+    ("10.0.0.1", "10.0.0.2", false),
+    ("10.0.0.1", "::ffff:10.0.0.1", true),
+    ("2001:db8::1", "2001:db8::2", true),
+    ("2001:db8::1", "2001:db8:0:1::1", false),
+];
+
+#[test]
+fn addresses_of_one(rt: HostRuntime) -> Result<(), Fail> {
+    for (one, other, same) in ADDRESSES.iter() {
+        let one: IpAddr = one.parse().map_err(|_| "no address")?;
+        let other: IpAddr = other.parse().map_err(|_| "no address")?;
+        assert!(rt; (address_of(one) == address_of(other)) == *same);
+    }
+    Ok(())
+}
+
+#[test]
+fn known_addresses(rt: HostRuntime) -> Result<(), Fail> {
+    let (one, other) = ("10.0.0.1", "::ffff:10.0.0.1");
+    let one: IpAddr = one.parse().map_err(|_| "no address")?;
+    let other: IpAddr = other.parse().map_err(|_| "no address")?;
+    let known = [one];
+    for (known, from, is_known) in [
+        (None, one, true),
+        (Some(known.as_slice()), one, true),
+        (Some(known.as_slice()), other, true),
+        (
+            Some(known.as_slice()),
+            IpAddr::V4(Ipv4Addr::LOCALHOST),
+            false,
+        ),
+        (Some([].as_slice()), one, false),
+    ] {
+        let admission = Admission {
+            per_address: 0,
+            known,
+        };
+        assert!(rt; admission.is_known(from) == is_known);
+    }
+    Ok(())
+}
+
+/// A failure's kind, and what is done.
+static FAILURES: [(ErrorKind, Retry); 7] = [
+    (ErrorKind::ConnectionAborted, Retry::AtOnce),
+    (ErrorKind::ConnectionReset, Retry::AtOnce),
+    (ErrorKind::Interrupted, Retry::AtOnce),
+    (ErrorKind::InvalidInput, Retry::Never),
+    (ErrorKind::OutOfMemory, Retry::Later),
+    (ErrorKind::Uncategorized, Retry::Later),
+    (ErrorKind::WouldBlock, Retry::Later),
+];
+
+#[test]
+fn listener_that_failed_goes_on_unless_it_is_stopped(rt: HostRuntime) {
+    for (kind, retry) in FAILURES.iter() {
+        let right = after_failure(*kind) == *retry;
+        assert!(rt; right, "{kind:?}");
+    }
+}
+
+/// Where all connections of a test come from.
+const HERE: IpAddr = IpAddr::V4(Ipv4Addr::LOCALHOST);
+
+/// A connection whose thread is refused: whether it was started, and the places that are then taken.
+fn refused<R: Threads + Wait + Sync>(rt: &R, places: &Places, stream: TcpStream) -> (bool, usize) {
+    let Some(visit) = places.enter(rt, stream, HERE) else {
+        return (false, 64);
+    };
+    let started = thread::scope(thread::scope_env(), rt, |scope| {
+        Builder::new()
+            .stack_size(usize::MAX)
+            .spawn_scoped(scope, move || drop(visit))
+            .is_ok()
+    });
+    (started, places.taken(rt))
+}
+
+/// Whether the other end is closed.
+fn is_closed(viewer: &mut TcpStream) -> bool {
+    if viewer
+        .set_read_timeout(Some(Duration::from_millis(2000)))
+        .is_err()
+    {
+        return false;
+    }
+    let mut byte = [0u8; 1];
+    match viewer.read(&mut byte) {
+        Ok(count) => count == 0,
+        Err(_) => false,
+    }
+}
+
+/// Whether a connection whose thread is refused is closed.
+fn is_closed_where_refused<
+    R: Net<Listener = TcpListener, Stream = TcpStream> + Threads + Wait + Sync,
+>(rt: &R, alloc: Global) -> bool {
+    match (connected(rt), Places::new(alloc, 0)) {
+        (Some((mut viewer, stream)), Ok(places)) => {
+            refused(rt, &places, stream) == (false, 0) && is_closed(&mut viewer)
+        }
+        _ => false,
+    }
+}
+
+#[test]
+fn connection_without_a_thread_is_closed(rt: HostRuntime) {
+    assert!(rt; is_closed_where_refused(&rt, rt.alloc()));
+}
