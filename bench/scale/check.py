@@ -24,7 +24,7 @@ def same(what, found, wanted):
 
 
 def tests_of(module):
-    return (ROOT / "tests" / "unit" / "flight" / f"{module}.rs").read_text()
+    return (ROOT / "tests" / "unit" / f"{module}.rs").read_text()
 
 
 def bytes_in(module, name):
@@ -33,7 +33,7 @@ def bytes_in(module, name):
 
 
 def owners():
-    body = tests_of("ring_tests")
+    body = tests_of("flight/ring_tests")
     names = [name.encode() for name in re.findall(r'"([^"]+)"', body.split("const NAMES:", 1)[1].split("];", 1)[0])]
     ring = Ring(names)
     pairs = re.findall(r'\(NAMES, b"([^"]+)", (\d+)\)', body)
@@ -41,7 +41,7 @@ def owners():
     for key, place in pairs:
         same(f"owner of {key}", ring.owner(key.encode()), int(place))
     same("owner behind the last point", Ring([b"n", b"m"]).owner(b"wrap-80"), 1)
-    tied = bytes_in("ring_tests", "TIED")
+    tied = bytes_in("flight/ring_tests", "TIED")
     same("owner at a shared point", Ring([b"x", b"1x"]).owner(tied), 1)
     same("owner at a shared point, the other order", Ring([b"1x", b"x"]).owner(tied), 0)
     same("the parts of a ring make the whole", round(sum(Ring(names).shares(len(names))), 12), 1.0)
@@ -49,11 +49,11 @@ def owners():
 
 def keys():
     def wanted(name):
-        return bytes_in("key_tests", name)
+        return bytes_in("flight/key_tests", name)
 
     picture = Image(b"a", 4, 6, 1)
     request = Request(picture, 2, Rect(1, 2, 3, 4), (2, 1))
-    same("key of a tile", request.key(TILE, 0, 0), wanted("TILE"))
+    same("key of a tile", request.key(TILE, 0, 0), bytes_in("fixtures/messages", "FIRST_TILE_KEY"))
     same("key of a sum", request.key(1, 1, 0), wanted("SUM"))
     same("bytes of a tile of 2 by 1", Request(Image(b"a", 2, 1, 1), 2, Rect(0, 0, 2, 1), (2, 1)).value_len(TILE, 0, 0), len(wanted("TILE_VALUE")))
     same("bytes of 1 by 2 sums", Request(Image(b"a", 2, 4, 1), 2, Rect(0, 0, 2, 4), (1, 2)).value_len(1, 0, 0), len(wanted("SUM_VALUE")))

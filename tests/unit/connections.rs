@@ -2,7 +2,6 @@
 //! log, and the words that settings are read from.
 
 mod crowd_tests;
-mod files;
 mod list_tests;
 mod log_tests;
 mod loopback_tests;

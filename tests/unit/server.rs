@@ -12,7 +12,6 @@ mod drawn;
 mod every;
 mod faulty;
 mod file_tests;
-mod files;
 mod job_queue_tests;
 mod law_tests;
 mod meeting;

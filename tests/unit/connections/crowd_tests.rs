@@ -1,9 +1,10 @@
 //! Many viewers at once.
 
-use crate::connections::files::SAMPLE_FILE;
 use crate::connections::nodes::{SAMPLE, Scene, are_known};
 use crate::connections::viewers::{Sends, Text, connected, is_full, is_let_in, is_sent};
 use crate::connections::visits::{Visit, served};
+use crate::fixtures::files::SAMPLE_FILE;
+use crate::fixtures::{is_missing, is_same};
 use iiif_connections::Times;
 use iiif_connections::times::USUAL;
 use std::alloc::Global;
@@ -19,7 +20,7 @@ pub(crate) fn are_let_in_again(rt: &HostRuntime, viewers: &TcpListener) -> bool 
     let is_full = is_full(rt, viewers, &mut open);
     drop(open);
     thread::sleep(rt, Duration::from_millis(1000));
-    is_full && is_let_in(rt, viewers) == Some(true)
+    is_full && is_same(&is_let_in(rt, viewers), &Some(true))
 }
 
 /// The sample on connections that may stay for half a minute.
@@ -42,7 +43,7 @@ fn sixty_four_viewers_are_served_and_one_more_is_closed(rt: HostRuntime) {
 }
 
 #[test]
-fn who_waits_longest_is_closed_for_one_more(rt: HostRuntime) {
+fn viewer_idle_longest_is_closed_for_a_new_one(rt: HostRuntime) {
     assert!(rt; served(&rt, &rt, &LASTING, Visit::Idle).is_some());
 }
 
@@ -113,7 +114,7 @@ pub(crate) fn are_served_beside_stalled(rt: &HostRuntime, viewers: &TcpListener)
     drop(stalled);
     match passed {
         Some(passed) => passed < u128::from(USUAL.stalled),
-        None => false,
+        None => is_missing(),
     }
 }
 

@@ -1,16 +1,16 @@
 //! Many images, of whose files few stay open.
 
-use crate::connections::files::SAMPLE_FILE;
 use crate::connections::nodes::{SAMPLE, Scene};
 use crate::connections::viewers::{Sends, Text, is_sent};
 use crate::connections::visits::{Visit, served};
+use crate::fixtures::files::SAMPLE_FILE;
 use iiif_image_list::ImageList;
 use std::fs;
 use std::net::TcpListener;
 use std::test::Fail;
 
 /// How many images there are where there is room for four open files.
-const MANY: u16 = 300;
+const MANY: u16 = 40;
 
 /// The file of the image of a number: the sample, whose first two samples are the number.
 fn numbered(number: u16) -> [u8; 190] {

@@ -4,6 +4,7 @@ use crate::connections::nodes::{SAMPLE, Scene};
 use crate::connections::pipe::{Pipe, given_to, new_pipe, read_from_now, wait_for_line};
 use crate::connections::viewers::{Sends, Text, connected, is_answered, is_redirected};
 use crate::connections::visits::{ANY, HELD, Visit, logged};
+use crate::fixtures::{has_end, is_same, is_unwanted};
 use http::Method;
 use iiif_connections::{Cause, Cut, Nodes, Sent, Watch, Watcher};
 use iiif_http_front::Call;
@@ -50,7 +51,10 @@ fn is_line(line: &str, front: &str, target: &str) -> bool {
     let Some((first, millis)) = words.rsplit_once(' ') else {
         return false;
     };
-    moment.len() == 24 && first == front && !millis.is_empty() && last == target
+    is_same(&moment.len(), &24)
+        && is_same(&first, &front)
+        && !millis.is_empty()
+        && is_same(&last, &target)
 }
 
 /// Whether a log has just those lines.
@@ -63,7 +67,7 @@ fn has_four_lines(log: &[u8]) -> bool {
             return false;
         }
     }
-    text.lines().count() == 4
+    is_same(&text.lines().count(), &4)
 }
 
 #[test]
@@ -82,7 +86,7 @@ fn call_of(alloc: Global, target: &[u8]) -> Result<Call, Fail> {
     })
 }
 
-/// What a watcher's log has once these answers to a call of this target ended.
+/// The lines of a watcher's log once these answers to a call of this target ended.
 fn log_of<R: Wait + Clock>(
     rt: &R,
     alloc: Global,
@@ -136,7 +140,7 @@ fn odd_bytes_are_escaped_and_cuts_are_told(rt: HostRuntime) -> Result<(), Fail> 
     let log = log_of(&rt, rt.alloc(), b"/a\nb \"\xff", &WHOLE_AND_CUT)?;
     let lines = behind_moments(rt.alloc(), &log)?;
     let wanted = "GET 200 3 0 /a\\x0Ab\\x20\\x22\\xFF\nGET - 5 0 /a\\x0Ab\\x20\\x22\\xFF cut\n";
-    assert!(rt; lines.as_str() == wanted, "{lines}");
+    assert!(rt; is_same(&lines.as_str(), &wanted), "{lines}");
     Ok(())
 }
 
@@ -182,8 +186,9 @@ pub(crate) fn are_served_before_a_reader<R: Wait>(
 /// Whether a log has so many lines, of which the last are these.
 fn has_lines(log: &[u8], count: usize, last: &str) -> bool {
     match str::from_utf8(log) {
-        Ok(text) => text.lines().count() == count && text.ends_with(last),
-        Err(_) => false,
+        Ok(text) => is_same(&text.lines().count(), &count)
+            && has_end(text.as_bytes(), last.as_bytes()),
+        Err(fault) => is_unwanted(&fault),
     }
 }
 

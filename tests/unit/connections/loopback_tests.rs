@@ -1,39 +1,28 @@
 //! Viewers over loopback, and what the node counted for them.
 
-use crate::connections::files::{LARGE_HEAD, SAMPLE_FILE};
 use crate::connections::nodes::{SAMPLE, Scene, are_known};
 use crate::connections::viewers::{Sends, Text};
 use crate::connections::visits::{Visit, served};
+use crate::fixtures::calls::{THREE_ANSWERS, THREE_REQUESTS};
+use crate::fixtures::files::{LARGE_HEAD, SAMPLE_FILE};
 use iiif_connections::Times;
 use iiif_listener::Rate;
 use std::alloc::Global;
 use std::fs;
 use std::test::Fail;
 
-/// Three requests, and what they are answered.
-const REQUESTS: &[u8] =
-    b"GET /iiif/a HTTP/1.1\r\nHost: localhost\r\n\r\nPOST /iiif/a HTTP/1.1\r\nHost: localhost\r\n\r\nHEAD \
-        /iiif/a/full/max/0/default.tif HTTP/1.1\r\nHost: localhost\r\n\r\n";
-
-const ANSWERS: &[u8] =
-    b"HTTP/1.1 303 See Other\r\nAccess-Control-Allow-Origin: *\r\nLocation: http://localhost/iiif/a/info.json\r\n\
-        Content-Length: 0\r\n\r\nHTTP/1.1 405 Method Not Allowed\r\nContent-Type: text/plain\r\n\
-        Access-Control-Allow-Origin: *\r\nAllow: GET, HEAD\r\nContent-Length: 10\r\n\r\nQ2 method\nHTTP/1.1 200 OK\r\n\
-        Content-Type: image/tiff\r\nAccess-Control-Allow-Origin: *\r\nLink: \
-        <http://localhost/iiif/a/full/max/0/default.tif>;rel=\"canonical\"\r\nContent-Length: 190\r\n\r\n";
-
-/// Who makes them, and says that they are the last.
+/// A viewer that sends them, and says that they are the last.
 const THREE: Sends<'static> = Sends {
-    request: REQUESTS,
+    request: THREE_REQUESTS,
     ends: true,
-    wanted: Text::Is(ANSWERS),
+    wanted: Text::Is(THREE_ANSWERS),
 };
 
-/// Who makes them and stays: then the server leaves it in the end.
+/// A viewer that sends them and stays: then the server leaves it in the end.
 const THREE_AND_STAYS: Sends<'static> = Sends {
-    request: REQUESTS,
+    request: THREE_REQUESTS,
     ends: false,
-    wanted: Text::Is(ANSWERS),
+    wanted: Text::Is(THREE_ANSWERS),
 };
 
 /// A refused request, and 10,000 bytes behind it.

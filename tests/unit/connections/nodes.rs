@@ -1,13 +1,7 @@
 //! Nodes that serve over loopback, alone or beside another one, and what they counted.
 
-ghost use Rattle.std.specs.Prelude.{◌≡◌, ℕ, List, Some, false};
-ghost use Rattle.iiif_source.specs.declared.ReadFault.{ReadFault};
-ghost use Rattle.iiif_images.specs.Collection.{item_named};
-ghost use Rattle.iiif_images.specs.Named.{gave_of, pictures_of};
-ghost use Rattle.iiif_start.specs.Stored.{bytes_of, keeps_of, stored_gave};
-ghost use Rattle.iiif_keys.specs.Ledgers.{all_parts};
-
 use crate::connections::pipe::{Inflow, Pipe};
+use crate::fixtures::is_same;
 use iiif_canonical::Limits;
 use iiif_connections::serving::serve;
 use iiif_connections::times::USUAL;
@@ -28,7 +22,7 @@ use std::time::Clock;
 /// The base URL of each node.
 const BASE: &str = "http://localhost/iiif";
 
-/// What a server is made of: each image's name and file, how many of these stay open, and of how many bytes one is held in memory; the side
+/// The setup of a server: each image's name and file, how many of these stay open, and of how many bytes one is held in memory; the side
 /// of its tiles, the address of the node that owns each key, where there is one, and its limits of time; where its statistics are asked
 /// for, and whether it logs. Its own name is `self`.
 #[derive(Clone, Copy)]
@@ -63,7 +57,7 @@ pub(crate) const SAMPLE: Scene<'static, 'static> = Scene {
 /// it out.
 const OWNER: &str = "other85";
 
-/// Who is told of what a scene's node does, with these files held in memory.
+/// The watcher of a scene's node, with these files held in memory.
 pub(crate) fn watcher_of(alloc: Global, scene: &Scene<'_, '_>, held: Held) -> Option<Watcher> {
     let mut peers = Vec::new(alloc);
     if let Some(owner) = scene.owner {
@@ -80,7 +74,7 @@ pub(crate) fn watcher_of(alloc: Global, scene: &Scene<'_, '_>, held: Held) -> Op
 /// How much a group keeps.
 const ROOM: u64 = 1 << 26;
 
-/// What a node counted: of its groups together, and of the whole answers to viewers, by their status.
+/// The counts of a node: of its groups together, and of the whole answers to viewers, by their status.
 #[derive(Clone, Copy, Debug)]
 pub(crate) struct Counts {
     pub gets: u64,
@@ -96,13 +90,13 @@ pub(crate) fn are_known(counts: Option<Counts>, known: &[Option<u64>; 4]) -> boo
         return false;
     };
     let [gets, hits, loads, peer] = *known;
-    gets.unwrap_or(counts.gets) == counts.gets
-        && hits.unwrap_or(counts.hits) == counts.hits
-        && loads.unwrap_or(counts.loads) == counts.loads
-        && peer.unwrap_or(counts.peer) == counts.peer
+    is_same(&gets.unwrap_or(counts.gets), &counts.gets)
+        && is_same(&hits.unwrap_or(counts.hits), &counts.hits)
+        && is_same(&loads.unwrap_or(counts.loads), &counts.loads)
+        && is_same(&peer.unwrap_or(counts.peer), &counts.peer)
 }
 
-/// What a node serves with: its scene, who is told, at which listeners, and where its log goes.
+/// The stage of a node: its scene, who is told, at which listeners, and where its log goes.
 #[derive(Clone, Copy)]
 pub(crate) struct Stage<'a> {
     pub watcher: &'a Watcher,
@@ -110,7 +104,7 @@ pub(crate) struct Stage<'a> {
     pub pipe: &'a Pipe,
 }
 
-/// What a node, and who is told of its answers, counted so far.
+/// The counts of a node and of its watcher so far.
 fn counted<R: Opens + Wait, J: System, N>(
     rt: &R,
     node: &Node<R, Stored<R>, J, N>,
@@ -169,7 +163,7 @@ where
     }
 }
 
-/// The same by a node of these settings and images that asks no other.
+/// Serves by a node of these settings and images that asks no other.
 fn serve_alone<R, J>(
     rt: &R,
     alloc: Global,
@@ -184,20 +178,12 @@ where
     R: Opens + Net<Listener = TcpListener, Stream = TcpStream> + Threads + Wait + Clock + Sync,
     R::Handle: Send + Sync,
     J: System + Send + Sync,
-    requires pictures { (name : List ℕ) → J.pictures name ≡ pictures_of (bytes_of R.holds) catalogue name }
-    requires gave { (name : List ℕ) (f : ReadFault) → J.gave name f ≡ gave_of stored_gave catalogue name f }
-    requires stable { (name : List ℕ) (item : _) → item_named catalogue name ≡ Some item → J.stable name →
-        ∥ keeps_of R.keeps item.source ∥₁ }
-    requires kept { (name : List ℕ) (item : _) → item_named catalogue name ≡ Some item → keeps_of R.keeps item.source → J.stable name }
-    requires edge { config.edge ≡ J.edge }
-    requires tiles { (tiles.name ≡ J.tiles_name) × (tiles.parts ≡ J.tiles_parts) × (J.tiles_parts ≡ all_parts) }
-    requires sums { (sums.name ≡ J.sums_name) × (sums.parts ≡ J.sums_parts) × (J.sums_parts ≡ all_parts) }
 {
     let node = Node::<R, Stored<R>, J>::alone(alloc, config, catalogue, ROOM, tiles, sums).ok()?;
     serve_by(rt, alloc, &node, times, stage)
 }
 
-/// The same by a node among others.
+/// Serves by a node among others.
 fn serve_among<R, J>(
     rt: &R,
     alloc: Global,
@@ -212,15 +198,6 @@ where
     R: Opens + Net<Listener = TcpListener, Stream = TcpStream> + Threads + Wait + Clock + Sync,
     R::Handle: Send + Sync,
     J: System + Send + Sync,
-    requires pictures { (name : List ℕ) → J.pictures name ≡ pictures_of (bytes_of R.holds) catalogue name }
-    requires gave { (name : List ℕ) (f : ReadFault) → J.gave name f ≡ gave_of stored_gave catalogue name f }
-    requires stable { (name : List ℕ) (item : _) → item_named catalogue name ≡ Some item → J.stable name →
-        ∥ keeps_of R.keeps item.source ∥₁ }
-    requires kept { (name : List ℕ) (item : _) → item_named catalogue name ≡ Some item → keeps_of R.keeps item.source → J.stable name }
-    requires edge { config.edge ≡ J.edge }
-    requires honest { J.honest ≡ false }
-    requires tiles { (tiles.name ≡ J.tiles_name) × (tiles.parts ≡ J.tiles_parts) × (J.tiles_parts ≡ all_parts) }
-    requires sums { (sums.name ≡ J.sums_name) × (sums.parts ≡ J.sums_parts) × (J.sums_parts ≡ all_parts) }
 {
     let watcher = stage.watcher;
     let blanks = (tiles, sums);

@@ -1,11 +1,16 @@
 //! Nodes that ask each other, and nodes whose peers lie, drip, are silent or gone.
 
-use crate::connections::files::DEEP;
 use crate::connections::nodes::{Counts, SAMPLE, Scene, Stage, are_known, serve_told, watcher_of};
-use crate::connections::peers::{Asked, CHANGED, HALVED, LIMIT, OTHER, RIGHT, WIDE, Way};
+use crate::connections::peers::{Asked, HALVED, LIMIT};
 use crate::connections::pipe::new_pipe;
 use crate::connections::viewers::{Sends, Text, address_of};
 use crate::connections::visits::{ANY, HELD, Visit, listeners_of, served, visited};
+use crate::fixtures::files::DEEP_HIGH_FIRST;
+use crate::fixtures::messages::{
+    CHANGED_REPLY, OTHER_TILE_REPLY,
+    TILE_REPLY, WIDE_REPLY,
+};
+use crate::fixtures::peers::Way;
 use iiif_connections::Times;
 use iiif_connections::times::USUAL;
 use iiif_listener::stop;
@@ -99,7 +104,7 @@ where
     }
 }
 
-/// The same of any listeners.
+/// Counts them for any listeners.
 fn taken_by_both<R>(rt: &R, host: &HostRuntime) -> Option<u64>
 where
     R: Opens
@@ -140,9 +145,9 @@ const OF_CORNER: Asked = Asked {
     taken: 0,
 };
 
-/// The same of a peer whose value is right.
+/// A peer whose value is right.
 const OF_RIGHT: Asked = Asked {
-    way: Way::Sends(RIGHT),
+    way: Way::Sends(TILE_REPLY),
     entered: 1,
     taken: 1,
     ..OF_CORNER
@@ -161,18 +166,18 @@ const OF_DEEP: Asked = Asked {
     taken: 0,
 };
 
-/// What is asked of peers of any kind.
+/// Peers of each kind.
 static WAYS: [Asked; 8] = [
     Asked {
-        way: Way::Sends(CHANGED),
+        way: Way::Sends(CHANGED_REPLY),
         ..OF_CORNER
     },
     Asked {
-        way: Way::Sends(OTHER),
+        way: Way::Sends(OTHER_TILE_REPLY),
         ..OF_CORNER
     },
     Asked {
-        way: Way::Sends(WIDE),
+        way: Way::Sends(WIDE_REPLY),
         ..OF_CORNER
     },
     OF_CORNER,
@@ -188,7 +193,7 @@ static WAYS: [Asked; 8] = [
     OF_DEEP,
 ];
 
-/// What a node counted whose peer owns every key and does so with the only ask, where it asked well and answered what is wanted.
+/// The counts of a node whose peer owns every key and does so with the only ask, where it asked well and answered what is wanted.
 fn beside_owner<R>(rt: &R, host: &HostRuntime, asked: &Asked) -> Option<Counts>
 where
     R: Opens
@@ -216,16 +221,16 @@ where
 
 #[test]
 fn peer_of_any_kind_leaves_the_answer_right(rt: HostRuntime) -> Result<(), Fail> {
-    fs::write(&rt, "sixteen.tif", &DEEP)?;
+    fs::write(&rt, "sixteen.tif", &DEEP_HIGH_FIRST)?;
     for asked in &WAYS {
         let counts = beside_owner(&rt, &rt, asked);
         let known = [Some(asked.entered), None, None, Some(asked.taken)];
-        assert!(rt; are_known(counts, &known), "{counts:?}");
+        assert!(rt; are_known(counts, &known), "{:?}: {counts:?}", asked.way);
     }
     Ok(())
 }
 
-/// What a node counted that is asked for a tile, and whose viewer sends this, beside a node that is gone and owns every key. Its listener
+/// The counts of a node that is asked for a tile, and whose viewer sends this, beside a node that is gone and owns every key. Its listener
 /// is stopped and stays: nobody is at its address, and nobody else gets it meanwhile.
 fn beside_a_dead_one<R>(rt: &R, host: &HostRuntime, sends: &Sends<'_>) -> Option<Counts>
 where
@@ -248,7 +253,7 @@ where
     served(rt, host, &scene, Visit::NodeAndViewer(sends))
 }
 
-/// What a viewer sends, and what is counted. The owner is gone, and wasn't asked for the node's ask; for the viewer the tile was there
+/// A request of a viewer, and the counts. The owner is gone, and wasn't asked for the node's ask; for the viewer the tile was there
 /// already.
 static BESIDE_A_DEAD_ONE: [(Sends<'static>, [Option<u64>; 4]); 2] = [
     (CORNER, [Some(2), Some(1), Some(1), Some(0)]),

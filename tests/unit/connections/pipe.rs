@@ -6,7 +6,7 @@ use std::io;
 use std::io::Write;
 use std::sync::{Condvar, Mutex, Wait};
 
-/// What a writer was given, and whether somebody reads it.
+/// The bytes that a writer was given, and whether somebody reads them.
 #[derive(Drop)]
 struct Given {
     taken: Vec<u8>,
@@ -85,7 +85,7 @@ pub(crate) fn read_from_now<R: Wait>(rt: &R, pipe: &Pipe) {
     pipe.more.notify_all();
 }
 
-/// What it was given.
+/// The bytes that it was given.
 pub(crate) fn given_to(pipe: Pipe) -> Vec<u8> {
     let Pipe { given, .. } = pipe;
     let Given { taken, .. } = given.into_inner();

@@ -1,24 +1,27 @@
-//! What is set where words leave it out, and the lines of a program that ends while it runs.
+//! Settings that words leave out, and the lines of a program that ends while it runs.
 
-use crate::fixtures::is_same;
+use crate::fixtures::{is_same, is_same_text};
 use iiif_command_line::{Options, matches, options_in};
 use iiif_start::Stop;
 
 const BASE: &str = "http://localhost/iiif";
 
-/// What is set where the words name the images and a target alone: the edge, the greatest side, the bytes of a cache, those of a file that
-/// is held, the rows of a band, the workers, the files that stay open, and the memory that is written to at the start.
+/// Checks the settings where the words name the images and a target alone: the edge, the greatest side, the bytes of a cache, those of a
+/// file that is held, the rows of a band, the workers, the files that stay open, and the memory that is written to at the start.
 fn are_left_out(options: &Options<'_>) -> bool {
     let sides = is_same(&(options.edge, options.max), &(256, 4096));
     let shares = is_same(&(options.band, options.workers), &(64, 2));
-    let bounds = is_same(&(options.cache_bytes, options.open_files.get()), &(67_108_864, 256));
+    let bounds = is_same(
+        &(options.cache_bytes, options.open_files.get()),
+        &(67_108_864, 256),
+    );
     let memory = is_same(&(options.hold, options.touch_bytes), &(0, 0));
     let rest = is_same(&(options.upscale, options.name), &(false, "self"));
     sides && shares && bounds && memory && rest
 }
 
 #[test]
-fn settings_that_are_left_out(rt: HostRuntime) {
+fn settings_left_out_have_their_defaults(rt: HostRuntime) {
     let words = [
         "--base",
         BASE,
@@ -49,6 +52,9 @@ fn program_that_ends_while_it_runs_says_why(rt: HostRuntime) {
     for (stop, line) in ENDS.iter().copied() {
         let mut err = Vec::new(rt.alloc());
         let status = stop.report(&mut err);
-        assert!(rt; status == 1 && err.as_slice() == line, "{stop:?}");
+        assert!(rt;
+            is_same(&status, &1) && is_same_text(err.as_slice(), line),
+            "{stop:?}"
+        );
     }
 }

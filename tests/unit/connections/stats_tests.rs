@@ -1,8 +1,9 @@
-//! What a node tells who asks for its statistics.
+//! Statistics of a node.
 
 use crate::connections::nodes::{SAMPLE, Scene};
 use crate::connections::viewers::{Sends, Text, is_full, is_sent, sent};
 use crate::connections::visits::{ANY, One, Visit, served};
+use crate::fixtures::{has_start, is_missing, is_same};
 use iiif_services::Listeners;
 use std::alloc::Global;
 use std::net::TcpListener;
@@ -35,7 +36,7 @@ fn has_all(text: &[u8], lines: &[&str]) -> bool {
     true
 }
 
-/// What the statistics' listener answers once it has these lines.
+/// The answer of the statistics' listener once it has these lines.
 fn told(rt: &HostRuntime, listeners: &Listeners, lines: &[&str]) -> Option<Vec<u8>> {
     let statistics = listeners.statistics.as_ref()?;
     for _ in 0..200u32 {
@@ -48,7 +49,7 @@ fn told(rt: &HostRuntime, listeners: &Listeners, lines: &[&str]) -> Option<Vec<u
     None
 }
 
-/// What is told once that was answered. The image has four tiles, each of which is loaded once and then found.
+/// The lines once that was answered. The image has four tiles, each of which is loaded once and then found.
 static LINES: [&str; 20] = [
     "\niiif_peer_ask_seconds_count 0\n",
     "\niiif_tile_cache_gets_total 8\n",
@@ -77,8 +78,10 @@ fn tells(alloc: Global, told: &[u8], bytes: usize) -> bool {
     let Ok(line) = format!(in alloc; "\niiif_answer_bytes_total {bytes}\n") else {
         return false;
     };
-    told.starts_with(b"HTTP/1.1 200 OK\r\nContent-Type: text/plain; version=0.0.4\r\n")
-        && has_all(told, &[line.as_str()])
+    has_start(
+        told,
+        b"HTTP/1.1 200 OK\r\nContent-Type: text/plain; version=0.0.4\r\n",
+    ) && has_all(told, &[line.as_str()])
         && has_all(told, &LINES)
         && !has_all(told, &["\niiif_tile_cache_bytes 0\n"])
 }
@@ -99,7 +102,7 @@ pub(crate) fn are_counted(rt: &HostRuntime, listeners: &Listeners) -> bool {
         &["\niiif_connections_open{listener=\"viewers\"} 0\n"],
     ) {
         Some(told) => tells(rt.alloc(), &told, bytes),
-        None => false,
+        None => is_missing(),
     }
 }
 
@@ -170,18 +173,18 @@ pub(crate) fn are_others_refused(rt: &HostRuntime, listeners: &Listeners) -> boo
 fn health_is_told_and_other_targets_and_methods_are_refused(rt: HostRuntime) {
     // Those who ask for the statistics are no viewers.
     match served(&rt, &rt, &WATCHED, Visit::ForOthers) {
-        Some(counts) => assert!(rt; counts.whole == [0; 8]),
+        Some(counts) => assert!(rt; is_same(&counts.whole, &[0; 8])),
         None => assert!(rt; false, "not refused"),
     }
 }
 
-/// What is told once 64 viewers are connected and were answered. An answer is counted behind its last byte.
+/// The lines once 64 viewers are connected and were answered. An answer is counted behind its last byte.
 static CROWD: [&str; 2] = [
     "\niiif_connections_open{listener=\"viewers\"} 64\n",
     "\niiif_answers_total{status=\"303\"} 64\n",
 ];
 
-/// What is told with it of one more who was closed: that is counted before it is closed, so nobody waits for it.
+/// The line of one more viewer that was closed: that is counted before it is closed, so nobody waits for it.
 static REFUSED: [&str; 2] = [
     "\niiif_connections_refused_total{listener=\"viewers\"} 1\n",
     "\niiif_connections_refused_total{listener=\"peers\"} 0\n",
@@ -195,7 +198,7 @@ pub(crate) fn are_counted_when_full(rt: &HostRuntime, listeners: &Listeners) -> 
     }
     match told(rt, listeners, &CROWD) {
         Some(answer) => has_all(&answer, &REFUSED),
-        None => false,
+        None => is_missing(),
     }
 }
 

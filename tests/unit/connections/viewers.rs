@@ -1,5 +1,6 @@
 //! Connections of who visits a node, and what is sent back.
 
+use crate::fixtures::{has_end, has_start, is_same, is_same_text};
 use std::alloc::Global;
 use std::fmt::Write as _;
 use std::io::{Read, Write};
@@ -7,7 +8,7 @@ use std::net::{Shutdown, TcpListener, TcpStream};
 use std::thread;
 use std::time::Duration;
 
-/// What bytes are to be.
+/// Wanted bytes.
 #[derive(Clone, Copy)]
 pub(crate) enum Text<'a> {
     /// These.
@@ -22,9 +23,9 @@ impl<'a> Text<'a> {
     /// Whether bytes are what they are to be.
     pub(crate) fn fits(self, bytes: &[u8]) -> bool {
         match self {
-            Text::Is(wanted) => bytes == wanted,
-            Text::Long(count) => bytes.len() == count,
-            Text::Framed(first, last) => bytes.starts_with(first) && bytes.ends_with(last),
+            Text::Is(wanted) => is_same_text(bytes, wanted),
+            Text::Long(count) => is_same(&bytes.len(), &count),
+            Text::Framed(first, last) => has_start(bytes, first) && has_end(bytes, last),
         }
     }
 }
@@ -48,7 +49,7 @@ pub(crate) fn connected(rt: &HostRuntime, listener: &TcpListener) -> Option<TcpS
     Some(stream)
 }
 
-/// What is sent to a node, whether that is said to be the last, and what is to come back.
+/// A request to a node, whether it is said to be the last, and the wanted answer.
 #[derive(Clone, Copy)]
 pub(crate) struct Sends<'a> {
     pub request: &'a [u8],
@@ -145,15 +146,17 @@ fn all_begin(rt: &HostRuntime, open: &mut Vec<TcpStream>) -> bool {
 
 /// Whether 64 viewers are answered that stay and begin to ask again, and one more isn't.
 pub(crate) fn is_full(rt: &HostRuntime, listener: &TcpListener, open: &mut Vec<TcpStream>) -> bool {
-    answered_of_64(rt, listener, open) == Some(64)
+    is_same(&answered_of_64(rt, listener, open), &Some(64))
         && all_begin(rt, open)
-        && is_let_in(rt, listener) == Some(false)
+        && is_same(&is_let_in(rt, listener), &Some(false))
 }
 
 /// Whether a connection is closed.
 fn is_closed(viewer: &mut TcpStream) -> bool {
     let mut byte = [0u8; 1];
-    viewer.read(&mut byte).is_ok_and(|count| count == 0)
+    viewer
+        .read(&mut byte)
+        .is_ok_and(|count| is_same(&count, &0))
 }
 
 /// Whether 64 viewers are answered that stay, and one more is answered, for whom the first one's connection is closed and the last one's

@@ -1,10 +1,12 @@
-//! What is done with a node while it serves over loopback, and what comes of it.
+//! Visits of a node while it serves over loopback.
 
 use crate::connections::crowd_tests::{are_let_in_again, are_served_beside_stalled};
 use crate::connections::list_tests::are_all_answered;
 use crate::connections::log_tests::are_served_before_a_reader;
 use crate::connections::nodes::{Counts, Scene, Stage, serve_told, watcher_of};
-use crate::connections::peers::{Asked, are_asked_and_answered, are_both_halved, are_replied_and_sent};
+use crate::connections::peers::{
+    Asked, are_asked_and_answered, are_both_halved, are_replied_and_sent,
+};
 use crate::connections::pipe::{Pipe, given_to, new_pipe};
 use crate::connections::stats_tests::{are_counted, are_counted_when_full, are_others_refused};
 use crate::connections::viewers::{Sends, give_way, is_sent};
@@ -18,7 +20,7 @@ use std::thread;
 use std::thread::Threads;
 use std::time::Clock;
 
-/// What is told to be held.
+/// The files that are told to be held.
 pub(crate) const HELD: Held = Held {
     images: 3,
     bytes: 456,
@@ -32,7 +34,7 @@ pub(crate) enum One {
     Statistics,
 }
 
-/// Who visits a node, and what is to come of it.
+/// A visit of a node.
 #[derive(Clone, Copy)]
 pub(crate) enum Visit<'a> {
     /// A viewer sends this, and is sent back what is wanted.
@@ -51,7 +53,7 @@ pub(crate) enum Visit<'a> {
     Counted,
     /// Sixty-four viewers who ask and one more, and who asks for the statistics meanwhile.
     CountedWhenFull,
-    /// Who asks where the statistics are for something else.
+    /// A client that asks where the statistics are for something else.
     ForOthers,
     /// One of the listeners ends.
     Ends(One),
@@ -150,7 +152,7 @@ where
     )
 }
 
-/// What a scene's node counted during a visit that went as it was to; its log goes into this pipe.
+/// The counts of a scene's node during a visit that went as it was to; its log goes into this pipe.
 pub(crate) fn logged<R>(
     rt: &R,
     host: &HostRuntime,
@@ -181,7 +183,7 @@ where
     }
 }
 
-/// The same, where nothing is written to the log.
+/// Serves a visit, where nothing is written to the log.
 pub(crate) fn served<R>(
     rt: &R,
     host: &HostRuntime,

@@ -1,5 +1,6 @@
 //! Lines at which the replay of a text ends.
 
+use crate::fixtures::{is_same, is_unwanted, is_written};
 use iiif_event_list::{Stop, replay};
 use std::alloc::Global;
 
@@ -51,15 +52,7 @@ static BAD: [(&str, u64); 29] = [
 
 /// Whether the replay of a text ends at the line of this number.
 fn ends_at(alloc: Global, text: &str, line: u64) -> bool {
-    stop_of(alloc, text) == Some(Stop::Line(line))
-}
-
-/// Whether a stop is written so.
-fn is_said(alloc: Global, stop: Stop, text: &str) -> bool {
-    match format!(in alloc; "{stop}") {
-        Ok(said) => said.as_str() == text,
-        Err(_) => false,
-    }
+    is_same(&stop_of(alloc, text), &Some(Stop::Line(line)))
 }
 
 #[test]
@@ -68,5 +61,5 @@ fn bad_lines_are_named_by_their_numbers(rt: HostRuntime) {
         assert!(rt; ends_at(rt.alloc(), text, *line), "{text}");
     }
     assert!(rt; stop_of(rt.alloc(), "# edge\n\nedge 1\nroom 9\n").is_none());
-    assert!(rt; is_said(rt.alloc(), Stop::Line(3), "line 3"));
+    assert!(rt; is_written(rt.alloc(), &Stop::Line(3), "line 3"));
 }

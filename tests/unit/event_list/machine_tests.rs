@@ -1,5 +1,6 @@
 //! Each public function of `iiif_machine` once, and the numbers of faults.
 
+use crate::fixtures::{is_same, is_unwanted, is_written};
 use iiif_machine::{Numbers, WorldFault, laws};
 use iiif_world::starting::SetupFault;
 use std::alloc::Global;
@@ -7,8 +8,8 @@ use std::alloc::Global;
 /// Whether numbers are as given.
 fn are_kept(alloc: Global) -> bool {
     match Vec::from_slice(alloc, [3usize, 5].as_slice()) {
-        Ok(items) => Numbers::new(items).items() == [3usize, 5].as_slice(),
-        Err(_) => false,
+        Ok(items) => is_same(&Numbers::new(items).items(), &[3usize, 5].as_slice()),
+        Err(fault) => is_unwanted(&fault),
     }
 }
 
@@ -28,19 +29,18 @@ fn numbers_are_as_given(rt: HostRuntime) {
 
 /// Whether a fault has this number and is written so.
 fn is_said(alloc: Global, fault: WorldFault, number: u8, text: &str) -> bool {
-    match format!(in alloc; "{fault}") {
-        Ok(said) => fault.number() == number && said.as_str() == text,
-        Err(_) => false,
-    }
+    is_same(&fault.number(), &number) && is_written(alloc, &fault, text)
 }
 
 #[test]
-fn numbers_and_texts_of_the_faults(rt: HostRuntime) {
+fn faults_have_their_numbers_and_texts(rt: HostRuntime) {
     assert!(rt; is_said(rt.alloc(), WorldFault::NotNow, 1, "not now"));
     assert!(rt; is_said(rt.alloc(), WorldFault::NoMemory, 2, "out of memory"));
 }
 
 #[test]
-fn numbers_of_the_faults_of_a_beginning(rt: HostRuntime) {
-    assert!(rt; SetupFault::Room.number() == 2 && SetupFault::NoMemory.number() == 5);
+fn setup_faults_have_their_numbers(rt: HostRuntime) {
+    assert!(rt;
+        is_same(&SetupFault::Room.number(), &2) && is_same(&SetupFault::NoMemory.number(), &5)
+    );
 }

@@ -1,5 +1,6 @@
 //! Lists of events of which a growth of memory is refused: the world is as it was, and the list goes on to its own answers.
 
+use crate::fixtures::is_same;
 use iiif_event_list::describing::Description;
 use iiif_event_list::fault::LineFault;
 use iiif_event_list::reading::event;
@@ -22,7 +23,7 @@ pub(crate) fn begun(alloc: Global, lines: &str) -> Result<World, LineFault> {
     description.begin(alloc)
 }
 
-/// The same, once more where memory was refused.
+/// Does so once more where memory was refused.
 fn begun_again(alloc: Global, lines: &str) -> Result<World, LineFault> {
     match begun(alloc, lines) {
         Ok(world) => Ok(world),
@@ -47,7 +48,7 @@ fn rows_again(alloc: Global, world: &World) -> Result<String, NoMemory> {
 
 /// Whether the world's rows are as they were.
 fn has_rows(alloc: Global, world: &World, before: &str) -> Result<bool, NoMemory> {
-    Ok(rows(alloc, world)?.as_str() == before)
+    Ok(is_same(&rows(alloc, world)?.as_str(), &before))
 }
 
 /// Whether an event is done that is allowed. Where memory is refused nothing has changed, and it is done when it comes again.
@@ -70,7 +71,7 @@ fn is_done(alloc: Global, world: &mut World, event: &Event) -> Result<bool, NoMe
 
 /// Whether these are the answers of a world.
 fn has_answers(alloc: Global, world: &World, text: &str) -> Result<bool, NoMemory> {
-    Ok(answers(alloc, world)?.as_str() == text)
+    Ok(is_same(&answers(alloc, world)?.as_str(), &text))
 }
 
 /// Whether these are the answers after the events of lines, in the world that others describe.
@@ -89,7 +90,7 @@ fn answers_after(alloc: Global, world: &str, events: &str, text: &str) -> Result
 pub(crate) const CROSSED: &str =
     "edge 1; picture p gray 8 1 1 7; node a 2 1000 8 b; node b 2 1000 8 a";
 
-/// The same of a picture of 16 bits, and the second node of version 1.
+/// A world with a picture of 16 bits, and the second node of version 1.
 pub(crate) const DEEP: &str =
     "edge 1; picture p gray 16 1 1 700; node a 2 1000 8 b; node b 1 1000 8 a";
 

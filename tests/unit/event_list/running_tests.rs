@@ -1,6 +1,8 @@
 //! Lists of events run as one, and worlds that can't begin.
 
 use crate::event_list::refused_tests::{CROSSED, DEEP, begun, event_of};
+use crate::fixtures::names::name;
+use crate::fixtures::{is_missing, is_same};
 use iiif_canonical::Limits;
 use iiif_event_list::fault::LineFault;
 use iiif_event_list::values::put_answer;
@@ -57,7 +59,7 @@ fn ran(
 /// Whether a list runs to its end, and these are its answers.
 fn runs_to(alloc: Global, world: &str, events: &str, answers: &str) -> bool {
     match ran(alloc, world, events) {
-        Ok(Ok(text)) => text.as_str() == answers,
+        Ok(Ok(text)) => is_same(&text.as_str(), &answers),
         _ => false,
     }
 }
@@ -65,7 +67,7 @@ fn runs_to(alloc: Global, world: &str, events: &str, answers: &str) -> bool {
 /// Whether the first event of a list that isn't allowed has this place.
 fn stops_at(alloc: Global, world: &str, events: &str, place: usize) -> bool {
     match ran(alloc, world, events) {
-        Ok(Err(stopped)) => stopped == (place, WorldFault::NotNow),
+        Ok(Err(stopped)) => is_same(&stopped, &(place, WorldFault::NotNow)),
         _ => false,
     }
 }
@@ -122,15 +124,6 @@ fn first_event_that_is_not_allowed_is_named(rt: HostRuntime) {
     for (world, events, place) in STOPS.iter() {
         assert!(rt; stops_at(rt.alloc(), world, events, *place), "{events}");
     }
-}
-
-/// The name of a text that is one.
-fn name(alloc: Global, text: &str) -> Option<Name> {
-    let text = String::from_str(alloc, text).ok()?;
-    if !is_name(text.as_str()) {
-        return None;
-    }
-    Name::new(text).ok()
 }
 
 /// A ring that names one node.
@@ -197,8 +190,8 @@ fn fault_of(alloc: Global, start: &Start) -> Option<Option<SetupFault>> {
 /// Whether a world begins, or has the fault that it is to have.
 fn is_right(alloc: Global, start: &Start) -> bool {
     match fault_of(alloc, start) {
-        Some(fault) => fault == start.fault,
-        None => false,
+        Some(fault) => is_same(&fault, &start.fault),
+        None => is_missing(),
     }
 }
 

@@ -1,23 +1,21 @@
 //! Each public function of `iiif_scene` once.
 
+use crate::fixtures::is_same;
+use crate::fixtures::names::name;
 use iiif_keys::{Name, SumKey, TileKey, is_name};
 use iiif_pixel::{Dim, Rect};
 use iiif_scene::{Key, laws};
 use std::alloc::Global;
 
 /// A copy of a name.
-fn name(alloc: Global) -> Option<Name> {
-    let text = String::from_str(alloc, "a").ok()?;
-    if !is_name(text.as_str()) {
-        return None;
-    }
-    Name::new(text).ok()?.copy().ok()
+fn copied_name(alloc: Global) -> Option<Name> {
+    name(alloc, "a")?.copy().ok()
 }
 
 /// A copy of a sum's key.
 fn sum(alloc: Global) -> Option<Key> {
     let sum = SumKey {
-        name: name(alloc)?,
+        name: copied_name(alloc)?,
         edge: 2,
         rect: Rect {
             x: 0,
@@ -36,7 +34,7 @@ fn sum(alloc: Global) -> Option<Key> {
 /// A copy of a tile's key.
 fn tile(alloc: Global) -> Option<Key> {
     let tile = TileKey {
-        name: name(alloc)?,
+        name: copied_name(alloc)?,
         edge: 2,
         tx: 1,
         ty: 0,
@@ -47,7 +45,9 @@ fn tile(alloc: Global) -> Option<Key> {
 /// Whether a copy of a sum's key is equal.
 fn sum_is_copied(alloc: Global) -> bool {
     match sum(alloc) {
-        Some(Key::Sum(key)) => key.level == 1 && key.size.w == 2 && key.rect.h == 4,
+        Some(Key::Sum(key)) => is_same(&key.level, &1)
+            && is_same(&key.size.w, &2)
+            && is_same(&key.rect.h, &4),
         _ => false,
     }
 }
@@ -55,7 +55,9 @@ fn sum_is_copied(alloc: Global) -> bool {
 /// Whether a copy of a tile's key is equal.
 fn tile_is_copied(alloc: Global) -> bool {
     match tile(alloc) {
-        Some(Key::Tile(key)) => key.edge == 2 && key.tx == 1 && key.ty == 0,
+        Some(Key::Tile(key)) => is_same(&key.edge, &2)
+            && is_same(&key.tx, &1)
+            && is_same(&key.ty, &0),
         _ => false,
     }
 }

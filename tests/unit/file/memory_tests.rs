@@ -1,10 +1,9 @@
 //! Sources of files in memory, which keep their bytes: two by their names, and one where each read fails in turn.
 
-ghost use Rattle.std.specs.Prelude.{◌≡◌, ◌∷◌, []};
-
 use crate::file::steps::{
     Ask, Bytes, Outcome, Place, all_answer, bytes_of, is_answered, open, open_files,
 };
+use crate::fixtures::is_same;
 use iiif_open_files::{Contents, Failing, MemFile, MemFiles, Opens, PathSource};
 use iiif_source::ReadFault;
 use std::alloc::Global;
@@ -12,7 +11,7 @@ use std::marker::Brand;
 use std::sync::Wait;
 use std::test::Fail;
 
-/// What two files of one length are asked, in turn.
+/// Reads of two files of one length, in turn.
 static BY_NAME: [(usize, Ask); 8] = [
     (0, Ask::Two(1, Ok([2, 1]))),
     (1, Ask::Two(1, Ok([5, 6]))),
@@ -30,19 +29,16 @@ fn two_answer<R: Opens + Wait>(rt: &R, alloc: Global) -> Result<bool, Fail> {
     let mut sources = Vec::new(alloc);
     sources.push(open(rt, alloc, &files, "1")??)?;
     sources.push(open(rt, alloc, &files, "2")??)?;
-    Ok(all_answer(rt, &sources, &BY_NAME, 1) && files.kept(rt) == 1)
+    Ok(all_answer(rt, &sources, &BY_NAME, 1) && is_same(&files.kept(rt), &1))
 }
 
-/// The same of files in memory.
+/// Reads two files in memory so.
 fn two_in_memory<W: Wait, C: Contents>(
     host: &W,
     alloc: Global,
     one: Vec<u8>,
     two: Vec<u8>,
-) -> Result<bool, Fail>
-    requires one { one.items ≡ C.content (49 ∷ []) }
-    requires two { two.items ≡ C.content (50 ∷ []) }
-{
+) -> Result<bool, Fail> {
     let mut held = Vec::new(alloc);
     held.push(MemFile::<C>::new(String::from_str(alloc, "1")?, one))?;
     held.push(MemFile::<C>::new(String::from_str(alloc, "2")?, two))?;
@@ -57,7 +53,7 @@ fn two_files_in_memory_are_told_apart(rt: HostRuntime) -> Result<(), Fail> {
     Ok(())
 }
 
-/// What a file of rows of 100 bytes is asked. The first asks of eight rows and of twenty read whole rows ahead, by one read; those
+/// Reads of a file of rows of 100 bytes. The first asks of eight rows and of twenty read whole rows ahead, by one read; those
 /// behind them find them; the third and the fourth ask for one run, which is read alone.
 const SHORT_ROWS: &[Place] = &[
     (0, 100, 4, 8),
@@ -68,7 +64,7 @@ const SHORT_ROWS: &[Place] = &[
     (96, 100, 4, 20),
 ];
 
-/// What a file of rows of 5,000 bytes is asked: 32 bytes of each of eight rows are read ahead, by a read a row. The second ask finds
+/// Reads of a file of rows of 5,000 bytes: 32 bytes of each of eight rows are read ahead, by a read a row. The second ask finds
 /// them, the third reads on behind them.
 const LONG_ROWS: &[Place] = &[(0, 5000, 4, 8), (4, 5000, 4, 8), (32, 5000, 4, 8)];
 
@@ -128,7 +124,7 @@ fn is_alone_at_fault<R: Opens + Wait>(
     true
 }
 
-/// What is asked, which asks are at fault, the first time and the second, by which cause, and how many reads are made.
+/// Reads, which of them are at fault, the first time and the second, by which cause, and how many reads are made.
 #[derive(Clone, Copy)]
 struct Faulty<'a> {
     asked: &'a [Place],
@@ -151,23 +147,21 @@ fn are_alone_at_fault<R: Opens + Wait>(
     Ok(first && second)
 }
 
-/// The same of a file in memory of which one read fails, and whether so many reads are made.
+/// Reads a file in memory so of which one read fails, and whether so many reads are made.
 fn one_fails<W: Wait, C: Contents>(
     host: &W,
     alloc: Global,
     bytes: Vec<u8>,
     failing: Failing,
     faulty: Faulty<'_>,
-) -> Result<bool, Fail>
-    requires { bytes.items ≡ C.content (49 ∷ []) }
-{
+) -> Result<bool, Fail> {
     let mut held = Vec::new(alloc);
     held.push(MemFile::<C>::new(String::from_str(alloc, "1")?, bytes))?;
     let files = MemFiles::new(host, held, failing);
-    Ok(are_alone_at_fault(&files, alloc, faulty)? && files.reads() == faulty.reads)
+    Ok(are_alone_at_fault(&files, alloc, faulty)? && is_same(&files.reads(), &faulty.reads))
 }
 
-/// The same of a file of numbered bytes.
+/// Reads a file of numbered bytes so.
 fn is_right<R: Wait>(
     rt: &R,
     alloc: Global,

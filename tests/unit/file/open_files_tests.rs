@@ -1,7 +1,10 @@
 //! Sources of files, with room for fewer open files than there are.
 
 use crate::file::rows_tests;
-use crate::file::steps::{Ask, Bytes, Change, Outcome, Shared, Step, both_answer, open_files, play, run};
+use crate::file::steps::{
+    Ask, Bytes, Change, Outcome, Shared, Step, both_answer, open_files, play, run,
+};
+use crate::fixtures::is_same;
 use iiif_open_files::Known;
 use iiif_source::ReadFault;
 use std::fs;
@@ -67,7 +70,7 @@ const CHANGED: &[Step] = &[
     Step::Change("open_files_made_again", Change::MadeAgain(&[4, 5, 6])),
 ];
 
-/// What is read of them, and then of the one that is the same.
+/// Reads of them, and then of the one that is the same.
 const CHANGED_ARE_READ: &[Step] = &[
     Step::Ask(0, Ask::Two(1, Err(ReadFault::FAILED))),
     Step::Ask(0, Ask::Len(3)),
@@ -216,7 +219,7 @@ const SHARED: Shared = Shared {
     behind: EIGHT_ARE_REMOVED,
 };
 
-/// What threads share, here and of runs.
+/// Files that threads share, here and of runs.
 static BOTH: [Shared; 2] = [SHARED, rows_tests::SHARED];
 
 #[test]
@@ -256,7 +259,7 @@ fn file_is_read_after_a_refused_growth(rt: HostRuntime) -> Result<(), Fail> {
     run(&rt, 1, &GROWTH)
 }
 
-/// What is found of a file that was known as [1, 2, 4, 3] (the device, the node, the moment when it was made, the length), and the
+/// The metadata found of a file that was known as [1, 2, 4, 3] (the device, the node, the moment when it was made, the length), and the
 /// cause of the fault that comes of it.
 static KNOWN: [([u64; 4], Option<u8>); 8] = [
     ([1, 2, 4, 3], None),
@@ -284,7 +287,7 @@ fn change_of_a_file_has_its_cause(rt: HostRuntime) {
             born: *born,
             len: *len,
         };
-        assert!(rt; was.change(&now) == *cause, "case {case}");
+        assert!(rt; is_same(&was.change(&now), cause), "case {case}");
     }
 }
 
@@ -303,10 +306,13 @@ fn files_are_known_by_device_node_and_moment(rt: HostRuntime) -> Result<(), Fail
     fs::remove_file(&rt, "known_one")?;
     fs::remove_file(&rt, "known_two")?;
     assert!(rt;
-        one.device == two.device && one.node != two.node,
+        is_same(&one.device, &two.device) && one.node != two.node,
         "{one:?} {two:?}"
     );
     assert!(rt; null.device != one.device, "{one:?} {null:?}");
-    assert!(rt; (one.born > IN_2001) == told.created().is_ok(), "{one:?}");
+    assert!(rt;
+        is_same(&(one.born > IN_2001), &told.created().is_ok()),
+        "{one:?}"
+    );
     Ok(())
 }

@@ -1,6 +1,7 @@
-//! What isn't a plain file is no source: it is refused at once, though the opening of a pipe would wait for a writer.
+//! A path of anything but a plain file is no source: it is refused at once, though the opening of a pipe would wait for a writer.
 
 use crate::file::steps::{open, open_files};
+use crate::fixtures::is_same;
 use iiif_open_files::PathSource;
 use iiif_source::{ReadFault, Source};
 use std::alloc::Global;
@@ -32,12 +33,14 @@ where
     let files = open_files(rt.alloc(), 1)?;
     match open(rt, rt.alloc(), &files, path)? {
         Ok(_) => Ok(false),
-        Err(error) => Ok(error.kind() == ErrorKind::InvalidInput && files.kept(rt) == 0),
+        Err(error) => Ok(
+            is_same(&error.kind(), &ErrorKind::InvalidInput) && is_same(&files.kept(rt), &0),
+        ),
     }
 }
 
 #[test]
-fn what_is_no_plain_file_is_refused(rt: HostRuntime) -> Result<(), Fail> {
+fn path_of_no_plain_file_is_refused(rt: HostRuntime) -> Result<(), Fail> {
     let pipe = pipe(&rt)?;
     let path = path_of(rt.alloc(), &pipe)?;
     for path in [path.as_str(), ".", "/dev/null", "/dev/zero"] {
@@ -60,20 +63,20 @@ where
     fs::remove_file(rt, path)?;
     symlink(rt, path_of(rt.alloc(), &pipe)?.as_str(), path)?;
     let mut pair = [0; 2];
-    if Source::<R>::len(&source) != 3 {
+    if !is_same(&Source::<R>::len(&source), &3) {
         return Ok(None);
     }
     Ok(source.read_at(rt, 1, &mut pair).err())
 }
 
 #[test]
-fn file_whose_name_a_pipe_takes_is_at_fault(rt: HostRuntime) -> Result<(), Fail> {
+fn read_fails_where_a_pipe_has_taken_the_name_of_the_file(rt: HostRuntime) -> Result<(), Fail> {
     let fault = fault_of(&rt, "plain_replaced", "plain_beside")?;
     let failed = ReadFault {
         place: 1,
         cause: ReadFault::FAILED,
     };
-    assert!(rt; fault == Some(failed));
+    assert!(rt; is_same(&fault, &Some(failed)));
     fs::remove_file(&rt, "plain_replaced")?;
     Ok(fs::remove_file(&rt, "plain_beside")?)
 }

@@ -2,7 +2,8 @@
 //! second call gives the case's own answer. `tests/refused` runs each test with the first growth refused, with the second, and so on;
 //! with ample memory each call answers at once.
 
-use crate::file::tiff_read_tests::SAMPLE;
+use crate::fixtures::files::SAMPLE;
+use crate::fixtures::{is_missing, is_same};
 use iiif_pixel::{Raster, Rect, Span};
 use iiif_source::MemSource;
 use iiif_tiff_read::{Layout, OpenFault, open};
@@ -29,7 +30,7 @@ fn edited(alloc: Global, len: usize, at: usize, byte: u8) -> Option<MemSource> {
     Some(MemSource::new(bytes))
 }
 
-/// What stands in a source: its layout, a refusal, or once more where memory was wanted.
+/// Opens a source: its layout, a refusal, or once more where memory was wanted.
 fn opened_again(alloc: Global, source: &MemSource) -> Result<Layout, OpenFault> {
     match open(&(), alloc, source) {
         Err(OpenFault::NoMemory) => open(&(), alloc, source),
@@ -51,8 +52,8 @@ static EDITED: [(usize, usize, u8, Option<OpenFault>); 6] = [
 /// Whether a file is opened, or refused for this reason.
 fn is_opened(alloc: Global, len: usize, at: usize, byte: u8, fault: Option<OpenFault>) -> bool {
     match edited(alloc, len, at, byte) {
-        Some(source) => opened_again(alloc, &source).err() == fault,
-        None => false,
+        Some(source) => is_same(&opened_again(alloc, &source).err(), &fault),
+        None => is_missing(),
     }
 }
 
@@ -86,7 +87,7 @@ fn middle(alloc: Global, source: &MemSource) -> Option<Raster> {
     }
 }
 
-/// The same, where it is read once more if memory was wanted.
+/// Reads a part, once more if memory was wanted.
 fn middle_again(alloc: Global, source: &MemSource) -> Option<Raster> {
     match middle(alloc, source) {
         Some(raster) => Some(raster),
@@ -100,8 +101,8 @@ fn shows_its_middle(alloc: Global, samples: &[u8]) -> bool {
         return false;
     };
     match middle_again(alloc, &source) {
-        Some(raster) => raster.samples() == Span::Eight(samples),
-        None => false,
+        Some(raster) => is_same(&raster.samples(), &Span::Eight(samples)),
+        None => is_missing(),
     }
 }
 

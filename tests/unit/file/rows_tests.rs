@@ -1,9 +1,7 @@
 //! Runs of files that are read ahead: the bytes are those of the file, in whatever order they are asked for.
 
-ghost use Rattle.std.specs.Prelude.{◌≤◌, length, IfOk};
-ghost use Rattle.std.specs.Arc.{arc_value};
-
 use crate::file::steps::{Ask, Bytes, Change, Outcome, Place, Shared, Step, fit, run};
+use crate::fixtures::is_same;
 use iiif_open_files::{Opening, Opens, RowShelf, WideRows, wider};
 use iiif_source::{OpenFile, ReadFault, Runs, Source};
 use std::alloc::Global;
@@ -221,7 +219,7 @@ fn width_of(place: Place, source: u64) -> Option<usize> {
 #[test]
 fn rows_are_wider_than_runs(rt: HostRuntime) {
     for (case, (place, source, width)) in WIDER.iter().enumerate() {
-        assert!(rt; width_of(*place, *source) == *width, "case {case}");
+        assert!(rt; is_same(&width_of(*place, *source), width), "case {case}");
     }
 }
 
@@ -245,9 +243,7 @@ fn small_rows<R: Opens>(
     alloc: Global,
     path: &str,
     number: u64,
-) -> Result<Arc<WideRows<R>>, Fail>
-    ensures { IfOk result (λ w. length (arc_value w).bytes ≤ 65536) }
-{
+) -> Result<Arc<WideRows<R>>, Fail> {
     let opening = opening(rt, alloc, path, number)?;
     let Ok(Some(rows)) = WideRows::read(rt, alloc, &opening, 8, SMALL) else {
         return Err(Fail::from("no rows"));
@@ -302,10 +298,13 @@ fn is_shelved<R: Opens>(
                 shelf.keep(small_rows(rt, alloc, path, number)?);
             }
         }
-        Shelved::Has(number, kept) => return Ok(shelf.find(path, number, SMALL).is_some() == kept),
+        Shelved::Has(number, kept) => return Ok(is_same(
+            &shelf.find(path, number, SMALL).is_some(),
+            &kept,
+        )),
         Shelved::HasNoOther(number) => return Ok(shelf.find("rows_other", number, SMALL).is_none()),
         Shelved::Forget(number) => shelf.forget(number),
-        Shelved::Len(len) => return Ok(shelf.len() == len),
+        Shelved::Len(len) => return Ok(is_same(&shelf.len(), &len)),
     }
     Ok(true)
 }

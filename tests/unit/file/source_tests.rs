@@ -1,5 +1,6 @@
 //! Sources in memory, of files, and those that fail when told.
 
+use crate::fixtures::{is_missing, is_same, is_unwanted};
 use iiif_source::{FileSource, FuseSource, MemSource, OpenFile, ReadFault, Source};
 use std::alloc::Global;
 use std::fs::File;
@@ -38,18 +39,18 @@ fn gives<R, S: Source<R>>(rt: &R, source: &S, len: u64, reads: &[Read]) -> bool 
             Err(fault) if fault.place == *place => Err(fault.cause),
             Err(_) => return false,
         };
-        if answer != *to_come || source.len() != len {
+        if !is_same(&answer, to_come) || !is_same(&source.len(), &len) {
             return false;
         }
     }
-    source.len() == len
+    is_same(&source.len(), &len)
 }
 
 /// Whether five bytes in memory give these reads.
 fn memory_gives(alloc: Global, reads: &[Read]) -> bool {
     match five(alloc) {
         Some(source) => gives(&(), &source, 5, reads),
-        None => false,
+        None => is_missing(),
     }
 }
 
@@ -57,14 +58,14 @@ fn memory_gives(alloc: Global, reads: &[Read]) -> bool {
 fn fuses_give(alloc: Global, reads: &[Read]) -> bool {
     match five(alloc) {
         Some(five) => gives(&(), &FuseSource::new(FuseSource::new(five, 2), 9), 5, reads),
-        None => false,
+        None => is_missing(),
     }
 }
 
-/// What five bytes give at any place.
+/// Reads of five bytes at any place.
 static IN_MEMORY: [Read; 2] = [(0, Ok([1, 2])), (3, Ok([4, 5]))];
 
-/// What they give within two fuses.
+/// Reads of these bytes within two fuses.
 static WITHIN_FUSES: [Read; 2] = [(0, Ok([1, 2])), (1, Err(ReadFault::FUSE))];
 
 /// From which read on a source fails, what is read of it before it is mended, and what then.
@@ -173,7 +174,7 @@ fn cut<R: Files<File = File>>(rt: &R, alloc: Global, file: &Opened) -> io::Resul
 fn file_gives<R: Files<File = File> + Wait + AllocGlobal>(rt: &R, file: &Opened) -> bool {
     match cut(rt, rt.alloc(), file) {
         Ok(source) => gives(rt, &source, file.bytes.len() as u64, file.reads),
-        Err(_) => false,
+        Err(fault) => is_unwanted(&fault),
     }
 }
 
@@ -185,7 +186,7 @@ fn fuse_gives<R: Files<File = File> + Wait + AllocGlobal>(
 ) -> bool {
     match cut(rt, rt.alloc(), file) {
         Ok(source) => gives(rt, &FuseSource::new(source, 9), 5, reads),
-        Err(_) => false,
+        Err(fault) => is_unwanted(&fault),
     }
 }
 

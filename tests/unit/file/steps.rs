@@ -1,8 +1,6 @@
-//! What is done with files and with sources of them, step by step, and what is to come of each step.
+//! Steps with files and with sources of them, each with its wanted outcome.
 
-ghost use Rattle.std.specs.Prelude.{◌*◌, ◌≤◌, IsTrue};
-ghost use Rattle.iiif_source.specs.Runs.{AreIn};
-
+use crate::fixtures::{is_missing, is_same};
 use iiif_open_files::{OpenFiles, Opens, PathSource};
 use iiif_source::{ReadFault, Runs, Source};
 use std::alloc::Global;
@@ -23,8 +21,8 @@ const ROOM: usize = 800;
 /// Where the first run begins, how far apart runs begin, how long each is, and how many they are.
 pub(crate) type Place = (u64, u64, usize, u32);
 
-/// What came of a read of runs.
-#[derive(Clone, Copy, PartialEq)]
+/// The outcome of a read of runs.
+#[derive(Clone, Copy, Debug, PartialEq)]
 pub(crate) enum Outcome {
     /// The bytes of the file of that number.
     Right,
@@ -43,7 +41,7 @@ pub(crate) enum Bytes {
     Numbered(u8, usize),
 }
 
-/// What is done to a file behind its sources.
+/// A change of a file behind its sources.
 #[derive(Clone, Copy)]
 pub(crate) enum Change {
     Removed,
@@ -57,7 +55,7 @@ pub(crate) enum Change {
     MadeAgain(&'static [u8]),
 }
 
-/// What a source is asked, and what is to come of it.
+/// A read of a source, and its wanted outcome.
 #[derive(Clone, Copy)]
 pub(crate) enum Ask {
     /// It has so many bytes.
@@ -121,10 +119,7 @@ fn are_of(file: u8, runs: Runs, bytes: &[u8]) -> bool {
 }
 
 /// Whether the runs are in a source of so many bytes, and have room.
-pub(crate) fn fit(source: u64, runs: Runs, room: usize) -> bool
-    ensures within { IsTrue result → AreIn source runs }
-    ensures room { IsTrue result → runs.count * runs.len ≤ room }
-{
+pub(crate) fn fit(source: u64, runs: Runs, room: usize) -> bool {
     if runs.at > 1_000_000 || runs.stride > 1_000_000 || runs.len as u64 > runs.stride {
         return false;
     }
@@ -170,9 +165,12 @@ where
     R: Opens + Wait,
 {
     match ask {
-        Ask::Len(len) => Source::<R>::len(source) == len,
-        Ask::Two(at, Ok(pair)) => two_at(rt, source, at) == Ok(pair),
-        Ask::Two(at, Err(cause)) => two_at(rt, source, at) == Err(ReadFault { place: at, cause }),
+        Ask::Len(len) => is_same(&Source::<R>::len(source), &len),
+        Ask::Two(at, Ok(pair)) => is_same(&two_at(rt, source, at), &Ok(pair)),
+        Ask::Two(at, Err(cause)) => is_same(
+            &two_at(rt, source, at),
+            &Err(ReadFault { place: at, cause }),
+        ),
         Ask::Runs(file, (at, stride, len, count), to_come) => {
             let at = at.wrapping_add(u64::from(further));
             let runs = Runs {
@@ -181,7 +179,7 @@ where
                 len,
                 count,
             };
-            came(rt, source, file, runs) == to_come
+            is_same(&came(rt, source, file, runs), &to_come)
         }
     }
 }
@@ -193,7 +191,7 @@ where
 {
     match sources.get(number) {
         Some(source) => is_answered(rt, source, ask, further),
-        None => false,
+        None => is_missing(),
     }
 }
 
@@ -217,7 +215,7 @@ where
     true
 }
 
-/// What two threads do with sources: how many files are kept open, the steps before, what the threads ask, each how often, and the
+/// Work of two threads with sources: how many files are kept open, the steps before, what the threads ask, each how often, and the
 /// steps behind.
 #[derive(Clone, Copy)]
 pub(crate) struct Shared {
@@ -240,7 +238,7 @@ where
         || all_answer(rt, sources, asks, one),
         || all_answer(rt, sources, asks, other),
     );
-    both == (true, true)
+    is_same(&both, &(true, true))
 }
 
 /// A source of a file.
@@ -313,7 +311,7 @@ where
 {
     match open(rt, rt.alloc(), files, path)? {
         Ok(_) => Ok(false),
-        Err(error) => Ok(error.kind() == ErrorKind::NotFound),
+        Err(error) => Ok(is_same(&error.kind(), &ErrorKind::NotFound)),
     }
 }
 
@@ -335,7 +333,7 @@ where
         Step::Change(path, how) => change_file(rt, path, how)?,
         Step::Nowhere(path) => return is_nowhere(rt, files, path),
         Step::Ask(number, ask) => return Ok(answers(rt, sources, number, ask, 0)),
-        Step::Kept(count) => return Ok(files.kept(rt) == count),
+        Step::Kept(count) => return Ok(is_same(&files.kept(rt), &count)),
         Step::KeptAtMost(count) => return Ok(files.kept(rt) <= count),
     }
     Ok(true)
@@ -363,7 +361,7 @@ where
     Ok(())
 }
 
-/// The same where so many files are kept open: each list so many times over, one list after another.
+/// Takes these steps where so many files are kept open: each list so many times over, one list after another.
 pub(crate) fn run<R>(rt: &R, most: usize, lists: &[(u32, &[Step])]) -> Result<(), Fail>
 where
     R: Files<File = File> + Wait + AllocGlobal + Abort,

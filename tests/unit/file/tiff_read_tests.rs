@@ -1,5 +1,7 @@
 //! Files of many layouts, read and refused.
 
+use crate::fixtures::files::{SAMPLE, STEPS};
+use crate::fixtures::{is_missing, is_same, is_same_text, is_unwanted, is_written};
 use iiif_pixel::{Dim, Kind, Raster, Rect, Span};
 use iiif_source::{MemSource, ReadFault, Source};
 use iiif_tiff_read::{LoadFault, OpenFault, open};
@@ -10,20 +12,6 @@ use writer::{Field, Form, PLAIN, write_file};
 mod device_tests;
 mod one_fault;
 mod writer;
-
-/// A file of low bytes first: a gray picture of 4 by 4 with v(x, y) = 10x + 40y in one strip, and its directory behind it.
-pub(crate) const SAMPLE: [u8; 138] = [
-    73, 73, 42, 0, 24, 0, 0, 0, 0, 10, 20, 30, 40, 50, 60, 70, 80, 90, 100, 110, 120, 130, 140,
-    150, 9, 0, 0, 1, 3, 0, 1, 0, 0, 0, 4, 0, 0, 0, 1, 1, 3, 0, 1, 0, 0, 0, 4, 0, 0, 0, 2, 1, 3, 0,
-    1, 0, 0, 0, 8, 0, 0, 0, 3, 1, 3, 0, 1, 0, 0, 0, 1, 0, 0, 0, 6, 1, 3, 0, 1, 0, 0, 0, 1, 0, 0, 0,
-    17, 1, 4, 0, 1, 0, 0, 0, 8, 0, 0, 0, 21, 1, 3, 0, 1, 0, 0, 0, 1, 0, 0, 0, 22, 1, 3, 0, 1, 0, 0,
-    0, 4, 0, 0, 0, 23, 1, 4, 0, 1, 0, 0, 0, 16, 0, 0, 0, 0, 0, 0, 0,
-];
-
-/// The samples of that picture.
-const SAMPLES: [u8; 16] = [
-    0, 10, 20, 30, 40, 50, 60, 70, 80, 90, 100, 110, 120, 130, 140, 150,
-];
 
 const WIDTH: Field = Field(256, 3, &[4]);
 
@@ -128,7 +116,7 @@ const MIDDLE: Rect = Rect {
 type Opened = Result<(u32, u32, Kind), OpenFault>;
 
 /// Why a part of an image is not read.
-#[derive(Drop)]
+#[derive(Debug, Drop)]
 enum Failed {
     Open(OpenFault),
     Load(LoadFault),
@@ -159,12 +147,12 @@ fn read_part<S: Source<()>>(
 /// Whether a rectangle of the image in a source, or all of it, has these samples.
 fn shows<S: Source<()>>(alloc: Global, source: &S, part: Option<Rect>, samples: Span) -> bool {
     match read_part(alloc, source, part) {
-        Ok(raster) => raster.samples() == samples,
-        Err(_) => false,
+        Ok(raster) => is_same(&raster.samples(), &samples),
+        Err(fault) => is_unwanted(&fault),
     }
 }
 
-/// The same of a file with these fields and bytes.
+/// Opens and reads a file with these fields and bytes.
 fn file_shows(
     alloc: Global,
     form: Form,
@@ -174,7 +162,7 @@ fn file_shows(
 ) -> bool {
     match write_file(alloc, form, fields, bytes) {
         Some(file) => shows(alloc, &MemSource::new(file), part, samples),
-        None => false,
+        None => is_missing(),
     }
 }
 
@@ -187,14 +175,14 @@ fn opened(alloc: Global, bytes: &[u8]) -> Opened {
 /// Whether the plain file with these fields and bytes is this one.
 fn is_written_so(alloc: Global, fields: &[Field], bytes: &[u8], want: &[u8]) -> bool {
     match write_file(alloc, PLAIN, fields, bytes) {
-        Some(file) => file.as_slice() == want,
-        None => false,
+        Some(file) => is_same_text(file.as_slice(), want),
+        None => is_missing(),
     }
 }
 
 #[test]
 fn sample_file_is_as_published(rt: HostRuntime) {
-    assert!(rt; is_written_so(rt.alloc(), FOUR_ROWS, &SAMPLES, &SAMPLE));
+    assert!(rt; is_written_so(rt.alloc(), FOUR_ROWS, &STEPS, &SAMPLE));
 }
 
 /// Low or high bytes first, and the directory behind the samples or before them.
@@ -228,7 +216,7 @@ const REVERSED: &[Field] = &[
     WIDTH,
 ];
 
-/// The same with a second Compression and a field of text behind them.
+/// Four rows with a second Compression and a field of text behind them.
 const REVERSED_AND_MORE: &[Field] = &[
     Field(325, 4, &[9, 9, 9, 9]),
     Field(324, 4, &[0, 9, 18, 27]),
@@ -264,10 +252,10 @@ const MORE: [u8; 17] = [
 
 /// The fields and the bytes of files that show the one picture. Tags stand in any order, and the first of two counts.
 static LAYOUTS: [(&[Field], &[u8]); 8] = [
-    (FOUR_ROWS, &SAMPLES),
-    (TWO_ROWS, &SAMPLES),
-    (ONE_ROW, &SAMPLES),
-    (THREE_ROWS, &SAMPLES),
+    (FOUR_ROWS, &STEPS),
+    (TWO_ROWS, &STEPS),
+    (ONE_ROW, &STEPS),
+    (THREE_ROWS, &STEPS),
     (TILES, &TILED),
     (REVERSED, &TILED),
     (REVERSED_AND_MORE, &TILED),
@@ -279,7 +267,7 @@ const IN_THE_MIDDLE: [u8; 4] = [50, 60, 90, 100];
 
 /// Whether a file with these fields and bytes shows the picture, whole and in its middle.
 fn shows_sample(alloc: Global, form: Form, layout: (&[Field], &[u8])) -> bool {
-    file_shows(alloc, form, layout, Some(WHOLE), Span::Eight(&SAMPLES))
+    file_shows(alloc, form, layout, Some(WHOLE), Span::Eight(&STEPS))
         && file_shows(
             alloc,
             form,
@@ -307,7 +295,7 @@ const BLACK_BITS: &[Field] = &[
     Field(279, 4, &[4]),
 ];
 
-/// The same where 0 is white.
+/// Fields of such a picture in which 0 is white.
 const WHITE_BITS: &[Field] = &[
     Field(256, 3, &[10]),
     Field(257, 3, &[2]),
@@ -351,7 +339,7 @@ const BLACK_DEEP: &[Field] = &[
     Field(279, 4, &[4]),
 ];
 
-/// The same where 0 is white.
+/// Fields of such a file in which 0 is white.
 const WHITE_DEEP: &[Field] = &[
     Field(256, 3, &[2]),
     Field(257, 3, &[1]),
@@ -375,7 +363,8 @@ const DEEP_TILES: &[Field] = &[
     Field(325, 4, &[12, 12]),
 ];
 
-/// What is read of a file: of which fields and bytes it is, and whether its high bytes come first; the rectangle, or all; the samples.
+/// A part that is read of a file: of which fields and bytes it is, and whether its high bytes come first; the rectangle, or all; the
+/// samples.
 #[derive(Clone, Copy)]
 struct Part {
     fields: &'static [Field],
@@ -390,7 +379,7 @@ static PARTS: [Part; 9] = [
     Part {
         fields: FOUR_ROWS,
         high_first: false,
-        bytes: &SAMPLES,
+        bytes: &STEPS,
         rect: Some(Rect {
             x: 4,
             y: 0,
@@ -417,7 +406,7 @@ static PARTS: [Part; 9] = [
     Part {
         fields: INVERTED,
         high_first: false,
-        bytes: &SAMPLES,
+        bytes: &STEPS,
         rect: Some(MIDDLE),
         samples: Span::Eight(&[205, 195, 165, 155]),
     },
@@ -511,7 +500,7 @@ fn is_widest(alloc: Global, bits: &[u8], samples: Span) -> bool {
     let Some(file) = write_file(alloc, PLAIN, WIDEST, bits) else {
         return false;
     };
-    let is_opened = opened(alloc, &file) == Ok((1_000_000, 1, Kind::Gray));
+    let is_opened = is_same(&opened(alloc, &file), &Ok((1_000_000, 1, Kind::Gray)));
     is_opened
         && shows(
             alloc,
@@ -556,7 +545,7 @@ static CHANGED: [(usize, usize, [u8; 4], Opened); 22] = [
     (138, 130, [15, 0, 0, 0], Err(OpenFault::BadField(279))),
 ];
 
-/// What is answered to the first bytes of the sample once four of them are others.
+/// The answer to the first bytes of the sample once four of them are others.
 fn changed(alloc: Global, len: usize, at: usize, value: [u8; 4]) -> Opened {
     let mut bytes = SAMPLE;
     for (k, new) in value.iter().enumerate() {
@@ -571,13 +560,13 @@ fn changed(alloc: Global, len: usize, at: usize, value: [u8; 4]) -> Opened {
 fn cut_and_changed_files_are_refused(rt: HostRuntime) {
     for (number, (len, at, value, answer)) in CHANGED.iter().enumerate() {
         assert!(rt;
-            changed(rt.alloc(), *len, *at, *value) == *answer,
+            is_same(&changed(rt.alloc(), *len, *at, *value), answer),
             "change {number}"
         );
     }
 }
 
-/// What is answered to the plain file with these fields and bytes.
+/// The answer to the plain file with these fields and bytes.
 fn written(alloc: Global, fields: &[Field], bytes: &[u8]) -> Option<Opened> {
     let file = write_file(alloc, PLAIN, fields, bytes)?;
     Some(opened(alloc, &file))
@@ -586,7 +575,7 @@ fn written(alloc: Global, fields: &[Field], bytes: &[u8]) -> Option<Opened> {
 #[test]
 fn colours_are_red_green_blue(rt: HostRuntime) {
     let opened = written(rt.alloc(), COLOURS, &[2, 0, 1, 5, 6, 7]);
-    assert!(rt; opened == Some(Ok((2, 1, Kind::Rgb))));
+    assert!(rt; is_same(&opened, &Some(Ok((2, 1, Kind::Rgb)))));
 }
 
 /// The fields of the tiled picture but its sides.
@@ -671,8 +660,8 @@ fn joined(alloc: Global, fields: &[Field], behind: &[Field]) -> Option<Vec<Field
 /// Whether a file of these fields, one after another, without samples, is refused for this reason.
 fn is_refused(alloc: Global, fields: &[Field], behind: &[Field], fault: OpenFault) -> bool {
     match joined(alloc, fields, behind) {
-        Some(all) => written(alloc, &all, &[]) == Some(Err(fault)),
-        None => false,
+        Some(all) => is_same(&written(alloc, &all, &[]), &Some(Err(fault))),
+        None => is_missing(),
     }
 }
 
@@ -709,24 +698,18 @@ static FAULTS: [(OpenFault, u8, &str); 8] = [
     (OpenFault::NoMemory, 8, "out of memory"),
 ];
 
-/// Whether a fault has this text.
-fn is_told_so(alloc: Global, fault: OpenFault, text: &str) -> bool {
-    match format!(in alloc; "{fault}") {
-        Ok(told) => told.as_str() == text,
-        Err(_) => false,
-    }
-}
-
 #[test]
 fn faults_have_numbers_and_texts(rt: HostRuntime) -> Result<(), Fail> {
     for (fault, number, text) in FAULTS.iter() {
         assert!(rt;
-            fault.number() == *number && is_told_so(rt.alloc(), *fault, *text),
+            is_same(&fault.number(), number) && is_written(rt.alloc(), fault, text),
             "{number}"
         );
     }
     let load = LoadFault::Source(READ);
     let told = format!(in rt.alloc(); "{load}")?;
-    assert!(rt; load.number() == 1 && told.as_str() == "a read at byte 9 failed, cause 2");
+    assert!(rt;
+        is_same(&load.number(), &1) && is_same(&told.as_str(), &"a read at byte 9 failed, cause 2")
+    );
     Ok(())
 }

@@ -1,5 +1,8 @@
 //! Files of small pictures, byte by byte.
 
+use crate::fixtures::files::{SAMPLE_FILE, STEPS};
+use crate::fixtures::rasters::{eight, sixteen};
+use crate::fixtures::{is_missing, is_same, is_same_text, is_unwanted};
 use iiif_pixel::{Depth, Dim, Kind, Quality, Raster, Rect, Samples, Span};
 use iiif_tiff_write::{OutKind, fits, head, put_rows, total_len};
 use std::alloc::Global;
@@ -18,34 +21,12 @@ fn raster(alloc: Global, picture: Picture) -> Option<Raster> {
     }
 }
 
-/// The raster of samples of 8 bits.
-fn eight(alloc: Global, dim: Dim, kind: Kind, samples: &[u8]) -> Option<Raster> {
-    if kind.count(dim) != Some(samples.len()) {
-        return None;
-    }
-    let Ok(samples) = Vec::from_slice(alloc, samples) else {
-        return None;
-    };
-    Some(Raster::from_samples(dim, kind, Samples::Eight(samples)))
-}
-
-/// The raster of samples of 16 bits.
-fn sixteen(alloc: Global, dim: Dim, kind: Kind, samples: &[u16]) -> Option<Raster> {
-    if kind.count(dim) != Some(samples.len()) {
-        return None;
-    }
-    let Ok(samples) = Vec::from_slice(alloc, samples) else {
-        return None;
-    };
-    Some(Raster::from_samples(dim, kind, Samples::Sixteen(samples)))
-}
-
 /// Puts the rows of a picture that has the channels and the depth of its file, or says that it doesn't.
 fn put(picture: &Raster, kind: OutKind, bytes: &mut Vec<u8>) -> bool {
     if picture.kind().channels() != usize::from(kind.samples_per_pixel()) {
         return false;
     }
-    picture.depth() == kind.depth() && put_rows(picture, kind, bytes).is_ok()
+    is_same(&picture.depth(), &kind.depth()) && put_rows(picture, kind, bytes).is_ok()
 }
 
 /// Head and rows, one after another, as many bytes as they are said to be.
@@ -72,29 +53,10 @@ fn have(bytes: &[u8], len: usize, parts: &[(usize, &[u8])]) -> bool {
             _ => return false,
         }
     }
-    bytes.len() == len
+    is_same(&bytes.len(), &len)
 }
 
-const SAMPLE: [u8; 16] = [
-    0, 10, 20, 30, 40, 50, 60, 70, 80, 90, 100, 110, 120, 130, 140, 150,
-];
-
-const SAMPLE_FILE: [u8; 190] = [
-    0x49, 0x49, 0x2a, 0x00, 0x08, 0x00, 0x00, 0x00, 0x0c, 0x00, 0x00, 0x01, 0x04, 0x00, 0x01, 0x00,
-    0x00, 0x00, 0x04, 0x00, 0x00, 0x00, 0x01, 0x01, 0x04, 0x00, 0x01, 0x00, 0x00, 0x00, 0x04, 0x00,
-    0x00, 0x00, 0x02, 0x01, 0x03, 0x00, 0x01, 0x00, 0x00, 0x00, 0x08, 0x00, 0x00, 0x00, 0x03, 0x01,
-    0x03, 0x00, 0x01, 0x00, 0x00, 0x00, 0x01, 0x00, 0x00, 0x00, 0x06, 0x01, 0x03, 0x00, 0x01, 0x00,
-    0x00, 0x00, 0x01, 0x00, 0x00, 0x00, 0x11, 0x01, 0x04, 0x00, 0x01, 0x00, 0x00, 0x00, 0xae, 0x00,
-    0x00, 0x00, 0x15, 0x01, 0x03, 0x00, 0x01, 0x00, 0x00, 0x00, 0x01, 0x00, 0x00, 0x00, 0x16, 0x01,
-    0x04, 0x00, 0x01, 0x00, 0x00, 0x00, 0x04, 0x00, 0x00, 0x00, 0x17, 0x01, 0x04, 0x00, 0x01, 0x00,
-    0x00, 0x00, 0x10, 0x00, 0x00, 0x00, 0x1a, 0x01, 0x05, 0x00, 0x01, 0x00, 0x00, 0x00, 0x9e, 0x00,
-    0x00, 0x00, 0x1b, 0x01, 0x05, 0x00, 0x01, 0x00, 0x00, 0x00, 0xa6, 0x00, 0x00, 0x00, 0x28, 0x01,
-    0x03, 0x00, 0x01, 0x00, 0x00, 0x00, 0x01, 0x00, 0x00, 0x00, 0x00, 0x00, 0x00, 0x00, 0x01, 0x00,
-    0x00, 0x00, 0x01, 0x00, 0x00, 0x00, 0x01, 0x00, 0x00, 0x00, 0x01, 0x00, 0x00, 0x00, 0x00, 0x0a,
-    0x14, 0x1e, 0x28, 0x32, 0x3c, 0x46, 0x50, 0x5a, 0x64, 0x6e, 0x78, 0x82, 0x8c, 0x96,
-];
-
-const GRAY: Picture = Picture(4, 4, Kind::Gray, Span::Eight(&SAMPLE));
+const GRAY: Picture = Picture(4, 4, Kind::Gray, Span::Eight(&STEPS));
 
 /// Pictures, as what they are written, how long their files are, and what stands where in these. The third entry of a directory is
 /// BitsPerSample; samples of 16 bits have their low byte first, and rows of bits end at whole bytes: white is 128 and above.
@@ -150,11 +112,11 @@ fn is_written(
 ) -> bool {
     match file(alloc, picture, kind) {
         Some(bytes) => have(&bytes, len, parts),
-        None => false,
+        None => is_missing(),
     }
 }
 
-/// The same of a picture.
+/// The file of a picture.
 fn picture_is_written(
     alloc: Global,
     picture: Picture,
@@ -164,7 +126,7 @@ fn picture_is_written(
 ) -> bool {
     match raster(alloc, picture) {
         Some(picture) => is_written(alloc, &picture, kind, len, parts),
-        None => false,
+        None => is_missing(),
     }
 }
 
@@ -195,7 +157,7 @@ fn is_written_in_bits(
 ) -> bool {
     match bitonal(alloc, picture) {
         Some(bitonal) => is_written(alloc, &bitonal, OutKind::Bitonal, len, parts),
-        None => false,
+        None => is_missing(),
     }
 }
 
@@ -241,24 +203,24 @@ fn put_band(picture: &Raster, y: u32, h: u32, kind: OutKind, out: &mut Vec<u8>) 
     }
     match picture.crop(rect) {
         Ok(band) => put(&band, kind, out),
-        Err(_) => false,
+        Err(fault) => is_unwanted(&fault),
     }
 }
 
 /// Whether two bands of a picture of three rows are these bytes.
 fn bands_are(alloc: Global, picture: &Raster, kind: OutKind, want: &[u8]) -> bool {
     let mut bands = Vec::new(alloc);
-    picture.dim().h == 3
+    is_same(&picture.dim().h, &3)
         && put_band(picture, 0, 1, kind, &mut bands)
         && put_band(picture, 1, 2, kind, &mut bands)
-        && bands.as_slice() == want
+        && is_same_text(bands.as_slice(), want)
 }
 
-/// The same of a picture.
+/// Compares two bands of a picture of three rows with these bytes.
 fn bands_of_picture_are(alloc: Global, picture: Picture, kind: OutKind, want: &[u8]) -> bool {
     match raster(alloc, picture) {
         Some(picture) => bands_are(alloc, &picture, kind, want),
-        None => false,
+        None => is_missing(),
     }
 }
 
@@ -274,7 +236,7 @@ fn bands_make_the_same_strip(rt: HostRuntime) {
 
 /// As what the sample's rows are written, and the bytes of these.
 static REFUSED_ROWS: [(OutKind, &[u8]); 2] = [
-    (OutKind::Gray, &SAMPLE),
+    (OutKind::Gray, &STEPS),
     (OutKind::Bitonal, &[0, 0, 0, 0x70]),
 ];
 
@@ -337,7 +299,7 @@ static QUALITIES: [(Kind, Depth, Quality, OutKind); 12] = [
 fn kinds_of_the_qualities(rt: HostRuntime) {
     for (number, (source, depth, quality, want)) in QUALITIES.iter().enumerate() {
         assert!(rt;
-            OutKind::of(*source, *depth, *quality) == *want,
+            is_same(&OutKind::of(*source, *depth, *quality), want),
             "case {number}"
         );
     }
@@ -359,6 +321,9 @@ static SIDES: [(OutKind, u32, u32, bool); 9] = [
 #[test]
 fn offsets_of_four_bytes(rt: HostRuntime) {
     for (kind, w, h, want) in SIDES.iter() {
-        assert!(rt; fits(*kind, Dim { w: *w, h: *h }) == *want, "{w} {h}");
+        assert!(rt;
+            is_same(&fits(*kind, Dim { w: *w, h: *h }), want),
+            "{w} {h}"
+        );
     }
 }

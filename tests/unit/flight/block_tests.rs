@@ -1,11 +1,8 @@
 //! Which keys fit an image, and every block of small pictures beside the plain way.
 
-ghost use Rattle.std.specs.Prelude.{◌≡◌, All, IfSome};
-ghost use Rattle.iiif_pixel.specs.Geometry.{channels_of};
-ghost use Rattle.iiif_keys.specs.Meaning.{sums_in, tile_below};
-
+use crate::fixtures::names::name;
+use crate::fixtures::{is_same, note};
 use crate::flight::block_plain;
-use crate::flight::key_tests::name;
 use iiif_area::Sums;
 use iiif_keys::{CacheKey, Parts, Shape, SumKey, SumVal, TileKey, TileVal, parts};
 use iiif_pixel::{Depth, Dim, Kind, Raster, Rect};
@@ -47,7 +44,7 @@ fn is_tile_right(alloc: Global, tile: &Tile) -> Option<bool> {
         tx: tile.0,
         ty: 1,
     };
-    Some(key.fits(tile.1, &gray(4)) == tile.2)
+    Some(is_same(&key.fits(tile.1, &gray(4)), &tile.2))
 }
 
 /// The shape of a gray picture with equal sides.
@@ -73,7 +70,7 @@ type Place = (Block, u32, bool);
 /// Whether a block fits as it is to.
 fn is_place_right(alloc: Global, place: &Place) -> Option<bool> {
     let key = key_of(alloc, &place.0)?;
-    Some(key.fits(key.edge, &gray(place.1)) == place.2)
+    Some(is_same(&key.fits(key.edge, &gray(place.1)), &place.2))
 }
 
 /// A block of level 0 of a picture of 4 by 4, scaled to 2 by 2.
@@ -91,7 +88,7 @@ const LOW: Block = Block {
     by: 0,
 };
 
-/// The same in column 1, of a picture that is scaled to 4 by 2.
+/// A block in column 1, of a picture that is scaled to 4 by 2.
 const NEXT: Block = Block {
     bx: 1,
     size: Dim { w: 4, h: 2 },
@@ -278,10 +275,7 @@ fn tile_value(scene: &Scene, tile: &TileKey) -> Option<TileVal> {
 }
 
 /// The value of a key of level 0, by that of its tile in the picture.
-fn of_tile(scene: &Scene, key: &SumKey, tile: &TileKey) -> Option<SumVal>
-    requires level { key.now.level ≡ 0 }
-    requires below { tile.now ≡ tile_below key.now }
-{
+fn of_tile(scene: &Scene, key: &SumKey, tile: &TileKey) -> Option<SumVal> {
     let shape = &scene.shape;
     let value = tile_value(scene, tile)?;
     let is_small = u64::from(shape.dim.w) * u64::from(shape.dim.h) <= 1 << 32;
@@ -295,9 +289,7 @@ fn of_tile(scene: &Scene, key: &SumKey, tile: &TileKey) -> Option<SumVal>
 }
 
 /// The values of keys, as the plain way gives them.
-fn plain_values(scene: &Scene, keys: &[SumKey]) -> Option<Vec<Arc<SumVal>>>
-    ensures { IfSome result (λ v. All (λ x. (sums_in x).channels ≡ channels_of scene.now.shape.kind) v.items) }
-{
+fn plain_values(scene: &Scene, keys: &[SumKey]) -> Option<Vec<Arc<SumVal>>> {
     let mut values = Vec::new(scene.alloc);
     for key in keys {
         let value = plain_value(scene, key)?;
@@ -353,10 +345,10 @@ fn are_plain(scene: &Scene, key: &SumKey, value: &SumVal) -> bool {
             for channel in 0..picture.kind().channels() {
                 let plain = block_plain::sum_at(picture, at, rect, size, i, j, channel);
                 let is_inside = block_plain::has(value.sums.rect(), i, j);
-                if (plain > 0) != is_inside {
+                if !is_same(&(plain > 0), &is_inside) {
                     return false;
                 }
-                if is_inside && sums.next().copied() != Some(plain) {
+                if is_inside && !is_same(&sums.next().copied(), &Some(plain)) {
                     return false;
                 }
             }
@@ -378,7 +370,7 @@ fn is_made_right(scene: &Scene, key: &SumKey) -> Option<bool> {
 fn is_block_right(scene: &Scene, block: &Block) -> Option<bool> {
     let key = key_of(scene.alloc, block)?;
     let fits = key.fits(key.edge, &scene.shape);
-    if fits != has_any(scene.shape.dim, &key) {
+    if !is_same(&fits, &has_any(scene.shape.dim, &key)) {
         return Some(false);
     }
     if fits {
@@ -407,7 +399,25 @@ fn are_blocks_right(scene: &Scene, rect: Rect, size: Dim, first: u32, last: u32)
         let is_row = block.by.wrapping_mul(side) < dim.h.wrapping_add(side);
         let is_edge = first <= block.edge && block.edge <= last;
         if is_edge && is_column && is_row && is_block_right(scene, &block) != Some(true) {
+            note(
+                "edge, level, column and row",
+                &(block.edge, block.level, block.bx, block.by),
+            );
             return false;
+        }
+    }
+    true
+}
+
+/// Whether every block of a rectangle is right, at every size and at these edges.
+fn is_rect_right(scene: &Scene, rect: Rect, first: u32, last: u32) -> bool {
+    for w in 1..=rect.w {
+        for h in 1..=rect.h {
+            let size = Dim { w, h };
+            if !are_blocks_right(scene, rect, size, first, last) {
+                note("size", &size);
+                return false;
+            }
         }
     }
     true
@@ -415,23 +425,23 @@ fn are_blocks_right(scene: &Scene, rect: Rect, size: Dim, first: u32, last: u32)
 
 /// Whether every block of every rectangle of a picture with sides of at most 7 is right, at every size and at these edges.
 fn is_right(scene: &Scene, first: u32, last: u32) -> bool {
-    // Three bits each for the rectangle's place, its sides and the size.
-    for bits in 0..262_144u32 {
-        let rect = Rect {
-            x: bits & 7,
-            y: (bits >> 3) & 7,
-            w: (bits >> 6) & 7,
-            h: (bits >> 9) & 7,
-        };
-        let size = Dim {
-            w: (bits >> 12) & 7,
-            h: bits >> 15,
-        };
-        let is_size = 0 < size.w && size.w <= rect.w && 0 < size.h && size.h <= rect.h;
-        let is_inside = rect.x.wrapping_add(rect.w) <= scene.shape.dim.w
-            && rect.y.wrapping_add(rect.h) <= scene.shape.dim.h;
-        if is_size && is_inside && !are_blocks_right(scene, rect, size, first, last) {
-            return false;
+    let Dim { w, h } = scene.shape.dim;
+    for x in 0..w {
+        for y in 0..h {
+            for width in 1..=w - x {
+                for height in 1..=h - y {
+                    let rect = Rect {
+                        x,
+                        y,
+                        w: width,
+                        h: height,
+                    };
+                    if !is_rect_right(scene, rect, first, last) {
+                        note("rectangle", &rect);
+                        return false;
+                    }
+                }
+            }
         }
     }
     true
@@ -472,7 +482,7 @@ static PICTURES: [Picture; 21] = [
 fn blocks_of_pictures(rt: HostRuntime) {
     for (line, picture) in PICTURES.iter().enumerate() {
         assert!(rt;
-            is_picture_right(rt.alloc(), picture) == Some(true),
+            is_same(&is_picture_right(rt.alloc(), picture), &Some(true)),
             "{line}"
         );
     }

@@ -1,12 +1,10 @@
 //! Caches of samples: a key takes 15 bytes, and a value as many as it says.
 
-ghost use Rattle.std.specs.Prelude.{IfSome, IsTrue};
-ghost use Rattle.iiif_outcome.specs.Views.{is_of};
-
-use crate::flight::key_tests::name;
+use crate::fixtures::is_same;
+use crate::fixtures::names::name;
+use crate::samples::{Lax, Sample, kept};
 use iiif_byte_cache::{ByteCache, PutFault};
 use iiif_outcome::Entry;
-use crate::samples::{Lax, Sample, kept};
 use std::alloc::Global;
 use std::num::NonZeroUsize;
 
@@ -14,7 +12,7 @@ type Cache = ByteCache<Sample, Lax>;
 
 type Kept = Entry<Sample, Lax>;
 
-/// What came of a put: it is kept; or it is above the limit, and this number and this value came back; or else, where memory ran
+/// The outcome of a put: it is kept; or it is above the limit, and this number and this value came back; or else, where memory ran
 /// out, the same pair didn't come back, the cache wasn't as before, or it wasn't put then either.
 type Came = Result<(), Option<(u32, u16)>>;
 
@@ -22,7 +20,7 @@ type Came = Result<(), Option<(u32, u16)>>;
 enum Step {
     /// A value is put into the main list under a number, with a ticket.
     Main(u32, u16, u64, Came),
-    /// The same, into the hot list.
+    /// A put into the hot list.
     Hot(u32, u16, u64, Came),
     /// The value that is got under a number, which comes to the front.
     Get(u32, Option<u16>),
@@ -45,9 +43,7 @@ pub(crate) fn sample(alloc: Global, number: u32) -> Option<Sample> {
 }
 
 /// A number's key, and the entry of a value with a ticket.
-fn pair(alloc: Global, number: u32, value: u16, ticket: u64) -> Option<(Sample, Kept)>
-    ensures { IfSome result (λ pair. IsTrue (is_of ⟦<Sample as PartialEq>⟧.eq pair.0 pair.1)) }
-{
+fn pair(alloc: Global, number: u32, value: u16, ticket: u64) -> Option<(Sample, Kept)> {
     let key = sample(alloc, number)?;
     let entry = kept(alloc, &key, value, ticket).ok()?;
     Some((key, entry))
@@ -63,9 +59,7 @@ fn cache(alloc: Global, bytes: u32, entries: usize) -> Option<Cache> {
 }
 
 /// Whether a pair is put into a list.
-fn is_put(cache: &mut Cache, is_hot: bool, key: Sample, entry: Kept) -> bool
-    requires { IsTrue (is_of ⟦<Sample as PartialEq>⟧.eq key entry) }
-{
+fn is_put(cache: &mut Cache, is_hot: bool, key: Sample, entry: Kept) -> bool {
     let answer = if is_hot {
         cache.put_hot(key, entry)
     } else {
@@ -75,9 +69,7 @@ fn is_put(cache: &mut Cache, is_hot: bool, key: Sample, entry: Kept) -> bool
 }
 
 /// Puts a pair into a list, and once more the pair that came back where memory ran out.
-fn put_pair(cache: &mut Cache, is_hot: bool, key: Sample, entry: Kept) -> Came
-    requires { IsTrue (is_of ⟦<Sample as PartialEq>⟧.eq key entry) }
-{
+fn put_pair(cache: &mut Cache, is_hot: bool, key: Sample, entry: Kept) -> Came {
     let before = (cache.bytes(), cache.len(), key.number(), **entry.value());
     let answer = if is_hot {
         cache.put_hot(key, entry)
@@ -114,19 +106,21 @@ fn put(
 /// Whether keys have these numbers, in order.
 fn have(keys: &[Sample], numbers: &[u32]) -> bool {
     for (key, number) in keys.iter().zip(numbers) {
-        if key.number() != *number {
+        if !is_same(&key.number(), number) {
             return false;
         }
     }
-    keys.len() == numbers.len()
+    is_same(&keys.len(), &numbers.len())
 }
 
 /// Whether a cache keeps these numbers in its lists, and so many bytes.
 fn keeps(alloc: Global, cache: &Cache, main: &[u32], hot: &[u32], bytes: u64) -> Option<bool> {
     let main_keys = cache.main_keys(alloc).ok()?;
     let hot_keys = cache.hot_keys(alloc).ok()?;
-    let is_len = cache.len() == main.len().saturating_add(hot.len());
-    Some(is_len && cache.bytes() == bytes && have(&main_keys, main) && have(&hot_keys, hot))
+    let is_len = is_same(&cache.len(), &main.len().saturating_add(hot.len()));
+    Some(
+        is_len && is_same(&cache.bytes(), &bytes) && have(&main_keys, main) && have(&hot_keys, hot),
+    )
 }
 
 /// The value that is kept under a number, which comes to the front.
@@ -163,15 +157,15 @@ fn evicted(cache: &mut Cache) -> Option<(u32, u64)> {
 fn is_right(alloc: Global, cache: &mut Cache, step: &Step) -> Option<bool> {
     match step {
         Step::Main(number, value, ticket, came) => {
-            Some(put(alloc, cache, false, *number, *value, *ticket)? == *came)
+            Some(is_same(&put(alloc, cache, false, *number, *value, *ticket)?, came))
         }
         Step::Hot(number, value, ticket, came) => {
-            Some(put(alloc, cache, true, *number, *value, *ticket)? == *came)
+            Some(is_same(&put(alloc, cache, true, *number, *value, *ticket)?, came))
         }
-        Step::Get(number, value) => Some(got(alloc, cache, *number)? == *value),
-        Step::Hit(number, ticket) => Some(hit(alloc, cache, *number)? == *ticket),
+        Step::Get(number, value) => Some(is_same(&got(alloc, cache, *number)?, value)),
+        Step::Hit(number, ticket) => Some(is_same(&hit(alloc, cache, *number)?, ticket)),
         Step::Touch(number) => touch(alloc, cache, *number),
-        Step::Evict(pair) => Some(evicted(cache) == *pair),
+        Step::Evict(pair) => Some(is_same(&evicted(cache), pair)),
         Step::Keeps(main, hot, bytes) => keeps(alloc, cache, main, hot, *bytes),
     }
 }
@@ -186,7 +180,7 @@ fn wrong_step(alloc: Global, cache: &mut Cache, steps: &[Step]) -> Option<Option
     Some(None)
 }
 
-/// The same of a scene's cache.
+/// Takes the steps of a scene's cache.
 fn wrong_in(alloc: Global, scene: &Scene) -> Option<Option<usize>> {
     let (bytes, entries, steps) = scene;
     wrong_step(alloc, &mut cache(alloc, *bytes, *entries)?, steps)
@@ -264,7 +258,7 @@ static SCENES: [Scene; 7] = [
     (60, 8, HIT_AND_TOUCH),
 ];
 
-/// The same once more where memory ran out before a call.
+/// Takes them once more where memory ran out before a call.
 fn wrong_again(alloc: Global, scene: &Scene) -> Option<Option<usize>> {
     match wrong_in(alloc, scene) {
         None => wrong_in(alloc, scene),
@@ -274,9 +268,9 @@ fn wrong_again(alloc: Global, scene: &Scene) -> Option<Option<usize>> {
 
 /// A put that memory runs out for leaves the cache as it was, and the pair that comes back is put again.
 #[test]
-fn steps_come_to_what_they_are_to_after_a_refused_growth(rt: HostRuntime) {
+fn steps_of_a_cache_have_their_results_after_a_refused_growth(rt: HostRuntime) {
     for (line, scene) in SCENES.iter().enumerate() {
         let wrong = wrong_again(rt.alloc(), scene);
-        assert!(rt; wrong == Some(None), "scene {line}: {wrong:?}");
+        assert!(rt; is_same(&wrong, &Some(None)), "scene {line}: {wrong:?}");
     }
 }

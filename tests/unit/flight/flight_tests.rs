@@ -1,14 +1,10 @@
 //! Tables of samples, of one thread and of two.
 
-ghost use Rattle.std.specs.Prelude.{◌≡◌, true, IsTrue};
-ghost use Rattle.std.specs.Result.{ForErr};
-ghost use Rattle.iiif_outcome.specs.Outcomes.{is_given};
-ghost use Rattle.iiif_keys.specs.Ledgers.{all_parts};
-
+use crate::fixtures::is_same;
 use crate::flight::cache_tests::sample;
+use crate::samples::{Lax, Sample};
 use iiif_keys::{Fault, PARTS};
 use iiif_outcome::learn_apart;
-use crate::samples::{Lax, Sample};
 use iiif_singleflight::entered::Entered;
 use iiif_singleflight::home::Home;
 use iiif_singleflight::pass::Pass;
@@ -31,17 +27,13 @@ type Shared<L> = Home<Sample, Lax, L>;
 type Told = Result<u16, Fault>;
 
 /// A home for so many bytes.
-fn made<L: Ledger>(alloc: Global, bytes: u32, blank: Blank) -> Option<Shared<L>>
-    requires name { blank.name ≡ L.name }
-    requires parts { blank.parts ≡ L.parts }
-    requires all { L.parts ≡ all_parts }
-{
+fn made<L: Ledger>(alloc: Global, bytes: u32, blank: Blank) -> Option<Shared<L>> {
     let entries = NonZeroUsize::new(8)?;
     let (table, pass) = Table::new(alloc, u64::from(bytes), entries, PARTS, blank).ok()?;
     Some(Home::new(table, pass, Whole::new()))
 }
 
-/// What a flight ended with, by its receipt.
+/// The end of a flight, by its receipt.
 fn told<L: Ledger>(receipt: &mut Receipt<Sample, Lax, L>) -> Told {
     match receipt.outcome() {
         Ok(value) => Ok(**value),
@@ -49,10 +41,8 @@ fn told<L: Ledger>(receipt: &mut Receipt<Sample, Lax, L>) -> Told {
     }
 }
 
-/// What a leader lands who is to tell this. Each source may have given any fault.
-fn landing_of(alloc: Global, tells: Told) -> Result<Arc<u16>, Fault>
-    ensures { ForErr result (λ f. IsTrue (is_given (λ _. true) f)) }
-{
+/// The outcome that a leader lands to tell this. Each source may have given any fault.
+fn landing_of(alloc: Global, tells: Told) -> Result<Arc<u16>, Fault> {
     match tells {
         Ok(value) => match Arc::new(alloc, value) {
             Ok(value) => Ok(value),
@@ -78,7 +68,7 @@ fn learned<L: Ledger, R: Wait + Clock>(
     None
 }
 
-/// What was counted, and how many entries are kept.
+/// The counts, and how many entries are kept.
 fn counted<L: Ledger, R: Wait>(rt: &R, home: &Mutex<Shared<L>>) -> (Book, usize) {
     let home = home.lock(rt);
     (home.table.book(), home.table.kept().entries)
@@ -116,7 +106,7 @@ fn landed<L: Ledger, R: Wait + Clock>(
     look_and_land(alloc, &mut *home, lead, tells)
 }
 
-/// What a call of the wide class meets that enters with this pass.
+/// Enters with this pass by a call of the wide class.
 fn entered<L: Ledger, R: Wait>(
     rt: &R,
     alloc: Global,
@@ -143,7 +133,7 @@ fn ask<L: Ledger, R: Wait + Clock>(
     Some((receipt, pass))
 }
 
-/// What came of two calls that met, and of a third: what the leader, the one who joined and the third were told; whether the
+/// The outcome of two calls that met, and of a third: what the leader, the one who joined and the third were told; whether the
 /// first two learned of one flight, and the third of the same; the counts before the third and how many entries were kept then, and the
 /// same behind it.
 type Met = (
@@ -188,7 +178,7 @@ fn meet<L: Ledger + Send + Sync, R: Threads + Wait + Clock + Sync>(
     third(rt, alloc, home, pass, &mut leads, &mut joins)
 }
 
-/// What a leader who looked again was told, and what was counted then.
+/// The outcome that a leader was told that looked again, and the counts then.
 type Look = (Told, Book);
 
 /// A call of the local class, which lands where it leads.
@@ -234,11 +224,7 @@ fn look_and_meet<L: Ledger + Send + Sync, R: Threads + Wait + Clock + Sync>(
     bytes: u32,
     tells: Told,
     blank: Blank,
-) -> Option<(Look, Met)>
-    requires name { blank.name ≡ L.name }
-    requires parts { blank.parts ≡ L.parts }
-    requires all { L.parts ≡ all_parts }
-{
+) -> Option<(Look, Met)> {
     let mut home: Shared<L> = made(alloc, bytes, blank)?;
     let mut one = home.pass()?;
     let two = home.pass()?;
@@ -405,7 +391,7 @@ static MEETINGS: [(u32, Told, Look, Met); 4] = [
 fn leader_that_looks_again_finds_values_alone_and_two_threads_share_one_load(rt: HostRuntime) {
     for (line, (bytes, tells, look, met)) in MEETINGS.iter().enumerate() {
         let seen = look_and_meet::<Brand, _>(&rt, rt.alloc(), *bytes, *tells, Blank::new(PARTS));
-        assert!(rt; seen == Some((*look, *met)), "{line}");
+        assert!(rt; is_same(&seen, &Some((*look, *met))), "{line}");
     }
 }
 
@@ -428,7 +414,7 @@ fn ended(alloc: Global) -> Option<iiif_outcome::Flight<Sample, Lax>> {
     Some(flight)
 }
 
-/// What two threads learn of it.
+/// The outcomes that two threads learn.
 fn both_learn<R: Threads + Sync>(rt: &R, alloc: Global) -> Option<[(u64, Told); 2]> {
     let mut one = ended(alloc)?;
     let other = one.join().ok()?;
@@ -438,5 +424,5 @@ fn both_learn<R: Threads + Sync>(rt: &R, alloc: Global) -> Option<[(u64, Told); 
 
 #[test]
 fn two_threads_learn_of_one_flight(rt: HostRuntime) {
-    assert!(rt; both_learn(&rt, rt.alloc()) == Some([(5, READ), (5, READ)]));
+    assert!(rt; is_same(&both_learn(&rt, rt.alloc()), &Some([(5, READ), (5, READ)])));
 }

@@ -1,4 +1,4 @@
-//! What threads do at once. Each is a value of a type of its own, so that no scene has a closure.
+//! Acts of threads at once. Each is a value of a type of its own.
 
 use iiif_listener::{Admission, Serve, serve_listener};
 use std::alloc::Global;
@@ -8,9 +8,9 @@ use std::thread;
 use std::thread::Threads;
 use std::time::Clock;
 
-/// What a thread does. R is the runtime.
+/// An act of a thread. R is the runtime.
 pub(crate) trait Act<R> {
-    /// What comes of it.
+    /// Its outcome.
     type Came;
 
     /// Does it.
@@ -41,7 +41,7 @@ where
     thread::join(rt, || two(rt, one, other), || third.act(rt))
 }
 
-/// The same by four threads.
+/// Does four acts at once.
 fn by_four<R, A>(rt: &R, one: &A) -> ((A::Came, A::Came), (A::Came, A::Came))
 where
     R: Threads + Sync,

@@ -65,8 +65,6 @@ impl Bar {
 }
 
 impl<R: Clock> Gate<R> for Bar {
-    ghost use Rattle.std.specs.Prelude.{⊤};
-
     ghost passed = { λ _ _. ⊤ };
 
     fn pass(&self, rt: &R, _key_bytes: &[u8]) {

@@ -1,12 +1,5 @@
 //! Calls for tiles and sums of a node.
 
-ghost use Rattle.std.specs.Prelude.{◌≡◌, IsTrue};
-ghost use Rattle.std.specs.Arc.{arc_value};
-ghost use Rattle.std.specs.Result.{ForErr, ForOk};
-ghost use Rattle.iiif_group.specs.Beginning.{open_key};
-ghost use Rattle.iiif_keys.specs.Meaning.{tile_is_shaped, tile_meaning};
-ghost use Rattle.iiif_outcome.specs.Outcomes.{is_given};
-
 use crate::group::doorways::Doorway;
 use crate::group::keys::{block_twice, tile};
 use crate::group::nodes::Node;
@@ -31,7 +24,7 @@ pub(crate) enum Call {
     Load,
 }
 
-/// What is done with a node.
+/// A step with a node.
 pub(crate) enum Step {
     /// The tile of `a` in this column and row is called for.
     Tile(Call, (u32, u32)),
@@ -61,10 +54,10 @@ pub(crate) const LAST: Numbers = (4, [100, 110, 140, 150]);
 /// A call for the sums of the whole of `a`.
 pub(crate) const WHOLE: Step = Step::Sums(Call::Get, 1, 0);
 
-/// What a step comes to.
+/// The outcome of a step.
 pub(crate) type Answer = Result<Numbers, Fault>;
 
-/// What a call for a tile comes to, and the ticket of the flight of which it is told, 0 where it is told of none.
+/// The outcome of a call for a tile, and the ticket of the flight of which it is told, 0 where it is told of none.
 pub(crate) type Told = (u64, Answer);
 
 /// The samples of a tile.
@@ -86,7 +79,7 @@ fn sums_of(value: &SumVal) -> Numbers {
     }
 }
 
-/// What a receipt tells, or why there is none.
+/// The outcome that a receipt tells, or why there is none.
 fn told<J: System>(came: Result<Receipt<TileKey, J, TileCalls<J>>, Fault>) -> Told {
     let mut receipt = match came {
         Ok(receipt) => receipt,
@@ -99,7 +92,7 @@ fn told<J: System>(came: Result<Receipt<TileKey, J, TileCalls<J>>, Fault>) -> To
     }
 }
 
-/// The same of sums.
+/// Loads sums so.
 fn sums_told<J: System>(came: Result<Receipt<SumKey, J, SumCalls<J>>, Fault>) -> Answer {
     match came?.outcome() {
         Ok(value) => Ok(sums_of(value)),
@@ -113,11 +106,7 @@ fn loaded<R: Wait + Clock, J: System>(
     alloc: Global,
     node: &Node<'_, R, J>,
     key: &TileKey,
-) -> Result<Arc<TileVal>, Fault>
-    ensures meant { J.stable key.now.name → IsTrue J.honest → ForOk result (λ v. arc_value v ≡ tile_meaning J.pictures key.now) }
-    ensures shaped { ForOk result (λ v. IsTrue (tile_is_shaped J.pictures key.now (arc_value v))) }
-    ensures given { ForErr result (λ f. IsTrue (is_given (J.gave key.now.name) f)) }
-{
+) -> Result<Arc<TileVal>, Fault> {
     match node.tiles().load(rt, key) {
         Ok(value) => share(alloc, value),
         Err(_) => Err(Fault::NoMemory),
@@ -131,9 +120,7 @@ fn ended<R: Wait + Clock, J: System>(
     node: &Node<'_, R, J>,
     load: OpenLoad<TileKey, J, TileCalls<J>>,
     key: &TileKey,
-) -> Result<Receipt<TileKey, J, TileCalls<J>>, Fault>
-    requires { open_key load ≡ key.now }
-{
+) -> Result<Receipt<TileKey, J, TileCalls<J>>, Fault> {
     let outcome = loaded(rt, alloc, node, key);
     let completed = node.tiles().group().complete(rt, load, key, outcome);
     if completed.exact {
@@ -168,7 +155,7 @@ fn begun<R: Net<Stream = TcpStream> + Wait + Clock, J: System>(
     }
 }
 
-/// What a call for a tile, or its load, comes to.
+/// The outcome of a call for a tile, or of its load.
 pub(crate) fn called<R: Net<Stream = TcpStream> + Wait + Clock, J: System>(
     rt: &R,
     alloc: Global,
@@ -193,7 +180,7 @@ pub(crate) fn called<R: Net<Stream = TcpStream> + Wait + Clock, J: System>(
     }
 }
 
-/// What a call for sums, or their load, comes to.
+/// The outcome of a call for sums, or of their load.
 fn sums_called<R: Net<Stream = TcpStream> + Wait + Clock, J: System>(
     rt: &R,
     alloc: Global,
@@ -222,7 +209,7 @@ pub(crate) fn source<'a, R: Clock, J: System>(node: &'a Node<'_, R, J>) -> Optio
     }
 }
 
-/// What a step comes to.
+/// Takes a step.
 pub(crate) fn asked<R: Net<Stream = TcpStream> + Wait + Clock, J: System>(
     rt: &R,
     alloc: Global,

@@ -1,5 +1,6 @@
 //! Scenes at nodes of their own, each with what has to be seen.
 
+use crate::fixtures::{is_same, is_unwanted};
 use crate::group::bars::Bar;
 use crate::group::nodes::{Owner, Setup, way_to};
 use crate::group::scenes::{Scene, Seen, played};
@@ -47,12 +48,12 @@ where
     let asks = Bar::new(!case.asks_meet);
     let setup = set_up(case, &gate, &asks);
     match played(rt, alloc, &setup, &case.scene) {
-        Ok(seen) => seen == case.seen && !gate.is_left() && !asks.is_left(),
-        Err(_) => false,
+        Ok(seen) => is_same(&seen, &case.seen) && !gate.is_left() && !asks.is_left(),
+        Err(fault) => is_unwanted(&fault),
     }
 }
 
-/// What the first case says of which something else is seen; no word where there is none.
+/// The name of the first case with other observations; no word where there is none.
 pub(crate) fn first_wrong<R>(rt: &R, alloc: Global, cases: &'static [Case]) -> &'static str
 where
     R: Net<Listener = TcpListener, Stream = TcpStream> + Threads + Wait + Clock + Send + Sync,

@@ -1,11 +1,12 @@
 //! Nodes that ask each other over loopback, a node whose peer owns every key, what a node replies to each kind of ask, and how many
 //! passes it gives out.
 
+use crate::fixtures::is_same;
+use crate::fixtures::messages::{CHANGED_REPLY, OTHER_TILE_REPLY, TILE_REPLY, WIDE_REPLY};
 use crate::group::bars::Bar;
 use crate::group::calls::{Call, LAST, Step};
 use crate::group::cases::{Case, first_wrong};
 use crate::group::crossings::Crossing;
-use crate::group::messages::{CHANGED, OTHER, RIGHT, WIDE};
 use crate::group::nodes::{Owner, ROOMY, Setup};
 use crate::group::peers::{LIMIT, Way};
 use crate::group::runs::Stages;
@@ -21,7 +22,7 @@ use std::thread;
 use std::thread::Threads;
 use std::time::{Clock, Duration, Instant};
 
-/// What one of two threads does.
+/// The work of one of two threads.
 #[derive(Drop)]
 enum Side<'a> {
     /// A node is set up for a scene.
@@ -39,7 +40,7 @@ fn send_once(alloc: Global, listener: &TcpListener, reply: &[u8]) {
     }
 }
 
-/// What is seen of a side.
+/// The observations of a side.
 fn seen_of<R>(rt: &R, alloc: Global, side: &Side<'_>) -> Result<Seen, Fault>
 where
     R: Net<Listener = TcpListener, Stream = TcpStream> + Threads + Wait + Clock + Send + Sync,
@@ -53,7 +54,7 @@ where
     }
 }
 
-/// What is seen of two sides at once.
+/// The observations of two sides at once.
 fn both<R>(
     rt: &R,
     alloc: Global,
@@ -81,7 +82,7 @@ fn setup<'a>(peer: &'a TcpListener, gate: &'a Bar, crossing: Option<Crossing<'a>
 
 static CROSSES: Scene = Scene::Crosses;
 
-/// What is seen of two nodes with crossed rings that are asked at once while they serve each other.
+/// The observations of two nodes with crossed rings that are asked at once while they serve each other.
 fn crossed<R>(
     rt: &R,
     alloc: Global,
@@ -126,7 +127,7 @@ fn crossed_nodes_answer_rightly_at_once(rt: HostRuntime) -> Result<(), Fail> {
     let (one, two) = (one?, two?);
     let has_taken = has_taken(&one) || has_taken(&two);
     let came = [in_time, one.is_right, two.is_right, has_taken];
-    assert!(rt; came == [true; 4], "{came:?}");
+    assert!(rt; is_same(&came, &[true; 4]), "{came:?}");
     Ok(())
 }
 
@@ -153,18 +154,18 @@ where
 
 /// Replies of a peer, and how many of their values are taken.
 static REPLIES: [(&str, &'static [u8], u64); 5] = [
-    ("one with a changed byte", CHANGED, 0),
-    ("one for another tile", OTHER, 0),
-    ("one with a value of other sides", WIDE, 0),
+    ("one with a changed byte", CHANGED_REPLY, 0),
+    ("one for another tile", OTHER_TILE_REPLY, 0),
+    ("one with a value of other sides", WIDE_REPLY, 0),
     ("no bytes", b"", 0),
-    ("the right one", RIGHT, 1),
+    ("the right one", TILE_REPLY, 1),
 ];
 
 #[test]
 fn peer_that_lies_leads_to_the_local_load(rt: HostRuntime) {
     for (what, reply, taken) in REPLIES.iter() {
         assert!(rt;
-            replied(&rt, rt.alloc(), reply) == Some((true, *taken)),
+            is_same(&replied(&rt, rt.alloc(), reply), &Some((true, *taken))),
             "{what}"
         );
     }

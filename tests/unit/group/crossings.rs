@@ -1,5 +1,6 @@
 //! Nodes that ask each other, and what a node replies to another.
 
+use crate::fixtures::{is_same, is_same_text};
 use crate::group::acts::served_beside;
 use crate::group::bars::Bar;
 use crate::group::calls::{HALVED, WHOLE};
@@ -64,7 +65,7 @@ impl<'a, 'b, R: Net<Stream = TcpStream> + Wait + Clock, J: System> Serve<R> for 
     }
 }
 
-/// What is seen of a node that is asked for the sums of the whole of `a` while it and another serve each other.
+/// The observations of a node that is asked for the sums of the whole of `a` while it and another serve each other.
 pub(crate) fn crossed<R, J>(
     rt: &R,
     alloc: Global,
@@ -86,7 +87,7 @@ where
     };
     let answer = served_beside(rt, alloc, &Door { node }, crossing.listener, &asker);
     Ok(Seen {
-        is_right: answer == Ok(HALVED),
+        is_right: is_same(&answer, &Ok(HALVED)),
         books: books(rt, node),
         ..QUIET
     })
@@ -109,7 +110,7 @@ fn is_replied<R: Net<Stream = TcpStream> + Wait + Clock, J: System>(
     };
     let peers = Peers { groups: node };
     serve_peer(rt, alloc, &peers, passes, &mut reader, &mut out);
-    out.as_slice() == replies
+    is_same_text(out.as_slice(), replies)
 }
 
 /// All asks, one behind another, and all replies. None where memory was wanted.

@@ -1,5 +1,6 @@
 //! A node whose links fail after each number of bytes: what it answers is what it loads by itself.
 
+use crate::fixtures::is_same;
 use crate::group::bars::Bar;
 use crate::group::calls::{Call, HALVED, LAST, Step, WHOLE};
 use crate::group::messages::{Exchange, SUMS, TILE};
@@ -94,7 +95,7 @@ where
         } else {
             (true, 1, 1)
         };
-        if answered(rt, alloc, cut, bytes)? != wanted {
+        if !is_same(&answered(rt, alloc, cut, bytes)?, &wanted) {
             return Ok(Some(bytes));
         }
     }
@@ -105,7 +106,7 @@ where
 fn value_is_loaded_here_wherever_a_link_fails(rt: HostRuntime) -> Result<(), Fail> {
     for cut in CUTS.iter() {
         let wrong = first_wrong(&rt, rt.alloc(), cut)?;
-        assert!(rt; wrong == None, "{}: {wrong:?}", cut.exchange.what);
+        assert!(rt; is_same(&wrong, &None), "{}: {wrong:?}", cut.exchange.what);
     }
     Ok(())
 }

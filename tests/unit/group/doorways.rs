@@ -1,8 +1,5 @@
 //! Files in memory whose reads may wait, and fail.
 
-ghost use Rattle.std.specs.Prelude.{◌≡◌, ℕ, List, false, ◌||◌, ◌==◌};
-ghost use Rattle.iiif_source.specs.Cause.{fuse};
-
 use crate::group::bars::Bar;
 use iiif_source::{FuseSource, MemSource, ReadFault, Source};
 use std::marker::Model;
@@ -34,9 +31,7 @@ impl Model for Doorway {
 
 impl Doorway {
     /// A file whose first read waits, or one of which none does.
-    pub(crate) fn new(inner: Fused, meets: bool) -> Doorway
-        ensures { result ≡ inner }
-    {
+    pub(crate) fn new(inner: Fused, meets: bool) -> Doorway {
         Doorway {
             inner,
             bar: Bar::new(!meets),

@@ -1,8 +1,12 @@
 //! Replies in memory: right, cut, changed, for another key, and faults; readers and writers that fail.
 
+use crate::fixtures::messages::{
+    DEEP_ASK, DEEP_REPLY, DEEP_VALUE, TILE_ASK, TILE_REPLY, TILE_VALUE,
+};
+use crate::fixtures::{is_missing, is_same, is_same_text, is_unwanted};
 use crate::group::keys::{
-    DEEP, DEEP_ASK, DEEP_REPLY, DEEP_REPLY_ONE, DEEP_VALUE, OTHER_REPLY, SAMPLE, SHORT_VALUE_REPLY,
-    SUM_ASK, SUM_REPLY, SUM_VALUE, TILE_ASK, TILE_REPLY, TILE_VALUE, UNKNOWN_REPLY, block, tile,
+    DEEP, DEEP_REPLY_ONE, OTHER_REPLY, SAMPLE, SHORT_VALUE_REPLY, SUM_ASK, SUM_REPLY, SUM_VALUE,
+    UNKNOWN_REPLY, block, tile,
 };
 use iiif_group::LinkFault;
 use iiif_io::fakes::{FailingReader, FailingWriter};
@@ -19,10 +23,10 @@ enum Of {
     Sum,
 }
 
-/// What an ask gives: the bytes of its value, or the fault. None where the key doesn't fit, or memory was wanted.
+/// The result of an ask: the bytes of its value, or the fault. None where the key doesn't fit, or memory was wanted.
 type Came = Option<Result<Vec<u8>, LinkFault>>;
 
-/// What an ask for a tile gives.
+/// Asks for a tile.
 fn tile_came(
     alloc: Global,
     key: &TileKey,
@@ -39,7 +43,7 @@ fn tile_came(
     }
 }
 
-/// What an ask for sums gives.
+/// Asks for sums.
 fn sum_came(
     alloc: Global,
     key: &SumKey,
@@ -56,7 +60,7 @@ fn sum_came(
     }
 }
 
-/// What an ask gives.
+/// Asks for either.
 fn came(alloc: Global, of: &Of, input: &mut FailingReader<'_>, out: &mut FailingWriter) -> Came {
     match of {
         Of::Deep => tile_came(alloc, &tile(alloc, "g", (0, 0)).ok()?, &DEEP, input, out),
@@ -88,11 +92,13 @@ fn is_right(
         Of::Sum => SUM_ASK,
     };
     let (sent, _) = ask.split_at(room.min(ask.len()));
-    out.taken.as_slice() == sent
+    is_same_text(out.taken.as_slice(), sent)
         && match (came, wanted) {
-            (Some(Ok(value)), Ok(bytes)) => value.as_slice() == bytes,
-            (Some(Err(fault)), Err(wanted)) => fault == wanted,
-            _ => false,
+            (Some(Ok(value)), Ok(bytes)) => is_same_text(value.as_slice(), bytes),
+            (Some(Err(fault)), Err(wanted)) => is_same(&fault, &wanted),
+            (Some(Err(fault)), Ok(_)) => is_unwanted(&fault),
+            (Some(Ok(value)), Err(_)) => is_unwanted(&value.as_slice()),
+            (None, _) => is_missing(),
         }
 }
 
@@ -197,5 +203,5 @@ fn key_of_bytes_is_asked_for(rt: HostRuntime) {
     };
     let came = ask_over(rt.alloc(), &mut input, &mut out, Version::One, 2, b"k");
     let is_short = matches!(came, Err(LinkFault::Wire(WireFault::Short)));
-    assert!(rt; is_short && out.taken.as_slice() == b"IGA1\x02\0\0\0\x01k".as_slice());
+    assert!(rt; is_short && is_same_text(out.taken.as_slice(), b"IGA1\x02\0\0\0\x01k"));
 }

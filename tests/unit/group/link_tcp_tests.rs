@@ -1,12 +1,10 @@
 //! Other nodes over loopback: right, dead, slow, dripping, lying, and one that knows no second version; and no node.
 
-ghost use Rattle.std.specs.Prelude.{◌≡◌};
-ghost use Rattle.iiif_keys.specs.Shapes.{HasPicture};
-
+use crate::fixtures::messages::{DEEP_REPLY, DEEP_VALUE};
+use crate::fixtures::peers::Way;
+use crate::fixtures::{has_end, is_same, is_same_text, is_unwanted};
 use crate::group::acts::{Act, two};
-use crate::group::keys::{
-    DEEP_REPLY, DEEP_REPLY_ONE, DEEP_VALUE, OTHER_REPLY, SHORT_VALUE_REPLY, UNKNOWN_REPLY, tile,
-};
+use crate::group::keys::{DEEP_REPLY_ONE, OTHER_REPLY, SHORT_VALUE_REPLY, UNKNOWN_REPLY, tile};
 use iiif_breaker::{Asks, State};
 use iiif_group::{Link, LinkFault, NoLink};
 use iiif_keys::{CacheKey, Shape, System, TileKey};
@@ -27,9 +25,6 @@ use std::{str, thread};
 struct Deep;
 
 impl System for Deep {
-    ghost use Rattle.std.specs.Prelude.{Some, [], ◌∷◌, true, false};
-    ghost use Rattle.iiif_keys.specs.Ledgers.{all_parts};
-
     ghost pictures = { λ _. Some (record { width = 2; height = 1; channels = 1; top = 65535; samples = 0 ∷ 65535 ∷ [] }) };
 
     ghost edge = { 2 };
@@ -50,9 +45,7 @@ impl System for Deep {
 }
 
 /// The shape of that picture, whichever name it has.
-fn shape_for(key: &TileKey) -> Shape
-    ensures { HasPicture ⟦<Deep as System>⟧.pictures key.now.name result }
-{
+fn shape_for(key: &TileKey) -> Shape {
     let _edge = key.edge;
     Shape {
         dim: Dim { w: 2, h: 1 },
@@ -61,48 +54,16 @@ fn shape_for(key: &TileKey) -> Shape
     }
 }
 
-/// What a node does with an ask.
-#[derive(Drop)]
-enum Way {
-    /// It closes the connection as soon as it has seen a magic of the second version.
-    KnowsOneVersion,
-    /// It closes the connection behind the ask.
-    Closes,
-    /// It says nothing.
-    IsSilent,
-    /// It sends one byte after another, slowly.
-    Drips,
-    /// It sends these bytes.
-    Sends(&'static [u8]),
-}
-
 /// How long an ask may take.
 const LIMIT: u64 = 400;
-
-/// Sends a reply byte by byte, 50 milliseconds apart.
-fn drip<R: Clock>(rt: &R, stream: &mut TcpStream) {
-    for byte in DEEP_REPLY {
-        if stream.write_all(&[*byte]).is_err() {
-            return;
-        }
-        thread::sleep(rt, Duration::from_millis(50));
-    }
-}
 
 /// Answers an ask that came whole. Says whether it was of the second version, for a tile.
 fn answer<R: Clock>(rt: &R, alloc: Global, stream: &mut TcpStream, way: &Way) -> bool {
     let Ok(Some(ask)) = read_ask(alloc, stream) else {
         return false;
     };
-    match way {
-        Way::IsSilent => thread::sleep(rt, Duration::from_millis(2 * LIMIT)),
-        Way::Drips => drip(rt, stream),
-        Way::Sends(bytes) => {
-            let _ = stream.write_all(bytes);
-        }
-        Way::Closes | Way::KnowsOneVersion => {}
-    }
-    ask.version == Version::Two && ask.group == 1
+    way.answer(rt, stream, DEEP_REPLY, Duration::from_millis(2 * LIMIT));
+    is_same(&ask.version.digit(), &Version::Two.digit()) && is_same(&ask.group, &1)
 }
 
 /// A node that takes one connection and answers in this way.
@@ -123,7 +84,7 @@ impl<'a, R: Clock> Act<R> for Taker<'a> {
         };
         if let Way::KnowsOneVersion = self.way {
             let mut magic = [0u8; 4];
-            return stream.read_exact(&mut magic).is_ok() && &magic == b"IGA2";
+            return stream.read_exact(&mut magic).is_ok() && is_same(&&magic, &b"IGA2");
         }
         answer(rt, self.alloc, &mut stream, self.way)
     }
@@ -158,7 +119,7 @@ where
 /// Whether what a link gave is the tile, or the fault; and whether it came in time.
 type Came = (Result<bool, LinkFault>, bool);
 
-/// Who asks over a link.
+/// An asker over a link.
 #[derive(Drop)]
 struct Asker<'a, N> {
     alloc: Global,
@@ -168,7 +129,7 @@ struct Asker<'a, N> {
 impl<'a, R: Clock, N: Link<TileKey, Deep, R>> Act<R> for Asker<'a, N> {
     type Came = Option<Came>;
 
-    /// What the link gives. None where it isn't asked.
+    /// Asks over the link. None where it isn't asked.
     fn act(&self, rt: &R) -> Option<Came> {
         let key = tile(self.alloc, "g", (0, 0)).ok()?;
         let shape = shape_for(&key);
@@ -181,14 +142,14 @@ impl<'a, R: Clock, N: Link<TileKey, Deep, R>> Act<R> for Asker<'a, N> {
         match value {
             Ok(value) => {
                 let bytes = TileKey::value_bytes(self.alloc, &value).ok()?;
-                Some((Ok(bytes.as_slice() == DEEP_VALUE), in_time))
+                Some((Ok(is_same_text(bytes.as_slice(), DEEP_VALUE)), in_time))
             }
             Err(fault) => Some((Err(fault), in_time)),
         }
     }
 }
 
-/// What a link gives whose node answers in this way; and whether the node was well asked.
+/// Asks over a link whose node answers in this way; tells also whether the node was well asked.
 fn answered<R>(rt: &R, alloc: Global, way: &Way) -> Option<(Came, bool)>
 where
     R: Net<Listener = TcpListener, Stream = TcpStream> + Threads + Wait + Clock + Sync,
@@ -207,7 +168,7 @@ where
     Some((came?, well_asked))
 }
 
-/// What a node does, and the tile, or the fault that comes of it, or another.
+/// An answer of a node, and the tile, or the fault that comes of it, or another.
 static ANSWERS: [(&str, Way, Result<bool, LinkFault>, Result<bool, LinkFault>); 9] = [
     (
         "knows one version",
@@ -277,8 +238,8 @@ where
     R: Net<Listener = TcpListener, Stream = TcpStream> + Threads + Wait + Clock + Sync,
 {
     match answered(rt, alloc, way) {
-        Some(((value, true), true)) => value == wanted || value == other,
-        _ => false,
+        Some(((value, true), true)) if value == other => true,
+        came => is_same(&came, &Some(((wanted, true), true))),
     }
 }
 
@@ -304,7 +265,7 @@ where
     let watch = Stopwatch::new();
     let link = link_to(alloc, &node, &watch, None);
     let asker = Asker { alloc, link: &link };
-    asker.act(rt) == LOST
+    is_same(&asker.act(rt), &LOST)
 }
 
 #[test]
@@ -318,7 +279,7 @@ fn dead_node_is_a_fault_of_the_connection(rt: HostRuntime) -> Result<(), Fail> {
     Ok(())
 }
 
-/// What the log says of a node that was left alone and then answered.
+/// The lines of the log about a node that was left alone and then answered.
 const TURNS: (&str, &str) = (
     " peer node\\x20two left-alone\n",
     " peer node\\x20two asked-again\n",
@@ -328,11 +289,11 @@ const TURNS: (&str, &str) = (
 fn are_turns(log: &[u8]) -> bool {
     match str::from_utf8(log) {
         Ok(text) => text.contains(TURNS.0) && text.ends_with(TURNS.1),
-        Err(_) => false,
+        Err(fault) => is_unwanted(&fault),
     }
 }
 
-/// What is written to a log.
+/// The text of a log.
 fn written<R: Wait + Clock>(rt: &R, alloc: Global, log: &Log) -> Vec<u8> {
     let mut lines = Vec::new(alloc);
     log.close(rt);
@@ -352,7 +313,7 @@ where
 {
     let asker = Asker { alloc, link };
     for _ in 0..4u32 {
-        if asker.act(rt) != LOST {
+        if !is_same(&asker.act(rt), &LOST) {
             return false;
         }
     }
@@ -363,17 +324,19 @@ where
         listener,
         way: &way,
     };
-    two(rt, &taker, &asker) == (true, Some((Ok(true), true)))
+    is_same(&two(rt, &taker, &asker), &(true, Some((Ok(true), true))))
 }
 
-/// How these asks ended.
-const ENDS: Asks = Asks {
-    answered: 1,
-    refused: 0,
-    failed: 3,
-    timed_out: 0,
-    skipped: 1,
-};
+/// The asks of a link by their ends: answered, refused, failed, timed out, and not made since the link was left alone.
+fn ends_of(asks: &Asks) -> [u64; 5] {
+    [
+        asks.answered,
+        asks.refused,
+        asks.failed,
+        asks.timed_out,
+        asks.skipped,
+    ]
+}
 
 #[test]
 fn node_that_fails_is_left_alone_and_looked_up_by_the_ask_that_tries_it(
@@ -384,13 +347,13 @@ fn node_that_fails_is_left_alone_and_looked_up_by_the_ask_that_tries_it(
     let (watch, log) = (Stopwatch::new(), Log::new(alloc)?);
     let link = link_to(alloc, &node, &watch, Some(&log));
     assert!(rt; is_left_alone_and_tried(&rt, alloc, &listener, &link));
-    assert!(rt; node.health().asks(&rt) == ENDS);
-    assert!(rt; watch.durations(&rt).all == 4);
+    assert!(rt; is_same(&ends_of(&node.health().asks(&rt)), &[1, 0, 3, 0, 1]));
+    assert!(rt; is_same(&watch.durations(&rt).all, &4));
     assert!(rt; are_turns(&written(&rt, alloc, &log)));
     Ok(())
 }
 
-/// Who takes a connection, and ends it once the other does.
+/// A listener that takes a connection, and ends it once the other side does.
 #[derive(Drop)]
 struct Ender<'a> {
     listener: &'a TcpListener,
@@ -404,12 +367,12 @@ impl<'a, R: Clock> Act<R> for Ender<'a> {
         let mut byte = [0u8; 1];
         match self.listener.accept() {
             Ok((mut stream, _)) => matches!(stream.read(&mut byte), Ok(0)),
-            Err(_) => false,
+            Err(fault) => is_unwanted(&fault),
         }
     }
 }
 
-/// Who looks at a node.
+/// A health check of a node.
 #[derive(Drop)]
 struct Looker<'a> {
     alloc: Global,
@@ -463,10 +426,10 @@ fn node_that_hangs_is_found_silent_by_a_look(rt: HostRuntime) -> Result<(), Fail
         log: &log,
     };
     assert!(rt; is_looked_at(&rt, &listener, &looker));
-    assert!(rt; node.health().asks(&rt) == Asks::new());
+    assert!(rt; is_same(&ends_of(&node.health().asks(&rt)), &[0; 5]));
     let written = written(&rt, alloc, &log);
     let text = str::from_utf8(&written)?;
-    assert!(rt; text.ends_with(TURNS.0) && text.lines().count() == 1);
+    assert!(rt; has_end(text.as_bytes(), TURNS.0.as_bytes()) && is_same(&text.lines().count(), &1));
     Ok(())
 }
 
@@ -478,7 +441,10 @@ fn no_link_refuses_with_status_3(rt: HostRuntime) {
         link: &NoLink,
     }
     .act(&rt);
-    assert!(rt; matches!(came, Some((Err(LinkFault::Refused(3)), _))));
+    assert!(rt;
+        matches!(came, Some((Err(LinkFault::Refused(3)), _))),
+        "{came:?}"
+    );
 }
 
 #[test]
@@ -490,7 +456,7 @@ fn deadline_runs_out(rt: HostRuntime) -> Result<(), Fail> {
     match same.left() {
         Ok(_) => Err("time is left".into()),
         Err(error) => {
-            assert!(rt; error.kind() == ErrorKind::TimedOut);
+            assert!(rt; is_same(&error.kind(), &ErrorKind::TimedOut));
             Ok(())
         }
     }

@@ -1,10 +1,11 @@
 //! Two calls at once: one load for both, answers while another is held at the gate or asks the owner, a fault that both are told, and
 //! reads of a source that overlap, since nothing is locked there.
 
+use crate::fixtures::books::NO_CALLS;
 use crate::group::calls::{Answer, Call, FIRST, SECOND, Step};
 use crate::group::cases::{Case, first_wrong};
 use crate::group::meetings::Meeting;
-use crate::group::nodes::{NO_COUNTS, ONE, Owner, ROOMY, THREE, TWO};
+use crate::group::nodes::{ONE, Owner, ROOMY, THREE, TWO};
 use crate::group::peers::GIVEN;
 use crate::group::scenes::{QUIET, Scene, Seen};
 use iiif_keys::Fault;
@@ -44,7 +45,7 @@ static MEETINGS: [Case; 5] = [
         scene: Scene::Meets(FOR_ONE_TILE),
         seen: Seen {
             are_same: (true, true),
-            books: (JOINED, NO_COUNTS),
+            books: (JOINED, NO_CALLS),
             tiles: (
                 Book {
                     gets: 3,
@@ -73,7 +74,7 @@ static MEETINGS: [Case; 5] = [
             answers: (Ok(FIRST), Ok(SECOND), Ok(FIRST)),
         }),
         seen: Seen {
-            books: (TWO, NO_COUNTS),
+            books: (TWO, NO_CALLS),
             tiles: (
                 Book {
                     gets: 3,
@@ -108,7 +109,7 @@ static MEETINGS: [Case; 5] = [
                     joins: 1,
                     ..TWO
                 },
-                NO_COUNTS,
+                NO_CALLS,
             ),
             tiles: (
                 Book {
@@ -139,7 +140,7 @@ static MEETINGS: [Case; 5] = [
             answers: (Ok(GIVEN), Ok(GIVEN), Ok(GIVEN)),
         }),
         seen: Seen {
-            books: (Book { peer: 2, ..TWO }, NO_COUNTS),
+            books: (Book { peer: 2, ..TWO }, NO_CALLS),
             tiles: (Book { peer: 3, ..THREE }, 0),
             ..QUIET
         },
@@ -167,7 +168,7 @@ static MEETINGS: [Case; 5] = [
                     faults: 1,
                     ..ONE
                 },
-                NO_COUNTS,
+                NO_CALLS,
             ),
             tiles: (
                 Book {
@@ -213,7 +214,7 @@ static CROWDS: [Case; 2] = [
             answers: (Ok(SECOND), Ok(SECOND), Ok(SECOND)),
         }),
         seen: Seen {
-            books: (CROWD, NO_COUNTS),
+            books: (CROWD, NO_CALLS),
             done: ([0, 1, 0, 0], 1),
             ..QUIET
         },
@@ -233,7 +234,7 @@ static CROWDS: [Case; 2] = [
             answers: (FUSED, FUSED, FUSED),
         }),
         seen: Seen {
-            books: (Book { faults: 1, ..CROWD }, NO_COUNTS),
+            books: (Book { faults: 1, ..CROWD }, NO_CALLS),
             done: ([1, 0, 0, 0], 1),
             ..QUIET
         },
@@ -259,7 +260,7 @@ static AT_ONCE: [Case; 2] = [
             (Step::Tile(Call::Get, (1, 0)), Ok(SECOND)),
         ]),
         seen: Seen {
-            books: (TWO, NO_COUNTS),
+            books: (TWO, NO_CALLS),
             done: ([1, 1, 0, 0], 2),
             ..QUIET
         },

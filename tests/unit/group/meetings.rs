@@ -1,5 +1,6 @@
 //! Calls of two threads that meet at a node.
 
+use crate::fixtures::is_same;
 use crate::group::acts::{Act, five, three, two};
 use crate::group::bars::{Bar, TURNS};
 use crate::group::calls::{Answer, Call, Step, Told, asked, called, source};
@@ -28,12 +29,12 @@ pub(crate) struct Meeting {
     /// The first load is held until the other call has joined. Else until the other is answered.
     pub joins: bool,
     pub mends: bool,
-    /// What the three come to.
+    /// The outcomes of the three.
     pub answers: (Answer, Answer, Answer),
 }
 
-/// Who makes one of the two calls. Where the first load is held until the other is answered, this thread lifts the gate behind its own
-/// call. The one that is held there can't, so it goes on only once the other has its answer.
+/// A thread that makes one of the two calls. Where the first load is held until the other is answered, this thread lifts the gate behind
+/// its own call. The one that is held there can't, so it goes on only once the other has its answer.
 #[derive(Drop)]
 struct Caller<'a, 'b, R, J: System>
 where
@@ -48,7 +49,7 @@ where
     column: u32,
 }
 
-/// What a call came to, and its pass.
+/// The outcome of a call, and its pass.
 type Came<J> = Option<(Told, Pass<TileCalls<J>>)>;
 
 impl<'a, 'b, R: Net<Stream = TcpStream> + Wait + Clock, J: System> Act<R> for Caller<'a, 'b, R, J> {
@@ -65,7 +66,7 @@ impl<'a, 'b, R: Net<Stream = TcpStream> + Wait + Clock, J: System> Act<R> for Ca
     }
 }
 
-/// Who lifts the gate once so many calls have joined. Where it is held for an answer it is left to the thread that is answered.
+/// A thread that lifts the gate once so many calls have joined. Where it is held for an answer it is left to the thread that is answered.
 #[derive(Drop)]
 struct Lifter<'a, 'b, R, J: System>
 where
@@ -142,7 +143,7 @@ where
     Some((one, other))
 }
 
-/// What is seen of two calls that meet, and of a third with the first's pass.
+/// The observations of two calls that meet, and of a third with the first's pass.
 pub(crate) fn met<'a, R, J>(
     rt: &R,
     alloc: Global,
@@ -165,8 +166,8 @@ where
     let third = called(rt, alloc, node, &mut pass, &meeting.call, at);
     let tiles = handed_in(rt, alloc, node.tiles().group(), pass, other)?;
     Ok(Seen {
-        is_right: (one.1, two.1, third.1) == meeting.answers,
-        are_same: (one.0 == two.0, third.0 == two.0),
+        is_right: is_same(&(one.1, two.1, third.1), &meeting.answers),
+        are_same: (is_same(&one.0, &two.0), is_same(&third.0, &two.0)),
         books,
         tiles,
         done: done(node, gate),
@@ -187,7 +188,7 @@ fn returned<R: Wait + Clock, J: System>(
     Some((one, two))
 }
 
-/// What is seen of four calls at once for one tile, of which one leads and is held at the gate until the three others have joined it.
+/// The observations of four calls at once for one tile, of which one leads and is held at the gate until the three others have joined it.
 pub(crate) fn crowded<R, J>(
     rt: &R,
     alloc: Global,
@@ -217,15 +218,15 @@ where
     let (three, four) = returned(rt, node, last).ok_or(ODD)?;
     let told = (one.0, meeting.answers.0);
     Ok(Seen {
-        is_right: is_lifted && [one, two, three, four] == [told, told, told, told],
+        is_right: is_lifted && is_same(&[one, two, three, four], &[told, told, told, told]),
         books: books(rt, node),
         done: done(node, gate),
         ..QUIET
     })
 }
 
-/// Who makes a step with passes of its own; where the node and another ask each other, until the other has its answer too, for which
-/// this node is served.
+/// A thread that makes a step with passes of its own; where the node and another ask each other, until the other has its answer too, for
+/// which this node is served.
 #[derive(Drop)]
 pub(crate) struct Asker<'a, 'b, R, J: System>
 where
@@ -256,7 +257,7 @@ impl<'a, 'b, R: Net<Stream = TcpStream> + Wait + Clock, J: System> Act<R> for As
     }
 }
 
-/// What is seen of two steps at once, where the first read of `a` has to meet another.
+/// The observations of two steps at once, where the first read of `a` has to meet another.
 pub(crate) fn overlapped<R, J>(
     rt: &R,
     alloc: Global,
@@ -286,7 +287,7 @@ where
     let answers = two(rt, &one, &other);
     let is_met = matches!(source(node), Some(source) if !source.bar.is_left());
     Ok(Seen {
-        is_right: answers == (*came, *others) && is_met,
+        is_right: is_same(&answers, &(*came, *others)) && is_met,
         books: books(rt, node),
         done: done(node, gate),
         ..QUIET

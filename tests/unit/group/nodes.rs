@@ -1,8 +1,7 @@
 //! Nodes over files in memory: their images, their gates, and their ways to the node that owns their keys.
 
-ghost use Rattle.std.specs.Prelude.{◌≡◌, IfOk, false, length};
-ghost use Rattle.iiif_keys.specs.Ledgers.{all_parts};
-
+use crate::fixtures::books::NO_CALLS;
+use crate::fixtures::files::{DEEP, SAMPLE};
 use crate::group::bars::Bar;
 use crate::group::crossings::Crossing;
 use crate::group::doorways::Doorway;
@@ -21,29 +20,8 @@ use std::sync::Wait;
 use std::sync::ledger::{Blank, Ledger};
 use std::time::Clock;
 
-/// A TIFF file of 4 by 4 gray samples: 10 more for each column, and 40 more for each row.
-const SAMPLE: &[u8] = &[
-    0x49, 0x49, 0x2a, 0, 0x18, 0, 0, 0, 0, 10, 20, 30, 40, 50, 60, 70, 80, 90, 100, 110, 120, 130,
-    140, 150, 9, 0, 0, 1, 3, 0, 1, 0, 0, 0, 4, 0, 0, 0, 1, 1, 3, 0, 1, 0, 0, 0, 4, 0, 0, 0, 2, 1,
-    3, 0, 1, 0, 0, 0, 8, 0, 0, 0, 3, 1, 3, 0, 1, 0, 0, 0, 1, 0, 0, 0, 6, 1, 3, 0, 1, 0, 0, 0, 1, 0,
-    0, 0, 0x11, 1, 4, 0, 1, 0, 0, 0, 8, 0, 0, 0, 0x15, 1, 3, 0, 1, 0, 0, 0, 1, 0, 0, 0, 0x16, 1, 3,
-    0, 1, 0, 0, 0, 4, 0, 0, 0, 0x17, 1, 4, 0, 1, 0, 0, 0, 0x10, 0, 0, 0, 0, 0, 0, 0,
-];
-
-/// A TIFF file of 2 by 1 gray samples of 16 bits, 0 and 65,535, low bytes first.
-const DEEP: &[u8] = &[
-    0x49, 0x49, 0x2a, 0x00, 0x0c, 0x00, 0x00, 0x00, 0x00, 0x00, 0xff, 0xff, 0x09, 0x00, 0x00, 0x01,
-    0x03, 0x00, 0x01, 0x00, 0x00, 0x00, 0x02, 0x00, 0x00, 0x00, 0x01, 0x01, 0x03, 0x00, 0x01, 0x00,
-    0x00, 0x00, 0x01, 0x00, 0x00, 0x00, 0x02, 0x01, 0x03, 0x00, 0x01, 0x00, 0x00, 0x00, 0x10, 0x00,
-    0x00, 0x00, 0x03, 0x01, 0x03, 0x00, 0x01, 0x00, 0x00, 0x00, 0x01, 0x00, 0x00, 0x00, 0x06, 0x01,
-    0x03, 0x00, 0x01, 0x00, 0x00, 0x00, 0x01, 0x00, 0x00, 0x00, 0x11, 0x01, 0x04, 0x00, 0x01, 0x00,
-    0x00, 0x00, 0x08, 0x00, 0x00, 0x00, 0x15, 0x01, 0x03, 0x00, 0x01, 0x00, 0x00, 0x00, 0x01, 0x00,
-    0x00, 0x00, 0x16, 0x01, 0x03, 0x00, 0x01, 0x00, 0x00, 0x00, 0x01, 0x00, 0x00, 0x00, 0x17, 0x01,
-    0x04, 0x00, 0x01, 0x00, 0x00, 0x00, 0x04, 0x00, 0x00, 0x00, 0x00, 0x00, 0x00, 0x00,
-];
-
 /// The images of a node: their names, their files, and which of their reads fails first. Of `a` it is said by the node's own setup.
-static IMAGES: [(&str, &[u8], u64); 3] = [("a", SAMPLE, 0), ("g", DEEP, 99), ("f", SAMPLE, 1)];
+static IMAGES: [(&str, &[u8], u64); 3] = [("a", &SAMPLE, 0), ("g", &DEEP, 99), ("f", &SAMPLE, 1)];
 
 /// Bytes for all that a scene keeps.
 pub(crate) const ROOMY: u64 = 9999;
@@ -61,13 +39,13 @@ pub(crate) struct Setup<'a> {
     pub stands: bool,
     /// The way to the owner.
     pub way: Way<'a>,
-    /// What each load passes.
+    /// The gate that each load passes.
     pub gate: &'a Bar,
     /// Where it and another ask each other.
     pub crossing: Option<Crossing<'a>>,
 }
 
-/// Who owns the keys of a node.
+/// The owner of the keys of a node.
 pub(crate) enum Owner {
     Itself,
     /// Another, which refuses with status 3.
@@ -135,9 +113,7 @@ pub(crate) fn catalogue<R: Clock>(
 }
 
 /// The ring of one node.
-fn ring(alloc: Global) -> Result<Ring, Fault>
-    ensures { IfOk result (λ ring. length ring ≡ 1) }
-{
+fn ring(alloc: Global) -> Result<Ring, Fault> {
     let Ok(name) = String::from_str(alloc, "n") else {
         return Err(Fault::NoMemory);
     };
@@ -155,12 +131,7 @@ pub(crate) fn shared<'a, K: CacheKey, J: System, L: Ledger>(
     alloc: Global,
     setup: &'a Setup<'a>,
     blank: Blank,
-) -> Result<Group<K, J, L, Peer<'a, J>, &'a Bar>, Fault>
-    requires name { blank.name ≡ L.name }
-    requires parts { blank.parts ≡ L.parts }
-    requires all { L.parts ≡ all_parts }
-    requires honest { J.honest ≡ false }
-{
+) -> Result<Group<K, J, L, Peer<'a, J>, &'a Bar>, Fault> {
     let ring = ring(alloc)?;
     let Ok(links) = Vec::from_array(alloc, [Peer::new(alloc, &setup.way)]) else {
         return Err(Fault::NoMemory);
@@ -188,26 +159,13 @@ pub(crate) fn books<R: Wait + Clock, J: System>(rt: &R, node: &Node<'_, R, J>) -
     (node.tiles().group().book(rt), node.sums().book(rt))
 }
 
-/// No call.
-pub(crate) const NO_COUNTS: Book = Book {
-    gets: 0,
-    hits: 0,
-    joins: 0,
-    leads: 0,
-    again_hits: 0,
-    loads: 0,
-    peer: 0,
-    landed: 0,
-    faults: 0,
-};
-
 /// So many calls, each of which led and loaded.
 pub(crate) const ONE: Book = Book {
     gets: 1,
     leads: 1,
     loads: 1,
     landed: 1,
-    ..NO_COUNTS
+    ..NO_CALLS
 };
 
 pub(crate) const TWO: Book = Book {
@@ -215,7 +173,7 @@ pub(crate) const TWO: Book = Book {
     leads: 2,
     loads: 2,
     landed: 2,
-    ..NO_COUNTS
+    ..NO_CALLS
 };
 
 pub(crate) const THREE: Book = Book {
@@ -223,7 +181,7 @@ pub(crate) const THREE: Book = Book {
     leads: 3,
     loads: 3,
     landed: 3,
-    ..NO_COUNTS
+    ..NO_CALLS
 };
 
 pub(crate) const FOUR: Book = Book {
@@ -231,7 +189,7 @@ pub(crate) const FOUR: Book = Book {
     leads: 4,
     loads: 4,
     landed: 4,
-    ..NO_COUNTS
+    ..NO_CALLS
 };
 
 pub(crate) const FIVE: Book = Book {
@@ -239,7 +197,7 @@ pub(crate) const FIVE: Book = Book {
     leads: 5,
     loads: 5,
     landed: 5,
-    ..NO_COUNTS
+    ..NO_CALLS
 };
 
 pub(crate) const SIX: Book = Book {
@@ -247,7 +205,7 @@ pub(crate) const SIX: Book = Book {
     leads: 6,
     loads: 6,
     landed: 6,
-    ..NO_COUNTS
+    ..NO_CALLS
 };
 
 pub(crate) const SEVEN: Book = Book {
@@ -255,5 +213,5 @@ pub(crate) const SEVEN: Book = Book {
     leads: 7,
     loads: 7,
     landed: 7,
-    ..NO_COUNTS
+    ..NO_CALLS
 };

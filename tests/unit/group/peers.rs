@@ -1,7 +1,5 @@
 //! Ways to the node that owns a node's keys.
 
-ghost use Rattle.std.specs.Prelude.{◌≡◌, false};
-
 use crate::group::bars::Bar;
 use crate::group::calls::Numbers;
 use iiif_group::{Link, LinkFault, NoLink};
@@ -56,9 +54,7 @@ pub(crate) struct Peer<'a, J: System> {
 }
 
 impl<'a, J: System> Peer<'a, J> {
-    pub(crate) fn new(alloc: Global, way: &'a Way<'a>) -> Peer<'a, J>
-        requires { J.honest ≡ false }
-    {
+    pub(crate) fn new(alloc: Global, way: &'a Way<'a>) -> Peer<'a, J> {
         Peer {
             alloc,
             way,

@@ -1,13 +1,13 @@
 //! Steps at a node: each public call, owners that are asked, sources that fail, caches that keep nothing, and growths of memory that are
 //! refused.
 
+use crate::fixtures::books::NO_CALLS;
+use crate::fixtures::is_same;
 use crate::group::bars::Bar;
 use crate::group::calls::{Call, FIRST, HALVED, LAST, NONE, SECOND, Step, WHOLE};
 use crate::group::cases::{Case, first_wrong};
 use crate::group::meeting_tests::{FOR_ONE_TILE, JOINED};
-use crate::group::nodes::{
-    FIVE, FOUR, NO_COUNTS, ONE, Owner, ROOMY, SEVEN, SIX, Setup, THREE, TWO, way_to,
-};
+use crate::group::nodes::{FIVE, FOUR, ONE, Owner, ROOMY, SEVEN, SIX, Setup, THREE, TWO, way_to};
 use crate::group::peers::GIVEN;
 use crate::group::runs::Stages;
 use crate::group::scenes::{QUIET, Scene, Seen, played};
@@ -29,7 +29,7 @@ const TEN: Book = Book {
     leads: 10,
     loads: 10,
     landed: 10,
-    ..NO_COUNTS
+    ..NO_CALLS
 };
 
 const ELEVEN: Book = Book {
@@ -37,7 +37,7 @@ const ELEVEN: Book = Book {
     leads: 11,
     loads: 11,
     landed: 11,
-    ..NO_COUNTS
+    ..NO_CALLS
 };
 
 /// The fault of the first read, which is of the samples.
@@ -69,7 +69,7 @@ static EACH_CALL: [Case; 4] = [
             hands_in: false,
         }),
         seen: Seen {
-            books: (THREE, NO_COUNTS),
+            books: (THREE, NO_CALLS),
             tiles: (
                 Book {
                     gets: 7,
@@ -149,7 +149,7 @@ static EACH_CALL: [Case; 4] = [
             hands_in: false,
         }),
         seen: Seen {
-            books: (ONE, NO_COUNTS),
+            books: (ONE, NO_CALLS),
             // A tile is got, and then the four below the sums, of which that is one.
             tiles: (
                 Book {
@@ -200,7 +200,7 @@ static NEVER_KEPT: [Case; 2] = [
         }),
         // Three calls, and then twice the whole, its four parts, and the tile of each.
         seen: Seen {
-            books: (THREE, NO_COUNTS),
+            books: (THREE, NO_CALLS),
             tiles: (ELEVEN, 11),
             sums: (TEN, 10),
             done: ([5, 2, 2, 2], 21),
@@ -217,7 +217,7 @@ static NEVER_KEPT: [Case; 2] = [
         scene: Scene::Meets(FOR_ONE_TILE),
         seen: Seen {
             are_same: (true, false),
-            books: (JOINED, NO_COUNTS),
+            books: (JOINED, NO_CALLS),
             tiles: (JOINED_AND_ONE, 0),
             done: ([2, 0, 0, 0], 2),
             ..QUIET
@@ -231,7 +231,7 @@ fn cache_of_one_byte_keeps_nothing_and_each_call_has_its_value(rt: HostRuntime) 
     assert!(rt; wrong.is_empty(), "{wrong}");
 }
 
-/// Who owns the keys of a node, and a call for the tile (0, 0) of `a`.
+/// The owner of the keys of a node, and a call for the tile (0, 0) of `a`.
 static OWNERS: [Case; 5] = [
     Case {
         what: "A node loads what it owns.",
@@ -246,7 +246,7 @@ static OWNERS: [Case; 5] = [
             hands_in: false,
         }),
         seen: Seen {
-            books: (ONE, NO_COUNTS),
+            books: (ONE, NO_CALLS),
             tiles: (ONE, 1),
             done: ([1, 0, 0, 0], 1),
             ..QUIET
@@ -265,7 +265,7 @@ static OWNERS: [Case; 5] = [
             hands_in: false,
         }),
         seen: Seen {
-            books: (Book { peer: 1, ..ONE }, NO_COUNTS),
+            books: (Book { peer: 1, ..ONE }, NO_CALLS),
             tiles: (Book { peer: 1, ..ONE }, 1),
             ..QUIET
         },
@@ -283,7 +283,7 @@ static OWNERS: [Case; 5] = [
             hands_in: false,
         }),
         seen: Seen {
-            books: (ONE, NO_COUNTS),
+            books: (ONE, NO_CALLS),
             tiles: (ONE, 1),
             done: ([1, 0, 0, 0], 1),
             ..QUIET
@@ -302,7 +302,7 @@ static OWNERS: [Case; 5] = [
             hands_in: false,
         }),
         seen: Seen {
-            books: (TWO, NO_COUNTS),
+            books: (TWO, NO_CALLS),
             tiles: (TWO, 2),
             done: ([1, 0, 0, 0], 1),
             ..QUIET
@@ -321,7 +321,7 @@ static OWNERS: [Case; 5] = [
             hands_in: false,
         }),
         seen: Seen {
-            books: (TWO, NO_COUNTS),
+            books: (TWO, NO_CALLS),
             tiles: (TWO, 2),
             done: ([1, 0, 0, 0], 1),
             ..QUIET
@@ -338,9 +338,9 @@ fn owner_is_asked_and_a_bad_reply_leads_to_a_load(rt: HostRuntime) {
 /// Whether each call is counted once, and each flight has landed.
 fn is_settled(book: &Book) -> bool {
     let calls = book.hits.saturating_add(book.joins);
-    calls.saturating_add(book.leads) == book.gets
-        && book.leads == book.landed
-        && book.again_hits.saturating_add(book.loads) == book.landed
+    is_same(&calls.saturating_add(book.leads), &book.gets)
+        && is_same(&book.leads, &book.landed)
+        && is_same(&book.again_hits.saturating_add(book.loads), &book.landed)
         && book.faults <= book.loads
 }
 
@@ -375,7 +375,7 @@ fn facts(seen: &Seen) -> [bool; 5] {
         seen.books.1.hits < sums.hits,
         seen.is_refused || *tiles == FOUR && (*sums == KEPT || *sums == ANEW),
         seen.is_refused || seen.done.0 == [1, 1, 1, 1],
-        seen.sums.1 == 0,
+        is_same(&seen.sums.1, &0),
     ]
 }
 
@@ -392,6 +392,6 @@ fn sums_and_books_are_right_after_a_refused_growth(rt: HostRuntime) -> Result<()
         crossing: None,
     };
     let facts = facts(&played(&rt, rt.alloc(), &setup, &TWICE)?);
-    assert!(rt; facts == [true; 5], "{facts:?}");
+    assert!(rt; is_same(&facts, &[true; 5]), "{facts:?}");
     Ok(())
 }

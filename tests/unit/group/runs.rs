@@ -1,5 +1,6 @@
 //! Steps of one thread at a node.
 
+use crate::fixtures::is_same;
 use crate::group::bars::Bar;
 use crate::group::calls::{Answer, Step, asked, source};
 use crate::group::nodes::{Node, books, passes};
@@ -42,12 +43,12 @@ fn stepped<R: Net<Stream = TcpStream> + Wait + Clock, J: System>(
             is_refused = true;
             answer = asked(rt, alloc, node, passes, step);
         }
-        is_right &= answer == *wanted;
+        is_right &= is_same(&answer, wanted);
     }
     (is_right, is_refused)
 }
 
-/// What was counted, and the share that was home, where all passes but these are. Then all is home: gathered again it is the same.
+/// The counts, and the share that was home, where all passes but these are. Then all is home: gathered again it is the same.
 fn gathered<K: CacheKey, J: System, L: Ledger, N, T, R: Wait>(
     rt: &R,
     alloc: Global,
@@ -63,7 +64,7 @@ fn gathered<K: CacheKey, J: System, L: Ledger, N, T, R: Wait>(
     }
 }
 
-/// What was counted, and the share that came home: in vain with one pass kept back, and then with both handed in.
+/// The counts, and the share that came home: in vain with one pass kept back, and then with both handed in.
 pub(crate) fn handed_in<K: CacheKey, J: System, L: Ledger, N, T, R: Wait>(
     rt: &R,
     alloc: Global,
@@ -83,7 +84,7 @@ pub(crate) fn handed_in<K: CacheKey, J: System, L: Ledger, N, T, R: Wait>(
     gathered(rt, alloc, group, back)
 }
 
-/// What was counted, and the share that came home with a pass that is given back, where no other is out; or that is handed in beside
+/// The counts, and the share that came home with a pass that is given back, where no other is out; or that is handed in beside
 /// another.
 fn home<K: CacheKey, J: System, L: Ledger, N, T, R: Wait>(
     rt: &R,
@@ -102,7 +103,7 @@ fn home<K: CacheKey, J: System, L: Ledger, N, T, R: Wait>(
     gathered(rt, alloc, group, Vec::new(alloc))
 }
 
-/// What was read and passed so far.
+/// The reads and passings so far.
 pub(crate) fn done<R: Clock, J: System>(node: &Node<'_, R, J>, gate: &Bar) -> Done {
     match source(node) {
         Some(source) => (source.reads(), gate.passings()),
@@ -110,7 +111,7 @@ pub(crate) fn done<R: Clock, J: System>(node: &Node<'_, R, J>, gate: &Bar) -> Do
     }
 }
 
-/// What is seen of steps.
+/// The observations of steps.
 pub(crate) fn ran<R: Net<Stream = TcpStream> + Wait + Clock, J: System>(
     rt: &R,
     alloc: Global,
@@ -128,7 +129,7 @@ pub(crate) fn ran<R: Net<Stream = TcpStream> + Wait + Clock, J: System>(
     let sums = home(rt, alloc, node.sums(), sum, stages.hands_in);
     let (tiles, sums) = (tiles?, sums?);
     Ok(Seen {
-        is_right: first.0 && then.0 && last == (tiles.0, sums.0),
+        is_right: first.0 && then.0 && is_same(&last, &(tiles.0, sums.0)),
         is_refused: first.1 || then.1,
         books: between,
         tiles,
@@ -153,7 +154,7 @@ pub(crate) fn gives_out<R: Wait + Clock, J: System>(
         given = given.saturating_add(1);
     }
     Seen {
-        is_right: given == count && group.pass(rt).is_none(),
+        is_right: is_same(&given, &count) && group.pass(rt).is_none(),
         ..QUIET
     }
 }

@@ -1,15 +1,10 @@
-//! What happens at a node that is made for it, and what is seen there.
+//! Scenes at nodes that are made for them, and the observations there.
 
-ghost use Rattle.std.specs.Prelude.{◌≡◌, ℕ, List, Some, false};
-ghost use Rattle.iiif_source.specs.declared.ReadFault.{ReadFault};
-ghost use Rattle.iiif_images.specs.Collection.{Item, item_named};
-ghost use Rattle.iiif_images.specs.Named.{gave_of, pictures_of};
-ghost use Rattle.iiif_keys.specs.Ledgers.{all_parts};
-
+use crate::fixtures::books::NO_CALLS;
 use crate::group::crossings::{crossed, serves};
 use crate::group::doorways::{Doorway, Reads};
 use crate::group::meetings::{Meeting, crowded, met, overlapped};
-use crate::group::nodes::{NO_COUNTS, Node, Setup, catalogue, shared};
+use crate::group::nodes::{Node, Setup, catalogue, shared};
 use crate::group::runs::{Stages, Steps, gives_out, ran};
 use iiif_images::{Catalogue, Images};
 use iiif_keys::{Fault, PARTS, System};
@@ -24,7 +19,7 @@ use std::sync::ledger::Blank;
 use std::thread::Threads;
 use std::time::Clock;
 
-/// What happens at a node.
+/// A scene at a node.
 pub(crate) enum Scene {
     /// Steps, one after another.
     Runs(Stages),
@@ -42,8 +37,8 @@ pub(crate) enum Scene {
     Crosses,
 }
 
-/// What is seen at a node.
-#[derive(Clone, Copy, PartialEq, Eq)]
+/// The observations at a node.
+#[derive(Clone, Copy, Debug, PartialEq, Eq)]
 pub(crate) struct Seen {
     /// All came to what was wanted.
     pub is_right: bool,
@@ -55,13 +50,13 @@ pub(crate) struct Seen {
     pub books: (Book, Book),
     /// The book of the tiles in the end, and the share of it that had come home.
     pub tiles: (Book, u64),
-    /// The same of the sums.
+    /// The book of the sums so, and their share.
     pub sums: (Book, u64),
-    /// What was read and passed in the end, which no book has counted.
+    /// The reads and passings in the end, which no book has counted.
     pub done: Done,
 }
 
-/// What loads do: how often each tile of `a` was read, and how often the gate was passed.
+/// The work of loads: how often each tile of `a` was read, and how often the gate was passed.
 pub(crate) type Done = (Reads, u64);
 
 /// Says of a scene that no pass or thread came as it has to: no image is without a name there.
@@ -72,13 +67,13 @@ pub(crate) const QUIET: Seen = Seen {
     is_right: true,
     is_refused: false,
     are_same: (false, false),
-    books: (NO_COUNTS, NO_COUNTS),
-    tiles: (NO_COUNTS, 0),
-    sums: (NO_COUNTS, 0),
+    books: (NO_CALLS, NO_CALLS),
+    tiles: (NO_CALLS, 0),
+    sums: (NO_CALLS, 0),
     done: ([0, 0, 0, 0], 0),
 };
 
-/// What is seen of a scene at a node.
+/// Plays a scene at a node.
 fn shown<'a, R, J>(
     rt: &R,
     alloc: Global,
@@ -101,7 +96,7 @@ where
     }
 }
 
-/// The same at a node over the images of a catalogue, at tiles of 2 by 2.
+/// Plays it at a node over the images of a catalogue, at tiles of 2 by 2.
 fn seen_over<R, J>(
     rt: &R,
     alloc: Global,
@@ -114,14 +109,6 @@ fn seen_over<R, J>(
 where
     R: Net<Listener = TcpListener, Stream = TcpStream> + Threads + Wait + Clock + Send + Sync,
     J: System + Send + Sync,
-    requires pictures { (name : List ℕ) → J.pictures name ≡ pictures_of ⟦<Doorway as Source<R>>⟧.bytes catalogue name }
-    requires gave { (name : List ℕ) (f : ReadFault) → J.gave name f ≡ gave_of ⟦<Doorway as Source<R>>⟧.gave catalogue name f }
-    requires stable { (name : List ℕ) (item : Item _) → item_named catalogue name ≡ Some item → J.stable name →
-        ∥ ⟦<Doorway as Source<R>>⟧.keeps item.source ∥₁ }
-    requires edge { J.edge ≡ 2 }
-    requires tiles { (tiles.name ≡ J.tiles_name) × (tiles.parts ≡ J.tiles_parts) × (J.tiles_parts ≡ all_parts) }
-    requires sums { (sums.name ≡ J.sums_name) × (sums.parts ≡ J.sums_parts) × (J.sums_parts ≡ all_parts) }
-    requires honest { J.honest ≡ false }
 {
     let images = Images::new(alloc, catalogue, 2);
     let near = shared(alloc, setup, tiles)?;
@@ -142,7 +129,7 @@ fn catalogue_twice<R: Clock>(
     }
 }
 
-/// What is seen of a scene at a node that is set up for it.
+/// Plays a scene at a node that is set up for it.
 pub(crate) fn played<R>(
     rt: &R,
     alloc: Global,

@@ -1,5 +1,6 @@
 //! Images named by words and by the lines of texts.
 
+use crate::fixtures::{is_missing, is_same, is_unwanted, is_written};
 use iiif_image_list::{Fault, ImageList, ListFault};
 use std::alloc::Global;
 use std::process::Abort;
@@ -25,7 +26,7 @@ enum Step {
 fn has_images(list: &ImageList<'_>, images: &[(&str, &str)]) -> bool {
     let mut rest = images.iter();
     for (name, file) in list.iter() {
-        if rest.next() != Some(&(*name, *file)) {
+        if !is_same(&rest.next(), &Some(&(*name, *file))) {
             return false;
         }
     }
@@ -36,7 +37,7 @@ fn has_images(list: &ImageList<'_>, images: &[(&str, &str)]) -> bool {
 fn is_named_again(list: &mut ImageList<'static>, word: &'static str) -> bool {
     match list.add(word) {
         Ok(()) => true,
-        Err(fault) => fault == Fault::NoMemory && list.add(word) == Ok(()),
+        Err(fault) => is_same(&fault, &Fault::NoMemory) && is_same(&list.add(word), &Ok(())),
     }
 }
 
@@ -46,8 +47,8 @@ fn goes_on(list: &mut ImageList<'static>, text: &'static [u8]) -> bool {
     match list.add_text(text) {
         Ok(()) => true,
         Err(stop) => {
-            let told = stop.fault == Fault::NoMemory && stop.line == 1;
-            told && has_images(list, &[]) && list.add_text(text) == Ok(())
+            let told = is_same(&stop.fault, &Fault::NoMemory) && is_same(&stop.line, &1);
+            told && has_images(list, &[]) && is_same(&list.add_text(text), &Ok(()))
         }
     }
 }
@@ -55,11 +56,11 @@ fn goes_on(list: &mut ImageList<'static>, text: &'static [u8]) -> bool {
 /// Whether a step comes to what it is to.
 fn is_right(list: &mut ImageList<'static>, step: Step) -> bool {
     match step {
-        Step::Word(word) => list.add(word) == Ok(()),
-        Step::Refused(word, fault) => list.add(word) == Err(fault),
+        Step::Word(word) => is_same(&list.add(word), &Ok(())),
+        Step::Refused(word, fault) => is_same(&list.add(word), &Err(fault)),
         Step::WordAgain(word) => is_named_again(list, word),
         Step::TextAgain(text) => goes_on(list, text),
-        Step::Has(name, has) => list.has(name) == has,
+        Step::Has(name, has) => is_same(&list.has(name), &has),
         Step::Images(images) => has_images(list, images),
     }
 }
@@ -99,8 +100,8 @@ const IMAGES: &[(&str, &str)] = &[
 /// Whether the pairs of a list are these images.
 fn makes_pairs(alloc: Global, list: ImageList<'_>, images: &[(&str, &str)]) -> bool {
     match list.into_pairs(alloc) {
-        Ok(pairs) => pairs.as_slice() == images,
-        Err(_) => false,
+        Ok(pairs) => is_same(&pairs.as_slice(), &images),
+        Err(fault) => is_unwanted(&fault),
     }
 }
 
@@ -134,7 +135,7 @@ fn word_with_name_of(alloc: Global, bytes: u32) -> Option<String> {
 /// Whether a word is refused for its name, and another is taken after it.
 fn is_longer(alloc: Global, longer: &str, longest: &str) -> bool {
     let mut list = ImageList::new(alloc);
-    list.add(longer) == Err(Fault::Name) && list.add(longest) == Ok(())
+    is_same(&list.add(longer), &Err(Fault::Name)) && is_same(&list.add(longest), &Ok(()))
 }
 
 /// Whether a name of so many bytes is refused, and one of so many others is taken after it.
@@ -172,7 +173,7 @@ static TEXTS: [(&str, &[(&str, &str)]); 10] = [
 /// Whether the lines of a text name just these images.
 fn names(alloc: Global, text: &str, images: &[(&str, &str)]) -> bool {
     let mut list = ImageList::new(alloc);
-    list.add_text(text.as_bytes()) == Ok(()) && has_images(&list, images)
+    is_same(&list.add_text(text.as_bytes()), &Ok(())) && has_images(&list, images)
 }
 
 #[test]
@@ -206,9 +207,9 @@ static FAULTS: [(&[u8], u64, Fault); 16] = [
 /// UTF-8.
 fn is_refused(alloc: Global, text: &[u8], line: u64, fault: Fault) -> bool {
     let mut list = ImageList::new(alloc);
-    list.add("first=one.tif") == Ok(())
-        && list.add_text(text) == Err(ListFault { line, fault })
-        && list.has("a") == (line > 1 && fault != Fault::Encoding)
+    is_same(&list.add("first=one.tif"), &Ok(()))
+        && is_same(&list.add_text(text), &Err(ListFault { line, fault }))
+        && is_same(&list.has("a"), &(line > 1 && fault != Fault::Encoding))
         && list.has("first")
 }
 
@@ -219,29 +220,27 @@ fn first_line_at_fault_is_told(rt: HostRuntime) {
     }
 }
 
-/// Whether a line's fault is written so.
-fn is_said(alloc: Global, fault: ListFault, text: &str) -> bool {
-    match format!(in alloc; "{fault}") {
-        Ok(said) => said.as_str() == text,
-        Err(_) => false,
-    }
-}
-
 #[test]
 fn faults_are_said_in_words(rt: HostRuntime) {
     let fault = ListFault {
         line: 12,
         fault: Fault::Twice,
     };
-    assert!(rt; is_said(rt.alloc(), fault, "line 12: there is an image of that name"));
+    assert!(rt;
+        is_written(
+            rt.alloc(),
+            &fault,
+            "line 12: there is an image of that name"
+        )
+    );
     let fault = ListFault {
         line: 3,
         fault: Fault::Blank,
     };
     assert!(rt;
-        is_said(
+        is_written(
             rt.alloc(),
-            fault,
+            &fault,
             "line 3: there is a blank before or behind the name"
         )
     );
@@ -287,18 +286,18 @@ fn twenty_thousand_lines(alloc: Global) -> Option<String> {
 /// Whether all images of that text are named, and no word names one of them again.
 fn tells_them_apart(alloc: Global, text: &str) -> bool {
     let mut list = ImageList::new(alloc);
-    list.add_text(text.as_bytes()) == Ok(())
+    is_same(&list.add_text(text.as_bytes()), &Ok(()))
         && list.has("scan-0")
         && list.has("scan-19999")
-        && list.add("scan-7=x") == Err(Fault::Twice)
-        && list.add("scan-20000=x") == Ok(())
+        && is_same(&list.add("scan-7=x"), &Err(Fault::Twice))
+        && is_same(&list.add("scan-20000=x"), &Ok(()))
 }
 
 /// Whether the names of that text are told apart.
 fn are_told_apart(alloc: Global) -> bool {
     match twenty_thousand_lines(alloc) {
         Some(text) => tells_them_apart(alloc, text.as_str()),
-        None => false,
+        None => is_missing(),
     }
 }
 

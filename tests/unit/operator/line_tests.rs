@@ -1,5 +1,6 @@
 //! Lines of answers. The instants were taken from `date -u -d @SECONDS +%FT%T`.
 
+use crate::fixtures::{is_same_text, is_unwanted};
 use iiif_log::{Answered, Moment, Outcome, line_bytes, lost_line_bytes};
 use std::alloc::Global;
 
@@ -25,8 +26,8 @@ fn is_right(alloc: Global, row: &Row) -> bool {
         millis: row.millis,
     };
     match line_bytes(alloc, &answered) {
-        Ok(line) => line.as_slice() == row.line,
-        Err(_) => false,
+        Ok(line) => is_same_text(line.as_slice(), row.line),
+        Err(fault) => is_unwanted(&fault),
     }
 }
 
@@ -41,7 +42,7 @@ static WHOLE: Row = Row {
 };
 
 #[test]
-fn a_whole_answer(rt: HostRuntime) {
+fn whole_answer_has_its_line(rt: HostRuntime) {
     assert!(rt; is_right(rt.alloc(), &WHOLE));
 }
 
@@ -56,7 +57,7 @@ static CUT: Row = Row {
 };
 
 #[test]
-fn an_answer_that_was_cut_off(rt: HostRuntime) {
+fn cut_answer_has_its_line(rt: HostRuntime) {
     assert!(rt; is_right(rt.alloc(), &CUT));
 }
 
@@ -71,24 +72,24 @@ static NO_CALL: Row = Row {
 };
 
 #[test]
-fn an_answer_to_no_call(rt: HostRuntime) {
+fn answer_to_no_call_has_its_line(rt: HostRuntime) {
     assert!(rt; is_right(rt.alloc(), &NO_CALL));
 }
 
 /// Whether this is the line that tells of so many lost.
 fn is_lost_line(alloc: Global, lost: u64, wanted: &[u8]) -> bool {
     match lost_line_bytes(alloc, lost) {
-        Ok(line) => line.as_slice() == wanted,
-        Err(_) => false,
+        Ok(line) => is_same_text(line.as_slice(), wanted),
+        Err(fault) => is_unwanted(&fault),
     }
 }
 
 #[test]
-fn lost_lines(rt: HostRuntime) {
+fn lost_lines_are_counted_in_a_line(rt: HostRuntime) {
     assert!(rt; is_lost_line(rt.alloc(), 12, b"lost 12\n"));
 }
 
 #[test]
-fn the_clock_is_past_2026(rt: HostRuntime) {
+fn clock_is_past_2023(rt: HostRuntime) {
     assert!(rt; Moment::now(&rt).millis > 1_700_000_000_000);
 }

@@ -1,5 +1,6 @@
 //! The queue, and the thread that writes.
 
+use crate::fixtures::{is_same, is_same_text, is_unwanted};
 use iiif_io::Outlet;
 use iiif_io::fakes::FailingWriter;
 use iiif_log::log::write_line;
@@ -54,8 +55,9 @@ fn are_taken(alloc: Global, queue: &mut Queue, count: u32) -> bool {
 /// Whether a line is taken that has this text and so many lost before it.
 fn is_line(alloc: Global, queue: &mut Queue, lost: u64, text: &[u8]) -> bool {
     match queue.take(alloc) {
-        Taken::Line(line) => line.lost == lost && line.text.as_slice() == text,
-        _ => false,
+        Taken::Line(line) => is_same(&line.lost, &lost) && is_same_text(line.text.as_slice(), text),
+        Taken::Closed => is_unwanted(&"closed"),
+        _ => is_unwanted(&"no line"),
     }
 }
 
@@ -105,7 +107,7 @@ fn a_full_queue_counts_what_it_loses(rt: HostRuntime) -> Result<(), Fail> {
     Ok(())
 }
 
-/// What comes of the write of a line before which 2 were lost, where so many more are to be told of.
+/// The outcome of the write of a line before which 2 were lost, where so many more are to be told of.
 fn came_of<W: Outlet>(alloc: Global, out: &mut W, unsaid: u64) -> Option<Result<(), u64>> {
     let line = Line {
         lost: 2,
@@ -121,13 +123,15 @@ fn is_cut(alloc: Global, room: usize, piece: usize, taken: &[u8], left: u64) -> 
         room,
         piece,
     };
-    came_of(alloc, &mut out, 4) == Some(Err(left)) && out.taken.as_slice() == taken
+    is_same(&came_of(alloc, &mut out, 4), &Some(Err(left)))
+        && is_same_text(out.taken.as_slice(), taken)
 }
 
 /// Whether all is written where there is room.
 fn is_written(alloc: Global) -> bool {
     let mut out = Vec::new(alloc);
-    came_of(alloc, &mut out, 7) == Some(Ok(())) && out.as_slice() == b"lost 9\nline\n".as_slice()
+    is_same(&came_of(alloc, &mut out, 7), &Some(Ok(())))
+        && is_same_text(out.as_slice(), b"lost 9\nline\n")
 }
 
 #[test]
@@ -168,6 +172,6 @@ fn a_thread_writes_what_is_told(rt: HostRuntime) -> Result<(), Fail> {
     );
     let wanted =
         b"1970-01-01T00:00:00.000Z GET 200 3 1 /a\n1970-01-01T00:00:00.000Z GET 200 3 1 /b\n";
-    assert!(rt; written.as_slice() == wanted.as_slice());
+    assert!(rt; is_same_text(written.as_slice(), wanted.as_slice()));
     Ok(())
 }

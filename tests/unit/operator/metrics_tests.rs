@@ -1,5 +1,6 @@
 //! The answers to who asks for the counters.
 
+use crate::fixtures::{has_end, has_start, is_same, is_same_text, is_unwanted};
 use iiif_breaker::{Asks, Durations, State};
 use iiif_io::fakes::{FailingReader, FailingWriter};
 use iiif_metrics::{
@@ -15,7 +16,7 @@ struct Fixed {
     services: Services,
 }
 
-/// Those of a node that asks others and isn't asked.
+/// The services of a node that asks others and isn't asked.
 const WELL: Fixed = Fixed {
     services: Services {
         viewers: Service::GoesOn,
@@ -25,7 +26,7 @@ const WELL: Fixed = Fixed {
     },
 };
 
-/// The same where the log's thread is gone.
+/// These services where the log's thread is gone.
 const ILL: Fixed = Fixed {
     services: Services {
         viewers: Service::GoesOn,
@@ -183,7 +184,7 @@ iiif_peer_asks_total{peer=\"b\\\"\\\\\\n\u{e9}\",outcome=\"left_alone\"} 35
 iiif_peer_state{peer=\"b\\\"\\\\\\n\u{e9}\"} 2
 ";
 
-/// What is written for this input.
+/// The answer to this input.
 fn answered<R>(rt: &R, alloc: Global, input: &[u8]) -> Vec<u8> {
     let mut out = Vec::new(alloc);
     let _ = serve_metrics(rt, alloc, &WELL, input, &mut out);
@@ -196,28 +197,28 @@ fn is_text(alloc: Global, begin: &[u8], end: &[u8]) -> bool {
         return false;
     };
     match metrics_text(alloc, &metrics(), &peers) {
-        Ok(text) => text.starts_with(begin) && text.ends_with(end),
-        Err(_) => false,
+        Ok(text) => has_start(&text, begin) && has_end(&text, end),
+        Err(fault) => is_unwanted(&fault),
     }
 }
 
 #[test]
-fn the_text(rt: HostRuntime) {
+fn text_has_each_counter(rt: HostRuntime) {
     assert!(rt; is_text(rt.alloc(), TEXT.as_bytes(), END.as_bytes()));
 }
 
-/// What is written for a call of the counters, before their number of bytes.
+/// The answer to a call of the counters, before their number of bytes.
 const HEAD: &[u8] =
     b"HTTP/1.1 200 OK\r\nContent-Type: text/plain; version=0.0.4\r\nContent-Length: ";
 
 /// Whether what is written for this input begins and ends so.
 fn is_answered<R>(rt: &R, alloc: Global, input: &[u8], begin: &[u8], end: &[u8]) -> bool {
     let out = answered(rt, alloc, input);
-    out.starts_with(begin) && out.ends_with(end)
+    has_start(&out, begin) && has_end(&out, end)
 }
 
 #[test]
-fn get_of_the_counters(rt: HostRuntime) {
+fn get_of_the_counters_is_answered(rt: HostRuntime) {
     let input = b"GET /metrics HTTP/1.1\r\nHost: a\r\n\r\n".as_slice();
     assert!(rt; is_answered(&rt, rt.alloc(), input, HEAD, END.as_bytes()));
 }
@@ -227,11 +228,11 @@ fn is_health<R>(rt: &R, alloc: Global, source: &Fixed, wanted: &[u8]) -> bool {
     let input = b"GET /health HTTP/1.1\r\nHost: a\r\n\r\n".as_slice();
     let mut out = Vec::new(alloc);
     let _ = serve_metrics(rt, alloc, source, input, &mut out);
-    out.as_slice() == wanted
+    is_same_text(out.as_slice(), wanted)
 }
 
 #[test]
-fn get_of_the_health(rt: HostRuntime) {
+fn get_of_the_health_is_answered(rt: HostRuntime) {
     let well =
         b"HTTP/1.1 200 OK\r\nContent-Type: text/plain\r\nContent-Length: 32\r\nConnection: close\r\n\r\n\
             viewers ok\nstatistics ok\nlog ok\n"
@@ -262,11 +263,11 @@ static REFUSED: [(&[u8], &[u8]); 3] = [
 
 /// Whether just this is written for this input.
 fn is_written<R>(rt: &R, alloc: Global, input: &[u8], wanted: &[u8]) -> bool {
-    answered(rt, alloc, input).as_slice() == wanted
+    is_same(&answered(rt, alloc, input).as_slice(), &wanted)
 }
 
 #[test]
-fn another_target_and_another_method(rt: HostRuntime) {
+fn other_targets_and_methods_are_refused(rt: HostRuntime) {
     for (place, (input, wanted)) in REFUSED.iter().enumerate() {
         assert!(rt; is_written(&rt, rt.alloc(), input, wanted), "call {place}");
     }
@@ -292,11 +293,11 @@ fn is_cut<R>(rt: &R, alloc: Global) -> bool {
     };
     let input = b"GET / HTTP/1.1\r\n\r\n".as_slice();
     serve_metrics(rt, alloc, &WELL, input, &mut out).is_ok()
-        && out.taken.as_slice() == b"HTTP/1.1 404 Not Fou".as_slice()
+        && is_same_text(out.taken.as_slice(), b"HTTP/1.1 404 Not Fou")
 }
 
 #[test]
-fn no_call_and_devices_that_fail(rt: HostRuntime) {
+fn cut_heads_and_failing_devices_get_no_whole_answer(rt: HostRuntime) {
     assert!(rt; is_written(&rt, rt.alloc(), b"", b""));
     assert!(rt; is_written(&rt, rt.alloc(), b"GET /metr", b""));
     assert!(rt; is_unanswered(&rt, rt.alloc()));

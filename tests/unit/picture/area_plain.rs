@@ -1,6 +1,7 @@
 //! The plain way, to compare with: place by place, by the definition. A weight is counted part by part, and every place of
 //! the part is gone through. Sums wrap, so that nothing is to be proved of them.
 
+use crate::fixtures::rasters::sample_or_zero;
 use iiif_pixel::{Dim, Raster, Rect};
 
 /// How many of the `a * c` parts of a line lie both in result column `i` (`a` parts each) and in source column `x` (`c`
@@ -15,16 +16,6 @@ fn counted_weight(i: u32, x: u32, a: u32, c: u32) -> u64 {
         }
     }
     count
-}
-
-/// The sample at a place; 0 outside the picture.
-pub(crate) fn sample(picture: &Raster, x: u32, y: u32, channel: usize) -> u64 {
-    let dim = picture.dim();
-    if x < dim.w && y < dim.h && channel < picture.kind().channels() {
-        u64::from(picture.get(x, y, channel))
-    } else {
-        0
-    }
 }
 
 /// The sum at result place (`i`, `j`) in a channel over those places of a region that `at` has too, both in the picture's
@@ -50,7 +41,9 @@ pub(crate) fn sum_at(
                 let weight = counted_weight(i, x, region.w, size.w).wrapping_mul(counted_weight(
                     j, y, region.h, size.h,
                 ));
-                sum = sum.wrapping_add(weight.wrapping_mul(sample(picture, column, row, channel)));
+                sum = sum.wrapping_add(weight.wrapping_mul(sample_or_zero(
+                    picture, column, row, channel,
+                )));
             }
         }
     }

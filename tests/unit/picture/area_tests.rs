@@ -1,7 +1,7 @@
 //! Worked examples, and every rectangle, size and cut of small pictures beside the plain way.
 
 use crate::picture::cuts::{Cut, Want, Way, is_right};
-use crate::picture::pictures::{Picture, raster};
+use crate::picture::pictures::{Picture, STEPS, raster};
 use iiif_pixel::{Dim, Kind, Raster, Rect, Span};
 use std::alloc::Global;
 
@@ -97,7 +97,7 @@ fn all_tall_agree(alloc: Global, picture: &Raster) -> bool {
     true
 }
 
-/// What of a picture is compared with the plain way.
+/// The parts of a picture that are compared with the plain way.
 #[derive(Clone, Copy)]
 enum Compared {
     Regions(Way),
@@ -193,15 +193,6 @@ fn all_cuts_of_small_pictures_agree(rt: HostRuntime) {
         );
     }
 }
-
-/// 4 by 4, 10 more with each column and 40 more with each row.
-const STEPS: Picture = Picture(
-    Dim { w: 4, h: 4 },
-    Kind::Gray,
-    Span::Eight(&[
-        0, 10, 20, 30, 40, 50, 60, 70, 80, 90, 100, 110, 120, 130, 140, 150,
-    ]),
-);
 
 /// A gray row, black but for one step.
 const STEP: Picture = Picture(Dim { w: 4, h: 1 }, Kind::Gray, Span::Eight(&[0, 1, 0, 0]));

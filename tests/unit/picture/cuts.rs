@@ -1,5 +1,7 @@
 //! Regions of pictures that are scaled, from tiles, in two ways.
 
+use crate::fixtures::rasters::sample_or_zero;
+use crate::fixtures::{is_missing, is_same};
 use crate::picture::area_plain;
 use crate::picture::pictures::cropped;
 use iiif_area::places::{is_inside, is_scalable, meets};
@@ -134,7 +136,7 @@ fn has_plain_sums(sums: &Sums, picture: &Raster, at: Rect, cut: Cut) -> bool {
             for channel in 0..picture.kind().channels() {
                 let (x, y) = (places.x.wrapping_add(i), places.y.wrapping_add(j));
                 let plain = area_plain::sum_at(picture, at, cut.region, cut.size, x, y, channel);
-                if values.next().copied() != Some(plain) {
+                if !is_same(&values.next().copied(), &Some(plain)) {
                     return false;
                 }
             }
@@ -151,13 +153,18 @@ fn has_plain_samples(made: &Raster, picture: &Raster, cut: Cut, part: Rect) -> b
             for channel in 0..picture.kind().channels() {
                 let (x, y) = (part.x.wrapping_add(i), part.y.wrapping_add(j));
                 let sum = area_plain::sum_at(picture, region, region, size, x, y, channel);
-                if area_plain::sample(made, i, j, channel) != area_plain::average(region, sum) {
+                if !is_same(
+                    &sample_or_zero(made, i, j, channel),
+                    &area_plain::average(region, sum),
+                ) {
                     return false;
                 }
             }
         }
     }
-    made.dim() == part.dim() && made.kind() == picture.kind() && made.depth() == picture.depth()
+    is_same(&made.dim(), &part.dim())
+        && is_same(&made.kind(), &picture.kind())
+        && is_same(&made.depth(), &picture.depth())
 }
 
 /// The samples that come of sums over a region in a rectangle of result places.
@@ -176,7 +183,7 @@ fn finish(alloc: Global, sums: &Sums, region: Rect, part: Rect, depth: Depth) ->
 fn is_finished_plainly(alloc: Global, sums: &Sums, picture: &Raster, cut: Cut, part: Rect) -> bool {
     match finish(alloc, sums, cut.region, part, picture.depth()) {
         Some(made) => has_plain_samples(&made, picture, cut, part),
-        None => false,
+        None => is_missing(),
     }
 }
 
@@ -213,15 +220,15 @@ pub(crate) fn finishes_as(
         Span::Sixteen(_) => Depth::Sixteen,
     };
     match finish(alloc, sums, region, part, depth) {
-        Some(made) => made.samples() == want,
-        None => false,
+        Some(made) => is_same(&made.samples(), &want),
+        None => is_missing(),
     }
 }
 
-/// What is to come of sums.
+/// The wanted sums.
 #[derive(Clone, Copy)]
 pub(crate) enum Want {
-    /// What the plain way gives.
+    /// The result of the plain way.
     Plain,
     /// These samples in a rectangle of result places.
     Samples(Rect, Span<'static>),

@@ -1,5 +1,6 @@
 //! Sums that grow up to the greatest, and the numbers that they are made of.
 
+use crate::fixtures::{is_missing, is_same};
 use crate::picture::cuts::{Cut, add, finishes_as, merge};
 use crate::picture::pictures::{Picture, raster};
 use iiif_area::averages::Averager;
@@ -9,7 +10,7 @@ use iiif_area::weights::weight;
 use iiif_pixel::{Dim, Kind, Rect, Span};
 use std::alloc::Global;
 
-/// What is added to sums.
+/// Samples that are added to sums.
 #[derive(Clone, Copy)]
 enum More {
     /// A tile at a place of a region, which is scaled to a size.
@@ -51,7 +52,7 @@ fn zeros(alloc: Global, places: Rect) -> Option<Sums> {
 fn add_picture(alloc: Global, sums: &mut Sums, picture: Picture, at: Rect, cut: Cut) -> bool {
     match raster(alloc, picture) {
         Some(tile) => add(sums, &tile, at, cut),
-        None => false,
+        None => is_missing(),
     }
 }
 
@@ -59,7 +60,7 @@ fn add_picture(alloc: Global, sums: &mut Sums, picture: Picture, at: Rect, cut: 
 fn merge_these(alloc: Global, sums: &mut Sums, places: Rect, more: &[u64]) -> bool {
     match sums_from(alloc, places, more) {
         Some(more) => merge(sums, &more),
-        None => false,
+        None => is_missing(),
     }
 }
 
@@ -76,7 +77,7 @@ fn becomes(alloc: Global, sums: &mut Sums, more: More, want: &[u64]) -> bool {
         }
         More::Sums(places, more) => merge_these(alloc, sums, places, more),
     };
-    is_put && sums.sums() == want
+    is_put && is_same(&sums.sums(), &want)
 }
 
 /// Whether sums grow as they are to.
@@ -91,10 +92,10 @@ fn grows(alloc: Global, sums: &mut Sums, growth: Growth) -> bool {
             return false;
         }
     }
-    sums.rect() == growth.places
+    is_same(&sums.rect(), &growth.places)
 }
 
-/// The same from the beginning.
+/// Grows sums from the beginning.
 fn is_grown(alloc: Global, growth: Growth) -> bool {
     let begun = match growth.sums {
         Some(sums) => sums_from(alloc, growth.places, sums),
@@ -102,7 +103,7 @@ fn is_grown(alloc: Global, growth: Growth) -> bool {
     };
     match begun {
         Some(mut sums) => grows(alloc, &mut sums, growth),
-        None => false,
+        None => is_missing(),
     }
 }
 
@@ -267,7 +268,7 @@ static WEIGHTS: [([u32; 4], u64); 4] = [
 #[test]
 fn weights_are_overlaps(rt: HostRuntime) {
     for (number, ([i, x, a, c], want)) in WEIGHTS.iter().enumerate() {
-        assert!(rt; weight(*i, *x, *a, *c) == *want, "weight {number}");
+        assert!(rt; is_same(&weight(*i, *x, *a, *c), want), "weight {number}");
     }
 }
 
@@ -298,7 +299,7 @@ fn average(area: u64, sum: u64, top: u16) -> Option<u16> {
 fn averages_are_the_nearest_whole_numbers(rt: HostRuntime) {
     for (number, (area, sum, top, want)) in AVERAGES.iter().enumerate() {
         assert!(rt;
-            average(*area, *sum, *top) == Some(*want),
+            is_same(&average(*area, *sum, *top), &Some(*want)),
             "average {number}"
         );
     }

@@ -1,6 +1,8 @@
 //! Pictures as plain data, and their rasters.
 
-use iiif_pixel::{Depth, Dim, Kind, Raster, Rect, Samples, Span};
+use crate::fixtures::rasters::{eight, sixteen};
+use crate::fixtures::{files, is_same};
+use iiif_pixel::{Depth, Dim, Kind, Raster, Rect, Span};
 use std::alloc::Global;
 
 /// A picture: its sides, its kind, and samples, of which it has as many as it needs, from the first on.
@@ -12,31 +14,9 @@ pub(crate) fn raster(alloc: Global, picture: Picture) -> Option<Raster> {
     let Picture(dim, kind, samples) = picture;
     let count = kind.count(dim)?;
     match samples {
-        Span::Eight(bytes) => eight(alloc, dim, kind, bytes, count),
-        Span::Sixteen(words) => sixteen(alloc, dim, kind, words, count),
+        Span::Eight(bytes) => eight(alloc, dim, kind, bytes.get(..count)?),
+        Span::Sixteen(words) => sixteen(alloc, dim, kind, words.get(..count)?),
     }
-}
-
-/// The raster of so many samples of 8 bits.
-fn eight(alloc: Global, dim: Dim, kind: Kind, bytes: &[u8], count: usize) -> Option<Raster> {
-    if bytes.len() < count || kind.count(dim) != Some(count) {
-        return None;
-    }
-    let Ok(samples) = Vec::from_slice(alloc, &bytes[..count]) else {
-        return None;
-    };
-    Some(Raster::from_samples(dim, kind, Samples::Eight(samples)))
-}
-
-/// The raster of so many samples of 16 bits.
-fn sixteen(alloc: Global, dim: Dim, kind: Kind, words: &[u16], count: usize) -> Option<Raster> {
-    if words.len() < count || kind.count(dim) != Some(count) {
-        return None;
-    }
-    let Ok(samples) = Vec::from_slice(alloc, &words[..count]) else {
-        return None;
-    };
-    Some(Raster::from_samples(dim, kind, Samples::Sixteen(samples)))
 }
 
 /// Whether a raster has just the sides, the kind (and so many channels), the depth and the samples of a picture.
@@ -46,11 +26,11 @@ pub(crate) fn is(raster: &Raster, want: Picture) -> bool {
         Span::Eight(_) => Depth::Eight,
         Span::Sixteen(_) => Depth::Sixteen,
     };
-    raster.dim() == dim
-        && raster.kind() == kind
-        && raster.kind().channels() == kind.channels()
-        && raster.depth() == depth
-        && raster.samples() == samples
+    is_same(&raster.dim(), &dim)
+        && is_same(&raster.kind(), &kind)
+        && is_same(&raster.kind().channels(), &kind.channels())
+        && is_same(&raster.depth(), &depth)
+        && is_same(&raster.samples(), &samples)
 }
 
 /// The part of a raster in a rectangle.
@@ -63,3 +43,10 @@ pub(crate) fn cropped(source: &Raster, rect: Rect) -> Option<Raster> {
     };
     Some(part)
 }
+
+/// The sample picture: in column x and row y stands 10x + 40y.
+pub(crate) const STEPS: Picture = Picture(
+    Dim { w: 4, h: 4 },
+    Kind::Gray,
+    Span::Eight(&files::STEPS),
+);

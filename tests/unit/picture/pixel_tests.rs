@@ -1,11 +1,12 @@
 //! Pictures turned, cropped and in a quality; samples that are written and read in place.
 
-use crate::picture::pictures::{Picture, cropped, is, raster};
+use crate::fixtures::{is_missing, is_same, is_unwanted};
+use crate::picture::pictures::{Picture, STEPS, cropped, is, raster};
 use iiif_pixel::geometry::turn_place;
 use iiif_pixel::{Depth, Dim, Kind, Quality, Raster, Rect, Span, Turn, unturn_rect};
 use std::alloc::Global;
 
-/// What is made of a picture.
+/// Work on a picture.
 #[derive(Clone, Copy)]
 enum Work {
     /// It is mirrored or not, and turned so many quarters.
@@ -38,7 +39,7 @@ fn seen(source: &Raster, to: Quality) -> Option<Raster> {
     Some(seen)
 }
 
-/// What is made of a raster.
+/// Does such work on a raster.
 fn made(source: &Raster, work: Work) -> Option<Raster> {
     match work {
         Work::Turn(mirror, quarters) => turned(source, Turn { mirror, quarters }),
@@ -51,7 +52,7 @@ fn made(source: &Raster, work: Work) -> Option<Raster> {
 fn makes(source: &Raster, work: Work, want: Picture) -> bool {
     match made(source, work) {
         Some(made) => is(&made, want),
-        None => false,
+        None => is_missing(),
     }
 }
 
@@ -60,7 +61,7 @@ fn is_right(alloc: Global, case: Case) -> bool {
     let Case(picture, work, want) = case;
     match raster(alloc, picture) {
         Some(source) => makes(&source, work, want),
-        None => false,
+        None => is_missing(),
     }
 }
 
@@ -74,16 +75,7 @@ fn first_wrong(alloc: Global, cases: &[Case]) -> Option<usize> {
     None
 }
 
-/// 4 by 4: the sample at (x, y) is 10x + 40y.
-const FOUR_BY_FOUR: Picture = Picture(
-    Dim { w: 4, h: 4 },
-    Kind::Gray,
-    Span::Eight(&[
-        0, 10, 20, 30, 40, 50, 60, 70, 80, 90, 100, 110, 120, 130, 140, 150,
-    ]),
-);
-
-/// The same, scaled to 2 by 2: each sample is the mean of four.
+/// The sample picture scaled to 2 by 2: each sample is the mean of four.
 const HALVED: Picture = Picture(
     Dim { w: 2, h: 2 },
     Kind::Gray,
@@ -168,7 +160,7 @@ static TURNS: [Case; 8] = [
 #[test]
 fn turns_clockwise_after_mirroring(rt: HostRuntime) {
     let wrong = first_wrong(rt.alloc(), &TURNS);
-    assert!(rt; wrong.is_none(), "{wrong:?}");
+    assert!(rt; wrong.is_none(), "row {wrong:?}");
 }
 
 const COLOURS: Picture = Picture(
@@ -213,13 +205,13 @@ static MEANS: [Case; 5] = [
 #[test]
 fn gray_is_the_rounded_weighted_mean(rt: HostRuntime) {
     let wrong = first_wrong(rt.alloc(), &MEANS);
-    assert!(rt; wrong.is_none(), "{wrong:?}");
+    assert!(rt; wrong.is_none(), "row {wrong:?}");
 }
 
 /// Of 16 bits black is below 32,768, and what is made has 8.
 static BLACK_AND_WHITE: [Case; 5] = [
     Case(
-        FOUR_BY_FOUR,
+        STEPS,
         Work::Quality(Quality::Bitonal),
         Picture(
             Dim { w: 4, h: 4 },
@@ -268,7 +260,7 @@ static BLACK_AND_WHITE: [Case; 5] = [
 #[test]
 fn bitonal_is_black_below_128(rt: HostRuntime) {
     let wrong = first_wrong(rt.alloc(), &BLACK_AND_WHITE);
-    assert!(rt; wrong.is_none(), "{wrong:?}");
+    assert!(rt; wrong.is_none(), "row {wrong:?}");
 }
 
 /// A picture of 16 bits.
@@ -281,7 +273,7 @@ const DEEP: Picture = Picture(
 /// Parts, and a turned picture of 16 bits.
 static PARTS: [Case; 3] = [
     Case(
-        FOUR_BY_FOUR,
+        STEPS,
         Work::Crop(1, 2, 3, 2),
         Picture(
             Dim { w: 3, h: 2 },
@@ -312,7 +304,7 @@ static PARTS: [Case; 3] = [
 #[test]
 fn a_crop_is_the_part_in_the_rectangle(rt: HostRuntime) {
     let wrong = first_wrong(rt.alloc(), &PARTS);
-    assert!(rt; wrong.is_none(), "{wrong:?}");
+    assert!(rt; wrong.is_none(), "row {wrong:?}");
 }
 
 /// The greatest sides.
@@ -332,7 +324,7 @@ static RECTANGLES: [([u32; 4], bool); 4] = [
 /// Whether a rectangle has its sides, and lies in the largest picture or doesn't.
 fn lies([x, y, w, h]: [u32; 4], want: bool) -> bool {
     let rect = Rect { x, y, w, h };
-    rect.dim() == Dim { w, h } && rect.lies_in(LARGEST) == want
+    is_same(&rect.dim(), &Dim { w, h }) && is_same(&rect.lies_in(LARGEST), &want)
 }
 
 /// The kind and sides of pictures, and how many samples they have.
@@ -353,10 +345,10 @@ fn the_greatest_sides_do_not_wrap_and_find_no_memory(rt: HostRuntime) {
         assert!(rt; lies(*rectangle, *want), "{rectangle:?}");
     }
     for (kind, sides, count) in COUNTS.iter() {
-        assert!(rt; kind.count(*sides) == *count, "{kind:?}");
+        assert!(rt; is_same(&kind.count(*sides), count), "{kind:?}");
         assert!(rt; is_refused(rt.alloc(), *kind), "{kind:?}");
     }
-    assert!(rt; Depth::Sixteen.top() == 65_535 && Depth::Sixteen.bytes() == 2);
+    assert!(rt; is_same(&Depth::Sixteen.top(), &65_535) && is_same(&Depth::Sixteen.bytes(), &2));
 }
 
 /// The sample at a place; none outside the raster.
@@ -441,8 +433,8 @@ fn put(raster: &mut Raster, (x, y, samples): Placed) -> bool {
 /// Whether samples are read.
 fn is_read(raster: &Raster, (x, y, samples): Placed) -> bool {
     match samples {
-        Samples::One(channel, value) => sample(raster, x, y, channel) == Some(value),
-        Samples::Row(w, samples) => row(raster, x, y, w) == Some(samples),
+        Samples::One(channel, value) => is_same(&sample(raster, x, y, channel), &Some(value)),
+        Samples::Row(w, samples) => is_same(&row(raster, x, y, w), &Some(samples)),
     }
 }
 
@@ -450,7 +442,7 @@ fn is_read(raster: &Raster, (x, y, samples): Placed) -> bool {
 fn copies_to(raster: &Raster, want: Picture) -> bool {
     match raster.copy() {
         Ok(copy) => is(&copy, want),
-        Err(_) => false,
+        Err(fault) => is_unwanted(&fault),
     }
 }
 
@@ -472,7 +464,7 @@ fn takes_and_gives(raster: &mut Raster, case: Written) -> bool {
     is(raster, case.picture) && copies_to(raster, case.picture)
 }
 
-/// The same from the beginning.
+/// Writes and reads from the beginning.
 fn is_written(alloc: Global, case: Written) -> bool {
     let Picture(dim, kind, samples) = case.picture;
     let depth = match samples {
@@ -481,7 +473,7 @@ fn is_written(alloc: Global, case: Written) -> bool {
     };
     match Raster::new(alloc, dim, kind, depth) {
         Ok(mut raster) => takes_and_gives(&mut raster, case),
-        Err(_) => false,
+        Err(fault) => is_unwanted(&fault),
     }
 }
 
@@ -535,7 +527,7 @@ fn follow(source: &Raster, turned: &Raster, by: Turn) -> bool {
         for x in 0..dim.w {
             let (i, j) = turn_place(by, dim, x, y);
             let found = sample(turned, i, j, 0);
-            if found.is_none() || found != sample(source, x, y, 0) {
+            if found.is_none() || !is_same(&found, &sample(source, x, y, 0)) {
                 return false;
             }
         }
@@ -554,8 +546,9 @@ fn turned_part(source: &Raster, by: Turn, rect: Rect) -> Option<Raster> {
 /// Whether a raster is the part of a whole one in a rectangle, and as wide and high as it.
 fn is_part(part: &Raster, whole: &Raster, rect: Rect) -> bool {
     match cropped(whole, rect) {
-        Some(want) => part.dim() == rect.dim() && part.samples() == want.samples(),
-        None => false,
+        Some(want) => is_same(&part.dim(), &rect.dim())
+            && is_same(&part.samples(), &want.samples()),
+        None => is_missing(),
     }
 }
 
@@ -563,11 +556,11 @@ fn is_part(part: &Raster, whole: &Raster, rect: Rect) -> bool {
 fn is_same_part(source: &Raster, turned: &Raster, by: Turn, rect: Rect) -> bool {
     match turned_part(source, by, rect) {
         Some(part) => is_part(&part, turned, rect),
-        None => false,
+        None => is_missing(),
     }
 }
 
-/// The same for every rectangle of the turned raster.
+/// Compares every rectangle of the turned raster.
 fn are_same_parts(source: &Raster, turned: &Raster, by: Turn) -> bool {
     let sides = turned.dim();
     for x in 0..sides.w {
@@ -588,11 +581,11 @@ fn are_same_parts(source: &Raster, turned: &Raster, by: Turn) -> bool {
 fn is_turned(source: &Raster, by: Turn) -> bool {
     match turned(source, by) {
         Some(turned) => {
-            turned.dim() == source.dim().turned(by)
+            is_same(&turned.dim(), &source.dim().turned(by))
                 && follow(source, &turned, by)
                 && are_same_parts(source, &turned, by)
         }
-        None => false,
+        None => is_missing(),
     }
 }
 

@@ -1,7 +1,6 @@
-//! What comes of a text. Cases stand as lines of a list, each a text, ` => ` and what it comes to: a further line costs no proof.
+//! Results of texts. Cases stand as lines of a list, each a text, ` => ` and its result.
 
-ghost use Rattle.iiif_request.specs.Requests.{HasShortDecimals};
-
+use crate::fixtures::{is_missing, is_same};
 use iiif_canonical::{
     Limits, canonical, canonical_request, image_uri, push_escaped, resolve, text, uri,
 };
@@ -17,20 +16,20 @@ pub struct Image {
     pub limits: Limits,
 }
 
-/// What the texts of a list are, and in what words it says what they come to.
+/// The kind of the texts of a list, and of their results.
 #[derive(Clone, Copy)]
 pub enum Subject {
     /// Targets, cut at the prefix `/iiif`.
     Targets,
     /// Targets of images, of which the words are read as a request.
     Requests,
-    /// The same: the text of that request as it is.
+    /// Words of an image: the text of that request as it is.
     Texts,
-    /// The same: what it comes to for an image.
+    /// Words of an image: what they resolve to for an image.
     Resolved(Image),
-    /// The same: the text of its canonical form for an image, or why it is refused.
+    /// Words of an image: the text of their canonical form for an image, or why they are refused.
     Canonical(Image),
-    /// The same: the link to that form.
+    /// Words of an image: the link to that form.
     Links(Image),
     /// Identifiers: the link to their image.
     Images,
@@ -41,24 +40,20 @@ pub enum Subject {
 /// The server that links lead to.
 const BASE: &str = "http://localhost/iiif";
 
-/// What a target asks for.
+/// Splits a target.
 fn asked(alloc: Global, target: &str) -> Option<String> {
     let asked = split(alloc, b"/iiif", target.as_bytes());
     format!(in alloc; "{asked:?}").ok()
 }
 
-/// What a request comes to for an image.
-fn resolved(alloc: Global, image: &Image, request: &Request) -> Option<String>
-    requires { HasShortDecimals request.now }
-{
+/// Resolves a request for an image.
+fn resolved(alloc: Global, image: &Image, request: &Request) -> Option<String> {
     let resolved = resolve(request, image.dim, image.kind, &image.limits);
     format!(in alloc; "{resolved:?}").ok()
 }
 
 /// The text of a request's canonical form for an image, or why it is refused.
-fn canonical_text(alloc: Global, image: &Image, request: &Request) -> Option<String>
-    requires { HasShortDecimals request.now }
-{
+fn canonical_text(alloc: Global, image: &Image, request: &Request) -> Option<String> {
     match canonical_request(request, image.dim, image.kind, &image.limits) {
         Ok(form) => text(alloc, &form).ok(),
         Err(refusal) => format!(in alloc; "{refusal:?}").ok(),
@@ -66,9 +61,7 @@ fn canonical_text(alloc: Global, image: &Image, request: &Request) -> Option<Str
 }
 
 /// The link to a request's canonical form for an image; none where it is refused.
-pub(crate) fn link(alloc: Global, image: &Image, id: &str, request: &Request) -> Option<String>
-    requires { HasShortDecimals request.now }
-{
+pub(crate) fn link(alloc: Global, image: &Image, id: &str, request: &Request) -> Option<String> {
     let Ok(resolved) = resolve(request, image.dim, image.kind, &image.limits) else {
         return None;
     };
@@ -76,7 +69,7 @@ pub(crate) fn link(alloc: Global, image: &Image, id: &str, request: &Request) ->
     uri(alloc, BASE, id, &form).ok()
 }
 
-/// What the words for an image of this identifier come to.
+/// The result of the words for an image of this identifier.
 fn said(alloc: Global, subject: Subject, id: &str, words: &Words) -> Option<String> {
     let said = parse(words);
     match (said, subject) {
@@ -88,7 +81,7 @@ fn said(alloc: Global, subject: Subject, id: &str, words: &Words) -> Option<Stri
     }
 }
 
-/// What the words of a target come to.
+/// The result of the words of a target.
 fn words_of(alloc: Global, subject: Subject, target: &str) -> Option<String> {
     match split(alloc, b"/iiif", target.as_bytes()) {
         Ok(Target::Image(id, words)) => said(alloc, subject, id.as_str(), &words),
@@ -103,7 +96,7 @@ fn escaped(alloc: Global, id: &str) -> Option<String> {
     Some(name)
 }
 
-/// What a text comes to; none where it is no text for this, or memory runs out.
+/// The result of a text; none where it is no text for this, or memory runs out.
 fn answer(alloc: Global, subject: Subject, given: &str) -> Option<String> {
     match subject {
         Subject::Targets => asked(alloc, given),
@@ -119,8 +112,8 @@ fn is_so(alloc: Global, subject: Subject, line: &str) -> bool {
         return false;
     };
     match answer(alloc, subject, given) {
-        Some(text) => text.as_str() == want,
-        None => false,
+        Some(text) => is_same(&text.as_str(), &want),
+        None => is_missing(),
     }
 }
 

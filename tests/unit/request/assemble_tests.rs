@@ -1,8 +1,6 @@
 //! Images by hand, in bands and by several workers.
 
-ghost use Rattle.std.specs.Prelude.{◌≡◌, ◌≤◌};
-ghost use Rattle.iiif_assemble.specs.Jobs.{IsBandOf, IsJob};
-
+use crate::fixtures::{has_start, is_missing, is_same, is_unwanted};
 use crate::request::pictures::{Failing, QUARTER, ROOM, Shown, UPRIGHT, job, of_samples, tens};
 use iiif_assemble::{Job, Made, Workshop, assemble, assemble_band};
 use iiif_bands::Band;
@@ -27,10 +25,7 @@ fn image<R: Threads + Wait + Sync>(
     shown: &Shown,
     job: &Job,
     workers: usize,
-) -> Result<Made, Fault>
-    requires job { IsJob job.now }
-    requires shape { job.now.shape ≡ shown.now.shape }
-{
+) -> Result<Made, Fault> {
     let mut passes = vec![in alloc; 0u64; workers.max(1)]?;
     let shop = Workshop {
         rt,
@@ -41,7 +36,7 @@ fn image<R: Threads + Wait + Sync>(
     assemble(&shop, &mut passes, job)
 }
 
-/// What an image or its fault is to be.
+/// A wanted image, or its fault.
 #[derive(Clone, Copy)]
 enum Wanted {
     /// It has 8 bits, and its first samples are these.
@@ -54,9 +49,9 @@ enum Wanted {
 /// Whether a raster has the samples that it is to have.
 fn is_wanted(raster: &Raster, wanted: Wanted) -> bool {
     match wanted {
-        Wanted::Begins(first) => bytes(raster).starts_with(first),
-        Wanted::All(samples) => raster.samples() == samples,
-        Wanted::Fault(_) => false,
+        Wanted::Begins(first) => has_start(bytes(raster), first),
+        Wanted::All(samples) => is_same(&raster.samples(), &samples),
+        Wanted::Fault(fault) => is_same(&None, &Some(fault)),
     }
 }
 
@@ -68,14 +63,11 @@ fn is_made<R: Threads + Wait + Sync>(
     job: &Job,
     workers: usize,
     wanted: Wanted,
-) -> bool
-    requires job { IsJob job.now }
-    requires shape { job.now.shape ≡ shown.now.shape }
-{
+) -> bool {
     match (image(rt, alloc, shown, job, workers), wanted) {
         (Ok(made), _) => is_wanted(&made.raster, wanted),
-        (Err(fault), Wanted::Fault(other)) => fault == other,
-        _ => false,
+        (Err(fault), Wanted::Fault(other)) => is_same(&fault, &other),
+        (Err(fault), _) => is_unwanted(&fault),
     }
 }
 
@@ -182,10 +174,7 @@ fn are_alike<R: Threads + Wait + Sync>(
     shown: &Shown,
     job: &Job,
     wanted: Wanted,
-) -> bool
-    requires job { IsJob job.now }
-    requires shape { job.now.shape ≡ shown.now.shape }
-{
+) -> bool {
     for workers in [1, 2, 5] {
         if !is_made(rt, alloc, shown, job, workers, wanted) {
             return false;
@@ -198,7 +187,7 @@ fn are_alike<R: Threads + Wait + Sync>(
 fn are_made<R: Threads + Wait + Sync>(rt: &R, alloc: Global, shown: &Shown, case: &Case) -> bool {
     match job(alloc, shown.shape, case.1, case.2, case.3, ROOM) {
         Some(job) => are_alike(rt, alloc, shown, &job, case.4),
-        None => false,
+        None => is_missing(),
     }
 }
 
@@ -206,7 +195,7 @@ fn are_made<R: Threads + Wait + Sync>(rt: &R, alloc: Global, shown: &Shown, case
 fn is_right<R: Threads + Wait + Sync>(rt: &R, alloc: Global, case: &Case) -> bool {
     match picture(alloc, case.0) {
         Some(shown) => are_made(rt, alloc, &shown, case),
-        None => false,
+        None => is_missing(),
     }
 }
 
@@ -232,11 +221,7 @@ fn rows<R: Threads + Wait + Sync>(
     shown: &Shown,
     job: &Job,
     band: &Band,
-) -> Result<Made, Fault>
-    requires job { IsJob job.now }
-    requires shape { job.now.shape ≡ shown.now.shape }
-    requires band { IsBandOf job.now band.now }
-{
+) -> Result<Made, Fault> {
     let mut passes = vec![in alloc; 0u64; 1]?;
     let shop = Workshop {
         rt,
@@ -255,25 +240,18 @@ fn is_row<R: Threads + Wait + Sync>(
     job: &Job,
     band: &Band,
     row: &[u8],
-) -> bool
-    requires job { IsJob job.now }
-    requires shape { job.now.shape ≡ shown.now.shape }
-    requires band { IsBandOf job.now band.now }
-{
+) -> bool {
     match rows(rt, alloc, shown, job, band) {
         Ok(made) => {
             let held = 4 <= made.held && made.held <= 8;
-            held && band.items.len() == 2 && bytes(&made.raster) == row
+            held && is_same(&band.items.len(), &2) && is_same(&bytes(&made.raster), &row)
         }
-        Err(_) => false,
+        Err(fault) => is_unwanted(&fault),
     }
 }
 
 /// Whether the bands of a row of a job's image are those rows.
-fn are_rows<R: Threads + Wait + Sync>(rt: &R, alloc: Global, shown: &Shown, job: &Job) -> bool
-    requires job { IsJob job.now }
-    requires shape { job.now.shape ≡ shown.now.shape }
-{
+fn are_rows<R: Threads + Wait + Sync>(rt: &R, alloc: Global, shown: &Shown, job: &Job) -> bool {
     let Ok(bands) = job.bands(alloc, 1) else {
         return false;
     };
@@ -282,7 +260,7 @@ fn are_rows<R: Threads + Wait + Sync>(rt: &R, alloc: Global, shown: &Shown, job:
             return false;
         }
     }
-    bands.len() == ROWS.len()
+    is_same(&bands.len(), &ROWS.len())
 }
 
 /// Whether the picture of 8 bits that is turned by a quarter, of tiles with edge 2, has those rows as its bands.
@@ -292,7 +270,7 @@ fn is_turned<R: Threads + Wait + Sync>(rt: &R, alloc: Global) -> bool {
     };
     match job(alloc, shown.shape, 2, shown.shape.dim, QUARTER, ROOM) {
         Some(job) => are_rows(rt, alloc, &shown, &job),
-        None => false,
+        None => is_missing(),
     }
 }
 
@@ -336,9 +314,7 @@ fn wide(alloc: Global, depth: Depth) -> Option<Shown> {
 }
 
 /// Twice the mean of the two remainders that place `i` of the halved picture is made of.
-fn twice_the_mean(i: usize) -> usize
-    ensures { result ≤ 500 }
-{
+fn twice_the_mean(i: usize) -> usize {
     let first = i % 251 * 2;
     first % 251 + (first + 1) % 251
 }
@@ -375,8 +351,8 @@ fn is_halved<R: Threads + Wait + Sync>(
         return false;
     };
     match image(rt, alloc, shown, &job, workers) {
-        Ok(made) => made.raster.dim() == MANY && are_means(made.raster.samples()),
-        Err(_) => false,
+        Ok(made) => is_same(&made.raster.dim(), &MANY) && are_means(made.raster.samples()),
+        Err(fault) => is_unwanted(&fault),
     }
 }
 
@@ -385,7 +361,7 @@ fn many_sums_are_rounded_by_several_threads(rt: HostRuntime) {
     for (depth, workers) in [(Depth::Eight, 2), (Depth::Sixteen, 1)] {
         let right = match wide(rt.alloc(), depth) {
             Some(shown) => is_halved(&rt, rt.alloc(), &shown, workers),
-            None => false,
+            None => is_missing(),
         };
         assert!(rt; right, "{workers} workers");
     }

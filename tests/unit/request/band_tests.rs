@@ -1,5 +1,6 @@
 //! Bands by hand.
 
+use crate::fixtures::{is_same, is_unwanted};
 use crate::request::pictures::{ROOM, job};
 use iiif_bands::Band;
 use iiif_keys::Shape;
@@ -8,7 +9,7 @@ use std::alloc::Global;
 
 /// Whether there are two bands: of three rows and all four items, and of these rows and items.
 fn are_two(bands: &[Band], side: u32, rows: u32, last: [usize; 2]) -> bool {
-    if bands.len() != 2 {
+    if !is_same(&bands.len(), &2) {
         return false;
     }
     let upper = Rect {
@@ -23,10 +24,10 @@ fn are_two(bands: &[Band], side: u32, rows: u32, last: [usize; 2]) -> bool {
         w: side,
         h: rows,
     };
-    bands[0].rect == upper
-        && bands[1].rect == lower
-        && bands[0].items.as_slice() == [0, 1, 2, 3].as_slice()
-        && bands[1].items.as_slice() == last.as_slice()
+    is_same(&bands[0].rect, &upper)
+        && is_same(&bands[1].rect, &lower)
+        && is_same(&bands[0].items.as_slice(), &[0, 1, 2, 3].as_slice())
+        && is_same(&bands[1].items.as_slice(), &last.as_slice())
 }
 
 /// A side, quarters, and the rows and the items of the second band.
@@ -50,7 +51,7 @@ fn is_cut(alloc: Global, cut: &Cut) -> bool {
     };
     match job.bands(alloc, 3) {
         Ok(bands) => are_two(&bands, side, rows, last),
-        Err(_) => false,
+        Err(fault) => is_unwanted(&fault),
     }
 }
 

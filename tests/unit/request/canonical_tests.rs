@@ -1,15 +1,14 @@
-//! What requests come to for an image, and how they are written.
+//! Requests resolved for an image, and written.
 
-ghost use Rattle.std.specs.Prelude.{◌≤◌, ◌<◌};
-ghost use Rattle.iiif_request.specs.Requests.{IsShort, IsShortRegion, IsShortForm, HasShortDecimals};
-
+use crate::fixtures::{is_missing, is_same, is_unwanted, note};
 use crate::request::answers::{Image, Subject, first_wrong};
 use iiif_canonical::{Limits, canonical, resolve, text, uri};
 use iiif_pixel::{Dim, Kind, Quality, Rect};
 use iiif_request::{Decimal, Form, Region, Request, Rotation, Size, Target, Words, parse, split};
 use std::alloc::Global;
+use std::ops::Range;
 
-const LIMITS: Limits = Limits {
+pub(crate) const LIMITS: Limits = Limits {
     max_w: 4096,
     max_h: 4096,
     upscale: false,
@@ -64,7 +63,7 @@ const THINNEST: Image = Image {
     limits: LIMITS,
 };
 
-/// What the words ask for that stand in the lists below with `!360.0`, or with `270.0`.
+/// The request of the words that stand in the lists below with `!360.0`, or with `270.0`.
 const ASKED: &str =
     "/iiif/a/0,0,9,9/max/!360.0/color.tif => Ok(Request { region: Pixels(0, 0, 9, 9), size: Size { up: false, form: \
         Max }, rotation: Rotation { mirror: true, degrees: Decimal { digits: 3600, places: 1 } }, quality: Color })
@@ -143,7 +142,7 @@ const OF_RGB: &str =
     "/iiif/a/1,2,9,9/1,/270.0/gray.tif => Ok(Resolved { rect: Rect { x: 1, y: 2, w: 3, h: 2 }, size: Dim { w: 1, h: \
         1 }, turn: Turn { mirror: false, quarters: 3 }, quality: Gray })";
 
-/// The same of a gray one: its quality changes nothing.
+/// Requests of a gray picture: its quality changes nothing.
 const OF_GRAY: &str =
     "/iiif/a/1,2,9,9/1,/270.0/gray.tif => Ok(Resolved { rect: Rect { x: 1, y: 2, w: 3, h: 2 }, size: Dim { w: 1, h: \
         1 }, turn: Turn { mirror: false, quarters: 3 }, quality: Default })";
@@ -243,25 +242,18 @@ static LISTS: [(Subject, &str); 12] = [
 ];
 
 #[test]
-fn words_come_to_what_is_written_for_an_image(rt: HostRuntime) {
+fn words_resolve_to_their_canonical_form(rt: HostRuntime) {
     let wrong = first_wrong(rt.alloc(), &LISTS);
-    assert!(rt; wrong.is_none(), "{wrong:?}");
+    assert!(rt; wrong.is_none(), "row {wrong:?}");
 }
 
 /// A decimal with so many digits behind the point.
-fn places(digits: u64, places: u8) -> Decimal
-    requires { places ≤ 10 }
-    ensures { IsShort result }
-{
+fn places(digits: u64, places: u8) -> Decimal {
     Decimal { digits, places }
 }
 
 /// A request in color, mirrored and at 360.0 degrees.
-fn request(region: Region, up: bool, form: Form) -> Request
-    requires region { IsShortRegion region }
-    requires form { IsShortForm form }
-    ensures { HasShortDecimals result }
-{
+fn request(region: Region, up: bool, form: Form) -> Request {
     Request {
         region,
         size: Size { up, form },
@@ -292,26 +284,27 @@ fn are_greatest(alloc: Global, want: &str) -> bool {
     };
     let form = canonical(&resolved, dim, Kind::Rgb, &limits);
     match text(alloc, &form) {
-        Ok(written) => resolved.size == dim && written.as_str() == want,
-        Err(_) => false,
+        Ok(written) => is_same(&resolved.size, &dim) && is_same(&written.as_str(), &want),
+        Err(fault) => is_unwanted(&fault),
     }
 }
 
 #[test]
-fn greatest_numbers(rt: HostRuntime) {
+fn greatest_numbers_resolve(rt: HostRuntime) {
     assert!(rt; are_greatest(rt.alloc(), "full/max/!0/default.tif"));
 }
 
 /// Whether words for an image of this identifier ask for this of the image `a/b`.
 fn are_for(id: &str, words: &Words, request: &Request) -> bool {
-    id == "a/b" && parse(words) == Ok(*request)
+    is_same(&id, &"a/b") && is_same(&parse(words), &Ok(*request))
 }
 
 /// Whether a path, split and parsed, asks for this of the image `a/b`.
 fn asks_for(alloc: Global, path: &str, request: &Request) -> bool {
     match split(alloc, b"/iiif", path.as_bytes()) {
         Ok(Target::Image(id, words)) => are_for(id.as_str(), &words, request),
-        _ => false,
+        Ok(Target::Base(id)) | Ok(Target::Info(id)) => is_same(&id.as_str(), &"an image"),
+        Err(fault) => is_unwanted(&fault),
     }
 }
 
@@ -319,24 +312,22 @@ fn asks_for(alloc: Global, path: &str, request: &Request) -> bool {
 fn leads_to(alloc: Global, link: &str, request: &Request) -> bool {
     match link.strip_prefix("http://localhost") {
         Some(path) => asks_for(alloc, path, request),
-        None => false,
+        None => is_missing(),
     }
 }
 
 /// Whether the link to a request's canonical form, split and parsed, comes to the same.
-fn comes_back(alloc: Global, limits: &Limits, request: &Request) -> bool
-    requires { HasShortDecimals request.now }
-{
+fn comes_back(alloc: Global, limits: &Limits, request: &Request) -> bool {
     let Ok(resolved) = resolve(request, SQUARE, Kind::Rgb, limits) else {
         return false;
     };
     let form = canonical(&resolved, SQUARE, Kind::Rgb, limits);
-    if resolve(&form, SQUARE, Kind::Rgb, limits) != Ok(resolved) {
+    if !is_same(&resolve(&form, SQUARE, Kind::Rgb, limits), &Ok(resolved)) {
         return false;
     }
     match uri(alloc, "http://localhost/iiif", "a/b", &form) {
         Ok(link) => leads_to(alloc, link.as_str(), &form),
-        Err(_) => false,
+        Err(fault) => is_unwanted(&fault),
     }
 }
 
@@ -347,41 +338,49 @@ static QUALITIES: [Quality; 4] = [
     Quality::Bitonal,
 ];
 
-/// Whether all of one size of a region do so: all turns and qualities.
-fn turns_come_back(alloc: Global, limits: &Limits, region: Region, size: Size) -> bool
-    requires region { IsShortRegion region }
-    requires form { IsShortForm size.form }
-{
-    for turn in 0..8u64 {
-        for quality in &QUALITIES {
-            let request = Request {
-                region,
-                size,
-                rotation: Rotation {
-                    mirror: turn < 4,
-                    degrees: places(turn % 4 * 900, 1),
-                },
-                quality: *quality,
-            };
-            if !comes_back(alloc, limits, &request) {
-                return false;
-            }
+/// Whether these looks of one size of a region do so, of the 32: eight turns, each in four qualities.
+fn looks_come_back(
+    alloc: Global,
+    limits: &Limits,
+    region: Region,
+    size: Size,
+    looks: Range<u32>,
+) -> bool {
+    for look in looks {
+        let turn = u64::from(look / 4 % 8);
+        let request = Request {
+            region,
+            size,
+            rotation: Rotation {
+                mirror: turn < 4,
+                degrees: places(turn % 4 * 900, 1),
+            },
+            quality: QUALITIES[look as usize % 4],
+        };
+        if !comes_back(alloc, limits, &request) {
+            note("request", &request);
+            return false;
         }
     }
     true
 }
 
-/// Whether all of a region do so: each size up to its own, or up to twice that where it is scaled up.
-fn sizes_come_back(alloc: Global, limits: &Limits, rect: Rect) -> bool
-    requires { (rect.w < 5) × (rect.h < 5) }
-{
+/// Whether all of a region do so: each size up to its own, or up to twice that where it is scaled up. The whole picture does in each turn
+/// and quality, and any part of it in one, which is another one from size to size.
+fn sizes_come_back(alloc: Global, limits: &Limits, rect: Rect) -> bool {
     let region = Region::Pixels(rect.x, rect.y, rect.w, rect.h);
     let up = limits.upscale;
     let times = if up { 2 } else { 1 };
     for w in 1..times * rect.w + 1 {
         for h in 1..times * rect.h + 1 {
             let form = Form::Both(w, h);
-            if !turns_come_back(alloc, limits, region, Size { up, form }) {
+            let first = rect.x + 3 * rect.y + 5 * rect.w + 7 * rect.h + 11 * w + 13 * h;
+            let looks = if rect.w * rect.h == 16 {
+                0..32
+            } else {
+                first..first + 1
+            };
+            if !looks_come_back(alloc, limits, region, Size { up, form }, looks) {
                 return false;
             }
         }
@@ -406,7 +405,7 @@ fn all_come_back(alloc: Global, limits: &Limits) -> bool {
 }
 
 #[test]
-fn links_come_back(rt: HostRuntime) {
+fn canonical_links_resolve_to_the_same_image(rt: HostRuntime) {
     assert!(rt; all_come_back(rt.alloc(), &LIMITS));
     assert!(rt; all_come_back(rt.alloc(), &LARGER), "scaled up");
 }

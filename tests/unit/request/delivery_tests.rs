@@ -1,8 +1,7 @@
 //! Images that are made of blocks, sent by several workers; and one that is a tile as it stands.
 
-ghost use Rattle.std.specs.Prelude.{◌≡◌};
-ghost use Rattle.iiif_assemble.specs.Jobs.{IsJob};
-
+use crate::fixtures::files::{STEPS, TURNED};
+use crate::fixtures::{is_missing, is_same};
 use crate::request::pictures::{Failing, QUARTER, Shown, UPRIGHT, job, of_samples, tens};
 use iiif_assemble::{Job, Workshop};
 use iiif_delivery::{Delivered, Sending, Stopped, send_image};
@@ -35,10 +34,23 @@ fn sample(alloc: Global, fails: Failing) -> Option<Shown> {
     of_samples(alloc, dim, Samples::Eight(samples), fails)
 }
 
+/// The bytes of an image that was sent whole and how many samples and sums were held at most; else the bytes before its end, and the fault
+/// of a band that could not be made. Without one the writer failed.
+type End = Result<[u64; 2], (u64, Option<Fault>)>;
+
+/// The end of an image, in a form that can be printed.
+fn end_of(end: Result<Delivered, Stopped>) -> End {
+    match end {
+        Ok(sent) => Ok([sent.bytes, sent.held]),
+        Err(Stopped::Writer(count)) => Err((count, None)),
+        Err(Stopped::Load(count, fault)) => Err((count, Some(fault))),
+    }
+}
+
 /// How an image was sent.
 #[derive(Drop)]
 struct Answer {
-    end: Result<Delivered, Stopped>,
+    end: End,
     bytes: Vec<u8>,
     /// How many blocks or tiles were asked for.
     asks: u64,
@@ -52,10 +64,7 @@ fn send_to<R: Threads + Wait + Sync, W: Outlet>(
     job: &Job,
     workers: usize,
     out: &mut W,
-) -> Option<(Result<Delivered, Stopped>, u64)>
-    requires job { IsJob job.now }
-    requires shape { job.now.shape ≡ shown.now.shape }
-{
+) -> Option<(End, u64)> {
     let dim = job.resolved.size.turned(job.resolved.turn);
     let (Kind::Gray, Depth::Eight, Quality::Default) = (
         job.shape.kind,
@@ -80,7 +89,7 @@ fn send_to<R: Threads + Wait + Sync, W: Outlet>(
         kind: OutKind::Gray,
         start: b"",
     };
-    let end = send_image(&shop, &mut passes, &sending, out);
+    let end = end_of(send_image(&shop, &mut passes, &sending, out));
     let mut asks = 0u64;
     for pass in &passes {
         asks = asks.wrapping_add(*pass);
@@ -95,10 +104,7 @@ fn send<R: Threads + Wait + Sync>(
     shown: &Shown,
     job: &Job,
     workers: usize,
-) -> Option<Answer>
-    requires job { IsJob job.now }
-    requires shape { job.now.shape ≡ shown.now.shape }
-{
+) -> Option<Answer> {
     let mut bytes = Vec::new(alloc);
     match send_to(rt, alloc, shown, job, workers, &mut bytes) {
         Some((end, asks)) => Some(Answer { end, bytes, asks }),
@@ -137,15 +143,15 @@ const LEN: u64 = 174 + 49;
 
 /// Whether so many workers send what one sends, and ask for each block once. There are 100 blocks, in rows of 10, and a band has a place in
 /// three rows at most.
-fn is_same<R: Threads + Wait + Sync>(
+fn is_same_answer<R: Threads + Wait + Sync>(
     rt: &R,
     alloc: Global,
     alone: &Answer,
     workers: usize,
 ) -> bool {
     match sent(rt, alloc, Failing::Blocks(None), workers) {
-        Some(answer) => answer.bytes == alone.bytes && answer.asks == 100,
-        None => false,
+        Some(answer) => is_same(&answer.bytes, &alone.bytes) && is_same(&answer.asks, &100),
+        None => is_missing(),
     }
 }
 
@@ -163,18 +169,18 @@ fn ends_above<R: Threads + Wait + Sync>(
     };
     match sent(rt, alloc, Failing::Blocks(Some(row)), workers) {
         Some(answer) => {
-            answer.end == Err(Stopped::Load(count, Fault::UnknownName))
-                && answer.bytes.len() as u64 == count
+            is_same(&answer.end, &Err((count, Some(Fault::UnknownName))))
+                && is_same(&(answer.bytes.len() as u64), &count)
                 && whole.bytes.as_slice().starts_with(&answer.bytes)
         }
-        None => false,
+        None => is_missing(),
     }
 }
 
 /// Whether several workers send what one sends.
 fn are_same<R: Threads + Wait + Sync>(rt: &R, alloc: Global, alone: &Answer) -> bool {
     for workers in [1, 2, 3, 4, 16] {
-        if !is_same(rt, alloc, alone, workers) {
+        if !is_same_answer(rt, alloc, alone, workers) {
             return false;
         }
     }
@@ -201,7 +207,7 @@ fn each_block_is_asked_for_once_and_bands_above_a_fault_are_sent(rt: HostRuntime
     let alone = sent(&rt, rt.alloc(), Failing::Blocks(None), 1);
     assert!(rt; alone.is_some());
     if let Some(alone) = &alone {
-        assert!(rt; alone.bytes.len() as u64 == LEN);
+        assert!(rt; is_same(&(alone.bytes.len() as u64), &LEN));
         assert!(rt; are_same(&rt, rt.alloc(), alone));
         assert!(rt; end_above(&rt, rt.alloc(), alone));
     }
@@ -214,7 +220,7 @@ fn ends_at_once<R: Threads + Wait + Sync>(rt: &R, alloc: Global, whole: &Answer)
             let Some(answer) = sent(rt, alloc, Failing::Once(place), workers) else {
                 return false;
             };
-            let is_cut = matches!(answer.end, Err(Stopped::Load(_, Fault::UnknownName)));
+            let is_cut = matches!(answer.end, Err((_, Some(Fault::UnknownName))));
             if !is_cut || !whole.bytes.as_slice().starts_with(&answer.bytes) {
                 return false;
             }
@@ -228,7 +234,7 @@ fn fault_that_is_met_once_ends_the_image(rt: HostRuntime) {
     let whole = sent(&rt, rt.alloc(), Failing::Blocks(None), 1);
     assert!(rt; whole.is_some());
     if let Some(whole) = &whole {
-        assert!(rt; whole.bytes.len() as u64 == LEN && whole.asks == 100);
+        assert!(rt; is_same(&(whole.bytes.len() as u64), &LEN) && is_same(&whole.asks, &100));
         assert!(rt; ends_at_once(&rt, rt.alloc(), whole));
     }
 }
@@ -262,11 +268,7 @@ impl Outlet for Leaving {
 }
 
 /// How the picture is sent to one who goes away meanwhile, and how many blocks were asked for.
-fn left<R: Threads + Wait + Sync>(
-    rt: &R,
-    alloc: Global,
-    fails: Failing,
-) -> Option<(Result<Delivered, Stopped>, u64)> {
+fn left<R: Threads + Wait + Sync>(rt: &R, alloc: Global, fails: Failing) -> Option<(End, u64)> {
     let shown = sample(alloc, fails)?;
     let mut out = Leaving {
         looks: AtomicU64::new(0),
@@ -281,7 +283,7 @@ fn left<R: Threads + Wait + Sync>(
 #[test]
 fn nothing_is_asked_for_one_who_goes_away_until_the_turn_has_come(rt: HostRuntime) {
     for fails in [Failing::Turn, Failing::Nothing] {
-        assert!(rt; left(&rt, rt.alloc(), fails) == Some((Err(Stopped::Writer(0)), 0)));
+        assert!(rt; is_same(&left(&rt, rt.alloc(), fails), &Some((Err((0, None)), 0))));
     }
 }
 
@@ -302,57 +304,24 @@ fn alone<R: Threads + Wait + Sync>(
 }
 
 /// How often the tile is asked for, how the image is sent, and its rows in the file.
-type Lone = (
-    Failing,
-    Turn,
-    u64,
-    Result<Delivered, Stopped>,
-    &'static [u8],
-);
-
-/// The picture's rows, and those of it turned by a quarter.
-const ROWS: &[u8] = &[
-    0, 10, 20, 30, 40, 50, 60, 70, 80, 90, 100, 110, 120, 130, 140, 150,
-];
-
-const TURNED: &[u8] = &[
-    120, 80, 40, 0, 130, 90, 50, 10, 140, 100, 60, 20, 150, 110, 70, 30,
-];
+type Lone = (Failing, Turn, u64, End, &'static [u8]);
 
 /// As it stands, turned, and where the tile fails. Of a band that is turned its four samples are held twice.
 static LONE: [Lone; 4] = [
-    (
-        Failing::Nothing,
-        UPRIGHT,
-        1,
-        Ok(Delivered {
-            bytes: 190,
-            held: 4,
-        }),
-        ROWS,
-    ),
-    (
-        Failing::Nothing,
-        QUARTER,
-        4,
-        Ok(Delivered {
-            bytes: 190,
-            held: 8,
-        }),
-        TURNED,
-    ),
+    (Failing::Nothing, UPRIGHT, 1, Ok([190, 4]), &STEPS),
+    (Failing::Nothing, QUARTER, 4, Ok([190, 8]), &TURNED),
     (
         Failing::FirstRow,
         UPRIGHT,
         1,
-        Err(Stopped::Load(0, Fault::BadKey)),
+        Err((0, Some(Fault::BadKey))),
         &[],
     ),
     (
         Failing::FirstRow,
         QUARTER,
         1,
-        Err(Stopped::Load(0, Fault::BadKey)),
+        Err((0, Some(Fault::BadKey))),
         &[],
     ),
 ];
@@ -365,11 +334,11 @@ fn is_lone<R: Threads + Wait + Sync>(
 ) -> bool {
     match alone(rt, alloc, *fails, *turn) {
         Some(answer) => {
-            answer.asks == *asks
-                && answer.end == *end
-                && answer.bytes.as_slice().get(174..).unwrap_or(&[]) == *rows
+            is_same(&answer.asks, asks)
+                && is_same(&answer.end, end)
+                && is_same(&answer.bytes.as_slice().get(174..).unwrap_or(&[]), rows)
         }
-        None => false,
+        None => is_missing(),
     }
 }
 
@@ -413,15 +382,11 @@ fn is_large_sent<R: Threads + Wait + Sync>(rt: &R, alloc: Global, rows: &[u8]) -
     };
     match large(rt, alloc, samples) {
         Some(answer) => {
-            answer.asks == 1
-                && answer.end
-                    == Ok(Delivered {
-                        bytes: 90_174,
-                        held: 300,
-                    })
-                && answer.bytes.as_slice().get(174..).unwrap_or(&[]) == rows
+            is_same(&answer.asks, &1)
+                && is_same(&answer.end, &Ok([90_174, 300]))
+                && is_same(&answer.bytes.as_slice().get(174..).unwrap_or(&[]), &rows)
         }
-        None => false,
+        None => is_missing(),
     }
 }
 

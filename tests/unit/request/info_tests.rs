@@ -1,16 +1,11 @@
 //! Parts of information that were written by hand. A whole one stands in `refused_tests`.
 
+use crate::fixtures::is_unwanted;
+use crate::request::canonical_tests::LIMITS;
 use iiif_canonical::Limits;
 use iiif_info::info;
 use iiif_pixel::Dim;
 use std::alloc::Global;
-
-/// Limits of 4,096, where nothing is scaled up.
-const PLAIN: Limits = Limits {
-    max_w: 4096,
-    max_h: 4096,
-    upscale: false,
-};
 
 /// Other limits, of a server that scales up.
 const LARGER: Limits = Limits {
@@ -32,7 +27,7 @@ static PAGES: [Page; 14] = [
         "http://h",
         "a/b c\"d",
         ONE,
-        PLAIN,
+        LIMITS,
         1,
         "\"id\":\"http://h/a%2Fb%20c%22d\",",
     ),
@@ -40,7 +35,7 @@ static PAGES: [Page; 14] = [
         "http://h",
         "ü~\u{1}",
         ONE,
-        PLAIN,
+        LIMITS,
         1,
         "\"id\":\"http://h/%C3%BC~%01\",",
     ),
@@ -48,7 +43,7 @@ static PAGES: [Page; 14] = [
         "http://h/\"q\"\\",
         "x",
         ONE,
-        PLAIN,
+        LIMITS,
         1,
         "\"id\":\"http://h/\\\"q\\\"\\\\/x\",",
     ),
@@ -56,16 +51,23 @@ static PAGES: [Page; 14] = [
         "http://h/\u{1}\n\u{7f}",
         "x",
         ONE,
-        PLAIN,
+        LIMITS,
         1,
         "\"id\":\"http://h/\\u0001\\n\u{7f}/x\",",
     ),
-    ("http://h/é", "x", ONE, PLAIN, 1, "\"id\":\"http://h/é/x\","),
+    (
+        "http://h/é",
+        "x",
+        ONE,
+        LIMITS,
+        1,
+        "\"id\":\"http://h/é/x\",",
+    ),
     (
         "http://h",
         "x",
         Dim { w: 1000, h: 300 },
-        PLAIN,
+        LIMITS,
         256,
         "{\"height\":256,\"scaleFactors\":[1,2,4],\"width\":256}",
     ),
@@ -73,7 +75,7 @@ static PAGES: [Page; 14] = [
         "http://h",
         "x",
         Dim { w: 300, h: 1025 },
-        PLAIN,
+        LIMITS,
         256,
         "{\"height\":256,\"scaleFactors\":[1,2,4,8],\"width\":256}",
     ),
@@ -81,7 +83,7 @@ static PAGES: [Page; 14] = [
         "http://h",
         "x",
         Dim { w: 256, h: 256 },
-        PLAIN,
+        LIMITS,
         256,
         "{\"height\":256,\"scaleFactors\":[1],\"width\":256}",
     ),
@@ -89,7 +91,7 @@ static PAGES: [Page; 14] = [
         "http://h",
         "x",
         Dim { w: 257, h: 1 },
-        PLAIN,
+        LIMITS,
         256,
         "{\"height\":256,\"scaleFactors\":[1,2],\"width\":256}",
     ),
@@ -97,7 +99,7 @@ static PAGES: [Page; 14] = [
         "http://h",
         "x",
         ONE,
-        PLAIN,
+        LIMITS,
         1024,
         "{\"height\":1024,\"scaleFactors\":[1],\"width\":1024}",
     ),
@@ -129,12 +131,12 @@ fn is_told(alloc: Global, page: &Page) -> bool {
     }
     match info(alloc, base, id, *dim, limits, *edge) {
         Ok(text) => text.as_str().contains(*part),
-        Err(_) => false,
+        Err(fault) => is_unwanted(&fault),
     }
 }
 
 #[test]
-fn parts_stand_at_their_keys(rt: HostRuntime) {
+fn information_has_its_parts_at_their_keys(rt: HostRuntime) {
     for page in &PAGES {
         assert!(rt; is_told(rt.alloc(), page), "{}", page.5);
     }

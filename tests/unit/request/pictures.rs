@@ -1,15 +1,6 @@
 //! Gray pictures that are held whole, and requests on them that are planned.
 
-ghost use Rattle.std.specs.Prelude.{◌≡◌, ◌<◌, ◌≤◌, ◌⊎◌, Err, IfOk, IfErr, IfSome, length};
-ghost use Rattle.std.specs.Arc.{arc_value};
-ghost use Rattle.iiif_pixel.specs.Depths.{values_of};
-ghost use Rattle.iiif_pixel.specs.Geometry.{channels_of, top_of};
-ghost use Rattle.iiif_pixel.specs.Picture.{dim_of};
-ghost use Rattle.iiif_keys.specs.Blocks.{SumFitsIn, TileFitsIn};
-ghost use Rattle.iiif_keys.specs.Meaning.{SumHasShape, TileHasShape};
-ghost use Rattle.iiif_assemble.specs.Jobs.{IsJob};
-ghost use Rattle.iiif_assemble.specs.Opening.{AreValuesOf, IsFaultOf};
-
+use crate::fixtures::files::STEPS;
 use iiif_area::{Sums, is_scalable, meets};
 use iiif_assemble::{Items, Job, Opened};
 use iiif_canonical::Resolved;
@@ -36,7 +27,7 @@ pub enum Failing {
 }
 
 impl Failing {
-    /// What a tile fails with, if it does.
+    /// The fault of a tile, if it fails.
     fn of_tile(self, key: &TileKey) -> Option<Fault> {
         let is_first = match self {
             Failing::SecondColumn if key.tx == 1 => key.ty == 0,
@@ -70,9 +61,6 @@ pub struct Shown {
     /// How many blocks were asked for.
     asks: AtomicU64,
     alloc: Global,
-    ghost sides: { dim_of raster ≡ shape.dim },
-    ghost samples_a_place: { raster.channels ≡ channels_of shape.kind },
-    ghost depth: { raster.top ≡ top_of shape.depth },
 }
 
 impl<R> Items<TileKey, TileVal, u64, R> for Shown {
@@ -114,14 +102,7 @@ impl<R> Items<TileKey, TileVal, u64, R> for Shown {
         key: &TileKey,
         parts: Vec<TileKey>,
         values: Result<Vec<Arc<TileVal>>, Fault>,
-    ) -> Result<Arc<TileVal>, Fault>
-        requires fits { TileFitsIn self.now.shape.dim (channels_of self.now.shape.kind) key.now }
-        requires values { IfOk values (λ v. AreValuesOf (TileHasShape self.now.shape) parts.items v.items) }
-        requires fault { IfErr values (IsFaultOf (λ k f. Unit {0}) key.now) }
-        ensures value { IfOk result (λ v. TileHasShape self.now.shape key.now (arc_value v)) }
-        ensures fault { IfErr result (IsFaultOf (λ k f. Unit {0}) key.now) }
-        ensures same { IfErr values (λ f. result ≡ Err f) }
-    {
+    ) -> Result<Arc<TileVal>, Fault> {
         drop(parts);
         match values {
             Ok(_) => Err(Fault::NoMemory),
@@ -178,14 +159,7 @@ impl<R> Items<SumKey, SumVal, u64, R> for Shown {
         key: &SumKey,
         parts: Vec<SumKey>,
         values: Result<Vec<Arc<SumVal>>, Fault>,
-    ) -> Result<Arc<SumVal>, Fault>
-        requires fits { SumFitsIn self.now.shape.dim (channels_of self.now.shape.kind) key.now }
-        requires values { IfOk values (λ v. AreValuesOf (SumHasShape self.now.shape) parts.items v.items) }
-        requires fault { IfErr values (IsFaultOf (λ k f. Unit {0}) key.now) }
-        ensures value { IfOk result (λ v. SumHasShape self.now.shape key.now (arc_value v)) }
-        ensures fault { IfErr result (IsFaultOf (λ k f. Unit {0}) key.now) }
-        ensures same { IfErr values (λ f. result ≡ Err f) }
-    {
+    ) -> Result<Arc<SumVal>, Fault> {
         drop(parts);
         match values {
             Ok(_) => Err(Fault::NoMemory),
@@ -212,9 +186,7 @@ impl<R> Turns<R> for Shown {
 }
 
 /// How many samples there are.
-fn len_of(samples: &Samples) -> usize
-    ensures { result ≡ length (values_of samples.now) }
-{
+fn len_of(samples: &Samples) -> usize {
     match samples {
         Samples::Eight(samples) => samples.len(),
         Samples::Sixteen(samples) => samples.len(),
@@ -248,14 +220,9 @@ pub(crate) fn of_samples(
     }
 }
 
-/// The samples of a picture of 4 by 4 places.
-pub static TENS: [u8; 16] = [
-    0, 10, 20, 30, 40, 50, 60, 70, 80, 90, 100, 110, 120, 130, 140, 150,
-];
-
 /// The picture of 4 by 4 places with those samples.
 pub(crate) fn tens(alloc: Global, fails: Failing) -> Option<Shown> {
-    match Vec::from_slice(alloc, &TENS) {
+    match Vec::from_slice(alloc, &STEPS) {
         Ok(samples) => of_samples(alloc, Dim { w: 4, h: 4 }, Samples::Eight(samples), fails),
         Err(_) => None,
     }
@@ -284,7 +251,7 @@ pub const UPRIGHT: Turn = Turn {
 /// The greatest room for a block's sums.
 pub const ROOM: u64 = 65_536;
 
-/// What a request comes to: the whole of a picture with these sides, scaled and turned.
+/// A resolved request: the whole of a picture with these sides, scaled and turned.
 fn whole(dim: Dim, size: Dim, turn: Turn) -> Resolved {
     Resolved {
         rect: Rect {
@@ -308,10 +275,7 @@ pub(crate) fn job(
     size: Dim,
     turn: Turn,
     room: u64,
-) -> Option<Job>
-    ensures job { IfSome result IsJob }
-    ensures shape { IfSome result (λ j. j.shape ≡ shape) }
-{
+) -> Option<Job> {
     let resolved = whole(shape.dim, size, turn);
     let rect = resolved.rect;
     let limits = 0 < edge && edge <= 1024 && resolved.turn.quarters < 4 && room <= ROOM;

@@ -1,5 +1,6 @@
 //! Plans by hand.
 
+use crate::fixtures::{is_missing, is_same, is_unwanted};
 use crate::request::pictures::{ROOM, UPRIGHT, named};
 use iiif_canonical::Resolved;
 use iiif_keys::{Shape, SumKey, TileKey};
@@ -361,12 +362,12 @@ static PLANS: [Case; 32] = [
 /// Whether keys are those of the tiles of `a` in these columns and rows, in this order.
 pub(crate) fn are_tiles(keys: &[TileKey], edge: u32, places: &[(u32, u32)]) -> bool {
     for (key, place) in keys.iter().zip(places) {
-        let is_of_image = key.name.as_str() == "a" && key.edge == edge;
-        if !is_of_image || (key.tx, key.ty) != *place {
+        let is_of_image = is_same(&key.name.as_str(), &"a") && is_same(&key.edge, &edge);
+        if !is_of_image || !is_same(&(key.tx, key.ty), place) {
             return false;
         }
     }
-    keys.len() == places.len()
+    is_same(&keys.len(), &places.len())
 }
 
 /// Whether keys are those of the blocks of this level in these columns and rows, in this order, for what a request of `a` comes to.
@@ -378,25 +379,25 @@ pub(crate) fn are_blocks(
     places: &[(u32, u32)],
 ) -> bool {
     for (key, place) in keys.iter().zip(places) {
-        let is_of_image = key.name.as_str() == "a" && key.edge == edge;
-        let is_asked = key.rect == resolved.rect && key.size == resolved.size;
-        if !is_of_image || !is_asked || key.level != level || (key.bx, key.by) != *place {
+        let is_of_image = is_same(&key.name.as_str(), &"a") && is_same(&key.edge, &edge);
+        let is_asked = is_same(&key.rect, &resolved.rect) && is_same(&key.size, &resolved.size);
+        if !is_of_image || !is_asked || !is_same(&(key.level, (key.bx, key.by)), &(level, *place)) {
             return false;
         }
     }
-    keys.len() == places.len()
+    is_same(&keys.len(), &places.len())
 }
 
 /// Whether there are so many blocks of this level, none below the last, which stands here.
 fn are_many(keys: &[SumKey], count: usize, level: u8, last: (u32, u32)) -> bool {
     for key in keys {
-        if key.level != level || key.by > last.1 {
+        if !is_same(&key.level, &level) || !is_same(&key.by.min(last.1), &key.by) {
             return false;
         }
     }
     match keys.last() {
-        Some(key) => keys.len() == count && (key.bx, key.by) == last,
-        None => false,
+        Some(key) => is_same(&keys.len(), &count) && is_same(&(key.bx, key.by), &last),
+        None => is_missing(),
     }
 }
 
@@ -409,7 +410,7 @@ fn is_of(plan: &Plan, edge: u32, resolved: &Resolved, wanted: Wanted) -> bool {
             keys, edge, resolved, level, places,
         ),
         (Plan::Sum(keys), Wanted::Many(count, level, last)) => are_many(keys, count, level, last),
-        _ => false,
+        _ => is_unwanted(&"another kind of plan"),
     }
 }
 

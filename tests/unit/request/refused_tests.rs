@@ -2,6 +2,7 @@
 //! gives the case's own answer. `tests/refused` runs each test with the first growth refused, with the second, and so on; with ample
 //! memory each call answers at once.
 
+use crate::fixtures::is_same;
 use crate::request::pictures::{ROOM, UPRIGHT};
 use crate::request::plan_tests::{FOUR, are_blocks, are_tiles};
 use iiif_canonical::{Limits, Resolved};
@@ -46,7 +47,7 @@ fn information_is_written_after_a_refused_growth(rt: HostRuntime) -> Result<(), 
         Some(text) => text,
         None => text(rt.alloc()).ok_or("no text, though memory was ample")?,
     };
-    assert!(rt; text.as_str() == WHOLE, "{text}");
+    assert!(rt; is_same(&text.as_str(), &WHOLE), "{text}");
     Ok(())
 }
 
@@ -74,7 +75,7 @@ fn planned(alloc: Global, name: &Name, from: u32, side: u32) -> Option<Plan> {
     plan(alloc, name, &resolved, shape, 2, ROOM).ok()
 }
 
-/// What the whole image at half its width comes to.
+/// The resolved request for the whole image at half its width.
 const HALVED: Resolved = Resolved {
     rect: Rect {
         x: 0,
@@ -137,12 +138,12 @@ fn is_planned(
     }
 }
 
-/// The same, once more where memory was wanted.
+/// Makes the plan, once more where memory was wanted.
 fn is_planned_again(alloc: Global, name: &Name, case: &Case) -> bool {
     let (from, side, tiles) = *case;
     match is_planned(alloc, name, from, side, tiles) {
         Some(right) => right,
-        None => is_planned(alloc, name, from, side, tiles) == Some(true),
+        None => is_same(&is_planned(alloc, name, from, side, tiles), &Some(true)),
     }
 }
 

@@ -1,5 +1,6 @@
 //! Targets and words, as texts that ask for something or for nothing.
 
+use crate::fixtures::{is_same, is_unwanted};
 use crate::request::answers::{Subject, first_wrong};
 use iiif_request::numerals::{is_numeral, numeral};
 use iiif_request::{Refusal, SplitFault, Target, parse, split};
@@ -279,24 +280,24 @@ static LISTS: [(Subject, &str); 6] = [
 ];
 
 #[test]
-fn texts_ask_for_something_or_nothing(rt: HostRuntime) {
+fn texts_are_parsed_or_refused(rt: HostRuntime) {
     let wrong = first_wrong(rt.alloc(), &LISTS);
-    assert!(rt; wrong.is_none(), "{wrong:?}");
+    assert!(rt; wrong.is_none(), "row {wrong:?}");
 }
 
 /// Whether a target asks for nothing at a prefix.
 fn is_no_target(alloc: Global, prefix: &[u8], target: &[u8]) -> bool {
     match split(alloc, prefix, target) {
         Ok(_) => false,
-        Err(fault) => fault == SplitFault::Path,
+        Err(fault) => is_same(&fault, &SplitFault::Path),
     }
 }
 
 /// Whether a target is the base URI of the image `a` at an empty prefix.
 fn is_base(alloc: Global, target: &[u8]) -> bool {
     match split(alloc, b"", target) {
-        Ok(Target::Base(id)) => id.as_str() == "a",
-        _ => false,
+        Ok(Target::Base(id)) => is_same(&id.as_str(), &"a"),
+        other => is_unwanted(&other),
     }
 }
 
@@ -337,10 +338,11 @@ fn joined(alloc: Global, parts: Parts) -> Result<Vec<u8>, AllocError> {
 fn is_split(alloc: Global, target: &[u8]) -> bool {
     match split(alloc, b"/iiif", target) {
         Ok(Target::Image(id, words)) => {
-            let is_long = id.len() == 349_526 && words.region.len() == 1_048_576;
-            is_long && parse(&words) == Err(Refusal::Region)
+            let is_long = is_same(&id.len(), &349_526) && is_same(&words.region.len(), &1_048_576);
+            is_long && is_same(&parse(&words), &Err(Refusal::Region))
         }
-        _ => false,
+        Ok(_) => is_unwanted(&"another target"),
+        Err(fault) => is_unwanted(&fault),
     }
 }
 
@@ -348,7 +350,7 @@ fn is_split(alloc: Global, target: &[u8]) -> bool {
 fn a_megabyte_is_split(rt: HostRuntime) {
     let right = match joined(rt.alloc(), MEGABYTE) {
         Ok(target) => is_split(rt.alloc(), &target),
-        Err(_) => false,
+        Err(fault) => is_unwanted(&fault),
     };
     assert!(rt; right);
 }
@@ -357,7 +359,7 @@ fn a_megabyte_is_split(rt: HostRuntime) {
 fn a_megabyte_of_slashes_is_refused(rt: HostRuntime) {
     let right = match joined(rt.alloc(), SLASHES) {
         Ok(target) => is_no_target(rt.alloc(), b"/iiif", &target),
-        Err(_) => false,
+        Err(fault) => is_unwanted(&fault),
     };
     assert!(rt; right);
 }
@@ -367,13 +369,16 @@ fn is_image(target: &Target) -> bool {
     match target {
         Target::Image(id, words) => {
             let (quality, format) = (words.quality.as_str(), words.format.as_str());
-            [id.as_str(), words.size.as_str(), quality, format] == ["a/b", "^2,", "default", "tif"]
+            is_same(
+                &[id.as_str(), words.size.as_str(), quality, format],
+                &["a/b", "^2,", "default", "tif"],
+            )
         }
-        _ => false,
+        other => is_unwanted(other),
     }
 }
 
-/// What a target is split into, once more where memory was wanted.
+/// Splits a target, once more where memory was wanted.
 fn split_again(alloc: Global) -> Result<Target, SplitFault> {
     let target = b"/iiif/a%2Fb/full/%5E2,/0/default.tif";
     match split(alloc, b"/iiif", target) {
@@ -386,7 +391,7 @@ fn split_again(alloc: Global) -> Result<Target, SplitFault> {
 fn is_split_again(alloc: Global) -> bool {
     match split_again(alloc) {
         Ok(target) => is_image(&target),
-        Err(_) => false,
+        Err(fault) => is_unwanted(&fault),
     }
 }
 
@@ -398,8 +403,10 @@ fn target_is_split_after_a_refused_growth(rt: HostRuntime) {
 
 #[test]
 fn refusals_and_faults_are_numbered(rt: HostRuntime) {
-    let refusals = Refusal::Identifier.status() == 404 && Refusal::Upscale.line() == "Q13 upscale";
-    let faults = SplitFault::Path.number() == 1 && SplitFault::NoMemory.number() == 2;
+    let refusals = is_same(&Refusal::Identifier.status(), &404)
+        && is_same(&Refusal::Upscale.line(), &"Q13 upscale");
+    let faults = is_same(&SplitFault::Path.number(), &1)
+        && is_same(&SplitFault::NoMemory.number(), &2);
     assert!(rt; refusals && faults);
 }
 
@@ -414,11 +421,11 @@ static NUMERALS: [(&[u8], usize, Option<u64>); 5] = [
 
 /// Whether such a text is that number.
 fn is_number((text, most, want): (&[u8], usize, Option<u64>)) -> bool {
-    most <= 19 && numeral(text, most) == want
+    most <= 19 && is_same(&numeral(text, most), &want)
 }
 
 #[test]
-fn numerals_to_so_many_digits(rt: HostRuntime) {
+fn numerals_have_at_most_so_many_digits(rt: HostRuntime) {
     for case in &NUMERALS {
         assert!(rt; is_number(*case), "{}", case.1);
     }

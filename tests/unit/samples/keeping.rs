@@ -1,7 +1,4 @@
-//! What is kept for a sample.
-
-ghost use Rattle.std.specs.Prelude.{◌≡◌, IfOk, IsTrue};
-ghost use Rattle.iiif_outcome.specs.Views.{is_of, kept_of};
+//! Entries kept for samples.
 
 use crate::samples::lax::Lax;
 use crate::samples::sample::Sample;
@@ -17,10 +14,7 @@ pub fn kept(
     key: &Sample,
     value: u16,
     ticket: u64,
-) -> Result<Entry<Sample, Lax>, NoMemory>
-    ensures kept { IfOk result (λ e. kept_of e ≡ record { value = value; ticket = ticket }) }
-    ensures of_key { IfOk result (λ e. IsTrue (is_of ⟦<Sample as PartialEq>⟧.eq key.now e)) }
-{
+) -> Result<Entry<Sample, Lax>, NoMemory> {
     let value = Arc::new(alloc, value)?;
     let landed = Arc::try_clone(&value)?;
     let (lead, joined) = Lead::open(alloc, key, Class::Wide, ticket)?;

@@ -6,9 +6,6 @@ use iiif_keys::System;
 pub struct Lax;
 
 impl System for Lax {
-    ghost use Rattle.std.specs.Prelude.{None, true, false};
-    ghost use Rattle.iiif_keys.specs.Ledgers.{all_parts};
-
     ghost pictures = { λ _. None };
 
     ghost edge = { 0 };

@@ -11,13 +11,8 @@ pub struct Sample {
 }
 
 impl Sample {
-    ghost use Rattle.std.specs.Prelude.{◌≡◌};
-    ghost use Rattle.iiif_sample_keys.specs.Samples.{sample_of, number_of};
-
     /// Keys of one name are equal where these numbers are.
-    pub fn new(name: Name, number: u32) -> Sample
-        ensures { result ≡ sample_of name number }
-    {
+    pub fn new(name: Name, number: u32) -> Sample {
         Sample {
             tile: TileKey {
                 name,
@@ -29,17 +24,12 @@ impl Sample {
     }
 
     /// The number that tells the keys of a name apart.
-    pub fn number(&self) -> u32
-        ensures { result ≡ number_of self.now }
-    {
+    pub fn number(&self) -> u32 {
         self.tile.tx
     }
 }
 
 impl CacheKey for Sample {
-    ghost use Rattle.std.specs.Prelude.{⊤, true, None, replicate, ◌<◌, ◌^◌};
-    ghost use Rattle.iiif_sample_keys.specs.Samples.{sample_identical, sample_spelled};
-
     /// How many bytes the value takes.
     type Value = u16;
 

@@ -1,19 +1,15 @@
 //! Answers of nodes: bodies, answers to calls, and failures of sources and writers.
 
+use crate::fixtures::files::{DEEP, DEEP_HIGH_FIRST, SAMPLE_FILE, STEPS, TURNED_FILE};
+use crate::fixtures::is_same;
 use crate::server::cases::{
     Ask, Case, HALF, LARGER, NODE, NOTHING_IS_READ, SLOWLY, Setup, Table, Text, Verb, WHOLE, Want,
 };
-use crate::server::files::{DEEP, DEEP_HIGH_FIRST, SAMPLE_FILE};
 use crate::server::nodes::{all_are, are_right};
 use std::alloc::Global;
 use std::sync::Wait;
 use std::thread::Threads;
 use std::time::Clock;
-
-/// The samples of the sample.
-pub(crate) const STEPS: &[u8] = &[
-    0, 10, 20, 30, 40, 50, 60, 70, 80, 90, 100, 110, 120, 130, 140, 150,
-];
 
 /// Images of the sample, and how their files end.
 const SCALED: &[Case<'static>] = &[
@@ -122,7 +118,7 @@ const REFUSED: &[Case<'static>] = &[
 /// The sample's body, how it ends where a read fails, and the answer to a target that is no image.
 const SAMPLE_WHOLE: &[Case<'static>] = &[(
     Ask::Body(WHOLE),
-    Want::Whole(200, Text::Long(190, STEPS)),
+    Want::Whole(200, Text::Long(190, &STEPS)),
 )];
 
 pub(crate) const FAULT: Want<'static> = Want::Held(500, 0, 0, Text::Is(b"L1 source\n"));
@@ -193,7 +189,7 @@ static BODIES: [Table; 5] = [
 ];
 
 #[test]
-fn bodies_of_targets(rt: HostRuntime) {
+fn targets_get_their_bodies(rt: HostRuntime) {
     all_are(&rt, &BODIES);
 }
 
@@ -221,28 +217,23 @@ static DEEP_BODIES: [Table; 5] = [
 ];
 
 #[test]
-fn bodies_of_16_bits(rt: HostRuntime) {
+fn targets_of_16_bits_get_their_bodies(rt: HostRuntime) {
     all_are(&rt, &DEEP_BODIES);
 }
-
-/// The sample a quarter turned: the first row is the first column, from its lower end.
-pub(crate) const TURNED: &[u8] = &[
-    120, 80, 40, 0, 130, 90, 50, 10, 140, 100, 60, 20, 150, 110, 70, 30,
-];
 
 /// Of four samples a row, at least a row is held and at most a band twice.
 const HELD_BY_ROW: &[Case<'static>] = &[(
     Ask::Body(b"/iiif/a/full/max/90/default.tif"),
-    Want::Held(200, 4, 8, Text::Long(190, TURNED)),
+    Want::Held(200, 4, 8, Text::Is(&TURNED_FILE)),
 )];
 
 /// A band of more rows than there are has four.
 const HELD_AT_ONCE: &[Case<'static>] = &[(
     Ask::Body(b"/iiif/a/full/max/90/default.tif"),
-    Want::Held(200, 4, 32, Text::Long(190, TURNED)),
+    Want::Held(200, 4, 32, Text::Is(&TURNED_FILE)),
 )];
 
-/// The same of two samples a row, each a mean.
+/// Two samples a row, each a mean, are held so.
 const HELD_HALF: &[Case<'static>] = &[(
     Ask::Body(b"/iiif/a/full/2,/90/default.tif"),
     Want::Held(200, 2, 4, Text::Long(178, &[105, 25, 125, 45])),
@@ -324,7 +315,7 @@ pub(crate) const IMAGE: Case<'static> = (
     Want::Whole(200, Text::Joined(IMAGE_HEAD, &SAMPLE_FILE)),
 );
 
-/// The same where a read fails before the first band.
+/// The answer where a read fails before the first band.
 pub(crate) const UNREAD: Case<'static> = (
     Ask::Call(Verb::Get, WHOLE),
     Want::Whole(500, Text::Is(FAULT_ANSWER)),
@@ -390,14 +381,14 @@ static ANSWERS: [Table; 3] = [
 ];
 
 #[test]
-fn answers_to_calls(rt: HostRuntime) {
+fn calls_get_their_answers(rt: HostRuntime) {
     all_are(&rt, &ANSWERS);
 }
 
 /// The node that scales up to 8 by 8.
 const UP_TO_8: Setup<'static> = Setup { max: 8, ..LARGER };
 
-/// The same over one row of 4: 0, 1, 0, 0.
+/// Answers over one row of 4: 0, 1, 0, 0.
 const ROW: Setup<'static> = Setup {
     changed: &[(46, 1), (9, 1), (10, 0), (11, 0)],
     ..UP_TO_8
@@ -474,7 +465,7 @@ static RESULTS: [Table; 7] = [
 ];
 
 #[test]
-fn results_above_their_regions(rt: HostRuntime) {
+fn images_larger_than_their_regions_are_answered(rt: HostRuntime) {
     all_are(&rt, &RESULTS);
 }
 
@@ -534,7 +525,7 @@ static REFUSED_RESULTS: [Table; 6] = [
 ];
 
 #[test]
-fn results_above_their_regions_that_are_refused(rt: HostRuntime) {
+fn some_images_larger_than_their_regions_are_refused(rt: HostRuntime) {
     all_are(&rt, &REFUSED_RESULTS);
 }
 
@@ -551,7 +542,7 @@ const INFORMATION_HEAD: &[u8] =
     b"HTTP/1.1 200 OK\r\nContent-Type: application/ld+json;profile=\"http://iiif.io/api/image/3/context.json\"\r\n\
         Access-Control-Allow-Origin: *\r\nContent-Length: 564\r\n\r\n";
 
-/// What a node that scales up says of the sample: after the other features, that sizes may be above their regions.
+/// The information of a node that scales up on the sample: after the other features, that sizes may be above their regions.
 const INFORMATION_OF_LARGER: &[u8] =
     b"{\"@context\":\"http://iiif.io/api/image/3/context.json\",\"extraFeatures\":[\"baseUriRedirect\",\
         \"canonicalLinkHeader\",\"cors\",\"mirroring\",\"regionByPct\",\"regionByPx\",\"regionSquare\",\
@@ -561,7 +552,7 @@ const INFORMATION_OF_LARGER: &[u8] =
         \"profile\":\"level0\",\"protocol\":\"http://iiif.io/api/image\",\"tiles\":[{\"height\":2,\"scaleFactors\":[1,\
         2],\"width\":2}],\"type\":\"ImageService3\",\"width\":4}";
 
-/// What is said of the sample, for which nothing of it is read.
+/// The information on the sample, for which nothing of it is read.
 static SAID: [Table; 4] = [
     (
         "GET",
@@ -610,7 +601,7 @@ static SAID: [Table; 4] = [
 ];
 
 #[test]
-fn information_of_the_sample(rt: HostRuntime) {
+fn information_of_the_sample_is_answered(rt: HostRuntime) {
     all_are(&rt, &SAID);
 }
 
@@ -649,7 +640,10 @@ fn writer_that_fails_leaves_a_strict_prefix(rt: HostRuntime) {
         (Ask::Call(Verb::Get, WHOLE), 64, IMAGE_HEAD),
     ] {
         assert!(rt;
-            are_fronts(&rt, ask, piece, [head, &SAMPLE_FILE]) == Some(true),
+            is_same(
+                &are_fronts(&rt, ask, piece, [head, &SAMPLE_FILE]),
+                &Some(true)
+            ),
             "{piece}"
         );
     }

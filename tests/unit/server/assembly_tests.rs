@@ -120,7 +120,7 @@ static REQUESTS: [Request; 7] = [
     ),
 ];
 
-/// What a request comes to.
+/// Resolves a request.
 fn resolved(request: &Request) -> Resolved {
     let (_, [x, y, w, h], [width, height], (mirror, quarters), quality) = *request;
     Resolved {
@@ -143,7 +143,7 @@ fn samples_of(alloc: Global, file: &[u8], request: &Request) -> Option<Vec<u8>> 
 /// The targets of all requests, and the samples of their images.
 type Images = Vec<(&'static [u8], Vec<u8>)>;
 
-/// Those of a file.
+/// The targets of all requests, and the samples of their images of a file.
 fn images_of(alloc: Global, file: &[u8]) -> Option<Images> {
     let mut images = Vec::new(alloc);
     for request in &REQUESTS {

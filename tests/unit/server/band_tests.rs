@@ -1,11 +1,12 @@
 //! Bodies in bands.
 
-use crate::server::answer_tests::{FAULT, IMAGE, IMAGE_HEAD, STEPS, TURNED, UNREAD};
+use crate::fixtures::files::{BROAD, HALVED_FILE, SAMPLE_FILE, STEPS, TURNED};
+use crate::fixtures::is_same;
+use crate::server::answer_tests::{FAULT, IMAGE, IMAGE_HEAD, UNREAD};
 use crate::server::cases::{
-    Ask, BY_FIVE, BY_ONE, BY_TWO, Case, HALF, IS_NOT_SO, IS_SO, LARGER, ONE, SLOWLY, Setup, Table,
-    Text, Variant, Verb, WHOLE, Want,
+    Ask, BY_FIVE, BY_ONE, BY_TWO, Case, HALF, IS_NOT_SO, IS_SO, LARGER, NODE, ONE, SLOWLY, Setup,
+    Table, Text, Variant, Verb, WHOLE, Want,
 };
-use crate::server::files::{BROAD, HALVED_FILE, SAMPLE_FILE};
 use crate::server::nodes::{all_are, are_right, wrong_variant};
 use std::sync::Wait;
 use std::thread::Threads;
@@ -24,8 +25,8 @@ type Body = (&'static [u8], usize, &'static [u8]);
 
 /// Bodies, by hand.
 static CASES: [Body; 9] = [
-    (WHOLE, 190, STEPS),
-    (b"/iiif/a/full/max/90/default.tif", 190, TURNED),
+    (WHOLE, 190, &STEPS),
+    (b"/iiif/a/full/max/90/default.tif", 190, &TURNED),
     (HALF, 178, &[25, 45, 105, 125]),
     (
         b"/iiif/a/full/3,3/0/default.tif",
@@ -64,9 +65,15 @@ fn bands_workers_and_caches_change_nothing(rt: HostRuntime) {
     }
 }
 
-const SAMPLE_IS_WHOLE: Case<'static> = (Ask::Body(WHOLE), Want::Whole(200, Text::Is(&SAMPLE_FILE)));
+pub(crate) const SAMPLE_IS_WHOLE: Case<'static> = (
+    Ask::Body(WHOLE),
+    Want::Whole(200, Text::Is(&SAMPLE_FILE)),
+);
 
-const HALF_IS_WHOLE: Case<'static> = (Ask::Body(HALF), Want::Whole(200, Text::Is(&HALVED_FILE)));
+pub(crate) const HALF_IS_WHOLE: Case<'static> = (
+    Ask::Body(HALF),
+    Want::Whole(200, Text::Is(&HALVED_FILE)),
+);
 
 const MENDED: Case<'static> = (Ask::Mend, Want::Whole(0, Text::Is(b"")));
 
@@ -82,7 +89,7 @@ const SAMPLE_CUT: &[Case<'static>] = &[
 
 const SAMPLE_SENT: &[Case<'static>] = &[SAMPLE_IS_WHOLE, MENDED, SAMPLE_IS_WHOLE];
 
-/// The same of an answer with its head, which is sent before a later band fails.
+/// An answer with its head that ends in one of these ways, which is sent before a later band fails.
 const ANSWER_REFUSED: &[Case<'static>] = &[UNREAD, MENDED, IMAGE];
 
 const ANSWER_CUT: &[Case<'static>] = &[
@@ -152,7 +159,7 @@ fn ends_in_turn<R: Threads + Wait + Clock + Sync + AllocGlobal>(rt: &R, failing:
         }
         from = next;
     }
-    from == 64
+    is_same(&from, &64)
 }
 
 #[test]
@@ -169,7 +176,7 @@ const HOLDING: Setup<'static> = Setup {
     ..SLOWLY
 };
 
-const SAMPLE_IS_LONG: Case<'static> = (Ask::Body(WHOLE), Want::Whole(200, Text::Long(190, STEPS)));
+const SAMPLE_IS_LONG: Case<'static> = (Ask::Body(WHOLE), Want::Whole(200, Text::Long(190, &STEPS)));
 
 /// Whether the first load went on alone.
 const IS_MET: &[Case<'static>] = &[SAMPLE_IS_LONG, (Ask::Alone, IS_NOT_SO)];

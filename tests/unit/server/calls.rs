@@ -1,5 +1,6 @@
-//! What is asked of a node, and whether it comes as it is to.
+//! Asks of a node, and whether each has its wanted outcome.
 
+use crate::fixtures::is_same;
 use crate::server::cases::{Ask, Input, Verb, Want};
 use crate::server::faulty::Faulty;
 use crate::server::meeting::Meeting;
@@ -10,6 +11,7 @@ use iiif_http_front::Call;
 use iiif_io::fakes::FailingWriter;
 use iiif_keys::System;
 use iiif_server::{Cut, NoLink, Node, Passes, Sent, Serving, Watch};
+use iiif_tables::Book;
 use std::alloc::Global;
 use std::sync::Wait;
 use std::sync::atomic::Ordering;
@@ -117,6 +119,20 @@ fn booked<R: Wait, J: System>(
     }))
 }
 
+/// Whether the books of a node's sums and tiles are these.
+fn has_books<R: Wait, J: System>(
+    rt: &R,
+    node: &Node<R, Faulty, J, NoLink, &Meeting>,
+    sums: Book,
+    tiles: Book,
+) -> bool {
+    let groups = node.groups();
+    is_same(
+        &(groups.sums().book(rt), groups.tiles().group().book(rt)),
+        &(sums, tiles),
+    )
+}
+
 /// How an ask ends.
 fn end_of<R: Threads + Wait + Clock + Sync, J: System + Send + Sync>(
     rt: &R,
@@ -134,8 +150,9 @@ fn end_of<R: Threads + Wait + Clock + Sync, J: System + Send + Sync>(
         Ask::Watched(input) => stream_of(rt, alloc, node, passes, input, out, &seen.told),
         Ask::Mend => mend(node),
         Ask::Sums => booked(rt, node),
+        Ask::Books(sums, tiles) => counted(0, u64::from(has_books(rt, node, sums, tiles))),
         Ask::Reads => read(node),
-        Ask::Told(counts) => counted(0, u64::from(seen.told.counts() == counts)),
+        Ask::Told(counts) => counted(0, u64::from(is_same(&seen.told.counts(), &counts))),
         Ask::Alone => counted(0, u64::from(seen.gate.alone.load(Ordering::SeqCst))),
     }
 }

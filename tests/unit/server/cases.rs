@@ -1,7 +1,10 @@
-//! What a node is made of, what it is asked, and what is to come of it.
+//! Setups of nodes, asks, and their wanted outcomes.
 
-use crate::server::files::SAMPLE;
+use crate::fixtures::files::SAMPLE;
+use crate::fixtures::{has_end, has_start, is_missing, is_same, is_same_text, is_unwanted};
 use iiif_server::{Cause, Cut, Fault, Sent};
+use iiif_tables::Book;
+use std::str;
 
 /// More reads than a test makes.
 pub(crate) const NEVER: u64 = u64::MAX;
@@ -12,7 +15,7 @@ pub(crate) const HALF: &[u8] = b"/iiif/a/full/2,/0/default.tif";
 
 pub(crate) const ONE: &[u8] = b"/iiif/a/full/1,1/0/default.tif";
 
-/// What a node is made of, and how it makes its images.
+/// The setup of a node, and how it makes its images.
 #[derive(Clone, Copy)]
 pub(crate) struct Setup<'a> {
     /// The name of its image.
@@ -53,7 +56,7 @@ pub(crate) const NODE: Setup<'static> = Setup {
     turns: 0,
 };
 
-/// The same, which may scale up.
+/// The node of the sample, which may scale up.
 pub(crate) const LARGER: Setup<'static> = Setup {
     upscale: true,
     ..NODE
@@ -70,7 +73,7 @@ pub(crate) const SLOWLY: Setup<'static> = Setup {
 /// The sample by one worker, who answers a connection.
 pub(crate) const ONE_WORKER: Setup<'static> = Setup { workers: 1, ..NODE };
 
-/// What comes of a connection: these bytes and then those, at most so many a read, until so many reads were made.
+/// The input of a connection: these bytes and then those, at most so many a read, until so many reads were made.
 #[derive(Clone, Copy)]
 pub(crate) struct Input<'a> {
     pub first: &'a [u8],
@@ -87,7 +90,7 @@ pub(crate) enum Verb {
     Delete,
 }
 
-/// What is asked of a node.
+/// An ask of a node.
 #[derive(Clone, Copy)]
 pub(crate) enum Ask<'a> {
     /// The body of a target's answer.
@@ -96,12 +99,14 @@ pub(crate) enum Ask<'a> {
     Call(Verb, &'a [u8]),
     /// The answers on a connection, of which nobody is told.
     Stream(Input<'a>),
-    /// Those of which a watch is told.
+    /// The answers on a connection, of which a watch is told.
     Watched(Input<'a>),
     /// Nothing: from here on no read fails.
     Mend,
     /// Nothing: how many sums were asked for and loaded so far.
     Sums,
+    /// Nothing: whether the books of sums and of tiles are these so far.
+    Books(Book, Book),
     /// Nothing: how many reads of the file were made so far.
     Reads,
     /// Nothing: whether the watch was told this so far.
@@ -110,7 +115,17 @@ pub(crate) enum Ask<'a> {
     Alone,
 }
 
-/// What bytes are to be.
+impl<'a> Ask<'a> {
+    /// The target that is asked for, to name it.
+    pub(crate) fn target(self) -> &'a str {
+        match self {
+            Ask::Body(target) | Ask::Call(_, target) => str::from_utf8(target).unwrap_or("no text"),
+            _ => "no target",
+        }
+    }
+}
+
+/// Wanted bytes.
 #[derive(Clone, Copy)]
 pub(crate) enum Text<'a> {
     /// These.
@@ -127,18 +142,18 @@ pub(crate) enum Text<'a> {
     File((u64, u64), &'a [u8]),
 }
 
-/// What is to come of an ask.
+/// The wanted outcome of an ask.
 #[derive(Clone, Copy)]
 pub(crate) enum Want<'a> {
     /// A whole answer of this status.
     Whole(u16, Text<'a>),
-    /// The same, for which at least and at most so many places are held at once.
+    /// A whole answer of this status, for which at least and at most so many places are held at once.
     Held(u16, u64, u64, Text<'a>),
     /// At least and at most so many sums were asked for, and so many loaded; or so many reads were made.
     Booked(u64, u64, u64),
     /// A writer that has room for so many bytes, in pieces of so many, fails. It was given the front of these.
     Full(usize, usize, &'a [u8]),
-    /// The same on a connection, which ends there.
+    /// A writer that fails so on a connection, which ends there.
     Ended(usize, usize, &'a [u8]),
     /// The source failed behind this head and the first sample of this body, and before its last.
     Front(&'a [u8], &'a [u8]),
@@ -175,7 +190,7 @@ pub(crate) const BY_ONE: &[Variant] = &[
     (2, 64, 1, MOST_BYTES),
 ];
 
-/// The same by two workers.
+/// These variants by two workers.
 pub(crate) const BY_TWO: &[Variant] = &[
     (2, 1, 2, 0),
     (2, 1, 2, 100),
@@ -188,7 +203,7 @@ pub(crate) const BY_TWO: &[Variant] = &[
     (2, 64, 2, MOST_BYTES),
 ];
 
-/// The same by five.
+/// These variants by five workers.
 pub(crate) const BY_FIVE: &[Variant] = &[
     (2, 1, 5, 0),
     (2, 1, 5, 100),
@@ -201,7 +216,7 @@ pub(crate) const BY_FIVE: &[Variant] = &[
     (2, 64, 5, MOST_BYTES),
 ];
 
-/// What is asked, one after another, of one new node, and under which name.
+/// A name, the setup of a new node, and the asks that it gets one after another.
 pub(crate) type Table = (&'static str, Setup<'static>, &'static [Case<'static>]);
 
 /// Before the canonical URI of an image, and behind it.
@@ -213,11 +228,11 @@ const BEHIND: &[u8] = b"/0/default.tif>;rel=\"canonical\"\r\n";
 /// Whether that is the answer's head.
 fn has_head(bytes: &[u8], canonical: &str) -> bool {
     let Some(rest) = bytes.strip_prefix(BEFORE) else {
-        return false;
+        return has_start(bytes, BEFORE);
     };
     match rest.strip_prefix(canonical.as_bytes()) {
-        Some(rest) => rest.starts_with(BEHIND),
-        None => false,
+        Some(rest) => has_start(rest, BEHIND),
+        None => has_start(rest, canonical.as_bytes()),
     }
 }
 
@@ -232,8 +247,8 @@ fn is_file(file: &[u8], sides: (u64, u64), strip: &[u8]) -> bool {
     let (Some(width), Some(height)) = (file.get(18), file.get(30)) else {
         return false;
     };
-    (u64::from(*width), u64::from(*height)) == sides
-        && file.ends_with(strip)
+    is_same(&(u64::from(*width), u64::from(*height)), &sides)
+        && has_end(file, strip)
         && file.len().saturating_sub(strip.len()) <= 180
 }
 
@@ -241,28 +256,37 @@ impl<'a> Text<'a> {
     /// Whether bytes are what they are to be.
     fn fits(self, bytes: &[u8]) -> bool {
         match self {
-            Text::Is(wanted) => bytes == wanted,
-            Text::Joined(first, last) => bytes.strip_prefix(first) == Some(last),
-            Text::Long(count, last) => bytes.len() == count && bytes.ends_with(last),
-            Text::Framed(first, last) => bytes.starts_with(first) && bytes.ends_with(last),
+            Text::Is(wanted) => is_same_text(bytes, wanted),
+            Text::Joined(first, last) => {
+                is_same(&bytes.len(), &(first.len() + last.len()))
+                    && has_start(bytes, first)
+                    && has_end(bytes, last)
+            },
+            Text::Long(count, last) => is_same(&bytes.len(), &count) && has_end(bytes, last),
+            Text::Framed(first, last) => has_start(bytes, first) && has_end(bytes, last),
             Text::Image(canonical, count, first) => {
-                has_head(bytes, canonical) && tail(bytes, count).starts_with(first)
+                has_head(bytes, canonical) && has_start(tail(bytes, count), first)
             }
             Text::File(sides, strip) => is_file(bytes, sides, strip),
         }
     }
 }
 
+/// Whether a count is at least and at most this.
+fn is_within(count: u64, least: u64, most: u64) -> bool {
+    is_same(&count.max(least).min(most), &count)
+}
+
 /// Whether these are so many, at the front of those.
 fn are_front(bytes: &[u8], count: usize, whole: &[u8]) -> bool {
-    bytes.len() == count && whole.starts_with(bytes)
+    is_same(&bytes.len(), &count) && has_start(whole, bytes)
 }
 
 /// Whether these are a head and a body's front that ends behind its first sample and before its last.
 fn are_cut(bytes: &[u8], head: &[u8], body: &[u8]) -> bool {
     match bytes.strip_prefix(head) {
         Some(sent) => 174 < sent.len() && sent.len() < body.len() && body.starts_with(sent),
-        None => false,
+        None => is_missing(),
     }
 }
 
@@ -277,34 +301,36 @@ impl<'a> Want<'a> {
 
     /// Whether a whole answer is what is to come.
     fn is_sent(self, sent: Sent, bytes: &[u8]) -> bool {
-        let is_all = sent.bytes == bytes.len() as u64;
+        let is_all = || is_same(&sent.bytes, &(bytes.len() as u64));
         match self {
-            Want::Whole(status, text) => is_all && sent.status == status && text.fits(bytes),
+            Want::Whole(status, text) => is_all()
+                && is_same(&sent.status, &status)
+                && text.fits(bytes),
             Want::Held(status, least, most, text) => {
-                let is_held = least <= sent.held && sent.held <= most;
-                is_all && is_held && sent.status == status && text.fits(bytes)
+                let is_held = is_within(sent.held, least, most);
+                is_all() && is_held && is_same(&sent.status, &status) && text.fits(bytes)
             }
             Want::Booked(least, most, loads) => {
-                least <= sent.bytes && sent.bytes <= most && sent.held == loads
+                is_within(sent.bytes, least, most) && is_same(&sent.held, &loads)
             }
             Want::Ended(room, _, whole) => are_front(bytes, room, whole),
-            _ => false,
+            Want::Full(..) | Want::Front(..) => is_unwanted(&"a whole answer"),
         }
     }
 
     /// Whether one that was cut off is.
     fn is_cut(self, cut: Cut, bytes: &[u8]) -> bool {
-        let is_all = cut.sent == bytes.len() as u64;
+        let is_all = || is_same(&cut.sent, &(bytes.len() as u64));
         match self {
             Want::Full(room, _, whole) => {
-                is_all && cut.cause == Cause::Writer && are_front(bytes, room, whole)
+                is_all() && is_same(&cut.cause, &Cause::Writer) && are_front(bytes, room, whole)
             }
             Want::Front(head, body) => {
-                is_all
+                is_all()
                     && matches!(cut.cause, Cause::Load(Fault::Source(_)))
                     && are_cut(bytes, head, body)
             }
-            _ => false,
+            _ => is_unwanted(&"a part of an answer"),
         }
     }
 

@@ -1,8 +1,5 @@
 //! Pictures as rasters and as files.
 
-ghost use Rattle.std.specs.Prelude.{◌≡◌, length};
-ghost use Rattle.iiif_pixel.specs.Depths.{span_values};
-
 use crate::server::plain::Plain;
 use iiif_pixel::{Depth, Dim, Kind, Raster, Samples, Span};
 use iiif_tiff_write::{OutKind, fits, head, put_rows};
@@ -28,9 +25,7 @@ pub(crate) const STEPS: Drawn<'static> = Drawn {
 };
 
 /// How many samples there are.
-fn count(samples: Span) -> usize
-    ensures { result ≡ length (span_values samples.entry) }
-{
+fn count(samples: Span) -> usize {
     match samples {
         Span::Eight(samples) => samples.len(),
         Span::Sixteen(samples) => samples.len(),

@@ -1,8 +1,5 @@
 //! A file of which some reads fail.
 
-ghost use Rattle.std.specs.Prelude.{◌≡◌, ℕ, List};
-ghost use Rattle.iiif_server_tests.specs.Fused.{bytes_of, fused_gave, keeps_of};
-
 use crate::server::cases::NEVER;
 use iiif_source::{MemSource, ReadFault, Source};
 use std::marker::Model;
@@ -26,9 +23,7 @@ impl Model for Faulty {
 
 impl Faulty {
     /// A file of which the k-th read fails, counted from 1, and each later one where it doesn't fail once.
-    pub(crate) fn new(inner: MemSource, k: u64, once: bool) -> Faulty
-        ensures { result ≡ inner }
-    {
+    pub(crate) fn new(inner: MemSource, k: u64, once: bool) -> Faulty {
         Faulty {
             inner,
             first: k,

@@ -1,5 +1,6 @@
 //! Files that are written and read back, and an answer of many megabytes.
 
+use crate::fixtures::is_same;
 use crate::server::cases::{Ask, NODE, Setup, Text, Verb, WHOLE, Want};
 use crate::server::drawn::{Drawn, STEPS};
 use crate::server::nodes::are_right;
@@ -25,9 +26,9 @@ fn has_samples(alloc: Global, file: Vec<u8>, raster: &Raster) -> Option<bool> {
         w: sides.w,
         h: sides.h,
     };
-    if sides != raster.dim()
-        || layout.kind() != raster.kind()
-        || layout.depth() != raster.depth()
+    if !is_same(&sides, &raster.dim())
+        || !is_same(&layout.kind(), &raster.kind())
+        || !is_same(&layout.depth(), &raster.depth())
         || !whole.lies_in(sides)
     {
         return None;
@@ -35,7 +36,7 @@ fn has_samples(alloc: Global, file: Vec<u8>, raster: &Raster) -> Option<bool> {
     let Ok(read) = layout.read_rect(&(), alloc, &source, whole) else {
         return None;
     };
-    Some(read.samples() == raster.samples())
+    Some(is_same(&read.samples(), &raster.samples()))
 }
 
 /// A name, a picture, and whether its file has its samples.
@@ -45,7 +46,7 @@ type Written = (&'static str, Drawn<'static>, bool);
 fn is_written(alloc: Global, written: &Written) -> Option<bool> {
     let (_, picture, is_read) = written;
     let raster = picture.raster(alloc)?;
-    Some(has_samples(alloc, picture.file(alloc)?, &raster)? == *is_read)
+    Some(is_same(&has_samples(alloc, picture.file(alloc)?, &raster)?, is_read))
 }
 
 static PICTURES: [Written; 7] = [
@@ -118,7 +119,7 @@ static PICTURES: [Written; 7] = [
 fn written_files_are_read_back(rt: HostRuntime) {
     for written in &PICTURES {
         assert!(rt;
-            is_written(rt.alloc(), written) == Some(true),
+            is_same(&is_written(rt.alloc(), written), &Some(true)),
             "{}",
             written.0
         );

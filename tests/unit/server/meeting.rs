@@ -1,9 +1,5 @@
 //! A gate at which loads meet, and groups with that gate.
 
-ghost use Rattle.std.specs.Prelude.{◌≡◌, ℕ, IfSome};
-ghost use Rattle.iiif_keys.specs.Ledgers.{all_parts};
-ghost use Rattle.iiif_server.specs.Stocks.{IsStock};
-
 use iiif_ring::Ring;
 use iiif_server::{Gate, NoLink, Stock};
 use std::alloc::Global;
@@ -36,8 +32,6 @@ impl Meeting {
 }
 
 impl<R: Clock> Gate<R> for Meeting {
-    ghost use Rattle.std.specs.Prelude.{⊤};
-
     ghost passed = { λ _ _. ⊤ };
 
     fn pass(&self, rt: &R, _key_bytes: &[u8]) {
@@ -55,15 +49,13 @@ impl<R: Clock> Gate<R> for Meeting {
     }
 }
 
-/// What a group is made with that has room for so many bytes, and whose loads pass this gate.
+/// The parts of a group that has room for so many bytes, and whose loads pass this gate.
 pub(crate) fn stock<'a>(
     alloc: Global,
     bytes: u64,
     gate: &'a Meeting,
     blank: Blank,
-) -> Option<Stock<NoLink, &'a Meeting>>
-    ensures { (name parts : ℕ) → blank.name ≡ name → blank.parts ≡ parts → parts ≡ all_parts → IfSome result (IsStock name parts) }
-{
+) -> Option<Stock<NoLink, &'a Meeting>> {
     let entries = NonZeroUsize::new(1024)?;
     let mut names = Vec::new(alloc);
     names.push(String::from_str(alloc, "n").ok()?).ok()?;

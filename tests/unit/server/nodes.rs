@@ -1,12 +1,6 @@
 //! Nodes over files in memory, and what comes of what they are asked.
 
-ghost use Rattle.std.specs.Prelude.{◌≡◌, ℕ, List, Some};
-ghost use Rattle.iiif_source.specs.declared.ReadFault.{ReadFault};
-ghost use Rattle.iiif_images.specs.Collection.{Item, item_named};
-ghost use Rattle.iiif_images.specs.Named.{gave_of, pictures_of};
-ghost use Rattle.iiif_server.specs.Stocks.{IsStock};
-ghost use Rattle.iiif_server_tests.specs.Fused.{bytes_of, fused_gave, keeps_of};
-
+use crate::fixtures::note;
 use crate::server::calls::is_right;
 use crate::server::cases::{Case, Setup, Table, Variant};
 use crate::server::every::{Pictured, asks};
@@ -31,7 +25,7 @@ use std::time::Clock;
 pub(crate) struct Seen {
     /// At which tiles meet.
     pub gate: Meeting,
-    /// The same of sums, which don't wait for one another.
+    /// The gate at which sums pass, which don't wait for one another.
     pub open: Meeting,
     pub told: Told,
 }
@@ -86,6 +80,7 @@ fn right_by_workers<R: Threads + Wait + Clock + Sync, J: System + Send + Sync>(
     let mut right = 0usize;
     for (ask, want) in cases {
         if !is_right(rt, alloc, node, &mut passes, seen, *ask, *want) {
+            note("case", &(right, ask.target()));
             break;
         }
         right = right.saturating_add(1);
@@ -93,7 +88,7 @@ fn right_by_workers<R: Threads + Wait + Clock + Sync, J: System + Send + Sync>(
     Some(right)
 }
 
-/// The same by a new node of these images.
+/// Counts them by a new node of these images.
 fn right_by<R: Threads + Wait + Clock + Sync, J: System + Send + Sync>(
     rt: &R,
     alloc: Global,
@@ -104,16 +99,7 @@ fn right_by<R: Threads + Wait + Clock + Sync, J: System + Send + Sync>(
     workers: u32,
     seen: &Seen,
     cases: &[Case<'_>],
-) -> Option<usize>
-    requires pictures { (name : List ℕ) → J.pictures name ≡ pictures_of bytes_of images name }
-    requires gave { (name : List ℕ) (f : ReadFault) → J.gave name f ≡ gave_of fused_gave images name f }
-    requires stable { (name : List ℕ) (item : Item (List ℕ)) → item_named images name ≡ Some item → J.stable name →
-        ∥ keeps_of item.source ∥₁ }
-    requires kept { (name : List ℕ) (item : Item (List ℕ)) → item_named images name ≡ Some item → keeps_of item.source → J.stable name }
-    requires edge { config.edge ≡ J.edge }
-    requires tiles { IsStock J.tiles_name J.tiles_parts tiles }
-    requires sums { IsStock J.sums_name J.sums_parts sums }
-{
+) -> Option<usize> {
     let node = Node::<R, Faulty, J, NoLink, &Meeting>::new(
         alloc, config, images, tiles, sums,
     ).ok()?;
@@ -189,6 +175,7 @@ pub(crate) fn wrong_variant<R: Threads + Wait + Clock + Sync + AllocGlobal>(
             ..*base
         };
         if !are_right(rt, &setup, cases) {
+            note("edge, rows, workers and bytes of the caches", variant);
             return Some(*variant);
         }
     }

@@ -1,9 +1,9 @@
 //! A read that fails once: it is told, whichever of all it is, and isn't tried again for the same answer.
 
+use crate::fixtures::files::{BROAD, HALVED_FILE, SAMPLE_FILE};
 use crate::server::answer_tests::FAULT;
-use crate::server::band_tests::MEAN;
+use crate::server::band_tests::{HALF_IS_WHOLE, MEAN, SAMPLE_IS_WHOLE};
 use crate::server::cases::{Ask, Case, HALF, NODE, ONE, Setup, Text, WHOLE, Want};
-use crate::server::files::{BROAD, HALVED_FILE, SAMPLE_FILE};
 use crate::server::nodes::are_right;
 use std::sync::Wait;
 use std::thread::Threads;
@@ -14,10 +14,6 @@ const TILES: u64 = 16;
 
 /// One read for each tile, and the one that failed.
 const EACH_READ_ONCE: Case<'static> = (Ask::Reads, Want::Booked(TILES + 1, TILES + 1, 0));
-
-const HALF_IS_WHOLE: Case<'static> = (Ask::Body(HALF), Want::Whole(200, Text::Is(&HALVED_FILE)));
-
-const SAMPLE_IS_WHOLE: Case<'static> = (Ask::Body(WHOLE), Want::Whole(200, Text::Is(&SAMPLE_FILE)));
 
 /// A body of which a read fails, and the same once more: the line of a source that fails or a part, and then all of it.
 const HALF_REFUSED: &[Case<'static>] = &[(Ask::Body(HALF), FAULT), HALF_IS_WHOLE, EACH_READ_ONCE];
@@ -57,21 +53,23 @@ const BROAD_REFUSED: &[Case<'static>] = &[
     ),
 ];
 
-/// At one place the broad picture is a block of level 4, whose parts are shared out among the workers.
-static SHARED_ONCE: Once = ("parts of one block", 64, 1, BROAD_TILES, BROAD_REFUSED);
+/// At one place the broad picture is a block of level 4, whose parts are shared out among the workers. The reads that fail are 17 apart,
+/// one of each row of tiles and of each column.
+static SHARED_ONCE: Once = ("parts of one block", 64, 1, BROAD_TILES, 17, BROAD_REFUSED);
 
-/// A name, the rows of a band, the first and the last of the reads that fail, one of them each time, and what comes then.
-type Once = (&'static str, u32, u64, u64, &'static [Case<'static>]);
+/// A name, the rows of a band, the first and the last of the reads that fail, how far one is from the next, and what comes then. One of
+/// them fails each time.
+type Once = (&'static str, u32, u64, u64, u64, &'static [Case<'static>]);
 
 /// Half the sample is made of one block, whose reads all come before the first band. Of the whole sample in bands of one row four tiles are
 /// read for each band, so that a fault behind the first four cuts.
 static ONCE: [Once; 6] = [
-    ("one place", 64, 1, TILES, ONE_REFUSED),
-    ("half, in bands of 1", 1, 1, TILES, HALF_REFUSED),
-    ("half, in a band", 64, 1, TILES, HALF_REFUSED),
-    ("whole, first of bands of 1", 1, 1, 4, SAMPLE_REFUSED),
-    ("whole, later of bands of 1", 1, 5, TILES, SAMPLE_CUT),
-    ("whole, in a band", 64, 1, TILES, SAMPLE_REFUSED),
+    ("one place", 64, 1, TILES, 1, ONE_REFUSED),
+    ("half, in bands of 1", 1, 1, TILES, 1, HALF_REFUSED),
+    ("half, in a band", 64, 1, TILES, 1, HALF_REFUSED),
+    ("whole, first of bands of 1", 1, 1, 4, 1, SAMPLE_REFUSED),
+    ("whole, later of bands of 1", 1, 5, TILES, 1, SAMPLE_CUT),
+    ("whole, in a band", 64, 1, TILES, 1, SAMPLE_REFUSED),
 ];
 
 /// The first read of a file whose failing doesn't end a body in this way, by so many workers. None where there is none.
@@ -81,8 +79,9 @@ fn other_end<R: Threads + Wait + Clock + Sync + AllocGlobal>(
     once: &Once,
     workers: u32,
 ) -> Option<u64> {
-    let (_, rows, first, last, cases) = *once;
-    for k in first..=last {
+    let (_, rows, first, last, step, cases) = *once;
+    let mut k = first;
+    while k <= last {
         let setup = Setup {
             file,
             edge: 1,
@@ -95,6 +94,7 @@ fn other_end<R: Threads + Wait + Clock + Sync + AllocGlobal>(
         if !are_right(rt, &setup, cases) {
             return Some(k);
         }
+        k += step;
     }
     None
 }

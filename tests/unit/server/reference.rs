@@ -1,17 +1,6 @@
 //! The image that a request comes to, from the whole of its region as one tile. It is what the answers of a node are compared
 //! with.
 
-ghost use Rattle.std.specs.Prelude.{◌≡◌, ◌<◌, length, IfOk, IfErr};
-ghost use Rattle.iiif_pixel.specs.Geometry.{LiesIn, sides_of};
-ghost use Rattle.iiif_pixel.specs.Picture.{Picture, dim_of};
-ghost use Rattle.iiif_pixel.specs.Scaling.{scale, whole_of};
-ghost use Rattle.iiif_area.specs.Places.{IsScalable};
-ghost use Rattle.iiif_tiff.specs.Tiff.{Shows, scheme};
-ghost use Rattle.iiif_tiff_read.specs.Layouts.{FitsIn};
-ghost use Rattle.iiif_tiff_read.specs.Layouts as layouts;
-ghost use Rattle.iiif_tiff_read.specs.Faults.{IsLoadFault};
-ghost use Rattle.iiif_canonical.specs.Images.{resolved_image};
-
 use iiif_area::Sums;
 use iiif_canonical::Resolved;
 use iiif_pixel::laws::{bands_follow, whole_stays_whole};
@@ -21,9 +10,7 @@ use iiif_tiff_read::{Layout, LoadFault};
 use std::alloc::Global;
 
 /// The rectangle that is all of a picture with these sides.
-fn whole(dim: Dim) -> Rect
-    ensures { result ≡ whole_of dim }
-{
+fn whole(dim: Dim) -> Rect {
     Rect {
         x: 0,
         y: 0,
@@ -33,10 +20,7 @@ fn whole(dim: Dim) -> Rect
 }
 
 /// A region scaled to other sides, its sums taken as those of one tile.
-fn scaled(alloc: Global, region: &Raster, size: Dim) -> Result<Raster, NoMemory>
-    requires limits { IsScalable (dim_of region.now) size }
-    ensures { IfOk result (λ r. r ≡ scale region.now size) }
-{
+fn scaled(alloc: Global, region: &Raster, size: Dim) -> Result<Raster, NoMemory> {
     let sides = region.dim();
     // What is known of each raster, and laws of pictures.
     region.is_whole();
@@ -54,15 +38,7 @@ pub(crate) fn plain_render<R, S: Source<R>>(
     source: &S,
     layout: &Layout,
     resolved: &Resolved,
-) -> Result<Raster, LoadFault>
-    requires inside { LiesIn resolved.now.rect (layouts.dim_of layout.now) }
-    requires sizes { IsScalable (sides_of resolved.now.rect) resolved.now.size }
-    requires quarters { resolved.now.turn.quarters < 4 }
-    requires in_file { FitsIn layout.now (length (S.bytes source.now)) }
-    ensures image { IfOk result (λ r. S.keeps source.now → layout.now ≡ scheme (S.bytes source.now)
-        → (p : Picture) → Shows (S.bytes source.now) p → r ≡ resolved_image p resolved.now) }
-    ensures fault { IfErr result (IsLoadFault (S.gave source.now)) }
-{
+) -> Result<Raster, LoadFault> {
     let region = layout.read_rect(rt, alloc, source, resolved.rect)?;
     let scaled = scaled(alloc, &region, resolved.size)?;
     let turned = scaled.turn(resolved.turn)?;

@@ -1,6 +1,7 @@
 //! Settings, and the names of images.
 
-use crate::server::files::SAMPLE;
+use crate::fixtures::files::SAMPLE;
+use crate::fixtures::{is_same, is_unwanted, is_written};
 use iiif_canonical::Limits;
 use iiif_server::{AddFault, Catalogue, Config, ConfigFault};
 use iiif_source::MemSource;
@@ -38,15 +39,18 @@ static REFUSED: [Refused; 9] = [
 /// Whether settings are refused for this.
 fn are_refused(alloc: Global, refused: &Refused) -> bool {
     let (base, [edge, max, band, workers], fault) = *refused;
-    Config::new(alloc, base, edge, limits(max), band, workers).err() == Some(fault)
+    is_same(
+        &Config::new(alloc, base, edge, limits(max), band, workers).err(),
+        &Some(fault),
+    )
 }
 
 /// Whether settings are told as they were given.
 fn is_told(alloc: Global) -> Option<bool> {
     let base = "https://a-b.example:8080/x/~y";
     let config = Config::new(alloc, base, 1, limits(1), 1, 1).ok()?;
-    let is_prefix = config.prefix() == b"/x/~y".as_slice();
-    Some(is_prefix && config.base() == base && config.limits() == limits(1))
+    let is_prefix = is_same(&config.prefix(), &b"/x/~y".as_slice());
+    Some(is_prefix && is_same(&config.base(), &base) && is_same(&config.limits(), &limits(1)))
 }
 
 #[test]
@@ -65,8 +69,13 @@ fn settings_are_refused_in_order(rt: HostRuntime) {
 /// Whether settings are as they were given, or why they are refused.
 fn are_taken(alloc: Global, base: &str, edge: u32, workers: u32) -> Result<bool, ConfigFault> {
     let config = Config::new(alloc, base, edge, limits(4), 64, workers)?;
-    let sides = config.edge() == edge && config.limits() == limits(4);
-    Ok(config.base() == base && sides && config.band() == 64 && config.workers() == workers)
+    let sides = is_same(&config.edge(), &edge) && is_same(&config.limits(), &limits(4));
+    Ok(
+        is_same(&config.base(), &base)
+            && sides
+            && is_same(&config.band(), &64)
+            && is_same(&config.workers(), &workers),
+    )
 }
 
 /// A base, an edge and workers, and whether settings with them are as they were given, or why they are refused.
@@ -84,8 +93,8 @@ static TAKEN: [Taken; 5] = [
 fn are_taken_again(alloc: Global, taken: &Taken) -> bool {
     let (base, edge, workers, answer) = *taken;
     match are_taken(alloc, base, edge, workers) {
-        Err(ConfigFault::NoMemory) => are_taken(alloc, base, edge, workers) == answer,
-        once => once == answer,
+        Err(ConfigFault::NoMemory) => is_same(&are_taken(alloc, base, edge, workers), &answer),
+        once => is_same(&once, &answer),
     }
 }
 
@@ -121,7 +130,7 @@ fn is_added(
     let Ok(layout) = open(&(), alloc, &source) else {
         return None;
     };
-    Some(catalogue.add(name, source, layout) == named.1)
+    Some(is_same(&catalogue.add(name, source, layout), &named.1))
 }
 
 #[test]
@@ -129,7 +138,7 @@ fn names_are_taken_once(rt: HostRuntime) {
     let mut catalogue = Catalogue::new(rt.alloc());
     for named in &NAMES {
         assert!(rt;
-            is_added(rt.alloc(), &mut catalogue, named) == Some(true),
+            is_same(&is_added(rt.alloc(), &mut catalogue, named), &Some(true)),
             "{}",
             named.0
         );
@@ -137,16 +146,8 @@ fn names_are_taken_once(rt: HostRuntime) {
     assert!(rt; catalogue.has("a") && catalogue.find("b").is_none());
 }
 
-/// Whether a fault says this.
-fn says(alloc: Global, fault: ConfigFault, text: &str) -> bool {
-    match format!(in alloc; "{fault}") {
-        Ok(said) => said.as_str() == text,
-        Err(_) => false,
-    }
-}
-
 #[test]
 fn faults_are_told(rt: HostRuntime) {
-    assert!(rt; says(rt.alloc(), ConfigFault::NoMemory, "out of memory"));
-    assert!(rt; AddFault::Twice.number() == 2);
+    assert!(rt; is_written(rt.alloc(), &ConfigFault::NoMemory, "out of memory"));
+    assert!(rt; is_same(&AddFault::Twice.number(), &2));
 }

@@ -1,5 +1,7 @@
 //! Connections, and what a watch is told of their answers.
 
+use crate::fixtures::calls::{THREE_ANSWERS, THREE_REQUESTS};
+use crate::fixtures::is_same;
 use crate::server::answer_tests::IMAGE_HEAD;
 use crate::server::cases::{Ask, IS_SO, Input, NOTHING_IS_READ, ONE_WORKER, Table, Text, Want};
 use crate::server::nodes::{all_are, are_right};
@@ -7,19 +9,6 @@ use std::alloc::Global;
 use std::sync::Wait;
 use std::thread::Threads;
 use std::time::Clock;
-
-/// Three requests: a base URI, a method that isn't answered, and the head of a whole image.
-const REQUESTS: &[u8] =
-    b"GET /iiif/a HTTP/1.1\r\nHost: localhost\r\n\r\nPOST /iiif/a HTTP/1.1\r\nHost: localhost\r\n\r\nHEAD \
-        /iiif/a/full/max/0/default.tif HTTP/1.1\r\nHost: localhost\r\n\r\n";
-
-/// What they are answered.
-const ANSWERS: &[u8] =
-    b"HTTP/1.1 303 See Other\r\nAccess-Control-Allow-Origin: *\r\nLocation: http://localhost/iiif/a/info.json\r\n\
-        Content-Length: 0\r\n\r\nHTTP/1.1 405 Method Not Allowed\r\nContent-Type: text/plain\r\n\
-        Access-Control-Allow-Origin: *\r\nAllow: GET, HEAD\r\nContent-Length: 10\r\n\r\nQ2 method\nHTTP/1.1 200 OK\r\n\
-        Content-Type: image/tiff\r\nAccess-Control-Allow-Origin: *\r\nLink: \
-        <http://localhost/iiif/a/full/max/0/default.tif>;rel=\"canonical\"\r\nContent-Length: 190\r\n\r\n";
 
 const BAD_HEAD: &[u8] =
     b"HTTP/1.1 400 Bad Request\r\nContent-Type: text/plain\r\nAccess-Control-Allow-Origin: *\r\nContent-Length: 8\r\n\
@@ -42,8 +31,8 @@ const AT_ONCE: Input<'static> = Input {
 
 /// The first place at which the three requests are cut and not answered as they are to be.
 fn wrong_place<R: Threads + Wait + Clock + Sync + AllocGlobal>(rt: &R) -> Option<usize> {
-    for place in 0..=REQUESTS.len() {
-        let (first, second) = REQUESTS.split_at(place.min(REQUESTS.len()));
+    for place in 0..=THREE_REQUESTS.len() {
+        let (first, second) = THREE_REQUESTS.split_at(place.min(THREE_REQUESTS.len()));
         let input = Input {
             first,
             second,
@@ -57,7 +46,7 @@ fn wrong_place<R: Threads + Wait + Clock + Sync + AllocGlobal>(rt: &R) -> Option
     None
 }
 
-const ALL_ANSWERED: Want<'static> = Want::Whole(0, Text::Is(ANSWERS));
+const ALL_ANSWERED: Want<'static> = Want::Whole(0, Text::Is(THREE_ANSWERS));
 
 #[test]
 fn three_requests_cut_at_every_place(rt: HostRuntime) {
@@ -69,7 +58,7 @@ fn three_requests_cut_at_every_place(rt: HostRuntime) {
 /// Where the head of each of the three requests ends, and where the answer to it does.
 static ENDS: [(usize, usize); 3] = [(41, 122), (83, 263), (148, 433)];
 
-/// What is answered to so many bytes of the three requests: each head that has come whole, and nothing of what follows.
+/// The answer to so many bytes of the three requests: each head that has come whole, and nothing of what follows.
 fn answers_to(count: usize) -> &'static [u8] {
     let mut answered = 0usize;
     for (head, answer) in &ENDS {
@@ -77,14 +66,14 @@ fn answers_to(count: usize) -> &'static [u8] {
             answered = *answer;
         }
     }
-    let (answers, _) = ANSWERS.split_at(answered.min(ANSWERS.len()));
+    let (answers, _) = THREE_ANSWERS.split_at(answered.min(THREE_ANSWERS.len()));
     answers
 }
 
 /// The first number of bytes behind which the three requests end and aren't answered as they are to be.
 fn wrong_end<R: Threads + Wait + Clock + Sync + AllocGlobal>(rt: &R) -> Option<usize> {
-    for count in 0..=REQUESTS.len() {
-        let (first, _) = REQUESTS.split_at(count.min(REQUESTS.len()));
+    for count in 0..=THREE_REQUESTS.len() {
+        let (first, _) = THREE_REQUESTS.split_at(count.min(THREE_REQUESTS.len()));
         let input = Input { first, ..AT_ONCE };
         let want = Want::Whole(0, Text::Is(answers_to(count)));
         if !are_right(rt, &ONE_WORKER, &[(Ask::Stream(input), want)]) {
@@ -96,7 +85,7 @@ fn wrong_end<R: Threads + Wait + Clock + Sync + AllocGlobal>(rt: &R) -> Option<u
 
 #[test]
 fn three_requests_that_end_behind_every_byte(rt: HostRuntime) {
-    assert!(rt; answers_to(REQUESTS.len()) == ANSWERS);
+    assert!(rt; is_same(&answers_to(THREE_REQUESTS.len()), &THREE_ANSWERS));
     if let Some(count) = wrong_end(&rt) {
         panic!(rt; "{count}");
     }
@@ -104,8 +93,8 @@ fn three_requests_that_end_behind_every_byte(rt: HostRuntime) {
 
 /// The first number of bytes for which a writer has room and behind which something else follows.
 fn wrong_room<R: Threads + Wait + Clock + Sync + AllocGlobal>(rt: &R) -> Option<usize> {
-    for room in 0..ANSWERS.len() {
-        let want = Want::Ended(room, 64, ANSWERS);
+    for room in 0..THREE_ANSWERS.len() {
+        let want = Want::Ended(room, 64, THREE_ANSWERS);
         if !are_right(rt, &ONE_WORKER, &[(Ask::Stream(IN_PIECES), want)]) {
             return Some(room);
         }
@@ -115,7 +104,7 @@ fn wrong_room<R: Threads + Wait + Clock + Sync + AllocGlobal>(rt: &R) -> Option<
 
 /// The three requests, at most 64 bytes a read.
 const IN_PIECES: Input<'static> = Input {
-    first: REQUESTS,
+    first: THREE_REQUESTS,
     piece: 64,
     ..AT_ONCE
 };
@@ -129,7 +118,7 @@ fn nothing_follows_an_answer_that_was_cut_off(rt: HostRuntime) {
 
 const CALL: &[u8] = b"GET /iiif/a HTTP/1.1\r\n\r\n";
 
-/// What comes on a connection, and what is answered.
+/// The input of a connection, and its answers.
 struct Connection {
     what: &'static str,
     /// This, that so many times, and what is behind it,
@@ -284,7 +273,7 @@ fn is_served<R: Threads + Wait + Clock + Sync + AllocGlobal>(
 fn heads_that_are_none_calls_that_close_and_no_more_than_a_thousand(rt: HostRuntime) {
     for connection in &CONNECTIONS {
         assert!(rt;
-            is_served(&rt, connection) == Some(true),
+            is_same(&is_served(&rt, connection), &Some(true)),
             "{}",
             connection.what
         );
@@ -371,7 +360,7 @@ fn heads_of_the_most_fields_and_bytes_are_answered_and_longer_ones_close(rt: Hos
     for connections in [&FIELDS, &LENGTHS] {
         for connection in connections {
             assert!(rt;
-                is_served(&rt, connection) == Some(true),
+                is_same(&is_served(&rt, connection), &Some(true)),
                 "{}",
                 connection.what
             );
@@ -379,7 +368,7 @@ fn heads_of_the_most_fields_and_bytes_are_answered_and_longer_ones_close(rt: Hos
     }
 }
 
-/// What a redirect, the head of a refusal, a method that isn't answered and what is no head are answered.
+/// The answers to a redirect, the head of a refusal, a method that isn't answered and bytes that are no head.
 const FOUR_ANSWERS: &[u8] =
     b"HTTP/1.1 303 See Other\r\nAccess-Control-Allow-Origin: *\r\nLocation: http://localhost/iiif/a/info.json\r\n\
         Content-Length: 0\r\n\r\nHTTP/1.1 404 Not Found\r\nContent-Type: text/plain\r\nAccess-Control-Allow-Origin: \

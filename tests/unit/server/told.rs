@@ -1,4 +1,4 @@
-//! Who reads a connection's input, and what a watch is told of its answers.
+//! A reader of a connection's input, and a watch that counts its answers.
 
 use crate::server::cases::Input;
 use iiif_http_front::Call;
@@ -48,7 +48,7 @@ impl<'a> Inlet for Parts<'a> {
     }
 }
 
-/// What was told.
+/// The counts so far.
 #[derive(Drop)]
 pub(crate) struct Told {
     begun: AtomicU64,

@@ -1,5 +1,6 @@
 //! A link that fails and comes back, moment by moment.
 
+use crate::fixtures::is_same;
 use iiif_breaker::{Asks, Change, Durations, LinkRecord, Outcome, State};
 use std::rt::HostRuntime;
 
@@ -11,6 +12,24 @@ fn ends(link: &mut LinkRecord, now: u64, outcome: Outcome) -> bool {
             true
         }
         None => false,
+    }
+}
+
+/// Names what is told of a link: nothing, that it is left alone, or that it is asked again.
+fn told(change: Option<Change>) -> &'static str {
+    match change {
+        None => "nothing",
+        Some(Change::LeftAlone) => "left alone",
+        Some(Change::AskedAgain) => "asked again",
+    }
+}
+
+/// Names the state of a link, with its numbers: the faults in a row, or the moment and how long it rests.
+fn standing(link: &LinkRecord) -> (&'static str, u64, u64) {
+    match link.state() {
+        State::Closed { faults } => ("closed", u64::from(faults), 0),
+        State::Open { until, wait } => ("open", until, wait),
+        State::HalfOpen { since, wait } => ("half open", since, wait),
     }
 }
 
@@ -27,7 +46,7 @@ type Steps = &'static [(u64, Outcome, bool)];
 /// Whether a link is asked at these moments as they say.
 fn goes(link: &mut LinkRecord, steps: Steps) -> bool {
     for (now, outcome, asked) in steps.iter() {
-        if ends(link, *now, *outcome) != *asked {
+        if !is_same(&(*now, ends(link, *now, *outcome)), &(*now, *asked)) {
             return false;
         }
     }
@@ -77,56 +96,64 @@ fn one_asks_a_period_and_late_faults_change_nothing(rt: HostRuntime) {
     let mut link = LinkRecord::new();
     let first = link.may_ask(100);
     let second = link.may_ask(100);
-    assert!(rt; first == Some(0) && second == Some(0));
+    assert!(rt; is_same(&first, &Some(0)) && is_same(&second, &Some(0)));
     link.report(5_100, 0, Outcome::TimedOut);
-    assert!(rt; link.may_ask(6_099).is_none());
-    assert!(rt; link.may_ask(6_100) == Some(1));
-    assert!(rt; link.may_ask(7_099).is_none());
+    assert!(rt; is_same(&link.may_ask(6_099), &None));
+    assert!(rt; is_same(&link.may_ask(6_100), &Some(1)));
+    assert!(rt; is_same(&link.may_ask(7_099), &None));
     link.report(6_500, 0, Outcome::TimedOut);
-    assert!(rt;
-        link.state()
-            == State::HalfOpen {
-                since: 6_100,
-                wait: 1_000
-            }
-    );
-    assert!(rt; link.may_ask(7_100) == Some(1));
+    assert!(rt; is_same(&standing(&link), &("half open", 6_100, 1_000)));
+    assert!(rt; is_same(&link.may_ask(7_100), &Some(1)));
     let asks = link.asks();
-    assert!(rt; asks.timed_out == 2 && asks.skipped == 2 && asks.answered == 0 && asks.failed == 0);
+    assert!(rt;
+        is_same(
+            &[asks.timed_out, asks.skipped, asks.answered, asks.failed],
+            &[2, 2, 0, 0]
+        )
+    );
 }
 
 #[test]
 fn turns_are_told_and_refusals_counted_apart(rt: HostRuntime) {
     let mut link = LinkRecord::new();
-    assert!(rt; link.report(100, 0, Outcome::TimedOut) == Some(Change::LeftAlone));
-    assert!(rt; link.report(101, 1, Outcome::TimedOut).is_none());
-    assert!(rt; link.report(200, 1, Outcome::Refused) == Some(Change::AskedAgain));
-    assert!(rt; link.report(201, 1, Outcome::Answered).is_none());
+    assert!(rt; is_same(&told(link.report(100, 0, Outcome::TimedOut)), &"left alone"));
+    assert!(rt; is_same(&told(link.report(101, 1, Outcome::TimedOut)), &"nothing"));
+    assert!(rt; is_same(&told(link.report(200, 1, Outcome::Refused)), &"asked again"));
+    assert!(rt; is_same(&told(link.report(201, 1, Outcome::Answered)), &"nothing"));
     let asks = link.asks();
-    assert!(rt; asks.timed_out == 2 && asks.refused == 1 && asks.answered == 1 && asks.failed == 0);
+    assert!(rt;
+        is_same(
+            &[asks.timed_out, asks.refused, asks.answered, asks.failed],
+            &[2, 1, 1, 0]
+        )
+    );
 }
 
 #[test]
 fn looks_in_vain_leave_a_link_alone_and_count_no_ask(rt: HostRuntime) {
     let mut link = LinkRecord::new();
     let none = Asks::new();
-    assert!(rt; link.report_silent(100, &none) == Some(Change::LeftAlone));
-    assert!(rt; link.may_ask(1_099).is_none());
-    assert!(rt; link.report_silent(1_099, &none).is_none());
-    assert!(rt; link.may_ask(2_098).is_none());
-    assert!(rt; link.may_ask(2_099) == Some(2));
-    assert!(rt; link.report_silent(2_200, &none).is_none());
+    assert!(rt; is_same(&told(link.report_silent(100, &none)), &"left alone"));
+    assert!(rt; is_same(&link.may_ask(1_099), &None));
+    assert!(rt; is_same(&told(link.report_silent(1_099, &none)), &"nothing"));
+    assert!(rt; is_same(&link.may_ask(2_098), &None));
+    assert!(rt; is_same(&link.may_ask(2_099), &Some(2)));
+    assert!(rt; is_same(&told(link.report_silent(2_200, &none)), &"nothing"));
     link.report(2_300, 2, Outcome::TimedOut);
+    assert!(rt; is_same(&standing(&link), &("open", 3_200, 1_000)));
     assert!(rt;
-        link.state()
-            == State::Open {
-                until: 3_200,
-                wait: 1_000
-            }
+        is_same(
+            &told(link.report(2_400, 2, Outcome::Answered)),
+            &"asked again"
+        )
     );
-    assert!(rt; link.report(2_400, 2, Outcome::Answered) == Some(Change::AskedAgain));
     let asks = link.asks();
-    assert!(rt; asks.timed_out == 1 && asks.skipped == 2 && asks.answered == 1 && asks.failed == 0);
+    assert!(rt;
+        is_same(
+            &[asks.timed_out, asks.skipped, asks.answered, asks.failed],
+            &[1, 2, 1, 0]
+        )
+    );
 }
 
 #[test]
@@ -137,14 +164,8 @@ fn look_in_vain_keeps_the_rest_and_is_due_a_second_before_its_end(rt: HostRuntim
     assert!(rt; !link.is_due(2_099));
     assert!(rt; link.is_due(2_100));
     let before = link.asks();
-    assert!(rt; link.report_silent(2_100, &before).is_none());
-    assert!(rt;
-        link.state()
-            == State::Open {
-                until: 4_100,
-                wait: 2_000
-            }
-    );
+    assert!(rt; is_same(&told(link.report_silent(2_100, &before)), &"nothing"));
+    assert!(rt; is_same(&standing(&link), &("open", 4_100, 2_000)));
     assert!(rt; !link.is_due(3_099));
     assert!(rt; link.is_due(3_100));
 }
@@ -156,11 +177,11 @@ fn look_in_vain_says_nothing_of_a_node_that_answered_since(rt: HostRuntime) {
     link.report(100, 0, Outcome::Answered);
     let second = link.asks();
     link.report(101, 0, Outcome::Refused);
-    assert!(rt; link.report_silent(200, &first).is_none());
-    assert!(rt; link.report_silent(201, &second).is_none());
-    assert!(rt; link.state() == State::Closed { faults: 0 });
+    assert!(rt; is_same(&told(link.report_silent(200, &first)), &"nothing"));
+    assert!(rt; is_same(&told(link.report_silent(201, &second)), &"nothing"));
+    assert!(rt; is_same(&standing(&link), &("closed", 0, 0)));
     let last = link.asks();
-    assert!(rt; link.report_silent(202, &last) == Some(Change::LeftAlone));
+    assert!(rt; is_same(&told(link.report_silent(202, &last)), &"left alone"));
 }
 
 #[test]
@@ -170,6 +191,6 @@ fn durations_count_in_each_bucket_that_is_long_enough(rt: HostRuntime) {
     durations.count(1_001);
     durations.count(600_000);
     durations.count(20_000_000);
-    assert!(rt; durations.within == [1, 2, 2, 2, 2, 2, 3, 3]);
-    assert!(rt; durations.all == 4 && durations.micros == 20_602_001);
+    assert!(rt; is_same(&durations.within, &[1, 2, 2, 2, 2, 2, 3, 3]));
+    assert!(rt; is_same(&durations.all, &4) && is_same(&durations.micros, &20_602_001));
 }

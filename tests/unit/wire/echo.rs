@@ -1,5 +1,6 @@
 //! A service for tests.
 
+use crate::fixtures::is_same;
 use iiif_listener::{Serve, Visit};
 use std::alloc::Global;
 use std::io::{Read, Write};
@@ -70,7 +71,7 @@ impl<R: Wait> Serve<R> for Echo {
 pub(crate) fn greeted(stream: &mut TcpStream) -> bool {
     let mut byte = [0u8; 1];
     match stream.read(&mut byte) {
-        Ok(1) => byte[0] == b'+',
+        Ok(1) => is_same(&byte[0], &b'+'),
         _ => false,
     }
 }

@@ -1,5 +1,6 @@
 //! Writers whose reader stays, says that it sends no more, or resets; and one that takes what it is sent too slowly.
 
+use crate::fixtures::is_same;
 use crate::wire::echo::connected;
 use iiif_io::Outlet;
 use iiif_listener::{Flow, Pace, PacedWriter, Rate};
@@ -32,7 +33,7 @@ fn gone(rt: &HostRuntime, stream: TcpStream) -> Option<(bool, bool)> {
 }
 
 #[test]
-fn one_who_waits_or_sends_on_is_there(rt: HostRuntime) {
+fn peer_that_waits_or_sends_on_is_present(rt: HostRuntime) {
     for sends in [false, true].iter() {
         let Some((mut near, far)) = connected(&rt) else {
             return;
@@ -42,24 +43,24 @@ fn one_who_waits_or_sends_on_is_there(rt: HostRuntime) {
         }
         let found = gone(&rt, far);
         drop(near);
-        assert!(rt; matches!(found, Some((false, false))));
+        assert!(rt; matches!(found, Some((false, false))), "{found:?}");
     }
 }
 
 #[test]
-fn one_who_sends_no_more_is_gone_after_a_while(rt: HostRuntime) {
+fn peer_that_sends_no_more_is_gone_after_a_while(rt: HostRuntime) {
     let Some((near, far)) = connected(&rt) else {
         return;
     };
     assert!(rt; near.shutdown(Shutdown::Write).is_ok());
     let found = gone(&rt, far);
     drop(near);
-    assert!(rt; matches!(found, Some((false, true))));
+    assert!(rt; matches!(found, Some((false, true))), "{found:?}");
 }
 
 /// One who leaves with bytes unread resets; a byte that it sent before hides nothing.
 #[test]
-fn one_who_resets_is_gone(rt: HostRuntime) {
+fn peer_that_resets_is_gone(rt: HostRuntime) {
     let Some((mut near, mut far)) = connected(&rt) else {
         return;
     };
@@ -68,7 +69,7 @@ fn one_who_resets_is_gone(rt: HostRuntime) {
     thread::sleep(&rt, Duration::from_millis(50));
     drop(near);
     let found = gone(&rt, far);
-    assert!(rt; matches!(found, Some((true, true))));
+    assert!(rt; matches!(found, Some((true, true))), "{found:?}");
 }
 
 /// Writes, the milliseconds and the bytes of each, and whether the answer goes on behind it, at 4 bytes a second over each 3 seconds.
@@ -96,7 +97,7 @@ fn slow_readers_are_cut_at_the_end_of_a_period(rt: HostRuntime) {
         });
         for (waited, bytes, goes_on) in writes.iter() {
             assert!(rt;
-                flow.take(*waited, *bytes) == *goes_on,
+                is_same(&flow.take(*waited, *bytes), goes_on),
                 "{place}: {waited} {bytes}"
             );
         }

@@ -1,5 +1,6 @@
 //! Heads as they stand on the wire.
 
+use crate::fixtures::{is_missing, is_same, is_same_text, is_unwanted, is_written};
 use http::StatusCode;
 use iiif_http_front::{Call, Field, HeadFault, Heads, head_bytes};
 use iiif_io::Inlet;
@@ -78,7 +79,7 @@ fn whole(text: &[u8], piece: usize) -> FailingReader<'_> {
     }
 }
 
-/// What is read of an input.
+/// The result of reading an input.
 #[derive(Clone, Copy)]
 enum Said {
     /// A call: its method, its target, and whether the connection closes after the answer.
@@ -98,7 +99,7 @@ const POST: Said = Said::Call("POST", "/iiif/a/full/max/0/default.tif", false);
 
 const HEAD: Said = Said::Call("HEAD", "/iiif/b", false);
 
-/// What is read of the three requests.
+/// The results of reading the three requests.
 static CALLS: [Said; 4] = [GET, POST, HEAD, Said::End];
 
 const BAD: [Said; 1] = [Said::Fault(HeadFault::Bad)];
@@ -108,16 +109,16 @@ const TOO_LONG: [Said; 1] = [Said::Fault(HeadFault::TooLong)];
 /// A call for `/`, after which the connection stays.
 const STAYS: [Said; 2] = [Said::Call("GET", "/", false), Said::End];
 
-/// The same, after which it closes.
+/// Such a call, after which it closes.
 const CLOSES: [Said; 2] = [Said::Call("GET", "/", true), Said::End];
 
 /// Whether a call is the one that is to come.
 fn is_call(call: &Call, to_come: Said) -> bool {
     match to_come {
         Said::Call(method, target, close) => {
-            call.method.as_str() == method
-                && call.target.as_slice() == target.as_bytes()
-                && call.close == close
+            is_same(&call.method.as_str(), &method)
+                && is_same_text(call.target.as_slice(), target.as_bytes())
+                && is_same(&call.close, &close)
         }
         _ => false,
     }
@@ -127,7 +128,7 @@ fn is_call(call: &Call, to_come: Said) -> bool {
 fn fails<I: Inlet + Drop>(heads: &mut Heads<I>, to_come: HeadFault) -> bool {
     match heads.read_head() {
         Ok(_) => false,
-        Err(fault) => fault == to_come,
+        Err(fault) => is_same(&fault, &to_come),
     }
 }
 
@@ -139,7 +140,7 @@ fn says<I: Inlet + Drop>(heads: &mut Heads<I>, to_come: Said) -> bool {
     match heads.read_head() {
         Ok(Some(call)) => is_call(&call, to_come),
         Ok(None) => matches!(to_come, Said::End),
-        Err(_) => false,
+        Err(fault) => is_unwanted(&fault),
     }
 }
 
@@ -156,7 +157,7 @@ fn gives<I: Inlet + Drop>(alloc: Global, reader: I, want: &[Said]) -> bool {
     true
 }
 
-/// The same of a text that comes in large pieces.
+/// Reads a text that comes in large pieces.
 fn reads(alloc: Global, text: &[u8], want: &[Said]) -> bool {
     gives(alloc, whole(text, 1000), want)
 }
@@ -197,7 +198,7 @@ fn reads_front(alloc: Global, count: usize, want: &[Said]) -> bool {
 
 #[test]
 fn input_cut_after_each_byte(rt: HostRuntime) {
-    assert!(rt; REQUESTS.len() == THIRD);
+    assert!(rt; is_same(&REQUESTS.len(), &THIRD));
     for (least, most, want) in FRONTS.iter() {
         for count in *least..=*most {
             assert!(rt; reads_front(rt.alloc(), count, *want), "{count} bytes");
@@ -232,7 +233,7 @@ fn reads_long(alloc: Global, length: usize, taken: usize, want: &[Said]) -> bool
         return false;
     };
     let (front, _) = text.split_at(text.len().min(taken));
-    text.len() == length && reads(alloc, front, want)
+    is_same(&text.len(), &length) && reads(alloc, front, want)
 }
 
 const FOR_A: [Said; 2] = [Said::Call("GET", "/a", false), Said::End];
@@ -257,7 +258,7 @@ fn head_of_8192_bytes_is_the_longest(rt: HostRuntime) {
 fn reads_fields(alloc: Global, count: usize, end: &[u8], want: &[Said]) -> bool {
     match repeated(alloc, b"\r\nGET / HTTP/1.1\r\n", b"A: 1\r\n", count, end) {
         Some(text) => reads(alloc, &text, want),
-        None => false,
+        None => is_missing(),
     }
 }
 
@@ -368,20 +369,12 @@ static FAULTS: [(HeadFault, u8); 5] = [
     (HeadFault::NoMemory, 5),
 ];
 
-/// Whether the fault of an input that ends has this text.
-fn is_cut_told_so(alloc: Global, want: &str) -> bool {
-    match format!(in alloc; "{}", HeadFault::Cut) {
-        Ok(text) => text.as_str() == want,
-        Err(_) => false,
-    }
-}
-
 #[test]
 fn faults_have_their_numbers_and_texts(rt: HostRuntime) {
     for (fault, number) in FAULTS.iter() {
-        assert!(rt; fault.number() == *number);
+        assert!(rt; is_same(&fault.number(), number));
     }
-    assert!(rt; is_cut_told_so(rt.alloc(), "the input ended inside a head"));
+    assert!(rt; is_written(rt.alloc(), &HeadFault::Cut, "the input ended inside a head"));
 }
 
 const ALLOW_ORIGIN: Field<'static> = Field {
@@ -456,8 +449,8 @@ fn heads(
     want: &str,
 ) -> bool {
     match head_bytes(alloc, status_of(number), fields, length, close) {
-        Ok(head) => head.as_slice() == want.as_bytes(),
-        Err(_) => false,
+        Ok(head) => is_same_text(head.as_slice(), want.as_bytes()),
+        Err(fault) => is_unwanted(&fault),
     }
 }
 

@@ -1,5 +1,6 @@
-//! What reaches a writer that fails, and what a reader gives that does.
+//! Bytes that reach a writer that fails, and that come of a reader that does.
 
+use crate::fixtures::{is_same, is_same_text};
 use iiif_io::fakes::{FailingReader, FailingWriter};
 use iiif_io::{CountingSink, FixedBuffer, Inlet, send, send_both};
 use std::alloc::Global;
@@ -21,8 +22,8 @@ fn is_cut_after(alloc: Global, room: usize) -> bool {
         room,
         piece: 3,
     };
-    let cut = send_both(&mut out, HEAD, BODY).err() == Some(room as u64);
-    cut && TEXT.get(..room) == Some(out.taken.as_slice())
+    let cut = is_same(&send_both(&mut out, HEAD, BODY).err(), &(Some(room as u64)));
+    cut && is_same(&TEXT.get(..room), &Some(out.taken.as_slice()))
 }
 
 /// Whether a writer that takes so many bytes at once takes all.
@@ -32,13 +33,13 @@ fn is_sent_by(alloc: Global, piece: usize) -> bool {
         room: 100,
         piece,
     };
-    send(&mut out, ASK).is_ok() && out.taken.as_slice() == ASK
+    send(&mut out, ASK).is_ok() && is_same_text(out.taken.as_slice(), ASK)
 }
 
 /// Whether a vector takes all.
 fn is_sent_to_a_vector(alloc: Global) -> bool {
     let mut out = Vec::new(alloc);
-    send(&mut out, b"II*").is_ok() && out.as_slice() == b"II*".as_slice()
+    send(&mut out, b"II*").is_ok() && is_same_text(out.as_slice(), b"II*")
 }
 
 #[test]
@@ -55,7 +56,7 @@ fn writers_take_the_text_or_what_they_have_room_for(rt: HostRuntime) {
 /// How many bytes a read of up to four gives, and these.
 type Read = Option<(usize, [u8; 4])>;
 
-/// What a read gives; none where it fails.
+/// The bytes of a read; none where it fails.
 fn read<I: Inlet>(reader: &mut I) -> Read {
     let mut buffer = [0; 4];
     match reader.pull(&mut buffer) {
@@ -67,7 +68,7 @@ fn read<I: Inlet>(reader: &mut I) -> Read {
 /// Whether a reader gives these reads.
 fn gives<I: Inlet>(reader: &mut I, reads: [Read; 3]) -> bool {
     for to_come in reads {
-        if read(reader) != to_come {
+        if !is_same(&read(reader), &to_come) {
             return false;
         }
     }
@@ -99,10 +100,10 @@ fn is_counted() -> bool {
         written: u64::MAX - 1,
     };
     let sent = send_both(&mut few, HEAD, BODY).is_ok() && send(&mut most, b"abc").is_ok();
-    sent && few.written == 28 && most.written == u64::MAX
+    sent && is_same(&few.written, &28) && is_same(&most.written, &u64::MAX)
 }
 
-/// What a buffer of five bytes is sent, how many it takes where it fails, and what it holds then.
+/// Texts for a buffer of five bytes, how many it takes where it fails, and what it holds then.
 static SENT: [(&[u8], Option<u64>, &[u8]); 4] = [
     (b"abc", None, b"abc"),
     (b"def", Some(2), b"abcde"),
@@ -112,7 +113,7 @@ static SENT: [(&[u8], Option<u64>, &[u8]); 4] = [
 
 /// Whether a buffer takes what fits of a text, and holds this then.
 fn takes(out: &mut FixedBuffer<5>, text: &[u8], cut: Option<u64>, held: &[u8]) -> bool {
-    send(out, text).err() == cut && out.as_slice() == held
+    is_same(&send(out, text).err(), &cut) && is_same_text(out.as_slice(), held)
 }
 
 /// Whether a buffer takes what fits of each text.

@@ -1,5 +1,6 @@
 //! Many connections at once.
 
+use crate::fixtures::{is_missing, is_same};
 use crate::wire::echo::{Echo, greeted};
 use iiif_listener::{Admission, serve_listener, stop};
 use std::alloc::Global;
@@ -10,7 +11,7 @@ use std::thread::Threads;
 use std::time::{Clock, Duration};
 use std::{io, thread};
 
-/// What happens while a listener is served.
+/// A scene while a listener is served.
 #[derive(Clone, Copy)]
 enum Scene {
     /// So many viewers stay, as many as there may be, one more comes, and one when they are gone.
@@ -21,8 +22,8 @@ enum Scene {
     Unknown,
 }
 
-/// What is seen of a scene.
-#[derive(Clone, Copy)]
+/// The observations of a scene.
+#[derive(Clone, Copy, Debug)]
 enum Seen {
     /// Nobody came, or a connection failed.
     Nothing,
@@ -36,7 +37,7 @@ enum Seen {
 fn was_stopped(ended: &io::Result<()>) -> bool {
     match ended {
         Ok(()) => false,
-        Err(error) => error.kind() == ErrorKind::InvalidInput,
+        Err(error) => is_same(&error.kind(), &ErrorKind::InvalidInput),
     }
 }
 
@@ -92,7 +93,7 @@ fn is_closed<R: Net<Listener = TcpListener, Stream = TcpStream>>(
 ) -> bool {
     match connect(rt, listener) {
         Some(mut stream) => !greeted(&mut stream),
-        None => false,
+        None => is_missing(),
     }
 }
 
@@ -108,7 +109,7 @@ fn stay_and_close<R: Net<Listener = TcpListener, Stream = TcpStream>>(
     (count, is_closed(rt, listener))
 }
 
-/// What is seen of a crowd.
+/// The observations of a crowd.
 fn crowd<R: Net<Listener = TcpListener, Stream = TcpStream> + Clock>(
     rt: &R,
     alloc: Global,
@@ -120,7 +121,7 @@ fn crowd<R: Net<Listener = TcpListener, Stream = TcpStream> + Clock>(
     Seen::Crowd(count, refused, visit(rt, listener).is_some())
 }
 
-/// What is seen of a viewer who comes in a while.
+/// The observations of a viewer that comes in a while.
 fn late<R: Net<Listener = TcpListener, Stream = TcpStream> + Clock>(
     rt: &R,
     listener: &TcpListener,
@@ -132,7 +133,7 @@ fn late<R: Net<Listener = TcpListener, Stream = TcpStream> + Clock>(
     }
 }
 
-/// What is seen of a scene. At its end the listener is stopped.
+/// Plays a scene. At its end the listener is stopped.
 fn play<R: Net<Listener = TcpListener, Stream = TcpStream> + Clock>(
     rt: &R,
     alloc: Global,
@@ -154,7 +155,7 @@ fn play<R: Net<Listener = TcpListener, Stream = TcpStream> + Clock>(
     seen
 }
 
-/// Who may come in a scene: as many as stay of one address, where they are fewer than there are places.
+/// The admission of a scene: as many as stay of one address, where they are fewer than there are places.
 fn admission(scene: Scene) -> Admission<'static> {
     match scene {
         Scene::Crowd(most) if most < 64 => Admission {
@@ -208,7 +209,7 @@ fn listener<R: Net<Listener = TcpListener, Stream = TcpStream>>(
     Some(listener)
 }
 
-/// What is seen of a scene whose listener ends as a stopped one, and how many connections were served and how many weren't.
+/// The observations of a scene whose listener ends as a stopped one, and how many connections were served and how many weren't.
 fn seen_of<R: Net<Listener = TcpListener, Stream = TcpStream> + Threads + Wait + Clock + Sync>(
     rt: &R,
     alloc: Global,
@@ -227,23 +228,29 @@ fn seen_of<R: Net<Listener = TcpListener, Stream = TcpStream> + Threads + Wait +
 #[test]
 fn sixty_four_are_served_and_one_more_is_closed(rt: HostRuntime) {
     let seen = seen_of(&rt, rt.alloc(), Scene::Crowd(64));
-    assert!(rt; matches!(seen, Some((Seen::Crowd(64, true, true), (65, 1)))));
+    assert!(rt;
+        matches!(seen, Some((Seen::Crowd(64, true, true), (65, 1)))),
+        "{seen:?}"
+    );
 }
 
 #[test]
 fn three_of_an_address_are_served_and_one_more_is_closed(rt: HostRuntime) {
     let seen = seen_of(&rt, rt.alloc(), Scene::Crowd(3));
-    assert!(rt; matches!(seen, Some((Seen::Crowd(3, true, true), (4, 1)))));
+    assert!(rt;
+        matches!(seen, Some((Seen::Crowd(3, true, true), (4, 1)))),
+        "{seen:?}"
+    );
 }
 
 #[test]
-fn who_is_not_known_is_closed(rt: HostRuntime) {
+fn unknown_address_is_closed(rt: HostRuntime) {
     let seen = seen_of(&rt, rt.alloc(), Scene::Unknown);
-    assert!(rt; matches!(seen, Some((Seen::Nothing, (0, 1)))));
+    assert!(rt; matches!(seen, Some((Seen::Nothing, (0, 1)))), "{seen:?}");
 }
 
 #[test]
 fn listener_that_failed_again_and_again_takes_the_next(rt: HostRuntime) {
     let seen = seen_of(&rt, rt.alloc(), Scene::Failing);
-    assert!(rt; matches!(seen, Some((Seen::Greeted, (1, 0)))));
+    assert!(rt; matches!(seen, Some((Seen::Greeted, (1, 0)))), "{seen:?}");
 }

@@ -1,12 +1,11 @@
 //! Messages as they stand in the format, cut, changed and in pieces. The digests were computed by Python's `hashlib`.
 
+use crate::fixtures::messages::{DEEP_ASK, FIRST_TILE_KEY};
+use crate::fixtures::{is_same, is_same_text};
 use iiif_io::Outlet;
 use iiif_io::fakes::{FailingReader, FailingWriter};
 use iiif_peer_wire::{Ask, Version, WireFault, read_ask, read_reply, write_ask, write_reply};
 use std::alloc::Global;
-
-/// The key of the tile (0, 0) of `a` at edge 2.
-pub(crate) const KEY: [u8; 15] = [0, 1, 97, 0, 0, 0, 2, 0, 0, 0, 0, 0, 0, 0, 0];
 
 /// The ask for that tile.
 pub(crate) const ASK: [u8; 24] = [
@@ -47,7 +46,7 @@ pub(crate) const fn sevens(bytes: &[u8]) -> Input<'_> {
     }
 }
 
-/// What is read of an input.
+/// A reader of an input.
 #[derive(Clone, Copy)]
 pub(crate) enum Message<'a> {
     Ask,
@@ -56,9 +55,9 @@ pub(crate) enum Message<'a> {
 }
 
 /// The reply for the key above, in the first version.
-pub(crate) const REPLIED: Message<'static> = Message::Reply(Version::One, &KEY);
+pub(crate) const REPLIED: Message<'static> = Message::Reply(Version::One, &FIRST_TILE_KEY);
 
-/// What is to come of a read.
+/// The wanted outcome of a read.
 #[derive(Clone, Copy)]
 pub(crate) enum Want<'a> {
     /// The input is at its end.
@@ -70,8 +69,8 @@ pub(crate) enum Want<'a> {
     Fault(WireFault),
 }
 
-/// What came of a read.
-#[derive(Clone, Copy, PartialEq)]
+/// The outcome of a read.
+#[derive(Clone, Copy, Debug, PartialEq)]
 enum Heard {
     Right,
     Wrong,
@@ -79,12 +78,12 @@ enum Heard {
     NoMemory,
 }
 
-/// What a comparison says of a read.
+/// The outcome by a comparison.
 fn told(is_right: bool) -> Heard {
     if is_right { Heard::Right } else { Heard::Wrong }
 }
 
-/// What a fault says of a read.
+/// The outcome by a fault.
 fn failed(fault: WireFault, want: Want) -> Heard {
     match want {
         Want::Fault(to_come) if to_come == fault => Heard::Right,
@@ -105,16 +104,16 @@ fn reader(input: Input<'_>) -> FailingReader<'_> {
 fn is_ask(ask: &Ask, left: &[u8], want: Want) -> bool {
     match want {
         Want::Ask(version, group, key, behind) => {
-            ask.version == version
-                && ask.group == group
-                && ask.key.as_slice() == key
-                && left == behind
+            is_same(&ask.version.digit(), &version.digit())
+                && is_same(&ask.group, &group)
+                && is_same_text(ask.key.as_slice(), key)
+                && is_same(&left, &behind)
         }
         _ => false,
     }
 }
 
-/// What comes of reading an ask.
+/// Reads an ask.
 fn hear_ask(alloc: Global, input: Input, want: Want) -> Heard {
     let mut reader = reader(input);
     match read_ask(alloc, &mut reader) {
@@ -128,13 +127,13 @@ fn hear_ask(alloc: Global, input: Input, want: Want) -> Heard {
 fn is_reply(status: u8, value: &[u8], left: &[u8], want: Want) -> bool {
     match want {
         Want::Reply(to_come, bytes, behind) => {
-            status == to_come && value == bytes && left == behind
+            is_same(&status, &to_come) && is_same(&value, &bytes) && is_same(&left, &behind)
         }
         _ => false,
     }
 }
 
-/// What comes of reading a reply in a version for a key.
+/// Reads a reply in a version for a key.
 fn hear_reply(alloc: Global, input: Input, version: Version, key: &[u8], want: Want) -> Heard {
     let mut reader = reader(input);
     match read_reply(alloc, &mut reader, version, key) {
@@ -143,7 +142,7 @@ fn hear_reply(alloc: Global, input: Input, version: Version, key: &[u8], want: W
     }
 }
 
-/// What comes of reading a message.
+/// Reads a message.
 fn hear(alloc: Global, input: Input, message: Message, want: Want) -> Heard {
     match message {
         Message::Ask => hear_ask(alloc, input, want),
@@ -154,19 +153,13 @@ fn hear(alloc: Global, input: Input, message: Message, want: Want) -> Heard {
 /// Whether what is to come of reading a message does, where that is read once more if memory was wanted.
 pub(crate) fn is_heard(alloc: Global, input: Input, message: Message, want: Want) -> bool {
     match hear(alloc, input, message, want) {
-        Heard::NoMemory => hear(alloc, input, message, want) == Heard::Right,
-        heard => heard == Heard::Right,
+        Heard::NoMemory => is_same(&hear(alloc, input, message, want), &Heard::Right),
+        heard => is_same(&heard, &Heard::Right),
     }
 }
 
 /// Another key.
 const OTHER: [u8; 15] = [0, 1, 103, 0, 0, 0, 2, 0, 0, 0, 0, 0, 0, 0, 0];
-
-/// The ask for it in the second version.
-const SECOND: [u8; 24] = [
-    0x49, 0x47, 0x41, 0x32, 0x01, 0x00, 0x00, 0x00, 0x0F, 0x00, 0x01, 0x67, 0x00, 0x00, 0x00, 0x02,
-    0x00, 0x00, 0x00, 0x00, 0x00, 0x00, 0x00, 0x00,
-];
 
 /// The first ask, and three bytes of another behind it.
 const ASK_AND_MORE: [u8; 27] = [
@@ -195,7 +188,7 @@ const SECOND_REPLY: [u8; 63] = [
 static MESSAGES: [(&[u8], usize, Message, Want); 21] = [
     (&[], 7, Message::Ask, Want::Nothing),
     (
-        &SECOND,
+        DEEP_ASK,
         7,
         Message::Ask,
         Want::Ask(Version::Two, 1, &OTHER, b""),
@@ -225,14 +218,14 @@ static MESSAGES: [(&[u8], usize, Message, Want); 21] = [
     (
         &SECOND_REPLY,
         7,
-        Message::Reply(Version::Two, &KEY),
+        Message::Reply(Version::Two, &FIRST_TILE_KEY),
         Want::Reply(0, &[1, 2, 3], b""),
     ),
     (&SECOND_REPLY, 7, REPLIED, Want::Fault(WireFault::Magic)),
     (
         &REPLY,
         7,
-        Message::Reply(Version::Two, &KEY),
+        Message::Reply(Version::Two, &FIRST_TILE_KEY),
         Want::Fault(WireFault::Magic),
     ),
     (&FAULT, 7, REPLIED, Want::Reply(3, &[], b"")),
@@ -277,7 +270,12 @@ static MESSAGES: [(&[u8], usize, Message, Want); 21] = [
         REPLIED_FOR_A,
         Want::Fault(WireFault::Short),
     ),
-    (&ASK, 7, Message::Ask, Want::Ask(Version::One, 1, &KEY, b"")),
+    (
+        &ASK,
+        7,
+        Message::Ask,
+        Want::Ask(Version::One, 1, &FIRST_TILE_KEY, b""),
+    ),
 ];
 
 /// A reply for the key `a`.
@@ -337,11 +335,11 @@ fn is_ask_in_pieces(alloc: Global, piece: usize) -> bool {
         piece,
         ..sevens(&ASK_AND_MORE)
     };
-    let want = Want::Ask(Version::One, 1, &KEY, b"IGA");
+    let want = Want::Ask(Version::One, 1, &FIRST_TILE_KEY, b"IGA");
     is_heard(alloc, input, Message::Ask, want)
 }
 
-/// The same of the reply.
+/// Reads the reply so.
 fn is_reply_in_pieces(alloc: Global, piece: usize) -> bool {
     let input = Input {
         piece,
@@ -368,7 +366,7 @@ fn is_short(alloc: Global, bytes: &[u8], message: Message, count: usize) -> bool
         piece: 1,
         reads: count,
     };
-    let is_cut = count == 0 && matches!(message, Message::Ask)
+    let is_cut = is_same(&count, &0) && matches!(message, Message::Ask)
         || is_heard(alloc, sevens(front), message, Want::Fault(WireFault::Short));
     is_cut && is_heard(alloc, failing, message, Want::Fault(WireFault::Io))
 }
@@ -390,7 +388,7 @@ fn messages_that_are_cut_or_fail_anywhere(rt: HostRuntime) {
     }
 }
 
-/// What is written.
+/// A message that is written.
 #[derive(Clone, Copy)]
 enum Sent<'a> {
     /// An ask in a version, for a key in a group.
@@ -410,15 +408,15 @@ fn write<W: Outlet>(out: &mut W, sent: Sent) -> Result<(), WireFault> {
             }
             write_ask(out, version, group, key)
         }
-        Sent::Reply(version) => write_reply(out, version, &KEY, 0, &[1, 2, 3]),
-        Sent::Fault => write_reply(out, Version::One, &KEY, 3, &[]),
+        Sent::Reply(version) => write_reply(out, version, &FIRST_TILE_KEY, 0, &[1, 2, 3]),
+        Sent::Fault => write_reply(out, Version::One, &FIRST_TILE_KEY, 3, &[]),
     }
 }
 
 /// Whether a message is written so.
 fn is_written_so(alloc: Global, sent: Sent, text: &[u8]) -> bool {
     let mut out = Vec::new(alloc);
-    write(&mut out, sent).is_ok() && out.as_slice() == text
+    write(&mut out, sent).is_ok() && is_same_text(out.as_slice(), text)
 }
 
 /// Whether a writer that has room for this front of a message alone takes it and fails.
@@ -428,13 +426,14 @@ fn is_cut(alloc: Global, sent: Sent, front: &[u8]) -> bool {
         room: front.len(),
         piece: 5,
     };
-    write(&mut out, sent) == Err(WireFault::Io) && out.taken.as_slice() == front
+    is_same(&write(&mut out, sent), &Err(WireFault::Io))
+        && is_same_text(out.taken.as_slice(), front)
 }
 
 /// Messages, and their bytes.
 static SENT: [(Sent, &[u8]); 5] = [
-    (Sent::Ask(Version::One, 1, &KEY), &ASK),
-    (Sent::Ask(Version::Two, 1, &OTHER), &SECOND),
+    (Sent::Ask(Version::One, 1, &FIRST_TILE_KEY), &ASK),
+    (Sent::Ask(Version::Two, 1, &OTHER), DEEP_ASK),
     (Sent::Reply(Version::One), &REPLY),
     (Sent::Reply(Version::Two), &SECOND_REPLY),
     (Sent::Fault, &FAULT),
@@ -503,8 +502,8 @@ static FAULTS: [(WireFault, u8); 8] = [
 ];
 
 #[test]
-fn numbers_of_the_faults(rt: HostRuntime) {
+fn faults_have_their_numbers(rt: HostRuntime) {
     for (fault, number) in FAULTS.iter() {
-        assert!(rt; fault.number() == *number);
+        assert!(rt; is_same(&fault.number(), number));
     }
 }

@@ -1,5 +1,6 @@
 //! A viewer that drips, one that is silent, one that asks again and again, and one that sends more than is read.
 
+use crate::fixtures::is_same;
 use crate::wire::echo::connected;
 use iiif_io::{Inlet, Outlet};
 use iiif_listener::{
@@ -60,7 +61,7 @@ fn read_drops<R: Clock + Wait>(
     Some(count_drops(&mut reader, &mut out, answers))
 }
 
-/// The same of a reader and a writer that are there. An answer is a text and one behind it, of a size that is made room for.
+/// Serves a reader and a writer that are there. An answer is a text and one behind it, of a size that is made room for.
 fn count_drops<I: Inlet, W: Outlet>(reader: &mut I, out: &mut W, answers: bool) -> u32 {
     let mut byte = [0u8; 1];
     let mut drops = 0u32;
@@ -114,7 +115,7 @@ fn ask_much(viewer: &mut TcpStream) -> Option<(usize, [u8; 8])> {
     None
 }
 
-/// What a viewer does.
+/// The conduct of a viewer.
 #[derive(Clone, Copy)]
 enum Viewer {
     /// It sends single bytes with a pause between them, in milliseconds, each of which is answered or not, where so many connections
@@ -124,7 +125,7 @@ enum Viewer {
     AsksMuch,
 }
 
-/// What is seen at both ends: how many single bytes were read, and what was answered.
+/// The observations at both ends: how many single bytes were read, and what was answered.
 type Seen = (Option<u32>, Option<(usize, [u8; 8])>);
 
 /// How many single bytes of a viewer are read, where it drips.
@@ -140,7 +141,7 @@ fn serve<R: Clock + Wait + AllocGlobal>(rt: &R, stream: TcpStream, viewer: Viewe
     }
 }
 
-/// What a viewer is answered, where it asks for much.
+/// The answer to a viewer that asks for much.
 fn view<R: Clock>(rt: &R, stream: &mut TcpStream, viewer: Viewer) -> Option<(usize, [u8; 8])> {
     match viewer {
         Viewer::Drips(pause, _, _) => {
@@ -151,7 +152,7 @@ fn view<R: Clock>(rt: &R, stream: &mut TcpStream, viewer: Viewer) -> Option<(usi
     }
 }
 
-/// What is seen of a viewer at both ends of a connection.
+/// The observations of a viewer at both ends of a connection.
 fn seen_at<
     R: Net<Listener = TcpListener, Stream = TcpStream>
         + Threads
@@ -163,7 +164,7 @@ fn seen_at<
     thread::join(rt, || serve(rt, far, viewer), || view(rt, near, viewer))
 }
 
-/// The same where it connects.
+/// The observations of a viewer that connects.
 fn seen_of<
     R: Net<Listener = TcpListener, Stream = TcpStream>
         + Threads
@@ -178,7 +179,7 @@ fn seen_of<
     }
 }
 
-/// What viewers do, and at least and at most how many bytes are read.
+/// The conduct of viewers, and at least and at most how many bytes are read.
 static VIEWERS: [(Viewer, u32, u32); 5] = [
     (Viewer::Drips(100, false, 1), 1, 8),
     (Viewer::Drips(100, true, 1), 20, 20),
@@ -207,5 +208,8 @@ fn a_connection_is_alone_where_no_other_is_open(rt: HostRuntime) {
 #[test]
 fn answer_arrives_though_input_was_left(rt: HostRuntime) {
     let seen = seen_of(&rt, Viewer::AsksMuch);
-    assert!(rt; seen == (None, Some((6, *b"answer\0\0"))), "{seen:?}");
+    assert!(rt;
+        is_same(&seen, &(None, Some((6, *b"answer\0\0")))),
+        "{seen:?}"
+    );
 }

@@ -1,7 +1,6 @@
 //! Asks in one stream, however they are cut, and devices that fail.
 
-ghost use Rattle.std.specs.Prelude.{◌≡◌, ◌≤◌, ℕ, List};
-
+use crate::fixtures::{is_same, is_same_text};
 use iiif_io::fakes::{FailingReader, FailingWriter};
 use iiif_peer_server::{Answers, serve_peer};
 use iiif_peer_wire::{Ask, Version, read_reply, write_ask};
@@ -35,7 +34,7 @@ fn reader(bytes: &[u8], piece: usize, reads: usize) -> FailingReader<'_> {
     }
 }
 
-/// What is written for such an input, and how many asks were answered.
+/// The replies to such an input, and how many asks were answered.
 fn served(rt: &HostRuntime, input: &[u8], piece: usize, reads: usize) -> (Vec<u8>, u32) {
     let alloc = rt.alloc();
     let mut out = Vec::new(alloc);
@@ -61,7 +60,7 @@ fn is_served(
     count: u32,
 ) -> bool {
     let (out, seen) = served(rt, input, piece, reads);
-    seen == count && out.as_slice() == written
+    is_same(&seen, &count) && is_same_text(out.as_slice(), written)
 }
 
 /// The version of the ask of a number: the odd ones are of the second.
@@ -103,7 +102,11 @@ fn right_replies(alloc: Global, output: &[u8], most: u32) -> (u32, bool) {
 fn is_answered(rt: &HostRuntime, count: u32, piece: usize, answered: u32) -> bool {
     let input = asks(rt.alloc(), count);
     let (out, seen) = served(rt, input.as_slice(), piece, 1_000_000);
-    seen == answered && right_replies(rt.alloc(), out.as_slice(), 1001) == (answered, true)
+    is_same(&seen, &answered)
+        && is_same(
+            &right_replies(rt.alloc(), out.as_slice(), 1001),
+            &(answered, true),
+        )
 }
 
 /// Counts of asks, in how large pieces they come, and how many are answered.
@@ -145,7 +148,7 @@ fn each_ask_is_answered_in_its_version(rt: HostRuntime) {
     assert!(rt; is_served(&rt, TWO, 4096, 1_000_000, &TWO_REPLIES, 2));
 }
 
-/// What is written, and how many asks are answered, where so many bytes came: the asks end after 11 and 23.
+/// The replies, and how many asks are answered, where so many bytes came: the asks end after 11 and 23.
 fn whole_before(came: usize) -> (&'static [u8], u32) {
     if came < 11 {
         (&[], 0)
@@ -167,7 +170,7 @@ fn asks_cut_after_each_byte(rt: HostRuntime) {
     }
 }
 
-/// What came whole before a read failed is answered.
+/// Asks that came whole before a read failed are answered.
 #[test]
 fn reader_that_fails_loses_no_ask(rt: HostRuntime) {
     for reads in 0..=TWO.len() {
@@ -195,7 +198,7 @@ fn gets_its_room(rt: &HostRuntime, room: usize) -> bool {
         &mut reader(TWO, 5, 1_000_000),
         &mut out,
     );
-    TWO_REPLIES.get(..room) == Some(out.taken.as_slice())
+    is_same(&TWO_REPLIES.get(..room), &Some(out.taken.as_slice()))
 }
 
 #[test]

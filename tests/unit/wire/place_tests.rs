@@ -1,5 +1,6 @@
 //! Places, who is given one, and what a listener does that failed.
 
+use crate::fixtures::{is_same, is_unwanted};
 use crate::wire::echo::connected;
 use iiif_listener::{
     Admission, Places, Retry, Seat, SeatState, Table, Ticket, address_of, after_failure,
@@ -26,19 +27,19 @@ fn entered(alloc: Global, table: &mut Table, count: u32) -> Result<Vec<Ticket>, 
 }
 
 #[test]
-fn sixty_four_places(rt: HostRuntime) -> Result<(), Fail> {
+fn sixty_four_places_are_taken_and_no_more(rt: HostRuntime) -> Result<(), Fail> {
     let mut table = Table::new();
     let tickets = entered(rt.alloc(), &mut table, 70)?;
-    assert!(rt; tickets.len() == 64 && table.taken() == 64);
+    assert!(rt; is_same(&tickets.len(), &64) && is_same(&table.taken(), &64));
     let gone = *tickets.get(7).ok_or("no ticket")?;
-    assert!(rt; table.leave(gone) && table.taken() == 63 && !table.keeps(gone));
+    assert!(rt; table.leave(gone) && is_same(&table.taken(), &63) && !table.keeps(gone));
     assert!(rt; table.enter(2, 0).is_some() && table.enter(2, 0).is_none());
     Ok(())
 }
 
 /// Of 64 connections the second waits longest; the first waited longer, and is at work again.
 #[test]
-fn who_waits_longest_makes_room(rt: HostRuntime) -> Result<(), Fail> {
+fn place_idle_longest_makes_room(rt: HostRuntime) -> Result<(), Fail> {
     let mut table = Table::new();
     let tickets = entered(rt.alloc(), &mut table, 64)?;
     let (first, second, third) = match tickets.as_slice() {
@@ -72,7 +73,7 @@ fn seat(standing: SeatState) -> Seat {
 }
 
 #[test]
-fn the_longest_idle(rt: HostRuntime) {
+fn longest_idle_place_is_found(rt: HostRuntime) {
     let seats = [
         seat(SeatState::Free),
         seat(SeatState::Idle(9)),
@@ -80,7 +81,9 @@ fn the_longest_idle(rt: HostRuntime) {
         seat(SeatState::Idle(4)),
         seat(SeatState::Idle(4)),
     ];
-    assert!(rt; longest_idle(&seats) == Some(3) && longest_idle(&seats[..2]) == Some(1));
+    assert!(rt;
+        is_same(&longest_idle(&seats), &Some(3)) && is_same(&longest_idle(&seats[..2]), &Some(1))
+    );
     assert!(rt; longest_idle(&seats[..1]).is_none() && longest_idle(&[]).is_none());
 }
 
@@ -94,17 +97,20 @@ static ADDRESSES: [(&str, &str, bool); 5] = [
 ];
 
 #[test]
-fn addresses_of_one(rt: HostRuntime) -> Result<(), Fail> {
+fn addresses_of_one_owner_are_counted_together(rt: HostRuntime) -> Result<(), Fail> {
     for (one, other, same) in ADDRESSES.iter() {
         let one: IpAddr = one.parse().map_err(|_| "no address")?;
         let other: IpAddr = other.parse().map_err(|_| "no address")?;
-        assert!(rt; (address_of(one) == address_of(other)) == *same);
+        assert!(rt;
+            is_same(&(address_of(one) == address_of(other)), same),
+            "{one} {other}"
+        );
     }
     Ok(())
 }
 
 #[test]
-fn known_addresses(rt: HostRuntime) -> Result<(), Fail> {
+fn known_addresses_are_let_in(rt: HostRuntime) -> Result<(), Fail> {
     let (one, other) = ("10.0.0.1", "::ffff:10.0.0.1");
     let one: IpAddr = one.parse().map_err(|_| "no address")?;
     let other: IpAddr = other.parse().map_err(|_| "no address")?;
@@ -124,7 +130,7 @@ fn known_addresses(rt: HostRuntime) -> Result<(), Fail> {
             per_address: 0,
             known,
         };
-        assert!(rt; admission.is_known(from) == is_known);
+        assert!(rt; is_same(&admission.is_known(from), &is_known));
     }
     Ok(())
 }
@@ -140,11 +146,22 @@ static FAILURES: [(ErrorKind, Retry); 7] = [
     (ErrorKind::WouldBlock, Retry::Later),
 ];
 
+/// Names when a listener tries again.
+fn named(retry: Retry) -> &'static str {
+    match retry {
+        Retry::AtOnce => "at once",
+        Retry::Later => "later",
+        Retry::Never => "never",
+    }
+}
+
 #[test]
 fn listener_that_failed_goes_on_unless_it_is_stopped(rt: HostRuntime) {
     for (kind, retry) in FAILURES.iter() {
-        let right = after_failure(*kind) == *retry;
-        assert!(rt; right, "{kind:?}");
+        assert!(rt;
+            is_same(&named(after_failure(*kind)), &named(*retry)),
+            "{kind:?}"
+        );
     }
 }
 
@@ -175,8 +192,8 @@ fn is_closed(viewer: &mut TcpStream) -> bool {
     }
     let mut byte = [0u8; 1];
     match viewer.read(&mut byte) {
-        Ok(count) => count == 0,
-        Err(_) => false,
+        Ok(count) => is_same(&count, &0),
+        Err(fault) => is_unwanted(&fault),
     }
 }
 
@@ -186,7 +203,7 @@ fn is_closed_where_refused<
 >(rt: &R, alloc: Global) -> bool {
     match (connected(rt), Places::new(alloc, 0)) {
         (Some((mut viewer, stream)), Ok(places)) => {
-            refused(rt, &places, stream) == (false, 0) && is_closed(&mut viewer)
+            is_same(&refused(rt, &places, stream), &(false, 0)) && is_closed(&mut viewer)
         }
         _ => false,
     }

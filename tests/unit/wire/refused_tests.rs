@@ -2,12 +2,15 @@
 //! the second call gives the case's own answer. `tests/refused` runs each test with the first growth refused, with the second, and so
 //! on; with ample memory each call answers at once.
 
-use crate::wire::message_tests::{ASK, KEY, Message, REPLIED, REPLY, Want, is_heard, is_refused, sevens};
+use crate::fixtures::messages::FIRST_TILE_KEY;
+use crate::wire::message_tests::{
+    ASK, Message, REPLIED, REPLY, Want, is_heard, is_refused, sevens,
+};
 use iiif_peer_wire::{Version, WireFault};
 
 #[test]
 fn ask_and_reply_are_read_after_a_refused_growth(rt: HostRuntime) {
-    let ask = Want::Ask(Version::One, 1, &KEY, b"");
+    let ask = Want::Ask(Version::One, 1, &FIRST_TILE_KEY, b"");
     assert!(rt; is_heard(rt.alloc(), sevens(&ASK), Message::Ask, ask));
     let reply = Want::Reply(0, &[1, 2, 3], b"");
     assert!(rt; is_heard(rt.alloc(), sevens(&REPLY), REPLIED, reply));

@@ -2,7 +2,9 @@
 
 use super::one_fault::OneFault;
 use super::writer::{Field, PLAIN, write_file};
-use super::{FOUR_ROWS, Failed, MIDDLE, SAMPLE, SAMPLES, TILED, TILES, WHOLE, read_part, shows};
+use super::{FOUR_ROWS, Failed, MIDDLE, TILED, TILES, WHOLE, read_part, shows};
+use crate::fixtures::files::{SAMPLE, STEPS};
+use crate::fixtures::{is_missing, is_same, is_unwanted};
 use iiif_pixel::{Rect, Span};
 use iiif_source::{FuseSource, MemSource, ReadFault, Source};
 use iiif_tiff_read::{LoadFault, OpenFault};
@@ -12,9 +14,9 @@ use std::alloc::Global;
 fn fails_so<S: Source<()>>(alloc: Global, source: &S, want: Option<ReadFault>) -> bool {
     match read_part(alloc, source, Some(MIDDLE)) {
         Ok(_) => want.is_none(),
-        Err(Failed::Open(OpenFault::Source(fault))) => want == Some(fault),
-        Err(Failed::Load(LoadFault::Source(fault))) => want == Some(fault),
-        Err(_) => false,
+        Err(Failed::Open(OpenFault::Source(fault))) => is_same(&want, &Some(fault)),
+        Err(Failed::Load(LoadFault::Source(fault))) => is_same(&want, &Some(fault)),
+        Err(fault) => is_unwanted(&fault),
     }
 }
 
@@ -62,7 +64,7 @@ fn fails_once(alloc: Global, read: u64, place: u64) -> bool {
                 Some(want),
             )
         }
-        None => false,
+        None => is_missing(),
     }
 }
 
@@ -95,9 +97,9 @@ struct Together {
 static TOGETHER: [Together; 2] = [
     Together {
         fields: FOUR_ROWS,
-        bytes: &SAMPLES,
+        bytes: &STEPS,
         rect: WHOLE,
-        samples: &SAMPLES,
+        samples: &STEPS,
         read: 5,
     },
     Together {

@@ -1,8 +1,5 @@
 //! A device of which one read fails.
 
-ghost use Rattle.std.specs.Prelude.{◌==◌};
-ghost use Rattle.iiif_source.specs.Cause.{failed};
-
 use iiif_source::{MemSource, ReadFault, Source};
 use std::marker::Model;
 use std::sync::atomic::{AtomicU64, Ordering};
@@ -16,8 +13,6 @@ pub struct OneFault {
 }
 
 impl Model for OneFault {
-    ghost use Rattle.std.specs.Prelude.{ℕ, List};
-
     ghost Value = { List ℕ };
 
     ghost view = { λ s. s.inner };
