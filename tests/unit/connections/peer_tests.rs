@@ -6,8 +6,9 @@ use crate::connections::pipe::new_pipe;
 use crate::connections::viewers::{Sends, Text, address_of};
 use crate::connections::visits::{ANY, HELD, Visit, listeners_of, served, visited};
 use crate::fixtures::files::DEEP_HIGH_FIRST;
+use crate::fixtures::is_same;
 use crate::fixtures::messages::{
-    CHANGED_REPLY, OTHER_TILE_REPLY,
+    CHANGED_FIRST_TILE_REPLY, CHANGED_REPLY, FIRST_TILE_KEY, FIRST_TILE_REPLY, OTHER_TILE_REPLY,
     TILE_REPLY, WIDE_REPLY,
 };
 use crate::fixtures::peers::Way;
@@ -15,6 +16,7 @@ use iiif_connections::Times;
 use iiif_connections::times::USUAL;
 use iiif_listener::stop;
 use iiif_open_files::Opens;
+use iiif_peer_wire::{Version, WireFault, read_reply};
 use iiif_services::Listeners;
 use std::alloc::Global;
 use std::net::{Net, TcpListener, TcpStream};
@@ -228,6 +230,50 @@ fn peer_of_any_kind_leaves_the_answer_right(rt: HostRuntime) -> Result<(), Fail>
         assert!(rt; are_known(counts, &known), "{:?}: {counts:?}", asked.way);
     }
     Ok(())
+}
+
+/// The tile (0, 0) of the sample as an image.
+const FIRST_TILE: Sends<'static> = Sends {
+    request: b"GET /iiif/a/0,0,2,2/max/0/default.tif HTTP/1.1\r\nConnection: close\r\n\r\n",
+    ends: false,
+    wanted: Text::Framed(b"HTTP/1.1 200 OK\r\n", &[0, 10, 40, 50]),
+};
+
+/// Replies of a peer to the ask for this tile, the fault of its reply, how many calls enter, and how many of its values are taken. After
+/// a fault the call enters once more, to load by itself.
+static FIRST_TILE_REPLIES: [(&str, &'static [u8], Option<WireFault>, u64, u64); 3] = [
+    (
+        "a changed byte",
+        CHANGED_FIRST_TILE_REPLY,
+        Some(WireFault::Digest),
+        2,
+        0,
+    ),
+    ("another key", TILE_REPLY, Some(WireFault::Key), 2, 0),
+    ("the right one", FIRST_TILE_REPLY, None, 1, 1),
+];
+
+/// The fault of a reply to the ask for this tile.
+fn fault_of(alloc: Global, reply: &[u8]) -> Option<WireFault> {
+    let mut left = reply;
+    read_reply(alloc, &mut left, Version::One, &FIRST_TILE_KEY).err()
+}
+
+#[test]
+fn tile_whose_reply_has_a_wrong_digest_or_another_key_is_loaded_here(rt: HostRuntime) {
+    for (what, reply, fault, entered, taken) in &FIRST_TILE_REPLIES {
+        assert!(rt; is_same(&fault_of(rt.alloc(), reply), fault), "{what}");
+        let asked = Asked {
+            way: Way::Sends(reply),
+            sends: FIRST_TILE,
+            entered: *entered,
+            taken: *taken,
+            ..OF_CORNER
+        };
+        let counts = beside_owner(&rt, &rt, &asked);
+        let known = [Some(*entered), None, None, Some(*taken)];
+        assert!(rt; are_known(counts, &known), "{what}: {counts:?}");
+    }
 }
 
 /// The counts of a node that is asked for a tile, and whose viewer sends this, beside a node that is gone and owns every key. Its listener

@@ -1,6 +1,7 @@
 //! Bodies in bands.
 
-use crate::fixtures::files::{BROAD, HALVED_FILE, SAMPLE_FILE, STEPS, TURNED};
+use crate::fixtures::books::NO_CALLS;
+use crate::fixtures::files::{BROAD, HALVED_FILE, SAMPLE_FILE, STEPS, TURNED, TURNED_FILE};
 use crate::fixtures::is_same;
 use crate::server::answer_tests::{FAULT, IMAGE, IMAGE_HEAD, UNREAD};
 use crate::server::cases::{
@@ -8,6 +9,7 @@ use crate::server::cases::{
     Table, Text, Variant, Verb, WHOLE, Want,
 };
 use crate::server::nodes::{all_are, are_right, wrong_variant};
+use iiif_tables::Book;
 use std::sync::Wait;
 use std::thread::Threads;
 use std::time::Clock;
@@ -63,6 +65,30 @@ fn bands_workers_and_caches_change_nothing(rt: HostRuntime) {
     for body in &CASES {
         assert!(rt; is_in_bands(&rt, body));
     }
+}
+
+/// The sample turned a quarter.
+const TURNED_IS_WHOLE: &[Case<'static>] = &[(
+    Ask::Body(b"/iiif/a/full/max/90/default.tif"),
+    Want::Whole(200, Text::Is(&TURNED_FILE)),
+)];
+
+/// Bands of one row and of all, by one worker, two, four and five.
+const ROWS_AND_WORKERS: &[Variant] = &[
+    (2, 1, 1, 65_536),
+    (2, 64, 1, 65_536),
+    (2, 1, 2, 65_536),
+    (2, 64, 2, 65_536),
+    (2, 1, 4, 65_536),
+    (2, 64, 4, 65_536),
+    (2, 1, 5, 65_536),
+    (2, 64, 5, 65_536),
+];
+
+#[test]
+fn turned_sample_is_the_same_190_bytes_in_bands_of_any_rows_by_any_workers(rt: HostRuntime) {
+    let wrong = wrong_variant(&rt, &NODE, ROWS_AND_WORKERS, TURNED_IS_WHOLE);
+    assert!(rt; wrong.is_none(), "{wrong:?}");
 }
 
 pub(crate) const SAMPLE_IS_WHOLE: Case<'static> = (
@@ -258,6 +284,51 @@ static ASKED: [Table; 3] = [
 #[test]
 fn parts_are_asked_for_once(rt: HostRuntime) {
     all_are(&rt, &ASKED);
+}
+
+/// The books of sums and of tiles whose calls each lead a flight that loads and lands: five, and four.
+const FIVE: Book = Book {
+    gets: 5,
+    leads: 5,
+    loads: 5,
+    landed: 5,
+    ..NO_CALLS
+};
+
+const FOUR: Book = Book {
+    gets: 4,
+    leads: 4,
+    loads: 4,
+    landed: 4,
+    ..NO_CALLS
+};
+
+/// From empty caches half the sample is one block of level 1, made of four sums of level 0, each of one of the four tiles.
+const HALF_IS_BOOKED: &[Case<'static>] = &[HALF_IS_WHOLE, (Ask::Books(FIVE, FOUR), IS_SO)];
+
+static BOOKED: [Table; 3] = [
+    ("by one", AT_ONCE, HALF_IS_BOOKED),
+    (
+        "by two",
+        Setup {
+            workers: 2,
+            ..AT_ONCE
+        },
+        HALF_IS_BOOKED,
+    ),
+    (
+        "by four",
+        Setup {
+            workers: 4,
+            ..AT_ONCE
+        },
+        HALF_IS_BOOKED,
+    ),
+];
+
+#[test]
+fn half_of_the_sample_books_five_sums_and_four_tiles(rt: HostRuntime) {
+    all_are(&rt, &BOOKED);
 }
 
 /// At one place and an edge of 1 this picture is a block of level 4, the least whose parts are shared out: 341 blocks in all. The first
