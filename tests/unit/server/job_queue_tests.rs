@@ -1,7 +1,10 @@
 //! Jobs that wait until others are done, and those whose patience ends.
 
+use crate::fixtures::{is_missing, is_same};
 use iiif_server::{JobQueue, Queued};
+use std::io;
 use std::sync::Wait;
+use std::sync::atomic::{AtomicBool, AtomicU64, Ordering};
 use std::thread::{Threads, join, sleep};
 use std::time::{Clock, Duration, Instant};
 
@@ -10,8 +13,38 @@ const LIGHT: u64 = 1_000_000;
 
 const HEAVY: u64 = 400_000_000;
 
-/// Whether a job waits for as long as one does behind jobs that don't end, or for half of that. None where it waits longer, or the clock
-/// fails.
+/// A clock that goes on by 10 milliseconds each time that it is read, and else stands still. So how late a job is doesn't depend on what
+/// else the machine does.
+#[derive(Drop)]
+struct Ticking<'a, W> {
+    _host: &'a W,
+    readings: AtomicU64,
+}
+
+impl<'a, W> Ticking<'a, W> {
+    fn new(host: &'a W) -> Ticking<'a, W> {
+        Ticking {
+            _host: host,
+            readings: AtomicU64::new(0),
+        }
+    }
+}
+
+impl<'a, W: Wait> Wait for Ticking<'a, W> {}
+
+impl<'a, W> Clock for Ticking<'a, W> {
+    fn monotonic(&self) -> io::Result<Duration> {
+        let reading = self.readings.fetch_add(1, Ordering::SeqCst);
+        Ok(Duration::from_millis(reading.wrapping_mul(10)))
+    }
+
+    fn since_1970(&self) -> io::Result<Duration> {
+        self.monotonic()
+    }
+}
+
+/// Whether a job waits for as long as one does behind jobs that don't end, or for less than half of that: 500 milliseconds and 250. None
+/// where it waits longer, or the clock fails.
 fn is_late<R: Wait + Clock>(rt: &R, queue: &JobQueue, job: Queued) -> Option<bool> {
     let begun = Instant::now(rt).ok()?;
     for _ in 0..20u32 {
@@ -26,105 +59,138 @@ fn is_late<R: Wait + Clock>(rt: &R, queue: &JobQueue, job: Queued) -> Option<boo
 /// Whether jobs that come one after another wait for so long, or don't.
 fn have_waited<R: Wait + Clock>(rt: &R, queue: &JobQueue, work: u64, waits: &[bool]) -> bool {
     for wait in waits {
-        if is_late(rt, queue, queue.come(rt, work)) != Some(*wait) {
+        if !is_same(&is_late(rt, queue, queue.come(rt, work)), &Some(*wait)) {
             return false;
         }
     }
     true
 }
 
-/// Two are let in. Nobody leaves, so the third and the fourth wait, and are let in all the same. Once three of the four have left, one more
-/// is at once.
+/// Two jobs are let in. None leaves, so the third and the fourth wait, and are let in all the same. Once three of the four have left, one
+/// more is at once.
 #[test]
 fn two_are_let_in_and_one_more_each_half_second(rt: HostRuntime) {
     let queue = JobQueue::new(rt.alloc(), 2, 1);
-    assert!(rt; have_waited(&rt, &queue, LIGHT, &[false, false, true, true]));
+    let clock = Ticking::new(&rt);
+    assert!(rt; have_waited(&clock, &queue, LIGHT, &[false, false, true, true]));
     for number in 0..3u64 {
         let work = LIGHT;
-        queue.leave(&rt, Queued { work, number });
+        queue.leave(&clock, Queued { work, number });
     }
-    assert!(rt; have_waited(&rt, &queue, LIGHT, &[false, true]));
+    assert!(rt; have_waited(&clock, &queue, LIGHT, &[false, true]));
 }
 
 /// A light job waits for no heavy ones, of which one is let in.
 #[test]
 fn light_jobs_pass_heavy_ones(rt: HostRuntime) {
     let queue = JobQueue::new(rt.alloc(), 2, 1);
-    let _own = queue.come(&rt, HEAVY);
-    let waits = queue.come(&rt, HEAVY);
-    let light = queue.come(&rt, LIGHT);
-    assert!(rt; is_late(&rt, &queue, light) == Some(false));
-    assert!(rt; !queue.wait(&rt, waits));
+    let clock = Ticking::new(&rt);
+    let _own = queue.come(&clock, HEAVY);
+    let waits = queue.come(&clock, HEAVY);
+    let light = queue.come(&clock, LIGHT);
+    assert!(rt; is_same(&is_late(&clock, &queue, light), &Some(false)));
+    assert!(rt; !queue.wait(&clock, waits));
 }
 
-/// Of two that come while one is at work the first waits no longer. The second is let in as soon as that one has left.
+/// Of two jobs that come while one is at work the first waits no longer. The second is let in as soon as that one has left.
 #[test]
-fn who_waits_no_longer_is_passed_over(rt: HostRuntime) {
+fn job_that_waits_no_longer_is_passed_over(rt: HostRuntime) {
     let queue = JobQueue::new(rt.alloc(), 1, 1);
-    let own = queue.come(&rt, HEAVY);
-    let first = queue.come(&rt, HEAVY);
-    let second = queue.come(&rt, HEAVY);
-    queue.leave(&rt, first);
-    queue.leave(&rt, own);
-    assert!(rt; is_late(&rt, &queue, second) == Some(false));
+    let clock = Ticking::new(&rt);
+    let own = queue.come(&clock, HEAVY);
+    let first = queue.come(&clock, HEAVY);
+    let second = queue.come(&clock, HEAVY);
+    queue.leave(&clock, first);
+    queue.leave(&clock, own);
+    assert!(rt; is_same(&is_late(&clock, &queue, second), &Some(false)));
 }
 
 /// Of two that wait the one of less work is let in, though it came later; one that came much later isn't.
 #[test]
 fn less_work_comes_first(rt: HostRuntime) {
     let queue = JobQueue::new(rt.alloc(), 1, 1);
-    let own = queue.come(&rt, HEAVY);
-    let most = queue.come(&rt, HEAVY);
-    let less = queue.come(&rt, HEAVY / 2);
-    let same = queue.come(&rt, HEAVY - LIGHT);
-    queue.leave(&rt, own);
-    assert!(rt; is_late(&rt, &queue, less) == Some(false));
-    queue.leave(&rt, less);
-    assert!(rt; is_late(&rt, &queue, most) == Some(false));
-    queue.leave(&rt, most);
-    assert!(rt; is_late(&rt, &queue, same) == Some(false));
+    let clock = Ticking::new(&rt);
+    let own = queue.come(&clock, HEAVY);
+    let most = queue.come(&clock, HEAVY);
+    let less = queue.come(&clock, HEAVY / 2);
+    let same = queue.come(&clock, HEAVY - LIGHT);
+    queue.leave(&clock, own);
+    assert!(rt; is_same(&is_late(&clock, &queue, less), &Some(false)));
+    queue.leave(&clock, less);
+    assert!(rt; is_same(&is_late(&clock, &queue, most), &Some(false)));
+    queue.leave(&clock, most);
+    assert!(rt; is_same(&is_late(&clock, &queue, same), &Some(false)));
 }
 
-/// How long a job that waits goes on waiting once another has left, for which it waited some 20 ms. None where the clock fails, or where
-/// it isn't let in.
-fn time_until_woken<R: Threads + Wait + Clock + Sync>(
+/// The host's clock, which tells whether it was read.
+#[derive(Drop)]
+struct Watched<'a, R> {
+    host: &'a R,
+    is_read: AtomicBool,
+}
+
+impl<'a, R: Wait> Wait for Watched<'a, R> {}
+
+impl<'a, R: Clock> Clock for Watched<'a, R> {
+    fn monotonic(&self) -> io::Result<Duration> {
+        self.is_read.store(true, Ordering::SeqCst);
+        self.host.monotonic()
+    }
+
+    fn since_1970(&self) -> io::Result<Duration> {
+        self.host.since_1970()
+    }
+}
+
+/// How long a job waits that is let in as another one leaves. None where it isn't let in, or the clock fails.
+///
+/// 1. The job that waits takes the lock of the queue, and reads its clock.
+/// 2. The other one sees that the clock was read, and leaves. For that it needs the lock.
+/// 3. The job that waits notes how often it was woken, gives the lock back, and sleeps: for 100 milliseconds, or until it is woken.
+///
+/// So it always sleeps, or is about to, when the other one leaves.
+fn time_until_let_in<R: Threads + Wait + Clock + Sync>(
     rt: &R,
     queue: &JobQueue,
 ) -> Option<Duration> {
     let own = queue.come(rt, HEAVY);
     let next = queue.come(rt, HEAVY);
-    let (woken, left) = join(
+    let clock = Watched {
+        host: rt,
+        is_read: AtomicBool::new(false),
+    };
+    let (took, _) = join(
         rt,
-        || if queue.wait(rt, next) {
-            Instant::now(rt).ok()
-        } else {
-            None
+        || {
+            let begun = Instant::now(rt).ok()?;
+            if queue.wait(&clock, next) {
+                begun.elapsed(rt).ok()
+            } else {
+                None
+            }
         },
         || {
-            sleep(rt, Duration::from_millis(20));
-            let left = Instant::now(rt).ok();
+            while !clock.is_read.load(Ordering::SeqCst) {
+                sleep(rt, Duration::from_millis(1));
+            }
             queue.leave(rt, own);
-            left
         },
     );
     queue.leave(rt, next);
-    Some(woken?.duration_since(left?))
+    took
 }
 
-/// Whether a job that waits is woken by the one that leaves, long before it looks around by itself, after 100 ms.
-fn is_woken_early<R: Threads + Wait + Clock + Sync>(rt: &R, queue: &JobQueue) -> bool {
-    match time_until_woken(rt, queue) {
-        Some(time) => time < Duration::from_millis(40),
-        None => false,
-    }
-}
-
-/// A machine with much to do may be late once.
+/// A sleep of 100 milliseconds that nobody ends takes as long at least, on any machine. So a job that was let in sooner was woken. A busy
+/// machine may be late with any of them: the shortest of a hundred counts.
 #[test]
-fn who_waits_is_woken_by_who_leaves(rt: HostRuntime) {
+fn job_that_waits_is_woken_by_the_one_that_leaves(rt: HostRuntime) {
     let queue = JobQueue::new(rt.alloc(), 1, 1);
-    let first = is_woken_early(&rt, &queue);
-    let second = is_woken_early(&rt, &queue);
-    let third = is_woken_early(&rt, &queue);
-    assert!(rt; (first && second) || (first && third) || (second && third));
+    let mut last = None;
+    for _ in 0..100u32 {
+        last = time_until_let_in(&rt, &queue);
+        if last.is_some_and(|took| took < Duration::from_millis(100)) {
+            return;
+        }
+    }
+    assert!(rt; false, "let in after {last:?}");
 }
