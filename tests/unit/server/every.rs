@@ -82,37 +82,59 @@ fn image_with(alloc: Global, image: Image<'_>, rotation: &str, quality: &str) ->
     })
 }
 
-/// Adds a region in a size, in each turn and quality.
-fn add_images(
+/// The turns and qualities of the images of one region and size.
+#[derive(Clone, Copy)]
+pub(crate) enum Looks {
+    /// Each of the nine turns in each of the four qualities.
+    All,
+    /// One of these 36: the next one for each region and size, from this one on.
+    InTurn(usize),
+}
+
+/// Adds a region in a size, in the turn and the quality of a number below 36.
+fn add_image(
     images: &mut Vec<Pictured>,
     alloc: Global,
     picture: Plain<'_>,
-    region: [u64; 4],
-    size: [u64; 2],
+    part: ([u64; 4], [u64; 2]),
+    look: usize,
 ) -> Option<()> {
-    for (rotation, mirror, quarters) in &TURNS {
-        let image = Image {
-            picture,
-            region,
-            size,
-            mirror: *mirror,
-            quarters: *quarters,
-        };
-        for quality in &QUALITIES {
-            images
-                .push(image_with(alloc, image, rotation, quality)?)
-                .ok()?;
-        }
-    }
-    Some(())
+    let ((rotation, mirror, quarters), quality) = (
+        TURNS.get(look / 4 % 9)?,
+        QUALITIES.get(look % 4)?,
+    );
+    let image = Image {
+        picture,
+        region: part.0,
+        size: part.1,
+        mirror: *mirror,
+        quarters: *quarters,
+    };
+    images
+        .push(image_with(alloc, image, rotation, quality)?)
+        .ok()
 }
 
-/// All images of a picture: each region in each size up to so many times its own, in nine turns and four qualities.
-pub(crate) fn images_of(alloc: Global, picture: Plain<'_>, times: u64) -> Option<Vec<Pictured>> {
+/// Images of a picture: each region in each size up to so many times its own, in these turns and qualities.
+pub(crate) fn images_of(
+    alloc: Global,
+    picture: Plain<'_>,
+    times: u64,
+    looks: Looks,
+) -> Option<Vec<Pictured>> {
     let parts = parts_of(alloc, picture, times)?;
     let mut images = Vec::new(alloc);
-    for (region, size) in &parts {
-        add_images(&mut images, alloc, picture, *region, *size)?;
+    for (number, part) in parts.iter().enumerate() {
+        match looks {
+            Looks::All => {
+                for look in 0..36 {
+                    add_image(&mut images, alloc, picture, *part, look)?;
+                }
+            }
+            Looks::InTurn(first) => {
+                add_image(&mut images, alloc, picture, *part, (first + number) % 36)?;
+            }
+        }
     }
     Some(images)
 }
