@@ -149,6 +149,16 @@ def connected(port, timeout=30):
     return link
 
 
+def started(make, tries=5):
+    """Makes a server by a function that chooses its ports; once more where one of them was taken meanwhile."""
+    for left in reversed(range(tries)):
+        try:
+            return make()
+        except Refused as refused:
+            if refused.args[1] != "run: listen" or not left:
+                raise
+
+
 def wait_for(port, seconds=20):
     """Waits until a further listener of a program is there, and until the connection by which it was found has ended."""
     ends = time.monotonic() + seconds

@@ -62,17 +62,26 @@ class Crossed:
         self.program, self.control, self.path, self.options = program, control, path, options
         self.names = {node: names_without(node.encode()) for node in "ab"}
 
+    def pair(self, refusing):
+        """Both nodes, and their ports for each other."""
+        ports, servers = {node: running.free_port() for node in "ab"}, {}
+        try:
+            for node, other in ("ba", "ab"):
+                own, others = self.names[node]
+                options = ["--edge", EDGE, *self.options, "--name", own, "--peer-listen", f"127.0.0.1:{ports[node]}"]
+                options += [word for name in others for word in ("--peer", f"{name}=127.0.0.1:{ports[other]}")]
+                env = self.control.env if node == refusing else None
+                servers[node] = running.Server(self.program, ["a=" + self.path], options, env)
+                running.wait_for(ports[node])
+        except Exception:
+            stop(servers)
+            raise
+        return servers, ports
+
     def started(self, refusing):
         """Both nodes, of which one is under the control."""
         self.control.refuse(0)
-        ports = {node: running.free_port() for node in "ab"}
-        servers = {}
-        for node, other in ("ba", "ab"):
-            own, others = self.names[node]
-            options = ["--edge", EDGE, *self.options, "--name", own, "--peer-listen", f"127.0.0.1:{ports[node]}"]
-            options += [word for name in others for word in ("--peer", f"{name}=127.0.0.1:{ports[other]}")]
-            servers[node] = running.Server(self.program, ["a=" + self.path], options, self.control.env if node == refusing else None)
-            running.wait_for(ports[node])
+        servers, ports = running.started(lambda: self.pair(refusing))
         running.exchanged(servers[refusing], [b"GET / HTTP/1.1\r\n\r\n"])
         return servers, ports
 
@@ -146,7 +155,6 @@ def asks_tried(crossed):
 def images_tried(crossed, calls, helper):
     """Images of node a while a growth is refused to it, or to the node that it asks, whose failure must not be seen."""
     node = Node(crossed.program, crossed.control, crossed.path, crossed.options)
-    node.stats = None  # the pair's own servers tell no counters
 
     def tried(servers, _, n):
         met, kind, wrong = node.tried(servers["a"], calls, n)

@@ -109,15 +109,18 @@ class Node:
     def __init__(self, program, control, path, options):
         self.program, self.control, self.options, self.path = program, control, ["--edge", "2", *options], path
         self.answers = images.Answers(running.BASE, {"a": tiff.judge(files.SAMPLE)}, 2, 4096, False)
-        self.stats = running.free_port() if "--stats-listen" in running.options_of(program) else None
-        if self.stats:
-            self.options += ["--stats-listen", f"127.0.0.1:{self.stats}"]
+        self.stats = None
+
+    def started(self):
+        """A server with a port of its own for counters."""
+        self.stats = running.free_port()
+        options = [*self.options, "--stats-listen", f"127.0.0.1:{self.stats}"]
+        return running.Server(self.program, ["a=" + self.path], options, self.control.env)
 
     def start(self):
         self.control.refuse(0)
-        server = running.Server(self.program, ["a=" + self.path], self.options, self.control.env)
-        if self.stats:
-            running.wait_for(self.stats)
+        server = running.started(self.started)
+        running.wait_for(self.stats)
         self.sent(server, [(b"GET", b"/")])
         return server
 
