@@ -1,11 +1,11 @@
 -- Caches and tables of the worked examples, over keys that are numbers and values that are numbers of bytes.
 use Rattle.std.specs.Prelude.{ℕ, true, Option, None, Some, nat_eq}
 use Rattle.iiif_tables.specs.Cache.{Cache, Kept, Side, empty_cache, main_side, put, touch}
-use Rattle.iiif_tables.specs.Flights.{Table, empty_book, empty_table, enter, land}
+use Rattle.iiif_tables.specs.Flights.{Table, again, empty_book, empty_table, enter, land}
 use Rattle.iiif_tables.specs.declared.table.Book.{Book}
-use Rattle.iiif_tables.specs.declared.table.Class.TheVariants.{Local}
+use Rattle.iiif_tables.specs.declared.table.Class.TheVariants.{Local, Wide}
 use Rattle.iiif_tables.specs.declared.table.Place.{Place}
-use Rattle.iiif_tables.specs.declared.table.Place.TheVariants.{Main}
+use Rattle.iiif_tables.specs.declared.table.Place.TheVariants.{Main, Nowhere}
 
 -- an entry takes as many bytes as its value says
 abbrev pub bytes_of : ℕ → ℕ → ℕ
@@ -55,3 +55,9 @@ book_of_loaded = record book_of_shared { loads = 1; landed = 1 }
 
 abbrev pub book_of_failed : Book
 book_of_failed = record book_of_loaded { faults = 1 }
+
+-- The leader of another class, whose flight opened before the value was kept, looks again and lands what it found.
+abbrev pub found_again : Table ℕ ℕ
+found_again =
+    let kept_meanwhile = landed 1 (Some 28) Main (enter nat_eq Wide 0 (shared 60)).1 in
+    land nat_eq bytes_of true Wide 0 2 (Some 28) Nowhere (again nat_eq Wide 0 2 kept_meanwhile).1

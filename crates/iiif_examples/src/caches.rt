@@ -7,7 +7,7 @@ ghost use Rattle.iiif_tables.specs.Flights.{again, enter, flight_number, hit, jo
 ghost use Rattle.iiif_tables.specs.declared.table.Class.TheVariants.{Local, Wide};
 ghost use Rattle.iiif_tables.specs.declared.table.Place.TheVariants.{Main, Nowhere, Peer};
 ghost use Rattle.iiif_examples.specs.Caches.{book_of_failed, book_of_loaded, book_of_shared, bytes_of, entered, entry, failed};
-ghost use Rattle.iiif_examples.specs.Caches.{kept, landed, loaded, put_of, shared, used};
+ghost use Rattle.iiif_examples.specs.Caches.{found_again, kept, landed, loaded, put_of, shared, used};
 
 /// Takes out key 1 when key 2 comes, as 3 * 28 = 84 is above 60 and key 0 was used since.
 pub fn entry_that_was_used_longest_ago_goes()
@@ -54,10 +54,12 @@ pub fn next_call_leads_where_nothing_was_kept()
     ensures after { (enter nat_eq Local 0 failed).0 ≡ led 2 }
 {}
 
-/// Finds the value that another class's flight kept meanwhile, and counts that as no load.
+/// Finds the value that another class's flight kept meanwhile. That counts as found by looking again, and as no second load.
 pub fn leader_looks_again()
     ensures nothing { (again nat_eq Local 0 1 (shared 60)).0 ≡ None }
     ensures found { (again nat_eq Wide 0 2 (landed 1 (Some 28) Main ((enter nat_eq Wide 0 (shared 60)).1))).0 ≡ Some 28 }
+    ensures counted { found_again.book.again_hits ≡ 1 }
+    ensures loads { found_again.book.loads ≡ 1 }
 {}
 
 /// Keeps the tenth value of other nodes in hot, and not the ninth.
