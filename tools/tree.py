@@ -1,7 +1,10 @@
 """What the tools read of this tree: crates and their sections, functions with their contracts, definitions of specs/."""
 import functools
+import os
 import re
+import shutil
 import subprocess
+import sys
 from dataclasses import dataclass, field
 from pathlib import Path
 
@@ -327,3 +330,60 @@ def definitions(crate):
             elif line.strip():
                 comment = []
     return found, heads
+
+
+def give_libraries(room, wanted):
+    """Gives the copy of this tree in that folder the libraries that `rt ci` left here, so that `rt` proves none of them there; the names of
+    those that it couldn't give, each of which is another than its sources or stands on such a one.
+
+    `rt ci` leaves each library in crates/NAME/out/rlib without the stamp by which `rt` knows it again, so that a changed file is never
+    overlooked. Here a library is given where it is younger than its files and those of all below it, and the copy has the very same files.
+    The files are linked and not copied: nothing writes into one of them.
+    """
+    sys.path.insert(0, os.path.dirname(os.path.realpath(shutil.which("rt"))))
+    import rtlib
+
+    here = os.getcwd()
+    try:
+        os.chdir(TOP)
+        ours = {it.name: it for it in rtlib.crates_below(str(TOP))}
+        os.chdir(room)
+        given, lacking = set(), []
+        for crate in rtlib.crates_below(room):
+            if crate.name not in wanted or crate.is_program:
+                continue
+            if crate.name in ours and all(low.name in given for low in crate.below()) and is_of(crate, ours[crate.name], rtlib):
+                take(ours[crate.name], crate)
+                given.add(crate.name)
+            else:
+                lacking.append(crate.name)
+        return lacking
+    finally:
+        os.chdir(here)
+        sys.path.pop(0)
+
+
+def is_of(crate, ours, rtlib):
+    """Whether our library of that crate was made from the files that the copy has."""
+    if not os.path.isdir(ours.rlib):
+        return False
+    made = os.path.getmtime(ours.rlib)
+    files, copies = ({it.removeprefix(one.folder): it for it in rtlib.files_of(one.folder)} for one in (ours, crate))
+    return files.keys() == copies.keys() and all(
+        os.path.getmtime(it) <= made and Path(it).read_bytes() == Path(copies[name]).read_bytes() for name, it in files.items()
+    )
+
+
+def take(ours, crate):
+    """Links a library's files into the copy, and writes its stamp."""
+    to = f"{crate.folder}/out/rlib"
+    shutil.rmtree(to, ignore_errors=True)
+    try:
+        shutil.copytree(f"{ours.folder}/out/rlib", to, symlinks=True, copy_function=os.link)
+    except (OSError, shutil.Error):
+        # Another file system.
+        shutil.rmtree(to, ignore_errors=True)
+        shutil.copytree(f"{ours.folder}/out/rlib", to, symlinks=True)
+    stamp = Path(to, "stamp")
+    stamp.unlink(missing_ok=True)
+    stamp.write_text(crate.stamp())
