@@ -396,8 +396,13 @@ def judge(edit, said):
         why = f"the goal is of {of.path}, which is private"
     elif why is None and program is None:
         why = f"no program calls {(turned or of).path}"
-    first = turned.path if turned else f"{pairs[0][0]}" if pairs else ""
-    return Verdict(edit.path, said, is_code, first, program, goal, of.path if of else "", bool(of and of.is_public), why)
+    return Verdict(edit.path, said, is_code, turned.path if turned else outside(pairs), program, goal, of.path if of else "", bool(of and of.is_public), why)
+
+
+def outside(pairs):
+    """What an edit turns that stands in no function: a constant, or a file."""
+    named = re.search(r"\b(?:const|static) (\w+)", pairs[0][1]) if pairs else None
+    return named[1] if named else pairs[0][0] if pairs else ""
 
 
 # The list of wrong bodies.
