@@ -209,11 +209,17 @@ def function_of_proof(crate, path, goal):
     if parts and parts[-1].startswith("+"):
         # A cycle of functions has one proof, whose goals begin with their function.
         parts[-1] = goal.split("-")[0]
-    if len(parts) < 2:
-        return None
-    owner = next((it for it in parts[:-1] if it[:1].isupper()), "")
-    every = [it for it in functions(crate) if it.name == parts[-1].split("-")[0] and it.owner == owner or it.path == "::".join(parts)]
-    return every[0] if every else None
+    return next((it for it in functions(crate) if is_path_of(parts, it)), None)
+
+
+def is_path_of(parts, function):
+    """Whether that is how compiled code and written proofs call a function: by its module, or by its type, with the trait that it is of."""
+    if parts[-1:] != [function.name]:
+        return False
+    owner = parts[-2] if len(parts) > 1 else ""
+    if not function.owner:
+        return "::".join(it for it in parts[:-1] if it != "fn") == function.module
+    return owner.startswith(function.owner + function.trait) if function.trait else owner.partition("+")[0] == function.owner
 
 
 def function_of(crate, reason):
@@ -274,10 +280,11 @@ class Calls:
         found, left = [], [self.code[name]]
         while left:
             it = left.pop()
-            if isinstance(it, str):
-                found += [it] if it in self.code else self.methods.get(it, [])
+            if isinstance(it, str) and it in self.code:
+                found.append(it)
             elif isinstance(it, dict):
-                left += [*it, *it.values()]
+                left += it.values()
+                found += self.methods.get(it["Impl"][0], []) if "Impl" in it else []
             elif isinstance(it, list):
                 left += it
         return found
@@ -290,12 +297,7 @@ class Calls:
 def is_name_of(name, function):
     """Whether compiled code of that name is of that function, or of a closure in it."""
     crate, *parts = name.removesuffix("+decl").split("::")
-    if crate != function.crate or function.name not in parts:
-        return False
-    at = parts.index(function.name)
-    if function.owner:
-        return at > 0 and parts[at - 1] == function.owner + function.trait
-    return "::".join(parts[:at]) == function.module
+    return crate == function.crate and function.name in parts and is_path_of(parts[: parts.index(function.name) + 1], function)
 
 
 @functools.cache
