@@ -15,8 +15,7 @@ import tempfile
 
 HERE = pathlib.Path(__file__).resolve().parent
 TOP = HERE.parent.parent
-sys.path.insert(0, str(TOP / "tools"))
-import kept
+sys.path.insert(0, str(TOP / "tools" / "lib"))
 import tree
 
 LAWS = """//! A law that is false.
@@ -129,7 +128,7 @@ def main(words):
             shutil.copy(TOP / name, room)
         for crate in tree.crates():
             shutil.copytree(TOP / "crates" / crate, f"{room}/crates/{crate}", ignore=shutil.ignore_patterns("out"))
-        kept.give(room, set(tree.below("iiif_machine")) - {"iiif_machine"})
+        tree.give_libraries(room, set(tree.below("iiif_machine")) - {"iiif_machine"})
         # Those of the table last: it is proved anew for them.
         for wrong in sorted(chosen, key=lambda it: it.file.startswith("iiif_tables/")):
             well, said = refuted(room, wrong, shared, sound)

@@ -8,13 +8,12 @@ import sys
 from dataclasses import dataclass, field
 from pathlib import Path
 
-TOP = Path(__file__).resolve().parents[1]
-# Crates of tests that aren't named so.
-TESTS = ("iiif_sample_keys", "iiif_program_cases")
+TOP = Path(__file__).resolve().parents[2]
 
 
 def is_test(crate):
-    return crate.endswith("_tests") or crate in TESTS
+    """Whether a crate has worked examples and promises nothing."""
+    return crate == "iiif_examples"
 
 
 @functools.cache
