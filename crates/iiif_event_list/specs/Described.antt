@@ -5,19 +5,21 @@ use Rattle.iiif_machine.specs.Sound.{Each}
 use Rattle.iiif_canonical.specs.declared.resolved.Limits.{Limits}
 use Rattle.iiif_machine.specs.Worlds.{World, new_world}
 use Rattle.iiif_world.specs.Code.{scene_of}
-use Rattle.iiif_world.specs.Starting.{AreSources, IsRoom, NamesNodes, node_for}
+use Rattle.iiif_world.specs.Starting.{AreSources, HasNodeName, IsRoom, NamesNodes, node_for}
 use Rattle.iiif_event_list.specs.declared.describing.Description.{Description}
 
 -- the world that was described, in which nothing has happened
 abbrev pub first_of : Description → World
 first_of d = new_world (scene_of d.items.items d.edge d.limits d.room) (map node_for d.setups.items)
 
--- A world can begin so: the edge and the room are such, each picture is one of a source, and each name on a ring is a node's.
+-- A world can begin so: the edge and the room are such, each picture is one of a source, each name on a ring is a node's, and no node's
+-- name is too long.
 pub record CanBegin (d : Description) : Type 0 where
   pub edge : IsEdge d.edge
   pub room : IsRoom d.room
   pub pictures : AreSources d.items.items
   pub rings : Each (NamesNodes d.setups.items) d.setups.items
+  pub names : Each HasNodeName d.setups.items
 
 -- images of at most 4096 by 4096 that aren't scaled up
 abbrev pub plain_limits : Limits

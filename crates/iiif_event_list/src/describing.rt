@@ -12,9 +12,7 @@ use crate::reading::{count, name, number, side, word};
 use iiif_canonical::Limits;
 use iiif_pixel::{Dim, Kind, NoMemory, Raster, Samples};
 use iiif_ring::{Ring, RingFault};
-use iiif_world::contents::Item;
-use iiif_world::starting::{Setup, SetupFault};
-use iiif_world::world::World;
+use iiif_world::{Item, Setup, SetupFault, World};
 use std::alloc::Global;
 
 /// Of what a world is made.
@@ -194,7 +192,8 @@ impl Description {
         Ok(())
     }
 
-    /// What the words of a line set; `false`, where they are no setting, and `Bad`, where they are one that can't be read. It is as it was
+    /// Sets what the words of a line say; `false`, where they are no setting, and `Bad`, where they are one that can't be read. It is
+    /// as it was
     /// after `false` and after an `Err`.
     pub fn set(&mut self, alloc: Global, words: &[&str]) -> Result<bool, LineFault>
         ensures yes { IfOk result (λ set. set ≡ true → IsSetting words.now) }

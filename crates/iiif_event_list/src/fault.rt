@@ -1,9 +1,9 @@
-//! What may be wrong with a line.
+//! Faults of lines.
 
 use iiif_pixel::NoMemory;
 use thiserror::Error;
 
-/// What is wrong with a line.
+/// A fault of a line.
 #[derive(Clone, Copy, Debug, PartialEq, Eq, Error)]
 pub enum LineFault {
     /// It is no setting and no event, or stands where it can't.

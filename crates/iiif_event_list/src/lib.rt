@@ -27,7 +27,7 @@ pub enum Stop {
     /// A line could not be read.
     #[error("read")]
     Read,
-    /// What came of a line could not be written.
+    /// The outcome of a line could not be written.
     #[error("write")]
     Write,
 }

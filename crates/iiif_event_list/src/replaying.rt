@@ -21,7 +21,7 @@ use crate::state::{Replay, State};
 use crate::values::put_answer;
 use iiif_machine::{Answer, Event, WorldFault};
 use iiif_pixel::NoMemory;
-use iiif_world::world::World;
+use iiif_world::World;
 use std::alloc::Global;
 use std::mem::replace;
 
@@ -46,7 +46,7 @@ fn not_done(alloc: Global, number: u64, line: &str, fault: WorldFault) -> Result
     }
 }
 
-/// What an event came to, behind its line's number and its words.
+/// Does an event, and writes its line: the number, the words and the outcome.
 fn run_one(
     alloc: Global,
     world: &mut World,
@@ -58,13 +58,13 @@ fn run_one(
         × IsOutcome number line.now (world_of world.old) event done (world_of world.new) (string_bytes text)) }
     ensures never { NeverBad result }
 {
-    match world.run(&[event]) {
+    match world.step(&event) {
         Ok(()) => outcome_line(alloc, number, line, "done"),
-        Err(stopped) => not_done(alloc, number, line, stopped.1),
+        Err(fault) => not_done(alloc, number, line, fault),
     }
 }
 
-/// What a request has: an answer, or none.
+/// Writes a request's answer, or that there is none.
 fn put_answer_or_none(text: &mut String, answer: Option<&Answer>) -> Result<(), NoMemory>
     ensures { OnOk result (string_bytes text.new ≡ string_bytes text.old ++ text_of (option_copied answer.entry)) }
 {
@@ -254,7 +254,7 @@ impl Replay {
         }
     }
 
-    /// What the words of a line that is no comment come to.
+    /// The outcome of a line's words, which are no comment.
     fn run_words(
         &mut self,
         alloc: Global,
@@ -274,7 +274,7 @@ impl Replay {
         self.run_event(alloc, number, line, words)
     }
 
-    /// What words come to, which are those of a line.
+    /// The outcome of words, which are those of a line.
     fn come(
         &mut self,
         alloc: Global,
@@ -298,7 +298,7 @@ impl Replay {
         self.run_words(alloc, number, line, words)
     }
 
-    /// What a line, of a number, comes to: an event's outcome, behind the number and the words; at `world` the answers of the last one; at
+    /// The outcome of a line, of a number: an event's outcome, behind the number and the words; at `world` the answers of the last one; at
     /// `rows` all rows; else nothing.
     ///
     /// # Errors

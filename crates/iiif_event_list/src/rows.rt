@@ -3,13 +3,15 @@
 use crate::values::{
     class_word, put_answer, put_fault, put_key, put_numbers, put_outcome, put_value,
 };
-use iiif_machine::{Ask, Call, CallState, Flight, Given, Progress, Purpose, Reply, Stage, Wanted};
+use iiif_machine::{
+    Ask, Call, CallState, Flight, Given, Progress, Purpose, Reply, RequestRow, Stage,
+};
 use iiif_pixel::NoMemory;
 use iiif_plain_tables::listing::Entry;
 use iiif_plain_tables::node::Node;
 use iiif_plain_tables::plain::{OpenFlight, PlainTable};
 use iiif_tables::{Book, Place};
-use iiif_world::world::World;
+use iiif_world::World;
 
 /// The entries of a list, the one used last first.
 fn put_entries(text: &mut String, entries: &[Entry]) -> Result<(), NoMemory> {
@@ -89,12 +91,12 @@ fn put_progress(text: &mut String, progress: &Progress) -> Result<(), NoMemory> 
     }
 }
 
-fn put_request(text: &mut String, number: usize, wanted: &Wanted) -> Result<(), NoMemory> {
-    let name = wanted.wish.name.as_str();
+fn put_request(text: &mut String, number: usize, wanted: &RequestRow) -> Result<(), NoMemory> {
+    let name = wanted.info.name.as_str();
     write!(
         text,
         "request {}: node {} {} ",
-        number, wanted.wish.node, name
+        number, wanted.info.node, name
     )?;
     put_progress(text, &wanted.progress)?;
     text.push_str("\n")
@@ -109,7 +111,7 @@ fn put_purpose(text: &mut String, purpose: Purpose) -> Result<(), NoMemory> {
     }
 }
 
-/// What a call knows.
+/// Writes the outcome that a call knows.
 fn put_state(text: &mut String, state: &CallState) -> Result<(), NoMemory> {
     match state {
         CallState::Fresh => text.push_str(": fresh"),
@@ -202,7 +204,7 @@ fn put_all_given(text: &mut String, given: &[Given]) -> Result<(), NoMemory> {
     Ok(())
 }
 
-fn put_requests(text: &mut String, requests: &[Wanted]) -> Result<(), NoMemory> {
+fn put_requests(text: &mut String, requests: &[RequestRow]) -> Result<(), NoMemory> {
     for (number, wanted) in requests.iter().enumerate() {
         put_request(text, number, wanted)?;
     }

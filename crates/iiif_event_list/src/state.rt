@@ -1,7 +1,7 @@
-//! What was read so far.
+//! The state of a replay: the lines that were read so far.
 
 use crate::describing::Description;
-use iiif_world::world::World;
+use iiif_world::World;
 
 /// A world that is described line by line, or has begun.
 #[derive(Drop)]
@@ -14,7 +14,7 @@ pub enum State {
     Lost,
 }
 
-/// What was read so far.
+/// The lines that were read so far: a description, or a world that has begun.
 #[derive(Drop)]
 pub struct Replay {
     /// Of the world that was read last.

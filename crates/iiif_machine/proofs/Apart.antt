@@ -12,7 +12,7 @@ use Rattle.std.specs.Str.{bytes_eq}
 use Rattle.iiif_machine.specs.Tables.{Class, Wide, Local, Table, Outcome, IsOpen, Entered, finds, joins, leads, enter, again, land, emptied}
 use Rattle.iiif_machine.proofs.Words.{TableLaws}
 use Rattle.iiif_machine.specs.Rows.{Node, Purpose, ForRequest, ForPart, ForFallback, ForAsk, Caller, CallState, Fresh, Hit, In, Gone, Call}
-use Rattle.iiif_machine.specs.Rows.{Lead, Stage, New, Looked, Asking, Fallback, Parts, Ready, Ended, Flight, Reply, Wish}
+use Rattle.iiif_machine.specs.Rows.{Lead, Stage, New, Looked, Asking, Fallback, Parts, Ready, Ended, Flight, Reply, RequestInfo}
 use Rattle.iiif_machine.specs.Worlds.{World, ◌>>=◌, version_shown, version_at, speaker, table_at, put_table, with_node, with_stage}
 use Rattle.iiif_machine.specs.Worlds.{with_state, with_flight, with_ask, with_reply, learned, all_learned, collected, outcome_from}
 use Rattle.iiif_machine.specs.Worlds.{settled, known_by}
@@ -344,7 +344,8 @@ stopped_apart w i n h =
     (λ (e : slice_get (slice_set w.nodes i empty) y.lead.node ≡ Some reg.0). (reg.0, e, reg.2))
     (set_found w.nodes i y.lead.node reg.0 empty reg.1)) h
 
-wanted_apart : (w : World) (n : Node) (p : Picture) (q : Wish) (x : Result Resolved Refusal) → IsApart w → IsApart (after_want w n p q x)
+wanted_apart : (w : World) (n : Node) (p : Picture) (q : RequestInfo) (x : Result Resolved Refusal) → IsApart w →
+    IsApart (after_want w n p q x)
 wanted_apart w n p q (Err e) h = apart_same w _ refl refl h
 wanted_apart w n p q (Ok r) h = apart_same w _ refl refl h
 

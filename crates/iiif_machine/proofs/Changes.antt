@@ -5,7 +5,8 @@ use Rattle.std.proofs.lemmas.List.{length-map, map-append}
 use Rattle.iiif_scene.specs.Keys.{Fits}
 use Rattle.iiif_scene.proofs.Lists.{get_left}
 use Rattle.iiif_machine.specs.Types.{Key}
-use Rattle.iiif_machine.specs.Rows.{Node, Given, Purpose, Caller, CallState, Lead, Stage, New, Ask, Reply, Wish, Progress, Wanted}
+use Rattle.iiif_machine.specs.Rows.{Node, Given, Purpose, Caller, CallState, Lead, Stage, New, Ask, Reply, RequestInfo, Progress}
+use Rattle.iiif_machine.specs.Rows.{RequestRow}
 use Rattle.iiif_machine.specs.Worlds.{World, with_node, with_stage, with_state, with_calls, with_flight, with_ask, with_reply, with_given}
 use Rattle.iiif_machine.specs.Worlds.{with_request, fresh, call_for, numbers}
 use Rattle.iiif_machine.specs.Sound.{Each, facts, caller_of, lead_in, AreOf, StageIsHonest, FlightIsHonest, StateIsHonest, CallIsHonest}
@@ -159,18 +160,18 @@ given_add w g h =
       requests = requests_later s (facts w) (facts v) w.requests later h.requests;
     }
 
-pub request_add : (w : World) (q : Wish) (p : Progress) → IsHonestWorld w → ProgressIsHonest w.scene (facts w) q p →
+pub request_add : (w : World) (q : RequestInfo) (p : Progress) → IsHonestWorld w → ProgressIsHonest w.scene (facts w) q p →
     IsHonestWorld (with_request w q p)
 request_add w q p h is =
     let s = w.scene in
-    let P = λ (x : Wanted). ProgressIsHonest s (facts w) x.wish x.progress in
+    let P = λ (x : RequestRow). ProgressIsHonest s (facts w) x.info x.progress in
     record {
       nodes = h.nodes;
       flights = h.flights;
       calls = h.calls;
       asks = h.asks;
       replies = h.replies;
-      requests = each_append P w.requests _ h.requests (each_one P (record { wish = q; progress = p }) is);
+      requests = each_append P w.requests _ h.requests (each_one P (record { info = q; progress = p }) is);
     }
 
 -- calls that are made one after another are of their keys

@@ -7,7 +7,7 @@ use Rattle.iiif_scene.specs.Keys.{name_of}
 use Rattle.iiif_machine.specs.Types.{Key, Picture, Resolved}
 use Rattle.iiif_machine.specs.Tables.{Outcome, Nowhere}
 use Rattle.iiif_machine.specs.Rows.{Node, Given, Purpose, Caller, CallState, Fresh, Hit, In, Gone, Call, Lead, Stage, New, Looked, Asking}
-use Rattle.iiif_machine.specs.Rows.{Fallback, Parts, Ready, Ended, Flight, Wish, Progress, Waiting, Answered, Dropped, Wanted}
+use Rattle.iiif_machine.specs.Rows.{Fallback, Parts, Ready, Ended, Flight, RequestInfo, Progress, Waiting, Answered, Dropped, RequestRow}
 use Rattle.iiif_machine.specs.Worlds.{World, ◌>>=◌, with_calls, call_for, numbers, outcome_of, known_by, learned, all_learned, ready_with}
 use Rattle.iiif_machine.specs.Worlds.{resumed_stage, resumed, answered_with, progressed, answered, settled}
 use Rattle.iiif_machine.specs.Steps.{Event, Want, Enter, Again, AskPeer, Serve, Take, Lose, GoLocal, Load, SourceFault, Land, Evict, Stop}
@@ -35,7 +35,7 @@ abbrev pub FlightsFrom : World → Event → World → Type 0
 FlightsFrom w e v = (g : ℕ) (y : Flight) → slice_get v.flights g ≡ Some y → (slice_get w.flights g ≡ Some y) ⊎ NewStage w e v g y.stage
 
 abbrev pub RequestsAreOwn : World → Type 0
-RequestsAreOwn w = (r : ℕ) (x : Wanted) → slice_get w.requests r ≡ Some x → ProgressIsOwn (facts w).callers r x.progress
+RequestsAreOwn w = (r : ℕ) (x : RequestRow) → slice_get w.requests r ≡ Some x → ProgressIsOwn (facts w).callers r x.progress
 
 -- the faults that are given after an event
 abbrev pub Gives : World → List Given → Event → Type 0
@@ -206,7 +206,7 @@ pub requests_same : (w v : World) → v.requests ≡ w.requests → Kept (facts 
 requests_same w v same kept h r x at = progress_own_later (facts w).callers (facts v).callers r x.progress kept
     (h r x (ap (λ qs. slice_get qs r) (sym same) ∙ at))
 
-answered_own : (cs : List Caller) (w : World) (q : Wish) (z : Resolved) (ds : List ℕ) (r : ℕ) (x : Option Picture)
+answered_own : (cs : List Caller) (w : World) (q : RequestInfo) (z : Resolved) (ds : List ℕ) (r : ℕ) (x : Option Picture)
     (y : Option (List Outcome)) →
     ProgressIsOwn cs r (Waiting z ds) → ProgressIsOwn cs r (answered_with w q z ds x y)
 answered_own cs w q z ds r (Some p) (Some os) h = tt
@@ -214,7 +214,7 @@ answered_own cs w q z ds r (Some p) None h = h
 answered_own cs w q z ds r None (Some os) h = h
 answered_own cs w q z ds r None None h = h
 
-progressed_own : (cs : List Caller) (w : World) (q : Wish) (r : ℕ) (x : Progress) → ProgressIsOwn cs r x →
+progressed_own : (cs : List Caller) (w : World) (q : RequestInfo) (r : ℕ) (x : Progress) → ProgressIsOwn cs r x →
     ProgressIsOwn cs r (progressed w q x)
 progressed_own cs w q r (Waiting z ds) h = answered_own cs w q z ds r (w.scene.shows q.name) (all_learned w ds) h
 progressed_own cs w q r (Answered a) h = tt
@@ -224,18 +224,18 @@ pub requests_settled : (w u : World) → u.requests ≡ w.requests → Kept (fac
     RequestsAreOwn (settled u)
 requests_settled w u same kept h r x at =
     let q = get_mapped (answered u) u.requests r x at in
-    subst (λ (z : Wanted). ProgressIsOwn (facts u).callers r z.progress) q.2
-    (progressed_own (facts u).callers u q.0.wish r q.0.progress
+    subst (λ (z : RequestRow). ProgressIsOwn (facts u).callers r z.progress) q.2
+    (progressed_own (facts u).callers u q.0.info r q.0.progress
     (progress_own_later (facts w).callers (facts u).callers r q.0.progress kept (h r q.0 (ap (λ qs. slice_get qs r) (sym same) ∙ q.1))))
 
-pub requests_more : (w v : World) (q : Wish) (p : Progress) → v.requests ≡ w.requests ++ record { wish = q; progress = p } ∷ [] →
+pub requests_more : (w v : World) (q : RequestInfo) (p : Progress) → v.requests ≡ w.requests ++ record { info = q; progress = p } ∷ [] →
     Kept (facts w).callers (facts v).callers →
     ProgressIsOwn (facts v).callers (length w.requests) p → RequestsAreOwn w → RequestsAreOwn v
 requests_more w v q p same kept is h r x at =
-    let row : Wanted = record { wish = q; progress = p } in
+    let row : RequestRow = record { info = q; progress = p } in
     ⊎_elim
     (λ (y : (r ≡ length w.requests) × (x ≡ row)).
-    subst (λ (z : Wanted). ProgressIsOwn (facts v).callers r z.progress) (sym y.1)
+    subst (λ (z : RequestRow). ProgressIsOwn (facts v).callers r z.progress) (sym y.1)
     (subst (λ j. ProgressIsOwn (facts v).callers j p) (sym y.0) is))
     (λ (y : slice_get w.requests r ≡ Some x). progress_own_later (facts w).callers (facts v).callers r x.progress kept (h r x y))
     (end_cases w.requests r x row (ap (λ qs. slice_get qs r) (sym same) ∙ at))

@@ -1,31 +1,33 @@
 -- What each event does to rows.
 use Rattle.std.proofs.Common.{◌≡◌, ◌⊎◌, inl, inr, ⊎_elim, ℕ, List, [], ◌∷◌, map, length, Bool, true, false, Option, Some, None, Result, Ok}
 use Rattle.std.proofs.Common.{Err, refl, sym, ap, subst, ◌∙◌, if◌then◌else◌}
-use Rattle.std.specs.Prelude.{slice_get, slice_set, position, ◌==◌}
-use Rattle.std.specs.Str.{bytes_eq}
-use Rattle.iiif_scene.specs.Keys.{key_eq, parts_of}
+use Rattle.std.specs.Prelude.{slice_get, slice_set, ◌==◌}
+use Rattle.iiif_scene.specs.Keys.{key_eq}
 use Rattle.iiif_scene.specs.Plans.{resolved, items}
 use Rattle.iiif_scene.proofs.Lists.{get_left, get_map}
 use Rattle.iiif_machine.specs.Types.{Key, Value, ReadFault, Picture, Request, Resolved, Refusal}
-use Rattle.iiif_machine.specs.Tables.{Class, Wide, Local, Table, Outcome, Peer, Entered, finds, joins, leads, enter, again, land}
-use Rattle.iiif_machine.specs.Rows.{Node, Purpose, ForRequest, ForPart, ForFallback, ForAsk, Caller, CallState, Fresh, Hit, In, Gone, Lead}
-use Rattle.iiif_machine.specs.Rows.{Stage, New, Looked, Asking, Fallback, Parts, Ready, Ended, Flight, Reply, Wish, Refused, Progress}
-use Rattle.iiif_machine.specs.Rows.{Waiting, Answered, Dropped, Wanted}
-use Rattle.iiif_machine.specs.Worlds.{World, version_shown, version_at, speaker, owner_of, table_at, put_table, with_node, with_stage}
-use Rattle.iiif_machine.specs.Worlds.{with_state, with_calls, with_flight, with_ask, with_reply, fresh, call_for, numbers, learned}
-use Rattle.iiif_machine.specs.Worlds.{all_learned, collected, or_fault, outcome_from, resumed, answered}
+use Rattle.iiif_machine.specs.Tables.{Local, Table, Outcome, Place, Peer, again, land}
+use Rattle.iiif_machine.specs.Rows.{Node, ForRequest, ForPart, ForFallback, Caller, CallState, Fresh, Hit, In, Lead}
+use Rattle.iiif_machine.specs.Rows.{Stage, New, Looked, Asking, Fallback, Parts, Ready, Ended, Flight, RequestInfo, Refused}
+use Rattle.iiif_machine.specs.Rows.{Progress}
+use Rattle.iiif_machine.specs.Rows.{Waiting, Answered, Dropped, RequestRow}
+use Rattle.iiif_machine.specs.Worlds.{World, table_at, put_table, with_node, with_stage}
+use Rattle.iiif_machine.specs.Worlds.{with_state, with_calls, with_flight, fresh, call_for, numbers}
+use Rattle.iiif_machine.specs.Worlds.{all_learned, collected, or_fault, outcome_from, resumed, answered, settled}
 use Rattle.iiif_machine.specs.Steps.{Event, Want, Enter, Again, AskPeer, Serve, Take, Lose, GoLocal, Load, SourceFault, Land, Evict, Stop}
-use Rattle.iiif_machine.specs.Steps.{after_want, is_open_for, lead_of, after_meeting, after_enter, stage_found, after_look, after_again}
-use Rattle.iiif_machine.specs.Steps.{after_ask_peer, caller_serving, after_reply, stage_taken, after_take, after_lose, after_go_local}
-use Rattle.iiif_machine.specs.Steps.{after_begin, after_load, after_fault, after_land, node_without, stage_stopped, flight_stopped}
+use Rattle.iiif_machine.specs.Steps.{after_want, lead_of, stage_found, after_look}
+use Rattle.iiif_machine.specs.Steps.{caller_serving, stage_taken}
+use Rattle.iiif_machine.specs.Steps.{stage_stopped, flight_stopped}
 use Rattle.iiif_machine.specs.Steps.{call_stopped, progress_stopped, request_stopped, after_stop, step}
 use Rattle.iiif_machine.specs.declared.events.Event.TheVariants as event
 use Rattle.iiif_machine.specs.Sound.{Kept, facts, caller_of, lead_in, ProgressIsOwn}
-use Rattle.iiif_machine.specs.Promises.{After, wish_of}
+use Rattle.iiif_machine.specs.Promises.{After, info_of}
 use Rattle.iiif_machine.specs.Origins.{IsFirstFault, IsMerged}
 use Rattle.iiif_machine.proofs.Lists.{kept_same, kept_more, map_set, map_same}
 use Rattle.iiif_machine.proofs.Changes.{new_call}
-use Rattle.iiif_machine.proofs.Learning.{after_bind, get_mapped}
+use Rattle.iiif_machine.proofs.Doing.{Does, wanted, found, joined, led, looked, asked, served, replied, taken, late, lost, gone_local, read}
+use Rattle.iiif_machine.proofs.Doing.{split, merged, failed, landed, evicted, stopped, after_does}
+use Rattle.iiif_machine.proofs.Learning.{get_mapped}
 use Rattle.iiif_machine.proofs.Registers.{set_cases}
 use Rattle.iiif_machine.proofs.Stopping.{lead_by, caller_by}
 use Rattle.iiif_machine.proofs.Effects.{NewStage, Gives, HasEffect, HasEnded, flights_same, flights_set, flights_more, flights_settled}
@@ -55,7 +57,7 @@ stage_effect : (w : World) (e : Event) (v : World) (f : ℕ) (l : Lead) (old new
     Gives w v.given e → NewStage w e v f new → HasEffect w e v
 stage_effect w e v f l old new at flights callers asks replies requests gives is = record {
   rows = record {
-    wishes = kept_same _ _ (ap (map wish_of) requests);
+    infos = kept_same _ _ (ap (map info_of) requests);
     callers = callers;
     leads = subst (λ fs. Kept (facts w).leads (map lead_in fs)) (sym flights) (leads_set w f l old new at);
     asks = asks;
@@ -72,7 +74,7 @@ calls_effect : (w : World) (e : Event) (v : World) → v.flights ≡ w.flights �
     Gives w v.given e → HasEffect w e v
 calls_effect w e v flights callers asks replies requests gives = record {
   rows = record {
-    wishes = kept_same _ _ (ap (map wish_of) requests);
+    infos = kept_same _ _ (ap (map info_of) requests);
     callers = callers;
     leads = kept_same _ _ (ap (map lead_in) flights);
     asks = kept_same _ _ asks;
@@ -85,13 +87,14 @@ calls_effect w e v flights callers asks replies requests gives = record {
 
 -- Want
 
-wanted_effect : (w : World) (i : ℕ) (name : List ℕ) (request : Request) (n : Node) (p : Picture) (q : Wish) (x : Result Resolved Refusal) →
+wanted_effect : (w : World) (i : ℕ) (name : List ℕ) (request : Request) (n : Node) (p : Picture) (q : RequestInfo)
+    (x : Result Resolved Refusal) →
     HasEffect w (Want i name request) (after_want w n p q x)
 wanted_effect w i name request n p q (Err e) =
     let v = after_want w n p q (Err e) in
     record {
       rows = record {
-        wishes = kept_more wish_of w.requests _;
+        infos = kept_more info_of w.requests _;
         callers = kept_all _;
         leads = kept_all _;
         asks = kept_all _;
@@ -109,7 +112,7 @@ wanted_effect w i name request n p q (Ok r) =
     let callers : Kept (facts w).callers (facts v).callers = calls_more w (map (call_for q.node n purpose) keys) in
     record {
       rows = record {
-        wishes = kept_more wish_of w.requests _;
+        infos = kept_more info_of w.requests _;
         callers = callers;
         leads = kept_all _;
         asks = kept_all _;
@@ -123,15 +126,15 @@ wanted_effect w i name request n p q (Ok r) =
 
 -- Enter
 
-entered_effect : (w : World) (c : ℕ) (who : Caller) (n : Node) (x : Entered) (t : Table) →
+found_effect : (w : World) (c : ℕ) (who : Caller) (n : Node) (v : Value) (t : Table) →
     slice_get w.calls c ≡ Some (record { caller = who; state = Fresh }) →
-    After (HasEffect w (Enter c)) (after_meeting w c who n (x, t))
-entered_effect w c who n (finds v) t at =
+    HasEffect w (Enter c) (settled (with_state (with_node w who.node (put_table n who.key t)) c who (Hit v)))
+found_effect w c who n v t at =
     let u = with_state (with_node w who.node (put_table n who.key t)) c who (Hit v) in
     let callers : Kept (facts w).callers (facts u).callers = callers_set w c who Fresh (Hit v) at in
     record {
       rows = record {
-        wishes = kept_same _ _ (map_same wish_of (answered u) w.requests (λ q. refl));
+        infos = kept_same _ _ (map_same info_of (answered u) w.requests (λ q. refl));
         callers = callers;
         leads = kept_same _ _ (map_same lead_in (resumed u) w.flights (λ f. refl));
         asks = kept_all _;
@@ -141,18 +144,18 @@ entered_effect w c who n (finds v) t at =
       flights = flights_settled w (Enter c) u (λ g y is. inl is) (λ g o is. (is, refl));
       requests = requests_settled w u refl callers;
     }
-entered_effect w c who n joins t at =
-    after_bind (HasEffect w (Enter c)) (position (is_open_for who) w.flights)
-    (λ f. Some (with_state (with_node w who.node (put_table n who.key t)) c who (In f))) (λ f at_f.
-    calls_effect w (Enter c) (with_state (with_node w who.node (put_table n who.key t)) c who (In f)) refl
-    (callers_set w c who Fresh (In f) at) refl (kept_all _) refl refl)
-entered_effect w c who n (leads m) t at =
+
+led_effect : (w : World) (c : ℕ) (who : Caller) (n : Node) (m : ℕ) (t : Table) →
+    slice_get w.calls c ≡ Some (record { caller = who; state = Fresh }) →
+    HasEffect w (Enter c) (with_state (with_flight (with_node w who.node (put_table n who.key t)) (lead_of who m)) c who
+    (In (length w.flights)))
+led_effect w c who n m t at =
     let l = lead_of who m in
     let v = with_state (with_flight (with_node w who.node (put_table n who.key t)) l) c who (In (length w.flights)) in
     let callers : Kept (facts w).callers (facts v).callers = callers_set w c who Fresh (In (length w.flights)) at in
     record {
       rows = record {
-        wishes = kept_all _;
+        infos = kept_all _;
         callers = callers;
         leads = kept_more lead_in w.flights _;
         asks = kept_all _;
@@ -164,64 +167,13 @@ entered_effect w c who n (leads m) t at =
       requests = requests_same w v refl callers;
     }
 
-entering_effect : (w : World) (c : ℕ) (who : Caller) (n : Node) (x : CallState) →
-    slice_get w.calls c ≡ Some (record { caller = who; state = x }) →
-    After (HasEffect w (Enter c)) (after_enter w c who n x)
-entering_effect w c who n Fresh at =
-    let r = enter (table_at n who.key) who.key who.class in
-    entered_effect w c who n r.0 r.1 at
-entering_effect w c who n (Hit v) at = tt
-entering_effect w c who n (In f) at = tt
-entering_effect w c who n Gone at = tt
-
 -- Again
 
 found_new : (w : World) (f : ℕ) (v : World) (x : Option Value) → NewStage w (Again f) v f (stage_found x)
 found_new w f v None = tt
 found_new w f v (Some x) = (refl, tt, refl)
 
-looking_effect : (w : World) (f : ℕ) (l : Lead) (n : Node) (x : Stage) → slice_get w.flights f ≡ Some (record { lead = l; stage = x }) →
-    After (HasEffect w (Again f)) (after_again w f l n x)
-looking_effect w f l n New at =
-    let r = again (table_at n l.key) l.key l.class l.ticket in
-    stage_effect w (Again f) (after_look w f l n r) f l New (stage_found r.0) at refl (kept_all _) (kept_all _) refl refl refl
-    (found_new w f (after_look w f l n r) r.0)
-looking_effect w f l n Looked at = tt
-looking_effect w f l n Asking at = tt
-looking_effect w f l n (Fallback c) at = tt
-looking_effect w f l n (Parts cs) at = tt
-looking_effect w f l n (Ready o p) at = tt
-looking_effect w f l n (Ended o) at = tt
-
--- AskPeer
-
-asking_effect : (w : World) (f : ℕ) (l : Lead) (n : Node) (c : Class) (x : Stage) →
-    slice_get w.flights f ≡ Some (record { lead = l; stage = x }) →
-    After (HasEffect w (AskPeer f)) (after_ask_peer w f l n c x)
-asking_effect w f l n Wide Looked at =
-    after_bind (HasEffect w (AskPeer f)) (position (λ m. bytes_eq m.name (owner_of n l.key)) w.nodes)
-    (λ o. Some (with_ask (with_stage w f l Asking) (record { node = o; key = l.key; flight = f; version = version_at w.scene l.key })))
-    (λ o _. stage_effect w (AskPeer f) _ f l Looked Asking at refl (kept_all _) (get_left w.asks _) refl refl refl tt)
-asking_effect w f l n Local x at = tt
-asking_effect w f l n Wide New at = tt
-asking_effect w f l n Wide Asking at = tt
-asking_effect w f l n Wide (Fallback c) at = tt
-asking_effect w f l n Wide (Parts cs) at = tt
-asking_effect w f l n Wide (Ready o p) at = tt
-asking_effect w f l n Wide (Ended o) at = tt
-
--- Reply
-
-replying_effect : (w : World) (c : ℕ) (who : Caller) (x : Purpose) → After (HasEffect w (event.Reply c)) (after_reply w c who x)
-replying_effect w c who (ForAsk a) =
-    after_bind (HasEffect w (event.Reply c)) (learned w c) (λ o. Some (with_reply w (record { key = who.key; outcome = o })))
-    (λ o _. calls_effect w (event.Reply c) (with_reply w (record { key = who.key; outcome = o })) refl (kept_all _) refl
-    (get_left w.replies _) refl refl)
-replying_effect w c who (ForRequest r) = tt
-replying_effect w c who (ForPart f) = tt
-replying_effect w c who (ForFallback f) = tt
-
--- Take, Lose
+-- Take
 
 taken_new : (w : World) (f r : ℕ) (v : World) (k q : Key) (o : Outcome) → NewStage w (Take f r) v f (stage_taken k q o)
 taken_new w f r v k q (Err x) = tt
@@ -231,50 +183,7 @@ taken_new w f r v k q (Ok x) = by (key_eq q k)
     by true = (refl, tt, refl)
     by false = tt
 
-taking_effect : (w : World) (f r : ℕ) (l : Lead) (reply : Reply) (x : Stage) →
-    slice_get w.flights f ≡ Some (record { lead = l; stage = x }) → After (HasEffect w (Take f r)) (after_take w f l reply x)
-taking_effect w f r l reply Asking at =
-    let new = stage_taken l.key reply.key reply.outcome in
-    stage_effect w (Take f r) (with_stage w f l new) f l Asking new at refl (kept_all _) (kept_all _) refl refl refl
-    (taken_new w f r (with_stage w f l new) l.key reply.key reply.outcome)
-taking_effect w f r l reply (Ended o) at = calls_effect w (Take f r) w refl (kept_all _) refl (kept_all _) refl refl
-taking_effect w f r l reply New at = tt
-taking_effect w f r l reply Looked at = tt
-taking_effect w f r l reply (Fallback c) at = tt
-taking_effect w f r l reply (Parts cs) at = tt
-taking_effect w f r l reply (Ready o p) at = tt
-
-losing_effect : (w : World) (f : ℕ) (l : Lead) (x : Stage) → slice_get w.flights f ≡ Some (record { lead = l; stage = x }) →
-    After (HasEffect w (Lose f)) (after_lose w f l x)
-losing_effect w f l Asking at = stage_effect w (Lose f) _ f l Asking (Fallback None) at refl (kept_all _) (kept_all _) refl refl refl tt
-losing_effect w f l x at = tt
-
--- GoLocal
-
-going_local_effect : (w : World) (f : ℕ) (l : Lead) (x : Stage) → slice_get w.flights f ≡ Some (record { lead = l; stage = x }) →
-    After (HasEffect w (GoLocal f)) (after_go_local w f l x)
-going_local_effect w f l (Fallback None) at =
-    let who : Caller = record { node = l.node; key = l.key; class = Local; purpose = ForFallback f } in
-    stage_effect w (GoLocal f) _ f l (Fallback None) (Fallback (Some (length w.calls))) at refl (calls_more w (who ∷ [])) (kept_all _) refl
-    refl refl ((who, new_call w who, refl), tt)
-going_local_effect w f l (Fallback (Some c)) at = tt
-going_local_effect w f l New at = tt
-going_local_effect w f l Looked at = tt
-going_local_effect w f l Asking at = tt
-going_local_effect w f l (Parts cs) at = tt
-going_local_effect w f l (Ready o p) at = tt
-going_local_effect w f l (Ended o) at = tt
-
--- Load, SourceFault
-
-begun_effect : (w : World) (f : ℕ) (l : Lead) (n : Node) (x : Option (List Key)) →
-    slice_get w.flights f ≡ Some (record { lead = l; stage = Looked }) → HasEffect w (Load f) (after_begin w f l n x)
-begun_effect w f l n None at = stage_effect w (Load f) (after_begin w f l n None) f l Looked _ at refl (kept_all _) (kept_all _) refl refl
-    refl (refl, tt, refl)
-begun_effect w f l n (Some ks) at =
-    stage_effect w (Load f) (after_begin w f l n (Some ks)) f l Looked (Parts (numbers (length w.calls) ks)) at refl
-    (calls_more w (map (call_for l.node n (ForPart f)) ks)) (kept_all _) refl refl refl
-    (calls_for w l.node n (ForPart f) ks)
+-- Load
 
 -- what is collected to a fault has it first
 first_more : (v : Value) (os : List Outcome) (x : ReadFault) → IsFirstFault os x → IsFirstFault (Ok v ∷ os) x
@@ -300,37 +209,6 @@ merged_new : (w : World) (f : ℕ) (l : Lead) (cs : List ℕ) (os : List Outcome
 merged_new w f l cs os (Ok vs) at knows e = tt
 merged_new w f l cs os (Err x) at knows e = (l, cs, os, at, knows, first_of_all os x e)
 
-loading_effect : (w : World) (f : ℕ) (l : Lead) (n : Node) (c : Class) (x : Stage) →
-    slice_get w.flights f ≡ Some (record { lead = l; stage = x }) → After (HasEffect w (Load f)) (after_load w f l n c x)
-loading_effect w f l n Local Looked at = begun_effect w f l n (parts_of l.key) at
-loading_effect w f l n Local (Parts cs) at =
-    after_bind (HasEffect w (Load f)) (all_learned w cs)
-    (λ os. Some (with_stage w f l (Ready (outcome_from w.scene l.key (collected os)) _)))
-    (λ os knows. stage_effect w (Load f) _ f l (Parts cs) (Ready (outcome_from w.scene l.key (collected os)) _) at refl (kept_all _)
-    (kept_all _) refl refl refl
-    (refl, merged_new w f l cs os (collected os) at knows refl, refl))
-loading_effect w f l n Wide x at = tt
-loading_effect w f l n Local New at = tt
-loading_effect w f l n Local Asking at = tt
-loading_effect w f l n Local (Fallback c) at = tt
-loading_effect w f l n Local (Ready o p) at = tt
-loading_effect w f l n Local (Ended o) at = tt
-
-failing_effect : (w : World) (f : ℕ) (l : Lead) (e : ReadFault) (c : Class) (y : Option (List Key)) (x : Stage) →
-    slice_get w.flights f ≡ Some (record { lead = l; stage = x }) →
-    After (HasEffect w (SourceFault f e)) (after_fault w f l e c y x)
-failing_effect w f l e Local None Looked at =
-    stage_effect w (SourceFault f e) _ f l Looked _ at refl (kept_all _) (kept_all _) refl refl
-    (l, get_map lead_in w.flights f (record { lead = l; stage = Looked }) at, refl) (refl, refl, refl)
-failing_effect w f l e Wide y x at = tt
-failing_effect w f l e Local (Some ks) x at = tt
-failing_effect w f l e Local None New at = tt
-failing_effect w f l e Local None Asking at = tt
-failing_effect w f l e Local None (Fallback c) at = tt
-failing_effect w f l e Local None (Parts cs) at = tt
-failing_effect w f l e Local None (Ready o p) at = tt
-failing_effect w f l e Local None (Ended o) at = tt
-
 -- Land
 
 landed_from : (w : World) (f : ℕ) (l : Lead) (o : Option Outcome) (g : ℕ) (y : Flight) →
@@ -343,15 +221,16 @@ landed_from w f l o g y at =
     (λ (x : slice_get w.flights g ≡ Some y). inl x)
     (set_cases w.flights f g y row at)
 
-landing_effect : (w : World) (f : ℕ) (l : Lead) (n : Node) (kept : Bool) (x : Stage) →
-    slice_get w.flights f ≡ Some (record { lead = l; stage = x }) →
-    After (HasEffect w (Land f kept)) (after_land w f l n kept x)
-landing_effect w f l n kept (Ready o p) at =
+landed_effect : (w : World) (f : ℕ) (l : Lead) (n : Node) (kept : Bool) (o : Outcome) (p : Place) →
+    slice_get w.flights f ≡ Some (record { lead = l; stage = Ready o p }) →
+    HasEffect w (Land f kept) (settled (with_stage (with_node w l.node (put_table n l.key
+    (land (table_at n l.key) l.key l.class l.ticket o p kept))) f l (Ended (Some o))))
+landed_effect w f l n kept o p at =
     let t = table_at n l.key in
     let u = with_stage (with_node w l.node (put_table n l.key (land t l.key l.class l.ticket o p kept))) f l (Ended (Some o)) in
     record {
       rows = record {
-        wishes = kept_same _ _ (map_same wish_of (answered u) w.requests (λ q. refl));
+        infos = kept_same _ _ (map_same info_of (answered u) w.requests (λ q. refl));
         callers = kept_all _;
         leads = kept_same _ _ (map_same lead_in (resumed u) u.flights (λ f. refl)
             ∙ map_set lead_in w.flights f (record { lead = l; stage = Ready o p }) (record { lead = l; stage = Ended (Some o) }) at refl);
@@ -362,12 +241,6 @@ landing_effect w f l n kept (Ready o p) at =
       flights = flights_settled w (Land f kept) u (landed_from w f l (Some o)) (λ g r is. (is, refl));
       requests = requests_settled w u refl (kept_all _);
     }
-landing_effect w f l n kept New at = tt
-landing_effect w f l n kept Looked at = tt
-landing_effect w f l n kept Asking at = tt
-landing_effect w f l n kept (Fallback c) at = tt
-landing_effect w f l n kept (Parts cs) at = tt
-landing_effect w f l n kept (Ended o) at = tt
 
 -- Stop
 
@@ -391,12 +264,13 @@ dropped_own cs r (Waiting q ds) h = tt
 dropped_own cs r (Answered a) h = tt
 dropped_own cs r Dropped h = tt
 
-dropped_by : (cs : List Caller) (r : ℕ) (q : Wanted) (b : Bool) → ProgressIsOwn cs r q.progress →
-    ProgressIsOwn cs r (if b then record { wish = q.wish; progress = progress_stopped q.progress } else q).progress
+dropped_by : (cs : List Caller) (r : ℕ) (q : RequestRow) (b : Bool) → ProgressIsOwn cs r q.progress →
+    ProgressIsOwn cs r (if b then record { info = q.info; progress = progress_stopped q.progress } else q).progress
 dropped_by cs r q true h = dropped_own cs r q.progress h
 dropped_by cs r q false h = h
 
-wish_by : (q : Wanted) (b : Bool) → wish_of (if b then record { wish = q.wish; progress = progress_stopped q.progress } else q) ≡ wish_of q
+wish_by : (q : RequestRow) (b : Bool) → info_of (if b then record { info = q.info; progress = progress_stopped q.progress } else q) ≡
+    info_of q
 wish_by q true = refl
 wish_by q false = refl
 
@@ -407,7 +281,7 @@ stopped_effect w i n =
     kept_same _ _ (map_same caller_of (call_stopped i) w.calls (λ c. caller_by c (c.caller.node == i))) in
     record {
       rows = record {
-        wishes = kept_same _ _ (map_same wish_of (request_stopped i) w.requests (λ q. wish_by q (q.wish.node == i)));
+        infos = kept_same _ _ (map_same info_of (request_stopped i) w.requests (λ q. wish_by q (q.info.node == i)));
         callers = callers;
         leads = kept_same _ _ (map_same lead_in (flight_stopped i) w.flights (λ fl. lead_by fl (fl.lead.node == i)));
         asks = kept_all _;
@@ -420,56 +294,53 @@ stopped_effect w i n =
           (stopped_by w v i g x.0 (x.0.lead.node == i) x.1);
       requests = λ h r y at.
           let x = get_mapped (request_stopped i) w.requests r y at in
-          subst (λ (z : Wanted). ProgressIsOwn (facts v).callers r z.progress) x.2
-          (dropped_by (facts v).callers r x.0 (x.0.wish.node == i)
+          subst (λ (z : RequestRow). ProgressIsOwn (facts v).callers r z.progress) x.2
+          (dropped_by (facts v).callers r x.0 (x.0.info.node == i)
           (progress_own_later (facts w).callers (facts v).callers r x.0.progress callers (h r x.0 x.1)));
     }
 
+-- All
+
+effect_by : (w v : World) (e : Event) → Does w e v → HasEffect w e v
+effect_by w _ _ (wanted i name q n p stands shown) =
+    wanted_effect w i name q n p (record { node = i; name = name; request = q }) (resolved w.scene p q)
+effect_by w _ _ (found c who n x at stands is) = found_effect w c who n x _ at
+effect_by w _ _ (joined c who n f at stands is first) =
+    calls_effect w (Enter c) _ refl (callers_set w c who Fresh (In f) at) refl (kept_all _) refl refl
+effect_by w _ _ (led c who n m at stands is) = led_effect w c who n m _ at
+effect_by w _ _ (looked f l n at stands) =
+    let r = again (table_at n l.key) l.key l.class l.ticket in
+    stage_effect w (Again f) (after_look w f l n r) f l New (stage_found r.0) at refl (kept_all _) (kept_all _) refl refl refl
+    (found_new w f (after_look w f l n r) r.0)
+effect_by w _ _ (asked f l n o at stands wide is) =
+    stage_effect w (AskPeer f) _ f l Looked Asking at refl (kept_all _) (get_left w.asks _) refl refl refl tt
+effect_by w _ _ (served a q n at stands) = calls_effect w (Serve a) _ refl (calls_more w (caller_serving a q ∷ [])) refl (kept_all _)
+    refl refl
+effect_by w _ _ (replied c who s a o at is knows) = calls_effect w (event.Reply c) _ refl (kept_all _) refl (get_left w.replies _) refl refl
+effect_by w _ _ (taken f r l x at there) =
+    let new = stage_taken l.key x.key x.outcome in
+    stage_effect w (Take f r) _ f l Asking new at refl (kept_all _) (kept_all _) refl refl refl
+    (taken_new w f r (with_stage w f l new) l.key x.key x.outcome)
+effect_by w _ _ (late f r l o at) = calls_effect w (Take f r) w refl (kept_all _) refl (kept_all _) refl refl
+effect_by w _ _ (lost f l at) = stage_effect w (Lose f) _ f l Asking (Fallback None) at refl (kept_all _) (kept_all _) refl refl refl tt
+effect_by w _ _ (gone_local f l at) =
+    let who : Caller = record { node = l.node; key = l.key; class = Local; purpose = ForFallback f } in
+    stage_effect w (GoLocal f) _ f l (Fallback None) (Fallback (Some (length w.calls))) at refl (calls_more w (who ∷ [])) (kept_all _) refl
+    refl refl ((who, new_call w who, refl), tt)
+effect_by w _ _ (read f l n at stands is none) =
+    stage_effect w (Load f) _ f l Looked _ at refl (kept_all _) (kept_all _) refl refl refl (refl, tt, refl)
+effect_by w _ _ (split f l n ks at stands is some) =
+    stage_effect w (Load f) _ f l Looked (Parts (numbers (length w.calls) ks)) at refl
+    (calls_more w (map (call_for l.node n (ForPart f)) ks)) (kept_all _) refl refl refl (calls_for w l.node n (ForPart f) ks)
+effect_by w _ _ (merged f l cs os at is know) =
+    stage_effect w (Load f) _ f l (Parts cs) (Ready (outcome_from w.scene l.key (collected os)) _) at refl (kept_all _)
+    (kept_all _) refl refl refl (refl, merged_new w f l cs os (collected os) at know refl, refl)
+effect_by w _ _ (failed f x l at is none) =
+    stage_effect w (SourceFault f x) _ f l Looked _ at refl (kept_all _) (kept_all _) refl refl
+    (l, get_map lead_in w.flights f (record { lead = l; stage = Looked }) at, refl) (refl, refl, refl)
+effect_by w _ _ (landed f kept l n o p at stands) = landed_effect w f l n kept o p at
+effect_by w _ _ (evicted i keys n stands) = calls_effect w (Evict i keys) _ refl (kept_all _) refl (kept_all _) refl refl
+effect_by w _ _ (stopped i n stands) = stopped_effect w i n
+
 pub step_effect : (w : World) (e : Event) → After (HasEffect w e) (step w e)
-unfolding step
-step_effect w (Want node name request) =
-    after_bind (HasEffect w (Want node name request)) (slice_get w.nodes node) _
-    (λ n _. after_bind (HasEffect w (Want node name request)) (w.scene.shows name) _ (λ p _.
-    after_bind (HasEffect w (Want node name request)) (speaker n (version_shown p)) _ (λ m _.
-    wanted_effect w node name request n p (record { node = node; name = name; request = request }) (resolved w.scene p request))))
-step_effect w (Enter c) =
-    after_bind (HasEffect w (Enter c)) (slice_get w.calls c) _
-    (λ call at. after_bind (HasEffect w (Enter c)) (slice_get w.nodes call.caller.node) _
-    (λ n _. entering_effect w c call.caller n call.state at))
-step_effect w (Again f) =
-    after_bind (HasEffect w (Again f)) (slice_get w.flights f) _
-    (λ fl at. after_bind (HasEffect w (Again f)) (slice_get w.nodes fl.lead.node) _ (λ n _. looking_effect w f fl.lead n fl.stage at))
-step_effect w (AskPeer f) =
-    after_bind (HasEffect w (AskPeer f)) (slice_get w.flights f) _
-    (λ fl at. after_bind (HasEffect w (AskPeer f)) (slice_get w.nodes fl.lead.node) _
-    (λ n _. asking_effect w f fl.lead n fl.lead.class fl.stage at))
-step_effect w (Serve a) =
-    after_bind (HasEffect w (Serve a)) (slice_get w.asks a) _
-    (λ q _. after_bind (HasEffect w (Serve a)) (slice_get w.nodes q.node) _
-    (λ n _. after_bind (HasEffect w (Serve a)) (speaker n q.version) _ (λ m _.
-    calls_effect w (Serve a) (with_calls w (caller_serving a q ∷ [])) refl (calls_more w (caller_serving a q ∷ [])) refl (kept_all _) refl
-    refl)))
-step_effect w (event.Reply c) = after_bind (HasEffect w (event.Reply c)) (slice_get w.calls c) _
-    (λ call _. replying_effect w c call.caller call.caller.purpose)
-step_effect w (Take f r) =
-    after_bind (HasEffect w (Take f r)) (slice_get w.flights f) _
-    (λ fl at. after_bind (HasEffect w (Take f r)) (slice_get w.replies r) _ (λ reply _. taking_effect w f r fl.lead reply fl.stage at))
-step_effect w (Lose f) = after_bind (HasEffect w (Lose f)) (slice_get w.flights f) _ (λ fl at. losing_effect w f fl.lead fl.stage at)
-step_effect w (GoLocal f) = after_bind (HasEffect w (GoLocal f)) (slice_get w.flights f) _
-    (λ fl at. going_local_effect w f fl.lead fl.stage at)
-step_effect w (Load f) =
-    after_bind (HasEffect w (Load f)) (slice_get w.flights f) _
-    (λ fl at. after_bind (HasEffect w (Load f)) (slice_get w.nodes fl.lead.node) _
-    (λ n _. loading_effect w f fl.lead n fl.lead.class fl.stage at))
-step_effect w (SourceFault f e) =
-    after_bind (HasEffect w (SourceFault f e)) (slice_get w.flights f) _
-    (λ fl at. failing_effect w f fl.lead e fl.lead.class (parts_of fl.lead.key) fl.stage at)
-step_effect w (Land f kept) =
-    after_bind (HasEffect w (Land f kept)) (slice_get w.flights f) _
-    (λ fl at. after_bind (HasEffect w (Land f kept)) (slice_get w.nodes fl.lead.node) _
-    (λ n _. landing_effect w f fl.lead n kept fl.stage at))
-step_effect w (Evict node keys) =
-    after_bind (HasEffect w (Evict node keys)) (slice_get w.nodes node) _
-    (λ n _. calls_effect w (Evict node keys) (with_node w node (node_without n keys.items)) refl (kept_all _) refl (kept_all _) refl
-    refl)
-step_effect w (Stop node) = after_bind (HasEffect w (Stop node)) (slice_get w.nodes node) _ (λ n _. stopped_effect w node n)
+step_effect w e = after_does w e (HasEffect w e) (λ v d. effect_by w v e d)

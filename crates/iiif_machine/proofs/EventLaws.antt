@@ -10,7 +10,7 @@ use Rattle.iiif_scene.specs.Keys.{is_tile, key_eq}
 use Rattle.iiif_machine.specs.Types.{Key, Value, ReadFault, Resolved}
 use Rattle.iiif_machine.specs.Tables.{Class, Table, Outcome, Place, Peer, land, emptied, Holds}
 use Rattle.iiif_machine.specs.Rows.{Node, Call, Lead, Stage, New, Looked, Asking, Fallback, Parts, Ready, Ended, Flight, Reply, Progress}
-use Rattle.iiif_machine.specs.Rows.{Waiting, Answered, Dropped, Wanted, Gone}
+use Rattle.iiif_machine.specs.Rows.{Waiting, Answered, Dropped, RequestRow, Gone}
 use Rattle.iiif_machine.specs.Worlds.{World, table_at, put_table, or_fault, collected}
 use Rattle.iiif_machine.specs.Steps.{is_open, stage_taken, after_take, after_land, stage_stopped, flight_stopped, call_stopped}
 use Rattle.iiif_machine.specs.Steps.{progress_stopped, request_stopped, after_stop, step}
@@ -142,11 +142,11 @@ flight_by : (i : ℕ) (fl : Flight) (b : Bool) → (fl.lead.node == i) ≡ b →
 flight_by i fl true e own = closed fl.stage
 flight_by i fl false e own = absurd (eqb-false fl.lead.node i e own)
 
-request_by : (i : ℕ) (q : Wanted) (b : Bool) (r : Resolved) (cs : List ℕ) → (q.wish.node == i) ≡ b →
-    (if b then record { wish = q.wish; progress = progress_stopped q.progress } else q).wish.node ≡ i →
-    (if b then record { wish = q.wish; progress = progress_stopped q.progress } else q).progress ≡ Waiting r cs → ⊥
+request_by : (i : ℕ) (q : RequestRow) (b : Bool) (r : Resolved) (cs : List ℕ) → (q.info.node == i) ≡ b →
+    (if b then record { info = q.info; progress = progress_stopped q.progress } else q).info.node ≡ i →
+    (if b then record { info = q.info; progress = progress_stopped q.progress } else q).progress ≡ Waiting r cs → ⊥
 request_by i q true r cs e own h = not_waiting q.progress r cs h
-request_by i q false r cs e own h = absurd (eqb-false q.wish.node i e own)
+request_by i q false r cs e own h = absurd (eqb-false q.info.node i e own)
 
 here : {A : Type 0} (xs : List A) (i : ℕ) (x y n : A) → slice_get xs i ≡ Some x → slice_get (slice_set xs i y) i ≡ Some n → y ≡ n
 here xs i x y n at h = same_Some y n (sym (set_there xs i x y at) ∙ h)
@@ -163,8 +163,8 @@ has_stopped w i n at = record {
       (flight_by i old.0 (old.0.lead.node == i) refl (subst (λ (x : Flight). x.lead.node ≡ i) (sym old.2) own));
   requests = λ j q there own r cs h.
       let old = get_mapped (request_stopped i) w.requests j q there in
-      request_by i old.0 (old.0.wish.node == i) r cs refl (subst (λ (x : Wanted). x.wish.node ≡ i) (sym old.2) own)
-      (subst (λ (x : Wanted). x.progress ≡ Waiting r cs) (sym old.2) h);
+      request_by i old.0 (old.0.info.node == i) r cs refl (subst (λ (x : RequestRow). x.info.node ≡ i) (sym old.2) own)
+      (subst (λ (x : RequestRow). x.progress ≡ Waiting r cs) (sym old.2) h);
   tables = λ m k v there.
       let same = here w.nodes i n (record n { tiles = emptied n.tiles; sums = emptied n.sums }) m at there in (
         λ h. emptied_holds n.tiles k v (subst (λ (x : Node). Holds x.tiles k v) (sym same) h),

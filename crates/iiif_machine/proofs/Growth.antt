@@ -5,8 +5,8 @@ use Rattle.iiif_scene.specs.Plans.{items}
 use Rattle.iiif_machine.specs.Types.{Key}
 use Rattle.iiif_machine.specs.Tables.{Outcome}
 use Rattle.iiif_machine.specs.Rows.{Given, Purpose, ForRequest, ForPart, ForFallback, ForAsk, Caller, CallState, Fresh, Hit, In, Gone}
-use Rattle.iiif_machine.specs.Rows.{Call, Lead, Stage, New, Looked, Asking, Fallback, Parts, Ready, Ended, Flight, Ask, Wish, Answer}
-use Rattle.iiif_machine.specs.Rows.{Refused, Image, Failed, Progress, Waiting, Answered, Dropped, Wanted}
+use Rattle.iiif_machine.specs.Rows.{Call, Lead, Stage, New, Looked, Asking, Fallback, Parts, Ready, Ended, Flight, Ask, RequestInfo, Answer}
+use Rattle.iiif_machine.specs.Rows.{Refused, Image, Failed, Progress, Waiting, Answered, Dropped, RequestRow}
 use Rattle.iiif_machine.specs.Sound.{Each, Kept, Facts, IsHonest, AreOf, StageIsHonest, FlightIsHonest, StateIsHonest, CallIsHonest}
 use Rattle.iiif_machine.specs.Sound.{PurposeIsRight, CallerIsRight, AnswerIsRight, ProgressIsHonest, AskIsHonest}
 use Rattle.iiif_machine.proofs.Words.{Later}
@@ -51,13 +51,14 @@ purpose_later a b who (ForAsk n) later h = (h.0, later.asks n h.0 h.1, h.2, h.3)
 pub caller_later : (s : Scene) (a b : Facts) (who : Caller) → Later a b → CallerIsRight s a who → CallerIsRight s b who
 caller_later s a b who later h = record { fits = h.fits; purpose = purpose_later a b who who.purpose later h.purpose }
 
-pub answer_later : (s : Scene) (old new : List Given) (q : Wish) (x : Answer) → Kept old new → AnswerIsRight s old q x →
+pub answer_later : (s : Scene) (old new : List Given) (q : RequestInfo) (x : Answer) → Kept old new → AnswerIsRight s old q x →
     AnswerIsRight s new q x
 answer_later s old new q (Refused e) kept h = h
 answer_later s old new q (Image i) kept h = h
 answer_later s old new q (Failed f) kept h = (h.0, kept h.0 _ h.1)
 
-pub progress_later : (s : Scene) (a b : Facts) (q : Wish) (x : Progress) → Later a b → ProgressIsHonest s a q x → ProgressIsHonest s b q x
+pub progress_later : (s : Scene) (a b : Facts) (q : RequestInfo) (x : Progress) → Later a b → ProgressIsHonest s a q x →
+    ProgressIsHonest s b q x
 progress_later s a b q (Waiting r cs) later h =
     (h.0, h.1, h.2, are_of_later a.callers b.callers q.node cs (items s q.name h.0 r) later.callers h.3)
 progress_later s a b q (Answered x) later h = answer_later s a.given b.given q x later.given h
@@ -71,11 +72,11 @@ pub calls_later : (s : Scene) (a b : Facts) (xs : List Call) → Later a b → E
 calls_later s a b xs later = each_as (CallIsHonest s a) (CallIsHonest s b) xs
     (λ c h. record { caller = caller_later s a b c.caller later h.caller; state = state_later s a b c.caller c.state later h.state })
 
-pub requests_later : (s : Scene) (a b : Facts) (xs : List Wanted) → Later a b → Each (λ q. ProgressIsHonest s a q.wish q.progress) xs →
-    Each (λ q. ProgressIsHonest s b q.wish q.progress) xs
+pub requests_later : (s : Scene) (a b : Facts) (xs : List RequestRow) → Later a b → Each (λ q. ProgressIsHonest s a q.info q.progress) xs →
+    Each (λ q. ProgressIsHonest s b q.info q.progress) xs
 requests_later s a b xs later =
-    each_as (λ q. ProgressIsHonest s a q.wish q.progress) (λ q. ProgressIsHonest s b q.wish q.progress) xs
-    (λ q h. progress_later s a b q.wish q.progress later h)
+    each_as (λ q. ProgressIsHonest s a q.info q.progress) (λ q. ProgressIsHonest s b q.info q.progress) xs
+    (λ q h. progress_later s a b q.info q.progress later h)
 
 pub asks_later : (s : Scene) (a b : Facts) (xs : List Ask) → Later a b → Each (AskIsHonest s a) xs → Each (AskIsHonest s b) xs
 asks_later s a b xs later = each_as (AskIsHonest s a) (AskIsHonest s b) xs

@@ -9,7 +9,7 @@ use Rattle.iiif_scene.specs.Images.{assembled, image}
 use Rattle.iiif_machine.specs.Types.{Key, Value, Resolved, Picture, ReadFault}
 use Rattle.iiif_machine.specs.Tables.{Outcome}
 use Rattle.iiif_machine.specs.Rows.{Given, Caller, CallState, Fresh, Hit, In, Gone, Call, Lead, Stage, New, Looked, Asking, Fallback}
-use Rattle.iiif_machine.specs.Rows.{Parts, Ready, Ended, Flight, Wish}
+use Rattle.iiif_machine.specs.Rows.{Parts, Ready, Ended, Flight, RequestInfo}
 use Rattle.iiif_machine.specs.Worlds.{World, ◌>>=◌, outcome_of, known_by, learned, all_learned, or_fault, collected, outcome_from}
 use Rattle.iiif_machine.specs.Worlds.{answer_from}
 use Rattle.iiif_machine.specs.Sound.{Each, Facts, facts, caller_of, lead_in, IsHonest, AreOf, StageIsHonest, StateIsHonest, AnswerIsRight}
@@ -113,7 +113,7 @@ pub merged_honest : (s : Scene) (given : List Given) (node : ℕ) (k : Key) (ks 
 merged_honest s given node k ks (Ok vs) derives h = ap (derived s k) h ∙ derives
 merged_honest s given node k ks (Err f) derives h = h
 
-pub answer_right : (s : Scene) (given : List Given) (q : Wish) (p : Picture) (r : Resolved) (x : Result (List Value) ReadFault) →
+pub answer_right : (s : Scene) (given : List Given) (q : RequestInfo) (p : Picture) (r : Resolved) (x : Result (List Value) ReadFault) →
     s.shows q.name ≡ Some p →
     image s p q.request ≡ Ok (assembled s p r (map (meaning s) (items s q.name p r))) →
     AreGathered s given q.node q.name (items s q.name p r) x → AnswerIsRight s given q (answer_from s p r x)

@@ -6,7 +6,7 @@ use Rattle.std.proofs.lemmas.Bool.{eqb-true, eqb-false}
 use Rattle.iiif_scene.proofs.Lists.{get_map}
 use Rattle.iiif_machine.specs.Tables.{Outcome, emptied}
 use Rattle.iiif_machine.specs.Rows.{Node, Caller, Call, Gone, In, Lead, Stage, New, Looked, Asking, Fallback, Parts, Ready, Ended, Flight}
-use Rattle.iiif_machine.specs.Rows.{Wanted}
+use Rattle.iiif_machine.specs.Rows.{RequestRow}
 use Rattle.iiif_machine.specs.Worlds.{World, ◌>>=◌, with_node, outcome_of, known_by, learned}
 use Rattle.iiif_machine.specs.Steps.{is_open, stage_stopped, flight_stopped, call_stopped, progress_stopped, request_stopped, after_stop}
 use Rattle.iiif_machine.specs.Steps.{step, node_without}
@@ -44,9 +44,9 @@ call_stays : (i : ℕ) (x : Call) (b : Bool) → (x.caller.node == i) ≡ b → 
 call_stays i x true e other = absurd (other (eqb-true x.caller.node i e))
 call_stays i x false e other = refl
 
-request_stays : (i : ℕ) (x : Wanted) (b : Bool) → (x.wish.node == i) ≡ b → ¬ (x.wish.node ≡ i) →
-    (if b then record { wish = x.wish; progress = progress_stopped x.progress } else x) ≡ x
-request_stays i x true e other = absurd (other (eqb-true x.wish.node i e))
+request_stays : (i : ℕ) (x : RequestRow) (b : Bool) → (x.info.node == i) ≡ b → ¬ (x.info.node ≡ i) →
+    (if b then record { info = x.info; progress = progress_stopped x.progress } else x) ≡ x
+request_stays i x true e other = absurd (other (eqb-true x.info.node i e))
 request_stays i x false e other = refl
 
 node_ends : (w : World) (i : ℕ) (n : Node) → slice_get w.nodes i ≡ Some n → NodeEnds i w (after_stop w i n)
@@ -64,7 +64,7 @@ node_ends w i n at =
           ap Some (flight_ends i x (x.lead.node == i) refl own is);
     }
 
-others_stay : (w : World) (i : ℕ) (n : Node) → OthersStay i w (after_stop w i n)
+pub others_stay : (w : World) (i : ℕ) (n : Node) → OthersStay i w (after_stop w i n)
 others_stay w i n =
     let new : Node = record n { tiles = emptied n.tiles; sums = emptied n.sums } in
     record {
@@ -74,7 +74,7 @@ others_stay w i n =
           (λ (x : slice_get (slice_set w.nodes i new) j ≡ Some m). x)
           (set_found w.nodes i j m new there);
       requests = λ r q other there. get_map (request_stopped i) w.requests r q there ∙
-          ap Some (request_stays i q (q.wish.node == i) refl other);
+          ap Some (request_stays i q (q.info.node == i) refl other);
       calls = λ c x other there. get_map (call_stopped i) w.calls c x there ∙ ap Some (call_stays i x (x.caller.node == i) refl other);
       flights = λ f x other there. get_map (flight_stopped i) w.flights f x there ∙
           ap Some (flight_stays i x (x.lead.node == i) refl other);

@@ -15,6 +15,7 @@ pub mod Subjects
 pub mod Tabled
 pub mod Opened
 pub mod Effects
+pub mod Doing
 pub mod EventEffects
 pub mod Origins
 pub mod Promised
@@ -26,4 +27,9 @@ pub mod Allowed
 pub mod EventLaws
 pub mod Giving
 pub mod Leaving
+pub mod StayingBy
+pub mod Frames
+pub mod Others
+pub mod Due
 pub mod RunsRight
+pub mod Corollaries

@@ -16,7 +16,7 @@ use Rattle.std.specs.Str.{bytes_eq}
 use Rattle.iiif_machine.specs.Tables.{Class, Wide, Local, Table, Outcome, Peer, IsOpen, Entered, finds, joins, leads, enter, again, land}
 use Rattle.iiif_machine.specs.Tables.{emptied}
 use Rattle.iiif_machine.specs.Rows.{Node, Purpose, ForRequest, ForPart, ForFallback, ForAsk, Caller, CallState, Fresh, Hit, In, Gone, Lead}
-use Rattle.iiif_machine.specs.Rows.{Stage, New, Looked, Asking, Fallback, Parts, Ready, Ended, Flight, Reply, Wish}
+use Rattle.iiif_machine.specs.Rows.{Stage, New, Looked, Asking, Fallback, Parts, Ready, Ended, Flight, Reply, RequestInfo}
 use Rattle.iiif_machine.specs.Worlds.{World, ◌>>=◌, version_shown, version_at, speaker, table_at, put_table, with_node, with_stage}
 use Rattle.iiif_machine.specs.Worlds.{with_state, with_flight, with_ask, with_reply, learned, all_learned, collected, outcome_from}
 use Rattle.iiif_machine.specs.Worlds.{settled, resumed, resumed_stage, ready_with}
@@ -418,7 +418,8 @@ stopped_listed w i n h = record {
       (set_apart w.nodes i j u (empty_node n) at);
 }
 
-wanted_listed : (w : World) (n : Node) (p : Picture) (q : Wish) (x : Result Resolved Refusal) → IsListed w → IsListed (after_want w n p q x)
+wanted_listed : (w : World) (n : Node) (p : Picture) (q : RequestInfo) (x : Result Resolved Refusal) → IsListed w →
+    IsListed (after_want w n p q x)
 wanted_listed w n p q (Err e) h = listed_same w (after_want w n p q (Err e)) refl refl h
 wanted_listed w n p q (Ok r) h = listed_same w (after_want w n p q (Ok r)) refl refl h
 

@@ -11,7 +11,7 @@ use Rattle.iiif_scene.proofs.Lists.{get_left, get_map}
 use Rattle.iiif_machine.specs.Types.{Key, ReadFault, Picture, Resolved, Refusal}
 use Rattle.iiif_machine.specs.Tables.{Class, Wide, Local, Table, Outcome, Entered, finds, joins, leads, enter, again}
 use Rattle.iiif_machine.specs.Rows.{Node, Purpose, ForRequest, ForPart, ForFallback, ForAsk, Caller, CallState, Fresh, Hit, In, Gone, Lead}
-use Rattle.iiif_machine.specs.Rows.{Stage, New, Looked, Asking, Fallback, Parts, Ready, Ended, Flight, Ask, Reply, Wish}
+use Rattle.iiif_machine.specs.Rows.{Stage, New, Looked, Asking, Fallback, Parts, Ready, Ended, Flight, Ask, Reply, RequestInfo}
 use Rattle.iiif_machine.specs.Worlds.{World, version_shown, version_at, speaker, owner_of, table_at, put_table, with_node, with_stage}
 use Rattle.iiif_machine.specs.Worlds.{with_state, with_calls, with_flight, with_ask, with_reply, call_for, learned, all_learned, collected}
 use Rattle.iiif_machine.specs.Worlds.{outcome_from, resumed, settled}
@@ -130,7 +130,7 @@ made_there w i n p ks is = each_map (λ (k : Key). IsThere (cards w) i) (λ who.
 
 -- Want
 
-wanted_stays : (w : World) (n : Node) (p : Picture) (q : Wish) (x : Result Resolved Refusal) → slice_get w.nodes q.node ≡ Some n →
+wanted_stays : (w : World) (n : Node) (p : Picture) (q : RequestInfo) (x : Result Resolved Refusal) → slice_get w.nodes q.node ≡ Some n →
     IsPlaced w → Stays w (after_want w n p q x)
 wanted_stays w n p q (Err e) at h = flights_stay w (after_want w n p q (Err e)) refl refl h.callers refl h
 wanted_stays w n p q (Ok r) at h =

@@ -13,7 +13,7 @@ use Rattle.iiif_machine.proofs.Words.{SubjectLaws}
 use Rattle.iiif_machine.specs.Tables.{Class, Wide, Local, Table, Outcome, Main, Peer, Entered, finds, joins, leads, enter, again, land}
 use Rattle.iiif_machine.proofs.Words.{TableLaws}
 use Rattle.iiif_machine.specs.Rows.{Node, Given, Purpose, ForRequest, ForPart, ForFallback, ForAsk, Caller, CallState, Fresh, Hit, In}
-use Rattle.iiif_machine.specs.Rows.{Gone, Lead, Stage, New, Looked, Asking, Fallback, Parts, Ready, Ended, Ask, Reply, Wish, Refused}
+use Rattle.iiif_machine.specs.Rows.{Gone, Lead, Stage, New, Looked, Asking, Fallback, Parts, Ready, Ended, Ask, Reply, RequestInfo, Refused}
 use Rattle.iiif_machine.specs.Rows.{Progress, Waiting, Answered}
 use Rattle.iiif_machine.specs.Worlds.{World, version_at, table_at, put_table, with_node, with_stage, with_state, with_calls, with_flight}
 use Rattle.iiif_machine.specs.Worlds.{with_ask, with_reply, with_given, with_request, call_for, numbers, learned, all_learned, collected}
@@ -37,19 +37,20 @@ Kept_by w x = After (Next w) x
 
 -- Want
 
-next_request : (w u : World) (q : Wish) (p : Progress) → u.scene ≡ w.scene → u.given ≡ w.given → u.requests ≡ w.requests →
+next_request : (w u : World) (q : RequestInfo) (p : Progress) → u.scene ≡ w.scene → u.given ≡ w.given → u.requests ≡ w.requests →
     IsHonestWorld (with_request u q p) → Next w (with_request u q p)
 next_request w u q p a b c h = record {
   follows = record {
     scene = a;
     given = kept_same w.given u.given b;
-    answers = λ i wish x at. get_left u.requests (record { wish = q; progress = p } ∷ []) i _
-        (subst (λ rs. slice_get rs i ≡ Some (record { wish = wish; progress = Answered x })) (sym c) at);
+    answers = λ i info x at. get_left u.requests (record { info = q; progress = p } ∷ []) i _
+        (subst (λ rs. slice_get rs i ≡ Some (record { info = info; progress = Answered x })) (sym c) at);
   };
   honest = h;
 }
 
-pub wanted_kept : (w : World) (n : Node) (p : Picture) (q : Wish) (x : Result Resolved Refusal) → SubjectLaws w.scene → IsHonestWorld w →
+pub wanted_kept : (w : World) (n : Node) (p : Picture) (q : RequestInfo) (x : Result Resolved Refusal) → SubjectLaws w.scene →
+    IsHonestWorld w →
     w.scene.shows q.name ≡ Some p →
     resolved w.scene p q.request ≡ x → Next w (after_want w n p q x)
 wanted_kept w n p q (Err e) laws h shown is = next_request w w q (Answered (Refused e)) refl refl refl

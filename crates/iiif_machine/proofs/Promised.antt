@@ -10,7 +10,7 @@ use Rattle.iiif_scene.specs.Plans.{kind_of, resolved}
 use Rattle.iiif_scene.specs.Images.{image}
 use Rattle.iiif_machine.specs.Types.{Key, Request, Refusal, Resolved, Picture}
 use Rattle.iiif_machine.specs.Tables.{Class, Table, Holds, IsOpen, Lists}
-use Rattle.iiif_machine.specs.Rows.{Node, Wish, Refused, Answered}
+use Rattle.iiif_machine.specs.Rows.{Node, RequestInfo, Refused, Answered}
 use Rattle.iiif_machine.specs.Worlds.{World, ◌>>=◌, table_at}
 use Rattle.iiif_machine.specs.Steps.{Event, Want, after_want, step, run}
 use Rattle.iiif_machine.specs.Sound.{IsApart, IsListed, AwaitsItsOwn, NodeIsHonest, TableIsHonest, caller_of}
@@ -59,7 +59,7 @@ follows_itself w = record {
   scene = refl;
   cards = refl;
   rows =
-      record { wishes = λ i x at. at; callers = λ i x at. at; leads = λ i x at. at; asks = λ i x at. at; replies = λ i x at. at };
+      record { infos = λ i x at. at; callers = λ i x at. at; leads = λ i x at. at; asks = λ i x at. at; replies = λ i x at. at };
   given =
       λ i g at. at;
   answers = λ i q a at. at;
@@ -71,7 +71,7 @@ follows_further w v u first second = record {
   scene = second.scene ∙ first.scene;
   cards = second.cards ∙ first.cards;
   rows = record {
-    wishes = λ i x at. second.rows.wishes i x (first.rows.wishes i x at);
+    infos = λ i x at. second.rows.infos i x (first.rows.infos i x at);
     callers = λ i x at. second.rows.callers i x (first.rows.callers i x at);
     leads = λ i x at. second.rows.leads i x (first.rows.leads i x at);
     asks = λ i x at. second.rows.asks i x (first.rows.asks i x at);
@@ -179,15 +179,15 @@ no_image x p e a b = cc
 same_refusal : (x : Result Picture Refusal) (a b : Refusal) → x ≡ Err a → x ≡ Err b → a ≡ b
 same_refusal x a b e f = cc
 
-refused_by : (w : World) (n : Node) (p : Picture) (q : Wish) (x : Result Resolved Refusal) (e : Refusal) → SubjectLaws w.scene →
+refused_by : (w : World) (n : Node) (p : Picture) (q : RequestInfo) (x : Result Resolved Refusal) (e : Refusal) → SubjectLaws w.scene →
     w.scene.shows q.name ≡ Some p →
     resolved w.scene p q.request ≡ x → image w.scene p q.request ≡ Err e →
-    slice_get (after_want w n p q x).requests (length w.requests) ≡ Some (record { wish = q; progress = Answered (Refused e) })
+    slice_get (after_want w n p q x).requests (length w.requests) ≡ Some (record { info = q; progress = Answered (Refused e) })
 refused_by w n p q (Err d) e laws shown is h =
     let same = same_refusal (image w.scene p q.request) d e (laws.refused q.name p q.request d shown is) h in
-    subst (λ x. slice_get (w.requests ++ record { wish = q; progress = Answered (Refused d) } ∷ []) (length w.requests) ≡ Some
-    (record { wish = q; progress = Answered (Refused x) })) same
-    (get_end w.requests (record { wish = q; progress = Answered (Refused d) }) [])
+    subst (λ x. slice_get (w.requests ++ record { info = q; progress = Answered (Refused d) } ∷ []) (length w.requests) ≡ Some
+    (record { info = q; progress = Answered (Refused x) })) same
+    (get_end w.requests (record { info = q; progress = Answered (Refused d) }) [])
 refused_by w n p q (Ok r) e laws shown is h = absurd
     (no_image (image w.scene p q.request) _ e (laws.assembled_is q.name p q.request r shown is) h)
 
@@ -199,8 +199,8 @@ refused_at_once w v x proper is i name q p e same_event shown h =
     let o = bind_inv (w.scene.shows name) _ v n.2 in
     let m = bind_inv (speaker n.0 (version_shown o.0)) _ v o.2 in
     let same : o.0 ≡ p = same_Some o.0 p (sym o.1 ∙ shown) in
-    let wish : Wish = record { node = i; name = name; request = q } in
-    let there : after_want w n.0 p wish (resolved w.scene p q) ≡ v = ap (λ x. after_want w n.0 x wish (resolved w.scene x q)) (sym same) ∙
+    let info : RequestInfo = record { node = i; name = name; request = q } in
+    let there : after_want w n.0 p info (resolved w.scene p q) ≡ v = ap (λ x. after_want w n.0 x info (resolved w.scene x q)) (sym same) ∙
     same_Some _ v m.2 in
-    subst (λ (x : World). slice_get x.requests (length w.requests) ≡ Some (record { wish = wish; progress = Answered (Refused e) })) there
-    (refused_by w n.0 p wish (resolved w.scene p q) e (subject_laws w.scene proper) shown refl h)
+    subst (λ (x : World). slice_get x.requests (length w.requests) ≡ Some (record { info = info; progress = Answered (Refused e) })) there
+    (refused_by w n.0 p info (resolved w.scene p q) e (subject_laws w.scene proper) shown refl h)

@@ -8,8 +8,9 @@ use Rattle.iiif_scene.proofs.Lists.{each_of_all, get_map}
 use Rattle.iiif_machine.specs.Types.{Resolved, Picture}
 use Rattle.iiif_machine.proofs.Words.{SubjectLaws}
 use Rattle.iiif_machine.specs.Tables.{Wide, Outcome}
-use Rattle.iiif_machine.specs.Rows.{Lead, Stage, New, Looked, Asking, Fallback, Parts, Ready, Ended, Wish, Progress, Waiting, Answered}
-use Rattle.iiif_machine.specs.Rows.{Dropped, Wanted}
+use Rattle.iiif_machine.specs.Rows.{Lead, Stage, New, Looked, Asking, Fallback, Parts, Ready, Ended, RequestInfo, Progress, Waiting}
+use Rattle.iiif_machine.specs.Rows.{Answered}
+use Rattle.iiif_machine.specs.Rows.{Dropped, RequestRow}
 use Rattle.iiif_machine.specs.Worlds.{World, learned, all_learned, collected, ready_with, resumed_stage, resumed, answered_with}
 use Rattle.iiif_machine.specs.Worlds.{progressed, answered, settled}
 use Rattle.iiif_machine.specs.Sound.{facts, lead_in, IsHonest, AreOf, StageIsHonest, FlightIsHonest, ProgressIsHonest, IsHonestWorld}
@@ -39,7 +40,7 @@ resumed_honest w l (Parts cs) h is = is
 resumed_honest w l (Ready o p) h is = is
 resumed_honest w l (Ended o) h is = is
 
-answered_honest : (w : World) (q : Wish) (r : Resolved) (cs : List ℕ) (x : Option Picture) (y : Option (List Outcome)) →
+answered_honest : (w : World) (q : RequestInfo) (r : Resolved) (cs : List ℕ) (x : Option Picture) (y : Option (List Outcome)) →
     SubjectLaws w.scene → IsHonestWorld w →
     w.scene.shows q.name ≡ x → all_learned w cs ≡ y → ProgressIsHonest w.scene (facts w) q (Waiting r cs) →
     ProgressIsHonest w.scene (facts w) q (answered_with w q r cs x y)
@@ -56,7 +57,8 @@ answered_honest w q r cs (Some p) None laws h shown e is = is
 answered_honest w q r cs None (Some os) laws h shown e is = is
 answered_honest w q r cs None None laws h shown e is = is
 
-progressed_honest : (w : World) (q : Wish) (x : Progress) → SubjectLaws w.scene → IsHonestWorld w → ProgressIsHonest w.scene (facts w) q x →
+progressed_honest : (w : World) (q : RequestInfo) (x : Progress) → SubjectLaws w.scene → IsHonestWorld w →
+    ProgressIsHonest w.scene (facts w) q x →
     ProgressIsHonest w.scene (facts w) q (progressed w q x)
 progressed_honest w q (Waiting r cs) laws h is = answered_honest w q r cs (w.scene.shows q.name) (all_learned w cs) laws h refl refl is
 progressed_honest w q (Answered a) laws h is = is
@@ -81,9 +83,9 @@ settled_honest w laws h =
       asks = asks_later s (facts w) (facts v) w.asks later h.asks;
       replies = h.replies;
       requests = requests_later s (facts w) (facts v) v.requests later
-          (each_map (λ (q : Wanted). ProgressIsHonest s (facts w) q.wish q.progress)
-          (λ (q : Wanted). ProgressIsHonest s (facts w) q.wish q.progress) (answered w) w.requests
-          (λ q is. progressed_honest w q.wish q.progress laws h is) h.requests);
+          (each_map (λ (q : RequestRow). ProgressIsHonest s (facts w) q.info q.progress)
+          (λ (q : RequestRow). ProgressIsHonest s (facts w) q.info q.progress) (answered w) w.requests
+          (λ q is. progressed_honest w q.info q.progress laws h is) h.requests);
     }
 
 pub follows_by : (w : World) {v : World} → v.scene ≡ w.scene → v.given ≡ w.given → v.requests ≡ w.requests → Goes w v
@@ -91,7 +93,7 @@ follows_by w {v} a b c = record {
   scene = a;
   given = kept_same w.given v.given b;
   answers = λ i q x h.
-      subst (λ rs. slice_get rs i ≡ Some (record { wish = q; progress = Answered x })) (sym c) h;
+      subst (λ rs. slice_get rs i ≡ Some (record { info = q; progress = Answered x })) (sym c) h;
 }
 
 pub next_by : (w : World) {v : World} → v.scene ≡ w.scene → v.given ≡ w.given → v.requests ≡ w.requests → IsHonestWorld v → Next w v
@@ -103,8 +105,8 @@ next_settled w u a b c h = record {
   follows = record {
     scene = a;
     given = kept_same w.given u.given b;
-    answers = λ i q x at. get_map (answered u) u.requests i (record { wish = q; progress = Answered x })
-        (subst (λ rs. slice_get rs i ≡ Some (record { wish = q; progress = Answered x })) (sym c) at);
+    answers = λ i q x at. get_map (answered u) u.requests i (record { info = q; progress = Answered x })
+        (subst (λ rs. slice_get rs i ≡ Some (record { info = q; progress = Answered x })) (sym c) at);
   };
   honest = h;
 }

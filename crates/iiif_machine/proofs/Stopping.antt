@@ -4,8 +4,8 @@ use Rattle.std.specs.Prelude.{◌==◌}
 use Rattle.iiif_scene.specs.Scenes.{Scene}
 use Rattle.iiif_scene.proofs.Lists.{get_map}
 use Rattle.iiif_machine.proofs.Words.{TableLaws}
-use Rattle.iiif_machine.specs.Rows.{Node, Gone, Call, Lead, Stage, New, Looked, Asking, Fallback, Parts, Ready, Ended, Flight, Wish}
-use Rattle.iiif_machine.specs.Rows.{Answer, Progress, Waiting, Answered, Dropped, Wanted}
+use Rattle.iiif_machine.specs.Rows.{Node, Gone, Call, Lead, Stage, New, Looked, Asking, Fallback, Parts, Ready, Ended, Flight, RequestInfo}
+use Rattle.iiif_machine.specs.Rows.{Answer, Progress, Waiting, Answered, Dropped, RequestRow}
 use Rattle.iiif_machine.specs.Worlds.{World}
 use Rattle.iiif_machine.specs.Steps.{stage_stopped, flight_stopped, call_stopped, progress_stopped, request_stopped, after_stop}
 use Rattle.iiif_machine.specs.Sound.{Facts, facts, caller_of, lead_in, StageIsHonest, FlightIsHonest, CallIsHonest, ProgressIsHonest}
@@ -43,17 +43,18 @@ pub caller_by : (c : Call) (b : Bool) → caller_of (if b then record { caller =
 caller_by c true = refl
 caller_by c false = refl
 
-dropped_is : (s : Scene) (a : Facts) (q : Wish) (x : Progress) → ProgressIsHonest s a q x → ProgressIsHonest s a q (progress_stopped x)
+dropped_is : (s : Scene) (a : Facts) (q : RequestInfo) (x : Progress) → ProgressIsHonest s a q x →
+    ProgressIsHonest s a q (progress_stopped x)
 dropped_is s a q (Waiting r cs) h = tt
 dropped_is s a q (Answered x) h = h
 dropped_is s a q Dropped h = h
 
-abbrev RequestIs : Scene → Facts → Wanted → Type 0
-RequestIs s a q = ProgressIsHonest s a q.wish q.progress
+abbrev RequestIs : Scene → Facts → RequestRow → Type 0
+RequestIs s a q = ProgressIsHonest s a q.info q.progress
 
-dropped_by : (s : Scene) (a : Facts) (q : Wanted) (b : Bool) → RequestIs s a q →
-    RequestIs s a (if b then record { wish = q.wish; progress = progress_stopped q.progress } else q)
-dropped_by s a q true h = dropped_is s a q.wish q.progress h
+dropped_by : (s : Scene) (a : Facts) (q : RequestRow) (b : Bool) → RequestIs s a q →
+    RequestIs s a (if b then record { info = q.info; progress = progress_stopped q.progress } else q)
+dropped_by s a q true h = dropped_is s a q.info q.progress h
 dropped_by s a q false h = h
 
 pub stopped_honest : TableLaws → (w : World) (i : ℕ) (n : Node) → IsHonestWorld w → IsHonestWorld (after_stop w i n)
@@ -78,14 +79,14 @@ stopped_honest laws w i n h =
       asks = asks_later s a b w.asks later h.asks;
       replies = h.replies;
       requests = requests_later s a b v.requests later
-          (each_map (RequestIs s a) (RequestIs s a) (request_stopped i) w.requests (λ q is. dropped_by s a q (q.wish.node == i) is)
+          (each_map (RequestIs s a) (RequestIs s a) (request_stopped i) w.requests (λ q is. dropped_by s a q (q.info.node == i) is)
           h.requests);
     }
 
-abbrev row_of : Wish → Answer → Wanted
-row_of q x = record { wish = q; progress = Answered x }
+abbrev row_of : RequestInfo → Answer → RequestRow
+row_of q x = record { info = q; progress = Answered x }
 
-kept_by : (q : Wish) (x : Answer) (b : Bool) → (if b then row_of q x else row_of q x) ≡ row_of q x
+kept_by : (q : RequestInfo) (x : Answer) (b : Bool) → (if b then row_of q x else row_of q x) ≡ row_of q x
 kept_by q x true = refl
 kept_by q x false = refl
 
@@ -94,6 +95,6 @@ stopped_follows w i n = record {
   scene = refl;
   given = λ j x h. h;
   answers = λ j q x h.
-      let row : Wanted = record { wish = q; progress = Answered x } in
+      let row : RequestRow = record { info = q; progress = Answered x } in
       get_map (request_stopped i) w.requests j row h ∙ ap Some (kept_by q x (q.node == i));
 }

@@ -25,7 +25,9 @@ use Rattle.iiif_machine.specs.Worked.{LateRepeatChangesNothing, BothStayAnswered
 use Rattle.iiif_machine.specs.Worked.{StoppedNode, ReplyToAStoppedFlightChangesNothing, StoppedCallsAreGone, FoundAgainIsAnswered}
 use Rattle.iiif_machine.specs.Worked.{FoundAgainIsCounted, HalvedIs, DeepHalvedIs, EnlargedIs, CutOutIs, FirstFaultIsAnswered}
 use Rattle.iiif_machine.specs.Worked.{DeepAskIsNotServed, DeepAskIsAnswered, AskIsServed, DeepIsNotWanted, SevenIsWanted, NineAreNotKept}
-use Rattle.iiif_machine.specs.Worked.{TenthIsKept, EvictedFromBoth}
+use Rattle.iiif_machine.specs.Worked.{TenthIsKept, EvictedFromBoth, AnswersStayAtAStop, TwoShareAThirdFault, OwnersAreAsked}
+use Rattle.iiif_machine.specs.Worked.{ThreeAreAnswered}
+use Rattle.iiif_machine.specs.Worked.{PeerValueIsCounted, EvictionLeavesOthers}
 
 abbrev everything : ℕ
 unfolding step run emptied evicted name_of rank_of key_eq is_tile meaning parts_of derived resolved items assembled owner_of version_at
@@ -162,6 +164,30 @@ nine_are_not_kept = refl
 pub tenth_is_kept : TenthIsKept
 unfolding everything
 tenth_is_kept = refl
+
+pub answers_stay_at_a_stop : AnswersStayAtAStop
+unfolding everything
+answers_stay_at_a_stop = refl
+
+pub two_share_a_third_fault : TwoShareAThirdFault
+unfolding everything
+two_share_a_third_fault = refl
+
+pub owners_are_asked : OwnersAreAsked
+unfolding everything
+owners_are_asked = refl
+
+pub three_are_answered : ThreeAreAnswered
+unfolding everything
+three_are_answered = refl
+
+pub peer_value_is_counted : PeerValueIsCounted
+unfolding everything
+peer_value_is_counted = refl
+
+pub eviction_leaves_others : EvictionLeavesOthers
+unfolding everything
+eviction_leaves_others = refl
 
 pub evicted_from_both : EvictedFromBoth
 unfolding everything

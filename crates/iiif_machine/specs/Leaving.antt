@@ -2,7 +2,7 @@
 use Rattle.std.specs.Prelude.{◌≡◌, ◌↔◌, ℕ, true, Some, None, slice_get}
 use Rattle.iiif_tables.specs.Flights as tables
 use Rattle.iiif_machine.specs.Tables.{Table, Outcome}
-use Rattle.iiif_machine.specs.Rows.{Node, Caller, Call, In, Ended, Flight, Wanted}
+use Rattle.iiif_machine.specs.Rows.{Node, Caller, Call, In, Ended, Flight, RequestRow}
 use Rattle.iiif_machine.specs.Worlds.{World, learned}
 use Rattle.iiif_machine.specs.Steps.{Evict, Stop, is_open, step}
 use Rattle.iiif_machine.specs.Promises.{IsAt}
@@ -21,7 +21,7 @@ pub record NodeEnds (i : ℕ) (w v : World) : Type 0 where
 -- What isn't this node's stays as it is: other nodes, and their requests, calls and flights; and asks, replies and faults that were given.
 pub record OthersStay (i : ℕ) (w v : World) : Type 0 where
   pub nodes : (j : ℕ) (n : Node) → ¬ (j ≡ i) → slice_get w.nodes j ≡ Some n → slice_get v.nodes j ≡ Some n
-  pub requests : (r : ℕ) (q : Wanted) → ¬ (q.wish.node ≡ i) → slice_get w.requests r ≡ Some q → slice_get v.requests r ≡ Some q
+  pub requests : (r : ℕ) (q : RequestRow) → ¬ (q.info.node ≡ i) → slice_get w.requests r ≡ Some q → slice_get v.requests r ≡ Some q
   pub calls : (c : ℕ) (x : Call) → ¬ (x.caller.node ≡ i) → slice_get w.calls c ≡ Some x → slice_get v.calls c ≡ Some x
   pub flights : (f : ℕ) (x : Flight) → ¬ (x.lead.node ≡ i) → slice_get w.flights f ≡ Some x → slice_get v.flights f ≡ Some x
   pub asks : v.asks ≡ w.asks

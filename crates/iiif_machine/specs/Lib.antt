@@ -9,5 +9,6 @@ pub mod Sound
 pub mod Promises
 pub mod Origins
 pub mod Leaving
+pub mod Frames
 pub mod Headline
 pub mod Worked

@@ -16,8 +16,8 @@ use Rattle.iiif_machine.specs.Types.{Key, Value, Picture, Request, Refusal, Reso
 use Rattle.iiif_machine.specs.Owners.{owner}
 use Rattle.iiif_machine.specs.Tables.{Class, Wide, Local, Place, Outcome, Holds}
 use Rattle.iiif_machine.specs.Rows.{Node, Purpose, ForRequest, ForPart, ForFallback, ForAsk, Caller, Call, Fresh, In, Lead, Stage, New}
-use Rattle.iiif_machine.specs.Rows.{Looked, Asking, Fallback, Parts, Ready, Ended, Ask, Reply, Wish, Answer, Refused, Image, Failed}
-use Rattle.iiif_machine.specs.Rows.{Answered, Waiting, Gone, Wanted}
+use Rattle.iiif_machine.specs.Rows.{Looked, Asking, Fallback, Parts, Ready, Ended, Ask, Reply, RequestInfo, Answer, Refused, Image, Failed}
+use Rattle.iiif_machine.specs.Rows.{Answered, Waiting, Gone, RequestRow}
 use Rattle.iiif_machine.specs.Worlds.{World, new_world, version_shown, learned, all_learned, collected}
 use Rattle.iiif_machine.specs.Steps.{Event, Want, Enter, Again, AskPeer, Serve, Take, Lose, GoLocal, Load, SourceFault, Land, Evict, Stop}
 use Rattle.iiif_machine.specs.Steps.{is_open, step, run}
@@ -35,20 +35,20 @@ After P (Some w) = P w
 
 -- an answer that was given is the same
 abbrev pub AnswersStay : World → World → Type 0
-AnswersStay w v = (i : ℕ) (q : Wish) (a : Answer) → slice_get w.requests i ≡ Some (record { wish = q; progress = Answered a }) →
-    slice_get v.requests i ≡ Some (record { wish = q; progress = Answered a })
+AnswersStay w v = (i : ℕ) (q : RequestInfo) (a : Answer) → slice_get w.requests i ≡ Some (record { info = q; progress = Answered a }) →
+    slice_get v.requests i ≡ Some (record { info = q; progress = Answered a })
 
 -- a flight that has ended has the same outcome, or none
 abbrev pub EndedStay : World → World → Type 0
 EndedStay w v = (f : ℕ) (l : Lead) (o : Option Outcome) → slice_get w.flights f ≡ Some (record { lead = l; stage = Ended o }) →
     slice_get v.flights f ≡ Some (record { lead = l; stage = Ended o })
 
-abbrev pub wish_of : Wanted → Wish
-wish_of q = q.wish
+abbrev pub info_of : RequestRow → RequestInfo
+info_of q = q.info
 
 -- No request, call, flight, ask or reply is taken away, and what of it never changes stays.
 pub record RowsStay (w v : World) : Type 0 where
-  pub wishes : Kept (map wish_of w.requests) (map wish_of v.requests)
+  pub infos : Kept (map info_of w.requests) (map info_of v.requests)
   pub callers : Kept (facts w).callers (facts v).callers
   pub leads : Kept (facts w).leads (facts v).leads
   pub asks : Kept w.asks v.asks
@@ -80,7 +80,7 @@ EachRun = (s : Scene) (nodes : List Node) (es : List Event) → IsProper s → E
 
 -- Then an answered request has its image, its refusal, or a fault that was given at its node by the source of its name.
 abbrev pub AnswersRight : World → Type 0
-AnswersRight w = (i : ℕ) (q : Wish) (a : Answer) → slice_get w.requests i ≡ Some (record { wish = q; progress = Answered a }) →
+AnswersRight w = (i : ℕ) (q : RequestInfo) (a : Answer) → slice_get w.requests i ≡ Some (record { info = q; progress = Answered a }) →
     AnswerIsRight w.scene w.given q a
 
 abbrev pub AnswersAreRight : Type 0
@@ -91,7 +91,7 @@ abbrev pub RefusedNow : World → Event → World → Type 0
 RefusedNow w e v = (i : ℕ) (name : List ℕ) (q : Request) (p : Picture) (r : Refusal) → e ≡ Want i name q → w.scene.shows name ≡ Some p →
     image w.scene p q ≡ Err r →
     slice_get v.requests (length w.requests) ≡ Some
-    (record { wish = record { node = i; name = name; request = q }; progress = Answered (Refused r) })
+    (record { info = record { node = i; name = name; request = q }; progress = Answered (Refused r) })
 
 abbrev pub RefusedAtOnce : Type 0
 RefusedAtOnce = (w v : World) (e : Event) → IsProper w.scene → step w e ≡ Some v → RefusedNow w e v
@@ -128,7 +128,8 @@ OnlySourcesGive = (w : World) (es : List Event) → reads_fail es ≡ false → 
 
 -- where no source gave a fault, no answer is one
 abbrev pub NoneFailed : World → Type 0
-NoneFailed w = (i : ℕ) (q : Wish) (f : ReadFault) → ¬ (slice_get w.requests i ≡ Some (record { wish = q; progress = Answered (Failed f) }))
+NoneFailed w = (i : ℕ) (q : RequestInfo) (f : ReadFault) →
+    ¬ (slice_get w.requests i ≡ Some (record { info = q; progress = Answered (Failed f) }))
 
 abbrev pub NoFaultNoFailure : Type 0
 NoFaultNoFailure = (w : World) → IsSound w → w.given ≡ [] → NoneFailed w
@@ -175,9 +176,9 @@ AllowedExactly = (w : World) (e : Event) → IsSound w → IsAllowed w e ↔ ((v
 
 -- a request and its canonical form, where both are answered with images, have one image
 abbrev pub FormsAgree : World → Type 0
-FormsAgree w = (i j : ℕ) (q r : Wish) (a b p : Picture) →
-    slice_get w.requests i ≡ Some (record { wish = q; progress = Answered (Image a) }) →
-    slice_get w.requests j ≡ Some (record { wish = r; progress = Answered (Image b) }) → r.name ≡ q.name → w.scene.shows q.name ≡ Some p →
+FormsAgree w = (i j : ℕ) (q r : RequestInfo) (a b p : Picture) →
+    slice_get w.requests i ≡ Some (record { info = q; progress = Answered (Image a) }) →
+    slice_get w.requests j ≡ Some (record { info = r; progress = Answered (Image b) }) → r.name ≡ q.name → w.scene.shows q.name ≡ Some p →
     canonical q.request (dim_of p) (kind_of p) w.scene.limits ≡ Ok r.request → a ≡ b
 
 abbrev pub CanonicalFormsAgree : Type 0
@@ -271,7 +272,7 @@ NoFaultIsTaken = (w v : World) (f r g : ℕ) (l : Lead) (e : ReadFault) (p : Pla
 pub record HasStopped (i : ℕ) (w : World) : Type 0 where
   pub calls : Each (λ c. c.caller.node ≡ i → c.state ≡ Gone) w.calls
   pub flights : Each (λ fl. fl.lead.node ≡ i → is_open fl.stage ≡ false) w.flights
-  pub requests : Each (λ q. q.wish.node ≡ i → (r : Resolved) (cs : List ℕ) → ¬ (q.progress ≡ Waiting r cs)) w.requests
+  pub requests : Each (λ q. q.info.node ≡ i → (r : Resolved) (cs : List ℕ) → ¬ (q.progress ≡ Waiting r cs)) w.requests
   pub tables : (n : Node) (k : Key) (v : Value) → slice_get w.nodes i ≡ Some n → ¬ (Holds n.tiles k v) × ¬ (Holds n.sums k v)
 
 abbrev pub StopTakesAll : Type 0

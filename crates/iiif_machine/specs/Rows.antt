@@ -14,12 +14,12 @@ pub use Rattle.iiif_machine.specs.declared.rows.Stage.TheVariants.{New, Looked, 
 pub use Rattle.iiif_machine.specs.declared.rows.Flight.{Flight}
 pub use Rattle.iiif_machine.specs.declared.rows.Ask.{Ask}
 pub use Rattle.iiif_machine.specs.declared.rows.Reply.{Reply}
-pub use Rattle.iiif_machine.specs.declared.rows.Wish.{Wish}
+pub use Rattle.iiif_machine.specs.declared.rows.RequestInfo.{RequestInfo}
 pub use Rattle.iiif_machine.specs.declared.rows.Answer.{Answer}
 pub use Rattle.iiif_machine.specs.declared.rows.Answer.TheVariants.{Refused, Image, Failed}
 pub use Rattle.iiif_machine.specs.declared.rows.Progress.{Progress}
 pub use Rattle.iiif_machine.specs.declared.rows.Progress.TheVariants.{Waiting, Answered, Dropped}
-pub use Rattle.iiif_machine.specs.declared.rows.Wanted.{Wanted}
+pub use Rattle.iiif_machine.specs.declared.rows.RequestRow.{RequestRow}
 
 -- a node: its name, the names on its ring, the last version of messages that it speaks, and a table for tiles and one for sums
 pub record Node : Type 0 where

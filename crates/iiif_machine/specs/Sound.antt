@@ -7,8 +7,9 @@ use Rattle.iiif_scene.specs.Images.{image}
 use Rattle.iiif_machine.specs.Types.{Key, Value, Picture}
 use Rattle.iiif_machine.specs.Tables.{Class, Wide, Local, Table, Outcome, Holds, IsOpen}
 use Rattle.iiif_machine.specs.Rows.{Node, Given, Purpose, ForRequest, ForPart, ForFallback, ForAsk, Caller, CallState, Fresh, Hit, In}
-use Rattle.iiif_machine.specs.Rows.{Gone, Call, Lead, Stage, New, Looked, Asking, Fallback, Parts, Ready, Ended, Flight, Ask, Reply, Wish}
-use Rattle.iiif_machine.specs.Rows.{Answer, Refused, Image, Failed, Progress, Waiting, Answered, Dropped, Wanted}
+use Rattle.iiif_machine.specs.Rows.{Gone, Call, Lead, Stage, New, Looked, Asking, Fallback, Parts, Ready, Ended, Flight, Ask, Reply}
+use Rattle.iiif_machine.specs.Rows.{RequestInfo}
+use Rattle.iiif_machine.specs.Rows.{Answer, Refused, Image, Failed, Progress, Waiting, Answered, Dropped, RequestRow}
 use Rattle.iiif_machine.specs.Worlds.{World, table_at, version_at}
 use Rattle.iiif_machine.specs.Steps.{is_open}
 
@@ -109,13 +110,13 @@ pub record NodeIsHonest (s : Scene) (n : Node) : Type 0 where
   pub sums : TableIsHonest s n.sums
 
 -- an answer is the image, or the refusal, or a fault that was given at this node by the source of this name
-abbrev pub AnswerIsRight : Scene → List Given → Wish → Answer → Type 0
+abbrev pub AnswerIsRight : Scene → List Given → RequestInfo → Answer → Type 0
 AnswerIsRight s given q (Refused e) = (p : Picture) × (s.shows q.name ≡ Some p) × (image s p q.request ≡ Err e)
 AnswerIsRight s given q (Image i) = (p : Picture) × (s.shows q.name ≡ Some p) × (image s p q.request ≡ Ok i)
 AnswerIsRight s given q (Failed f) = (i : ℕ) × (slice_get given i ≡ Some (record { node = q.node; name = q.name; fault = f }))
 
 -- a request that waits has the calls of its plan's items; one that is answered is answered right
-abbrev pub ProgressIsHonest : Scene → Facts → Wish → Progress → Type 0
+abbrev pub ProgressIsHonest : Scene → Facts → RequestInfo → Progress → Type 0
 ProgressIsHonest s a q (Waiting r cs) =
     (p : Picture) × (s.shows q.name ≡ Some p) × (resolved s p q.request ≡ Ok r) × AreOf a.callers q.node cs (items s q.name p r)
 ProgressIsHonest s a q (Answered x) = AnswerIsRight s a.given q x
@@ -128,7 +129,7 @@ pub record IsHonestWorld (w : World) : Type 0 where
   pub calls : Each (CallIsHonest w.scene (facts w)) w.calls
   pub asks : Each (AskIsHonest w.scene (facts w)) w.asks
   pub replies : Each (ReplyIsHonest w.scene) w.replies
-  pub requests : Each (λ q. ProgressIsHonest w.scene (facts w) q.wish q.progress) w.requests
+  pub requests : Each (λ q. ProgressIsHonest w.scene (facts w) q.info q.progress) w.requests
 
 -- the flight's node has it open in its table
 abbrev pub IsRegistered : List Node → Lead → Type 0
@@ -209,7 +210,7 @@ ProgressIsOwn callers r Dropped = Unit {0}
 -- each flight and each request waits for its own calls
 pub record AwaitsItsOwn (w : World) : Type 0 where
   pub flights : (f : ℕ) (x : Flight) → slice_get w.flights f ≡ Some x → StageIsOwn (facts w).callers f x.stage
-  pub requests : (r : ℕ) (x : Wanted) → slice_get w.requests r ≡ Some x → ProgressIsOwn (facts w).callers r x.progress
+  pub requests : (r : ℕ) (x : RequestRow) → slice_get w.requests r ≡ Some x → ProgressIsOwn (facts w).callers r x.progress
 
 -- what holds at all times
 pub record IsSound (w : World) : Type 0 where

@@ -9,8 +9,9 @@ use Rattle.iiif_machine.specs.Types.{Key, Value, Resolved, Refusal, Picture, Rea
 use Rattle.iiif_machine.specs.Tables.{Class, Wide, Local, Table, Outcome, Nowhere, Main, Peer, Entered, finds, joins, leads, enter, again}
 use Rattle.iiif_machine.specs.Tables.{land, evicted, emptied}
 use Rattle.iiif_machine.specs.Rows.{Node, Purpose, ForRequest, ForPart, ForFallback, ForAsk, Caller, CallState, Fresh, Hit, In, Gone, Call}
-use Rattle.iiif_machine.specs.Rows.{Lead, Stage, New, Looked, Asking, Fallback, Parts, Ready, Ended, Flight, Ask, Reply, Wish, Refused}
-use Rattle.iiif_machine.specs.Rows.{Progress, Waiting, Answered, Dropped, Wanted}
+use Rattle.iiif_machine.specs.Rows.{Lead, Stage, New, Looked, Asking, Fallback, Parts, Ready, Ended, Flight, Ask, Reply, RequestInfo}
+use Rattle.iiif_machine.specs.Rows.{Refused}
+use Rattle.iiif_machine.specs.Rows.{Progress, Waiting, Answered, Dropped, RequestRow}
 use Rattle.iiif_machine.specs.Worlds.{World, ◌>>=◌, table_at, put_table, with_node, with_stage, with_state, with_calls, with_flight}
 use Rattle.iiif_machine.specs.Worlds.{with_ask, with_reply, with_given, with_request, version_shown, version_at, speaker, owner_of}
 use Rattle.iiif_machine.specs.Worlds.{call_for, numbers, learned, all_learned, collected, outcome_from, settled}
@@ -21,7 +22,7 @@ pub use Rattle.iiif_machine.specs.declared.events.Event.TheVariants.{SourceFault
 
 -- Want: a new request, at a node that speaks the version of its image. It is refused, and answered so; or it waits for a call for each item
 -- of its plan.
-abbrev pub after_want : World → Node → Picture → Wish → Result Resolved Refusal → World
+abbrev pub after_want : World → Node → Picture → RequestInfo → Result Resolved Refusal → World
 after_want w n p q (Err e) = with_request w q (Answered (Refused e))
 after_want w n p q (Ok r) =
     let keys = items w.scene q.name p r in
@@ -167,8 +168,8 @@ progress_stopped (Waiting r cs) = Dropped
 progress_stopped (Answered a) = Answered a
 progress_stopped Dropped = Dropped
 
-abbrev pub request_stopped : ℕ → Wanted → Wanted
-request_stopped i q = if q.wish.node == i then record { wish = q.wish; progress = progress_stopped q.progress } else q
+abbrev pub request_stopped : ℕ → RequestRow → RequestRow
+request_stopped i q = if q.info.node == i then record { info = q.info; progress = progress_stopped q.progress } else q
 
 abbrev pub after_stop : World → ℕ → Node → World
 after_stop w i n = record (with_node w i (record n { tiles = emptied n.tiles; sums = emptied n.sums })) {

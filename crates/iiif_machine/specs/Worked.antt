@@ -1,5 +1,5 @@
 -- Worked lists of events: what they come to.
-use Rattle.std.specs.Prelude.{◌≡◌, ◌+◌, ℕ, Ok, List, [], ◌∷◌, ◌++◌, Bool, true, false, Option, Some, None, slice_get, if◌then◌else◌}
+use Rattle.std.specs.Prelude.{◌≡◌, ◌+◌, ℕ, Ok, List, [], ◌∷◌, ◌++◌, Bool, true, false, Option, Some, None, map, slice_get, if◌then◌else◌}
 use Rattle.std.specs.Str.{bytes_eq}
 use Rattle.iiif_pixel.specs.declared.geometry.Quality.TheVariants.{Default}
 use Rattle.iiif_request.specs.declared.request.Region.{Region}
@@ -127,6 +127,10 @@ KeptIsFound = answers_after tiny alone (loaded true) ≡ Some (is_seven ∷ is_s
 abbrev pub NotKeptIsNotFound : Type 0
 NotKeptIsNotFound = answers_after tiny alone (loaded false) ≡ Some (is_seven ∷ None ∷ [])
 
+-- What was answered stays so when the node stops.
+abbrev pub AnswersStayAtAStop : Type 0
+AnswersStayAtAStop = answers_after tiny alone (loaded true ++ Stop 0 ∷ []) ≡ Some (is_seven ∷ is_seven ∷ [])
+
 -- The failing read: the fault is answered, and the call doesn't enter again.
 
 abbrev pub fault_at : ℕ → ReadFault
@@ -158,6 +162,15 @@ abbrev pub TwoShareAFault : Type 0
 TwoShareAFault = answers_after tiny alone (two_at_once ++ SourceFault 0 (fault_at 8) ∷ Land 0 true ∷ [])
     ≡ Some (Some (Failed (fault_at 8)) ∷ Some (Failed (fault_at 8)) ∷ [])
 
+-- the fault of their own flight, also where two others were given before
+abbrev pub third_fault : List Event
+third_fault = failing_read ++ Want 0 p_name all ∷ Enter 1 ∷ Again 1 ∷ SourceFault 1 (fault_at 9) ∷ Land 1 true
+    ∷ Want 0 p_name all ∷ Want 0 p_name all ∷ Enter 2 ∷ Enter 3 ∷ Again 2 ∷ SourceFault 2 (fault_at 5) ∷ Land 2 true ∷ []
+
+abbrev pub TwoShareAThirdFault : Type 0
+TwoShareAThirdFault = answers_after tiny alone third_fault
+    ≡ Some (Some (Failed (fault_at 8)) ∷ Some (Failed (fault_at 9)) ∷ Some (Failed (fault_at 5)) ∷ Some (Failed (fault_at 5)) ∷ [])
+
 -- The crossed rings: each node asks the other, serves it by a local flight of its own, and takes its reply.
 
 abbrev pub asked_and_served : List Event
@@ -184,6 +197,30 @@ LateRepeatChangesNothing = (run (new_world tiny crossed) served_again >>= (λ w.
 
 abbrev pub BothStayAnswered : Type 0
 BothStayAnswered = answers_after tiny crossed (served_again ++ Take 0 2 ∷ []) ≡ Some (is_seven ∷ is_seven ∷ [])
+
+-- Three nodes, each of which owns all keys for another one: the first asks the third, the second the first, the third the second.
+
+abbrev pub three : List Node
+three = node_on 0 2 ∷ node_on 1 0 ∷ node_on 2 1 ∷ []
+
+abbrev pub three_asked : List Event
+three_asked = Want 0 p_name all ∷ Want 1 p_name all ∷ Want 2 p_name all ∷ Enter 0 ∷ Enter 1 ∷ Enter 2 ∷ Again 0 ∷ Again 1 ∷ Again 2
+    ∷ AskPeer 2 ∷ AskPeer 0 ∷ AskPeer 1 ∷ []
+
+abbrev pub asked_nodes : Option World → List ℕ
+asked_nodes None = []
+asked_nodes (Some w) = map (λ q. q.node) w.asks
+
+abbrev pub OwnersAreAsked : Type 0
+OwnersAreAsked = asked_nodes (run (new_world tiny three) three_asked) ≡ 1 ∷ 2 ∷ 0 ∷ []
+
+abbrev pub three_served : List Event
+three_served = three_asked ++ Serve 0 ∷ Serve 1 ∷ Serve 2 ∷ Enter 3 ∷ Enter 4 ∷ Enter 5 ∷ Again 3 ∷ Again 4 ∷ Again 5 ∷ Load 3 ∷ Load 4
+    ∷ Load 5 ∷ Land 3 true ∷ Land 4 true ∷ Land 5 true ∷ event.Reply 3 ∷ event.Reply 4 ∷ event.Reply 5 ∷ Take 2 0 ∷ Take 0 1 ∷ Take 1 2
+    ∷ Land 0 true ∷ Land 1 true ∷ Land 2 true ∷ []
+
+abbrev pub ThreeAreAnswered : Type 0
+ThreeAreAnswered = answers_after tiny three three_served ≡ Some (is_seven ∷ is_seven ∷ is_seven ∷ [])
 
 -- A lost ask: the flight goes on by a local call of its own.
 
@@ -275,6 +312,11 @@ FoundAgainIsAnswered = answers_after tiny crossed found_again ≡ Some (is_seven
 abbrev pub FoundAgainIsCounted : Type 0
 FoundAgainIsCounted = book_of (run (new_world tiny crossed) found_again)
     ≡ Some (record { gets = 2; hits = 0; joins = 0; leads = 2; again_hits = 1; loads = 1; peer = 0; landed = 2; faults = 0 })
+
+-- A value of a peer is counted as one: of the two loads at each node of the crossed rings, one was the node's own.
+abbrev pub PeerValueIsCounted : Type 0
+PeerValueIsCounted = book_of (run (new_world tiny crossed) landed)
+    ≡ Some (record { gets = 2; hits = 0; joins = 0; leads = 2; again_hits = 0; loads = 2; peer = 1; landed = 2; faults = 0 })
 
 -- A sum of one level: its four parts, and their tiles.
 
@@ -394,6 +436,13 @@ in_hot = record (tables.empty_table 1000 8) {
 
 abbrev pub TenthIsKept : Type 0
 TenthIsKept = of_ten.cache ≡ in_hot.cache
+
+-- An eviction of another key leaves it in hot.
+abbrev pub EvictionLeavesOthers : Type 0
+EvictionLeavesOthers =
+    (node_without (record (node_on 0 0) { tiles = in_hot })
+    (key.Tile (record { name = p_name; edge = 1; tx = 1; ty = 0 }) ∷ [])).tiles.cache
+    ≡ in_hot.cache
 
 abbrev pub after_eviction : Node
 after_eviction = node_without (record (node_on 0 0) { tiles = in_hot; sums = in_hot }) (seven_key ∷ [])

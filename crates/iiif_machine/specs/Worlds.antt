@@ -11,15 +11,16 @@ use Rattle.iiif_machine.specs.Types.{Key, Value, Resolved, Picture, ReadFault}
 use Rattle.iiif_machine.specs.Owners.{owner}
 use Rattle.iiif_machine.specs.Tables.{Class, Wide, Local, Table, Outcome, Nowhere}
 use Rattle.iiif_machine.specs.Rows.{Node, Given, Purpose, Caller, CallState, Fresh, Hit, In, Gone, Call, Lead, Stage, New, Looked, Asking}
-use Rattle.iiif_machine.specs.Rows.{Fallback, Parts, Ready, Ended, Flight, Ask, Reply, Wish, Answer, Image, Failed, Progress, Waiting}
-use Rattle.iiif_machine.specs.Rows.{Answered, Dropped, Wanted}
+use Rattle.iiif_machine.specs.Rows.{Fallback, Parts, Ready, Ended, Flight, Ask, Reply, RequestInfo, Answer, Image, Failed, Progress}
+use Rattle.iiif_machine.specs.Rows.{Waiting}
+use Rattle.iiif_machine.specs.Rows.{Answered, Dropped, RequestRow}
 
 -- A world: pictures and limits, nodes, the faults that sources gave, and rows. A row's number is its place; none is ever taken away.
 pub record World : Type 0 where
   pub scene : Scene
   pub nodes : List Node
   pub given : List Given
-  pub requests : List Wanted
+  pub requests : List RequestRow
   pub calls : List Call
   pub flights : List Flight
   pub asks : List Ask
@@ -71,8 +72,8 @@ with_reply w r = record w { replies = w.replies ++ r ∷ [] }
 abbrev pub with_given : World → Given → World
 with_given w g = record w { given = w.given ++ g ∷ [] }
 
-abbrev pub with_request : World → Wish → Progress → World
-with_request w q p = record w { requests = w.requests ++ record { wish = q; progress = p } ∷ [] }
+abbrev pub with_request : World → RequestInfo → Progress → World
+with_request w q p = record w { requests = w.requests ++ record { info = q; progress = p } ∷ [] }
 
 -- the version of the messages that carry parts of a picture: by the bits of its samples
 abbrev pub version_shown : Picture → ℕ
@@ -174,19 +175,19 @@ abbrev pub resumed : World → Flight → Flight
 resumed w fl = record { lead = fl.lead; stage = resumed_stage w fl.stage }
 
 -- A request all of whose calls know is answered.
-abbrev pub answered_with : World → Wish → Resolved → List ℕ → Option Picture → Option (List Outcome) → Progress
+abbrev pub answered_with : World → RequestInfo → Resolved → List ℕ → Option Picture → Option (List Outcome) → Progress
 answered_with w q r cs (Some p) (Some os) = Answered (answer_from w.scene p r (collected os))
 answered_with w q r cs (Some p) None = Waiting r cs
 answered_with w q r cs None (Some os) = Waiting r cs
 answered_with w q r cs None None = Waiting r cs
 
-abbrev pub progressed : World → Wish → Progress → Progress
+abbrev pub progressed : World → RequestInfo → Progress → Progress
 progressed w q (Waiting r cs) = answered_with w q r cs (w.scene.shows q.name) (all_learned w cs)
 progressed w q (Answered a) = Answered a
 progressed w q Dropped = Dropped
 
-abbrev pub answered : World → Wanted → Wanted
-answered w q = record { wish = q.wish; progress = progressed w q.wish q.progress }
+abbrev pub answered : World → RequestRow → RequestRow
+answered w q = record { info = q.info; progress = progressed w q.info q.progress }
 
 -- the world once each flight and each request has seen what calls know by now
 abbrev pub settled : World → World

@@ -7,7 +7,8 @@ use iiif_scene::Key;
 use iiif_source::ReadFault;
 use thiserror::Error;
 
-/// What may happen to a world. Nodes, calls, flights, asks and replies are named by their numbers, each kind from 0 in the order in
+/// An event, which may happen to a world next. Nodes, calls, flights, asks and replies are named by their numbers, each kind from 0 in
+/// the order in
 /// which they were made.
 #[derive(Drop)]
 pub enum Event {

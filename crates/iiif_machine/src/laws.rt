@@ -1,11 +1,13 @@
-//! What holds of every world. The functions compute nothing: their contracts are the laws.
+//! The laws of worlds and events. The functions compute nothing: their contracts are the laws.
 
 ghost use Rattle.iiif_machine.specs.Promises.{AllowedExactly, AnswersAreRight, CanonicalFormsAgree, EachRun, EachRunFollows, EachStep};
 ghost use Rattle.iiif_machine.specs.Promises.{FirstFaultCounts, NoFaultIsTaken, NoFaultNoFailure, NoneWaitsForItself, NotKeptStays};
 ghost use Rattle.iiif_machine.specs.Promises.{OneOutcome, OnlySourcesGive, OwnerIsTheRings, RefusedAtOnce, StopTakesAll, ValuesAreMeanings};
 ghost use Rattle.iiif_machine.specs.Promises.{WaitsFall};
 ghost use Rattle.iiif_machine.specs.Origins.{EventsGive, FaultsHaveOrigins, FlightsBecomeReady, JoinsOpen};
-ghost use Rattle.iiif_machine.specs.Headline.{EachRunIsRight};
+ghost use Rattle.iiif_machine.specs.Frames.{AnswersHaveOrigins, AsksOwner, CallsHaveOrigins, EachCallStays, EachKeepsOthers, EachRequestStays};
+ghost use Rattle.iiif_machine.specs.Frames.{EachStaysSettled, LandsBy, NewIsSettled};
+ghost use Rattle.iiif_machine.specs.Headline.{EachRunIsRight, HeadlineImplies};
 ghost use Rattle.iiif_machine.specs.Leaving.{EvictTakesEntries, KnowsAtItsEnd, StopTakesItsOwn};
 ghost use Rattle.iiif_machine.specs.Worked.{AskIsServed, BothAreAnswered, BothStayAnswered, CutOutIs, DeepAskIsAnswered};
 ghost use Rattle.iiif_machine.specs.Worked.{DeepAskIsNotServed, DeepHalvedIs, DeepIsNotWanted, EnlargedIs, EvictedFromBoth, FailingRead};
@@ -14,6 +16,8 @@ ghost use Rattle.iiif_machine.specs.Worked.{FoundAgainIsCounted, HalvedIs, KeptI
 ghost use Rattle.iiif_machine.specs.Worked.{NineAreNotKept, NoneIsAnsweredYet, NotAgain, NotKeptIsNotFound, ReplyOfAnotherKeyIsNotTaken};
 ghost use Rattle.iiif_machine.specs.Worked.{ReplyToAStoppedFlightChangesNothing, SevenIsWanted, StoppedCallsAreGone, StoppedNode};
 ghost use Rattle.iiif_machine.specs.Worked.{TenthIsKept, TwoShareAFault, TwoShareAValue, WaitsForItsCalls};
+ghost use Rattle.iiif_machine.specs.Worked.{AnswersStayAtAStop, EvictionLeavesOthers, OwnersAreAsked, PeerValueIsCounted};
+ghost use Rattle.iiif_machine.specs.Worked.{ThreeAreAnswered, TwoShareAThirdFault};
 
 /// After every list of events that is allowed, the world is sound; each event, and each list of events, keeps it so, and takes
 /// back nothing that was given or answered.
@@ -65,7 +69,7 @@ pub fn the_owner_is_asked()
     ensures { OwnerIsTheRings }
 {}
 
-/// What worked lists of events come to: the crossed rings, the failing read, the stopped node, 16 bits at a node of
+/// Worked lists of events, with their outcomes: the crossed rings, the failing read, the stopped node, 16 bits at a node of
 /// version 1, and others.
 pub fn worked_lists_compute()
     ensures waits_for_its_calls { WaitsForItsCalls }
@@ -101,6 +105,12 @@ pub fn worked_lists_compute()
     ensures nine_are_not_kept { NineAreNotKept }
     ensures tenth_is_kept { TenthIsKept }
     ensures evicted_from_both { EvictedFromBoth }
+    ensures answers_stay_at_a_stop { AnswersStayAtAStop }
+    ensures two_share_a_third_fault { TwoShareAThirdFault }
+    ensures owners_are_asked { OwnersAreAsked }
+    ensures three_are_answered { ThreeAreAnswered }
+    ensures peer_value_is_counted { PeerValueIsCounted }
+    ensures eviction_leaves_others { EvictionLeavesOthers }
 {}
 
 /// A flight becomes ready by an event of its own, or with what its own local call knows; so it gets a fault only where its own read
@@ -113,7 +123,33 @@ pub fn outcomes_have_origins()
     ensures given { EventsGive }
 {}
 
+/// A landing changes the table of its own node and key alone, by the outcome and the place with which its flight was ready. A flight
+/// asks the node that owns its key on its own node's ring. A request's call and a part's are local exactly where their node owns the
+/// key, and no event but Want, Load, GoLocal and Serve makes calls. A call that has entered stays as it is, or goes where its node stops;
+/// so a request waits until it is answered. An answer is its request's refusal, or what the outcomes come to that all its calls know.
+pub fn events_go_where_they_say()
+    ensures lands { LandsBy }
+    ensures asks { AsksOwner }
+    ensures calls { CallsHaveOrigins }
+    ensures entered { EachCallStays }
+    ensures waiting { EachRequestStays }
+    ensures answers { AnswersHaveOrigins }
+{}
+
+/// Where nothing is due, an event changes no row of another node than its own. In a new world nothing is due, and each event leaves
+/// nothing due.
+pub fn events_keep_others()
+    ensures others { EachKeepsOthers }
+    ensures new { NewIsSettled }
+    ensures settled { EachStaysSettled }
+{}
+
 /// The headline: what holds after every list of events that is allowed.
 pub fn each_run_is_right()
     ensures { EachRunIsRight }
+{}
+
+/// The corollaries, which follow from the headline alone.
+pub fn headline_has_corollaries()
+    ensures { HeadlineImplies }
 {}

@@ -5,8 +5,8 @@
 pub use events::{Event, WorldFault};
 pub use numbers::Numbers;
 pub use rows::{
-    Answer, Ask, Call, CallState, Caller, Flight, Given, Lead, Progress, Purpose, Reply, Stage,
-    Wanted, Wish,
+    Answer, Ask, Call, CallState, Caller, Flight, Given, Lead, Progress, Purpose, Reply,
+    RequestInfo, RequestRow, Stage,
 };
 pub use short_request::ShortRequest;
 

@@ -1,4 +1,4 @@
-//! What a world has of requests, calls, flights, asks and replies. What of a row never changes is a record of its own.
+//! The rows of a world: requests, calls, flights, asks and replies. The part of a row that never changes is a record of its own.
 
 use crate::numbers::Numbers;
 use iiif_canonical::Resolved;
@@ -17,7 +17,7 @@ pub struct Given {
     pub fault: ReadFault,
 }
 
-/// For what a call is made.
+/// The purpose for which a call is made.
 #[derive(Clone, Copy)]
 pub enum Purpose {
     /// An item of a request's plan.
@@ -30,7 +30,7 @@ pub enum Purpose {
     ForAsk(usize),
 }
 
-/// What of a call never changes.
+/// The part of a call that never changes.
 #[derive(Drop)]
 pub struct Caller {
     pub node: usize,
@@ -39,7 +39,7 @@ pub struct Caller {
     pub purpose: Purpose,
 }
 
-/// How far a call is.
+/// The progress of a call.
 #[derive(Drop)]
 pub enum CallState {
     /// It has not entered.
@@ -59,7 +59,7 @@ pub struct Call {
     pub state: CallState,
 }
 
-/// What of a flight never changes. The ticket is that of the node's table.
+/// The part of a flight that never changes. Its ticket is that of the node's table.
 #[derive(Drop)]
 pub struct Lead {
     pub node: usize,
@@ -68,7 +68,7 @@ pub struct Lead {
     pub ticket: u64,
 }
 
-/// How far a flight is.
+/// The stage of a flight.
 #[derive(Drop)]
 pub enum Stage {
     New,
@@ -102,22 +102,22 @@ pub struct Ask {
     pub version: u8,
 }
 
-/// What a call that served an ask for the key knew.
+/// The outcome that a call knew which served an ask for the key.
 #[derive(Drop)]
 pub struct Reply {
     pub key: Key,
     pub outcome: Result<Value, ReadFault>,
 }
 
-/// What of a request never changes: the node that it came to, the name of the image, and what is asked of it.
+/// The part of a request that never changes: its node, the image's name, and the words that ask for a part of it.
 #[derive(Drop)]
-pub struct Wish {
+pub struct RequestInfo {
     pub node: usize,
     pub name: Name,
     pub request: Request,
 }
 
-/// What came of a request.
+/// The answer to a request.
 #[derive(Drop)]
 pub enum Answer {
     Refused(Refusal),
@@ -126,7 +126,7 @@ pub enum Answer {
     Failed(ReadFault),
 }
 
-/// How far a request is.
+/// The progress of a request.
 #[derive(Drop)]
 pub enum Progress {
     /// It waits for the calls of its plan's items.
@@ -136,9 +136,9 @@ pub enum Progress {
     Dropped,
 }
 
-/// A request.
+/// A request, with its progress.
 #[derive(Drop)]
-pub struct Wanted {
-    pub wish: Wish,
+pub struct RequestRow {
+    pub info: RequestInfo,
     pub progress: Progress,
 }

@@ -1,4 +1,4 @@
-//! What is kept, as plain lists.
+//! The cache of a table, as two plain lists.
 
 ghost use Rattle.std.specs.Prelude.{if◌then◌else◌, ◌≡◌, fold, option_map, IfOk, ◌<◌, ◌≤◌, true, false, is_some, MatchBool, MatchOption};
 ghost use Rattle.std.specs.Prelude.{OnErr, OnOk};
@@ -31,7 +31,7 @@ pub struct PlainCache {
 }
 
 impl PlainCache {
-    /// The key's entry goes to the front of its list.
+    /// Moves the key's entry to the front of its list.
     pub(crate) fn touch(&mut self, key: &Key)
         ensures { cache_of self.new ≡ touched key_eq key.now (cache_of self.old) }
     {
@@ -42,7 +42,7 @@ impl PlainCache {
         let _ = touch_in(&mut self.hot, key);
     }
 
-    /// The key's entry goes.
+    /// Removes the key's entry.
     pub(crate) fn remove(&mut self, key: &Key)
         ensures { cache_of self.new ≡ lacking key_eq key.now (cache_of self.old) }
     {
@@ -50,7 +50,7 @@ impl PlainCache {
         remove_in(&mut self.hot, key);
     }
 
-    /// The keys' entries go.
+    /// Removes the keys' entries.
     pub(crate) fn remove_all(&mut self, keys: &[Key])
         ensures { cache_of self.new ≡ fold (λ c k. lacking key_eq k c) (cache_of self.old) keys.now }
     {
@@ -59,7 +59,7 @@ impl PlainCache {
         }
     }
 
-    /// What is kept for a key. The only error is lack of memory.
+    /// Looks up a copy of a key's value, and its ticket. The only error is lack of memory.
     pub(crate) fn kept(&self, key: &Key) -> Result<Option<Found>, NoMemory>
         ensures { IfOk result (λ r. option_map kept_of r ≡ kept_for key_eq key.now (cache_of self.now)) }
     {
@@ -69,7 +69,7 @@ impl PlainCache {
         }
     }
 
-    /// The entry that goes next goes.
+    /// Evicts the entry that is next to go.
     pub(crate) fn evict(&mut self)
         ensures { cache_of self.new ≡ evicted entry_size (cache_of self.old) }
     {
@@ -93,7 +93,7 @@ impl PlainCache {
         bytes(&self.hot) <= limit - main
     }
 
-    /// One entry after another goes while the lists take too many bytes.
+    /// Evicts one entry after another while the lists take too many bytes.
     pub(crate) fn shrink(&mut self)
         ensures { cache_of self.new ≡ shrunk entry_size (cache_of self.old) }
     {
@@ -106,7 +106,7 @@ impl PlainCache {
         }
     }
 
-    /// An entry stands at the front of the list that has its key, else of hot or of main. After an error all is as before.
+    /// Puts an entry at the front of the list that has its key, else of hot or of main. After an error all is as before.
     fn place(&mut self, hot: bool, entry: Entry) -> Result<(), NoMemory>
         ensures ok { OnOk result (cache_of self.new ≡ placed key_eq entry.key (side hot) (entry_of entry).1 (cache_of self.old)) }
         ensures err { OnErr result (cache_of self.new ≡ cache_of self.old) }
@@ -126,7 +126,7 @@ impl PlainCache {
         }
     }
 
-    /// An entry is put. After an error all is as before.
+    /// Puts an entry. After an error all is as before.
     pub(crate) fn put(&mut self, hot: bool, entry: Entry) -> Result<(), NoMemory>
         ensures ok { OnOk result (cache_of self.new ≡ with_entry entry_size key_eq (side hot) entry.key (entry_of entry).1
             (cache_of self.old)) }
@@ -140,7 +140,7 @@ impl PlainCache {
         Ok(())
     }
 
-    /// A value that has landed is kept by its place, where it is to be kept; a fault isn't. After an error all is as before.
+    /// Keeps a landed value by its place, where it is to be kept; a fault is never kept. After an error all is as before.
     pub(crate) fn keep(
         &mut self,
         retention: Retention,

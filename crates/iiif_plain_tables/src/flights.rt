@@ -1,4 +1,4 @@
-//! What is asked of flights, and how they end.
+//! Open flights of a world, and how flights end.
 
 ghost use Rattle.std.specs.Prelude.{◌≡◌, position, Some, IfOk};
 ghost use Rattle.iiif_tables.specs.declared.table.Place.{Place};
@@ -7,7 +7,7 @@ ghost use Rattle.iiif_machine.specs.Tables.{Outcome, value_of};
 ghost use Rattle.iiif_machine.specs.declared.rows.Lead.{Lead};
 ghost use Rattle.iiif_machine.specs.declared.rows.Stage.{Stage};
 
-use crate::keys::{copied, same};
+use crate::keys::{copy_value, same};
 use crate::table::same_class;
 use iiif_machine::{Caller, Flight, Stage};
 use iiif_pixel::NoMemory;
@@ -58,7 +58,7 @@ pub fn value_in(
     ensures { IfOk result (λ v. v ≡ value_of outcome.now) }
 {
     match outcome {
-        Ok(value) => Ok(Some(copied(alloc, value)?)),
+        Ok(value) => Ok(Some(copy_value(alloc, value)?)),
         Err(_) => Ok(None),
     }
 }

@@ -1,15 +1,15 @@
-//! What calls know, but for the values.
+//! Outcomes that calls know, without their values.
 
 ghost use Rattle.std.specs.Prelude.{◌≡◌, Some, IfOk};
 ghost use Rattle.iiif_plain_tables.specs.Heard.{heard, heard_first};
 
-use crate::keys::copied;
+use crate::keys::copy_value;
 use iiif_pixel::NoMemory;
 use iiif_scene::Value;
 use iiif_source::ReadFault;
 use std::alloc::Global;
 
-/// What a call knows, or several, but for the values.
+/// The outcome that a call knows, or several calls together, without its value.
 #[derive(Clone, Copy, PartialEq, Eq)]
 pub enum Heard {
     /// Nothing, or one of several knows nothing.
@@ -28,12 +28,12 @@ pub fn copied_outcome(
     ensures { IfOk result (λ o. o ≡ outcome.now) }
 {
     match outcome {
-        Ok(value) => Ok(Ok(copied(alloc, value)?)),
+        Ok(value) => Ok(Ok(copy_value(alloc, value)?)),
         Err(fault) => Ok(Err(*fault)),
     }
 }
 
-/// What an outcome is, but for the value.
+/// An outcome without its value.
 pub fn heard_of(outcome: &Result<Value, ReadFault>) -> Heard
     ensures { result ≡ heard (Some outcome.now) }
 {
@@ -43,7 +43,7 @@ pub fn heard_of(outcome: &Result<Value, ReadFault>) -> Heard
     }
 }
 
-/// What was heard first, and then.
+/// Two outcomes, one after the other, as one: the first fault counts.
 pub fn first_of(first: Heard, next: Heard) -> Heard
     ensures { result ≡ heard_first first next }
 {

@@ -1,4 +1,4 @@
-//! What tables ask of keys and values.
+//! Keys and values as tables see them: equality, sizes, copies.
 
 ghost use Rattle.std.specs.Prelude.{◌≡◌, ◌+◌, ◌^◌, ◌≤◌, ◌<◌, length, IfOk};
 ghost use Rattle.iiif_pixel.specs.Geometry.{top_of};
@@ -117,7 +117,7 @@ pub(crate) fn size(key: &Key, value: &Value) -> u64
 }
 
 /// An equal value. The only error is lack of memory.
-pub fn copied(alloc: Global, value: &Value) -> Result<Value, NoMemory>
+pub fn copy_value(alloc: Global, value: &Value) -> Result<Value, NoMemory>
     ensures { IfOk result (λ v. v ≡ value.now) }
 {
     match value {

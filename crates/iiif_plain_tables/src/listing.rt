@@ -9,7 +9,7 @@ ghost use Rattle.iiif_scene.specs.Keys.{entry_size, key_eq};
 ghost use Rattle.iiif_plain_tables.specs.declared.listing.Entry.{Entry};
 ghost use Rattle.iiif_plain_tables.specs.Rows.{entry_of, kept_of, rows};
 
-use crate::keys::{copied, same, size};
+use crate::keys::{copy_value, same, size};
 use iiif_pixel::NoMemory;
 use iiif_scene::{Key, Value};
 
@@ -118,21 +118,21 @@ pub(crate) fn bytes(list: &[Entry]) -> u128
     sum
 }
 
-/// What is found for a key.
+/// A hit: a copy of the value, and its ticket.
 #[derive(Drop)]
 pub struct Found {
     pub value: Value,
     pub ticket: u64,
 }
 
-/// What the key's entry has. The only error is lack of memory.
+/// Looks up the key's entry. The only error is lack of memory.
 pub(crate) fn find_in(list: &Vec<Entry>, key: &Key) -> Result<Option<Found>, NoMemory>
     ensures { IfOk result (λ r. option_map kept_of r ≡ lookup (key_eq key.now) (rows list.now.items)) }
 {
     match place_of(list, key) {
         Some(place) => {
             let entry = &list[place];
-            let value = copied(*list.allocator(), &entry.value)?;
+            let value = copy_value(*list.allocator(), &entry.value)?;
             Ok(Some(Found {
                 value,
                 ticket: entry.ticket,

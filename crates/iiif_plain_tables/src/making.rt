@@ -46,7 +46,7 @@ pub fn sums(alloc: Global, picture: &Raster, key: &SumKey) -> Result<SumVal, NoM
 }
 
 /// A rectangle from the upper left corner on.
-fn whole(dim: Dim) -> Rect
+fn whole_rect(dim: Dim) -> Rect
     ensures { result ≡ whole_of dim }
 {
     Rect {
@@ -67,8 +67,8 @@ fn scaled(alloc: Global, region: &Raster, size: Dim) -> Result<Raster, NoMemory>
     region.is_whole();
     bands_follow();
     whole_stays_whole();
-    let sums = Sums::of_tile(alloc, region, whole(sides), whole(sides), size)?;
-    let scaled = sums.finish(alloc, sides, whole(size), region.depth())?;
+    let sums = Sums::of_tile(alloc, region, whole_rect(sides), whole_rect(sides), size)?;
+    let scaled = sums.finish(alloc, sides, whole_rect(size), region.depth())?;
     Ok(scaled)
 }
 

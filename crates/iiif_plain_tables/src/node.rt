@@ -58,7 +58,7 @@ impl Node {
         self.sums.empty();
     }
 
-    /// What is kept for a key. The only error is lack of memory.
+    /// Looks up a copy of a key's value, and its ticket. The only error is lack of memory.
     #[tactic(auto, unfolding(iiif_scene::specs::Keys::is_tile))]
     pub fn kept(&self, key: &Key) -> Result<Option<Found>, NoMemory>
         ensures { IfOk result (λ r. option_map kept_of r ≡ kept_for key_eq key.now (table_at (node_of self.now) key.now).cache) }

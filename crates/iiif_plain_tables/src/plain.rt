@@ -1,4 +1,4 @@
-//! What a table is in code.
+//! The table in code.
 
 ghost use Rattle.std.specs.Prelude.{◌≡◌, true};
 ghost use Rattle.iiif_plain_tables.specs.Open.{are_once};
@@ -16,7 +16,7 @@ pub struct OpenFlight {
     pub found: bool,
 }
 
-/// What is kept, the open flights, and what was counted.
+/// A table: the cache, the open flights, and the counts.
 #[derive(Drop)]
 pub struct PlainTable {
     pub cache: PlainCache,

@@ -1,9 +1,9 @@
-//! What a node's stop does to the rows.
+//! The stop of a node, done to rows.
 
 ghost use Rattle.std.specs.Prelude.{◌≡◌, map};
 ghost use Rattle.iiif_machine.specs.Steps.{call_stopped, flight_stopped, request_stopped};
 
-use iiif_machine::{Call, CallState, Flight, Progress, Stage, Wanted};
+use iiif_machine::{Call, CallState, Flight, Progress, RequestRow, Stage};
 
 /// A flight of the node, if it is open, ends without an outcome.
 fn stop_flight(flight: &mut Flight, node: usize)
@@ -27,10 +27,10 @@ fn stop_call(call: &mut Call, node: usize)
 }
 
 /// A request of the node, if it waits, goes.
-fn stop_request(request: &mut Wanted, node: usize)
+fn stop_request(request: &mut RequestRow, node: usize)
     ensures { request.new ≡ request_stopped node request.old }
 {
-    if request.wish.node == node {
+    if request.info.node == node {
         match request.progress {
             Progress::Waiting(_, _) => request.progress = Progress::Dropped,
             _ => {}
@@ -57,7 +57,7 @@ pub fn stop_calls(calls: &mut [Call], node: usize)
 }
 
 /// The requests of the node that wait go.
-pub fn stop_requests(requests: &mut [Wanted], node: usize)
+pub fn stop_requests(requests: &mut [RequestRow], node: usize)
     ensures { requests.new ≡ map (request_stopped node) requests.old }
 {
     for request in requests.iter_mut() {

@@ -53,7 +53,7 @@ fn open_at(flights: &[OpenFlight], class: Class, key: &Key) -> Option<usize>
         .position(|f| same_class(f.class, class) && same(&f.key, key))
 }
 
-/// What a call that enters meets.
+/// The outcome of a call's entry.
 #[derive(Drop)]
 pub enum Entered {
     Hit(Found),
@@ -147,7 +147,7 @@ impl PlainTable {
         self.cache.remove_all(keys);
     }
 
-    /// A call enters. After an error all is as before.
+    /// Enters a call. After an error all is as before.
     pub(crate) fn enter(&mut self, key: &Key, class: Class) -> Result<Entered, NoMemory>
         ensures ok { IfOk result (λ r. entering key_eq class key.now (table_of self.old) ≡ (entered_of r, table_of self.new)) }
         ensures err { OnErr result (table_of self.new ≡ table_of self.old) }
@@ -167,7 +167,7 @@ impl PlainTable {
         }
     }
 
-    /// A call for a key that isn't kept enters.
+    /// Enters a call for a key that isn't kept.
     fn enter_flight(&mut self, key: &Key, class: Class) -> Result<Entered, NoMemory>
         requires absent { kept_for key_eq key.now (table_of self.old).cache ≡ None }
         requires count { ((table_of self.old).book.gets + 1 < 2 ^ 64) × ((table_of self.old).book.joins + 1 < 2 ^ 64) ×

@@ -1,7 +1,7 @@
 -- What the meanings of a plan's items make is the image.
 use Rattle.std.proofs.Common.{◌≡◌, ℕ, ◌*◌, ◌^◌, ◌<◌, ◌≤◌, ◌⊎◌, inr, List, [], ◌∷◌, Bool, true, false, Some, Ok, All, map, fold, refl, sym}
 use Rattle.std.proofs.Common.{ap, subst, ◌∙◌, arith, ⊎_elim, if◌then◌else◌}
-use Rattle.std.specs.Prelude.{◌==◌, ◌&&◌, nat_le}
+use Rattle.std.specs.Prelude.{◌==◌, ◌&&◌, nat_le, count_by}
 use Rattle.std.proofs.Math.Nat.{mul-le-mul}
 use Rattle.std.proofs.lemmas.Bool.{eqb-true, leb-true, and_parts}
 use Rattle.std.proofs.lemmas.List.Elements.{All-map}
@@ -15,12 +15,15 @@ use Rattle.iiif_pixel.proofs.Whole.{whole_crop}
 use Rattle.iiif_pixel.proofs.ScaleLemmas.{whole_scale}
 use Rattle.iiif_pixel.proofs.CropLaws.{crop-all}
 use Rattle.iiif_pixel.proofs.Parts.{same_dim}
-use Rattle.iiif_area.specs.Grid.{Grid, grid_of, merged, finished, sums_of}
+use Rattle.iiif_area.specs.Grid.{Grid, grid_of, merged, finished, sums_of, has_place}
+use Rattle.iiif_area.specs.Laws.{IsCutInto}
+use Rattle.iiif_area.specs.Places.{part_of}
+use Rattle.iiif_area.proofs.GridLaws.{has_place-yes}
 use Rattle.iiif_area.proofs.PieceLaws.{pieces_merge}
 use Rattle.iiif_area.proofs.FinishLaws.{finished-scaled}
 use Rattle.iiif_area.proofs.SameSides.{same_sides}
 use Rattle.iiif_keys.specs.Names.{IsSource}
-use Rattle.iiif_keys.specs.Blocks.{IsEdge, TileFitsIn, SumFitsIn, part_in}
+use Rattle.iiif_keys.specs.Blocks.{IsEdge, TileFitsIn, SumFitsIn, part_in, tile_of}
 use Rattle.iiif_keys.specs.Meaning.{sum_meaning}
 use Rattle.iiif_keys.specs.declared.keys.TileKey.{TileKey}
 use Rattle.iiif_keys.specs.declared.keys.SumKey.{SumKey}
@@ -42,7 +45,7 @@ use Rattle.iiif_scene.specs.Scenes.{Scene, IsProper}
 use Rattle.iiif_scene.specs.Keys.{Key, name_of, Fits, meaning}
 use Rattle.iiif_scene.specs.Plans.{Request, Resolved, resolved, kind_of, level_of, Way, copied, grown, summed, keys_met, keys_in, items}
 use Rattle.iiif_scene.specs.Images.{Picture, averaged, made, assembled}
-use Rattle.iiif_scene.specs.Laws.{Accepts, PlansHaveItems, ItemsFit, ItemsMakeImage, RefusedHasNoImage}
+use Rattle.iiif_scene.specs.Laws.{Accepts, PlansHaveItems, NoPlanIsEmpty, ItemsFit, ItemsMakeImage, RefusedHasNoImage}
 use Rattle.iiif_scene.proofs.Lists.{Each, each_of_all, each_tail}
 use Rattle.iiif_scene.proofs.KeyParts.{grids_same}
 use Rattle.iiif_scene.proofs.Plans.{kind_is, image_from_resolved, refused}
@@ -233,6 +236,39 @@ scaled_by s name p r false true e f a = ap (λ (z : Picture). scale z r.size) (p
 scaled_by s name p r false false e f a =
     averaged_is s name p r (level_of s p r) (blocks_for name s.edge (level_of s p r) r) a.shown a.source a.is.inside a.is.not_empty.0
     a.is.not_empty.1 (blocks_are s name p r a f)
+
+-- what a rectangle that isn't empty is cut into isn't none
+not_one : (n : ℕ) → n ≡ 0 → n ≡ 1 → ⊥
+not_one n a b = absurd (omega arith)
+
+cut_some : {K : Type 0} (f : K → Rect) (d : Dim) (keys : List K) → 0 < d.w → 0 < d.h → IsCutInto (whole_of d) (map f keys) → keys ≡ [] → ⊥
+cut_some f d keys w h cut none =
+    let yes = has_place-yes (whole_of d) 0 0 (omega arith, omega arith, omega arith, omega arith) in
+    not_one (count_by (λ r. has_place r 0 0) (map f keys)) (ap (λ ks. count_by (λ r. has_place r 0 0) (map f ks)) none)
+    (cut 0 0 ∙ ap (λ (b : Bool). if b then 1 else 0) yes)
+
+map_none : {A B : Type 0} (f : A → B) (xs : List A) → map f xs ≡ [] → xs ≡ []
+map_none f [] e = refl
+map_none f (x ∷ xs) e = absurd cc
+
+tiles_some : (s : Scene) (name : List ℕ) (p : Picture) (r : Resolved) → Accepted s name p r →
+    map key.Tile (tiles_for name s.edge r) ≡ [] → ⊥
+tiles_some s name p r a none = cut_some (λ k. part_of (tile_of (dim_of p) k) r.rect) (sides_of r.rect) (tiles_for name s.edge r)
+    a.is.not_empty.0 a.is.not_empty.1 (tiles_are s name p r a).cut (map_none key.Tile (tiles_for name s.edge r) none)
+
+some_by : (s : Scene) (name : List ℕ) (p : Picture) (r : Resolved) (b up : Bool) → is_scaled_up r ≡ up → Accepted s name p r →
+    keys_met s name r (way_by s p r b up) ≡ [] → ⊥
+some_by s name p r true up e a none = tiles_some s name p r a none
+some_by s name p r false true e a none = tiles_some s name p r a none
+some_by s name p r false false e a none =
+    let keys = blocks_for name s.edge (level_of s p r) r in
+    cut_some (part_in (dim_of p)) (sides_of r.rect) keys a.is.not_empty.0 a.is.not_empty.1 (blocks_are s name p r a e).cut
+    (map_none key.Sum keys none)
+
+pub no_plan_is_empty : NoPlanIsEmpty
+unfolding items
+no_plan_is_empty s name p q r proper h none =
+    some_by s name p r (keeps_size r) (is_scaled_up r) refl (accepted s name p q r proper h) none
 
 pub items_fit : ItemsFit
 unfolding items

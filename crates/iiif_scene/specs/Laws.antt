@@ -1,5 +1,5 @@
 -- The laws of keys, plans and images.
-use Rattle.std.specs.Prelude.{◌≡◌, ◌↔◌, ◌<◌, ℕ, List, true, Some, Ok, Err, All, map}
+use Rattle.std.specs.Prelude.{◌≡◌, ◌↔◌, ◌<◌, ℕ, List, [], true, Some, Ok, Err, All, map}
 use Rattle.iiif_pixel.specs.Picture.{Picture, dim_of}
 use Rattle.iiif_planner.specs.Items.{HasItems}
 use Rattle.iiif_planner.specs.declared.plans.Plan.{Plan}
@@ -36,6 +36,11 @@ abbrev pub PlansHaveItems : Type 0
 PlansHaveItems = (s : Scene) (name : List ℕ) (p : Picture) (r : Resolved) (plan : Plan) →
     HasItems name s.edge (dim_of p) p.channels s.room r plan →
     items s name p r ≡ keys_in plan
+
+-- no plan is empty
+abbrev pub NoPlanIsEmpty : Type 0
+NoPlanIsEmpty = (s : Scene) (name : List ℕ) (p : Picture) (q : Request) (r : Resolved) → IsProper s → Accepts s name p q r →
+    ¬ (items s name p r ≡ [])
 
 -- each item of a plan names something, of the image of this name
 abbrev pub ItemsFit : Type 0

@@ -1,7 +1,7 @@
-//! What holds of keys, plans and images. The functions compute nothing: their contracts are the laws, for the crates above.
+//! The laws of keys, plans and images, for the crates above. The functions compute nothing: their contracts are the laws.
 
-ghost use Rattle.iiif_scene.specs.Laws.{ItemsFit, ItemsMakeImage, KeysAreTold, PartsAreBelow, PartsFit, PartsMakeMeaning, PlansHaveItems};
-ghost use Rattle.iiif_scene.specs.Laws.{RefusedHasNoImage};
+ghost use Rattle.iiif_scene.specs.Laws.{ItemsFit, ItemsMakeImage, KeysAreTold, NoPlanIsEmpty, PartsAreBelow, PartsFit, PartsMakeMeaning};
+ghost use Rattle.iiif_scene.specs.Laws.{PlansHaveItems, RefusedHasNoImage};
 
 /// So two keys may be compared by `key_eq`.
 pub fn keys_are_told_apart()
@@ -18,6 +18,7 @@ pub fn parts_make_the_meaning()
 /// So a request's image may be put together of the values of its plan's items.
 pub fn items_make_the_image()
     ensures plan { PlansHaveItems }
+    ensures some { NoPlanIsEmpty }
     ensures fit { ItemsFit }
     ensures image { ItemsMakeImage }
     ensures refused { RefusedHasNoImage }

@@ -28,7 +28,7 @@ use Rattle.iiif_scene.proofs.Plans.{kind_is, image_from_resolved}
 use Rattle.iiif_scene.proofs.Lists.{each_of_all}
 use Rattle.iiif_machine.specs.Types.{Key, Value, Request, Resolved, ReadFault}
 use Rattle.iiif_machine.specs.Tables.{Outcome}
-use Rattle.iiif_machine.specs.declared.rows.Wanted.{Wanted}
+use Rattle.iiif_machine.specs.declared.rows.RequestRow.{RequestRow}
 use Rattle.iiif_machine.specs.declared.rows.Answer.TheVariants.{Image}
 use Rattle.iiif_machine.specs.declared.rows.Progress.TheVariants.{Waiting}
 use Rattle.iiif_machine.specs.Worlds.{World, all_learned, collected, answer_from}
@@ -99,7 +99,7 @@ scalable d k l r is area =
     }
 
 -- a request that waits, of a name with this picture
-pub record IsReady (w : World) (q : Wanted) (r : Resolved) (cs : List ℕ) (p : Picture) : Type 0 where
+pub record IsReady (w : World) (q : RequestRow) (r : Resolved) (cs : List ℕ) (p : Picture) : Type 0 where
   pub source : IsSource p
   pub solved : IsResolved (dim_of p) (kind_of p) w.scene.limits r
   pub made : (os : List Outcome) (vs : List Value) → all_learned w cs ≡ Some os → collected os ≡ Ok vs →
@@ -109,29 +109,29 @@ pub values_are : (w : World) (node : ℕ) (name : List ℕ) (ks : List Key) (r :
     AreGathered w.scene w.given node name ks r → vs ≡ map (meaning w.scene) ks
 values_are w node name ks r vs is h = subst (AreGathered w.scene w.given node name ks) is h
 
-pub is_ready : (w : World) (i : ℕ) (q : Wanted) (r : Resolved) (cs : List ℕ) (p : Picture) → IsProper w.scene → IsHonestWorld w →
+pub is_ready : (w : World) (i : ℕ) (q : RequestRow) (r : Resolved) (cs : List ℕ) (p : Picture) → IsProper w.scene → IsHonestWorld w →
     slice_get w.requests i ≡ Some q →
-    q.progress ≡ Waiting r cs → w.scene.shows q.wish.name ≡ Some p → IsReady w q r cs p
+    q.progress ≡ Waiting r cs → w.scene.shows q.info.name ≡ Some p → IsReady w q r cs p
 is_ready w i q r cs p proper honest at waits shown =
     let s = w.scene in
-    let h : ProgressIsHonest s (facts w) q.wish (Waiting r cs) =
-    subst (ProgressIsHonest s (facts w) q.wish) waits (honest.requests i q at) in
+    let h : ProgressIsHonest s (facts w) q.info (Waiting r cs) =
+    subst (ProgressIsHonest s (facts w) q.info) waits (honest.requests i q at) in
     let same : h.0 ≡ p = same_Some h.0 p (sym h.1 ∙ shown) in
-    let solved : resolved s p q.wish.request ≡ Ok r = subst (λ (x : Picture). resolved s x q.wish.request ≡ Ok r) same h.2 in
-    let are : AreOf (facts w).callers q.wish.node cs (items s q.wish.name p r) =
-    subst (λ (x : Picture). AreOf (facts w).callers q.wish.node cs (items s q.wish.name x r)) same h.3 in
+    let solved : resolved s p q.info.request ≡ Ok r = subst (λ (x : Picture). resolved s x q.info.request ≡ Ok r) same h.2 in
+    let are : AreOf (facts w).callers q.info.node cs (items s q.info.name p r) =
+    subst (λ (x : Picture). AreOf (facts w).callers q.info.node cs (items s q.info.name x r)) same h.3 in
     let laws = subject_laws s proper in
-    let source = proper.sources q.wish.name p shown in
-    let ks = items s q.wish.name p r in
-    let named : Each (λ k. name_of k ≡ q.wish.name) ks = each_of_all _ ks (laws.items_named q.wish.name p q.wish.request r shown solved) in
+    let source = proper.sources q.info.name p shown in
+    let ks = items s q.info.name p r in
+    let named : Each (λ k. name_of k ≡ q.info.name) ks = each_of_all _ ks (laws.items_named q.info.name p q.info.request r shown solved) in
     record {
       source = source;
-      solved = resolves s p q.wish.request r solved;
+      solved = resolves s p q.info.request r solved;
       made = λ os vs known all.
-          let g = gathered w q.wish.node q.wish.name cs ks os honest are named known in
-          ap (assembled s p r) (values_are w q.wish.node q.wish.name ks (collected os) vs all g)
-          ∙ ok_same (image s p q.wish.request) _ _ (laws.assembled_is q.wish.name p q.wish.request r shown solved)
-          (image_from_resolved s p q.wish.request (kind_is p source.whole) ∙ ap (images.image_from p) solved);
+          let g = gathered w q.info.node q.info.name cs ks os honest are named known in
+          ap (assembled s p r) (values_are w q.info.node q.info.name ks (collected os) vs all g)
+          ∙ ok_same (image s p q.info.request) _ _ (laws.assembled_is q.info.name p q.info.request r shown solved)
+          (image_from_resolved s p q.info.request (kind_is p source.whole) ∙ ap (images.image_from p) solved);
     }
 
 -- what was heard of several calls
@@ -162,16 +162,16 @@ heard_nothing None h = refl
 heard_nothing (Some os) h = absurd (none_from (collected os) h)
 
 -- the answer that is due
-due_by : (w : World) (q : Wanted) (r : Resolved) (cs : List ℕ) (p : Picture) (x : Option (List Outcome)) → q.progress ≡ Waiting r cs →
-    w.scene.shows q.wish.name ≡ Some p →
+due_by : (w : World) (q : RequestRow) (r : Resolved) (cs : List ℕ) (p : Picture) (x : Option (List Outcome)) → q.progress ≡ Waiting r cs →
+    w.scene.shows q.info.name ≡ Some p →
     all_learned w cs ≡ x → answer_due w q ≡ answer_with w r (Some p) x
 due_by w q r cs p x waits shown known =
-    ap (answer_at w q.wish) waits ∙ ap (λ (y : Option Picture). answer_with w r y (all_learned w cs)) shown ∙
+    ap (answer_at w q.info) waits ∙ ap (λ (y : Option Picture). answer_with w r y (all_learned w cs)) shown ∙
     ap (answer_with w r (Some p)) known
 
-pub due_value : (w : World) (q : Wanted) (r : Resolved) (cs : List ℕ) (p : Picture) (h : Heard) → IsReady w q r cs p →
+pub due_value : (w : World) (q : RequestRow) (r : Resolved) (cs : List ℕ) (p : Picture) (h : Heard) → IsReady w q r cs p →
     q.progress ≡ Waiting r cs →
-    w.scene.shows q.wish.name ≡ Some p → h ≡ heard_all (all_learned w cs) → h ≡ code.Value →
+    w.scene.shows q.info.name ≡ Some p → h ≡ heard_all (all_learned w cs) → h ≡ code.Value →
     answer_due w q ≡ Some (Image (images.resolved_image p r))
 due_value w q r cs p h ready waits shown is value =
     let v = heard_value (all_learned w cs) (sym is ∙ value) in

@@ -11,16 +11,16 @@ use Rattle.iiif_machine.specs.declared.events.Event.{Event}
 use Rattle.iiif_machine.specs.declared.rows.Answer.{Answer}
 use Rattle.iiif_machine.specs.declared.rows.Progress.{Progress}
 use Rattle.iiif_machine.specs.declared.rows.Progress.TheVariants.{Waiting, Answered, Dropped}
-use Rattle.iiif_machine.specs.declared.rows.Wanted.{Wanted}
-use Rattle.iiif_machine.specs.declared.rows.Wish.{Wish}
+use Rattle.iiif_machine.specs.declared.rows.RequestRow.{RequestRow}
+use Rattle.iiif_machine.specs.declared.rows.RequestInfo.{RequestInfo}
 use Rattle.iiif_machine.proofs.Learning.{get_mapped}
 use Rattle.iiif_machine.proofs.Promised.{answers_are_right}
 use Rattle.iiif_machine.proofs.RunsRight.{each_run_is_right}
 use Rattle.iiif_world.specs.Code.{IsSoundWorld}
 use Rattle.iiif_world.specs.Stepping.{IsRightAnswer, AreRightAnswers}
 
-right_by : (w : World) (i : ℕ) (q : Wish) (x : Progress) (a : Answer) → IsSoundWorld w →
-    slice_get w.requests i ≡ Some (record { wish = q; progress = x }) → answer_in x ≡ Some a →
+right_by : (w : World) (i : ℕ) (q : RequestInfo) (x : Progress) (a : Answer) → IsSoundWorld w →
+    slice_get w.requests i ≡ Some (record { info = q; progress = x }) → answer_in x ≡ Some a →
     AnswerIsRight w.scene w.given q a
 right_by w i q (Waiting r cs) a sound at e = absurd (none-some a e)
 right_by w i q (Answered b) a sound at e = subst (AnswerIsRight w.scene w.given q) (same_Some b a e)
@@ -29,8 +29,8 @@ right_by w i q Dropped a sound at e = absurd (none-some a e)
 
 pub is_right : (w : World) (i : ℕ) (a : Answer) → IsSoundWorld w → slice_get (answers w) i ≡ Some (Some a) → IsRightAnswer w i a
 is_right w i a sound at =
-    let q = get_mapped (λ (q : Wanted). answer_in q.progress) w.requests i (Some a) at in
-    (q.0, q.1, right_by w i q.0.wish q.0.progress a sound q.1 q.2)
+    let q = get_mapped (λ (q : RequestRow). answer_in q.progress) w.requests i (Some a) at in
+    (q.0, q.1, right_by w i q.0.info q.0.progress a sound q.1 q.2)
 
 pub are_right : (w : World) (all : List (Option Answer)) → IsSoundWorld w → all ≡ answers w → AreRightAnswers w all
 are_right w all sound e i a at = is_right w i a sound (ap (λ (xs : List (Option Answer)). slice_get xs i) (sym e) ∙ at)

@@ -42,7 +42,7 @@ runs_compose w v u [] fs is next = ap (λ (z : World). run z fs) (same_Some w v 
 runs_compose w v u (x ∷ es) fs is next = more_by (step w x) v u (λ z. run z es) (λ z. run z (es ++ fs))
     (λ z h. runs_compose z v u es fs h next) is
 
-one_run : (w v : World) (e : Event) → step w e ≡ Some v → run w (e ∷ []) ≡ Some v
+pub one_run : (w v : World) (e : Event) → step w e ≡ Some v → run w (e ∷ []) ≡ Some v
 unfolding run
 one_run w v e is = bind_by (step w e) (λ z. run z []) v is refl
 
@@ -58,8 +58,7 @@ why_by v e NotNow not_now no_memory = not_now refl
 why_by v e NoMemory not_now no_memory = no_memory refl
 
 -- an event that does nothing stops the list
-pub stops_by : (w v u : World) (es : List Event) (i : ℕ) (e : Event) (f : WorldFault) → run w (take i es) ≡ Some v →
-    slice_get es i ≡ Some e →
-    u ≡ v → (f ≡ NotNow → step v e ≡ None) → (f ≡ NoMemory → ¬ (step v e ≡ None)) → StopsAt w es i f u
-stops_by w v u es i e f before at same not_now no_memory =
-    subst (StopsAt w es i f) (sym same) (record { event = e; before = before; there = at; why = why_by v e f not_now no_memory })
+pub stops_by : (w v : World) (es : List Event) (i : ℕ) (e : Event) (f : WorldFault) → run w (take i es) ≡ Some v → slice_get es i ≡ Some e →
+    (f ≡ NotNow → step v e ≡ None) → (f ≡ NoMemory → ¬ (step v e ≡ None)) → StopsAt w es i f v
+stops_by w v es i e f before at not_now no_memory =
+    record { event = e; before = before; there = at; why = why_by v e f not_now no_memory }

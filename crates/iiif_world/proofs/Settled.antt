@@ -9,8 +9,8 @@ use Rattle.iiif_machine.specs.declared.rows.Progress.TheVariants.{Waiting, Answe
 use Rattle.iiif_machine.specs.declared.rows.Stage.{Stage}
 use Rattle.iiif_machine.specs.declared.rows.Stage.TheVariants.{New, Looked, Asking, Fallback, Parts, Ready, Ended}
 use Rattle.iiif_machine.specs.declared.rows.Lead.{Lead}
-use Rattle.iiif_machine.specs.declared.rows.Wanted.{Wanted}
-use Rattle.iiif_machine.specs.declared.rows.Wish.{Wish}
+use Rattle.iiif_machine.specs.declared.rows.RequestRow.{RequestRow}
+use Rattle.iiif_machine.specs.declared.rows.RequestInfo.{RequestInfo}
 use Rattle.iiif_machine.specs.Worlds.{World, learned, all_learned, ready_with, resumed, resumed_stage, answered, answered_with, progressed}
 use Rattle.iiif_machine.specs.Worlds.{settled}
 use Rattle.iiif_world.specs.Settling.{due, due_at, ready_if, answer_due, answer_at, answer_with, answered_if, joined}
@@ -36,28 +36,28 @@ ready_at w l (Ended o) = refl
 pub flights_settled : (w : World) → joined ready_if w.flights (map (due w) w.flights) ≡ map (resumed w) w.flights
 flights_settled w = joined_map ready_if (due w) (resumed w) w.flights (λ fl. ready_at w fl.lead fl.stage)
 
-abbrev asked : Wish → Progress → Wanted
-asked q p = record { wish = q; progress = p }
+abbrev asked : RequestInfo → Progress → RequestRow
+asked q p = record { info = q; progress = p }
 
-answered_by : (w : World) (q : Wish) (r : Resolved) (cs : List ℕ) (p : Option Picture) (os : Option (List Outcome)) →
+answered_by : (w : World) (q : RequestInfo) (r : Resolved) (cs : List ℕ) (p : Option Picture) (os : Option (List Outcome)) →
     answered_if (asked q (Waiting r cs)) (answer_with w r p os) ≡ asked q (answered_with w q r cs p os)
 answered_by w q r cs (Some p) (Some os) = refl
 answered_by w q r cs (Some p) None = refl
 answered_by w q r cs None (Some os) = refl
 answered_by w q r cs None None = refl
 
-answered_at : (w : World) (q : Wish) (p : Progress) → answered_if (asked q p) (answer_at w q p) ≡ asked q (progressed w q p)
+answered_at : (w : World) (q : RequestInfo) (p : Progress) → answered_if (asked q p) (answer_at w q p) ≡ asked q (progressed w q p)
 answered_at w q (Waiting r cs) = answered_by w q r cs (w.scene.shows q.name) (all_learned w cs)
 answered_at w q (Answered a) = refl
 answered_at w q Dropped = refl
 
 pub requests_settled : (w : World) → joined answered_if w.requests (map (answer_due w) w.requests) ≡ map (answered w) w.requests
-requests_settled w = joined_map answered_if (answer_due w) (answered w) w.requests (λ q. answered_at w q.wish q.progress)
+requests_settled w = joined_map answered_if (answer_due w) (answered w) w.requests (λ q. answered_at w q.info q.progress)
 
-pub settled_is : (w : World) (fs : List Flight) (qs : List Wanted) (os : List (Option Outcome)) (xs : List (Option Answer)) →
+pub settled_is : (w : World) (fs : List Flight) (qs : List RequestRow) (os : List (Option Outcome)) (xs : List (Option Answer)) →
     os ≡ map (due w) w.flights → xs ≡ map (answer_due w) w.requests →
     fs ≡ joined ready_if w.flights os → qs ≡ joined answered_if w.requests xs → record w { flights = fs; requests = qs } ≡ settled w
 settled_is w fs qs os xs ho hx hf hq =
     ap (λ (l : List Flight). record w { flights = l; requests = qs }) (hf ∙ ap (joined ready_if w.flights) ho ∙ flights_settled w)
-    ∙ ap (λ (l : List Wanted). record w { flights = map (resumed w) w.flights; requests = l })
+    ∙ ap (λ (l : List RequestRow). record w { flights = map (resumed w) w.flights; requests = l })
     (hq ∙ ap (joined answered_if w.requests) hx ∙ requests_settled w)

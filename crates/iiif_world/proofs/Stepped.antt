@@ -14,7 +14,7 @@ use Rattle.iiif_machine.specs.declared.rows.Call.{Call}
 use Rattle.iiif_machine.specs.declared.rows.Lead.{Lead}
 use Rattle.iiif_machine.specs.declared.rows.Stage.{Stage}
 use Rattle.iiif_machine.specs.declared.rows.Flight.{Flight}
-use Rattle.iiif_machine.specs.declared.rows.Wanted.{Wanted}
+use Rattle.iiif_machine.specs.declared.rows.RequestRow.{RequestRow}
 use Rattle.iiif_machine.specs.declared.rows.CallState.TheVariants.{Fresh, Hit, In}
 use Rattle.iiif_machine.specs.declared.rows.Stage.TheVariants.{New, Looked, Asking, Fallback, Parts, Ready, Ended}
 use Rattle.iiif_machine.specs.Worlds.{World, ◌>>=◌, version_shown, version_at, speaker, table_at, put_table, with_node, with_stage}
@@ -244,7 +244,7 @@ evict_done w v i ks n m ms there hms hm hv =
     (ap (λ (x : World). Some x) (sym (hv ∙ ap (λ (ns : List Node). record w { nodes = ns })
     (hms ∙ ap (λ (x : Node). slice_set w.nodes i x) hm))))
 
-pub stop_done : (w v : World) (i : ℕ) (n m : Node) (ms : List Node) (fs : List Flight) (cs : List Call) (qs : List Wanted) →
+pub stop_done : (w v : World) (i : ℕ) (n m : Node) (ms : List Node) (fs : List Flight) (cs : List Call) (qs : List RequestRow) →
     slice_get w.nodes i ≡ Some n →
     ms ≡ slice_set w.nodes i m → m ≡ record n { tiles = emptied n.tiles; sums = emptied n.sums } → fs ≡ map (flight_stopped i) w.flights →
     cs ≡ map (call_stopped i) w.calls → qs ≡ map (request_stopped i) w.requests →
@@ -258,7 +258,7 @@ stop_done w v i n m ms fs cs qs there hms hm hf hc hq hv =
     { flights = x; calls = cs; requests = qs }) hf
     ∙ ap (λ (x : List Call). record (with_node w i (record n { tiles = emptied n.tiles; sums = emptied n.sums }))
     { flights = map (flight_stopped i) w.flights; calls = x; requests = qs }) hc
-    ∙ ap (λ (x : List Wanted). record (with_node w i (record n { tiles = emptied n.tiles; sums = emptied n.sums }))
+    ∙ ap (λ (x : List RequestRow). record (with_node w i (record n { tiles = emptied n.tiles; sums = emptied n.sums }))
     { flights = map (flight_stopped i) w.flights; calls = map (call_stopped i) w.calls; requests = x }) hq in
     stop_is w i n there ∙ ap (λ (x : World). Some x) (sym made)
 

@@ -22,7 +22,7 @@ use Rattle.iiif_machine.specs.declared.rows.Call.{Call}
 use Rattle.iiif_machine.specs.declared.rows.Progress.{Progress}
 use Rattle.iiif_machine.specs.declared.rows.Progress.TheVariants.{Waiting, Answered}
 use Rattle.iiif_machine.specs.declared.rows.Purpose.TheVariants.{ForRequest}
-use Rattle.iiif_machine.specs.declared.rows.Wish.{Wish}
+use Rattle.iiif_machine.specs.declared.rows.RequestInfo.{RequestInfo}
 use Rattle.iiif_world.proofs.Meant.{resolves}
 use Rattle.iiif_world.proofs.Stepped.{want_is}
 
@@ -41,7 +41,7 @@ planned s name p r plan d k proper shown hd hk h =
     (subst (λ (n : ℕ). HasItems name s.edge (dim_of p) n s.room r plan) channels
     (subst (λ (x : Dim). HasItems name s.edge x (channels_of k) s.room r plan) hd h)))
 
-pub accepted_done : (w : World) (q : Wish) (n : Node) (p : Picture) (r : Resolved) (ks : List Key) (cs : List Call) (ns : List ℕ)
+pub accepted_done : (w : World) (q : RequestInfo) (n : Node) (p : Picture) (r : Resolved) (ks : List Key) (cs : List Call) (ns : List ℕ)
     (x : Progress) →
     slice_get w.nodes q.node ≡ Some n →
     w.scene.shows q.name ≡ Some p → speaker n (version_shown p) ≡ Some n → resolved w.scene p q.request ≡ Ok r →
@@ -62,7 +62,7 @@ append_nil : (xs : List Call) → xs ≡ xs ++ []
 append_nil [] = refl
 append_nil (x ∷ xs) = ap (λ (l : List Call). x ∷ l) (append_nil xs)
 
-pub refused_done : (w : World) (q : Wish) (n : Node) (p : Picture) (e : Refusal) (name : List ℕ) (cs : List Call) → q.name ≡ name →
+pub refused_done : (w : World) (q : RequestInfo) (n : Node) (p : Picture) (e : Refusal) (name : List ℕ) (cs : List Call) → q.name ≡ name →
     slice_get w.nodes q.node ≡ Some n →
     w.scene.shows name ≡ Some p → speaker n (version_shown p) ≡ Some n → resolved w.scene p q.request ≡ Err e → cs ≡ [] →
     step w (Want q.node name q.request) ≡ Some (record (with_request w q (Answered (Refused e))) { calls = w.calls ++ cs })

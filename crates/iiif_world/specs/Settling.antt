@@ -4,10 +4,10 @@ use Rattle.iiif_machine.specs.Types.{Picture, Resolved}
 use Rattle.iiif_machine.specs.Tables.{Outcome, Nowhere}
 use Rattle.iiif_machine.specs.declared.rows.Stage.{Stage}
 use Rattle.iiif_machine.specs.declared.rows.Flight.{Flight}
-use Rattle.iiif_machine.specs.declared.rows.Wish.{Wish}
+use Rattle.iiif_machine.specs.declared.rows.RequestInfo.{RequestInfo}
 use Rattle.iiif_machine.specs.declared.rows.Answer.{Answer}
 use Rattle.iiif_machine.specs.declared.rows.Progress.{Progress}
-use Rattle.iiif_machine.specs.declared.rows.Wanted.{Wanted}
+use Rattle.iiif_machine.specs.declared.rows.RequestRow.{RequestRow}
 use Rattle.iiif_machine.specs.declared.rows.Stage.TheVariants.{New, Looked, Asking, Fallback, Parts, Ready, Ended}
 use Rattle.iiif_machine.specs.declared.rows.Progress.TheVariants.{Waiting, Answered, Dropped}
 use Rattle.iiif_machine.specs.Worlds.{World, learned, all_learned, collected, answer_from}
@@ -37,17 +37,17 @@ answer_with w r (Some p) None = None
 answer_with w r None (Some os) = None
 answer_with w r None None = None
 
-abbrev pub answer_at : World → Wish → Progress → Option Answer
+abbrev pub answer_at : World → RequestInfo → Progress → Option Answer
 answer_at w q (Waiting r cs) = answer_with w r (w.scene.shows q.name) (all_learned w cs)
 answer_at w q (Answered a) = None
 answer_at w q Dropped = None
 
-abbrev pub answer_due : World → Wanted → Option Answer
-answer_due w q = answer_at w q.wish q.progress
+abbrev pub answer_due : World → RequestRow → Option Answer
+answer_due w q = answer_at w q.info q.progress
 
-abbrev pub answered_if : Wanted → Option Answer → Wanted
+abbrev pub answered_if : RequestRow → Option Answer → RequestRow
 answered_if q None = q
-answered_if q (Some a) = record { wish = q.wish; progress = Answered a }
+answered_if q (Some a) = record { info = q.info; progress = Answered a }
 
 -- each with what stands at its place
 abbrev pub joined : {A B : Type 0} → (A → B → A) → List A → List B → List A

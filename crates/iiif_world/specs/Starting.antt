@@ -7,7 +7,7 @@ use Rattle.iiif_machine.specs.Rows.{Node}
 use Rattle.iiif_machine.specs.Sound.{Each}
 use Rattle.iiif_world.specs.declared.starting.Setup.{Setup}
 use Rattle.iiif_world.specs.declared.starting.SetupFault.{SetupFault}
-use Rattle.iiif_world.specs.declared.starting.SetupFault.TheVariants.{Edge, Room, Picture, Ring, NoMemory}
+use Rattle.iiif_world.specs.declared.starting.SetupFault.TheVariants.{Edge, Room, Picture, Ring, Name, NoMemory}
 use Rattle.iiif_world.specs.declared.contents.Item.{Item}
 
 -- the node that is made of its name, its ring, its version and the limits of its tables
@@ -29,6 +29,10 @@ IsNamed setups name = (i : ℕ) × (s : Setup) × (slice_get setups i ≡ Some s
 abbrev pub NamesNodes : List Setup → Setup → Type 0
 NamesNodes setups s = (0 < length s.ring) × Each (IsNamed setups) s.ring
 
+-- a node's name has 255 bytes at most
+abbrev pub HasNodeName : Setup → Type 0
+HasNodeName s = length s.name ≤ 255
+
 -- each picture is one of a source
 abbrev pub AreSources : List Item → Type 0
 AreSources items = Each (λ i. IsSource i.picture) items
@@ -44,4 +48,7 @@ IsSetupFault items edge room setups Edge = ¬ IsEdge edge
 IsSetupFault items edge room setups Room = IsEdge edge × ¬ IsRoom room
 IsSetupFault items edge room setups Picture = IsEdge edge × IsRoom room × ¬ AreSources items
 IsSetupFault items edge room setups Ring = IsEdge edge × IsRoom room × AreSources items × ¬ Each (NamesNodes setups) setups
-IsSetupFault items edge room setups NoMemory = IsEdge edge × IsRoom room × AreSources items × Each (NamesNodes setups) setups
+IsSetupFault items edge room setups Name =
+    IsEdge edge × IsRoom room × AreSources items × Each (NamesNodes setups) setups × ¬ Each HasNodeName setups
+IsSetupFault items edge room setups NoMemory =
+    IsEdge edge × IsRoom room × AreSources items × Each (NamesNodes setups) setups × Each HasNodeName setups

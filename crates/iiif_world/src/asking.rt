@@ -10,7 +10,7 @@ ghost use Rattle.iiif_world.specs.Entering.{takes};
 use crate::contents::Contents;
 use iiif_machine::{Ask, Caller, Purpose, Reply, Stage, WorldFault};
 use iiif_pixel::NoMemory;
-use iiif_plain_tables::keys::{copied, same};
+use iiif_plain_tables::keys::{copy_value, same};
 use iiif_scene::Key;
 use iiif_tables::{Class, Place};
 use std::alloc::Global;
@@ -23,7 +23,7 @@ fn taken(alloc: Global, key: &Key, reply: &Reply) -> Result<Stage, NoMemory>
         Err(_) => Ok(Stage::Fallback(None)),
         Ok(value) => {
             if same(&reply.key, key) {
-                Ok(Stage::Ready(Ok(copied(alloc, value)?), Place::Peer))
+                Ok(Stage::Ready(Ok(copy_value(alloc, value)?), Place::Peer))
             } else {
                 Ok(Stage::Fallback(None))
             }
@@ -99,7 +99,7 @@ impl Contents {
         Ok(())
     }
 
-    /// A flight gets a reply.
+    /// Gives a reply to a flight.
     pub(crate) fn take(&mut self, flight: usize, reply: usize) -> Result<(), WorldFault>
         ensures ok { OnOk result (step (world_of self.old) (Event.Take flight reply) ≡ Some (world_of self.new)) }
         ensures not_now { IfErr result (λ f. f ≡ WorldFault.NotNow → step (world_of self.old) (Event.Take flight reply) ≡ None) }

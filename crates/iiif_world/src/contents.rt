@@ -1,4 +1,4 @@
-//! What a world is made of.
+//! The contents of a world.
 
 ghost use Rattle.std.specs.Prelude.{[], ◌∷◌, ◌++◌, ◌≡◌, ◌<◌, length, slice_get, Some, None, OnErr, OnOk, MatchOption, position};
 ghost use Rattle.iiif_machine.specs.declared.rows.Lead.{Lead};
@@ -12,7 +12,7 @@ ghost use Rattle.iiif_world.specs.Code.{has_name, world_of};
 
 use iiif_canonical::Limits;
 use iiif_keys::Name;
-use iiif_machine::{Ask, Call, CallState, Caller, Flight, Given, Reply, Stage, Wanted};
+use iiif_machine::{Ask, Call, CallState, Caller, Flight, Given, Reply, RequestRow, Stage};
 use iiif_pixel::{Depth, NoMemory, Raster};
 use iiif_plain_tables::keys::name_of;
 use iiif_plain_tables::node::Node;
@@ -25,7 +25,7 @@ pub struct Item {
     pub picture: Raster,
 }
 
-/// What a world is made of: pictures and limits, nodes, the faults that sources gave, and rows. A row's number is its place.
+/// The contents of a world: pictures and limits, nodes, the faults that sources gave, and rows. A row's number is its place.
 #[derive(Drop)]
 pub struct Contents {
     pub catalogue: Vec<Item>,
@@ -34,7 +34,7 @@ pub struct Contents {
     pub room: u64,
     pub nodes: Vec<Node>,
     pub given: Vec<Given>,
-    pub requests: Vec<Wanted>,
+    pub requests: Vec<RequestRow>,
     pub calls: Vec<Call>,
     pub flights: Vec<Flight>,
     pub asks: Vec<Ask>,

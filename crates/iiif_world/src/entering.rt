@@ -149,7 +149,7 @@ impl Contents {
         }
     }
 
-    /// Who makes a fresh call.
+    /// The caller of a fresh call.
     fn fresh_caller(&self, call: usize) -> Option<&Caller>
         ensures { MatchOption result (step (world_of self.now) (Event.Enter call) ≡ None)
             (λ who. slice_get (world_of self.now).calls call ≡ Some (record { caller = who.now; state = CallState.Fresh })) }

@@ -1,4 +1,4 @@
-//! What calls know.
+//! Outcomes that calls know.
 
 ghost use Rattle.std.specs.Prelude.{◌≡◌, Some, None, IfOk, MatchOption, OnErr};
 ghost use Rattle.iiif_machine.specs.declared.rows.CallState.{CallState};
@@ -10,7 +10,7 @@ use crate::contents::Contents;
 use iiif_machine::{CallState, Stage};
 use iiif_pixel::NoMemory;
 use iiif_plain_tables::hearing::{Heard, copied_outcome, first_of, heard_of};
-use iiif_plain_tables::keys::copied;
+use iiif_plain_tables::keys::copy_value;
 use iiif_scene::Value;
 use iiif_source::ReadFault;
 
@@ -32,7 +32,7 @@ impl Contents {
         Some(outcome)
     }
 
-    /// What a call in a state knows. The only error is lack of memory, and only where it knows something.
+    /// The outcome that a call in a state knows. The only error is lack of memory, and only where it knows one.
     fn known(&self, state: &CallState) -> Result<Option<Result<Value, ReadFault>>, NoMemory>
         ensures ok { IfOk result (λ o. o ≡ known_by (world_of self.now).flights state.now) }
         ensures err { OnErr result (¬ (known_by (world_of self.now).flights state.now ≡ None)) }
@@ -40,7 +40,7 @@ impl Contents {
         let alloc = *self.calls.allocator();
         match state {
             CallState::Fresh => Ok(None),
-            CallState::Hit(value) => Ok(Some(Ok(copied(alloc, value)?))),
+            CallState::Hit(value) => Ok(Some(Ok(copy_value(alloc, value)?))),
             CallState::In(flight) => match self.outcome_in(*flight) {
                 Some(outcome) => Ok(Some(copied_outcome(alloc, outcome)?)),
                 None => Ok(None),
@@ -49,7 +49,7 @@ impl Contents {
         }
     }
 
-    /// What a call knows. The only error is lack of memory, and only where the call knows something.
+    /// The outcome that a call knows. The only error is lack of memory, and only where the call knows one.
     pub(crate) fn learned(&self, call: usize) -> Result<Option<Result<Value, ReadFault>>, NoMemory>
         ensures ok { IfOk result (λ o. o ≡ learned (world_of self.now) call) }
         ensures err { OnErr result (¬ (learned (world_of self.now) call ≡ None)) }
@@ -60,7 +60,7 @@ impl Contents {
         }
     }
 
-    /// What a call in a state knows, but for the value.
+    /// The outcome that a call in a state knows, without its value.
     fn heard_in(&self, state: &CallState) -> Heard
         ensures { result ≡ heard (known_by (world_of self.now).flights state.now) }
     {
@@ -75,7 +75,7 @@ impl Contents {
         }
     }
 
-    /// What a call knows, but for the value.
+    /// The outcome that a call knows, without its value.
     fn heard(&self, call: usize) -> Heard
         ensures { result ≡ heard (learned (world_of self.now) call) }
     {
@@ -85,7 +85,7 @@ impl Contents {
         }
     }
 
-    /// What several calls know, but for the values. Of several faults it is the first.
+    /// The outcome that several calls know together, without values. Of several faults it is the first.
     pub(crate) fn gathered(&self, calls: &[usize]) -> Heard
         ensures { result ≡ heard_all (all_learned (world_of self.now) calls.now) }
     {

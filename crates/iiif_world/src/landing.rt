@@ -25,7 +25,7 @@ use iiif_source::ReadFault;
 use iiif_tables::Place;
 
 impl Contents {
-    /// What a flight has that is ready.
+    /// The outcome and the place of a flight that is ready.
     fn ready(&self, flight: usize) -> Option<(&Lead, &Result<Value, ReadFault>, Place)>
         ensures { MatchOption result ((keep : Bool) → step (world_of self.now) (Event.Land flight keep) ≡ None)
             (λ r. slice_get (world_of self.now).flights flight ≡ Some (record { lead = r.0.now; stage = Stage.Ready r.1.now r.2 })) }

@@ -1,4 +1,4 @@
-//! What holds of every list of events. The function computes nothing: its contract is the law.
+//! The law of lists of events. The function computes nothing: its contract is the law.
 
 ghost use Rattle.iiif_world.specs.Stepping.{RunsCompose};
 

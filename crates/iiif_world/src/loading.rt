@@ -26,7 +26,7 @@ use iiif_scene::{Key, Value};
 use iiif_source::ReadFault;
 use iiif_tables::{Class, Place};
 
-/// What a local flight does next.
+/// The next step of a local flight.
 #[derive(Clone, Copy)]
 pub enum Loading {
     /// Nothing.
@@ -71,7 +71,7 @@ impl Contents {
         Ok(())
     }
 
-    /// What a flight does next, where it is a local one.
+    /// The next step of a flight, where it is a local one.
     #[tactic(auto, unfolding(iiif_machine::specs::Steps::step, iiif_scene::specs::Keys::parts_of))]
     fn loading(&self, flight: usize) -> Loading
         ensures { IsLoading (world_of self.now) flight result }

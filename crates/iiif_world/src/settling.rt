@@ -1,4 +1,4 @@
-//! What follows when a call knows something more.
+//! Settling: flights resume and requests are answered once their calls know.
 
 ghost use Rattle.std.specs.Prelude.{◌≡◌, ℕ, length, map, slice_get, Some, IfOk};
 ghost use Rattle.iiif_scene.specs.Scenes.{IsProper};
@@ -8,7 +8,7 @@ ghost use Rattle.iiif_world.specs.Code.{world_of};
 ghost use Rattle.iiif_world.specs.Settling.{answer_due, answered_if, due, joined, ready_if};
 
 use crate::contents::Contents;
-use iiif_machine::{Answer, Flight, Progress, Stage, Wanted};
+use iiif_machine::{Answer, Flight, Progress, RequestRow, Stage};
 use iiif_pixel::NoMemory;
 use iiif_plain_tables::hearing::Heard;
 use iiif_plain_tables::making::image;
@@ -16,7 +16,7 @@ use iiif_scene::Value;
 use iiif_source::ReadFault;
 use iiif_tables::Place;
 
-/// What settling will change: for each flight its outcome, if it is ready by now, and for each request its answer.
+/// The changes that settling will make: for each flight its outcome, if it is ready by now, and for each request its answer.
 #[derive(Drop)]
 pub(crate) struct Settling {
     pub outcomes: Vec<Option<Result<Value, ReadFault>>>,
@@ -33,7 +33,7 @@ fn put_outcome(flight: &mut Flight, outcome: Option<Result<Value, ReadFault>>)
 }
 
 /// A request that has its answer by now is answered.
-fn put_answer(wanted: &mut Wanted, answer: Option<Answer>)
+fn put_answer(wanted: &mut RequestRow, answer: Option<Answer>)
     ensures { wanted.new ≡ answered_if wanted.old answer }
 {
     if let Some(answer) = answer {
@@ -52,7 +52,7 @@ fn put_outcomes(flights: &mut Vec<Flight>, outcomes: Vec<Option<Result<Value, Re
     }
 }
 
-fn put_answers(requests: &mut Vec<Wanted>, answers: Vec<Option<Answer>>)
+fn put_answers(requests: &mut Vec<RequestRow>, answers: Vec<Option<Answer>>)
     requires { length answers.items ≡ length requests.old.items }
     ensures { requests.new.items ≡ joined answered_if requests.old.items answers.items }
 {
@@ -86,7 +86,7 @@ impl Contents {
 
     /// The answer that a request has by now. In a sound world what the items' values make is the request's image, and so it is made of
     /// the whole picture.
-    fn answer_of(&self, wanted: &Wanted) -> Result<Option<Answer>, NoMemory>
+    fn answer_of(&self, wanted: &RequestRow) -> Result<Option<Answer>, NoMemory>
         requires proper { IsProper (world_of self.now).scene }
         requires honest { IsHonestWorld (world_of self.now) }
         requires there { (i : ℕ) × (slice_get (world_of self.now).requests i ≡ Some wanted.now) }
@@ -95,7 +95,7 @@ impl Contents {
         let Progress::Waiting(resolved, calls) = &wanted.progress else {
             return Ok(None);
         };
-        let Some(picture) = self.picture(&wanted.wish.name) else {
+        let Some(picture) = self.picture(&wanted.info.name) else {
             return Ok(None);
         };
         match self.gathered(calls.items()) {
@@ -120,7 +120,7 @@ impl Contents {
         Ok(all)
     }
 
-    /// What settling will change. The only error is lack of memory.
+    /// The changes that settling will make. The only error is lack of memory.
     pub(crate) fn settling(&self) -> Result<Settling, NoMemory>
         requires proper { IsProper (world_of self.now).scene }
         requires honest { IsHonestWorld (world_of self.now) }

@@ -8,7 +8,7 @@ ghost use Rattle.iiif_machine.specs.Sound.{Each};
 ghost use Rattle.iiif_ring.specs.Names.{names_of};
 ghost use Rattle.iiif_plain_tables.specs.Nodes.{node_of};
 ghost use Rattle.iiif_world.specs.Code.{scene_of, world_of, IsSoundWorld};
-ghost use Rattle.iiif_world.specs.Starting.{node_for, AreSources, IsNamed, IsSetupFault, NamesNodes};
+ghost use Rattle.iiif_world.specs.Starting.{node_for, AreSources, HasNodeName, IsNamed, IsSetupFault, NamesNodes};
 
 use crate::contents::{Contents, Item};
 use crate::world::World;
@@ -22,7 +22,7 @@ use iiif_tiff::{MAX_AREA, MAX_SIDE};
 use std::alloc::Global;
 use thiserror::Error;
 
-/// What a node is made of: its name, the names on its ring, the last version of messages that it speaks, and how many bytes and
+/// The settings of a node: its name, the names on its ring, the last version of messages that it speaks, and how many bytes and
 /// entries its tables keep at most.
 #[derive(Drop)]
 pub struct Setup {
@@ -48,6 +48,9 @@ pub enum SetupFault {
     /// A ring names no node.
     #[error("a ring names no node")]
     Ring,
+    /// A node's name has more than 255 bytes.
+    #[error("a node's name has at most 255 bytes")]
+    Name,
     /// Memory was refused.
     #[error("out of memory")]
     NoMemory,
@@ -57,7 +60,7 @@ impl SetupFault {
     ghost use Rattle.std.specs.Prelude.{◌≡◌};
     ghost use Rattle.iiif_world.specs.Faults.{number_of};
 
-    /// The number by which the fault is known outside, 1 to 5.
+    /// The number by which the fault is known outside, 1 to 6.
     pub const fn number(self) -> u8
         ensures { result ≡ number_of self }
     {
@@ -67,6 +70,7 @@ impl SetupFault {
             SetupFault::Picture => 3,
             SetupFault::Ring => 4,
             SetupFault::NoMemory => 5,
+            SetupFault::Name => 6,
         }
     }
 }
@@ -147,6 +151,22 @@ fn rings_name_nodes(setups: &[Setup]) -> bool
     true
 }
 
+/// How many bytes a node's name has at most.
+const NODE_NAME_LIMIT: usize = 255;
+
+/// Whether each node's name is within the limit.
+fn have_node_names(setups: &[Setup]) -> bool
+    ensures yes { IsTrue result → Each HasNodeName setups.now }
+    ensures no { result ≡ false → ¬ Each HasNodeName setups.now }
+{
+    for setup in setups {
+        if setup.name.as_str().len() > NODE_NAME_LIMIT {
+            return false;
+        }
+    }
+    true
+}
+
 /// The nodes that are made so. The only error is lack of memory.
 fn nodes_of(alloc: Global, setups: Vec<Setup>) -> Result<Vec<Node>, NoMemory>
     ensures { IfOk result (λ v. map node_of v.items ≡ map node_for setups.items) }
@@ -195,7 +215,7 @@ impl World {
     ///
     /// # Errors
     ///
-    /// The first of `Edge`, `Room`, `Picture` and `Ring` that applies; or `NoMemory`.
+    /// The first of `Edge`, `Room`, `Picture`, `Ring` and `Name` that applies; or `NoMemory`.
     pub fn new(
         alloc: Global,
         catalogue: Vec<Item>,
@@ -206,6 +226,7 @@ impl World {
     ) -> Result<World, SetupFault>
         ensures new { IfOk result (λ w. world_of w ≡ new_world (scene_of catalogue.items edge limits room) (map node_for setups.items)) }
         ensures sound { IfOk result (λ w. IsSoundWorld (world_of w)) }
+        ensures named { IfOk result (λ _. Each HasNodeName setups.items) }
         ensures fault { IfErr result (IsSetupFault catalogue.items edge room setups.items) }
     {
         if edge == 0 || 1024 < edge {
@@ -220,8 +241,13 @@ impl World {
         if !rings_name_nodes(&setups) {
             return Err(SetupFault::Ring);
         }
+        if !have_node_names(&setups) {
+            return Err(SetupFault::Name);
+        }
         match nodes_of(alloc, setups) {
-            Ok(nodes) => Ok(World::of(begun(alloc, catalogue, edge, limits, room, nodes))),
+            Ok(nodes) => Ok(World::from_contents(begun(
+                alloc, catalogue, edge, limits, room, nodes,
+            ))),
             Err(_) => Err(SetupFault::NoMemory),
         }
     }

@@ -1,4 +1,4 @@
-//! One event, and what came of the requests.
+//! One event, and the answers of requests.
 
 ghost use Rattle.std.specs.Prelude.{◌≡◌, slice_get, Some, None, IfErr, IfOk, OnErr, OnOk, MatchOption};
 ghost use Rattle.iiif_machine.specs.Steps.{step};
@@ -13,7 +13,7 @@ use iiif_machine::{Answer, Event, Progress, WorldFault};
 use iiif_pixel::NoMemory;
 
 /// An equal answer. The only error is lack of memory.
-fn copied_answer(answer: &Answer) -> Result<Answer, NoMemory>
+fn copy_answer(answer: &Answer) -> Result<Answer, NoMemory>
     ensures { IfOk result (λ a. a ≡ answer.now) }
 {
     match answer {
@@ -23,18 +23,18 @@ fn copied_answer(answer: &Answer) -> Result<Answer, NoMemory>
     }
 }
 
-/// What came of a request, if it is answered. The only error is lack of memory.
+/// A copy of a request's answer, if it is answered. The only error is lack of memory.
 fn answer_in(progress: &Progress) -> Result<Option<Answer>, NoMemory>
     ensures { IfOk result (λ a. a ≡ answer_in progress.now) }
 {
     match progress {
-        Progress::Answered(answer) => Ok(Some(copied_answer(answer)?)),
+        Progress::Answered(answer) => Ok(Some(copy_answer(answer)?)),
         Progress::Waiting(_, _) | Progress::Dropped => Ok(None),
     }
 }
 
 impl Contents {
-    /// What an event does.
+    /// Does an event.
     fn happen(&mut self, event: &Event) -> Result<(), WorldFault>
         requires sound { IsSoundWorld (world_of self.old) }
         ensures ok { OnOk result (step (world_of self.old) event.now ≡ Some (world_of self.new)) }

@@ -40,7 +40,7 @@ fn stage_found(found: Option<Value>) -> Stage
 }
 
 impl Contents {
-    /// What of a new flight never changes.
+    /// The lead of a new flight.
     fn new_lead(&self, flight: usize) -> Option<&Lead>
         ensures { MatchOption result (step (world_of self.now) (Event.Again flight) ≡ None)
             (λ l. slice_get (world_of self.now).flights flight ≡ Some (record { lead = l.now; stage = Stage.New })) }
@@ -54,7 +54,7 @@ impl Contents {
         Some(&row.lead)
     }
 
-    /// What of a wide flight that has looked again never changes.
+    /// The lead of a wide flight that has looked again.
     fn wide_lead(&self, flight: usize) -> Option<&Lead>
         ensures { MatchOption result (step (world_of self.now) (Event.AskPeer flight) ≡ None)
             (λ l. (slice_get (world_of self.now).flights flight ≡ Some (record { lead = l.now; stage = Stage.Looked })) ×

@@ -17,7 +17,7 @@ use crate::contents::{Contents, version_shown};
 use iiif_canonical::{Resolved, resolve};
 use iiif_keys::{Name, Shape};
 use iiif_machine::{
-    Answer, Call, Numbers, Progress, Purpose, ShortRequest, Wanted, Wish, WorldFault,
+    Answer, Call, Numbers, Progress, Purpose, RequestInfo, RequestRow, ShortRequest, WorldFault,
 };
 use iiif_pixel::{Dim, Kind, NoMemory, Raster};
 use iiif_plain_tables::calling::{calls_of, keys_of, numbers_of};
@@ -49,8 +49,8 @@ fn waits(resolved: Resolved, calls: Vec<usize>) -> Progress
 
 impl Contents {
     /// A request more, and its calls. After an error all is as before.
-    fn add_request(&mut self, wanted: Wanted, calls: Vec<Call>) -> Result<(), NoMemory>
-        ensures ok { OnOk result (world_of self.new ≡ record (with_request (world_of self.old) wanted.wish wanted.progress)
+    fn add_request(&mut self, wanted: RequestRow, calls: Vec<Call>) -> Result<(), NoMemory>
+        ensures ok { OnOk result (world_of self.new ≡ record (with_request (world_of self.old) wanted.info wanted.progress)
             { calls = (world_of self.old).calls ++ calls.items }) }
         ensures err { OnErr result (world_of self.new ≡ world_of self.old) }
     {
@@ -93,40 +93,41 @@ impl Contents {
     fn accepted(
         &self,
         at: &Node,
-        wish: Wish,
+        info: RequestInfo,
         picture: &Raster,
         resolved: Resolved,
-    ) -> Result<(Wanted, Vec<Call>), NoMemory>
+    ) -> Result<(RequestRow, Vec<Call>), NoMemory>
         requires proper { IsProper (world_of self.now).scene }
-        requires node { slice_get (world_of self.now).nodes wish.node ≡ Some (node_of at.now) }
-        requires shown { (world_of self.now).scene.shows wish.name ≡ Some picture.now }
-        requires resolved { resolves (world_of self.now).scene picture.now wish.request ≡ Ok resolved }
+        requires node { slice_get (world_of self.now).nodes info.node ≡ Some (node_of at.now) }
+        requires shown { (world_of self.now).scene.shows info.name ≡ Some picture.now }
+        requires resolved { resolves (world_of self.now).scene picture.now info.request ≡ Ok resolved }
         requires speaks { speaker (node_of at.now) (version_shown picture.now) ≡ Some (node_of at.now) }
-        ensures { IfOk result (λ r. step (world_of self.now) (Event.Want wish.node wish.name wish.request)
-            ≡ Some (record (with_request (world_of self.now) r.0.wish r.0.progress) { calls = (world_of self.now).calls ++ r.1.items })) }
+        ensures { IfOk result (λ r. step (world_of self.now) (Event.Want info.node info.name info.request)
+            ≡ Some (record (with_request (world_of self.now) r.0.info r.0.progress) { calls = (world_of self.now).calls ++ r.1.items })) }
     {
         let alloc = *self.calls.allocator();
-        let keys = self.items_of(&wish.name, picture, &wish.request, &resolved)?;
+        let keys = self.items_of(&info.name, picture, &info.request, &resolved)?;
         let numbers = numbers_of(alloc, self.calls.len(), keys.len())?;
         let purpose = Purpose::ForRequest(self.requests.len());
-        let calls = calls_of(alloc, wish.node, at, purpose, keys)?;
+        let calls = calls_of(alloc, info.node, at, purpose, keys)?;
         let progress = waits(resolved, numbers);
-        Ok((Wanted { wish, progress }, calls))
+        Ok((RequestRow { info, progress }, calls))
     }
 
-    /// What a request that comes to a node adds to the world, where it is allowed. The only error is lack of memory, and only where it
+    /// The row and the calls that a request to a node adds to the world, where it is allowed. The only error is lack of memory, and
+    /// only where it
     /// is allowed.
     fn wanted(
         &self,
         node: usize,
         name: &Name,
         request: &Request,
-    ) -> Result<Option<(Wanted, Vec<Call>)>, NoMemory>
+    ) -> Result<Option<(RequestRow, Vec<Call>)>, NoMemory>
         requires proper { IsProper (world_of self.now).scene }
         requires short { HasShortDecimals request.now }
         ensures ok { IfOk result (λ o. MatchOption o (step (world_of self.now) (Event.Want node name.now request.now) ≡ None)
             (λ r. step (world_of self.now) (Event.Want node name.now request.now)
-            ≡ Some (record (with_request (world_of self.now) r.0.wish r.0.progress) { calls = (world_of self.now).calls ++ r.1.items }))) }
+            ≡ Some (record (with_request (world_of self.now) r.0.info r.0.progress) { calls = (world_of self.now).calls ++ r.1.items }))) }
         ensures err { OnErr result (¬ (step (world_of self.now) (Event.Want node name.now request.now) ≡ None)) }
     {
         let Some(at) = self.node_at(node) else {
@@ -138,17 +139,17 @@ impl Contents {
         if !at.speaks(version_shown(picture)) {
             return Ok(None);
         }
-        let wish = Wish {
+        let info = RequestInfo {
             node,
             name: name.copy()?,
             request: *request,
         };
         match resolve(request, dim_of(picture), kind_of(picture), &self.limits) {
-            Ok(resolved) => Ok(Some(self.accepted(at, wish, picture, resolved)?)),
+            Ok(resolved) => Ok(Some(self.accepted(at, info, picture, resolved)?)),
             Err(refusal) => {
                 let progress = Progress::Answered(Answer::Refused(refusal));
                 let calls = Vec::new(*self.calls.allocator());
-                Ok(Some((Wanted { wish, progress }, calls)))
+                Ok(Some((RequestRow { info, progress }, calls)))
             }
         }
     }

@@ -23,7 +23,7 @@ impl Model for World {
 }
 
 impl World {
-    ghost use Rattle.std.specs.Prelude.{◌≡◌, length, take, slice_get, Some, None, IfErr, IfOk, OnErr, OnOk, MatchOption, MatchResult};
+    ghost use Rattle.std.specs.Prelude.{◌≡◌, length, take, slice_get, Some, None, IfErr, IfOk, OnErr, OnOk, MatchOption};
     ghost use Rattle.iiif_machine.specs.Steps.{run, step};
     ghost use Rattle.iiif_machine.specs.Worlds.{answers};
     ghost use Rattle.iiif_machine.specs.Promises.{Follows};
@@ -31,10 +31,10 @@ impl World {
     ghost use Rattle.iiif_machine.specs.declared.rows.Answer.{Answer};
     ghost use Rattle.iiif_machine.specs.declared.events.WorldFault.{WorldFault};
     ghost use Rattle.iiif_world.specs.Code.{world_of, IsSoundWorld};
-    ghost use Rattle.iiif_world.specs.Stepping.{AreRightAnswers, IsRightAnswer, StopsAt};
+    ghost use Rattle.iiif_world.specs.Stepping.{AreRightAnswers, IsRightAnswer, StopsRightAt};
 
     /// The world of these contents.
-    pub(crate) fn of(contents: Contents) -> World
+    pub(crate) fn from_contents(contents: Contents) -> World
         requires { IsSoundWorld (world_of contents) }
         ensures contents { result ≡ contents }
         ensures sound { IsSoundWorld (world_of result) }
@@ -90,28 +90,28 @@ impl World {
         self.contents().answers()
     }
 
-    /// Events, one after another. The world is the one after those that were done, also where it stops at one.
+    /// Runs events, one after another: the world after all of them. Where one isn't done, the world is given up.
     ///
     /// # Errors
     ///
     /// The place of the first event that was not allowed, with `NotNow`; or of one that was, and for which memory was refused, with
-    /// `NoMemory`. The world is the one in which that event would have happened.
-    pub fn run(&mut self, events: &[Event]) -> Result<(), (usize, WorldFault)>
-        ensures ok { OnOk result (run (world_of self.old) events.now ≡ Some (world_of self.new)) }
-        ensures err { IfErr result (λ e. StopsAt (world_of self.old) events.now e.0 e.1 (world_of self.new)) }
-        ensures follows { Follows (world_of self.old) (world_of self.new) }
-        ensures sound { IsSoundWorld (world_of self.new) }
-        ensures headline { MatchResult result (λ _. Headline (world_of self.old) events.now (world_of self.new))
-            (λ e. Headline (world_of self.old) (take e.0 events.now) (world_of self.new)) }
+    /// `NoMemory`.
+    pub fn run(self, events: &[Event]) -> Result<World, (usize, WorldFault)>
+        ensures ok { IfOk result (λ w. run (world_of self) events.now ≡ Some (world_of w)) }
+        ensures err { IfErr result (λ e. StopsRightAt (world_of self) events.now e.0 e.1) }
+        ensures follows { IfOk result (λ w. Follows (world_of self) (world_of w)) }
+        ensures sound { IfOk result (λ w. IsSoundWorld (world_of w)) }
+        ensures headline { IfOk result (λ w. Headline (world_of self) events.now (world_of w)) }
     {
+        let mut world = self;
         // It is sound, and so is what comes of it.
-        self.contents();
+        world.contents();
         for (place, event) in events.iter().enumerate() {
-            match self.step(event) {
+            match world.step(event) {
                 Ok(()) => {}
                 Err(fault) => return Err((place, fault)),
             }
         }
-        Ok(())
+        Ok(world)
     }
 }

@@ -48,10 +48,10 @@ fn ran(
     world: &str,
     events: &str,
 ) -> Result<Result<String, (usize, WorldFault)>, LineFault> {
-    let mut world = begun(alloc, world)?;
+    let world = begun(alloc, world)?;
     let events = events_of(alloc, events)?;
     match world.run(&events) {
-        Ok(()) => Ok(Ok(text_of(alloc, &world.answers()?)?)),
+        Ok(world) => Ok(Ok(text_of(alloc, &world.answers()?)?)),
         Err(stopped) => Ok(Err(stopped)),
     }
 }

@@ -1,3 +1,5 @@
+use Rattle.iiif_machine.proofs.WorkedLists.{answers_stay_at_a_stop, two_share_a_third_fault, owners_are_asked, three_are_answered}
+use Rattle.iiif_machine.proofs.WorkedLists.{peer_value_is_counted, eviction_leaves_others}
 use Rattle.iiif_machine.proofs.WorkedLists.{reply_of_another_key_is_not_taken, two_share_a_value, two_share_a_fault, waits_for_its_calls}
 use Rattle.iiif_machine.proofs.WorkedLists.{kept_is_found, not_kept_is_not_found, failing_read, not_again, fault_is_not_kept}
 use Rattle.iiif_machine.proofs.WorkedLists.{none_is_answered_yet, both_are_answered, late_repeat_changes_nothing, both_stay_answered}
@@ -106,3 +108,21 @@ returns-clause-tenth_is_kept c = tenth_is_kept
 
 pub returns-clause-evicted_from_both : goal.returns-clause-evicted_from_both
 returns-clause-evicted_from_both c = evicted_from_both
+
+pub returns-clause-answers_stay_at_a_stop : goal.returns-clause-answers_stay_at_a_stop
+returns-clause-answers_stay_at_a_stop c = answers_stay_at_a_stop
+
+pub returns-clause-two_share_a_third_fault : goal.returns-clause-two_share_a_third_fault
+returns-clause-two_share_a_third_fault c = two_share_a_third_fault
+
+pub returns-clause-owners_are_asked : goal.returns-clause-owners_are_asked
+returns-clause-owners_are_asked c = owners_are_asked
+
+pub returns-clause-three_are_answered : goal.returns-clause-three_are_answered
+returns-clause-three_are_answered c = three_are_answered
+
+pub returns-clause-peer_value_is_counted : goal.returns-clause-peer_value_is_counted
+returns-clause-peer_value_is_counted c = peer_value_is_counted
+
+pub returns-clause-eviction_leaves_others : goal.returns-clause-eviction_leaves_others
+returns-clause-eviction_leaves_others c = eviction_leaves_others

@@ -1,5 +1,8 @@
-use Rattle.iiif_scene.proofs.Assembling.{plans_have_items, items_fit, items_make_image, refused_has_no_image}
+use Rattle.iiif_scene.proofs.Assembling.{plans_have_items, no_plan_is_empty, items_fit, items_make_image, refused_has_no_image}
 use Rattle.iiif_scene.proofs.laws.items_make_the_image.Goals as goal
+
+pub returns-clause-some : goal.returns-clause-some
+returns-clause-some c = no_plan_is_empty
 
 pub returns-clause-fit : goal.returns-clause-fit
 returns-clause-fit c = items_fit

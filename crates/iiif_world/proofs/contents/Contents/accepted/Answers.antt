@@ -11,10 +11,10 @@ returns c =
     let count : length c.in_ok-keys.keys.items ≡ c.len-2.result = omega (arith, c.len-2.ensures, c.in_ok-keys.keys.ok.0) in
     let first : c.len.result ≡ length c.args.self.now.calls.items = omega (arith, c.len.ensures, c.args.self.now.calls.ok.0) in
     let request : c.len-3.result ≡ length c.args.self.now.requests.items = omega (arith, c.len-3.ensures, c.args.self.now.requests.ok.0) in
-    accepted_done (world_of c.args.self.now) c.args.wish (node_of c.args.at.now) c.args.picture.now c.args.resolved c.in_ok-keys.keys.items
+    accepted_done (world_of c.args.self.now) c.args.info (node_of c.args.at.now) c.args.picture.now c.args.resolved c.in_ok-keys.keys.items
     c.in_ok-calls.calls.items c.in_ok-numbers.numbers.items c.waits-progress.result
     c.requires.node c.requires.shown c.requires.speaks c.requires.resolved c.in_ok-keys.ensures
     (c.in_ok-numbers.ensures c.in_ok-keys.keys.items count ∙ ap (λ n. numbers n c.in_ok-keys.keys.items) first)
     (c.in_ok-calls.ensures ∙ ap (λ n. map fresh
-    (map (call_for c.args.wish.node (node_of c.args.at.now) (ForRequest n)) c.in_ok-keys.keys.items)) request)
+    (map (call_for c.args.info.node (node_of c.args.at.now) (ForRequest n)) c.in_ok-keys.keys.items)) request)
     c.waits-progress.ensures

@@ -13,33 +13,31 @@ use Rattle.iiif_world.proofs.world.World.run.Goals as goal
 
 pub loop-place-init : goal.loop-place-init
 unfolding run
-loop-place-init c = (refl, c.contents.ensures.sound, follows_itself (world_of c.args.self.now))
+loop-place-init c = (refl, c.contents.ensures.sound, follows_itself (world_of c.args.self))
 
 pub returns-in-Err-clause-err : goal.returns-in-Err-clause-err
 returns-in-Err-clause-err c =
-    stops_by (world_of c.args.self.now) (world_of c.loop-place.self) (world_of c.step.new.self) c.args.events.now c.loop-place.place
-    c.index-events-place.result c.in-Err.fault c.loop-place.invariant.0
-    (slice_get-get_or c.args.events.now c.loop-place.place c.index-events-place.result c.loop-place-test.true ∙
-    ap (λ (e : Event). Some e) (sym c.index-events-place.is)) c.in-Err.ensures.same
-    c.in-Err.ensures.not_now c.in-Err.ensures.no_memory
-
-pub returns-in-Err-clause-headline : goal.returns-in-Err-clause-headline
-returns-in-Err-clause-headline c =
-    run_is_right (world_of c.args.self.now) (world_of c.step.new.self) (take c.loop-place.place c.args.events.now) c.contents.ensures.sound
-    (c.loop-place.invariant.0 ∙ ap (λ (w : World). Some w) (sym c.in-Err.ensures.same))
+    let now = world_of c.loop-place.world in (
+      now,
+      stops_by (world_of c.args.self) now c.args.events.now c.loop-place.place c.index-events-place.result c.in-Err.fault
+          c.loop-place.invariant.0
+          (slice_get-get_or c.args.events.now c.loop-place.place c.index-events-place.result c.loop-place-test.true ∙
+          ap (λ (e : Event). Some e) (sym c.index-events-place.is)) c.in-Err.ensures.not_now c.in-Err.ensures.no_memory,
+      run_is_right (world_of c.args.self) now (take c.loop-place.place c.args.events.now) c.contents.ensures.sound c.loop-place.invariant.0,
+    )
 
 pub loop-place-preserved : goal.loop-place-preserved
 loop-place-preserved c = (
-  run_next (world_of c.args.self.now) (world_of c.loop-place.self) (world_of c.step.new.self) c.args.events.now c.loop-place.place
+  run_next (world_of c.args.self) (world_of c.loop-place.world) (world_of c.step.new.self) c.args.events.now c.loop-place.place
       c.index-events-place.result c.loop-place-test.true
       c.index-events-place.is c.loop-place.invariant.0 c.in-Ok.ensures.ok,
   c.in-Ok.ensures.sound,
-  follows_further (world_of c.args.self.now) (world_of c.loop-place.self) (world_of c.step.new.self) c.loop-place.invariant.2
+  follows_further (world_of c.args.self) (world_of c.loop-place.world) (world_of c.step.new.self) c.loop-place.invariant.2
       c.in-Ok.ensures.follows,
 )
 
 pub returns-clause-headline : goal.returns-clause-headline
 returns-clause-headline c =
-    run_is_right (world_of c.args.self.now) (world_of c.loop-place.self) c.args.events.now c.contents.ensures.sound
-    (ap (run (world_of c.args.self.now)) (sym (take_all c.loop-place.place c.args.events.now (omega (arith, c.loop-place-test.false)))) ∙
+    run_is_right (world_of c.args.self) (world_of c.loop-place.world) c.args.events.now c.contents.ensures.sound
+    (ap (run (world_of c.args.self)) (sym (take_all c.loop-place.place c.args.events.now (omega (arith, c.loop-place-test.false)))) ∙
     c.loop-place.invariant.0)

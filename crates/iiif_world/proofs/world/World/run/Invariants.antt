@@ -6,5 +6,5 @@ use Rattle.iiif_world.proofs.world.World.run.Given as goal
 
 -- the world after the events so far, which takes back nothing
 abbrev pub invariant-loop-place : goal.invariant-loop-place
-invariant-loop-place l = (run (world_of l.fn.self) (take l.place l.events) ≡ Some (world_of l.self)) × IsSoundWorld (world_of l.self) ×
-    Follows (world_of l.fn.self) (world_of l.self)
+invariant-loop-place l = (run (world_of l.fn.self) (take l.place l.events) ≡ Some (world_of l.world)) × IsSoundWorld (world_of l.world) ×
+    Follows (world_of l.fn.self) (world_of l.world)
