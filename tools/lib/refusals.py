@@ -373,7 +373,8 @@ class Verdict:
         return self.said.startswith(("NOT REFUSED", "BAD EDIT"))
 
     def __str__(self):
-        told = [f"code {'yes' if self.is_code else 'no'}", f"turns {self.turned or 'no function'}", f"called by {self.program or 'no program'}"]
+        told = [f"code {'yes' if self.is_code else 'no'}", f"turns {self.turned or 'no function'}"]
+        told.append(f"called by {self.program or 'no program'}")
         goal = f"goal {self.goal or 'none'}{f' of {self.of}' if self.of else ''}"
         told += [goal, f"public {'yes' if self.is_public else 'no'}"]
         end = "FAILED, " + self.said[:120] if self.is_failed else "counts" if self.why is None else f"doesn't count, {self.why}"
@@ -385,7 +386,8 @@ def judge(edit, said):
     pairs = list(turned_part(edit.text))
     is_code = bool(pairs) and all(path.startswith("src/") for path, _, _ in pairs)
     goal, of = goal_of(said), function_of(edit.crate, said)
-    inside = [function_at(edit.crate, tree.Path(path), place_of(edit.crate, path, old)) for path, old, _ in pairs if path.startswith("src/")]
+    places = [(tree.Path(path), place_of(edit.crate, path, old)) for path, old, _ in pairs if path.startswith("src/")]
+    inside = [function_at(edit.crate, *place) for place in places]
     # What stands in no function, such as a constant, is of the function whose goal it breaks.
     turned = next((it for it in inside if it), None)
     program = calls().program_of(turned or of) if turned or of else None
@@ -398,7 +400,8 @@ def judge(edit, said):
         why = f"the goal is of {of.path}, which is private"
     elif why is None and program is None:
         why = f"no program calls {(turned or of).path}"
-    return Verdict(edit.path, said, is_code, turned.path if turned else outside(pairs), program, goal, of.path if of else "", bool(of and of.is_public), why)
+    what, is_public = turned.path if turned else outside(pairs), bool(of and of.is_public)
+    return Verdict(edit.path, said, is_code, what, program, goal, of.path if of else "", is_public, why)
 
 
 def outside(pairs):
