@@ -336,7 +336,8 @@ def give_libraries(room, wanted):
     those that it couldn't give, each of which is another than its sources or stands on such a one.
 
     `rt ci` leaves each library in crates/NAME/out/rlib without the stamp by which `rt` knows it again, so that a changed file is never
-    overlooked. Here a library is given where it is younger than its files and those of all below it, and the copy has the very same files.
+    overlooked. Here a library is given where it has its stamp, or is younger than its files, and so are all below it; and where the copy has
+    the very same files.
     The files are linked and not copied: nothing writes into one of them.
     """
     sys.path.insert(0, os.path.dirname(os.path.realpath(shutil.which("rt"))))
@@ -368,8 +369,9 @@ def is_of(crate, ours, rtlib):
         return False
     made = os.path.getmtime(ours.rlib)
     files, copies = ({it.removeprefix(one.folder): it for it in rtlib.files_of(one.folder)} for one in (ours, crate))
-    return files.keys() == copies.keys() and all(
-        os.path.getmtime(it) <= made and Path(it).read_bytes() == Path(copies[name]).read_bytes() for name, it in files.items()
+    is_made_of_them = ours.is_built() or all(os.path.getmtime(it) <= made for it in files.values())
+    return is_made_of_them and files.keys() == copies.keys() and all(
+        Path(it).read_bytes() == Path(copies[name]).read_bytes() for name, it in files.items()
     )
 
 
