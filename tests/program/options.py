@@ -162,12 +162,12 @@ def the_first_band_is_sent_before_the_second_is_read(program, room):
     return got, [(200, True), (500, b"L1 source\n")], command(program, *words, "a=" + path)
 
 
-def threads_of(program, room, workers, seconds=1.5):
-    """The most threads of a server while one image after another is made for one viewer."""
+def threads_of(program, room, workers, wanted=0, seconds=1.5, most_seconds=30):
+    """The most threads of a server while one image after another is made for one viewer, until so many were seen, and for a while."""
     with Server(program, [f"a={room}/large_for_threads.tif"], ["--edge", 64, "--cache-bytes", 0, "--workers", workers]) as server:
-        folder, most, ends = f"/proc/{server.process.pid}/task", 0, time.monotonic() + seconds
+        folder, most, begun = f"/proc/{server.process.pid}/task", 0, time.monotonic()
         with connected(server.port, 60) as link:
-            while time.monotonic() < ends:
+            while time.monotonic() < begun + (seconds if most >= wanted else most_seconds):
                 link.sendall(b"GET /iiif/a/full/2048,/0/default.tif HTTP/1.1\r\nHost: localhost\r\n\r\n")
                 left = 4096 * 1024
                 while left > 0:
@@ -182,7 +182,8 @@ def threads_of(program, room, workers, seconds=1.5):
 def one_image_is_made_by_as_many_threads_as_workers_says(program, room):
     # One worker is the connection's own thread; each further one has a thread of its own. A band of the image has 32 blocks.
     picture(f"{room}/large_for_threads.tif", 4096, 4096, edge=64)
-    got = [threads_of(program, room, workers) for workers in (1, 2, 5)]
+    got = [threads_of(program, room, 1)]
+    got += [threads_of(program, room, workers, got[0] + workers - 1) for workers in (2, 5)]
     return [it - got[0] for it in got], [0, 1, 4], command(program, "--edge", 64, "--cache-bytes", 0, "--workers", 5, "a=large.tif")
 
 
