@@ -287,6 +287,46 @@ fn nothing_is_asked_for_one_who_goes_away_until_the_turn_has_come(rt: HostRuntim
     }
 }
 
+/// How many turns the picture's blocks are queued for, and how many of them aren't given back in the end.
+fn turns_of<R: Threads + Wait + Sync>(
+    rt: &R,
+    alloc: Global,
+    fails: Failing,
+    is_gone: bool,
+) -> Option<(u64, u64)> {
+    let shown = sample(alloc, fails)?;
+    let job = job(alloc, shown.shape, 2, Dim { w: 7, h: 7 }, UPRIGHT, 1)?;
+    if is_gone {
+        let mut out = Leaving {
+            looks: AtomicU64::new(0),
+        };
+        let _ = send_to(rt, alloc, &shown, &job, 1, &mut out);
+    } else {
+        let _ = send(rt, alloc, &shown, &job, 1);
+    }
+    let left = shown.queued.load(Ordering::SeqCst);
+    Some((shown.turns.load(Ordering::SeqCst), left))
+}
+
+/// Whoever waits behind such a job would wait for good.
+#[test]
+fn each_turn_is_given_back_where_the_image_is_sent_fails_or_has_no_reader(rt: HostRuntime) {
+    let rows = [
+        (Failing::Nothing, false),
+        (Failing::Blocks(Some(1)), false),
+        (Failing::Nothing, true),
+        (Failing::Turn, true),
+    ];
+    for (row, (fails, is_gone)) in rows.iter().enumerate() {
+        let found = turns_of(&rt, rt.alloc(), *fails, *is_gone);
+        let Some((turns, left)) = found else {
+            assert!(rt; false, "row {row}: no memory");
+            return;
+        };
+        assert!(rt; turns > 0 && left == 0, "row {row}: queued for {turns} turns, and {left} weren't given back");
+    }
+}
+
 /// The picture of 4 by 4 places, which is one tile, turned and sent by one worker.
 fn alone<R: Threads + Wait + Sync>(
     rt: &R,

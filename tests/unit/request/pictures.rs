@@ -60,6 +60,10 @@ pub struct Shown {
     fails: Failing,
     /// How many blocks were asked for.
     asks: AtomicU64,
+    /// How many turns were queued for and not yet given back.
+    pub queued: AtomicU64,
+    /// How many turns were queued for.
+    pub turns: AtomicU64,
     alloc: Global,
 }
 
@@ -175,6 +179,8 @@ impl<R> Items<SumKey, SumVal, u64, R> for Shown {
 /// Each job has its turn at once, or none has.
 impl<R> Turns<R> for Shown {
     fn come(&self, _rt: &R, work: u64) -> Queued {
+        self.queued.fetch_add(1, Ordering::SeqCst);
+        self.turns.fetch_add(1, Ordering::SeqCst);
         Queued { work, number: 0 }
     }
 
@@ -182,7 +188,9 @@ impl<R> Turns<R> for Shown {
         !matches!(self.fails, Failing::Turn)
     }
 
-    fn leave(&self, _rt: &R, _job: Queued) {}
+    fn leave(&self, _rt: &R, _job: Queued) {
+        self.queued.fetch_sub(1, Ordering::SeqCst);
+    }
 }
 
 /// How many samples there are.
@@ -213,6 +221,8 @@ pub(crate) fn of_samples(
                 shape,
                 fails,
                 asks: AtomicU64::new(0),
+                queued: AtomicU64::new(0),
+                turns: AtomicU64::new(0),
                 alloc,
             })
         }
