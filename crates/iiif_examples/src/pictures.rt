@@ -1,4 +1,4 @@
-//! What region, size, rotation and quality make of small pictures. The samples stand row by row.
+//! Regions, sizes, rotations and qualities of small pictures. The samples stand row by row.
 #![tactic(auto, unfolding(crate::proofs::Computing::pictures))]
 
 ghost use Rattle.std.specs.Prelude.{◌≡◌, false, true, [], ◌∷◌};

@@ -1,4 +1,4 @@
-//! What a server replies to whole targets. Its one image is named `a`: the file of the ramp, 4 by 4.
+//! Replies of a server to whole targets. Its one image is named `a`: the file of the ramp, 4 by 4.
 #![tactic(auto, unfolding(crate::proofs::Computing::replies))]
 
 ghost use Rattle.std.specs.Prelude.{◌≡◌, ◌++◌, codes, drop, false, None, Some, [], ◌∷◌};

@@ -1,4 +1,4 @@
-//! What targets ask for, and what the words of a request say.
+//! Resources that targets ask for, and requests that words spell.
 #![tactic(auto, unfolding(crate::proofs::Computing::words))]
 
 ghost use Rattle.std.specs.Prelude.{◌≡◌, false, true, codes, Ok, Err};

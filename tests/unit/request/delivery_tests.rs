@@ -308,7 +308,7 @@ fn turns_of<R: Threads + Wait + Sync>(
     Some((shown.turns.load(Ordering::SeqCst), left))
 }
 
-/// Whoever waits behind such a job would wait for good.
+/// A job behind one that keeps its turn would wait in vain.
 #[test]
 fn each_turn_is_given_back_where_the_image_is_sent_fails_or_has_no_reader(rt: HostRuntime) {
     let rows = [
