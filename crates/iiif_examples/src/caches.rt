@@ -1,4 +1,4 @@
-//! Entries that caches keep and evict, and the counts of a table. A key is a number here, and a value the number of bytes that its entry takes.
+//! Entries that caches keep and evict, and the counts of a table. A key is a number here, and a value the length of its entry in bytes.
 #![tactic(auto, unfolding(crate::proofs::Computing::caches))]
 
 ghost use Rattle.std.specs.Prelude.{◌≡◌, true, None, Some, [], ◌∷◌, nat_eq};
