@@ -34,7 +34,7 @@ mirrored_part p r columns rows =
     ∙ ap (λ u. sample_at p u (r.y + y) k) (omega arith)
     ∙ sym (sample_at-mirrored p (r.x + x) (r.y + y) k (omega arith) (omega arith) lk))
 
--- the part in r of a picture after one quarter, after two and after three
+-- the part in r of a picture after one quarter
 pub part_after_one : (p : Picture) (r : Rect) → r.x + r.w ≤ p.height → r.y + r.h ≤ p.width →
     quarter_turned (crop p (record { x = r.y; y = p.height - r.x - r.w; w = r.h; h = r.w })) ≡ crop (quarter_turned p) r
 unfolding crop_at
@@ -45,6 +45,7 @@ part_after_one p r columns rows =
     ∙ ap (λ v. sample_at p (r.y + y) v k) (omega arith)
     ∙ sym (sample_at-quarter_turned p (r.x + x) (r.y + y) k (omega arith) (omega arith) lk))
 
+-- the part in r of a picture after two quarters
 pub part_after_two : (p : Picture) (r : Rect) → r.x + r.w ≤ p.width → r.y + r.h ≤ p.height →
     quarter_turned (quarter_turned (crop p (record { x = p.width - r.x - r.w; y = p.height - r.y - r.h; w = r.w; h = r.h }))) ≡ crop
     (quarter_turned (quarter_turned p)) r
@@ -53,6 +54,7 @@ part_after_two p r columns rows =
     ap quarter_turned (part_after_one p between (omega arith) (omega arith))
     ∙ part_after_one (quarter_turned p) r columns rows
 
+-- the part in r of a picture after three quarters
 pub part_after_three : (p : Picture) (r : Rect) → r.x + r.w ≤ p.height → r.y + r.h ≤ p.width →
     quarter_turned (quarter_turned (quarter_turned (crop p (record { x = p.width - r.y - r.h; y = r.x; w = r.h; h = r.w })))) ≡ crop
     (quarter_turned (quarter_turned (quarter_turned p))) r
@@ -99,6 +101,7 @@ gray_at-crop p r x y k some lx ly =
         rw (at 0 some, at 1 (omega arith), at 2 (omega arith)) refl
     go false e = at 0 some
 
+-- a part in gray is the part of the gray picture
 pub gray-crop : (p : Picture) (r : Rect) → 0 < p.channels → LiesIn r (dim_of p) → gray (crop p r) ≡ crop (gray p) r
 unfolding crop_at
 gray-crop p r some inside =
@@ -106,6 +109,7 @@ gray-crop p r some inside =
     gray_at-crop p r x y k some lx ly
     ∙ sym (sample_at-picture_of p.width p.height 1 p.top (gray_at p) (r.x + x) (r.y + y) k (omega arith) (omega arith) lk))
 
+-- a part in black and white is the part of the black and white picture
 pub bitonal-crop : (p : Picture) (r : Rect) → 0 < p.channels → LiesIn r (dim_of p) → bitonal (crop p r) ≡ crop (bitonal p) r
 unfolding crop_at
 bitonal-crop p r some inside =
@@ -114,6 +118,7 @@ bitonal-crop p r some inside =
     ∙ sym (sample_at-picture_of p.width p.height 1 255 (λ x y k. black_or_white p.top (gray_at p x y k)) (r.x + x) (r.y + y) k (omega arith)
     (omega arith) lk))
 
+-- a part in any quality is the part of the picture in that quality
 pub quality-crop : (p : Picture) (r : Rect) (q : Quality) → 0 < p.channels → LiesIn r (dim_of p) →
     quality (crop p r) q ≡ crop (quality p q) r
 quality-crop p r Default some inside = refl
@@ -129,6 +134,7 @@ crop-scale p size r inside =
     same_built r.w r.h p.channels p.top _ _ (λ x y k lx ly lk.
     sample_at-picture_of size.w size.h p.channels p.top (scaled_at p size) (r.x + x) (r.y + y) k (omega arith) (omega arith) lk)
 
+-- the sample of a part of a scaled picture at a place
 pub sample_at-crop-scale : (p : Picture) (size : Dim) (r : Rect) (i j k : ℕ) → LiesIn r size → i < r.w → j < r.h → k < p.channels →
     sample_at (crop (scale p size) r) i j k ≡ scaled_at p size (r.x + i) (r.y + j) k
 sample_at-crop-scale p size r i j k inside li lj lk =
@@ -146,6 +152,7 @@ samples_of-split w m (suc n) c f =
     (ap (λ s. s ++ row_of w c (λ x k. f x (m + n) k)) (samples_of-split w m n c f)
     ∙ append_assoc (samples_of w m c f) (samples_of w n c (λ x y k. f x (m + y) k)) (row_of w c (λ x k. f x (m + n) k)))
 
+-- as crops of a picture
 pub rows_after_rows : (p : Picture) (from m n : ℕ) →
     (crop p (rows_from p from (m + n))).samples ≡ (crop p (rows_from p from m)).samples ++ (crop p (rows_from p (from + m) n)).samples
 unfolding crop_at

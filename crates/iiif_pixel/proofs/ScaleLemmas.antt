@@ -12,6 +12,7 @@ unfolding sum_from
 sum_from-le u zero f g h = omega arith
 sum_from-le u (suc n) f g h = omega (arith, sum_from-le u n f g h, h (u + n))
 
+-- a factor of each term is one of the sum
 pub sum_from-mul : (u n c : ℕ) (f : ℕ → ℕ) → sum_from u n (λ x. c * f x) ≡ c * sum_from u n f
 unfolding sum_from
 sum_from-mul u zero c f = omega arith
@@ -57,12 +58,14 @@ average_is-le s (suc m) t h =
     let e : (2 * s + suc m) / (2 * suc m) < t + 1 = (div-lt_iff_lt-mul {k = 2 * suc m} (omega arith)).1 below in
     omega (arith, e)
 
+-- a scaled picture has no sample above top
 pub scaled_at-le : (p : Picture) (size : Dim) → IsWhole p → (i j k : ℕ) → scaled_at p size i j k ≤ p.top
 unfolding scaled_at
 scaled_at-le p size whole i j k =
     average_is-le _ (p.width * p.height) p.top
     (area_sum-le (dim_of p) size (whole_of (dim_of p)) (λ x y. sample_at p x y k) i j p.top (λ x y. sample_at-le p whole x y k))
 
+-- a whole picture, scaled, is whole
 pub whole_scale : (p : Picture) (size : Dim) → IsWhole p → IsWhole (scale p size)
 whole_scale p size whole =
     whole_picture_of size.w size.h p.channels p.top (scaled_at p size) whole.channels whole.top

@@ -1,4 +1,12 @@
--- Words on sides, rectangles, kinds and depths.
+-- Sides, rectangles, kinds and depths.
+--
+--   channels_of   samples of a place: 1 (gray) or 3 (RGB)
+--   top_of        the greatest sample of a depth, white
+--   bytes_of      bytes of a sample
+--   LiesIn        a rectangle inside a picture's sides
+--   HasPlace      a place inside a rectangle
+--   sides_of      a rectangle's width and height
+--   nested        a rectangle of a part, as a rectangle of the whole
 use Rattle.std.specs.Prelude.{ℕ, ◌+◌, ◌≤◌, ◌<◌}
 use Rattle.iiif_pixel.specs.declared.geometry.Dim.{Dim}
 use Rattle.iiif_pixel.specs.declared.geometry.Rect.{Rect}
@@ -7,17 +15,17 @@ use Rattle.iiif_pixel.specs.declared.geometry.Kind.TheVariants.{Gray, Rgb}
 use Rattle.iiif_pixel.specs.declared.geometry.Depth.{Depth}
 use Rattle.iiif_pixel.specs.declared.geometry.Depth.TheVariants.{Eight, Sixteen}
 
--- How many samples a place has: TIFF 6.0, sections 4 (grayscale) and 6 (RGB).
+-- The number of samples of a place: TIFF 6.0, sections 4 (grayscale) and 6 (RGB).
 abbrev pub channels_of : Kind → ℕ
 channels_of Gray = 1
 channels_of Rgb = 3
 
--- The greatest sample, which is white: TIFF 6.0, section 8 (BitsPerSample), so many bits without a sign.
+-- The greatest sample, white: TIFF 6.0, section 8 (BitsPerSample), an unsigned number of that many bits.
 abbrev pub top_of : Depth → ℕ
 top_of Eight = 255
 top_of Sixteen = 65535
 
--- how many bytes a sample takes
+-- the bytes that a sample takes
 abbrev pub bytes_of : Depth → ℕ
 bytes_of Eight = 1
 bytes_of Sixteen = 2

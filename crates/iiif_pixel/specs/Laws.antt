@@ -1,4 +1,12 @@
--- Laws of all pictures, which the functions of the module `laws` have as their contracts.
+-- Laws of all pictures: the contracts of the functions of the module `laws`.
+--
+--   CropOfCrop                  a crop of a crop is one crop
+--   QualityOfCrop               quality and crop commute
+--   CropOfScale, SampleOfScale  a crop of a scaled picture has the averages at its places
+--   rows_from                   n rows of a picture, as a rectangle
+--   RowsAfterRows, AllRows      bands follow one another, and all rows are the picture
+--   CropIsWhole, TurnIsWhole, QualityIsWhole, ScaleIsWhole
+--                               each operation keeps a picture whole
 use Rattle.std.specs.Prelude.{◌≡◌, ℕ, ◌+◌, ◌<◌, ◌++◌}
 use Rattle.iiif_pixel.specs.Geometry.{LiesIn, sides_of, nested}
 use Rattle.iiif_pixel.specs.Picture.{Picture, IsWhole, dim_of, picture_of, sample_at}
@@ -24,7 +32,7 @@ CropOfScale =
     (p : Picture) (size : Dim) (r : Rect) → LiesIn r size →
     crop (scale p size) r ≡ picture_of r.w r.h p.channels p.top (λ i j k. scaled_at p size (r.x + i) (r.y + j) k)
 
--- and has them there
+-- a part of a scaled picture has the average at each of its places
 abbrev pub SampleOfScale : Type 0
 SampleOfScale =
     (p : Picture) (size : Dim) (r : Rect) (i j k : ℕ) → LiesIn r size → i < r.w → j < r.h → k < p.channels →
@@ -44,15 +52,18 @@ RowsAfterRows =
 abbrev pub AllRows : Type 0
 AllRows = (p : Picture) → IsWhole p → crop p (rows_from p 0 p.height) ≡ p
 
--- each operation on a whole picture gives a whole picture
+-- a part of a whole picture is whole
 abbrev pub CropIsWhole : Type 0
 CropIsWhole = (p : Picture) (r : Rect) → IsWhole p → IsWhole (crop p r)
 
+-- a whole picture, turned, is whole
 abbrev pub TurnIsWhole : Type 0
 TurnIsWhole = (p : Picture) (t : Turn) → IsWhole p → IsWhole (turn p t)
 
+-- a whole picture in another quality is whole
 abbrev pub QualityIsWhole : Type 0
 QualityIsWhole = (p : Picture) (q : Quality) → IsWhole p → IsWhole (quality p q)
 
+-- a whole picture, scaled, is whole
 abbrev pub ScaleIsWhole : Type 0
 ScaleIsWhole = (p : Picture) (size : Dim) → IsWhole p → IsWhole (scale p size)

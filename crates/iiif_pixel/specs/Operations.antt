@@ -1,4 +1,12 @@
--- What region, rotation and quality make of a picture, place by place.
+-- The API's region, rotation and quality, place by place.
+--
+--   crop                          region: the part in a rectangle
+--   mirrored, quarter_turned      rotation: `!`, and 90 degrees clockwise
+--   turned_by, turn               rotation by quarters, and the whole of it: mirrored first, then rotated
+--   turned_width, turned_height   sides after a rotation
+--   gray_of, gray_at              gray value of a colour, of a place
+--   black_or_white                a gray value, thresholded
+--   gray, bitonal, quality        quality: `gray`, `bitonal`, any of the four
 use Rattle.std.specs.Prelude.{ℕ, ◌+◌, ◌-◌, ◌*◌, ◌/◌, ◌%◌, if◌then◌else◌, ◌==◌, nat_lt}
 use Prim.Native.Nat.{zero, suc}
 use Rattle.iiif_pixel.specs.Picture.{Picture, picture_of, sample_at}
@@ -7,10 +15,11 @@ use Rattle.iiif_pixel.specs.declared.geometry.Turn.{Turn}
 use Rattle.iiif_pixel.specs.declared.geometry.Quality.{Quality}
 use Rattle.iiif_pixel.specs.declared.geometry.Quality.TheVariants.{Default, Color, Gray, Bitonal}
 
--- The part of p in a rectangle: IIIF Image API 3.0, section 4.1 (region).
+-- the sample of the part of p in a rectangle, in column x, row y and channel k of the part
 unfoldable pub crop_at : Picture → Rect → ℕ → ℕ → ℕ → ℕ
 crop_at p r x y k = sample_at p (r.x + x) (r.y + y) k
 
+-- The part of p in a rectangle: IIIF Image API 3.0, section 4.1 (region).
 abbrev pub crop : Picture → Rect → Picture
 crop p r = picture_of r.w r.h p.channels p.top (crop_at p r)
 
@@ -18,23 +27,24 @@ crop p r = picture_of r.w r.h p.channels p.top (crop_at p r)
 abbrev pub mirrored : Picture → Picture
 mirrored p = picture_of p.width p.height p.channels p.top (λ x y k. sample_at p (p.width - 1 - x) y k)
 
--- p turned clockwise by one quarter: IIIF Image API 3.0, section 4.3 (rotation, 90).
+-- p rotated clockwise by one quarter: IIIF Image API 3.0, section 4.3 (rotation, 90).
 abbrev pub quarter_turned : Picture → Picture
 quarter_turned p = picture_of p.height p.width p.channels p.top (λ x y k. sample_at p y (p.height - 1 - x) k)
 
--- p turned clockwise by so many quarters
+-- p rotated clockwise by so many quarters: section 4.3, 0, 90, 180 and 270 degrees
 abbrev pub turned_by : ℕ → Picture → Picture
 turned_by zero p = p
 turned_by (suc n) p = quarter_turned (turned_by n p)
 
--- Mirrored first, where the turn says so, and then turned: IIIF Image API 3.0, section 4.3 (rotation).
+-- p mirrored first, if the turn says so, and then rotated: IIIF Image API 3.0, section 4.3 (rotation).
 abbrev pub turn : Picture → Turn → Picture
 turn p t = turned_by t.quarters (if t.mirror then mirrored p else p)
 
--- the sides after so many quarters
+-- the width after so many quarters of a picture w by h: an odd number swaps the sides
 abbrev pub turned_width : ℕ → ℕ → ℕ → ℕ
 turned_width quarters w h = if quarters % 2 == 0 then w else h
 
+-- and the height
 abbrev pub turned_height : ℕ → ℕ → ℕ → ℕ
 turned_height quarters w h = if quarters % 2 == 0 then h else w
 

@@ -1,4 +1,13 @@
--- A picture: what every crate of the workspace means by an image, whole and without bounds on its size.
+-- Pictures: the model of an image that all crates share, without bounds on its size.
+--
+--   place                    a pixel: column x from the left, row y from the top, from 0
+--   joined                   pieces of a list, concatenated
+--   row_of, samples_of       the samples of a row, of all rows, from a function of column, row and channel
+--   picture_of               a picture from such a function
+--   index_of, sample_at      where a sample lies, and the sample
+--   with_sample, with_span   a picture with one sample, or one run of a row, replaced
+--   span_of                  the samples of a run of a row
+--   IsWhole                  gray or RGB, 8 or 16 bits, a sample for each place and channel
 use Rattle.std.specs.Prelude.{◌≡◌, ℕ, ◌+◌, ◌*◌, ◌≤◌, ◌⊎◌, List, [], ◌∷◌, ◌++◌, All, length, slice_index, slice_set, take, drop}
 use Prim.Native.Nat.{zero, suc}
 use Rattle.iiif_pixel.specs.declared.geometry.Dim.{Dim}
@@ -12,10 +21,11 @@ pub record Picture : Type 0 where
   pub top : ℕ
   pub samples : List ℕ
 
+-- the sides of a picture
 abbrev pub dim_of : Picture → Dim
 dim_of p = record { w = p.width; h = p.height }
 
--- the pieces 0, 1, .. up to n - 1, one after another
+-- the pieces 0, 1, .. up to n - 1, concatenated
 abbrev pub joined : ℕ → (ℕ → List ℕ) → List ℕ
 joined zero piece = []
 joined (suc n) piece = joined n piece ++ piece n

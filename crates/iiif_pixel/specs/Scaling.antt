@@ -1,4 +1,12 @@
 -- Area averaging: a picture scaled to other sides. IIIF Image API 3.0, section 4.2, leaves the way of scaling to the server.
+--
+--   sum_from              a sum over consecutive numbers
+--   overlap               the length of what two intervals share
+--   weight_of             the weight of a source column (or row) in a result column (or row)
+--   area_sum              the weighted sum at a result place
+--   average               such a sum over a whole picture, divided and rounded
+--   whole_of              all of a region
+--   scaled_at, scale      the sample of a scaled picture, and the picture
 use Rattle.std.specs.Prelude.{ℕ, ◌+◌, ◌-◌, ◌*◌, ◌/◌, min, max}
 use Prim.Native.Nat.{zero, suc}
 use Rattle.iiif_pixel.specs.Picture.{Picture, dim_of, picture_of, sample_at}
@@ -10,7 +18,7 @@ unfoldable pub sum_from : ℕ → ℕ → (ℕ → ℕ) → ℕ
 sum_from u zero f = 0
 sum_from u (suc n) f = sum_from u n f + f (u + n)
 
--- how much of [p, q) lies in [r, s)
+-- the length of the part of [p, q) that lies in [r, s)
 unfoldable pub overlap : ℕ → ℕ → ℕ → ℕ → ℕ
 overlap p q r s = min q s - max p r
 

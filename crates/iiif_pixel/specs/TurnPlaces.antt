@@ -1,4 +1,11 @@
--- Where a turn sends the places of a picture: IIIF Image API 3.0, section 4.3 (rotation).
+-- Places under a turn: IIIF Image API 3.0, section 4.3 (rotation).
+--
+--   turned_dim                   the sides after a turn
+--   mirrored_column              a column, counted from the right if mirrored
+--   quarter_place, place_after   a place after one quarter, after so many
+--   turned_place                 a place after a turn
+--   MovesTo                      a turn moves the sample of one place to another, in every picture
+--   TurnsInto                    a turn makes one part of another, in every picture
 use Rattle.std.specs.Prelude.{◌≡◌, ℕ, ◌-◌, ◌<◌, Bool, if◌then◌else◌}
 use Prim.Native.Nat.{zero, suc}
 use Rattle.iiif_pixel.specs.Picture.{Picture, sample_at}

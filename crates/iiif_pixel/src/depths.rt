@@ -1,4 +1,4 @@
-//! Samples of either depth: owned, and borrowed.
+//! Sample buffers of 8 or 16 bits: owned, and borrowed.
 
 ghost use Rattle.std.specs.Prelude.{◌≡◌, ◌+◌, ◌<◌, ◌≤◌, ◌^◌, ◌++◌, [], All, IfOk, OnOk, length, take, drop, replicate, slice_index};
 ghost use Rattle.std.specs.Prelude.{slice_set};
@@ -8,14 +8,14 @@ ghost use Rattle.iiif_pixel.specs.Depths.{values_of, depth_of, capacity_of, span
 use crate::geometry::Depth;
 use std::alloc::{AllocError, Global};
 
-/// Samples, each in as many bytes as its depth asks for.
+/// A sample buffer: one byte a sample at 8 bits, two at 16.
 #[derive(Drop)]
 pub enum Samples {
     Eight(Vec<u8>),
     Sixteen(Vec<u16>),
 }
 
-/// Samples that a picture lends.
+/// A run of samples, borrowed from a buffer.
 #[derive(Clone, Copy, Debug, PartialEq)]
 pub enum Span<'a> {
     Eight(&'a [u8]),
@@ -23,7 +23,7 @@ pub enum Span<'a> {
 }
 
 impl Samples {
-    /// So many zeros.
+    /// Allocates `count` zeros.
     pub(crate) fn zeros(alloc: Global, depth: Depth, count: usize) -> Result<Samples, AllocError>
         ensures values { IfOk result (λ s. values_of s ≡ replicate count 0) }
         ensures depth { IfOk result (λ s. depth_of s ≡ depth) }
@@ -34,7 +34,7 @@ impl Samples {
         })
     }
 
-    /// None yet, and room for so many.
+    /// Allocates an empty buffer with room for `count` samples.
     pub fn with_capacity(alloc: Global, depth: Depth, count: usize) -> Result<Samples, AllocError>
         ensures values { IfOk result (λ s. values_of s ≡ []) }
         ensures depth { IfOk result (λ s. depth_of s ≡ depth) }
@@ -46,7 +46,7 @@ impl Samples {
         })
     }
 
-    /// How many bits each has.
+    /// Returns the bits per sample.
     pub fn depth(&self) -> Depth
         ensures { result ≡ depth_of self.now }
     {
@@ -56,6 +56,7 @@ impl Samples {
         }
     }
 
+    /// Returns the allocator that the samples came from.
     pub(crate) fn allocator(&self) -> Global {
         match self {
             Samples::Eight(samples) => *samples.allocator(),
@@ -63,7 +64,7 @@ impl Samples {
         }
     }
 
-    /// All of them. None is above the depth's top, and they are few enough for an index.
+    /// Borrows all samples. None is above the depth's greatest.
     pub fn as_span(&self) -> Span<'_>
         ensures values { span_values result ≡ values_of self.now }
         ensures depth { span_depth result ≡ depth_of self.now }
@@ -81,7 +82,7 @@ impl Samples {
         }
     }
 
-    /// The one at an index.
+    /// Reads the sample at `index`.
     pub(crate) fn get(&self, index: usize) -> u16
         requires { index < length (values_of self.now) }
         ensures { result ≡ slice_index (values_of self.now) index }
@@ -92,7 +93,7 @@ impl Samples {
         }
     }
 
-    /// Writes the one at an index.
+    /// Writes the sample at `index`.
     pub(crate) fn set(&mut self, index: usize, value: u16)
         requires index { index < length (values_of self.old) }
         requires value { value ≤ top_of (depth_of self.old) }
@@ -105,7 +106,7 @@ impl Samples {
         }
     }
 
-    /// `count` of them from an index on.
+    /// Borrows `count` samples, from index `start` on.
     pub(crate) fn part(&self, start: usize, count: usize) -> Span<'_>
         requires { start + count ≤ length (values_of self.now) }
         ensures values { span_values result ≡ take count (drop start (values_of self.now)) }
@@ -117,7 +118,7 @@ impl Samples {
         }
     }
 
-    /// Writes those from an index on.
+    /// Overwrites the samples from index `start` on with a run of the same depth.
     pub(crate) fn put(&mut self, start: usize, part: Span)
         requires depth { span_depth part ≡ depth_of self.old }
         requires within { start + length (span_values part) ≤ length (values_of self.old) }
@@ -136,7 +137,7 @@ impl Samples {
         }
     }
 
-    /// Appends more.
+    /// Appends a run of the same depth.
     pub(crate) fn extend(&mut self, more: Span) -> Result<(), AllocError>
         requires { span_depth more ≡ depth_of self.old }
         ensures values { OnOk result (values_of self.new ≡ values_of self.old ++ span_values more.entry) }
@@ -150,7 +151,7 @@ impl Samples {
         Ok(())
     }
 
-    /// Equal samples.
+    /// Copies the samples.
     pub(crate) fn copy(&self) -> Result<Samples, AllocError>
         ensures values { IfOk result (λ s. values_of s ≡ values_of self.now) }
         ensures depth { IfOk result (λ s. depth_of s ≡ depth_of self.now) }

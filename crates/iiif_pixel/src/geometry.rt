@@ -1,17 +1,19 @@
-//! Sides, rectangles, kinds, turns and qualities.
+//! Image geometry and formats: dimensions, rectangles, kinds, depths, turns and qualities.
+//!
+//! A *place* is a pixel: a column `x` from the left and a row `y` from the top, both counted from 0.
 
 ghost use Rattle.std.specs.Prelude.{◌≡◌, ℕ, ◌<◌, ◌+◌, ◌*◌, ◌^◌, ◌≤◌, ◌↔◌, IsTrue, SomeIff};
 ghost use Rattle.iiif_pixel.specs.Geometry.{LiesIn, HasPlace, sides_of};
 ghost use Rattle.iiif_pixel.specs.TurnPlaces.{mirrored_column, turned_dim, turned_place, MovesTo, TurnsInto};
 
-/// The sides of a picture, in places (pixels).
+/// Width and height of a picture, in places (pixels).
 #[derive(Clone, Copy, Debug, PartialEq, Eq)]
 pub struct Dim {
     pub w: u32,
     pub h: u32,
 }
 
-/// A rectangle of places: its upper left corner, counted from the picture's, and its sides (IIIF Image API 3.0, 4.1 Region).
+/// A rectangle of places: its upper left corner and its sides (IIIF Image API 3.0, 4.1 Region).
 #[derive(Clone, Copy, Debug, PartialEq, Eq)]
 pub struct Rect {
     pub x: u32,
@@ -20,29 +22,30 @@ pub struct Rect {
     pub h: u32,
 }
 
-/// What a place of a raster has: one gray sample, or red, green and blue (TIFF 6.0, sections 4 and 6).
+/// Channels of a picture: one gray sample a place, or red, green and blue (TIFF 6.0, sections 4 and 6).
 #[derive(Clone, Copy, Debug, PartialEq, Eq)]
 pub enum Kind {
     Gray,
     Rgb,
 }
 
-/// How many bits a sample has (TIFF 6.0, section 8, BitsPerSample): black is 0, and white is the greatest number of so many.
+/// Bits per sample (TIFF 6.0, section 8, BitsPerSample). Black is 0, white the greatest number of that many bits.
 #[derive(Clone, Copy, Debug, PartialEq, Eq)]
 pub enum Depth {
     Eight,
     Sixteen,
 }
 
-/// A mirroring on the vertical axis, or none, and then quarter turns clockwise, 0 to 3 (IIIF Image API 3.0, 4.3 Rotation).
+/// A rotation request: first mirror on the vertical axis if `mirror`, then rotate clockwise by 0 to 3 quarters (IIIF Image API 3.0,
+/// 4.3 Rotation).
 #[derive(Clone, Copy, Debug, PartialEq, Eq)]
 pub struct Turn {
     pub mirror: bool,
     pub quarters: u8,
 }
 
-/// The qualities that can be asked for (IIIF Image API 3.0, 4.4 Quality): the picture's own, in colour (a gray picture has
-/// none to give), gray, and black and white.
+/// Qualities of the API (IIIF Image API 3.0, 4.4 Quality): the picture's own, in colour (a gray picture stays gray), gray, and black
+/// and white.
 #[derive(Clone, Copy, Debug, PartialEq, Eq)]
 pub enum Quality {
     Default,
@@ -54,7 +57,7 @@ pub enum Quality {
 impl Kind {
     ghost use Rattle.iiif_pixel.specs.Geometry.{channels_of};
 
-    /// How many samples a place has.
+    /// Returns the number of samples of a place.
     pub fn channels(self) -> usize
         ensures { result ≡ channels_of self }
     {
@@ -64,7 +67,7 @@ impl Kind {
         }
     }
 
-    /// How many samples a picture of these sides has; `None` where they are more than there are addresses.
+    /// Counts the samples of a picture of these sides. `None` if they are more than there are addresses.
     pub fn count(self, dim: Dim) -> Option<usize>
         ensures { SomeIff result (dim.w * dim.h * channels_of self < 2 ^ 64) (dim.w * dim.h * channels_of self) }
     {
@@ -76,7 +79,7 @@ impl Kind {
 impl Depth {
     ghost use Rattle.iiif_pixel.specs.Geometry.{top_of, bytes_of};
 
-    /// The greatest sample, which is white.
+    /// Returns the greatest sample, white: the most that [`Raster::set`](crate::Raster::set) may write.
     pub fn top(self) -> u16
         ensures { result ≡ top_of self }
     {
@@ -86,7 +89,7 @@ impl Depth {
         }
     }
 
-    /// How many bytes a sample takes.
+    /// Returns the bytes that a sample takes.
     pub fn bytes(self) -> usize
         ensures { result ≡ bytes_of self }
     {
@@ -100,7 +103,7 @@ impl Depth {
 impl Dim {
     ghost use Rattle.iiif_pixel.specs.Operations.{turned_width, turned_height};
 
-    /// The sides after a turn.
+    /// Returns the sides after a turn: an odd number of quarters swaps them.
     pub fn turned(self, by: Turn) -> Dim
         ensures width { result.w ≡ turned_width by.quarters self.w self.h }
         ensures height { result.h ≡ turned_height by.quarters self.w self.h }
@@ -117,7 +120,7 @@ impl Dim {
 }
 
 impl Rect {
-    /// The sides.
+    /// Returns the sides.
     pub fn dim(self) -> Dim
         ensures { result ≡ sides_of self }
     {
@@ -127,7 +130,7 @@ impl Rect {
         }
     }
 
-    /// Whether the rectangle lies inside these sides.
+    /// Tests whether the rectangle lies inside a picture of these sides.
     pub fn lies_in(self, dim: Dim) -> bool
         ensures { IsTrue result ↔ LiesIn self dim }
     {
@@ -136,7 +139,7 @@ impl Rect {
     }
 }
 
-/// Column `x` of `w`, counted from the right where the picture is mirrored.
+/// Returns column `x` of `w`, counted from the right if the picture is mirrored.
 fn mirrored_column(mirror: bool, w: u32, x: u32) -> u32
     requires { x < w }
     ensures value { result ≡ mirrored_column mirror w x }
@@ -145,7 +148,7 @@ fn mirrored_column(mirror: bool, w: u32, x: u32) -> u32
     if mirror { w - 1 - x } else { x }
 }
 
-/// The column and the row where the place in column `x` and row `y` of a picture with these sides stands once it is turned.
+/// Maps a place of a picture to its place in the turned picture: the result is a column and a row.
 pub fn turn_place(by: Turn, dim: Dim, x: u32, y: u32) -> (u32, u32)
     requires quarters { by.quarters < 4 }
     requires column { x < dim.w }
@@ -162,8 +165,11 @@ pub fn turn_place(by: Turn, dim: Dim, x: u32, y: u32) -> (u32, u32)
     }
 }
 
-/// The rectangle of a picture with these sides whose places a turn sends into `rect`, a rectangle of the turned picture. So
-/// the part in `rect` of the turned picture can be made of the part in the result alone.
+/// Maps a rectangle of the turned picture back to the picture: the result holds the places that the turn moves into `rect`. So a band of
+/// the turned picture is made of that part of the picture alone.
+///
+/// `moves` ties [`turn_place`]'s definition to the turn of pictures: the sample of each place stands, after the turn, where
+/// `turned_place` says.
 pub fn unturn_rect(by: Turn, dim: Dim, rect: Rect) -> Rect
     requires quarters { by.quarters < 4 }
     requires inside { LiesIn rect (turned_dim by dim) }
@@ -171,6 +177,8 @@ pub fn unturn_rect(by: Turn, dim: Dim, rect: Rect) -> Rect
     ensures same_places { (x y : ℕ) → x < dim.w → y < dim.h →
         HasPlace result x y ↔ HasPlace rect (turned_place by dim x y).0 (turned_place by dim x y).1 }
     ensures same_part { TurnsInto by dim result rect }
+    ensures moves { (x y : ℕ) → x < dim.w → y < dim.h →
+        MovesTo by dim x y (turned_place by dim x y).0 (turned_place by dim x y).1 }
 {
     let (x, y, w, h) = match by.quarters {
         0 => (rect.x, rect.y, rect.w, rect.h),

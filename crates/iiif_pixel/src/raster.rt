@@ -1,4 +1,4 @@
-//! Pictures in memory.
+//! Rasters: pictures in memory.
 
 ghost use Rattle.std.specs.Prelude.{◌≡◌, ◌*◌, ◌<◌, ◌≤◌, ◌+◌, ◌⊎◌, IfOk, length};
 ghost use Rattle.iiif_pixel.specs.Geometry.{channels_of, top_of, LiesIn};
@@ -15,7 +15,7 @@ pub use std::alloc::AllocError as NoMemory;
 use std::alloc::{AllocError, Global};
 use std::marker::Model;
 
-/// A picture in memory, with samples of 8 bits in a byte each, or of 16 bits in two. Contracts see the picture alone.
+/// A picture in memory, with samples of 8 bits in a byte each or of 16 bits in two. Contracts see the picture alone.
 #[derive(Drop)]
 pub struct Raster {
     dim: Dim,
@@ -38,7 +38,7 @@ impl Model for Raster {
 }
 
 impl Raster {
-    /// A picture of zeros. Sides with more samples than addresses are answered as lack of memory too.
+    /// Allocates a raster of zeros. [`NoMemory`] too if the sides ask for more samples than there are addresses.
     pub fn new(alloc: Global, dim: Dim, kind: Kind, depth: Depth) -> Result<Raster, NoMemory>
         ensures { IfOk result (λ r. r ≡ picture_of dim.w dim.h (channels_of kind) (top_of depth) (λ x y k. 0)) }
     {
@@ -52,8 +52,8 @@ impl Raster {
         })
     }
 
-    /// The picture with these samples, row by row from the top, in a row place by place from the left, at a place channel by
-    /// channel. It takes no memory.
+    /// Wraps samples as a raster: row by row from the top, in a row place by place from the left, at a place channel by channel. It
+    /// allocates nothing.
     pub fn from_samples(dim: Dim, kind: Kind, samples: Samples) -> Raster
         requires { length (values_of samples) ≡ dim.w * dim.h * channels_of kind }
         ensures { result ≡ raster_picture dim kind (depth_of samples) (values_of samples) }
@@ -61,7 +61,7 @@ impl Raster {
         Raster { dim, kind, samples }
     }
 
-    /// The sides.
+    /// Returns the sides.
     pub fn dim(&self) -> Dim
         ensures width { result.w ≡ self.now.width }
         ensures height { result.h ≡ self.now.height }
@@ -69,31 +69,31 @@ impl Raster {
         self.dim
     }
 
-    /// Gray or RGB.
+    /// Returns the kind: gray or RGB.
     pub fn kind(&self) -> Kind
         ensures { channels_of result ≡ self.now.channels }
     {
         self.kind
     }
 
-    /// How many bits a sample has.
+    /// Returns the bits per sample.
     pub fn depth(&self) -> Depth
         ensures { top_of result ≡ self.now.top }
     {
         self.samples.depth()
     }
 
-    /// Computes nothing: its clauses are what a caller knows of every raster. There are as many samples as the sides and channels
-    /// ask for, none above the depth's greatest.
+    /// States what holds of every raster: it has a sample for each place and channel, none above the depth's greatest. It computes
+    /// nothing.
     pub fn is_whole(&self)
         ensures whole { IsWhole self.now }
         ensures top { (self.now.top ≡ 255) ⊎ (self.now.top ≡ 65535) }
     {
-        // The samples are lent and not looked at: that what stands behind a reference is in its range is known only of what is read.
+        // Borrowed and not looked at: the prover knows the range of what stands behind a reference only once it is read.
         let _samples = self.samples();
     }
 
-    /// All samples, in the order of `from_samples`, with the clause of `is_whole` besides.
+    /// Borrows all samples, in the order of `from_samples`. `whole` is the clause of `is_whole`.
     pub fn samples(&self) -> Span<'_>
         ensures all { span_values result ≡ self.now.samples }
         ensures depth { top_of (span_depth result) ≡ self.now.top }
@@ -102,7 +102,7 @@ impl Raster {
         self.samples.as_span()
     }
 
-    /// The sample in a column, a row and a channel.
+    /// Reads the sample in a column, a row and a channel.
     #[tactic(auto, unfolding(crate::specs::Picture::sample_at))]
     pub fn get(&self, x: u32, y: u32, channel: usize) -> u16
         requires column { x < self.now.width }
@@ -113,7 +113,7 @@ impl Raster {
         self.samples.get(self.index(x, y, channel))
     }
 
-    /// Writes the sample in a column, a row and a channel, and leaves all others.
+    /// Writes the sample in a column, a row and a channel, and no other.
     pub fn set(&mut self, x: u32, y: u32, channel: usize, value: u16)
         requires column { x < self.old.width }
         requires row { y < self.old.height }
@@ -125,7 +125,7 @@ impl Raster {
         self.samples.set(index, value);
     }
 
-    /// The samples of `w` places of row `y`, from column `x` on.
+    /// Borrows the samples of `w` places of row `y`, from column `x` on.
     pub fn span(&self, x: u32, y: u32, w: u32) -> Span<'_>
         requires columns { x + w ≤ self.now.width }
         requires row { y < self.now.height }
@@ -136,7 +136,7 @@ impl Raster {
         self.samples.part(start, w as usize * self.kind.channels())
     }
 
-    /// Writes the samples of `w` places of row `y`, from column `x` on, and leaves all others. They are as deep as the raster's.
+    /// Overwrites the samples of `w` places of row `y`, from column `x` on, and no other. They have the raster's depth.
     pub fn put_span(&mut self, x: u32, y: u32, w: u32, samples: Span)
         requires columns { x + w ≤ self.old.width }
         requires row { y < self.old.height }
@@ -148,12 +148,12 @@ impl Raster {
         self.samples.put(start, samples);
     }
 
-    /// The part in a rectangle (IIIF Image API 3.0, 4.1 Region). The only error is lack of memory.
+    /// Crops to a rectangle (IIIF Image API 3.0, 4.1 Region).
     pub fn crop(&self, rect: Rect) -> Result<Raster, NoMemory>
         requires { LiesIn rect (dim_of self.now) }
         ensures { IfOk result (λ r. r ≡ crop self.now rect) }
     {
-        // Read, so that the rows' numbers are known to fit.
+        // Read so that the prover knows that the rows' numbers fit.
         let _height = self.dim.h;
         let count = rect.w as usize * self.kind.channels() * rect.h as usize;
         let alloc = self.samples.allocator();
@@ -168,8 +168,7 @@ impl Raster {
         })
     }
 
-    /// Mirrored where the turn says so, and then turned clockwise (IIIF Image API 3.0, 4.3 Rotation). The only error is lack of
-    /// memory.
+    /// Mirrors on the vertical axis if the turn says so, then rotates clockwise (IIIF Image API 3.0, 4.3 Rotation).
     pub fn turn(&self, by: Turn) -> Result<Raster, NoMemory>
         requires { by.quarters < 4 }
         ensures { IfOk result (λ r. r ≡ turn self.now by) }
@@ -185,8 +184,7 @@ impl Raster {
         })
     }
 
-    /// In another quality, place by place (IIIF Image API 3.0, 4.4 Quality); `Default` and `Color` change nothing. The only error
-    /// is lack of memory.
+    /// Converts to a quality, place by place (IIIF Image API 3.0, 4.4 Quality). `Default` and `Color` change nothing.
     pub fn quality(&self, to: Quality) -> Result<Raster, NoMemory>
         ensures { IfOk result (λ r. r ≡ quality self.now to) }
     {
@@ -197,7 +195,7 @@ impl Raster {
         }
     }
 
-    /// An equal raster. The only error is lack of memory.
+    /// Copies the raster.
     pub fn copy(&self) -> Result<Raster, NoMemory>
         ensures { IfOk result (λ r. r ≡ self.now) }
     {
@@ -208,7 +206,7 @@ impl Raster {
         })
     }
 
-    /// Where the sample in a column, a row and a channel lies.
+    /// Returns the index of the sample in a column, a row and a channel.
     fn index(&self, x: u32, y: u32, channel: usize) -> usize
         requires column { x < self.now.width }
         requires row { y < self.now.height }
@@ -219,7 +217,7 @@ impl Raster {
         (y as usize * self.dim.w as usize + x as usize) * self.kind.channels() + channel
     }
 
-    /// Where the samples of `w` places of row `y`, from column `x` on, begin.
+    /// Returns the index of the first sample of `w` places of row `y`, from column `x` on.
     fn start(&self, x: u32, y: u32, w: u32) -> usize
         requires columns { x + w ≤ self.now.width }
         requires row { y < self.now.height }
@@ -229,6 +227,7 @@ impl Raster {
         (y as usize * self.dim.w as usize + x as usize) * self.kind.channels()
     }
 
+    /// Converts to gray.
     fn gray(&self) -> Result<Raster, NoMemory>
         ensures { IfOk result (λ r. r ≡ gray self.now) }
     {
@@ -241,6 +240,7 @@ impl Raster {
         })
     }
 
+    /// Converts to black and white, in 8 bits.
     fn bitonal(&self) -> Result<Raster, NoMemory>
         ensures { IfOk result (λ r. r ≡ bitonal self.now) }
     {

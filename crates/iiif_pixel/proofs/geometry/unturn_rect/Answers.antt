@@ -2,6 +2,7 @@ use Rattle.std.proofs.Common.{◌≡◌, ◌-◌, refl, ap, ◌∙◌, arith}
 use Rattle.iiif_pixel.specs.Operations.{mirrored, quarter_turned}
 use Rattle.iiif_pixel.specs.declared.geometry.Rect.{Rect}
 use Rattle.iiif_pixel.proofs.CropLaws.{mirrored_part, part_after_one, part_after_two, part_after_three}
+use Rattle.iiif_pixel.proofs.TurnLemmas.{turned_place_moves}
 use Rattle.iiif_pixel.proofs.geometry.unturn_rect.Goals as goal
 use Rattle.iiif_pixel.proofs.geometry.unturn_rect.Goals.{in-0, in-1, in-2, in_default}
 
@@ -48,3 +49,9 @@ returns-then-by-clause-same_part c = λ p ew eh.
           (ap (λ q. quarter_turned (quarter_turned (quarter_turned q))) (mirrored_part p from (omega arith) (omega arith)) ∙
           part_after_three (mirrored p) r (omega arith) (omega arith))
     ]
+
+pub returns-else-by-clause-moves : goal.returns-else-by-clause-moves
+returns-else-by-clause-moves c = λ x y lx ly. turned_place_moves c.args.by c.args.dim x y c.requires.quarters lx ly
+
+pub returns-then-by-clause-moves : goal.returns-then-by-clause-moves
+returns-then-by-clause-moves c = λ x y lx ly. turned_place_moves c.args.by c.args.dim x y c.requires.quarters lx ly
