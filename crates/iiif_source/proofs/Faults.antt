@@ -1,4 +1,4 @@
--- Faults of files, and where they are.
+-- Lemmas on faults of files: their cause and their offset.
 use Rattle.std.proofs.Common.{ℕ, Bool, true, false, ◌&&◌, IsTrue, arith}
 use Rattle.std.specs.Prelude.{Result, IfErr}
 use Rattle.std.proofs.lemmas.Result.{IfErr-weaker}
@@ -11,7 +11,7 @@ right_of : (a b : Bool) → IsTrue (a && b) → IsTrue b
 right_of true b both = both
 right_of false b both = cc
 
--- a fault that a read of a file had is by a cause of files
+-- a fault of a file's read has a cause of files
 pub by_cause : {A : Type 0} (result : Result A ReadFault) (had : ReadFault → Bool) → IfErr result (λ f. IsTrue (had f && is_of_file f)) →
     IfErr result (λ f. IsTrue (is_of_file f))
 by_cause result had given =

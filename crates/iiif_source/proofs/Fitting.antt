@@ -1,4 +1,4 @@
--- What is held, cut or filled to a length.
+-- Lemmas on bytes that are cut or filled to a length.
 use Rattle.std.proofs.Common.{◌≡◌, ℕ, ◌+◌, ◌*◌, ◌-◌, ◌<◌, ◌≤◌, List, length, get_or, take, replicate, ap, ◌∙◌, sym, inl, inr, arith}
 use Rattle.std.proofs.lemmas.Bool.{cases_lt}
 use Rattle.std.proofs.lemmas.Nat.{mul-le}
@@ -30,12 +30,13 @@ at_run n j i runs inside below within =
     mul-le j runs.stride (runs.count - 1) runs.stride (omega (arith, below)) (omega arith) in
     omega (arith, far, within, inside.within)
 
--- runs of what is held and of what it is cut or filled to are the same
+-- runs of bytes cut or filled to a length are runs of the bytes
 pub runs_of_held : (n : ℕ) (held buffer : List ℕ) (runs : Runs) → AreIn n runs → HoldsRuns (fitted n held) runs runs.count buffer →
     HoldsRuns held runs runs.count buffer
 runs_of_held n held buffer runs inside there j i below within =
     there j i below within ∙ fitted_at n (runs.at + j * runs.stride + i) held (at_run n j i runs inside below within)
 
+-- runs of bytes are runs of them cut or filled to a length
 pub runs_of_fitted : (n : ℕ) (held buffer : List ℕ) (runs : Runs) → AreIn n runs → HoldsRuns held runs runs.count buffer →
     HoldsRuns (fitted n held) runs runs.count buffer
 runs_of_fitted n held buffer runs inside there j i below within =

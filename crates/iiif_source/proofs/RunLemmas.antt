@@ -1,4 +1,4 @@
--- Runs of bytes that are read one after another.
+-- Lemmas for the loop that reads runs one by one.
 use Rattle.std.proofs.Common.{◌≡◌, ℕ, ◌+◌, ◌*◌, ◌-◌, ◌<◌, ◌≤◌, List, length, get_or, take, drop, ap, ◌∙◌, inl, inr, arith}
 use Rattle.std.proofs.lemmas.Bool.{cases_lt}
 use Rattle.std.proofs.lemmas.Nat.{row_fits, mul-le}
@@ -6,7 +6,7 @@ use Rattle.std.proofs.lemmas.List.{get_or-take, get_or-drop, length-take, length
 use borrow.Rule.Slice.PartMut.{put_mid, mid_of}
 use Rattle.iiif_pixel.proofs.Splice.{get_or-put_inside, get_or-put_below}
 
--- the row that was read, and those before it
+-- one run more: the buffer holds the run that was read, and those before it
 pub run_more : (bytes buffer new : List ℕ) (at stride run rows j m : ℕ) → length buffer ≡ rows * run → j < rows → m ≡ run →
     at + (rows - 1) * stride + run ≤ length bytes
     → new ≡ take (length (mid_of (j * run) m buffer)) (drop (at + j * stride) bytes)
@@ -36,7 +36,7 @@ run_more bytes buffer new at stride run rows j m len below m-is in_file new-is s
           get_or-drop (at + j * stride) bytes i 0)
     ]
 
--- all rows by one read
+-- contiguous runs: one read gives all
 pub runs_together : (bytes new : List ℕ) (at stride run rows n j i : ℕ) → run ≡ stride → n ≡ rows * run → new ≡ take n (drop at bytes) →
     j < rows → i < run → get_or new (j * run + i) 0 ≡ get_or bytes (at + j * stride + i) 0
 runs_together bytes new at stride run rows n j i same n-is new-is lt within =

@@ -1,4 +1,9 @@
--- The causes of a read's fault.
+-- Causes of a failed read.
+--
+--   failed, ended, fuse, differs   the causes, by number
+--   IsCauseOf                      the cause that an error of the system gives
+--   is_of_file                     a fault that a file may have: failed or ended
+--   gave_of                        a device's faults, by such a cause alone
 use Rattle.std.specs.Prelude.{◌≡◌, ◌≢◌, ◌==◌, ◌&&◌, ◌||◌, ℕ, Bool}
 use Rattle.std.specs.declared.io.ErrorKind.{ErrorKind}
 use Rattle.std.specs.declared.io.ErrorKind.TheVariants.{UnexpectedEof}
@@ -12,19 +17,23 @@ failed = 1
 abbrev pub ended : ℕ
 ended = 2
 
--- a fuse was told to fail
+-- a FuseSource failed as it was told
 abbrev pub fuse : ℕ
 fuse = 3
 
--- The cause of the fault of a read that ended with an error of this kind.
+-- the bytes that were read don't have the digest that is listed
+abbrev pub differs : ℕ
+differs = 4
+
+-- The cause of a failed read, by the kind of the system's error: the end of the file, or any other.
 pub record IsCauseOf (kind : ErrorKind) (cause : ℕ) : Type 0 where
   pub at_end : kind ≡ UnexpectedEof → cause ≡ ended
   pub otherwise : kind ≢ UnexpectedEof → cause ≡ failed
 
--- a cause of a file's faults
+-- a fault that a file may have
 abbrev pub is_of_file : ReadFault → Bool
 is_of_file f = f.cause == failed || f.cause == ended
 
--- a read had this fault, by such a cause
+-- a fault that the device gave and that a file may have
 abbrev pub gave_of : (ReadFault → Bool) → ReadFault → Bool
 gave_of had f = had f && is_of_file f

@@ -1,4 +1,4 @@
-//! A file as a source.
+//! Files as sources, held open.
 
 ghost use Rattle.std.specs.Prelude.{◌||◌, ◌==◌, ◌≡◌, IfOk, IfSome, IsTrue, length, string_bytes};
 ghost use Rattle.std.specs.Arc.{arc_value};
@@ -11,7 +11,7 @@ use std::io;
 use std::marker::Model;
 use std::sync::{Arc, RwLock, Wait};
 
-/// A file behind a lock that readers share. It is seen as its path and its length, which is taken once, when the source is made.
+/// An open file as a source, behind a lock that readers share. Contracts see its path and its length, which is taken once, by `new`.
 #[derive(Drop)]
 pub struct FileSource<R: Opens> {
     path: Arc<String>,
@@ -26,7 +26,7 @@ impl<R: Opens> Model for FileSource<R> {
 }
 
 impl<R: Opens> FileSource<R> {
-    /// A source of an open file, of the length that it has now.
+    /// Makes a source of an open file, with the length that the system tells now.
     pub fn new(rt: &R, file: OpenFile<R>) -> io::Result<FileSource<R>>
         ensures path { IfOk result (λ s. s.path ≡ string_bytes (arc_value file.path)) }
         ensures length { R.keeps (string_bytes (arc_value file.path)) →
@@ -47,6 +47,8 @@ impl<R: Opens + Wait> Source<R> for FileSource<R> {
     ghost keeps = { λ s. R.keeps s.path };
 
     ghost gave = { λ _ f. f.cause == failed || f.cause == ended };
+
+    ghost reads = { λ s. R.reads s.path };
 
     fn len(&self) -> u64 {
         self.len
@@ -69,7 +71,7 @@ impl<R: Opens + Wait> Source<R> for FileSource<R> {
     }
 }
 
-/// A file behind a lock, where it was opened under the path.
+/// Borrows the locked file as a source, if it was opened under `path`.
 fn opened<'a, R: Opens>(path: &str, len: u64, file: &'a OpenFile<R>) -> Option<Opened<'a, R>>
     ensures path { IfSome result (λ s. s.path ≡ path.now) }
     ensures len { IfSome result (λ s. s.len ≡ len) }
@@ -80,7 +82,7 @@ fn opened<'a, R: Opens>(path: &str, len: u64, file: &'a OpenFile<R>) -> Option<O
     Some(Opened { file, len })
 }
 
-/// The fault of a read where the file behind the lock isn't the source's, which can't be.
+/// Makes the fault of a read whose locked file has another path, which never happens: the prover knows nothing of what a lock guards.
 fn astray(at: u64) -> ReadFault
     ensures place { result.place ≡ at }
     ensures cause { IsTrue (result.cause == failed || result.cause == ended) }

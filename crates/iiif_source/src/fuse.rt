@@ -1,4 +1,4 @@
-//! A source that fails when told, for tests of what stands above it.
+//! Fault injection: a source that fails when told, for tests of the crates above.
 
 ghost use Rattle.std.specs.Prelude.{◌≡◌, ◌||◌, ◌==◌};
 ghost use Rattle.iiif_source.specs.Cause.{fuse};
@@ -7,7 +7,7 @@ use crate::{ReadFault, Source};
 use std::marker::Model;
 use std::sync::atomic::{AtomicBool, AtomicU64, Ordering};
 
-/// A source that fails from its k-th read on, until it is mended. It is seen as the source inside.
+/// A source that fails from its k-th read on, until it is mended. Contracts see the source inside.
 #[derive(Drop)]
 pub struct FuseSource<S> {
     inner: S,
@@ -23,7 +23,7 @@ impl<S> Model for FuseSource<S> {
 }
 
 impl<S> FuseSource<S> {
-    /// A source whose reads fail from the k-th on, counted from 1, whatever they read; a k of 0 is a k of 1.
+    /// Wraps a source: reads fail from the k-th on, counted from 1. A k of 0 counts as 1.
     pub fn new(inner: S, k: u64) -> FuseSource<S>
         ensures { result ≡ inner }
     {
@@ -35,7 +35,7 @@ impl<S> FuseSource<S> {
         }
     }
 
-    /// From now on, for good, each read is the inner source's.
+    /// Stops the faults for good: each later read is the inner source's.
     pub fn mend(&self) {
         self.mended.store(true, Ordering::SeqCst);
     }
@@ -47,6 +47,8 @@ impl<R, S: Source<R>> Source<R> for FuseSource<S> {
     ghost keeps = { λ s. S.keeps s };
 
     ghost gave = { λ s f. S.gave s f || f.cause == fuse };
+
+    ghost reads = { λ s. S.reads s };
 
     fn len(&self) -> u64 {
         self.inner.len()

@@ -1,4 +1,9 @@
-//! The bytes of an image's source, read at any place: from memory, from a file, and from a device that fails when told.
+//! Byte sources with reads at any offset: [`MemSource`] (memory), [`FileSource`] and [`Opened`] (files) and [`FuseSource`] (fault
+//! injection).
+//!
+//! A source's contract has three ghost members. `bytes` are the bytes that it has by right. `keeps` is the premise of each promise on what
+//! is read: the bytes don't change and a successful read gives them. `reads` tells, with no premise, what a read gave, right or wrong; a
+//! check against digests stands on it. [`Opens`] has the same three of the files of a runtime.
 #![tactic(auto)]
 
 ghost use Rattle.std.specs.Prelude.{◌≡◌, ◌+◌, ◌*◌, ◌^◌, ◌≤◌, ℕ, List, All, length, take, drop, OnOk, IfErr, Bool, IsTrue};
@@ -20,7 +25,7 @@ mod system;
 
 use thiserror::Error;
 
-/// Why a read failed: the place in the source, in bytes, where the read began, and one of the causes below.
+/// A failed read: the byte offset where it began, and its cause, one of the constants below.
 #[derive(Clone, Copy, Debug, PartialEq, Eq, Error)]
 #[error("a read of the source failed")]
 pub struct ReadFault {
@@ -29,17 +34,21 @@ pub struct ReadFault {
 }
 
 impl ReadFault {
-    /// The device refused the read.
+    /// The device refused the read: the file is gone, can't be opened or read, or was changed (not in length) since the source was made.
     pub const FAILED: u8 = 1;
 
-    /// The source ended before the read did: it has become shorter than it was.
+    /// The source ended before the read did: it became shorter than it was when the source was made.
     pub const ENDED: u8 = 2;
 
-    /// A `FuseSource` was told to fail.
+    /// A [`FuseSource`] failed as it was told.
     pub const FUSE: u8 = 3;
+
+    /// The bytes that were read don't have the digest that is listed. For a source that checks what it reads; none of this crate does.
+    pub const DIFFERS: u8 = 4;
 }
 
-/// Runs of bytes in a source: where the first begins, how far apart they begin, how long each is, and how many they are.
+/// Runs of bytes at equal distances in a source, as the rows of a part of an image: `count` runs of `len` bytes, the first at `at`, each
+/// `stride` behind the one before.
 #[derive(Clone, Copy)]
 pub struct Runs {
     pub at: u64,
@@ -49,7 +58,7 @@ pub struct Runs {
 }
 
 impl Runs {
-    /// Where the run of a number begins.
+    /// Returns the offset of the run of a number, counted from 0.
     fn begin(&self, number: u32) -> u64
         requires { (self.now.at ≤ 2 ^ 61) × (self.now.stride ≤ 2 ^ 23) }
         ensures { result ≡ self.now.at + number * self.now.stride }
@@ -58,32 +67,36 @@ impl Runs {
     }
 }
 
-/// Bytes that are read at any place. R is the runtime that a read takes: a source in memory takes any, one behind a
-/// lock a runtime that may wait.
+/// A byte source with reads at any offset. R is the runtime that a read takes: a source in memory takes any, one behind a lock a
+/// runtime that may wait.
 pub trait Source<R> {
-    /// The bytes of the source.
+    /// The bytes that the source has by right.
     ghost bytes: { Self → List ℕ };
 
-    /// The bytes don't change, and a read that succeeds gives them. Each promise on what is read has this as its premise.
+    /// The premise of each promise on what is read: the bytes don't change, and a read that succeeds gives them.
     ghost keeps: { Self → Type 0 };
 
-    /// This device gave the fault.
+    /// The faults that this device gave.
     ghost gave: { Self → ReadFault → Bool };
 
-    /// How many bytes the source has.
+    /// The reads of this device: at this offset one gave these bytes, right or wrong. No premise stands before it.
+    ghost reads: { Self → ℕ → List ℕ → Type 0 } = { λ _ _ _. Unit {0} };
+
+    /// Returns the number of bytes of the source.
     fn len(&self) -> u64
         ensures length { result ≡ length (bytes self.now) }
         ensures bytes { All (λ b. b ≤ 255) (bytes self.now) };
 
-    /// Reads the bytes from a place on, as many as the buffer has room for. After a fault the buffer's bytes are of no use.
+    /// Fills the buffer with the bytes from `at` on. After a fault the buffer's bytes are unspecified.
     fn read_at(&self, rt: &R, at: u64, buffer: &mut [u8]) -> Result<(), ReadFault>
         requires { at + length buffer.old ≤ length (bytes self.now) }
         ensures bytes_there { keeps self.now → OnOk result (buffer.new ≡ take (length buffer.old) (drop at (bytes self.now))) }
+        ensures read { OnOk result (reads self.now at buffer.new) }
         ensures place { IfErr result (λ f. f.place ≡ at) }
         ensures fault { IfErr result (λ f. IsTrue (gave self.now f)) };
 
-    /// Reads runs of bytes, one after another into the buffer: by one read where they lie together, else by one read a run. A device
-    /// that takes a lock, or looks for its file, does so once for all. A fault has the place where one of the runs begins.
+    /// Reads runs of bytes into the buffer, one behind another: by one read if they are contiguous, else by one read a run. A device that
+    /// takes a lock or looks for its file does so once for all runs. A fault has the offset where one of the runs begins.
     fn read_runs(&self, rt: &R, runs: Runs, buffer: &mut [u8]) -> Result<(), ReadFault>
         requires runs { AreIn (length (bytes self.now)) runs }
         requires length { length buffer.old ≡ runs.count * runs.len }

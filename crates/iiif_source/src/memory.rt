@@ -1,11 +1,11 @@
-//! Bytes in memory.
+//! Bytes in memory as a source.
 
 ghost use Rattle.std.specs.Prelude.{◌≡◌, ℕ, List, false};
 
 use crate::{ReadFault, Source};
 use std::marker::Model;
 
-/// Bytes in memory, which a read always gives: no fault is this device's.
+/// Bytes in memory. A read never fails: no fault is this device's.
 #[derive(Drop)]
 pub struct MemSource {
     bytes: Vec<u8>,
@@ -18,7 +18,7 @@ impl Model for MemSource {
 }
 
 impl MemSource {
-    /// A source of these bytes.
+    /// Makes a source of these bytes.
     pub fn new(bytes: Vec<u8>) -> MemSource
         ensures { result ≡ bytes.items }
     {

@@ -13,7 +13,7 @@ use std::io::{Error, ErrorKind};
 use std::marker::Model;
 use std::sync::Arc;
 
-/// An open file, and the path that it was opened under.
+/// An open file with the path that it was opened under.
 #[derive(Drop)]
 pub struct OpenFile<R: Opens> {
     pub path: Arc<String>,
@@ -21,12 +21,12 @@ pub struct OpenFile<R: Opens> {
     pub ghost of: { IsTrue (R.is_of handle (string_bytes (arc_value path))) },
 }
 
-/// The error of what is no plain file. Its kind is that of an argument that can't be used.
+/// Makes the error for a path that is no plain file, of kind [`ErrorKind::InvalidInput`].
 fn not_plain() -> Error {
     Error::new(ErrorKind::InvalidInput, "not a plain file")
 }
 
-/// Opens what is looked at first, and is a plain file.
+/// Opens a path whose metadata, read first, is a plain file's.
 fn open_handle<R: Opens>(rt: &R, path: &str) -> io::Result<R::Handle>
     ensures { IfOk result (λ file. IsTrue (R.is_of file path.now)) }
 {
@@ -38,9 +38,8 @@ fn open_handle<R: Opens>(rt: &R, path: &str) -> io::Result<R::Handle>
 }
 
 impl<R: Opens> OpenFile<R> {
-    /// Opens a plain file. What is none, such as a folder, a pipe or a device, is refused by [`ErrorKind::InvalidInput`]. It is looked
-    /// at before it is opened, since the opening of a pipe waits until somebody writes into it; and afterwards, since something else may
-    /// have taken its name meanwhile.
+    /// Opens a plain file. Anything else (a folder, a pipe, a device) is an error of kind [`ErrorKind::InvalidInput`]. The metadata is read
+    /// before, since opening a pipe waits for a writer, and again after, since another file may have taken the name meanwhile.
     pub fn open(rt: &R, path: Arc<String>) -> io::Result<OpenFile<R>>
         ensures path { IfOk result (λ f. f.path ≡ path) }
         ensures plain { IfOk result (λ f. Says R.tells f.handle (λ found. IsFile (file_type found))) }
@@ -53,7 +52,7 @@ impl<R: Opens> OpenFile<R> {
         Ok(OpenFile { path, handle })
     }
 
-    /// What the system says of the file now.
+    /// Asks the system for the file's metadata.
     pub fn metadata(&self, rt: &R) -> io::Result<Metadata>
         ensures told { IfOk result (λ m. IsTrue (R.tells self.now.handle m)) }
         ensures length { R.keeps (string_bytes (arc_value self.now.path)) →
@@ -63,7 +62,7 @@ impl<R: Opens> OpenFile<R> {
     }
 }
 
-/// A file that someone holds open, seen as its path and the length that it is known to have.
+/// A borrowed open file as a source. Contracts see its path and the length that it is known to have.
 #[derive(Drop)]
 pub struct Opened<'a, R: Opens> {
     pub file: &'a OpenFile<R>,
@@ -83,6 +82,8 @@ impl<R: Opens> Source<R> for Opened<'_, R> {
 
     ghost gave = { λ s. gave_of (R.gave s.path) };
 
+    ghost reads = { λ s. R.reads s.path };
+
     fn len(&self) -> u64 {
         self.len
     }
@@ -98,7 +99,7 @@ impl<R: Opens> Source<R> for Opened<'_, R> {
     }
 }
 
-/// The cause of a read's fault: the file ended, or the read failed.
+/// Returns the cause of a fault by the system's error: the file ended, or the read failed.
 fn cause_of(kind: ErrorKind) -> u8
     ensures cause { IsCauseOf kind result }
     ensures known { IsTrue (result == failed || result == ended) }

@@ -1,4 +1,4 @@
-//! What opens files, and what their reads give.
+//! The file system as a trait: what its files hold is an assumption of one impl, not of each source.
 
 ghost use Rattle.std.specs.Prelude.{◌≡◌, ◌≤◌, ℕ, List, All, length, take, drop, Bool, IfErr, IfOk, OnOk, IsTrue};
 ghost use Rattle.std.specs.Fs.{file_type, metadata_len, IsFile};
@@ -11,55 +11,59 @@ ghost use Rattle.iiif_source.specs.declared.ReadFault.{ReadFault};
 use std::fs::Metadata;
 use std::io;
 
-/// A runtime that opens files and reads them. What its files hold is said by it: so whatever stands between it and a [`Source`] is
-/// proved to give those bytes, and what is left to be trusted is the runtime's own impl.
+/// A runtime that opens files and reads them. It says what its files hold, so all code between it and a [`Source`] is proved to give those
+/// bytes. Its own impl alone is trusted.
 ///
 /// [`Source`]: crate::Source
 pub trait Opens {
-    /// An open file.
+    /// The handle of an open file.
     type Handle: Drop;
 
-    /// What the file of a path holds.
+    /// The bytes that the file of a path holds by right.
     ghost holds: { List ℕ → List ℕ };
 
-    /// What the file of a path holds doesn't change, and each read of a file that was opened under this path gives it.
+    /// The premise of each promise on a path's file: its bytes don't change, and each read of a file that was opened under this path gives
+    /// them.
     ghost keeps: { List ℕ → Type 0 };
 
-    /// The open file was opened under the path.
+    /// The path that a handle was opened under.
     ghost is_of: { Self.Handle → List ℕ → Bool };
 
-    /// The system said this of the file of a path.
+    /// The metadata that the system told of a path.
     ghost shows: { List ℕ → Metadata → Bool };
 
-    /// The system said this of an open file.
+    /// The metadata that the system told of an open file.
     ghost tells: { Self.Handle → Metadata → Bool };
 
-    /// A read of the file of a path had this fault.
+    /// The faults that reads of a path's file had.
     ghost gave: { List ℕ → ReadFault → Bool };
 
-    /// What the system says of the file of a path, which isn't opened for it.
+    /// The reads of a path's file: at this offset one gave these bytes, right or wrong. No premise stands before it.
+    ghost reads: { List ℕ → ℕ → List ℕ → Type 0 } = { λ _ _ _. Unit {0} };
+
+    /// Asks for the metadata of a path, without opening it.
     fn look(&self, path: &str) -> io::Result<Metadata>
         ensures shown { IfOk result (λ found. IsTrue (shows path.now found)) };
 
-    /// Opens the file of a path to be read. It was looked at before, and was a plain one: the opening of a pipe waits until somebody
-    /// writes into it.
+    /// Opens the file of a path for reading. Its metadata was read before and was a plain file's, since opening a pipe waits for a writer.
     fn open(&self, path: &str) -> io::Result<Self::Handle>
         requires plain { Says shows path.now (λ found. IsFile (file_type found)) }
         ensures of { IfOk result (λ file. IsTrue (is_of file path.now)) };
 
-    /// What the system says of a file that was opened under this path.
+    /// Asks for the metadata of a file that was opened under this path.
     fn metadata(&self, path: &str, file: &Self::Handle) -> io::Result<Metadata>
         requires of { IsTrue (is_of file.now path.now) }
         ensures told { IfOk result (λ found. IsTrue (tells file.now found)) }
         ensures length { keeps path.now → IfOk result (λ found. metadata_len found ≡ length (holds path.now)) };
 
-    /// Reads the bytes from a place on of a file that was opened under this path, as many as the buffer has room for.
+    /// Fills the buffer with the bytes from `at` on of a file that was opened under this path.
     fn read(&self, path: &str, file: &Self::Handle, at: u64, buffer: &mut [u8]) -> io::Result<()>
         requires of { IsTrue (is_of file.now path.now) }
         ensures bytes { keeps path.now → OnOk result (buffer.new ≡ take (length buffer.old) (drop at (holds path.now))) }
+        ensures read { OnOk result (reads path.now at buffer.new) }
         ensures fault { IfErr result (λ e. (cause : ℕ) → IsCauseOf (error_kind e) cause →
             IsTrue (gave path.now (record { place = at; cause = cause }))) };
 
-    /// What files hold are bytes.
+    /// Each file holds bytes: numbers of at most 255.
     ghost holds_bytes: { (path : List ℕ) → All (λ b. b ≤ 255) (holds path) };
 }

@@ -1,7 +1,7 @@
-//! The system's files. What is trusted of them stands here, and only here: that a file's bytes stay as they are, that a read gives
-//! those that stand under the path that was opened, and that the length which the system tells is theirs. Nothing of it can be
-//! proved of a system, so of its files the premise `keeps` is false; and it may say anything of a file, and fail as it likes. Each
-//! body is one call of the system and no more, so that nothing of ours stands below the premise.
+//! The operating system's files. All trust in them is here: a file's bytes stay as they are, a read gives the bytes of the path that
+//! was opened, and the length that the system tells is theirs. None of this can be proved of an operating system. So the premise `keeps`
+//! of its files is false, it may tell anything of a file, and it may fail at will. Each body is one system call, so no code of ours stands
+//! below the premise.
 
 ghost use Rattle.std.proofs.Common.{rules};
 ghost use Rattle.std.specs.Prelude.{[], true};
