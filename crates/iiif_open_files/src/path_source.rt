@@ -147,6 +147,7 @@ impl<R: Opens + Wait> PathSource<R> {
         requires within { at + length buffer.old ≤ self.now.len }
         ensures bytes { R.keeps self.now.path →
             OnOk result (buffer.new ≡ take (length buffer.old) (drop at (fitted self.now.len (R.holds self.now.path)))) }
+        ensures read { OnOk result (R.reads self.now.path at buffer.new) }
         ensures place { IfErr result (λ f. f.place ≡ at) }
         ensures fault { IfErr result (λ f. IsTrue (gave_of (R.gave self.now.path) f)) }
         ensures cause { IfErr result (λ f. IsTrue (f.cause == failed || f.cause == ended)) }
@@ -165,6 +166,8 @@ impl<R: Opens + Wait> Source<R> for PathSource<R> {
     ghost keeps = { λ s. R.keeps s.path };
 
     ghost gave = { λ _ f. f.cause == failed || f.cause == ended };
+
+    ghost reads = { λ s. R.reads s.path };
 
     fn len(&self) -> u64 {
         self.known.len
