@@ -1,4 +1,4 @@
--- The laws of area sums.
+-- Laws of area sums: splitting them, bounding them, and where they are 0.
 use Rattle.std.proofs.Common.{⊎_elim, ◌≡◌, ℕ, ◌+◌, ◌*◌, ◌^◌, ◌<◌, ◌≤◌, ap, ◌∙◌, arith}
 use Rattle.std.proofs.Math.Nat.{mul-le-mul_right}
 use Rattle.std.proofs.lemmas.Bool.{cases_lt}
@@ -11,6 +11,7 @@ use Rattle.iiif_area.specs.Places.{places_of}
 use Rattle.iiif_area.proofs.SumLaws.{sum_from-zero, sum_from-same, sum_from-split, sum_from-add, sum_from_swap, sum_from-shift}
 use Rattle.iiif_area.proofs.WeightLaws.{weighted-le, weighted_before, weight_below_places, weight_above_places}
 
+-- An area sum is the sum of both sides of a cut between columns.
 pub area_split_columns : SplitsAtColumn
 unfolding area_sum
 area_split_columns region size x y m n h f i j =
@@ -19,12 +20,13 @@ area_split_columns region size x y m n h f i j =
     (λ r _ _. sum_from-split x m n (t r))
     ∙ sum_from-add y h (λ r. sum_from x m (t r)) (λ r. sum_from (x + m) n (t r))
 
+-- An area sum is the sum of both sides of a cut between rows.
 pub area_split_rows : SplitsAtRow
 unfolding area_sum
 area_split_rows region size x y w m n f i j = sum_from-split y m n
     (λ r. sum_from x w (λ k. weight_of i k region.w size.w * weight_of j r region.h size.h * f k r))
 
--- row by row: the row's weight by the weighted sum of the row
+-- An area sum row by row: each row's weight times the weighted sum of the row.
 pub area_by_rows : (region size : Dim) (part : Rect) (f : ℕ → ℕ → ℕ) (i j : ℕ) →
     area_sum region size part f i j ≡ sum_from part.y part.h
     (λ y. weight_of j y region.h size.h * sum_from part.x part.w (λ x. weight_of i x region.w size.w * f x y))
@@ -34,7 +36,7 @@ area_by_rows region size part f i j =
     sum_from-same part.x part.w _ (λ x. weight_of j y region.h size.h * (weight_of i x region.w size.w * f x y)) (λ x _ _. omega arith)
     ∙ sum_from-mul part.x part.w (weight_of j y region.h size.h) (λ x. weight_of i x region.w size.w * f x y))
 
--- column by column: the column's weight by the weighted sum of the column
+-- An area sum column by column: each column's weight times the weighted sum of the column.
 pub area_by_columns : (region size : Dim) (part : Rect) (f : ℕ → ℕ → ℕ) (i j : ℕ) →
     area_sum region size part f i j ≡ sum_from part.x part.w
     (λ x. weight_of i x region.w size.w * sum_from part.y part.h (λ y. weight_of j y region.h size.h * f x y))
@@ -71,6 +73,7 @@ area_from_rows region size part f i j =
     ap (λ u. weight_of j (part.y + s) region.h size.h * u)
     (sum_from-shift part.x part.w (λ x. weight_of i x region.w size.w * f x (part.y + s))))
 
+-- An area sum depends on the samples of its part alone.
 pub area_same : IsOfPart
 unfolding area_sum
 area_same region size part f g i j h =
@@ -86,12 +89,14 @@ area-le region size part f i j m h =
     (λ y l o. weighted-le i region.w size.w part.x part.w m (λ x. f x y) (λ x n q. h x y (n, q, l, o))) in
     omega arith
 
+-- An area sum of samples of up to 16 bits fits 64 bits.
 pub area-fits : SumsFit
 area-fits region size part f i j area h =
     let e = area-le region size part f i j 65535 h in
     let d : region.w * region.h * 65535 ≤ 2 ^ 32 * 65535 = mul-le-mul_right 65535 area in
     omega arith
 
+-- A part's sum is 0 in result columns that its columns don't cover.
 pub zero_columns : (region size : Dim) (part : Rect) (f : ℕ → ℕ → ℕ) (i j : ℕ) →
     ((x : ℕ) → part.x ≤ x → x < part.x + part.w → weight_of i x region.w size.w ≡ 0) → area_sum region size part f i j ≡ 0
 zero_columns region size part f i j h =
@@ -99,6 +104,7 @@ zero_columns region size part f i j h =
     ∙ sum_from-zero part.x part.w _ (λ x l m. weighted_before i x region.w size.w
     (sum_from part.y part.h (λ y. weight_of j y region.h size.h * f x y)) (h x l m))
 
+-- A part's sum is 0 in result rows that its rows don't cover.
 pub zero_rows : (region size : Dim) (part : Rect) (f : ℕ → ℕ → ℕ) (i j : ℕ) →
     ((y : ℕ) → part.y ≤ y → y < part.y + part.h → weight_of j y region.h size.h ≡ 0) → area_sum region size part f i j ≡ 0
 zero_rows region size part f i j h =
@@ -106,6 +112,7 @@ zero_rows region size part f i j h =
     ∙ sum_from-zero part.y part.h _ (λ y l m. weighted_before j y region.h size.h
     (sum_from part.x part.w (λ x. weight_of i x region.w size.w * f x y)) (h y l m))
 
+-- A part's sum is 0 at the result places that it doesn't cover.
 pub area_elsewhere : IsZeroElsewhere
 area_elsewhere region size part f i j width height off =
     let r = places_of region size part in

@@ -1,4 +1,4 @@
--- The sum over a part that is cut into rectangles.
+-- Sums over a part that is cut into rectangles.
 use Rattle.std.proofs.Common.{◌≡◌, ℕ, ◌+◌, ◌-◌, ◌*◌, ◌≤◌, List, [], ◌∷◌, Bool, sum_by, count_by, sym, ap, ◌∙◌, arith, if◌then◌else◌}
 use Rattle.std.proofs.lemmas.List.Sums.{sum_by-cons}
 use Rattle.iiif_pixel.specs.Geometry.{HasPlace}
@@ -10,11 +10,11 @@ use Rattle.iiif_area.specs.Laws.{CutsAddUp}
 use Rattle.iiif_area.proofs.GridLaws.{has_place-yes, has_place-no}
 use Rattle.iiif_area.proofs.SumLaws.{sum_from-same, sum_from-zero, sum_from-add, sum_from-narrow, none_times}
 
--- the sum over the first n columns and rows
+-- The sum over the first n columns and rows.
 abbrev pub window_sum : ℕ → (ℕ → ℕ → ℕ) → ℕ
 window_sum n g = sum_from 0 n (λ y. sum_from 0 n (λ x. g x y))
 
--- 1 at the places of a rectangle, and 0 elsewhere
+-- A rectangle's mark: 1 at its places, and 0 elsewhere.
 abbrev pub mark : Rect → ℕ → ℕ → ℕ
 mark r x y = if has_place r x y then 1 else 0
 
@@ -77,6 +77,7 @@ rects_sum region size f i j n (r ∷ rs) h =
     sym (ap (λ u. u * g x y) e ∙ omega arith)) in
     sum_by-cons (λ q. area_sum region size q f i j) r rs ∙ omega arith
 
+-- However a part is cut into rectangles, their sums add up to its sum.
 pub cuts_add_up : CutsAddUp
 unfolding area_sum
 cuts_add_up region size part rects f i j cut =

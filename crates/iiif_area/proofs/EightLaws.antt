@@ -1,4 +1,4 @@
--- What columns of a tile of 8 bits come to, by their first row, their last and those between.
+-- Column sums of a tile of 8 bits, by the first row that has a weight, the last, and the whole rows between.
 use Rattle.std.proofs.Common.{⊎_elim, List, zero, suc, get_or, ◌≡◌, ℕ, ◌+◌, ◌-◌, ◌*◌, ◌<◌, ◌≤◌, ◌⊎◌, inl, inr, sym, ap, ◌∙◌, refl, arith}
 use Rattle.std.proofs.lemmas.Bool.{cases_lt}
 use Rattle.std.proofs.Math.Nat.{mul-le-mul_right}
@@ -12,7 +12,7 @@ use Rattle.iiif_area.proofs.ColumnLaws.{column_fits, column_sum-is}
 use Rattle.iiif_area.proofs.SumLaws.{sum_from-start, sum_from-one, sum_from-step, same_product, three_parts}
 use Rattle.iiif_area.proofs.WeightLaws.{weighted-le_from}
 
--- one row more of the sum at column t and channel k, which is v so far
+-- An unweighted column sum grows by the next row's sample.
 pub next_sample : (p : Picture) (cx cy start s w t k v : ℕ) (row : List ℕ) →
     start ≤ s → row ≡ span_of p cx (cy + s) w → t < w → k < p.channels →
     v ≡ sum_from start (s - start) (λ s. sample_at p (cx + t) (cy + s) k) →
@@ -21,7 +21,7 @@ next_sample p cx cy start s w t k v row l e lt lk so_far =
     let sample = ap (λ u. get_or u (t * p.channels + k) 0) e ∙ get_or-span_of p cx (cy + s) w t k 0 lt lk in
     sum_from-step start s (λ s. sample_at p (cx + t) (cy + s) k) _ _ l so_far sample
 
--- and four rows more
+-- An unweighted column sum grows by the next four rows' samples.
 pub next_samples : (p : Picture) (cx cy start s w t k v : ℕ) (r0 r1 r2 r3 : List ℕ) →
     start ≤ s → r0 ≡ span_of p cx (cy + s) w → r1 ≡ span_of p cx (cy + (s + 1)) w → r2 ≡ span_of p cx (cy + (s + 2)) w →
     r3 ≡ span_of p cx (cy + (s + 3)) w →
@@ -49,7 +49,7 @@ sum_from-equal u (suc n) d f h =
     let g = h (u + n) (omega arith) (omega arith) in
     omega arith
 
--- where no more than 257 rows go into a result row, or a part has no more, no more lie between the first and the last
+-- At most 257 rows lie between the first and the last, if a part has no more or a result row covers no more.
 pub run_fits : (j b d from start end h : ℕ) → 0 < d → end ≤ h → (h ≤ 257) ⊎ (b ≤ 257 * d) →
     ((s : ℕ) → start < s → s + 1 < end → weight_of j (from + s) b d ≡ d) →
     end - 1 ≤ start + 1 + 257
@@ -64,7 +64,7 @@ run_fits j b d from start end h p within (inr few) between =
     (λ (fits : n ≤ 257). omega arith)
     (cases_lt 257 n)
 
--- what a result row takes of column t in channel k, where it takes nothing, of one row, or of more
+-- A column sum of no row is 0.
 pub column_of-none : (p : Picture) (held : Rect) (rows : Axis) (j t k start end : ℕ) → start ≡ end → end ≤ rows.count →
     ((s : ℕ) → s < start → weight_of j (rows.from + s) rows.a rows.c ≡ 0) →
     ((s : ℕ) → end ≤ s → s < rows.count → weight_of j (rows.from + s) rows.a rows.c ≡ 0) →
@@ -72,6 +72,7 @@ pub column_of-none : (p : Picture) (held : Rect) (rows : Axis) (j t k start end 
 column_of-none p held rows j t k start end e within below above =
     column_sum-is p held rows j t k start end end 0 (omega arith) within refl below above (sum_from-start _ _ _ (omega arith))
 
+-- A column sum of one row is its sample times its weight.
 pub column_of-one : (p : Picture) (held : Rect) (rows : Axis) (j t k start end w : ℕ) (row : List ℕ) → end - start ≡ 1 → end ≤ rows.count →
     row ≡ span_of p held.x (held.y + start) held.w → w ≡ weight_of j (rows.from + start) rows.a rows.c → t < held.w → k < p.channels →
     ((s : ℕ) → s < start → weight_of j (rows.from + s) rows.a rows.c ≡ 0) →
@@ -83,6 +84,7 @@ column_of-one p held rows j t k start end w row one within er ew lt lk below abo
     column_sum-is p held rows j t k start end end _ (omega arith) within refl below above
     (same_product ew sample ∙ sym (ap (λ u. sum_from start u f) one ∙ sum_from-one start f))
 
+-- A column sum is that of its first row, of the whole rows between, and of its last.
 pub column_of-parts : (p : Picture) (held : Rect) (rows : Axis) (j t k start end w v i : ℕ) (first last : List ℕ) → start + 1 < end →
     end ≤ rows.count →
     first ≡ span_of p held.x (held.y + start) held.w → w ≡ weight_of j (rows.from + start) rows.a rows.c →
@@ -103,7 +105,7 @@ column_of-parts p held rows j t k start end w v i first last more within ef ew e
     let m = ap (λ u. rows.c * u) ei in
     column_sum-is p held rows j t k start end end _ (omega arith) within refl below above (omega arith)
 
--- and of two
+-- A column sum of two rows is that of the first and of the last.
 pub column_of-two : (p : Picture) (held : Rect) (rows : Axis) (j t k start end w v : ℕ) (first last : List ℕ) → end - start ≡ 2 →
     end ≤ rows.count →
     first ≡ span_of p held.x (held.y + start) held.w → w ≡ weight_of j (rows.from + start) rows.a rows.c →
@@ -119,7 +121,7 @@ column_of-two p held rows j t k start end w v first last two within ef ew el ev 
     in
     omega arith
 
--- it fits
+-- A column sum is at most the number of the region's rows times the bound of the samples.
 pub column_of-fits : (p : Picture) (held : Rect) (rows : Axis) (j t k m : ℕ) → ((x y k : ℕ) → sample_at p x y k ≤ m) →
     column_sum p held rows j t k ≤ rows.a * m
 unfolding column_sum

@@ -1,4 +1,4 @@
--- What sums make.
+-- Averages of a grid's sums, and the scaled picture that they make.
 use Rattle.std.proofs.Common.{◌≡◌, ℕ, ◌+◌, ◌-◌, ◌*◌, ◌<◌, min, map, take, drop, length, get_or, sym, ap, ◌∙◌, arith}
 use Rattle.iiif_pixel.specs.Geometry.{LiesIn}
 use Rattle.iiif_pixel.specs.Picture.{Picture, dim_of, row_of, IsWhole}
@@ -13,11 +13,11 @@ use Rattle.iiif_area.specs.Places.{IsInside}
 use Rattle.iiif_area.specs.Grid.{Grid, average_within, finished, part_sum, sum_at, sums_at}
 use Rattle.iiif_area.proofs.GridLaws.{run-le, sum_at-grid_of}
 
--- the sample that sums make in column x, row y and channel k of a rectangle
+-- The sample in column x, row y and channel k of a rectangle: the average of the sum there, at most `top`.
 abbrev pub made_at : Grid → Dim → ℕ → Rect → ℕ → ℕ → ℕ → ℕ
 made_at g region top rect x y k = min top (average region (sum_at g (rect.x + x) (rect.y + y) k))
 
--- the averages of the sums of row y of a rectangle
+-- The averages of a run of sums are a row of these samples.
 pub made_row : (g : Grid) (region : Dim) (top : ℕ) (rect : Rect) (y : ℕ) → IsInside rect g.rect → y < rect.h →
     length g.sums ≡ g.rect.w * g.rect.h * g.channels →
     map (average_within (region.w * region.h) top)
@@ -39,7 +39,7 @@ made_row g region top rect y inside ly count =
     rw (← down, right) (omega arith) in
     ap (λ i. f (get_or g.sums i 0)) index)
 
--- the sums of a whole picture make the scaled picture
+-- The averages of a whole picture's sums are the scaled picture.
 pub finished-scaled : (r rect : Rect) (p : Picture) (size : Dim) → IsWhole p → IsInside rect r → LiesIn rect size →
     finished (sums_at r p size (whole_of (dim_of p))) (dim_of p) p.top rect ≡ crop (scale p size) rect
 unfolding scaled_at part_sum

@@ -1,4 +1,4 @@
--- The laws of grids of places.
+-- Grids of places: their indices, their sums, and the test of a place.
 use Rattle.std.proofs.Common.{◌≡◌, ℕ, ◌+◌, ◌-◌, ◌*◌, ◌/◌, ◌%◌, ◌<◌, ◌≤◌, List, [], ◌∷◌, ◌++◌, true, false, length, get_or, take, drop, ◌⊎◌}
 use Rattle.std.proofs.Common.{inl, inr, sym, ap, ◌∙◌, arith, ⊎_elim}
 use Rattle.std.proofs.lemmas.Nat.{same_from_place, div-add-mod', div_below, mod_below}
@@ -15,11 +15,11 @@ use Rattle.iiif_pixel.proofs.Splice.{get_or-put_inside, get_or-put_below, get_or
 use Rattle.iiif_area.specs.Grid.{Grid, grid_of, sum_at, has_place}
 use Rattle.iiif_area.specs.Laws.{PlaceIsTested}
 
--- the index of channel k of column i and row j, in rows of w places with n channels
+-- The index of channel k of column i and row j, in rows of w places with n channels.
 abbrev pub place_index : ℕ → ℕ → ℕ → ℕ → ℕ → ℕ
 place_index w n i j k = (j * w + i) * n + k
 
--- the entries of xs so far are what f says of their places
+-- Each entry of xs is f of its place and channel, as far as xs goes.
 abbrev pub FilledTo : ℕ → ℕ → (ℕ → ℕ → ℕ → ℕ) → List ℕ → Type 0
 FilledTo w n f xs = (i j k : ℕ) → i < w → k < n → place_index w n i j k < length xs → get_or xs (place_index w n i j k) 0 ≡ f i j k
 
@@ -31,7 +31,7 @@ same_place w n i j k p q r a b c d e =
     let t = same_from_place j i q p w a b s.0 in
     (t.1, t.0, s.1)
 
--- the next entry
+-- An entry that is f of the next place may be pushed.
 pub FilledTo-push : (w n : ℕ) (f : ℕ → ℕ → ℕ → ℕ) (xs : List ℕ) (i j k v : ℕ) → FilledTo w n f xs → i < w → k < n →
     length xs ≡ place_index w n i j k → v ≡ f i j k → FilledTo w n f (xs ++ v ∷ [])
 FilledTo-push w n f xs i j k v filled a b e d = λ p q r m o s.
@@ -44,12 +44,12 @@ FilledTo-push w n f xs i j k v filled a b e d = λ p q r m o s.
     ap (λ u. f p q u) (sym t.2))
     (cases_lt (place_index w n p q r) (length xs))
 
--- what FilledTo says of all places
+-- A list that is filled to its end holds f of all places.
 pub filled_is : (w h n : ℕ) (f : ℕ → ℕ → ℕ → ℕ) (xs : List ℕ) → length xs ≡ w * h * n → FilledTo w n f xs → xs ≡ samples_of w h n f
 filled_is w h n f xs e filled =
     samples_from_places w h n xs f e (λ x y k lx ly lk. filled x y k lx lk (omega (arith, index_below w h n x y k lx ly lk)))
 
--- the sum of a grid that is built
+-- The sum at a place of a grid that is built by f is f of that place.
 pub sum_at-grid_of : (r : Rect) (n : ℕ) (f : ℕ → ℕ → ℕ → ℕ) (i j k : ℕ) → HasPlace r i j → k < n → sum_at (grid_of r n f) i j k ≡ f i j k
 unfolding sum_at
 sum_at-grid_of r n f i j k p l =
@@ -58,14 +58,14 @@ sum_at-grid_of r n f i j k p l =
     get_or-samples_of r.w r.h n (λ u v t. f (r.x + u) (r.y + v) t) (i - r.x) (j - r.y) k 0 (omega arith) (omega arith) l
     ∙ ap (λ u. f u (r.y + (j - r.y)) k) x ∙ ap (λ u. f i u k) y
 
--- two grids that agree at each place are equal
+-- Two functions that agree at each place build one grid.
 pub grid_of-same : (r : Rect) (n : ℕ) (f g : ℕ → ℕ → ℕ → ℕ) → ((i j k : ℕ) → HasPlace r i j → k < n → f i j k ≡ g i j k) →
     grid_of r n f ≡ grid_of r n g
 grid_of-same r n f g h =
     ap (λ (s : List ℕ). let d : Grid = record { rect = r; channels = n; sums = s } in d)
     (samples_of-same r.w r.h n _ _ (λ x y k lx ly lk. h (r.x + x) (r.y + y) k (omega arith, omega arith, omega arith, omega arith) lk))
 
--- a place is one of a rectangle, or it isn't
+-- A place is one of a rectangle, or it isn't.
 pub place_cases : (r : Rect) (i j : ℕ) → HasPlace r i j ⊎ (¬ (HasPlace r i j))
 place_cases r i j =
     ⊎_elim
@@ -82,16 +82,18 @@ place_cases r i j =
     (cases_lt i (r.x + r.w)))
     (cases_lt i r.x)
 
--- and the test says which
+-- The test is true at a place of the rectangle.
 pub has_place-yes : (r : Rect) (i j : ℕ) → HasPlace r i j → has_place r i j ≡ true
 unfolding has_place
 has_place-yes r i j p = and_from _ _ (and_from _ _ (le-leb r.x i p.0) (lt-ltb i (r.x + r.w) p.1))
     (and_from _ _ (le-leb r.y j p.2) (lt-ltb j (r.y + r.h) p.3))
 
+-- The test is false elsewhere.
 pub has_place-no : (r : Rect) (i j : ℕ) → ¬ (HasPlace r i j) → has_place r i j ≡ false
 unfolding has_place
 has_place-no r i j off = grind (arith, nat_tests)
 
+-- The test is true exactly at the places of the rectangle.
 pub has_place-tested : PlaceIsTested
 has_place-tested r i j = (
   λ e. ⊎_elim
@@ -101,20 +103,20 @@ has_place-tested r i j = (
   has_place-yes r i j,
 )
 
--- a run of m places of a row lies within the grid
+-- A run of m places of a row lies within the grid.
 pub run-le : (w h n i m q : ℕ) → i + m ≤ w → q < h → (q * w + i) * n + m * n ≤ w * h * n
 run-le w h n i m q a b =
     let e : (q + 1) * w ≤ h * w = mul-le-mul_right w (omega arith) in
     let d : (q * w + i + m) * n ≤ w * h * n = mul-le-mul_right n (omega arith) in
     omega arith
 
--- an entry of a place before, and one of a place from it on
+-- An entry of an earlier place has a smaller index than each entry of a later place.
 pub entry-lt : (r s n k : ℕ) → r < s → k < n → r * n + k < s * n
 entry-lt r s n k a b =
     let e : (r + 1) * n ≤ s * n = mul-le-mul_right n (omega arith) in
     omega arith
 
--- the place and the channel of an index
+-- An index is that of a place and a channel.
 pub index_parts : (n w t : ℕ) → t < w * n → (t / n < w) × (t % n < n) × (t / n * n + t % n ≡ t)
 index_parts n w t h =
     ⊎_elim
@@ -124,11 +126,11 @@ index_parts n w t h =
     (λ (a : n ≤ 0). let z : w * n ≡ w * 0 = ap (λ u. w * u) (omega arith) in absurd (omega arith))
     (cases_lt 0 n)
 
--- an entry of the part of a list from a on, k long
+-- An entry of the part of a list that begins at a and is k long.
 pub part_at : (a k : ℕ) (xs : List ℕ) (t : ℕ) → t < k → get_or (take k (drop a xs)) t 0 ≡ get_or xs (a + t) 0
 part_at a k xs t h = get_or-take k (drop a xs) t 0 h ∙ get_or-drop a xs t 0
 
--- The row q of a grid after a write to its places from column l on, m places long: there it is what was written.
+-- After a write to m places of row q, from column l on, these places have what was written.
 pub get_or-row_written : (xs ys : List ℕ) (w n l m q i k : ℕ) → length ys ≡ m * n → (q * w + l) * n + m * n ≤ length xs → l ≤ i →
     i < l + m → k < n →
     get_or (put_mid ((q * w + l) * n) (m * n) xs ys) (place_index w n i q k) 0 ≡ get_or ys ((i - l) * n + k) 0
@@ -140,7 +142,7 @@ get_or-row_written xs ys w n l m q i k e f a b c =
     ap (λ u. get_or (put_mid ((q * w + l) * n) (m * n) xs ys) u 0) g
     ∙ get_or-put_inside ((q * w + l) * n) (m * n) xs ys ((i - l) * n + k) (omega arith) (omega arith)
 
--- every other place has what it had
+-- After such a write every other place has what it had.
 pub get_or-row_kept : (xs ys : List ℕ) (w n l m q i j k : ℕ) → length ys ≡ m * n → (q * w + l) * n + m * n ≤ length xs → l + m ≤ w → i < w →
     k < n → (j ≡ q → l ≤ i → i < l + m → ⊥) →
     get_or (put_mid ((q * w + l) * n) (m * n) xs ys) (place_index w n i j k) 0 ≡ get_or xs (place_index w n i j k) 0

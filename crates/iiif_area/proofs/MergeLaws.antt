@@ -1,4 +1,4 @@
--- What merging gives.
+-- Merging: rows of one grid added to another, and the sums that come of it.
 use Rattle.std.proofs.Common.{◌≡◌, ℕ, ◌+◌, ◌-◌, ◌*◌, ◌^◌, ◌<◌, ◌≤◌, min, List, length, get_or, take, drop, sym, ap, ◌∙◌, subst, arith}
 use Rattle.std.proofs.Common.{⊎_elim, if◌then◌else◌, Bool}
 use Rattle.std.proofs.lemmas.Bool.{cases_lt}
@@ -22,6 +22,7 @@ part_sum-elsewhere : (p : Picture) (size : Dim) (part : Rect) (i j k : ℕ) → 
 unfolding part_sum
 part_sum-elsewhere p size part i j k w h off = area_elsewhere (dim_of p) size part (λ x y. sample_at p x y k) i j w h off
 
+-- Merging a part's sums adds them at every place, where the totals fit 64 bits.
 pub merging_lem : MergingAdds
 merging_lem p size part rect f w h fits =
     let n = p.channels in
@@ -51,7 +52,7 @@ pub record AddedTo (n : ℕ) (mine theirs common : Rect) (left top : ℕ) (olds 
   pub kept : (i q k : ℕ) → i < mine.w → k < n → (common.x ≤ i → i < common.x + common.w → common.y ≤ q → q < common.y + j → ⊥) →
       get_or news (place_index mine.w n i q k) 0 ≡ get_or olds (place_index mine.w n i q k) 0
 
--- one more row is added
+-- One row more is added.
 pub AddedTo-step : (n : ℕ) (mine theirs common : Rect) (left top : ℕ) (olds others xs ys : List ℕ) (j a b : ℕ) →
     common.x + common.w ≤ mine.w → a ≡ (common.y + j) * mine.w + common.x → b ≡ (top + j) * theirs.w + left →
     a * n + common.w * n ≤ length xs → length ys ≡ common.w * n →
@@ -98,7 +99,7 @@ AddedTo-step n mine theirs common left top olds others xs ys j a b columns ea eb
           m.kept i q k li lk (λ g1 g2 g3 g4. off g1 g2 g3 (omega arith));
     }
 
--- once all rows are added, the sums are the merged ones
+-- When all rows are added, the sums are the merged ones.
 pub added_is : (g h : Grid) (news : List ℕ) → length news ≡ g.rect.w * g.rect.h * g.channels → h.channels ≡ g.channels →
     AddedTo g.channels g.rect h.rect (part_of h.rect g.rect) (corner_of h.rect g.rect).0 (corner_of h.rect g.rect).1 g.sums h.sums news
     (part_of h.rect g.rect).h →
@@ -145,11 +146,12 @@ added_is g h news count ch m =
     ∙ sym (ap (λ (b : Bool). if b then min (2 ^ 64 - 1) (sum_at g i j k + sum_at h i j k) else sum_at g i j k) (has_place-no s i j p)))
     (place_cases s i j))
 
--- where row j of the common part lies among the sums of a rectangle r, which has it from column x and row y on
+-- Row j of the common part lies among the sums of a rectangle r, which has it from column x and row y on.
 pub record RunFits (r : Rect) (n x y w j len : ℕ) : Type 0 where
   pub place : (y + j) * r.w + x < 2 ^ 60
   pub end : ((y + j) * r.w + x) * n + w * n ≤ len
 
+-- Each row of the common part lies among the sums.
 pub run_fits_in : (r : Rect) (n x y w j len : ℕ) → 0 < n → x + w ≤ r.w → y + j < r.h → len ≡ r.w * r.h * n → len < 2 ^ 60 → 0 < w →
     RunFits r n x y w j len
 run_fits_in r n x y w j len positive columns row count small some =

@@ -1,4 +1,4 @@
--- Cuts of cuts.
+-- Cuts of which each rectangle is cut again.
 use Rattle.std.proofs.Common.{◌≡◌, ℕ, ◌+◌, List, [], ◌∷◌, Bool, All, count_by, map, refl, ap, ◌∙◌, arith, if◌then◌else◌}
 use Rattle.std.specs.List.{flat_map}
 use Rattle.std.proofs.lemmas.List.Concat.{flat_map-cons}
@@ -26,7 +26,7 @@ counts_join {X} test f g (x ∷ xs) each =
     sum_by-cons (λ r. one_if (test r)) (f x) (map f xs) in
     omega (arith, all, first, others, both)
 
--- where a part is cut into rectangles, and each of these into pieces, it is cut into the pieces
+-- If a part is cut into rectangles, and each of these into pieces, then the part is cut into the pieces.
 pub cuts_join : {X : Type 0} (part : Rect) (f : X → Rect) (g : X → List Rect) (xs : List X) → IsCutInto part (map f xs) →
     All (λ x. IsCutInto (f x) (g x)) xs → IsCutInto part (flat_map g xs)
 cuts_join {X} part f g xs cut each = λ x y.
@@ -35,5 +35,6 @@ cuts_join {X} part f g xs cut each = λ x y.
     (λ z h. h x y) xs each)
     ∙ cut x y
 
+-- The same for a list of rectangles with their pieces.
 pub cuts_nest : CutsNest
 cuts_nest part cuts cut each = cuts_join part (λ c. c.0) (λ c. c.1) cuts cut each

@@ -1,4 +1,4 @@
--- The pieces of a part, merged.
+-- Pieces of a part, merged one after another.
 use Rattle.std.proofs.Common.{◌≡◌, ℕ, ◌+◌, ◌*◌, ◌^◌, ◌<◌, ◌≤◌, List, [], ◌∷◌, Bool, true, false, not, All, map, fold, filter, sum_by, refl}
 use Rattle.std.proofs.Common.{sym, ap, ◌∙◌, arith}
 use Rattle.std.proofs.lemmas.Bool.{false≢true}
@@ -19,11 +19,11 @@ use Rattle.iiif_area.proofs.FinishLaws.{finished-scaled}
 use Rattle.iiif_area.proofs.GridLaws.{grid_of-same}
 use Rattle.iiif_area.proofs.MergeLaws.{merging_lem}
 
--- what some rectangles come to at a place
+-- The total of some rectangles' sums at a place.
 abbrev pub pieces_sum : Picture → Dim → List Rect → ℕ → ℕ → ℕ → ℕ
 pieces_sum p size rects i j k = sum_by (λ r. part_sum p size r i j k) rects
 
--- the sums of a whole picture's part fit
+-- A part's sum over a whole picture fits 64 bits.
 pub part_sum-fits : (p : Picture) (size : Dim) (part : Rect) (i j k : ℕ) → IsWhole p → p.width * p.height ≤ 2 ^ 32 →
     part_sum p size part i j k < 2 ^ 64
 unfolding part_sum
@@ -47,7 +47,7 @@ merged_pieces p size rect (r ∷ rs) f w h room =
     ∙ grid_of-same rect p.channels (λ i j k. g i j k + pieces_sum p size rs i j k) (λ i j k. f i j k + pieces_sum p size (r ∷ rs) i j k)
     (λ i j k _ _. omega (arith, all i j k))
 
--- so do the pieces of a part
+-- The sums of a part's pieces, merged into sums of 0, are the part's sums.
 pub pieces_merge : PiecesMerge
 unfolding part_sum
 pieces_merge p size part rect rects whole w h area cut =
@@ -83,6 +83,7 @@ met_sum p size rect rects test i j k w h met place =
     (filter_passes others rects) in
     omega (arith, both, none)
 
+-- The pieces that cover a place of a rectangle, merged into sums of 0, are enough there.
 pub others_add_nothing : OthersAddNothing
 unfolding part_sum
 others_add_nothing p size part rect rects test whole w h area cut met =
@@ -95,6 +96,7 @@ others_add_nothing p size part rect rects test whole w h area cut met =
     ∙ grid_of-same rect p.channels (λ i j k. 0 + pieces_sum p size (filter test rects) i j k) (part_sum p size part)
     (λ i j k place _. omega (arith, all i j k, met_sum p size rect rects test i j k w h met place))
 
+-- A rectangle of the scaled picture is made of the pieces that cover a place of it.
 pub bands_are_cut : BandsAreCut
 bands_are_cut p size rect rects test whole w h area cut met lies =
     ap (λ (g : Grid). finished g (dim_of p) p.top rect)

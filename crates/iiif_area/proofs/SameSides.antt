@@ -46,6 +46,7 @@ average_of_same region v some =
     let e : 2 * (region.h * (region.w * v)) + a ≡ v * (2 * a) + a = omega arith in
     ap (λ n. n / (2 * a)) e ∙ div-mul-add v (2 * a) a (omega arith)
 
+-- A whole picture that isn't empty, scaled to its own sides, stays as it is.
 pub same_sides : SameSidesChangeNothing
 unfolding scaled_at
 same_sides p whole columns rows =

@@ -1,4 +1,4 @@
--- What the fields of sums say of the grid that contracts see.
+-- The fields of `Sums`, as the grid that contracts see.
 use Rattle.std.proofs.Common.{◌≡◌, ℕ, ◌+◌, ◌-◌, ◌*◌, ◌^◌, ◌<◌, ◌≤◌, length, ap, sym, ◌∙◌, arith}
 use Rattle.std.proofs.lemmas.Nat.{mul-le}
 use Rattle.iiif_pixel.specs.declared.geometry.Rect.{Rect}
@@ -11,12 +11,14 @@ use Rattle.iiif_area.specs.Grid.{Grid}
 use Rattle.iiif_area.specs.declared.sums.Sums.TheInside.{Inside}
 use Rattle.iiif_area.specs.contracts.sums.Sums.{the_view, the_invariant}
 
+-- The fields of sums agree with a grid.
 pub record Seen (q : Inside) (g : Grid) : Type 0 where
   pub rect : q.rect ≡ g.rect
   pub channels : channels_of q.kind ≡ g.channels
   pub sums : q.sums.items ≡ g.sums
   pub count : length g.sums ≡ g.rect.w * g.rect.h * g.channels
 
+-- They agree with the grid that is their model.
 pub seen : (q : Inside) (g : Grid) → the_view q ≡ g → the_invariant q → Seen q g
 seen q g e i = record {
   rect = ap (λ (v : Grid). v.rect) e;
@@ -25,16 +27,17 @@ seen q g e i = record {
   count = rw (← e) i;
 }
 
--- the sums are few enough for an index
+-- The number of sums fits an index.
 pub count_below : (q : Inside) → the_invariant q → q.rect.w * q.rect.h * channels_of q.kind < 2 ^ 63
 count_below q i = omega (arith, i, q.sums.ok.0, q.sums.ok.1, q.sums.small)
 
--- row y of a rectangle within that of the sums: where it begins, and that it ends within the sums
+-- Row y of a rectangle begins and ends within the sums.
 pub record RowFits (q : Inside) (n : ℕ) (rect : Rect) (y : ℕ) : Type 0 where
   pub place : (rect.y - q.rect.y + y) * q.rect.w + (rect.x - q.rect.x) < 2 ^ 63
   pub end : ((rect.y - q.rect.y + y) * q.rect.w + (rect.x - q.rect.x)) * n + rect.w * n ≤ length q.sums.items
   pub small : length q.sums.items < 2 ^ 63
 
+-- Each row of a rectangle within that of the sums fits so.
 pub row_fits_in : (q : Inside) (n : ℕ) (rect : Rect) (y : ℕ) → the_invariant q → n ≡ channels_of q.kind → IsInside rect q.rect →
     y < rect.h → RowFits q n rect y
 row_fits_in q n rect y i e inside l =
@@ -47,7 +50,7 @@ row_fits_in q n rect y i e inside l =
     let most = mul-le at 1 at n (omega arith) positive in
     record { place = omega arith; end = omega arith; small = omega arith }
 
--- and so do all its rows
+-- All its rows together fit an index.
 pub rows_fit_in : (q : Inside) (n : ℕ) (rect : Rect) → the_invariant q → n ≡ channels_of q.kind → IsInside rect q.rect →
     rect.w * n * rect.h < 2 ^ 63
 rows_fit_in q n rect i e inside =

@@ -8,20 +8,21 @@ use Rattle.iiif_pixel.specs.Picture.{Picture}
 use Rattle.iiif_pixel.specs.Scaling.{area_sum, sum_from}
 use Rattle.iiif_area.specs.declared.columns.Span.{Span}
 use Rattle.iiif_area.specs.declared.places.Share.{Share}
-use Rattle.iiif_area.specs.Code.{column_sum, held_of, rows_of, span_total, tile_sample, IsMore, IsSpan, IsWholeSpan}
+use Rattle.iiif_area.specs.declared.weights.Axis.{Axis}
+use Rattle.iiif_area.specs.Code.{column_sum, columns_of, held_of, rows_of, span_total, tile_sample, IsMore, IsSpan, IsWholeSpan}
 use Rattle.iiif_area.proofs.ColumnLaws.{span_total-area}
 use Rattle.iiif_area.proofs.GridLaws.{place_index, FilledTo}
 use Rattle.iiif_area.proofs.SumLaws.{sum_from-split, sum_from-one, sum_from-more}
 
--- one term more of the sum of n terms from u on
+-- One term more of the sum of n terms from u on.
 pub next_term : (u n s v : ℕ) (f : ℕ → ℕ) → s ≡ sum_from u n f → v ≡ f (u + n) → s + v ≡ sum_from u (n + 1) f
 next_term u n s v f so_far is = let e = sum_from-more u n (u + n) f refl in omega arith
 
--- no entry more
+-- A list has no entry more than itself.
 pub IsMore-none : (xs : List ℕ) (n m : ℕ) (f : ℕ → ℕ → ℕ) → m ≡ 0 → IsMore xs xs n m f
 IsMore-none xs n m f e = record { count = omega arith; kept = λ t l. refl; added = λ i k l h. absurd (omega arith) }
 
--- one entry more
+-- A push is one entry more.
 pub IsMore-push : (xs ys : List ℕ) (n m i k v p : ℕ) (f : ℕ → ℕ → ℕ) → IsMore xs ys n m f → k < n → m ≡ i * n + k → v ≡ f i k → p ≡ m + 1 →
     IsMore xs (ys ++ v ∷ []) n p f
 IsMore-push xs ys n m i k v p f so_far below at is next = record {
@@ -39,7 +40,7 @@ IsMore-push xs ys n m i k v p f so_far below at is next = record {
       (cases_lt (q * n + r) m);
 }
 
--- what a result column takes of a whole span
+-- The total of a whole span is c times the sum of its columns.
 pub span_total-whole : (columns : List ℕ) (channels k c n i : ℕ) (s : Span) → 1 < n → IsWholeSpan c n i s →
     span_total columns channels k c s ≡ c * sum_from (i * n) n (λ t. get_or columns (t * channels + k) 0)
 unfolding span_total
@@ -61,7 +62,7 @@ span_total-whole columns channels k c n i s many whole =
     let product = ap (λ w. c * w) total in
     omega arith
 
--- a row more of entries of which each is what f says of its place
+-- A row of entries that are f of their places may be appended.
 pub FilledTo-more : (w n j m : ℕ) (f : ℕ → ℕ → ℕ → ℕ) (g : ℕ → ℕ → ℕ) (xs ys : List ℕ) → FilledTo w n f xs →
     length xs ≡ place_index w n 0 j 0 → m ≡ w * n →
     IsMore xs ys n m g → ((i k : ℕ) → i < w → k < n → g i k ≡ f i j k) → FilledTo w n f ys
@@ -79,9 +80,9 @@ FilledTo-more w n j m f g xs ys filled start all more same = λ p q r lp lr l.
     ap (λ t. get_or ys t 0) index ∙ more.added p r lr (omega arith) ∙ same p r lp lr ∙ ap (λ y. f p y r) (sym e))
     (cases_lt (place_index w n p q r) (length xs))
 
--- what a result place takes of a whole span is the part's sum
+-- The total of a whole span of column sums is the part's sum.
 pub whole_area : (share : Share) (tile : Picture) (i j k p m n : ℕ) (columns : List ℕ) (s : Span) →
-    1 < m → n ≡ tile.channels → IsSpan share.region.w share.size.w share.part.x share.part.w i s → IsWholeSpan share.size.w m p s →
+    1 < m → n ≡ tile.channels → IsSpan (columns_of share) i s → IsWholeSpan share.size.w m p s →
     ((t : ℕ) → t < share.part.w → get_or columns (t * tile.channels + k) 0 ≡ column_sum tile (held_of share) (rows_of share) j t k) →
     share.size.w * sum_from (p * m) m (λ t. get_or columns (t * n + k) 0) ≡ area_sum share.region share.size share.part
     (tile_sample tile share.corner share.part k) i j
@@ -89,15 +90,15 @@ whole_area share tile i j k p m n columns s many en span whole h =
     sym (span_total-whole columns n k share.size.w m p s many whole) ∙
     span_total-area share tile i j k n share.size.w columns s en refl span h
 
--- no span of columns
+-- A span of no columns, for a list's default.
 pub no_span : Span
 no_span = record { start = 0; end = 0; first = 0; last = 0 }
 
--- so many whole spans have no more columns than there are
-pub whole_within : (a c from n first w m : ℕ) (spans : List Span) →
-    ((t : ℕ) (d : Span) → t < w → IsSpan a c from n (first + t) (get_or spans t d)) →
-    ((t : ℕ) (d : Span) → t < w → IsWholeSpan c m t (get_or spans t d)) → w * m ≤ n
-whole_within a c from n first w m spans each whole =
+-- Whole spans, side by side, have no more columns than the part.
+pub whole_within : (axis : Axis) (first w m : ℕ) (spans : List Span) →
+    ((t : ℕ) (d : Span) → t < w → IsSpan axis (first + t) (get_or spans t d)) →
+    ((t : ℕ) (d : Span) → t < w → IsWholeSpan axis.c m t (get_or spans t d)) → w * m ≤ axis.count
+whole_within axis first w m spans each whole =
     ⊎_elim
     (λ (some : 0 < w).
     let last : w - 1 < w = omega arith in

@@ -1,19 +1,16 @@
-//! A tile's weighted samples, added to sums in place.
+//! A tile's weighted samples, added to sums in place: quick where sides grow, since a tile then has few columns and rows to a result place.
 
 ghost use Rattle.std.specs.Prelude.{◌≡◌, ℕ, ◌+◌, ◌-◌, ◌*◌, ◌<◌, ◌≤◌, ◌^◌, ◌⊎◌, min, length, slice_index};
 ghost use Rattle.iiif_pixel.specs.Depths.{span_values};
 ghost use Rattle.iiif_pixel.specs.Geometry.{LiesIn};
-ghost use Rattle.iiif_pixel.specs.Picture.{sample_at};
-ghost use Rattle.iiif_pixel.specs.Scaling.{area_sum};
-ghost use Rattle.iiif_area.specs.Places.{places_of, IsScalable};
-ghost use Rattle.iiif_area.specs.Grid.{grid_of, merged};
-ghost use Rattle.iiif_area.specs.Code.{row_sum, tile_sample};
+ghost use Rattle.iiif_area.specs.Grid.{merged};
+ghost use Rattle.iiif_area.specs.Code.{row_sum, share_sum, share_sums, HoldsShare};
 
 use crate::places::{Share, corner_of, part_of, places_of};
-use crate::weights::{Axis, sources, weight};
+use crate::weights::{Axis, sources, sources_of_run, weight};
 use iiif_pixel::{Raster, Rect, Span};
 
-/// So many result columns from `first` on, over source columns.
+/// A run of `results` result columns from `first` on, and the source columns that are added to them.
 #[derive(Clone, Copy)]
 pub struct Stretch {
     first: u32,
@@ -21,17 +18,13 @@ pub struct Stretch {
     columns: Axis,
 }
 
-/// Adds to the sums at the places of `mine` what these take of a tile's share of a region.
+/// Adds a tile's share of a region to the sums at the places of `mine`.
 pub(crate) fn add_part(mine: Rect, sums: &mut [u64], tile: &Raster, share: Share)
-    requires limits { IsScalable share.region share.size }
-    requires inside { LiesIn share.part share.region }
-    requires held { (share.corner.0 + share.part.w ≤ tile.now.width) × (share.corner.1 + share.part.h ≤ tile.now.height) }
-    requires corner { share.corner.1 + share.part.h < 2 ^ 32 }
+    requires holds { HoldsShare tile.now share }
     requires small { length sums.old < 2 ^ 60 }
     requires mine { length sums.old ≡ mine.w * mine.h * tile.now.channels }
     ensures { sums.new ≡ (merged (record { rect = mine; channels = tile.now.channels; sums = sums.old })
-        (grid_of (places_of share.region share.size share.part) tile.now.channels
-        (λ i j k. area_sum share.region share.size share.part (tile_sample tile.now share.corner share.part k) i j))).sums }
+        (share_sums tile.now share)).sums }
 {
     let channels = tile.kind().channels();
     let places = places_of(share.region, share.size, share.part);
@@ -53,36 +46,40 @@ pub(crate) fn add_part(mine: Rect, sums: &mut [u64], tile: &Raster, share: Share
     }
 }
 
-/// Adds to the sums at a row of result places what these take of all rows of the part.
+/// Adds all rows of a share to the sums at a row of result places. Only rows and columns that have a weight there are walked: a narrow band
+/// of a result that is turned covers few columns of each tile.
 fn add_rows(sums: &mut [u64], tile: &Raster, share: Share, row: Rect)
-    requires limits { IsScalable share.region share.size }
-    requires inside { LiesIn share.part share.region }
-    requires held { (share.corner.0 + share.part.w ≤ tile.now.width) × (share.corner.1 + share.part.h ≤ tile.now.height) }
-    requires corner { share.corner.1 + share.part.h < 2 ^ 32 }
+    requires holds { HoldsShare tile.now share }
     requires row { LiesIn row share.size }
     requires len { length sums.old ≡ row.w * tile.now.channels }
     ensures { (i k : ℕ) → i < row.w → k < tile.now.channels → slice_index sums.new (i * tile.now.channels + k)
         ≡ min (2 ^ 64 - 1) (slice_index sums.old (i * tile.now.channels + k)
-        + area_sum share.region share.size share.part (tile_sample tile.now share.corner share.part k) (row.x + i) row.y) }
+        + share_sum tile.now share (row.x + i) row.y k) }
 {
     let channels = tile.kind().channels();
+    let (held, rows, columns) = (share.held(), share.rows(), share.columns());
+    let (left, right) = sources_of_run(row.x, row.w, columns);
     let stretch = Stretch {
         first: row.x,
         results: row.w,
-        columns: share.columns(),
+        columns: Axis {
+            a: columns.a,
+            c: columns.c,
+            from: columns.from + left,
+            count: right - left,
+        },
     };
-    let (held, rows) = (share.held(), share.rows());
     let (start, end) = sources(row.y, rows);
     for s in start..end {
-        let samples = tile.span(held.x, held.y + s, held.w);
+        let samples = tile.span(held.x + left, held.y + s, right - left);
         let weight = weight(row.y, rows.from + s, rows.a, rows.c);
         add_row(sums, stretch, samples, channels, weight);
     }
 }
 
-/// Adds to the sums at a row of result places what their columns take of a row of samples, times `rows`. Source and result
-/// columns are walked together: a source column ends where the next begins, and the result column that lies on both is
-/// returned to.
+/// Adds a row of samples to the sums at a row of result places, each sample times the weight of its column and times `rows`, the weight of
+/// the row. Source and result columns are walked together: a source column ends where the next begins, and the walk returns to the result
+/// column that lies on both.
 fn add_row(sums: &mut [u64], stretch: Stretch, samples: Span, channels: usize, rows: u64)
     requires columns { stretch.columns.from + stretch.columns.count ≤ stretch.columns.a }
     requires results { stretch.first + stretch.results ≤ stretch.columns.c }
@@ -91,8 +88,7 @@ fn add_row(sums: &mut [u64], stretch: Stretch, samples: Span, channels: usize, r
     requires samples { length (span_values samples) ≡ stretch.columns.count * channels }
     ensures { (i k : ℕ) → i < stretch.results → k < channels → slice_index sums.new (i * channels + k)
         ≡ min (2 ^ 64 - 1) (slice_index sums.old (i * channels + k)
-        + rows * row_sum (span_values samples.entry) channels stretch.columns.from stretch.columns.count stretch.columns.a stretch.columns.c
-        (stretch.first + i) k) }
+        + rows * row_sum (span_values samples.entry) channels stretch.columns (stretch.first + i) k) }
 {
     let (a, c) = (u64::from(stretch.columns.a), u64::from(stretch.columns.c));
     let mut i = 0;
@@ -121,7 +117,7 @@ fn add_row(sums: &mut [u64], stretch: Stretch, samples: Span, channels: usize, r
     }
 }
 
-/// Adds to the `channels` sums from index `to` on as many samples from index `from` on, each times `weight`.
+/// Adds `channels` samples from index `from` on, each times `weight`, to as many sums from index `to` on.
 fn add_place(sums: &mut [u64], to: usize, samples: Span, from: usize, channels: usize, weight: u64)
     requires sums { to + channels ≤ length sums.old }
     requires samples { from + channels ≤ length (span_values samples) }

@@ -1,4 +1,4 @@
-//! Sums made into samples.
+//! Averages of sums, rounded to samples.
 
 ghost use Rattle.std.specs.Prelude.{◌≡◌, ◌+◌, ◌*◌, ◌/◌, ◌<◌, ◌≤◌, ◌^◌, ◌++◌, map, min, length, IfSome, vec_len, vec_capacity};
 ghost use Rattle.iiif_pixel.specs.Geometry.{top_of};
@@ -9,10 +9,10 @@ use iiif_pixel::Samples;
 use std::marker::Model;
 use std::mem::replace;
 
-/// Of so many places the averages of 8 bits need no correction: 256 times the square of it is below 2^55.
+/// The largest area, in places, whose averages of 8 bits need no correction: 256 times its square is below 2^55.
 const SMALL_AREA: u64 = 8_388_608;
 
-/// Makes sums over regions of so many places into averages, each by the reciprocal of that number, without a division.
+/// Averages over a region's area, by the reciprocal of the area in place of a division.
 #[derive(Drop)]
 pub struct Averager {
     area: u64,
@@ -30,7 +30,7 @@ impl Model for Averager {
 }
 
 impl Averager {
-    /// For regions of so many places.
+    /// Prepares averages over an area, a number of places.
     #[inline]
     pub fn new(area: u64) -> Averager
         requires { (0 < area) × (area ≤ 2 ^ 32) }
@@ -42,7 +42,7 @@ impl Averager {
         }
     }
 
-    /// The average that a sum stands for, to the nearest whole number, a half up, and `top` for any above it.
+    /// Returns the average of a sum over the area, rounded to the nearest whole number, a half up, and `top` for any above it.
     #[inline]
     pub fn average(&self, sum: u64, top: u16) -> u16
         ensures { result ≡ average_within self.now top sum }
@@ -52,7 +52,7 @@ impl Averager {
         self.quotient(parts) as u16
     }
 
-    /// `parts` divided by the area. What the reciprocal was rounded down by takes at most one from the quotient.
+    /// Divides `parts` by the area. Since the reciprocal was rounded down, its quotient may be one too low.
     #[inline]
     fn quotient(&self, parts: u64) -> u64
         requires { parts < 65536 * self.now }
@@ -64,7 +64,7 @@ impl Averager {
     }
 }
 
-/// Appends the averages of sums over a region of so many places, as deep as the samples are.
+/// Appends the averages of sums over an area, in the samples' depth.
 pub(crate) fn push_averages(samples: &mut Samples, sums: &[u64], area: u64)
     requires area { (0 < area) × (area ≤ 2 ^ 32) }
     requires room { length (values_of samples.old) + length sums.now ≤ capacity_of samples.old }
@@ -131,7 +131,7 @@ fn push_small_eight(samples: &mut Vec<u8>, sums: &[u64], area: u64)
     }
 }
 
-/// The average of 8 bits by a reciprocal that was rounded up: what it has too much never comes to a whole part.
+/// Returns the average of a sum in 8 bits, by a reciprocal that was rounded up: over a small area the excess never makes up a whole one.
 #[inline]
 fn small_average(sum: u64, area: u64, reciprocal: u64) -> u64
     requires area { (0 < area) × (area ≤ 2 ^ 23) }
@@ -142,7 +142,7 @@ fn small_average(sum: u64, area: u64, reciprocal: u64) -> u64
     (parts * reciprocal) >> 55
 }
 
-/// Which power of two the half of an area is, if it is one.
+/// Returns the exponent of the power of two that is half of an area, if there is one.
 fn half_power(area: u64) -> Option<u32>
     requires { 0 < area }
     ensures half { IfSome result (λ bits. area ≡ 2 * 2 ^ bits) }
@@ -152,8 +152,7 @@ fn half_power(area: u64) -> Option<u32>
     if area == 2 << bits { Some(bits) } else { None }
 }
 
-/// The average of a sum over twice 2^`bits` places: half of how often 2^`bits` goes into the sum. Without a multiplication, so that
-/// several sums are averaged at once.
+/// Returns the average of a sum over twice 2^`bits` places, by shifts alone, so that several sums are averaged at once.
 #[inline]
 fn average_of_halves(sum: u64, bits: u32, top: u64) -> u64
     requires { bits < 64 }

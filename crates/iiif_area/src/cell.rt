@@ -1,13 +1,13 @@
-//! The numbers that sums of columns are kept in.
+//! Numbers that a column's sum is kept in.
 
 ghost use Rattle.std.specs.Prelude.{◌≡◌, ℕ, ◌<◌, List, length, slice_index};
 
 /// A number that the sum of a column is kept in. The narrower it is, the more of them are added at once.
 pub(crate) trait Cell: Copy {
-    /// What the cells are as numbers.
+    /// The cells as numbers.
     ghost numbers: { List Self → List ℕ };
 
-    /// The number of the cell at index `i`.
+    /// Reads the cell at index `i`.
     fn at(cells: &[Self], i: usize) -> u64
         requires { i < length cells.now }
         ensures { result ≡ slice_index (numbers cells.now) i };

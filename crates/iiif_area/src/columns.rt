@@ -1,12 +1,11 @@
-//! The sums over a tile: each result row adds up the tile's columns, and each result place takes its part of them.
+//! Sums over a tile, in two steps: the columns are summed up for each result row, and then the column sums of each result place.
 
 ghost use Rattle.std.specs.Prelude.{◌≡◌, ℕ, ◌+◌, ◌*◌, ◌<◌, ◌≤◌, ◌^◌, length, slice_index, slice_index_or, true, vec_len, vec_capacity};
 ghost use Rattle.std.specs.Prelude.{IfOk, IfSome};
-ghost use Rattle.iiif_pixel.specs.Geometry.{LiesIn, top_of};
+ghost use Rattle.iiif_pixel.specs.Geometry.{LiesIn};
 ghost use Rattle.iiif_pixel.specs.Picture.{samples_of};
-ghost use Rattle.iiif_pixel.specs.Scaling.{area_sum, sum_from};
-ghost use Rattle.iiif_area.specs.Places.{places_of, IsScalable};
-ghost use Rattle.iiif_area.specs.Code.{rows_of, span_total, tile_sample, IsMore, IsSpan, IsWholeSpan};
+ghost use Rattle.iiif_pixel.specs.Scaling.{sum_from};
+ghost use Rattle.iiif_area.specs.Code.{rows_of, share_sum, span_total, HoldsShare, IsMore, IsSpan, IsWholeSpan};
 
 use crate::cell::Cell;
 use crate::column_sums::ColumnSums;
@@ -17,8 +16,8 @@ use crate::wide::Wide;
 use iiif_pixel::{Kind, NoMemory, Raster, Rect};
 use std::alloc::{AllocError, Global};
 
-/// The columns of a part that a result column takes something of, counted from the part's first, and what it takes of the
-/// first and of the last. Of a single one it takes all as the first.
+/// The columns of a part that have a weight in a result column, counted from the part's first, and the weights of the first and of the
+/// last. A single column counts as the first.
 #[derive(Clone, Copy)]
 pub struct Span {
     pub(crate) start: usize,
@@ -27,20 +26,17 @@ pub struct Span {
     pub(crate) last: u64,
 }
 
-/// The sums over a tile's share of a region, at the result places `rect`.
+/// Sums up a tile's share of a region, at the result places `rect`.
 pub(crate) fn tile_sums(
     alloc: Global,
     tile: &Raster,
     share: Share,
     rect: Rect,
 ) -> Result<Vec<u64>, NoMemory>
-    requires limits { IsScalable share.region share.size }
-    requires inside { LiesIn share.part share.region }
-    requires held { (share.corner.0 + share.part.w ≤ tile.now.width) × (share.corner.1 + share.part.h ≤ tile.now.height) }
-    requires corner { share.corner.1 + share.part.h < 2 ^ 32 }
+    requires holds { HoldsShare tile.now share }
     requires rect { LiesIn rect share.size }
     ensures { IfOk result (λ v. v.items ≡ samples_of rect.w rect.h tile.now.channels
-        (λ i j k. area_sum share.region share.size share.part (tile_sample tile.now share.corner share.part k) (rect.x + i) (rect.y + j))) }
+        (λ i j k. share_sum tile.now share (rect.x + i) (rect.y + j) k)) }
 {
     if is_short(tile.depth(), share.rows()) {
         match tile.kind() {
@@ -55,8 +51,8 @@ pub(crate) fn tile_sums(
     }
 }
 
-/// The same of a tile with so many channels, by sums of columns that it fits in. It is made anew for each number that is passed, so that no
-/// place costs a loop over channels.
+/// Sums up a share of a tile with `channels` channels, by column sums that fit. It is inlined for each number of channels, so that no place
+/// costs a loop over channels.
 #[inline(always)]
 fn sums_by<C: ColumnSums>(
     alloc: Global,
@@ -67,13 +63,10 @@ fn sums_by<C: ColumnSums>(
 ) -> Result<Vec<u64>, NoMemory>
     requires channels { channels ≡ tile.now.channels }
     requires fits { C.fits tile.now (rows_of share) }
-    requires limits { IsScalable share.region share.size }
-    requires inside { LiesIn share.part share.region }
-    requires held { (share.corner.0 + share.part.w ≤ tile.now.width) × (share.corner.1 + share.part.h ≤ tile.now.height) }
-    requires corner { share.corner.1 + share.part.h < 2 ^ 32 }
+    requires holds { HoldsShare tile.now share }
     requires rect { LiesIn rect share.size }
     ensures { IfOk result (λ v. v.items ≡ samples_of rect.w rect.h tile.now.channels
-        (λ i j k. area_sum share.region share.size share.part (tile_sample tile.now share.corner share.part k) (rect.x + i) (rect.y + j))) }
+        (λ i j k. share_sum tile.now share (rect.x + i) (rect.y + j) k)) }
 {
     // No sample is above 65,535, so the sums fit.
     tile.is_whole();
@@ -104,14 +97,14 @@ fn sums_by<C: ColumnSums>(
     Ok(sums)
 }
 
-/// The spans of `results` result columns from `first` on.
+/// Makes the spans of `results` result columns from `first` on.
 fn spans(alloc: Global, first: u32, results: u32, axis: Axis) -> Result<Vec<Span>, NoMemory>
     requires divides { 0 < axis.c }
     requires inside { axis.from + axis.count ≤ axis.a }
     requires results { first + results ≤ axis.c }
     ensures len { IfOk result (λ v. vec_len v ≡ results) }
     ensures each { IfOk result (λ v. (t : ℕ) (d : Span) → t < results →
-        IsSpan axis.a axis.c axis.from axis.count (first + t) (slice_index_or v.items t d)) }
+        IsSpan axis (first + t) (slice_index_or v.items t d)) }
 {
     let mut spans = Vec::with_capacity(alloc, results as usize)?;
     for i in 0..results {
@@ -120,11 +113,11 @@ fn spans(alloc: Global, first: u32, results: u32, axis: Axis) -> Result<Vec<Span
     Ok(spans)
 }
 
-/// The span of result column `i`.
+/// Makes the span of result column `i`.
 fn span_of(i: u32, axis: Axis) -> Span
     requires divides { 0 < axis.c }
     requires inside { axis.from + axis.count ≤ axis.a }
-    ensures { IsSpan axis.a axis.c axis.from axis.count i result }
+    ensures { IsSpan axis i result }
 {
     let (start, end) = sources(i, axis);
     let (first, last) = match end - start {
@@ -143,8 +136,8 @@ fn span_of(i: u32, axis: Axis) -> Span
     }
 }
 
-/// How many columns each of the spans has, where all have as many, at least two, whole and side by side from the first on, and
-/// columns are scaled to `c`.
+/// Returns the number of columns of each span, if all spans have equally many, at least two, whole and side by side from the first column
+/// on. Columns are scaled to `c`.
 fn whole_columns(spans: &[Span], c: u32) -> Option<usize>
     ensures many { IfSome result (λ n. 1 < n) }
     ensures each { IfSome result (λ n. (i : ℕ) (d : Span) → i < length spans.now → IsWholeSpan c n i (slice_index_or spans.now i d)) }
@@ -166,7 +159,7 @@ fn whole_columns(spans: &[Span], c: u32) -> Option<usize>
     Some(columns)
 }
 
-/// What a result column takes of the first column of its span, of those between, each of weight `c`, and of the last.
+/// Weighs the sum of a span's first column, that of the columns between, each of weight `c`, and that of the last, and adds them up.
 #[inline(always)]
 fn taken_of(span: Span, c: u64, first: u64, inner: u64, last: u64) -> u64
     requires { span.first * first + c * inner + span.last * last < 2 ^ 64 }
@@ -176,7 +169,7 @@ fn taken_of(span: Span, c: u64, first: u64, inner: u64, last: u64) -> u64
     span.first * first + between + span.last * last
 }
 
-/// What a result column takes of channel `k` of column sums.
+/// Adds up a span's column sums in channel `k`, each times its weight.
 fn span_sum<N: Cell>(columns: &[N], channels: usize, k: usize, c: u64, span: Span) -> u64
     requires in_order { span.start ≤ span.end }
     requires within { span.end * channels ≤ length columns.now }
@@ -199,8 +192,8 @@ fn span_sum<N: Cell>(columns: &[N], channels: usize, k: usize, c: u64, span: Spa
     taken_of(span, c, first, inner, last)
 }
 
-/// Appends what each of `count` result places takes of its `n` columns, which it has whole. It is made anew for the numbers that scales
-/// by a power of two have, so that the sums of several places are made at once.
+/// Appends the weighted sums of `count` result places, each of `n` whole columns. It is inlined for the `n` of scales by a power of two, so
+/// that the sums of several places are made at once.
 #[inline(always)]
 fn with_whole<N: Cell>(
     sums: Vec<u64>,
@@ -227,7 +220,7 @@ fn with_whole<N: Cell>(
     }
 }
 
-/// The same of any number of columns.
+/// Appends the weighted sums of `count` result places, each of `n` whole columns.
 #[inline(always)]
 fn with_whole_of<N: Cell>(
     mut sums: Vec<u64>,
@@ -255,7 +248,7 @@ fn with_whole_of<N: Cell>(
     sums
 }
 
-/// The sum of channel `k` of the `n` columns from `start` on.
+/// Adds up channel `k` of the `n` columns from `start` on.
 #[inline(always)]
 fn sum_of<N: Cell>(columns: &[N], channels: usize, k: usize, start: usize, n: usize) -> u64
     requires channel { k < channels }

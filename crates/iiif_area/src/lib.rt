@@ -1,4 +1,4 @@
-//! Area averaging: weights, sums over parts of a region, and the scaled samples that they make.
+//! Area averaging: weights, sums over the parts of a region, and the averages that become scaled samples.
 #![tactic(auto)]
 
 mod adding;
@@ -16,6 +16,6 @@ pub mod weights;
 mod wide;
 
 pub use averages::Averager;
-pub use places::{corner_of, is_inside, is_scalable, meets, part_of, places_of};
+pub use places::{corner_of, is_inside, meets, part_of, places_of};
 pub use sums::Sums;
 pub use weights::weight;

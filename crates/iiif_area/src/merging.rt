@@ -1,4 +1,4 @@
-//! Sums added to sums.
+//! Sums of two rectangles, added at the places that both have.
 
 ghost use Rattle.std.specs.Prelude.{◌≡◌, ℕ, ◌+◌, ◌*◌, ◌-◌, ◌<◌, ◌≤◌, ◌^◌, min, length, slice_index, EachIndex};
 ghost use Rattle.iiif_area.specs.Grid.{merged};
@@ -6,7 +6,7 @@ ghost use Rattle.iiif_area.specs.Grid.{merged};
 use crate::places::{corner_of, part_of};
 use iiif_pixel::Rect;
 
-/// Adds to the sums at the places of `mine` those at the places of `theirs` that are places of both.
+/// Adds to the sums at the places of `mine` the others, at the places of `theirs`, wherever both rectangles have the place.
 pub(crate) fn add_places(
     channels: usize,
     mine: Rect,

@@ -1,11 +1,11 @@
-//! Sums of columns of up to 32 bits, which those of most tiles of 8 bits fit in, and most of their rows in 16: the narrower, the more of
+//! Column sums of 32 bits, for most tiles of 8 bits a sample. Whole rows are added in 16 bits first: the narrower the numbers, the more of
 //! them are added at once.
 
-ghost use Rattle.std.specs.Prelude.{◌≡◌, ℕ, ◌+◌, ◌-◌, ◌*◌, ◌<◌, ◌≤◌, ◌^◌, ◌⊎◌, length, slice_index, true};
+ghost use Rattle.std.specs.Prelude.{◌≡◌, ℕ, ◌+◌, ◌-◌, ◌*◌, ◌<◌, ◌≤◌, ◌^◌, length, slice_index, true};
 ghost use Rattle.iiif_pixel.specs.Geometry.{top_of};
 ghost use Rattle.iiif_pixel.specs.Picture.{sample_at};
 ghost use Rattle.iiif_pixel.specs.Scaling.{sum_from};
-ghost use Rattle.iiif_area.specs.Code.{column_sum};
+ghost use Rattle.iiif_area.specs.Code.{column_sum, HasRows, IsShort};
 
 use crate::column_sums::ColumnSums;
 use crate::rows::{RowWeights, join_ends, join_rows, row_of, sum_four, sum_one};
@@ -13,16 +13,16 @@ use crate::weights::{Axis, sources, weight};
 use iiif_pixel::{Depth, NoMemory, Raster, Rect};
 use std::alloc::Global;
 
-/// So many rows of weight 1 are added up at once.
+/// Rows that are added up at once, where each is whole.
 const FOUR: u32 = 4;
 
-/// The sums of so many samples of at most 255 fit in 16 bits.
+/// Samples of 8 bits whose sum fits in 16 bits: 257 times 255 is 65,535.
 const SHORT_RUN: u32 = 257;
 
-/// Of so many rows of at most 255 a column's weighted sum fits in 32 bits.
+/// Rows of a region whose weighted sum of samples of 8 bits fits in 32 bits.
 const SHORT_ROWS: u32 = 16_843_009;
 
-/// The sums of columns of a tile for which `is_short` holds.
+/// Sums of the columns of a tile for which `is_short` holds.
 #[derive(Drop)]
 pub(crate) struct Narrow {
     cells: Vec<u32>,
@@ -36,8 +36,7 @@ impl ColumnSums for Narrow {
 
     ghost is_ready = { λ s n. (length s.cells.items ≡ n) × (length s.short.items ≡ n) };
 
-    ghost fits = { λ tile rows. (tile.top ≡ 255) × ((rows.a * 255 < 2 ^ 32) × (rows.c < 2 ^ 16)) ×
-        ((rows.count ≤ 257) ⊎ (rows.a ≤ 257 * rows.c)) };
+    ghost fits = { λ tile rows. IsShort tile.top rows };
 
     fn new(alloc: Global, count: usize) -> Result<Narrow, NoMemory> {
         let cells = vec![in alloc; 0u32; count]?;
@@ -59,7 +58,7 @@ impl ColumnSums for Narrow {
     }
 }
 
-/// Whether a sample has 8 bits.
+/// Tells whether a sample has 8 bits.
 fn is_eight(depth: Depth) -> bool
     ensures { result ≡ true → top_of depth ≡ 255 }
 {
@@ -69,12 +68,9 @@ fn is_eight(depth: Depth) -> bool
     }
 }
 
-/// Whether the sums of a part with these rows may be made here: the samples have 8 bits, and the sums of columns and of rows
-/// between the first and the last of a result row fit.
+/// Tells whether the column sums of a part with these rows fit here.
 pub(crate) fn is_short(depth: Depth, rows: Axis) -> bool
-    ensures depth { result ≡ true → top_of depth ≡ 255 }
-    ensures few { result ≡ true → (rows.a * 255 < 2 ^ 32) × (rows.c < 2 ^ 16) }
-    ensures run { result ≡ true → (rows.count ≤ 257) ⊎ (rows.a ≤ 257 * rows.c) }
+    ensures { result ≡ true → IsShort (top_of depth) rows }
 {
     let (b, d) = (rows.a, rows.c);
     is_eight(depth)
@@ -83,8 +79,8 @@ pub(crate) fn is_short(depth: Depth, rows: Axis) -> bool
         && (rows.count <= SHORT_RUN || u64::from(b) <= u64::from(SHORT_RUN) * u64::from(d))
 }
 
-/// What result row `j` takes of each column of the part that a tile holds in its rectangle `held`. Rows between the first and
-/// the last, which it takes whole, are added up without their weight in `short`.
+/// Sums up each column of the part that a tile holds in its rectangle `held`, each sample times the weight of its row in result row `j`.
+/// Rows between the first and the last are whole: they are added up in `short`, and weighted once.
 #[inline(never)]
 fn fill_narrow(
     columns: &mut [u32],
@@ -94,15 +90,9 @@ fn fill_narrow(
     rows: Axis,
     j: u32,
 )
-    requires divides { 0 < rows.c }
-    requires depth { tile.now.top ≡ 255 }
+    requires part { HasRows tile.now held rows }
+    requires narrow { IsShort tile.now.top rows }
     requires samples { (x y k : ℕ) → sample_at tile.now x y k ≤ 255 }
-    requires few { (rows.a * 255 < 2 ^ 32) × (rows.c < 2 ^ 16) }
-    requires run { (rows.count ≤ 257) ⊎ (rows.a ≤ 257 * rows.c) }
-    requires inside { rows.from + rows.count ≤ rows.a }
-    requires rows { rows.count ≡ held.h }
-    requires held { (held.x + held.w ≤ tile.now.width) × (held.y + held.h ≤ tile.now.height) }
-    requires corner { held.y + held.h < 2 ^ 32 }
     requires room { length columns.old ≡ held.w * tile.now.channels }
     requires short { length short.old ≡ length columns.old }
     ensures sums { (t k : ℕ) → t < held.w → k < tile.now.channels →
@@ -134,7 +124,7 @@ fn fill_narrow(
     join_rows(columns, first, short, last, weights);
 }
 
-/// The sums of the samples of the rows from `from` up to `to` of the part that a tile of 8 bits holds in its rectangle `held`.
+/// Adds up the rows from `from` to `to` (`to` excluded) of the part that a tile of 8 bits holds in its rectangle `held`.
 fn sum_inner(short: &mut [u16], tile: &Raster, held: Rect, from: u32, to: u32)
     requires depth { tile.now.top ≡ 255 }
     requires samples { (x y k : ℕ) → sample_at tile.now x y k ≤ 255 }

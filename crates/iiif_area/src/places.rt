@@ -1,15 +1,15 @@
-//! Parts of a region, and the result places that they meet.
+//! Parts of a region, and the result places that they cover.
 
 ghost use Rattle.std.specs.Prelude.{◌≡◌, ℕ, ◌+◌, ◌<◌, ◌≤◌, ◌↔◌, IsTrue, ◌-◌, ◌*◌, ◌/◌, min, max};
 ghost use Rattle.std.specs.Int.{div_ceil};
 ghost use Rattle.iiif_pixel.specs.Geometry.{sides_of, HasPlace, LiesIn};
-ghost use Rattle.iiif_area.specs.Code.{columns_of, held_of, rows_of};
-ghost use Rattle.iiif_area.specs.Places.{corner_of, part_of, places_of, IsInside, IsScalable, Meets};
+ghost use Rattle.iiif_area.specs.Code.{columns_of, held_of, rows_of, share_of};
+ghost use Rattle.iiif_area.specs.Places.{corner_of, part_of, places_of, IsInside, Meets};
 
 use crate::weights::Axis;
 use iiif_pixel::{Dim, Rect};
 
-/// A tile's share of a region that is scaled to `size`: the part of the region that the tile holds from its place `corner` on.
+/// The part of a region that a tile holds, from the tile's place `corner` on; the region is scaled to `size`.
 #[derive(Clone, Copy)]
 pub(crate) struct Share {
     pub corner: (u32, u32),
@@ -19,12 +19,9 @@ pub(crate) struct Share {
 }
 
 impl Share {
-    /// That of a tile, where tile and region are given in the columns and rows of one image.
-    pub(crate) fn of(tile: Rect, region: Rect, size: Dim) -> Share
-        ensures corner { result.corner ≡ corner_of tile region }
-        ensures part { result.part ≡ part_of tile region }
-        ensures region { result.region ≡ sides_of region }
-        ensures size { result.size ≡ size }
+    /// Makes a tile's share of a region. Tile and region are given in the columns and rows of one image.
+    pub(crate) fn new(tile: Rect, region: Rect, size: Dim) -> Share
+        ensures { result ≡ share_of tile region size }
     {
         Share {
             corner: corner_of(tile, region),
@@ -34,7 +31,7 @@ impl Share {
         }
     }
 
-    /// The columns of the region, and those of the part.
+    /// Returns the columns of the region, and which of them the part has.
     pub(crate) fn columns(self) -> Axis
         ensures { result ≡ columns_of self }
     {
@@ -46,7 +43,7 @@ impl Share {
         }
     }
 
-    /// The rows likewise.
+    /// Returns the rows likewise.
     pub(crate) fn rows(self) -> Axis
         ensures { result ≡ rows_of self }
     {
@@ -58,7 +55,7 @@ impl Share {
         }
     }
 
-    /// Where the part lies in the tile.
+    /// Returns the rectangle of the tile in which the part lies.
     pub(crate) fn held(self) -> Rect
         ensures { result ≡ held_of self }
     {
@@ -71,9 +68,8 @@ impl Share {
     }
 }
 
-/// The part of a region that a tile has, in the region's own columns and rows: a place of the region is one of the part
-/// where it is one of the tile. Tile and region are given in the columns and rows of one image. Where they have no place
-/// in common, a side of the part is 0.
+/// Returns the part of a region that lies in a tile, in the region's own columns and rows. Tile and region are given in the columns and
+/// rows of one image. If they have no place in common, a side of the part is 0.
 pub fn part_of(tile: Rect, region: Rect) -> Rect
     ensures part { result ≡ part_of tile region }
     ensures same_places { (x y : ℕ) → HasPlace result x y
@@ -89,14 +85,14 @@ pub fn part_of(tile: Rect, region: Rect) -> Rect
     }
 }
 
-/// Where that part begins in the tile: its column and its row there.
+/// Returns the column and the row of the tile at which that part begins.
 pub fn corner_of(tile: Rect, region: Rect) -> (u32, u32)
     ensures { result ≡ corner_of tile region }
 {
     (tile.x.max(region.x) - tile.x, tile.y.max(region.y) - tile.y)
 }
 
-/// The result places that a part of a region meets, where the region is scaled to `size`.
+/// Returns the result places that a part of a region covers, at least partly, when the region is scaled to `size`.
 pub fn places_of(region: Dim, size: Dim, part: Rect) -> Rect
     requires columns { 0 < region.w }
     requires rows { 0 < region.h }
@@ -109,7 +105,7 @@ pub fn places_of(region: Dim, size: Dim, part: Rect) -> Rect
     Rect { x, y, w, h }
 }
 
-/// Whether a tile and a region have a place in common.
+/// Tells whether a tile and a region have a place in common.
 pub fn meets(tile: Rect, region: Rect) -> bool
     ensures { IsTrue result ↔ Meets tile region }
 {
@@ -117,7 +113,7 @@ pub fn meets(tile: Rect, region: Rect) -> bool
     part.w > 0 && part.h > 0
 }
 
-/// Whether each place of `rect` is one of `whole`.
+/// Tells whether each place of `rect` is one of `whole`.
 pub fn is_inside(rect: Rect, whole: Rect) -> bool
     ensures { IsTrue result ↔ IsInside rect whole }
 {
@@ -128,15 +124,7 @@ pub fn is_inside(rect: Rect, whole: Rect) -> bool
         && end(rect.y, rect.h) <= end(whole.y, whole.h)
 }
 
-/// Whether the region can be scaled to these sides: neither is empty, and the region's sums fit 64 bits.
-pub fn is_scalable(region: Dim, size: Dim) -> bool
-    ensures { IsTrue result ↔ IsScalable region size }
-{
-    let area = u64::from(region.w) * u64::from(region.h);
-    region.w > 0 && region.h > 0 && area <= 1 << 32 && size.w > 0 && size.h > 0
-}
-
-/// How many of the `m` columns from `p` on are among the `n` columns from `q` on.
+/// Counts the columns that both the `m` columns from `p` on and the `n` columns from `q` on have.
 fn common(p: u32, m: u32, q: u32, n: u32) -> u32
     ensures { result ≡ min (p + m) (q + n) - max p q }
 {
@@ -144,8 +132,8 @@ fn common(p: u32, m: u32, q: u32, n: u32) -> u32
     end.saturating_sub(u64::from(p.max(q))) as u32
 }
 
-/// The first of the result columns that the `count` source columns from `from` on meet, where `a` columns are scaled to `c`,
-/// and how many they are.
+/// Returns the first result column that the `count` source columns from `from` on cover, and how many they cover, when `a` columns are
+/// scaled to `c`.
 fn places_along(a: u32, c: u32, from: u32, count: u32) -> (u32, u32)
     requires divides { 0 < a }
     requires inside { from + count ≤ a }

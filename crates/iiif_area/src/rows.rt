@@ -1,4 +1,4 @@
-//! Rows of a tile, added to the sums of its columns, each with its weight or several without.
+//! Rows of a tile, added to its column sums: each with its weight, or several whole rows without.
 
 ghost use Rattle.std.specs.Prelude.{◌≡◌, ℕ, ◌+◌, ◌*◌, ◌<◌, ◌≤◌, ◌^◌, length, slice_index, EachIndex};
 ghost use Rattle.iiif_pixel.specs.Depths.{span_values};
@@ -82,7 +82,7 @@ pub(crate) fn add_sums(columns: &mut [u64], inner: &[u32], weight: u32)
     }
 }
 
-/// Row `s` of the part that a tile of 8 bits holds in its rectangle `held`.
+/// Borrows row `s` of the part that a tile of 8 bits holds in its rectangle `held`.
 pub(crate) fn row_of<'a>(tile: &'a Raster, held: Rect, s: u32) -> &'a [u8]
     requires depth { tile.now.top ≡ 255 }
     requires held { (held.x + held.w ≤ tile.now.width) × (held.y + s < tile.now.height) }
@@ -119,7 +119,7 @@ pub(crate) fn sum_one(short: &mut [u16], row: &[u8])
     }
 }
 
-/// Writes to each of `columns` the samples of two rows at its index, times their weights.
+/// Writes to each of `columns` the samples of two rows at its index, each times its row's weight, added up.
 pub(crate) fn join_ends(columns: &mut [u32], first: &[u8], above: u16, last: &[u8], below: u16)
     requires same { (length first.now ≡ length columns.old) × (length last.now ≡ length columns.old) }
     ensures { EachIndex columns.new (λ t. slice_index columns.new t ≡ above * slice_index first.now t + below * slice_index last.now t) }
@@ -129,7 +129,7 @@ pub(crate) fn join_ends(columns: &mut [u32], first: &[u8], above: u16, last: &[u
     }
 }
 
-/// What a result row takes of its first source row, of each between, and of its last.
+/// The weights of a result row's first source row, of each row between, and of its last.
 #[derive(Clone, Copy)]
 pub(crate) struct RowWeights {
     pub above: u16,
@@ -137,8 +137,8 @@ pub(crate) struct RowWeights {
     pub below: u16,
 }
 
-/// Writes to each of `columns` the samples of two rows at its index, and the number of `short`, which is of those between, each times its
-/// weight.
+/// Writes to each of `columns` the samples of the first row and of the last at its index, and the sum of those between from `short`, each
+/// times its weight, added up.
 pub(crate) fn join_rows(
     columns: &mut [u32],
     first: &[u8],

@@ -1,4 +1,4 @@
-//! Sums at result places: of a tile, merged, and made into samples.
+//! Sums at result places: made of tiles, merged, and averaged to samples.
 
 ghost use Rattle.std.specs.Prelude.{◌≡◌, ℕ, ◌*◌, ◌<◌, ◌≤◌, ◌^◌, IfOk, length};
 ghost use Rattle.iiif_pixel.specs.Geometry.{channels_of, sides_of, top_of, LiesIn};
@@ -7,6 +7,7 @@ ghost use Rattle.iiif_pixel.specs.Operations.{crop};
 ghost use Rattle.iiif_pixel.specs.Scaling.{scale, whole_of};
 ghost use Rattle.iiif_area.specs.Places.{part_of, places_of, IsInside, IsScalable, Meets};
 ghost use Rattle.iiif_area.specs.Grid.{finished, grid_of, merged, sums_at, sums_of, IsGrid};
+ghost use Rattle.iiif_area.specs.Code.{share_sums, HoldsShare};
 
 use crate::adding::add_part;
 use crate::averages::push_averages;
@@ -17,7 +18,7 @@ use iiif_pixel::{Depth, Dim, Kind, NoMemory, Raster, Rect, Samples};
 use std::alloc::{AllocError, Global};
 use std::marker::Model;
 
-/// A rectangle of result places, with a sum for each place and channel.
+/// A rectangle of result places, with a sum of weighted samples for each place and channel.
 #[derive(Drop)]
 pub struct Sums {
     rect: Rect,
@@ -38,7 +39,7 @@ impl Model for Sums {
 }
 
 impl Sums {
-    /// A sum of 0 at each place of `rect` and each channel.
+    /// Makes sums of 0 at the places of `rect`.
     pub fn zero(alloc: Global, rect: Rect, kind: Kind) -> Result<Sums, NoMemory>
         ensures { IfOk result (λ s. s ≡ grid_of rect (channels_of kind) (λ i j k. 0)) }
     {
@@ -52,7 +53,7 @@ impl Sums {
         })
     }
 
-    /// These sums at the places of `rect`, row by row, in a row place by place, at a place channel by channel.
+    /// Takes sums at the places of `rect` as they are: row by row, in a row place by place, at a place channel by channel.
     pub fn from_parts(rect: Rect, kind: Kind, sums: Vec<u64>) -> Sums
         requires { length sums.items ≡ rect.w * rect.h * channels_of kind }
         ensures { result ≡ record { rect = rect; channels = channels_of kind; sums = sums.items } }
@@ -60,8 +61,8 @@ impl Sums {
         Sums { rect, kind, sums }
     }
 
-    /// The sums of what a tile holds of a region that is scaled to `size`, at the result places that this part meets. The
-    /// tile lies at `at` in an image, and the region at `region`.
+    /// Sums up a tile's part of a region that is scaled to `size`, at the result places that this part covers. The tile lies at `at` in an
+    /// image, and the region at `region`.
     pub fn of_tile(
         alloc: Global,
         tile: &Raster,
@@ -76,7 +77,18 @@ impl Sums {
         ensures places { IfOk result (λ s. s.rect ≡ places_of (sides_of region) size (part_of at region)) }
         ensures channels { IfOk result (λ s. s.channels ≡ tile.now.channels) }
     {
-        let share = Share::of(at, region, size);
+        let share = Share::new(at, region, size);
+        let sums = Sums::of_share(alloc, tile, share)?;
+        Ok(sums)
+    }
+
+    /// Sums up a tile's share of a region, at the result places that its part covers.
+    fn of_share(alloc: Global, tile: &Raster, share: Share) -> Result<Sums, NoMemory>
+        requires { HoldsShare tile.now share }
+        ensures sums { IfOk result (λ s. s ≡ share_sums tile.now share) }
+        ensures places { IfOk result (λ s. s.rect ≡ places_of share.region share.size share.part) }
+        ensures channels { IfOk result (λ s. s.channels ≡ tile.now.channels) }
+    {
         let rect = places_of(share.region, share.size, share.part);
         let sums = tile_sums(alloc, tile, share, rect)?;
         Ok(Sums {
@@ -86,21 +98,21 @@ impl Sums {
         })
     }
 
-    /// The places that have sums.
+    /// Returns the rectangle of places that have sums.
     pub fn rect(&self) -> Rect
         ensures { result ≡ self.now.rect }
     {
         self.rect
     }
 
-    /// Gray or RGB.
+    /// Returns the kind of the samples that were summed up: gray, or RGB.
     pub fn kind(&self) -> Kind
         ensures { channels_of result ≡ self.now.channels }
     {
         self.kind
     }
 
-    /// All sums, row by row, in a row place by place, at a place channel by channel.
+    /// Borrows all sums: row by row, in a row place by place, at a place channel by channel.
     pub fn sums(&self) -> &[u64]
         ensures all { result.now ≡ self.now.sums }
         ensures grid { IsGrid self.now }
@@ -109,7 +121,7 @@ impl Sums {
         sums
     }
 
-    /// Adds the other's sums at the places that both have. A sum that would pass 2^64 - 1 stays there.
+    /// Adds the other's sums at the places that both have. A sum that would pass 2^64 - 1 stays at 2^64 - 1.
     pub fn merge(&mut self, other: &Sums)
         requires { other.now.channels ≡ self.old.channels }
         ensures { self.new ≡ merged self.old other.now }
@@ -118,8 +130,9 @@ impl Sums {
         add_places(channels, self.rect, &mut self.sums, other.rect, &other.sums);
     }
 
-    /// Adds what a tile holds of a region that is scaled to `size`, at the places that are there: `merge` with what `of_tile`
-    /// gives, without its memory, and quick where sides grow. The tile lies at `at` in an image, and the region at `region`.
+    /// Adds a tile's part of a region that is scaled to `size`, at the places that are there. The sums become those of `merge` with the
+    /// tile's own by `of_tile`; this call takes no memory, and is quick where sides grow. The tile lies at `at` in an image, and the region
+    /// at `region`.
     pub fn add_tile(&mut self, tile: &Raster, at: Rect, region: Rect, size: Dim)
         requires sides { dim_of tile.now ≡ sides_of at }
         requires kind { tile.now.channels ≡ self.old.channels }
@@ -130,20 +143,14 @@ impl Sums {
         ensures rect { self.new.rect ≡ self.old.rect }
         ensures channels { self.new.channels ≡ self.old.channels }
     {
-        let share = Share::of(at, region, size);
+        let share = Share::new(at, region, size);
         add_part(self.rect, &mut self.sums, tile, share);
     }
 
-    /// The samples of a depth that sums over the whole of a region make at the places of `rect`: the averages, rounded to the
-    /// nearest and a half up, and the depth's greatest sample for any above it. Where they are the sums of a picture of this
-    /// depth, as `of_tile` and `merge` give them, the raster is that part of the scaled picture.
-    pub fn finish(
-        &self,
-        alloc: Global,
-        region: Dim,
-        rect: Rect,
-        depth: Depth,
-    ) -> Result<Raster, NoMemory>
+    /// Averages sums over the whole of a region at the places of `rect`, in a depth: each average is rounded to the nearest, a half up, and
+    /// the depth's greatest sample stands for any above it. Of a picture's sums, made by `of_tile` and `merge`, the raster is that part of
+    /// the scaled picture. It takes its memory by the allocator of these sums.
+    pub fn finish(&self, region: Dim, rect: Rect, depth: Depth) -> Result<Raster, NoMemory>
         requires columns { 0 < region.w }
         requires rows { 0 < region.h }
         requires area { region.w * region.h ≤ 2 ^ 32 }
@@ -161,6 +168,7 @@ impl Sums {
             (rect.y - self.rect.y) as usize,
         );
         let run = rect.w as usize * channels;
+        let alloc = *self.sums.allocator();
         let mut samples = Samples::with_capacity(alloc, depth, run * rect.h as usize)?;
         for y in 0..rect.h as usize {
             let from = ((top + y) * width + left) * channels;

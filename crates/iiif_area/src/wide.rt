@@ -1,8 +1,8 @@
-//! Sums of columns of up to 64 bits, which those of any tile fit in.
+//! Column sums of 64 bits, for any tile.
 
 ghost use Rattle.std.specs.Prelude.{◌≡◌, ℕ, ◌+◌, ◌*◌, ◌<◌, ◌≤◌, ◌^◌, length, slice_index, EachIndex, ⊤};
 ghost use Rattle.iiif_pixel.specs.Picture.{sample_at};
-ghost use Rattle.iiif_area.specs.Code.{column_sum};
+ghost use Rattle.iiif_area.specs.Code.{column_sum, HasRows};
 
 use crate::column_sums::ColumnSums;
 use crate::rows::{add_row, add_sums, sum_row};
@@ -10,13 +10,13 @@ use crate::weights::{Axis, sources, weight};
 use iiif_pixel::{NoMemory, Raster, Rect};
 use std::alloc::Global;
 
-/// Of so few source rows each is added with its weight: adding them up apart costs a pass over all columns.
+/// The most source rows that are added with their weights, one by one: to add them up apart costs a pass over all columns.
 const FEW: u32 = 6;
 
-/// The sums of so many samples, each of at most 65,535, fit in 32 bits. Rows past them are added with their weight.
+/// Samples of at most 65,535 whose sum fits in 32 bits. Rows past them are added with their weights.
 const RUN: u32 = 65_536;
 
-/// The sums of columns of any tile.
+/// Sums of the columns of any tile.
 #[derive(Drop)]
 pub(crate) struct Wide {
     cells: Vec<u64>,
@@ -53,17 +53,13 @@ impl ColumnSums for Wide {
     }
 }
 
-/// What result row `j` takes of each column of the part that a tile holds in its rectangle `held`. Rows that it takes whole
-/// are added up without their weight in `inner`, since numbers of 32 bits take less than half of the time. `inner` is 0 before
-/// and after.
+/// Sums up each column of the part that a tile holds in its rectangle `held`, each sample times the weight of its row in result row `j`.
+/// Whole rows are added up in `inner`, and weighted once, since numbers of 32 bits take less than half of the time. `inner` is 0 before and
+/// after.
 #[inline(never)]
 fn fill_wide(columns: &mut [u64], inner: &mut [u32], tile: &Raster, held: Rect, rows: Axis, j: u32)
-    requires divides { 0 < rows.c }
+    requires part { HasRows tile.now held rows }
     requires samples { (x y k : ℕ) → sample_at tile.now x y k ≤ 65535 }
-    requires inside { rows.from + rows.count ≤ rows.a }
-    requires rows { rows.count ≡ held.h }
-    requires held { (held.x + held.w ≤ tile.now.width) × (held.y + held.h ≤ tile.now.height) }
-    requires corner { held.y + held.h < 2 ^ 32 }
     requires room { length columns.old ≡ held.w * tile.now.channels }
     requires inner { length inner.old ≡ length columns.old }
     requires clear { EachIndex inner.old (λ t. slice_index inner.old t ≡ 0) }

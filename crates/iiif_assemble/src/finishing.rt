@@ -141,5 +141,5 @@ pub(crate) fn finish_all<R: Threads + Sync>(
     if total.sums().len() > FEW {
         return finish_many(rt, alloc, total, region, depth);
     }
-    total.finish(alloc, region, total.rect(), depth)
+    total.finish(region, total.rect(), depth)
 }

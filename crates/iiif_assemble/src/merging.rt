@@ -69,7 +69,7 @@ fn made_of_all<R: Threads + Sync>(
 }
 
 /// The samples in `from` that the sums of one value make. Nothing is held but these samples.
-fn made_of_one(alloc: Global, job: &Job, value: &Arc<SumVal>, from: Rect) -> Result<Made, Fault>
+fn made_of_one(job: &Job, value: &Arc<SumVal>, from: Rect) -> Result<Made, Fault>
     requires job { IsJob job.now }
     requires inside { IsInside from (sums_in (arc_value value.now)).rect }
     ensures image { IfOk result (λ m. m.raster ≡ finished (sums_in (arc_value value.now))
@@ -78,7 +78,7 @@ fn made_of_one(alloc: Global, job: &Job, value: &Arc<SumVal>, from: Rect) -> Res
     ensures fault { IfErr result (λ f. f ≡ Fault.NoMemory) }
 {
     let region = job.resolved.rect.dim();
-    match value.sums.finish(alloc, region, from, job.shape.depth) {
+    match value.sums.finish(region, from, job.shape.depth) {
         Ok(raster) => {
             let held = count_of(&raster);
             Ok(Made { raster, held })
@@ -123,7 +123,7 @@ fn made_of<R: Threads + Sync>(
     ensures fault { IfErr result (λ f. f ≡ Fault.NoMemory) }
 {
     match lone(values, from) {
-        Some(value) => made_of_one(alloc, job, value, from),
+        Some(value) => made_of_one(job, value, from),
         None => made_of_all(rt, alloc, job, values, from),
     }
 }

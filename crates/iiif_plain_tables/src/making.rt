@@ -68,7 +68,7 @@ fn scaled(alloc: Global, region: &Raster, size: Dim) -> Result<Raster, NoMemory>
     bands_follow();
     whole_stays_whole();
     let sums = Sums::of_tile(alloc, region, whole_rect(sides), whole_rect(sides), size)?;
-    let scaled = sums.finish(alloc, sides, whole_rect(size), region.depth())?;
+    let scaled = sums.finish(sides, whole_rect(size), region.depth())?;
     Ok(scaled)
 }
 

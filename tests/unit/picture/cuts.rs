@@ -1,10 +1,10 @@
 //! Regions of pictures that are scaled, from tiles, in two ways.
 
-use crate::fixtures::rasters::sample_or_zero;
+use crate::fixtures::rasters::{is_scalable, sample_or_zero};
 use crate::fixtures::{is_missing, is_same};
 use crate::picture::area_plain;
 use crate::picture::pictures::cropped;
-use iiif_area::places::{is_inside, is_scalable, meets};
+use iiif_area::places::{is_inside, meets};
 use iiif_area::sums::Sums;
 use iiif_pixel::{Depth, Dim, Raster, Rect, Span};
 use std::alloc::Global;
@@ -168,27 +168,27 @@ fn has_plain_samples(made: &Raster, picture: &Raster, cut: Cut, part: Rect) -> b
 }
 
 /// The samples that come of sums over a region in a rectangle of result places.
-fn finish(alloc: Global, sums: &Sums, region: Rect, part: Rect, depth: Depth) -> Option<Raster> {
+fn finish(sums: &Sums, region: Rect, part: Rect, depth: Depth) -> Option<Raster> {
     let sides = region.dim();
     if !is_scalable(sides, sides) || !is_inside(part, sums.rect()) {
         return None;
     }
-    let Ok(made) = sums.finish(alloc, sides, part, depth) else {
+    let Ok(made) = sums.finish(sides, part, depth) else {
         return None;
     };
     Some(made)
 }
 
 /// Whether the samples that come of sums are what the plain way gives.
-fn is_finished_plainly(alloc: Global, sums: &Sums, picture: &Raster, cut: Cut, part: Rect) -> bool {
-    match finish(alloc, sums, cut.region, part, picture.depth()) {
+fn is_finished_plainly(sums: &Sums, picture: &Raster, cut: Cut, part: Rect) -> bool {
+    match finish(sums, cut.region, part, picture.depth()) {
         Some(made) => has_plain_samples(&made, picture, cut, part),
         None => is_missing(),
     }
 }
 
 /// Whether the sums are what the plain way gives, and their samples, whole and row by row.
-fn is_plain(alloc: Global, sums: &Sums, picture: &Raster, cut: Cut) -> bool {
+fn is_plain(sums: &Sums, picture: &Raster, cut: Cut) -> bool {
     let Rect { x, y, w, h } = sums.rect();
     if !has_plain_sums(sums, picture, cut.region, cut) {
         return false;
@@ -200,26 +200,20 @@ fn is_plain(alloc: Global, sums: &Sums, picture: &Raster, cut: Cut) -> bool {
             w,
             h: 1,
         };
-        if !is_finished_plainly(alloc, sums, picture, cut, row) {
+        if !is_finished_plainly(sums, picture, cut, row) {
             return false;
         }
     }
-    is_finished_plainly(alloc, sums, picture, cut, sums.rect())
+    is_finished_plainly(sums, picture, cut, sums.rect())
 }
 
 /// Whether these samples, of as many bits, come of sums over a region in a rectangle of result places.
-pub(crate) fn finishes_as(
-    alloc: Global,
-    sums: &Sums,
-    region: Rect,
-    part: Rect,
-    want: Span,
-) -> bool {
+pub(crate) fn finishes_as(sums: &Sums, region: Rect, part: Rect, want: Span) -> bool {
     let depth = match want {
         Span::Eight(_) => Depth::Eight,
         Span::Sixteen(_) => Depth::Sixteen,
     };
-    match finish(alloc, sums, region, part, depth) {
+    match finish(sums, region, part, depth) {
         Some(made) => is_same(&made.samples(), &want),
         None => is_missing(),
     }
@@ -249,7 +243,7 @@ pub(crate) fn is_right(
         return false;
     }
     match want {
-        Want::Plain => is_plain(alloc, &sums, picture, cut),
-        Want::Samples(part, samples) => finishes_as(alloc, &sums, cut.region, part, samples),
+        Want::Plain => is_plain(&sums, picture, cut),
+        Want::Samples(part, samples) => finishes_as(&sums, cut.region, part, samples),
     }
 }

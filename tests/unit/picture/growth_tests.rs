@@ -4,7 +4,6 @@ use crate::fixtures::{is_missing, is_same};
 use crate::picture::cuts::{Cut, add, finishes_as, merge};
 use crate::picture::pictures::{Picture, raster};
 use iiif_area::averages::Averager;
-use iiif_area::places::is_scalable;
 use iiif_area::sums::Sums;
 use iiif_area::weights::weight;
 use iiif_pixel::{Dim, Kind, Rect, Span};
@@ -88,7 +87,7 @@ fn grows(alloc: Global, sums: &mut Sums, growth: Growth) -> bool {
         }
     }
     for samples in growth.samples {
-        if !finishes_as(alloc, sums, ONE_PLACE, growth.places, *samples) {
+        if !finishes_as(sums, ONE_PLACE, growth.places, *samples) {
             return false;
         }
     }
@@ -252,8 +251,6 @@ fn sums_grow_up_to_the_greatest(rt: HostRuntime) {
     for (number, growth) in GROWTHS.iter().enumerate() {
         assert!(rt; is_grown(rt.alloc(), *growth), "growth {number}");
     }
-    let (w, h) = (65_536, 65_537);
-    assert!(rt; !is_scalable(Dim { w, h }, WIDEST));
 }
 
 /// Result and source columns, how many there are of these, and the weight.

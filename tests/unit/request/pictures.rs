@@ -1,7 +1,8 @@
 //! Gray pictures that are held whole, and requests on them that are planned.
 
 use crate::fixtures::files::STEPS;
-use iiif_area::{Sums, is_scalable, meets};
+use crate::fixtures::rasters::is_scalable;
+use iiif_area::{Sums, meets};
 use iiif_assemble::{Items, Job, Opened};
 use iiif_canonical::Resolved;
 use iiif_delivery::{Queued, Turns};

@@ -1,10 +1,10 @@
 //! Images that are made of tiles and blocks, beside those of whole regions.
 
+use crate::fixtures::rasters::is_scalable;
 use crate::server::cases::{Ask, Case, NODE, Setup, Text, Variant, Want};
 use crate::server::drawn::Drawn;
 use crate::server::nodes::wrong_variant;
 use crate::server::reference::plain_render;
-use iiif_area::is_scalable;
 use iiif_canonical::Resolved;
 use iiif_pixel::{Dim, Kind, Quality, Raster, Rect, Span, Turn};
 use iiif_source::MemSource;

@@ -27,7 +27,7 @@ fn scaled(alloc: Global, region: &Raster, size: Dim) -> Result<Raster, NoMemory>
     bands_follow();
     whole_stays_whole();
     let sums = Sums::of_tile(alloc, region, whole(sides), whole(sides), size)?;
-    let scaled = sums.finish(alloc, sides, whole(size), region.depth())?;
+    let scaled = sums.finish(sides, whole(size), region.depth())?;
     Ok(scaled)
 }
 

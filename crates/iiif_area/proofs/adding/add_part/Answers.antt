@@ -3,7 +3,7 @@ use Rattle.std.proofs.lemmas.List.{length-take, length-drop}
 use borrow.Rule.Slice.PartMut.{put_mid}
 use Rattle.iiif_pixel.specs.Scaling.{area_sum}
 use Rattle.iiif_pixel.specs.declared.geometry.Rect.{Rect}
-use Rattle.iiif_area.specs.Code.{tile_sample}
+use Rattle.iiif_area.specs.Code.{share_sums, tile_sample}
 use Rattle.iiif_area.specs.Grid.{grid_of}
 use Rattle.iiif_area.specs.Places.{corner_of, part_of, places_of}
 use Rattle.iiif_area.proofs.AddingLaws.{part_sums, run_added}
@@ -90,6 +90,7 @@ loop-j-preserved c =
     c.loop-j.invariant)
 
 pub returns-then-common-eq0 : goal.returns-then-common-eq0
+unfolding share_sums
 returns-then-common-eq0 c =
     let n = c.args.tile.now.channels in
     let h = grid_of (places_of c.args.share.region c.args.share.size c.args.share.part) n
@@ -103,6 +104,7 @@ returns-then-common-eq0 c =
     (record { both = λ i q k li _ _. absurd (omega arith); kept = λ i q k _ _ _. refl })
 
 pub returns : goal.returns
+unfolding share_sums
 returns c =
     let p = c.args.tile.now in
     let mine = c.args.mine in

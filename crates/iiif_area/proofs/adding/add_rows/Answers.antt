@@ -1,4 +1,4 @@
-use Rattle.std.proofs.Common.{◌≡◌, ℕ, ◌+◌, ◌*◌, ◌^◌, ◌<◌, ◌≤◌, get_or, length, arith, ap, ◌∙◌, sym, subst}
+use Rattle.std.proofs.Common.{◌≡◌, ℕ, ◌+◌, ◌-◌, ◌*◌, ◌^◌, ◌<◌, ◌≤◌, get_or, length, arith, ap, ◌∙◌, sym, subst}
 use Rattle.std.proofs.Math.Nat.{mul-le-mul_right}
 use Rattle.iiif_pixel.specs.Picture.{sample_at}
 use Rattle.iiif_pixel.proofs.SampleLists.{length-row_of}
@@ -17,21 +17,26 @@ add_row-requires-clause-weights c =
     let weight = rw c.rows-rows.ensures at c.weight-weight.ensures in
     let e : c.weight-weight.result * c.args.share.region.w ≤ c.args.share.region.h * c.args.share.region.w =
     mul-le-mul_right c.args.share.region.w (omega arith) in
-    rw c.columns.ensures (omega (arith, e, c.requires.limits.area))
+    rw c.columns-columns.ensures (omega (arith, e, c.requires.holds.limits.area))
 
 pub add_row-requires-clause-samples : goal.add_row-requires-clause-samples
 add_row-requires-clause-samples c =
     let p = c.args.tile.now in
     let ch : c.channels-channels.result ≡ p.channels = c.channels-channels.ensures ∙ c.kind.ensures in
-    rw c.columns.ensures (ap length (rw c.held-held.ensures at c.span-samples.ensures.samples) ∙
-    length-row_of c.args.share.part.w p.channels (λ i k. sample_at p (c.args.share.corner.0 + i) (c.args.share.corner.1 + c.loop-s.s) k)
-    ∙ ap (λ n. c.args.share.part.w * n) (sym ch))
+    let run = c.sources_of_run-left.result in
+    ap length (rw c.held-held.ensures at c.span-samples.ensures.samples) ∙
+    length-row_of (run.1 - run.0) p.channels
+    (λ i k. sample_at p (c.args.share.corner.0 + run.0 + i) (c.args.share.corner.1 + c.loop-s.s) k)
+    ∙ ap (λ n. (run.1 - run.0) * n) (sym ch)
 
 pub loop-s-preserved : goal.loop-s-preserved
 loop-s-preserved c =
-    RowsTaken-more _ c.weight-weight.result (omega arith) (c.channels-channels.ensures ∙ c.kind.ensures)
+    let run = c.sources_of_run-left in
+    RowsTaken-more _ c.weight-weight.result run.result.0 run.result.1 (omega arith) (c.channels-channels.ensures ∙ c.kind.ensures)
+    run.ensures.in_order (rw c.columns-columns.ensures at run.ensures.within)
     (rw c.held-held.ensures at c.span-samples.ensures.samples)
-    (rw c.rows-rows.ensures at c.weight-weight.ensures) (rw c.columns.ensures at c.add_row.ensures) c.loop-s.invariant
+    (rw c.columns-columns.ensures at run.ensures.below) (rw c.columns-columns.ensures at run.ensures.above)
+    (rw c.rows-rows.ensures at c.weight-weight.ensures) (rw c.columns-columns.ensures at c.add_row.ensures) c.loop-s.invariant
 
 pub returns : goal.returns
 returns c = λ i k li lk.

@@ -6,5 +6,5 @@ use Rattle.iiif_area.proofs.columns.spans.Given as goal
 abbrev pub invariant-loop-i : goal.invariant-loop-i
 invariant-loop-i l = record {
   count : vec_len l.spans ≡ l.i;
-  each : (t : ℕ) (d : Span) → t < l.i → IsSpan l.axis.a l.axis.c l.axis.from l.axis.count (l.first + t) (get_or l.spans.items t d);
+  each : (t : ℕ) (d : Span) → t < l.i → IsSpan l.axis (l.first + t) (get_or l.spans.items t d);
 }

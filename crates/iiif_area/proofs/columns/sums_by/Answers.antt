@@ -4,7 +4,7 @@ use Rattle.iiif_pixel.specs.Picture.{samples_of}
 use Rattle.iiif_pixel.specs.Scaling.{area_sum}
 use Rattle.iiif_pixel.proofs.SampleLists.{index_below}
 use Rattle.iiif_pixel.proofs.Whole.{sample_at-le, top-le}
-use Rattle.iiif_area.specs.Code.{tile_sample, IsSpan}
+use Rattle.iiif_area.specs.Code.{columns_of, tile_sample, IsSpan}
 use Rattle.iiif_area.proofs.ColumnLaws.{span_total-area, tile_area-fits}
 use Rattle.iiif_area.proofs.GridLaws.{FilledTo-push, filled_is}
 use Rattle.iiif_area.proofs.WholeSpanLaws.{whole_area, whole_within, no_span, FilledTo-more}
@@ -13,8 +13,7 @@ use Rattle.iiif_area.proofs.columns.sums_by.Goals as goal
 pub span_sum-sum-requires-clause-within : goal.span_sum-sum-requires-clause-within
 span_sum-sum-requires-clause-within g c =
     let n = c.args.channels in
-    let span : IsSpan c.args.share.region.w c.args.share.size.w c.args.share.part.x c.args.share.part.w (c.args.rect.x + c.loop-i.i)
-    c.index-span.result.now =
+    let span : IsSpan (columns_of c.args.share) (c.args.rect.x + c.loop-i.i) c.index-span.result.now =
     let each = rw c.columns.ensures at c.in_ok-spans.ensures.each in
     rw c.index-span.ensures (each c.loop-i.i c.index-span.result.now (omega arith)) in
     let e : c.index-span.result.now.end * n ≤ c.args.share.part.w * n = mul-le-mul_right n span.within in
@@ -28,8 +27,7 @@ pub span_sum-sum-requires-clause-fits : goal.span_sum-sum-requires-clause-fits
 span_sum-sum-requires-clause-fits g c =
     let held = rw c.held-held.ensures at c.fill.ensures.sums in
     let sums = rw (sym c.cells-cells.ensures) at (rw c.rows-rows.ensures at held) in
-    let span : IsSpan c.args.share.region.w c.args.share.size.w c.args.share.part.x c.args.share.part.w (c.args.rect.x + c.loop-i.i)
-    c.index-span.result.now =
+    let span : IsSpan (columns_of c.args.share) (c.args.rect.x + c.loop-i.i) c.index-span.result.now =
     let each = rw c.columns.ensures at c.in_ok-spans.ensures.each in
     rw c.index-span.ensures (each c.loop-i.i c.index-span.result.now (omega arith)) in
     let i = c.args.rect.x + c.loop-i.i in
@@ -39,7 +37,7 @@ span_sum-sum-requires-clause-fits g c =
     let sum = span_total-area c.args.share c.args.tile.now i j k c.args.channels c.from.result
     (g.C.Cell.Cell.numbers c.cells-cells.result.now) c.index-span.result.now
     ch c.from.ensures span (λ t l. sums t k l (omega arith)) in
-    let fits = tile_area-fits c.args.share c.args.tile.now i j k c.requires.limits.area
+    let fits = tile_area-fits c.args.share c.args.tile.now i j k c.requires.holds.limits.area
     (λ x y k. omega (arith, sample_at-le c.args.tile.now c.is_whole.ensures.whole x y k, top-le c.args.tile.now c.is_whole.ensures.whole))
     in
     omega arith
@@ -48,8 +46,7 @@ pub loop-k-preserved : goal.loop-k-preserved
 loop-k-preserved g c =
     let held = rw c.held-held.ensures at c.fill.ensures.sums in
     let sums = rw (sym c.cells-cells.ensures) at (rw c.rows-rows.ensures at held) in
-    let span : IsSpan c.args.share.region.w c.args.share.size.w c.args.share.part.x c.args.share.part.w (c.args.rect.x + c.loop-i.i)
-    c.index-span.result.now =
+    let span : IsSpan (columns_of c.args.share) (c.args.rect.x + c.loop-i.i) c.index-span.result.now =
     let each = rw c.columns.ensures at c.in_ok-spans.ensures.each in
     rw c.index-span.ensures (each c.loop-i.i c.index-span.result.now (omega arith)) in
     let k = c.loop-k.k in
@@ -105,8 +102,8 @@ pub with_whole-sums-requires-clause-within : goal.with_whole-sums-requires-claus
 with_whole-sums-requires-clause-within g c =
     let n = c.in-Some-whole.n in
     let whole = rw c.in-Some-whole.is at c.loop-j.invariant.whole in
-    let columns = whole_within c.args.share.region.w c.args.share.size.w c.args.share.part.x c.args.share.part.w c.args.rect.x c.args.rect.w
-    n c.in_ok-spans.spans.items (rw c.columns.ensures at c.in_ok-spans.ensures.each) whole.1 in
+    let columns = whole_within (columns_of c.args.share) c.args.rect.x c.args.rect.w n
+    c.in_ok-spans.spans.items (rw c.columns.ensures at c.in_ok-spans.ensures.each) whole.1 in
     let entries : c.args.rect.w * n * c.args.channels ≤ c.args.share.part.w * c.args.channels = mul-le-mul_right c.args.channels columns in
     let row : length c.cells-cells.result.now ≡ c.args.share.part.w * c.args.channels =
     ap length c.cells-cells.ensures ∙ (rw c.held-held.ensures at c.fill.ensures.count)
@@ -127,7 +124,7 @@ with_whole-sums-requires-clause-fits g c = λ p k lp lk.
     let sum = whole_area c.args.share c.args.tile.now i j k p n c.args.channels (g.C.Cell.Cell.numbers c.cells-cells.result.now)
     (get_or c.in_ok-spans.spans.items p no_span)
     whole.0 ch (each p no_span lp) (whole.1 p no_span lp) (λ t l. sums t k l (omega arith)) in
-    let fits = tile_area-fits c.args.share c.args.tile.now i j k c.requires.limits.area
+    let fits = tile_area-fits c.args.share c.args.tile.now i j k c.requires.holds.limits.area
     (λ x y k. omega (arith, sample_at-le c.args.tile.now c.is_whole.ensures.whole x y k, top-le c.args.tile.now c.is_whole.ensures.whole))
     in
     omega (arith, sum, fits)

@@ -23,7 +23,7 @@ pub overflow_cast-above : goal.overflow_cast-above
 overflow_cast-above c = omega (
   arith,
   weight-le_result c.args.j (c.args.rows.from + c.sources-start.result.0) c.args.rows.a c.args.rows.c,
-  c.requires.few,
+  c.requires.narrow.weights,
 )
 
 pub join_ends-requires : goal.join_ends-requires
@@ -52,7 +52,7 @@ overflow_cast-below c = omega (
   arith,
   weight-le_result c.args.j (c.args.rows.from + (c.sources-start.result.1 - 1)) c.args.rows.a
       c.args.rows.c,
-  c.requires.few,
+  c.requires.narrow.weights,
 )
 
 pub join_ends-requires-then-end-start-eq2 : goal.join_ends-requires-then-end-start-eq2
@@ -81,7 +81,7 @@ returns-then-end-start-eq2 c = record {
 pub sum_inner-requires-clause-run : goal.sum_inner-requires-clause-run
 sum_inner-requires-clause-run c =
     run_fits c.args.j c.args.rows.a c.args.rows.c c.args.rows.from c.sources-start.result.0 c.sources-start.result.1 c.args.rows.count
-    c.requires.divides c.sources-start.ensures.within c.requires.run c.sources-start.ensures.between
+    c.requires.part.divides c.sources-start.ensures.within c.requires.narrow.run c.sources-start.ensures.between
 
 pub join_rows-requires-clause-same : goal.join_rows-requires-clause-same
 join_rows-requires-clause-same c =
@@ -107,7 +107,7 @@ join_rows-requires-clause-room c = λ i l.
     let a1 = ap (λ u. c.weight-above.result * get_or c.row_of-first.result.now u 0) q.2 in
     let a2 = ap (λ u. c.args.rows.c * get_or c.sum_inner.new.short u 0) q.2 in
     let a3 = ap (λ u. c.weight-below.result * get_or c.row_of-last.result.now u 0) q.2 in
-    omega (arith, c.requires.few)
+    omega (arith, c.requires.narrow.sums)
 
 pub returns : goal.returns
 returns c = record {

@@ -14,6 +14,5 @@ returns-clause-sums c = λ p e.
     let long : length c.add_part.new.sums ≡ inside.sums.len =
     omega (arith, c.add_part.auto.sums, ap length c.deref_mut.ensures.value, inside.sums.ok.0, inside.sums.ok.1) in
     ap G (with_items_is inside.sums c.add_part.new.sums long)
-    ∙ tile_merged p c.args.at c.args.region c.args.size c.args.self.now _ _ _ _ _ _ _ c.args.tile.now
-    s.rect s.channels (c.deref_mut.ensures.value ∙ s.sums) c.requires.kind c.of-share.ensures.region c.of-share.ensures.part
-    c.of-share.ensures.corner e (rw c.of-share.ensures.size at c.add_part.ensures)
+    ∙ tile_merged p c.args.at c.args.region c.args.size c.args.self.now _ _ _ _ c.new-share.result c.args.tile.now
+    s.rect s.channels (c.deref_mut.ensures.value ∙ s.sums) c.requires.kind c.new-share.ensures e c.add_part.ensures
