@@ -1,4 +1,3 @@
-use Rattle.std.proofs.Common.{◌≡◌}
 use Rattle.iiif_area.proofs.TileLaws.{share_sums_are}
 use Rattle.iiif_area.proofs.sums.Sums.of_tile.Goals as goal
 
