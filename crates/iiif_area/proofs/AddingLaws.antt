@@ -154,7 +154,8 @@ RowsTaken-more {tile} {corner} {part} {row} {region} {size} {n} {olds} {mids} {n
           let f : ℕ → ℕ = row_part tile corner part row region size i k in
           let own = row_sum_from-narrow tile samples corner.0 (corner.1 + s) part.w left right part.x region.w size.w (row.x + i) k
           order within ch lk span (λ t h. below (row.x + i) t (omega arith) h) (λ t h q. above (row.x + i) t (omega (arith, li)) h q) in
-          let here : rows * row_sum_from samples n (part.x + left) (right - left) region.w size.w (row.x + i) k ≡ f s = same_product weight own in
+          let here : rows * row_sum_from samples n (part.x + left) (right - left) region.w size.w (row.x + i) k ≡ f s =
+          same_product weight own in
           let so_far = sum_from-step start s f (sum_from start (s - start) f) (f s) l refl refl in
           let was = m.is i k li lk in
           let now = added i k li lk in
