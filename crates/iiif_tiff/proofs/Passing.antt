@@ -1,29 +1,32 @@
--- What a file that passes the checks says.
+-- Lemmas on files that no check refuses: their channels and their sides.
 use Rattle.std.proofs.Common.{◌≡◌, ◌≢◌, ℕ, ◌*◌, ◌<◌, ◌^◌, ◌⊎◌, Bool, true, false, List, Option, Some, None, refl, sym, inl, inr, ltb, ◌==◌}
 use Rattle.std.proofs.Common.{◌||◌, not, arith}
 use Rattle.std.proofs.lemmas.Bool.{eqb-true, eqb-false, ltb-false}
 use Rattle.iiif_tiff.specs.Tiff as tiff
 use Rattle.iiif_tiff.specs.Tiff.{Refusal, ◌<|>◌, line, channels, AcceptedIsReadable}
 
--- where two checks pass, each passes
+-- The first of two checks passes where both do.
 pub first_passes : (a b : Option Refusal) → a <|> b ≡ None → a ≡ None
 first_passes None b e = refl
 first_passes (Some r) b e = e
 
+-- The second of two checks passes where both do.
 pub rest_passes : (a b : Option Refusal) → a <|> b ≡ None → b ≡ None
 rest_passes None b e = e
 rest_passes (Some r) b e = search e
 
+-- A check that passes has a condition that doesn't apply.
 pub line_passes : (b : Bool) (r : Refusal) → line b r ≡ None → b ≡ false
 line_passes true r e = search e
 line_passes false r e = refl
 
+-- One of two conditions holds where it isn't so that neither does.
 either_of : (a b : Bool) → not (a || b) ≡ false → (a ≡ true) ⊎ (b ≡ true)
 either_of true b e = inl refl
 either_of false true e = inr refl
 either_of false false e = inl (sym e)
 
--- one channel, or three
+-- A file that no check refuses has one channel, or three.
 pub channels_pass : (bytes : List ℕ) → tiff.refusal_of bytes ≡ None → (channels bytes ≡ 1) ⊎ (channels bytes ≡ 3)
 unfolding tiff.refusal_of tiff.samples tiff.samples_per_pixel
 channels_pass bytes e =
@@ -43,7 +46,7 @@ channels_pass bytes e =
       | inr three ↦ inr (eqb-true _ _ three)
     ]
 
--- six lines between two checks
+-- Five conditions among the checks of two fields don't apply where all checks pass.
 lines_pass : (a b : Option Refusal) (p q r s t : Bool) (n m l : Refusal) →
     a <|> line p n <|> line q l <|> b <|> line r m <|> line s l <|> line t l ≡ None
     → (p ≡ false) × (q ≡ false) × (r ≡ false) × (s ≡ false) × (t ≡ false)
@@ -60,10 +63,11 @@ lines_pass a b p q r s t n m l e =
       line_passes t l (rest_passes (line s l) _ last),
     )
 
+-- A number that isn't 0 is above 0.
 positive : (n : ℕ) → n ≢ 0 → 0 < n
 positive n some = omega arith
 
--- the sides are those that are read
+-- A file that no check refuses has sides within the limits.
 pub readable : AcceptedIsReadable
 unfolding tiff.refusal_of tiff.sides
 readable bytes e =

@@ -1,14 +1,16 @@
--- What files show: the laws on WhiteIsZero, and two files read by hand.
+-- Lemmas on shown samples: WhiteIsZero, and four files that were read by hand.
 use Rattle.std.proofs.Common.{refl}
 use Rattle.iiif_pixel.specs.Picture.{samples_of, row_of}
 use Rattle.iiif_tiff.specs.Tiff as tiff
 use Rattle.iiif_tiff.specs.Tiff.{ShowsInverted, SampleIsShown, ShowsSamples, gray_sample, bilevel_sample, low_first_sample}
 use Rattle.iiif_tiff.specs.Tiff.{high_first_sample, shown}
 
+-- WhiteIsZero shows a sample counted down from white.
 pub inverted : ShowsInverted
 unfolding shown
 inverted bytes s x y k = refl
 
+-- Each of the four files shows the samples that a person read in it.
 pub read_by_hand : SampleIsShown
 unfolding gray_sample bilevel_sample low_first_sample high_first_sample shown samples_of row_of tiff.refusal_of tiff.opening tiff.header
     tiff.directory_fits tiff.sides tiff.samples tiff.grid tiff.pieces_fit tiff.needed tiff.optional tiff.only tiff.entry_fits tiff.entry

@@ -1,5 +1,7 @@
-//! What a TIFF file says: its fields, the picture that it shows, and the refusal of any other file, by TIFF 6.0. The words
-//! are definitions for contracts, in `specs/Tiff`; a reader and a writer of files both cite them.
+//! TIFF 6.0 as definitions: the fields of a file, the picture that it shows, and the files that are refused.
+//!
+//! The definitions stand in `specs/Tiff`; the contracts of the reader and of the writer cite them. The functions here compute
+//! nothing: the contract of each is a law of the definitions.
 #![tactic(auto)]
 
 ghost use Rattle.std.specs.Prelude.{◌≡◌, ◌≤◌, ℕ, List, All, None};
@@ -7,28 +9,28 @@ ghost use Rattle.iiif_tiff.specs.Tiff.{refusal_of, AcceptedIsReadable, ShowsInve
 
 pub mod tag;
 
-/// The most columns, and the most rows, of an image that is read.
+/// Limit of the columns, and of the rows, of an image that is read.
 pub const MAX_SIDE: u32 = 1_000_000;
 
-/// The most places (pixels) of an image that is read.
+/// Limit of the pixels of an image that is read.
 pub const MAX_AREA: u64 = 1 << 32;
 
-/// A file of bytes that no check refuses shows exactly one picture.
+/// Says that a file which no check refuses shows exactly one picture.
 pub fn shows_one_picture()
     ensures { (bytes : List ℕ) → All (λ b. b ≤ 255) bytes → refusal_of bytes ≡ None → ShowsOnePicture bytes }
 {}
 
-/// A file that no check refuses has sides of 1 to 1,000,000, and at most 2^32 places.
+/// Says that a file which no check refuses has sides of 1 to 1,000,000, and at most 2^32 pixels.
 pub fn accepted_is_readable()
     ensures { AcceptedIsReadable }
 {}
 
-/// WhiteIsZero counts each sample down from white.
+/// Says that WhiteIsZero counts each sample down from white.
 pub fn white_is_zero_inverts()
     ensures { ShowsInverted }
 {}
 
-/// Four files that were read by hand show the samples that stand in them.
+/// Says that four files show the samples that a person read in them.
 pub fn samples_are_shown()
     ensures { SampleIsShown }
 {}

@@ -6,7 +6,7 @@ use Rattle.std.specs.Int.{Width, w16, w32, from_le_bytes, from_be_bytes}
 use Rattle.std.specs.List.{range_with_len}
 use Rattle.std.proofs.lemmas.List.{get_or-drop, get_or-take, map_push, drop-take, drop-drop, take-take, take_rest}
 use Rattle.std.proofs.lemmas.List.FromFn.{map-range_with_len_more}
-use Rattle.iiif_tiff.specs.Tiff.{Order, Little, Big, number}
+use Rattle.iiif_tiff.specs.Tiff.{Little, Big, number}
 use Rattle.iiif_tiff.specs.Tiff as tiff
 use Rattle.iiif_tiff_read.specs.declared.number.ByteOrder.{ByteOrder}
 use Rattle.iiif_tiff_read.specs.declared.fields.FieldEntry.{FieldEntry}
@@ -20,11 +20,13 @@ byte_in bytes at n i j lt =
     get_or-drop i (take n (drop at bytes)) j 0 ∙ get_or-take n (drop at bytes) (i + j) 0 lt ∙ get_or-drop at bytes (i + j) 0
     ∙ ap (λ (k : ℕ). get_or bytes k 0) same ∙ sym (get_or-drop (at + i) bytes j 0)
 
-pub short_in : (o : Order) (bytes : List ℕ) (at n i : ℕ) → i + 2 ≤ n → number o w16 (take n (drop at bytes)) i ≡ number o w16 bytes (at + i)
+pub short_in : (o : tiff.ByteOrder) (bytes : List ℕ) (at n i : ℕ) → i + 2 ≤ n →
+    number o w16 (take n (drop at bytes)) i ≡ number o w16 bytes (at + i)
 short_in Little bytes at n i le = rw (byte_in bytes at n i 0 (omega arith), byte_in bytes at n i 1 (omega arith)) refl
 short_in Big bytes at n i le = rw (byte_in bytes at n i 0 (omega arith), byte_in bytes at n i 1 (omega arith)) refl
 
-pub long_in : (o : Order) (bytes : List ℕ) (at n i : ℕ) → i + 4 ≤ n → number o w32 (take n (drop at bytes)) i ≡ number o w32 bytes (at + i)
+pub long_in : (o : tiff.ByteOrder) (bytes : List ℕ) (at n i : ℕ) → i + 4 ≤ n →
+    number o w32 (take n (drop at bytes)) i ≡ number o w32 bytes (at + i)
 long_in Little bytes at n i le = rw (
   byte_in bytes at n i 0 (omega arith),
   byte_in bytes at n i 1 (omega arith),
@@ -46,7 +48,7 @@ pub one_more : (bytes : List ℕ) (start i : ℕ) (es : List FieldEntry) (e : Fi
 one_more bytes start i es e so_far one = map_push _ es e ∙
     rw (so_far, one) (sym (map-range_with_len_more (λ (k : ℕ). tiff.entry bytes (start + 12 * k)) 0 i i (omega arith)))
 
-number_drop : (o : Order) (w : Width) (xs : List ℕ) (m k : ℕ) → number o w (drop m xs) k ≡ number o w xs (m + k)
+number_drop : (o : tiff.ByteOrder) (w : Width) (xs : List ℕ) (m k : ℕ) → number o w (drop m xs) k ≡ number o w xs (m + k)
 number_drop Little w xs m k = ap (from_le_bytes w) (drop-drop k m xs)
 number_drop Big w xs m k = ap (from_be_bytes w) (drop-drop k m xs)
 
@@ -56,7 +58,7 @@ record IsPart (file bytes b : List ℕ) (start count i : ℕ) : Type 0 where
   all : bytes ≡ take (12 * count) (drop start file)
   below : i < count
 
-short_of : (o : Order) (file bytes b : List ℕ) (start count i k : ℕ) → IsPart file bytes b start count i → k + 2 ≤ 12 →
+short_of : (o : tiff.ByteOrder) (file bytes b : List ℕ) (start count i k : ℕ) → IsPart file bytes b start count i → k + 2 ≤ 12 →
     number o w16 b k ≡ number o w16 file (start + 12 * i + k)
 short_of o file bytes b start count i k p le =
     let same : start + (12 * i + k) ≡ start + 12 * i + k = omega arith in
@@ -64,7 +66,7 @@ short_of o file bytes b start count i k p le =
     rw b-is (number_drop o w16 (take (12 * count) (drop start file)) (12 * i) k ∙
     short_in o file start (12 * count) (12 * i + k) (omega (arith, p.below)) ∙ ap (number o w16 file) same)
 
-long_of : (o : Order) (file bytes b : List ℕ) (start count i k : ℕ) → IsPart file bytes b start count i → k + 4 ≤ 12 →
+long_of : (o : tiff.ByteOrder) (file bytes b : List ℕ) (start count i k : ℕ) → IsPart file bytes b start count i → k + 4 ≤ 12 →
     number o w32 b k ≡ number o w32 file (start + 12 * i + k)
 long_of o file bytes b start count i k p le =
     let same : start + (12 * i + k) ≡ start + 12 * i + k = omega arith in
@@ -85,7 +87,7 @@ inside_of file bytes b start count i p =
     ap (take (12 * count - (12 * i + 8))) (drop-drop (12 * i + 8) start file ∙ ap (λ (m : ℕ). drop m file) same) in
     ap (take 4) behind ∙ take-take 4 (12 * count - (12 * i + 8)) (drop (start + 12 * i + 8) file) (omega (arith, p.below))
 
-pub is_entry : (e : FieldEntry) (o : Order) (file bytes b : List ℕ) (start count i : ℕ) →
+pub is_entry : (e : FieldEntry) (o : tiff.ByteOrder) (file bytes b : List ℕ) (start count i : ℕ) →
     b ≡ take (length bytes - 12 * i) (drop (12 * i) bytes) → bytes ≡ take (12 * count) (drop start file) → i < count → o ≡ tiff.order file
     → e.tag ≡ number o w16 b 0 → e.kind ≡ number o w16 b 2 → e.count ≡ number o w32 b 4 → e.inside ≡ take 4 (drop 8 b) →
     entry_view e ≡ tiff.entry file (start + 12 * i)
@@ -100,7 +102,7 @@ is_entry e o file bytes b start count i b-is bytes-is below o-is tag kind count-
     rw (t, k, n, x, o-is) refl
 
 -- the directory is all there
-pub all_there : (o : Order) (bytes : List ℕ) (start count : ℕ) → o ≡ tiff.order bytes → start ≡ tiff.directory bytes →
+pub all_there : (o : tiff.ByteOrder) (bytes : List ℕ) (start count : ℕ) → o ≡ tiff.order bytes → start ≡ tiff.directory bytes →
     count ≡ number o w16 bytes start
     → start + 2 ≤ length bytes → start + 2 + 12 * count ≤ length bytes →
     (tiff.directory_fits bytes ≡ None) × (count ≡ tiff.entry_count bytes)

@@ -9,7 +9,7 @@ use Rattle.std.proofs.lemmas.Nat.{row_fits}
 use Rattle.std.proofs.lemmas.List.{get_or-drop, get_or-take, take_rest, take-append-le, take-take, length-take, length-take-le}
 use Rattle.std.proofs.lemmas.List.{length-drop, length-append}
 use Rattle.std.proofs.lemmas.List.FromFn.{map-range_with_len_more, length-map-range_with_len, get_or-map-range_with_len, fill_by_all}
-use Rattle.iiif_tiff.specs.Tiff.{Order, Little, Big, number, is_unsigned, size, width_of, values, offset, entry_fits}
+use Rattle.iiif_tiff.specs.Tiff.{ByteOrder, Little, Big, number, is_unsigned, size, width_of, values, offset, entry_fits}
 use Rattle.iiif_tiff.specs.Tiff as tiff
 use Rattle.iiif_tiff_read.specs.declared.number.FieldType.{FieldType}
 use Rattle.iiif_tiff_read.specs.declared.number.FieldType.TheVariants as types
@@ -22,7 +22,7 @@ same_on_range f g n each =
     fill_by_all g (map f (range_with_len 0 n)) n 0 (length-map-range_with_len f 0 n) here
 
 -- one more number
-pub one_more_number : (o : Order) (k : ℕ) (bytes items : List ℕ) (i x : ℕ) →
+pub one_more_number : (o : ByteOrder) (k : ℕ) (bytes items : List ℕ) (i x : ℕ) →
     items ≡ map (λ j. number o (width_of k) bytes (j * size k)) (range_with_len 0 i)
     → x ≡ number o (width_of k) (take (length bytes - i * size k) (drop (i * size k) bytes)) 0 →
     items ++ x ∷ [] ≡ map (λ j. number o (width_of k) bytes (j * size k)) (range_with_len 0 (i + 1))
@@ -37,7 +37,7 @@ byte_within : (xs : List ℕ) (m i j : ℕ) → i + j < m → get_or (drop i (ta
 byte_within xs m i j lt = get_or-drop i (take m xs) j 0 ∙ get_or-take m xs (i + j) 0 lt ∙ sym (get_or-drop i xs j 0)
 
 -- a number that stands in the front of the bytes
-number_within : (t : FieldType) (o : Order) (xs : List ℕ) (m i : ℕ) → i + size (code t) ≤ m →
+number_within : (t : FieldType) (o : ByteOrder) (xs : List ℕ) (m i : ℕ) → i + size (code t) ≤ m →
     number o (width_of (code t)) (take m xs) i ≡ number o (width_of (code t)) xs i
 number_within types.Byte Little xs m i le = rw (byte_within xs m i 0 (omega arith)) refl
 number_within types.Byte Big xs m i le = rw (byte_within xs m i 0 (omega arith)) refl
@@ -78,7 +78,7 @@ fits_inside bytes e t tag allowed k-is le is =
     rw (is, k-is, unsigned_code t, inside) refl
 
 -- nor of one whose bytes are in the file
-pub fits_outside : (bytes : List ℕ) (o : Order) (e : tiff.Entry) (t : FieldType) (tag off : ℕ) (allowed : Bool) → o ≡ tiff.order bytes →
+pub fits_outside : (bytes : List ℕ) (o : ByteOrder) (e : tiff.Entry) (t : FieldType) (tag off : ℕ) (allowed : Bool) → o ≡ tiff.order bytes →
     e.kind ≡ code t → 4 < e.count * size (code t) → off ≡ number o w32 e.inside 0 → off + e.count * size (code t) ≤ length bytes →
     allowed ≡ true → entry_fits bytes tag allowed e ≡ None
 unfolding entry_fits
@@ -88,7 +88,7 @@ fits_outside bytes o e t tag off allowed o-is k-is lt off-is fits is =
     let whole : ltb (length bytes) (offset bytes e + e.count * size (code t)) ≡ false = le-ltb _ _ (omega arith) in
     rw (is, k-is, unsigned_code t, outside, whole) refl
 
-pub all_inside : (bytes : List ℕ) (o : Order) (e : tiff.Entry) (t : FieldType) (tag n : ℕ) (items : List ℕ) → o ≡ tiff.order bytes →
+pub all_inside : (bytes : List ℕ) (o : ByteOrder) (e : tiff.Entry) (t : FieldType) (tag n : ℕ) (items : List ℕ) → o ≡ tiff.order bytes →
     e.kind ≡ code t → e.count * size (code t) ≤ 4
     → items ≡ map (λ i. number o (width_of (code t)) e.inside (i * size (code t))) (range_with_len 0 n) →
     (entry_fits bytes tag true e ≡ None) × (items ≡ values bytes e n)
@@ -102,7 +102,7 @@ all_inside bytes o e t tag n items o-is k-is le items-is =
           same_on_range (λ i. number o (width_of (code t)) e.inside (i * size (code t))) (tiff.value bytes e) n each,
     )
 
-pub all_outside : (bytes : List ℕ) (o : Order) (e : tiff.Entry) (t : FieldType) (tag n off : ℕ) (items buffer : List ℕ) →
+pub all_outside : (bytes : List ℕ) (o : ByteOrder) (e : tiff.Entry) (t : FieldType) (tag n off : ℕ) (items buffer : List ℕ) →
     o ≡ tiff.order bytes → e.kind ≡ code t → 4 < e.count * size (code t)
     → off ≡ number o w32 e.inside 0 → off + e.count * size (code t) ≤ length bytes → buffer ≡ take (n * size (code t)) (drop off bytes)
     → items ≡ map (λ i. number o (width_of (code t)) buffer (i * size (code t))) (range_with_len 0 n) →

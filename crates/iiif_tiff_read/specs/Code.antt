@@ -8,7 +8,7 @@ use Rattle.iiif_pixel.specs.declared.geometry.Dim.{Dim}
 use Rattle.iiif_pixel.specs.declared.geometry.Rect.{Rect}
 use Rattle.iiif_source.specs.declared.ReadFault.{ReadFault}
 use Rattle.iiif_tiff.specs.Tiff as tiff
-use Rattle.iiif_tiff.specs.Tiff.{IsReadable, Order, Little, Big, Refusal, Scheme, row_bytes, stored, shown}
+use Rattle.iiif_tiff.specs.Tiff.{IsReadable, Little, Big, Refusal, Scheme, row_bytes, stored, shown}
 use Rattle.iiif_tiff_read.specs.Layouts.{dim_of}
 use Rattle.iiif_tiff_read.specs.Faults.{Answers}
 use Rattle.iiif_tiff_read.specs.declared.number.ByteOrder.{ByteOrder}
@@ -26,7 +26,7 @@ use Rattle.iiif_tiff_read.specs.declared.rows.Window.{Window}
 use Rattle.iiif_tiff_read.specs.declared.fault.OpenFault.{OpenFault}
 use Rattle.iiif_tiff_read.specs.declared.fault.OpenFault.TheVariants as opens
 
-abbrev pub endian : ByteOrder → Order
+abbrev pub endian : ByteOrder → tiff.ByteOrder
 endian orders.Little = Little
 endian orders.Big = Big
 

@@ -1,4 +1,8 @@
--- Laws of the definitions, which the crate's functions have as their contracts, and four files that were read by hand.
+-- Laws of the definitions, each the contract of a function of this crate, and four files that were read by hand.
+--
+--   accepted   no check refuses the file
+--   inverted   shown with WhiteIsZero in place of BlackIsZero
+--   sample     a file of a few pixels, byte by byte, with the samples that it shows
 use Rattle.std.specs.Prelude.{◌≡◌, ℕ, ◌-◌, List, [], ◌∷◌, None, true, false}
 use Rattle.iiif_pixel.specs.Picture.{samples_of}
 use Rattle.iiif_tiff.specs.Tiff.Limits.{IsReadable}
@@ -6,17 +10,17 @@ use Rattle.iiif_tiff.specs.Tiff.Image.{Scheme, scheme, white_of, width, height}
 use Rattle.iiif_tiff.specs.Tiff.ShownPicture.{shown}
 use Rattle.iiif_tiff.specs.Tiff.Refusals.{refusal_of}
 
--- A file that no check refuses has sides that are read.
+-- Section 8, ImageWidth and ImageLength: a file that no check refuses has sides within the limits.
 abbrev pub AcceptedIsReadable : Type 0
 AcceptedIsReadable = (bytes : List ℕ) → refusal_of bytes ≡ None → IsReadable (record { w = width bytes; h = height bytes })
 
--- Section 8, PhotometricInterpretation: the same samples with WhiteIsZero show what BlackIsZero shows, counted down from white.
+-- Section 8, PhotometricInterpretation: with WhiteIsZero, samples show the picture of BlackIsZero, counted down from white.
 abbrev pub ShowsInverted : Type 0
 ShowsInverted =
     (bytes : List ℕ) (s : Scheme) (x y k : ℕ) →
     shown bytes (record s { white_is_zero = true }) x y k ≡ white_of s.bits - shown bytes (record s { white_is_zero = false }) x y k
 
--- A file with low bytes first: 4 by 4 gray samples of 8 bits in one strip, BlackIsZero, and the directory behind them.
+-- A little-endian file: 4 by 4 gray samples of 8 bits in one strip, BlackIsZero, and the directory behind them.
 unfoldable pub gray_sample : List ℕ
 gray_sample =
     73 ∷ 73 ∷ 42 ∷ 0 ∷ 24 ∷ 0 ∷ 0 ∷ 0
@@ -34,8 +38,8 @@ gray_sample =
     ∷ 0 ∷ 0 ∷ 0 ∷ 0
     ∷ []
 
--- A file with high bytes first: 10 by 2 bits in one strip, WhiteIsZero, the rows 1011000101 and 0000000011 padded to two
--- bytes each, and the directory behind them.
+-- A big-endian file: 10 by 2 bits in one strip, WhiteIsZero, the rows 1011000101 and 0000000011 padded to two bytes each,
+-- and the directory behind them.
 unfoldable pub bilevel_sample : List ℕ
 bilevel_sample =
     77 ∷ 77 ∷ 0 ∷ 42 ∷ 0 ∷ 0 ∷ 0 ∷ 12
@@ -49,8 +53,7 @@ bilevel_sample =
     ∷ 0 ∷ 0 ∷ 0 ∷ 0
     ∷ []
 
--- Two files of 2 by 1 gray samples of 16 bits, 515 and 65534: with low bytes first and BlackIsZero, and with high bytes first
--- and WhiteIsZero.
+-- A little-endian file: 2 by 1 gray samples of 16 bits, 515 and 65534, BlackIsZero.
 unfoldable pub low_first_sample : List ℕ
 low_first_sample =
     73 ∷ 73 ∷ 42 ∷ 0 ∷ 12 ∷ 0 ∷ 0 ∷ 0
@@ -65,6 +68,7 @@ low_first_sample =
     ∷ 0 ∷ 0 ∷ 0 ∷ 0
     ∷ []
 
+-- A big-endian file of the samples of `low_first_sample`, WhiteIsZero.
 unfoldable pub high_first_sample : List ℕ
 high_first_sample =
     77 ∷ 77 ∷ 0 ∷ 42 ∷ 0 ∷ 0 ∷ 0 ∷ 12
@@ -79,11 +83,12 @@ high_first_sample =
     ∷ 0 ∷ 0 ∷ 0 ∷ 0
     ∷ []
 
--- a file that no check refuses, with these sides and these samples, row by row from the top
+-- The file is accepted, and shows these sides and these samples, row by row from the top.
 abbrev pub ShowsSamples : List ℕ → ℕ → ℕ → List ℕ → Type 0
 ShowsSamples bytes w h samples =
     (refusal_of bytes ≡ None) × (width bytes ≡ w) × (height bytes ≡ h) × (samples_of w h 1 (shown bytes (scheme bytes)) ≡ samples)
 
+-- Each of the four files shows the samples that a person read in it.
 abbrev pub SampleIsShown : Type 0
 SampleIsShown =
     ShowsSamples gray_sample 4 4 (0 ∷ 10 ∷ 20 ∷ 30 ∷ 40 ∷ 50 ∷ 60 ∷ 70 ∷ 80 ∷ 90 ∷ 100 ∷ 110 ∷ 120 ∷ 130 ∷ 140 ∷ 150 ∷ [])
