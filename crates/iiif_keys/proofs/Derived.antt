@@ -1,4 +1,4 @@
--- The value that the parts' meanings make is the whole's meaning.
+-- Lemmas on derived values: the meanings of a sum's parts make its meaning.
 use Rattle.std.proofs.Common.{◌≡◌, ℕ, zero, suc, ◌*◌, ◌^◌, ◌<◌, ◌≤◌, Bool, true, false, cond, List, [], ◌∷◌, Option, Some, map, fold, refl}
 use Rattle.std.proofs.Common.{sym, ap, ◌∙◌, arith}
 use Rattle.std.specs.Prelude.{unwrap_or, ◌==◌}
@@ -25,31 +25,32 @@ use Rattle.iiif_keys.specs.Meaning.{sums_below}
 use Rattle.iiif_keys.proofs.Cuts.{whole_square, square_part, clipped_part, quarters_cut}
 use Rattle.iiif_keys.proofs.Shaped.{fits_picture}
 
--- a name's picture
+-- The named picture is the one that the name is known to have.
 pub picture_is : (shows : Pictures) (name : List ℕ) (p : Picture) → shows name ≡ Some p → named shows name ≡ p
 picture_is shows name p e = ap (λ (o : Option Picture). unwrap_or o no_picture) e
 
--- a key's sums, over the unclipped block
+-- The meaning of a sum's key, by its block not cut off.
 sum_is : (shows : Pictures) (p : Picture) (q : SumKey) → named shows q.name ≡ p → LiesIn q.rect (dim_of p) →
     (sum_meaning shows q).sums ≡ sums_of (crop p q.rect) q.size (square_part q)
 sum_is shows p q e h =
     ap (λ (u : Picture). sums_of (crop u q.rect) q.size (part_in (dim_of u) q)) e
     ∙ ap (λ (r : Rect). sums_of (crop p q.rect) q.size r) (clipped_part (dim_of p) (whole_square q) q.rect h)
 
--- what is mapped through other values
+-- A function that is a composition at an element maps as it does, with that element or without.
 kept : (f : SumKey → Grid) (g : Rect → Grid) (h : SumKey → Rect) (q : SumKey) (qs : List SumKey) (b : Bool) → f q ≡ g (h q) →
     map f qs ≡ map g (map h qs) →
     map f (cond b (q ∷ qs) qs) ≡ map g (map h (cond b (q ∷ qs) qs))
 kept f g h q qs true e others = cc
 kept f g h q qs false e others = others
 
+-- A function that is a composition on each element maps what a filter keeps as it does.
 mapped : (f : SumKey → Grid) (g : Rect → Grid) (h : SumKey → Rect) (t : SumKey → Bool) (qs : List SumKey) →
     AllByRecursion (λ q. f q ≡ g (h q)) qs →
     map f (filter t qs) ≡ map g (map h (filter t qs))
 mapped f g h t [] e = refl
 mapped f g h t (q ∷ qs) e = kept f g h q (filter t qs) (t q) e.0 (mapped f g h t qs e.1)
 
--- of a block above level 0
+-- Above level 0, the merged sums of the quarters are the meaning.
 pub merged_meaning : (shows : Pictures) (p : Picture) (k : SumKey) → shows k.name ≡ Some p → IsWhole p → p.width * p.height ≤ 2 ^ 32 →
     SumFitsIn (dim_of p) p.channels k → 0 < k.level →
     fold merged (no_sums (dim_of p) p.channels k) (map (λ q. (sum_meaning shows q).sums) (sums_below k)) ≡ (sum_meaning shows k).sums
@@ -75,7 +76,7 @@ merged_meaning shows p k known whole area fits above =
     ∙ (ap (λ (gs : List Grid). fold merged (grid_of (places_of (sides_of k.rect) k.size (square_part k)) p.channels (λ i j n. 0)) gs) parts
     ∙ (merge ∙ sym (sum_is shows p k name h)))
 
--- of a block of level 0
+-- At level 0, the tile's sums are the meaning.
 pub tile_meant : (shows : Pictures) (p : Picture) (k : SumKey) → shows k.name ≡ Some p → k.level ≡ 0 →
     tile_sums (tile_meaning shows (tile_below k)).raster (tile_of (dim_of p) (tile_below k)) k (places_in (dim_of p) k) ≡
     (sum_meaning shows k).sums
@@ -93,14 +94,17 @@ tile_meant shows p k known level =
     ∙ (ap (λ (r : Rect). sums_of (crop p k.rect) k.size (part_of r k.rect)) block
     ∙ ap (λ (u : Picture). sums_of (crop u k.rect) k.size (part_in (dim_of u) k)) (sym name))))
 
+-- A level that is not 0 is above 0.
 pub above_zero : (l : ℕ) → (l == 0) ≡ false → 0 < l
 above_zero zero e = absurd cc
 above_zero (suc l) e = omega arith
 
+-- A choice of two equal values is that value.
 chosen : (b : Bool) (x y z : Grid) → (b ≡ true → x ≡ z) → (b ≡ false → y ≡ z) → cond b x y ≡ z
 chosen true x y z f g = f refl
 chosen false x y z f g = g refl
 
+-- The derived value of a sum's key that fits is its meaning.
 pub derived_is : (shows : Pictures) (s : Shape) (k : SumKey) → HasPicture shows k.name s → IsSource (named shows k.name) →
     SumFitsIn s.dim (channels_of s.kind) k
     → sum_derived shows k ≡ sum_meaning shows k

@@ -1,4 +1,4 @@
--- What is known of the meanings of keys that fit, and of values of their shape.
+-- Lemmas on meanings of keys that fit, and on values of their shape.
 use Rattle.std.proofs.Common.{◌≡◌, ℕ, ◌+◌, ◌*◌, ◌/◌, ◌^◌, ◌<◌, ◌≤◌, ◌⊎◌, length, refl, sym, ap, subst, ◌∙◌, arith, ⊎_elim}
 use Rattle.std.specs.Int.{div_ceil}
 use Rattle.std.proofs.Math.Nat.{mul-le-mul, mul-le-mul_left, mul-le-mul_right}
@@ -31,7 +31,7 @@ use Rattle.iiif_keys.proofs.Shaped.{depth_with_top, fits_picture, kind_with_chan
 use Rattle.iiif_keys.proofs.KeyBytes.{length-tile_key, length-sum_key}
 use Rattle.iiif_keys.proofs.ValueBytes.{length-tile_val, length-sum_val}
 
--- a part with a column meets a result column
+-- A part with a column meets a result column.
 some_places : (x n a c : ℕ) → 0 < a → 0 < n → 0 < c → x * c / a < div_ceil ((x + n) * c) a
 some_places x n a c p q r =
     let low = div_times-le (x * c) a in
@@ -51,6 +51,7 @@ pub record PlacesAre (places : Rect) (size : Dim) : Type 0 where
   pub right : places.x + places.w ≤ size.w
   pub lower : places.y + places.h ≤ size.h
 
+-- The result pixels of a key that fits have sides of at least 1, and lie within the size.
 pub places_are : (image : Dim) (channels : ℕ) (k : SumKey) → SumFitsIn image channels k → PlacesAre (places_in image k) k.size
 places_are image channels k fits =
     let part = part_in image k in
@@ -67,7 +68,7 @@ places_are image channels k fits =
     let v = places_below part.y part.h k.rect.h k.size.h (omega arith) lower in
     record { columns = omega arith; rows = omega arith; right = omega arith; lower = omega arith }
 
--- a value of a fitting key's shape is read from bytes
+-- A value of the shape of a tile's key that fits can be decoded.
 pub tile_val_known : (s : Shape) (k : TileKey) (v : TileVal) → TileFitsIn s.dim (channels_of s.kind) k → TileHasShape s k v →
     IsWhole v.raster → IsTileVal v
 tile_val_known s k v fits shape whole =
@@ -83,6 +84,7 @@ tile_val_known s k v fits shape whole =
       whole = whole;
     }
 
+-- A value of the shape of a sum's key that fits can be decoded.
 pub sum_val_known : (s : Shape) (k : SumKey) (v : SumVal) → SumFitsIn s.dim (channels_of s.kind) k → SumHasShape s k v → IsGrid v.sums
     → k.size.w < 2 ^ 32 → k.size.h < 2 ^ 32 → IsSumVal v
 sum_val_known s k v fits shape grid c d =
@@ -99,7 +101,7 @@ sum_val_known s k v fits shape grid c d =
       bound = grid.bound;
     }
 
--- the meanings have their shapes
+-- The meaning of a tile's key that fits has its shape, and can be decoded.
 pub tile_meant : (shows : Pictures) (s : Shape) (k : TileKey) → HasPicture shows k.name s → IsSource (named shows k.name) →
     TileFitsIn s.dim (channels_of s.kind) k
     → TileHasShape s k (tile_meaning shows k) × IsTileVal (tile_meaning shows k)
@@ -116,6 +118,7 @@ tile_meant shows s k has source fits =
     let shape : TileHasShape s k v = subst (λ (u : Shape). TileHasShape u k v) has.shape own in
     (shape, tile_val_known s k v fits shape (whole_crop p (tile_of (dim_of p) k) source.whole))
 
+-- The meaning of a sum's key that fits has its shape, and can be decoded.
 pub sum_meant : (shows : Pictures) (s : Shape) (k : SumKey) → HasPicture shows k.name s → IsSource (named shows k.name) →
     SumFitsIn s.dim (channels_of s.kind) k
     → SumHasShape s k (sum_meaning shows k) × IsSumVal (sum_meaning shows k)
@@ -143,12 +146,13 @@ sum_meant shows s k has source whole_fits =
     } in
     (shape, sum_val_known s k v whole_fits shape grid (omega arith) (omega arith))
 
--- a key that fits is read from bytes
+-- A product below a limit has a factor below it.
 not_above : (n s limit : ℕ) → 0 < s → n * s < limit → n < limit
 not_above n s limit p h =
     let e : n * 1 ≤ n * s = mul-le-mul_left n (omega arith) in
     omega arith
 
+-- A tile's key that fits can be decoded.
 pub fitting_tile_key : (s : Shape) (k : TileKey) → s.dim.w < 2 ^ 32 → s.dim.h < 2 ^ 32 → IsName k.name →
     TileFitsIn s.dim (channels_of s.kind) k → IsTileKey k
 fitting_tile_key s k w h name fits =
@@ -157,6 +161,7 @@ fitting_tile_key s k w h name fits =
     let y = not_above k.ty k.edge image.h fits.edge.some fits.row in
     record { name = name; edge = fits.edge; column = omega arith; row = omega arith }
 
+-- A sum's key that fits can be decoded.
 pub fitting_sum_key : (shape : Shape) (k : SumKey) → shape.dim.w < 2 ^ 32 → shape.dim.h < 2 ^ 32 → IsName k.name →
     SumFitsIn shape.dim (channels_of shape.kind) k → IsSumKey k
 fitting_sum_key shape k w h name fits =
@@ -183,13 +188,15 @@ fitting_sum_key shape k w h name fits =
       row = omega arith;
     }
 
--- keys and values are short enough to be sent
+-- A tile's key that can be decoded has at most 4,096 bytes.
 pub tile_key_small : (k : TileKey) → IsTileKey k → length (tile_key_bytes k) ≤ 4096
 tile_key_small k is = let n = is.name.len.within in omega (arith, length-tile_key k)
 
+-- A sum's key that can be decoded has at most 4,096 bytes.
 pub sum_key_small : (k : SumKey) → IsSumKey k → length (sum_key_bytes k) ≤ 4096
 sum_key_small k is = let n = is.name.len.within in omega (arith, length-sum_key k)
 
+-- A value of the shape of a tile's key that fits has at most 2^26 bytes.
 pub tile_val_small : (s : Shape) (k : TileKey) (v : TileVal) → TileFitsIn s.dim (channels_of s.kind) k → TileHasShape s k v → IsTileVal v →
     length (tile_val_bytes v) ≤ 2 ^ 26
 tile_val_small s k v fits shape is =
@@ -203,6 +210,7 @@ tile_val_small s k v fits shape is =
     let all : v.raster.width * v.raster.height * v.raster.channels ≤ 1048576 * 3 = mul-le-mul small n in
     omega (arith, length-tile_val v is, is.whole.count)
 
+-- A value of the shape of a sum's key that fits has at most 2^26 bytes.
 pub sum_val_small : (s : Shape) (k : SumKey) (v : SumVal) → SumFitsIn s.dim (channels_of s.kind) k → SumHasShape s k v → IsSumVal v →
     length (sum_val_bytes v) ≤ 2 ^ 26
 sum_val_small s k v fits shape is =

@@ -1,6 +1,8 @@
 -- The ledgers that count the calls of a node's groups.
+--
+--   part   a share of a ledger, which a pass carries
 use Rattle.std.specs.Prelude.{ℕ}
 
--- How many parts the ledger of a group has: one for each of the 65,536 passes that can be out, and one that stays home.
+-- The parts of the ledger of a group: one for each of the 65,536 passes that can be lent, and one that stays with the group.
 abbrev pub all_parts : ℕ
 all_parts = 65537

@@ -1,5 +1,6 @@
-//! Keys of tiles and of sums: which value each means, how a sum is made of its parts, and how keys and values are spelled in
-//! bytes. What an image shows, and what a value is, stands in `specs/`.
+//! Keys of tiles and of sums: the value that each means, the parts of which a sum is made, and the bytes of keys and values.
+//!
+//! `specs/Meaning` says the value of a key, `specs/Laws` that the parts of a sum make it, `specs/Bytes` how both are encoded.
 #![tactic(auto)]
 
 pub use cache_key::CacheKey;
@@ -12,7 +13,6 @@ pub use system::{PARTS, System};
 pub use values::{SumVal, TileVal, add_sums};
 
 pub mod cache_key;
-pub mod entries;
 pub mod fault;
 mod fields;
 pub mod keys;
@@ -20,11 +20,9 @@ pub mod laws;
 pub mod name;
 pub mod places;
 pub mod splitting;
-mod sum_bytes;
+mod sum_key;
 mod sum_val_bytes;
-pub mod sums;
 pub mod system;
-mod tile_bytes;
+mod tile_key;
 mod tile_val_bytes;
-pub mod tiles;
 pub mod values;

@@ -1,4 +1,4 @@
-//! What is known of a running node and never computed.
+//! Facts of a running node that clauses name and nothing computes.
 
 ghost use Rattle.std.specs.Prelude.{ℕ, Bool, List};
 ghost use Rattle.iiif_source.specs.declared.ReadFault.{ReadFault};
@@ -6,14 +6,14 @@ ghost use Rattle.iiif_keys.specs.Names.{Pictures};
 
 use std::marker::Brand;
 
-/// How many parts the ledger of a group has: one for each of the 65,536 passes that can be out, and one that stays home.
+/// Parts of the ledger of a group: one for each of the 65,536 passes that can be lent, and one that stays with the group.
 pub const PARTS: u64 = 65_537;
 
-/// What the names of a node stand for, what is relied on, and which ledgers count its calls. It has no function: it is the one
-/// type parameter of all that is said of a node and never run.
+/// Facts of a node: the pictures of its names, what its sources and its peers are trusted to do, and the ledgers that count its
+/// calls. It has no function: the types and functions of a node take it as a parameter so that their clauses can name these facts.
 pub trait System {
-    /// The picture of each name. Of a source whose bytes may change it is some picture with the sides, the channels and the depth
-    /// that its file said.
+    /// The picture of each name. Of a source whose bytes may change: some picture of the sides, the channels and the depth that
+    /// its file said.
     ghost pictures: { Pictures };
 
     /// The side of a tile.
@@ -22,20 +22,22 @@ pub trait System {
     /// The faults that the source of each name gave.
     ghost gave: { List ℕ → ReadFault → Bool };
 
-    /// The bytes of a name's source don't change, and the name's picture is the one that they show. There is no test of it.
+    /// The premise that the bytes of a name's source don't change, and show the name's picture. Nothing tests it.
     ghost stable: { List ℕ → Type 0 };
 
-    /// The values that other nodes answer are their keys' meanings. A link that promises nothing of them says that it is false.
+    /// The premise that other nodes answer their keys' meanings. A link that promises nothing of them has it false.
     ghost honest: { Bool };
 
-    /// The ledger that counts the calls of the group of tiles, and of how many parts it is.
+    /// The ledger that counts the calls of the group of tiles.
     ghost tiles_name: { ℕ };
 
+    /// The parts of the ledger of tiles.
     ghost tiles_parts: { ℕ };
 
-    /// The ledger of the group of sums.
+    /// The ledger that counts the calls of the group of sums.
     ghost sums_name: { ℕ };
 
+    /// The parts of the ledger of sums.
     ghost sums_parts: { ℕ };
 }
 

@@ -8,6 +8,7 @@ ghost use Rattle.iiif_outcome.specs.Outcomes.{is_given};
 ghost use Rattle.iiif_singleflight.specs.Views.{receipt_known};
 ghost use Rattle.iiif_peer_wire.specs.Messages.{value_limit};
 
+use iiif_fault::Numbered;
 use iiif_keys::{CacheKey, Fault, Shape, System};
 use iiif_singleflight::Receipt;
 use iiif_sum_group::take_outcome;

@@ -312,7 +312,7 @@ fn of_sums(scene: &Scene, key: &SumKey, keys: &[SumKey]) -> Option<SumVal> {
 
 /// The value that the parts of a key make: of a tile of the picture, or of sums that the plain way gives.
 fn derived(scene: &Scene, key: &SumKey) -> Option<SumVal> {
-    if !key.has_parts() || !key.fits(key.edge, &scene.shape) {
+    if !key.fits(key.edge, &scene.shape) {
         return None;
     }
     match parts(scene.alloc, key).ok()? {

@@ -3,6 +3,7 @@
 use crate::fixtures::files::{DEEP, SAMPLE};
 use crate::fixtures::is_same;
 use crate::fixtures::names::name;
+use iiif_fault::Numbered;
 use iiif_images::{AddFault, Catalogue, Images};
 use iiif_keys::{System, TileKey};
 use iiif_pixel::Span;

@@ -90,9 +90,6 @@ const HALVED: Resolved = Resolved {
 
 /// Whether a block has one part, the tile in this column and row; none where memory is wanted.
 fn is_tile(alloc: Global, key: &SumKey, place: (u32, u32)) -> Option<bool> {
-    if !key.has_parts() {
-        return Some(false);
-    }
     match parts(alloc, key).ok()? {
         Parts::Tile(tile) => Some(are_tiles(&[tile], 2, &[place])),
         Parts::Sums(_) => Some(false),
@@ -113,13 +110,13 @@ fn are_four(alloc: Global, keys: &[SumKey]) -> Option<bool> {
 /// its quarter (i, j) is the block (2 * 0 + i, 2 * 0 + j) of level 0.
 fn is_one_block(alloc: Global, keys: &[SumKey]) -> Option<bool> {
     match keys.first() {
-        Some(key) if key.has_parts() => match parts(alloc, key).ok()? {
+        Some(key) => match parts(alloc, key).ok()? {
             Parts::Sums(sums) => {
                 Some(are_four(alloc, &sums)? && are_blocks(keys, 2, &HALVED, 1, &[(0, 0)]))
             }
             Parts::Tile(_) => Some(false),
         },
-        _ => Some(false),
+        None => Some(false),
     }
 }
 
