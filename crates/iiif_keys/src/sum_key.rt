@@ -78,7 +78,15 @@ impl CacheKey for SumKey {
     }
 
     fn copy(&self) -> Result<SumKey, NoMemory> {
-        self.duplicate()
+        Ok(SumKey {
+            name: self.name.copy()?,
+            edge: self.edge,
+            rect: self.rect,
+            size: self.size,
+            level: self.level,
+            bx: self.bx,
+            by: self.by,
+        })
     }
 
     fn bytes(&self, alloc: Global) -> Result<Vec<u8>, NoMemory> {

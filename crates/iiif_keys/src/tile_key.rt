@@ -76,7 +76,12 @@ impl CacheKey for TileKey {
     }
 
     fn copy(&self) -> Result<TileKey, NoMemory> {
-        self.duplicate()
+        Ok(TileKey {
+            name: self.name.copy()?,
+            edge: self.edge,
+            tx: self.tx,
+            ty: self.ty,
+        })
     }
 
     fn bytes(&self, alloc: Global) -> Result<Vec<u8>, NoMemory> {

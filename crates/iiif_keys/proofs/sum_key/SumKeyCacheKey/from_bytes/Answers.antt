@@ -7,4 +7,5 @@ returns-clause-found c = sum_key_read c.decode.result c.args.bytes.now (λ i. om
     c.decode.ensures.accepted
 
 pub returns-clause-only : goal.returns-clause-only
-returns-clause-only c k is spelled = sum_key_only c.decode.result c.args.bytes.now k is spelled c.decode.ensures.key c.decode.ensures.refused
+returns-clause-only c k is spelled = sum_key_only c.decode.result c.args.bytes.now k is spelled c.decode.ensures.key
+    c.decode.ensures.refused
