@@ -15,8 +15,8 @@ use Rattle.std.proofs.lemmas.Nat.{pow-add}
 use Rattle.std.proofs.lemmas.Str.Parse.{digits_value_short}
 use Rattle.std.proofs.Math.ListN.{length-append}
 use Rattle.std.proofs.Math.Nat.{div-div-eq-div-mul, div-lt_iff_lt-mul}
-use Rattle.iiif_request.proofs.NumeralLemmas.{own}
-use Rattle.iiif_request.proofs.RequestLemmas.{whole_small}
+use Rattle.iiif_request.proofs.NumeralLemmas.{digit_numerals}
+use Rattle.iiif_request.proofs.RequestLemmas.{IsWhole_small}
 use Rattle.iiif_request.specs.Requests.{IsShort, IsSmallWhole, IsSmallDecimal}
 use Rattle.iiif_request.specs.Spells.{IsDigits, IsWhole, IsDecimal}
 use Rattle.iiif_request.specs.declared.request.Decimal.{Decimal}
@@ -24,7 +24,7 @@ use Rattle.iiif_canonical.specs.Texts.{last_digits, decimal_text}
 use Rattle.iiif_canonical.proofs.Powers.{ten_some}
 
 pub decimal_digits : (n : ℕ) → n < 2 ^ 64 → list_all is_ascii_digit (decimal n) ≡ true
-decimal_digits n small = digits_decimal own n small
+decimal_digits n small = digits_decimal digit_numerals n small
 
 -- a small whole number is spelled by its digits
 pub whole_spelled : (n : ℕ) → IsSmallWhole n → IsWhole (decimal n) n
@@ -34,7 +34,7 @@ whole_spelled n small =
       few = length-decimal-le 9 n (omega arith) small (omega arith);
       digits = decimal_digits n (omega arith);
     } in
-    (digits, digits_value-decimal own n (omega arith))
+    (digits, digits_value-decimal digit_numerals n (omega arith))
 
 last_digit : (v : ℕ) → decimal (v % 10) ≡ (48 + v % 10) ∷ []
 last_digit v = decimal_digit (v % 10) (omega arith)
@@ -119,10 +119,11 @@ decimal_spelled d short small = decimal_by d _ short small refl
 pub decimal_small : (text : List ℕ) (d : Decimal) → IsDecimal text d → IsShort d × IsSmallDecimal d
 decimal_small text d (inl is) =
     let P : ℕ → Type 0 = λ p. d.digits < 10 ^ (9 + p) in
-    (omega (arith, is.1), subst P (sym is.1) (whole_small text d.digits is.0))
+    (omega (arith, is.1), subst P (sym is.1) (IsWhole_small text d.digits is.0))
 decimal_small text d (inr is) =
     let all : list_all is_ascii_digit (is.0 ++ is.1) ≡ true = list_all-append is_ascii_digit is.0 is.1 ∙
     and_from _ _ is.2.digits is.3.digits in
     let few : length (is.0 ++ is.1) ≤ 9 + d.places = omega (arith, length-append is.0 is.1, is.2.few, is.6) in
-    let below : digits_value 10 (is.0 ++ is.1) < 10 ^ (9 + d.places) = digits_value_short own (is.0 ++ is.1) (9 + d.places) all few in
+    let below : digits_value 10 (is.0 ++ is.1) < 10 ^ (9 + d.places) = digits_value_short digit_numerals (is.0 ++ is.1) (9 + d.places) all
+    few in
     (omega (arith, is.3.few, is.6), rw is.5 below)

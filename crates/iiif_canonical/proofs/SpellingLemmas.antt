@@ -7,7 +7,7 @@ use Rattle.iiif_pixel.specs.declared.geometry.Kind.{Kind}
 use Rattle.iiif_pixel.specs.declared.geometry.Rect.{Rect}
 use Rattle.iiif_pixel.specs.declared.geometry.Quality.{Quality}
 use Rattle.iiif_pixel.specs.declared.geometry.Quality.TheVariants.{Default, Color, Gray, Bitonal}
-use Rattle.iiif_request.proofs.RequestLemmas.{whole_small}
+use Rattle.iiif_request.proofs.RequestLemmas.{IsWhole_small}
 use Rattle.iiif_request.specs.Requests.{IsShortRegion, IsShortForm, HasShortDecimals, IsSmallRegion, IsSmallForm, HasSmallNumbers}
 use Rattle.iiif_request.specs.Spells.{mark, SpellsRegion, SpellsForm, SpellsQuality, IsQuarters, Texts, SpellsRequest}
 use Rattle.iiif_request.specs.declared.request.Region.{Region}
@@ -33,7 +33,7 @@ region_limits : (text : List ℕ) (g : Region) → SpellsRegion text g → IsSho
 region_limits text Full s = (tt, tt)
 region_limits text Square s = (tt, tt)
 region_limits text (Pixels x y w h) s =
-    (tt, (whole_small s.0 x s.4, whole_small s.1 y s.5, whole_small s.2 w s.6, whole_small s.3 h s.7))
+    (tt, (IsWhole_small s.0 x s.4, IsWhole_small s.1 y s.5, IsWhole_small s.2 w s.6, IsWhole_small s.3 h s.7))
 region_limits text (Percents x y w h) s =
     let a = decimal_small s.0 x s.4 in
     let b = decimal_small s.1 y s.5 in
@@ -43,11 +43,11 @@ region_limits text (Percents x y w h) s =
 
 form_limits : (text : List ℕ) (f : Form) → SpellsForm text f → IsShortForm f × IsSmallForm f
 form_limits text Max s = (tt, tt)
-form_limits text (Width w) s = (tt, whole_small s.0 w s.1)
-form_limits text (Height h) s = (tt, whole_small s.0 h s.1)
+form_limits text (Width w) s = (tt, IsWhole_small s.0 w s.1)
+form_limits text (Height h) s = (tt, IsWhole_small s.0 h s.1)
 form_limits text (Percent n) s = decimal_small s.0 n s.1
-form_limits text (Both w h) s = (tt, (whole_small s.0 w s.2, whole_small s.1 h s.3))
-form_limits text (Within w h) s = (tt, (whole_small s.0 w s.2, whole_small s.1 h s.3))
+form_limits text (Both w h) s = (tt, (IsWhole_small s.0 w s.2, IsWhole_small s.1 h s.3))
+form_limits text (Within w h) s = (tt, (IsWhole_small s.0 w s.2, IsWhole_small s.1 h s.3))
 
 pub spellable : (q : Request) → CanBeSpelled q → IsSpellable q
 spellable q can =

@@ -1,4 +1,4 @@
--- Texts cut at the first of a byte.
+-- Cutting a text at the first of a byte.
 use Rattle.std.proofs.Common.{◌≡◌, ◌≢◌, ℕ, ◌+◌, ◌<◌, ◌≤◌, ◌⊎◌, Bool, true, false, List, [], ◌∷◌, ◌++◌, length, get_or, take, drop, refl}
 use Rattle.std.proofs.Common.{sym, ap, ◌∙◌, subst, arith, Some, None, inl, inr, ⊎_elim, eqb, ltb}
 use Rattle.std.specs.Prelude.{◌==◌, not}
@@ -13,38 +13,42 @@ use Rattle.std.proofs.lemmas.Option.{same_Some, none-some}
 use Rattle.iiif_request.specs.Code.{cut_of}
 use Rattle.iiif_request.specs.Targets.{Lacks}
 
+-- Numbers that test unequal are unequal.
 pub eqb-false : (a b : ℕ) → eqb a b ≡ false → a ≢ b
 eqb-false a b h e = both_ways _ h (eq-eqb a b e)
 
+-- Unequal numbers test unequal.
 pub ne-eqb : (a b : ℕ) → a ≢ b → eqb a b ≡ false
 ne-eqb a b h = ⊎_elim (λ t. absurd (h t.1)) (λ t. t.0) (eqb_tells a b)
 
--- a text that ends before the first such byte
-pub first_place : (byte : ℕ) (a b : List ℕ) → Lacks byte a → position_or_len (λ x. x == byte) (a ++ byte ∷ b) ≡ length a
-first_place byte [] b lacks = rw (eq-eqb byte byte refl) refl
-first_place byte (x ∷ a) b lacks =
+-- The first such byte stands behind a front that lacks it.
+pub position_or_len_first : (byte : ℕ) (a b : List ℕ) → Lacks byte a → position_or_len (λ x. x == byte) (a ++ byte ∷ b) ≡ length a
+position_or_len_first byte [] b lacks = rw (eq-eqb byte byte refl) refl
+position_or_len_first byte (x ∷ a) b lacks =
     let differs : eqb x byte ≡ false = ne-eqb x byte (All-head (λ y. y ≢ byte) x a lacks) in
-    let rest = first_place byte a b (All-tail (λ y. y ≢ byte) x a lacks) in
+    let rest = position_or_len_first byte a b (All-tail (λ y. y ≢ byte) x a lacks) in
     rw differs (omega (arith, rest))
 
-pub cut_at : (byte : ℕ) (text a b : List ℕ) → Lacks byte a → text ≡ a ++ byte ∷ b → cut_of byte text ≡ Some (a, b)
+-- A text is cut at its first such byte.
+pub cut_of_at : (byte : ℕ) (text a b : List ℕ) → Lacks byte a → text ≡ a ++ byte ∷ b → cut_of byte text ≡ Some (a, b)
 unfolding cut_of
-cut_at byte text a b lacks e =
-    let place = first_place byte a b lacks in
+cut_of_at byte text a b lacks e =
+    let place = position_or_len_first byte a b lacks in
     let inside : ltb (length a) (length (a ++ byte ∷ b)) ≡ true = lt-ltb _ _ (omega (arith, length-append a (byte ∷ b))) in
     let front = take-append_seam a (byte ∷ b) in
     let back : drop (length a + 1) (a ++ byte ∷ b) ≡ b = drop-append-add a (byte ∷ b) 1 in
     rw (e, place, inside, front, back) refl
 
--- what a cut says of the text
+-- The outcome of a cut: the text lacks the byte and stays whole, or is parted at the first such byte.
 abbrev pub IsCutOrWhole : ℕ → List ℕ → Type 0
 IsCutOrWhole byte text =
     ((cut_of byte text ≡ None) × Lacks byte text) ⊎
     ((a b : List ℕ) × (cut_of byte text ≡ Some (a, b)) × (text ≡ a ++ byte ∷ b) × Lacks byte a)
 
-pub cut_cases : (byte : ℕ) (text : List ℕ) → IsCutOrWhole byte text
+-- Each text is cut or whole.
+pub cut_of_cases : (byte : ℕ) (text : List ℕ) → IsCutOrWhole byte text
 unfolding cut_of
-cut_cases byte text = by_test (ltb (position_or_len (λ x. x == byte) text) (length text)) refl
+cut_of_cases byte text = by_test (ltb (position_or_len (λ x. x == byte) text) (length text)) refl
   where
     by_test : (t : Bool) → ltb (position_or_len (λ x. x == byte) text) (length text) ≡ t → IsCutOrWhole byte text
     by_test true e =
@@ -64,33 +68,34 @@ cut_cases byte text = by_test (ltb (position_or_len (λ x. x == byte) text) (len
         let past : length text ≤ position_or_len test text = ltb-false _ _ e in
         inl (rw e refl, λ k d below. eqb-false _ _ (fails_before_first test text k d (omega arith)))
 
--- a text that lacks the byte isn't cut
-pub cut_none : (byte : ℕ) (text : List ℕ) → Lacks byte text → cut_of byte text ≡ None
-cut_none byte text lacks =
+-- A text that lacks the byte isn't cut.
+pub cut_of_none : (byte : ℕ) (text : List ℕ) → Lacks byte text → cut_of byte text ≡ None
+cut_of_none byte text lacks =
     ⊎_elim (λ w. w.0) (λ s. absurd (lacks (length s.0) 0 (omega (arith, ap length s.3, length-append s.0 (byte ∷ s.1)))
     (ap (λ (t : List ℕ). get_or t (length s.0) 0) s.3 ∙ get_or-append_seam s.0 byte s.1 0)))
-    (cut_cases byte text)
+    (cut_of_cases byte text)
 
--- the same for a text that is cut, as a value
-pub cut_some : (byte : ℕ) (text : List ℕ) (p : List ℕ × List ℕ) → cut_of byte text ≡ Some p → (text ≡ p.0 ++ byte ∷ p.1) × Lacks byte p.0
-cut_some byte text p h =
+-- The parts of a cut text, with the byte between, are the text.
+pub cut_of_some : (byte : ℕ) (text : List ℕ) (p : List ℕ × List ℕ) → cut_of byte text ≡ Some p → (text ≡ p.0 ++ byte ∷ p.1) × Lacks byte p.0
+cut_of_some byte text p h =
     ⊎_elim (λ w. absurd (none-some p (sym w.0 ∙ h)))
     (λ s.
     let same : (s.0, s.1) ≡ p = same_Some (s.0, s.1) p (sym s.2 ∙ h) in
     (s.3 ∙ ap (λ (q : List ℕ × List ℕ). q.0 ++ byte ∷ q.1) same, subst (λ (q : List ℕ × List ℕ). Lacks byte q.0) same s.4))
-    (cut_cases byte text)
+    (cut_of_cases byte text)
 
--- what stands before and behind the first such byte, as two texts
-pub before_lacks : (byte : ℕ) (text : List ℕ) → Lacks byte (before_first (λ b. b == byte) text)
-before_lacks byte text = λ k d below.
+-- The part before the first such byte lacks it.
+pub before_first_lacks : (byte : ℕ) (text : List ℕ) → Lacks byte (before_first (λ b. b == byte) text)
+before_first_lacks byte text = λ k d below.
     let test : ℕ → Bool = λ b. b == byte in
     let near : k < position_or_len test text = omega (arith, length-take (position_or_len test text) text) in
     rw (get_or-take (position_or_len test text) text k d near) (eqb-false _ _ (fails_before_first test text k d near))
 
-pub before_behind : (byte : ℕ) (text : List ℕ)
+-- A text is its parts with the byte between, or has no such byte and is its own first part.
+pub before_first_cases : (byte : ℕ) (text : List ℕ)
     → (text ≡ before_first (λ b. b == byte) text ++ (byte ∷ after_first (λ b. b == byte) text))
     ⊎ ((before_first (λ b. b == byte) text ≡ text) × (after_first (λ b. b == byte) text ≡ []))
-before_behind byte text = by_test (ltb (position_or_len (λ b. b == byte) text) (length text)) refl
+before_first_cases byte text = by_test (ltb (position_or_len (λ b. b == byte) text) (length text)) refl
   where
     by_test : (t : Bool) → ltb (position_or_len (λ b. b == byte) text) (length text) ≡ t
         → (text ≡ before_first (λ b. b == byte) text ++ (byte ∷ after_first (λ b. b == byte) text))
@@ -105,23 +110,25 @@ before_behind byte text = by_test (ltb (position_or_len (λ b. b == byte) text) 
         let at : position_or_len test text ≡ length text = omega (arith, ltb-false _ _ h, prefix_len-le-length (λ b. not (test b)) text) in
         inr (ap (λ (n : ℕ). take n text) at ∙ take-length text, drop_all (position_or_len test text + 1) text (omega arith))
 
-lacks_place : (byte : ℕ) (a : List ℕ) → Lacks byte a → position_or_len (λ x. x == byte) a ≡ length a
-lacks_place byte [] lacks = refl
-lacks_place byte (x ∷ a) lacks =
+position_or_len_lacks : (byte : ℕ) (a : List ℕ) → Lacks byte a → position_or_len (λ x. x == byte) a ≡ length a
+position_or_len_lacks byte [] lacks = refl
+position_or_len_lacks byte (x ∷ a) lacks =
     let differs : eqb x byte ≡ false = ne-eqb x byte (All-head (λ y. y ≢ byte) x a lacks) in
-    let rest = lacks_place byte a (All-tail (λ y. y ≢ byte) x a lacks) in
+    let rest = position_or_len_lacks byte a (All-tail (λ y. y ≢ byte) x a lacks) in
     rw differs (omega (arith, rest))
 
-pub uncut_parts : (byte : ℕ) (text : List ℕ) → Lacks byte text → (before_first (λ b. b == byte) text ≡ text) ×
+-- A text that lacks the byte is its own first part, and nothing follows.
+pub before_first_uncut : (byte : ℕ) (text : List ℕ) → Lacks byte text → (before_first (λ b. b == byte) text ≡ text) ×
     (after_first (λ b. b == byte) text ≡ [])
-uncut_parts byte text lacks =
-    let at = lacks_place byte text lacks in
+before_first_uncut byte text lacks =
+    let at = position_or_len_lacks byte text lacks in
     (ap (λ (n : ℕ). take n text) at ∙ take-length text, drop_all (position_or_len (λ b. b == byte) text + 1) text (omega (arith, at)))
 
-pub cut_parts : (byte : ℕ) (text a b : List ℕ) → Lacks byte a → text ≡ a ++ byte ∷ b → (before_first (λ b. b == byte) text ≡ a) ×
+-- A front that lacks the byte, the byte and a rest have that front and that rest as their parts.
+pub before_first_cut : (byte : ℕ) (text a b : List ℕ) → Lacks byte a → text ≡ a ++ byte ∷ b → (before_first (λ b. b == byte) text ≡ a) ×
     (after_first (λ b. b == byte) text ≡ b)
-cut_parts byte text a b lacks e =
-    let at = first_place byte a b lacks in (
+before_first_cut byte text a b lacks e =
+    let at = position_or_len_first byte a b lacks in (
       ap (before_first (λ x. x == byte)) e ∙ ap (λ (n : ℕ). take n (a ++ byte ∷ b)) at ∙ take-append_seam a (byte ∷ b),
       ap (after_first (λ x. x == byte)) e ∙ ap (λ (n : ℕ). drop (n + 1) (a ++ byte ∷ b)) at ∙ drop-append-add a (byte ∷ b) 1,
     )

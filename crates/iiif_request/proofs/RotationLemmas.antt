@@ -1,4 +1,4 @@
--- Rotations as the code reads them, and as they are spelled.
+-- Rotations: reading is sound and complete.
 use Rattle.std.proofs.Common.{◌≡◌, ℕ, ◌*◌, ◌≤◌, ◌⊎◌, Bool, true, false, List, [], ◌∷◌, ◌++◌, drop, refl, sym, ap, ◌∙◌, subst, arith, Some}
 use Rattle.std.proofs.Common.{None, Option, inl, inr, ⊎_elim, append_assoc, append-nil, codes, ◌||◌}
 use Rattle.std.specs.Prelude.{nat_eq}
@@ -9,27 +9,28 @@ use Rattle.iiif_request.specs.declared.request.Decimal.{Decimal}
 use Rattle.iiif_request.specs.declared.request.Rotation.{Rotation}
 use Rattle.iiif_request.specs.Code.{decimal_of, is_value, is_quarters, turned_of, rotation_of}
 use Rattle.iiif_request.specs.Spells.{IsDigits, IsDecimal, IsQuarters, SpellsRotation, mark}
-use Rattle.iiif_request.proofs.OptionLemmas.{cond_cases}
-use Rattle.iiif_request.proofs.NumberLemmas.{decimal_is, decimal_to}
-use Rattle.iiif_request.proofs.RegionLemmas.{front_is, differs_digit, head_of}
+use Rattle.iiif_request.proofs.OptionLemmas.{cond_some_cases}
+use Rattle.iiif_request.proofs.NumberLemmas.{decimal_of_sound, decimal_of_complete}
+use Rattle.iiif_request.proofs.RegionLemmas.{starts_with_true, eqb_other_digit, IsDigits_head}
 
-quarters_at : (k : ℕ) (d : Decimal) → k ≤ 4 → is_value d (90 * k) ≡ true → IsQuarters d
-quarters_at k d few h = (k, few, eqb-true _ _ h)
+IsQuarters_at : (k : ℕ) (d : Decimal) → k ≤ 4 → is_value d (90 * k) ≡ true → IsQuarters d
+IsQuarters_at k d few h = (k, few, eqb-true _ _ h)
 
-pub quarters_is : (d : Decimal) → is_quarters d ≡ true → IsQuarters d
+-- Degrees that pass the test are a multiple of 90, at most 360.
+pub is_quarters_sound : (d : Decimal) → is_quarters d ≡ true → IsQuarters d
 unfolding is_quarters
-quarters_is d h = ⊎_elim
+is_quarters_sound d h = ⊎_elim
     (λ most. ⊎_elim
     (λ more. ⊎_elim
     (λ some. ⊎_elim
-    (λ none. quarters_at 0 d (omega arith) none)
-    (λ one. quarters_at 1 d (omega arith) one)
+    (λ none. IsQuarters_at 0 d (omega arith) none)
+    (λ one. IsQuarters_at 1 d (omega arith) one)
     (or_cases _ _ some))
-    (λ two. quarters_at 2 d (omega arith) two)
+    (λ two. IsQuarters_at 2 d (omega arith) two)
     (or_cases _ _ more))
-    (λ three. quarters_at 3 d (omega arith) three)
+    (λ three. IsQuarters_at 3 d (omega arith) three)
     (or_cases _ _ most))
-    (λ four. quarters_at 4 d (omega arith) four)
+    (λ four. IsQuarters_at 4 d (omega arith) four)
     (or_cases _ _ h)
 
 five_cases : (k : ℕ) → k ≤ 4 → (k ≡ 0) ⊎ ((k ≡ 1) ⊎ ((k ≡ 2) ⊎ ((k ≡ 3) ⊎ (k ≡ 4))))
@@ -48,34 +49,38 @@ is_quarters_at d k (inr (inr (inr (inl e)))) h =
 is_quarters_at d k (inr (inr (inr (inr e)))) h =
     or_right (is_value d 0 || is_value d 90 || is_value d 180 || is_value d 270) _ (ap (λ n. is_value d (90 * n)) (sym e) ∙ h)
 
-pub quarters_to : (d : Decimal) → IsQuarters d → is_quarters d ≡ true
-quarters_to d q = is_quarters_at d q.0 (five_cases q.0 q.1) (eq-eqb _ _ q.2)
+-- A multiple of 90, at most 360, passes the test.
+pub is_quarters_complete : (d : Decimal) → IsQuarters d → is_quarters d ≡ true
+is_quarters_complete d q = is_quarters_at d q.0 (five_cases q.0 q.1) (eq-eqb _ _ q.2)
 
-turned_is : (mirror : Bool) (text degrees : List ℕ) (t : Rotation) (o : Option Decimal) → decimal_of degrees ≡ o →
+turned_of_sound : (mirror : Bool) (text degrees : List ℕ) (t : Rotation) (o : Option Decimal) → decimal_of degrees ≡ o →
     text ≡ mark mirror (codes "!") ++ degrees
     → turned_of mirror o ≡ Some t → SpellsRotation text t
-turned_is mirror text degrees t None e front h = absurd (none-some t h)
-turned_is mirror text degrees t (Some d) e front h =
+turned_of_sound mirror text degrees t None e front h = absurd (none-some t h)
+turned_of_sound mirror text degrees t (Some d) e front h =
     let n = cond_some (is_quarters d) (record { mirror = mirror; degrees = d }) t h in
-    subst (SpellsRotation text) n.1 (degrees, decimal_is degrees d e, quarters_is d n.0, front)
+    subst (SpellsRotation text) n.1 (degrees, decimal_of_sound degrees d e, is_quarters_sound d n.0, front)
 
-pub rotation_is : (text : List ℕ) (t : Rotation) → rotation_of text ≡ Some t → SpellsRotation text t
+-- A rotation that is read is spelled by its text.
+pub rotation_of_sound : (text : List ℕ) (t : Rotation) → rotation_of text ≡ Some t → SpellsRotation text t
 unfolding rotation_of
-rotation_is text t h = ⊎_elim
-    (λ mirrored. turned_is true text (drop 1 text) t (decimal_of (drop 1 text)) refl (front_is text (codes "!") mirrored.0) mirrored.1)
-    (λ plain. turned_is false text text t (decimal_of text) refl refl plain.1)
-    (cond_cases (starts_with nat_eq text (codes "!")) (turned_of true (decimal_of (drop 1 text))) (turned_of false (decimal_of text)) t h)
+rotation_of_sound text t h = ⊎_elim
+    (λ mirrored. turned_of_sound true text (drop 1 text) t (decimal_of (drop 1 text)) refl (starts_with_true text (codes "!") mirrored.0)
+    mirrored.1)
+    (λ plain. turned_of_sound false text text t (decimal_of text) refl refl plain.1)
+    (cond_some_cases (starts_with nat_eq text (codes "!")) (turned_of true (decimal_of (drop 1 text))) (turned_of false (decimal_of text))
+    t h)
 
 -- a decimal begins with a digit
-digits_no_mark : (text w rest : List ℕ) (most : ℕ) → IsDigits most w → text ≡ w ++ rest → starts_with nat_eq text (codes "!") ≡ false
-digits_no_mark text w rest most s e =
-    let head = head_of most w s in
-    let differs = differs_digit head.0 33 head.3 refl in
+IsDigits_no_mark : (text w rest : List ℕ) (most : ℕ) → IsDigits most w → text ≡ w ++ rest → starts_with nat_eq text (codes "!") ≡ false
+IsDigits_no_mark text w rest most s e =
+    let head = IsDigits_head most w s in
+    let differs = eqb_other_digit head.0 33 head.3 refl in
     ap (λ (t : List ℕ). starts_with nat_eq t (codes "!")) (e ∙ ap (λ (t : List ℕ). t ++ rest) head.2) ∙ rw differs refl
 
-decimal_no_mark : (text : List ℕ) (d : Decimal) → IsDecimal text d → starts_with nat_eq text (codes "!") ≡ false
-decimal_no_mark text d (inl s) = digits_no_mark text text [] 9 s.0.0 (sym (append-nil text))
-decimal_no_mark text d (inr s) = digits_no_mark text s.0 (46 ∷ s.1) 9 s.2 (s.4 ∙ append_assoc s.0 (codes ".") s.1)
+IsDecimal_no_mark : (text : List ℕ) (d : Decimal) → IsDecimal text d → starts_with nat_eq text (codes "!") ≡ false
+IsDecimal_no_mark text d (inl s) = IsDigits_no_mark text text [] 9 s.0.0 (sym (append-nil text))
+IsDecimal_no_mark text d (inr s) = IsDigits_no_mark text s.0 (46 ∷ s.1) 9 s.2 (s.4 ∙ append_assoc s.0 (codes ".") s.1)
 
 rotation_of_marked : (degrees : List ℕ) → rotation_of (33 ∷ degrees) ≡ turned_of true (decimal_of degrees)
 unfolding rotation_of
@@ -86,18 +91,19 @@ rotation_of_plain : (degrees : List ℕ) → starts_with nat_eq degrees (codes "
 unfolding rotation_of
 rotation_of_plain degrees no_mark = rw no_mark refl
 
-turned_to : (mirror : Bool) (degrees : List ℕ) (d : Decimal) → IsDecimal degrees d → IsQuarters d →
+turned_of_complete : (mirror : Bool) (degrees : List ℕ) (d : Decimal) → IsDecimal degrees d → IsQuarters d →
     turned_of mirror (decimal_of degrees) ≡ Some (record { mirror = mirror; degrees = d })
-turned_to mirror degrees d s q =
-    let quarters : is_quarters d ≡ true = quarters_to d q in
-    ap (turned_of mirror) (decimal_to degrees d s) ∙ rw quarters refl
+turned_of_complete mirror degrees d s q =
+    let quarters : is_quarters d ≡ true = is_quarters_complete d q in
+    ap (turned_of mirror) (decimal_of_complete degrees d s) ∙ rw quarters refl
 
-rotation_by_mark : (mirror : Bool) (text degrees : List ℕ) (d : Decimal) → IsDecimal degrees d → IsQuarters d →
+rotation_of_by_mark : (mirror : Bool) (text degrees : List ℕ) (d : Decimal) → IsDecimal degrees d → IsQuarters d →
     text ≡ mark mirror (codes "!") ++ degrees
     → rotation_of text ≡ Some (record { mirror = mirror; degrees = d })
-rotation_by_mark true text degrees d s q e = ap rotation_of e ∙ rotation_of_marked degrees ∙ turned_to true degrees d s q
-rotation_by_mark false text degrees d s q e = ap rotation_of e ∙ rotation_of_plain degrees (decimal_no_mark degrees d s) ∙
-    turned_to false degrees d s q
+rotation_of_by_mark true text degrees d s q e = ap rotation_of e ∙ rotation_of_marked degrees ∙ turned_of_complete true degrees d s q
+rotation_of_by_mark false text degrees d s q e = ap rotation_of e ∙ rotation_of_plain degrees (IsDecimal_no_mark degrees d s) ∙
+    turned_of_complete false degrees d s q
 
-pub rotation_to : (text : List ℕ) (t : Rotation) → SpellsRotation text t → rotation_of text ≡ Some t
-rotation_to text t s = rotation_by_mark t.mirror text s.0 t.degrees s.1 s.2 s.3
+-- A rotation that is spelled is read.
+pub rotation_of_complete : (text : List ℕ) (t : Rotation) → SpellsRotation text t → rotation_of text ≡ Some t
+rotation_of_complete text t s = rotation_of_by_mark t.mirror text s.0 t.degrees s.1 s.2 s.3

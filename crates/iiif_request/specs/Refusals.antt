@@ -1,4 +1,6 @@
--- Each refusal's status (RFC 9110, section 15) and the line that its body holds.
+-- Refusals as they are answered, and faults of targets by number.
+--
+-- `status_of`: the status of a refusal's answer. `line_of`: the one line of its body. `fault_number`: the number of a fault.
 use Rattle.std.specs.Prelude.{ℕ, List, codes}
 use Rattle.iiif_request.specs.declared.request.Refusal.{Refusal}
 use Rattle.iiif_request.specs.declared.target.SplitFault.{SplitFault}
@@ -6,7 +8,8 @@ use Rattle.iiif_request.specs.declared.target.SplitFault.TheVariants as fault
 use Rattle.iiif_request.specs.declared.request.Refusal.TheVariants.{Head, Method, Path, Identifier, Region, Size, Rotation, Quality}
 use Rattle.iiif_request.specs.declared.request.Refusal.TheVariants.{Format, Empty, Zero, Larger, Upscale, Limit}
 
--- 400 Bad Request, 404 Not Found, 405 Method Not Allowed, 501 Not Implemented
+-- RFC 9110, sections 15.5.1, 15.5.5, 15.5.6 and 15.6.2: 400 Bad Request, 404 Not Found, 405 Method Not Allowed, 501 Not Implemented;
+-- IIIF Image API 3.0, section 7
 abbrev pub status_of : Refusal → ℕ
 status_of Head = 400
 status_of Method = 405
@@ -23,7 +26,7 @@ status_of Larger = 400
 status_of Upscale = 501
 status_of Limit = 400
 
--- the number of the check and its name
+-- IIIF Image API 3.0, section 7: the body tells the error, by the number and the name of the check that failed
 abbrev pub line_of : Refusal → List ℕ
 line_of Head = codes "Q1 head"
 line_of Method = codes "Q2 method"
@@ -40,7 +43,7 @@ line_of Larger = codes "Q12 larger"
 line_of Upscale = codes "Q13 upscale"
 line_of Limit = codes "Q14 limit"
 
--- the number of a fault of a target
-abbrev pub number_of : SplitFault → ℕ
-number_of fault.Path = 1
-number_of fault.NoMemory = 2
+-- IIIF Image API 3.0, section 2: a target that asks for nothing is fault 1; want of memory is fault 2
+abbrev pub fault_number : SplitFault → ℕ
+fault_number fault.Path = 1
+fault_number fault.NoMemory = 2

@@ -1,4 +1,9 @@
--- How the words of an image request spell it: IIIF Image API 3.0, sections 4.1 to 4.6. One case a form; nothing is read.
+-- Grammar of an image request: IIIF Image API 3.0, sections 4.1 to 4.5. A relation with one case a form; nothing is parsed.
+--
+-- `IsDigits`, `IsWhole`, `IsDecimal`: the text writes this number.
+-- `SpellsRegion`, `SpellsSize`, `SpellsRotation`, `SpellsQuality`, `SpellsFormat`: the word spells this part of a request.
+-- `SpellsRequest`: the five words spell this request.
+-- `Says`: the five words spell this request, or this refusal is of the first word that spells nothing.
 use Rattle.std.specs.Prelude.{◌≡◌, ℕ, ◌*◌, ◌^◌, ◌≤◌, ◌⊎◌, Bool, true, List, [], ◌++◌, length, codes, if◌then◌else◌, Result, Ok, Err}
 use Rattle.std.specs.Char.{is_ascii_digit}
 use Rattle.std.specs.List.{list_all}
@@ -16,17 +21,17 @@ use Rattle.iiif_request.specs.declared.request.Request.{Request}
 use Rattle.iiif_request.specs.declared.request.Refusal.{Refusal}
 use Rattle.iiif_request.specs.declared.request.Refusal.TheVariants as refusal
 
--- one to so many digits
+-- sections 4.1 and 4.2: the text is one to `most` digits
 pub record IsDigits (most : ℕ) (text : List ℕ) : Type 0 where
   pub some : 1 ≤ length text
   pub few : length text ≤ most
   pub digits : list_all is_ascii_digit text ≡ true
 
--- a whole number: one to nine digits, leading zeros allowed
+-- sections 4.1 and 4.2: the text writes this whole number in one to nine digits, leading zeros allowed
 abbrev pub IsWhole : List ℕ → ℕ → Type 0
 IsWhole text n = IsDigits 9 text × (digits_value 10 text ≡ n)
 
--- a decimal: a whole number, or one with a point and one to ten digits behind it
+-- sections 4.1 to 4.3: the text writes this decimal: a whole number, or one with a point and one to ten digits behind it
 abbrev pub IsDecimal : List ℕ → Decimal → Type 0
 IsDecimal text d = (IsWhole text d.digits × (d.places ≡ 0)) ⊎ ((whole places : List ℕ)
     × IsDigits 9 whole × IsDigits 10 places × (text ≡ whole ++ codes "." ++ places)
@@ -50,7 +55,7 @@ SpellsForm text (Percent n) = (a : List ℕ) × IsDecimal a n × (text ≡ codes
 SpellsForm text (Both w h) = (a b : List ℕ) × IsWhole a w × IsWhole b h × (text ≡ a ++ codes "," ++ b)
 SpellsForm text (Within w h) = (a b : List ℕ) × IsWhole a w × IsWhole b h × (text ≡ codes "!" ++ a ++ codes "," ++ b)
 
--- a mark in front, or none
+-- sections 4.2 and 4.3: a mark in front, or none
 abbrev pub mark : Bool → List ℕ → List ℕ
 mark stands sign = if stands then sign else []
 
@@ -58,7 +63,7 @@ mark stands sign = if stands then sign else []
 abbrev pub SpellsSize : List ℕ → Size → Type 0
 SpellsSize text s = (form : List ℕ) × SpellsForm form s.form × (text ≡ mark s.up (codes "^") ++ form)
 
--- 0, 90, 180, 270 or 360
+-- section 4.3: the degrees are 0, 90, 180, 270 or 360
 abbrev pub IsQuarters : Decimal → Type 0
 IsQuarters d = (k : ℕ) × (k ≤ 4) × (d.digits ≡ 90 * k * 10 ^ d.places)
 
@@ -67,18 +72,18 @@ abbrev pub SpellsRotation : List ℕ → Rotation → Type 0
 SpellsRotation text t = (degrees : List ℕ) × IsDecimal degrees t.degrees × IsQuarters t.degrees ×
     (text ≡ mark t.mirror (codes "!") ++ degrees)
 
--- section 4.4
+-- section 4.4: color, gray, bitonal or default
 abbrev pub SpellsQuality : List ℕ → Quality → Type 0
 SpellsQuality text Default = text ≡ codes "default"
 SpellsQuality text Color = text ≡ codes "color"
 SpellsQuality text Gray = text ≡ codes "gray"
 SpellsQuality text Bitonal = text ≡ codes "bitonal"
 
--- section 4.5: the one format
+-- section 4.5: tif, the one format
 abbrev pub SpellsFormat : List ℕ → Type 0
 SpellsFormat text = text ≡ codes "tif"
 
--- the five decoded words of a request
+-- section 2.1: the five words of a request, percent-decoded
 pub record Texts : Type 0 where
   pub region : List ℕ
   pub size : List ℕ
@@ -86,7 +91,7 @@ pub record Texts : Type 0 where
   pub quality : List ℕ
   pub format : List ℕ
 
--- the words spell the request
+-- sections 4.1 to 4.5: each of the five words spells its part of the request
 pub record SpellsRequest (words : Texts) (q : Request) : Type 0 where
   pub region : SpellsRegion words.region q.region
   pub size : SpellsSize words.size q.size
@@ -94,11 +99,11 @@ pub record SpellsRequest (words : Texts) (q : Request) : Type 0 where
   pub quality : SpellsQuality words.quality q.quality
   pub format : SpellsFormat words.format
 
--- a word spells something of its kind
+-- sections 4.1 to 4.4: a word spells something of its kind
 abbrev pub IsSpelled : {X : Type 0} → (List ℕ → X → Type 0) → List ℕ → Type 0
 IsSpelled {X} spells text = (x : X) × spells text x
 
--- what the words say: the request that they spell, or the first of them that spells nothing
+-- sections 4.1 to 4.5: the words say the request that they spell, or the refusal of the first of them that spells nothing
 abbrev pub Says : Texts → Result Request Refusal → Type 0
 Says w (Ok q) = SpellsRequest w q
 Says w (Err refusal.Region) = ¬ (IsSpelled SpellsRegion w.region)

@@ -1,4 +1,10 @@
--- What a request target asks for: RFC 3986, sections 2.1, 3.3 and 3.4; IIIF Image API 3.0, sections 2, 3 and 9.
+-- Request targets: RFC 3986, sections 2.1, 3.3 and 3.4; IIIF Image API 3.0, sections 2, 3 and 9.
+--
+-- `Lacks`: a byte is nowhere in a text.
+-- `Decodes raw text`: percent-decoding gives the text. `IsSegmentOf raw text`: and the text is UTF-8.
+-- `IsCut prefix target segments`: the target's path is the prefix, a slash, and these segments with slashes between.
+-- `Resource`: a base URI, an image's information, or an image. `AreSegmentsOf`: these decoded segments name it.
+-- `AsksFor prefix target resource`: the target is cut and decoded into segments that name the resource.
 use Rattle.std.specs.Prelude.{◌≡◌, ◌≢◌, ℕ, ◌+◌, ◌*◌, ◌<◌, ◌≤◌, ◌⊎◌, List, [], ◌∷◌, ◌++◌, length, codes, All, IsUtf8, string_bytes}
 use Rattle.std.specs.Char.{digit_value}
 use Rattle.std.specs.List.{AllZip, concat, join_with_byte}
@@ -7,7 +13,7 @@ use Rattle.iiif_request.specs.declared.target.Target.TheVariants.{Base, Info, Im
 use Rattle.iiif_request.specs.Spells.{Texts}
 use Rattle.iiif_request.specs.Words.{texts}
 
--- the byte stands nowhere in the text
+-- RFC 3986, section 3.3: the byte is nowhere in the text, as `/` is nowhere in a segment
 abbrev pub Lacks : ℕ → List ℕ → Type 0
 Lacks byte text = All (λ b. b ≢ byte) text
 
@@ -17,11 +23,11 @@ StandsFor unit byte = ((unit ≡ byte ∷ []) × (byte ≢ 37))
     ⊎ ((high low : ℕ) × (digit_value high < 16) × (digit_value low < 16) × (unit ≡ 37 ∷ high ∷ low ∷ []) ×
     (byte ≡ 16 * digit_value high + digit_value low))
 
--- the bytes are cut into units, of which each stands for one byte of the text
+-- RFC 3986, section 2.1: the bytes are cut into units, of which each stands for one byte of the text
 abbrev pub Decodes : List ℕ → List ℕ → Type 0
 Decodes raw text = (units : List (List ℕ)) × (raw ≡ concat units) × AllZip StandsFor units text
 
--- IIIF Image API 3.0, section 9: what a segment stands for is UTF-8
+-- IIIF Image API 3.0, section 9: the segment decodes to the text, which is UTF-8
 abbrev pub IsSegmentOf : List ℕ → List ℕ → Type 0
 IsSegmentOf raw text = Decodes raw text × IsUtf8 text
 
@@ -43,7 +49,7 @@ abbrev pub HasCountOfResource : List ℕ → List ℕ → Type 0
 HasCountOfResource prefix target =
     (segments : List (List ℕ)) × IsCut prefix target segments × ((length segments ≡ 1) ⊎ (length segments ≡ 2) ⊎ (length segments ≡ 5))
 
--- what a target may ask for: an image's base URI, its information, or an image of it
+-- IIIF Image API 3.0, sections 2 and 3: an image's base URI, its information, or an image of it
 pub data Resource : Type 0 where
   base : List ℕ → Resource
   information : List ℕ → Resource
@@ -60,7 +66,7 @@ AreSegmentsOf segments (information id) = (segments ≡ id ∷ codes "info.json"
 AreSegmentsOf segments (image id w) = (last : List ℕ) × IsQualityAndFormat last w.quality w.format
     × (segments ≡ id ∷ w.region ∷ w.size ∷ w.rotation ∷ last ∷ []) × (id ≢ [])
 
--- the target asks for the resource: it is cut into segments, each of which is decoded
+-- IIIF Image API 3.0, section 2: the target asks for the resource: it is cut into segments, each of which is decoded, and they name it
 pub record AsksFor (prefix target : List ℕ) (resource : Resource) : Type 0 where
   pub raw : List (List ℕ)
   pub segments : List (List ℕ)
@@ -68,7 +74,7 @@ pub record AsksFor (prefix target : List ℕ) (resource : Resource) : Type 0 whe
   pub decoded : AllZip IsSegmentOf raw segments
   pub asked : AreSegmentsOf segments resource
 
--- the resource that an answer names
+-- IIIF Image API 3.0, section 2: a split target as the resource that it asks for
 abbrev pub resource_of : Target → Resource
 resource_of (Base id) = base (string_bytes id)
 resource_of (Info id) = information (string_bytes id)

@@ -1,4 +1,4 @@
-//! Words, read as a request.
+//! Parsing: the five words of an image request become a `Request` or the first refusal.
 
 ghost use Rattle.std.specs.Prelude.{◌≡◌, IfOk};
 ghost use Rattle.iiif_request.specs.Code.{quality_of, request_of};
@@ -6,14 +6,14 @@ ghost use Rattle.iiif_request.specs.Requests.{HasShortDecimals, HasSmallNumbers}
 ghost use Rattle.iiif_request.specs.Spells.{Says};
 ghost use Rattle.iiif_request.specs.Words.{texts};
 
-use crate::region::region_in;
-use crate::rotation::rotation_in;
-use crate::size::size_in;
+use crate::region::parse_region;
+use crate::rotation::parse_rotation;
+use crate::size::parse_size;
 use crate::{Refusal, Request, Words};
 use iiif_pixel::Quality;
 
-/// The quality that a text spells (IIIF Image API 3.0, section 4.4).
-fn quality_in(text: &str) -> Option<Quality>
+/// Parses a quality (IIIF Image API 3.0, section 4.4); `None` where the text spells none.
+fn parse_quality(text: &str) -> Option<Quality>
     ensures { result ≡ quality_of text.now }
 {
     match text {
@@ -25,14 +25,14 @@ fn quality_in(text: &str) -> Option<Quality>
     }
 }
 
-/// The request of five words, by the functions of each word.
-fn request_in(words: &Words) -> Result<Request, Refusal>
+/// Parses one word after the other.
+fn parse_words(words: &Words) -> Result<Request, Refusal>
     ensures { result ≡ request_of (texts words.now) }
 {
-    let region = region_in(words.region.as_str()).ok_or(Refusal::Region)?;
-    let size = size_in(words.size.as_str()).ok_or(Refusal::Size)?;
-    let rotation = rotation_in(words.rotation.as_str()).ok_or(Refusal::Rotation)?;
-    let quality = quality_in(words.quality.as_str()).ok_or(Refusal::Quality)?;
+    let region = parse_region(words.region.as_str()).ok_or(Refusal::Region)?;
+    let size = parse_size(words.size.as_str()).ok_or(Refusal::Size)?;
+    let rotation = parse_rotation(words.rotation.as_str()).ok_or(Refusal::Rotation)?;
+    let quality = parse_quality(words.quality.as_str()).ok_or(Refusal::Quality)?;
     if words.format.as_str() != "tif" {
         return Err(Refusal::Format);
     }
@@ -44,12 +44,15 @@ fn request_in(words: &Words) -> Result<Request, Refusal>
     })
 }
 
-/// The request that five decoded words spell, or the refusal of the first of them that spells
-/// nothing (IIIF Image API 3.0, sections 4.1 to 4.5). It takes no memory.
+/// Parses the five decoded words of an image request (IIIF Image API 3.0, sections 4.1 to 4.5). It takes no memory.
+///
+/// # Errors
+///
+/// The first of `Region`, `Size`, `Rotation`, `Quality` and `Format` whose word spells nothing of its kind.
 pub fn parse(words: &Words) -> Result<Request, Refusal>
     ensures says { Says (texts words.now) result }
     ensures short { IfOk result HasShortDecimals }
     ensures small { IfOk result HasSmallNumbers }
 {
-    request_in(words)
+    parse_words(words)
 }

@@ -1,12 +1,12 @@
-//! Rotations (IIIF Image API 3.0, section 4.3), of quarters of a turn alone.
+//! Rotations by quarter turns alone: parses the third word of a request (IIIF Image API 3.0, section 4.3).
 
 ghost use Rattle.std.specs.Prelude.{◌≡◌, ◌≤◌};
 ghost use Rattle.iiif_request.specs.Code.{is_quarters, decimal_of, turned_of, rotation_of};
 
-use crate::numerals::decimal;
+use crate::numerals::parse_decimal;
 use crate::{Decimal, Rotation};
 
-/// Whether the decimal is 0, 90, 180, 270 or 360.
+/// Tests whether a decimal is 0, 90, 180, 270 or 360.
 #[tactic(auto, unfolding(crate::specs::Code::is_quarters))]
 fn is_quarters(d: Decimal) -> bool
     requires { d.places ≤ 10 }
@@ -20,24 +20,24 @@ fn is_quarters(d: Decimal) -> bool
         || d.digits == 360 * unit
 }
 
-/// A rotation without the `!` in front.
-fn turned(mirror: bool, text: &str) -> Option<Rotation>
+/// Parses the degrees of a rotation, without the `!` in front.
+fn parse_degrees(mirror: bool, text: &str) -> Option<Rotation>
     ensures { result ≡ turned_of mirror (decimal_of text.now) }
 {
-    let degrees = decimal(text)?;
+    let degrees = parse_decimal(text)?;
     if !is_quarters(degrees) {
         return None;
     }
     Some(Rotation { mirror, degrees })
 }
 
-/// The rotation that a text spells.
+/// Parses a rotation; `None` where the text spells none by quarter turns.
 #[tactic(auto, unfolding(crate::specs::Code::rotation_of))]
-pub(crate) fn rotation_in(text: &str) -> Option<Rotation>
+pub(crate) fn parse_rotation(text: &str) -> Option<Rotation>
     ensures { result ≡ rotation_of text.now }
 {
     match text.strip_prefix("!") {
-        Some(rest) => turned(true, rest),
-        None => turned(false, text),
+        Some(rest) => parse_degrees(true, rest),
+        None => parse_degrees(false, text),
     }
 }

@@ -1,4 +1,4 @@
-//! Request targets, cut into texts (RFC 3986, sections 2.1, 3.3 and 3.4; IIIF Image API 3.0,
+//! Request targets: split into segments and percent-decoded (RFC 3986, sections 2.1, 3.3 and 3.4; IIIF Image API 3.0,
 //! sections 2, 3 and 9).
 
 ghost use Rattle.std.specs.Prelude.{◌≡◌, ◌==◌, ◌∷◌, [], IfOk, MatchOption, option_map, position, string_bytes};
@@ -8,11 +8,12 @@ ghost use Rattle.iiif_request.specs.Code.{asked_by, asked_of, Gives, IsCounted};
 ghost use Rattle.iiif_request.specs.Targets.{AsksFor, HasCountOfResource, Resource, resource_of};
 ghost use Rattle.iiif_request.specs.Words.{texts};
 
+use iiif_fault::Numbered;
 use percent_encoding::{DecodeError, percent_decode};
 use std::alloc::Global;
 use thiserror::Error;
 
-/// The five decoded words of an image request (IIIF Image API 3.0, section 2.1).
+/// Words of an image request, percent-decoded (IIIF Image API 3.0, section 2.1).
 #[derive(Debug, Drop, PartialEq, Eq)]
 pub struct Words {
     pub region: String,
@@ -22,34 +23,35 @@ pub struct Words {
     pub format: String,
 }
 
-/// What a target asks for, with the decoded identifier of the image.
+/// Resource that a target asks for, with the image's decoded identifier (IIIF Image API 3.0, section 2).
 #[derive(Debug, Drop, PartialEq, Eq)]
 pub enum Target {
-    /// The image's base URI.
+    /// The image's base URI, `{identifier}`.
     Base(String),
-    /// The image's information, `info.json`.
+    /// The image's information, `{identifier}/info.json`.
     Info(String),
-    /// An image.
+    /// An image, `{identifier}/{region}/{size}/{rotation}/{quality}.{format}`.
     Image(String, Words),
 }
 
-/// Why a target asks for nothing.
+/// Fault of `split`, by number: 1 `Path`, 2 `NoMemory`.
 #[derive(Clone, Copy, Debug, PartialEq, Eq, Error)]
 pub enum SplitFault {
-    /// Another prefix or count of segments, a broken escape, no UTF-8, or an empty identifier.
+    /// The path doesn't begin with the prefix, has another count of segments than a resource, a segment has a broken escape or
+    /// isn't UTF-8, or the identifier is empty.
     #[error("the path names nothing")]
     Path,
+    /// Memory for a decoded text ran out.
     #[error("out of memory")]
     NoMemory,
 }
 
-impl SplitFault {
-    ghost use Rattle.iiif_request.specs.Refusals.{number_of};
+impl Numbered for SplitFault {
+    ghost use Rattle.iiif_request.specs.Refusals.{fault_number};
 
-    /// The fault's number.
-    pub const fn number(self) -> u8
-        ensures { result ≡ number_of self }
-    {
+    ghost number_of = { fault_number };
+
+    fn number(&self) -> u8 {
         match self {
             SplitFault::Path => 1,
             SplitFault::NoMemory => 2,
@@ -57,22 +59,22 @@ impl SplitFault {
     }
 }
 
-/// Whether two hexadecimal digits come first.
+/// Tests whether two hexadecimal digits come first.
 fn begins_with_digits(part: &[u8]) -> bool
     ensures { result ≡ begins_with_digits part.now }
 {
     part.len() >= 2 && part[0].is_ascii_hexdigit() && part[1].is_ascii_hexdigit()
 }
 
-/// Whether two hexadecimal digits follow each `%`.
+/// Tests whether two hexadecimal digits follow each `%`.
 fn has_whole_escapes(raw: &[u8]) -> bool
     ensures { result ≡ has_whole_escapes raw.now }
 {
     raw.split(|b| *b == b'%').skip(1).all(begins_with_digits)
 }
 
-/// The text of a segment.
-fn text(alloc: Global, raw: &[u8]) -> Result<String, SplitFault>
+/// Percent-decodes a segment.
+fn decode_segment(alloc: Global, raw: &[u8]) -> Result<String, SplitFault>
     ensures { Gives string_bytes result (text_of raw.now) }
 {
     if !has_whole_escapes(raw) {
@@ -89,19 +91,19 @@ fn text(alloc: Global, raw: &[u8]) -> Result<String, SplitFault>
     Ok(text)
 }
 
-/// The text of an identifier.
-fn identifier(alloc: Global, raw: &[u8]) -> Result<String, SplitFault>
+/// Percent-decodes an identifier, and refuses an empty one.
+fn decode_identifier(alloc: Global, raw: &[u8]) -> Result<String, SplitFault>
     ensures { Gives string_bytes result (identifier_of (text_of raw.now)) }
 {
-    let id = text(alloc, raw)?;
+    let id = decode_segment(alloc, raw)?;
     if id.is_empty() {
         return Err(SplitFault::Path);
     }
     Ok(id)
 }
 
-/// What stands before and behind the first dot.
-fn cut_at_dot(last: &str) -> (&str, &str)
+/// Splits the last segment at its first dot: the quality and the format, which is empty without a dot.
+fn split_at_dot(last: &str) -> (&str, &str)
     ensures before { result.0.now ≡ before_first (λ b. b == 46) last.now }
     ensures behind { result.1.now ≡ after_first (λ b. b == 46) last.now }
 {
@@ -111,8 +113,8 @@ fn cut_at_dot(last: &str) -> (&str, &str)
     }
 }
 
-/// The words that four segments hold.
-fn words_in(
+/// Percent-decodes four segments as the five words of an image.
+fn decode_words(
     alloc: Global,
     region: &[u8],
     size: &[u8],
@@ -122,11 +124,11 @@ fn words_in(
     ensures { Gives texts result
         (words_of (text_of region.now) (text_of size.now) (text_of rotation.now) (text_of last.now)) }
 {
-    let region = text(alloc, region)?;
-    let size = text(alloc, size)?;
-    let rotation = text(alloc, rotation)?;
-    let last = text(alloc, last)?;
-    let (quality, format) = cut_at_dot(last.as_str());
+    let region = decode_segment(alloc, region)?;
+    let size = decode_segment(alloc, size)?;
+    let rotation = decode_segment(alloc, rotation)?;
+    let last = decode_segment(alloc, last)?;
+    let (quality, format) = split_at_dot(last.as_str());
     let Ok(quality) = String::from_str(alloc, quality) else {
         return Err(SplitFault::NoMemory);
     };
@@ -142,26 +144,26 @@ fn words_in(
     })
 }
 
-/// What one segment asks for.
-fn base(alloc: Global, id: &[u8]) -> Result<Target, SplitFault>
+/// Decodes one segment: a base URI.
+fn decode_base(alloc: Global, id: &[u8]) -> Result<Target, SplitFault>
     ensures { Gives resource_of result (asked_by (id.now ∷ [])) }
 {
-    Ok(Target::Base(identifier(alloc, id)?))
+    Ok(Target::Base(decode_identifier(alloc, id)?))
 }
 
-/// What two segments ask for.
-fn information(alloc: Global, id: &[u8], name: &[u8]) -> Result<Target, SplitFault>
+/// Decodes two segments: an image's information.
+fn decode_information(alloc: Global, id: &[u8], name: &[u8]) -> Result<Target, SplitFault>
     ensures { Gives resource_of result (asked_by (id.now ∷ name.now ∷ [])) }
 {
-    let id = identifier(alloc, id)?;
-    if text(alloc, name)?.as_str() != "info.json" {
+    let id = decode_identifier(alloc, id)?;
+    if decode_segment(alloc, name)?.as_str() != "info.json" {
         return Err(SplitFault::Path);
     }
     Ok(Target::Info(id))
 }
 
-/// What five segments ask for.
-fn image(
+/// Decodes five segments: an image.
+fn decode_image(
     alloc: Global,
     id: &[u8],
     region: &[u8],
@@ -172,97 +174,96 @@ fn image(
     ensures { Gives resource_of result
         (asked_by (id.now ∷ region.now ∷ size.now ∷ rotation.now ∷ last.now ∷ [])) }
 {
-    let id = identifier(alloc, id)?;
-    let words = words_in(alloc, region, size, rotation, last)?;
+    let id = decode_identifier(alloc, id)?;
+    let words = decode_words(alloc, region, size, rotation, last)?;
     Ok(Target::Image(id, words))
 }
 
-/// The place of the first such byte.
-fn place_of(text: &[u8], byte: u8) -> Option<usize>
+/// Finds the first such byte.
+fn find_byte(text: &[u8], byte: u8) -> Option<usize>
     ensures { result ≡ position (λ b. b == byte) text.now }
 {
     text.iter().position(|b| *b == byte)
 }
 
-/// What stands before and behind the first slash.
-fn cut_at_slash(path: &[u8]) -> Option<(&[u8], &[u8])>
+/// Splits a path at its first slash.
+fn split_at_slash(path: &[u8]) -> Option<(&[u8], &[u8])>
     ensures { MatchOption result
         (slice_split (λ b. b == 47) path.now ≡ path.now ∷ [])
         (λ p. slice_split (λ b. b == 47) path.now ≡ p.0.now ∷ slice_split (λ b. b == 47) p.1.now) }
 {
-    match place_of(path, b'/') {
+    match find_byte(path, b'/') {
         Some(end) => Some((&path[..end], path.split_at(end + 1).1)),
         None => None,
     }
 }
 
-/// What the segments of a path ask for.
-fn resource(alloc: Global, path: &[u8]) -> Result<Target, SplitFault>
+/// Splits a path at its slashes, and decodes its segments where there are one, two or five.
+fn split_path(alloc: Global, path: &[u8]) -> Result<Target, SplitFault>
     ensures gives { Gives resource_of result (asked_by (slice_split (λ b. b == 47) path.now)) }
     ensures counted { result ≡ Err SplitFault.NoMemory → IsCounted (slice_split (λ b. b == 47) path.now) }
 {
-    let Some((id, rest)) = cut_at_slash(path) else {
-        return base(alloc, path);
+    let Some((id, rest)) = split_at_slash(path) else {
+        return decode_base(alloc, path);
     };
-    let Some((region, rest)) = cut_at_slash(rest) else {
-        return information(alloc, id, rest);
+    let Some((region, rest)) = split_at_slash(rest) else {
+        return decode_information(alloc, id, rest);
     };
-    let Some((size, rest)) = cut_at_slash(rest) else {
+    let Some((size, rest)) = split_at_slash(rest) else {
         return Err(SplitFault::Path);
     };
-    let Some((rotation, last)) = cut_at_slash(rest) else {
+    let Some((rotation, last)) = split_at_slash(rest) else {
         return Err(SplitFault::Path);
     };
-    match cut_at_slash(last) {
+    match split_at_slash(last) {
         Some(_) => Err(SplitFault::Path),
-        None => image(alloc, id, region, size, rotation, last),
+        None => decode_image(alloc, id, region, size, rotation, last),
     }
 }
 
-/// The path without what stands behind the first question mark.
-fn path_of(target: &[u8]) -> &[u8]
+/// Strips a target's query: all from the first question mark on.
+fn strip_query(target: &[u8]) -> &[u8]
     ensures { result.now ≡ path_of target.now }
 {
-    match place_of(target, b'?') {
+    match find_byte(target, b'?') {
         Some(end) => &target[..end],
         None => target,
     }
 }
 
-/// What stands behind a front.
-fn behind<'t>(front: &[u8], text: &'t [u8]) -> Option<&'t [u8]>
+/// Strips a front; `None` where the text begins with something else.
+fn strip_front<'t>(front: &[u8], text: &'t [u8]) -> Option<&'t [u8]>
     ensures { option_map (λ s. s.now) result ≡ behind front.now text.now }
 {
     text.strip_prefix(front)
 }
 
-/// What a target asks for, by the functions of each step.
-fn target_in(alloc: Global, prefix: &[u8], target: &[u8]) -> Result<Target, SplitFault>
+/// Strips a target's query, prefix and slash, and splits the rest.
+fn split_target(alloc: Global, prefix: &[u8], target: &[u8]) -> Result<Target, SplitFault>
     ensures gives { Gives resource_of result (asked_of prefix.now target.now) }
     ensures counted { result ≡ Err SplitFault.NoMemory → HasCountOfResource prefix.now target.now }
 {
-    let Some(rooted) = behind(prefix, path_of(target)) else {
+    let Some(rooted) = strip_front(prefix, strip_query(target)) else {
         return Err(SplitFault::Path);
     };
-    let Some(path) = behind(b"/", rooted) else {
+    let Some(path) = strip_front(b"/", rooted) else {
         return Err(SplitFault::Path);
     };
-    resource(alloc, path)
+    split_path(alloc, path)
 }
 
-/// What a request target asks for: the path behind the prefix and a slash, cut at its slashes,
-/// each segment then percent-decoded. A query is left unread. The text is case-sensitive, and the
-/// prefix may be empty.
+/// Splits a request target: cuts the path behind the prefix and a slash at its slashes, and percent-decodes each segment. It
+/// leaves a query unread. The text is case-sensitive, and the prefix may be empty.
 ///
 /// # Errors
 ///
-/// `Path` where the target asks for nothing; `NoMemory` where memory for a text runs out. Either
-/// is answered once the segments were counted, so that a target of another count takes no memory.
+/// `Path` where the target asks for nothing; `NoMemory` where memory for a text runs out. Segments are counted before any is
+/// decoded, so a target of another count takes no memory.
 pub fn split(alloc: Global, prefix: &[u8], target: &[u8]) -> Result<Target, SplitFault>
     ensures target { IfOk result (λ t. AsksFor prefix.now target.now (resource_of t)) }
     ensures path { result ≡ Err SplitFault.Path
         → ¬ ((r : Resource) × AsksFor prefix.now target.now r) }
     ensures memory { result ≡ Err SplitFault.NoMemory → HasCountOfResource prefix.now target.now }
 {
-    target_in(alloc, prefix, target)
+    split_target(alloc, prefix, target)
 }

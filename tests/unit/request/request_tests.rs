@@ -2,6 +2,7 @@
 
 use crate::fixtures::{is_same, is_unwanted};
 use crate::request::answers::{Subject, first_wrong};
+use iiif_fault::Numbered;
 use iiif_request::numerals::{is_numeral, numeral};
 use iiif_request::{Refusal, SplitFault, Target, parse, split};
 use std::alloc::{AllocError, Global};

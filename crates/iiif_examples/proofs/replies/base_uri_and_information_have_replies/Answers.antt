@@ -1,7 +1,7 @@
 use Rattle.std.proofs.Common.{refl}
 use Rattle.std.specs.Prelude.{codes}
 use Rattle.iiif_request.specs.Targets.{base, information}
-use Rattle.iiif_request.proofs.TargetLemmas.{asks_is}
+use Rattle.iiif_request.proofs.TargetLemmas.{asked_of_sound}
 use Rattle.iiif_tiff.specs.Tiff.{gray_sample}
 use Rattle.iiif_answers.specs.Answers.{of_base, of_information}
 use Rattle.iiif_examples.specs.Pictures.{ramp}
@@ -12,10 +12,11 @@ use Rattle.iiif_examples.proofs.replies.base_uri_and_information_have_replies.Go
 
 pub returns-clause-base : goal.returns-clause-base
 unfolding replies
-returns-clause-base c = of_base (codes "a") ramp_item (asks_is (codes "/iiif") (codes "/iiif/a") (base (codes "a")) refl) refl
+returns-clause-base c = of_base (codes "a") ramp_item (asked_of_sound (codes "/iiif") (codes "/iiif/a") (base (codes "a")) refl) refl
 
 pub returns-clause-information : goal.returns-clause-information
 unfolding replies
 returns-clause-information c =
-    of_information (codes "a") ramp_item ramp (asks_is (codes "/iiif") (codes "/iiif/a/info.json") (information (codes "a")) refl) refl
+    of_information (codes "a") ramp_item ramp (asked_of_sound (codes "/iiif") (codes "/iiif/a/info.json") (information (codes "a")) refl)
+    refl
     (record { sides = refl; channels = refl; top = refl; shows = λ k. shows_picture_in gray_sample refl refl })

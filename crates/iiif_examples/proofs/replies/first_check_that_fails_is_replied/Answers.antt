@@ -6,8 +6,8 @@ use Rattle.iiif_request.specs.declared.request.Refusal.TheVariants.{Empty, Quali
 use Rattle.iiif_request.specs.declared.request.Region.TheVariants.{Pixels}
 use Rattle.iiif_request.specs.Spells.{Texts}
 use Rattle.iiif_request.specs.Targets.{image}
-use Rattle.iiif_request.proofs.RequestLemmas.{says}
-use Rattle.iiif_request.proofs.TargetLemmas.{asks_is, asks_to}
+use Rattle.iiif_request.proofs.RequestLemmas.{request_of_sound}
+use Rattle.iiif_request.proofs.TargetLemmas.{asked_of_sound, asked_of_complete}
 use Rattle.iiif_tiff.specs.Tiff.{gray_sample}
 use Rattle.iiif_answers.specs.Answers.{no_image, no_item, no_path, no_request}
 use Rattle.iiif_examples.specs.Pictures.{ramp}
@@ -28,24 +28,25 @@ outside = given.words (codes "4,0,1,1") (codes "max") (codes "0") (codes "defaul
 
 pub returns-clause-path : goal.returns-clause-path
 unfolding replies
-returns-clause-path c = no_path (λ r h. none-some r (asks_to (codes "/iiif") (codes "/iiif/a%2/full/max/0/default.tif") r h))
+returns-clause-path c = no_path (λ r h. none-some r (asked_of_complete (codes "/iiif") (codes "/iiif/a%2/full/max/0/default.tif") r h))
 
 pub returns-clause-name : goal.returns-clause-name
 unfolding replies unnamed
 returns-clause-name c =
     no_item (image (codes "zz") unnamed)
-    (asks_is (codes "/iiif") (codes "/iiif/zz/bad/max/0/default.tif") (image (codes "zz") unnamed) refl) refl
+    (asked_of_sound (codes "/iiif") (codes "/iiif/zz/bad/max/0/default.tif") (image (codes "zz") unnamed) refl) refl
 
 pub returns-clause-word : goal.returns-clause-word
 unfolding replies best
 returns-clause-word c =
     no_request (codes "a") best ramp_item Quality
-    (asks_is (codes "/iiif") (codes "/iiif/a/full/max/0/best.jpg") (image (codes "a") best) refl) refl (says best (Err Quality) refl)
+    (asked_of_sound (codes "/iiif") (codes "/iiif/a/full/max/0/best.jpg") (image (codes "a") best) refl) refl (request_of_sound best (Err
+    Quality) refl)
 
 pub returns-clause-region : goal.returns-clause-region
 unfolding replies outside
 returns-clause-region c =
     no_image (codes "a") outside ramp_item ramp (given.upright (Pixels 4 0 1 1) Max) Empty
-    (asks_is (codes "/iiif") (codes "/iiif/a/4,0,1,1/max/0/default.tif") (image (codes "a") outside) refl) refl
+    (asked_of_sound (codes "/iiif") (codes "/iiif/a/4,0,1,1/max/0/default.tif") (image (codes "a") outside) refl) refl
     (record { sides = refl; channels = refl; top = refl; shows = λ k. shows_picture_in gray_sample refl refl })
-    (says outside (Ok (given.upright (Pixels 4 0 1 1) Max)) refl) refl
+    (request_of_sound outside (Ok (given.upright (Pixels 4 0 1 1) Max)) refl) refl

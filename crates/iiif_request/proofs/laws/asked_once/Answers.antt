@@ -1,5 +1,5 @@
-use Rattle.iiif_request.proofs.TargetLemmas.{asks_once}
+use Rattle.iiif_request.proofs.TargetLemmas.{AsksFor_once}
 use Rattle.iiif_request.proofs.laws.asked_once.Goals as goal
 
 pub returns : goal.returns
-returns c = asks_once
+returns c = AsksFor_once

@@ -1,12 +1,13 @@
-use Rattle.iiif_request.proofs.RequestLemmas.{says, answer_short, answer_small}
+use Rattle.std.proofs.Common.{rules}
+use Rattle.iiif_request.proofs.RequestLemmas.{request_of_sound, Says_short, Says_small}
 use Rattle.iiif_request.specs.Words.{texts}
 use Rattle.iiif_request.proofs.parsing.parse.Goals as goal
 
 pub returns-clause-says : goal.returns-clause-says
-returns-clause-says c = says (texts c.args.words.now) _ c.request_in.ensures
+returns-clause-says c = request_of_sound (texts c.args.words.now) _ (search rules)
 
 pub returns-clause-short : goal.returns-clause-short
-returns-clause-short c = answer_short (texts c.args.words.now) _ (says (texts c.args.words.now) _ c.request_in.ensures)
+returns-clause-short c = Says_short (texts c.args.words.now) _ (request_of_sound (texts c.args.words.now) _ (search rules))
 
 pub returns-clause-small : goal.returns-clause-small
-returns-clause-small c = answer_small (texts c.args.words.now) _ (says (texts c.args.words.now) _ c.request_in.ensures)
+returns-clause-small c = Says_small (texts c.args.words.now) _ (request_of_sound (texts c.args.words.now) _ (search rules))
