@@ -1,4 +1,4 @@
--- What the canonical form of a resolved request comes to.
+-- Canonical form: it resolves to the values that it was written for, and is its own canonical form.
 use Rattle.std.proofs.Common.{◌≡◌, ℕ, ◌-◌, ◌*◌, ◌<◌, Bool, true, false, ◌&&◌, nat_lt, refl, sym, ap, ◌∙◌, arith, Ok}
 use Rattle.std.proofs.lemmas.Bool.{lt-ltb}
 use Rattle.std.proofs.lemmas.Bool.Decides.{nat_tests}
@@ -18,12 +18,12 @@ use Rattle.iiif_canonical.specs.Resolution.{resolved_of, quarters_of, IsResolved
 use Rattle.iiif_canonical.specs.Canonical.{canonical_region, canonical_size, canonical_of, canonical}
 use Rattle.iiif_canonical.specs.declared.resolved.Limits.{Limits}
 use Rattle.iiif_canonical.specs.declared.resolved.Resolved.{Resolved}
-use Rattle.iiif_canonical.proofs.ResolutionLemmas.{IsPart, IsWithin, sides_not_larger}
+use Rattle.iiif_canonical.proofs.ResolutionLemmas.{IsPart, IsWithin, is_larger_false}
 
 -- a rectangle of the image isn't clipped
-clipped_part : (d : Dim) (r : Rect) → IsPart d r → clipped d r.x r.y r.w r.h ≡ Ok r
+clipped_inside : (d : Dim) (r : Rect) → IsPart d r → clipped d r.x r.y r.w r.h ≡ Ok r
 unfolding clipped
-clipped_part d r part =
+clipped_inside d r part =
     let a : nat_lt r.x d.w ≡ true = lt-ltb _ _ (omega (arith, part.inside.columns, part.not_empty)) in
     let b : nat_lt r.y d.h ≡ true = lt-ltb _ _ (omega (arith, part.inside.rows, part.not_empty)) in
     let e : nat_lt 0 r.w ≡ true = lt-ltb _ _ (omega (arith, part.not_empty)) in
@@ -44,13 +44,13 @@ region_by d r true part e =
     let whole : Rect = record { x = 0; y = 0; w = d.w; h = d.h } in
     let same : whole ≡ r = sym (same_rect r whole x y w h) in
     let inside : LiesIn whole d = record { columns = omega arith; rows = omega arith } in
-    clipped_part d whole (record { inside = inside; not_empty = (omega (arith, part.not_empty, w), omega (arith, part.not_empty, h)) }) ∙
+    clipped_inside d whole (record { inside = inside; not_empty = (omega (arith, part.not_empty, w), omega (arith, part.not_empty, h)) }) ∙
     ap Ok same
-region_by d r false part e = clipped_part d r part
+region_by d r false part e = clipped_inside d r part
 
-region_back : (d : Dim) (r : Rect) → IsPart d r → region_of (canonical_region r d) d ≡ Ok r
+canonical_region_resolves : (d : Dim) (r : Rect) → IsPart d r → region_of (canonical_region r d) d ≡ Ok r
 unfolding canonical_region
-region_back d r part = region_by d r _ part refl
+canonical_region_resolves d r part = region_by d r _ part refl
 
 -- a size above the region's isn't refused where the server scales up
 larger_allowed : (may : Bool) (a b : ℕ) (l : Limits) (s : Dim) → l.upscale ≡ may → IsWithin a b l s → is_larger a b (s.w, s.h) ≡ true →
@@ -61,13 +61,13 @@ larger_allowed false a b l s u within larger =
     grind (arith, nat_tests, region.0, region.1)
 
 -- sides within the limits, written with `^` just where one is above the region's, aren't refused
-checked_back : (up : Bool) (a b : ℕ) (l : Limits) (s : Dim) → IsWithin a b l s → is_larger a b (s.w, s.h) ≡ up →
+checked_ok : (up : Bool) (a b : ℕ) (l : Limits) (s : Dim) → IsWithin a b l s → is_larger a b (s.w, s.h) ≡ up →
     checked up false a b l (s.w, s.h) ≡ Ok s
 unfolding checked
-checked_back false a b l s within larger =
-    let region = sides_not_larger a b (s.w, s.h) larger in
+checked_ok false a b l s within larger =
+    let region = is_larger_false a b (s.w, s.h) larger in
     grind (arith, nat_tests, within.not_zero, region, within.within_limits)
-checked_back true a b l s within larger =
+checked_ok true a b l s within larger =
     let may : l.upscale ≡ true = larger_allowed _ a b l s refl within larger in
     rw may (grind (arith, nat_tests, within.not_zero, within.within_limits))
 
@@ -85,46 +85,53 @@ size_by : (up : Bool) (a b : ℕ) (l : Limits) (s : Dim) (t : Bool) → IsWithin
     → size_of (record { up = up; form = if t then Max else Both s.w s.h }) a b l ≡ Ok s
 unfolding size_of
 size_by up a b l s true within larger e =
-    rw (same_most (asked_of up Max a b l) s e) (checked_back up a b l s within larger)
-size_by up a b l s false within larger e = unfold asked_of in checked_back up a b l s within larger
+    rw (same_most (asked_of up Max a b l) s e) (checked_ok up a b l s within larger)
+size_by up a b l s false within larger e = unfold asked_of in checked_ok up a b l s within larger
 
 -- the size that is written comes to the size
-size_back : (a b : ℕ) (l : Limits) (s : Dim) → IsWithin a b l s → size_of (canonical_size s a b l) a b l ≡ Ok s
+canonical_size_resolves : (a b : ℕ) (l : Limits) (s : Dim) → IsWithin a b l s → size_of (canonical_size s a b l) a b l ≡ Ok s
 unfolding canonical_size
-size_back a b l s within = size_by _ a b l s _ within refl refl
+canonical_size_resolves a b l s within = size_by _ a b l s _ within refl refl
 
-quarters_back : (q : ℕ) → q < 4 → quarters_of (record { digits = 90 * q; places = 0 }) ≡ q
+quarters_of_whole : (q : ℕ) → q < 4 → quarters_of (record { digits = 90 * q; places = 0 }) ≡ q
 unfolding quarters_of
-quarters_back q few = omega arith
+quarters_of_whole q few = omega arith
 
--- the canonical form comes to what it was written for
-pub resolves_back : (r : Resolved) (d : Dim) (k : Kind) (l : Limits) → IsResolved d k l r → resolved_of (canonical_of r d l) d k l ≡ Ok r
+-- The canonical form resolves to the values that it was written for.
+pub canonical_of_resolves : (r : Resolved) (d : Dim) (k : Kind) (l : Limits) → IsResolved d k l r →
+    resolved_of (canonical_of r d l) d k l ≡ Ok r
 unfolding resolved_of canonical_of
-resolves_back r d k l is =
+canonical_of_resolves r d k l is =
     let part : IsPart d r.rect = record { inside = is.inside; not_empty = is.not_empty } in
     let within : IsWithin r.rect.w r.rect.h l r.size =
     record { not_zero = is.not_zero; not_larger = is.not_larger; within_limits = is.within_limits } in
-    rw (region_back d r.rect part, size_back r.rect.w r.rect.h l r.size within, quarters_back r.turn.quarters is.quarters, is.quality) refl
+    rw (
+      canonical_region_resolves d r.rect part,
+      canonical_size_resolves r.rect.w r.rect.h l r.size within,
+      quarters_of_whole
+          r.turn.quarters is.quarters,
+      is.quality,
+    ) refl
 
--- and is its own canonical form
-pub fixed_back : (r : Resolved) (d : Dim) (k : Kind) (l : Limits) → IsResolved d k l r →
+-- The canonical form is its own canonical form.
+pub canonical_of_fixed : (r : Resolved) (d : Dim) (k : Kind) (l : Limits) → IsResolved d k l r →
     canonical (canonical_of r d l) d k l ≡ Ok (canonical_of r d l)
 unfolding canonical
-fixed_back r d k l is = rw (resolves_back r d k l is) refl
+canonical_of_fixed r d k l is = rw (canonical_of_resolves r d k l is) refl
 
-region_short : (r : Rect) (t : Bool) → IsShortRegion (if t then Full else Pixels r.x r.y r.w r.h)
-region_short r true = tt
-region_short r false = tt
+canonical_region_short : (r : Rect) (t : Bool) → IsShortRegion (if t then Full else Pixels r.x r.y r.w r.h)
+canonical_region_short r true = tt
+canonical_region_short r false = tt
 
-form_short : (s : Dim) (t : Bool) → IsShortForm (if t then Max else Both s.w s.h)
-form_short s true = tt
-form_short s false = tt
+canonical_size_short : (s : Dim) (t : Bool) → IsShortForm (if t then Max else Both s.w s.h)
+canonical_size_short s true = tt
+canonical_size_short s false = tt
 
--- no decimal of it has places
-pub canonical_short : (r : Resolved) (d : Dim) (l : Limits) → HasShortDecimals (canonical_of r d l)
+-- No decimal of the canonical form has places.
+pub canonical_of_short : (r : Resolved) (d : Dim) (l : Limits) → HasShortDecimals (canonical_of r d l)
 unfolding canonical_of canonical_region canonical_size
-canonical_short r d l = record {
-  region = region_short r.rect _;
-  size = form_short r.size _;
+canonical_of_short r d l = record {
+  region = canonical_region_short r.rect _;
+  size = canonical_size_short r.size _;
   degrees = omega arith;
 }

@@ -1,4 +1,4 @@
--- The set's escapes are those of identifiers.
+-- Escapes of identifiers: the library's encoder gives them, and they decode.
 use Rattle.std.proofs.Common.{◌≡◌, ◌≢◌, ℕ, ◌/◌, ◌%◌, ◌<◌, inl, inr, Bool, true, false, not, List, [], ◌∷◌, ◌++◌, refl, sym, ap, ◌∙◌, arith}
 use Rattle.std.specs.Prelude.{All, if◌then◌else◌, map}
 use Rattle.std.specs.Char.{digit_value}
@@ -30,13 +30,13 @@ same_byte : (b : ℕ) → b < 256 → encode_byte RESERVED b ≡ escape_of b
 same_byte b small =
     by_test b (is_unreserved b) refl (agree_below_at (should_percent_encode RESERVED) (λ c. not (is_unreserved c)) 256 b agree small)
 
--- all bytes
-pub same_escapes : (bs : List ℕ) → All IsByte bs → percent_encode RESERVED bs ≡ escaped bs
+-- The encoder of the library, with this crate's set, gives the escaped bytes.
+pub percent_encode_escaped : (bs : List ℕ) → All IsByte bs → percent_encode RESERVED bs ≡ escaped bs
 unfolding percent_encode escaped
-same_escapes [] small = refl
-same_escapes (b ∷ bs) small =
+percent_encode_escaped [] small = refl
+percent_encode_escaped (b ∷ bs) small =
     let first = same_byte b (All-head IsByte b bs small) in
-    let rest = same_escapes bs (All-tail IsByte b bs small) in
+    let rest = percent_encode_escaped bs (All-tail IsByte b bs small) in
     cc
 
 -- a hexadecimal digit is no `/` and has its value
@@ -70,6 +70,7 @@ units_stand : (bs : List ℕ) → All IsByte bs → AllZip StandsFor (map escape
 units_stand [] small = tt
 units_stand (b ∷ bs) small = (stands b (All-head IsByte b bs small), units_stand bs (All-tail IsByte b bs small))
 
+-- Escaped bytes decode to the bytes.
 pub escaped_decodes : (bs : List ℕ) → All IsByte bs → Decodes (escaped bs) bs
 escaped_decodes bs small = (map escape_of bs, units_joined bs, units_stand bs small)
 
@@ -92,11 +93,14 @@ escaped_lacks c [] percent other digit = All-nil (λ x. x ≢ c)
 escaped_lacks c (b ∷ bs) percent other digit =
     All-append (λ x. x ≢ c) (escape_of b) (escaped bs) (lacks_by c b _ percent other digit refl) (escaped_lacks c bs percent other digit)
 
-pub escaped_no_slash : (bs : List ℕ) → Lacks 47 (escaped bs)
-escaped_no_slash bs = escaped_lacks 47 bs (λ same. absurd (omega arith)) refl (λ d small. glyph_other d 47 small (omega arith))
+-- No slash is in escaped bytes.
+pub escaped_lacks_slash : (bs : List ℕ) → Lacks 47 (escaped bs)
+escaped_lacks_slash bs = escaped_lacks 47 bs (λ same. absurd (omega arith)) refl (λ d small. glyph_other d 47 small (omega arith))
 
-pub escaped_no_query : (bs : List ℕ) → Lacks 63 (escaped bs)
-escaped_no_query bs = escaped_lacks 63 bs (λ same. absurd (omega arith)) refl glyph_no_query
+-- No question mark is in escaped bytes.
+pub escaped_lacks_query : (bs : List ℕ) → Lacks 63 (escaped bs)
+escaped_lacks_query bs = escaped_lacks 63 bs (λ same. absurd (omega arith)) refl glyph_no_query
 
-pub read_back : EscapesReadBack
-read_back id small = (escaped_no_slash id, escaped_decodes id small)
+-- Escaped bytes are one segment, and decode to the bytes.
+pub escaped_reads_back : EscapesReadBack
+escaped_reads_back id small = (escaped_lacks_slash id, escaped_decodes id small)

@@ -1,4 +1,4 @@
--- Requests that come to the same have equal images.
+-- Images of requests: those of the values that they resolve to.
 use Rattle.std.proofs.Common.{◌≡◌, ℕ, zero, suc, ◌+◌, ◌*◌, Bool, true, false, length, refl, sym, ap, ◌∙◌, subst, arith, Result, Ok, Err}
 use Rattle.std.proofs.Common.{if◌then◌else◌, get_or, ◌==◌}
 use Rattle.iiif_pixel.specs.Geometry.{channels_of}
@@ -72,15 +72,20 @@ module _ (p : Picture) (k : Kind) (channels : p.channels ≡ channels_of k) (t :
   found (Ok rect) s = sized rect (s rect)
   found (Err f) s = refl
 
--- the image of a request is that of what it comes to
-pub image_is : (p : Picture) (q : Request) (d : Dim) (k : Kind) (l : Limits) → dim_of p ≡ d → p.channels ≡ channels_of k →
+-- The image of a request is that of the values that it resolves to.
+pub image_resolved_of : (p : Picture) (q : Request) (d : Dim) (k : Kind) (l : Limits) → dim_of p ≡ d → p.channels ≡ channels_of k →
     image p q l ≡ image_from p (resolved_of q d k l)
 unfolding image resolved_of
-image_is p q d k l sides channels =
+image_resolved_of p q d k l sides channels =
     subst (λ (s : Dim). image p q l ≡ image_from p (resolved_of q s k l)) sides
     (found p k channels (turn_of q.rotation) q.quality (region_of q.region (dim_of p)) (λ rect. size_of q.size rect.w rect.h l))
 
--- requests that come to the same have the image of what they come to
+-- A request has the image of an answer that equals what it resolves to.
 pub image_resolved : (p : Picture) (q : Request) (d : Dim) (k : Kind) (l : Limits) (x : Result Resolved Refusal) → dim_of p ≡ d →
     p.channels ≡ channels_of k → x ≡ resolved_of q d k l → image p q l ≡ image_from p x
-image_resolved p q d k l x sides channels e = image_is p q d k l sides channels ∙ ap (image_from p) (sym e)
+image_resolved p q d k l x sides channels e = image_resolved_of p q d k l sides channels ∙ ap (image_from p) (sym e)
+
+-- A request that resolves to these values has their image.
+pub image_resolved_ok : (p : Picture) (q : Request) (d : Dim) (k : Kind) (l : Limits) (r : Resolved) → dim_of p ≡ d →
+    p.channels ≡ channels_of k → Ok r ≡ resolved_of q d k l → image p q l ≡ Ok (resolved_image p r)
+image_resolved_ok p q d k l r sides channels e = image_resolved p q d k l (Ok r) sides channels e

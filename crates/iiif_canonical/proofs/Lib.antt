@@ -9,3 +9,4 @@ pub mod EscapeLemmas
 pub mod SpellingLemmas
 pub mod PlainTexts
 pub mod TextLemmas
+pub mod FormLemmas

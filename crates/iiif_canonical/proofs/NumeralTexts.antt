@@ -1,4 +1,4 @@
--- The texts of numbers spell them.
+-- Texts of numbers: they spell them.
 use Rattle.std.proofs.lemmas.Bool.{and_from}
 use Rattle.std.proofs.Common.{◌≡◌, ℕ, zero, suc, ◌+◌, ◌*◌, ◌/◌, ◌%◌, ◌^◌, ◌<◌, ◌≤◌, inl, inr, Bool, true, false, List, [], ◌∷◌, ◌++◌}
 use Rattle.std.proofs.Common.{length, refl, sym, ap, subst, ◌∙◌, arith, decimal, append_assoc}
@@ -23,10 +23,11 @@ use Rattle.iiif_request.specs.declared.request.Decimal.{Decimal}
 use Rattle.iiif_canonical.specs.Texts.{last_digits, decimal_text}
 use Rattle.iiif_canonical.proofs.Powers.{ten_some}
 
+-- The text of a number is digits.
 pub decimal_digits : (n : ℕ) → n < 2 ^ 64 → list_all is_ascii_digit (decimal n) ≡ true
 decimal_digits n small = digits_decimal digit_numerals n small
 
--- a small whole number is spelled by its digits
+-- The text of a whole number below 10 ^ 9 spells it.
 pub whole_spelled : (n : ℕ) → IsSmallWhole n → IsWhole (decimal n) n
 whole_spelled n small =
     let digits : IsDigits 9 (decimal n) = record {
@@ -39,6 +40,7 @@ whole_spelled n small =
 last_digit : (v : ℕ) → decimal (v % 10) ≡ (48 + v % 10) ∷ []
 last_digit v = decimal_digit (v % 10) (omega arith)
 
+-- The last n digits are n digits.
 pub length-last_digits : (n v : ℕ) → length (last_digits n v) ≡ n
 length-last_digits zero v = refl
 length-last_digits (suc n) v =
@@ -48,6 +50,7 @@ length-last_digits (suc n) v =
 digit_is : (k : ℕ) → k < 10 → is_ascii_digit (48 + k) ≡ true
 digit_is k small = grind (arith, nat_tests)
 
+-- The last digits of a number are digits.
 pub last_digits_are : (n v : ℕ) → list_all is_ascii_digit (last_digits n v) ≡ true
 last_digits_are zero v = refl
 last_digits_are (suc n) v =
@@ -59,7 +62,7 @@ last_digits_are (suc n) v =
 digit_value_of : (k : ℕ) → k < 10 → digit_value (48 + k) ≡ k
 digit_value_of k small = grind (arith, nat_tests)
 
--- digits in front of the last n of a number are the rest of it
+-- The digits of a number's front and its last n digits write the number.
 pub value-last_digits : (n v : ℕ) (front : List ℕ) → digits_value 10 front ≡ v / 10 ^ n → digits_value 10 (front ++ last_digits n v) ≡ v
 value-last_digits zero v front is =
     let one : v / 10 ^ 0 ≡ v = omega arith in
@@ -78,7 +81,7 @@ value-last_digits (suc n) v front is =
       last,
     ) (omega arith)
 
--- its whole part is below 10 ^ 9
+-- The whole part of a small decimal is below 10 ^ 9.
 pub whole_part_small : (d : Decimal) → IsSmallDecimal d → d.digits / 10 ^ d.places < 10 ^ 9
 whole_part_small d small =
     let split : 10 ^ (9 + d.places) ≡ 10 ^ 9 * 10 ^ d.places = pow-add 10 9 d.places in
@@ -110,12 +113,12 @@ decimal_by d false short small is =
       sym long,
     )
 
--- a short decimal of small digits is spelled by its text
+-- The text of a short and small decimal spells it.
 pub decimal_spelled : (d : Decimal) → IsShort d → IsSmallDecimal d → IsDecimal (decimal_text d) d
 unfolding decimal_text
 decimal_spelled d short small = decimal_by d _ short small refl
 
--- what digits spell is small
+-- A decimal that is spelled is short and small.
 pub decimal_small : (text : List ℕ) (d : Decimal) → IsDecimal text d → IsShort d × IsSmallDecimal d
 decimal_small text d (inl is) =
     let P : ℕ → Type 0 = λ p. d.digits < 10 ^ (9 + p) in

@@ -1,4 +1,4 @@
--- The texts of a request's parts need no escape, but for the `^` of a size.
+-- Plain texts: those of a request's parts need no escape, but for the `^` of a size.
 use Rattle.std.proofs.lemmas.Bool.{and_parts, and_from}
 use Rattle.std.proofs.Common.{◌≡◌, ◌≢◌, ℕ, ◌+◌, ◌/◌, ◌^◌, ◌<◌, ◌⊎◌, inl, inr, Bool, true, false, not, ◌&&◌, nat_lt, List, [], ◌∷◌, ◌++◌}
 use Rattle.std.proofs.Common.{refl, ap, subst, ◌∙◌, arith, map, decimal}
@@ -24,10 +24,11 @@ use Rattle.iiif_request.specs.declared.request.Rotation.{Rotation}
 use Rattle.iiif_canonical.specs.Texts.{last_digits, decimal_text, region_text, form_text, rotation_text, quality_text}
 use Rattle.iiif_canonical.proofs.NumeralTexts.{decimal_digits, last_digits_are, whole_part_small}
 
--- ASCII, and none of `%`, `/` and `?`
+-- ASCII, and none of `%`, `/` and `?`.
 abbrev pub is_plain : ℕ → Bool
 is_plain b = nat_lt b 128 && not (b == 37) && not (b == 47) && not (b == 63)
 
+-- Each byte of the text is plain.
 abbrev pub IsPlain : List ℕ → Type 0
 IsPlain text = list_all is_plain text ≡ true
 
@@ -40,6 +41,7 @@ digits_plain (b ∷ bs) all =
     let two = and_parts (is_ascii_digit b) (list_all is_ascii_digit bs) all in
     and_from _ _ (digit_plain b two.0) (digits_plain bs two.1)
 
+-- Plain texts joined are plain.
 pub joined_plain : (a b : List ℕ) → IsPlain a → IsPlain b → IsPlain (a ++ b)
 joined_plain a b pa pb = list_all-append is_plain a b ∙ and_from _ _ pa pb
 
@@ -65,6 +67,7 @@ decimal_plain d small = decimal_by d _ small refl
 comma_plain : (a b : List ℕ) → IsPlain a → IsPlain b → IsPlain (a ++ codes "," ++ b)
 comma_plain a b pa pb = joined_plain (a ++ codes ",") b (joined_plain a (codes ",") pa refl) pb
 
+-- The text of a region is plain.
 pub region_plain : (g : Region) → IsSmallRegion g → IsPlain (region_text g)
 region_plain Full small = refl
 region_plain Square small = refl
@@ -79,6 +82,7 @@ region_plain (Percents x y w h) small =
     (comma_plain a (decimal_text y) (joined_plain (codes "pct:") (decimal_text x) refl (decimal_plain x small.0)) (decimal_plain y small.1))
     (decimal_plain w small.2)) (decimal_plain h small.3)
 
+-- The text of a size without `^` is plain.
 pub form_plain : (f : Form) → IsSmallForm f → IsPlain (form_text f)
 form_plain Max small = refl
 form_plain (Width w) small = joined_plain (decimal w) (codes ",") (whole_plain w small) refl
@@ -93,6 +97,7 @@ mark_plain : (t : Bool) → IsPlain (mark t (codes "!"))
 mark_plain true = refl
 mark_plain false = refl
 
+-- The text of a rotation is plain.
 pub rotation_plain : (t : Rotation) → IsSmallDecimal t.degrees → IsPlain (rotation_text t)
 rotation_plain t small = joined_plain (mark t.mirror (codes "!")) (decimal_text t.degrees) (mark_plain t.mirror)
     (decimal_plain t.degrees small)
@@ -103,10 +108,11 @@ quality_plain Color = refl
 quality_plain Gray = refl
 quality_plain Bitonal = refl
 
+-- The last segment of a request's text is plain.
 pub last_plain : (q : Quality) → IsPlain (quality_text q ++ codes ".tif")
 last_plain q = joined_plain (quality_text q) (codes ".tif") (quality_plain q) refl
 
--- what holds of each byte that passes holds of all
+-- A property of each byte that passes a test holds of all bytes that pass it.
 pub all_from : (P : ℕ → Type 0) (p : ℕ → Bool) → ((b : ℕ) → p b ≡ true → P b) → (text : List ℕ) → list_all p text ≡ true → All P text
 all_from P p each [] all = All-nil P
 all_from P p each (b ∷ bs) all =
@@ -119,6 +125,7 @@ plain_ascii b plain = grind (arith, nat_tests)
 plain_other : (b c : ℕ) → (c ≡ 37) ⊎ ((c ≡ 47) ⊎ (c ≡ 63)) → is_plain b ≡ true → b ≢ c
 plain_other b c one plain = λ same. grind (arith, nat_tests)
 
+-- A plain text lacks `%`, `/` and `?`.
 pub plain_lacks : (c : ℕ) → (c ≡ 37) ⊎ ((c ≡ 47) ⊎ (c ≡ 63)) → (text : List ℕ) → IsPlain text → Lacks c text
 plain_lacks c one text plain = all_from (λ b. b ≢ c) is_plain (λ b. plain_other b c one) text plain
 
@@ -138,7 +145,7 @@ singles_stand (b ∷ bs) plain =
     let two = and_parts (is_plain b) (list_all is_plain bs) plain in
     (inl (refl, plain_other b 37 (inl refl) two.0), singles_stand bs two.1)
 
--- a plain text stands for itself
+-- A plain text decodes to itself.
 pub plain_segment : (text : List ℕ) → IsPlain text → IsSegmentOf text text
 plain_segment text plain = ((map single text, singles_joined text, singles_stand text plain), plain_utf8 text plain)
 
@@ -148,7 +155,7 @@ caret_stands = inr (53, 69, omega arith, omega arith, refl, refl)
 caret_utf8 : (form : List ℕ) → IsPlain form → IsUtf8 (codes "^" ++ form)
 caret_utf8 form plain = plain_utf8 (codes "^" ++ form) (joined_plain (codes "^") form refl plain)
 
--- `%5E` stands for `^`
+-- The text of a size decodes to the size with `^` in place of `%5E`.
 pub size_segment : (up : Bool) (form : List ℕ) → IsPlain form → IsSegmentOf (mark up (codes "%5E") ++ form) (mark up (codes "^") ++ form)
 size_segment true form plain = (
   (codes "%5E" ∷ map single form, ap (λ (t : List ℕ). codes "%5E" ++ t) (singles_joined form), (caret_stands, singles_stand form plain)),
@@ -156,6 +163,7 @@ size_segment true form plain = (
 )
 size_segment false form plain = plain_segment form plain
 
+-- The text of a size lacks `/` and `?`.
 pub size_lacks : (c : ℕ) → (c ≡ 47) ⊎ (c ≡ 63) → (up : Bool) (form : List ℕ) → IsPlain form → Lacks c (mark up (codes "%5E") ++ form)
 size_lacks c one true form plain =
     let rest = plain_lacks c (inr one) form plain in

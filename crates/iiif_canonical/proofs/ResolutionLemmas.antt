@@ -1,4 +1,4 @@
--- What holds of each request that isn't refused.
+-- Bounds of the values that an accepted request resolves to.
 use Rattle.std.proofs.Common.{◌≡◌, ℕ, ◌-◌, ◌<◌, ◌≤◌, Bool, true, false, ◌&&◌, ◌||◌, nat_lt, refl, subst, arith, Result, Ok, Err}
 use Rattle.std.proofs.Common.{if◌then◌else◌}
 use Rattle.std.specs.Prelude.{min, ◌==◌, not}
@@ -23,12 +23,12 @@ use Rattle.iiif_canonical.specs.Resolution.{◌>>=◌, quarters_of, turn_of, pla
 use Rattle.iiif_canonical.specs.declared.resolved.Limits.{Limits}
 use Rattle.iiif_canonical.specs.declared.resolved.Resolved.{Resolved}
 
--- a rectangle of the image with at least one place
+-- A rectangle of the image with at least one place.
 pub record IsPart (d : Dim) (r : Rect) : Type 0 where
   pub inside : LiesIn r d
   pub not_empty : (1 ≤ r.w) × (1 ≤ r.h)
 
--- at least one place, no more than a region a by b unless the server scales up, and within the limits
+-- Sides of at least one place, no more than a region a by b unless the server scales up, and within the limits.
 pub record IsWithin (a b : ℕ) (l : Limits) (s : Dim) : Type 0 where
   pub not_zero : (1 ≤ s.w) × (1 ≤ s.h)
   pub not_larger : l.upscale ≡ false → (s.w ≤ a) × (s.h ≤ b)
@@ -51,21 +51,21 @@ clipped_by d x y w h true e r is =
     }
 clipped_by d x y w h false e r is = cc
 
-clipped_part : (d : Dim) (x y w h : ℕ) (r : Rect) → clipped d x y w h ≡ Ok r → IsPart d r
+clipped_is_part : (d : Dim) (x y w h : ℕ) (r : Rect) → clipped d x y w h ≡ Ok r → IsPart d r
 unfolding clipped
-clipped_part d x y w h r is = clipped_by d x y w h _ refl r is
+clipped_is_part d x y w h r is = clipped_by d x y w h _ refl r is
 
--- a region that isn't refused is part of the image
-pub region_part : (g : Region) (d : Dim) (r : Rect) → region_of g d ≡ Ok r → IsPart d r
+-- A region that is accepted is a part of the image.
+pub region_of_part : (g : Region) (d : Dim) (r : Rect) → region_of g d ≡ Ok r → IsPart d r
 unfolding region_of
-region_part Full d r is = clipped_part d _ _ _ _ r is
-region_part Square d r is = clipped_part d _ _ _ _ r is
-region_part (Pixels x y w h) d r is = clipped_part d _ _ _ _ r is
-region_part (Percents x y w h) d r is = clipped_part d _ _ _ _ r is
+region_of_part Full d r is = clipped_is_part d _ _ _ _ r is
+region_of_part Square d r is = clipped_is_part d _ _ _ _ r is
+region_of_part (Pixels x y w h) d r is = clipped_is_part d _ _ _ _ r is
+region_of_part (Percents x y w h) d r is = clipped_is_part d _ _ _ _ r is
 
--- sides that aren't tested larger
-pub sides_not_larger : (a b : ℕ) (s : ℕ × ℕ) → is_larger a b s ≡ false → (s.0 ≤ a) × (s.1 ≤ b)
-sides_not_larger a b s e =
+-- Sides that don't test larger are within the region's.
+pub is_larger_false : (a b : ℕ) (s : ℕ × ℕ) → is_larger a b s ≡ false → (s.0 ≤ a) × (s.1 ≤ b)
+is_larger_false a b s e =
     let w : s.0 ≤ a = grind (arith, nat_tests) in
     let h : s.1 ≤ b = grind (arith, nat_tests) in
     (w, h)
@@ -81,7 +81,7 @@ sides_within a b l s z e m r w_is h_is =
     record {
       not_zero = (omega arith, omega arith);
       not_larger = λ (none : l.upscale ≡ false).
-          let region = sides_not_larger a b s (e none) in
+          let region = is_larger_false a b s (e none) in
           (omega (arith, region.0, w_is), omega (arith, region.1, h_is));
       within_limits = (omega arith, omega arith);
     }
@@ -105,25 +105,26 @@ checked_by true above true false false false a b l s u z e m r is = sides_within
 checked_by true above false false false false a b l s u z e m r is = sides_within a b l s z (λ none. e) m r (cc) (cc)
 checked_by true above true false true false a b l s u z e m r is = sides_within a b l s z (λ none. cc) m r (cc) (cc)
 
-pub checked_within : (up above : Bool) (a b : ℕ) (l : Limits) (s : ℕ × ℕ) (r : Dim) → checked up above a b l s ≡ Ok r → IsWithin a b l r
+-- Sides that pass the checks are within the region's and the limits.
+pub checked_is_within : (up above : Bool) (a b : ℕ) (l : Limits) (s : ℕ × ℕ) (r : Dim) → checked up above a b l s ≡ Ok r → IsWithin a b l r
 unfolding checked
-checked_within up above a b l s r is = checked_by up above _ _ _ _ a b l s refl refl refl refl r is
+checked_is_within up above a b l s r is = checked_by up above _ _ _ _ a b l s refl refl refl refl r is
 
--- a size that isn't refused is within the region and the limits
-pub size_within : (s : Size) (a b : ℕ) (l : Limits) (r : Dim) → size_of s a b l ≡ Ok r → IsWithin a b l r
+-- A size that is accepted is within the region's and the limits.
+pub size_of_within : (s : Size) (a b : ℕ) (l : Limits) (r : Dim) → size_of s a b l ≡ Ok r → IsWithin a b l r
 unfolding size_of
-size_within s a b l r is = checked_within _ _ a b l _ r is
+size_of_within s a b l r is = checked_is_within _ _ a b l _ r is
 
-quarters_few : (n : Decimal) → quarters_of n < 4
+quarters_of_few : (n : Decimal) → quarters_of n < 4
 unfolding quarters_of
-quarters_few n = omega arith
+quarters_of_few n = omega arith
 
-plain_plain : (k : Kind) (q : Quality) → plain_quality k (plain_quality k q) ≡ plain_quality k q
-plain_plain k Default = refl
-plain_plain k Color = refl
-plain_plain kind.Gray Gray = refl
-plain_plain kind.Rgb Gray = refl
-plain_plain k Bitonal = refl
+plain_quality_twice : (k : Kind) (q : Quality) → plain_quality k (plain_quality k q) ≡ plain_quality k q
+plain_quality_twice k Default = refl
+plain_quality_twice k Color = refl
+plain_quality_twice kind.Gray Gray = refl
+plain_quality_twice kind.Rgb Gray = refl
+plain_quality_twice k Bitonal = refl
 
 by_size : (d : Dim) (k : Kind) (l : Limits) (q : Request) (rect : Rect) (s : Result Dim Refusal) (r : Resolved) → IsPart d rect
     → ((size : Dim) → s ≡ Ok size → IsWithin rect.w rect.h l size)
@@ -140,8 +141,8 @@ by_size d k l q rect (Ok size) r part within is =
       not_zero = sized.not_zero;
       not_larger = sized.not_larger;
       within_limits = sized.within_limits;
-      quarters = quarters_few q.rotation.degrees;
-      quality = plain_plain k q.quality;
+      quarters = quarters_of_few q.rotation.degrees;
+      quality = plain_quality_twice k q.quality;
     } in
     subst (IsResolved d k l) same all
 
@@ -152,10 +153,11 @@ by_region : (d : Dim) (k : Kind) (l : Limits) (q : Request) (g : Result Rect Ref
     → IsResolved d k l r
 by_region d k l q (Err e) r part is = cc
 by_region d k l q (Ok rect) r part is =
-    by_size d k l q rect (size_of q.size rect.w rect.h l) r (part rect refl) (λ size found. size_within q.size rect.w rect.h l size found)
+    by_size d k l q rect (size_of q.size rect.w rect.h l) r (part rect refl) (λ size found. size_of_within q.size rect.w rect.h l size
+    found)
     is
 
--- what a request comes to, where it isn't refused
-pub resolved_is : (q : Request) (d : Dim) (k : Kind) (l : Limits) (r : Resolved) → resolved_of q d k l ≡ Ok r → IsResolved d k l r
+-- The values of a request that is accepted are within the image and the limits.
+pub resolved_of_ok : (q : Request) (d : Dim) (k : Kind) (l : Limits) (r : Resolved) → resolved_of q d k l ≡ Ok r → IsResolved d k l r
 unfolding resolved_of
-resolved_is q d k l r is = by_region d k l q (region_of q.region d) r (λ rect found. region_part q.region d rect found) is
+resolved_of_ok q d k l r is = by_region d k l q (region_of q.region d) r (λ rect found. region_of_part q.region d rect found) is

@@ -1,4 +1,4 @@
--- The words of a request's text spell it.
+-- Words of a request's text: they spell it.
 use Rattle.std.proofs.Common.{◌≡◌, ℕ, ◌^◌, ◌<◌, Bool, true, false, List, ◌++◌, refl, arith, decimal}
 use Rattle.std.specs.Prelude.{codes, if◌then◌else◌}
 use Rattle.iiif_pixel.specs.Geometry.{LiesIn}
@@ -20,10 +20,10 @@ use Rattle.iiif_canonical.specs.Resolution.{IsResolved}
 use Rattle.iiif_canonical.specs.declared.resolved.Limits.{Limits}
 use Rattle.iiif_canonical.specs.declared.resolved.Resolved.{Resolved}
 use Rattle.iiif_canonical.specs.Texts.{decimal_text, region_text, form_text, rotation_text, quality_text, CanBeSpelled}
-use Rattle.iiif_canonical.proofs.CanonicalLemmas.{canonical_short}
+use Rattle.iiif_canonical.proofs.CanonicalLemmas.{canonical_of_short}
 use Rattle.iiif_canonical.proofs.NumeralTexts.{whole_spelled, decimal_spelled, decimal_small}
 
--- what is known of a request that some words spell
+-- Bounds of a request that some words spell.
 pub record IsSpellable (q : Request) : Type 0 where
   pub short : HasShortDecimals q
   pub small : HasSmallNumbers q
@@ -49,6 +49,7 @@ form_limits text (Percent n) s = decimal_small s.0 n s.1
 form_limits text (Both w h) s = (tt, (IsWhole_small s.0 w s.2, IsWhole_small s.1 h s.3))
 form_limits text (Within w h) s = (tt, (IsWhole_small s.0 w s.2, IsWhole_small s.1 h s.3))
 
+-- A request that some words spell has short and small numbers, and degrees by quarters.
 pub spellable : (q : Request) → CanBeSpelled q → IsSpellable q
 spellable q can =
     let words = can.0 in
@@ -102,7 +103,7 @@ quality_spelled Color = refl
 quality_spelled Gray = refl
 quality_spelled Bitonal = refl
 
--- the decoded words of a request's text
+-- Words of a request's text, decoded.
 abbrev pub words_of : Request → Texts
 words_of q = record {
   region = region_text q.region;
@@ -112,6 +113,7 @@ words_of q = record {
   format = codes "tif";
 }
 
+-- The decoded words of a request's text spell the request.
 pub spelled : (q : Request) → IsSpellable q → SpellsRequest (words_of q) q
 spelled q is = record {
   region = region_spelled q.region is.short.region is.small.region;
@@ -141,15 +143,15 @@ sides_short false r d k l u is short =
     let region = is.not_larger u in
     (omega (arith, region.0, is.inside.columns, short.image), omega (arith, region.1, is.inside.rows, short.image))
 
--- the canonical form of a request, where no side has more than nine digits
-pub canonical_spelled : (r : Resolved) (d : Dim) (k : Kind) (l : Limits) → IsResolved d k l r → HasShortSides d l →
+-- Some words spell the canonical form, where no side has more than nine digits.
+pub canonical_of_spelled : (r : Resolved) (d : Dim) (k : Kind) (l : Limits) → IsResolved d k l r → HasShortSides d l →
     CanBeSpelled (canonical_of r d l)
 unfolding canonical_of canonical_region canonical_size
-canonical_spelled r d k l is sides =
+canonical_of_spelled r d k l is sides =
     let c = canonical_of r d l in
     let size = sides_short _ r d k l refl is sides in
     let spellable : IsSpellable c = record {
-      short = canonical_short r d l;
+      short = canonical_of_short r d l;
       small = record {
         region = region_by d r.rect _ is.inside sides.image.0 sides.image.1;
         size = form_by r.size _ size.0 size.1;

@@ -1,4 +1,4 @@
--- The text of a request spells it, and its URI leads to it.
+-- Text and URI of a request: the text spells it, and the URI leads to it.
 use Rattle.std.proofs.Common.{◌≡◌, ◌≢◌, ℕ, inl, inr, List, [], ◌∷◌, ◌++◌, refl, sym, ap, subst, ◌∙◌, arith, append_assoc}
 use Rattle.std.specs.Prelude.{codes, All, IsUtf8, true, not, ◌==◌}
 use Rattle.std.specs.List.{join_with_byte, list_all}
@@ -14,7 +14,7 @@ use Rattle.iiif_request.specs.declared.request.Request.{Request}
 use Rattle.iiif_canonical.specs.Escapes.{escaped}
 use Rattle.iiif_canonical.specs.Texts.{region_text, form_text, size_text, rotation_text, quality_text, text_of, image_uri_of, uri_of}
 use Rattle.iiif_canonical.specs.Texts.{CanBeSpelled, IsTextOf, LeadsTo}
-use Rattle.iiif_canonical.proofs.EscapeLemmas.{escaped_no_slash, escaped_no_query, escaped_decodes}
+use Rattle.iiif_canonical.proofs.EscapeLemmas.{escaped_lacks_slash, escaped_lacks_query, escaped_decodes}
 use Rattle.iiif_canonical.proofs.PlainTexts.{all_from, region_plain, form_plain, rotation_plain, last_plain, plain_lacks, plain_segment}
 use Rattle.iiif_canonical.proofs.PlainTexts.{size_segment, size_lacks}
 use Rattle.iiif_canonical.proofs.SpellingLemmas.{IsSpellable, spellable, words_of, spelled}
@@ -35,8 +35,8 @@ text_joined q =
     append_assoc (region_text q.region ++ codes "/" ++ size_text q.size ++ codes "/" ++ rotation_text q.rotation ++ codes "/")
     (quality_text q.quality) (codes ".tif")
 
-text_is : (q : Request) → IsSpellable q → IsTextOf q (text_of q)
-text_is q is =
+text_of_is_text : (q : Request) → IsSpellable q → IsTextOf q (text_of q)
+text_of_is_text q is =
     let region = region_plain q.region is.small.region in
     let form = form_plain q.size.form is.small.size in
     let rotation = rotation_plain q.rotation is.small.degrees in
@@ -61,9 +61,9 @@ text_is q is =
       spells = spelled q is;
     }
 
--- a text that is written spells its request
-pub written_spells : (q : Request) (text : List ℕ) → CanBeSpelled q → text ≡ text_of q → IsTextOf q text
-written_spells q text can is = subst (λ (t : List ℕ). IsTextOf q t) (sym is) (text_is q (spellable q can))
+-- A request's text spells the request.
+pub text_of_spells : (q : Request) (text : List ℕ) → CanBeSpelled q → text ≡ text_of q → IsTextOf q text
+text_of_spells q text can is = subst (λ (t : List ℕ). IsTextOf q t) (sym is) (text_of_is_text q (spellable q can))
 
 -- no `.` stands in a quality
 no_point : (text : List ℕ) → list_all (λ b. not (b == 46)) text ≡ true → Lacks 46 text
@@ -98,7 +98,7 @@ path_lacks prefix id q is prefix_lacks =
     let cropped = between (region_text q.region) (size_text q.size ++ (47 ∷ (rotation_text q.rotation ++ (47 ∷ last_text q.quality))))
     region sized in
     let named = between (escaped id) (region_text q.region ++
-    (47 ∷ (size_text q.size ++ (47 ∷ (rotation_text q.rotation ++ (47 ∷ last_text q.quality)))))) (escaped_no_query id) cropped in
+    (47 ∷ (size_text q.size ++ (47 ∷ (rotation_text q.rotation ++ (47 ∷ last_text q.quality)))))) (escaped_lacks_query id) cropped in
     let slash : prefix ++ codes "/" ++ join_with_byte 47 (segments_of id q) ≡ prefix ++ (47 ∷ join_with_byte 47 (segments_of id q)) =
     append_assoc prefix (codes "/") (join_with_byte 47 (segments_of id q)) in
     subst (Lacks 63) (sym slash) (between prefix (join_with_byte 47 (segments_of id q)) prefix_lacks named)
@@ -107,7 +107,7 @@ segments_part : (id : List ℕ) (q : Request) → IsSpellable q → All (Lacks 4
 unfolding segments_of
 segments_part id q is =
     All-cons (Lacks 47) (escaped id) (region_text q.region ∷ size_text q.size ∷ rotation_text q.rotation ∷ last_text q.quality ∷ [])
-    (escaped_no_slash id)
+    (escaped_lacks_slash id)
     (All-cons (Lacks 47) (region_text q.region) (size_text q.size ∷ rotation_text q.rotation ∷ last_text q.quality ∷ [])
     (plain_lacks 47 (inr (inl refl)) (region_text q.region) (region_plain q.region is.small.region))
     (All-cons (Lacks 47) (size_text q.size) (rotation_text q.rotation ∷ last_text q.quality ∷ [])
@@ -163,7 +163,8 @@ leads base id q is bytes utf8 some origin prefix parts no_query =
     ∙ regrouped origin prefix (escaped id) (region_text q.region) (size_text q.size) (rotation_text q.rotation) (last_text q.quality) in
     (path, whole, (words_of q, asks, spelled q is))
 
-pub written_leads : (base id : List ℕ) (q : Request) (uri : List ℕ) → CanBeSpelled q → All IsByte id → IsUtf8 id → id ≢ [] →
+-- A request's URI leads to its image.
+pub uri_of_leads : (base id : List ℕ) (q : Request) (uri : List ℕ) → CanBeSpelled q → All IsByte id → IsUtf8 id → id ≢ [] →
     uri ≡ uri_of base id q → LeadsTo base id q uri
-written_leads base id q uri can bytes utf8 some is =
+uri_of_leads base id q uri can bytes utf8 some is =
     subst (λ (t : List ℕ). LeadsTo base id q t) (sym is) (leads base id q (spellable q can) bytes utf8 some)

@@ -1,4 +1,8 @@
--- What a request comes to for an image: IIIF Image API 3.0, sections 4.1 to 4.4.
+-- Resolution of a request for an image: IIIF Image API 3.0, sections 4.1 to 4.4.
+--
+-- `quarters_of`, `turn_of`: the turn of a rotation. `plain_quality`: a quality, or `default` where it changes nothing.
+-- `resolved_of request d kind limits`: the values that a request resolves to, or the first refusal.
+-- `IsResolved`: the bounds that these values keep.
 use Rattle.std.specs.Prelude.{◌≡◌, ℕ, ◌*◌, ◌/◌, ◌%◌, ◌^◌, ◌<◌, ◌≤◌, false, Result, Ok, Err}
 use Rattle.iiif_pixel.specs.Geometry.{LiesIn}
 use Rattle.iiif_pixel.specs.declared.geometry.Dim.{Dim}
@@ -16,7 +20,7 @@ use Rattle.iiif_canonical.specs.Sizes.{size_of}
 use Rattle.iiif_canonical.specs.declared.resolved.Limits.{Limits}
 use Rattle.iiif_canonical.specs.declared.resolved.Resolved.{Resolved}
 
--- go on with what was found, or keep the refusal
+-- section 4.6: goes on with the value of a step, or keeps its refusal
 infixl 10 ◌>>=◌
 abbrev pub ◌>>=◌ : {A B : Type 0} → Result A Refusal → (A → Result B Refusal) → Result B Refusal
 (Ok x) >>= f = f x
@@ -38,16 +42,16 @@ plain_quality kind.Gray Gray = Default
 plain_quality kind.Rgb Gray = Gray
 plain_quality k Bitonal = Bitonal
 
--- what a request comes to for an image with these sides and of this kind, or the first refusal
+-- sections 4.1 to 4.4: the values that a request resolves to for an image with these sides and of this kind, or the first refusal
 unfoldable pub resolved_of : Request → Dim → Kind → Limits → Result Resolved Refusal
 resolved_of q d k l = do
   rect ← region_of q.region d
   size ← size_of q.size rect.w rect.h l
   Ok (record { rect = rect; size = size; turn = turn_of q.rotation; quality = plain_quality k q.quality })
 
--- What holds of each request that isn't refused: its rectangle lies inside the image and isn't empty; its size has at
--- least one place, is within the limits and, unless the server scales up, isn't above the rectangle's; fewer than four
--- quarter turns are left; its quality changes something or is the default.
+-- sections 4.1 to 4.4: the rectangle is inside the image and isn't empty; the size has at least one place, is within the limits
+-- and, unless the server scales up, isn't above the rectangle's; the turn has fewer than four quarters; the quality changes something
+-- or is the default
 pub record IsResolved (d : Dim) (k : Kind) (l : Limits) (r : Resolved) : Type 0 where
   pub inside : LiesIn r.rect d
   pub not_empty : (1 ≤ r.rect.w) × (1 ≤ r.rect.h)

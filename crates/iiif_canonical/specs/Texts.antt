@@ -1,4 +1,9 @@
--- The text of a request: IIIF Image API 3.0, sections 2.1 and 9.
+-- Texts and URIs of requests: IIIF Image API 3.0, sections 2, 2.1 and 9.
+--
+-- `X_text`: the word of a part of a request. `text_of request`: the four words, with slashes between.
+-- `image_uri_of base id`, `uri_of base id request`: the URI of an image, and of a request for it.
+-- `CanBeSpelled request`: some words spell the request. `IsTextOf request text`: the text, decoded, spells it.
+-- `LeadsTo base id request uri`: who asks the server by this URI asks for this image.
 use Rattle.std.specs.Prelude.{◌≡◌, ℕ, ◌/◌, ◌%◌, ◌^◌, ◌==◌, List, [], ◌++◌, codes, decimal, if◌then◌else◌}
 use Prim.Native.Nat.{zero, suc}
 use Rattle.iiif_pixel.specs.declared.geometry.Quality.{Quality}
@@ -15,18 +20,18 @@ use Rattle.iiif_request.specs.declared.request.Rotation.{Rotation}
 use Rattle.iiif_request.specs.declared.request.Request.{Request}
 use Rattle.iiif_canonical.specs.Escapes.{escaped}
 
--- the last n digits of a number, leading zeros with them
+-- section 4.1: the last n digits of a number, leading zeros with them
 abbrev pub last_digits : ℕ → ℕ → List ℕ
 last_digits zero v = []
 last_digits (suc n) v = last_digits n (v / 10) ++ decimal (v % 10)
 
--- a decimal: its whole part, and a point and its places where it has any
+-- section 4.1: a decimal: its whole part, and a point and its places where it has any
 unfoldable pub decimal_text : Decimal → List ℕ
 decimal_text d =
     if d.places == 0 then decimal d.digits
     else decimal (d.digits / 10 ^ d.places) ++ codes "." ++ last_digits d.places d.digits
 
--- section 4.1
+-- section 4.1: full, square, x,y,w,h or pct:x,y,w,h
 abbrev pub region_text : Region → List ℕ
 region_text Full = codes "full"
 region_text Square = codes "square"
@@ -34,7 +39,7 @@ region_text (Pixels x y w h) = decimal x ++ codes "," ++ decimal y ++ codes "," 
 region_text (Percents x y w h) =
     codes "pct:" ++ decimal_text x ++ codes "," ++ decimal_text y ++ codes "," ++ decimal_text w ++ codes "," ++ decimal_text h
 
--- section 4.2, what stands behind the `^`
+-- section 4.2: a size without its `^`: max, w,  ,h  pct:n  w,h or !w,h
 abbrev pub form_text : Form → List ℕ
 form_text Max = codes "max"
 form_text (Width w) = decimal w ++ codes ","
@@ -47,11 +52,11 @@ form_text (Within w h) = codes "!" ++ decimal w ++ codes "," ++ decimal h
 abbrev pub size_text : Size → List ℕ
 size_text s = mark s.up (codes "%5E") ++ form_text s.form
 
--- section 4.3
+-- section 4.3: degrees, with `!` in front where the image is mirrored first
 abbrev pub rotation_text : Rotation → List ℕ
 rotation_text t = mark t.mirror (codes "!") ++ decimal_text t.degrees
 
--- section 4.4
+-- section 4.4: default, color, gray or bitonal
 abbrev pub quality_text : Quality → List ℕ
 quality_text Default = codes "default"
 quality_text Color = codes "color"
@@ -72,7 +77,7 @@ image_uri_of base id = base ++ codes "/" ++ escaped id
 unfoldable pub uri_of : List ℕ → List ℕ → Request → List ℕ
 uri_of base id q = image_uri_of base id ++ codes "/" ++ text_of q
 
--- some words spell the request
+-- sections 4.1 to 4.5: some words spell the request
 abbrev pub CanBeSpelled : Request → Type 0
 CanBeSpelled q = (words : Texts) × SpellsRequest words q
 
@@ -92,13 +97,17 @@ pub record IsTextOf (q : Request) (text : List ℕ) : Type 0 where
   pub last_decoded : IsSegmentOf last (words.quality ++ codes "." ++ words.format)
   pub spells : SpellsRequest words q
 
--- the target asks for an image of this identifier, in words that spell the request
+-- section 2.1: the target asks for an image of this identifier, in words that spell the request
 abbrev pub AsksForImage : List ℕ → List ℕ → List ℕ → Request → Type 0
 AsksForImage prefix target id q = (words : Texts) × AsksFor prefix target (image id words) × SpellsRequest words q
 
--- However the base is an origin (scheme and authority: RFC 3986, section 3) and the path of the server, its prefix: the URI
--- is that origin and a path, and who asks the server for this path asks for the image.
+-- RFC 3986, section 3; IIIF Image API 3.0, section 2: the URI is the server's origin (scheme and authority) and a path; a server
+-- with this prefix that is asked for the path is asked for the image
+abbrev pub LeadsFrom : List ℕ → List ℕ → List ℕ → Request → List ℕ → Type 0
+LeadsFrom origin prefix id q uri = (path : List ℕ) × (uri ≡ origin ++ path) × AsksForImage prefix path id q
+
+-- RFC 3986, section 3: the URI leads from the origin and the prefix of the base to the image. The standard has one such cut of the
+-- base, where its authority ends. More is asked here: that each cut leads there, so nothing depends on where an authority ends.
 abbrev pub LeadsTo : List ℕ → List ℕ → Request → List ℕ → Type 0
 LeadsTo base id q uri =
-    (origin prefix : List ℕ) → base ≡ origin ++ prefix → Lacks 63 prefix
-    → (path : List ℕ) × (uri ≡ origin ++ path) × AsksForImage prefix path id q
+    (origin prefix : List ℕ) → base ≡ origin ++ prefix → Lacks 63 prefix → LeadsFrom origin prefix id q uri

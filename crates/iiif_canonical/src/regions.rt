@@ -1,4 +1,4 @@
-//! Regions: IIIF Image API 3.0, section 4.1.
+//! Regions, resolved: IIIF Image API 3.0, section 4.1.
 ghost use Rattle.std.specs.Prelude.{◌≡◌, ◌<◌, ◌≤◌, ◌^◌, IfOk};
 ghost use Rattle.iiif_pixel.specs.Geometry.{LiesIn};
 ghost use Rattle.iiif_request.specs.Requests.{IsShort, IsShortRegion};
@@ -8,9 +8,9 @@ ghost use Rattle.iiif_canonical.specs.Regions.{clipped, region_of};
 use iiif_pixel::{Dim, Rect};
 use iiif_request::{Decimal, Refusal, Region};
 
-/// p / q to the nearest whole number, a half up.
+/// Rounds p / q to the nearest whole number, a half up.
 #[tactic(auto, unfolding(crate::specs::Rounding::round))]
-pub fn round(p: u128, q: u128) -> u128
+pub(crate) fn round(p: u128, q: u128) -> u128
     requires divisor { 0 < q }
     requires fits { (p < 2 ^ 100) × (q < 2 ^ 100) }
     ensures { result ≡ round p q }
@@ -18,9 +18,9 @@ pub fn round(p: u128, q: u128) -> u128
     (2 * p + q) / (2 * q)
 }
 
-/// So many hundredths of a side.
+/// Computes n percent of a side, rounded.
 #[tactic(auto, using(crate::proofs::Powers::ten_some))]
-pub fn percent(side: u32, n: Decimal) -> u128
+pub(crate) fn compute_percent(side: u32, n: Decimal) -> u128
     requires { IsShort n }
     ensures { result ≡ percent_of side n }
 {
@@ -30,7 +30,7 @@ pub fn percent(side: u32, n: Decimal) -> u128
     )
 }
 
-/// The part of a rectangle that lies in the image.
+/// Clips a rectangle to the image; `Empty` where nothing of it is inside.
 #[tactic(auto, unfolding(crate::specs::Regions::clipped))]
 fn clip(dim: Dim, x: u128, y: u128, w: u128, h: u128) -> Result<Rect, Refusal>
     ensures value { result ≡ clipped dim x y w h }
@@ -48,9 +48,9 @@ fn clip(dim: Dim, x: u128, y: u128, w: u128, h: u128) -> Result<Rect, Refusal>
     })
 }
 
-/// The region of an image with these sides, or `Empty`.
+/// Resolves a region for an image with these sides: the rectangle that is inside, or `Empty`.
 #[tactic(auto, unfolding(crate::specs::Regions::region_of))]
-pub fn region(region: Region, dim: Dim) -> Result<Rect, Refusal>
+pub(crate) fn resolve_region(region: Region, dim: Dim) -> Result<Rect, Refusal>
     requires { IsShortRegion region }
     ensures value { result ≡ region_of region dim }
     ensures inside { IfOk result (λ r. LiesIn r dim) }
@@ -73,10 +73,10 @@ pub fn region(region: Region, dim: Dim) -> Result<Rect, Refusal>
         ),
         Region::Percents(x, y, w, h) => clip(
             dim,
-            percent(dim.w, x),
-            percent(dim.h, y),
-            percent(dim.w, w),
-            percent(dim.h, h),
+            compute_percent(dim.w, x),
+            compute_percent(dim.h, y),
+            compute_percent(dim.w, w),
+            compute_percent(dim.h, h),
         ),
     }
 }

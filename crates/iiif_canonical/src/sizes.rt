@@ -1,14 +1,14 @@
-//! Sizes: IIIF Image API 3.0, section 4.2.
+//! Sizes, resolved: IIIF Image API 3.0, section 4.2.
 ghost use Rattle.std.specs.Prelude.{◌≡◌, ◌<◌, ◌≤◌, false, IfOk};
 ghost use Rattle.iiif_request.specs.Requests.{IsShortForm};
 ghost use Rattle.iiif_canonical.specs.Sizes.{fit, largest, asked_of, is_above_hundred, checked, size_of};
 
-use crate::regions::{percent, round};
+use crate::regions::{compute_percent, round};
 use crate::resolved::Limits;
 use iiif_pixel::Dim;
 use iiif_request::{Form, Refusal, Size};
 
-/// The largest size within p by q that has the shape of a region a by b.
+/// Fits a region a by b into p by q: the largest size of its shape within them.
 #[tactic(auto, unfolding(crate::specs::Sizes::fit))]
 fn fit(a: u32, b: u32, p: u32, q: u32) -> (u128, u128)
     requires width { 0 < a }
@@ -23,9 +23,9 @@ fn fit(a: u32, b: u32, p: u32, q: u32) -> (u128, u128)
     }
 }
 
-/// `max`: the region itself where it is within the limits, else what fits them.
+/// Fits a region a by b into the limits: its own sides where they are within them.
 #[tactic(auto, unfolding(crate::specs::Sizes::largest))]
-fn largest(a: u32, b: u32, limits: &Limits) -> (u128, u128)
+fn fit_limits(a: u32, b: u32, limits: &Limits) -> (u128, u128)
     requires width { 0 < a }
     requires height { 0 < b }
     ensures { result ≡ largest a b limits.now }
@@ -37,9 +37,9 @@ fn largest(a: u32, b: u32, limits: &Limits) -> (u128, u128)
     }
 }
 
-/// The sides that a size asks for, of a region a by b.
+/// Computes the sides that a size asks for, of a region a by b, not checked yet.
 #[tactic(auto, unfolding(crate::specs::Sizes::asked_of))]
-pub fn asked(size: Size, a: u32, b: u32, limits: &Limits) -> (u128, u128)
+pub(crate) fn compute_sides(size: Size, a: u32, b: u32, limits: &Limits) -> (u128, u128)
     requires width { 0 < a }
     requires height { 0 < b }
     requires short { IsShortForm size.form }
@@ -50,7 +50,7 @@ pub fn asked(size: Size, a: u32, b: u32, limits: &Limits) -> (u128, u128)
             if size.up {
                 fit(a, b, limits.max_w, limits.max_h)
             } else {
-                largest(a, b, limits)
+                fit_limits(a, b, limits)
             }
         }
         Form::Width(w) => {
@@ -61,7 +61,7 @@ pub fn asked(size: Size, a: u32, b: u32, limits: &Limits) -> (u128, u128)
             let h = u128::from(h);
             (round(u128::from(a) * h, u128::from(b)), h)
         }
-        Form::Percent(n) => (percent(a, n), percent(b, n)),
+        Form::Percent(n) => (compute_percent(a, n), compute_percent(b, n)),
         Form::Both(w, h) => (u128::from(w), u128::from(h)),
         Form::Within(w, h) => {
             let (p, q) = (w.min(limits.max_w), h.min(limits.max_h));
@@ -74,7 +74,7 @@ pub fn asked(size: Size, a: u32, b: u32, limits: &Limits) -> (u128, u128)
     }
 }
 
-/// Whether a size asks for more than a hundred percent.
+/// Tests whether a size asks for more than a hundred percent.
 fn is_above_hundred(form: Form) -> bool
     requires { IsShortForm form }
     ensures { result ≡ is_above_hundred form }
@@ -85,7 +85,7 @@ fn is_above_hundred(form: Form) -> bool
     }
 }
 
-/// The sides asked for, or the first refusal.
+/// Checks sides against zero, the region a by b and the limits, in this order.
 #[tactic(auto, unfolding(crate::specs::Sizes::checked))]
 fn check(
     up: bool,
@@ -118,9 +118,9 @@ fn check(
     }
 }
 
-/// The size of the result, of a region a by b, or the first of `Zero`, `Larger`, `Upscale` and `Limit`.
+/// Resolves a size for a region a by b: the sides of the result, or the first of `Zero`, `Larger`, `Upscale` and `Limit`.
 #[tactic(auto, unfolding(crate::specs::Sizes::size_of))]
-pub fn size(size: Size, a: u32, b: u32, limits: &Limits) -> Result<Dim, Refusal>
+pub(crate) fn resolve_size(size: Size, a: u32, b: u32, limits: &Limits) -> Result<Dim, Refusal>
     requires width { 0 < a }
     requires height { 0 < b }
     requires short { IsShortForm size.form }
@@ -135,6 +135,6 @@ pub fn size(size: Size, a: u32, b: u32, limits: &Limits) -> Result<Dim, Refusal>
         a,
         b,
         limits,
-        asked(size, a, b, limits),
+        compute_sides(size, a, b, limits),
     )
 }

@@ -1,4 +1,4 @@
-//! The text of a request: IIIF Image API 3.0, sections 2.1 and 9.
+//! Texts of requests: IIIF Image API 3.0, sections 2.1 and 9.
 ghost use Rattle.std.specs.Prelude.{◌≡◌, ◌++◌, IfOk, OnOk, string_bytes};
 ghost use Rattle.iiif_request.specs.Requests.{IsShort, IsShortRegion, IsShortForm, HasShortDecimals};
 ghost use Rattle.iiif_canonical.specs.Texts.{last_digits, decimal_text, region_text, form_text, size_text, rotation_text, quality_text};
@@ -113,7 +113,7 @@ fn push_rotation(out: &mut String, rotation: Rotation) -> Result<(), NoMemory>
     push_decimal(out, rotation.degrees)
 }
 
-/// The word of a quality.
+/// Returns the word of a quality.
 fn quality_word(quality: Quality) -> &'static str
     ensures { result.now ≡ quality_text quality }
 {
@@ -125,9 +125,9 @@ fn quality_word(quality: Quality) -> &'static str
     }
 }
 
-/// Writes the text of a request at the end of another.
+/// Writes the text of a request.
 #[tactic(auto, unfolding(crate::specs::Texts::text_of))]
-pub(crate) fn push_text(out: &mut String, request: &Request) -> Result<(), NoMemory>
+fn push_text(out: &mut String, request: &Request) -> Result<(), NoMemory>
     requires { HasShortDecimals request.now }
     ensures { OnOk result (string_bytes out.new ≡ string_bytes out.old ++ text_of request.now) }
 {
@@ -140,8 +140,8 @@ pub(crate) fn push_text(out: &mut String, request: &Request) -> Result<(), NoMem
     write!(out, "/{quality}.tif")
 }
 
-/// The text of a request, `region/size/rotation/quality.format` with the `^` of a size escaped. A
-/// request that no words spell, as one with a number of ten digits, has a text too.
+/// Formats a request as `region/size/rotation/quality.format`, with the `^` of a size escaped. A request that no words spell, as
+/// one with a number of ten digits, has a text too.
 ///
 /// # Errors
 ///

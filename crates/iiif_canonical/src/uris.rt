@@ -4,13 +4,13 @@ ghost use Rattle.iiif_request.specs.Requests.{HasShortDecimals};
 ghost use Rattle.iiif_canonical.specs.Escapes.{escaped};
 ghost use Rattle.iiif_canonical.specs.Texts.{image_uri_of, uri_of, CanBeSpelled, LeadsTo};
 
-use crate::texts::push_text;
+use crate::texts::text;
 use iiif_pixel::NoMemory;
 use iiif_request::Request;
 use percent_encoding::{AsciiSet, NON_ALPHANUMERIC, ascii_set, percent_encode};
 use std::alloc::Global;
 
-/// The ASCII bytes that are escaped in an identifier: all but the unreserved ones.
+/// ASCII bytes that are escaped in an identifier: all but the unreserved ones (RFC 3986, section 2.3).
 pub const RESERVED: AsciiSet = ascii_set!(
     NON_ALPHANUMERIC
         .remove(b'-')
@@ -19,7 +19,7 @@ pub const RESERVED: AsciiSet = ascii_set!(
         .remove(b'~')
 );
 
-/// Writes an identifier at the end of a text, escaped (RFC 3986, sections 2.1 and 2.3).
+/// Appends an identifier, percent-encoded (RFC 3986, sections 2.1 and 2.3).
 ///
 /// # Errors
 ///
@@ -31,7 +31,7 @@ pub fn push_escaped(out: &mut String, id: &str) -> Result<(), NoMemory>
     percent_encode(id.as_bytes(), RESERVED).append_to(out)
 }
 
-/// The URI of an image, with no `/` at its end: the base of the server, and the identifier escaped.
+/// Formats the URI of an image, with no `/` at its end: the server's base, and the identifier percent-encoded.
 ///
 /// # Errors
 ///
@@ -47,8 +47,8 @@ pub fn image_uri(alloc: Global, base: &str, id: &str) -> Result<String, NoMemory
     Ok(uri)
 }
 
-/// The URI of a request for an image; of a request in canonical form it is the canonical URI (IIIF
-/// Image API 3.0, section 4.7).
+/// Formats the URI of a request for an image. Of a request in canonical form it is the canonical URI (IIIF Image API 3.0,
+/// section 4.7).
 ///
 /// # Errors
 ///
@@ -62,6 +62,6 @@ pub fn uri(alloc: Global, base: &str, id: &str, request: &Request) -> Result<Str
 {
     let mut uri = image_uri(alloc, base, id)?;
     uri.push_str("/")?;
-    push_text(&mut uri, request)?;
+    uri.push_str(text(alloc, request)?.as_str())?;
     Ok(uri)
 }

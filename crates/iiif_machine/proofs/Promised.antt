@@ -22,7 +22,7 @@ use Rattle.iiif_machine.specs.Sound.{IsSound}
 use Rattle.iiif_machine.specs.Promises.{IsNew, RefusedAtOnce, EachStep, EachRun, EachRunFollows, AnswersAreRight, ValuesAreMeanings}
 use Rattle.iiif_machine.specs.Promises.{NoFaultNoFailure, CanonicalFormsAgree}
 use Rattle.iiif_canonical.specs.Images as images
-use Rattle.iiif_canonical.proofs.SameImages.{means_the_same}
+use Rattle.iiif_canonical.proofs.SameImages.{image_canonical}
 use Rattle.iiif_scene.proofs.Plans.{kind_is}
 use Rattle.iiif_scene.proofs.Lists.{get_map}
 use Rattle.iiif_machine.proofs.Lists.{each_nil, get_end}
@@ -171,7 +171,7 @@ canonical_forms_agree w proper h i j q r a b p at there name shown form =
     let one = image_of s p first.0 q.request a q.name first.1 shown first.2 in
     let two = image_of s p second.0 r.request b r.name second.1 (ap s.shows name ∙ shown) second.2 in
     ok_same (images.image p q.request s.limits) a b one
-    (sym (means_the_same p (kind_of p) s.limits q.request r.request (kind_is p (proper.sources q.name p shown).whole) form) ∙ two)
+    (sym (image_canonical p (kind_of p) s.limits q.request r.request (kind_is p (proper.sources q.name p shown).whole) form) ∙ two)
 
 no_image : (x : Result Picture Refusal) (p : Picture) (e : Refusal) → x ≡ Ok p → x ≡ Err e → ⊥
 no_image x p e a b = cc

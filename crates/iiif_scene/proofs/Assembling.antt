@@ -39,7 +39,7 @@ use Rattle.iiif_planner.proofs.Sides.{up_tested, down_tested}
 use Rattle.iiif_planner.proofs.Greatest.{greatest_cases, greatest_within}
 use Rattle.iiif_canonical.specs.Resolution.{IsResolved}
 use Rattle.iiif_canonical.specs.Images as images
-use Rattle.iiif_canonical.proofs.ResolutionLemmas.{resolved_is}
+use Rattle.iiif_canonical.proofs.ResolutionLemmas.{resolved_of_ok}
 use Rattle.iiif_scene.specs.declared.keys.Key.TheVariants as key
 use Rattle.iiif_scene.specs.Scenes.{Scene, IsProper}
 use Rattle.iiif_scene.specs.Keys.{Key, name_of, Fits, meaning}
@@ -146,7 +146,7 @@ accepted s name p q r proper a =
       edge = proper.edge;
       room = proper.room;
       is =
-          resolved_is q (dim_of p) (kind_of p) s.limits r a.solved;
+          resolved_of_ok q (dim_of p) (kind_of p) s.limits r a.solved;
     }
 
 tiles_are : (s : Scene) (name : List ℕ) (p : Picture) (r : Resolved) → Accepted s name p r →

@@ -11,7 +11,7 @@ use Rattle.iiif_area.specs.Places.{IsScalable}
 use Rattle.iiif_canonical.specs.Resolution.{IsResolved}
 use Rattle.iiif_canonical.specs.Images as images
 use Rattle.iiif_canonical.specs.declared.resolved.Limits.{Limits}
-use Rattle.iiif_canonical.proofs.ResolutionLemmas.{resolved_is}
+use Rattle.iiif_canonical.proofs.ResolutionLemmas.{resolved_of_ok}
 use Rattle.iiif_keys.specs.Names.{IsSource}
 use Rattle.iiif_keys.specs.Shapes.{kind_with}
 use Rattle.iiif_keys.specs.Blocks.{HasParts, TileFitsIn, SumFitsIn}
@@ -82,7 +82,7 @@ has_parts s k proper fits =
 -- what a request comes to
 pub resolves : (s : Scene) (p : Picture) (q : Request) (r : Resolved) → resolved s p q ≡ Ok r → IsResolved (dim_of p) (kind_of p) s.limits r
 unfolding resolved
-resolves s p q r h = resolved_is q (dim_of p) (kind_of p) s.limits r h
+resolves s p q r h = resolved_of_ok q (dim_of p) (kind_of p) s.limits r h
 
 pub scalable : (d : Dim) (k : Kind) (l : Limits) (r : Resolved) → IsResolved d k l r → d.w * d.h ≤ 4294967296 →
     IsScalable (sides_of r.rect) r.size

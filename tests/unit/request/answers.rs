@@ -1,9 +1,7 @@
 //! Results of texts. Cases stand as lines of a list, each a text, ` => ` and its result.
 
 use crate::fixtures::{is_missing, is_same};
-use iiif_canonical::{
-    Limits, canonical, canonical_request, image_uri, push_escaped, resolve, text, uri,
-};
+use iiif_canonical::{Limits, canonical, image_uri, push_escaped, resolve, text, uri};
 use iiif_pixel::{Dim, Kind};
 use iiif_request::{Request, Target, Words, parse, split};
 use std::alloc::Global;
@@ -54,8 +52,11 @@ fn resolved(alloc: Global, image: &Image, request: &Request) -> Option<String> {
 
 /// The text of a request's canonical form for an image, or why it is refused.
 fn canonical_text(alloc: Global, image: &Image, request: &Request) -> Option<String> {
-    match canonical_request(request, image.dim, image.kind, &image.limits) {
-        Ok(form) => text(alloc, &form).ok(),
+    match resolve(request, image.dim, image.kind, &image.limits) {
+        Ok(resolved) => {
+            let form = canonical(&resolved, image.dim, image.kind, &image.limits);
+            text(alloc, &form).ok()
+        }
         Err(refusal) => format!(in alloc; "{refusal:?}").ok(),
     }
 }
