@@ -1,6 +1,6 @@
-//! Readers.
+//! The reader trait, for sockets and for memory.
 
-ghost use Rattle.std.specs.Prelude.{OnErr};
+ghost use Rattle.std.specs.Prelude.{◌≡◌, ℕ, List, length, take, drop, ◌++◌, min, Some, Ok, IfOk, OnErr};
 ghost use Rattle.std.specs.Io.{ReadsAtMost};
 ghost use Rattle.std.specs.Io.KnownBytes.{ReadConsumes};
 
@@ -8,22 +8,26 @@ use std::io;
 use std::io::{ErrorKind, Read};
 use std::net::TcpStream;
 
-/// How often a read or a write that a signal broke off is tried again.
+/// How many times a system call that a signal interrupts is retried.
 pub const TRIES: u32 = 1000;
 
-/// A reader that says of a failed read that it failed.
+/// A reader whose clauses tell which reads failed and what each gave.
 pub trait Inlet: Read {
     /// A read in the first state failed and left the second.
     ghost fails: { Self → Self → Type 0 };
 
-    /// Reads some bytes into the buffer, and none only at the end or where the buffer is empty.
+    /// One read in the first state gave these bytes and left the second. Generic code can show it only of a read that it made.
+    ghost gave: { Self → List ℕ → Self → Type 0 } = { λ _ _ _. Unit {0} };
+
+    /// Reads some bytes into the buffer. `Ok(0)` means the end of the input, or an empty buffer.
     fn pull(&mut self, buffer: &mut [u8]) -> io::Result<usize>
         ensures bound { ReadsAtMost result buffer.new }
         ensures bytes { ReadConsumes (Self.remaining self.old) (Self.remaining self.new) result buffer.new }
-        ensures err { OnErr result (fails self.old self.new) };
+        ensures err { OnErr result (fails self.old self.new) }
+        ensures gave { IfOk result (λ n. gave self.old (take n buffer.new) self.new) };
 }
 
-/// Of a socket nothing is known but that a read failed. A read that a signal breaks off is tried again.
+/// A socket, of whose input nothing is known. Interrupted reads are retried.
 impl Inlet for TcpStream {
     ghost fails = { λ _ _. Unit {0} };
 
@@ -34,6 +38,23 @@ impl Inlet for TcpStream {
                 other => return other,
             }
         }
+        self.read(buffer)
+    }
+}
+
+/// A slice, which gives its bytes from the front, as many as the buffer takes. It never fails.
+impl<'a> Inlet for &'a [u8] {
+    ghost fails = { λ _ _. ⊥ };
+
+    fn pull(&mut self, buffer: &mut [u8]) -> io::Result<usize>
+        ensures bound { ReadsAtMost result buffer.new }
+        ensures bytes { ReadConsumes (Some self.old.now) (Some self.new.now) result buffer.new }
+        ensures err { OnErr result ⊥ }
+        ensures gave { IfOk result (λ _. Unit {0}) }
+        ensures count { result ≡ Ok (min (length self.old.now) (length buffer.old)) }
+        ensures copied { IfOk result (λ n. buffer.new ≡ take n self.old.now ++ drop n buffer.old) }
+        ensures rest { IfOk result (λ n. self.new.now ≡ drop n self.old.now) }
+    {
         self.read(buffer)
     }
 }

@@ -42,6 +42,7 @@ impl<I: Inlet> Inlet for Within<I> {
         ensures bound { ReadsAtMost result buffer.new }
         ensures bytes { ReadConsumes (I.remaining self.old.inner) (I.remaining self.new.inner) result buffer.new }
         ensures err { OnErr result (Unit {0}) }
+        ensures gave { IfOk result (λ _. Unit {0}) }
         ensures counted { IfOk result (λ n. n + self.new.left ≡ self.old.left) }
     {
         self.read(buffer)

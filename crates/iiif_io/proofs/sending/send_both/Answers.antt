@@ -4,7 +4,7 @@ use Rattle.std.proofs.Math.ListN.{length-append}
 use Rattle.std.proofs.Math.Seq.{drop-append-add, take-add}
 use Rattle.std.proofs.lemmas.List.{drop-append-le, take-append-drop}
 use Rattle.std.specs.Io.KnownBytes.{Appends}
-use Rattle.iiif_io.proofs.outlet.send_both.Goals as goal
+use Rattle.iiif_io.proofs.sending.send_both.Goals as goal
 
 pub loop-taken-preserved : goal.loop-taken-preserved
 loop-taken-preserved g c =

@@ -1,6 +1,6 @@
 use Rattle.std.proofs.Common.{length, ◌-◌, ◌≤◌, ◌++◌, take}
 use Rattle.std.specs.Io.KnownBytes.{Appends}
-use Rattle.iiif_io.proofs.outlet.send_both.Given as goal
+use Rattle.iiif_io.proofs.sending.send_both.Given as goal
 
 abbrev pub invariant-loop-taken : goal.invariant-loop-taken
 invariant-loop-taken g l = (l.taken ≤ length (l.first ++ l.second))
