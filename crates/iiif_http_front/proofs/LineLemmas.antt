@@ -2,7 +2,7 @@
 use Rattle.std.proofs.Common.{◌≡◌, ℕ, zero, suc, ◌+◌, ◌<◌, ◌≤◌, Bool, true, false, List, [], ◌∷◌, ◌++◌, length, take, drop, sym, ap, ◌∙◌}
 use Rattle.std.proofs.Common.{append-nil, subst, arith, refl, append_assoc, ◌⊎◌, inl, inr}
 use Rattle.std.specs.Prelude.{nat_lt, count_by, get_or, All, IsTrue, ◌==◌, ◌||◌, if◌then◌else◌, cond, not, ◌&&◌}
-use Rattle.std.specs.List.{flat_map}
+use Rattle.std.specs.List.{flat_map, list_any}
 use Rattle.std.proofs.lemmas.List.Sums.{sum_by-append, sum_by-cons}
 use Rattle.std.proofs.lemmas.List.{take-append-le, take-append-drop, drop_all}
 use Rattle.std.proofs.Math.Seq.{take-append_seam, drop-cons}
@@ -246,6 +246,38 @@ few_lines front rest h more reads few none =
               head_lines h reads.0,
             )
           ]
+    ])
+
+no_feeds : (bytes : List ℕ) → list_any (λ b. b == 10) bytes ≡ false → feeds bytes ≡ 0
+no_feeds [] without = refl
+no_feeds (b ∷ bytes) without = (elim (b == 10) as
+    (λ (t : Bool). (b == 10) ≡ t → (t || list_any (λ b. b == 10) bytes) ≡ false → feeds (b ∷ bytes) ≡ 0) [
+      | true ↦ λ is both. cc
+      | false ↦ λ not rest. rw not (no_feeds bytes rest)
+    ]) refl without
+
+-- no head becomes whole by bytes in which no line ends
+pub no_request_more : (bytes more : List ℕ) → HasNoRequest bytes → list_any (λ b. b == 10) more ≡ false → HasNoRequest (bytes ++ more)
+no_request_more bytes more none without h rest reads =
+    let head : List ℕ = print_request h in
+    (elim (order (length bytes) (length head)) as (λ _. ⊥) [
+      | inr whole ↦ none h (drop (length head) bytes) (reads.0, sym (front_of head rest bytes more (sym reads.1) whole))
+      | inl short ↦
+          let left : List ℕ = drop (length bytes) head in
+          let is : bytes ++ left ≡ head = front_of bytes more head rest reads.1 (omega (arith, short)) in
+          let last = ends_in_feed h in
+          let some : 0 < length left = omega (arith, ap length is, length-append bytes left, short) in
+          let feed : 0 < feeds left = last_feeds bytes left last.0 (is ∙ last.1) some in
+          absurd (omega (
+            arith,
+            feed,
+            ap feeds reads.1,
+            feeds-append bytes more,
+            feeds-append head rest,
+            ap feeds is,
+            feeds-append bytes left,
+            no_feeds more without,
+          ))
     ])
 
 pub too_many : (bytes : List ℕ) (n : ℕ) → HasNoRequest bytes → n ≡ whole_lines bytes → 65 < n → IsBad bytes

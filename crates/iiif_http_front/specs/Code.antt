@@ -1,5 +1,5 @@
 -- Words of private functions.
-use Rattle.std.specs.Prelude.{ℕ, ◌≤◌, List, length, drop, Result, Ok, Err}
+use Rattle.std.specs.Prelude.{◌≡◌, ℕ, ◌<◌, ◌≤◌, ◌⊎◌, List, length, drop, Result, Ok, Err}
 use Rattle.httparse.specs.Grammar.{RequestHead, HasNoRequest, MayBecomeRequest}
 use Rattle.iiif_http_front.specs.RequestHeads.{BeginsWithCall}
 use Rattle.iiif_http_front.specs.Reading.{IsCallOf, IsBad, HasFewFields}
@@ -18,3 +18,12 @@ Finds bytes (Err NoMemory) = (h : RequestHead) × (rest : List ℕ) × BeginsWit
 Finds bytes (Err TooLong) = ⊥
 Finds bytes (Err Cut) = ⊥
 Finds bytes (Err Io) = ⊥
+
+-- no head is whole, and there is room for more
+pub record IsOpen (bytes : List ℕ) : Type 0 where
+  pub not_whole : HasNoRequest bytes
+  pub short : length bytes < 8192
+
+-- the fault where nothing follows the bytes: they are to be refused, or a head may have begun with them
+abbrev pub EndsWith : List ℕ → HeadFault → HeadFault → Type 0
+EndsWith bytes fault result = Finds bytes (Err result) ⊎ ((result ≡ fault) × Finds bytes (Ok Partial))

@@ -1,6 +1,6 @@
 -- Heads read one after another: what stands at the front of an input, and what is answered to it.
 use Rattle.std.specs.Prelude.{◌≡◌, ℕ, ◌+◌, ◌<◌, ◌≤◌, ◌==◌, ◌||◌, if◌then◌else◌, true, List, [], ◌∷◌, ◌++◌, length, take, count_by}
-use Rattle.std.specs.Prelude.{Option, None, Some, Result, Ok, Err, ⊤}
+use Rattle.std.specs.Prelude.{Option, None, Some, Result, Ok, Err, ⊤, ◌⊎◌}
 use Rattle.std.specs.Io.KnownBytes.{prepend_known}
 use Rattle.httparse.specs.Grammar.{RequestHead, ReadsRequest, HasNoRequest, NeverHasRequest, MayBecomeRequest}
 use Rattle.httparse.specs.Spans.{RequestExceeds, RequestOverflows}
@@ -77,6 +77,16 @@ pub record IsCut (input : List ℕ) : Type 0 where
   pub unfinished : MayBecomeRequest input
   pub few : HasFewFields input
 
+-- The last read was needed: one read gave the piece behind the old bytes and a front, it left the reader as it is, and before it no
+-- head was whole
+pub record IsNeeded {I : Type 0} (gave : I → List ℕ → I → Type 0) (old now : List ℕ) (reader : I) : Type 0 where
+  pub front : List ℕ
+  pub piece : List ℕ
+  pub before : I
+  pub all : now ≡ (old ++ front) ++ piece
+  pub read : gave before piece reader
+  pub not_whole : HasNoRequest (old ++ front)
+
 -- where each fault may be answered to an input. A device that failed says nothing of it, and memory is wanted for a
 -- call alone
 abbrev pub Faults : HeadFault → List ℕ → Type 0
@@ -92,3 +102,9 @@ Answers input left (Ok None) = (input ≡ []) × (left ≡ Some [])
 Answers input left (Ok (Some call)) =
     (h : RequestHead) × (rest : List ℕ) × BeginsWithCall input h rest × IsCallOf call h × (left ≡ Some rest)
 Answers input left (Err fault) = Faults fault input × (left ≡ Some input)
+
+-- a call is handed out as soon as its head is whole: nothing was read for it, or the last read was needed. Before the call these
+-- bytes were unread and the reader was there; behind it those are left
+abbrev pub IsPrompt : {I : Type 0} → (I → List ℕ → I → Type 0) → List ℕ → I → List ℕ → I → Call → Type 0
+IsPrompt gave old before left after call =
+    (after ≡ before) ⊎ ((bytes : List ℕ) × IsNeeded gave old bytes after × Answers bytes (Some left) (Ok (Some call)))

@@ -1,16 +1,20 @@
 //! Heads of requests, one after another.
 
-ghost use Rattle.std.specs.Prelude.{◌≡◌, ℕ, List, [], ◌++◌, Option, None, Some, Err, IfOk, IfErr, IfSome, OnOk};
-ghost use Rattle.std.specs.Io.KnownBytes.{prepend_known};
-ghost use Rattle.iiif_http_front.specs.Reading.{Answers, IsUnfinished, input_of};
+ghost use Rattle.std.specs.Prelude.{◌≡◌, ◌<◌, true, false, ℕ, List, [], ◌++◌, length, Option, None, Some, Err, IfOk, IfErr, IfSome, OnOk, OnErr};
+ghost use Rattle.std.specs.Io.KnownBytes.{prepend_known, Consumes, IsAtEnd};
+ghost use Rattle.httparse.specs.Grammar.{RequestHead};
+ghost use Rattle.iiif_http_front.specs.RequestHeads.{BeginsWithCall};
+ghost use Rattle.iiif_http_front.specs.Reading.{Answers, IsNeeded, IsPrompt, IsUnfinished, input_of};
+ghost use Rattle.iiif_http_front.specs.Code.{IsOpen, EndsWith};
 ghost use Rattle.iiif_http_front.specs.declared.call.HeadFault.TheVariants as HeadFault;
 
 use crate::call::{Call, HeadFault};
-use crate::search::{Found, find_call};
+use crate::search::{Found, find_call, has_line_feed};
 use crate::unread::{BYTE_LIMIT, Unread};
 use iiif_io::Inlet;
 pub use std::alloc::AllocError as NoMemory;
 use std::alloc::Global;
+use std::io;
 use std::marker::Model;
 
 /// The heads that a reader gives. Clauses see the bytes that were read and belong to no call yet, the reader, and the
@@ -44,17 +48,25 @@ impl<I: Inlet + Drop> Heads<I> {
         })
     }
 
-    /// The next call, or `None` where the input ends with no byte of a head. After a fault it answers the same fault and
-    /// leaves the reader alone.
+    /// Reads the next call, or `None` where the input ends before a head begins. After a fault it returns that fault again and reads
+    /// nothing.
     pub fn read_head(&mut self) -> Result<Option<Call>, HeadFault>
         // Where the bytes that the reader has left are known, the answer is that to the whole input, however it is cut.
         ensures answers { self.old.fault ≡ None → IfSome (input_of I.remaining self.old) (λ input.
             Answers input (input_of I.remaining self.new) result) }
 
-        // Where they are not, as at a socket, it is the answer to the bytes that came by then.
+        // Where they aren't, as at a socket, it is the answer to the bytes that came by then.
         ensures came { self.old.fault ≡ None → (came : List ℕ) × Answers (self.old.unread ++ came) (Some self.new.unread) result }
 
-        // The reader failed in this call, and the bytes that came before hold no call and nothing that is to be refused.
+        // While the unread bytes begin with a whole call nothing is read.
+        ensures ready { self.old.fault ≡ None → (h : RequestHead) (rest : List ℕ) → BeginsWithCall self.old.unread h rest
+            → self.new.reader ≡ self.old.reader }
+
+        // A call is handed out at once: before the last read that was made for it, its head wasn't whole.
+        ensures last { self.old.fault ≡ None → IfOk result (λ answer. IfSome answer
+            (IsPrompt I.gave self.old.unread self.old.reader self.new.unread self.new.reader)) }
+
+        // `Io` only where a read of this call failed, and the bytes that came before hold no call and nothing to refuse.
         ensures io { self.old.fault ≡ None → result ≡ Err HeadFault.Io → (before : I) × I.fails before self.new.reader }
         ensures held { self.old.fault ≡ None → result ≡ Err HeadFault.Io → IsUnfinished self.new.unread }
 
@@ -73,7 +85,41 @@ impl<I: Inlet + Drop> Heads<I> {
     }
 }
 
-/// The next call, where no fault came yet.
+/// Reads until a head may be whole, which ends with a line feed, or there is no room for more. The first bytes that come are enough, so
+/// what begins as no head is refused at once. `false` where the input ended.
+fn fill_line<I: Inlet>(unread: &mut Unread, reader: &mut I) -> io::Result<bool>
+    requires { IsOpen unread.old }
+    ensures came { (came : List ℕ) × (unread.new ≡ unread.old ++ came) × Consumes (I.remaining reader.old) (I.remaining reader.new) came }
+    ensures needed { IfOk result (λ more. more ≡ true →
+        IsNeeded I.gave unread.old unread.new reader.new × (length unread.old < length unread.new)) }
+    ensures end { IfOk result (λ more. more ≡ false → IsOpen unread.new × IsAtEnd (I.remaining reader.new)) }
+    ensures failed { OnErr result (IsOpen unread.new × ((before : I) × I.fails before reader.new)) }
+{
+    'reads: loop {
+        let held = unread.as_slice().len();
+        if unread.fill(reader)? == 0 {
+            return Ok(false);
+        }
+        let bytes = unread.as_slice();
+        let (_, came) = bytes.split_at(held);
+        if held == 0 || bytes.len() >= BYTE_LIMIT || has_line_feed(came) {
+            return Ok(true);
+        }
+    }
+}
+
+/// The fault of an input that ends behind these bytes, or fails there: `Bad` where they are no head's front, or the given one.
+fn fault_at_end(alloc: Global, bytes: &[u8], fault: HeadFault) -> HeadFault
+    requires { IsOpen bytes.now }
+    ensures { EndsWith bytes.now fault result }
+{
+    match find_call(alloc, bytes) {
+        Err(found) => found,
+        Ok(_) => fault,
+    }
+}
+
+/// Reads the next call, where no fault came yet. The bytes are parsed as often as lines end, not at each read.
 fn next_head<I: Inlet>(
     alloc: Global,
     unread: &mut Unread,
@@ -82,6 +128,8 @@ fn next_head<I: Inlet>(
     ensures answers { IfSome (prepend_known unread.old (I.remaining reader.old)) (λ input.
         Answers input (prepend_known unread.new (I.remaining reader.new)) result) }
     ensures came { (came : List ℕ) × Answers (unread.old ++ came) (Some unread.new) result }
+    ensures ready { (h : RequestHead) (rest : List ℕ) → BeginsWithCall unread.old h rest → reader.new ≡ reader.old }
+    ensures last { IfOk result (λ answer. IfSome answer (IsPrompt I.gave unread.old reader.old unread.new reader.new)) }
     ensures io { result ≡ Err HeadFault.Io → (before : I) × I.fails before reader.new }
     ensures held { result ≡ Err HeadFault.Io → IsUnfinished unread.new }
 {
@@ -97,15 +145,14 @@ fn next_head<I: Inlet>(
         if unread.as_slice().len() >= BYTE_LIMIT {
             return Err(HeadFault::TooLong);
         }
-        match unread.fill(reader) {
-            Err(_) => return Err(HeadFault::Io),
-            Ok(0) => {
-                if unread.as_slice().is_empty() {
-                    return Ok(None);
-                }
-                return Err(HeadFault::Cut);
+        let Ok(more) = fill_line(unread, reader) else {
+            return Err(fault_at_end(alloc, unread.as_slice(), HeadFault::Io));
+        };
+        if !more {
+            if unread.as_slice().is_empty() {
+                return Ok(None);
             }
-            Ok(_) => {}
+            return Err(fault_at_end(alloc, unread.as_slice(), HeadFault::Cut));
         }
     }
 }

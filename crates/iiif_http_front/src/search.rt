@@ -1,6 +1,7 @@
 //! A call at the front of the bytes that have come.
 
 ghost use Rattle.std.specs.Prelude.{◌≡◌, ◌≤◌, ◌==◌, ◌||◌, ◌&&◌, cond, not, length};
+ghost use Rattle.std.specs.List.{list_any};
 ghost use Rattle.iiif_http_front.specs.Code.{Finds};
 ghost use Rattle.iiif_http_front.specs.Reading.{whole_lines};
 
@@ -44,6 +45,13 @@ fn whole_lines(bytes: &[u8]) -> usize
         begun = has_begun(begun, *byte);
     }
     lines
+}
+
+/// Whether a line ends in these bytes.
+pub fn has_line_feed(bytes: &[u8]) -> bool
+    ensures { result ≡ list_any (λ b. b == 10) bytes.now }
+{
+    bytes.contains(&b'\n')
 }
 
 /// Looks for a call at the front.

@@ -61,7 +61,7 @@ impl Unread {
     pub fn fill<I: Inlet>(&mut self, reader: &mut I) -> io::Result<usize>
         requires { length self.old < 8192 }
         ensures came { IfOk result (λ count. (came : List ℕ) × (length came ≡ count) × (self.new ≡ self.old ++ came)
-            × Consumes (I.remaining reader.old) (I.remaining reader.new) came) }
+            × Consumes (I.remaining reader.old) (I.remaining reader.new) came × I.gave reader.old came reader.new) }
         ensures end { IfOk result (λ count. count ≡ 0 → IsAtEnd (I.remaining reader.new)) }
         ensures kept { OnErr result ((self.new ≡ self.old) × Keeps (I.remaining reader.old) (I.remaining reader.new)) }
         ensures failed { OnErr result (I.fails reader.old reader.new) }

@@ -25,6 +25,7 @@ returns-clause-came g c =
       sym read.bound.1,
       grown ∙ ap (λ (t : List ℕ). t ++ take c.in_ok-count.count c.pull.new.buffer) (moved ∙ c.self.view_is),
       read.bytes.0,
+      read.gave,
     )
 
 pub returns-clause-end : goal.returns-clause-end
