@@ -1,6 +1,7 @@
 -- Answers made, told by their definitions.
-use Rattle.std.proofs.Common.{◌≡◌, ◌≢◌, ℕ, Bool, List, [], ◌∷◌, Result, refl}
-use Rattle.std.specs.Prelude.{IfOk, codes}
+use Rattle.std.proofs.Common.{◌≡◌, ◌≢◌, ℕ, Bool, true, false, List, [], ◌∷◌, length, Result, refl, sym, ap, ◌∙◌}
+use Rattle.std.specs.Prelude.{IfOk, codes, nat_lt}
+use Rattle.iiif_http_front.specs.Statuses.{reason_phrase}
 use Rattle.std.proofs.lemmas.Result.{IfOk-weaker}
 use Rattle.iiif_source.specs.declared.ReadFault.{ReadFault}
 use Rattle.iiif_answers.specs.Allowed.{MayTell}
@@ -31,6 +32,26 @@ no_methods Zero other = refl
 no_methods Larger other = refl
 no_methods Upscale other = refl
 no_methods Limit other = refl
+
+refusal_phrase : (e : Refusal) → nat_lt 0 (length (reason_phrase (status_of e))) ≡ true
+refusal_phrase Method = refl
+refusal_phrase Head = refl
+refusal_phrase Path = refl
+refusal_phrase Identifier = refl
+refusal_phrase Region = refl
+refusal_phrase Size = refl
+refusal_phrase Rotation = refl
+refusal_phrase Quality = refl
+refusal_phrase Format = refl
+refusal_phrase Empty = refl
+refusal_phrase Zero = refl
+refusal_phrase Larger = refl
+refusal_phrase Upscale = refl
+refusal_phrase Limit = refl
+
+-- the status of a refusal is one that heads are written of
+pub refusal_has_status : (e : Refusal) → reason_phrase (status_of e) ≡ [] → ⊥
+refusal_has_status e none = let both : true ≡ false = sym (refusal_phrase e) ∙ ap (λ (t : List ℕ). nat_lt 0 (length t)) none in cc
 
 -- an answer made of a refusal's status, fields and line
 pub refusal_made : {E : Type 0} (r : Result Message E) (part : Part) (e : Refusal) (status : ℕ) (more : List (List ℕ × List ℕ))

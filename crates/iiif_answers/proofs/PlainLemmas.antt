@@ -13,7 +13,7 @@ use Rattle.std.proofs.lemmas.List.Elements.{All-nil, All-cons}
 use Rattle.std.proofs.lemmas.List.Folds.{list_all-append}
 use Rattle.std.proofs.lemmas.List.Splits.{join_with_byte-slice_split}
 use Rattle.std.proofs.lemmas.Slice.Eq.{bytes_eq-Decides}
-use Rattle.http.specs.StatusCode.{IsStatusCode}
+use Rattle.iiif_http_front.specs.Statuses.{IsStatusCode}
 use Rattle.httparse.specs.Grammar.{is_token_byte, is_uri_byte, trim_ows}
 use Rattle.iiif_http_front.specs.Laws.{IsPlainField}
 use Rattle.iiif_http_front.proofs.PlainFields.{plain_tested, plain_visible}

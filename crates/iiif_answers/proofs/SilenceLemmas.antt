@@ -7,8 +7,8 @@ use Rattle.iiif_http_front.specs.AnswerHeads.{head_text}
 use Rattle.iiif_http_front.specs.Reading.{Answers, Faults, IsCallOf}
 use Rattle.iiif_http_front.specs.RequestHeads.{BeginsWithCall}
 use Rattle.iiif_http_front.specs.declared.call.Call.{Call}
-use Rattle.iiif_http_front.specs.declared.call.HeadFault.{HeadFault}
-use Rattle.iiif_http_front.specs.declared.call.HeadFault.TheVariants as fault
+use Rattle.iiif_http_front.specs.declared.head_fault.HeadFault.{HeadFault}
+use Rattle.iiif_http_front.specs.declared.head_fault.HeadFault.TheVariants as fault
 use Rattle.iiif_http_front.proofs.InputLemmas.{each_call}
 use Rattle.iiif_source.specs.declared.ReadFault.{ReadFault}
 use Rattle.iiif_answers.specs.Allowed.{Allowed, IsCut}

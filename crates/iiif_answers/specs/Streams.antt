@@ -3,7 +3,7 @@ use Rattle.std.specs.Prelude.{◌≡◌, ℕ, ◌+◌, ◌⊎◌, ◌==◌, ◌|
 use Rattle.httparse.specs.Grammar.{RequestHead}
 use Rattle.iiif_http_front.specs.Reading.{Faults, IsUnfinished}
 use Rattle.iiif_http_front.specs.RequestHeads.{closes, BeginsWithCall}
-use Rattle.iiif_http_front.specs.declared.call.HeadFault.TheVariants.{Bad, TooLong, Cut, NoMemory}
+use Rattle.iiif_http_front.specs.declared.head_fault.HeadFault.TheVariants.{Bad, TooLong, Cut, NoMemory}
 use Rattle.iiif_request.specs.declared.request.Refusal.TheVariants as refusal
 use Rattle.iiif_source.specs.declared.ReadFault.{ReadFault}
 use Rattle.iiif_answers.specs.Allowed.{Allowed}

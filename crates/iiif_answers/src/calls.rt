@@ -1,28 +1,37 @@
-//! What the method of a call asks for.
+//! Methods of calls.
 
 ghost use Rattle.std.specs.Prelude.{◌≡◌};
+ghost use Rattle.iiif_http_front.specs.Methods.{method_text};
 ghost use Rattle.iiif_answers.specs.Calls.{is_answered, is_head, part_of};
 
 use crate::part::Part;
-use iiif_http_front::Call;
+use iiif_http_front::{Call, Method};
 
-/// Whether a call asks for a head alone.
+/// Returns whether a call asks for a head alone.
 fn is_head(call: &Call) -> bool
-    ensures { result ≡ is_head call.now.method }
+    ensures { result ≡ is_head (method_text call.now.method) }
 {
-    call.method.as_str() == "HEAD"
+    match call.method {
+        Method::Head => true,
+        Method::Get => false,
+        Method::Other(_) => false,
+    }
 }
 
-/// Whether a call's method is one that is answered.
+/// Returns whether the server implements a call's method.
 pub fn is_answered(call: &Call) -> bool
-    ensures { result ≡ is_answered call.now.method }
+    ensures { result ≡ is_answered (method_text call.now.method) }
 {
-    call.method.as_str() == "GET" || is_head(call)
+    match call.method {
+        Method::Get => true,
+        Method::Head => true,
+        Method::Other(_) => false,
+    }
 }
 
-/// The part of the answer that a call is sent.
+/// Returns the part of the answer that a call is sent.
 pub fn part_of(call: &Call) -> Part
-    ensures { result ≡ part_of call.now.method call.now.close }
+    ensures { result ≡ part_of (method_text call.now.method) call.now.close }
 {
     if is_head(call) {
         Part::Head { closes: call.close }

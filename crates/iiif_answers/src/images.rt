@@ -22,10 +22,9 @@ use crate::accepted::Accepted;
 use crate::config::Config;
 use crate::message::{ANY_ORIGIN, Message, head_in};
 use crate::part::Part;
-use http::StatusCode;
 use iiif_assemble::Job;
 use iiif_canonical::uri;
-use iiif_http_front::Field;
+use iiif_http_front::{Field, Status};
 use iiif_images::ImageEntry;
 use iiif_pixel::{Dim, NoMemory, Turn};
 use iiif_request::Request;
@@ -98,13 +97,7 @@ pub fn image_head(
         value: link.as_str(),
     };
     let length = total_len(accepted.kind, dim);
-    head_in(
-        alloc,
-        part,
-        StatusCode::OK,
-        &[TIFF, ANY_ORIGIN, link],
-        length,
-    )
+    head_in(alloc, part, Status::Ok, &[TIFF, ANY_ORIGIN, link], length)
 }
 
 /// The answer to a HEAD of an image. Nothing is loaded for it.

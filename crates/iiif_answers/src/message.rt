@@ -2,6 +2,7 @@
 
 ghost use Rattle.std.specs.Prelude.{◌≡◌, ℕ, Bool, List, true, false, map, IfOk, string_bytes};
 ghost use Rattle.iiif_http_front.specs.AnswerHeads.{name_and_value};
+ghost use Rattle.iiif_http_front.specs.Statuses.{code_of};
 ghost use Rattle.iiif_request.specs.Refusals.{status_of};
 ghost use Rattle.iiif_images.specs.Collection.{Item};
 ghost use Rattle.iiif_answers.specs.Allowed.{MayTell};
@@ -15,9 +16,8 @@ ghost use Rattle.iiif_answers.specs.Responses.{information_response, information
 use crate::config::Config;
 use crate::outcome::Outcome;
 use crate::part::Part;
-use http::StatusCode;
 use iiif_canonical::image_uri;
-use iiif_http_front::{Field, head_bytes};
+use iiif_http_front::{Field, Status, head_bytes};
 use iiif_info::info;
 use iiif_pixel::{Dim, NoMemory};
 use iiif_request::Refusal;
@@ -57,11 +57,11 @@ pub struct Message {
 pub(crate) fn head_in(
     alloc: Global,
     part: Part,
-    status: StatusCode,
+    status: Status,
     fields: &[Field<'_>],
     length: u64,
 ) -> Result<Vec<u8>, NoMemory>
-    ensures { IfOk result (λ head. head.items ≡ head_in part status (map name_and_value fields.now) length) }
+    ensures { IfOk result (λ head. head.items ≡ head_in part (code_of status) (map name_and_value fields.now) length) }
 {
     match part {
         Part::Body => Ok(Vec::new(alloc)),
@@ -94,30 +94,28 @@ fn body_in(alloc: Global, part: Part, body: Vec<u8>) -> Vec<u8>
 fn make_message(
     alloc: Global,
     part: Part,
-    status: StatusCode,
+    status: Status,
     fields: &[Field<'_>],
     body: Vec<u8>,
 ) -> Result<Message, NoMemory>
     ensures { IfOk result (λ m. answer_of m ≡ written part
-        (record { status = status; fields = map name_and_value fields.now; body = body.items })) }
+        (record { status = code_of status; fields = map name_and_value fields.now; body = body.items })) }
 {
     let head = head_in(alloc, part, status, fields, body.len() as u64)?;
     Ok(Message {
-        status: status.as_u16(),
+        status: status.code(),
         head,
         body: body_in(alloc, part, body),
     })
 }
 
-/// The status of a refusal's answer.
-fn status_code(refusal: Refusal) -> StatusCode
-    ensures { result ≡ status_of refusal }
+/// Returns the status of a refusal's answer.
+fn status_code(refusal: Refusal) -> Status
+    ensures { code_of result ≡ status_of refusal }
 {
-    match refusal {
-        Refusal::Identifier => StatusCode::NOT_FOUND,
-        Refusal::Method => StatusCode::METHOD_NOT_ALLOWED,
-        Refusal::Upscale => StatusCode::NOT_IMPLEMENTED,
-        _ => StatusCode::BAD_REQUEST,
+    match Status::from_code(refusal.status()) {
+        Some(status) => status,
+        None => Status::BadRequest,
     }
 }
 
@@ -141,7 +139,7 @@ pub(crate) fn source_message(alloc: Global, part: Part) -> Result<Message, NoMem
     make_message(
         alloc,
         part,
-        StatusCode::INTERNAL_SERVER_ERROR,
+        Status::InternalServerError,
         &[TEXT, ANY_ORIGIN],
         body,
     )
@@ -168,7 +166,7 @@ fn redirect_message(alloc: Global, part: Part, base: &str, name: &str) -> Result
     make_message(
         alloc,
         part,
-        StatusCode::SEE_OTHER,
+        Status::SeeOther,
         &[ANY_ORIGIN, location],
         Vec::new(alloc),
     )
@@ -195,7 +193,7 @@ fn information_message(
     make_message(
         alloc,
         part,
-        StatusCode::OK,
+        Status::Ok,
         &[JSON_LD, ANY_ORIGIN],
         text.into_bytes(),
     )

@@ -8,8 +8,8 @@ use Rattle.std.proofs.Math.ListN.{length-append}
 use Rattle.httparse.specs.Grammar.{RequestHead, HasNoRequest, MayBecomeRequest}
 use Rattle.httparse.proofs.GrammarLemmas.{ReadsRequest-append}
 use Rattle.iiif_http_front.specs.declared.call.Call.{Call}
-use Rattle.iiif_http_front.specs.declared.call.HeadFault.{HeadFault}
-use Rattle.iiif_http_front.specs.declared.call.HeadFault.TheVariants.{Bad, TooLong, Cut, Io, NoMemory}
+use Rattle.iiif_http_front.specs.declared.head_fault.HeadFault.{HeadFault}
+use Rattle.iiif_http_front.specs.declared.head_fault.HeadFault.TheVariants.{Bad, TooLong, Cut, Io, NoMemory}
 use Rattle.iiif_http_front.specs.declared.search.Found.TheVariants.{Whole, Partial}
 use Rattle.iiif_http_front.specs.RequestHeads.{byte_limit, BeginsWithCall}
 use Rattle.iiif_http_front.specs.Reading.{IsBad, no_head, many_fields, many_lines, has_body, HasFewFields, IsTooLong, Answers}

@@ -5,7 +5,7 @@ use Rattle.std.proofs.Math.Seq.{take-append-add}
 use Rattle.std.proofs.Math.ListN.{length-append}
 use Rattle.httparse.specs.Grammar.{RequestHead, ReadsRequest, print_request}
 use Rattle.httparse.proofs.GrammarLemmas.{request_unique}
-use Rattle.iiif_http_front.specs.declared.call.HeadFault.TheVariants.{Bad, TooLong, Cut, Io, NoMemory}
+use Rattle.iiif_http_front.specs.declared.head_fault.HeadFault.TheVariants.{Bad, TooLong, Cut, Io, NoMemory}
 use Rattle.iiif_http_front.specs.RequestHeads.{byte_limit, field_limit, announces_body, BeginsWithCall}
 use Rattle.iiif_http_front.specs.Reading.{IsCallOf, IsBad, no_head, many_fields, many_lines, has_body}
 use Rattle.iiif_http_front.proofs.LineLemmas.{few_lines}

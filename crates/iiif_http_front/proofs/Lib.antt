@@ -6,3 +6,4 @@ pub mod PlainFields
 pub mod PromptLemmas
 pub mod ReadBackLemmas
 pub mod SearchLemmas
+pub mod StatusLemmas

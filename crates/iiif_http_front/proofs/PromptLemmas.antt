@@ -1,5 +1,6 @@
--- When a call is handed out: with the read that makes its head whole.
-use Rattle.std.proofs.Common.{◌≡◌, ℕ, ◌+◌, ◌<◌, ◌≤◌, ◌⊎◌, inl, inr, List, [], ◌++◌, length, sym, ap, ◌∙◌, subst, arith, refl, append_assoc, append-nil}
+-- `ready` and `last`: a call is returned with the read that completes its head.
+use Rattle.std.proofs.Common.{◌≡◌, ℕ, ◌+◌, ◌<◌, ◌≤◌, ◌⊎◌, inl, inr, List, [], ◌++◌, length, sym, ap, ◌∙◌, subst, arith, refl}
+use Rattle.std.proofs.Common.{append_assoc, append-nil}
 use Rattle.std.proofs.Common.{Option, Some, None, Result, Ok, Err, Bool, true, false, zero, suc, drop}
 use Rattle.std.specs.Prelude.{IfSome, ◌==◌}
 use Rattle.std.specs.List.{list_any}
@@ -8,8 +9,8 @@ use Rattle.std.specs.Io.KnownBytes.{prepend_known, Consumes, IsAtEnd}
 use Rattle.httparse.specs.Grammar.{RequestHead, HasNoRequest}
 use Rattle.httparse.proofs.GrammarLemmas.{ReadsRequest-append}
 use Rattle.iiif_http_front.specs.declared.call.Call.{Call}
-use Rattle.iiif_http_front.specs.declared.call.HeadFault.{HeadFault}
-use Rattle.iiif_http_front.specs.declared.call.HeadFault.TheVariants.{Io, Cut}
+use Rattle.iiif_http_front.specs.declared.head_fault.HeadFault.{HeadFault}
+use Rattle.iiif_http_front.specs.declared.head_fault.HeadFault.TheVariants.{Io, Cut}
 use Rattle.iiif_http_front.specs.declared.search.Found.TheVariants.{Partial}
 use Rattle.iiif_http_front.specs.RequestHeads.{BeginsWithCall}
 use Rattle.iiif_http_front.specs.Reading.{Answers, IsNeeded, IsPrompt, IsUnfinished}

@@ -15,7 +15,7 @@ use Rattle.std.proofs.lemmas.List.Sums.{AllPass-from_list_all}
 use Rattle.httparse.specs.Grammar.{AllPass, is_token_byte, is_value_byte, is_ows, trim_ows, crlf, print_field, Field, IsField}
 use Rattle.httparse.specs.Grammar.{ResponseHead, IsResponseHead, print_response}
 use Rattle.httparse.specs.Spans.{name_and_value}
-use Rattle.http.specs.StatusCode.{IsStatusCode, reason_phrase}
+use Rattle.iiif_http_front.specs.Statuses.{IsStatusCode, reason_phrase}
 use Rattle.iiif_http_front.specs.AnswerHeads.{line_end, status_line, field_line, length_line, close_line, head_text}
 use Rattle.iiif_http_front.specs.Laws.{IsPlainField, close_fields, WrittenHeadReadsBack}
 use Rattle.iiif_http_front.proofs.PlainFields.{trimmed_none}
@@ -107,13 +107,13 @@ status_length status is =
       length-decimal-le 3 status (omega arith) (omega arith) (omega arith),
     )
 
-reason_test : agree_below (λ n. list_all is_value_byte (unwrap_or (reason_phrase n) [])) (λ _. true) 1000 ≡ true
+reason_test : agree_below (λ n. list_all is_value_byte (reason_phrase n)) (λ _. true) 1000 ≡ true
 reason_test = refl
 
-good_reason : (status : ℕ) → IsStatusCode status → AllPass is_value_byte (unwrap_or (reason_phrase status) [])
+good_reason : (status : ℕ) → IsStatusCode status → AllPass is_value_byte (reason_phrase status)
 good_reason status is =
-    AllPass-from_list_all is_value_byte (unwrap_or (reason_phrase status) [])
-    (agree_below_at (λ n. list_all is_value_byte (unwrap_or (reason_phrase n) [])) (λ _. true) 1000 status reason_test is.1)
+    AllPass-from_list_all is_value_byte (reason_phrase status)
+    (agree_below_at (λ n. list_all is_value_byte (reason_phrase n)) (λ _. true) 1000 status reason_test is.1)
 
 -- the head of which the text is made
 head_of : ℕ → List (List ℕ × List ℕ) → ResponseHead
@@ -121,7 +121,7 @@ head_of status fields = record {
   blank = [];
   minor = 1;
   digits = decimal status;
-  reason = Some (unwrap_or (reason_phrase status) []);
+  reason = Some (reason_phrase status);
   line_end = crlf;
   fields = map written fields;
   last = crlf;
@@ -150,7 +150,7 @@ print_is : (status : ℕ) (fields : List (List ℕ × List ℕ)) →
 unfolding status_line print_response head_of
 print_is status fields =
     let code : List ℕ = codes "HTTP/1.1 " ++ decimal status in
-    let phrase : List ℕ = unwrap_or (reason_phrase status) [] in
+    let phrase : List ℕ = reason_phrase status in
     let rest : List ℕ = flat_map print_field (map written fields) ++ line_end in
     ap (λ (t : List ℕ). (t ++ line_end) ++ rest) (append_assoc code (32 ∷ []) phrase)
 

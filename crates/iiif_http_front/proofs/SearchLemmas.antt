@@ -7,6 +7,7 @@ use Rattle.httparse.specs.Grammar.{RequestHead}
 use Rattle.httparse.specs.Spans.{span_bytes, header_bytes, name_and_value, IsRequestAt}
 use Rattle.httparse.specs.declared.spans.HeaderSpan.{HeaderSpan}
 use Rattle.httparse.specs.declared.spans.RequestSpans.{RequestSpans}
+use Rattle.iiif_http_front.specs.Methods.{method_text}
 use Rattle.iiif_http_front.specs.RequestHeads.{BeginsWithCall, announces_body, closes, is_body_field, is_close_field}
 use Rattle.iiif_http_front.specs.Reading.{IsCallOf, IsBad, has_body}
 use Rattle.iiif_http_front.specs.declared.call.Call.{Call}
@@ -38,7 +39,7 @@ body_announced bytes headers r h at announced =
 
 pub call_said : (bytes : List ℕ) (headers : List HeaderSpan) (r : RequestSpans) (h : RequestHead) (call : Call) →
     IsRequestAt bytes headers r h
-    → call.method ≡ span_bytes bytes r.method → call.target.items ≡ span_bytes bytes r.path
+    → method_text call.method ≡ span_bytes bytes r.method → call.target.items ≡ span_bytes bytes r.path
     → call.close ≡ (r.version == 0 || list_any is_close_field (map (header_bytes bytes) (take r.headers headers)))
     → IsCallOf call h
 unfolding closes

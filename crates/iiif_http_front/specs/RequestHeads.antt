@@ -1,19 +1,23 @@
--- The head of a request: what is taken as one, and what it says (RFC 9112, sections 2 to 9).
+-- Heads of requests (RFC 9112, sections 2 to 9).
+--   byte_limit, field_limit           the limits on a head
+--   fields_of h                       the fields as pairs of name and value
+--   announces_body h, closes h        what the fields ask for
+--   BeginsWithCall input h rest       the head h stands at the front of the input, and is accepted
 use Rattle.std.specs.Prelude.{◌≡◌, ℕ, ◌≤◌, Bool, false, not, ◌&&◌, ◌||◌, ◌==◌, List, length, map, codes, bytes_eq}
 use Rattle.std.specs.List.{list_any, slice_split}
 use Rattle.std.specs.Char.{to_ascii_lowercase}
 use Rattle.httparse.specs.Grammar.{RequestHead, ReadsRequest, print_request, trim_ows}
 use Rattle.httparse.specs.Spans.{name_and_value}
 
--- the most bytes of a head that is taken; a longer one is refused (RFC 9112, section 3)
+-- the most bytes of a head; a longer one is refused (RFC 9112, section 3)
 abbrev pub byte_limit : ℕ
 byte_limit = 8192
 
--- the most fields of a head that is taken (RFC 9110, section 5.4)
+-- the most fields of a head (RFC 9110, section 5.4)
 abbrev pub field_limit : ℕ
 field_limit = 64
 
--- the same text but for the case of ASCII letters (RFC 9110, section 5.1)
+-- two texts are equal but for the case of ASCII letters (RFC 9110, section 5.1)
 abbrev pub is_same_word : List ℕ → List ℕ → Bool
 is_same_word a b = bytes_eq (map to_ascii_lowercase a) (map to_ascii_lowercase b)
 
@@ -42,7 +46,7 @@ is_close_field f = is_same_word f.0 (codes "Connection") && has_close f.1
 unfoldable pub closes : RequestHead → Bool
 closes h = h.minor == 0 || list_any is_close_field (fields_of h)
 
--- the input is a call's head and then rest: a head of the grammar, within the limits, that announces no body
+-- the input is an accepted head and then rest: a head of the grammar, within the limits, that announces no body
 pub record BeginsWithCall (input : List ℕ) (h : RequestHead) (rest : List ℕ) : Type 0 where
   pub reads : ReadsRequest input h rest
   pub bytes : length (print_request h) ≤ byte_limit

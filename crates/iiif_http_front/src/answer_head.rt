@@ -1,18 +1,18 @@
-//! The head of an answer.
+//! Heads of answers.
 
-ghost use Rattle.std.specs.Prelude.{◌≡◌, ◌++◌, [], IfOk, OnOk, map, string_bytes, unwrap_or};
-ghost use Rattle.http.specs.StatusCode.{reason_phrase};
+ghost use Rattle.std.specs.Prelude.{◌≡◌, ◌++◌, IfOk, OnOk, map, string_bytes};
+ghost use Rattle.iiif_http_front.specs.Statuses.{code_of};
 ghost use Rattle.iiif_http_front.specs.AnswerHeads.{head_text, status_line, field_line, length_line, close_line, name_and_value};
 
-use crate::NoMemory;
-use http::StatusCode;
+use crate::heads::NoMemory;
+use crate::status::Status;
 use std::alloc::Global;
 use std::fmt::Write;
 
-/// Room for a head of the usual length.
+/// The capacity in bytes of a buffer for a head, enough for most.
 const USUAL_LENGTH: usize = 512;
 
-/// A field of an answer's head (RFC 9110, section 6.3). Neither part may have a line end in it.
+/// A field of an answer's head (RFC 9110, section 6.3). Its parts are written as they are, so neither may have a line end in it.
 #[derive(Clone, Copy, Debug, PartialEq, Eq)]
 pub struct Field<'a> {
     /// The name, as `Content-Type`.
@@ -21,23 +21,13 @@ pub struct Field<'a> {
     pub value: &'a str,
 }
 
-/// The reason phrase, or none where the status has no registered one.
-fn reason_of(status: StatusCode) -> &'static str
-    ensures { result.now ≡ unwrap_or (reason_phrase status) [] }
-{
-    match status.canonical_reason() {
-        Some(reason) => reason,
-        None => "",
-    }
-}
-
 /// Writes the status line (RFC 9112, section 4).
 #[tactic(auto, unfolding(crate::specs::AnswerHeads::status_line))]
-fn push_status(text: &mut String, status: StatusCode) -> Result<(), NoMemory>
-    ensures { OnOk result (string_bytes text.new ≡ string_bytes text.old ++ status_line status) }
+fn push_status(text: &mut String, status: Status) -> Result<(), NoMemory>
+    ensures { OnOk result (string_bytes text.new ≡ string_bytes text.old ++ status_line (code_of status)) }
 {
-    let code = status.as_u16();
-    let reason = reason_of(status);
+    let code = status.code();
+    let reason = status.reason();
     write!(text, "HTTP/1.1 {code} {reason}\r\n")
 }
 
@@ -58,7 +48,7 @@ fn push_length(text: &mut String, length: u64) -> Result<(), NoMemory>
     write!(text, "Content-Length: {length}\r\n")
 }
 
-/// Writes that the connection closes, where it does (RFC 9112, section 9.6).
+/// Writes the field `Connection: close`, where the connection closes (RFC 9112, section 9.6).
 #[tactic(auto, unfolding(crate::specs::AnswerHeads::close_line))]
 fn push_close(text: &mut String, close: bool) -> Result<(), NoMemory>
     ensures { OnOk result (string_bytes text.new ≡ string_bytes text.old ++ close_line close) }
@@ -69,17 +59,17 @@ fn push_close(text: &mut String, close: bool) -> Result<(), NoMemory>
     Ok(())
 }
 
-/// The head of an answer as it is sent: the status line, the fields in their order, the length of the body, whether the
-/// connection closes, and the empty line (RFC 9112, sections 2 and 4). The reason phrase is the registered one.
+/// Formats the head of an answer: the status line with the registered reason phrase, the fields in their order, the length of the body,
+/// `Connection: close` where the connection closes, and the empty line (RFC 9112, sections 2 and 4).
 #[tactic(auto, unfolding(crate::specs::AnswerHeads::head_text))]
 pub fn head_bytes(
     alloc: Global,
-    status: StatusCode,
+    status: Status,
     fields: &[Field<'_>],
     length: u64,
     close: bool,
 ) -> Result<Vec<u8>, NoMemory>
-    ensures { IfOk result (λ bytes. bytes.items ≡ head_text status (map name_and_value fields.now) length close) }
+    ensures { IfOk result (λ bytes. bytes.items ≡ head_text (code_of status) (map name_and_value fields.now) length close) }
 {
     let mut text = String::with_capacity(alloc, USUAL_LENGTH)?;
     push_status(&mut text, status)?;

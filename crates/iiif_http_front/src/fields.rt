@@ -1,4 +1,4 @@
-//! What the fields of a head ask.
+//! The fields of a request: whether they announce a body or close the connection.
 
 ghost use Rattle.std.specs.Prelude.{◌≡◌, ◌≤◌, ◌==◌, ◌||◌, All, map, length};
 ghost use Rattle.std.specs.List.{list_any};
@@ -8,21 +8,21 @@ ghost use Rattle.iiif_http_front.specs.RequestHeads.{is_same_word, is_body_field
 
 use httparse::spans::HeaderSpan;
 
-/// Whether two texts are the same but for the case of ASCII letters.
+/// Returns whether two texts are equal but for the case of ASCII letters.
 fn is_same_word(a: &[u8], b: &[u8]) -> bool
     ensures { result ≡ is_same_word a.now b.now }
 {
     a.eq_ignore_ascii_case(b)
 }
 
-/// Whether a byte is optional white space (RFC 9110, section 5.6.3).
+/// Returns whether a byte is optional white space (RFC 9110, section 5.6.3).
 fn is_space_or_tab(byte: u8) -> bool
     ensures { result ≡ is_ows byte }
 {
     byte == b' ' || byte == b'\t'
 }
 
-/// The bytes without the spaces and tabs at both ends.
+/// Strips spaces and tabs from both ends.
 fn trimmed(bytes: &[u8]) -> &[u8]
     ensures { result.now ≡ trim_ows bytes.now }
 {
@@ -37,7 +37,7 @@ fn trimmed(bytes: &[u8]) -> &[u8]
     &bytes[start..end]
 }
 
-/// Whether a list of connection options has `close`.
+/// Returns whether a list of connection options has `close`.
 fn has_close(value: &[u8]) -> bool
     ensures { result ≡ has_close value.now }
 {
@@ -46,7 +46,7 @@ fn has_close(value: &[u8]) -> bool
         .any(|option| is_same_word(trimmed(option), b"close"))
 }
 
-/// Whether a field announces a body (RFC 9112, section 6).
+/// Returns whether a field announces a body (RFC 9112, section 6).
 fn is_body_field(name: &[u8], value: &[u8]) -> bool
     ensures { result ≡ is_body_field (name.now, value.now) }
 {
@@ -54,14 +54,14 @@ fn is_body_field(name: &[u8], value: &[u8]) -> bool
         || (is_same_word(name, b"Content-Length") && value != b"0".as_slice())
 }
 
-/// Whether a field asks to close the connection (RFC 9112, section 9.6).
+/// Returns whether a field asks to close the connection (RFC 9112, section 9.6).
 fn is_close_field(name: &[u8], value: &[u8]) -> bool
     ensures { result ≡ is_close_field (name.now, value.now) }
 {
     is_same_word(name, b"Connection") && has_close(value)
 }
 
-/// Whether a field of the head announces a body.
+/// Returns whether a field of the head announces a body.
 pub fn announce_body(bytes: &[u8], headers: &[HeaderSpan]) -> bool
     requires { All (IsHeaderWithin (length bytes.now)) headers.now }
     ensures { result ≡ list_any is_body_field (map (header_bytes bytes.now) headers.now) }
@@ -74,7 +74,7 @@ pub fn announce_body(bytes: &[u8], headers: &[HeaderSpan]) -> bool
     false
 }
 
-/// Whether the connection closes after the answer.
+/// Returns whether the connection closes after the answer: in HTTP/1.0 always, else where a field asks for it.
 pub fn close_connection(minor: u8, bytes: &[u8], headers: &[HeaderSpan]) -> bool
     requires { All (IsHeaderWithin (length bytes.now)) headers.now }
     ensures { result ≡ (minor == 0 || list_any is_close_field (map (header_bytes bytes.now) headers.now)) }

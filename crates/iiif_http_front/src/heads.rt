@@ -1,14 +1,16 @@
-//! Heads of requests, one after another.
+//! The reader of request heads.
 
-ghost use Rattle.std.specs.Prelude.{◌≡◌, ◌<◌, true, false, ℕ, List, [], ◌++◌, length, Option, None, Some, Err, IfOk, IfErr, IfSome, OnOk, OnErr};
+ghost use Rattle.std.specs.Prelude.{◌≡◌, ◌<◌, true, false, ℕ, List, [], ◌++◌, length, Option, None, Some, Err};
+ghost use Rattle.std.specs.Prelude.{IfOk, IfErr, IfSome, OnOk, OnErr};
 ghost use Rattle.std.specs.Io.KnownBytes.{prepend_known, Consumes, IsAtEnd};
 ghost use Rattle.httparse.specs.Grammar.{RequestHead};
 ghost use Rattle.iiif_http_front.specs.RequestHeads.{BeginsWithCall};
 ghost use Rattle.iiif_http_front.specs.Reading.{Answers, IsNeeded, IsPrompt, IsUnfinished, input_of};
 ghost use Rattle.iiif_http_front.specs.Code.{IsOpen, EndsWith};
-ghost use Rattle.iiif_http_front.specs.declared.call.HeadFault.TheVariants as HeadFault;
+ghost use Rattle.iiif_http_front.specs.declared.head_fault.HeadFault.TheVariants as HeadFault;
 
-use crate::call::{Call, HeadFault};
+use crate::call::Call;
+use crate::head_fault::HeadFault;
 use crate::search::{Found, find_call, has_line_feed};
 use crate::unread::{BYTE_LIMIT, Unread};
 use iiif_io::Inlet;
@@ -17,8 +19,8 @@ use std::alloc::Global;
 use std::io;
 use std::marker::Model;
 
-/// The heads that a reader gives. Clauses see the bytes that were read and belong to no call yet, the reader, and the
-/// fault that ended it.
+/// A reader of the heads of a connection. Clauses see the bytes that were read and belong to no call yet, the reader, and the fault that
+/// ended it.
 #[derive(Drop)]
 pub struct Heads<I> {
     alloc: Global,
@@ -36,7 +38,7 @@ impl<I> Model for Heads<I> {
 }
 
 impl<I: Inlet + Drop> Heads<I> {
-    /// Begins at the reader's next byte. All memory for reading is taken here; where it is refused the reader is dropped.
+    /// Begins at the reader's next byte. The only buffer is allocated here; where that fails the reader is dropped.
     pub fn new(alloc: Global, reader: I) -> Result<Heads<I>, NoMemory>
         ensures { IfOk result (λ heads. heads ≡ record { unread = []; reader = reader; fault = None }) }
     {
@@ -51,22 +53,22 @@ impl<I: Inlet + Drop> Heads<I> {
     /// Reads the next call, or `None` where the input ends before a head begins. After a fault it returns that fault again and reads
     /// nothing.
     pub fn read_head(&mut self) -> Result<Option<Call>, HeadFault>
-        // Where the bytes that the reader has left are known, the answer is that to the whole input, however it is cut.
+        // Where the remaining bytes are known, as in memory, the answer depends on the whole input alone, however the reads cut it.
         ensures answers { self.old.fault ≡ None → IfSome (input_of I.remaining self.old) (λ input.
             Answers input (input_of I.remaining self.new) result) }
 
-        // Where they aren't, as at a socket, it is the answer to the bytes that came by then.
+        // Where they aren't, as at a socket, it is the answer to the bytes that were read so far.
         ensures came { self.old.fault ≡ None → (came : List ℕ) × Answers (self.old.unread ++ came) (Some self.new.unread) result }
 
-        // While the unread bytes begin with a whole call nothing is read.
+        // A call whose head is in the buffer is returned without a read.
         ensures ready { self.old.fault ≡ None → (h : RequestHead) (rest : List ℕ) → BeginsWithCall self.old.unread h rest
             → self.new.reader ≡ self.old.reader }
 
-        // A call is handed out at once: before the last read that was made for it, its head wasn't whole.
+        // A call is returned at once: its head wasn't whole before the last read that was made for it.
         ensures last { self.old.fault ≡ None → IfOk result (λ answer. IfSome answer
             (IsPrompt I.gave self.old.unread self.old.reader self.new.unread self.new.reader)) }
 
-        // `Io` only where a read of this call failed, and the bytes that came before hold no call and nothing to refuse.
+        // `Io` only where a read failed in this call, and the bytes that came before hold no call and nothing to refuse.
         ensures io { self.old.fault ≡ None → result ≡ Err HeadFault.Io → (before : I) × I.fails before self.new.reader }
         ensures held { self.old.fault ≡ None → result ≡ Err HeadFault.Io → IsUnfinished self.new.unread }
 
@@ -85,8 +87,8 @@ impl<I: Inlet + Drop> Heads<I> {
     }
 }
 
-/// Reads until a head may be whole, which ends with a line feed, or there is no room for more. The first bytes that come are enough, so
-/// what begins as no head is refused at once. `false` where the input ended.
+/// Reads until a head may be whole, which ends with a line feed, or the buffer is full. The first bytes that come are enough, so that
+/// input which begins no head is refused at once. `false` at the end of the input.
 fn fill_line<I: Inlet>(unread: &mut Unread, reader: &mut I) -> io::Result<bool>
     requires { IsOpen unread.old }
     ensures came { (came : List ℕ) × (unread.new ≡ unread.old ++ came) × Consumes (I.remaining reader.old) (I.remaining reader.new) came }
@@ -108,7 +110,7 @@ fn fill_line<I: Inlet>(unread: &mut Unread, reader: &mut I) -> io::Result<bool>
     }
 }
 
-/// The fault of an input that ends behind these bytes, or fails there: `Bad` where they are no head's front, or the given one.
+/// Returns the fault of an input that ends behind these bytes, or fails there: `Bad` where they begin no head, else the given one.
 fn fault_at_end(alloc: Global, bytes: &[u8], fault: HeadFault) -> HeadFault
     requires { IsOpen bytes.now }
     ensures { EndsWith bytes.now fault result }
@@ -119,7 +121,7 @@ fn fault_at_end(alloc: Global, bytes: &[u8], fault: HeadFault) -> HeadFault
     }
 }
 
-/// Reads the next call, where no fault came yet. The bytes are parsed as often as lines end, not at each read.
+/// Reads the next call, where no fault came yet. The bytes are parsed once a line, not at each read.
 fn next_head<I: Inlet>(
     alloc: Global,
     unread: &mut Unread,

@@ -1,4 +1,4 @@
-//! The bytes that were read and belong to no call yet.
+//! The buffer of a connection.
 
 ghost use Rattle.std.specs.Prelude.{◌≡◌, ◌+◌, ◌<◌, ◌≤◌, ◌++◌, ℕ, List, [], length, drop, slice_range, vec_len, IfOk, OnErr, MatchResult};
 ghost use Rattle.std.specs.Io.KnownBytes.{Consumes, Keeps, IsAtEnd};
@@ -8,10 +8,10 @@ use std::alloc::{AllocError, Global};
 use std::io;
 use std::marker::Model;
 
-/// The most bytes that are held, which is also the most that a head may have.
+/// The size of the buffer in bytes, and so the most bytes that a head may have.
 pub const BYTE_LIMIT: usize = 8192;
 
-/// `bytes[start..end]` is unread. The buffer never grows.
+/// Bytes that were read and belong to no call yet: `bytes[start..end]`. The buffer never grows.
 #[derive(Drop)]
 pub struct Unread {
     bytes: Vec<u8>,
@@ -28,7 +28,7 @@ impl Model for Unread {
 }
 
 impl Unread {
-    /// Nothing, with room for the longest head.
+    /// Allocates an empty buffer with room for the longest head.
     pub fn new(alloc: Global) -> Result<Unread, AllocError>
         ensures { IfOk result (λ unread. unread ≡ []) }
     {
@@ -41,7 +41,7 @@ impl Unread {
         })
     }
 
-    /// The bytes that wait to be read.
+    /// Returns the bytes that belong to no call yet.
     pub fn as_slice(&self) -> &[u8]
         ensures value { result.now ≡ self.now }
         ensures bound { length self.now ≤ 8192 }
@@ -49,7 +49,7 @@ impl Unread {
         &self.bytes[self.start..self.end]
     }
 
-    /// Gives up the first bytes.
+    /// Drops the first bytes.
     pub fn consume(&mut self, count: usize)
         requires { count ≤ length self.old }
         ensures { self.new ≡ drop count self.old }
@@ -57,7 +57,7 @@ impl Unread {
         self.start += count;
     }
 
-    /// Reads some bytes behind these, and none only at the end. All room is brought behind them first.
+    /// Moves the bytes to the front and reads some more behind them. `Ok(0)` means the end of the input.
     pub fn fill<I: Inlet>(&mut self, reader: &mut I) -> io::Result<usize>
         requires { length self.old < 8192 }
         ensures came { IfOk result (λ count. (came : List ℕ) × (length came ≡ count) × (self.new ≡ self.old ++ came)

@@ -3,9 +3,10 @@ use Rattle.std.specs.Prelude.{◌≡◌, ◌⊎◌, ℕ, ◌<◌, true, List, []
 use Rattle.std.specs.Prelude.{None, Result, Ok, Err}
 use Rattle.iiif_http_front.specs.AnswerHeads.{head_text}
 use Rattle.iiif_http_front.specs.Reading.{Answers}
+use Rattle.iiif_http_front.specs.Methods.{method_text}
 use Rattle.iiif_http_front.specs.declared.call.Call.{Call}
-use Rattle.iiif_http_front.specs.declared.call.HeadFault.{HeadFault}
-use Rattle.iiif_http_front.specs.declared.call.HeadFault.TheVariants.{Bad, TooLong, Cut, Io, NoMemory}
+use Rattle.iiif_http_front.specs.declared.head_fault.HeadFault.{HeadFault}
+use Rattle.iiif_http_front.specs.declared.head_fault.HeadFault.TheVariants.{Bad, TooLong, Cut, Io, NoMemory}
 use Rattle.iiif_metrics.specs.Page.{text_of}
 use Rattle.iiif_metrics.specs.Health.{all_go_on, health_text}
 use Rattle.iiif_metrics.specs.declared.health.Services.{Services}
@@ -55,7 +56,7 @@ Sends writer text output = (output ≡ text) ⊎ (writer × ((n : ℕ) × (n < l
 
 -- what is sent for what was read: for a call the answer at some counters and some services
 abbrev pub Replies : Type 0 → Result (Option Call) HeadFault → List ℕ → Type 0
-Replies writer (Ok (Some call)) output = (t : Telling) × Sends writer (answer_text call.method call.target.items t) output
+Replies writer (Ok (Some call)) output = (t : Telling) × Sends writer (answer_text (method_text call.method) call.target.items t) output
 Replies writer (Ok None) output = output ≡ []
 Replies writer (Err Bad) output = Sends writer bad_text output
 Replies writer (Err TooLong) output = Sends writer bad_text output

@@ -1,7 +1,9 @@
-//! The answer to who asks for the counters.
+//! The service of `/metrics` and `/health`.
 
 ghost use Rattle.std.specs.Prelude.{◌≡◌, ◌∷◌, ◌++◌, [], ℕ, List, IfOk, IfSome, OnOk, bytes_eq, codes};
 ghost use Rattle.std.specs.Io.KnownBytes.{Appends};
+ghost use Rattle.iiif_http_front.specs.Methods.{method_text};
+ghost use Rattle.iiif_http_front.specs.Statuses.{code_of};
 ghost use Rattle.iiif_metrics.specs.declared.metrics.Telling.{Telling};
 ghost use Rattle.iiif_metrics.specs.Serving.{IsExchange, Replies, Sends, answer_text, bad_text, health_answer, health_status};
 ghost use Rattle.iiif_metrics.specs.Serving.{metrics_answer, refusal_text};
@@ -9,8 +11,7 @@ ghost use Rattle.iiif_metrics.specs.Serving.{metrics_answer, refusal_text};
 use crate::health::{Services, all_go_on, services_text};
 use crate::metrics::{Metrics, PeerMetrics, Telling};
 use crate::text::{NoMemory, metrics_text};
-use http::StatusCode;
-use iiif_http_front::{Call, Field, HeadFault, Heads, head_bytes};
+use iiif_http_front::{Call, Field, HeadFault, Heads, Method, Status, head_bytes};
 use iiif_io::{Inlet, Outlet, send};
 use std::alloc::Global;
 
@@ -49,11 +50,15 @@ fn joined(mut head: Vec<u8>, body: &[u8]) -> Result<Vec<u8>, NoMemory>
     Ok(head)
 }
 
-/// Whether a call is a GET.
+/// Returns whether a call is a GET.
 fn is_get(call: &Call) -> bool
-    ensures { result ≡ bytes_eq call.now.method (codes "GET") }
+    ensures { result ≡ bytes_eq (method_text call.now.method) (codes "GET") }
 {
-    call.method.as_str() == "GET"
+    match call.method {
+        Method::Get => true,
+        Method::Head => false,
+        Method::Other(_) => false,
+    }
 }
 
 /// Whether a target is that of the counters.
@@ -74,27 +79,21 @@ fn is_health(target: &[u8]) -> bool
 fn other_target(alloc: Global) -> Result<Vec<u8>, NoMemory>
     ensures { IfOk result (λ text. text.items ≡ refusal_text 404 []) }
 {
-    head_bytes(alloc, StatusCode::NOT_FOUND, &[PLAIN], 0, true)
+    head_bytes(alloc, Status::NotFound, &[PLAIN], 0, true)
 }
 
 /// An answer without a body to a call of another method.
 fn other_method(alloc: Global) -> Result<Vec<u8>, NoMemory>
     ensures { IfOk result (λ text. text.items ≡ refusal_text 405 ((codes "Allow", codes "GET") ∷ [])) }
 {
-    head_bytes(
-        alloc,
-        StatusCode::METHOD_NOT_ALLOWED,
-        &[PLAIN, ALLOW],
-        0,
-        true,
-    )
+    head_bytes(alloc, Status::MethodNotAllowed, &[PLAIN, ALLOW], 0, true)
 }
 
 /// An answer without a body to what is no head.
 fn no_head(alloc: Global) -> Result<Vec<u8>, NoMemory>
     ensures { IfOk result (λ text. text.items ≡ bad_text) }
 {
-    head_bytes(alloc, StatusCode::BAD_REQUEST, &[PLAIN], 0, true)
+    head_bytes(alloc, Status::BadRequest, &[PLAIN], 0, true)
 }
 
 /// The answer that tells the counters.
@@ -107,24 +106,18 @@ fn metrics_message(
 {
     let body = metrics_text(alloc, metrics, peers)?;
     let text = body.as_slice();
-    let head = head_bytes(
-        alloc,
-        StatusCode::OK,
-        &[TEXT_FORMAT],
-        text.len() as u64,
-        true,
-    )?;
+    let head = head_bytes(alloc, Status::Ok, &[TEXT_FORMAT], text.len() as u64, true)?;
     joined(head, text)
 }
 
 /// The status that says whether all services go on.
-fn health_status(services: &Services) -> StatusCode
-    ensures { result ≡ health_status services.now }
+fn health_status(services: &Services) -> Status
+    ensures { code_of result ≡ health_status services.now }
 {
     if all_go_on(services) {
-        StatusCode::OK
+        Status::Ok
     } else {
-        StatusCode::SERVICE_UNAVAILABLE
+        Status::ServiceUnavailable
     }
 }
 
@@ -147,7 +140,7 @@ fn health_message(alloc: Global, services: &Services) -> Result<Vec<u8>, NoMemor
 /// The answer to a call: to GET of `/metrics` the counters, to GET of `/health` the services, 404 to GET of another target, 405 to another
 /// method. The only error is lack of memory.
 pub fn answer_bytes(alloc: Global, call: &Call, telling: &Telling) -> Result<Vec<u8>, NoMemory>
-    ensures { IfOk result (λ text. text.items ≡ answer_text call.now.method call.now.target.items telling.now) }
+    ensures { IfOk result (λ text. text.items ≡ answer_text (method_text call.now.method) call.now.target.items telling.now) }
 {
     if !is_get(call) {
         return other_method(alloc);
@@ -188,7 +181,8 @@ fn send_answer<R, M: Measure<R>, W: Outlet>(
     out: &mut W,
 ) -> Result<(), NoMemory>
     ensures { OnOk result ((output : List ℕ) × Appends (W.contents out.old) (W.contents out.new) output
-        × ((t : Telling) × Sends ((before : W) × W.fails before out.new) (answer_text call.now.method call.now.target.items t) output)) }
+        × ((t : Telling) × Sends ((before : W) × W.fails before out.new)
+            (answer_text (method_text call.now.method) call.now.target.items t) output)) }
 {
     let telling = Telling {
         metrics: source.measure(rt),

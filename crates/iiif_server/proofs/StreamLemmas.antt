@@ -6,8 +6,9 @@ use Rattle.std.specs.Io.KnownBytes.{Appends, prepend_known}
 use Rattle.std.proofs.KnownBytes.{Appends-nil, Appends-trans, prepend_known-nil}
 use Rattle.httparse.specs.Grammar.{RequestHead, print_request}
 use Rattle.iiif_http_front.specs.Reading.{Answers, IsUnfinished, Reading, input_of}
+use Rattle.iiif_http_front.specs.Methods.{method_text}
 use Rattle.iiif_http_front.specs.declared.call.Call.{Call}
-use Rattle.iiif_http_front.specs.declared.call.HeadFault.TheVariants as fault
+use Rattle.iiif_http_front.specs.declared.head_fault.HeadFault.TheVariants as fault
 use Rattle.iiif_request.specs.declared.request.Refusal.TheVariants as refusal
 use Rattle.iiif_http_front.specs.RequestHeads.{BeginsWithCall}
 use Rattle.iiif_source.specs.declared.ReadFault.{ReadFault}
@@ -86,13 +87,13 @@ pub next_call : {S : Type 0} (bytes : S → List ℕ) (keeps : S → Type 0) (ho
     → IfSome input (λ i. Answers i left (Ok (Some call))) → shut.method ≡ call.method → shut.target.items ≡ call.target.items →
     shut.close ≡ (call.close || n == call_limit)
     → ((text : List ℕ) × Appends old new text ×
-    IsAnswered bytes keeps honest gave s items writer shut.method shut.target.items shut.close text more)
+    IsAnswered bytes keeps honest gave s items writer (method_text shut.method) shut.target.items shut.close text more)
     → IfSome input (λ i. (text : List ℕ) × Appends old new text ×
     Served (terms bytes keeps honest gave s items reader writer) n i left text more)
 next_call bytes keeps honest gave s items reader writer n None left call shut more old new answers m t c sent = tt
 next_call bytes keeps honest gave s items reader writer n (Some input) left call shut more old new answers m t c sent =
     let is = answers.3 in
-    let method : shut.method ≡ answers.0.method = m ∙ is.method in
+    let method : method_text shut.method ≡ answers.0.method = ap method_text m ∙ is.method in
     let target : shut.target.items ≡ answers.0.target = t ∙ is.target in
     let close : shut.close ≡ closes_after n answers.0 = c ∙ ap (λ (b : Bool). b || n == call_limit) is.close in
     let first = subst (λ (x : List ℕ). IsAnswered bytes keeps honest gave s items writer x shut.target.items shut.close sent.0 more) method

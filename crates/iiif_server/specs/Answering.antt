@@ -1,6 +1,7 @@
 -- What a node sends: for a call, for a target, and over a connection.
 use Rattle.std.specs.Prelude.{◌≡◌, ℕ, Bool, false, List, Option, Result, IfSome}
 use Rattle.std.specs.Io.KnownBytes.{Appends}
+use Rattle.iiif_http_front.specs.Methods.{method_text}
 use Rattle.iiif_http_front.specs.declared.call.Call.{Call}
 use Rattle.iiif_source.specs.declared.Source as source
 use Rattle.iiif_answers.specs.Allowed.{Allowed, IsFramedText}
@@ -22,22 +23,23 @@ FramesPart {S} node part contents old new result =
 abbrev pub FramesCall : {S W : Type 0} → Service S → Call → (W → Option (List ℕ)) → W → W → Result Sent cut.Cut → Type 0
 FramesCall {S} node call contents old new result =
     (text : List ℕ) × Appends (contents old) (contents new) text
-    × IsFramedText S node.settings (part_of call.method call.close) text result
+    × IsFramedText S node.settings (part_of (method_text call.method) call.close) text result
 
 module _ {S R : Type 0} (sources : source.Ghosts S R) (honest : Bool) (node : Service S) where
   -- One text is sent for a call, and that is allowed with this result.
   abbrev pub SendsForCall : {W : Type 0} → Call → (W → Option (List ℕ)) → (W → W → Type 0) → W → W → Result Sent cut.Cut → Type 0
   SendsForCall {W} call contents fails old new result =
       (text : List ℕ) × Appends (contents old) (contents new) text
-      × Allowed node.settings (part_of call.method call.close) sources.gave
-      (RepliesToCall sources.bytes sources.keeps honest node.settings node.items call.method call.target.items)
+      × Allowed node.settings (part_of (method_text call.method) call.close) sources.gave
+      (RepliesToCall sources.bytes sources.keeps honest node.settings node.items (method_text call.method) call.target.items)
       ((before : W) × fails before new) text result
 
   -- Where no image is loaded for a call, as for HEAD, the passes stay as they are.
   abbrev pub SparesForCall : {P : Type 0} → Call → List P → List P → Type 0
   SparesForCall call before after =
-      ((g : Given S) → RepliesToCall sources.bytes sources.keeps honest node.settings node.items call.method call.target.items (given g)
-      → is_loaded (part_of call.method call.close) ≡ false) → after ≡ before
+      ((g : Given S) → RepliesToCall sources.bytes sources.keeps honest node.settings node.items (method_text call.method)
+      call.target.items (given g)
+      → is_loaded (part_of (method_text call.method) call.close) ≡ false) → after ≡ before
 
   -- One text is sent for a part of the answer to a target, and that is allowed with this result.
   abbrev pub SendsForTarget : {W : Type 0} → Part → List ℕ → (W → Option (List ℕ)) → (W → W → Type 0) → W → W →

@@ -4,6 +4,7 @@ use Rattle.std.specs.Io.KnownBytes.{Appends}
 use Rattle.httparse.specs.Grammar.{RequestHead}
 use Rattle.iiif_http_front.specs.Reading.{Reading, input_of}
 use Rattle.iiif_http_front.specs.RequestHeads.{BeginsWithCall}
+use Rattle.iiif_http_front.specs.Methods.{method_text}
 use Rattle.iiif_http_front.specs.declared.call.Call.{Call}
 use Rattle.iiif_source.specs.declared.ReadFault.{ReadFault}
 use Rattle.iiif_source.specs.declared.Source as source
@@ -122,8 +123,8 @@ abbrev pub EndsCall : {S R W : Type 0} → source.Ghosts S R → Bool → Servic
     Bool → Type 0
 EndsCall {S} {R} {W} sources honest node call contents fails old new more =
     (text : List ℕ) × Appends (contents old) (contents new) text
-    × IsAnswered sources.bytes sources.keeps honest sources.gave node.settings node.items ((before : W) × fails before new) call.method
-    call.target.items call.close text more
+    × IsAnswered sources.bytes sources.keeps honest sources.gave node.settings node.items ((before : W) × fails before new)
+    (method_text call.method) call.target.items call.close text more
 
 -- The next call of a connection was answered, which is its n-th, or what ended it: of the bytes that its reader has left, where they are
 -- known, and of those that came.

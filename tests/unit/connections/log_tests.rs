@@ -5,9 +5,8 @@ use crate::connections::pipe::{Pipe, given_to, new_pipe, read_from_now, wait_for
 use crate::connections::viewers::{Sends, Text, connected, is_answered, is_redirected};
 use crate::connections::visits::{ANY, HELD, Visit, logged};
 use crate::fixtures::{has_end, is_same, is_unwanted};
-use http::Method;
 use iiif_connections::{Cause, Cut, Nodes, Sent, Watch, Watcher};
-use iiif_http_front::Call;
+use iiif_http_front::{Call, Method};
 use iiif_log::write_lines;
 use std::alloc::Global;
 use std::io::Write;
@@ -80,7 +79,7 @@ fn each_answer_has_its_line(rt: HostRuntime) {
 /// A call of this target.
 fn call_of(alloc: Global, target: &[u8]) -> Result<Call, Fail> {
     Ok(Call {
-        method: Method::GET,
+        method: Method::Get,
         target: Vec::from_slice(alloc, target)?,
         close: false,
     })

@@ -6,8 +6,7 @@ use crate::server::faulty::Faulty;
 use crate::server::meeting::Meeting;
 use crate::server::nodes::Seen;
 use crate::server::told::Parts;
-use http::Method;
-use iiif_http_front::Call;
+use iiif_http_front::{Call, Method};
 use iiif_io::fakes::FailingWriter;
 use iiif_keys::System;
 use iiif_server::{Cut, NoLink, Node, Passes, Sent, Serving, Watch};
@@ -33,11 +32,11 @@ fn body_of<R: Threads + Wait + Clock + Sync, J: System + Send + Sync>(
     Some(node.send_body(rt, alloc, passes, target, out))
 }
 
-fn method_of(verb: Verb) -> Method {
+fn method_of(alloc: Global, verb: Verb) -> Option<Method> {
     match verb {
-        Verb::Get => Method::GET,
-        Verb::Head => Method::HEAD,
-        Verb::Delete => Method::DELETE,
+        Verb::Get => Some(Method::Get),
+        Verb::Head => Some(Method::Head),
+        Verb::Delete => Method::from_bytes(alloc, b"DELETE").ok(),
     }
 }
 
@@ -55,7 +54,7 @@ fn call_of<R: Threads + Wait + Clock + Sync, J: System + Send + Sync>(
         return None;
     }
     let call = Call {
-        method: method_of(verb),
+        method: method_of(alloc, verb)?,
         target: Vec::from_slice(alloc, target).ok()?,
         close: false,
     };

@@ -1,13 +1,14 @@
 //! Heads as they stand on the wire.
 
 use crate::fixtures::{is_missing, is_same, is_same_text, is_unwanted, is_written};
-use http::StatusCode;
-use iiif_http_front::{Call, Field, HeadFault, Heads, head_bytes};
+use iiif_fault::Numbered;
+use iiif_http_front::{Call, Field, HeadFault, Heads, Status, head_bytes};
 use iiif_io::Inlet;
 use iiif_io::fakes::FailingReader;
 use std::alloc::Global;
 use std::io;
 use std::io::{ErrorKind, Read};
+use std::sync::atomic::{AtomicUsize, Ordering};
 
 const REQUESTS: &str =
     "GET /iiif/a HTTP/1.1\r\nHost: localhost\r\n\r\nPOST /iiif/a/full/max/0/default.tif HTTP/1.1\r\nHost: \
@@ -116,7 +117,7 @@ const CLOSES: [Said; 2] = [Said::Call("GET", "/", true), Said::End];
 fn is_call(call: &Call, to_come: Said) -> bool {
     match to_come {
         Said::Call(method, target, close) => {
-            is_same(&call.method.as_str(), &method)
+            is_same_text(call.method.as_bytes(), method.as_bytes())
                 && is_same_text(call.target.as_slice(), target.as_bytes())
                 && is_same(&call.close, &close)
         }
@@ -162,19 +163,18 @@ fn reads(alloc: Global, text: &[u8], want: &[Said]) -> bool {
     gives(alloc, whole(text, 1000), want)
 }
 
-/// Whether the three requests are read where they come in two parts, of which the first has so many bytes.
-fn reads_two_parts(alloc: Global, place: usize) -> bool {
-    let text = REQUESTS.as_bytes();
+/// Whether this is read of a text that comes in two parts, of which the first has so many bytes.
+fn reads_two_parts(alloc: Global, text: &[u8], place: usize, want: &[Said]) -> bool {
     let (first, second) = text.split_at(place.min(text.len()));
-    gives(alloc, Parts { first, second }, &CALLS)
+    gives(alloc, Parts { first, second }, want)
 }
 
 #[test]
 fn three_requests_cut_at_every_place(rt: HostRuntime) {
-    for place in 0..=REQUESTS.len() {
-        assert!(rt; reads_two_parts(rt.alloc(), place), "{place}");
-    }
     let text = REQUESTS.as_bytes();
+    for place in 0..=text.len() {
+        assert!(rt; reads_two_parts(rt.alloc(), text, place, &CALLS), "{place}");
+    }
     assert!(rt; gives(rt.alloc(), whole(text, 1), &CALLS));
     assert!(rt; gives(rt.alloc(), text, &CALLS));
 }
@@ -322,6 +322,95 @@ fn heads_are_read_or_bad(rt: HostRuntime) {
     }
 }
 
+#[test]
+fn heads_cut_at_every_place_are_read_or_bad(rt: HostRuntime) {
+    for (number, (text, want)) in HEADS.iter().enumerate() {
+        for place in 0..=text.len() {
+            let right = reads_two_parts(rt.alloc(), *text, place, *want);
+            assert!(rt; right, "head {number}, cut at {place}");
+        }
+        assert!(rt; gives(rt.alloc(), whole(*text, 1), *want), "head {number} in single bytes");
+    }
+}
+
+/// A reader that gives at most `piece` bytes a read, and counts its reads.
+#[derive(Drop)]
+struct Counted<'a> {
+    left: &'a [u8],
+    piece: usize,
+    reads: &'a AtomicUsize,
+}
+
+impl<'a> Read for Counted<'a> {
+    fn read(&mut self, buffer: &mut [u8]) -> io::Result<usize> {
+        let _ = self.reads.fetch_add(1, Ordering::Relaxed);
+        let count = buffer.len().min(self.piece);
+        self.left.read(&mut buffer[..count])
+    }
+}
+
+impl<'a> Inlet for Counted<'a> {
+    ghost fails = { λ _ _. Unit {0} };
+
+    fn pull(&mut self, buffer: &mut [u8]) -> io::Result<usize> {
+        self.read(buffer)
+    }
+}
+
+/// Whether this is read of a text in pieces, with so many reads made by the time each is known.
+fn reads_by(alloc: Global, text: &[u8], piece: usize, want: &[(Said, usize)]) -> bool {
+    let reads = AtomicUsize::new(0);
+    let reader = Counted {
+        left: text,
+        piece,
+        reads: &reads,
+    };
+    let Ok(mut heads) = Heads::new(alloc, reader) else {
+        return false;
+    };
+    for (to_come, count) in want {
+        if !says(&mut heads, *to_come) || !is_same(&reads.load(Ordering::Relaxed), count) {
+            return false;
+        }
+    }
+    true
+}
+
+/// The three requests, and how many reads are made for each where they come byte by byte: none behind the last byte of its head.
+const BY_BYTES: [(Said, usize); 4] = [
+    (GET, FIRST),
+    (POST, SECOND),
+    (HEAD, THIRD),
+    (Said::End, THIRD + 1),
+];
+
+/// The same where they come at once: the second and the third are in the buffer.
+const AT_ONCE: [(Said, usize); 4] = [(GET, 1), (POST, 1), (HEAD, 1), (Said::End, 2)];
+
+#[test]
+fn no_read_is_made_behind_a_whole_head(rt: HostRuntime) {
+    let text = REQUESTS.as_bytes();
+    assert!(rt; reads_by(rt.alloc(), text, 1, &BY_BYTES), "single bytes");
+    assert!(rt; reads_by(rt.alloc(), text, 1000, &AT_ONCE), "one piece");
+}
+
+/// Malformed heads, and how many single bytes are read before each is refused: the first byte, and then whole lines. A parse at each byte
+/// would refuse all of them at the byte that is wrong.
+static MALFORMED: [(&[u8], usize); 4] = [
+    (b"\0ET / HTTP/1.1\r\n\r\n", 1),
+    (b"G\0T / HTTP/1.1\r\n\r\n", 16),
+    (b"GET / HTTP/1.1\r\nA\0: 1\r\nB: 2\r\n\r\n", 23),
+    (b"GET / HTTP/1.1\nA: 1\nB\0: 2\nC: 3\n\n", 26),
+];
+
+#[test]
+fn malformed_heads_in_single_bytes_are_refused_as_their_line_ends(rt: HostRuntime) {
+    for (number, (text, reads)) in MALFORMED.iter().enumerate() {
+        let want = [(Said::Fault(HeadFault::Bad), *reads)];
+        assert!(rt; reads_by(rt.alloc(), *text, 1, &want), "head {number}");
+    }
+}
+
 /// Whether this is read of the three requests where so many bytes come at once, and reads fail after so many.
 fn reads_failing(alloc: Global, piece: usize, reads: usize, want: &[Said]) -> bool {
     let reader = FailingReader {
@@ -430,16 +519,6 @@ static ANSWERS: [(u16, &[Field], u64, bool, &str); 4] = [
 const LAST: &str =
     "HTTP/1.1 501 Not Implemented\r\nContent-Length: 18446744073709551615\r\nConnection: close\r\n\r\n";
 
-/// A status by its number.
-fn status_of(number: u16) -> StatusCode {
-    match number {
-        303 => StatusCode::SEE_OTHER,
-        405 => StatusCode::METHOD_NOT_ALLOWED,
-        501 => StatusCode::NOT_IMPLEMENTED,
-        _ => StatusCode::OK,
-    }
-}
-
 /// Whether an answer's head is this text.
 fn heads(
     alloc: Global,
@@ -448,7 +527,10 @@ fn heads(
     (length, close): (u64, bool),
     want: &str,
 ) -> bool {
-    match head_bytes(alloc, status_of(number), fields, length, close) {
+    let Some(status) = Status::from_code(number) else {
+        return is_missing();
+    };
+    match head_bytes(alloc, status, fields, length, close) {
         Ok(head) => is_same_text(head.as_slice(), want.as_bytes()),
         Err(fault) => is_unwanted(&fault),
     }
@@ -461,5 +543,27 @@ fn heads_of_four_answers(rt: HostRuntime) {
             heads(rt.alloc(), *number, *fields, (*length, *close), *want),
             "{number}"
         );
+    }
+}
+
+/// The status lines of RFC 9110, section 15, that the server writes.
+static STATUS_LINES: [(u16, &str); 8] = [
+    (200, "HTTP/1.1 200 OK\r\nContent-Length: 0\r\n\r\n"),
+    (303, "HTTP/1.1 303 See Other\r\nContent-Length: 0\r\n\r\n"),
+    (400, "HTTP/1.1 400 Bad Request\r\nContent-Length: 0\r\n\r\n"),
+    (404, "HTTP/1.1 404 Not Found\r\nContent-Length: 0\r\n\r\n"),
+    (405, "HTTP/1.1 405 Method Not Allowed\r\nContent-Length: 0\r\n\r\n"),
+    (500, "HTTP/1.1 500 Internal Server Error\r\nContent-Length: 0\r\n\r\n"),
+    (501, "HTTP/1.1 501 Not Implemented\r\nContent-Length: 0\r\n\r\n"),
+    (503, "HTTP/1.1 503 Service Unavailable\r\nContent-Length: 0\r\n\r\n"),
+];
+
+#[test]
+fn each_status_has_its_line(rt: HostRuntime) {
+    for (number, want) in STATUS_LINES.iter() {
+        assert!(rt; heads(rt.alloc(), *number, &[], (0, false), *want), "{number}");
+    }
+    for number in [0, 100, 204, 302, 502, 65535] {
+        assert!(rt; Status::from_code(number).is_none(), "{number}");
     }
 }

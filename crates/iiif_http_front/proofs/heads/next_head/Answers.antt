@@ -1,6 +1,6 @@
 use Rattle.std.proofs.Common.{◌≡◌, List, ℕ, ◌<◌, ◌++◌, length, ap, arith, Some, Ok, Err, inr, sym, ◌∙◌, append_assoc}
 use Rattle.std.proofs.KnownBytes.{Consumes-trans}
-use Rattle.iiif_http_front.specs.declared.call.HeadFault.TheVariants.{TooLong}
+use Rattle.iiif_http_front.specs.declared.head_fault.HeadFault.TheVariants.{TooLong}
 use Rattle.iiif_http_front.proofs.AnswerLemmas.{answers_known, answers_came, answers_here, found_fault, found_call, too_long}
 use Rattle.iiif_http_front.proofs.PromptLemmas.{further, answers_at_end, cut_here, failed_here, some_there}
 use Rattle.iiif_http_front.proofs.heads.next_head.Goals as goal

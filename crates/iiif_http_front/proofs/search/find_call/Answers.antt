@@ -39,7 +39,7 @@ returns-in-Ok-from_slice c =
       (
         found.0,
         call_begins _ _ c.in-Ok-Complete.head found.0 found.1 (omega arith) (omega (arith, within.section.len_fits, c.requires)) bare,
-        call_said _ _ c.in-Ok-Complete.head found.0 _ found.1 (c.in-Ok.ensures.ok ∙ c.of.ensures)
+        call_said _ _ c.in-Ok-Complete.head found.0 _ found.1 (c.in-Ok.ensures ∙ c.of.ensures)
             (c.in-Ok-from_slice.ensures.items ∙ c.of-in-Ok-Complete.ensures) c.close_connection-close.ensures,
       ),
     )

@@ -1,6 +1,6 @@
 use Rattle.std.proofs.Common.{◌≡◌, ◌⊎◌, ◌++◌, Err, Some, ap, inl, rules, ⊎_elim}
 use Rattle.iiif_http_front.specs.Reading.{input_of}
-use Rattle.iiif_http_front.specs.declared.call.HeadFault.TheVariants as HeadFault
+use Rattle.iiif_http_front.specs.declared.head_fault.HeadFault.TheVariants as HeadFault
 use Rattle.iiif_answers.specs.Streams.{terms}
 use Rattle.iiif_server.proofs.StreamLemmas.{next_call, next_none, next_cut, next_failed, next_failed_here, next_bad, next_too_long}
 use Rattle.iiif_server.proofs.StreamLemmas.{next_no_memory, lacks_for_a_call}

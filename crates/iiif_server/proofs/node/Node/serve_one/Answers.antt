@@ -1,4 +1,5 @@
 use Rattle.std.proofs.Common.{◌∙◌, List, ℕ, ap, sym, subst, refl}
+use Rattle.iiif_http_front.specs.Methods.{method_text}
 use Rattle.iiif_request.specs.declared.request.Refusal.TheVariants.{Method}
 use Rattle.iiif_answers.specs.Allowed.{own}
 use Rattle.iiif_answers.specs.Answers.{Replies, refused, given}
@@ -9,17 +10,17 @@ use Rattle.iiif_server.proofs.node.Node.serve_one.Goals as goal
 
 pub returns-then-is_answered : goal.returns-then-is_answered
 returns-then-is_answered g c =
-    let asked = part_of c.args.call.now.method c.args.call.now.close in
+    let asked = part_of (method_text c.args.call.now.method) c.args.call.now.close in
     let answered = sym c.is_answered.ensures ∙ c.if-is_answered.true in
     let allowed = call_allowed g.S.Source.bytes g.S.Source.keeps g.J.System.honest c.args.self.now.settings c.args.self.now.items
     c.part_of-part.result asked g.S.Source.gave
-    c.args.call.now.method c.deref.result.now c.args.call.now.target.items ((b : g.row.W.Denot) × g.W.Outlet.fails b c.answer.new.out)
-    (g.W.Write.contents c.args.out.now)
+    (method_text c.args.call.now.method) c.deref.result.now c.args.call.now.target.items
+    ((b : g.row.W.Denot) × g.W.Outlet.fails b c.answer.new.out) (g.W.Write.contents c.args.out.now)
     (g.W.Write.contents c.answer.new.out) c.answer.result c.part_of-part.ensures c.deref.ensures.value answered c.answer.ensures.allowed in
     record {
       allowed = allowed;
       framed = answer_to_call_framed g.S.Source.bytes g.S.Source.keeps g.J.System.honest c.args.self.now.settings c.args.self.now.items
-          asked g.S.Source.gave c.args.call.now.method
+          asked g.S.Source.gave (method_text c.args.call.now.method)
           c.args.call.now.target.items ((b : g.row.W.Denot) × g.W.Outlet.fails b c.answer.new.out) (g.W.Write.contents c.args.out.now)
           (g.W.Write.contents c.answer.new.out)
           c.answer.result allowed;
@@ -33,9 +34,9 @@ returns-then-is_answered g c =
 
 pub returns-else-is_answered : goal.returns-else-is_answered
 returns-else-is_answered g c =
-    let asked = part_of c.args.call.now.method c.args.call.now.close in
+    let asked = part_of (method_text c.args.call.now.method) c.args.call.now.close in
     let reaches = RepliesToCall g.S.Source.bytes g.S.Source.keeps g.J.System.honest c.args.self.now.settings c.args.self.now.items
-    c.args.call.now.method c.args.call.now.target.items in
+    (method_text c.args.call.now.method) c.args.call.now.target.items in
     let told = told_allowed c.args.self.now.settings c.part_of-part.result g.S.Source.gave reaches g.W.Write.contents g.W.Outlet.fails
     c.args.out.now c.send_message.new.out
     c.refusal_message-message.result c.send_message.result _
@@ -47,7 +48,7 @@ returns-else-is_answered g c =
     record {
       allowed = allowed;
       framed = answer_to_call_framed g.S.Source.bytes g.S.Source.keeps g.J.System.honest c.args.self.now.settings c.args.self.now.items
-          asked g.S.Source.gave c.args.call.now.method
+          asked g.S.Source.gave (method_text c.args.call.now.method)
           c.args.call.now.target.items ((b : g.row.W.Denot) × g.W.Outlet.fails b c.send_message.new.out) (g.W.Write.contents c.args.out.now)
           (g.W.Write.contents c.send_message.new.out)
           c.send_message.result allowed;
