@@ -18,7 +18,6 @@ use crate::entry::ImageEntry;
 use iiif_keys::{CacheKey, Fault, Shape, System, TileKey, TileVal};
 use iiif_source::Source;
 use iiif_tiff_read::LoadFault;
-use std::alloc::Global;
 use std::marker::PhantomData;
 
 /// A catalogue, and the side of a tile. J says what its names stand for: the pictures that its sources show, the faults that these
@@ -27,7 +26,6 @@ use std::marker::PhantomData;
 pub struct Images<R, S: Source<R>, J: System> {
     catalogue: Catalogue<R, S>,
     edge: u32,
-    alloc: Global,
     of: PhantomData<J>,
     pub ghost pictures: { (name : List ℕ) → J.pictures name ≡ pictures_of S.bytes catalogue name },
     pub ghost gave: { (name : List ℕ) (f : ReadFault) → J.gave name f ≡ gave_of S.gave catalogue name f },
@@ -46,7 +44,7 @@ impl<R, S: Source<R> + Drop, J: System> Images<R, S, J> {
     ghost use Rattle.iiif_images.specs.Views.{items_in};
 
     /// A catalogue at this edge, where the names stand for what it has.
-    pub fn new(alloc: Global, catalogue: Catalogue<R, S>, edge: u32) -> Images<R, S, J>
+    pub fn new(catalogue: Catalogue<R, S>, edge: u32) -> Images<R, S, J>
         requires pictures { (name : List ℕ) → J.pictures name ≡ pictures_of S.bytes catalogue name }
         requires gave { (name : List ℕ) (f : ReadFault) → J.gave name f ≡ gave_of S.gave catalogue name f }
         requires stable { (name : List ℕ) (item : Item S) → item_named catalogue name ≡ Some item → J.stable name →
@@ -57,7 +55,6 @@ impl<R, S: Source<R> + Drop, J: System> Images<R, S, J> {
         Images {
             catalogue,
             edge,
-            alloc,
             of: PhantomData,
         }
     }
@@ -120,7 +117,7 @@ impl<R, S: Source<R> + Drop, J: System> Images<R, S, J> {
         ensures fault { IfErr result (λ f. IsTrue (is_given (S.gave entry.now.source) f)) }
     {
         let at = key.rect_in(shape.dim);
-        match entry.layout.read_rect(rt, self.alloc, &entry.source, at) {
+        match entry.layout.read_rect(rt, &entry.source, at) {
             Ok(raster) => Ok(TileVal { raster }),
             Err(LoadFault::Source(fault)) => Err(Fault::Source(fault)),
             Err(LoadFault::NoMemory) => Err(Fault::NoMemory),

@@ -104,7 +104,7 @@ impl<R, S: Source<R> + Drop, J: System, N, T> Node<R, S, J, N, T> {
     {
         let edge = config.edge();
         let queue = job_queue(alloc, config.workers(), sums.links.len());
-        let images = Images::new(alloc, catalogue, edge);
+        let images = Images::new(catalogue, edge);
         let group = tiles.group(alloc)?;
         let tiles = Tiles::new(alloc, images, group);
         let group = sums.group(alloc)?;

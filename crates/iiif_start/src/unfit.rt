@@ -9,6 +9,7 @@ ghost use Rattle.iiif_start.specs.Told.{unfit_lines};
 
 use crate::name::Word;
 use iiif_advice::advice;
+use iiif_fault::Numbered;
 use iiif_tiff_read::OpenFault;
 use std::io;
 use std::io::Write;

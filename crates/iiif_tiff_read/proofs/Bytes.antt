@@ -8,8 +8,8 @@ use Rattle.std.proofs.lemmas.List.{get_or-drop, get_or-take, map_push, drop-take
 use Rattle.std.proofs.lemmas.List.FromFn.{map-range_with_len_more}
 use Rattle.iiif_tiff.specs.Tiff.{Little, Big, number}
 use Rattle.iiif_tiff.specs.Tiff as tiff
-use Rattle.iiif_tiff_read.specs.declared.number.ByteOrder.{ByteOrder}
-use Rattle.iiif_tiff_read.specs.declared.fields.FieldEntry.{FieldEntry}
+use Rattle.iiif_tiff_read.specs.declared.byte_order.ByteOrder.{ByteOrder}
+use Rattle.iiif_tiff_read.specs.declared.entry.FieldEntry.{FieldEntry}
 use Rattle.std.specs.Prelude.{option_map, find, ◌==◌}
 use Rattle.iiif_tiff_read.specs.Code.{entry_view, entry_views, Reads}
 

@@ -10,7 +10,7 @@ use Rattle.iiif_pixel.specs.Geometry.{channels_of}
 use Rattle.iiif_tiff.specs.Tiff as tiff
 use Rattle.iiif_pixel.specs.declared.geometry.Dim.{Dim}
 use Rattle.iiif_source.specs.declared.ReadFault.{ReadFault}
-use Rattle.iiif_tiff_read.specs.declared.checks.Format.{Format}
+use Rattle.iiif_tiff_read.specs.declared.format.Format.{Format}
 use Rattle.iiif_tiff_read.specs.declared.grid.Grid.{Grid}
 use Rattle.iiif_tiff_read.specs.declared.fault.OpenFault.{OpenFault}
 use Rattle.iiif_tiff_read.specs.declared.fault.OpenFault.TheVariants as faults

@@ -7,7 +7,7 @@ use Rattle.std.proofs.lemmas.Bool.{cases_lt, cases_Bool}
 use Rattle.std.proofs.lemmas.Nat.{mul-add-lt, row_fits, div_below, mod_below, div-add-mod', div-mul-add, mod-mul-add}
 use Rattle.iiif_pixel.specs.declared.geometry.Rect.{Rect}
 use Rattle.iiif_tiff.specs.Tiff.{Scheme, row_bytes, piece_rows, piece_bytes, stored}
-use Rattle.iiif_tiff_read.specs.declared.rects.Part.{Part}
+use Rattle.iiif_tiff_read.specs.declared.part.Part.{Part}
 use Rattle.iiif_tiff_read.specs.Layouts.{FitsIn}
 use Rattle.iiif_tiff_read.specs.Code.{IsSound, AreEven, IsPart, FitsWindow, HoldsPart, KeepsOthers, row_place, stored_at, window_of}
 use Rattle.iiif_tiff.proofs.Numbers.{one_piece}

@@ -41,11 +41,11 @@ shown_unit bytes s x y k other =
     let one : s.channels * 1 ≡ s.channels = omega arith in
     rw (e, one) refl
 
--- stored samples, interpreted, are shown
-pub interpreted : (bytes old new : List ℕ) (s : Scheme) (r : Rect) → s.bits ≢ 16 → length old ≡ r.w * r.h * (units s).channels
+-- samples of 8 bits or one that are turned from stored ones are those that are shown
+pub shown_bytes : (bytes old new : List ℕ) (s : Scheme) (r : Rect) → s.bits ≢ 16 → length old ≡ r.w * r.h * (units s).channels
     → ((i : ℕ) → i < length old → get_or new i 0 ≡ sample_of s.white_is_zero 255 (get_or old i 0)) → HoldsStored bytes (units s) r old →
     HoldsShown bytes s r new
-interpreted bytes old new s r other len is held x y k xw yh kc =
+shown_bytes bytes old new s r other len is held x y k xw yh kc =
     let e : (s.bits == 16) ≡ false = ne_eqb s.bits 16 other in
     let one : s.channels * units_of s.bits ≡ s.channels = rw e (omega arith) in
     let kc' : k < (units s).channels = rw one kc in
@@ -85,11 +85,11 @@ halved w h c bits n m sixteen n-is m-is =
     let pairs : w * h * (c * 2) ≡ 2 * (w * h * c) = grind arith in
     omega (arith, bytes, pairs, m-is)
 
--- stored pairs of bytes, interpreted, are shown
-pub pairs_shown : (bytes old new : List ℕ) (s : Scheme) (r : Rect) → s.bits ≡ 16 → length new ≡ r.w * r.h * s.channels
+-- samples of 16 bits that are decoded from stored pairs of bytes are those that are shown
+pub shown_pairs : (bytes old new : List ℕ) (s : Scheme) (r : Rect) → s.bits ≡ 16 → length new ≡ r.w * r.h * s.channels
     → ((i : ℕ) → i < length new → get_or new i 0 ≡ sample_of s.white_is_zero 65535 (number s.order w16 old (2 * i))) →
     HoldsStored bytes (units s) r old → HoldsShown bytes s r new
-pairs_shown bytes old new s r sixteen len is held x y k xw yh kc =
+shown_pairs bytes old new s r sixteen len is held x y k xw yh kc =
     let two : units_of s.bits ≡ 2 = rw sixteen refl in
     let i = (y * r.w + x) * s.channels + k in
     let n = (r.x + x) % s.piece_width * s.channels + k in

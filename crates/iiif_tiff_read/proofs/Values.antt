@@ -11,8 +11,8 @@ use Rattle.std.proofs.lemmas.List.{length-drop, length-append}
 use Rattle.std.proofs.lemmas.List.FromFn.{map-range_with_len_more, length-map-range_with_len, get_or-map-range_with_len, fill_by_all}
 use Rattle.iiif_tiff.specs.Tiff.{ByteOrder, Little, Big, number, is_unsigned, size, width_of, values, offset, entry_fits}
 use Rattle.iiif_tiff.specs.Tiff as tiff
-use Rattle.iiif_tiff_read.specs.declared.number.FieldType.{FieldType}
-use Rattle.iiif_tiff_read.specs.declared.number.FieldType.TheVariants as types
+use Rattle.iiif_tiff_read.specs.declared.field_type.FieldType.{FieldType}
+use Rattle.iiif_tiff_read.specs.declared.field_type.FieldType.TheVariants as types
 use Rattle.iiif_tiff_read.specs.Code.{code, first_values}
 
 pub same_on_range : (f g : ℕ → ℕ) (n : ℕ) → ((i : ℕ) → i < n → f i ≡ g i) → map f (range_with_len 0 n) ≡ map g (range_with_len 0 n)

@@ -1,4 +1,13 @@
--- What the reader's own types stand for. Only private contracts and the layout's model cite these words.
+-- Words of private functions: what the reader's own types stand for, and what its steps read. The layout's model cites them too.
+--   endian, code, entry_view   a byte order, a type and an entry in the standard's terms
+--   Reads, AreTrue             fields that are those of their file
+--   Tells, TellsWhere          how fields answer a check of their file
+--   IsGrid, IsKnown            sides, format and grid that are those of the file
+--   IsSound                    limits on sides and pieces, and an offset for each piece
+--   piece, unit                a strip or tile; a sample of 8 bits or one, or a byte of a sample of 16
+--   row_place, stored_at       where the row of a pixel begins in the file; the unit that is stored at a pixel
+--   part, span, window         rows that lie together in the file; their bytes in a row; their samples in the rectangle
+--   HoldsStored, HoldsShown    a rectangle's samples as they are stored, and as they are shown
 use Rattle.std.specs.Prelude.{◌≡◌, ◌≢◌, ℕ, ◌+◌, ◌-◌, ◌*◌, ◌/◌, ◌%◌, ◌<◌, ◌≤◌, ◌^◌, ◌⊎◌, Bool, IsTrue, false, List, length, map}
 use Rattle.std.specs.Prelude.{slice_index, Option, None, Result, ◌==◌, if◌then◌else◌}
 use Rattle.std.specs.Int.{div_ceil}
@@ -11,31 +20,32 @@ use Rattle.iiif_tiff.specs.Tiff as tiff
 use Rattle.iiif_tiff.specs.Tiff.{IsReadable, Little, Big, Refusal, Scheme, row_bytes, stored, shown}
 use Rattle.iiif_tiff_read.specs.Layouts.{dim_of}
 use Rattle.iiif_tiff_read.specs.Faults.{Answers}
-use Rattle.iiif_tiff_read.specs.declared.number.ByteOrder.{ByteOrder}
-use Rattle.iiif_tiff_read.specs.declared.number.ByteOrder.TheVariants as orders
-use Rattle.iiif_tiff_read.specs.declared.number.FieldType.{FieldType}
-use Rattle.iiif_tiff_read.specs.declared.number.FieldType.TheVariants as types
-use Rattle.iiif_tiff_read.specs.declared.fields.FieldEntry.{FieldEntry}
+use Rattle.iiif_tiff_read.specs.declared.byte_order.ByteOrder.{ByteOrder}
+use Rattle.iiif_tiff_read.specs.declared.byte_order.ByteOrder.TheVariants as orders
+use Rattle.iiif_tiff_read.specs.declared.field_type.FieldType.{FieldType}
+use Rattle.iiif_tiff_read.specs.declared.field_type.FieldType.TheVariants as types
+use Rattle.iiif_tiff_read.specs.declared.entry.FieldEntry.{FieldEntry}
 use Rattle.iiif_tiff_read.specs.declared.fields.Fields.{Fields}
 use Rattle.iiif_tiff_read.specs.declared.grid.Grid.{Grid}
-use Rattle.iiif_tiff_read.specs.declared.checks.Format.{Format}
-use Rattle.iiif_tiff_read.specs.declared.image.Image.{Image}
-use Rattle.iiif_tiff_read.specs.declared.rects.Part.{Part}
+use Rattle.iiif_tiff_read.specs.declared.format.Format.{Format}
+use Rattle.iiif_tiff_read.specs.declared.part.Part.{Part}
 use Rattle.iiif_tiff_read.specs.declared.rows.Span.{Span}
 use Rattle.iiif_tiff_read.specs.declared.rows.Window.{Window}
 use Rattle.iiif_tiff_read.specs.declared.fault.OpenFault.{OpenFault}
 use Rattle.iiif_tiff_read.specs.declared.fault.OpenFault.TheVariants as opens
 
+-- Section 2: the byte order, in the standard's terms.
 abbrev pub endian : ByteOrder → tiff.ByteOrder
 endian orders.Little = Little
 endian orders.Big = Big
 
--- the number of a type in an entry
+-- Section 2, "IFD Entry": the number of a type, BYTE, SHORT or LONG.
 abbrev pub code : FieldType → ℕ
 code types.Byte = 1
 code types.Short = 3
 code types.Long = 4
 
+-- Section 2: the entry, in the standard's terms.
 abbrev pub entry_view : FieldEntry → tiff.Entry
 entry_view e = record { tag = e.tag; kind = e.kind; count = e.count; inside = e.inside }
 
@@ -55,15 +65,15 @@ pub record Reads (bytes : List ℕ) (o : ByteOrder) (es : List FieldEntry) : Typ
 abbrev pub AreTrue : {R S : Type 0} → (S → List ℕ) → Fields R S → Type 0
 AreTrue bytes f = Reads (bytes f.source.now) f.order f.entries.items
 
--- The answer that fields give to a check of their file: a value where it applies nowhere, else its refusal, or a fault of
--- the device, or lack of memory; of a file with these fields, of which Known is known besides.
+-- Fields answer a check of their file: where it refuses nothing, by a value that is right; else by its refusal. Besides, the device may
+-- fail, and memory may run out. Known is what is known of the file besides its fields.
 abbrev pub TellsWhere : {R S X : Type 0} → (S → List ℕ) → (S → ReadFault → Bool) → Fields R S → (List ℕ → Type 0) →
     (List ℕ → Option Refusal) → (List ℕ → X → Type 0) → Result X OpenFault → Type 0
 TellsWhere bytes gave f Known check Right result =
     Answers (AreTrue bytes f × Known (bytes f.source.now)) (gave f.source.now) (check (bytes f.source.now)) (Right (bytes f.source.now))
     result
 
--- the same, where nothing more has to be known
+-- Fields answer a check, and nothing more has to be known of the file.
 abbrev pub Tells : {R S X : Type 0} → (S → List ℕ) → (S → ReadFault → Bool) → Fields R S → (List ℕ → Option Refusal) →
     (List ℕ → X → Type 0) → Result X OpenFault → Type 0
 Tells bytes gave f check Right result =
@@ -90,7 +100,7 @@ pub record IsKnown (bytes : List ℕ) (d : Dim) (f : Format) (g : Grid) : Type 0
   pub order_is : endian f.order ≡ tiff.order bytes
   pub grid_is : IsGrid bytes g
 
--- what a layout's fields say of its image
+-- Sides, format, grid and offsets, in the standard's terms.
 abbrev pub scheme_of : Dim → Format → Grid → List ℕ → Scheme
 scheme_of d f g offsets = record {
   order = endian f.order;
@@ -106,7 +116,7 @@ scheme_of d f g offsets = record {
   offsets = offsets;
 }
 
--- The sides are within their limits, a sample has 8 bits or one, and there is an offset for each piece.
+-- An image in units is sound: its sides are within their limits, a unit has 8 bits or one, and there is an offset for each piece.
 pub record IsSound (s : Scheme) : Type 0 where
   pub sides : IsReadable (dim_of s)
   pub bits : (s.bits ≤ 8) × (s.bits ≢ 8 → s.bits ≡ 1)
@@ -149,9 +159,6 @@ IsMemoryAfter premise check opens.TooLarge = Unit {0}
 IsMemoryAfter premise check (opens.Source f) = Unit {0}
 IsMemoryAfter premise check opens.NoMemory = premise → check ≡ None
 
-abbrev pub image_scheme : Image → Scheme
-image_scheme i = scheme_of i.dim i.format i.grid i.offsets.items
-
 -- A sample of 16 bits takes two bytes: an image of them is read as one of twice as many samples of 8 bits, its units.
 abbrev pub units_of : ℕ → ℕ
 units_of bits = if bits == 16 then 2 else 1
@@ -162,18 +169,15 @@ unit_bits bits = if bits == 16 then 8 else bits
 abbrev pub units : Scheme → Scheme
 units s = record s { channels = s.channels * units_of s.bits; bits = unit_bits s.bits }
 
-abbrev pub image_units : Image → Scheme
-image_units i = units (image_scheme i)
-
 -- A unit has 8 bits or one.
 abbrev pub AreBits : ℕ → Type 0
 AreBits bits = (bits ≤ 16) × (unit_bits bits ≤ 8) × (unit_bits bits ≢ 8 → unit_bits bits ≡ 1)
 
--- where the row of a place of the image begins in the file
+-- the offset in the file at which the row of a pixel begins in its piece
 unfoldable pub row_place : Scheme → ℕ → ℕ → ℕ
 row_place s x y = slice_index s.offsets (y / s.piece_height * s.tiles_across + x / s.piece_width) + y % s.piece_height * row_bytes s
 
--- the sample that is stored at a place of the image
+-- unit k that is stored at a pixel
 unfoldable pub stored_at : List ℕ → Scheme → ℕ → ℕ → ℕ → ℕ
 stored_at bytes s x y k = stored s.bits bytes (row_place s x y) (x % s.piece_width * s.channels + k)
 
@@ -196,7 +200,7 @@ abbrev pub KeepsRest : Window → ℕ → List ℕ → List ℕ → Type 0
 KeepsRest v m old new = (j q : ℕ) → q < v.width → (j < v.top) ⊎ (v.top + m ≤ j) ⊎ (q < v.left) ⊎ (v.left + v.columns ≤ q)
     → slice_index new (j * v.width + q) ≡ slice_index old (j * v.width + q)
 
--- In the column of place (x, y) n rows from it on stand one after another in the file.
+-- In the column of pixel (x, y) n rows from it on stand one after another in the file.
 abbrev pub AreEven : Scheme → ℕ → ℕ → ℕ → Type 0
 AreEven s x y n = (j : ℕ) → j < n → row_place s x (y + j) ≡ row_place s x y + j * row_bytes s
 
@@ -210,7 +214,7 @@ pub record IsPart (s : Scheme) (r : Rect) (p : Part) : Type 0 where
   pub piece_columns : (r.x + p.left) % s.piece_width + p.columns ≤ s.piece_width
   pub even : AreEven s (r.x + p.left) (r.y + p.top) p.rows
 
--- the window of a part among the samples of its rectangle
+-- The window that a part fills in its rectangle, of c units a pixel.
 abbrev pub window_of : ℕ → Rect → Part → Window
 window_of c r p = record { width = r.w * c; left = p.left * c; top = p.top; columns = p.columns * c; rows = p.rows }
 

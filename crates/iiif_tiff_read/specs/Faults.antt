@@ -1,4 +1,10 @@
--- What opening a file and reading a rectangle answer.
+-- Answers of opening a file, and faults of opening and reading.
+--   premise       the source keeps its bytes: without it nothing is said of what they are
+--   gave          the faults that the source gave
+--   check         the first refusal of the file's checks, or none
+--   IsOpenFault   a fault that a file with that check may have
+--   Answers       a value or a fault, as the check decides
+--   IsLoadFault   a fault that reading a rectangle may have
 use Rattle.std.specs.Prelude.{◌≡◌, ℕ, Bool, IsTrue, Option, Some, None, Result, Ok, Err}
 use Rattle.iiif_tiff.specs.Tiff.{Refusal, NotTiff, Truncated, Missing, Unsupported, BadField, TooLarge}
 use Rattle.iiif_source.specs.declared.ReadFault.{ReadFault}
@@ -28,7 +34,7 @@ abbrev pub IsLoadFault : (ReadFault → Bool) → LoadFault → Type 0
 IsLoadFault gave (loads.Source f) = IsTrue (gave f)
 IsLoadFault gave loads.NoMemory = Unit {0}
 
--- the number of a fault of opening
+-- The number of a fault of opening, by which a program reports it.
 abbrev pub open_number : OpenFault → ℕ
 open_number opens.NotTiff = 1
 open_number opens.Truncated = 2
@@ -39,7 +45,7 @@ open_number opens.TooLarge = 6
 open_number (opens.Source f) = 7
 open_number opens.NoMemory = 8
 
--- the number of a fault of reading
+-- The number of a fault of reading.
 abbrev pub load_number : LoadFault → ℕ
 load_number (loads.Source f) = 1
 load_number loads.NoMemory = 2

@@ -1,3 +1,4 @@
 pub mod Faults
 pub mod Layouts
 pub mod Code
+pub mod Images

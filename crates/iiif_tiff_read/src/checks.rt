@@ -1,72 +1,30 @@
-//! The checks of a file's fields, in their order.
+//! Checks of the fields that tell the sides and the samples of an image.
 
-ghost use Rattle.std.specs.Prelude.{◌≡◌, ◌≢◌, ◌+◌, ◌*◌, ◌^◌, ◌<◌, ◌≤◌, ◌==◌, ◌&&◌, if◌then◌else◌, ℕ, IfOk, IfErr};
+ghost use Rattle.std.specs.Prelude.{◌≡◌, ◌^◌, ◌<◌, ◌≤◌, ◌==◌, ◌&&◌, if◌then◌else◌, is_some, nat_le, IfSome, IfOk, IfErr};
 ghost use Rattle.std.specs.List.{list_all};
-ghost use Rattle.iiif_pixel.specs.Geometry.{channels_of, top_of};
+ghost use Rattle.iiif_pixel.specs.Geometry.{channels_of};
 ghost use Rattle.iiif_tiff.specs.Tiff as tiff;
-ghost use Rattle.iiif_tiff.specs.Tiff.{IsReadable, sides, samples, samples_per_pixel, bits_per_sample, photometric, planar_configuration};
-ghost use Rattle.iiif_tiff.specs.Tiff.{extra_samples, sample_format, tile_side, value_or, width, height, channels, bits, white_is_zero};
-ghost use Rattle.iiif_tiff.specs.Tiff.{white_of};
-ghost use Rattle.iiif_tiff_read.specs.Code.{AreBits, endian, unit_bits, units_of, HasSides, IsNotMemory, Tells, TellsWhere};
+ghost use Rattle.iiif_tiff.specs.Tiff.{IsReadable, sides, samples_per_pixel, bits_per_sample, planar_configuration};
+ghost use Rattle.iiif_tiff.specs.Tiff.{extra_samples, sample_format, tile_side, value_or, channels, bits};
+ghost use Rattle.iiif_tiff_read.specs.Code.{AreBits, HasSides, IsNotMemory, Tells, TellsWhere};
 
 use crate::fault::OpenFault;
 use crate::fields::Fields;
-use crate::number::ByteOrder;
-use crate::planes::may_have_planes;
-use iiif_pixel::{Depth, Dim, Kind};
+use iiif_pixel::{Dim, Kind};
 use iiif_source::Source;
 use iiif_tiff::{MAX_AREA, MAX_SIDE, tag};
 
+/// The most pixels that a tile is wide or high.
 const MAX_TILE_SIDE: u32 = 1 << 20;
 
-/// How samples are stored.
-#[derive(Clone, Copy)]
-pub struct Format {
-    pub kind: Kind,
-    pub bits: u32,
-    pub order: ByteOrder,
-    pub white_is_zero: bool,
-}
-
-impl Format {
-    /// How many units a place has in its row: its samples, of which one of 16 bits is two bytes.
-    pub fn units(self) -> usize
-        ensures units { result ≡ channels_of self.kind * units_of self.bits }
-        ensures bound { result ≤ 6 }
-    {
-        if self.bits == 16 {
-            self.kind.channels() * 2
-        } else {
-            self.kind.channels()
-        }
-    }
-
-    /// How many bits a unit has.
-    pub fn unit_bits(self) -> u32
-        ensures { result ≡ unit_bits self.bits }
-    {
-        if self.bits == 16 { 8 } else { self.bits }
-    }
-
-    /// How many bits a sample has once it is shown. A bit is shown in eight.
-    pub fn depth(self) -> Depth
-        ensures { top_of result ≡ white_of self.bits }
-    {
-        if self.bits == 16 {
-            Depth::Sixteen
-        } else {
-            Depth::Eight
-        }
-    }
-}
-
+/// Tells whether all values are this one.
 fn all_are(values: &[u32], value: u32) -> bool
     ensures { result ≡ list_all (λ v. v == value) values.now }
 {
     values.iter().all(|v| *v == value)
 }
 
-/// The bits that all samples have: eight, sixteen, or one where there is one channel.
+/// Returns the bits of a sample, if all channels have eight or sixteen, or the only one has one.
 fn depth(bits: &[u32], channels: u32) -> Option<u32>
     ensures { result ≡ (if list_all (λ v. v == 8) bits.now then Some 8 else
         (if list_all (λ v. v == 16) bits.now then Some 16 else
@@ -83,8 +41,23 @@ fn depth(bits: &[u32], channels: u32) -> Option<u32>
     }
 }
 
+/// Tells whether a sample of 0 is white (TIFF 6.0, section 8, PhotometricInterpretation): one sample is WhiteIsZero (0) or BlackIsZero
+/// (1), three are RGB (2), where 0 is black. None for any other interpretation, such as a palette (3).
+pub fn white_is_zero(channels: u32, photometric: u32) -> Option<bool>
+    ensures known { is_some result ≡ (if channels == 1 then nat_le photometric 1 else photometric == 2) }
+    ensures white { IfSome result (λ white. white ≡ (photometric == 0)) }
+{
+    match (channels, photometric) {
+        (1, 0) => Some(true),
+        (1, 1) => Some(false),
+        (1, _) => None,
+        (_, 2) => Some(false),
+        _ => None,
+    }
+}
+
 impl<'a, R, S: Source<R>> Fields<'a, R, S> {
-    /// The sides of the image.
+    /// Reads the width and the height of the image.
     #[tactic(auto, unfolding(iiif_tiff::specs::Tiff::sides))]
     pub fn sides(&self) -> Result<Dim, OpenFault>
         ensures sides { Tells S.bytes S.gave self.now sides HasSides result }
@@ -108,9 +81,9 @@ impl<'a, R, S: Source<R>> Fields<'a, R, S> {
         Ok(Dim { w, h })
     }
 
-    /// How many channels the image has.
+    /// Reads how many samples a pixel has: one, gray, or three, RGB.
     #[tactic(auto, unfolding(iiif_tiff::specs::Tiff::samples_per_pixel))]
-    fn samples_per_pixel(&self) -> Result<Kind, OpenFault>
+    pub fn samples_per_pixel(&self) -> Result<Kind, OpenFault>
         ensures answer { Tells S.bytes S.gave self.now samples_per_pixel (λ file k. channels_of k ≡ channels file) result }
         ensures memory { IfErr result IsNotMemory }
     {
@@ -122,9 +95,9 @@ impl<'a, R, S: Source<R>> Fields<'a, R, S> {
         }
     }
 
-    /// How many bits a sample has.
+    /// Reads how many bits a sample has.
     #[tactic(auto, unfolding(iiif_tiff::specs::Tiff::bits_per_sample))]
-    fn bits_per_sample(&self, channels: u32) -> Result<u32, OpenFault>
+    pub fn bits_per_sample(&self, channels: u32) -> Result<u32, OpenFault>
         requires { channels ≤ 3 }
         ensures bits { TellsWhere S.bytes S.gave self.now (λ file. S.keeps self.now.source.now × (channels ≡ tiff.channels file))
             bits_per_sample
@@ -139,38 +112,23 @@ impl<'a, R, S: Source<R>> Fields<'a, R, S> {
         }
     }
 
-    /// Whether a sample of 0 is white.
-    #[tactic(auto, unfolding(iiif_tiff::specs::Tiff::photometric))]
-    fn photometric(&self, channels: u32) -> Result<bool, OpenFault>
-        ensures answer { TellsWhere S.bytes S.gave self.now (λ file. channels ≡ tiff.channels file) photometric
-            (λ file b. b ≡ white_is_zero file) result }
-        ensures memory { IfErr result IsNotMemory }
-    {
-        let photometric = self.needed(tag::PHOTOMETRIC_INTERPRETATION)?;
-        match (channels, photometric) {
-            (1, 0) => Ok(true),
-            (1, 1) => Ok(false),
-            (1, _) => Err(OpenFault::Unsupported(tag::PHOTOMETRIC_INTERPRETATION)),
-            (_, 2) => Ok(false),
-            _ => Err(OpenFault::Unsupported(tag::PHOTOMETRIC_INTERPRETATION)),
-        }
-    }
-
-    /// The samples of all channels stand in one plane.
+    /// Refuses samples in planes, one for each channel. With one sample a pixel the field has no meaning (TIFF 6.0, section 8,
+    /// PlanarConfiguration), and isn't looked at.
     #[tactic(auto, unfolding(iiif_tiff::specs::Tiff::planar_configuration))]
-    fn planar_configuration(&self, channels: u32) -> Result<(), OpenFault>
+    pub fn planar_configuration(&self, channels: u32) -> Result<(), OpenFault>
         ensures answer { TellsWhere S.bytes S.gave self.now (λ file. channels ≡ tiff.channels file) planar_configuration
             (λ _ _. Unit {0}) result }
         ensures memory { IfErr result IsNotMemory }
     {
-        if may_have_planes(channels) {
-            self.only(tag::PLANAR_CONFIGURATION, 1)?;
+        if channels != 1 {
+            self.expect_value(tag::PLANAR_CONFIGURATION, 1)?;
         }
         Ok(())
     }
 
+    /// Refuses further samples, such as opacity (TIFF 6.0, section 18).
     #[tactic(auto, unfolding(iiif_tiff::specs::Tiff::extra_samples))]
-    fn extra_samples(&self) -> Result<(), OpenFault>
+    pub fn extra_samples(&self) -> Result<(), OpenFault>
         ensures answer { Tells S.bytes S.gave self.now extra_samples (λ _ _. Unit {0}) result }
         ensures memory { IfErr result IsNotMemory }
     {
@@ -181,8 +139,9 @@ impl<'a, R, S: Source<R>> Fields<'a, R, S> {
         }
     }
 
+    /// Refuses samples other than unsigned integers (TIFF 6.0, section 19).
     #[tactic(auto, unfolding(iiif_tiff::specs::Tiff::sample_format))]
-    fn sample_format(&self, channels: u32) -> Result<(), OpenFault>
+    pub fn sample_format(&self, channels: u32) -> Result<(), OpenFault>
         requires { channels ≤ 3 }
         ensures answer { TellsWhere S.bytes S.gave self.now (λ file. S.keeps self.now.source.now × (channels ≡ tiff.channels file))
             sample_format
@@ -197,34 +156,7 @@ impl<'a, R, S: Source<R>> Fields<'a, R, S> {
         }
     }
 
-    /// How the samples are stored.
-    #[tactic(auto, unfolding(iiif_tiff::specs::Tiff::samples))]
-    pub fn format(&self) -> Result<Format, OpenFault>
-        ensures samples { TellsWhere S.bytes S.gave self.now (λ _. S.keeps self.now.source.now) samples
-            (λ file f. (channels_of f.kind ≡ channels file) × (f.bits ≡ bits file) × (endian f.order ≡ tiff.order file) ×
-            (f.white_is_zero ≡ white_is_zero file)) result }
-        ensures bounds { IfOk result (λ f. AreBits f.bits) }
-        ensures memory { IfErr result IsNotMemory }
-    {
-        let kind = self.samples_per_pixel()?;
-        let channels = kind.channels() as u32;
-        let bits = self.bits_per_sample(channels)?;
-        self.only(tag::COMPRESSION, 1)?;
-        let white_is_zero = self.photometric(channels)?;
-        self.only(tag::FILL_ORDER, 1)?;
-        self.only(tag::ORIENTATION, 1)?;
-        self.planar_configuration(channels)?;
-        self.extra_samples()?;
-        self.sample_format(channels)?;
-        Ok(Format {
-            kind,
-            bits,
-            order: self.order(),
-            white_is_zero,
-        })
-    }
-
-    /// A side of the tiles.
+    /// Reads the width or the height of a tile.
     #[tactic(auto, unfolding(iiif_tiff::specs::Tiff::tile_side))]
     pub fn tile_side(&self, tag: u16) -> Result<u32, OpenFault>
         ensures side { Tells S.bytes S.gave self.now (λ file. tile_side file tag) (λ file n. n ≡ value_or file tag 0 0) result }

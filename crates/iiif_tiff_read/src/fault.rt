@@ -1,48 +1,48 @@
-//! Why a file is refused, and why samples could not be read.
+//! Faults of opening a file and of reading its samples.
 
 ghost use Rattle.std.specs.Prelude.{◌≡◌};
 ghost use Rattle.iiif_tiff_read.specs.Faults.{open_number, load_number};
 ghost use Rattle.iiif_tiff_read.specs.declared.fault.OpenFault.TheVariants.{Source, NoMemory};
 ghost use Rattle.iiif_tiff_read.specs.declared.fault.LoadFault.TheVariants as loads;
 
+use iiif_fault::Numbered;
 use iiif_source::ReadFault;
 use std::alloc::{AllocError, AllocFailed};
 use thiserror::Error;
 
-/// Why a file is refused. A number is the tag of the field that is at fault (TIFF 6.0, sections 8 and 15).
+/// Fault of opening a file. A number in it is the tag of the field at fault (TIFF 6.0, sections 8 and 15).
 #[derive(Clone, Copy, Debug, PartialEq, Eq, Error)]
 pub enum OpenFault {
-    /// The bytes do not begin as a TIFF file does.
+    /// The file is shorter than eight bytes, or doesn't begin with II 42 or MM 42.
     #[error("not a TIFF file")]
     NotTiff,
-    /// The directory, a field's values or a strip or tile reaches past the end of the file.
+    /// The directory, the values of a field, or a strip or tile reaches past the end of the file.
     #[error("the file is cut off")]
     Truncated,
-    /// A field without a default is not there.
+    /// A required field is absent.
     #[error("field {0} is missing")]
     Missing(u16),
-    /// A field has a value that this reader leaves out.
+    /// A field has a value that this reader doesn't support, such as a compression, a palette or planes.
     #[error("field {0} has a value that is not supported")]
     Unsupported(u16),
-    /// A field has a type, a count or a value that it may not have.
+    /// A field has a type or a count that it may not have, or a value of 0 that it may not; or a byte count is below its piece's need.
     #[error("field {0} is wrong")]
     BadField(u16),
-    /// A side, the area, a tile's side or the number of tiles is above its limit.
+    /// A side, the area, a side of the tiles or the number of tiles is above its limit.
     #[error("the image is too large")]
     TooLarge,
-    /// A read of the source failed.
+    /// The source failed to read.
     #[error("a read at byte {place} failed, cause {cause}", place = .0.place, cause = .0.cause)]
     Source(ReadFault),
-    /// Memory was refused.
+    /// An allocation failed.
     #[error("out of memory")]
     NoMemory,
 }
 
-impl OpenFault {
-    /// The number of the fault, by which a program reports it.
-    pub fn number(&self) -> u8
-        ensures { result ≡ open_number self.now }
-    {
+impl Numbered for OpenFault {
+    ghost number_of = { open_number };
+
+    fn number(&self) -> u8 {
         match self {
             OpenFault::NotTiff => 1,
             OpenFault::Truncated => 2,
@@ -80,22 +80,21 @@ impl<T: Drop> From<AllocFailed<T>> for OpenFault {
     }
 }
 
-/// Why samples could not be read.
+/// Fault of reading a rectangle.
 #[derive(Clone, Copy, Debug, PartialEq, Eq, Error)]
 pub enum LoadFault {
-    /// A read of the source failed.
+    /// The source failed to read.
     #[error("a read at byte {place} failed, cause {cause}", place = .0.place, cause = .0.cause)]
     Source(ReadFault),
-    /// Memory was refused.
+    /// An allocation failed.
     #[error("out of memory")]
     NoMemory,
 }
 
-impl LoadFault {
-    /// The number of the fault.
-    pub fn number(&self) -> u8
-        ensures { result ≡ load_number self.now }
-    {
+impl Numbered for LoadFault {
+    ghost number_of = { load_number };
+
+    fn number(&self) -> u8 {
         match self {
             LoadFault::Source(_) => 1,
             LoadFault::NoMemory => 2,

@@ -1,4 +1,4 @@
-//! How an image is cut into pieces, which are strips or tiles.
+//! The grid of pieces that an image is cut into, its strips or tiles.
 
 ghost use Rattle.std.specs.Prelude.{◌≡◌, true, false, ◌+◌, ◌*◌, ◌^◌, ◌<◌, ◌≤◌, ◌-◌, min, ℕ, IfOk, IfErr, if◌then◌else◌};
 ghost use Rattle.std.specs.Int.{div_ceil};
@@ -7,16 +7,18 @@ ghost use Rattle.iiif_tiff.specs.Tiff as tiff;
 ghost use Rattle.iiif_tiff.specs.Tiff.{IsReadable};
 ghost use Rattle.iiif_tiff_read.specs.Code.{HasSides, IsGrid, IsNotMemory, TellsWhere};
 
-use crate::checks::Format;
 use crate::fault::OpenFault;
 use crate::fields::Fields;
+use crate::format::Format;
 use iiif_pixel::Dim;
 use iiif_source::Source;
 use iiif_tiff::tag;
 
+/// The most pieces of an image.
 const MAX_PIECES: u64 = 1 << 20;
 
-/// How an image is cut: into tiles or strips, of these sides, so many across and in all.
+/// Grid of an image: whether its pieces are tiles or strips, how many pixels a piece is wide and high, how many pieces stand beside one
+/// another, and how many there are.
 #[derive(Clone, Copy)]
 pub struct Grid {
     pub tiled: bool,
@@ -27,7 +29,7 @@ pub struct Grid {
 }
 
 impl Grid {
-    /// The bytes of a row of a piece.
+    /// Counts the bytes of a row of a piece.
     pub fn row_bytes(&self, format: Format) -> u64
         requires { (self.now.width ≤ 2 ^ 20) × (format.bits ≤ 16) }
         ensures bytes { result ≡ div_ceil (self.now.width * channels_of format.kind * format.bits) 8 }
@@ -36,7 +38,7 @@ impl Grid {
         (self.width as u64 * format.kind.channels() as u64 * format.bits as u64).div_ceil(8)
     }
 
-    /// The bytes of a piece: an edge tile is padded, and the last strip may be shorter.
+    /// Counts the bytes of piece i: an edge tile is padded, and the last strip may be shorter.
     pub fn piece_bytes(&self, dim: Dim, row_bytes: u64, i: u32) -> u64
         requires { row_bytes ≤ 2 ^ 23 }
         ensures bytes { result ≡ (if self.now.tiled then self.now.height else min self.now.height (dim.h - i * self.now.height)) *
@@ -54,7 +56,7 @@ impl Grid {
 }
 
 impl<'a, R, S: Source<R>> Fields<'a, R, S> {
-    /// The grid of an image in tiles.
+    /// Reads the grid of an image in tiles.
     #[tactic(auto, unfolding(iiif_tiff::specs::Tiff::tile_grid))]
     fn tiles(&self, dim: Dim) -> Result<Grid, OpenFault>
         requires { IsReadable dim }
@@ -81,7 +83,7 @@ impl<'a, R, S: Source<R>> Fields<'a, R, S> {
         })
     }
 
-    /// The grid of an image in strips, each as wide as the image.
+    /// Reads the grid of an image in strips, each as wide as the image.
     #[tactic(auto, unfolding(iiif_tiff::specs::Tiff::strip_grid), using(iiif_tiff::proofs::Numbers::one_piece))]
     fn strips(&self, dim: Dim) -> Result<Grid, OpenFault>
         requires { IsReadable dim }
@@ -105,7 +107,7 @@ impl<'a, R, S: Source<R>> Fields<'a, R, S> {
         })
     }
 
-    /// How the image is cut into pieces.
+    /// Reads the grid of the image.
     #[tactic(auto, unfolding(iiif_tiff::specs::Tiff::grid))]
     pub fn grid(&self, dim: Dim) -> Result<Grid, OpenFault>
         requires { IsReadable dim }

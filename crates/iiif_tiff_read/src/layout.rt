@@ -5,34 +5,37 @@ ghost use Rattle.iiif_pixel.specs.Geometry.{channels_of, top_of, LiesIn};
 ghost use Rattle.iiif_pixel.specs.Picture.{Picture};
 ghost use Rattle.iiif_pixel.specs.Operations.{crop};
 ghost use Rattle.iiif_tiff.specs.Tiff.{IsReadable, Scheme, Shows, scheme, refusal_of, white_of};
-ghost use Rattle.iiif_tiff_read.specs.Code.{IsSound, image_scheme, image_units};
+ghost use Rattle.iiif_tiff_read.specs.Images.{image_scheme};
 ghost use Rattle.iiif_tiff_read.specs.Layouts.{FitsIn, dim_of};
 ghost use Rattle.iiif_tiff_read.specs.Faults.{Answers, IsLoadFault};
 
+use crate::checks::white_is_zero;
 use crate::fault::{LoadFault, OpenFault};
 use crate::fields::Fields;
+use crate::format::Format;
 use crate::image::Image;
 use iiif_pixel::{Depth, Dim, Kind, Raster, Rect};
 use iiif_source::Source;
+use iiif_tiff::tag;
 use std::alloc::Global;
 use std::marker::Model;
 
-/// Where the samples of an image stand in its file: a few numbers, and four bytes for each strip or tile.
+/// Layout of an image in its file: where its samples stand, and how. It holds a few numbers, and four bytes for each strip or tile, and
+/// neither the file nor any sample.
 #[derive(Drop)]
 pub struct Layout {
     image: Image,
+    alloc: Global,
 }
 
 impl Model for Layout {
     ghost Value = { Scheme };
 
     ghost view = { λ l. image_scheme l.image };
-
-    ghost invariant = { λ l. IsSound (image_units l.image) };
 }
 
 impl Layout {
-    /// The sides of the image, in pixels.
+    /// Returns the width and the height of the image, in pixels.
     pub fn dim(&self) -> Dim
         ensures width { result.w ≡ self.now.width }
         ensures height { result.h ≡ self.now.height }
@@ -41,27 +44,30 @@ impl Layout {
         self.image.dim
     }
 
-    /// The kind of the image. A bilevel image is gray.
+    /// Returns the kind of the image. A bilevel image is gray.
     pub fn kind(&self) -> Kind
         ensures { channels_of result ≡ self.now.channels }
     {
         self.image.format.kind
     }
 
-    /// How many bits a sample has. A bilevel image has samples of eight, black and white.
+    /// Returns the depth of the samples that [`Layout::read_rect`] gives: sixteen bits where the file has sixteen, else eight. A bilevel
+    /// image has samples of eight bits, 0 and 255.
     pub fn depth(&self) -> Depth
         ensures { top_of result ≡ white_of self.now.bits }
     {
         self.image.format.depth()
     }
 
-    /// A rectangle of the image, from the source that the layout was opened from. It reads only the bytes that the
-    /// rectangle needs: of each tile, and of strips that stand one after another in the file, one run where the rows lie
-    /// together, else a run a row.
+    /// Reads a rectangle of the image, which lies in it, from the source that the layout was opened from. Black is 0 in the raster, also
+    /// where white is 0 in the file, and a bit of a bilevel image is 0 or 255. The raster is right as long as the source keeps its bytes; a
+    /// source that has become shorter gives a fault.
+    ///
+    /// It reads the bytes that the rectangle needs and no others, by one call of [`Source::read_runs`] for each tile, or for all strips
+    /// that stand one after another in the file. The first fault of the source ends it, and no read is made again.
     pub fn read_rect<R, S: Source<R>>(
         &self,
         rt: &R,
-        alloc: Global,
         source: &S,
         rect: Rect,
     ) -> Result<Raster, LoadFault>
@@ -73,14 +79,15 @@ impl Layout {
             → (p : Picture) → Shows (S.bytes source.now) p → r ≡ crop p rect) }
         ensures fault { IfErr result (IsLoadFault (S.gave source.now)) }
     {
-        let samples = self.image.read_samples(rt, alloc, source, rect)?;
+        let samples = self.image.read_samples(rt, self.alloc, source, rect)?;
         Ok(Raster::from_samples(rect.dim(), self.image.format.kind, samples))
     }
 }
 
-/// Reads what a file says of its image. It answers the first check that the whole file fails, and a layout exactly where it
-/// fails none; a fault of the source is one that this source gave.
-#[tactic(auto, unfolding(iiif_tiff::specs::Tiff::refusal_of))]
+/// Opens a file: reads its first directory, and checks in this order the sides, the samples, the grid of strips or tiles, and each strip or
+/// tile. The first check that fails is the fault; a file that passes all of them has a layout. A fault of the source, or want of memory,
+/// ends it too. It reads no sample, and holds at most twelve bytes for each strip or tile meanwhile, beside the directory.
+#[tactic(auto, unfolding(iiif_tiff::specs::Tiff::refusal_of, iiif_tiff::specs::Tiff::samples, iiif_tiff::specs::Tiff::photometric))]
 pub fn open<R, S: Source<R>>(rt: &R, alloc: Global, source: &S) -> Result<Layout, OpenFault>
     ensures checks { Answers (S.keeps source.now) (S.gave source.now) (refusal_of (S.bytes source.now))
         (λ layout. layout ≡ scheme (S.bytes source.now)) result }
@@ -88,7 +95,25 @@ pub fn open<R, S: Source<R>>(rt: &R, alloc: Global, source: &S) -> Result<Layout
 {
     let fields = Fields::read(rt, alloc, source)?;
     let dim = fields.sides()?;
-    let format = fields.format()?;
+    let kind = fields.samples_per_pixel()?;
+    let channels = kind.channels() as u32;
+    let bits = fields.bits_per_sample(channels)?;
+    fields.expect_value(tag::COMPRESSION, 1)?;
+    let photometric = fields.needed(tag::PHOTOMETRIC_INTERPRETATION)?;
+    let Some(white_is_zero) = white_is_zero(channels, photometric) else {
+        return Err(OpenFault::Unsupported(tag::PHOTOMETRIC_INTERPRETATION));
+    };
+    fields.expect_value(tag::FILL_ORDER, 1)?;
+    fields.expect_value(tag::ORIENTATION, 1)?;
+    fields.planar_configuration(channels)?;
+    fields.extra_samples()?;
+    fields.sample_format(channels)?;
+    let format = Format {
+        kind,
+        bits,
+        order: fields.order(),
+        white_is_zero,
+    };
     let grid = fields.grid(dim)?;
     let offsets = fields.pieces(alloc, dim, format, &grid)?;
     let image = Image {
@@ -97,5 +122,5 @@ pub fn open<R, S: Source<R>>(rt: &R, alloc: Global, source: &S) -> Result<Layout
         grid,
         offsets,
     };
-    Ok(Layout { image })
+    Ok(Layout { image, alloc })
 }

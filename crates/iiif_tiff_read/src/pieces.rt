@@ -1,4 +1,4 @@
-//! Where the pieces of an image stand.
+//! Offsets of the pieces of an image, its strips or tiles.
 
 ghost use Rattle.std.specs.Prelude.{◌≡◌, ◌+◌, ◌*◌, ◌^◌, ◌<◌, ◌≤◌, ℕ, List, length, map, nat_le, IfOk, IfErr, OnOk, if◌then◌else◌};
 ghost use Rattle.std.specs.List.{range_with_len};
@@ -10,16 +10,16 @@ ghost use Rattle.iiif_tiff_read.specs.Layouts.{FitsIn};
 ghost use Rattle.iiif_tiff_read.specs.Code.{scheme_of};
 ghost use Rattle.iiif_tiff_read.specs.Faults.{Answers};
 
-use crate::checks::Format;
 use crate::fault::OpenFault;
 use crate::fields::Fields;
+use crate::format::Format;
 use crate::grid::Grid;
 use iiif_pixel::Dim;
 use iiif_source::Source;
 use iiif_tiff::tag;
 use std::alloc::Global;
 
-/// The tags of the pieces' offsets and byte counts.
+/// Tags of the fields that list the offsets and the byte counts of pieces.
 #[derive(Clone, Copy)]
 struct Tags {
     offsets: u16,
@@ -27,7 +27,8 @@ struct Tags {
 }
 
 impl Tags {
-    fn of(tiled: bool) -> Tags
+    /// Returns the tags of tiles or of strips.
+    fn new(tiled: bool) -> Tags
         ensures offsets { result.offsets ≡ (if tiled then TileOffsets else StripOffsets) }
         ensures counts { result.counts ≡ (if tiled then TileByteCounts else StripByteCounts) }
     {
@@ -45,7 +46,7 @@ impl Tags {
     }
 }
 
-/// A piece as the file's lists say.
+/// Piece as the file lists it: its offset, its byte count, and the bytes that its samples need.
 #[derive(Clone, Copy)]
 struct Piece {
     offset: u32,
@@ -75,7 +76,7 @@ impl<'a, R, S: Source<R>> Fields<'a, R, S> {
         Ok(())
     }
 
-    /// Refuses the first piece that is at fault.
+    /// Checks all pieces, and refuses the first that is at fault.
     fn check_pieces(
         &self,
         dim: Dim,
@@ -94,7 +95,7 @@ impl<'a, R, S: Source<R>> Fields<'a, R, S> {
             (λ _. Unit {0}) result }
         ensures memory { IfErr result IsNotMemory }
     {
-        let tags = Tags::of(grid.tiled);
+        let tags = Tags::new(grid.tiled);
         let row_bytes = grid.row_bytes(format);
         for i in 0..grid.count {
             let piece = Piece {
@@ -107,7 +108,7 @@ impl<'a, R, S: Source<R>> Fields<'a, R, S> {
         Ok(())
     }
 
-    /// The offsets of the pieces.
+    /// Reads the offsets of the pieces, and checks each piece.
     #[tactic(auto, unfolding(iiif_tiff::specs::Tiff::pieces_fit))]
     pub fn pieces(
         &self,
@@ -123,7 +124,7 @@ impl<'a, R, S: Source<R>> Fields<'a, R, S> {
             pieces_fit
             (λ file v. v.items ≡ (tiff.scheme file).offsets) result }
     {
-        let tags = Tags::of(grid.tiled);
+        let tags = Tags::new(grid.tiled);
         let offsets = self.list(alloc, tags.offsets, grid.count)?;
         let counts = self.list(alloc, tags.counts, grid.count)?;
         self.check_pieces(dim, format, grid, &offsets, &counts)?;

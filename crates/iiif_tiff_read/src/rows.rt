@@ -1,89 +1,18 @@
 //! Reads runs of bytes, and unpacks rows of samples.
 
-ghost use Rattle.std.specs.Prelude.{◌≡◌, ◌≢◌, ◌+◌, ◌-◌, ◌*◌, ◌/◌, ◌%◌, ◌^◌, ◌<◌, ◌≤◌, ℕ, List, length, slice_index, take, drop, IsTrue};
+ghost use Rattle.std.specs.Prelude.{◌≡◌, ◌≢◌, ◌+◌, ◌-◌, ◌*◌, ◌/◌, ◌%◌, ◌^◌, ◌<◌, ◌≤◌, ℕ, length, slice_index, take, drop};
 ghost use Rattle.std.specs.Prelude.{IfOk, IfErr, OnOk};
-ghost use Rattle.std.specs.Int.{div_ceil, w16};
-ghost use Rattle.iiif_tiff.specs.Tiff.{number, stored, sample_of};
+ghost use Rattle.std.specs.Int.{div_ceil};
+ghost use Rattle.iiif_tiff.specs.Tiff.{stored};
 ghost use Rattle.iiif_source.specs.Runs.{AreIn, HoldsRuns};
-ghost use Rattle.iiif_tiff_read.specs.Code.{endian, IsSpan, FitsWindow, HoldsRows, KeepsRest};
+ghost use Rattle.iiif_tiff_read.specs.Code.{IsSpan, FitsWindow, HoldsRows, KeepsRest};
 ghost use Rattle.iiif_tiff_read.specs.Faults.{IsLoadFault};
 
 use crate::fault::LoadFault;
-use crate::number::ByteOrder;
 use iiif_source::{Runs, Source};
-use std::alloc::{AllocError, Global};
+use std::alloc::Global;
 
-/// Turns white into black.
-fn invert(samples: &mut [u8])
-    ensures { (i : ℕ) → i < length samples.old → slice_index samples.new i ≡ 255 - slice_index samples.old i }
-{
-    for v in samples.iter_mut() {
-        *v = 255 - *v;
-    }
-}
-
-/// Makes of stored samples those that they stand for.
-fn interpret(white_is_zero: bool, samples: &mut [u8])
-    ensures { (i : ℕ) → i < length samples.old → slice_index samples.new i ≡ sample_of white_is_zero 255 (slice_index samples.old i) }
-{
-    if white_is_zero {
-        invert(samples);
-    }
-}
-
-/// What a stored pair of bytes stands for.
-fn sample_of_pair(order: ByteOrder, white_is_zero: bool, pair: [u8; 2]) -> u16
-    ensures { result ≡ sample_of white_is_zero 65535 (number (endian order) w16 pair 0) }
-{
-    let sample = order.short(pair);
-    if white_is_zero {
-        u16::MAX - sample
-    } else {
-        sample
-    }
-}
-
-/// Makes of stored pairs of bytes the samples that they stand for.
-fn interpret_pairs(order: ByteOrder, white_is_zero: bool, bytes: &[u8], samples: &mut [u16])
-    requires { length bytes.now ≡ 2 * length samples.old }
-    ensures length { length samples.new ≡ length samples.old }
-    ensures samples { (i : ℕ) → i < length samples.old →
-        slice_index samples.new i ≡ sample_of white_is_zero 65535 (number (endian order) w16 bytes.now (2 * i)) }
-{
-    for i in 0..samples.len() {
-        let pair = [bytes[2 * i], bytes[2 * i + 1]];
-        samples[i] = sample_of_pair(order, white_is_zero, pair);
-    }
-}
-
-/// The samples that stored bytes stand for.
-pub fn interpreted(white_is_zero: bool, mut stored: Vec<u8>) -> Vec<u8>
-    ensures length { length result.items ≡ length stored.items }
-    ensures samples { (i : ℕ) → i < length stored.items →
-        slice_index result.items i ≡ sample_of white_is_zero 255 (slice_index stored.items i) }
-{
-    interpret(white_is_zero, &mut stored);
-    stored
-}
-
-/// The samples that stored pairs of bytes stand for.
-pub fn pairs_interpreted(
-    alloc: Global,
-    order: ByteOrder,
-    white_is_zero: bool,
-    stored: &[u8],
-) -> Result<Vec<u16>, AllocError>
-    requires { length stored.now % 2 ≡ 0 }
-    ensures length { IfOk result (λ v. length v.items ≡ length stored.now / 2) }
-    ensures samples { IfOk result (λ v. (i : ℕ) → i < length v.items →
-        slice_index v.items i ≡ sample_of white_is_zero 65535 (number (endian order) w16 stored.now (2 * i))) }
-{
-    let mut samples = vec![in alloc; 0u16; stored.len() / 2]?;
-    interpret_pairs(order, white_is_zero, stored, &mut samples);
-    Ok(samples)
-}
-
-/// The bytes of the runs, one run after another.
+/// Reads runs of bytes, one run after another, into a new vector.
 fn read_runs_at<R, S: Source<R>>(
     rt: &R,
     alloc: Global,
@@ -100,7 +29,7 @@ fn read_runs_at<R, S: Source<R>>(
     Ok(bytes)
 }
 
-/// The bytes of a row that hold some samples: so many from a byte of the row on, and the samples to skip in the first.
+/// Span of the bytes of a row that hold some samples: its first byte in the row, its length, and how many samples to skip in it.
 #[derive(Clone, Copy)]
 struct Span {
     pub start: usize,
@@ -108,7 +37,7 @@ struct Span {
     pub skip: usize,
 }
 
-/// The bytes that hold n samples of a row, from the first-th on.
+/// Finds the bytes of a row that hold n samples from sample `first` on.
 fn span_of(bits: u32, first: usize, n: usize) -> Span
     requires bits { bits ≢ 8 → bits ≡ 1 }
     requires small { first + n ≤ 2 ^ 40 }
@@ -130,7 +59,7 @@ fn span_of(bits: u32, first: usize, n: usize) -> Span
     }
 }
 
-/// A bit of a byte as a sample, where bit 0 is the high one.
+/// Decodes a bit of a byte as a sample. Bit 0 is the high one.
 fn sample_of_bit(byte: u8, bit: usize) -> u8
     requires { bit < 8 }
     ensures { result ≡ 255 * (byte / 2 ^ (7 - bit) % 2) }
@@ -149,7 +78,7 @@ fn unpack_byte(byte: u8, samples: &mut [u8])
     }
 }
 
-/// Unpacks bits to samples, without those that are skipped: a whole byte at a time where its samples are all wanted.
+/// Unpacks bits to samples behind those that are skipped, a whole byte at a time where all its samples are wanted.
 fn unpack_bits(bytes: &[u8], skip: usize, samples: &mut [u8])
     requires room { skip + length samples.old ≤ 8 * length bytes.now }
     requires skip { skip < 8 }
@@ -170,7 +99,7 @@ fn unpack_bits(bytes: &[u8], skip: usize, samples: &mut [u8])
     }
 }
 
-/// Unpacks a row of samples, without those that are skipped.
+/// Unpacks a row of samples behind those that are skipped.
 fn put_row(bits: u32, bytes: &[u8], skip: usize, samples: &mut [u8])
     requires bits { bits ≢ 8 → bits ≡ 1 }
     requires room { (skip + length samples.old) * bits ≤ 8 * length bytes.now }
@@ -186,8 +115,8 @@ fn put_row(bits: u32, bytes: &[u8], skip: usize, samples: &mut [u8])
     }
 }
 
-/// Where rows of samples stand among those of a rectangle, all counted in samples: a rectangle's row takes `width`, and
-/// the rows from `top` on have `columns` from `left` on.
+/// Window of a rectangle that rows of samples fill, counted in samples: a row of the rectangle has `width`, and of the `rows` rows from
+/// `top` on the window takes `columns` from `left` on.
 #[derive(Clone, Copy)]
 pub struct Window {
     pub width: usize,
@@ -217,8 +146,8 @@ fn put_rows(bits: u32, bytes: &[u8], span: Span, window: Window, samples: &mut [
     }
 }
 
-/// Rows of samples in a file: how many bits a sample has, where the first row begins and how many bytes each row takes,
-/// and which of its samples is the first that is wanted.
+/// Rows of samples in a file: the bits of a sample, the offset of the first row, the bytes from one row to the next, and the first sample
+/// of a row that is wanted.
 #[derive(Clone, Copy)]
 pub struct Rows {
     pub bits: u32,

@@ -81,7 +81,7 @@ fn middle(alloc: Global, source: &MemSource) -> Option<Raster> {
     if !rect.lies_in(layout.dim()) {
         return None;
     }
-    match layout.read_rect(&(), alloc, source, rect) {
+    match layout.read_rect(&(), source, rect) {
         Ok(raster) => Some(raster),
         Err(_) => None,
     }

@@ -2,6 +2,7 @@
 
 use crate::fixtures::files::{SAMPLE, STEPS};
 use crate::fixtures::{is_missing, is_same, is_same_text, is_unwanted, is_written};
+use iiif_fault::Numbered;
 use iiif_pixel::{Dim, Kind, Raster, Rect, Span};
 use iiif_source::{MemSource, ReadFault, Source};
 use iiif_tiff_read::{LoadFault, OpenFault, open};
@@ -11,6 +12,7 @@ use writer::{Field, Form, PLAIN, write_file};
 
 mod device_tests;
 mod one_fault;
+mod wide_tests;
 mod writer;
 
 const WIDTH: Field = Field(256, 3, &[4]);
@@ -138,7 +140,7 @@ fn read_part<S: Source<()>>(
     if !rect.lies_in(layout.dim()) {
         return Err(Failed::Outside);
     }
-    match layout.read_rect(&(), alloc, source, rect) {
+    match layout.read_rect(&(), source, rect) {
         Ok(raster) => Ok(raster),
         Err(fault) => Err(Failed::Load(fault)),
     }

@@ -118,7 +118,7 @@ fn wrong_tile<S: Source<()> + Drop, J: System>(
     alloc: Global,
     catalogue: Catalogue<(), S>,
 ) -> Option<usize> {
-    let images: Images<(), S, J> = Images::new(alloc, catalogue, 2);
+    let images: Images<(), S, J> = Images::new(catalogue, 2);
     for (place, tile) in TILES.iter().enumerate() {
         if is_right(alloc, &images, tile) != Some(true) {
             return Some(place);

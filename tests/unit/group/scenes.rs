@@ -110,7 +110,7 @@ where
     R: Net<Listener = TcpListener, Stream = TcpStream> + Threads + Wait + Clock + Send + Sync,
     J: System + Send + Sync,
 {
-    let images = Images::new(alloc, catalogue, 2);
+    let images = Images::new(catalogue, 2);
     let near = shared(alloc, setup, tiles)?;
     let far = shared(alloc, setup, sums)?;
     let node: Node<'_, R, J> = Groups::new(alloc, Tiles::new(alloc, images, near), far);

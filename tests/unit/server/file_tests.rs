@@ -33,7 +33,7 @@ fn has_samples(alloc: Global, file: Vec<u8>, raster: &Raster) -> Option<bool> {
     {
         return None;
     }
-    let Ok(read) = layout.read_rect(&(), alloc, &source, whole) else {
+    let Ok(read) = layout.read_rect(&(), &source, whole) else {
         return None;
     };
     Some(is_same(&read.samples(), &raster.samples()))

@@ -39,7 +39,7 @@ pub(crate) fn plain_render<R, S: Source<R>>(
     layout: &Layout,
     resolved: &Resolved,
 ) -> Result<Raster, LoadFault> {
-    let region = layout.read_rect(rt, alloc, source, resolved.rect)?;
+    let region = layout.read_rect(rt, source, resolved.rect)?;
     let scaled = scaled(alloc, &region, resolved.size)?;
     let turned = scaled.turn(resolved.turn)?;
     let image = turned.quality(resolved.quality)?;

@@ -9,9 +9,9 @@ returns-in_err-check_piece-clause-checks g c =
     let r = err_from_is_err_and c.from_residual.result c.from_residual.ensures.1 in
     rw (r.1, r.2) (fault_of c.in_err-check_piece.field-0.0 _ _ (g.S.Source.gave c.args.self.now.source.now)
     (tiff.piece (g.S.Source.bytes c.args.self.now.source.now) c.loop-i.i) _
-    (λ p. piece_known (g.S.Source.bytes c.args.self.now.source.now) c.args.dim c.args.format c.args.grid.now c.of-tags.result.counts
+    (λ p. piece_known (g.S.Source.bytes c.args.self.now.source.now) c.args.dim c.args.format c.args.grid.now c.new-tags.result.counts
     c.args.offsets.now c.args.counts.now c.loop-i.i
-    c.row_bytes-row_bytes.result c.piece_bytes.result c.loop-i-test.true c.of-tags.ensures.counts c.row_bytes-row_bytes.ensures.bytes
+    c.row_bytes-row_bytes.result c.piece_bytes.result c.loop-i-test.true c.new-tags.ensures.counts c.row_bytes-row_bytes.ensures.bytes
     c.piece_bytes.ensures.bytes p)
     (λ p refusal fails. left_fails (tiff.piece (g.S.Source.bytes c.args.self.now.source.now)) c.args.grid.now.count c.loop-i.i _ refusal
     c.loop-i-test.true (c.loop-i.invariant.1 p) fails)
@@ -23,9 +23,9 @@ loop-i-preserved g c = (
       (rw (needed_here c.args.dim c.args.format c.args.grid.now c.args.offsets.now c.loop-i.i c.row_bytes-row_bytes.result
       c.piece_bytes.result c.row_bytes-row_bytes.ensures.bytes c.piece_bytes.ensures.bytes) c.in_ok-check_piece.ensures.in_file),
   λ p.
-      let known = piece_known (g.S.Source.bytes c.args.self.now.source.now) c.args.dim c.args.format c.args.grid.now c.of-tags.result.counts
+      let known = piece_known (g.S.Source.bytes c.args.self.now.source.now) c.args.dim c.args.format c.args.grid.now c.new-tags.result.counts
       c.args.offsets.now c.args.counts.now c.loop-i.i
-      c.row_bytes-row_bytes.result c.piece_bytes.result c.loop-i-test.true c.of-tags.ensures.counts c.row_bytes-row_bytes.ensures.bytes
+      c.row_bytes-row_bytes.result c.piece_bytes.result c.loop-i-test.true c.new-tags.ensures.counts c.row_bytes-row_bytes.ensures.bytes
       c.piece_bytes.ensures.bytes p
       in
       let passes = c.in_ok-check_piece.ensures.check c.loop-i.i known in

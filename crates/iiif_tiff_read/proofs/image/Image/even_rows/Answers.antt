@@ -1,6 +1,7 @@
 use Rattle.std.proofs.Common.{◌≡◌, ℕ, ◌+◌, ◌*◌, ◌%◌, ◌<◌, refl, sym, ap, ◌∙◌, arith}
 use Rattle.iiif_tiff.specs.Tiff.{row_bytes}
-use Rattle.iiif_tiff_read.specs.Code.{image_units, row_place}
+use Rattle.iiif_tiff_read.specs.Code.{row_place}
+use Rattle.iiif_tiff_read.specs.Images.{image_units}
 use Rattle.iiif_tiff_read.proofs.Places.{piece_even, joined_even, piece_ends}
 use Rattle.iiif_tiff_read.proofs.image.Image.even_rows.Goals as goal
 
@@ -9,9 +10,9 @@ loop-rows-init c =
     let s = image_units c.args.self.now in (
       omega (arith, c.min-rows.ensures, c.left_of_piece.ensures.some, c.requires.some),
       omega (arith, c.min-rows.ensures),
-      piece_even s c.args.x c.args.y c.min-rows.result c.requires.sound.piece_height.0
+      piece_even s c.args.x c.args.y c.min-rows.result c.args.self.now.sound.piece_height.0
           (omega (arith, c.min-rows.ensures, c.left_of_piece.ensures.left)),
-      λ more. piece_ends c.args.y s.piece_height c.min-rows.result c.requires.sound.piece_height.0
+      λ more. piece_ends c.args.y s.piece_height c.min-rows.result c.args.self.now.sound.piece_height.0
           (omega (arith, c.min-rows.ensures, more, c.left_of_piece.ensures.left)),
     )
 
@@ -20,7 +21,7 @@ loop-rows-preserved c =
     let s = image_units c.args.self.now in
     let m = c.loop-rows.rows in
     let d = c.min-rows-in-loop-rows.result in
-    let some : 0 < s.piece_height = c.requires.sound.piece_height.0 in
+    let some : 0 < s.piece_height = c.args.self.now.sound.piece_height.0 in
     let begins : (c.args.y + m) % s.piece_height ≡ 0 = c.loop-rows.invariant.3 c.loop-rows-test.true in
     let joins : row_place s c.args.x (c.args.y + m) ≡ row_place s c.args.x c.args.y + m * row_bytes s
     = sym c.row_place.ensures.place ∙ c.if-row_place-first.true ∙

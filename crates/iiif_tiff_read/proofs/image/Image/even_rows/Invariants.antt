@@ -1,5 +1,6 @@
 use Rattle.std.proofs.Common.{◌≡◌, ◌+◌, ◌-◌, ◌%◌, ◌<◌, ◌≤◌}
-use Rattle.iiif_tiff_read.specs.Code.{image_units, AreEven}
+use Rattle.iiif_tiff_read.specs.Code.{AreEven}
+use Rattle.iiif_tiff_read.specs.Images.{image_units}
 use Rattle.iiif_tiff_read.proofs.image.Image.even_rows.Given as goal
 
 abbrev pub invariant-loop-rows : goal.invariant-loop-rows

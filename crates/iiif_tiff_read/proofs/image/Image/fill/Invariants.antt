@@ -1,5 +1,5 @@
 use Rattle.std.proofs.Common.{◌-◌, ◌≤◌}
-use Rattle.iiif_tiff_read.specs.Code.{image_units}
+use Rattle.iiif_tiff_read.specs.Images.{image_units}
 use Rattle.iiif_tiff_read.proofs.Places.{Filled}
 use Rattle.iiif_tiff_read.proofs.image.Image.fill.Given as goal
 

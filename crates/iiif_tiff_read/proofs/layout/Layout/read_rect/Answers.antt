@@ -4,7 +4,7 @@ use Rattle.iiif_tiff.specs.Tiff.{Scheme}
 use Rattle.iiif_pixel.specs.Depths.{depth_of, values_of}
 use Rattle.iiif_tiff_read.specs.Layouts.{FitsIn, dim_of}
 use Rattle.iiif_tiff_read.proofs.Units.{units_fit}
-use Rattle.iiif_tiff_read.specs.Code.{image_scheme}
+use Rattle.iiif_tiff_read.specs.Images.{image_scheme}
 use Rattle.iiif_tiff_read.proofs.Cropped.{cropped}
 use Rattle.iiif_tiff_read.proofs.layout.Layout.read_rect.Goals as goal
 

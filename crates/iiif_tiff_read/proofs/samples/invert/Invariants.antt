@@ -1,5 +1,5 @@
 use Rattle.std.proofs.Common.{◌≡◌, ℕ, ◌-◌, ◌<◌, ◌≤◌, get_or}
-use Rattle.iiif_tiff_read.proofs.rows.invert.Given as goal
+use Rattle.iiif_tiff_read.proofs.samples.invert.Given as goal
 
 abbrev pub invariant-loop-v : goal.invariant-loop-v
 invariant-loop-v l = ((k : ℕ) → k < l.v-index → get_or l.samples k 0 ≡ 255 - get_or l.fn.samples k 0) ×

@@ -2,7 +2,7 @@ use Rattle.std.proofs.Common.{◌*◌, ◌≤◌, refl, sym, ◌∙◌, arith}
 use Rattle.std.proofs.lemmas.List.{length-take-le}
 use Rattle.iiif_tiff_read.proofs.Values.{kind_is, all_inside, all_outside, few_bytes, few_fit, few_kept, few_room}
 use Rattle.iiif_tiff_read.specs.Code.{endian, entry_view}
-use Rattle.iiif_tiff_read.proofs.fields.Fields.few_values.Goals as goal
+use Rattle.iiif_tiff_read.proofs.fields.Fields.values_up_to_three.Goals as goal
 
 pub overflow_mul-len : goal.overflow_mul-len
 overflow_mul-len g c =

@@ -1,7 +1,7 @@
 use Rattle.std.proofs.Common.{refl}
 use Rattle.iiif_tiff_read.proofs.Bytes.{one_more, is_entry}
 use Rattle.iiif_tiff_read.specs.Code.{endian}
-use Rattle.iiif_tiff_read.proofs.fields.decode_entries.Goals as goal
+use Rattle.iiif_tiff_read.proofs.entry.decode_entries.Goals as goal
 
 pub loop-i-preserved : goal.loop-i-preserved
 loop-i-preserved c = λ file start order-is bytes-is.

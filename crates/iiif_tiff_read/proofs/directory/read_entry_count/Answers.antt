@@ -1,7 +1,7 @@
 use Rattle.std.proofs.Common.{arith}
 use Rattle.iiif_tiff_read.proofs.Bytes.{all_there}
 use Rattle.iiif_tiff_read.specs.Code.{endian}
-use Rattle.iiif_tiff_read.proofs.fields.read_entry_count.Goals as goal
+use Rattle.iiif_tiff_read.proofs.directory.read_entry_count.Goals as goal
 
 pub returns-clause-count : goal.returns-clause-count
 returns-clause-count g c = λ p.

@@ -1,6 +1,6 @@
 use Rattle.std.proofs.Common.{◌+◌, ◌∙◌}
 use Rattle.iiif_tiff_read.proofs.Bytes.{all_entries}
-use Rattle.iiif_tiff_read.proofs.fields.read_directory.Goals as goal
+use Rattle.iiif_tiff_read.proofs.directory.read_directory.Goals as goal
 
 pub returns-clause-entries : goal.returns-clause-entries
 returns-clause-entries g c = λ p.
