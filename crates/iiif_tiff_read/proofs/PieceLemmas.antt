@@ -14,7 +14,7 @@ use Rattle.iiif_tiff_read.specs.declared.format.Format.{Format}
 use Rattle.iiif_tiff_read.specs.declared.grid.Grid.{Grid}
 use Rattle.iiif_tiff_read.specs.declared.fault.OpenFault.{OpenFault}
 use Rattle.iiif_tiff_read.specs.declared.fault.OpenFault.TheVariants as faults
-use Rattle.iiif_tiff_read.specs.Code.{IsKnown, first_values}
+use Rattle.iiif_tiff_read.specs.Code.{AreListed, IsKnown, IsPiece, first_values}
 use Rattle.iiif_tiff_read.specs.Faults.{IsOpenFault}
 use Rattle.iiif_tiff_read.specs.Code.{scheme_of}
 
@@ -73,20 +73,18 @@ pub tag_known : (bytes : List ℕ) (d : Dim) (f : Format) (g : Grid) (tag : ℕ)
     tag ≡ (if g.tiled then tiff.TileByteCounts else tiff.StripByteCounts) → tag ≡ tiff.counts_tag bytes
 tag_known bytes d f g tag known tag-is = tag-is ∙ rw known.grid_is.tiled refl
 
--- what the lists say of piece i
+-- a piece of the lists is that of the file
 pub piece_known : (bytes : List ℕ) (d : Dim) (f : Format) (g : Grid) (tag : ℕ) (offsets counts : List ℕ) (i row n : ℕ) → i < g.count →
     tag ≡ (if g.tiled then tiff.TileByteCounts else tiff.StripByteCounts) → row ≡ div_ceil (g.width * channels_of f.kind * f.bits) 8
     → n ≡ (if g.tiled then g.height else min g.height (d.h - i * g.height)) * row
-    → (IsKnown bytes d f g × (offsets ≡ map (tiff.piece_offset bytes) (range_with_len 0 g.count)) ×
-    (counts ≡ map (tiff.piece_byte_count bytes) (range_with_len 0 g.count)))
-    → (tag ≡ tiff.counts_tag bytes) × (get_or offsets i 0 ≡ tiff.piece_offset bytes i) ×
-    (get_or counts i 0 ≡ tiff.piece_byte_count bytes i) × (n ≡ tiff.piece_bytes (tiff.scheme bytes) i)
-piece_known bytes d f g tag offsets counts i row n lt tag-is row-is n-is p = (
-  tag_known bytes d f g tag p.0 tag-is,
-  number_is (tiff.piece_offset bytes) offsets g.count i p.1 lt,
-  number_is (tiff.piece_byte_count bytes) counts g.count i p.2 lt,
-  needed_is bytes d f g i row n p.0 row-is n-is,
-)
+    → AreListed bytes d f g offsets counts →
+    IsPiece bytes tag (record { offset = get_or offsets i 0; count = get_or counts i 0; needed = n }) i
+piece_known bytes d f g tag offsets counts i row n lt tag-is row-is n-is p = record {
+  tag_is = tag_known bytes d f g tag p.known tag-is;
+  offset_is = number_is (tiff.piece_offset bytes) offsets g.count i p.offsets_are lt;
+  count_is = number_is (tiff.piece_byte_count bytes) counts g.count i p.counts_are lt;
+  needed_is = needed_is bytes d f g i row n p.known row-is n-is;
+}
 
 -- What the two lists are, by the bytes alone.
 pub record Lists (bytes : List ℕ) (g : Grid) (counts_tag : ℕ) (offsets counts : List ℕ) : Type 0 where

@@ -2,7 +2,8 @@
 --   endian, code, entry_view   a byte order, a type and an entry in the standard's terms
 --   Reads, AreTrue             fields that are those of their file
 --   Tells, TellsWhere          how fields answer a check of their file
---   IsGrid, IsKnown            sides, format and grid that are those of the file
+--   IsHeader, IsGrid, IsKnown  a header, a grid, and sides, format and grid that are those of the file
+--   AreListed, IsPiece         lists of pieces, and a piece, that are those of the file
 --   IsSound                    limits on sides and pieces, and an offset for each piece
 --   piece, unit                a strip or tile; a sample of 8 bits or one, or a byte of a sample of 16
 --   row_place, stored_at       where the row of a pixel begins in the file; the unit that is stored at a pixel
@@ -24,11 +25,13 @@ use Rattle.iiif_tiff_read.specs.declared.byte_order.ByteOrder.{ByteOrder}
 use Rattle.iiif_tiff_read.specs.declared.byte_order.ByteOrder.TheVariants as orders
 use Rattle.iiif_tiff_read.specs.declared.field_type.FieldType.{FieldType}
 use Rattle.iiif_tiff_read.specs.declared.field_type.FieldType.TheVariants as types
+use Rattle.iiif_tiff_read.specs.declared.directory.Header.{Header}
 use Rattle.iiif_tiff_read.specs.declared.entry.FieldEntry.{FieldEntry}
 use Rattle.iiif_tiff_read.specs.declared.fields.Fields.{Fields}
 use Rattle.iiif_tiff_read.specs.declared.grid.Grid.{Grid}
 use Rattle.iiif_tiff_read.specs.declared.format.Format.{Format}
 use Rattle.iiif_tiff_read.specs.declared.part.Part.{Part}
+use Rattle.iiif_tiff_read.specs.declared.pieces.Piece.{Piece}
 use Rattle.iiif_tiff_read.specs.declared.rows.Span.{Span}
 use Rattle.iiif_tiff_read.specs.declared.rows.Window.{Window}
 use Rattle.iiif_tiff_read.specs.declared.fault.OpenFault.{OpenFault}
@@ -55,6 +58,11 @@ entry_views es = map entry_view es
 -- the first n values of the field with a tag
 unfoldable pub first_values : List ℕ → ℕ → ℕ → List ℕ
 first_values bytes tag n = map (λ i. tiff.value_or bytes tag i 0) (range_with_len 0 n)
+
+-- The header is that of the bytes: the byte order, and the offset of the first directory.
+pub record IsHeader (bytes : List ℕ) (h : Header) : Type 0 where
+  pub order_is : endian h.order ≡ tiff.order bytes
+  pub directory_is : h.directory ≡ tiff.directory bytes
 
 -- The byte order and the entries are those of the bytes.
 pub record Reads (bytes : List ℕ) (o : ByteOrder) (es : List FieldEntry) : Type 0 where
@@ -99,6 +107,19 @@ pub record IsKnown (bytes : List ℕ) (d : Dim) (f : Format) (g : Grid) : Type 0
   pub bits_is : f.bits ≡ tiff.bits bytes
   pub order_is : endian f.order ≡ tiff.order bytes
   pub grid_is : IsGrid bytes g
+
+-- The sides, the format and the grid are those of the bytes, and so are the lists of offsets and of byte counts of the pieces.
+pub record AreListed (bytes : List ℕ) (d : Dim) (f : Format) (g : Grid) (offsets counts : List ℕ) : Type 0 where
+  pub known : IsKnown bytes d f g
+  pub offsets_are : offsets ≡ map (tiff.piece_offset bytes) (range_with_len 0 g.count)
+  pub counts_are : counts ≡ map (tiff.piece_byte_count bytes) (range_with_len 0 g.count)
+
+-- The piece is piece i of the bytes: its offset and byte count are as listed, and it needs so many bytes.
+pub record IsPiece (bytes : List ℕ) (counts_tag : ℕ) (p : Piece) (i : ℕ) : Type 0 where
+  pub tag_is : counts_tag ≡ tiff.counts_tag bytes
+  pub offset_is : p.offset ≡ tiff.piece_offset bytes i
+  pub count_is : p.count ≡ tiff.piece_byte_count bytes i
+  pub needed_is : p.needed ≡ tiff.piece_bytes (tiff.scheme bytes) i
 
 -- Sides, format, grid and offsets, in the standard's terms.
 abbrev pub scheme_of : Dim → Format → Grid → List ℕ → Scheme

@@ -2,9 +2,9 @@
 
 ghost use Rattle.std.specs.Prelude.{◌≡◌, ◌+◌, ◌*◌, ◌≤◌, length, take, drop, IsTrue, IfOk, IfErr};
 ghost use Rattle.std.specs.Int.{w16};
-ghost use Rattle.iiif_tiff.specs.Tiff.{header, order, number, directory_fits, entries};
+ghost use Rattle.iiif_tiff.specs.Tiff.{header, number, directory_fits, entries};
 ghost use Rattle.iiif_tiff.specs.Tiff as tiff;
-ghost use Rattle.iiif_tiff_read.specs.Code.{endian, entry_views, IsDeviceFault, IsMemoryAfter, IsNotMemory};
+ghost use Rattle.iiif_tiff_read.specs.Code.{endian, entry_views, IsDeviceFault, IsHeader, IsMemoryAfter, IsNotMemory};
 ghost use Rattle.iiif_tiff_read.specs.Faults.{Answers};
 
 use crate::byte_order::ByteOrder;
@@ -58,7 +58,7 @@ pub struct Header {
 #[tactic(auto, unfolding(iiif_tiff::specs::Tiff::header))]
 pub fn read_header<R, S: Source<R>>(rt: &R, source: &S) -> Result<Header, OpenFault>
     ensures header { Answers (S.keeps source.now) (S.gave source.now) (header (S.bytes source.now))
-        (λ h. (endian h.order ≡ order (S.bytes source.now)) × (h.directory ≡ tiff.directory (S.bytes source.now))) result }
+        (IsHeader (S.bytes source.now)) result }
     ensures whole { IfOk result (λ _. 8 ≤ length (S.bytes source.now)) }
     ensures memory { IfErr result IsNotMemory }
 {
@@ -79,8 +79,7 @@ pub fn read_header<R, S: Source<R>>(rt: &R, source: &S) -> Result<Header, OpenFa
 /// Reads how many entries the first directory has, and refuses a directory that ends past the end of the file. Takes no memory.
 #[tactic(auto, unfolding(iiif_tiff::specs::Tiff::directory_fits))]
 fn read_entry_count<R, S: Source<R>>(rt: &R, source: &S, header: Header) -> Result<u16, OpenFault>
-    ensures count { Answers (S.keeps source.now × (endian header.order ≡ tiff.order (S.bytes source.now)) ×
-        (header.directory ≡ tiff.directory (S.bytes source.now))) (S.gave source.now) (directory_fits (S.bytes source.now))
+    ensures count { Answers (S.keeps source.now × IsHeader (S.bytes source.now) header) (S.gave source.now) (directory_fits (S.bytes source.now))
         (λ n. n ≡ tiff.entry_count (S.bytes source.now)) result }
     ensures in_file { IfOk result (λ n. header.directory + 2 + 12 * n ≤ length (S.bytes source.now)) }
     ensures memory { IfErr result IsNotMemory }
@@ -105,11 +104,9 @@ pub fn read_directory<R, S: Source<R>>(
     source: &S,
     header: Header,
 ) -> Result<Vec<FieldEntry>, OpenFault>
-    ensures entries { Answers (S.keeps source.now × (endian header.order ≡ tiff.order (S.bytes source.now)) ×
-        (header.directory ≡ tiff.directory (S.bytes source.now))) (S.gave source.now) (directory_fits (S.bytes source.now))
+    ensures entries { Answers (S.keeps source.now × IsHeader (S.bytes source.now) header) (S.gave source.now) (directory_fits (S.bytes source.now))
         (λ v. entry_views v.items ≡ entries (S.bytes source.now)) result }
-    ensures memory { IfErr result (IsMemoryAfter (S.keeps source.now × (endian header.order ≡ tiff.order (S.bytes source.now)) ×
-        (header.directory ≡ tiff.directory (S.bytes source.now))) (directory_fits (S.bytes source.now))) }
+    ensures memory { IfErr result (IsMemoryAfter (S.keeps source.now × IsHeader (S.bytes source.now) header) (directory_fits (S.bytes source.now))) }
 {
     let count = read_entry_count(rt, source, header)?;
     let start = header.directory as u64 + 2;

@@ -1,11 +1,11 @@
 //! Offsets of the pieces of an image, its strips or tiles.
 
-ghost use Rattle.std.specs.Prelude.{◌≡◌, ◌+◌, ◌*◌, ◌^◌, ◌<◌, ◌≤◌, ℕ, List, length, map, nat_le, IfOk, IfErr, OnOk, if◌then◌else◌};
+ghost use Rattle.std.specs.Prelude.{◌≡◌, ◌+◌, ◌*◌, ◌^◌, ◌≤◌, ℕ, length, map, IfOk, IfErr, OnOk, if◌then◌else◌};
 ghost use Rattle.std.specs.List.{range_with_len};
-ghost use Rattle.iiif_tiff.specs.Tiff.{StripOffsets, StripByteCounts, TileOffsets, TileByteCounts, needed, piece, pieces, piece_offset};
-ghost use Rattle.iiif_tiff.specs.Tiff.{piece_byte_count, piece_bytes, offsets_tag, counts_tag, first, pieces_fit};
+ghost use Rattle.iiif_tiff.specs.Tiff.{StripOffsets, StripByteCounts, TileOffsets, TileByteCounts, piece};
+ghost use Rattle.iiif_tiff.specs.Tiff.{first, pieces_fit};
 ghost use Rattle.iiif_tiff.specs.Tiff as tiff;
-ghost use Rattle.iiif_tiff_read.specs.Code.{IsKnown, IsNotMemory, TellsWhere};
+ghost use Rattle.iiif_tiff_read.specs.Code.{AreListed, IsKnown, IsNotMemory, IsPiece, TellsWhere};
 ghost use Rattle.iiif_tiff_read.specs.Layouts.{FitsIn};
 ghost use Rattle.iiif_tiff_read.specs.Code.{scheme_of};
 ghost use Rattle.iiif_tiff_read.specs.Faults.{Answers};
@@ -60,11 +60,8 @@ impl<'a, R, S: Source<R>> Fields<'a, R, S> {
     fn check_piece(&self, counts_tag: u16, piece: Piece) -> Result<(), OpenFault>
         requires { piece.needed ≤ 2 ^ 55 }
         ensures in_file { OnOk result (piece.offset + piece.needed ≤ length (S.bytes self.now.source.now)) }
-        ensures check { (i : ℕ) → Answers ((counts_tag ≡ tiff.counts_tag (S.bytes self.now.source.now)) ×
-            (piece.offset ≡ piece_offset (S.bytes self.now.source.now) i) ×
-            (piece.count ≡ piece_byte_count (S.bytes self.now.source.now) i) ×
-            (piece.needed ≡ piece_bytes (tiff.scheme (S.bytes self.now.source.now)) i))
-            (S.gave self.now.source.now) (tiff.piece (S.bytes self.now.source.now) i) (λ _. Unit {0}) result }
+        ensures check { (i : ℕ) → Answers (IsPiece (S.bytes self.now.source.now) counts_tag piece i) (S.gave self.now.source.now)
+            (tiff.piece (S.bytes self.now.source.now) i) (λ _. Unit {0}) result }
         ensures memory { IfErr result IsNotMemory }
     {
         if (piece.count as u64) < piece.needed {
@@ -88,9 +85,7 @@ impl<'a, R, S: Source<R>> Fields<'a, R, S> {
         requires bounds { (grid.now.width ≤ 2 ^ 20) × (format.bits ≤ 16) }
         requires lengths { (length offsets.now ≡ grid.now.count) × (length counts.now ≡ grid.now.count) }
         ensures in_file { OnOk result (FitsIn (scheme_of dim format grid.now offsets.now) (length (S.bytes self.now.source.now))) }
-        ensures checks { Answers (IsKnown (S.bytes self.now.source.now) dim format grid.now ×
-            (offsets.now ≡ map (piece_offset (S.bytes self.now.source.now)) (range_with_len 0 grid.now.count))
-            × (counts.now ≡ map (piece_byte_count (S.bytes self.now.source.now)) (range_with_len 0 grid.now.count)))
+        ensures checks { Answers (AreListed (S.bytes self.now.source.now) dim format grid.now offsets.now counts.now)
             (S.gave self.now.source.now) (first (map (piece (S.bytes self.now.source.now)) (range_with_len 0 grid.now.count)))
             (λ _. Unit {0}) result }
         ensures memory { IfErr result IsNotMemory }

@@ -13,7 +13,7 @@ returns-in_err-check_pieces-clause-pieces g c =
     c.new-tags.result.counts c.deref.result.now c.deref-2.result.now
     p.1.1 c.new-tags.ensures.offsets c.new-tags.ensures.counts (rw (← c.deref.ensures.value) at (c.in_ok-offsets.ensures.values (p.0, p.1.0)))
     (rw (← c.deref-2.ensures.value) at (c.in_ok-counts.ensures.values (p.0, p.1.0))) in
-    (p.1.1, l.offsets_are, l.counts_are))
+    record { known = p.1.1; offsets_are = l.offsets_are; counts_are = l.counts_are })
     (λ p refusal fails. let l = lists_are (g.S.Source.bytes c.args.self.now.source.now) c.args.dim c.args.format c.args.grid.now
     c.new-tags.result.offsets c.new-tags.result.counts c.deref.result.now c.deref-2.result.now
     p.1.1 c.new-tags.ensures.offsets c.new-tags.ensures.counts (rw (← c.deref.ensures.value) at (c.in_ok-offsets.ensures.values (p.0, p.1.0)))
@@ -28,5 +28,5 @@ returns-clause-pieces g c = λ p.
     c.new-tags.result.counts c.deref.result.now c.deref-2.result.now
     p.1.1 c.new-tags.ensures.offsets c.new-tags.ensures.counts (rw (← c.deref.ensures.value) at (c.in_ok-offsets.ensures.values (p.0, p.1.0)))
     (rw (← c.deref-2.ensures.value) at (c.in_ok-counts.ensures.values (p.0, p.1.0))) in
-    let h = c.in_ok-check_pieces.ensures.checks (p.1.1, l.offsets_are, l.counts_are) in
+    let h = c.in_ok-check_pieces.ensures.checks (record { known = p.1.1; offsets_are = l.offsets_are; counts_are = l.counts_are }) in
     (rw (l.offsets_there, l.counts_there, ← l.count_is) h.0, sym c.deref.ensures.value ∙ l.offsets_are ∙ rw l.count_is refl)
