@@ -15,13 +15,14 @@ use Rattle.iiif_tiff_read.specs.Code.{HoldsShown}
 abbrev same_picture : Picture → Picture → Type 0
 same_picture p q = p ≡ q
 
-pub cropped : (bytes samples : List ℕ) (s : Scheme) (r : Rect) (kind : Kind) (depth : Depth) (p : Picture) → Shows bytes p →
+-- Samples that are those shown make the crop of the picture.
+pub crop_of_samples : (bytes samples : List ℕ) (s : Scheme) (r : Rect) (kind : Kind) (depth : Depth) (p : Picture) → Shows bytes p →
     s ≡ scheme bytes → channels_of kind ≡ s.channels → top_of depth ≡ white_of s.bits → LiesIn r (dim_of s) →
     length samples ≡ r.w * r.h * channels_of kind
     → HoldsShown bytes s r samples
     → same_picture (raster_picture (record { w = r.w; h = r.h }) kind depth samples) (crop p r)
 unfolding crop_at
-cropped bytes samples s r kind depth p shows s-is kind-is depth-is inside len read =
+crop_of_samples bytes samples s r kind depth p shows s-is kind-is depth-is inside len read =
     let w-is : p.width ≡ s.width = shows.width_is ∙ rw s-is refl in
     let h-is : p.height ≡ s.height = shows.height_is ∙ rw s-is refl in
     let c-is : p.channels ≡ channels_of kind = shows.channels_is ∙ rw s-is refl ∙ sym kind-is in

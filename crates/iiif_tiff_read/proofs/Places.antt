@@ -1,4 +1,8 @@
--- Where the samples of a part stand: in the file, and among those of the rectangle.
+-- Places of a part's samples: in the file, and among those of the rectangle.
+--   piece_*, row_*   the piece of a pixel, and its row in the file
+--   part_*           a part's rows in the file
+--   *_even           rows that stand one after another
+--   filled_part      a part more of a rectangle
 use Rattle.std.proofs.Common.{◌≡◌, ℕ, ◌+◌, ◌*◌, ◌-◌, ◌/◌, ◌%◌, ◌<◌, ◌≤◌, ◌⊎◌, List, length, get_or, refl, sym, ap, ◌∙◌, inl, inr, arith}
 use Rattle.std.specs.Prelude.{min, slice_index, false}
 use Rattle.std.specs.Int.{div_ceil}
@@ -30,7 +34,7 @@ div_lt_ceil y h r pos lt =
 across_one : (s : Scheme) → IsSound s → s.tiled ≡ false → s.tiles_across ≡ 1
 across_one s sound strips = sound.across ∙ rw (sound.strip strips) (one_piece s.width sound.sides.width_some)
 
--- the piece of a place is one of the pieces
+-- The piece of a pixel is one of the pieces.
 pub piece_index : (s : Scheme) (x y : ℕ) → IsSound s → x < s.width → y < s.height →
     y / s.piece_height * s.tiles_across + x / s.piece_width < length s.offsets
 piece_index s x y sound xw yh =
@@ -67,7 +71,7 @@ last_row n r some =
     let e : n ≡ n - 1 + 1 = omega (arith, some) in
     ap (λ (k : ℕ). k * r) e ∙ omega arith
 
--- the part's rows stand in the file, each whole
+-- The part's rows stand in the file, each whole.
 pub part_in_file : (s : Scheme) (r : Rect) (p : Part) (n : ℕ) → IsSound s → FitsIn s n → IsPart s r p →
     row_place s (r.x + p.left) (r.y + p.top) + p.rows * row_bytes s ≤ n
 part_in_file s r p n sound fits part =
@@ -76,10 +80,11 @@ part_in_file s r p n sound fits part =
     let last = row_in_file s (r.x + p.left) (r.y + p.top + (p.rows - 1)) n sound fits xw yh in
     omega (arith, last, part.even (p.rows - 1) (omega (arith, part.rows_some)), last_row p.rows (row_bytes s) part.rows_some)
 
+-- Fewer bits take no more bytes.
 pub ceil_le : (a b : ℕ) → a ≤ b → div_ceil a 8 ≤ div_ceil b 8
 ceil_le a b le = omega arith
 
--- and so many of its samples in a row
+-- The samples of a row of the part stand within a row of the piece.
 pub part_in_row : (s : Scheme) (r : Rect) (p : Part) → IsPart s r p →
     div_ceil (((r.x + p.left) % s.piece_width * s.channels + p.columns * s.channels) * s.bits) 8 ≤ row_bytes s
 part_in_row s r p part =
@@ -88,6 +93,7 @@ part_in_row s r p part =
     rw sum (ceil_le (((r.x + p.left) % s.piece_width + p.columns) * s.channels * s.bits) (s.piece_width * s.channels * s.bits)
     (mul-le-mul_right s.bits (mul-le-mul_right s.channels part.piece_columns)))
 
+-- The window of a part stands among the rectangle's samples.
 pub window_fits : (s : Scheme) (r : Rect) (p : Part) (c n : ℕ) → IsPart s r p → n ≡ r.w * r.h * c → FitsWindow (window_of c r p) n
 window_fits s r p c n part n-is =
     let columns : (p.left + p.columns) * c ≤ r.w * c = mul-le-mul_right c part.columns in
@@ -109,18 +115,18 @@ same_column : (s : Scheme) (x d y : ℕ) → 0 < s.piece_width → d < s.piece_w
 unfolding row_place
 same_column s x d y pos lt = rw (in_piece x s.piece_width d pos lt).0 refl
 
--- rows of one piece stand one after another
+-- Rows of one piece stand one after another.
 pub piece_even : (s : Scheme) (x y n : ℕ) → 0 < s.piece_height → y % s.piece_height + n ≤ s.piece_height → AreEven s x y n
 unfolding row_place
 piece_even s x y n pos le j lt =
     let row = in_piece y s.piece_height j pos (omega (arith, le, lt)) in
     rw (row.0, row.1) (omega arith)
 
--- and so do those of the piece below, where it begins where m rows end
-pub joined_even : (s : Scheme) (x y m d : ℕ) → 0 < s.piece_height → d ≤ s.piece_height → (y + m) % s.piece_height ≡ 0 → AreEven s x y m →
+-- Rows of the piece below do too, where it begins where m rows end.
+pub even_below : (s : Scheme) (x y m d : ℕ) → 0 < s.piece_height → d ≤ s.piece_height → (y + m) % s.piece_height ≡ 0 → AreEven s x y m →
     row_place s x (y + m) ≡ row_place s x y + m * row_bytes s
     → AreEven s x y (m + d)
-joined_even s x y m d pos le begins even joins j lt =
+even_below s x y m d pos le begins even joins j lt =
     elim (cases_lt j m) [
       | inl above ↦ even j above
       | inr below ↦
@@ -131,7 +137,7 @@ joined_even s x y m d pos le begins even joins j lt =
           ap (λ (k : ℕ). row_place s x k) at ∙ omega (arith, there, joins, bytes)
     ]
 
--- the row behind the k that are left of a piece is the first of the next
+-- The row behind the k that are left of a piece is the first of the next.
 pub piece_ends : (y h k : ℕ) → 0 < h → y % h + k ≡ h → (y + k) % h ≡ 0
 piece_ends y h k pos left =
     let next : y + k ≡ (y / h + 1) * h + 0 = omega (arith, div-add-mod' y h, left) in
@@ -168,6 +174,7 @@ flat_part w c x y k left top lx ly =
     let q : left * c + ((x - left) * c + k) ≡ (left + (x - left)) * c + k = omega arith in
     rw (q, xs, ys) (flat w c x y k)
 
+-- With a part more, the samples of the rectangle up to its right edge are those that are stored.
 pub filled_part : (bytes old new : List ℕ) (s : Scheme) (r : Rect) (p : Part) → IsSound s → IsPart s r p → HoldsPart bytes s r p new →
     KeepsOthers s r p old new
     → Filled bytes s r p.top p.rows p.left old → Filled bytes s r p.top p.rows (p.left + p.columns) new

@@ -1,4 +1,7 @@
--- The bytes that samples of a row need.
+-- Spans: the bytes that samples of a row need.
+--   span_*, runs_in   a span within its row, and in each row a run of the file
+--   *_read            samples of bytes that were read are those of the file
+--   whole_*           rows as wide as the rectangle
 use Rattle.std.proofs.Common.{◌≡◌, ◌≢◌, ℕ, ◌+◌, ◌*◌, ◌-◌, ◌/◌, ◌%◌, ◌^◌, ◌<◌, ◌≤◌, ◌⊎◌, List, length, get_or, take, drop, sym, ap, ◌∙◌}
 use Rattle.std.proofs.Common.{inl, inr, arith, ◌==◌}
 use Rattle.std.specs.Int.{div_ceil}
@@ -13,12 +16,14 @@ use Rattle.iiif_tiff_read.specs.declared.rows.Span.{Span}
 use Rattle.iiif_tiff_read.specs.Code.{IsSpan, FitsWindow, HoldsRows, KeepsRest}
 use Rattle.iiif_pixel.proofs.Splice.{get_or-put_inside, get_or-put_below, get_or-put_above}
 
+-- A unit has eight bits or one.
 pub eight_or_one : (bits : ℕ) → (bits ≢ 8 → bits ≡ 1) → (bits ≡ 8) ⊎ (bits ≡ 1)
 eight_or_one bits h = elim (cases_Bool (bits == 8)) [
   | inl same ↦ inl (eqb-true bits 8 same)
   | inr other ↦ inr (h (eqb-false bits 8 other))
 ]
 
+-- A span ends within its row.
 pub span_in_row : (bits first n stride : ℕ) (span : Span) → (bits ≢ 8 → bits ≡ 1) → IsSpan bits first n span →
     div_ceil ((first + n) * bits) 8 ≤ stride → span.start + span.len ≤ stride
 span_in_row bits first n stride span h is le = elim (eight_or_one bits h) [
@@ -32,12 +37,14 @@ span_in_row bits first n stride span h is le = elim (eight_or_one bits h) [
       omega (arith, fits, packed.0, packed.1)
 ]
 
+-- A span skips fewer samples than a byte has.
 pub span_skip : (bits first n : ℕ) (span : Span) → (bits ≢ 8 → bits ≡ 1) → IsSpan bits first n span → span.skip < 8
 span_skip bits first n span h is = elim (eight_or_one bits h) [
   | inl eight ↦ omega (arith, (is.whole eight).2)
   | inr one ↦ omega (arith, (is.packed one).2)
 ]
 
+-- A span has the bits of its samples.
 pub span_room : (bits first n : ℕ) (span : Span) → (bits ≢ 8 → bits ≡ 1) → IsSpan bits first n span → (span.skip + n) * bits ≤ 8 * span.len
 span_room bits first n span h is = elim (eight_or_one bits h) [
   | inl eight ↦
@@ -48,7 +55,7 @@ span_room bits first n span h is = elim (eight_or_one bits h) [
       rw (one, packed.1, packed.2) (omega arith)
 ]
 
--- a span of each row is a run of bytes in the file
+-- A span of each row is a run of bytes in the file.
 pub runs_in : (at stride count n : ℕ) (span : Span) → at ≤ 2 ^ 60 → stride ≤ 2 ^ 23 → 0 < count → span.start + span.len ≤ stride →
     at + count * stride ≤ n
     → AreIn n (record { at = at + span.start; stride = stride; len = span.len; count = count })
@@ -56,7 +63,7 @@ runs_in at stride count n span at-le stride-le some in-row fits =
     let last : (count - 1) * stride + stride ≤ count * stride = row_fits (count - 1) stride count stride (omega arith) (omega arith) in
     record { small = (omega arith, stride-le, omega arith); some = some; within = omega arith }
 
--- a sample of a row that was read is that of the row in the file
+-- A sample of a row that was read is that of the row in the file.
 pub row_read : (bits first n j i row stride : ℕ) (span : Span) (bytes read : List ℕ) → (bits ≢ 8 → bits ≡ 1) → IsSpan bits first n span →
     i < n
     → ((b : ℕ) → b < span.len → get_or read (j * span.len + b) 0 ≡ get_or bytes (row + span.start + j * stride + b) 0)
@@ -82,6 +89,7 @@ row_read bits first n j i row stride span bytes read h is lt reads =
           (byte ((first + i) / 8 - first / 8) within))
     ]
 
+-- Samples that are unpacked from the bytes read are those of the rows in the file.
 pub window_read : (bits first row stride : ℕ) (span : Span) (v : Window) (bytes read samples : List ℕ) → (bits ≢ 8 → bits ≡ 1) →
     IsSpan bits first v.columns span
     → ((j b : ℕ) → j < v.rows → b < span.len → get_or read (j * span.len + b) 0 ≡ get_or bytes (row + span.start + j * stride + b) 0)
@@ -90,7 +98,7 @@ pub window_read : (bits first row stride : ℕ) (span : Span) (v : Window) (byte
 window_read bits first row stride span v bytes read samples h is reads held j i lt within =
     held j i lt within ∙ row_read bits first v.columns j i row stride span bytes read h is within (λ b below. reads j b lt below)
 
--- rows as wide as the rectangle lie together among its samples too
+-- Rows as wide as the rectangle, read into its samples, are those of the file.
 pub whole_rows : (bits first row stride m n : ℕ) (span : Span) (v : Window) (bytes old new : List ℕ) → bits ≡ 8 →
     IsSpan bits first v.columns span → FitsWindow v n → length old ≡ n → v.columns ≡ v.width → length new ≡ v.rows * v.width
     → ((j b : ℕ) → j < v.rows → b < span.len → get_or new (j * span.len + b) 0 ≡ get_or bytes (row + span.start + j * stride + b) 0)
@@ -107,6 +115,7 @@ whole_rows bits first row stride m n span v bytes old new eight is fits len wide
     get_or-put_inside (v.top * v.width) m old new (j * span.len + i) room below
     ∙ reads j i lt (omega (arith, run)) ∙ ap (λ (k : ℕ). get_or bytes k 0) there)
 
+-- Rows as wide as the rectangle leave its other rows as they were.
 pub whole_rest : (m n : ℕ) (v : Window) (old new : List ℕ) → FitsWindow v n → length old ≡ n → v.columns ≡ v.width →
     length new ≡ v.rows * v.width → m ≡ v.rows * v.width
     → KeepsRest v v.rows old (put_mid (v.top * v.width) m old new)

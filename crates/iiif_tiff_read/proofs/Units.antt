@@ -19,10 +19,11 @@ units_times n = elim (cases_Bool (n == 16)) [
 product : (w c n u b : ℕ) → u * b ≡ n → w * (c * u) * b ≡ w * c * n
 product w c n u b e = rw (← e) (grind arith)
 
--- its rows are as long, and its pieces end where they did
+-- A row in units takes as many bytes.
 pub units_row : (w c n : ℕ) → div_ceil (w * (c * units_of n) * unit_bits n) 8 ≡ div_ceil (w * c * n) 8
 units_row w c n = ap (λ (m : ℕ). div_ceil m 8) (product w c n (units_of n) (unit_bits n) (units_times n))
 
+-- Pieces in units end where they did.
 pub units_fit : (s : Scheme) (n : ℕ) → FitsIn s n → FitsIn (units s) n
 unfolding piece_bytes
 units_fit s n fits i lt = rw (units_row s.piece_width s.channels s.bits) (fits i lt)
@@ -41,7 +42,7 @@ shown_unit bytes s x y k other =
     let one : s.channels * 1 ≡ s.channels = omega arith in
     rw (e, one) refl
 
--- samples of 8 bits or one that are turned from stored ones are those that are shown
+-- Samples of 8 bits or one that are turned from stored ones are those that are shown.
 pub shown_bytes : (bytes old new : List ℕ) (s : Scheme) (r : Rect) → s.bits ≢ 16 → length old ≡ r.w * r.h * (units s).channels
     → ((i : ℕ) → i < length old → get_or new i 0 ≡ sample_of s.white_is_zero 255 (get_or old i 0)) → HoldsStored bytes (units s) r old →
     HoldsShown bytes s r new
@@ -78,14 +79,14 @@ twice a c k = grind arith
 twice_more : (a c k : ℕ) → 2 * (a * c + k) + 1 ≡ a * (c * 2) + (2 * k + 1)
 twice_more a c k = omega (arith, twice a c k)
 
--- half as many samples as bytes
+-- Samples of 16 bits are half as many as their bytes.
 pub halved : (w h c bits n m : ℕ) → bits ≡ 16 → n ≡ w * h * (c * units_of bits) → m ≡ n / 2 → m ≡ w * h * c
 halved w h c bits n m sixteen n-is m-is =
     let bytes : n ≡ w * h * (c * 2) = n-is ∙ rw sixteen refl in
     let pairs : w * h * (c * 2) ≡ 2 * (w * h * c) = grind arith in
     omega (arith, bytes, pairs, m-is)
 
--- samples of 16 bits that are decoded from stored pairs of bytes are those that are shown
+-- Samples of 16 bits that are decoded from stored pairs of bytes are those that are shown.
 pub shown_pairs : (bytes old new : List ℕ) (s : Scheme) (r : Rect) → s.bits ≡ 16 → length new ≡ r.w * r.h * s.channels
     → ((i : ℕ) → i < length new → get_or new i 0 ≡ sample_of s.white_is_zero 65535 (number s.order w16 old (2 * i))) →
     HoldsStored bytes (units s) r old → HoldsShown bytes s r new

@@ -1,4 +1,8 @@
--- The values of an entry, inside it or at its offset.
+-- Values of an entry, inside it or at its offset.
+--   numbers_push      numbers that are decoded one by one
+--   *_inside          an entry whose values stand in its last four bytes
+--   *_outside         an entry whose values stand at its offset
+--   few_*             at most three values, read into the front of a buffer of twelve bytes
 use Rattle.std.proofs.Common.{◌≡◌, ℕ, ◌+◌, ◌*◌, ◌-◌, ◌<◌, ◌≤◌, List, [], ◌∷◌, ◌++◌, length, get_or, take, drop, map, Some, None, Bool}
 use Rattle.std.proofs.Common.{true, false, ltb, leb, cond, refl, sym, ap, ◌∙◌, arith}
 use Rattle.std.specs.Int.{w32}
@@ -15,21 +19,22 @@ use Rattle.iiif_tiff_read.specs.declared.field_type.FieldType.{FieldType}
 use Rattle.iiif_tiff_read.specs.declared.field_type.FieldType.TheVariants as types
 use Rattle.iiif_tiff_read.specs.Code.{code, first_values}
 
+-- Two functions that agree below n give one list of n values.
 pub same_on_range : (f g : ℕ → ℕ) (n : ℕ) → ((i : ℕ) → i < n → f i ≡ g i) → map f (range_with_len 0 n) ≡ map g (range_with_len 0 n)
 same_on_range f g n each =
     let here : (k : ℕ) → k < n → get_or (map f (range_with_len 0 n)) k 0 ≡ g k = λ k lt.
     get_or-map-range_with_len f 0 n k k 0 lt (omega arith) ∙ each k lt in
     fill_by_all g (map f (range_with_len 0 n)) n 0 (length-map-range_with_len f 0 n) here
 
--- one more number
-pub one_more_number : (o : ByteOrder) (k : ℕ) (bytes items : List ℕ) (i x : ℕ) →
+-- Numbers and the next one are one number more.
+pub numbers_push : (o : ByteOrder) (k : ℕ) (bytes items : List ℕ) (i x : ℕ) →
     items ≡ map (λ j. number o (width_of k) bytes (j * size k)) (range_with_len 0 i)
     → x ≡ number o (width_of k) (take (length bytes - i * size k) (drop (i * size k) bytes)) 0 →
     items ++ x ∷ [] ≡ map (λ j. number o (width_of k) bytes (j * size k)) (range_with_len 0 (i + 1))
-one_more_number Little k bytes items i x so_far one =
+numbers_push Little k bytes items i x so_far one =
     rw (so_far, one, take_rest bytes (i * size k))
     (sym (map-range_with_len_more (λ (j : ℕ). number Little (width_of k) bytes (j * size k)) 0 i i (omega arith)))
-one_more_number Big k bytes items i x so_far one =
+numbers_push Big k bytes items i x so_far one =
     rw (so_far, one, take_rest bytes (i * size k))
     (sym (map-range_with_len_more (λ (j : ℕ). number Big (width_of k) bytes (j * size k)) 0 i i (omega arith)))
 
@@ -69,7 +74,7 @@ kind_from a b false e = absurd cc
 pub kind_is : (t : FieldType) (k : ℕ) → option_map code (Some t) ≡ (if is_unsigned k then Some k else None) → k ≡ code t
 kind_is t k e = kind_from (code t) k (is_unsigned k) e
 
--- nothing is refused of an entry of few bytes
+-- An entry whose values stand inside it is not refused.
 pub fits_inside : (bytes : List ℕ) (e : tiff.Entry) (t : FieldType) (tag : ℕ) (allowed : Bool) → e.kind ≡ code t →
     e.count * size (code t) ≤ 4 → allowed ≡ true → entry_fits bytes tag allowed e ≡ None
 unfolding entry_fits
@@ -77,7 +82,7 @@ fits_inside bytes e t tag allowed k-is le is =
     let inside : leb (e.count * size (code t)) 4 ≡ true = le-leb _ _ le in
     rw (is, k-is, unsigned_code t, inside) refl
 
--- nor of one whose bytes are in the file
+-- An entry whose values stand in the file is not refused.
 pub fits_outside : (bytes : List ℕ) (o : ByteOrder) (e : tiff.Entry) (t : FieldType) (tag off : ℕ) (allowed : Bool) → o ≡ tiff.order bytes →
     e.kind ≡ code t → 4 < e.count * size (code t) → off ≡ number o w32 e.inside 0 → off + e.count * size (code t) ≤ length bytes →
     allowed ≡ true → entry_fits bytes tag allowed e ≡ None
@@ -88,12 +93,13 @@ fits_outside bytes o e t tag off allowed o-is k-is lt off-is fits is =
     let whole : ltb (length bytes) (offset bytes e + e.count * size (code t)) ≡ false = le-ltb _ _ (omega arith) in
     rw (is, k-is, unsigned_code t, outside, whole) refl
 
-pub all_inside : (bytes : List ℕ) (o : ByteOrder) (e : tiff.Entry) (t : FieldType) (tag n : ℕ) (items : List ℕ) → o ≡ tiff.order bytes →
+-- Numbers that are decoded from the last four bytes of an entry are its values.
+pub values_inside : (bytes : List ℕ) (o : ByteOrder) (e : tiff.Entry) (t : FieldType) (tag n : ℕ) (items : List ℕ) → o ≡ tiff.order bytes →
     e.kind ≡ code t → e.count * size (code t) ≤ 4
     → items ≡ map (λ i. number o (width_of (code t)) e.inside (i * size (code t))) (range_with_len 0 n) →
     (entry_fits bytes tag true e ≡ None) × (items ≡ values bytes e n)
 unfolding entry_fits tiff.value
-all_inside bytes o e t tag n items o-is k-is le items-is =
+values_inside bytes o e t tag n items o-is k-is le items-is =
     let inside : leb (e.count * size (code t)) 4 ≡ true = le-leb _ _ le in
     let each : (i : ℕ) → i < n → number o (width_of (code t)) e.inside (i * size (code t)) ≡ tiff.value bytes e i = λ i below.
     rw (k-is, inside, ← o-is) refl in (
@@ -102,13 +108,14 @@ all_inside bytes o e t tag n items o-is k-is le items-is =
           same_on_range (λ i. number o (width_of (code t)) e.inside (i * size (code t))) (tiff.value bytes e) n each,
     )
 
-pub all_outside : (bytes : List ℕ) (o : ByteOrder) (e : tiff.Entry) (t : FieldType) (tag n off : ℕ) (items buffer : List ℕ) →
+-- Numbers that are decoded from the bytes at the offset of an entry are its values.
+pub values_outside : (bytes : List ℕ) (o : ByteOrder) (e : tiff.Entry) (t : FieldType) (tag n off : ℕ) (items buffer : List ℕ) →
     o ≡ tiff.order bytes → e.kind ≡ code t → 4 < e.count * size (code t)
     → off ≡ number o w32 e.inside 0 → off + e.count * size (code t) ≤ length bytes → buffer ≡ take (n * size (code t)) (drop off bytes)
     → items ≡ map (λ i. number o (width_of (code t)) buffer (i * size (code t))) (range_with_len 0 n) →
     (entry_fits bytes tag true e ≡ None) × (items ≡ values bytes e n)
 unfolding entry_fits tiff.value
-all_outside bytes o e t tag n off items buffer o-is k-is lt off-is fits buffer-is items-is =
+values_outside bytes o e t tag n off items buffer o-is k-is lt off-is fits buffer-is items-is =
     let outside : leb (e.count * size (code t)) 4 ≡ false = lt-leb _ _ lt in
     let at : off ≡ offset bytes e = off-is ∙ rw o-is refl in
     let each : (i : ℕ) → i < n → number o (width_of (code t)) buffer (i * size (code t)) ≡ tiff.value bytes e i =
@@ -120,7 +127,7 @@ all_outside bytes o e t tag n off items buffer o-is k-is lt off-is fits buffer-i
           same_on_range (λ i. number o (width_of (code t)) buffer (i * size (code t))) (tiff.value bytes e) n each,
     )
 
--- the values of a field that is there
+-- The values of an entry are those of its field.
 pub of_field : (bytes : List ℕ) (tag n : ℕ) (e : tiff.Entry) → tiff.entry_of bytes tag ≡ Some e →
     values bytes e n ≡ first_values bytes tag n
 unfolding tiff.value_or first_values
@@ -128,7 +135,7 @@ of_field bytes tag n e is =
     let here : (i : ℕ) → i < n → tiff.value bytes e i ≡ tiff.value_or bytes tag i 0 = λ i below. rw is refl in
     same_on_range (tiff.value bytes e) (λ i. tiff.value_or bytes tag i 0) n here
 
--- the bytes of few values, read into the front of a buffer
+-- The front of a buffer that was read into has the bytes of the file.
 pub few_bytes : (buffer new file : List ℕ) (off n : ℕ) → new ≡ take (length (take n buffer)) (drop off file) → n ≤ length buffer →
     off + n ≤ length file → take n (new ++ drop n buffer) ≡ take n (drop off file)
 few_bytes buffer new file off n new-is room fits =
@@ -137,13 +144,15 @@ few_bytes buffer new file off n new-is room fits =
     let le : n ≤ length new = omega (arith, len) in
     take-append-le n new (drop n buffer) le ∙ ap (take n) read ∙ take-take n n (drop off file) (omega arith)
 
+-- The front of the buffer is read from within the file.
 pub few_room : (buffer : List ℕ) (off n m : ℕ) → n ≤ length buffer → off + n ≤ m → off + length (take n buffer) ≤ m
 few_room buffer off n m room fits = rw (length-take-le n buffer room) fits
 
--- the bytes that were read, and the rest of the buffer, are enough
+-- The bytes that were read, and the rest of the buffer behind them, are n or more.
 pub few_kept : (buffer new : List ℕ) (n : ℕ) → length new ≡ length (take n buffer) → n ≤ length buffer → n ≤ length (new ++ drop n buffer)
 few_kept buffer new n len-is room = omega (arith, length-append new (drop n buffer), length-take-le n buffer room, len-is)
 
+-- Three values take at most twelve bytes.
 pub few_fit : (t : FieldType) (n : ℕ) → n ≤ 3 → n * size (code t) ≤ 12
 few_fit types.Byte n le = omega arith
 few_fit types.Short n le = omega arith

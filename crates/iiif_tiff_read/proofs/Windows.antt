@@ -7,7 +7,7 @@ use Rattle.iiif_tiff_read.specs.declared.rows.Window.{Window}
 use Rattle.iiif_tiff_read.specs.Code.{FitsWindow, HoldsRows, KeepsRest}
 use Rattle.iiif_pixel.proofs.Splice.{get_or-put_inside, get_or-put_below, get_or-put_above}
 
--- one row more of the window
+-- A row that is written into the window holds its samples.
 pub row_held : (f : ℕ → ℕ → ℕ) (v : Window) (n j m : ℕ) (old row : List ℕ) → FitsWindow v n → length old ≡ n → j < v.rows →
     length row ≡ v.columns
     → ((i : ℕ) → i < v.columns → get_or row i 0 ≡ f j i) → HoldsRows f v j old →
@@ -52,6 +52,7 @@ row_apart v j k q fits lq out = elim (cases_lt k (v.top + j)) [
     at_row same (inr (inr (inl c))) = inl (rw same (omega arith))
     at_row same (inr (inr (inr d))) = inr (rw same (omega arith))
 
+-- A row that is written into the window leaves the rest as it was.
 pub row_rest : (v : Window) (n j m : ℕ) (first old row : List ℕ) → FitsWindow v n → length old ≡ n → j < v.rows → length row ≡ v.columns →
     m ≡ v.columns
     → KeepsRest v j first old → KeepsRest v (j + 1) first (put_mid ((v.top + j) * v.width + v.left) m old row)

@@ -1,6 +1,6 @@
 use Rattle.std.proofs.Common.{below_more}
 use Rattle.iiif_tiff.specs.Tiff as tiff
-use Rattle.iiif_tiff_read.proofs.PieceLemmas.{left_next, left_fails, left_none, fault_of, piece_known, needed_here}
+use Rattle.iiif_tiff_read.proofs.PieceLemmas.{first_next, first_fails, first_none, fault_of, piece_known, needed_here}
 use Rattle.std.proofs.lemmas.Result.{err_from_is_err_and}
 use Rattle.iiif_tiff_read.proofs.fields.Fields.check_pieces.Goals as goal
 
@@ -13,7 +13,7 @@ returns-in_err-check_piece-clause-checks g c =
     c.args.offsets.now c.args.counts.now c.loop-i.i
     c.row_bytes-row_bytes.result c.piece_bytes.result c.loop-i-test.true c.new-tags.ensures.counts c.row_bytes-row_bytes.ensures.bytes
     c.piece_bytes.ensures.bytes p)
-    (λ p refusal fails. left_fails (tiff.piece (g.S.Source.bytes c.args.self.now.source.now)) c.args.grid.now.count c.loop-i.i _ refusal
+    (λ p refusal fails. first_fails (tiff.piece (g.S.Source.bytes c.args.self.now.source.now)) c.args.grid.now.count c.loop-i.i _ refusal
     c.loop-i-test.true (c.loop-i.invariant.1 p) fails)
     (c.in_err-check_piece.ensures.check c.loop-i.i))
 
@@ -29,13 +29,13 @@ loop-i-preserved g c = (
       c.piece_bytes.ensures.bytes p
       in
       let passes = c.in_ok-check_piece.ensures.check c.loop-i.i known in
-      left_next (tiff.piece (g.S.Source.bytes c.args.self.now.source.now)) c.args.grid.now.count c.loop-i.i _ c.loop-i-test.true passes.0
+      first_next (tiff.piece (g.S.Source.bytes c.args.self.now.source.now)) c.args.grid.now.count c.loop-i.i _ c.loop-i-test.true passes.0
       (c.loop-i.invariant.1 p),
 )
 
 pub returns-clause-checks : goal.returns-clause-checks
 returns-clause-checks g c = λ p. (
-  left_none (tiff.piece (g.S.Source.bytes c.args.self.now.source.now)) c.args.grid.now.count c.loop-i.i _
+  first_none (tiff.piece (g.S.Source.bytes c.args.self.now.source.now)) c.args.grid.now.count c.loop-i.i _
       c.loop-i-test.false (c.loop-i.invariant.1 p),
   tt,
 )

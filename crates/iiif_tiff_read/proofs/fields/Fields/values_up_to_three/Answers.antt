@@ -1,6 +1,6 @@
 use Rattle.std.proofs.Common.{◌*◌, ◌≤◌, refl, sym, ◌∙◌, arith}
 use Rattle.std.proofs.lemmas.List.{length-take-le}
-use Rattle.iiif_tiff_read.proofs.Values.{kind_is, all_inside, all_outside, few_bytes, few_fit, few_kept, few_room}
+use Rattle.iiif_tiff_read.proofs.Values.{kind_is, values_inside, values_outside, few_bytes, few_fit, few_kept, few_room}
 use Rattle.iiif_tiff_read.specs.Code.{endian, entry_view}
 use Rattle.iiif_tiff_read.proofs.fields.Fields.values_up_to_three.Goals as goal
 
@@ -47,7 +47,7 @@ decode-requires-2-clause-bytes g c =
 
 pub returns-then-len-le4-clause-values : goal.returns-then-len-le4-clause-values
 returns-then-len-le4-clause-values g c = λ p. rw c.if-allowed.true
-    (all_inside (g.S.Source.bytes c.args.self.now.source.now) (endian c.args.self.now.order) (entry_view c.args.entry) c.in-Some.kind
+    (values_inside (g.S.Source.bytes c.args.self.now.source.now) (endian c.args.self.now.order) (entry_view c.args.entry) c.in-Some.kind
     c.args.tag c.args.entry.count c.decode.result
     p.0.order_is (kind_is c.in-Some.kind c.args.entry.kind c.in-Some.ensures) (rw c.size.ensures at c.if-len-le4.true) c.decode.ensures)
 
@@ -58,7 +58,7 @@ returns-clause-values g c = λ p.
     let there = few_bytes _ c.read_at.new.buffer (g.S.Source.bytes c.args.self.now.source.now) c.long-offset.result n
     (c.in_ok-read_at.ensures.bytes_there p.1) room (omega (arith, c.if-len-offset.false)) in
     rw c.if-allowed.true
-    (all_outside (g.S.Source.bytes c.args.self.now.source.now) (endian c.args.self.now.order) (entry_view c.args.entry) c.in-Some.kind
+    (values_outside (g.S.Source.bytes c.args.self.now.source.now) (endian c.args.self.now.order) (entry_view c.args.entry) c.in-Some.kind
     c.args.tag c.args.entry.count c.long-offset.result c.decode-2.result _
     p.0.order_is (kind_is c.in-Some.kind c.args.entry.kind c.in-Some.ensures) (rw c.size.ensures at c.if-len-le4.false)
     c.long-offset.ensures

@@ -2,7 +2,7 @@ use Rattle.std.proofs.Common.{◌≡◌, ℕ, ◌+◌, ◌*◌, ◌%◌, ◌<◌
 use Rattle.iiif_tiff.specs.Tiff.{row_bytes}
 use Rattle.iiif_tiff_read.specs.Code.{row_place}
 use Rattle.iiif_tiff_read.specs.Images.{image_units}
-use Rattle.iiif_tiff_read.proofs.Places.{piece_even, joined_even, piece_ends}
+use Rattle.iiif_tiff_read.proofs.Places.{piece_even, even_below, piece_ends}
 use Rattle.iiif_tiff_read.proofs.image.Image.even_rows.Goals as goal
 
 pub loop-rows-init : goal.loop-rows-init
@@ -28,7 +28,7 @@ loop-rows-preserved c =
     rw (c.row_place-first.ensures.place, c.row_bytes-stride.ensures.bytes) refl in (
       omega (arith, c.loop-rows.invariant.0),
       omega (arith, c.min-rows-in-loop-rows.ensures, c.loop-rows-test.true),
-      joined_even s c.args.x c.args.y m d some (omega (arith, c.min-rows-in-loop-rows.ensures)) begins c.loop-rows.invariant.2 joins,
+      even_below s c.args.x c.args.y m d some (omega (arith, c.min-rows-in-loop-rows.ensures)) begins c.loop-rows.invariant.2 joins,
       λ more. ap (λ (k : ℕ). k % s.piece_height) (omega arith) ∙
           piece_ends (c.args.y + m) s.piece_height d some (omega (arith, begins, c.min-rows-in-loop-rows.ensures, more)),
     )
