@@ -46,6 +46,6 @@ pub(crate) fn accept<R, S: Source<R>>(
     Ok(Accepted {
         resolved,
         canonical: canonical(&resolved, dim, kind, limits),
-        kind: OutKind::of(kind, layout.depth(), request.quality),
+        kind: OutKind::for_quality(kind, layout.depth(), request.quality),
     })
 }

@@ -1,4 +1,4 @@
--- The rows of a band are rows of the picture.
+-- Rows of a band are rows of the picture, so strips of bands make the strip of the picture.
 use Rattle.std.proofs.Common.{◌≡◌, ℕ, zero, suc, ◌+◌, ◌*◌, ◌<◌, List, [], ◌∷◌, ◌++◌, refl, sym, ap, ◌∙◌, arith, append_assoc, true, false}
 use Rattle.std.proofs.Common.{ltb, inl, inr}
 use Rattle.std.proofs.lemmas.List.{append-nil}
@@ -62,29 +62,34 @@ strip_of_band : (p : Picture) (k : OutKind) (y n : ℕ) → p.channels ≡ sampl
 unfolding strip
 strip_of_band p k y n e = joined-same n (row k (band p y n)) (λ j. row k p (y + j)) (λ j lj. row_of_band p k y n j e lj)
 
-pub next_band : (p : Picture) (k : OutKind) (y m n : ℕ) → p.channels ≡ samples_per_pixel k →
+-- The strip of m + n rows is that of the first m, and then that of the n below.
+pub strip_more_rows : (p : Picture) (k : OutKind) (y m n : ℕ) → p.channels ≡ samples_per_pixel k →
     strip k (band p y (m + n)) ≡ strip k (band p y m) ++ strip k (band p (y + m) n)
-next_band p k y m n e =
+strip_more_rows p k y m n e =
     rw (strip_of_band p k y (m + n) e, strip_of_band p k y m e, strip_of_band p k (y + m) n e)
     (joined-add m n (λ j. row k p (y + j)) ∙ ap (λ (s : List ℕ). joined m (λ j. row k p (y + j)) ++ s)
     (joined-same n _ _ (λ i li. ap (row k p) (omega arith))))
 
-pub whole_band : (p : Picture) (k : OutKind) → p.channels ≡ samples_per_pixel k → strip k (band p 0 p.height) ≡ strip k p
+-- The strip of the band of all rows is that of the picture.
+pub strip_all_rows : (p : Picture) (k : OutKind) → p.channels ≡ samples_per_pixel k → strip k (band p 0 p.height) ≡ strip k p
 unfolding strip
-whole_band p k e = joined-same p.height (row k (band p 0 p.height)) (row k p)
+strip_all_rows p k e = joined-same p.height (row k (band p 0 p.height)) (row k p)
     (λ j lj. row_of_band p k 0 p.height j e lj ∙ ap (row k p) (omega arith))
 
-pub no_rows : (p : Picture) (k : OutKind) (y : ℕ) → strip k (band p y 0) ≡ []
+-- The strip of a band without rows is empty.
+pub strip_no_rows : (p : Picture) (k : OutKind) (y : ℕ) → strip k (band p y 0) ≡ []
 unfolding strip
-no_rows p k y = refl
+strip_no_rows p k y = refl
 
-all_bands : (p : Picture) (k : OutKind) (y : ℕ) (heights : List ℕ) → p.channels ≡ samples_per_pixel k →
+-- The strips of bands, one after another, are the strip of the band that they cover.
+strip_bands_from : (p : Picture) (k : OutKind) (y : ℕ) (heights : List ℕ) → p.channels ≡ samples_per_pixel k →
     flat_map (strip k) (bands p y heights) ≡ strip k (band p y (sum heights))
-all_bands p k y [] e = sym (no_rows p k y)
-all_bands p k y (n ∷ ns) e =
+strip_bands_from p k y [] e = sym (strip_no_rows p k y)
+strip_bands_from p k y (n ∷ ns) e =
     let total : sum (n ∷ ns) ≡ n + sum ns = sum_by-cons (λ (x : ℕ). x) n ns in
-    rw (all_bands p k (y + n) ns e) (sym (next_band p k y n (sum ns) e) ∙ ap (λ (m : ℕ). strip k (band p y m)) (sym total))
+    rw (strip_bands_from p k (y + n) ns e) (sym (strip_more_rows p k y n (sum ns) e) ∙ ap (λ (m : ℕ). strip k (band p y m)) (sym total))
 
-pub bands_are : (p : Picture) (k : OutKind) (heights : List ℕ) → p.channels ≡ samples_per_pixel k → sum heights ≡ p.height →
+-- The strips of bands that cover a picture, one after another, are its strip.
+pub strip_bands : (p : Picture) (k : OutKind) (heights : List ℕ) → p.channels ≡ samples_per_pixel k → sum heights ≡ p.height →
     flat_map (strip k) (bands p 0 heights) ≡ strip k p
-bands_are p k heights e total = rw (all_bands p k 0 heights e, total) (whole_band p k e)
+strip_bands p k heights e total = rw (strip_bands_from p k 0 heights e, total) (strip_all_rows p k e)

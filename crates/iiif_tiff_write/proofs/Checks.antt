@@ -1,4 +1,4 @@
--- A written file passes every check of the reader.
+-- A written file passes each check of a reader.
 use Rattle.std.proofs.Common.{◌≡◌, ℕ, ◌+◌, ◌*◌, ◌-◌, ◌<◌, ◌≤◌, ◌^◌, List, [], ◌∷◌, ◌++◌, length, Some, None, refl, true, false, ltb, eqb}
 use Rattle.std.proofs.Common.{◌∙◌, arith}
 use Rattle.std.specs.Prelude.{min}
@@ -137,7 +137,7 @@ grid_from b h strips e is some =
     let a : eqb h 0 ≡ false = ne_eqb h 0 (λ z. omega arith) in
     rw (strips, e, is, a) refl
 
--- what the fields of a written file say of the strip
+-- The scheme that a reader takes from the fields: one strip of all rows.
 abbrev pub scheme_of : OutKind → Dim → tiff.Scheme
 scheme_of k d = record {
   order = Little;
@@ -153,7 +153,7 @@ scheme_of k d = record {
   offsets = strip_offset k ∷ [];
 }
 
--- the fields of a file b with the head of such a picture
+-- The values that a reader finds in a file b with the head of such a picture.
 pub record Fields (b : List ℕ) (k : OutKind) (d : Dim) : Type 0 where
   pub width : tiff.width b ≡ d.w
   pub height : tiff.height b ≡ d.h
@@ -170,6 +170,7 @@ scheme_from : (b : List ℕ) (k : OutKind) (d : Dim) → tiff.order b ≡ Little
 scheme_from b k d o w-is h-is c n z strips rows offset wp hp =
     rw (o, strips, w-is, h-is, c, n, z, rows, one_piece d.w wp, one_piece d.h hp, strips, offset) refl
 
+-- A reader finds these values in each file.
 pub fields : (k : OutKind) (d : Dim) (s : List ℕ) → IsReadable d → file_len k d < 2 ^ 32 → Fields (head_of k d ++ s) k d
 fields k d s l small =
     let b = head_of k d ++ s in
@@ -195,6 +196,7 @@ fields k d s l small =
           l.height_some;
     }
 
+-- A reader takes a row to be as long as it is.
 pub row_bytes_are : (k : OutKind) (d : Dim) → tiff.row_bytes (scheme_of k d) ≡ row_len k d.w
 row_bytes_are Gray d = omega arith
 row_bytes_are Rgb d = omega arith
@@ -230,6 +232,7 @@ pieces_from b k d f o n wp hp fits =
 
 -- ---- The whole file
 
+-- A reader refuses no file.
 pub passes : (k : OutKind) (d : Dim) (s : List ℕ) → IsReadable d → length s ≡ strip_len k d → file_len k d < 2 ^ 32 →
     tiff.refusal_of (head_of k d ++ s) ≡ None
 unfolding tiff.refusal_of

@@ -1,4 +1,4 @@
--- The head, piece after piece.
+-- The head as the code writes it: one piece after another.
 use Rattle.std.proofs.Common.{◌≡◌, List, ℕ, [], ◌++◌, refl}
 use Rattle.std.specs.Int.{w16, w32, to_le_bytes}
 use Rattle.iiif_pixel.specs.declared.geometry.Dim.{Dim}
@@ -10,7 +10,7 @@ use Rattle.iiif_tiff_write.specs.File.{photometric, strip_offset, strip_len}
 use Rattle.iiif_tiff_write.specs.declared.kind.OutKind.{OutKind}
 use Rattle.iiif_tiff_write.specs.declared.kind.OutKind.TheVariants.{Gray, Rgb, Bitonal, Gray16, Rgb16}
 
--- as they are put
+-- the pieces, in the order in which they are appended
 abbrev pub pieces : OutKind → Dim → List ℕ
 pieces k d =
     []
@@ -31,6 +31,7 @@ pieces k d =
     ++ to_le_bytes w32 0
     ++ outside k
 
+-- The pieces, one after another, are the head.
 pub pieces_are : (k : OutKind) (d : Dim) → pieces k d ≡ head_of k d
 unfolding head_of
 pieces_are Gray d = refl

@@ -1,4 +1,4 @@
--- Rows of bits, byte by byte.
+-- Rows of a strip as the code appends them: byte by byte where they are bits, sample by sample where they are deep.
 use Rattle.std.proofs.Common.{◌≡◌, ℕ, zero, suc, ◌+◌, ◌*◌, ◌/◌, ◌<◌, ◌≤◌, List, [], ◌∷◌, ◌++◌, length, get_or, take, add-one, refl, sym}
 use Rattle.std.proofs.Common.{ap, subst, ◌∙◌, ◌⊎◌, arith, append_assoc, true, false, ltb, inl, inr}
 use Rattle.std.specs.Int.{div_ceil, to_le_bytes, w16}
@@ -17,33 +17,37 @@ use Rattle.iiif_tiff_write.specs.OutKind.{samples_per_pixel}
 use Rattle.iiif_tiff_write.specs.File.{row, strip, bit_at, shorts_of}
 use Rattle.iiif_tiff_write.specs.Code.{bit_of, byte_from, packed_bytes, packed_row, rows_before}
 
+-- No bytes are packed at first.
 pub packed_bytes_none : (s : List ℕ) → packed_bytes s 0 ≡ []
 unfolding packed_bytes
 packed_bytes_none s = refl
 
+-- One byte more is that of the next eight samples.
 pub packed_bytes_more : (s : List ℕ) (j : ℕ) → packed_bytes s (j + 1) ≡ packed_bytes s j ++ byte_from s (8 * j) ∷ []
 unfolding packed_bytes
 packed_bytes_more s j = joined_more j _
 
--- one byte more
-pub pack_more : (out before after s : List ℕ) (j byte : ℕ) → before ≡ out ++ packed_bytes s j → byte ≡ byte_from s (8 * j) →
+-- Where the byte of the next eight samples is appended, one byte more is packed.
+pub packed_bytes_push : (out before after s : List ℕ) (j byte : ℕ) → before ≡ out ++ packed_bytes s j → byte ≡ byte_from s (8 * j) →
     after ≡ before ++ byte ∷ [] → after ≡ out ++ packed_bytes s (j + 1)
-pack_more out before after s j byte so_far is more =
+packed_bytes_push out before after s j byte so_far is more =
     more ∙ rw (so_far, is, packed_bytes_more s j) (append_assoc out (packed_bytes s j) (byte_from s (8 * j) ∷ []))
 
--- the last byte, which is not full
-pub pack_end : (out before after s : List ℕ) (j n byte : ℕ) → before ≡ out ++ packed_bytes s j → byte ≡ byte_from s (8 * n) →
+-- Where the byte of the last samples, fewer than eight, is appended, the whole row is packed.
+pub packed_row_push : (out before after s : List ℕ) (j n byte : ℕ) → before ≡ out ++ packed_bytes s j → byte ≡ byte_from s (8 * n) →
     after ≡ before ++ byte ∷ [] → n ≡ length s / 8 → 8 * n < length s → j ≡ n → after ≡ out ++ packed_row s
-pack_end out before after s j n byte so_far is more n-is lt same =
+packed_row_push out before after s j n byte so_far is more n-is lt same =
     let j-is : byte ≡ byte_from s (8 * j) = is ∙ ap (λ (i : ℕ). byte_from s (8 * i)) (sym same) in
-    pack_more out before after s j byte so_far j-is more ∙ ap (λ (i : ℕ). out ++ packed_bytes s i) (last_is j n same n-is lt)
+    packed_bytes_push out before after s j byte so_far j-is more ∙ ap (λ (i : ℕ). out ++ packed_bytes s i) (last_is j n same n-is lt)
   where
     last_is : (j n : ℕ) → j ≡ n → n ≡ length s / 8 → 8 * n < length s → j + 1 ≡ div_ceil (length s) 8
     last_is j n same n-is lt = omega arith
 
+-- All bytes are packed where no samples are left.
 pub packed_bytes_all : (s : List ℕ) (n : ℕ) → n ≡ length s / 8 → length s ≤ 8 * n → packed_bytes s n ≡ packed_row s
 packed_bytes_all s n n-is le = ap (packed_bytes s) (omega arith)
 
+-- The byte of the last samples completes the row.
 pub packed_bytes_last : (s : List ℕ) (n : ℕ) → n ≡ length s / 8 → 8 * n < length s →
     packed_bytes s n ++ byte_from s (8 * n) ∷ [] ≡ packed_row s
 packed_bytes_last s n n-is lt = sym (packed_bytes_more s n) ∙ ap (packed_bytes s) (omega arith)
@@ -65,10 +69,10 @@ bit_of_span p y i e top = elim (cases_lt i p.width) [
   | inr outside ↦ let is : ltb i p.width ≡ false = le-ltb _ _ outside in rw (length-span p y e, is) refl
 ]
 
--- the row of a picture with one channel
-pub packed_span : (p : Picture) (y : ℕ) → p.channels ≡ 1 → p.top ≡ 255 → packed_row (span_of p 0 y p.width) ≡ row Bitonal p y
+-- A row of a gray picture, packed, is its row of bits.
+pub packed_row_span : (p : Picture) (y : ℕ) → p.channels ≡ 1 → p.top ≡ 255 → packed_row (span_of p 0 y p.width) ≡ row Bitonal p y
 unfolding packed_bytes byte_from row
-packed_span p y e top =
+packed_row_span p y e top =
     let s = span_of p 0 y p.width in
     ap (λ (n : ℕ). joined (div_ceil n 8) (λ j. byte_from s (8 * j) ∷ [])) (length-span p y e)
     ∙ joined-same (div_ceil p.width 8) _ _ (λ j l. rw (
@@ -82,51 +86,57 @@ packed_span p y e top =
       bit_of_span p y (8 * j + 7) e top,
     ) refl)
 
+-- No rows are written at first.
 pub rows_before_none : (k : OutKind) (p : Picture) → rows_before k p 0 ≡ []
 unfolding rows_before
 rows_before_none k p = refl
 
+-- One row more is the next row.
 pub rows_before_more : (k : OutKind) (p : Picture) (y : ℕ) → rows_before k p (y + 1) ≡ rows_before k p y ++ row k p y
 unfolding rows_before
 rows_before_more k p y = joined_more y _
 
+-- All rows are the strip.
 pub rows_before_all : (k : OutKind) (p : Picture) → rows_before k p p.height ≡ strip k p
 unfolding rows_before strip
 rows_before_all k p = refl
 
--- the span of a whole row has a sample a column
+-- A row of a gray picture has a sample a column.
 pub length-row_span : (p : Picture) (y w : ℕ) (s : List ℕ) → p.channels ≡ 1 → w ≡ p.width → s ≡ span_of p 0 y w → length s ≡ p.width
 length-row_span p y w s e whole is = rw (is, whole) (length-span p y e)
 
--- one row more
-pub row_more : (p : Picture) (y w : ℕ) (out before after s : List ℕ) → p.channels ≡ 1 → p.top ≡ 255 → w ≡ p.width → s ≡ span_of p 0 y w
-    → before ≡ out ++ rows_before Bitonal p y → after ≡ before ++ packed_row s → after ≡ out ++ rows_before Bitonal p (y + 1)
-row_more p y w out before after s e top whole is so_far more =
-    more ∙ rw (so_far, is, whole, packed_span p y e top, rows_before_more Bitonal p y)
+-- Where the next row of bits is appended, one row more is written.
+pub rows_before_push : (p : Picture) (y w : ℕ) (out before after s : List ℕ) → p.channels ≡ 1 → p.top ≡ 255 → w ≡ p.width
+    → s ≡ span_of p 0 y w → before ≡ out ++ rows_before Bitonal p y → after ≡ before ++ packed_row s
+    → after ≡ out ++ rows_before Bitonal p (y + 1)
+rows_before_push p y w out before after s e top whole is so_far more =
+    more ∙ rw (so_far, is, whole, packed_row_span p y e top, rows_before_more Bitonal p y)
     (append_assoc out (rows_before Bitonal p y) (row Bitonal p y))
 
--- there is room for one row more
-pub row_fits : (r y h len before cap : ℕ) → len ≡ before + r * y → before + r * h ≤ cap → y < h → len + r ≤ cap
-row_fits r y h len before cap is room below = omega (arith, mul-le r (y + 1) r h (omega arith) (omega arith))
+-- Where there is room for all rows, there is room for one more.
+pub room_more : (r y h len before cap : ℕ) → len ≡ before + r * y → before + r * h ≤ cap → y < h → len + r ≤ cap
+room_more r y h len before cap is room below = omega (arith, mul-le r (y + 1) r h (omega arith) (omega arith))
 
--- rows of whole bytes are the samples
-rows_are : (p : Picture) → IsWhole p → joined p.height (λ y. row_of p.width p.channels (λ x k. sample_at p x y k)) ≡ p.samples
+-- The rows of a picture, one after another, are its samples.
+joined_rows : (p : Picture) → IsWhole p → joined p.height (λ y. row_of p.width p.channels (λ x k. sample_at p x y k)) ≡ p.samples
 unfolding samples_of
-rows_are p w = ap (λ (q : Picture). q.samples) (picture_of-samples p w)
+joined_rows p w = ap (λ (q : Picture). q.samples) (picture_of-samples p w)
 
-gray_rows : (p : Picture) → IsWhole p → p.channels ≡ 1 → strip Gray p ≡ p.samples
+strip_gray : (p : Picture) → IsWhole p → p.channels ≡ 1 → strip Gray p ≡ p.samples
 unfolding strip row
-gray_rows p w e = subst (λ (c : ℕ). joined p.height (λ y. row_of p.width c (λ x k. sample_at p x y k)) ≡ p.samples) e (rows_are p w)
+strip_gray p w e = subst (λ (c : ℕ). joined p.height (λ y. row_of p.width c (λ x k. sample_at p x y k)) ≡ p.samples) e (joined_rows p w)
 
-rgb_rows : (p : Picture) → IsWhole p → p.channels ≡ 3 → strip Rgb p ≡ p.samples
+strip_rgb : (p : Picture) → IsWhole p → p.channels ≡ 3 → strip Rgb p ≡ p.samples
 unfolding strip row
-rgb_rows p w e = subst (λ (c : ℕ). joined p.height (λ y. row_of p.width c (λ x k. sample_at p x y k)) ≡ p.samples) e (rows_are p w)
+strip_rgb p w e = subst (λ (c : ℕ). joined p.height (λ y. row_of p.width c (λ x k. sample_at p x y k)) ≡ p.samples) e (joined_rows p w)
 
-pub whole_rows : (p : Picture) (k : OutKind) → IsWhole p → p.channels ≡ samples_per_pixel k → (k ≡ Gray) ⊎ (k ≡ Rgb) → strip k p ≡ p.samples
-whole_rows p k w e (inl gray) = rw gray (gray_rows p w (rw gray at e))
-whole_rows p k w e (inr rgb) = rw rgb (rgb_rows p w (rw rgb at e))
+-- The strip of a file of 8 bits is the samples.
+pub strip_8_bits : (p : Picture) (k : OutKind) → IsWhole p → p.channels ≡ samples_per_pixel k → (k ≡ Gray) ⊎ (k ≡ Rgb) →
+    strip k p ≡ p.samples
+strip_8_bits p k w e (inl gray) = rw gray (strip_gray p w (rw gray at e))
+strip_8_bits p k w e (inr rgb) = rw rgb (strip_rgb p w (rw rgb at e))
 
--- ---- samples of 16 bits
+-- ---- Samples of 16 bits
 
 flat_map-joined : (f : ℕ → List ℕ) (n : ℕ) (g : ℕ → List ℕ) → flat_map f (joined n g) ≡ joined n (λ i. flat_map f (g i))
 flat_map-joined f zero g = refl
@@ -141,30 +151,31 @@ shorts_row w c f =
 shorts_rows : (p : Picture) → IsWhole p → joined p.height (λ y. shorts_of p.width p.channels (λ x k. sample_at p x y k)) ≡ flat_map
     (to_le_bytes w16) p.samples
 shorts_rows p w =
-    sym (ap (flat_map (to_le_bytes w16)) (sym (rows_are p w)) ∙ flat_map-joined (to_le_bytes w16) p.height _ ∙
+    sym (ap (flat_map (to_le_bytes w16)) (sym (joined_rows p w)) ∙ flat_map-joined (to_le_bytes w16) p.height _ ∙
     joined-same p.height _ _ (λ y ly. shorts_row p.width p.channels (λ x k. sample_at p x y k)))
 
-gray16_rows : (p : Picture) → IsWhole p → p.channels ≡ 1 → strip Gray16 p ≡ flat_map (to_le_bytes w16) p.samples
+strip_gray16 : (p : Picture) → IsWhole p → p.channels ≡ 1 → strip Gray16 p ≡ flat_map (to_le_bytes w16) p.samples
 unfolding strip row
-gray16_rows p w e = subst (λ (c : ℕ). joined p.height (λ y. shorts_of p.width c (λ x k. sample_at p x y k)) ≡ flat_map (to_le_bytes w16)
+strip_gray16 p w e = subst (λ (c : ℕ). joined p.height (λ y. shorts_of p.width c (λ x k. sample_at p x y k)) ≡ flat_map (to_le_bytes w16)
     p.samples) e (shorts_rows p w)
 
-rgb16_rows : (p : Picture) → IsWhole p → p.channels ≡ 3 → strip Rgb16 p ≡ flat_map (to_le_bytes w16) p.samples
+strip_rgb16 : (p : Picture) → IsWhole p → p.channels ≡ 3 → strip Rgb16 p ≡ flat_map (to_le_bytes w16) p.samples
 unfolding strip row
-rgb16_rows p w e = subst (λ (c : ℕ). joined p.height (λ y. shorts_of p.width c (λ x k. sample_at p x y k)) ≡ flat_map (to_le_bytes w16)
+strip_rgb16 p w e = subst (λ (c : ℕ). joined p.height (λ y. shorts_of p.width c (λ x k. sample_at p x y k)) ≡ flat_map (to_le_bytes w16)
     p.samples) e (shorts_rows p w)
 
-pub deep_rows : (p : Picture) (k : OutKind) → IsWhole p → p.channels ≡ samples_per_pixel k → (k ≡ Gray16) ⊎ (k ≡ Rgb16) →
+-- The strip of a file of 16 bits is the samples, two bytes each.
+pub strip_16_bits : (p : Picture) (k : OutKind) → IsWhole p → p.channels ≡ samples_per_pixel k → (k ≡ Gray16) ⊎ (k ≡ Rgb16) →
     strip k p ≡ flat_map (to_le_bytes w16) p.samples
-deep_rows p k w e (inl gray) = rw gray (gray16_rows p w (rw gray at e))
-deep_rows p k w e (inr rgb) = rw rgb (rgb16_rows p w (rw rgb at e))
+strip_16_bits p k w e (inl gray) = rw gray (strip_gray16 p w (rw gray at e))
+strip_16_bits p k w e (inr rgb) = rw rgb (strip_rgb16 p w (rw rgb at e))
 
--- one sample more
-pub shorts_more : (out before after samples : List ℕ) (i low high : ℕ) → i < length samples →
+-- Where the two bytes of the next sample are appended, one sample more is written.
+pub flat_map_push : (out before after samples : List ℕ) (i low high : ℕ) → i < length samples →
     before ≡ out ++ flat_map (to_le_bytes w16) (take i samples)
     → low ≡ get_or (to_le_bytes w16 (get_or samples i 0)) 0 0 → high ≡ get_or (to_le_bytes w16 (get_or samples i 0)) 1 0
     → after ≡ (before ++ low ∷ []) ++ high ∷ [] → after ≡ out ++ flat_map (to_le_bytes w16) (take (i + 1) samples)
-shorts_more out before after samples i low high lt so_far low-is high-is more =
+flat_map_push out before after samples i low high lt so_far low-is high-is more =
     let le = to_le_bytes w16 in
     let v = get_or samples i 0 in
     let next : take (i + 1) samples ≡ take i samples ++ v ∷ [] = rw add-one (take-suc samples i 0 lt) in

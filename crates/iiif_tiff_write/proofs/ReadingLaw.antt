@@ -1,4 +1,4 @@
--- What is written is read back.
+-- A file gives back the picture that it was written from.
 use Rattle.std.proofs.Common.{◌≡◌, ℕ, ◌+◌, ◌*◌, ◌-◌, ◌/◌, ◌%◌, ◌<◌, ◌≤◌, ◌^◌, ◌⊎◌, List, get_or, None, refl, sym, ap, ◌∙◌, arith}
 use Rattle.std.specs.Prelude.{slice_index}
 use Rattle.std.specs.Int.{to_le_bytes, w16}
@@ -23,6 +23,7 @@ use Rattle.iiif_tiff_write.proofs.Entries.{depth, bits_are, channels_are, white_
 use Rattle.iiif_tiff_write.proofs.Checks.{scheme_of, fields, row_bytes_are, passes}
 use Rattle.iiif_tiff_write.proofs.Strips.{get_or-shorts_of, get_or-strip, bit_back, white_bit-read, black_or_white-same}
 
+-- A reader accepts each file.
 pub accepted : (p : Picture) (k : OutKind) → IsReadable (dim_of p) → file_len k (dim_of p) < 2 ^ 32 → tiff.refusal_of (file p k) ≡ None
 accepted p k l small = passes k (dim_of p) (strip k p) l (length-strip k p) small
 
@@ -125,6 +126,7 @@ places p Bitonal x y c f lx ly lc =
     ∙ black_or_white-same (sample_at p x y 0) (held_bit p x y f lx ly)
     ∙ ap (sample_at p x y) (sym zero_is)
 
+-- A file shows the picture that it was written from, where its kind holds that picture.
 pub shows : (p : Picture) (k : OutKind) → IsReadable (dim_of p) → file_len k (dim_of p) < 2 ^ 32 → Holds k p → Shows (file p k) p
 shows p k l small f =
     let d = dim_of p in
@@ -148,6 +150,7 @@ bit_is p x y c e lx ly lc =
     let zero_is : c ≡ 0 = omega arith in
     rw zero_is (sample_at-bitonal p x y lx ly ∙ ap (black_or_white p.top) (one_gray p x y e))
 
+-- A file of bits shows any gray picture in black and white.
 pub shows_bitonal : (p : Picture) → IsReadable (dim_of p) → file_len Bitonal (dim_of p) < 2 ^ 32 → p.channels ≡ 1 →
     Shows (file p Bitonal) (bitonal p)
 shows_bitonal p l small e =

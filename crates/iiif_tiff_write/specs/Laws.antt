@@ -1,4 +1,9 @@
--- Laws of all written files, which the functions of the module `laws` have as their contracts.
+-- Laws of written files, which are the contracts of the functions of the module `laws`.
+--
+--   StripOfNoRows, StripOfMoreRows, StripOfAllRows, StripOfBands      a strip is made of the strips of bands
+--   ResultsFit, LengthsFit                                            how long a file can be
+--   ResolutionsStand                                                  where the resolutions stand
+--   FileIsAccepted, FileShowsPicture, BitsShowBitonal                 what a reader makes of a file
 use Rattle.std.specs.Prelude.{◌≡◌, ℕ, ◌+◌, ◌<◌, ◌≤◌, ◌^◌, List, [], ◌++◌, None, sum, take, drop}
 use Rattle.std.specs.List.{flat_map}
 use Rattle.iiif_pixel.specs.declared.geometry.Dim.{Dim}
@@ -14,20 +19,21 @@ use Rattle.iiif_tiff_write.specs.declared.kind.OutKind.TheVariants.{Bitonal}
 
 -- ---- Bands
 
--- a band of no rows adds nothing
+-- the strip of a band without rows is empty
 abbrev pub StripOfNoRows : Type 0
 StripOfNoRows = (p : Picture) (kind : OutKind) (y : ℕ) → strip kind (band p y 0) ≡ []
 
--- m rows, and the n rows below them
+-- the strip of m + n rows is that of the first m rows, and then that of the n rows below them
 abbrev pub StripOfMoreRows : Type 0
 StripOfMoreRows =
     (p : Picture) (kind : OutKind) (y m n : ℕ) → p.channels ≡ samples_per_pixel kind →
     strip kind (band p y (m + n)) ≡ strip kind (band p y m) ++ strip kind (band p (y + m) n)
 
+-- the strip of the band of all rows is the strip of the picture
 abbrev pub StripOfAllRows : Type 0
 StripOfAllRows = (p : Picture) (kind : OutKind) → p.channels ≡ samples_per_pixel kind → strip kind (band p 0 p.height) ≡ strip kind p
 
--- bands of any heights
+-- the strips of bands that cover a picture, one after another, are its strip
 abbrev pub StripOfBands : Type 0
 StripOfBands =
     (p : Picture) (kind : OutKind) (heights : List ℕ) → p.channels ≡ samples_per_pixel kind → sum heights ≡ p.height →
@@ -35,34 +41,34 @@ StripOfBands =
 
 -- ---- Lengths
 
--- a picture within 16,384 by 16,384 has a file below 2^32 bytes
+-- the file of a picture of at most 16,384 by 16,384 pixels is shorter than 2^32 bytes
 abbrev pub ResultsFit : Type 0
 ResultsFit = (kind : OutKind) (dim : Dim) → dim.w ≤ 16384 → dim.h ≤ 16384 → file_len kind dim < 2 ^ 32
 
--- the length of a file of a picture that can be read fits 64 bits
+-- the length of the file of a picture of at most 1,000,000 by 1,000,000 pixels fits 64 bits
 abbrev pub LengthsFit : Type 0
 LengthsFit = (kind : OutKind) (dim : Dim) → dim.w ≤ 1000000 → dim.h ≤ 1000000 → file_len kind dim < 2 ^ 64
 
 -- ---- Values outside of the directory
 
--- 1/1 stands where the entries of XResolution and YResolution say
+-- TIFF 6.0, section 8, XResolution and YResolution: the rational 1/1 stands at the offset of each entry
 abbrev pub ResolutionsStand : Type 0
 ResolutionsStand =
     (p : Picture) (kind : OutKind) → (take 8 (drop 158 (file p kind)) ≡ rational 1 1) × (take 8 (drop 166 (file p kind)) ≡ rational 1 1)
 
 -- ---- Reading back
 
--- no check of the reader refuses a file below 2^32 bytes
+-- no check of a reader refuses a file that is shorter than 2^32 bytes
 abbrev pub FileIsAccepted : Type 0
 FileIsAccepted =
     (p : Picture) (kind : OutKind) → IsReadable (dim_of p) → file_len kind (dim_of p) < 2 ^ 32 → refusal_of (file p kind) ≡ None
 
--- and it shows the picture, where its kind holds it
+-- a file shows the picture that it was written from, where its kind holds that picture
 abbrev pub FileShowsPicture : Type 0
 FileShowsPicture =
     (p : Picture) (kind : OutKind) → IsReadable (dim_of p) → file_len kind (dim_of p) < 2 ^ 32 → Holds kind p → Shows (file p kind) p
 
--- bits of any gray picture show it in black and white
+-- a file of bits of any gray picture shows that picture in black and white
 abbrev pub BitsShowBitonal : Type 0
 BitsShowBitonal =
     (p : Picture) → IsReadable (dim_of p) → file_len Bitonal (dim_of p) < 2 ^ 32 → p.channels ≡ 1 → Shows (file p Bitonal) (bitonal p)

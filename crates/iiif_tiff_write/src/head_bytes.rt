@@ -1,4 +1,4 @@
-//! The bytes before the strip, written one after another.
+//! Heads, written field by field.
 
 ghost use Rattle.std.specs.Prelude.{◌≡◌, ◌+◌, ◌≤◌, [], ◌++◌, length};
 ghost use Rattle.std.specs.Int.{w16, w32, to_le_bytes};
@@ -9,14 +9,14 @@ use crate::kind::OutKind;
 use iiif_tiff::tag;
 use std::marker::Model;
 
-/// The types of values (TIFF 6.0, section 2).
+/// Types of fields (TIFF 6.0, section 2).
 const SHORT: u16 = 3;
 
 const LONG: u16 = 4;
 
 const RATIONAL: u16 = 5;
 
-/// The bytes of a file before its strip: header, directory, and the values that stand outside of it.
+/// A head: the bytes of a file in front of its strip.
 #[derive(Drop)]
 pub struct Head {
     bytes: [u8; 180],
@@ -34,13 +34,14 @@ impl Model for Head {
 }
 
 impl Head {
-    /// The bytes.
+    /// Lends the bytes.
     pub fn as_slice(&self) -> &[u8]
         ensures { result.now ≡ self.now }
     {
         &self.bytes[..self.len]
     }
 
+    /// Makes an empty head.
     pub(crate) fn new() -> Head
         ensures { result ≡ [] }
     {
@@ -50,6 +51,7 @@ impl Head {
         }
     }
 
+    /// Appends bytes, which fit.
     fn put(&mut self, bytes: &[u8])
         requires { length self.old + length bytes.now ≤ 180 }
         ensures { self.new ≡ self.old ++ bytes.now }
@@ -59,6 +61,7 @@ impl Head {
         self.len = end;
     }
 
+    /// Appends a number of 16 bits, low byte first.
     pub(crate) fn put_short(&mut self, value: u16)
         requires { length self.old + 2 ≤ 180 }
         ensures bytes { self.new ≡ self.old ++ to_le_bytes w16 value }
@@ -67,6 +70,7 @@ impl Head {
         self.put(&value.to_le_bytes());
     }
 
+    /// Appends a number of 32 bits, low byte first.
     pub(crate) fn put_long(&mut self, value: u32)
         requires { length self.old + 4 ≤ 180 }
         ensures bytes { self.new ≡ self.old ++ to_le_bytes w32 value }
@@ -75,7 +79,7 @@ impl Head {
         self.put(&value.to_le_bytes());
     }
 
-    /// The header: low bytes first, 42, the directory's offset.
+    /// Appends the header: the byte order, 42, the offset of the directory.
     pub(crate) fn put_header(&mut self)
         requires { length self.old + 8 ≤ 180 }
         ensures bytes { self.new ≡ self.old ++ header }
@@ -86,7 +90,7 @@ impl Head {
         self.put_long(8);
     }
 
-    /// The first eight bytes of an entry.
+    /// Appends the first eight bytes of an entry: tag, type and count.
     fn put_entry(&mut self, tag: u16, kind: u16, count: u32)
         requires { length self.old + 8 ≤ 180 }
         ensures bytes { self.new ≡ self.old ++ (to_le_bytes w16 tag ++ to_le_bytes w16 kind ++ to_le_bytes w32 count) }
@@ -97,7 +101,7 @@ impl Head {
         self.put_long(count);
     }
 
-    /// An entry of one SHORT, which stands at the left of the four bytes.
+    /// Appends an entry of one SHORT, which fills the first two of its four bytes.
     pub(crate) fn put_short_field(&mut self, tag: u16, value: u16)
         requires { length self.old + 12 ≤ 180 }
         ensures bytes { self.new ≡ self.old ++ entry_bytes (short_field tag value) }
@@ -108,7 +112,7 @@ impl Head {
         self.put_short(0);
     }
 
-    /// An entry of one LONG.
+    /// Appends an entry of one LONG.
     pub(crate) fn put_long_field(&mut self, tag: u16, value: u32)
         requires { length self.old + 12 ≤ 180 }
         ensures bytes { self.new ≡ self.old ++ entry_bytes (long_field tag value) }
@@ -118,7 +122,7 @@ impl Head {
         self.put_long(value);
     }
 
-    /// An entry of several SHORTs, which stand at an offset.
+    /// Appends an entry of several SHORTs, which stand at an offset.
     fn put_shorts_field_at(&mut self, tag: u16, count: u32, offset: u32)
         requires { length self.old + 12 ≤ 180 }
         ensures bytes { self.new ≡ self.old ++ entry_bytes (shorts_field_at tag count offset) }
@@ -128,7 +132,7 @@ impl Head {
         self.put_long(offset);
     }
 
-    /// An entry of one RATIONAL, which stands at an offset.
+    /// Appends an entry of one RATIONAL, which stands at an offset.
     pub(crate) fn put_rational_field_at(&mut self, tag: u16, offset: u32)
         requires { length self.old + 12 ≤ 180 }
         ensures bytes { self.new ≡ self.old ++ entry_bytes (rational_field_at tag offset) }
@@ -138,7 +142,7 @@ impl Head {
         self.put_long(offset);
     }
 
-    /// The entry of the bits of a sample, or of each of three.
+    /// Appends the entry BitsPerSample: of one sample, or of each of three.
     pub(crate) fn put_bits_per_sample(&mut self, kind: OutKind)
         requires { length self.old + 12 ≤ 180 }
         ensures bytes { self.new ≡ self.old ++ entry_bytes (bits_per_sample kind) }
@@ -152,7 +156,7 @@ impl Head {
         }
     }
 
-    /// The values outside of the directory: two rationals 1/1, and the bits of red, green and blue.
+    /// Appends the values outside of the directory: two resolutions 1/1, and the bits of red, green and blue.
     pub(crate) fn put_outside(&mut self, kind: OutKind)
         requires { length self.old + 22 ≤ 180 }
         ensures { self.new ≡ self.old ++ outside kind }

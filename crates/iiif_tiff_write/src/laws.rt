@@ -1,10 +1,10 @@
-//! What holds of all written files. The functions compute nothing: their contracts are the laws.
+//! Laws of written files. The functions compute nothing: their contracts are the laws.
 
 ghost use Rattle.iiif_tiff_write.specs.Laws.{StripOfNoRows, StripOfMoreRows, StripOfAllRows, StripOfBands, ResultsFit, LengthsFit};
 ghost use Rattle.iiif_tiff_write.specs.Laws.{ResolutionsStand, FileIsAccepted, FileShowsPicture, BitsShowBitonal};
 
-/// A picture may be written band by band: the strips of its bands, one after another, are its strip. The first three are the
-/// steps of a sender that holds one band at a time, the last is the whole of them.
+/// Proves that a picture can be written band by band: the strips of its bands, one after another, are its strip. A sender that
+/// holds one band at a time takes the steps `none`, `more` and `all`; `bands` says it of all bands at once.
 pub fn bands_join()
     ensures none { StripOfNoRows }
     ensures more { StripOfMoreRows }
@@ -12,20 +12,19 @@ pub fn bands_join()
     ensures bands { StripOfBands }
 {}
 
-/// Where the length of a file fits 32 and 64 bits.
+/// Proves that lengths of files fit 32 bits within 16,384 by 16,384 pixels, and 64 bits within 1,000,000 by 1,000,000.
 pub fn lengths_fit()
     ensures in_32_bits { ResultsFit }
     ensures in_64_bits { LengthsFit }
 {}
 
-/// The values outside of the directory stand where their entries say. (That those of BitsPerSample do is part of the law of
-/// reading.)
+/// Proves that the resolutions stand where their entries say. That the bits of each sample do is part of `written_is_read`.
 pub fn resolutions_stand()
     ensures { ResolutionsStand }
 {}
 
-/// What is written can be read: no file is refused, and each shows the picture that it was written from, as far as its kind
-/// holds it.
+/// Proves that a reader accepts each written file and finds the picture in it: the picture itself where the kind holds it, and
+/// the picture in black and white in a file of bits.
 pub fn written_is_read()
     ensures accepted { FileIsAccepted }
     ensures shown { FileShowsPicture }

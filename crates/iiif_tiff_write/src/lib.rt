@@ -1,4 +1,4 @@
-//! Pictures as TIFF 6.0 files of one strip: a head, and then the rows from the top.
+//! Writes pictures as TIFF 6.0 files without compression: a head, and then one strip of all rows from the top.
 #![tactic(auto)]
 
 pub use directory::head;

@@ -1,4 +1,4 @@
-//! The rows of a picture as the bytes of a strip.
+//! Rows of a picture as bytes of a strip.
 
 ghost use Rattle.std.specs.Prelude.{◌≡◌, ◌+◌, ◌*◌, ◌<◌, ◌≤◌, ◌⊎◌, ◌++◌, length, vec_len, vec_capacity, OnOk, OnErr};
 ghost use Rattle.std.specs.Int.{div_ceil, to_le_bytes, w16};
@@ -12,14 +12,14 @@ ghost use Rattle.iiif_tiff_write.specs.Code.{bit_of, byte_from, packed_row};
 use crate::kind::OutKind;
 use iiif_pixel::{NoMemory, Raster, Span};
 
-/// White, which is the upper half, is 1.
+/// Returns the bit of a sample: 1, white, in the upper half of 8 bits, and 0, black, below it.
 fn white_bit(sample: u8) -> u8
     ensures { result ≡ white_bit 255 sample }
 {
     if sample < 128 { 0 } else { 1 }
 }
 
-/// The byte of eight samples, the first in the highest bit.
+/// Packs eight samples into a byte, the first into the highest bit.
 fn whole_byte(samples: &[u8], i: usize) -> u8
     requires { i + 8 ≤ length samples.now }
     ensures { result ≡ byte_from samples.now i }
@@ -34,7 +34,7 @@ fn whole_byte(samples: &[u8], i: usize) -> u8
         + white_bit(samples[i + 7])
 }
 
-/// Sample `i` as a bit, 0 behind the end.
+/// Returns the bit of sample `i`, and 0 behind the last one.
 fn bit(samples: &[u8], i: usize) -> u8
     ensures value { result ≡ bit_of samples.now i }
     ensures bound { result ≤ 1 }
@@ -46,7 +46,7 @@ fn bit(samples: &[u8], i: usize) -> u8
     }
 }
 
-/// The byte of fewer than eight samples.
+/// Packs the last samples of a row, fewer than eight, into a byte.
 fn last_byte(samples: &[u8], i: usize) -> u8
     requires { i < length samples.now }
     ensures { result ≡ byte_from samples.now i }
@@ -61,7 +61,7 @@ fn last_byte(samples: &[u8], i: usize) -> u8
         + bit(samples, i + 7)
 }
 
-/// Appends a row of bits, which ends at a whole byte.
+/// Appends a row of bits, padded to a whole byte.
 #[tactic(auto, using(crate::proofs::PackingLemmas::packing))]
 fn pack_row(samples: &[u8], out: &mut Vec<u8>)
     requires { vec_len out.old + div_ceil (length samples.now) 8 ≤ vec_capacity out.old }
@@ -91,7 +91,7 @@ fn pack_rows(raster: &Raster, out: &mut Vec<u8>)
     }
 }
 
-/// The samples of 8 bits.
+/// Lends samples of 8 bits.
 fn bytes_of<'a>(span: Span<'a>) -> &'a [u8]
     requires { top_of (span_depth span) ≡ 255 }
     ensures { result.now ≡ span_values span.entry }
@@ -102,7 +102,7 @@ fn bytes_of<'a>(span: Span<'a>) -> &'a [u8]
     }
 }
 
-/// The samples of 16 bits.
+/// Lends samples of 16 bits.
 fn shorts_of<'a>(span: Span<'a>) -> &'a [u16]
     requires { top_of (span_depth span) ≡ 65535 }
     ensures { result.now ≡ span_values span.entry }
@@ -125,7 +125,7 @@ fn push_shorts(samples: &[u16], out: &mut Vec<u8>)
     }
 }
 
-/// Appends samples of 16 bits, or leaves the vector where memory is refused.
+/// Appends samples of 16 bits. Where memory is refused, the vector stays as it was.
 fn put_shorts(samples: &[u16], out: &mut Vec<u8>) -> Result<(), NoMemory>
     ensures rows { OnOk result (out.new.items ≡ out.old.items ++ flat_map (to_le_bytes w16) samples.now) }
     ensures err { OnErr result (out.new.items ≡ out.old.items) }
@@ -135,27 +135,28 @@ fn put_shorts(samples: &[u16], out: &mut Vec<u8>) -> Result<(), NoMemory>
     Ok(())
 }
 
-/// The rows of a raster of 8 bits as they stand in the strip of a file: its samples, which are lent. A whole picture or a band of its
-/// rows will do.
+/// Lends the rows of a raster of 8 bits, a whole picture or a band of its rows, as the strip of a file has them: its samples
+/// themselves, so nothing is copied.
 pub fn byte_rows<'a>(raster: &'a Raster, kind: OutKind) -> &'a [u8]
     requires kind { (kind ≡ OutKind.Gray) ⊎ (kind ≡ OutKind.Rgb) }
     requires channels { raster.now.channels ≡ samples_per_pixel kind }
     requires depth { raster.now.top ≡ top_of (out_depth kind) }
     ensures { result.now ≡ strip kind raster.now }
 {
-    // Whole, so that its samples are known to be as many as its rows have.
+    // Proved here: there are as many samples as the rows have.
     raster.is_whole();
     bytes_of(raster.samples())
 }
 
-/// Appends the rows of a raster as they stand in the strip of a file. A whole picture or a band of its rows will do.
+/// Appends the rows of a raster, a whole picture or a band of its rows, as the strip of a file has them. Where memory is refused,
+/// the vector stays as it was.
 pub fn put_rows(raster: &Raster, kind: OutKind, out: &mut Vec<u8>) -> Result<(), NoMemory>
     requires channels { raster.now.channels ≡ samples_per_pixel kind }
     requires depth { raster.now.top ≡ top_of (out_depth kind) }
     ensures rows { OnOk result (out.new.items ≡ out.old.items ++ strip kind raster.now) }
     ensures err { OnErr result (out.new.items ≡ out.old.items) }
 {
-    // Whole, so that its samples are known to be as many as its rows have, and none above the top.
+    // Proved here: there are as many samples as the rows have, and none is above the top.
     raster.is_whole();
     match kind {
         OutKind::Gray | OutKind::Rgb => out.extend_from_slice(byte_rows(raster, kind)),

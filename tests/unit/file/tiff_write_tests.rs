@@ -299,7 +299,7 @@ static QUALITIES: [(Kind, Depth, Quality, OutKind); 12] = [
 fn kinds_of_the_qualities(rt: HostRuntime) {
     for (number, (source, depth, quality, want)) in QUALITIES.iter().enumerate() {
         assert!(rt;
-            is_same(&OutKind::of(*source, *depth, *quality), want),
+            is_same(&OutKind::for_quality(*source, *depth, *quality), want),
             "case {number}"
         );
     }

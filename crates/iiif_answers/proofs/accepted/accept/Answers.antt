@@ -12,7 +12,7 @@ pub returns-clause-accepts : goal.returns-clause-accepts
 returns-clause-accepts g c =
     comes g.S.Source.bytes g.S.Source.keeps (item_of c.args.entry.now) c.args.limits.now (texts c.args.words.now) c.in_ok-request.request
     c.canonical.result c.dim-dim.result
-    c.kind-kind.result c.depth.result c.in_ok-resolved.resolved c.of.result
+    c.kind-kind.result c.depth.result c.in_ok-resolved.resolved c.for_quality.result
     (record {
       one = c.shows_one_picture.ensures;
       small = c.len-len.ensures.bytes;
@@ -27,7 +27,7 @@ returns-clause-accepts g c =
       image = (omega (arith, c.dim-dim.ensures.limits.width_most), omega (arith, c.dim-dim.ensures.limits.height_most));
       limits = λ _. (omega (arith, c.requires.limits.width), omega (arith, c.requires.limits.height));
     }))
-    c.of.ensures.kind
+    c.for_quality.ensures.kind
 
 pub returns-in_err-resolved-clause-accepts : goal.returns-in_err-resolved-clause-accepts
 returns-in_err-resolved-clause-accepts g c =
@@ -59,12 +59,12 @@ returns-clause-ready g c =
           c.dim-dim.ensures.limits;
       quarters = resolved.quarters;
       channels = channels_fit c.kind-kind.result c.depth.result c.in_ok-request.request.quality c.in_ok-resolved.resolved.quality
-          c.args.entry.now.layout.channels c.of.result plain
-          c.kind-kind.ensures c.of.ensures.kind;
+          c.args.entry.now.layout.channels c.for_quality.result plain
+          c.kind-kind.ensures c.for_quality.ensures.kind;
       top = top_fits c.kind-kind.result c.depth.result c.in_ok-request.request.quality c.in_ok-resolved.resolved.quality
-          (white_of c.args.entry.now.layout.bits) c.of.result plain
-          c.depth.ensures c.of.ensures.kind;
-      len = file_fits c.lengths_fit.ensures.in_32_bits c.of.result c.in_ok-resolved.resolved.turn c.in_ok-resolved.resolved.size
+          (white_of c.args.entry.now.layout.bits) c.for_quality.result plain
+          c.depth.ensures c.for_quality.ensures.kind;
+      len = file_fits c.lengths_fit.ensures.in_32_bits c.for_quality.result c.in_ok-resolved.resolved.turn c.in_ok-resolved.resolved.size
           c.args.limits.now
           resolved.within_limits c.requires.limits.width.1 c.requires.limits.height.1;
       short = c.canonical.ensures.short;

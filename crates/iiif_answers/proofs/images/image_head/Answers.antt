@@ -1,6 +1,5 @@
-use Rattle.std.proofs.Common.{◌∙◌, sym, ap}
+use Rattle.std.proofs.Common.{◌∙◌, sym}
 use Rattle.std.proofs.lemmas.Result.{IfOk-weaker}
-use Rattle.iiif_pixel.specs.declared.geometry.Dim.{Dim}
 use Rattle.iiif_answers.proofs.images.image_head.Goals as goal
 
 pub returns : goal.returns
@@ -8,6 +7,5 @@ returns c =
     let linked = rw (c.as_str.ensures.value ∙ c.in_ok-link.ensures) at c.head_in.ensures in
     IfOk-weaker c.head_in.result _ _
     (λ h made p sides.
-    rw (c.total_len-length.ensures.of_file p (ap (λ (d : Dim). d.w) (sides ∙ sym c.turned_dim-dim.ensures))
-    (ap (λ (d : Dim). d.h) (sides ∙ sym c.turned_dim-dim.ensures))) made)
+    rw (c.total_len-length.ensures.of_file p (sides ∙ sym c.turned_dim-dim.ensures)) made)
     linked

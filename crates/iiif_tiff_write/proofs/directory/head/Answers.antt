@@ -1,6 +1,4 @@
 use Rattle.std.proofs.Common.{◌∙◌, ap, refl, length}
-use Rattle.iiif_pixel.specs.Picture.{dim_of}
-use Rattle.iiif_pixel.proofs.Parts.{same_dim}
 use Rattle.iiif_tiff_write.proofs.HeadLemmas.{pieces_are}
 use Rattle.iiif_tiff_write.proofs.Lengths.{length-head_of}
 use Rattle.iiif_tiff_write.proofs.directory.head.Goals as goal
@@ -37,4 +35,4 @@ pub returns-clause-len : goal.returns-clause-len
 returns-clause-len c = ap length (returns-clause-value c) ∙ length-head_of c.args.kind c.args.dim
 
 pub returns-clause-of_file : goal.returns-clause-of_file
-returns-clause-of_file c = λ p w h. rw (returns-clause-value c, same_dim (dim_of p) c.args.dim w h) refl
+returns-clause-of_file c = λ p sides. rw (returns-clause-value c, sides) refl

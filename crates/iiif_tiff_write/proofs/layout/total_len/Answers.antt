@@ -1,10 +1,7 @@
 use Rattle.std.proofs.Common.{◌∙◌, ap, rules}
-use Rattle.iiif_pixel.specs.Picture.{dim_of}
-use Rattle.iiif_pixel.proofs.Parts.{same_dim}
 use Rattle.iiif_tiff_write.specs.File.{file_len}
 use Rattle.iiif_tiff_write.proofs.Lengths.{length-file}
 use Rattle.iiif_tiff_write.proofs.layout.total_len.Goals as goal
 
 pub returns-clause-of_file : goal.returns-clause-of_file
-returns-clause-of_file c = λ p w h.
-    length-file c.args.kind p ∙ ap (file_len c.args.kind) (same_dim (dim_of p) c.args.dim w h) ∙ search rules
+returns-clause-of_file c = λ p sides. length-file c.args.kind p ∙ ap (file_len c.args.kind) sides ∙ search rules

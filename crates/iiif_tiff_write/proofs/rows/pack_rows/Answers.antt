@@ -2,7 +2,7 @@ use Rattle.std.proofs.Common.{◌≡◌, ◌∙◌, length, refl, arith, ap}
 use Rattle.std.specs.Int.{div_ceil}
 use Rattle.std.proofs.lemmas.List.{append-nil}
 use Rattle.iiif_tiff_write.specs.declared.kind.OutKind.TheVariants.{Bitonal}
-use Rattle.iiif_tiff_write.proofs.PackingLemmas.{length-row_span, row_more, row_fits, rows_before_none, rows_before_all}
+use Rattle.iiif_tiff_write.proofs.PackingLemmas.{length-row_span, rows_before_push, room_more, rows_before_none, rows_before_all}
 use Rattle.iiif_tiff_write.proofs.rows.pack_rows.Goals as goal
 
 pub loop-y-init : goal.loop-y-init
@@ -20,7 +20,7 @@ pack_row-requires c =
     (c.bytes_of.ensures ∙ c.span.ensures.samples) in
     rw whole (omega (
       arith,
-      row_fits (div_ceil p.width 8) c.loop-y.y p.height _ _ _ c.loop-y.invariant.len c.requires.room
+      room_more (div_ceil p.width 8) c.loop-y.y p.height _ _ _ c.loop-y.invariant.len c.requires.room
           (omega (arith, c.dim-dim.ensures.height)),
     ))
 
@@ -32,7 +32,8 @@ loop-y-preserved c =
     (c.bytes_of.ensures ∙ c.span.ensures.samples) in
     record {
       bytes =
-          row_more p c.loop-y.y c.dim-dim.result.w c.args.out.now.items c.loop-y.out.items c.pack_row.new.out.items c.bytes_of.result.now
+          rows_before_push p c.loop-y.y c.dim-dim.result.w c.args.out.now.items c.loop-y.out.items c.pack_row.new.out.items
+          c.bytes_of.result.now
           c.requires.channels c.requires.top c.dim-dim.ensures.width (c.bytes_of.ensures ∙ c.span.ensures.samples) c.loop-y.invariant.bytes
           c.pack_row.ensures.bytes;
       len = omega (arith, ap (λ n. div_ceil n 8) whole);

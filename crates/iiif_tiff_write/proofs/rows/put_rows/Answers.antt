@@ -2,7 +2,7 @@ use Rattle.std.proofs.Common.{◌≡◌, sym, rules}
 use Rattle.std.specs.Int.{to_le_bytes, w16}
 use Rattle.std.specs.List.{flat_map}
 use Rattle.iiif_tiff_write.specs.File.{strip}
-use Rattle.iiif_tiff_write.proofs.PackingLemmas.{deep_rows}
+use Rattle.iiif_tiff_write.proofs.PackingLemmas.{strip_16_bits}
 use Rattle.iiif_tiff_write.proofs.rows.put_rows.Goals as goal
 
 pub returns-in-Gray : goal.returns-in-Gray
@@ -17,7 +17,7 @@ pub returns-in-Gray16 : goal.returns-in-Gray16
 returns-in-Gray16 c =
     let same : strip c.args.kind c.args.raster.now ≡ flat_map (to_le_bytes w16) c.shorts_of.result.now =
     rw (c.shorts_of.ensures, c.samples.ensures.all)
-    (deep_rows c.args.raster.now c.args.kind c.is_whole.ensures.whole c.requires.channels c.in-Gray16.is) in
+    (strip_16_bits c.args.raster.now c.args.kind c.is_whole.ensures.whole c.requires.channels c.in-Gray16.is) in
     record {
       rows = rw same (search rules);
       err = search rules;
