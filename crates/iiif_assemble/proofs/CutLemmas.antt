@@ -18,8 +18,8 @@ use Rattle.iiif_keys.specs.Blocks.{square, tile_of}
 use Rattle.iiif_keys.specs.declared.keys.TileKey.{TileKey}
 use Rattle.iiif_planner.proofs.Counts.{count_mapped}
 use Rattle.iiif_planner.proofs.Once.{count_same, count_none}
-use Rattle.iiif_bands.specs.Bands.{tile_places}
-use Rattle.iiif_bands.specs.Laws.{PlacesAreThose}
+use Rattle.iiif_planner.specs.Bands.{tile_places}
+use Rattle.iiif_planner.specs.BandLaws.{PlacesAreThose}
 use Rattle.iiif_assemble.specs.Code.{ListsMet}
 use Rattle.iiif_assemble.proofs.SumLemmas.{map_twice}
 

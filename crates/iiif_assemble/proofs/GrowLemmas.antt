@@ -13,8 +13,8 @@ use Rattle.iiif_area.specs.Places.{part_of, places_of, IsScalable}
 use Rattle.iiif_keys.specs.Blocks.{square, tile_of}
 use Rattle.iiif_keys.specs.declared.keys.TileKey.{TileKey}
 use Rattle.iiif_keys.proofs.Cuts.{clipped_part}
-use Rattle.iiif_bands.specs.Bands.{grown_places}
-use Rattle.iiif_bands.specs.Laws.{PlacesAreThose}
+use Rattle.iiif_planner.specs.Bands.{grown_places}
+use Rattle.iiif_planner.specs.BandLaws.{PlacesAreThose}
 use Rattle.iiif_assemble.specs.Code.{ListsMet}
 use Rattle.iiif_assemble.proofs.SumLemmas.{map_twice, only_those}
 

@@ -16,7 +16,7 @@ use Rattle.iiif_canonical.specs.Images.{resolved_image}
 use Rattle.iiif_canonical.specs.declared.resolved.Resolved.{Resolved}
 use Rattle.iiif_planner.specs.declared.plans.Plan.{Plan}
 use Rattle.iiif_planner.specs.declared.plans.Plan.TheVariants.{Copy, Grow, Sum}
-use Rattle.iiif_bands.specs.Bands.{block_places, grown_places, tile_places, ListsItems, ListsThose, ReachesInto}
+use Rattle.iiif_planner.specs.Bands.{block_places, grown_places, tile_places, ListsItems, ListsThose, ReachesInto}
 use Rattle.iiif_keys.specs.Names.{named, IsSource, Pictures}
 use Rattle.iiif_keys.specs.Shapes.{HasPicture}
 use Rattle.iiif_keys.specs.declared.keys.Shape.{Shape}

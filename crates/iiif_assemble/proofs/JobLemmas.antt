@@ -1,8 +1,8 @@
 -- The bands of a job.
 use Rattle.std.proofs.Common.{ℕ, ◌<◌, List, All}
-use Rattle.iiif_bands.specs.Bands.{AreBands}
-use Rattle.iiif_bands.specs.Laws.{BandsAreLow}
-use Rattle.iiif_bands.specs.declared.banding.Band.{Band}
+use Rattle.iiif_planner.specs.Bands.{AreBands}
+use Rattle.iiif_planner.specs.BandLaws.{BandsAreLow}
+use Rattle.iiif_planner.specs.declared.banding.Band.{Band}
 use Rattle.iiif_assemble.specs.Jobs.{IsBandOf}
 use Rattle.iiif_assemble.specs.declared.job.Job.{Job}
 

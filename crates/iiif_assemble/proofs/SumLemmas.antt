@@ -26,8 +26,8 @@ use Rattle.iiif_keys.specs.declared.keys.SumKey.{SumKey}
 use Rattle.iiif_keys.specs.declared.values.SumVal.{SumVal}
 use Rattle.iiif_keys.proofs.Cuts.{clipped_part}
 use Rattle.iiif_keys.proofs.Derived.{picture_is}
-use Rattle.iiif_bands.specs.Bands.{block_places}
-use Rattle.iiif_bands.specs.Laws.{PlacesAreThose}
+use Rattle.iiif_planner.specs.Bands.{block_places}
+use Rattle.iiif_planner.specs.BandLaws.{PlacesAreThose}
 use Rattle.iiif_assemble.specs.Gathering.{AreValues}
 use Rattle.iiif_assemble.specs.Code.{sums_in, tile_in, total_of, ListsMet}
 

@@ -24,8 +24,8 @@ use Rattle.iiif_keys.specs.Shapes.{HasPicture}
 use Rattle.iiif_keys.specs.declared.keys.TileKey.{TileKey}
 use Rattle.iiif_keys.specs.declared.values.TileVal.{TileVal}
 use Rattle.iiif_assemble.specs.Code.{tile_in}
-use Rattle.iiif_bands.specs.Bands.{places_from, ListsThose}
-use Rattle.iiif_bands.proofs.ItemLaws.{within_list}
+use Rattle.iiif_planner.specs.Bands.{places_from, ListsThose}
+use Rattle.iiif_planner.proofs.ItemLaws.{within_list}
 use Rattle.iiif_assemble.specs.Gathering.{AreValues, HasItem}
 use Rattle.iiif_assemble.specs.Jobs.{channels_in, top_in, IsJob}
 use Rattle.iiif_assemble.specs.Lone.{IsTileImage, IsTileItself}

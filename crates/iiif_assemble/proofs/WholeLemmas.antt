@@ -26,8 +26,8 @@ use Rattle.iiif_keys.specs.declared.values.TileVal.{TileVal}
 use Rattle.iiif_planner.specs.Plans.{IsBlockFor, IsPlan, IsTileFor}
 use Rattle.iiif_planner.specs.declared.plans.Plan.{Plan}
 use Rattle.iiif_planner.specs.declared.plans.Plan.TheVariants.{Copy, Grow, Sum}
-use Rattle.iiif_bands.specs.Bands.{block_places, grown_places, places_from, tile_places, ListsItems, ListsThose, ReachesInto}
-use Rattle.iiif_bands.proofs.BandLemmas.{meets_square, part_lies}
+use Rattle.iiif_planner.specs.Bands.{block_places, grown_places, places_from, tile_places, ListsItems, ListsThose, ReachesInto}
+use Rattle.iiif_planner.proofs.BandLemmas.{meets_square, part_lies}
 use Rattle.iiif_assemble.specs.Faults.{IsBandFault, IsPlanFault}
 use Rattle.iiif_assemble.specs.Gathering.{IsItemFault}
 

@@ -6,8 +6,8 @@ use Rattle.std.proofs.Math.Seq.{drop-cons}
 use Rattle.std.proofs.lemmas.List.{take_more, take_all, map-append, take-append-drop, get_or_default}
 use Rattle.std.proofs.lemmas.List.Elements.{All-nil, All-cons, All-append, All-head, All-tail, All-weaker}
 use Rattle.iiif_pixel.specs.declared.geometry.Rect.{Rect}
-use Rattle.iiif_bands.specs.Bands.{places_from}
-use Rattle.iiif_bands.proofs.ItemLaws.{within_list}
+use Rattle.iiif_planner.specs.Bands.{places_from}
+use Rattle.iiif_planner.proofs.ItemLaws.{within_list}
 use Rattle.iiif_assemble.specs.Code.{ListsMet}
 use Rattle.iiif_keys.specs.declared.fault.Fault.{Fault}
 use Rattle.iiif_assemble.specs.Gathering.{HasItem, AreValues, FailedFirst, IsItemFault}

@@ -15,7 +15,7 @@ use Rattle.iiif_keys.specs.declared.keys.SumKey.{SumKey}
 use Rattle.iiif_keys.specs.declared.keys.TileKey.{TileKey}
 use Rattle.iiif_keys.specs.declared.values.SumVal.{SumVal}
 use Rattle.iiif_keys.specs.declared.values.TileVal.{TileVal}
-use Rattle.iiif_bands.specs.Bands.{block_places, grown_places, places_from, tile_places}
+use Rattle.iiif_planner.specs.Bands.{block_places, grown_places, places_from, tile_places}
 use Rattle.iiif_planner.specs.Plans.{BlocksCover, TilesCover}
 use Rattle.iiif_planner.specs.declared.plans.Plan.{Plan}
 use Rattle.iiif_planner.specs.declared.plans.Plan.TheVariants.{Copy, Grow, Sum}

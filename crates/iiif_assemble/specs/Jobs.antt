@@ -14,8 +14,8 @@ use Rattle.iiif_keys.specs.declared.keys.TileKey.{TileKey}
 use Rattle.iiif_keys.specs.declared.values.SumVal.{SumVal}
 use Rattle.iiif_keys.specs.declared.values.TileVal.{TileVal}
 use Rattle.iiif_planner.specs.Plans.{IsBlockFor, IsPlan, IsTileFor}
-use Rattle.iiif_bands.specs.Bands.{ListsItems}
-use Rattle.iiif_bands.specs.declared.banding.Band.{Band}
+use Rattle.iiif_planner.specs.Bands.{ListsItems}
+use Rattle.iiif_planner.specs.declared.banding.Band.{Band}
 use Rattle.iiif_assemble.specs.declared.job.Job.{Job}
 
 -- A job: a plan of what a request comes to, for an image that has its region.

@@ -12,8 +12,8 @@ use Rattle.iiif_keys.specs.declared.fault.Fault.{Fault}
 use Rattle.iiif_keys.specs.declared.fault.Fault.TheVariants.{NoMemory}
 use Rattle.iiif_keys.specs.declared.keys.TileKey.{TileKey}
 use Rattle.iiif_keys.specs.declared.values.TileVal.{TileVal}
-use Rattle.iiif_bands.specs.Bands.{band_rect}
-use Rattle.iiif_bands.specs.declared.banding.Band.{Band}
+use Rattle.iiif_planner.specs.Bands.{band_rect}
+use Rattle.iiif_planner.specs.declared.banding.Band.{Band}
 use Rattle.iiif_planner.specs.declared.plans.Plan.{Plan}
 use Rattle.iiif_planner.specs.declared.plans.Plan.TheVariants.{Copy, Grow, Sum}
 use Rattle.iiif_assemble.specs.Gathering.{IsItemFault}

@@ -12,7 +12,7 @@ ghost use Rattle.iiif_keys.specs.Blocks.{tile_of};
 ghost use Rattle.iiif_keys.specs.Meaning.{TileHasShape};
 ghost use Rattle.iiif_keys.specs.Names.{Pictures};
 ghost use Rattle.iiif_keys.specs.declared.keys.TileKey.{TileKey};
-ghost use Rattle.iiif_bands.specs.Bands.{grown_places};
+ghost use Rattle.iiif_planner.specs.Bands.{grown_places};
 ghost use Rattle.iiif_assemble.specs.Gathering.{AreValues, IsItemFault};
 ghost use Rattle.iiif_assemble.specs.Jobs.{IsJob, TilesAreMeant, TilesServe};
 ghost use Rattle.iiif_assemble.specs.Code.{count_of, tile_adds, tile_in, AreTiles, IsPictureOf, IsWithin, ListsMet, TileHasPart};

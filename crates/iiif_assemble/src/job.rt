@@ -6,11 +6,11 @@ ghost use Rattle.iiif_pixel.specs.Scaling.{whole_of};
 ghost use Rattle.iiif_pixel.specs.TurnPlaces.{turned_dim};
 ghost use Rattle.iiif_area.specs.Places.{IsScalable};
 ghost use Rattle.iiif_keys.specs.Blocks.{IsEdge};
-ghost use Rattle.iiif_bands.specs.Bands.{band_rect, AreBands};
+ghost use Rattle.iiif_planner.specs.Bands.{band_rect, AreBands};
 ghost use Rattle.iiif_assemble.specs.Jobs.{IsBandOf, IsJob};
 
-use iiif_bands::laws::bands_cut_results;
-use iiif_bands::{Band, band_in, bands};
+use iiif_planner::laws::bands_cut_results;
+use iiif_planner::{Band, band_in, bands};
 use iiif_canonical::Resolved;
 use iiif_keys::{Name, Shape};
 use iiif_pixel::{NoMemory, Raster, Rect};
@@ -63,7 +63,15 @@ impl Job {
         ensures shape { IfOk result (λ j. j.shape ≡ shape) }
         ensures resolved { IfOk result (λ j. j.resolved ≡ resolved) }
     {
-        let plan = plan(alloc, &name, &resolved, shape, edge, room)?;
+        let plan = plan(
+            alloc,
+            &name,
+            &resolved,
+            shape.dim,
+            shape.kind,
+            edge,
+            room,
+        )?;
         Ok(Job {
             name,
             edge,

@@ -13,7 +13,7 @@ use crate::items::Items;
 use crate::job::Job;
 use crate::opened::Opened;
 use crate::workshop::Workshop;
-use iiif_bands::Band;
+use iiif_planner::Band;
 use iiif_keys::{CacheKey, Fault, SumKey, SumVal};
 use iiif_pixel::NoMemory;
 use iiif_planner::Plan;

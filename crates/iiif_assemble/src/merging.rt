@@ -12,7 +12,7 @@ ghost use Rattle.iiif_keys.specs.Names.{Pictures};
 ghost use Rattle.iiif_keys.specs.declared.fault.Fault.TheVariants as Fault;
 ghost use Rattle.iiif_keys.specs.declared.keys.SumKey.{SumKey};
 ghost use Rattle.iiif_keys.specs.declared.values.SumVal.{SumVal};
-ghost use Rattle.iiif_bands.specs.Bands.{block_places};
+ghost use Rattle.iiif_planner.specs.Bands.{block_places};
 ghost use Rattle.iiif_assemble.specs.Gathering.{IsItemFault};
 ghost use Rattle.iiif_assemble.specs.Jobs.{IsJob, SumsAreMeant, SumsServe};
 ghost use Rattle.iiif_assemble.specs.Code.{count_of, sums_in, total_of, AreBlocks, IsPictureOf, IsWithin, ListsMet};

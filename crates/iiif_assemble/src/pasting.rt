@@ -11,7 +11,7 @@ ghost use Rattle.iiif_keys.specs.Names.{Pictures};
 ghost use Rattle.iiif_keys.specs.declared.fault.Fault.TheVariants as Fault;
 ghost use Rattle.iiif_keys.specs.Meaning.{TileHasShape};
 ghost use Rattle.iiif_keys.specs.declared.keys.TileKey.{TileKey};
-ghost use Rattle.iiif_bands.specs.Bands.{tile_places};
+ghost use Rattle.iiif_planner.specs.Bands.{tile_places};
 ghost use Rattle.iiif_assemble.specs.Gathering.{AreValues, IsItemFault};
 ghost use Rattle.iiif_assemble.specs.Jobs.{IsJob, TilesAreMeant, TilesServe};
 ghost use Rattle.iiif_assemble.specs.Code.{count_of, tile_in, AreTiles, Copies, HasCopied, IsPictureOf, IsWithin, ListsMet};

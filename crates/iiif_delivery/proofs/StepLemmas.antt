@@ -31,8 +31,8 @@ use Rattle.iiif_keys.specs.declared.values.SumVal.{SumVal}
 use Rattle.iiif_keys.specs.declared.values.TileVal.{TileVal}
 use Rattle.iiif_planner.specs.declared.plans.Plan.{Plan}
 use Rattle.iiif_planner.proofs.Meeting.{last_met}
-use Rattle.iiif_bands.specs.Bands.{band_rect, AreBands}
-use Rattle.iiif_bands.specs.declared.banding.Band.{Band}
+use Rattle.iiif_planner.specs.Bands.{band_rect, AreBands}
+use Rattle.iiif_planner.specs.declared.banding.Band.{Band}
 use Rattle.iiif_assemble.specs.Faults.{IsBandFault}
 use Rattle.iiif_assemble.specs.Jobs.{channels_in, top_in, IsBandOf, IsHeldFor}
 use Rattle.iiif_assemble.specs.declared.job.Job.{Job}

@@ -17,7 +17,7 @@ use Rattle.iiif_keys.specs.declared.keys.SumKey.{SumKey}
 use Rattle.iiif_keys.specs.declared.keys.TileKey.{TileKey}
 use Rattle.iiif_keys.specs.declared.values.SumVal.{SumVal}
 use Rattle.iiif_keys.specs.declared.values.TileVal.{TileVal}
-use Rattle.iiif_bands.specs.declared.banding.Band.{Band}
+use Rattle.iiif_planner.specs.declared.banding.Band.{Band}
 use Rattle.iiif_assemble.specs.Faults.{IsBandFault}
 use Rattle.iiif_assemble.specs.Jobs.{channels_in, top_in, IsBandOf, IsJob, IsShown, SumsServe, TilesServe}
 use Rattle.iiif_assemble.specs.declared.items.Items as items

@@ -13,7 +13,7 @@ use crate::sending::Sending;
 use crate::tile::send_tile;
 use crate::turns::{Turns, come, is_gone_meanwhile, leave};
 use iiif_assemble::{Items, Workshop};
-use iiif_bands::laws::bands_cut_results;
+use iiif_planner::laws::bands_cut_results;
 use iiif_io::{Outlet, look, send};
 use iiif_keys::{Fault, SumKey, SumVal, TileKey, TileVal};
 use iiif_pixel::{Dim, NoMemory};

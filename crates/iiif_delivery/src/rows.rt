@@ -8,7 +8,7 @@ ghost use Rattle.iiif_delivery.specs.Delivery.{MaySend};
 
 use crate::sending::Sending;
 use iiif_assemble::{Items, KeptSum, WithKept, Workshop, assemble_band, keep_band};
-use iiif_bands::Band;
+use iiif_planner::Band;
 use iiif_keys::{Fault, SumKey, SumVal, TileKey, TileVal};
 use iiif_pixel::laws::{bands_follow, whole_stays_whole};
 use iiif_tiff_write::laws::bands_join;

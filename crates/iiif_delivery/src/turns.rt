@@ -3,7 +3,7 @@
 ghost use Rattle.std.specs.Prelude.{◌≡◌, ◌*◌, ◌-◌, ◌/◌, ◌^◌, length, max, min, true};
 
 use iiif_assemble::{Items, Job, KeptSum, WithKept};
-use iiif_bands::Band;
+use iiif_planner::Band;
 use iiif_io::Outlet;
 use iiif_keys::{SumKey, SumVal};
 use iiif_planner::Plan;

@@ -3,7 +3,7 @@
 
 ghost use Rattle.std.specs.Prelude.{◌≡◌, codes, length, [], ◌∷◌};
 ghost use Rattle.iiif_pixel.specs.declared.geometry.Dim.{Dim};
-ghost use Rattle.iiif_bands.specs.Bands.{band_rect, places_from};
+ghost use Rattle.iiif_planner.specs.Bands.{band_rect, places_from};
 ghost use Rattle.iiif_planner.specs.Items.{blocks_for, level_for, tiles_for};
 ghost use Rattle.iiif_planner.specs.Levels.{IsLevel};
 ghost use Rattle.iiif_planner.specs.Plans.{BlocksCover, TilesCover};

@@ -6,3 +6,9 @@ pub mod Lines
 pub mod Meeting
 pub mod Once
 pub mod Sides
+pub mod BandLemmas
+pub mod Runs
+pub mod Backwards
+pub mod Exact
+pub mod CutLaws
+pub mod ItemLaws

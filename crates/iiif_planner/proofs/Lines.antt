@@ -8,15 +8,15 @@ pub row_none : {K : Type 0} (f : ℕ → ℕ → K) (left j n : ℕ) → n ≡ 0
 unfolding row_from
 row_none f left j n e = rw e refl
 
-row_suc : {K : Type 0} (f : ℕ → ℕ → K) (left j n : ℕ) → row_from f left j (suc n) ≡ row_from f left j n ++ f (left + n) j ∷ []
+pub row_suc : {K : Type 0} (f : ℕ → ℕ → K) (left j n : ℕ) → row_from f left j (suc n) ≡ row_from f left j n ++ f (left + n) j ∷ []
 unfolding row_from
 row_suc f left j n = refl
 
-rows_none : {K : Type 0} (f : ℕ → ℕ → K) (left columns top n : ℕ) → n ≡ 0 → rows_from f left columns top n ≡ []
+pub rows_none : {K : Type 0} (f : ℕ → ℕ → K) (left columns top n : ℕ) → n ≡ 0 → rows_from f left columns top n ≡ []
 unfolding rows_from
 rows_none f left columns top n e = rw e refl
 
-rows_suc : {K : Type 0} (f : ℕ → ℕ → K) (left columns top n : ℕ) →
+pub rows_suc : {K : Type 0} (f : ℕ → ℕ → K) (left columns top n : ℕ) →
     rows_from f left columns top (suc n) ≡ rows_from f left columns top n ++ row_from f left (top + n) columns
 unfolding rows_from
 rows_suc f left columns top n = refl
@@ -62,3 +62,8 @@ pub before_pushed : {K : Type 0} (f : ℕ → ℕ → K) (s : Squares) (i j : �
     ys ≡ xs ++ x ∷ [] → x ≡ f i j → s.left ≤ i →
     ys ≡ squares_before f s (i + 1) j
 before_pushed f s i j xs ys x old new e h = rw (new, old, e, before_next f s i j h) refl
+
+-- squares that are these by their sides have the same list
+pub squares_listed : {K : Type 0} (f : ℕ → ℕ → K) (ks : List K) (s t : Squares) → ks ≡ each_square f s → s.left ≡ t.left →
+    s.right ≡ t.right → s.top ≡ t.top → s.bottom ≡ t.bottom → ks ≡ each_square f t
+squares_listed f ks s t e left right top bottom = rw (e, left, right, top, bottom) refl

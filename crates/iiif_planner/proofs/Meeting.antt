@@ -26,7 +26,7 @@ column_is s i x a b =
     ap (λ (n : ℕ). n / s) (sym e) ∙ div-mul-add i s (x - i * s) (omega arith)
 
 -- it begins at or before that, and ends behind it
-column_has : (s x : ℕ) → 0 < s → (x / s * s ≤ x) × (x < x / s * s + s)
+pub column_has : (s x : ℕ) → 0 < s → (x / s * s ≤ x) × (x < x / s * s + s)
 column_has s x p =
     let e = div-add-mod' x s in
     let l = mod_below x s p in

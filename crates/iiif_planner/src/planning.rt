@@ -3,63 +3,72 @@
 ghost use Rattle.std.specs.Prelude.{◌≡◌, ◌+◌, ◌*◌, ◌^◌, ◌<◌, ◌≤◌, IfOk};
 ghost use Rattle.iiif_pixel.specs.Geometry.{channels_of, LiesIn};
 ghost use Rattle.iiif_keys.specs.Blocks.{IsEdge};
-ghost use Rattle.iiif_planner.specs.Items.{block_at, each_square, is_scaled_up, squares_met, tile_at, HasItems};
+ghost use Rattle.iiif_planner.specs.Items.{block_at, each_square, is_scaled_up, tile_at, HasItems};
 ghost use Rattle.iiif_planner.specs.Plans.{IsPlan};
 
 use crate::levels::Scaled;
 use crate::plans::Plan;
 use crate::squares::Squares;
 use iiif_canonical::Resolved;
-use iiif_keys::{Name, Shape, SumKey, TileKey, side_of};
-use iiif_pixel::{Dim, NoMemory, Rect};
+use iiif_keys::{Name, SumKey, TileKey, side_of};
+use iiif_pixel::{Dim, Kind, NoMemory, Rect};
 use std::alloc::Global;
 
-/// The plan of a request on the named image of this shape: the tiles with this edge that the region meets, where it keeps its size
-/// or a side of the result is above its side; else the blocks that it meets, of the greatest level at which a block has at most
-/// `room` sums, or of level 0 where there is none. Each is listed once, row by row. The only error is lack of memory.
+/// Plans a request on the named image with these sides, of this kind: of the tiles with this edge that the region meets, where it keeps
+/// its size or a side of the result is above its side; else of the blocks that it meets, of the greatest level at which a block has at
+/// most `room` sums, or of level 0 where there is none. Each is listed once, row by row. The only error is lack of memory.
 pub fn plan(
     alloc: Global,
     name: &Name,
     resolved: &Resolved,
-    shape: Shape,
+    image: Dim,
+    kind: Kind,
     edge: u32,
     room: u64,
 ) -> Result<Plan, NoMemory>
     requires edge { IsEdge edge }
     requires room { room ≤ 65536 }
-    requires inside { LiesIn resolved.now.rect shape.dim }
+    requires inside { LiesIn resolved.now.rect image }
     requires columns { (0 < resolved.now.size.w) × (0 < resolved.now.rect.w) }
     requires rows { (0 < resolved.now.size.h) × (0 < resolved.now.rect.h) }
-    ensures plan { IfOk result (IsPlan name.now edge shape.dim (channels_of shape.kind) room resolved.now) }
-    ensures exact { IfOk result (HasItems name.now edge shape.dim (channels_of shape.kind) room resolved.now) }
+    ensures plan { IfOk result (IsPlan name.now edge image (channels_of kind) room resolved.now) }
+    ensures exact { IfOk result (HasItems name.now edge image (channels_of kind) room resolved.now) }
 {
     let (rect, size) = (resolved.rect, resolved.size);
     let region = rect.dim();
+    let tile = u64::from(edge);
     if size == region {
-        return Ok(Plan::Copy(tiles(alloc, name, edge, rect)?));
+        let met = Squares::met(tile, rect);
+        let keys = tiles(alloc, name, edge, met)?;
+        return Ok(Plan::Copy(keys));
     }
     if is_scaled_up(resolved) {
-        return Ok(Plan::Grow(tiles(alloc, name, edge, rect)?));
+        let met = Squares::met(tile, rect);
+        let keys = tiles(alloc, name, edge, met)?;
+        return Ok(Plan::Grow(keys));
     }
     let scaled = Scaled {
         edge,
-        image: shape.dim,
+        image,
         region,
         size,
-        channels: shape.kind.channels() as u64,
+        channels: kind.channels() as u64,
         room,
     };
-    Ok(Plan::Sum(blocks(alloc, name, edge, rect, size, scaled.level())?))
+    let level = scaled.level();
+    let met = Squares::met(side_of(edge, level), rect);
+    let keys = blocks(alloc, name, edge, rect, size, level, met)?;
+    Ok(Plan::Sum(keys))
 }
 
-/// Whether a side of the result is above the region's.
+/// Tells whether a side of the result is above the region's.
 fn is_scaled_up(resolved: &Resolved) -> bool
     ensures { result ≡ is_scaled_up resolved.now }
 {
     resolved.size.w > resolved.rect.w || resolved.size.h > resolved.rect.h
 }
 
-/// The key of the tile in a column and a row.
+/// Returns the key of the tile in a column and a row.
 fn tile_at(name: &Name, edge: u32, tx: u32, ty: u32) -> Result<TileKey, NoMemory>
     ensures { IfOk result (λ key. key ≡ tile_at name.now edge tx ty) }
 {
@@ -71,14 +80,12 @@ fn tile_at(name: &Name, edge: u32, tx: u32, ty: u32) -> Result<TileKey, NoMemory
     })
 }
 
-/// The tiles that have a place of the region.
-fn tiles(alloc: Global, name: &Name, edge: u32, region: Rect) -> Result<Vec<TileKey>, NoMemory>
-    requires edge { IsEdge edge }
-    requires columns { region.x + region.w < 2 ^ 32 }
-    requires rows { region.y + region.h < 2 ^ 32 }
-    ensures { IfOk result (λ v. v.items ≡ each_square (tile_at name.now edge) (squares_met edge region)) }
+/// Lists the tiles of some squares.
+fn tiles(alloc: Global, name: &Name, edge: u32, squares: Squares) -> Result<Vec<TileKey>, NoMemory>
+    requires columns { squares.left ≤ squares.right }
+    requires rows { squares.top ≤ squares.bottom }
+    ensures { IfOk result (λ v. v.items ≡ each_square (tile_at name.now edge) squares) }
 {
-    let squares = Squares::met(u64::from(edge), region);
     let mut keys = Vec::with_capacity(alloc, squares.count())?;
     for ty in squares.top..squares.bottom {
         for tx in squares.left..squares.right {
@@ -88,7 +95,7 @@ fn tiles(alloc: Global, name: &Name, edge: u32, region: Rect) -> Result<Vec<Tile
     Ok(keys)
 }
 
-/// The blocks of a level that have a place of the region, for the region scaled to `size`.
+/// Lists the blocks of some squares, of a level, for the region scaled to `size`.
 fn blocks(
     alloc: Global,
     name: &Name,
@@ -96,14 +103,12 @@ fn blocks(
     region: Rect,
     size: Dim,
     level: u8,
+    squares: Squares,
 ) -> Result<Vec<SumKey>, NoMemory>
-    requires edge { IsEdge edge }
-    requires level { level ≤ 20 }
-    requires columns { region.x + region.w < 2 ^ 32 }
-    requires rows { region.y + region.h < 2 ^ 32 }
-    ensures { IfOk result (λ v. v.items ≡ each_square (block_at name.now edge region size level) (squares_met (2 ^ level * edge) region)) }
+    requires columns { squares.left ≤ squares.right }
+    requires rows { squares.top ≤ squares.bottom }
+    ensures { IfOk result (λ v. v.items ≡ each_square (block_at name.now edge region size level) squares) }
 {
-    let squares = Squares::met(side_of(edge, level), region);
     let mut keys = Vec::with_capacity(alloc, squares.count())?;
     for by in squares.top..squares.bottom {
         for bx in squares.left..squares.right {

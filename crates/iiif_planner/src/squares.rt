@@ -1,8 +1,7 @@
-//! The squares of a grid over an image that a region meets.
+//! Squares of a grid over an image.
 
 ghost use Rattle.std.specs.Prelude.{◌≡◌, ◌+◌, ◌-◌, ◌*◌, ◌/◌, ◌^◌, ◌<◌, ◌≤◌};
 ghost use Rattle.std.specs.Int.{div_ceil};
-ghost use Rattle.iiif_planner.specs.Items.{squares_met};
 
 use iiif_pixel::Rect;
 
@@ -17,7 +16,10 @@ pub struct Squares {
 }
 
 impl Squares {
-    /// The squares with this side that have a place of the region.
+    ghost use Rattle.iiif_planner.specs.Code.{place_among};
+    ghost use Rattle.iiif_planner.specs.Items.{squares_met};
+
+    /// Returns the squares with this side that have a place of the region.
     pub(crate) fn met(side: u64, region: Rect) -> Squares
         requires side { 0 < side }
         requires columns { region.x + region.w < 2 ^ 32 }
@@ -36,17 +38,24 @@ impl Squares {
         }
     }
 
-    /// How many squares there are.
+    /// Counts the squares.
     pub(crate) fn count(self) -> usize
-        requires columns { self.left ≤ self.right }
-        requires rows { self.top ≤ self.bottom }
         ensures { result ≡ (self.right - self.left) * (self.bottom - self.top) }
     {
-        (self.right - self.left) as usize * (self.bottom - self.top) as usize
+        self.right.saturating_sub(self.left) as usize * self.bottom.saturating_sub(self.top) as usize
+    }
+
+    /// Returns the place of a square among these, where they are listed row by row.
+    pub(crate) fn place(self, column: u32, row: u32) -> usize
+        requires columns { (self.left ≤ self.right) × (self.left ≤ column) }
+        requires rows { self.top ≤ row }
+        ensures { result ≡ place_among self column row }
+    {
+        (row - self.top) as usize * (self.right - self.left) as usize + (column - self.left) as usize
     }
 }
 
-/// The first of the columns of squares that have one of the `count` columns from `from` on, and the end of these squares.
+/// Returns the first of the columns of squares that have one of the `count` columns from `from` on, and the end of these squares.
 fn met_along(side: u64, from: u32, count: u32) -> (u32, u32)
     requires side { 0 < side }
     requires within { from + count < 2 ^ 32 }

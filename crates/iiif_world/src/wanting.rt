@@ -15,7 +15,7 @@ ghost use Rattle.iiif_world.specs.Code.{world_of};
 
 use crate::contents::{Contents, version_shown};
 use iiif_canonical::{Resolved, resolve};
-use iiif_keys::{Name, Shape};
+use iiif_keys::Name;
 use iiif_machine::{
     Answer, Call, Numbers, Progress, Purpose, RequestInfo, RequestRow, ShortRequest, WorldFault,
 };
@@ -79,12 +79,7 @@ impl Contents {
         let alloc = *self.calls.allocator();
         let dim = dim_of(picture);
         let kind = kind_of(picture);
-        let shape = Shape {
-            dim,
-            kind,
-            depth: picture.depth(),
-        };
-        let plan = plan(alloc, name, resolved, shape, self.edge, self.room)?;
+        let plan = plan(alloc, name, resolved, dim, kind, self.edge, self.room)?;
         let keys = keys_of(alloc, plan)?;
         Ok(keys)
     }

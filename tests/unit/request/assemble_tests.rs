@@ -3,7 +3,7 @@
 use crate::fixtures::{has_start, is_missing, is_same, is_unwanted};
 use crate::request::pictures::{Failing, QUARTER, ROOM, Shown, UPRIGHT, job, of_samples, tens};
 use iiif_assemble::{Job, Made, Workshop, assemble, assemble_band};
-use iiif_bands::Band;
+use iiif_planner::Band;
 use iiif_keys::Fault;
 use iiif_pixel::{Depth, Dim, Raster, Samples, Span, Turn};
 use std::alloc::{AllocError, Global};

@@ -3,8 +3,8 @@
 use crate::fixtures::{is_missing, is_same, is_unwanted};
 use crate::request::pictures::{ROOM, UPRIGHT, named};
 use iiif_canonical::Resolved;
-use iiif_keys::{Shape, SumKey, TileKey};
-use iiif_pixel::{Depth, Dim, Kind, Quality, Rect};
+use iiif_keys::{SumKey, TileKey};
+use iiif_pixel::{Dim, Kind, Quality, Rect};
 use iiif_planner::{Plan, plan};
 use std::alloc::Global;
 
@@ -432,12 +432,7 @@ fn is_planned(alloc: Global, case: &Case) -> bool {
         turn: UPRIGHT,
         quality: Quality::Default,
     };
-    let shape = Shape {
-        dim,
-        kind,
-        depth: Depth::Eight,
-    };
-    match plan(alloc, &name, &resolved, shape, edge, room) {
+    match plan(alloc, &name, &resolved, dim, kind, edge, room) {
         Ok(plan) => is_of(&plan, edge, &resolved, wanted),
         Err(_) => matches!(wanted, Wanted::Memory),
     }

@@ -7,8 +7,8 @@ use crate::request::pictures::{ROOM, UPRIGHT};
 use crate::request::plan_tests::{FOUR, are_blocks, are_tiles};
 use iiif_canonical::{Limits, Resolved};
 use iiif_info::info;
-use iiif_keys::{Name, Parts, Shape, SumKey, is_name, parts};
-use iiif_pixel::{Depth, Dim, Kind, Quality, Rect};
+use iiif_keys::{Name, Parts, SumKey, is_name, parts};
+use iiif_pixel::{Dim, Kind, Quality, Rect};
 use iiif_planner::{Plan, plan};
 use std::alloc::Global;
 use std::test::Fail;
@@ -67,12 +67,8 @@ fn planned(alloc: Global, name: &Name, from: u32, side: u32) -> Option<Plan> {
         turn: UPRIGHT,
         quality: Quality::Default,
     };
-    let shape = Shape {
-        dim: Dim { w: 4, h: 4 },
-        kind: Kind::Gray,
-        depth: Depth::Eight,
-    };
-    plan(alloc, name, &resolved, shape, 2, ROOM).ok()
+    let dim = Dim { w: 4, h: 4 };
+    plan(alloc, name, &resolved, dim, Kind::Gray, 2, ROOM).ok()
 }
 
 /// The resolved request for the whole image at half its width.

@@ -3,7 +3,7 @@ use Rattle.std.proofs.lemmas.Result.{IfOk-weaker, IfErr-weaker}
 use Rattle.iiif_pixel.specs.Geometry.{channels_of, sides_of}
 use Rattle.iiif_pixel.specs.declared.geometry.Rect.{Rect}
 use Rattle.iiif_keys.specs.Names.{named}
-use Rattle.iiif_bands.specs.Bands.{ListsItems}
+use Rattle.iiif_planner.specs.Bands.{ListsItems}
 use Rattle.iiif_assemble.specs.Jobs.{IsHeldFor}
 use Rattle.iiif_assemble.proofs.ImageLemmas.{all_rows}
 use Rattle.iiif_assemble.proofs.WholeLemmas.{plan_fault}

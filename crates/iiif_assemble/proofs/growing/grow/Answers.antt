@@ -15,8 +15,8 @@ use Rattle.iiif_keys.specs.Meaning.{TileHasShape}
 use Rattle.iiif_keys.specs.declared.keys.TileKey.{TileKey}
 use Rattle.iiif_keys.specs.declared.values.TileVal.{TileVal}
 use Rattle.iiif_planner.specs.Plans.{IsTileFor}
-use Rattle.iiif_bands.specs.Bands.{grown_places}
-use Rattle.iiif_bands.proofs.ItemLaws.{places_are}
+use Rattle.iiif_planner.specs.Bands.{grown_places}
+use Rattle.iiif_planner.proofs.ItemLaws.{places_are}
 use Rattle.iiif_assemble.specs.Code.{tile_adds, tile_in, TileHasPart}
 use Rattle.iiif_assemble.proofs.GrowLemmas.{grown_total, grown_is}
 use Rattle.iiif_assemble.proofs.SumLemmas.{tile_meant}

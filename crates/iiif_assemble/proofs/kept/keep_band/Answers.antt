@@ -4,7 +4,7 @@ use Rattle.iiif_pixel.specs.Geometry.{channels_of}
 use Rattle.iiif_keys.specs.declared.keys.SumKey.{SumKey}
 use Rattle.iiif_planner.specs.Plans.{IsBlockFor, IsPlan}
 use Rattle.iiif_planner.specs.declared.plans.Plan.{Plan}
-use Rattle.iiif_bands.specs.Bands.{ListsItems}
+use Rattle.iiif_planner.specs.Bands.{ListsItems}
 use Rattle.iiif_assemble.proofs.ZipLemmas.{passed_within}
 use Rattle.iiif_assemble.proofs.KeptLemmas.{all_keep, each_kept, some_kept}
 use Rattle.iiif_assemble.proofs.kept.keep_band.Goals as goal

@@ -5,7 +5,7 @@ use Rattle.iiif_pixel.specs.Geometry.{channels_of}
 use Rattle.iiif_keys.specs.declared.keys.TileKey.{TileKey}
 use Rattle.iiif_planner.specs.Plans.{IsPlan, IsTileFor}
 use Rattle.iiif_planner.specs.declared.plans.Plan.{Plan}
-use Rattle.iiif_bands.specs.Bands.{tile_places, ListsItems, ReachesInto}
+use Rattle.iiif_planner.specs.Bands.{tile_places, ListsItems, ReachesInto}
 use Rattle.iiif_assemble.specs.Code.{tile_in}
 use Rattle.iiif_assemble.specs.Gathering.{IsItemFault}
 use Rattle.iiif_assemble.specs.Lone.{IsTileImage, IsTileItself, IsTilesFault}

@@ -10,8 +10,8 @@ use Rattle.iiif_keys.specs.declared.keys.SumKey.{SumKey}
 use Rattle.iiif_keys.specs.declared.values.SumVal.{SumVal}
 use Rattle.iiif_area.specs.Grid.{finished, sums_of}
 use Rattle.iiif_planner.specs.Plans.{IsBlockFor}
-use Rattle.iiif_bands.specs.Bands.{block_places}
-use Rattle.iiif_bands.proofs.ItemLaws.{places_are}
+use Rattle.iiif_planner.specs.Bands.{block_places}
+use Rattle.iiif_planner.proofs.ItemLaws.{places_are}
 use Rattle.iiif_assemble.specs.Code.{sums_in, total_of}
 use Rattle.iiif_assemble.specs.declared.job.Made.{Made}
 use Rattle.iiif_assemble.proofs.ZipLemmas.{all_mapped, each_value, lists_within}

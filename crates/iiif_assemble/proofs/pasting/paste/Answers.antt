@@ -13,8 +13,8 @@ use Rattle.iiif_keys.specs.Meaning.{TileHasShape}
 use Rattle.iiif_keys.specs.declared.keys.TileKey.{TileKey}
 use Rattle.iiif_keys.specs.declared.values.TileVal.{TileVal}
 use Rattle.iiif_planner.specs.Plans.{IsTileFor}
-use Rattle.iiif_bands.specs.Bands.{tile_places}
-use Rattle.iiif_bands.proofs.ItemLaws.{places_are}
+use Rattle.iiif_planner.specs.Bands.{tile_places}
+use Rattle.iiif_planner.proofs.ItemLaws.{places_are}
 use Rattle.iiif_assemble.specs.Code.{tile_in}
 use Rattle.iiif_assemble.proofs.CutLemmas.{items_cut}
 use Rattle.iiif_assemble.proofs.PasteLemmas.{copied_all}

@@ -7,7 +7,7 @@ use Rattle.iiif_pixel.specs.Geometry.{channels_of, sides_of}
 use Rattle.iiif_pixel.specs.declared.geometry.Dim.{Dim}
 use Rattle.iiif_pixel.specs.declared.geometry.Rect.{Rect}
 use Rattle.iiif_pixel.proofs.Parts.{same_dim}
-use Rattle.iiif_bands.specs.Bands.{AreBands}
+use Rattle.iiif_planner.specs.Bands.{AreBands}
 use Rattle.iiif_assemble.specs.Jobs.{IsBandOf, IsHeldFor}
 use Rattle.iiif_tiff_write.specs.File.{file, head_of, strip}
 use Rattle.iiif_delivery.specs.Delivery.{band_from, result_dim, Stops}

@@ -1,3 +1,0 @@
-pub mod BandLemmas
-pub mod CutLaws
-pub mod ItemLaws

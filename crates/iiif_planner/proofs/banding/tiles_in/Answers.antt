@@ -1,0 +1,31 @@
+use Rattle.std.proofs.Common.{◌≡◌, ◌*◌, ◌^◌, ◌<◌, ◌∙◌, false, length, sym, ap, inl, inr, arith}
+use Rattle.std.specs.Prelude.{◌==◌}
+use Rattle.std.proofs.lemmas.Bool.{eqb-true}
+use Rattle.std.proofs.lemmas.Result.{IfOk-weaker}
+use Rattle.iiif_keys.proofs.Derived.{above_zero}
+use Rattle.iiif_keys.specs.declared.keys.TileKey.{TileKey}
+use Rattle.iiif_planner.specs.Bands.{places_from, grown_places}
+use Rattle.iiif_planner.specs.Code.{grown_met}
+use Rattle.iiif_planner.proofs.BandLemmas.{nothing_listed, tiles_listed}
+use Rattle.iiif_planner.proofs.banding.tiles_in.Goals as goal
+use Rattle.iiif_planner.proofs.banding.tiles_in.Goals.{then-is_empty-via-then-is_empty, then-is_empty-via-else-is_empty+then-part-eq0}
+use Rattle.iiif_planner.proofs.banding.tiles_in.Goals.{then-is_empty-via-else-is_empty+else-part-eq0+then-part-eq0-2}
+
+pub returns-then-is_empty : goal.returns-then-is_empty
+returns-then-is_empty c =
+    nothing_listed (grown_places c.args.region c.args.size) c.args.keys.now c.args.part c.new.result.items c.new.ensures.items
+    (elim c.then-is_empty.branch [
+      | then-is_empty-via-then-is_empty w ↦ inl (eqb-true (length c.args.keys.now) 0 (sym c.is_empty.ensures ∙ w.if-is_empty.true))
+      | then-is_empty-via-else-is_empty+then-part-eq0 w ↦ inr (inl w.if-part-eq0.true)
+      | then-is_empty-via-else-is_empty+else-part-eq0+then-part-eq0-2 w ↦ inr (inr w.if-part-eq0-2.true)
+    ])
+
+pub returns : goal.returns
+returns c =
+    let keys = c.args.keys.now in
+    let some : 0 < length keys = above_zero (length keys) (sym c.is_empty.ensures ∙ c.if-is_empty.false) in
+    let k = c.index-keys-0.result in
+    let side = c.from.ensures ∙ ap (λ (q : TileKey). q.edge) (sym c.index-keys-0.is) in
+    let listed = tiles_listed c.args.region c.args.size c.args.part keys k c.from.result c.requires.tiles some
+    (sym c.index-keys-0.is) side (omega (arith, c.if-part-eq0.false)) (omega (arith, c.if-part-eq0-2.false)) c.requires.inside in
+    IfOk-weaker c.squares_in.result _ (λ v. v.items ≡ places_from 0 (grown_met c.args.region c.args.size c.args.part) keys) (λ v made. made ∙ listed) c.squares_in.ensures
