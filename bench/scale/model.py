@@ -1,7 +1,7 @@
 """Keys, plans, bands, ring, caches and groups, written anew from their definitions, without a pixel; and in which order a node asks.
 
 Of a value only its length is known, so a simulated node counts what it reads, makes, keeps, asks and sends. The definitions are those of
-crates/iiif_keys (specs Bytes, Blocks, Meaning), iiif_planner (Levels, Items), iiif_bands (Bands), iiif_ring (Owner) and iiif_tables
+crates/iiif_keys (specs Bytes, Blocks, Meaning), iiif_planner (Levels, Items, Bands), iiif_ring (Owner) and iiif_tables
 (Cache, Flights). bench/scale/check.py holds this module against the worked examples of those crates. What no definition says is read in
 the code: that a tile which is asked for as it stands is asked once (iiif_assemble, lone), and that the blocks of a band stay until the
 next band has its own (iiif_assemble, kept).

@@ -49,9 +49,11 @@ source_within a c f w p q some inside =
     let m : (f + 1) * a ≤ c * a = mul-le-mul_right a (omega arith) in
     let n : (f + 1) * a ≤ (f + w) * a = mul-le-mul_right a (omega arith) in
     let o : (f + w) * a ≤ c * a = mul-le-mul_right a inside in
-    let t = div_ceil-times ((f + w) * a) c q in
-    (div_below (f * a) c a q (omega arith), div_below (f * a) c (div_ceil ((f + w) * a) c) q (omega arith),
-    div_ceil-le ((f + w) * a) c a q (omega arith))
+    let t = div_ceil-times ((f + w) * a) c q in (
+      div_below (f * a) c a q (omega arith),
+      div_below (f * a) c (div_ceil ((f + w) * a) c) q (omega arith),
+      div_ceil-le ((f + w) * a) c a q (omega arith),
+    )
 
 -- Columns i * s to i * s + s - 1 of the a columns from x on, and those that result columns f to f + w - 1 are made of.
 pub along : (s x a c f w i : ℕ) → 0 < s → 0 < a → 0 < c → 0 < w → f + w ≤ c → x / s ≤ i → i < div_ceil (x + a) s →

@@ -1,5 +1,6 @@
 -- The items of a band.
-use Rattle.std.proofs.Common.{◌≡◌, ℕ, ◌+◌, ◌*◌, ◌^◌, ◌<◌, ◌≤◌, ◌↔◌, ◌⊎◌, List, [], ◌∷◌, Bool, true, All, length, get_or, max, refl, sym, subst, ap}
+use Rattle.std.proofs.Common.{◌≡◌, ℕ, ◌+◌, ◌*◌, ◌^◌, ◌<◌, ◌≤◌, ◌↔◌, ◌⊎◌, List, []}
+use Rattle.std.proofs.Common.{◌∷◌, Bool, true, All, length, get_or, max, refl, sym, subst, ap}
 use Rattle.std.proofs.Common.{◌∙◌, arith, inl, inr, ⊎_elim, Global}
 use Rattle.std.specs.Prelude.{nat_lt}
 use Rattle.std.proofs.lemmas.Bool.{and_from, lt-ltb, ltb-true, and_parts}
@@ -27,6 +28,7 @@ use Rattle.iiif_planner.proofs.Backwards.{none_common, part_squares, places_kept
 use Rattle.iiif_planner.proofs.Exact.{blocks_exact, tiles_exact}
 use Rattle.iiif_planner.proofs.Runs.{places_from-nil, places_from-none, places_from-same}
 
+-- rectangles meet where the test says so
 pub common_meets : (a b : Rect) → have_common a b ≡ true → Meets a b
 unfolding have_common
 common_meets a b h =
@@ -34,6 +36,7 @@ common_meets a b h =
     let t = and_parts (nat_lt 0 p.w) (nat_lt 0 p.h) h in
     record { columns = ltb-true 0 p.w t.0; rows = ltb-true 0 p.h t.1 }
 
+-- the test says so where rectangles meet
 pub meets_common : (a b : Rect) → Meets a b → have_common a b ≡ true
 unfolding have_common
 meets_common a b m = let p = part_of a b in and_from _ _ (lt-ltb 0 p.w m.columns) (lt-ltb 0 p.h m.rows)
@@ -74,11 +77,11 @@ pub lists_those : {K : Type 0} (t : Turn) (d : Dim) (places : K → Rect) (from 
 lists_those t d places from rect keys items lies same are =
     (λ k. have_common (places k) from, λ k. reaches t d (places k) from rect lies same, are)
 
+-- a square meets a region of the image where what the image leaves of it does
 pub meets_square : (image : Dim) (r g : Rect) → LiesIn g image → Meets (clipped image r) g → Meets r g
 meets_square image r g h m =
     let e = clipped_part image r g h in
     record { columns = subst (λ (p : Rect). 0 < p.w) e m.columns; rows = subst (λ (p : Rect). 0 < p.h) e m.rows }
-
 
 -- What the first key of a plan says of the plan: its squares and its region have places, and its numbers are small.
 pub record IsGrid (side : ℕ) (g : Rect) : Type 0 where
@@ -88,6 +91,7 @@ pub record IsGrid (side : ℕ) (g : Rect) : Type 0 where
   pub right : g.x + g.w < 2 ^ 32
   pub bottom : g.y + g.h < 2 ^ 32
 
+-- of tiles
 pub tiles_grid : (g : Rect) (keys : List TileKey) (k : TileKey) → AreTiles g keys → 0 < length keys → get_or keys 0 k ≡ k → IsGrid k.edge g
 tiles_grid g [] k of some at = absurd (omega (arith, some))
 tiles_grid g (x ∷ xs) k of some at =
@@ -102,8 +106,9 @@ tiles_grid g (x ∷ xs) k of some at =
     subst (λ (q : TileKey). IsGrid q.edge g) at
     (record { some = t.fits.edge.some; columns = omega arith; rows = omega arith; right = omega arith; bottom = omega arith })
 
-pub blocks_grid : (g : Rect) (size : Dim) (keys : List SumKey) (k : SumKey) → AreBlocks g size keys → 0 < length keys → get_or keys 0 k ≡ k →
-    (k.edge ≤ 1024) × (k.level ≤ 20) × IsGrid (2 ^ k.level * k.edge) g
+-- of blocks
+pub blocks_grid : (g : Rect) (size : Dim) (keys : List SumKey) (k : SumKey) → AreBlocks g size keys → 0 < length keys →
+    get_or keys 0 k ≡ k → (k.edge ≤ 1024) × (k.level ≤ 20) × IsGrid (2 ^ k.level * k.edge) g
 blocks_grid g size [] k of some at = absurd (omega (arith, some))
 blocks_grid g size (x ∷ xs) k of some at =
     let t = All-head (IsBlockFor of.name of.edge of.image of.channels g size of.level) x xs of.cover.blocks in
@@ -118,9 +123,11 @@ blocks_grid g size (x ∷ xs) k of some at =
     let f = of.small.1 in
     let power : 1 ≤ 2 ^ x.level = pow_pos x.level in
     let product : 1 * 1 ≤ 2 ^ x.level * x.edge = mul-le-mul power block.edge.some in
-    subst (λ (q : SumKey). (q.edge ≤ 1024) × (q.level ≤ 20) × IsGrid (2 ^ q.level * q.edge) g) at
-    (block.edge.within, block.level,
-    record { some = omega arith; columns = omega arith; rows = omega arith; right = omega arith; bottom = omega arith })
+    subst (λ (q : SumKey). (q.edge ≤ 1024) × (q.level ≤ 20) × IsGrid (2 ^ q.level * q.edge) g) at (
+      block.edge.within,
+      block.level,
+      record { some = omega arith; columns = omega arith; rows = omega arith; right = omega arith; bottom = omega arith },
+    )
 
 -- The squares of the part's source are the tiles that have samples for the part.
 pub tiles_listed : (g : Rect) (size : Dim) (part : Rect) (keys : List TileKey) (k : TileKey) (side : ℕ) → AreTiles g keys →
@@ -167,7 +174,7 @@ tiles_kept g size part (x ∷ xs) same of =
     places_from-same 0 (grown_met g size part) (tile_met g part) (x ∷ xs) (λ k.
     ap (λ (r : Rect). have_common r part) (places_kept g size (part_of (square k.edge k.tx k.ty) g) same grid.columns grid.rows))
 
--- What a plan says of its keys.
+-- the tiles of a plan that copies them
 pub tiles_copied : (r : Resolved) (keys : Vec TileKey Global) → IsPlanned r (Copy keys) → AreTiles r.rect keys.items
 tiles_copied r keys is = record {
   name = is.name;
@@ -179,6 +186,7 @@ tiles_copied r keys is = record {
   cover = is.is_plan.1;
 }
 
+-- the tiles of a plan that enlarges them
 pub tiles_grown : (r : Resolved) (keys : Vec TileKey Global) → IsPlanned r (Grow keys) → AreTiles r.rect keys.items
 tiles_grown r keys is = record {
   name = is.name;
@@ -190,6 +198,7 @@ tiles_grown r keys is = record {
   cover = is.is_plan.1;
 }
 
+-- the blocks of a plan
 pub blocks_of : (r : Resolved) (keys : Vec SumKey Global) → IsPlanned r (Sum keys) → AreBlocks r.rect r.size keys.items
 blocks_of r keys is = record {
   name = is.name;
@@ -202,7 +211,7 @@ blocks_of r keys is = record {
   cover = is.is_plan.3;
 }
 
--- A plan without items, or a part without places, has none of the other.
+-- A plan without keys has no item of a band, and a band without places has no item of a plan.
 pub nothing_listed : {K : Type 0} (places : K → Rect) (keys : List K) (part : Rect) (items : List ℕ) → items ≡ [] →
     (length keys ≡ 0) ⊎ ((part.w ≡ 0) ⊎ (part.h ≡ 0)) → items ≡ places_from 0 (λ k. have_common (places k) part) keys
 nothing_listed places [] part items made none = made ∙ sym (places_from-nil 0 (λ k. have_common (places k) part))
@@ -213,6 +222,7 @@ nothing_listed places (x ∷ xs) part items made none =
     made ∙ sym (places_from-none 0 (λ k. have_common (places k) part) (x ∷ xs) (λ k. none_common (places k) part e)))
     none
 
+-- a list has one first element
 pub one_first : {K : Type 0} (keys : List K) (j k : K) → 0 < length keys → get_or keys 0 j ≡ j → get_or keys 0 k ≡ k → j ≡ k
 one_first [] j k some a b = absurd (omega (arith, some))
 one_first (x ∷ xs) j k some a b = sym a ∙ b

@@ -1,5 +1,6 @@
 -- Bands cut a picture, and each is known by its place among them.
-use Rattle.std.proofs.Common.{◌≡◌, ℕ, zero, suc, ◌+◌, ◌-◌, ◌*◌, ◌<◌, ◌≤◌, ◌↔◌, min, true, List, [], ◌∷◌, ◌++◌, All, get_or, length, map, refl, sym}
+use Rattle.std.proofs.Common.{◌≡◌, ℕ, zero, suc, ◌+◌, ◌-◌, ◌*◌, ◌<◌, ◌≤◌, ◌↔◌, min}
+use Rattle.std.proofs.Common.{true, List, [], ◌∷◌, ◌++◌, All, get_or, length, map, refl, sym}
 use Rattle.std.proofs.Common.{subst, ap, ◌∙◌, arith}
 use Rattle.std.specs.Int.{div_ceil}
 use Rattle.std.specs.List.{range_with_len, flat_map}
@@ -121,6 +122,7 @@ items_once r (Copy keys) rect xs ys a b = those_once _ keys.items xs ys a b
 items_once r (Grow keys) rect xs ys a b = those_once _ keys.items xs ys a b
 items_once r (Sum keys) rect xs ys a b = those_once _ keys.items xs ys a b
 
+-- band i, cut alone, is band i of all
 pub band_is_each : BandsAreEach
 band_is_each r plan rows i bs b are within is =
     let d = turned_dim r.turn r.size in

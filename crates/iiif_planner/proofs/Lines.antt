@@ -4,18 +4,22 @@ use Rattle.std.proofs.lemmas.List.{append-nil}
 use Rattle.iiif_planner.specs.declared.squares.Squares.{Squares}
 use Rattle.iiif_planner.specs.Items.{row_from, rows_from, each_square}
 
+-- a row of no squares
 pub row_none : {K : Type 0} (f : ℕ → ℕ → K) (left j n : ℕ) → n ≡ 0 → row_from f left j n ≡ []
 unfolding row_from
 row_none f left j n e = rw e refl
 
+-- a row of one square more
 pub row_suc : {K : Type 0} (f : ℕ → ℕ → K) (left j n : ℕ) → row_from f left j (suc n) ≡ row_from f left j n ++ f (left + n) j ∷ []
 unfolding row_from
 row_suc f left j n = refl
 
+-- no rows
 pub rows_none : {K : Type 0} (f : ℕ → ℕ → K) (left columns top n : ℕ) → n ≡ 0 → rows_from f left columns top n ≡ []
 unfolding rows_from
 rows_none f left columns top n e = rw e refl
 
+-- one row more
 pub rows_suc : {K : Type 0} (f : ℕ → ℕ → K) (left columns top n : ℕ) →
     rows_from f left columns top (suc n) ≡ rows_from f left columns top n ++ row_from f left (top + n) columns
 unfolding rows_from

@@ -1,5 +1,6 @@
 -- The squares of a smaller grid, by their places among those of a larger one, listed row by row.
-use Rattle.std.proofs.Common.{◌≡◌, ℕ, zero, suc, ◌+◌, ◌-◌, ◌*◌, ◌<◌, ◌≤◌, min, Bool, true, false, List, [], ◌∷◌, ◌++◌, length, refl, sym, ap, ◌∙◌}
+use Rattle.std.proofs.Common.{◌≡◌, ℕ, zero, suc, ◌+◌, ◌-◌, ◌*◌, ◌<◌, ◌≤◌, min, Bool}
+use Rattle.std.proofs.Common.{true, false, List, [], ◌∷◌, ◌++◌, length, refl, sym, ap, ◌∙◌}
 use Rattle.std.proofs.Common.{arith, ⊎_elim, if◌then◌else◌}
 use Rattle.std.specs.Prelude.{nat_le, nat_lt, ◌&&◌}
 use Rattle.std.proofs.lemmas.Bool.{cases_lt, and_from, and_parts, and_right, false_from_ne_true, le-leb, lt-ltb, leb-true, ltb-true}
@@ -29,6 +30,7 @@ more : (b : Bool) (n : ℕ) (q p t : List ℕ) → q ≡ p ++ t → (if b then n
 more true n q p t e = ap (λ ys. n ∷ ys) e
 more false n q p t e = e
 
+-- places in two lists, one behind the other
 pub places_from-append : {K : Type 0} (n : ℕ) (test : K → Bool) (xs ys : List K) →
     places_from n test (xs ++ ys) ≡ places_from n test xs ++ places_from (n + length xs) test ys
 unfolding places_from
@@ -44,6 +46,7 @@ places_from-one : {K : Type 0} (n : ℕ) (test : K → Bool) (x : K) → places_
 unfolding places_from
 places_from-one n test x = refl
 
+-- a test that nothing passes
 pub places_from-none : {K : Type 0} (n : ℕ) (test : K → Bool) (keys : List K) → ((k : K) → test k ≡ false) → places_from n test keys ≡ []
 unfolding places_from
 places_from-none n test [] h = refl
@@ -51,6 +54,7 @@ places_from-none n test (k ∷ ks) h =
     ap (λ (b : Bool). if b then n ∷ places_from (n + 1) test ks else places_from (n + 1) test ks) (h k)
     ∙ places_from-none (n + 1) test ks h
 
+-- tests that agree list the same places
 pub places_from-same : {K : Type 0} (n : ℕ) (test other : K → Bool) (keys : List K) → ((k : K) → test k ≡ other k) →
     places_from n test keys ≡ places_from n other keys
 unfolding places_from
@@ -59,6 +63,7 @@ places_from-same n test other (k ∷ ks) h =
     ap (λ (b : Bool). if b then n ∷ places_from (n + 1) test ks else places_from (n + 1) test ks) (h k)
     ∙ ap (λ ys. if other k then n ∷ ys else ys) (places_from-same (n + 1) test other ks h)
 
+-- an empty list has no place
 pub places_from-nil : {K : Type 0} (n : ℕ) (test : K → Bool) → places_from n test [] ≡ []
 unfolding places_from
 places_from-nil n test = refl

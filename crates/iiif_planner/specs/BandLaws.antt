@@ -1,4 +1,7 @@
 -- The laws of bands: which places are listed, and how bands cut a result.
+--
+-- `PlacesRise`, `PlacesAreThose`: what the list of a band's items is. `BandsCutPictures`: the bands of a picture are the picture.
+-- `BandsAreLow`: no band has more rows than asked for. `BandsAreEach`: band i alone is band i of all.
 use Rattle.std.specs.Prelude.{◌≡◌, ℕ, ◌<◌, ◌≤◌, min, List, Bool, All, AllPairs, map, get_or, length}
 use Rattle.std.specs.List.{filter, flat_map}
 use Rattle.iiif_pixel.specs.Geometry.{LiesIn}
@@ -12,11 +15,11 @@ use Rattle.iiif_planner.specs.declared.plans.Plan.{Plan}
 use Rattle.iiif_planner.specs.Bands.{places_from, AreBands, IsBand}
 use Rattle.iiif_planner.specs.declared.banding.Band.{Band}
 
--- places rise
+-- The places of a list stand in order, each once.
 abbrev pub PlacesRise : Type 0 → Type 0
 PlacesRise K = (n : ℕ) (test : K → Bool) (keys : List K) → AllPairs (λ i j. i < j) (places_from n test keys)
 
--- and what stands there is what passes, in its order
+-- What stands at these places is what passes the test, in the list's order.
 abbrev pub PlacesAreThose : Type 0 → Type 0
 PlacesAreThose K = (test : K → Bool) (keys : List K) (x : K) → map (λ i. get_or keys i x) (places_from 0 test keys) ≡ filter test keys
 
@@ -34,7 +37,7 @@ pub record IsLow (d : Dim) (rows : ℕ) (rect : Rect) : Type 0 where
   pub some : 0 < rect.h
   pub few : rect.h ≤ min rows d.h
 
--- Each band is so.
+-- Each band of a result is low.
 abbrev pub BandsAreLow : Type 0
 BandsAreLow = (r : Resolved) (plan : Plan) (rows : ℕ) (bs : List Band) → 0 < rows → AreBands r plan rows bs →
     All (λ b. IsLow (turned_dim r.turn r.size) rows b.rect) bs

@@ -1,4 +1,10 @@
 -- Bands: rows of a turned result, and the items of a plan that have a place of them.
+--
+-- `ListsThose P keys items`: the places in the list of those of which P holds.
+-- `tile_places`, `block_places`, `grown_places`: the places of the scaled result that an item of each kind of plan has.
+-- `ReachesInto`: one of these places is turned into the band. `ListsItems`: a list has just the items of which this holds.
+-- `band_rect d rows n`, `IsBand`: band n. `AreBands`: all bands of a result.
+-- `IsPlanned`: a plan of a request, as `plan` ensures it.
 use Rattle.std.specs.Prelude.{◌≡◌, ℕ, ◌+◌, ◌-◌, ◌*◌, ◌^◌, ◌<◌, ◌↔◌, List, [], ◌∷◌, Bool, true, All, map, min, if◌then◌else◌}
 use Rattle.std.specs.Int.{div_ceil}
 use Rattle.std.specs.List.{range_with_len}
@@ -30,11 +36,11 @@ ListsThose {K} P keys items = (test : K → Bool) × ((k : K) → (test k ≡ tr
 abbrev pub tile_places : Rect → TileKey → Rect
 tile_places region k = part_of (square k.edge k.tx k.ty) region
 
--- and those that the block of a plan has sums for
+-- the places that the block of a plan has sums for
 abbrev pub block_places : SumKey → Rect
 block_places k = places_of (sides_of k.rect) k.size (part_of (square (2 ^ k.level * k.edge) k.bx k.by) k.rect)
 
--- and those that a tile of a plan has samples for where a side of the result is above the region's: by the rule of a block's
+-- the places that a tile of a plan has samples for where a side of the result is above the region's: by the rule of a block's
 abbrev pub grown_places : Rect → Dim → TileKey → Rect
 grown_places region size k = places_of (sides_of region) size (part_of (square k.edge k.tx k.ty) region)
 

@@ -1,4 +1,9 @@
 -- The plan of a request as a list: its tiles or its blocks, row by row.
+--
+-- `each_square f s`: what f makes of each of the squares s, row by row.
+-- `squares_met side region`: the squares of a grid that have a place of the region.
+-- `tiles_for`, `blocks_for`: the tiles of a request, and its blocks of a level; `level_for`: that level.
+-- `HasItems`: a plan is just that list.
 use Rattle.std.specs.Prelude.{◌≡◌, ℕ, ◌+◌, ◌-◌, ◌*◌, ◌/◌, ◌^◌, List, [], ◌∷◌, ◌++◌, Bool, true, false, ◌&&◌, ◌||◌, ◌==◌, not, nat_le, max}
 use Rattle.std.specs.Prelude.{if◌then◌else◌}
 use Prim.Native.Nat.{zero, suc}
@@ -25,11 +30,12 @@ unfoldable pub rows_from : {K : Type 0} → (ℕ → ℕ → K) → ℕ → ℕ 
 rows_from f left columns top zero = []
 rows_from f left columns top (suc n) = rows_from f left columns top n ++ row_from f left (top + n) columns
 
--- what f makes of each of some squares
+-- what f makes of each of some squares, row by row
 abbrev pub each_square : {K : Type 0} → (ℕ → ℕ → K) → Squares → List K
 each_square f s = rows_from f s.left (s.right - s.left) s.top (s.bottom - s.top)
 
--- the squares with this side, of the grid over an image, that have a place of the region
+-- The squares with this side, of the grid over an image, that have a place of the region: IIIF Image API 3.0, section 5.4 (tiles), whose
+-- column and row are the quotients of a place by the side.
 abbrev pub squares_met : ℕ → Rect → Squares
 squares_met side region = record {
   left = region.x / side;
@@ -78,11 +84,11 @@ greatest test (suc n) = if test (suc n) then suc n else greatest test n
 abbrev pub level_for : ℕ → Dim → ℕ → ℕ → Resolved → ℕ
 level_for edge image channels room r = greatest (is_usable edge image (sides_of r.rect) r.size channels room) 20
 
--- the tiles that a region meets, row by row
+-- the tiles of a request: those that its region meets
 abbrev pub tiles_for : List ℕ → ℕ → Resolved → List TileKey
 tiles_for name edge r = each_square (tile_at name edge) (squares_met edge r.rect)
 
--- and the blocks of a level
+-- the blocks of a level of a request: those that its region meets
 abbrev pub blocks_for : List ℕ → ℕ → ℕ → Resolved → List SumKey
 blocks_for name edge level r = each_square (block_at name edge r.rect r.size level) (squares_met (2 ^ level * edge) r.rect)
 

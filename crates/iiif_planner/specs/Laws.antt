@@ -1,5 +1,7 @@
 -- The laws of plans: what covers a region names each tile or block that has a place of it once; and a plan's level is the
 -- greatest that passes a test.
+--
+-- `is_met`: a square has a place of the region. `EachTileOnce`, `EachBlockOnce`, `LevelIsGreatest`: the laws.
 use Rattle.std.specs.Prelude.{◌≡◌, ℕ, ◌*◌, ◌^◌, List, Bool, ◌&&◌, ◌==◌, nat_lt, ◌↔◌, count_by, if◌then◌else◌}
 use Rattle.iiif_pixel.specs.Geometry.{LiesIn}
 use Rattle.iiif_pixel.specs.declared.geometry.Dim.{Dim}
@@ -24,7 +26,7 @@ EachTileOnce = (name : List ℕ) (edge : ℕ) (image : Dim) (channels : ℕ) (re
     TilesCover name edge image channels region keys → (i j : ℕ) →
     count_by (λ k. k.tx == i && k.ty == j) keys ≡ (if is_met image edge region i j then 1 else 0)
 
--- And so it is of the blocks of the level.
+-- Of the blocks of a level, each that has a place of the region is listed once, and no other.
 abbrev pub EachBlockOnce : Type 0
 EachBlockOnce = (name : List ℕ) (edge : ℕ) (image : Dim) (channels : ℕ) (region : Rect) (size : Dim) (level : ℕ) (keys : List SumKey) →
     LiesIn region image →

@@ -34,7 +34,7 @@ fn source_of(region: Rect, size: Dim, part: Rect) -> Rect
     ensures columns { (region.x ≤ result.x) × (result.x + result.w ≤ region.x + region.w) }
     ensures rows { (region.y ≤ result.y) × (result.y + result.h ≤ region.y + region.h) }
 {
-    // Scaling is looked at backwards: from the result to the region.
+    // From the result back to the region: the sides change places.
     let source = places_of(size, region.dim(), part);
     Rect {
         x: region.x + source.x,

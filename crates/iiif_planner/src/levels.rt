@@ -8,8 +8,7 @@ ghost use Rattle.iiif_keys.specs.Blocks.{IsEdge};
 use iiif_keys::{LEVEL_LIMIT, side_of};
 use iiif_pixel::Dim;
 
-/// What a level is chosen for: a region of an image that is scaled to `size`, tiles with this edge, so many channels, and room
-/// for so many sums of a block.
+/// A region of an image to be scaled to `size`, with the edge of its tiles, its channels, and room for so many sums of a block.
 #[derive(Clone, Copy)]
 pub struct Scaled {
     pub edge: u32,
@@ -21,7 +20,7 @@ pub struct Scaled {
 }
 
 impl Scaled {
-    /// The greatest level that may be planned with, or 0 where there is none.
+    /// Returns the greatest level that may be planned with, or 0 where there is none.
     pub(crate) fn level(self) -> u8
         requires edge { IsEdge self.edge }
         requires channels { self.channels ≤ 3 }
@@ -38,7 +37,7 @@ impl Scaled {
         0
     }
 
-    /// Whether a level may be planned with.
+    /// Tells whether a level may be planned with.
     fn is_usable(self, level: u8) -> bool
         requires edge { IsEdge self.edge }
         requires level { level ≤ 20 }
@@ -51,7 +50,7 @@ impl Scaled {
         needed && self.sums_at_most(level) <= self.room
     }
 
-    /// Whether one block of the level holds the image.
+    /// Tells whether one block of the level holds the image.
     fn holds_image(self, level: u8) -> bool
         requires edge { IsEdge self.edge }
         requires level { level ≤ 20 }
@@ -60,7 +59,7 @@ impl Scaled {
         u64::from(self.image.w.max(self.image.h)) <= side_of(self.edge, level)
     }
 
-    /// How many sums a block of the level has at most.
+    /// Returns the most sums that a block of the level can have.
     fn sums_at_most(self, level: u8) -> u64
         requires edge { IsEdge self.edge }
         requires level { level ≤ 20 }
@@ -76,7 +75,7 @@ impl Scaled {
     }
 }
 
-/// How many result columns a block with this side meets at most, where `a` columns are scaled to `c`.
+/// Returns the most result columns that a block with this side can meet, where `a` columns are scaled to `c`.
 fn met_at_most(side: u64, a: u32, c: u32) -> u64
     requires side { side ≤ 2 ^ 30 }
     requires scaled { (0 < c) × (c ≤ a) }

@@ -42,7 +42,8 @@ impl Squares {
     pub(crate) fn count(self) -> usize
         ensures { result ≡ (self.right - self.left) * (self.bottom - self.top) }
     {
-        self.right.saturating_sub(self.left) as usize * self.bottom.saturating_sub(self.top) as usize
+        self.right.saturating_sub(self.left) as usize
+            * self.bottom.saturating_sub(self.top) as usize
     }
 
     /// Returns the place of a square among these, where they are listed row by row.
@@ -51,7 +52,8 @@ impl Squares {
         requires rows { self.top ≤ row }
         ensures { result ≡ place_among self column row }
     {
-        (row - self.top) as usize * (self.right - self.left) as usize + (column - self.left) as usize
+        (row - self.top) as usize * (self.right - self.left) as usize
+            + (column - self.left) as usize
     }
 }
 

@@ -34,7 +34,7 @@
 //! 4. `iiif_services` listens, `iiif_listener` starts a thread for each connection, and `iiif_connections` serves it.
 //! 5. `iiif_server` answers a connection's calls in order: `iiif_http_front` reads their heads, `iiif_request` and `iiif_canonical` read
 //!    what they ask for, `iiif_answers` has the texts of refusals, redirects and information.
-//! 6. `iiif_delivery` sends an image in bands, which `iiif_planner` cuts. `iiif_planner` says which tiles and sums it needs,
+//! 6. `iiif_delivery` sends an image in bands. `iiif_planner` says which tiles and sums the image needs, and cuts it into bands;
 //!    `iiif_tile_group` and `iiif_sum_group` have them in caches with shared flights (`iiif_group`, `iiif_singleflight`), and ask the node
 //!    that owns them. `iiif_group_items` lends them to `iiif_assemble`, which makes the band's rows.
 //! 7. `iiif_images` finds a name's image, `iiif_open_files` its file; `iiif_tiff_read` reads a tile's samples from it, and

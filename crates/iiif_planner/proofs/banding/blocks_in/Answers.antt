@@ -31,4 +31,5 @@ returns c =
     ∙ ap (λ (q : SumKey). 2 ^ k.level * q.edge) (sym c.index-keys-0.is) in
     let listed = blocks_listed c.args.region c.args.size c.args.part keys k c.side_of-side.result c.requires.blocks some
     (sym c.index-keys-0.is) side (omega (arith, c.if-part-eq0.false)) (omega (arith, c.if-part-eq0-2.false)) c.requires.inside in
-    IfOk-weaker c.squares_in.result _ (λ v. v.items ≡ places_from 0 (block_met c.args.part) keys) (λ v made. made ∙ listed) c.squares_in.ensures
+    IfOk-weaker c.squares_in.result _ (λ v. v.items ≡ places_from 0 (block_met c.args.part) keys)
+    (λ v made. made ∙ listed) c.squares_in.ensures

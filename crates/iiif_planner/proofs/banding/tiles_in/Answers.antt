@@ -28,4 +28,5 @@ returns c =
     let side = c.from.ensures ∙ ap (λ (q : TileKey). q.edge) (sym c.index-keys-0.is) in
     let listed = tiles_listed c.args.region c.args.size c.args.part keys k c.from.result c.requires.tiles some
     (sym c.index-keys-0.is) side (omega (arith, c.if-part-eq0.false)) (omega (arith, c.if-part-eq0-2.false)) c.requires.inside in
-    IfOk-weaker c.squares_in.result _ (λ v. v.items ≡ places_from 0 (grown_met c.args.region c.args.size c.args.part) keys) (λ v made. made ∙ listed) c.squares_in.ensures
+    IfOk-weaker c.squares_in.result _ (λ v. v.items ≡ places_from 0 (grown_met c.args.region c.args.size c.args.part) keys)
+    (λ v made. made ∙ listed) c.squares_in.ensures

@@ -109,7 +109,8 @@ returns c =
         record { other = other_sides size (sides_of r) other; columns = down.0; rows = down.1 },
         c.level-level.result,
         level,
-        subst (λ (ks : List SumKey). BlocksCover c.args.name.now c.args.edge c.args.image n r size c.level-level.result ks) (sym keys) cover,
+        subst (λ (ks : List SumKey). BlocksCover c.args.name.now c.args.edge c.args.image n r size c.level-level.result ks) (sym keys)
+            cover,
       );
       exact = (
         sym other,

@@ -8,7 +8,8 @@ loop-ty-init c = c.in_ok-keys.ensures.items ∙ sym (before_first (tile_at c.arg
 
 pub loop-tx-preserved : goal.loop-tx-preserved
 loop-tx-preserved c =
-    before_pushed (tile_at c.args.name.now c.args.edge) c.args.squares c.loop-tx.tx c.loop-ty.ty _ _ _ c.loop-tx.invariant c.in_ok-push.ensures.items
+    let at = tile_at c.args.name.now c.args.edge in
+    before_pushed at c.args.squares c.loop-tx.tx c.loop-ty.ty _ _ _ c.loop-tx.invariant c.in_ok-push.ensures.items
     c.in_ok-tile_at.ensures c.loop-tx.auto.tx
 
 pub loop-ty-preserved : goal.loop-ty-preserved
