@@ -1,17 +1,18 @@
-//! The information about an image.
+//! The information document, member by member.
 
 ghost use Rattle.std.specs.Prelude.{◌≡◌, ◌<◌, IfOk, codes, string_bytes, max};
 ghost use Rattle.serde_json.specs.Data.{string, member, no_members};
 ghost use Rattle.serde_json.specs.View.{view, members_view};
-ghost use Rattle.iiif_info.specs.Information.{features, information, info_text, texts, whole};
+ghost use Rattle.iiif_info.specs.Information.{features, information, info_text, strings, integer};
 
-use crate::values::{texts, tiles};
+use crate::values::{strings, tiles};
 use iiif_canonical::{Limits, image_uri};
 use iiif_pixel::{Dim, NoMemory};
 use serde_json::{Map, Value, put};
 use std::alloc::Global;
 
-/// The features. The last is had where a size with `^` may be above its region's.
+/// Features beyond level 0 (IIIF Image API 3.0, section 5.7). The last one stands only where a size with `^` may be above its
+/// region's.
 const FEATURES: [&str; 14] = [
     "baseUriRedirect",
     "canonicalLinkHeader",
@@ -29,18 +30,18 @@ const FEATURES: [&str; 14] = [
     "sizeUpscaling",
 ];
 
-/// The features that a server with these limits has.
+/// Makes the list of the features that a server with these limits has.
 fn features(alloc: Global, limits: &Limits) -> Result<Value, NoMemory>
-    ensures { IfOk result (λ value. view value ≡ texts (features limits.now)) }
+    ensures { IfOk result (λ value. view value ≡ strings (features limits.now)) }
 {
     if limits.upscale {
-        texts(alloc, &FEATURES)
+        strings(alloc, &FEATURES)
     } else {
-        texts(alloc, &FEATURES[..13])
+        strings(alloc, &FEATURES[..13])
     }
 }
 
-/// The members from the greatest width on. The last of them is put first, so that none is moved.
+/// Makes the members from `maxWidth` on. They are put from last to first, so that none is moved.
 fn last_members(
     alloc: Global,
     dim: Dim,
@@ -49,13 +50,13 @@ fn last_members(
     tiles: Value,
 ) -> Result<Map<String, Value>, NoMemory>
     ensures { IfOk result (λ map. members_view map.entries ≡
-        member (codes "maxWidth") (whole limits.now.max_w) (
+        member (codes "maxWidth") (integer limits.now.max_w) (
         member (codes "preferredFormats") (view preferred) (
         member (codes "profile") (string (codes "level0")) (
         member (codes "protocol") (string (codes "http://iiif.io/api/image")) (
         member (codes "tiles") (view tiles) (
         member (codes "type") (string (codes "ImageService3")) (
-        member (codes "width") (whole dim.w) no_members))))))) }
+        member (codes "width") (integer dim.w) no_members))))))) }
 {
     let mut map = Map::new(alloc);
     put(&mut map, alloc, "width", Value::from(dim.w))?;
@@ -71,7 +72,7 @@ fn last_members(
     Ok(map)
 }
 
-/// The information as a value.
+/// Makes the information as a JSON value.
 #[tactic(auto, unfolding(crate::specs::Information::information))]
 fn information(
     alloc: Global,
@@ -83,24 +84,24 @@ fn information(
     requires { 0 < edge }
     ensures { IfOk result (λ value. view value ≡ information id.now dim limits.now edge) }
 {
-    let preferred = texts(alloc, &["tif"])?;
+    let preferred = strings(alloc, &["tif"])?;
     let tiles = tiles(alloc, edge, dim.w.max(dim.h))?;
     let mut map = last_members(alloc, dim, limits, preferred, tiles)?;
     put(&mut map, alloc, "maxHeight", Value::from(limits.max_h))?;
     put(&mut map, alloc, "id", Value::try_from_str(alloc, id)?)?;
     put(&mut map, alloc, "height", Value::from(dim.h))?;
-    let qualities = texts(alloc, &["bitonal", "color", "gray"])?;
+    let qualities = strings(alloc, &["bitonal", "color", "gray"])?;
     put(&mut map, alloc, "extraQualities", qualities)?;
-    put(&mut map, alloc, "extraFormats", texts(alloc, &["tif"])?)?;
+    put(&mut map, alloc, "extraFormats", strings(alloc, &["tif"])?)?;
     put(&mut map, alloc, "extraFeatures", features(alloc, limits)?)?;
     let context = Value::try_from_str(alloc, "http://iiif.io/api/image/3/context.json")?;
     put(&mut map, alloc, "@context", context)?;
     Ok(Value::Object(map))
 }
 
-/// The text of an image's information: compact JSON with its keys in the order of their bytes. `base` is the server's
-/// URL without a `/` at its end, `id` the image's name as it is, `dim` the image's sides in pixels, `limits` how large a
-/// result may be, and `edge` the side of a tile.
+/// Writes the information about an image: compact JSON, its keys in the order of their bytes. `base` is the server's URL without
+/// a `/` at its end, `id` the image's name before it is escaped, `dim` the image's size in pixels, `limits` the greatest size of
+/// a result, and `edge` the side of a tile.
 pub fn info(
     alloc: Global,
     base: &str,

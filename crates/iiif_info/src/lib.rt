@@ -1,4 +1,4 @@
-//! The information about an image, as JSON (IIIF Image API 3.0, section 5).
+//! Writes the information about an image, its `info.json` (IIIF Image API 3.0, section 5).
 #![tactic(auto)]
 
 pub use document::info;

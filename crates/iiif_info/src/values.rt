@@ -2,15 +2,15 @@
 
 ghost use Rattle.std.specs.Prelude.{◌≡◌, ◌<◌, IfOk, map};
 ghost use Rattle.serde_json.specs.View.{view};
-ghost use Rattle.iiif_info.specs.Information.{texts, wholes, scale_factors, tiles};
+ghost use Rattle.iiif_info.specs.Information.{strings, integers, scale_factors, tiles};
 
 use iiif_pixel::NoMemory;
 use serde_json::{Value, json};
 use std::alloc::Global;
 
-/// A list of texts.
-pub fn texts(alloc: Global, words: &[&str]) -> Result<Value, NoMemory>
-    ensures { IfOk result (λ value. view value ≡ texts (map (λ word. word.now) words.now)) }
+/// Makes an array of strings.
+pub fn strings(alloc: Global, words: &[&str]) -> Result<Value, NoMemory>
+    ensures { IfOk result (λ value. view value ≡ strings (map (λ word. word.now) words.now)) }
 {
     let mut list = Vec::with_capacity(alloc, words.len())?;
     for word in words {
@@ -19,9 +19,9 @@ pub fn texts(alloc: Global, words: &[&str]) -> Result<Value, NoMemory>
     Ok(Value::Array(list))
 }
 
-/// A list of whole numbers.
-fn wholes(alloc: Global, numbers: &[u64]) -> Result<Value, NoMemory>
-    ensures { IfOk result (λ value. view value ≡ wholes numbers.now) }
+/// Makes an array of integers.
+fn integers(alloc: Global, numbers: &[u64]) -> Result<Value, NoMemory>
+    ensures { IfOk result (λ value. view value ≡ integers numbers.now) }
 {
     let mut list = Vec::with_capacity(alloc, numbers.len())?;
     for number in numbers {
@@ -30,7 +30,7 @@ fn wholes(alloc: Global, numbers: &[u64]) -> Result<Value, NoMemory>
     Ok(Value::Array(list))
 }
 
-/// The scale factors of tiles with this edge.
+/// Lists the scale factors of tiles of this edge: powers of two, up to the first at which one tile covers `side`.
 fn scale_factors(alloc: Global, edge: u32, side: u32) -> Result<Vec<u64>, NoMemory>
     requires { 0 < edge }
     ensures { IfOk result (λ factors. factors.items ≡ scale_factors edge side) }
@@ -45,12 +45,12 @@ fn scale_factors(alloc: Global, edge: u32, side: u32) -> Result<Vec<u64>, NoMemo
     Ok(factors)
 }
 
-/// The tiles.
+/// Makes the description of the tiles of an image whose longer side is `side`.
 #[tactic(auto, unfolding(crate::specs::Information::tiles))]
 pub fn tiles(alloc: Global, edge: u32, side: u32) -> Result<Value, NoMemory>
     requires { 0 < edge }
     ensures { IfOk result (λ value. view value ≡ tiles edge side) }
 {
-    let factors = wholes(alloc, &scale_factors(alloc, edge, side)?)?;
+    let factors = integers(alloc, &scale_factors(alloc, edge, side)?)?;
     json!(in alloc; [{"height": edge, "scaleFactors": factors, "width": edge}])
 }

@@ -1,5 +1,5 @@
-use Rattle.iiif_info.proofs.LevelLemmas.{least}
+use Rattle.iiif_info.proofs.LevelLemmas.{last_level_least}
 use Rattle.iiif_info.proofs.laws.last_level_is_least.Goals as goal
 
 pub returns : goal.returns
-returns c = least
+returns c = last_level_least
