@@ -404,3 +404,16 @@ def a_server_needs_an_image(program, room):
     except Refused as refused:
         got = (refused.args[0], refused.args[1].splitlines()[0])
     return got, (2, "line: image"), command(program)
+
+
+@shows("NAME=FILE")
+def a_server_warns_of_a_name_of_two_dots_alone_and_answers_it(program, room):
+    # A client that normalizes asks for /iiif/full/.. in its place; these bytes go out as they stand.
+    warning = "warning: image ..: clients remove the segments . and .. of a URI before they ask for it"
+    got = []
+    for name, wanted in (("..", warning), ("a", "")):
+        with Server(program, [f"{name}=:sample"]) as server:
+            wait_until(lambda: server.line(), 10 if wanted else 1)
+            got.append((server.line(), asked(server.port, f"/iiif/{name}/full/max/0/default.tif")))
+    answer = (200, sample_file())
+    return got, [(warning, answer), ("", answer)], command(program, "..=:sample")

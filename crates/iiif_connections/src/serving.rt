@@ -10,8 +10,8 @@ use iiif_keys::{SumKey, System, TileKey};
 use iiif_listener::{OpenConnections, Visit};
 use iiif_open_files::Opens;
 use iiif_server::{Gate, Link, Node, SumCalls, TileCalls};
-use iiif_services::{Addresses, Listeners, run_logged, serve_all};
-use iiif_start::{Stop, Stored};
+use iiif_services::{Listeners, run_logged, serve_all};
+use iiif_start::Stored;
 use std::alloc::Global;
 use std::io;
 use std::net::{Net, TcpListener, TcpStream};
@@ -144,31 +144,4 @@ where
         peers,
         &services.statistics,
     )
-}
-
-/// Serves at these addresses by a node, and writes a line for each answer to a viewer where the watcher has a log. It ends where a listener
-/// does: an address is none, or the listener was stopped.
-pub fn listen<'a, R, J, N, T, E>(
-    rt: &R,
-    alloc: Global,
-    node: &Node<R, Stored<R>, J, N, T>,
-    manner: Manner<'_>,
-    addresses: &Addresses<'_>,
-    err: &mut E,
-) -> Result<(), Stop<'a>>
-where
-    R: Opens + Net<Listener = TcpListener, Stream = TcpStream> + Threads + Wait + Clock + Sync,
-    R::Handle: Send + Sync,
-    J: System + Send + Sync,
-    N: Link<TileKey, J, R> + Link<SumKey, J, R> + Sync,
-    T: Gate<R> + Sync,
-    E: Outlet + Send,
-{
-    let Ok(listeners) = Listeners::bind(rt, alloc, addresses) else {
-        return Err(Stop::Listen);
-    };
-    match serve(rt, alloc, node, manner, &listeners, err) {
-        Ok(()) => Ok(()),
-        Err(_) => Err(Stop::Listen),
-    }
 }

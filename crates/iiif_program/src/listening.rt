@@ -12,12 +12,12 @@ ghost use Rattle.iiif_keys.specs.Ledgers.{all_parts};
 use crate::makings::{Makings, open_makings, watcher_of};
 use crate::work::Listening;
 use iiif_command_line::Options;
-use iiif_connections::serving::listen;
-use iiif_connections::{Gate, Link, Manner, Node, Watcher, among};
+use iiif_connections::{Gate, Link, Manner, Node, Watcher, among, serving};
 use iiif_io::Outlet;
 use iiif_keys::{PARTS, SumKey, System, TileKey};
 use iiif_open_files::Opens;
-use iiif_start::{Stop, Stored, touch};
+use iiif_services::Listeners;
+use iiif_start::{Stop, Stored, touch, warn};
 use std::alloc::Global;
 use std::marker::Brand;
 use std::net::{Net, TcpListener, TcpStream};
@@ -26,9 +26,10 @@ use std::sync::Wait;
 use std::sync::ledger::Blank;
 use std::thread::Threads;
 
-/// Where a node stands: what it listens at, and who watches it.
+/// Where a node stands: what it was told, where it listens, and who watches it.
 #[derive(Drop)]
-struct Post<'p, 'w> {
+struct Post<'p, 'w, 'o> {
+    options: &'p Options<'o>,
     listening: &'p Listening<'w>,
     watcher: &'p Watcher,
 }
@@ -51,6 +52,7 @@ where
     let made = open_makings(rt, alloc, options)?;
     let watcher = watcher_of(alloc, options, &made, listening.logs)?;
     let post = Post {
+        options,
         listening,
         watcher: &watcher,
     };
@@ -67,7 +69,7 @@ fn serve_alone<'a, R, E, J: System + Send + Sync>(
     rt: &R,
     made: Makings<R>,
     blanks: (Blank, Blank),
-    post: &Post<'_, '_>,
+    post: &Post<'_, '_, '_>,
     err: &mut E,
 ) -> Result<(), Stop<'a>>
 where
@@ -112,7 +114,7 @@ fn serve_among<'a, R, E, J: System + Send + Sync>(
     rt: &R,
     made: Makings<R>,
     blanks: (Blank, Blank),
-    post: &Post<'_, '_>,
+    post: &Post<'_, '_, '_>,
     err: &mut E,
 ) -> Result<(), Stop<'a>>
 where
@@ -144,12 +146,12 @@ where
     }
 }
 
-/// Serves by a node, with so many workers for each viewer's connection.
+/// Serves by a node, with so many workers for each viewer's connection. Once it listens, it warns of what clients can't ask for.
 fn serve_by<'a, R, E, J, N, T>(
     rt: &R,
     node: &Node<R, Stored<R>, J, N, T>,
     workers: u32,
-    post: &Post<'_, '_>,
+    post: &Post<'_, '_, '_>,
     err: &mut E,
 ) -> Result<(), Stop<'a>>
 where
@@ -171,5 +173,13 @@ where
         times: listening.times,
         watcher: post.watcher,
     };
-    listen(rt, alloc, node, manner, &listening.addresses, err)
+    let Ok(listeners) = Listeners::bind(rt, alloc, &listening.addresses) else {
+        return Err(Stop::Listen);
+    };
+    // Where the warnings can't be written, it serves all the same.
+    let _ = warn(err, post.options.base, &post.options.images);
+    match serving::serve(rt, alloc, node, manner, &listeners, err) {
+        Ok(()) => Ok(()),
+        Err(_) => Err(Stop::Listen),
+    }
 }

@@ -14,7 +14,7 @@ use iiif_command_line::{Options, matches};
 use iiif_io::Outlet;
 use iiif_open_files::{Opens, Texts};
 use iiif_start::check::check;
-use iiif_start::{Stop, read_list, report_end, report_fault};
+use iiif_start::{Stop, read_list, report_end, report_fault, warn};
 use std::alloc::Global;
 use std::convert::AsStr;
 use std::net::{Net, TcpListener, TcpStream};
@@ -112,7 +112,7 @@ where
     }
 }
 
-/// Answers what the options ask for.
+/// Answers what the options ask for, and warns of what clients can't ask for. Of work that fails, its own line comes alone.
 fn answer<'a, R, O, E>(
     rt: &R,
     alloc: Global,
@@ -128,12 +128,13 @@ where
     E: Outlet + Send,
     requires { refusal_of (settings_in options.now) ≡ None }
 {
-    // A check goes on where an image is at fault, and needs no node.
-    let Some(work) = Work::of(options) else {
-        return check(rt, alloc, options, out);
-    };
-    match work {
-        Work::One(one) => answer_target(rt, alloc, options, &one, out),
-        Work::Listen(listening) => serve(rt, alloc, options, &listening, err),
+    match Work::of(options) {
+        Some(Work::Listen(listening)) => return serve(rt, alloc, options, &listening, err),
+        Some(Work::One(one)) => answer_target(rt, alloc, options, &one, out)?,
+        // A check goes on where an image is at fault, and needs no node.
+        None => check(rt, alloc, options, out)?,
     }
+    // Where the warnings can't be written, what was asked for is still done.
+    let _ = warn(err, options.base, &options.images);
+    Ok(())
 }

@@ -1,3 +1,4 @@
+pub mod DotSegments
 pub mod Held
 pub mod Statuses
 pub mod Stored

@@ -3,6 +3,7 @@
 #![tactic(auto)]
 
 pub use check::{Checked, Found};
+pub use dot_segments::warn;
 pub use held::Held;
 pub use opening::{open_catalogue, read_list};
 pub use stop::{Stop, report_end};
@@ -12,6 +13,7 @@ pub use unfit::Unfit;
 pub use wrong::report_fault;
 
 pub mod check;
+pub mod dot_segments;
 pub mod held;
 mod holding;
 mod name;

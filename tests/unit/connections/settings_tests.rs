@@ -1,8 +1,9 @@
-//! Settings that words leave out, and the lines of a program that ends while it runs.
+//! Settings that words leave out, the lines of a program that ends while it runs, and warnings of dot segments.
 
 use crate::fixtures::{is_same, is_same_text};
 use iiif_command_line::{Options, matches, options_in};
-use iiif_start::Stop;
+use iiif_start::dot_segments::{has_dot_segment, is_dot_segment};
+use iiif_start::{Stop, warn};
 
 const BASE: &str = "http://localhost/iiif";
 
@@ -55,6 +56,80 @@ fn program_that_ends_while_it_runs_says_why(rt: HostRuntime) {
         assert!(rt;
             is_same(&status, &1) && is_same_text(err.as_slice(), line),
             "{stop:?}"
+        );
+    }
+}
+
+/// Segments of a path, and whether RFC 3986, section 3.3, calls them dot segments.
+static SEGMENTS: [(&[u8], bool); 7] = [
+    (b".", true),
+    (b"..", true),
+    (b"", false),
+    (b"...", false),
+    (b".a", false),
+    (b"a.", false),
+    (b"%2E", false),
+];
+
+#[test]
+fn a_dot_and_two_dots_are_dot_segments(rt: HostRuntime) {
+    for (segment, want) in SEGMENTS.iter() {
+        assert!(rt;
+            is_same(&is_dot_segment(segment), want),
+            "{segment:?}"
+        );
+    }
+}
+
+/// Base URLs, and whether section 5.2.4 removes a segment of their paths.
+static BASES: [(&str, bool); 10] = [
+    ("http://localhost/a/../b", true),
+    ("http://localhost/./b", true),
+    ("https://localhost:8080/a/..", true),
+    ("http://localhost/.", true),
+    ("http://localhost/iiif", false),
+    ("http://localhost/a.b/...", false),
+    ("http://localhost", false),
+    ("http://..", false),
+    ("http://../iiif", false),
+    ("https://./a/b", false),
+];
+
+#[test]
+fn dot_segments_of_a_base_url_stand_in_its_path(rt: HostRuntime) {
+    for (base, want) in BASES.iter() {
+        assert!(rt; is_same(&has_dot_segment(base), want), "{base}");
+    }
+}
+
+/// A base URL, names of images, and the lines that warn of them.
+static WARNINGS: [(&str, [(&str, &str); 3], &[u8]); 3] = [
+    (
+        "http://localhost/a/../b",
+        [("..", ":sample"), ("a", ":sample"), (".", ":sample")],
+        b"warning: base http://localhost/a/../b: clients remove the segments . and .. of a URI before they ask for it\n\
+          warning: image ..: clients remove the segments . and .. of a URI before they ask for it\n\
+          warning: image .: clients remove the segments . and .. of a URI before they ask for it\n",
+    ),
+    (
+        "http://localhost/iiif",
+        [("a", ":sample"), (".", ":sample"), ("...", ":sample")],
+        b"warning: image .: clients remove the segments . and .. of a URI before they ask for it\n",
+    ),
+    (
+        "http://localhost/iiif",
+        [("a", ".."), ("%2E", "."), ("../b", ":sample")],
+        b"",
+    ),
+];
+
+#[test]
+fn warnings_are_of_the_base_url_and_then_of_images_in_their_order(rt: HostRuntime) {
+    for (base, images, want) in WARNINGS.iter() {
+        let mut told = Vec::new(rt.alloc());
+        assert!(rt;
+            warn(&mut told, base, images).is_ok() && is_same_text(told.as_slice(), want),
+            "{base}"
         );
     }
 }
