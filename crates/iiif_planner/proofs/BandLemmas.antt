@@ -1,7 +1,7 @@
 -- The items of a band.
 use Rattle.std.proofs.Common.{◌≡◌, ℕ, ◌+◌, ◌*◌, ◌^◌, ◌<◌, ◌≤◌, ◌↔◌, ◌⊎◌, List, []}
-use Rattle.std.proofs.Common.{◌∷◌, Bool, true, All, length, get_or, max, refl, sym, subst, ap}
-use Rattle.std.proofs.Common.{◌∙◌, arith, inl, inr, ⊎_elim, Global}
+use Rattle.std.proofs.Common.{◌∷◌, true, length, get_or, max, refl, sym, subst, ap}
+use Rattle.std.proofs.Common.{◌∙◌, arith, ⊎_elim, Global}
 use Rattle.std.specs.Prelude.{nat_lt}
 use Rattle.std.proofs.lemmas.Bool.{and_from, lt-ltb, ltb-true, and_parts}
 use Rattle.std.specs.declared.vec.Vec.{Vec}
@@ -18,7 +18,7 @@ use Rattle.iiif_keys.proofs.Cuts.{clipped_part}
 use Rattle.iiif_keys.specs.Blocks.{square, clipped}
 use Rattle.iiif_keys.specs.declared.keys.TileKey.{TileKey}
 use Rattle.iiif_keys.specs.declared.keys.SumKey.{SumKey}
-use Rattle.iiif_planner.specs.Plans.{IsTileFor, IsBlockFor, TilesCover, BlocksCover}
+use Rattle.iiif_planner.specs.Plans.{IsTileFor, IsBlockFor}
 use Rattle.iiif_planner.specs.Items.{block_at, each_square, squares_met, tile_at}
 use Rattle.iiif_canonical.specs.declared.resolved.Resolved.{Resolved}
 use Rattle.iiif_planner.specs.declared.plans.Plan.TheVariants.{Copy, Grow, Sum}

@@ -1,6 +1,6 @@
 -- Bands cut a picture, and each is known by its place among them.
-use Rattle.std.proofs.Common.{◌≡◌, ℕ, zero, suc, ◌+◌, ◌-◌, ◌*◌, ◌<◌, ◌≤◌, ◌↔◌, min}
-use Rattle.std.proofs.Common.{true, List, [], ◌∷◌, ◌++◌, All, get_or, length, map, refl, sym}
+use Rattle.std.proofs.Common.{◌≡◌, ℕ, zero, suc, ◌+◌, ◌-◌, ◌*◌, ◌<◌, ◌≤◌, min}
+use Rattle.std.proofs.Common.{List, [], ◌∷◌, ◌++◌, All, get_or, length, map, refl, sym}
 use Rattle.std.proofs.Common.{subst, ap, ◌∙◌, arith}
 use Rattle.std.specs.Int.{div_ceil}
 use Rattle.std.specs.List.{range_with_len, flat_map}
@@ -21,7 +21,7 @@ use Rattle.iiif_canonical.specs.declared.resolved.Resolved.{Resolved}
 use Rattle.iiif_keys.proofs.Cuts.{alike}
 use Rattle.iiif_planner.specs.declared.plans.Plan.{Plan}
 use Rattle.iiif_planner.specs.declared.plans.Plan.TheVariants.{Copy, Grow, Sum}
-use Rattle.iiif_planner.specs.Bands.{band_rect, places_from, AreBands, IsBand, ListsItems, ListsThose}
+use Rattle.iiif_planner.specs.Bands.{band_rect, ListsItems, ListsThose}
 use Rattle.iiif_planner.specs.BandLaws.{BandsAreEach, BandsAreLow, BandsCutPictures, IsLow}
 use Rattle.iiif_planner.specs.declared.banding.Band.{Band}
 use Rattle.iiif_planner.proofs.Runs.{places_from-same}

@@ -1,6 +1,6 @@
 -- The tiles or blocks that cover a region, row by row, are just those of the squares that it meets, and so a plan's list is known.
-use Rattle.std.proofs.Common.{◌≡◌, ℕ, suc, ◌+◌, ◌-◌, ◌*◌, ◌/◌, ◌^◌, ◌<◌, ◌≤◌, ◌⊎◌, inl, inr, Bool, true, false, List, [], ◌∷◌, refl, sym}
-use Rattle.std.proofs.Common.{ap, ◌∙◌, arith, ⊎_elim, max, min}
+use Rattle.std.proofs.Common.{◌≡◌, ℕ, suc, ◌+◌, ◌-◌, ◌*◌, ◌/◌, ◌^◌, ◌<◌, ◌≤◌, inl, inr, Bool, true, false, List, [], ◌∷◌, refl, sym}
+use Rattle.std.proofs.Common.{ap, ◌∙◌, arith, ⊎_elim}
 use Rattle.std.specs.Prelude.{◌&&◌, ◌==◌, nat_le, nat_lt}
 use Rattle.std.specs.Int.{div_ceil}
 use Rattle.std.specs.List.{All, AllPairs, count_by}
@@ -18,7 +18,7 @@ use Rattle.iiif_planner.specs.Items.{block_at, each_square, squares_met, tile_at
 use Rattle.iiif_planner.specs.Laws.{is_met}
 use Rattle.iiif_planner.specs.Plans.{BlocksCover, IsBlockFor, IsTileFor, StandsBefore, TilesCover}
 use Rattle.iiif_planner.proofs.Counts.{each_all, each_count, each_pair}
-use Rattle.iiif_planner.proofs.Meeting.{first_met, last_met, met_first, met_last, square_meets}
+use Rattle.iiif_planner.proofs.Meeting.{met_first, met_last, square_meets}
 use Rattle.iiif_planner.proofs.Once.{count_none, each_block_once, each_tile_once}
 
 pairs_head : {K : Type 0} (R : K → K → Type 0) (x : K) (xs : List K) → AllPairs R (x ∷ xs) → All (R x) xs
@@ -28,13 +28,13 @@ pairs_tail : {K : Type 0} (R : K → K → Type 0) (x : K) (xs : List K) → All
 pairs_tail R x xs h = λ i j d l m. h (suc i) (suc j) d (omega arith) (omega arith)
 
 -- equal, or one before the other
-data Order (i j k l : ℕ) : Type 0 where
-  Before : StandsBefore i j k l → Order i j k l
-  After : StandsBefore k l i j → Order i j k l
-  Same : i ≡ k → j ≡ l → Order i j k l
+data Compared (i j k l : ℕ) : Type 0 where
+  Before : StandsBefore i j k l → Compared i j k l
+  After : StandsBefore k l i j → Compared i j k l
+  Same : i ≡ k → j ≡ l → Compared i j k l
 
-order_of : (i j k l : ℕ) → Order i j k l
-order_of i j k l =
+compare : (i j k l : ℕ) → Compared i j k l
+compare i j k l =
     ⊎_elim
     (λ (a : j < l). Before (inl a))
     (λ (a : l ≤ j). ⊎_elim
@@ -105,7 +105,7 @@ module _ {K : Type 0} (column row : K → ℕ) where
   same_list f (x ∷ xs) [] p q a b h = let e = has_first x xs in let g = h (column x) (row x) in absurd (omega (arith, e, g))
   same_list f [] (y ∷ ys) p q a b h = let e = has_first y ys in let g = h (column y) (row y) in absurd (omega (arith, e, g))
   same_list f (x ∷ xs) (y ∷ ys) p q a b h =
-      elim (order_of (column x) (row x) (column y) (row y)) as (λ o. x ∷ xs ≡ y ∷ ys) [
+      elim (compare (column x) (row x) (column y) (row y)) as (λ o. x ∷ xs ≡ y ∷ ys) [
         | Before s ↦
             let none = none_at (column x) (row x) y ys s q in
             let e = has_first x xs in

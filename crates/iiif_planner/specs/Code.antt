@@ -4,7 +4,7 @@
 -- `source_of region size part`: the part of the region that a rectangle of its scaled result is made of.
 -- `place_among s i j`: where the square in column i and row j stands among the squares s.
 -- `tile_met`, `grown_met`, `block_met`: the tests that say which items a rectangle of the scaled result is made of.
-use Rattle.std.specs.Prelude.{◌≡◌, ℕ, ◌+◌, ◌-◌, ◌*◌, ◌^◌, ◌<◌, List, Bool, ◌&&◌, nat_lt}
+use Rattle.std.specs.Prelude.{ℕ, ◌+◌, ◌-◌, ◌*◌, ◌^◌, ◌<◌, List, Bool, ◌&&◌, nat_lt}
 use Rattle.iiif_pixel.specs.Geometry.{nested, sides_of, LiesIn}
 use Rattle.iiif_pixel.specs.declared.geometry.Dim.{Dim}
 use Rattle.iiif_pixel.specs.declared.geometry.Rect.{Rect}

@@ -1,7 +1,6 @@
 use Rattle.std.proofs.Common.{◌∙◌, List, ap, sym, subst}
 use Rattle.iiif_keys.specs.declared.keys.TileKey.{TileKey}
 use Rattle.iiif_keys.specs.declared.keys.SumKey.{SumKey}
-use Rattle.iiif_planner.specs.Plans.{IsPlan}
 use Rattle.iiif_planner.specs.declared.plans.Plan.{Plan}
 use Rattle.iiif_planner.specs.Bands.{ListsItems, block_places, grown_places, places_from, tile_places, IsPlanned}
 use Rattle.iiif_planner.specs.Code.{block_met, grown_met, AreBlocks, AreTiles}
