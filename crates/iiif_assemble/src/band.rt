@@ -22,11 +22,10 @@ use crate::merging::merge_sums;
 use crate::pasting::paste;
 use crate::workshop::Workshop;
 use iiif_area::laws::same_sides_change_nothing;
-use iiif_planner::Band;
 use iiif_keys::{Fault, SumKey, SumVal, TileKey, TileVal};
 use iiif_pixel::laws::{bands_follow, quality_of_crop, whole_stays_whole};
 use iiif_pixel::{Quality, Rect, Turn, unturn_rect};
-use iiif_planner::Plan;
+use iiif_planner::{Band, Plan};
 use std::sync::Wait;
 use std::thread::Threads;
 

@@ -9,12 +9,11 @@ ghost use Rattle.iiif_keys.specs.Blocks.{IsEdge};
 ghost use Rattle.iiif_planner.specs.Bands.{band_rect, AreBands};
 ghost use Rattle.iiif_assemble.specs.Jobs.{IsBandOf, IsJob};
 
-use iiif_planner::laws::bands_cut_results;
-use iiif_planner::{Band, band_in, bands};
 use iiif_canonical::Resolved;
 use iiif_keys::{Name, Shape};
 use iiif_pixel::{NoMemory, Raster, Rect};
-use iiif_planner::{Plan, plan};
+use iiif_planner::laws::bands_cut_results;
+use iiif_planner::{Band, Plan, band_in, bands, plan};
 use std::alloc::Global;
 
 /// A request that is planned.
@@ -63,15 +62,7 @@ impl Job {
         ensures shape { IfOk result (λ j. j.shape ≡ shape) }
         ensures resolved { IfOk result (λ j. j.resolved ≡ resolved) }
     {
-        let plan = plan(
-            alloc,
-            &name,
-            &resolved,
-            shape.dim,
-            shape.kind,
-            edge,
-            room,
-        )?;
+        let plan = plan(alloc, &name, &resolved, shape.dim, shape.kind, edge, room)?;
         Ok(Job {
             name,
             edge,

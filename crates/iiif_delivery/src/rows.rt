@@ -8,9 +8,9 @@ ghost use Rattle.iiif_delivery.specs.Delivery.{MaySend};
 
 use crate::sending::Sending;
 use iiif_assemble::{Items, KeptSum, WithKept, Workshop, assemble_band, keep_band};
-use iiif_planner::Band;
 use iiif_keys::{Fault, SumKey, SumVal, TileKey, TileVal};
 use iiif_pixel::laws::{bands_follow, whole_stays_whole};
+use iiif_planner::Band;
 use iiif_tiff_write::laws::bands_join;
 use iiif_tiff_write::put_rows;
 use std::sync::Wait;

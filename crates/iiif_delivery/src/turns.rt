@@ -3,10 +3,9 @@
 ghost use Rattle.std.specs.Prelude.{◌≡◌, ◌*◌, ◌-◌, ◌/◌, ◌^◌, length, max, min, true};
 
 use iiif_assemble::{Items, Job, KeptSum, WithKept};
-use iiif_planner::Band;
 use iiif_io::Outlet;
 use iiif_keys::{SumKey, SumVal};
-use iiif_planner::Plan;
+use iiif_planner::{Band, Plan};
 
 /// A job that waits for its turn, or has it: how much work it is, and its number among those that came.
 #[derive(Clone, Copy, PartialEq, Eq)]

@@ -182,7 +182,7 @@ fn send_answer<R, M: Measure<R>, W: Outlet>(
 ) -> Result<(), NoMemory>
     ensures { OnOk result ((output : List ℕ) × Appends (W.contents out.old) (W.contents out.new) output
         × ((t : Telling) × Sends ((before : W) × W.fails before out.new)
-            (answer_text (method_text call.now.method) call.now.target.items t) output)) }
+        (answer_text (method_text call.now.method) call.now.target.items t) output)) }
 {
     let telling = Telling {
         metrics: source.measure(rt),

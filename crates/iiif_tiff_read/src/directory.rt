@@ -79,7 +79,8 @@ pub fn read_header<R, S: Source<R>>(rt: &R, source: &S) -> Result<Header, OpenFa
 /// Reads how many entries the first directory has, and refuses a directory that ends past the end of the file. Takes no memory.
 #[tactic(auto, unfolding(iiif_tiff::specs::Tiff::directory_fits))]
 fn read_entry_count<R, S: Source<R>>(rt: &R, source: &S, header: Header) -> Result<u16, OpenFault>
-    ensures count { Answers (S.keeps source.now × IsHeader (S.bytes source.now) header) (S.gave source.now) (directory_fits (S.bytes source.now))
+    ensures count { Answers (S.keeps source.now × IsHeader (S.bytes source.now) header) (S.gave source.now)
+        (directory_fits (S.bytes source.now))
         (λ n. n ≡ tiff.entry_count (S.bytes source.now)) result }
     ensures in_file { IfOk result (λ n. header.directory + 2 + 12 * n ≤ length (S.bytes source.now)) }
     ensures memory { IfErr result IsNotMemory }
@@ -104,9 +105,11 @@ pub fn read_directory<R, S: Source<R>>(
     source: &S,
     header: Header,
 ) -> Result<Vec<FieldEntry>, OpenFault>
-    ensures entries { Answers (S.keeps source.now × IsHeader (S.bytes source.now) header) (S.gave source.now) (directory_fits (S.bytes source.now))
+    ensures entries { Answers (S.keeps source.now × IsHeader (S.bytes source.now) header) (S.gave source.now)
+        (directory_fits (S.bytes source.now))
         (λ v. entry_views v.items ≡ entries (S.bytes source.now)) result }
-    ensures memory { IfErr result (IsMemoryAfter (S.keeps source.now × IsHeader (S.bytes source.now) header) (directory_fits (S.bytes source.now))) }
+    ensures memory { IfErr result (IsMemoryAfter (S.keeps source.now × IsHeader (S.bytes source.now) header)
+        (directory_fits (S.bytes source.now))) }
 {
     let count = read_entry_count(rt, source, header)?;
     let start = header.directory as u64 + 2;

@@ -7,6 +7,7 @@ pub loop-i-preserved : goal.loop-i-preserved
 loop-i-preserved c = λ file start order-is bytes-is.
     rw c.in_ok-push.ensures.items (entries_push file start c.loop-i.i c.loop-i.entries.items c.decode.result
     (c.loop-i.invariant file start order-is bytes-is)
-    (entry_decoded c.decode.result (endian c.args.order) file c.args.bytes.now _ start c.args.count c.loop-i.i refl bytes-is c.loop-i-test.true
+    (entry_decoded c.decode.result (endian c.args.order) file c.args.bytes.now _ start c.args.count c.loop-i.i refl bytes-is
+    c.loop-i-test.true
     order-is
     c.decode.ensures.tag c.decode.ensures.kind c.decode.ensures.count c.decode.ensures.inside))

@@ -23,7 +23,8 @@ loop-i-preserved g c = (
       (rw (needed_here c.args.dim c.args.format c.args.grid.now c.args.offsets.now c.loop-i.i c.row_bytes-row_bytes.result
       c.piece_bytes.result c.row_bytes-row_bytes.ensures.bytes c.piece_bytes.ensures.bytes) c.in_ok-check_piece.ensures.in_file),
   λ p.
-      let known = piece_known (g.S.Source.bytes c.args.self.now.source.now) c.args.dim c.args.format c.args.grid.now c.new-tags.result.counts
+      let known = piece_known (g.S.Source.bytes c.args.self.now.source.now) c.args.dim c.args.format c.args.grid.now
+      c.new-tags.result.counts
       c.args.offsets.now c.args.counts.now c.loop-i.i
       c.row_bytes-row_bytes.result c.piece_bytes.result c.loop-i-test.true c.new-tags.ensures.counts c.row_bytes-row_bytes.ensures.bytes
       c.piece_bytes.ensures.bytes p

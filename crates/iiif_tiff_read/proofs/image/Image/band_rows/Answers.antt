@@ -5,7 +5,11 @@ use Rattle.iiif_tiff_read.proofs.image.Image.band_rows.Goals as goal
 
 pub returns-then-rect-self-clause-even : goal.returns-then-rect-self-clause-even
 returns-then-rect-self-clause-even c = λ x lt.
-    columns_even (image_units c.args.self.now) c.args.rect.x x _ _ c.args.self.now.sound.piece_width.0 (omega (arith, c.if-rect-self.true, lt))
+    columns_even (image_units c.args.self.now) c.args.rect.x x _ _ c.args.self.now.sound.piece_width.0 (omega (
+      arith,
+      c.if-rect-self.true,
+      lt,
+    ))
     c.even_rows.ensures.even
 
 pub returns-else-rect-gt0-clause-even : goal.returns-else-rect-gt0-clause-even

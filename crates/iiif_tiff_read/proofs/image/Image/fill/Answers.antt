@@ -38,6 +38,7 @@ loop-left-preserved g c =
       even = c.band_rows-rows.ensures.even c.loop-left.left c.loop-left-test.true;
     } in (
       part.columns,
-      λ keeps. filled_part (g.S.Source.bytes c.args.source.now) c.loop-left.samples c.read_part.new.samples s c.args.rect p c.args.self.now.sound
+      λ keeps. filled_part (g.S.Source.bytes c.args.source.now) c.loop-left.samples c.read_part.new.samples s c.args.rect p
+          c.args.self.now.sound
           part (c.in_ok-read_part.ensures.held keeps) c.in_ok-read_part.ensures.rest (c.loop-left.invariant.1 keeps),
     )
