@@ -384,7 +384,7 @@ const BY_BYTES: [(Said, usize); 4] = [
     (Said::End, THIRD + 1),
 ];
 
-/// The same where they come at once: the second and the third are in the buffer.
+/// Reads made by then if one piece has all three heads: the second and the third are in the buffer.
 const AT_ONCE: [(Said, usize); 4] = [(GET, 1), (POST, 1), (HEAD, 1), (Said::End, 2)];
 
 #[test]
