@@ -57,6 +57,7 @@ BENCHES = {
     "Area averaging upwards of 16 bits, gray 512 and 1,024 square, ms": Bench(
         "area_bench", ["larger", "sixteen"], "area", ["larger", "sixteen", "columns"], before=False),
     "Rectangles of files, microseconds": Bench("tiff_bench", ["large"]),
+    "All bands of a plan, 16,384 square in tiles of 64, bands of 8 rows, ms": Bench("plan_bench", ["large"]),
     "A cache of 4,096 entries, ns a call": Bench("cache_bench", ["large"], "cache", before=False),
     "Hits on a table of flights, ns a hit": Bench("flights_bench", ["large"], "flights", before=False),
 }
