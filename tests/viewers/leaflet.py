@@ -3,6 +3,7 @@ import os
 
 import pictures
 from browser import Browser, unpacked
+from debian import absent
 from judge import Failed, equal, same
 from servers import Program
 
@@ -100,6 +101,9 @@ def through_zooms(tried, browser, base, picture, name, quality="default", edge=E
 
 def leaflet(tried, args, folder, pages):
     """Each kind of source at each zoom, and other qualities."""
+    if wanting := absent("libjs-leaflet"):
+        print(f"leaflet isn't tried: there is no {wanting}")
+        return
     made, images = {}, []
     for number, picture in enumerate(pictures.kinds(W, H)):
         for cut in ("strips", "tiles"):

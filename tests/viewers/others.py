@@ -1,4 +1,4 @@
-"""The page that decodes TIFF itself, those for OpenSeadragon and Mirador as far as they go without their libraries, and pictures."""
+"""The page that decodes TIFF itself, those for OpenSeadragon and Mirador beside their libraries, and pictures."""
 import math
 import os
 import struct
@@ -11,7 +11,7 @@ from servers import Program
 from worker import WORDS, whole
 
 CALLED = "window.told = [!!navigator.serviceWorker.controller, ...told];"
-STAND_INS = {"openseadragon/openseadragon.min.js": f"window.OpenSeadragon = (...told) => {{ {CALLED} return {{ addHandler() {{}} }}; }};",
+STAND_INS = {"openseadragon/openseadragon.js": f"window.OpenSeadragon = (...told) => {{ {CALLED} return {{ addHandler() {{}} }}; }};",
              "mirador/mirador.min.js": f"window.Mirador = {{ viewer: (...told) => {{ {CALLED} }} }};"}
 DECODED = "return pixels(await createImageBitmap(decoded((await ask(words[0])).body).image));"
 
@@ -43,12 +43,13 @@ def own(tried, args, folder, pages):
 
 
 def others(tried, args, folder, pages):
-    """What the pages do before and beside their library, which is a stand-in of one line here: Debian has neither."""
+    """What the pages do before and beside their library, which is a stand-in of one line here; Debian has no Mirador."""
     picture = pictures.Picture(W := 37, H := 23, 3, 8, False)
     with open(path := os.path.join(folder, "other.tif"), "wb") as file:
         file.write(picture.file("<"))
     with Program(args.program, [f"it={path}"], EDGE) as program, Browser() as browser:
         info, words = f"{program.base}/it/info.json", "set LIBRARY in this page"
+        pages.stand_ins.update(dict.fromkeys(STAND_INS))
         for page in ("openseadragon", "mirador"):
             tried.case(f"others, {page} without its library", lambda: said_of(browser, f"{pages.base}/{page}.html?info={info}", words))
         pages.stand_ins.update(STAND_INS)
@@ -107,7 +108,8 @@ def take_pictures(args, folder, pages):
     """A PNG of each page that could be run."""
     with open(path := os.path.join(folder, "scene.tif"), "wb") as file:
         file.write(scene(1600, 1200))
-    there = {"leaflet": LOADED, "own": "return document.getElementById('uri').textContent && !asked && !waiting;"}
+    there = {"leaflet": LOADED, "openseadragon": "return viewer?.world.getItemAt(0)?.getFullyLoaded() || null;",
+             "own": "return document.getElementById('uri').textContent && !asked && !waiting;"}
     with Program(args.program, [f"scene={path}"], 256) as program, Browser(size="960,760") as browser:
         for page, script in there.items():
             browser.open(f"{pages.base}/{page}.html?info={program.base}/scene/info.json")

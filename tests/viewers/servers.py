@@ -5,6 +5,7 @@ import subprocess
 import threading
 import time
 
+from debian import library_file
 from pictures import TOP, module_of
 
 PROGRAM = module_of("tests/hostile/program.py")
@@ -82,20 +83,18 @@ def send(handler, status, kind, body, told=None, cut=None):
 
 
 class Pages(Loopback):
-    """The viewers' folder below /viewers/, with bare.html of the tests beside its pages and Debian's Leaflet in it. Where a page's library
-    can't be had, `stand_ins` has a script in its place, by its path."""
+    """The viewers' folder below /viewers/, with bare.html of the tests beside its pages, and Debian's Leaflet and OpenSeadragon in it.
+    `stand_ins` has a script in place of a page's library, by its path, or None where the library isn't to be found."""
 
     def __init__(self, folder):
         self.stand_ins = {}
 
         def answer(handler):
             name = handler.path.split("?")[0].removeprefix("/viewers/")
-            if name in self.stand_ins:
+            if self.stand_ins.get(name):
                 return send(handler, 200, "text/javascript", self.stand_ins[name].encode())
-            path = os.path.join(HERE, name) if name == "bare.html" else os.path.join(folder, name)
-            if name.startswith("leaflet/"):
-                path = os.path.join("/usr/share/javascript", name)
-            if ".." in name or not os.path.isfile(path):
+            path = library_file(name) or os.path.join(HERE if name == "bare.html" else folder, name)
+            if ".." in name or name in self.stand_ins or not os.path.isfile(path):
                 return send(handler, 404, "text/plain", b"no such page\n")
             with open(path, "rb") as file:
                 return send(handler, 200, TYPES[os.path.splitext(path)[1]], file.read())

@@ -2,18 +2,21 @@
 
     /usr/bin/python3 tests/viewers/viewers.py --program crates/iiif_serve/out/iiif_serve
 
-Needs Debian's python3-selenium, chromium, chromium-driver and libjs-leaflet, and listens on the loopback alone. The groups:
+Takes Debian's python3-selenium, chromium, chromium-driver, libjs-leaflet and python-openslide-examples (OpenSeadragon), and listens on
+the loopback alone. Where one isn't there it says so, leaves out what needs it, and passes. The groups:
 
-  leaflet    a picture of each kind that the server reads (gray and RGB of 8 and 16 bits, and bits, gray ones also where white is 0; in
-             strips and in tiles; in both byte orders) in Leaflet's page, at each zoom: each tile on a canvas, and the screen, are
-             compared with the exact image of its request
-  layouts    files that the server wouldn't write, by `img`, `fetch` and XHR
-  torn       answers that are cut off, or whose file names what isn't there
-  refusals   what the server refuses
-  bases      several servers, and what the worker has to leave alone
-  visits     the first visit, reloads, and what a page says where there can be no worker
-  own        own.html
-  others     what the pages for OpenSeadragon and Mirador do beside their libraries, which Debian lacks
+  leaflet        a picture of each kind that the server reads (gray and RGB of 8 and 16 bits, and bits, gray ones also where white is 0; in
+                 strips and in tiles; in both byte orders) in Leaflet's page, at each zoom: each tile on a canvas, and the screen, are
+                 compared with the exact image of its request
+  openseadragon  a picture of each kind in OpenSeadragon's page, at each zoom, panned, by the mouse too, and turned by quarters: each tile,
+                 and the viewer's canvas, are compared with the exact image
+  layouts        files that the server wouldn't write, by `img`, `fetch` and XHR
+  torn           answers that are cut off, or whose file names what isn't there
+  refusals       what the server refuses
+  bases          several servers, and what the worker has to leave alone
+  visits         the first visit, reloads, and what a page says where there can be no worker
+  own            own.html
+  others         what the pages for OpenSeadragon and Mirador do beside their libraries
 
 --browser webkit tries WebKitGTK in place of Chromium, by Debian's webkit2gtk-driver under `xvfb-run -a` (xvfb, xauth), and leaves
 `visits` and the screen out. --only WORD tries the groups whose name has that word, --viewers FOLDER another folder of pages (such as a
@@ -24,14 +27,9 @@ import argparse
 import sys
 import tempfile
 
-from browser import Browser, webkit
+from debian import absent
 from judge import Tried
-from leaflet import leaflet
-from others import others, own, take_pictures
 from servers import VIEWERS, Pages
-from worker import bases, layouts, refusals, torn, visits
-
-GROUPS = (leaflet, layouts, torn, refusals, bases, visits, own, others)
 
 
 def main():
@@ -42,9 +40,21 @@ def main():
     parser.add_argument("--browser", default="chromium", choices=["chromium", "webkit"])
     parser.add_argument("--pictures")
     args = parser.parse_args()
-    tried, groups = Tried(), GROUPS
+    tried = Tried()
+    drivers = ["webkit2gtk-driver"] if args.browser == "webkit" else ["chromium", "chromium-driver"]
+    if wanting := absent("python3-selenium", *drivers):
+        print(f"no viewer is tried: there is no {wanting}")
+        return tried.told()
+    # These import selenium.
+    from browser import Browser, webkit
+    from leaflet import leaflet
+    from openseadragon import openseadragon
+    from others import others, own, take_pictures
+    from worker import bases, layouts, refusals, torn, visits
+    groups = [leaflet, openseadragon, layouts, torn, refusals, bases, visits, own, others]
     if args.browser == "webkit":
-        Browser.start_one, groups = staticmethod(webkit), [group for group in GROUPS if group is not visits]
+        Browser.start_one = staticmethod(webkit)
+        groups.remove(visits)
     with tempfile.TemporaryDirectory() as folder, Pages(args.viewers) as pages:
         if args.pictures:
             take_pictures(args, folder, pages)
