@@ -9,7 +9,6 @@ import pictures
 from browser import Browser, unpacked
 from debian import absent
 from judge import Failed, equal, same
-from selenium.webdriver import ActionChains
 from servers import Program
 
 W, H, EDGE = 103, 77, 32
@@ -106,12 +105,6 @@ def shows(browser, level, scale, left, top, degrees=0):
     return f"{len(tiles)} tiles, and {seen} pixels of the canvas"
 
 
-def dragged(browser, right, down):
-    """The canvas dragged by the mouse."""
-    view = browser.driver.find_element("css selector", "#view .openseadragon-canvas")
-    ActionChains(browser.driver, duration=100).move_to_element(view).click_and_hold().move_by_offset(right, down).pause(0.3).release().perform()
-
-
 def through_views(tried, browser, base, picture, name):
     """The page at each zoom and turned by 90; of RGB panned and turned further, too."""
     levels = {factor: Level(base, picture, EDGE, factor) for factor in pictures.factors(picture.width, picture.height, EDGE)}
@@ -132,14 +125,6 @@ def through_views(tried, browser, base, picture, name):
     for degrees in (180, 270):
         case(f"turned by {degrees}", 1, 1, 30, 20, degrees)
     case("turned by 90, zoom 1/2", 2, 1, 50, 40, 90)
-
-    def drag():
-        browser.run(MOVE, 1, 60, 40, 0)
-        rest(browser)
-        dragged(browser, -50, -10)
-        return shows(browser, levels[1], 1, 10, 30)
-
-    tried.case(f"openseadragon, {name}, panned by the mouse", drag)
 
 
 def openseadragon(tried, args, folder, pages):

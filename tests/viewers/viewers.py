@@ -8,7 +8,7 @@ the loopback alone. Where one isn't there it says so, leaves out what needs it, 
   leaflet        a picture of each kind that the server reads (gray and RGB of 8 and 16 bits, and bits, gray ones also where white is 0; in
                  strips and in tiles; in both byte orders) in Leaflet's page, at each zoom: each tile on a canvas, and the screen, are
                  compared with the exact image of its request
-  openseadragon  a picture of each kind in OpenSeadragon's page, at each zoom, panned, by the mouse too, and turned by quarters: each tile,
+  openseadragon  a picture of each kind in OpenSeadragon's page, at each zoom, panned and turned by quarters: each tile,
                  and the viewer's canvas, are compared with the exact image
   layouts        files that the server wouldn't write, by `img`, `fetch` and XHR
   torn           answers that are cut off, or whose file names what isn't there
