@@ -180,11 +180,13 @@ def threads_of(program, room, workers, wanted=0, seconds=1.5, most_seconds=30):
 
 @shows("--workers", 3)
 def one_image_is_made_by_as_many_threads_as_workers_says(program, room):
-    # One worker is the connection's own thread; each further one has a thread of its own. A band of the image has 32 blocks.
+    # One worker is the connection's own thread; each further one has a thread of its own. A band of the image has 32 blocks. A thread that
+    # gave its worker back may not have ended when the next one begins.
     picture(f"{room}/large_for_threads.tif", 4096, 4096, edge=64)
-    got = [threads_of(program, room, 1)]
-    got += [threads_of(program, room, workers, got[0] + workers - 1) for workers in (2, 5)]
-    return [it - got[0] for it in got], [0, 1, 4], command(program, "--edge", 64, "--cache-bytes", 0, "--workers", 5, "a=large.tif")
+    alone = threads_of(program, room, 1)
+    more = [threads_of(program, room, workers, alone + workers - 1) - alone for workers in (2, 5)]
+    got = [workers - 1 <= it <= 2 * (workers - 1) or it for workers, it in zip((2, 5), more)]
+    return got, [True, True], command(program, "--edge", 64, "--cache-bytes", 0, "--workers", 5, "a=large.tif")
 
 
 @shows("--open-files", 2)
