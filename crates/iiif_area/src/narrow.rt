@@ -58,7 +58,7 @@ impl ColumnSums for Narrow {
     }
 }
 
-/// Tells whether a sample has 8 bits.
+/// Returns whether a sample has 8 bits.
 fn is_eight(depth: Depth) -> bool
     ensures { result ≡ true → top_of depth ≡ 255 }
 {
@@ -68,7 +68,7 @@ fn is_eight(depth: Depth) -> bool
     }
 }
 
-/// Tells whether the column sums of a part with these rows fit here.
+/// Returns whether the column sums of a part with these rows fit here.
 pub(crate) fn is_short(depth: Depth, rows: Axis) -> bool
     ensures { result ≡ true → IsShort (top_of depth) rows }
 {

@@ -105,7 +105,7 @@ pub fn places_of(region: Dim, size: Dim, part: Rect) -> Rect
     Rect { x, y, w, h }
 }
 
-/// Tells whether a tile and a region have a place in common.
+/// Returns whether a tile and a region have a place in common.
 pub fn meets(tile: Rect, region: Rect) -> bool
     ensures { IsTrue result ↔ Meets tile region }
 {
@@ -113,7 +113,7 @@ pub fn meets(tile: Rect, region: Rect) -> bool
     part.w > 0 && part.h > 0
 }
 
-/// Tells whether each place of `rect` is one of `whole`.
+/// Returns whether each place of `rect` is one of `whole`.
 pub fn is_inside(rect: Rect, whole: Rect) -> bool
     ensures { IsTrue result ↔ IsInside rect whole }
 {

@@ -74,7 +74,7 @@ pub(crate) fn compute_sides(size: Size, a: u32, b: u32, limits: &Limits) -> (u12
     }
 }
 
-/// Tests whether a size asks for more than a hundred percent.
+/// Returns whether a size asks for more than a hundred percent.
 fn is_above_hundred(form: Form) -> bool
     requires { IsShortForm form }
     ensures { result ≡ is_above_hundred form }

@@ -13,7 +13,7 @@ use crate::sending::Sending;
 use crate::tile::send_tile;
 use crate::turns::{Turns, come, is_gone_meanwhile, leave};
 use iiif_assemble::{Items, Workshop};
-use iiif_io::{Outlet, look, send};
+use iiif_io::{Outlet, check_connected, send};
 use iiif_keys::{Fault, SumKey, SumVal, TileKey, TileVal};
 use iiif_pixel::{Dim, NoMemory};
 use iiif_planner::laws::bands_cut_results;
@@ -140,7 +140,7 @@ fn send_bands<
     let mut kept = Vec::new(shop.alloc);
     for band in &bands {
         // Nothing is made for one who is gone. Where no rows wait, some were just written.
-        if let Err(more) = look(out, &text) {
+        if let Err(more) = check_connected(out, &text) {
             return Err(Stopped::Writer(sent + more));
         }
         let queued = come::<B, P, R>(shop.rt, shop.sums, sending.job, band, kept.as_slice());

@@ -5,7 +5,7 @@ pub use counting_sink::CountingSink;
 pub use fixed_buffer::FixedBuffer;
 pub use inlet::Inlet;
 pub use outlet::Outlet;
-pub use sending::{look, send, send_both};
+pub use sending::{check_connected, send, send_both};
 pub use sockets::{is_ended, is_reset};
 
 pub mod counting_sink;

@@ -24,7 +24,7 @@ pub fn send<W: Outlet>(out: &mut W, text: &[u8]) -> Result<(), u64>
 
 /// Checks for a disconnect before more of a pending text is computed: `Err(0)`, as if the writer failed at its first byte, where the
 /// client is gone. Nothing is checked where no text is pending, since a write just succeeded.
-pub fn look<W: Outlet>(out: &W, text: &[u8]) -> Result<(), u64>
+pub fn check_connected<W: Outlet>(out: &W, text: &[u8]) -> Result<(), u64>
     ensures none { IfErr result (λ sent. sent ≡ 0) }
     ensures cut { IfErr result (IsCutOff (writes W.contents W.fails out.now out.now) text.now) }
 {

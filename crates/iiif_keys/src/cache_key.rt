@@ -70,14 +70,14 @@ pub trait CacheKey: Drop + Eq + Hash {
     fn rank(&self) -> u32
         ensures { result ≡ rank_of self.now };
 
-    /// Tests that the key has this edge, and names a tile or a block of an image of this shape. It allocates nothing.
+    /// Returns whether the key has this edge, and names a tile or a block of an image of this shape. It allocates nothing.
     fn fits(&self, edge: u32, shape: &Shape) -> bool
         ensures fits { IsTrue result ↔ ((edge_of self.now ≡ edge) × fits_in shape.now self.now) }
         // With the shape of the named picture: the key names a part of that picture.
         ensures named { (shows : Pictures) → HasPicture shows (name_of self.now) shape.now
             → IsTrue result ↔ NamesPart shows edge (name_of self.now) (edge_of self.now) (λ s. fits_in s self.now) };
 
-    /// Tests that a value has the pixels, the channels, and of a tile the depth, of the meaning of a key that fits. It allocates
+    /// Returns whether a value has the pixels, the channels, and of a tile the depth, of the meaning of a key that fits. It allocates
     /// nothing.
     fn shaped(&self, shape: &Shape, value: &Self::Value) -> bool
         requires { fits_in shape.now self.now }
@@ -118,7 +118,7 @@ pub trait CacheKey: Drop + Eq + Hash {
         ensures refused { IfErr result (λ f. (val_refusal bytes.now ≡ Some f) ⊎
             ((val_refusal bytes.now ≡ None) × (f ≡ KeyFault.NoMemory))) };
 
-    /// Says the laws of keys; it computes nothing.
+    /// States the laws of keys. It computes nothing.
     fn laws()
         // The meanings of its parts make the key's meaning.
         ensures derived { (shows : Pictures) (s : Shape) (k : Self) → HasPicture shows (name_of k) s → IsSource (named shows (name_of k))

@@ -149,7 +149,7 @@ fn with_fields(name: Name, rest: &[u8]) -> SumKey
     }
 }
 
-/// Tests that the name and the fields behind it are in range.
+/// Returns whether the name and the fields behind it are in range.
 #[tactic(auto, unfolding(crate::specs::Reading::sum_key_with))]
 fn is_key(name: &[u8], rest: &[u8]) -> bool
     requires { length rest.now ≡ 37 }

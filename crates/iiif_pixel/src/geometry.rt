@@ -130,7 +130,7 @@ impl Rect {
         }
     }
 
-    /// Tests whether the rectangle lies inside a picture of these sides.
+    /// Returns whether the rectangle lies inside a picture of these sides.
     pub fn lies_in(self, dim: Dim) -> bool
         ensures { IsTrue result ↔ LiesIn self dim }
     {

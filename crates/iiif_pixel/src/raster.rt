@@ -176,12 +176,7 @@ impl Raster {
         if by.quarters == 0 && !by.mirror {
             return self.copy();
         }
-        let samples = turned_samples(&self.samples, self.dim, self.kind, by)?;
-        Ok(Raster {
-            dim: self.dim.turned(by),
-            kind: self.kind,
-            samples,
-        })
+        self.move_samples(by)
     }
 
     /// Converts to a quality, place by place (IIIF Image API 3.0, 4.4 Quality). `Default` and `Color` change nothing.
@@ -203,6 +198,19 @@ impl Raster {
             dim: self.dim,
             kind: self.kind,
             samples: self.samples.copy()?,
+        })
+    }
+
+    /// Turns into a new buffer, sample by sample.
+    fn move_samples(&self, by: Turn) -> Result<Raster, NoMemory>
+        requires { by.quarters < 4 }
+        ensures { IfOk result (λ r. r ≡ turn self.now by) }
+    {
+        let samples = turned_samples(&self.samples, self.dim, self.kind, by)?;
+        Ok(Raster {
+            dim: self.dim.turned(by),
+            kind: self.kind,
+            samples,
         })
     }
 

@@ -37,7 +37,7 @@ impl Scaled {
         0
     }
 
-    /// Tells whether a level may be planned with.
+    /// Returns whether a level may be planned with.
     fn is_usable(self, level: u8) -> bool
         requires edge { IsEdge self.edge }
         requires level { level ≤ 20 }
@@ -50,7 +50,7 @@ impl Scaled {
         needed && self.sums_at_most(level) <= self.room
     }
 
-    /// Tells whether one block of the level holds the image.
+    /// Returns whether one block of the level holds the image.
     fn holds_image(self, level: u8) -> bool
         requires edge { IsEdge self.edge }
         requires level { level ≤ 20 }

@@ -14,9 +14,11 @@ use iiif_keys::{Name, SumKey, TileKey, side_of};
 use iiif_pixel::{Dim, Kind, NoMemory, Rect};
 use std::alloc::Global;
 
-/// Plans a request on the named image with these sides, of this kind: of the tiles with this edge that the region meets, where it keeps
-/// its size or a side of the result is above its side; else of the blocks that it meets, of the greatest level at which a block has at
-/// most `room` sums, or of level 0 where there is none. Each is listed once, row by row. The only error is lack of memory.
+/// Plans a request on the named image with these sides, of this kind.
+///
+/// A region that keeps its size, or is enlarged in either direction, is made of the tiles that it meets. Any other is made of the blocks
+/// that it meets, of one level: the greatest one, up to 20, at which a block has at most `room` sums and no block of a lower level holds the
+/// whole image; level 0 where there is no such level. Each tile or block is listed once, row by row. The only error is lack of memory.
 pub fn plan(
     alloc: Global,
     name: &Name,
@@ -61,7 +63,7 @@ pub fn plan(
     Ok(Plan::Sum(keys))
 }
 
-/// Tells whether a side of the result is above the region's.
+/// Returns whether a side of the result is above the region's.
 fn is_scaled_up(resolved: &Resolved) -> bool
     ensures { result ≡ is_scaled_up resolved.now }
 {

@@ -7,7 +7,7 @@ ghost use Rattle.iiif_request.specs.Code.{whole_of, pointed_of, decimal_of, cut_
 
 use crate::Decimal;
 
-/// Tests whether a text is one to `most` ASCII digits.
+/// Returns whether a text is one to `most` ASCII digits.
 #[tactic(auto, unfolding(crate::specs::Numerals::is_numeral))]
 pub fn is_numeral(text: &[u8], most: usize) -> bool
     ensures { result ≡ is_numeral most text.now }

@@ -6,7 +6,7 @@ ghost use Rattle.iiif_request.specs.Code.{is_quarters, decimal_of, turned_of, ro
 use crate::numerals::parse_decimal;
 use crate::{Decimal, Rotation};
 
-/// Tests whether a decimal is 0, 90, 180, 270 or 360.
+/// Returns whether a decimal is 0, 90, 180, 270 or 360.
 #[tactic(auto, unfolding(crate::specs::Code::is_quarters))]
 fn is_quarters(d: Decimal) -> bool
     requires { d.places ≤ 10 }

@@ -59,14 +59,14 @@ impl Numbered for SplitFault {
     }
 }
 
-/// Tests whether two hexadecimal digits come first.
+/// Returns whether two hexadecimal digits come first.
 fn begins_with_digits(part: &[u8]) -> bool
     ensures { result ≡ begins_with_digits part.now }
 {
     part.len() >= 2 && part[0].is_ascii_hexdigit() && part[1].is_ascii_hexdigit()
 }
 
-/// Tests whether two hexadecimal digits follow each `%`.
+/// Returns whether two hexadecimal digits follow each `%`.
 fn has_whole_escapes(raw: &[u8]) -> bool
     ensures { result ≡ has_whole_escapes raw.now }
 {

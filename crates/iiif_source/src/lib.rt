@@ -1,9 +1,9 @@
 //! Byte sources with reads at any offset: [`MemSource`] (memory), [`FileSource`] and [`Opened`] (files) and [`FuseSource`] (fault
 //! injection).
 //!
-//! A source's contract has three ghost members. `bytes` are the bytes that it has by right. `keeps` is the premise of each promise on what
-//! is read: the bytes don't change and a successful read gives them. `reads` tells, with no premise, what a read gave, right or wrong; a
-//! check against digests stands on it. [`Opens`] has the same three of the files of a runtime.
+//! A source's contract has four ghost members. `bytes` are the bytes that it has by right. `keeps` is the premise of each promise on what
+//! is read: the bytes don't change, and a successful read gives them. `gave` has the faults of its reads. `reads` has, with no premise, what
+//! a read gave, right or wrong; a check against digests stands on it. [`Opens`] has all four of the files of a runtime, `holds` for `bytes`.
 #![tactic(auto)]
 
 ghost use Rattle.std.specs.Prelude.{◌≡◌, ◌+◌, ◌*◌, ◌^◌, ◌≤◌, ℕ, List, All, length, take, drop, OnOk, IfErr, Bool, IsTrue};
@@ -25,11 +25,13 @@ mod system;
 
 use thiserror::Error;
 
-/// A failed read: the byte offset where it began, and its cause, one of the constants below.
+/// A failed read.
 #[derive(Clone, Copy, Debug, PartialEq, Eq, Error)]
 #[error("a read of the source failed")]
 pub struct ReadFault {
+    /// The byte offset where the read began.
     pub place: u64,
+    /// One of the constants below.
     pub cause: u8,
 }
 
@@ -58,7 +60,7 @@ pub struct Runs {
 }
 
 impl Runs {
-    /// Returns the offset of the run of a number, counted from 0.
+    /// Returns the offset of run `number`, counted from 0.
     fn begin(&self, number: u32) -> u64
         requires { (self.now.at ≤ 2 ^ 61) × (self.now.stride ≤ 2 ^ 23) }
         ensures { result ≡ self.now.at + number * self.now.stride }
@@ -76,7 +78,7 @@ pub trait Source<R> {
     /// The premise of each promise on what is read: the bytes don't change, and a read that succeeds gives them.
     ghost keeps: { Self → Type 0 };
 
-    /// The faults that this device gave.
+    /// The faults of this device's reads.
     ghost gave: { Self → ReadFault → Bool };
 
     /// The reads of this device: at this offset one gave these bytes, right or wrong. No premise stands before it.

@@ -1,6 +1,6 @@
 //! Bytes in memory as a source.
 
-ghost use Rattle.std.specs.Prelude.{◌≡◌, ℕ, List, false};
+ghost use Rattle.std.specs.Prelude.{◌≡◌, ℕ, List, drop, false, length, take};
 
 use crate::{ReadFault, Source};
 use std::marker::Model;
@@ -32,6 +32,8 @@ impl<R> Source<R> for MemSource {
     ghost keeps = { λ _. Unit {0} };
 
     ghost gave = { λ _ _. false };
+
+    ghost reads = { λ s at given. given ≡ take (length given) (drop at s) };
 
     fn len(&self) -> u64 {
         let bytes = self.bytes.as_slice();

@@ -35,7 +35,7 @@ pub trait Opens {
     /// The metadata that the system told of an open file.
     ghost tells: { Self.Handle → Metadata → Bool };
 
-    /// The faults that reads of a path's file had.
+    /// The faults of reads of a path's file.
     ghost gave: { List ℕ → ReadFault → Bool };
 
     /// The reads of a path's file: at this offset one gave these bytes, right or wrong. No premise stands before it.

@@ -9,7 +9,7 @@ ghost use Rattle.iiif_start.specs.DotSegments.{warning_of_base, warning_of_name,
 use std::io;
 use std::io::Write;
 
-/// Tests whether a segment of a path is `.` or `..`, which a client removes before it asks (RFC 3986, section 5.2.4).
+/// Returns whether a segment of a path is `.` or `..`, which a client removes before it asks (RFC 3986, section 5.2.4).
 pub fn is_dot_segment(segment: &[u8]) -> bool
     ensures { result ≡ is_dot_segment segment.now }
 {
@@ -33,7 +33,7 @@ fn path_of(url: &str) -> &str
     behind_slash(behind_slash(behind_slash(url)))
 }
 
-/// Tests whether the path of a base URL has a dot segment.
+/// Returns whether the path of a base URL has a dot segment.
 pub fn has_dot_segment(url: &str) -> bool
     ensures { result ≡ has_dot_segment url.now }
 {

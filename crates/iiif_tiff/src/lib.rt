@@ -15,22 +15,22 @@ pub const MAX_SIDE: u32 = 1_000_000;
 /// Limit of the pixels of an image that is read.
 pub const MAX_AREA: u64 = 1 << 32;
 
-/// Says that a file which no check refuses shows exactly one picture.
+/// States that a file which no check refuses shows exactly one picture.
 pub fn shows_one_picture()
     ensures { (bytes : List ℕ) → All (λ b. b ≤ 255) bytes → refusal_of bytes ≡ None → ShowsOnePicture bytes }
 {}
 
-/// Says that a file which no check refuses has sides of 1 to 1,000,000, and at most 2^32 pixels.
+/// States that a file which no check refuses has sides of 1 to 1,000,000, and at most 2^32 pixels.
 pub fn accepted_is_readable()
     ensures { AcceptedIsReadable }
 {}
 
-/// Says that WhiteIsZero counts each sample down from white.
+/// States that WhiteIsZero counts each sample down from white.
 pub fn white_is_zero_inverts()
     ensures { ShowsInverted }
 {}
 
-/// Says that four files show the samples that a person read in them.
+/// States that four files show the samples that a person read in them.
 pub fn samples_are_shown()
     ensures { SampleIsShown }
 {}

@@ -17,7 +17,7 @@ use iiif_tiff::{MAX_AREA, MAX_SIDE, tag};
 /// The most pixels that a tile is wide or high.
 const MAX_TILE_SIDE: u32 = 1 << 20;
 
-/// Tells whether all values are this one.
+/// Returns whether all values are this one.
 fn all_are(values: &[u32], value: u32) -> bool
     ensures { result ≡ list_all (λ v. v == value) values.now }
 {
@@ -41,7 +41,7 @@ fn depth(bits: &[u32], channels: u32) -> Option<u32>
     }
 }
 
-/// Tells whether a sample of 0 is white (TIFF 6.0, section 8, PhotometricInterpretation): one sample is WhiteIsZero (0) or BlackIsZero
+/// Returns whether a sample of 0 is white (TIFF 6.0, section 8, PhotometricInterpretation): one sample is WhiteIsZero (0) or BlackIsZero
 /// (1), three are RGB (2), where 0 is black. None for any other interpretation, such as a palette (3).
 pub fn white_is_zero(channels: u32, photometric: u32) -> Option<bool>
     ensures known { is_some result ≡ (if channels == 1 then nat_le photometric 1 else photometric == 2) }

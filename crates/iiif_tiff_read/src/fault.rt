@@ -25,7 +25,7 @@ pub enum OpenFault {
     /// A field has a value that this reader doesn't support, such as a compression, a palette or planes.
     #[error("field {0} has a value that is not supported")]
     Unsupported(u16),
-    /// A field has a type or a count that it may not have, or a value of 0 that it may not; or a byte count is below its piece's need.
+    /// A field has a wrong type or count, or is 0 where it may not be; or the byte count of a strip or tile is too small for its samples.
     #[error("field {0} is wrong")]
     BadField(u16),
     /// A side, the area, a side of the tiles or the number of tiles is above its limit.

@@ -217,7 +217,7 @@ impl<'a, R, S: Source<R>> Fields<'a, R, S> {
         }
     }
 
-    /// Tells whether the file has a field.
+    /// Returns whether the file has a field.
     pub fn has(&self, tag: u16) -> bool
         ensures { AreTrue S.bytes self.now → result ≡ is_some (entry_of (S.bytes self.now.source.now) tag) }
     {

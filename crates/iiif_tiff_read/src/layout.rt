@@ -64,7 +64,8 @@ impl Layout {
     /// source that has become shorter gives a fault.
     ///
     /// It reads the bytes that the rectangle needs and no others, by one call of [`Source::read_runs`] for each tile, or for all strips
-    /// that stand one after another in the file. The first fault of the source ends it, and no read is made again.
+    /// that stand one after another in the file. The first fault of the source ends it, and no read is made again. (Which reads are made is
+    /// tested and not proved.)
     pub fn read_rect<R, S: Source<R>>(
         &self,
         rt: &R,

@@ -7,7 +7,7 @@ ghost use Rattle.iiif_tiff_write.specs.File.{file, file_len};
 use crate::kind::OutKind;
 use iiif_pixel::Dim;
 
-/// Tests whether the file of a picture of this size is shorter than 2^32 bytes, as its 32-bit offsets need it to be.
+/// Returns whether the file of a picture of this size is shorter than 2^32 bytes, as its 32-bit offsets need it to be.
 pub fn fits(kind: OutKind, dim: Dim) -> bool
     ensures { IsTrue result ↔ (file_len kind dim < 2 ^ 32) }
 {
