@@ -53,7 +53,7 @@ take-append-within n bytes rest fits =
     let split : n ≡ length bytes + (n - length bytes) = omega arith in
     (take (n - length bytes) rest, ap (λ k. take k (bytes ++ rest)) split ∙ take-append-add bytes rest (n - length bytes))
 
-bad-append : (bytes more : List ℕ) → IsBad bytes → IsBad (bytes ++ more)
+pub bad-append : (bytes more : List ℕ) → IsBad bytes → IsBad (bytes ++ more)
 bad-append bytes more (no_head never) = no_head (λ rest. rw (append_assoc bytes more rest) (never (more ++ rest)))
 bad-append bytes more (many_fields over all) =
     many_fields (over.0, over.1 ++ more, ap (λ (t : List ℕ). t ++ more) over.2 ∙ append_assoc over.0 over.1 more, over.3, over.4, over.5)

@@ -29,7 +29,7 @@ in_limit input h rest call =
     ap (take byte_limit) call.reads.1 ∙ ap (λ k. take k (text ++ rest)) split ∙ take-append-add text rest (byte_limit - length text) in
     (take (byte_limit - length text) rest, (call.reads.0, front))
 
-not_bad : (bytes : List ℕ) (h : RequestHead) (more : List ℕ) → ReadsRequest bytes h more → length h.fields ≤ field_limit →
+pub not_bad : (bytes : List ℕ) (h : RequestHead) (more : List ℕ) → ReadsRequest bytes h more → length h.fields ≤ field_limit →
     announces_body h ≡ false → IsBad bytes → ⊥
 not_bad bytes h more reads few bare (no_head never) =
     never [] h more (subst (λ (t : List ℕ). ReadsRequest t h more) (sym (append-nil bytes)) reads)

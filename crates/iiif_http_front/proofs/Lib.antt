@@ -5,5 +5,6 @@ pub mod LineLemmas
 pub mod PlainFields
 pub mod PromptLemmas
 pub mod ReadBackLemmas
+pub mod RefusalLemmas
 pub mod SearchLemmas
 pub mod StatusLemmas

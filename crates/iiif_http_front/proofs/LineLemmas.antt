@@ -1,6 +1,6 @@
 -- The whole lines of a head's front: never more than those of the head, less the empty one that ends it.
 use Rattle.std.proofs.Common.{◌≡◌, ℕ, zero, suc, ◌+◌, ◌<◌, ◌≤◌, Bool, true, false, List, [], ◌∷◌, ◌++◌, length, take, drop, sym, ap, ◌∙◌}
-use Rattle.std.proofs.Common.{append-nil, subst, arith, refl, append_assoc, ◌⊎◌, inl, inr}
+use Rattle.std.proofs.Common.{append-nil, arith, refl, append_assoc, ◌⊎◌, inl, inr}
 use Rattle.std.specs.Prelude.{nat_lt, count_by, get_or, All, IsTrue, ◌==◌, ◌||◌, if◌then◌else◌, cond, not, ◌&&◌}
 use Rattle.std.specs.List.{flat_map, list_any}
 use Rattle.std.proofs.lemmas.List.Sums.{sum_by-append, sum_by-cons}
@@ -11,14 +11,15 @@ use Rattle.std.proofs.lemmas.List.Concat.{flat_map-cons}
 use Rattle.std.proofs.lemmas.Bool.{eqb-true, ltb-true, ltb-false}
 use Rattle.httparse.specs.Grammar.{AllPass, LineEnd, crlf, lf, print_end, print_blank, Field, IsField, print_field, print_section, RequestHead}
 use Rattle.httparse.specs.Grammar.{IsRequestHead, ReadsRequest, HasNoRequest, print_request, print_version, is_token_byte, is_uri_byte, is_value_byte}
+use Rattle.httparse.specs.Grammar.{IsToken, EndsInTarget}
 use Rattle.iiif_http_front.specs.RequestHeads.{field_limit}
 use Rattle.iiif_http_front.specs.Reading.{behind_blank, whole_lines, HasFewFields, IsBad, many_lines}
 
 -- how many line feeds there are
-abbrev feeds : List ℕ → ℕ
+abbrev pub feeds : List ℕ → ℕ
 feeds bytes = count_by (λ b. b == 10) bytes
 
-feeds-append : (a b : List ℕ) → feeds (a ++ b) ≡ feeds a + feeds b
+pub feeds-append : (a b : List ℕ) → feeds (a ++ b) ≡ feeds a + feeds b
 feeds-append a b = sum_by-append _ a b
 
 -- bytes of a class without it have none
@@ -39,6 +40,10 @@ end_feeds lf = refl
 token_never : is_token_byte 10 ≡ false
 unfolding is_token_byte
 token_never = refl
+
+token_never_returns : is_token_byte 13 ≡ false
+unfolding is_token_byte
+token_never_returns = refl
 
 field_feeds : (f : Field) → IsField f → feeds (print_field f) ≡ 1
 field_feeds f is =
@@ -98,8 +103,23 @@ version_feeds (suc (suc n)) fits = absurd (omega (arith, fits))
 to_the_right : (a b c d e f : List ℕ) → a ++ b ++ c ++ d ++ e ++ f ≡ a ++ (b ++ (c ++ (d ++ (e ++ f))))
 to_the_right a b c d e f = simp append_assoc refl
 
+-- the first byte of a token begins a head
+token_begins : (b : ℕ) → is_token_byte b ≡ true → (b == 13 || b == 10) ≡ false
+token_begins b token = (elim (b == 13) as (λ (t : Bool). (b == 13) ≡ t → (t || b == 10) ≡ false) [
+  | true ↦ λ is. let both : false ≡ true = sym token_never_returns ∙ ap is_token_byte (sym (eqb-true b 13 is)) ∙ token in cc
+  | false ↦ λ no. (elim (b == 10) as (λ (t : Bool). (b == 10) ≡ t → (false || t) ≡ false) [
+    | true ↦ λ is. let both : false ≡ true = sym token_never ∙ ap is_token_byte (sym (eqb-true b 10 is)) ∙ token in cc
+    | false ↦ λ not. refl
+  ]) refl
+]) refl
+
+method_begins : (method rest : List ℕ) → IsToken method → behind_blank (method ++ rest) ≡ method ++ rest
+unfolding behind_blank
+method_begins [] rest is = absurd (omega (arith, is.0))
+method_begins (b ∷ method) rest is = rw (token_begins b (is.1 0 b (omega arith))) refl
+
 -- a head's lines: the first, one for each field, and the empty one
-head_lines : (h : RequestHead) → IsRequestHead h → whole_lines (print_request h) ≤ length h.fields + 2
+head_lines : (h : RequestHead) → IsRequestHead h → whole_lines (print_request h) ≡ length h.fields + 2
 unfolding print_request whole_lines
 head_lines h is =
     let section : List ℕ = print_section h.fields h.last in
@@ -120,7 +140,7 @@ head_lines h is =
     omega (
       arith,
       same,
-      behind_less behind,
+      ap feeds (method_begins h.method (32 ∷ (h.target ++ (32 ∷ after_target))) is.method),
       at_method,
       at_target,
       at_version,
@@ -147,7 +167,7 @@ ends_in_feed h =
     (print_blank h.blank ++ first ++ last.0, rw last.1 (simp (append_assoc) refl))
 
 -- so does each of its ends
-last_feeds : (a b front : List ℕ) → a ++ b ≡ front ++ 10 ∷ [] → 0 < length b → 0 < feeds b
+pub last_feeds : (a b front : List ℕ) → a ++ b ≡ front ++ 10 ∷ [] → 0 < length b → 0 < feeds b
 last_feeds [] b front is some = omega (arith, ap feeds is, feeds-append front (10 ∷ []))
 last_feeds (x ∷ a) b [] is some = absurd (omega (arith, ap length is, length-append a b, some))
 last_feeds (x ∷ a) b (y ∷ front) is some = last_feeds a b front (cc is) some
@@ -206,8 +226,48 @@ pub all_passed : (begun : Bool) (bytes : List ℕ) (i lines : ℕ) → length by
 all_passed begun bytes i lines over so_far =
     omega (arith, so_far, ap (lines_left begun) (drop_all i bytes over), none_left begun)
 
+-- more bytes have no fewer whole lines, and as many more at most as there are line feeds in them
+pub lines_grow : (a b : List ℕ) → whole_lines a ≤ whole_lines (a ++ b)
+unfolding whole_lines
+lines_grow a b = elim (behind-append a b) as (λ _. feeds (behind_blank a) ≤ feeds (behind_blank (a ++ b))) [
+  | inl blank ↦ omega (arith, ap feeds blank)
+  | inr same ↦ omega (arith, ap feeds same, feeds-append (behind_blank a) b)
+]
+
+behind_more : (a b : List ℕ) → feeds (behind_blank (a ++ b)) ≤ feeds (behind_blank a) + feeds b
+unfolding behind_blank
+behind_more [] b = omega (arith, behind_less b)
+behind_more (x ∷ a) b = elim (x == 13 || x == 10) as
+    (λ (t : Bool). feeds (if t then behind_blank (a ++ b) else x ∷ (a ++ b)) ≤ feeds (if t then behind_blank a else x ∷ a) + feeds b) [
+      | true ↦ behind_more a b
+      | false ↦ omega (arith, feeds-append (x ∷ a) b)
+    ]
+
+-- no line ends in a target
+pub target_lines : (bytes : List ℕ) → EndsInTarget bytes → whole_lines bytes ≡ 0
+unfolding whole_lines
+target_lines bytes at =
+    let behind : List ℕ = at.1 ++ (32 ∷ at.2) in
+    let same : feeds (behind_blank bytes) ≡ feeds (behind_blank behind) =
+    ap (λ t. feeds (behind_blank t)) (at.5 ∙ append_assoc (print_blank at.0) at.1 (32 ∷ at.2)) ∙ ap feeds (behind_ends at.0 behind) in
+    omega (
+      arith,
+      same,
+      behind_less behind,
+      feeds-append at.1 (32 ∷ at.2),
+      none_of is_token_byte token_never at.1 at.3.1,
+      none_of is_uri_byte refl at.2 at.4,
+    )
+
+-- what lacks the empty line alone of a head has its other lines
+pub exceeding_lines : (front : List ℕ) (h : RequestHead) → ReadsRequest (front ++ 10 ∷ []) h [] → length h.fields < whole_lines front
+unfolding whole_lines
+exceeding_lines front h reads =
+    let whole : front ++ 10 ∷ [] ≡ print_request h = reads.1 ∙ append-nil (print_request h) in
+    omega (arith, ap whole_lines whole, head_lines h reads.0, behind_more front (10 ∷ []))
+
 -- what isn't a whole head, of an input that begins with one, is a front of it
-front_of : (front rest head more : List ℕ) → front ++ rest ≡ head ++ more → length front ≤ length head
+pub front_of : (front rest head more : List ℕ) → front ++ rest ≡ head ++ more → length front ≤ length head
     → front ++ drop (length front) head ≡ head
 front_of front rest head more is short =
     let same : front ≡ take (length front) head =
@@ -215,7 +275,7 @@ front_of front rest head more is short =
     ap (λ (t : List ℕ). t ++ drop (length front) head) same ∙ take-append-drop (length front) head
 
 -- the front of a head that is taken has few fields
-order : (m n : ℕ) → (m < n) ⊎ (n ≤ m)
+pub order : (m n : ℕ) → (m < n) ⊎ (n ≤ m)
 order m n = (elim (nat_lt m n) as (λ (t : Bool). nat_lt m n ≡ t → (m < n) ⊎ (n ≤ m)) [
   | true ↦ λ is. inl (ltb-true m n is)
   | false ↦ λ not. inr (ltb-false m n not)
@@ -248,7 +308,7 @@ few_lines front rest h more reads few none =
           ]
     ])
 
-no_feeds : (bytes : List ℕ) → list_any (λ b. b == 10) bytes ≡ false → feeds bytes ≡ 0
+pub no_feeds : (bytes : List ℕ) → list_any (λ b. b == 10) bytes ≡ false → feeds bytes ≡ 0
 no_feeds [] without = refl
 no_feeds (b ∷ bytes) without = (elim (b == 10) as
     (λ (t : Bool). (b == 10) ≡ t → (t || list_any (λ b. b == 10) bytes) ≡ false → feeds (b ∷ bytes) ≡ 0) [

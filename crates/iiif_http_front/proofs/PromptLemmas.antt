@@ -1,7 +1,7 @@
 -- `ready` and `last`: a call is returned with the read that completes its head.
-use Rattle.std.proofs.Common.{◌≡◌, ℕ, ◌+◌, ◌<◌, ◌≤◌, ◌⊎◌, inl, inr, List, [], ◌++◌, length, sym, ap, ◌∙◌, subst, arith, refl}
+use Rattle.std.proofs.Common.{◌≡◌, ℕ, ◌+◌, ◌<◌, ◌⊎◌, inl, inr, List, ◌++◌, length, sym, ap, ◌∙◌, subst, arith, refl}
 use Rattle.std.proofs.Common.{append_assoc, append-nil}
-use Rattle.std.proofs.Common.{Option, Some, None, Result, Ok, Err, Bool, true, false, zero, suc, drop}
+use Rattle.std.proofs.Common.{Option, Some, None, Result, Ok, Err, true, false, zero, suc, drop}
 use Rattle.std.specs.Prelude.{IfSome, ◌==◌}
 use Rattle.std.specs.List.{list_any}
 use Rattle.std.proofs.Math.Seq.{drop-append-add}
@@ -13,10 +13,11 @@ use Rattle.iiif_http_front.specs.declared.head_fault.HeadFault.{HeadFault}
 use Rattle.iiif_http_front.specs.declared.head_fault.HeadFault.TheVariants.{Io, Cut}
 use Rattle.iiif_http_front.specs.declared.search.Found.TheVariants.{Partial}
 use Rattle.iiif_http_front.specs.RequestHeads.{BeginsWithCall}
-use Rattle.iiif_http_front.specs.Reading.{Answers, IsNeeded, IsPrompt, IsUnfinished}
+use Rattle.iiif_http_front.specs.Reading.{Answers, IsNeeded, IsPrompt, IsRefused, HasNoRefusal, IsUnfinished}
 use Rattle.iiif_http_front.specs.Code.{Finds, IsOpen, EndsWith}
 use Rattle.iiif_http_front.proofs.LineLemmas.{no_request_more}
-use Rattle.iiif_http_front.proofs.AnswerLemmas.{found_fault, answers_known, answers_came, answers_here}
+use Rattle.iiif_http_front.proofs.RefusalLemmas.{stays_further, refused-append}
+use Rattle.iiif_http_front.proofs.AnswerLemmas.{found_fault, answers_here}
 
 no_request_front : (a b : List ℕ) → HasNoRequest (a ++ b) → HasNoRequest a
 no_request_front a b none h rest reads = none h (rest ++ b) (ReadsRequest-append a h rest b reads)
@@ -34,6 +35,7 @@ further gave old came now new reader is needed =
       all = needed.all ∙ ap (λ (t : List ℕ). t ++ needed.piece) joined;
       read = needed.read;
       not_whole = subst HasNoRequest joined needed.not_whole;
+      not_refused = subst HasNoRefusal joined needed.not_refused;
     }
 
 -- nothing was read so far, or the last read was needed
@@ -59,6 +61,13 @@ pub prompt_so_far : {I : Type 0} (gave : I → List ℕ → I → Type 0) (old n
     → Answers now (Some left) (Ok (Some call)) → IsPrompt gave old first left reader call
 prompt_so_far gave old now left first reader call (inl same) right = inl same.0
 prompt_so_far gave old now left first reader call (inr needed) right = inr (now, needed, right)
+
+-- lines that were refused as the call began were refused before each read
+pub refused_so_far : {I : Type 0} (gave : I → List ℕ → I → Type 0) (old now : List ℕ) (first reader : I) →
+    SoFar gave old now first reader → IsRefused old → reader ≡ first
+unfolding HasNoRefusal
+refused_so_far gave old now first reader (inl same) bad = same.0
+refused_so_far gave old now first reader (inr needed) bad = absurd (needed.not_refused (refused-append old needed.front bad))
 
 -- an answer to what came is one to the whole input where that ends
 pub answers_at_end : (a b : Option (List ℕ)) (old came now left : List ℕ) (r : Result (Option Call) HeadFault) → now ≡ old ++ came →
@@ -109,7 +118,11 @@ open_further old piece now shown tail held still is same behind long without sho
     let read : tail ≡ piece =
     behind ∙ ap (drop held) (same ∙ is) ∙ ap (λ k. drop k (old ++ piece)) start ∙ drop-append-add old piece 0 in
     let ends : list_any (λ b. b == 10) piece ≡ false = ap (list_any (λ b. b == 10)) (sym read) ∙ without in
-    record { not_whole = subst HasNoRequest (sym is) (no_request_more old piece still.not_whole ends); short = short }
+    record {
+      not_whole = subst HasNoRequest (sym is) (no_request_more old piece still.not_whole ends);
+      not_refused = subst HasNoRefusal (sym is) (stays_further old piece still.not_refused ends);
+      short = short;
+    }
 
 pub some_there : (n : ℕ) → (n == 0) ≡ false → 0 < n
 some_there zero is = let both : true ≡ false = is in cc

@@ -1,11 +1,11 @@
 -- Notions of private functions.
 --   Finds bytes result              the result of the search for a call at the front of the bytes
---   IsOpen bytes                    the buffer holds no whole head and isn't full
+--   IsOpen bytes                    the buffer holds no whole head and no line that is refused, and isn't full
 --   EndsWith bytes fault result     the fault where no more bytes come
 use Rattle.std.specs.Prelude.{◌≡◌, ℕ, ◌<◌, ◌≤◌, ◌⊎◌, List, length, drop, Result, Ok, Err}
 use Rattle.httparse.specs.Grammar.{RequestHead, HasNoRequest, MayBecomeRequest}
 use Rattle.iiif_http_front.specs.RequestHeads.{BeginsWithCall}
-use Rattle.iiif_http_front.specs.Reading.{IsCallOf, IsBad, HasFewFields}
+use Rattle.iiif_http_front.specs.Reading.{IsCallOf, IsBad, HasFewFields, HasNoRefusal}
 use Rattle.iiif_http_front.specs.declared.head_fault.HeadFault.{HeadFault}
 use Rattle.iiif_http_front.specs.declared.head_fault.HeadFault.TheVariants.{Bad, TooLong, Cut, Io, NoMemory}
 use Rattle.iiif_http_front.specs.declared.search.Found.{Found}
@@ -22,9 +22,10 @@ Finds bytes (Err TooLong) = ⊥
 Finds bytes (Err Cut) = ⊥
 Finds bytes (Err Io) = ⊥
 
--- no head is whole, and the buffer has room for more
+-- no head is whole, no line is refused, and the buffer has room for more
 pub record IsOpen (bytes : List ℕ) : Type 0 where
   pub not_whole : HasNoRequest bytes
+  pub not_refused : HasNoRefusal bytes
   pub short : length bytes < 8192
 
 -- the fault where nothing follows the bytes: that of malformed bytes, or the given one where a head may have begun

@@ -4,7 +4,8 @@
 --   IsCallOf call h              the call has the method, the target and the close of the head h
 --   whole_lines, HasFewFields    the limit on fields, of a head that isn't whole yet
 --   IsBad, IsTooLong, IsCut, IsUnfinished    inputs without a call
---   IsNeeded, IsPrompt           no read behind a whole head
+--   IsRefused, HasNoRefusal      whole lines of which no call can come
+--   IsNeeded, IsPrompt, IsPromptRefusal      no read behind a whole head, or behind lines that are refused
 --   Faults, Answers              the answer to an input
 use Rattle.std.specs.Prelude.{◌≡◌, ℕ, ◌+◌, ◌<◌, ◌≤◌, ◌==◌, ◌||◌, if◌then◌else◌, true, List, [], ◌∷◌, ◌++◌, length, take, count_by}
 use Rattle.std.specs.Prelude.{Option, None, Some, Result, Ok, Err, ⊤, ◌⊎◌}
@@ -64,6 +65,19 @@ pub data IsBad (bytes : List ℕ) : Type 0 where
   many_lines : (front rest : List ℕ) → bytes ≡ front ++ rest → HasNoRequest front → ¬ (HasFewFields front) → IsBad bytes
   has_body : (h : RequestHead) (rest : List ℕ) → ReadsRequest bytes h rest → announces_body h ≡ true → IsBad bytes
 
+-- the bytes begin with whole lines that are refused, the request line among them: no call can come of these, whatever follows. A whole head
+-- that isn't accepted is refused
+pub record IsRefused (bytes : List ℕ) : Type 0 where
+  pub lines : List ℕ
+  pub rest : List ℕ
+  pub all : bytes ≡ lines ++ rest
+  pub ended : (front : List ℕ) × (lines ≡ front ++ 10 ∷ [])
+  pub begun : 0 < whole_lines lines
+  pub bad : IsBad lines
+
+unfoldable pub HasNoRefusal : List ℕ → Type 0
+HasNoRefusal bytes = ¬ (IsRefused bytes)
+
 -- a head may have begun with these bytes, and none is whole yet: a reader that fails behind them loses no call, and no head that is to be
 -- refused
 pub record IsUnfinished (bytes : List ℕ) : Type 0 where
@@ -87,7 +101,8 @@ pub record IsCut (input : List ℕ) : Type 0 where
   pub unfinished : MayBecomeRequest input
   pub few : HasFewFields input
 
--- The last read of a call was needed: no head was whole before it. The buffer held the old bytes as the call began, and now holds these.
+-- The last read was needed: before it no head was whole, and no line was refused. The buffer held the old bytes as the call began, and now
+-- holds these.
 pub record IsNeeded {I : Type 0} (gave : I → List ℕ → I → Type 0) (old now : List ℕ) (reader : I) : Type 0 where
   -- the bytes of all reads but the last
   pub front : List ℕ
@@ -98,6 +113,7 @@ pub record IsNeeded {I : Type 0} (gave : I → List ℕ → I → Type 0) (old n
   pub all : now ≡ (old ++ front) ++ piece
   pub read : gave before piece reader
   pub not_whole : HasNoRequest (old ++ front)
+  pub not_refused : HasNoRefusal (old ++ front)
 
 -- the inputs to which each fault may be returned. A failed read says nothing of the input, and memory is lacking for a call alone
 abbrev pub Faults : HeadFault → List ℕ → Type 0
@@ -119,3 +135,8 @@ Answers input left (Err fault) = Faults fault input × (left ≡ Some input)
 abbrev pub IsPrompt : {I : Type 0} → (I → List ℕ → I → Type 0) → List ℕ → I → List ℕ → I → Call → Type 0
 IsPrompt gave old before left after call =
     (after ≡ before) ⊎ ((bytes : List ℕ) × IsNeeded gave old bytes after × Answers bytes (Some left) (Ok (Some call)))
+
+-- A refusal is returned as soon as the lines are whole that are refused: nothing was read for it, or the last read was needed, or no such
+-- line is whole, where the input ended or failed inside one, or its first bytes begin no head. The buffer holds what is left after.
+abbrev pub IsPromptRefusal : {I : Type 0} → (I → List ℕ → I → Type 0) → List ℕ → I → List ℕ → I → Type 0
+IsPromptRefusal gave old before left after = (after ≡ before) ⊎ IsNeeded gave old left after ⊎ HasNoRefusal left

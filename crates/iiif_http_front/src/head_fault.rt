@@ -6,19 +6,19 @@ use thiserror::Error;
 /// A reason for which no call is read.
 #[derive(Clone, Copy, Debug, PartialEq, Eq, Error)]
 pub enum HeadFault {
-    /// The head is malformed, has more than 64 fields, or announces a body.
+    /// Malformed head, one of more than 64 fields, or one that announces a body. Returned as soon as the lines are whole that show it.
     #[error("not the head of a request")]
     Bad,
-    /// 8,192 bytes came, and no head ends in them.
+    /// No end of the head within 8,192 bytes.
     #[error("the head of the request is too long")]
     TooLong,
-    /// The input ended inside a head.
+    /// End of the input inside a head.
     #[error("the input ended inside a head")]
     Cut,
-    /// A read failed before a head was whole.
+    /// Failed read, before a head was whole.
     #[error("the device failed")]
     Io,
-    /// Memory is lacking for a call whose head is whole.
+    /// Out of memory for the call of a whole head.
     #[error("out of memory")]
     NoMemory,
 }

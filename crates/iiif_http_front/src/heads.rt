@@ -5,7 +5,7 @@ ghost use Rattle.std.specs.Prelude.{IfOk, IfErr, IfSome, OnOk, OnErr};
 ghost use Rattle.std.specs.Io.KnownBytes.{prepend_known, Consumes, IsAtEnd};
 ghost use Rattle.httparse.specs.Grammar.{RequestHead};
 ghost use Rattle.iiif_http_front.specs.RequestHeads.{BeginsWithCall};
-ghost use Rattle.iiif_http_front.specs.Reading.{Answers, IsNeeded, IsPrompt, IsUnfinished, input_of};
+ghost use Rattle.iiif_http_front.specs.Reading.{Answers, IsNeeded, IsPrompt, IsPromptRefusal, IsRefused, IsUnfinished, input_of};
 ghost use Rattle.iiif_http_front.specs.Code.{IsOpen, EndsWith};
 ghost use Rattle.iiif_http_front.specs.declared.head_fault.HeadFault.TheVariants as HeadFault;
 
@@ -53,6 +53,10 @@ impl<I: Inlet + Drop> Heads<I> {
     /// Reads the next call, or `None` where the input ends before a head begins. After a fault it returns that fault again and reads
     /// nothing.
     pub fn read_head(&mut self) -> Result<Option<Call>, HeadFault>
+        // A call whose head is in the buffer is returned without a read.
+        ensures ready { self.old.fault ≡ None → (h : RequestHead) (rest : List ℕ) → BeginsWithCall self.old.unread h rest
+            → self.new.reader ≡ self.old.reader }
+
         // Where the remaining bytes are known, as in memory, the answer depends on the whole input alone, however the reads cut it.
         ensures answers { self.old.fault ≡ None → IfSome (input_of I.remaining self.old) (λ input.
             Answers input (input_of I.remaining self.new) result) }
@@ -60,13 +64,17 @@ impl<I: Inlet + Drop> Heads<I> {
         // Where they aren't, as at a socket, it is the answer to the bytes that were read so far.
         ensures came { self.old.fault ≡ None → (came : List ℕ) × Answers (self.old.unread ++ came) (Some self.new.unread) result }
 
-        // A call whose head is in the buffer is returned without a read.
-        ensures ready { self.old.fault ≡ None → (h : RequestHead) (rest : List ℕ) → BeginsWithCall self.old.unread h rest
-            → self.new.reader ≡ self.old.reader }
-
         // A call is returned at once: its head wasn't whole before the last read that was made for it.
         ensures last { self.old.fault ≡ None → IfOk result (λ answer. IfSome answer
             (IsPrompt I.gave self.old.unread self.old.reader self.new.unread self.new.reader)) }
+
+        // A whole head that isn't accepted, or whole lines of one, are refused without a read where they are in the buffer.
+        ensures refused { self.old.fault ≡ None → IsRefused self.old.unread
+            → (result ≡ Err HeadFault.Bad) × (self.new.reader ≡ self.old.reader) }
+
+        // They are refused at once: before the last read that was made, they weren't whole.
+        ensures at_once { self.old.fault ≡ None → result ≡ Err HeadFault.Bad
+            → IsPromptRefusal I.gave self.old.unread self.old.reader self.new.unread self.new.reader }
 
         // `Io` only where a read failed in this call, and the bytes that came before hold no call and nothing to refuse.
         ensures io { self.old.fault ≡ None → result ≡ Err HeadFault.Io → (before : I) × I.fails before self.new.reader }
@@ -132,6 +140,8 @@ fn next_head<I: Inlet>(
     ensures came { (came : List ℕ) × Answers (unread.old ++ came) (Some unread.new) result }
     ensures ready { (h : RequestHead) (rest : List ℕ) → BeginsWithCall unread.old h rest → reader.new ≡ reader.old }
     ensures last { IfOk result (λ answer. IfSome answer (IsPrompt I.gave unread.old reader.old unread.new reader.new)) }
+    ensures refused { IsRefused unread.old → (result ≡ Err HeadFault.Bad) × (reader.new ≡ reader.old) }
+    ensures at_once { result ≡ Err HeadFault.Bad → IsPromptRefusal I.gave unread.old reader.old unread.new reader.new }
     ensures io { result ≡ Err HeadFault.Io → (before : I) × I.fails before reader.new }
     ensures held { result ≡ Err HeadFault.Io → IsUnfinished unread.new }
 {

@@ -3,6 +3,8 @@ use Rattle.std.proofs.KnownBytes.{Consumes-trans}
 use Rattle.iiif_http_front.specs.declared.head_fault.HeadFault.TheVariants.{TooLong}
 use Rattle.iiif_http_front.proofs.AnswerLemmas.{answers_known, answers_came, answers_here, found_fault, found_call, too_long}
 use Rattle.iiif_http_front.proofs.PromptLemmas.{further, answers_at_end, cut_here, failed_here, some_there}
+use Rattle.iiif_http_front.proofs.PromptLemmas.{refused_so_far}
+use Rattle.iiif_http_front.proofs.RefusalLemmas.{none_refused, call_refused, fault_refused, stays_open}
 use Rattle.iiif_http_front.proofs.heads.next_head.Goals as goal
 
 pub returns-in-Err-clause-answers : goal.returns-in-Err-clause-answers
@@ -100,3 +102,41 @@ heads-preserved g c =
       Consumes-trans _ _ _ came.0 line.0 came.2 line.2,
       inr (further g.I.Inlet.gave _ came.0 c.heads.unread _ _ came.1 (c.in-Ok.ensures.needed c.if-not-more.false).0),
     )
+
+pub returns-in-Err-clause-refused : goal.returns-in-Err-clause-refused
+returns-in-Err-clause-refused g c =
+    let came = c.heads.invariant in
+    λ bad. (
+      ap Err (fault_refused _ c.heads.unread _ came.0 c.in-Err.fault c.as_slice.ensures.value came.1 c.in-Err.ensures bad),
+      refused_so_far g.I.Inlet.gave _ c.heads.unread _ _ came.3 bad,
+    )
+
+pub returns-in-Ok-Whole-clause-refused : goal.returns-in-Ok-Whole-clause-refused
+returns-in-Ok-Whole-clause-refused g c =
+    let came = c.heads.invariant in
+    λ bad. absurd (call_refused _ c.heads.unread _ came.0 c.in-Ok-Whole.call c.in-Ok-Whole.length c.as_slice.ensures.value came.1
+    (rw c.in-Ok-Whole.field-0-is at c.in-Ok-Whole.ensures) bad)
+
+pub returns-then-as_slice-ge-BYTE_LIMIT-clause-refused :
+    goal.returns-then-as_slice-ge-BYTE_LIMIT-clause-refused
+returns-then-as_slice-ge-BYTE_LIMIT-clause-refused g c =
+    let came = c.heads.invariant in
+    λ bad. absurd (none_refused _ c.heads.unread _ came.0 c.as_slice.ensures.value came.1
+    (rw c.in-Ok-Partial.field-0-is at c.in-Ok-Partial.ensures) bad)
+
+pub fill_line-requires : goal.fill_line-requires
+fill_line-requires g c =
+    stays_open _ c.heads.unread c.as_slice.ensures.value (rw c.in-Ok-Partial.field-0-is at c.in-Ok-Partial.ensures)
+    (omega (arith, c.if-as_slice-ge-BYTE_LIMIT.false, ap length c.as_slice-in-heads.ensures.value))
+
+pub returns-in_default-clause-refused : goal.returns-in_default-clause-refused
+returns-in_default-clause-refused g c =
+    let came = c.heads.invariant in
+    λ bad. absurd (none_refused _ c.heads.unread _ came.0 c.as_slice.ensures.value came.1
+    (rw c.in-Ok-Partial.field-0-is at c.in-Ok-Partial.ensures) bad)
+
+pub returns-then-not-more-clause-refused : goal.returns-then-not-more-clause-refused
+returns-then-not-more-clause-refused g c =
+    let came = c.heads.invariant in
+    λ bad. absurd (none_refused _ c.heads.unread _ came.0 c.as_slice.ensures.value came.1
+    (rw c.in-Ok-Partial.field-0-is at c.in-Ok-Partial.ensures) bad)
