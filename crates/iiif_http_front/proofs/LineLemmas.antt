@@ -9,8 +9,10 @@ use Rattle.std.proofs.Math.Seq.{take-append_seam, drop-cons}
 use Rattle.std.proofs.Math.ListN.{length-append}
 use Rattle.std.proofs.lemmas.List.Concat.{flat_map-cons}
 use Rattle.std.proofs.lemmas.Bool.{eqb-true, ltb-true, ltb-false}
-use Rattle.httparse.specs.Grammar.{AllPass, LineEnd, crlf, lf, print_end, print_blank, Field, IsField, print_field, print_section, RequestHead}
-use Rattle.httparse.specs.Grammar.{IsRequestHead, ReadsRequest, HasNoRequest, print_request, print_version, is_token_byte, is_uri_byte, is_value_byte}
+use Rattle.httparse.specs.Grammar.{AllPass, LineEnd, crlf, lf, print_end}
+use Rattle.httparse.specs.Grammar.{print_blank, Field, IsField, print_field, print_section, RequestHead}
+use Rattle.httparse.specs.Grammar.{IsRequestHead, ReadsRequest, HasNoRequest, print_request}
+use Rattle.httparse.specs.Grammar.{print_version, is_token_byte, is_uri_byte, is_value_byte}
 use Rattle.httparse.specs.Grammar.{IsToken, EndsInTarget}
 use Rattle.iiif_http_front.specs.RequestHeads.{field_limit}
 use Rattle.iiif_http_front.specs.Reading.{behind_blank, whole_lines, HasFewFields, IsBad, many_lines}

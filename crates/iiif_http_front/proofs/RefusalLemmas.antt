@@ -10,11 +10,13 @@ use Rattle.iiif_http_front.specs.declared.call.Call.{Call}
 use Rattle.iiif_http_front.specs.declared.head_fault.HeadFault.{HeadFault}
 use Rattle.iiif_http_front.specs.declared.head_fault.HeadFault.TheVariants.{Bad, TooLong, Cut, Io, NoMemory}
 use Rattle.iiif_http_front.specs.declared.search.Found.TheVariants.{Whole, Partial}
-use Rattle.iiif_http_front.specs.Reading.{whole_lines, HasFewFields, IsBad, no_head, many_fields, many_lines, has_body, IsRefused, HasNoRefusal}
+use Rattle.iiif_http_front.specs.Reading.{whole_lines, HasFewFields, IsBad, no_head}
+use Rattle.iiif_http_front.specs.Reading.{many_fields, many_lines, has_body, IsRefused, HasNoRefusal}
 use Rattle.iiif_http_front.specs.Code.{Finds, IsOpen}
 use Rattle.iiif_http_front.proofs.AnswerLemmas.{bad-append}
 use Rattle.iiif_http_front.proofs.InputLemmas.{not_bad}
-use Rattle.iiif_http_front.proofs.LineLemmas.{feeds, order, front_of, last_feeds, no_feeds, feeds-append, target_lines, lines_grow, exceeding_lines}
+use Rattle.iiif_http_front.proofs.LineLemmas.{feeds, order, front_of, last_feeds}
+use Rattle.iiif_http_front.proofs.LineLemmas.{no_feeds, feeds-append, target_lines, lines_grow, exceeding_lines}
 
 -- bytes that may become a head, with few lines, and none whole, aren't refused
 not_open : (bytes : List ℕ) → HasNoRequest bytes → MayBecomeRequest bytes → HasFewFields bytes → 0 < whole_lines bytes → IsBad bytes → ⊥
