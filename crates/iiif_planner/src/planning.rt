@@ -17,8 +17,8 @@ use std::alloc::Global;
 /// Plans a request on the named image with these sides, of this kind.
 ///
 /// A region that keeps its size, or is enlarged in either direction, is made of the tiles that it meets. Any other is made of the blocks
-/// that it meets, of one level: the greatest one, up to 20, at which a block has at most `room` sums and no block of a lower level holds the
-/// whole image; level 0 where there is no such level. Each tile or block is listed once, row by row. The only error is lack of memory.
+/// that it meets, of one level: the greatest one, up to 20, at which a block has at most `room` sums and no block of a lower level holds
+/// the whole image; level 0 where there is no such level. Each tile or block is listed once, row by row. The only error is lack of memory.
 pub fn plan(
     alloc: Global,
     name: &Name,

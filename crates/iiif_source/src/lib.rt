@@ -2,8 +2,9 @@
 //! injection).
 //!
 //! A source's contract has four ghost members. `bytes` are the bytes that it has by right. `keeps` is the premise of each promise on what
-//! is read: the bytes don't change, and a successful read gives them. `gave` has the faults of its reads. `reads` has, with no premise, what
-//! a read gave, right or wrong; a check against digests stands on it. [`Opens`] has all four of the files of a runtime, `holds` for `bytes`.
+//! is read: the bytes don't change, and a successful read gives them. `gave` has the faults of its reads. `reads` has, with no premise,
+//! what a read gave, right or wrong; a check against digests stands on it. [`Opens`] has all four of the files of a runtime, `holds` for
+//! `bytes`.
 #![tactic(auto)]
 
 ghost use Rattle.std.specs.Prelude.{◌≡◌, ◌+◌, ◌*◌, ◌^◌, ◌≤◌, ℕ, List, All, length, take, drop, OnOk, IfErr, Bool, IsTrue};
