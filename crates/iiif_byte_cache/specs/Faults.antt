@@ -1,9 +1,10 @@
--- Why an entry isn't put.
+-- Faults of a put.
+--   put_fault_number   the number of each
 use Rattle.std.specs.Prelude.{ℕ}
 use Rattle.iiif_byte_cache.specs.declared.cache.PutFault.{PutFault}
 use Rattle.iiif_byte_cache.specs.declared.cache.PutFault.TheVariants.{TooBig, NoMemory}
 
 -- the number of each fault
-abbrev pub number_of : {K E : Type 0} → PutFault K E → ℕ
-number_of (TooBig key entry) = 1
-number_of (NoMemory key entry) = 2
+abbrev pub put_fault_number : {K E : Type 0} → PutFault K E → ℕ
+put_fault_number (TooBig key entry) = 1
+put_fault_number (NoMemory key entry) = 2

@@ -1,4 +1,7 @@
 -- A cache as tables have it.
+--   lists_of, cache_of   two lists with a limit, and a cache
+--   side                 the side of a put
+--   IsRefusal            why an entry was handed back
 use Rattle.std.specs.Prelude.{◌≡◌, ℕ, Bool, true, false}
 use Rattle.iiif_tables.specs.Cache.{Cache, Side, main_side, hot_side}
 use Rattle.iiif_outcome.specs.Views.{kept_of}
@@ -9,7 +12,7 @@ use Rattle.iiif_byte_cache.specs.declared.cache.PutFault.{PutFault}
 use Rattle.iiif_byte_cache.specs.declared.cache.PutFault.TheVariants.{TooBig, NoMemory}
 
 -- two lists with a limit
-abbrev pub lists_of : {K J V : Type 0} {a b c d : _} → Recent K J V a b c d → Recent K J V a b c d → ℕ → Cache K V
+abbrev pub lists_of : {K J L V : Type 0} {a b c d : _} → Recent K J L V a b c d → Recent K J L V a b c d → ℕ → Cache K V
 lists_of main hot limit = record {
   main = rows kept_of main.list.entries;
   hot = rows kept_of hot.list.entries;
@@ -19,7 +22,7 @@ lists_of main hot limit = record {
 }
 
 -- its two lists, what they may take, and how many entries each may have
-abbrev pub cache_of : {K J V : Type 0} {a b c d : _} → ByteCache K J V a b c d → Cache K V
+abbrev pub cache_of : {K J L V : Type 0} {a b c d : _} → ByteCache K J L V a b c d → Cache K V
 cache_of c = lists_of c.lists.main c.lists.hot c.limit
 
 -- the side that a put is for

@@ -1,21 +1,22 @@
-//! The two lists of a cache.
+//! The two lists of a cache, and what goes next.
 
-ghost use Rattle.std.specs.Prelude.{◌≡◌};
-ghost use Rattle.iiif_byte_cache.specs.Lists.{bytes_of_both, CanCount, CanPlace, Evicts, Places, Shrinks};
-
+use crate::evicted::Evicted;
 use crate::recent::Recent;
 use iiif_keys::{CacheKey, System};
 use iiif_outcome::Entry;
 
-/// A list of what is loaded here, and one of what other nodes have. How many bytes both may take is no part of them.
+/// Pair of LRU lists: main for values that this node loaded, hot for values of other nodes. The limit that both share is the cache's.
 #[derive(Drop)]
-pub struct Lists<K: CacheKey, J: System> {
-    pub(crate) main: Recent<K, J>,
-    pub(crate) hot: Recent<K, J>,
+pub struct Lists<K: CacheKey, J: System, L> {
+    pub(crate) main: Recent<K, J, L>,
+    pub(crate) hot: Recent<K, J, L>,
 }
 
-impl<K: CacheKey, J: System> Lists<K, J> {
-    /// How many bytes both take.
+impl<K: CacheKey, J: System, L> Lists<K, J, L> {
+    ghost use Rattle.std.specs.Prelude.{◌≡◌};
+    ghost use Rattle.iiif_byte_cache.specs.Lists.{bytes_of_both, CanCount, CanPlace, Evicts, Places, Shrinks};
+
+    /// Returns how many bytes both lists take.
     pub fn bytes(&self) -> u64
         requires { CanCount self.now }
         ensures { result ≡ bytes_of_both self.now }
@@ -23,8 +24,8 @@ impl<K: CacheKey, J: System> Lists<K, J> {
         self.main.bytes + self.hot.bytes
     }
 
-    /// The entry that goes next is taken out: the oldest of hot where that takes more than an eighth of what main takes.
-    pub fn evict(&mut self) -> Option<(K, Entry<K, J>)>
+    /// Takes out the entry that goes next: the oldest of hot where hot takes more than an eighth of what main takes, else of main.
+    pub fn evict_oldest(&mut self) -> Option<(K, Entry<K, J, L>)>
         ensures { Evicts self.old self.new result }
     {
         if self.hot.bytes > self.main.bytes / 8 {
@@ -34,14 +35,14 @@ impl<K: CacheKey, J: System> Lists<K, J> {
         }
     }
 
-    /// An entry goes to the front of the list that has its key, else of the one that it is for.
-    pub fn place(
+    /// Puts an entry at the front of the list that has its key, else of hot or main. Returns the entry that left.
+    pub(crate) fn place(
         &mut self,
         for_hot: bool,
         key: K,
-        entry: Entry<K, J>,
+        entry: Entry<K, J, L>,
         size: u64,
-    ) -> Result<(), (K, Entry<K, J>)>
+    ) -> Result<Option<(K, Entry<K, J, L>)>, (K, Entry<K, J, L>)>
         requires { CanPlace key entry size self.old }
         ensures { Places for_hot key entry size self.old self.new result }
     {
@@ -54,8 +55,8 @@ impl<K: CacheKey, J: System> Lists<K, J> {
         }
     }
 
-    /// One entry after another goes while the lists take too many bytes.
-    pub fn shrink(&mut self, limit: u64)
+    /// Evicts one entry after another while the lists take more than `limit` bytes, and hands them out.
+    pub(crate) fn shrink(&mut self, limit: u64, evicted: &mut Evicted<K, Entry<K, J, L>>)
         requires { CanCount self.old }
         ensures { Shrinks limit self.old self.new }
     {
@@ -64,7 +65,9 @@ impl<K: CacheKey, J: System> Lists<K, J> {
             if self.bytes() <= limit {
                 return;
             }
-            let _gone = self.evict();
+            if let Some((key, entry)) = self.evict_oldest() {
+                evicted.add(key, entry);
+            }
         }
     }
 }

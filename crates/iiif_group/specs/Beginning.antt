@@ -1,6 +1,12 @@
--- What a call of a group is told.
-use Rattle.std.specs.Prelude.{◌≡◌, ℕ, ◌+◌, ◌≤◌, Bool, IfSome, IsFalse, IsTrue, MatchOption, OnErr, OnOk}
-use Rattle.std.specs.Prelude.{Some, Result, Ok, Err, is_some}
+-- What a call of a group is told, and what is counted.
+--
+--   outcome    of a key: a value of its shape, which is its meaning where the premises hold; or a fault that may be told of it
+--   share      an outcome's value for one more holder, or lack of memory
+--   begun      the answer to a call: the outcome of a flight of its key, or a load that the caller owes
+--   asked      of a load: the key's owner was asked, and gave no value
+--   gate       what each load passes
+use Rattle.std.specs.Prelude.{◌≡◌, ◌≢◌, ℕ, ◌+◌, ◌≤◌, Bool, List, IfSome, IsFalse, IsSomeAnd, IsTrue, MatchOption, OnErr, OnOk}
+use Rattle.std.specs.Prelude.{Some, Result, Ok, Err, is_some, slice_get}
 use Rattle.std.specs.Result.{ForOk, ForErr}
 use Rattle.std.specs.Arc.{arc_value}
 use Rattle.std.specs.declared.sync.Arc.{Arc}
@@ -11,13 +17,16 @@ use Rattle.iiif_keys.specs.declared.fault.Fault.{Fault}
 use Rattle.iiif_keys.specs.declared.fault.Fault.TheVariants.{NoMemory}
 use Rattle.iiif_keys.specs.declared.keys.Shape.{Shape}
 use Rattle.iiif_keys.specs.declared.system.System as system
+use Rattle.iiif_ring.specs.Owner.{IsOwner}
 use Rattle.iiif_outcome.specs.Outcomes.{is_given, value_of}
-use Rattle.iiif_singleflight.specs.Views.{lead_cell, lead_key, lead_of, receipt_known}
+use Rattle.iiif_outcome.specs.Views.{receipt_known}
+use Rattle.iiif_outcome.specs.declared.receipt.Receipt.{Receipt}
 use Rattle.iiif_singleflight.specs.declared.pass.Pass.{Pass}
-use Rattle.iiif_singleflight.specs.declared.receipt.Receipt.{Receipt}
+use Rattle.iiif_group.specs.Leads.{asked_lead}
+use Rattle.iiif_group.specs.Views.{checked_cell, checked_key}
 use Rattle.iiif_group.specs.declared.begun.Begun.{Begun}
 use Rattle.iiif_group.specs.declared.begun.Begun.TheVariants.{Known, Load}
-use Rattle.iiif_group.specs.declared.begun.OpenLoad.{OpenLoad}
+use Rattle.iiif_group.specs.declared.begun.Open.{Open}
 use Rattle.iiif_group.specs.declared.group.Group.{Group}
 
 -- An outcome of a key: a value of its shape, which is its meaning where the bytes of its image are stable and the other nodes are
@@ -28,85 +37,117 @@ OutcomeIs stable honest meaning shaped gave o =
     ForErr o (λ f. IsTrue (is_given gave f))
 
 module _ {K J V : Type 0} (keys : cache_key.Ghosts K V) (node : system.Ghosts J) (key : K) where
-  -- an outcome of this key on this node, its parts by name
-  pub record OutcomeFor {A : Type 0} (o : Result (Arc V A) Fault) : Type 0 where
-    pub meant : node.stable (keys.name_of key) → IsTrue node.honest → ForOk o (λ v. arc_value v ≡ keys.meaning node.pictures key)
-    pub shaped : ForOk o (λ v. IsTrue (keys.is_shaped node.pictures key (arc_value v)))
-    pub given : ForErr o (λ f. IsTrue (is_given (node.gave (keys.name_of key)) f))
-
-  -- the key names a part of an image of this shape, which its name's picture has
+  -- The key names a part of an image of this shape.
   pub record IsPartOf (shape : Shape) : Type 0 where
+    -- The picture of the key's name has this shape.
     pub known : HasPicture node.pictures (keys.name_of key) shape
+    -- The part lies in it.
     pub fits : keys.fits_in shape key
 
--- an outcome, whoever shares its value
+-- The outcome, whoever shares its value.
 abbrev pub outcome_of : {V A E : Type 0} → Result (Arc V A) E → Result V E
 outcome_of (Ok v) = Ok (arc_value v)
 outcome_of (Err e) = Err e
 
--- A share of an outcome, and whether it is that: lack of memory where the value refuses another share. A fault is told as it is.
+-- A share of an outcome, and whether it is exact.
 pub record Shares {V A : Type 0} (outcome share : Result (Arc V A) Fault) (exact : Bool) : Type 0 where
+  -- A value that is shared is the outcome's.
   pub ok : ForOk share (λ v. value_of outcome ≡ Some (arc_value v))
+  -- A fault that is told may be told of the same key.
   pub err : (gave : ReadFault → Bool) → ForErr outcome (λ f. IsTrue (is_given gave f)) → ForErr share (λ f. IsTrue (is_given gave f))
+  -- An exact share is the outcome.
   pub same : IsTrue exact → outcome_of share ≡ outcome_of outcome
+  -- Any other is lack of memory.
   pub wanting : IsFalse exact → outcome_of share ≡ Err NoMemory
+  -- A fault is always told as it is.
   pub fault : OnErr outcome (IsTrue exact)
 
 module _ {K J L V : Type 0} {a b c d e : _} where
-  -- the key of the value that has to be loaded
-  abbrev pub open_key : OpenLoad K J L V a b c d e → K
-  open_key o = lead_key (lead_of o.local)
+  -- The key of the value that has to be loaded.
+  abbrev pub open_key : Open K J L V a b c d e → K
+  open_key o = checked_key o.local
 
-  -- the key's owner was asked in vain
-  abbrev pub was_asked : OpenLoad K J L V a b c d e → Bool
+  -- The key's owner was asked, and gave no value.
+  abbrev pub was_asked : Open K J L V a b c d e → Bool
   was_asked o = is_some o.wide
 
   -- The cell of the flight that the call entered first, by which all who joined it learn its outcome: of the wide one where the key's
-  -- owner was asked in vain, else of the local one.
-  abbrev pub IsFirstFlight : OpenLoad K J L V a b c d e → ℕ → Type 0
-  IsFirstFlight o cell = MatchOption o.wide (cell ≡ lead_cell (lead_of o.local)) (λ w. cell ≡ lead_cell (lead_of w))
+  -- owner was asked, else of the local one.
+  abbrev pub IsFirstFlight : Open K J L V a b c d e → ℕ → Type 0
+  IsFirstFlight o cell = MatchOption o.wide (cell ≡ checked_cell o.local) (λ w. cell ≡ checked_cell (asked_lead w))
 
-  -- the cell of the local flight
-  abbrev pub IsLocalFlight : OpenLoad K J L V a b c d e → ℕ → Type 0
-  IsLocalFlight o cell = cell ≡ lead_cell (lead_of o.local)
+  -- The cell of the local flight.
+  abbrev pub IsLocalFlight : Open K J L V a b c d e → ℕ → Type 0
+  IsLocalFlight o cell = cell ≡ checked_cell o.local
 
-  -- the outcome of a flight of this key, or the duty to load its value
+  -- The outcome of a flight of this key, or the duty to load its value.
   abbrev pub BegunFor : K → Type 0 → Bool → V → (V → Bool) → (ReadFault → Bool) → Begun K J L V a b c d e → Type 0
   BegunFor key stable honest meaning shaped gave (Known r) =
       IfSome (receipt_known r) (λ x. (arc_value x.key ≡ key) × OutcomeIs stable honest meaning shaped gave x.outcome)
   BegunFor key stable honest meaning shaped gave (Load o) = open_key o ≡ key
 
-  -- a load is owed only where this holds, as that its key has passed a gate
+  -- A load is owed only where this holds, as that its key has passed a gate.
   abbrev pub LoadsIf : Type 0 → Begun K J L V a b c d e → Type 0
   LoadsIf holds (Known r) = Unit {0}
   LoadsIf holds (Load o) = holds
 
+  -- No owner was asked for a load.
+  abbrev pub IsAlone : Begun K J L V a b c d e → Type 0
+  IsAlone (Known r) = Unit {0}
+  IsAlone (Load o) = IsFalse (was_asked o)
+
+  -- The owner was asked for a load.
+  abbrev pub HasAsked : Begun K J L V a b c d e → Type 0
+  HasAsked (Known r) = Unit {0}
+  HasAsked (Load o) = IsTrue (was_asked o)
+
+module _ {K J L N T V : Type 0} {a b c d e : _} where
+  -- This node owns the key with these bytes.
+  abbrev pub OwnsKey : Group K J L N T V a b c d e → List ℕ → Type 0
+  OwnsKey group key = IsSomeAnd group.own (λ i. IsSomeAnd (slice_get group.ring i) (IsOwner group.ring key))
+
+  -- A node at another place of the ring owns it.
+  abbrev pub IsOthers : Group K J L N T V a b c d e → List ℕ → Type 0
+  IsOthers group key = (i : ℕ) × (group.own ≢ Some i) × IsSomeAnd (slice_get group.ring i) (IsOwner group.ring key)
+
+module _ {K J L N T V : Type 0} {a b c d e f : _} where
+  -- A load is owed without having asked by a node that owns the key alone, and after having asked where another node owns it.
+  abbrev pub AsksOwner : Group K J L N T V a b c d e → List ℕ → Begun K J L V a b c d f → Type 0
+  AsksOwner group key (Known r) = Unit {0}
+  AsksOwner group key (Load o) = (IsFalse (was_asked o) → OwnsKey group key) × (IsTrue (was_asked o) → IsOthers group key)
+
 module _ {K J L V : Type 0} {a : cache_key.Ghosts K V} {b c : _} {d : system.Ghosts J} where
-  -- the receipt knows an outcome of this key
+  -- The receipt knows an outcome of this key.
   abbrev pub KnowsOf : K → Receipt K J L V a b c d → Type 0
   KnowsOf key r = IfSome (receipt_known r) (λ x. (arc_value x.key ≡ key) ×
       OutcomeIs (d.stable (a.name_of key)) d.honest (a.meaning d.pictures key) (a.is_shaped d.pictures key) (d.gave (a.name_of key))
       x.outcome)
 
 module _ {K J L V : Type 0} {a : cache_key.Ghosts K V} {b c : _} {d : system.Ghosts J} {e : _} where
-  -- the same as `BegunFor`, of this key on the node of the call
+  -- `BegunFor` of this key on the node of the call.
   abbrev pub BegunOf : K → Begun K J L V a b c d e → Type 0
   BegunOf key = BegunFor key (d.stable (a.name_of key)) d.honest (a.meaning d.pictures key) (a.is_shaped d.pictures key)
       (d.gave (a.name_of key))
 
 module _ {L : Type 0} where
-  -- a call is counted once where it begins, and not at all where it doesn't
+  -- A call enters once.
   pub record CountsOnce {X E : Type 0} (old new : Pass L) (result : Result X E) : Type 0 where
+    -- It is counted where it begins.
     pub counted : OnOk result (new.gets ≡ old.gets + 1)
+    -- It isn't where it is refused.
     pub refused : OnErr result (new.gets ≡ old.gets)
+    -- The pass has as many parts as before.
     pub parts : new.parts ≡ old.parts
 
-  -- it is counted twice at most, where it enters a second time
+  -- A call enters twice at most.
   pub record CountsTwiceAtMost {X E : Type 0} (old new : Pass L) (result : Result X E) : Type 0 where
+    -- It is counted where it begins, and again where it enters again.
     pub counted : OnOk result ((old.gets + 1 ≤ new.gets) × (new.gets ≤ old.gets + 2))
+    -- It isn't where it is refused.
     pub refused : OnErr result (new.gets ≡ old.gets)
+    -- The pass has as many parts as before.
     pub parts : new.parts ≡ old.parts
 
--- what loads of a group pass
+-- What loads of a group pass.
 abbrev pub gate_of : {K J L N T V : Type 0} {a b c d e : _} → Group K J L N T V a b c d e → T
 gate_of group = group.gate

@@ -1,9 +1,9 @@
--- The numbers of the faults of links.
+-- Numbers of the faults of links.
 use Rattle.std.specs.Prelude.{ℕ}
 use Rattle.iiif_group.specs.declared.link.LinkFault.{LinkFault}
 use Rattle.iiif_group.specs.declared.link.LinkFault.TheVariants.{Wire, Refused, Value}
 
--- why a link gave no value
+-- The number of each fault.
 abbrev pub link_fault_number : LinkFault → ℕ
 link_fault_number (Wire fault) = 1
 link_fault_number (Refused status) = 2

@@ -1,42 +1,44 @@
-//! What a call begins with, and how a load ends.
+//! Beginning and end of a load, as a caller of a group holds them.
 
 ghost use Rattle.std.specs.Prelude.{◌≡◌};
 ghost use Rattle.std.specs.Option.{ForSome};
-ghost use Rattle.iiif_tables.specs.declared.table.Class.TheVariants.{Local, Wide};
-ghost use Rattle.iiif_singleflight.specs.Views.{lead_class, lead_key, lead_of};
+ghost use Rattle.iiif_tables.specs.declared.table.Class.TheVariants.{Local};
+ghost use Rattle.iiif_group.specs.Leads.{asked_lead};
+ghost use Rattle.iiif_group.specs.Views.{checked_class, checked_key};
 
+use crate::asked::Asked;
+use crate::checked::CheckedLead;
 use iiif_keys::{CacheKey, System};
 use iiif_outcome::Landed;
-use iiif_singleflight::{Looked, Receipt};
+use iiif_singleflight::Receipt;
 use std::sync::ledger::Ledger;
 
-/// The duty to load the value of a key, and to complete that. It can't be dropped. It leads the local flight of the key, and its
-/// wide one too where the owner was asked in vain: of both the leader has looked again.
-pub struct OpenLoad<K: CacheKey, J: System, L: Ledger> {
-    pub(crate) local: Looked<K, J, L>,
-    pub(crate) wide: Option<Looked<K, J, L>>,
-    pub ghost local_is: { lead_class (lead_of local) ≡ Local },
-    pub ghost wide_is: { ForSome wide (λ w. lead_class (lead_of w) ≡ Wide) },
-    pub ghost one_key: { ForSome wide (λ w. lead_key (lead_of w) ≡ lead_key (lead_of local)) },
+/// Duty to load a key's value and to complete the load. It can't be dropped. It leads the key's local flight; and its wide one too where
+/// another node owns the key, which gave no value when it was asked.
+pub struct Open<K: CacheKey, J: System, L: Ledger> {
+    pub(crate) local: CheckedLead<K, J, L>,
+    pub(crate) wide: Option<Asked<K, J, L>>,
+    pub ghost local_is: { checked_class local ≡ Local },
+    pub ghost one_key: { ForSome wide (λ w. checked_key (asked_lead w) ≡ checked_key local) },
 }
 
-/// What a call begins with.
+/// Answer to a call for a key.
 pub enum Begun<K: CacheKey, J: System, L: Ledger> {
-    /// What a flight of the key ended with.
+    /// The outcome of a flight of the key.
     Known(Receipt<K, J, L>),
-    /// Nobody has the value: it has to be loaded here.
-    Load(OpenLoad<K, J, L>),
+    /// A miss: the caller loads the value and completes the load.
+    Load(Open<K, J, L>),
 }
 
-/// How a load ended.
+/// End of a load.
 #[derive(Drop)]
 pub struct Completed<K: CacheKey, J: System, L: Ledger> {
-    /// Of the flight that the call entered first: the wide one where its owner was asked in vain, else the local one.
+    /// The receipt of the flight that the call entered first: of the wide one where the owner was asked, else of the local one.
     pub receipt: Receipt<K, J, L>,
-    /// Of the local flight, where the other is the wide one: it has the outcome of the load.
+    /// The receipt of the local flight where the other is of the wide one. It has the load's outcome.
     pub loaded: Option<Receipt<K, J, L>>,
-    /// Whether the first receipt has the outcome of the load. It has lack of memory where the value refused the wide flight a share.
+    /// Whether the first receipt has the load's outcome. Else the value refused the wide flight a share, and it has lack of memory.
     pub exact: bool,
-    /// The outcome back that a cell refused, because another of the same flight stands in it.
+    /// The outcome that a cell refused because another of the same flight stands in it.
     pub refused: Option<Box<Landed<K, J>>>,
 }

@@ -1,134 +1,150 @@
-//! The group.
+//! Group: what stands behind its lock, the nodes among which it stands, and its counts.
 
-ghost use Rattle.std.specs.Prelude.{◌≡◌, ℕ, ◌+◌, ◌<◌, ◌^◌, length, vec_len, IfErr, IfOk, IfSome};
+ghost use Rattle.std.specs.Prelude.{◌≡◌, ℕ, ◌+◌, ◌<◌, ◌^◌, length, vec_len, IfErr, IfOk, IfSome, IsTrue};
 ghost use Rattle.std.specs.List.{sum_by};
 ghost use Rattle.iiif_tables.specs.Flights.{IsBook};
 ghost use Rattle.iiif_keys.specs.Ledgers.{all_parts};
+ghost use Rattle.iiif_singleflight.specs.View.{limit_of};
 
-use crate::wait_lists::WaitLists;
 use iiif_keys::{CacheKey, PARTS, System};
 use iiif_pixel::NoMemory;
 use iiif_ring::Ring;
-use iiif_singleflight::{Home, Kept, Pass, Table, Whole};
+use iiif_singleflight::{FullLedger, GroupState, Kept, Limit, Pass, StripedCondvar, Table};
 use iiif_tables::Book;
 use std::alloc::Global;
 use std::num::NonZeroUsize;
 use std::sync::ledger::{Blank, Ledger};
 use std::sync::{Mutex, Wait};
 
-/// Where a node stands among others: the ring of all, its own place of it, if it has any, and a link for each place. The link of its own
+/// Nodes that share keys out: the ring of all, this node's own place of it, if it has any, and a link for each place. The link of the own
 /// place is never asked.
 #[derive(Drop)]
-pub struct Standing<N> {
+pub struct Cluster<N> {
     pub ring: Ring,
     pub own: Option<usize>,
     pub links: Vec<N>,
 }
 
-/// Values that are kept, and that are loaded once for all that ask for them at a time. A key of this node's own is loaded here; of
-/// another its owner is asked first.
+/// Cache of values that loads each key once for all callers in flight. A key of this node's own is loaded here; the owner of any other
+/// is asked first.
 #[derive(Drop)]
 pub struct Group<K: CacheKey, J: System, L: Ledger, N, T> {
-    pub(crate) home: Mutex<Home<K, J, L>>,
-    pub(crate) landed: WaitLists,
+    pub(crate) state: Mutex<GroupState<K, J, L>>,
+    pub(crate) sleepers: StripedCondvar,
     pub(crate) ring: Ring,
     pub(crate) own: Option<usize>,
     pub(crate) links: Vec<N>,
     pub(crate) gate: T,
     pub(crate) alloc: Global,
-    pub(crate) room: u64,
+    pub(crate) room: Limit<L>,
     pub ghost one_a_place: { vec_len links ≡ length ring },
 }
 
 impl<K: CacheKey, J: System, L: Ledger, N, T> Group<K, J, L, N, T> {
-    /// A group of a ledger that no other has, with room for so many bytes in all and so many entries a list, on a node that stands
-    /// there. The only error is lack of memory.
+    ghost use Rattle.iiif_group.specs.Beginning.{OwnsKey};
+
+    /// Creates a group of a ledger that no other has, on a node of this cluster, with room for so many bytes in all and so many entries a
+    /// list. The only error is lack of memory.
     pub fn new(
         alloc: Global,
         bytes: u64,
         entries: NonZeroUsize,
         gate: T,
-        standing: Standing<N>,
+        cluster: Cluster<N>,
         blank: Blank,
     ) -> Result<Self, NoMemory>
     where
         N: Drop,
         T: Drop,
-        requires links { vec_len standing.links ≡ length standing.ring }
-        requires own { IfSome standing.own (λ place. place < length standing.ring) }
+        requires links { vec_len cluster.links ≡ length cluster.ring }
+        requires own { IfSome cluster.own (λ place. place < length cluster.ring) }
         requires bytes { bytes < 2 ^ 63 }
         requires name { blank.name ≡ L.name }
         requires parts { blank.parts ≡ L.parts }
         requires all { L.parts ≡ all_parts }
-        ensures room { IfOk result (λ g. g.room ≡ bytes) }
+        // So much the table behind the lock may keep: its limit comes from that table alone.
+        ensures limit { IfOk result (λ g. limit_of g.room ≡ bytes) }
+        ensures cluster { IfOk result (λ g. (g.ring ≡ cluster.ring) × (g.own ≡ cluster.own) × (g.links ≡ cluster.links)) }
+        ensures gate { IfOk result (λ g. g.gate ≡ gate) }
     {
         let (table, pass) = Table::new(alloc, bytes, entries, PARTS, blank)?;
-        let Standing { ring, own, links } = standing;
+        let room = table.limit();
+        let Cluster { ring, own, links } = cluster;
         Ok(Group {
-            home: Mutex::new(Home::new(table, pass, Whole::new())),
-            landed: WaitLists::new(),
+            state: Mutex::new(GroupState::new(table, pass, FullLedger::new())),
+            sleepers: StripedCondvar::new(),
             ring,
             own,
             links,
             gate,
             alloc,
-            room: bytes,
+            room,
         })
     }
 
-    /// One of the 65,536 passes. None where all are out.
+    /// Takes one of the 65,536 passes. None where all are out.
     pub fn pass<R: Wait>(&self, rt: &R) -> Option<Pass<L>>
         ensures { IfSome result (λ p. (p.parts ≡ 1) × (p.gets ≡ 0)) }
     {
-        self.home.lock(rt).pass()
+        self.state.lock(rt).pass()
     }
 
-    /// Takes a pass back: its share and its parts are added to those at home, and nothing else changes, as `Home::give_back` says,
-    /// which is lent what stands behind the lock.
+    /// Takes a pass back: its share and its parts are added to those of the group, as `GroupState::give_back` says, which is lent what
+    /// stands behind the lock.
     pub fn give_back<R: Wait>(&self, rt: &R, pass: Pass<L>) {
-        self.home.lock(rt).give_back(pass)
+        self.state.lock(rt).give_back(pass)
     }
 
-    /// What was counted, and the share of it that was home, where all passes are handed in that aren't home. Else the passes back.
+    /// Gathers all passes that are out: returns the counts, and the calls of passes that came back before. Where a pass is missing, returns
+    /// the passes.
     pub fn gather<R: Wait>(&self, rt: &R, passes: Vec<Pass<L>>) -> Result<(Book, u64), Vec<Pass<L>>>
         ensures shares { IfOk result (λ r. r.0.gets ≡ r.1 + sum_by (λ p. p.gets) passes.items) }
-        ensures book { IfOk result (λ r. (aloft : ℕ) × IsBook aloft r.0) }
+        ensures book { IfOk result (λ r. (in_flight : ℕ) × IsBook in_flight r.0) }
         ensures back { IfErr result (λ ps. ps.items ≡ passes.items) }
     {
-        self.home.lock(rt).gather(passes)
+        self.state.lock(rt).gather(passes)
     }
 
-    /// What was counted so far.
+    /// Returns the counts.
     pub fn book<R: Wait>(&self, rt: &R) -> Book
-        ensures { (aloft : ℕ) × IsBook aloft result }
+        ensures { (in_flight : ℕ) × IsBook in_flight result }
     {
-        self.home.lock(rt).table.book()
+        self.state.lock(rt).table.book()
     }
 
-    /// How many bytes keys and values may take together.
+    /// Returns how many bytes keys and values may take together.
     pub fn room(&self) -> u64
-        ensures { result ≡ self.now.room }
+        ensures { result ≡ limit_of self.now.room }
     {
-        self.room
+        self.room.bytes()
     }
 
-    /// Whether a value is kept for the key now. It counts as no call.
+    /// Returns the gate of loads.
+    pub fn gate(&self) -> &T
+        ensures { result.now ≡ self.now.gate }
+    {
+        &self.gate
+    }
+
+    /// Returns whether a value is kept for the key. It counts as no call.
     pub fn holds<R: Wait>(&self, rt: &R, key: &K) -> bool {
-        self.home.lock(rt).table.holds(key)
+        self.state.lock(rt).table.holds(key)
     }
 
-    /// Whether this node owns the key, so that no other is asked for it. False where memory runs out.
-    pub fn owns(&self, key: &K) -> bool {
+    /// Returns whether this node owns the key, so that no other is asked for it. False where memory runs out.
+    pub fn owns(&self, key: &K) -> bool
+        ensures { IsTrue result → OwnsKey self.now (K.key_bytes key.now) }
+    {
         match key.bytes(self.alloc) {
-            Ok(bytes) => self.peer(&bytes).is_none(),
+            Ok(bytes) => self.owner_link(&bytes).is_none(),
             Err(_) => false,
         }
     }
 
-    /// How much is kept now.
+    /// Returns how much is kept.
     pub fn kept<R: Wait>(&self, rt: &R) -> Kept
         ensures { result.bytes < 2 ^ 63 }
     {
-        self.home.lock(rt).table.kept()
+        self.state.lock(rt).table.kept()
     }
 }

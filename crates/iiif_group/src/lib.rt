@@ -1,23 +1,24 @@
-//! A group of values: what is kept, and one load at a time for all that ask for a key, here or from the node that owns it. A table
-//! stands behind a lock, and nothing is loaded, asked or passed while the lock is held.
+//! Groups of values: a cache, one flight at a time for all callers of a key, and the nodes that share keys out.
+//!
+//! `lookup` tells how a key's value is looked up, loaded and completed. A table stands behind a lock, and nothing is loaded, asked or
+//! passed while the lock is held.
 #![tactic(auto)]
 
-pub use begun::{Begun, Completed, OpenLoad};
-pub use gate::{Gate, NoGate};
-pub use group::{Group, Standing};
-pub use iiif_singleflight::Kept;
+pub use begun::{Begun, Completed, Open};
+pub use gate::{Ending, Gate, NoGate, Note, Step};
+pub use group::{Cluster, Group};
+pub use iiif_singleflight::{Kept, StripedCondvar};
 pub use link::{Link, LinkFault, NoLink};
 pub use outcomes::{share, share_outcome, take_outcome};
-pub use wait_lists::WaitLists;
+pub use passes::{Passes, SumCalls, TileCalls};
 
-mod beginning;
+mod asked;
 pub mod begun;
-mod completing;
+mod checked;
 pub mod gate;
 pub mod group;
 pub mod link;
-mod met;
+mod lookup;
 pub mod outcomes;
-mod told;
-pub mod wait_lists;
+pub mod passes;
 mod waiting;

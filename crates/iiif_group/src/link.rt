@@ -1,13 +1,14 @@
-//! Ways to other nodes.
+//! Links to other nodes.
 
 ghost use Rattle.std.specs.Prelude.{◌≡◌, IfOk, IsTrue};
 ghost use Rattle.iiif_keys.specs.Shapes.{HasPicture};
 
+use iiif_fault::Numbered;
 use iiif_keys::{CacheKey, Shape, System};
 use iiif_peer_wire::WireFault;
 use thiserror::Error;
 
-/// Why a link gave no value.
+/// Fault of asking another node.
 #[derive(Clone, Copy, Debug, PartialEq, Eq, Error)]
 pub enum LinkFault {
     /// The ask wasn't written, or no reply of the key was read. Where there is no connection it is `Io`.
@@ -21,13 +22,12 @@ pub enum LinkFault {
     Value,
 }
 
-impl LinkFault {
+impl Numbered for LinkFault {
     ghost use Rattle.iiif_group.specs.Faults.{link_fault_number};
 
-    /// The number by which the fault is known outside, 1 to 3.
-    pub const fn number(self) -> u8
-        ensures { result ≡ link_fault_number self }
-    {
+    ghost number_of = { link_fault_number };
+
+    fn number(&self) -> u8 {
         match self {
             LinkFault::Wire(_) => 1,
             LinkFault::Refused(_) => 2,
@@ -36,17 +36,17 @@ impl LinkFault {
     }
 }
 
-/// A way to another node. R is the runtime over which it asks.
+/// Link to another node. R is the runtime over which it asks.
 pub trait Link<K: CacheKey, J: System, R> {
-    /// The value of a key that fits an image of this shape, from the node that owns it. It is the key's meaning where the other
-    /// nodes are honest; of its shape the caller makes sure.
+    /// Asks the node that owns a key for its value; the key fits an image of this shape. The value is the key's meaning where the
+    /// image's bytes are stable and other nodes are honest. The caller checks its shape.
     fn ask(&self, rt: &R, key: &K, shape: &Shape) -> Result<K::Value, LinkFault>
         requires known { HasPicture J.pictures (K.name_of key.now) shape.now }
         requires fits { K.fits_in shape.now key.now }
-        ensures { IsTrue J.honest → IfOk result (λ v. v ≡ K.meaning J.pictures key.now) };
+        ensures { J.stable (K.name_of key.now) → IsTrue J.honest → IfOk result (λ v. v ≡ K.meaning J.pictures key.now) };
 }
 
-/// A link to no node: it refuses with status 3, that no image has the name.
+/// Link to no node: it refuses with status 3, that no image has the name.
 #[derive(Clone, Copy, Drop)]
 pub struct NoLink;
 

@@ -1,10 +1,11 @@
-//! Outcomes that are shared.
+//! Shares of outcomes.
 
 ghost use Rattle.std.specs.Prelude.{◌≡◌};
 ghost use Rattle.std.specs.Result.{ForErr, ForOk};
 ghost use Rattle.std.specs.Arc.{arc_value};
 ghost use Rattle.iiif_keys.specs.declared.fault.Fault.{Fault};
-ghost use Rattle.iiif_group.specs.Beginning.{OutcomeFor, Shares};
+ghost use Rattle.iiif_outcome.specs.Outcomes.{OutcomeFor};
+ghost use Rattle.iiif_group.specs.Beginning.{Shares};
 ghost use Rattle.iiif_group.specs.Code.{IsOf};
 
 use iiif_keys::{CacheKey, Fault, System};
@@ -13,7 +14,8 @@ use std::alloc::Global;
 use std::sync::Arc;
 use std::sync::ledger::Ledger;
 
-/// A share of an outcome, and whether it is that: lack of memory where the value refuses another share. A fault is always told as it is.
+/// Shares an outcome, and returns whether the share is exact: it is lack of memory where the value refuses another share. A fault is always
+/// told as it is.
 pub fn share_outcome<V: Drop>(outcome: &Result<Arc<V>, Fault>) -> (Result<Arc<V>, Fault>, bool)
     ensures { Shares outcome.now result.0 result.1 }
 {
@@ -26,7 +28,7 @@ pub fn share_outcome<V: Drop>(outcome: &Result<Arc<V>, Fault>) -> (Result<Arc<V>
     }
 }
 
-/// A value that many may share, or lack of memory.
+/// Boxes a value that many may share. The only fault is lack of memory.
 pub fn share<V: Drop>(alloc: Global, value: V) -> Result<Arc<V>, Fault>
     ensures ok { ForOk result (λ v. arc_value v ≡ value) }
     ensures err { ForErr result (λ f. f ≡ Fault.NoMemory) }
@@ -37,7 +39,7 @@ pub fn share<V: Drop>(alloc: Global, value: V) -> Result<Arc<V>, Fault>
     }
 }
 
-/// A share of the outcome of a receipt of this key, or lack of memory.
+/// Takes a share of the outcome of a receipt of this key, or lack of memory.
 pub fn take_outcome<K: CacheKey, J: System, L: Ledger>(
     mut receipt: Receipt<K, J, L>,
     key: &K,

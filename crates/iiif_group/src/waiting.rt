@@ -1,96 +1,71 @@
-//! What a group does while it holds its lock, and waiting for flights.
+//! Waiting for a flight that a call joined: a look under the group's lock, then a sleep, in turn.
 
-ghost use Rattle.std.specs.Prelude.{◌≡◌, IfOk};
-ghost use Rattle.iiif_group.specs.Beginning.{CountsOnce};
-ghost use Rattle.iiif_group.specs.Code.{ComesOf, Ends, Lands, MeetsFor, OutcomeOf};
+ghost use Rattle.std.specs.Prelude.{◌≡◌};
+ghost use Rattle.iiif_group.specs.Code.{Finds};
+ghost use Rattle.iiif_group.specs.Views.{followed, slept};
 
-use crate::group::Group;
-use crate::met::Met;
-use iiif_keys::{CacheKey, Fault, System};
-use iiif_pixel::NoMemory;
-use iiif_singleflight::{Entered, Flight, Home, Landing, Looked, Pass, Receipt};
-use iiif_tables::{Class, Place};
+use iiif_keys::{CacheKey, System};
+use iiif_singleflight::{Flight, GroupState, Receipt, StripedCondvar};
 use std::sync::ledger::Ledger;
-use std::sync::{Arc, Wait};
+use std::sync::{MutexGuard, Wait};
 
-/// A call enters, and where it leads it looks again. Where that finds something, its flight lands with it.
-fn enter<K: CacheKey, J: System, L: Ledger>(
-    home: &mut Home<K, J, L>,
-    pass: &mut Pass<L>,
-    key: &K,
-    class: Class,
-) -> Result<Met<K, J, L>, NoMemory>
-    ensures met { IfOk result (MeetsFor class key.now) }
-    ensures counts { CountsOnce pass.old pass.new result }
-{
-    match home.table.enter(pass, key, class)? {
-        Entered::Hit(receipt) => Ok(Met::Hit(receipt)),
-        Entered::Joined(flight) => Ok(Met::Joined(flight)),
-        Entered::Lead(lead) => match home.table.again(lead) {
-            Ok(ending) => Ok(Met::Landed(home.table.land(ending))),
-            Err(looked) => Ok(Met::Leads(looked)),
-        },
-    }
+/// Follower of a flight: a call that joined it and may look whether it landed.
+#[derive(Drop)]
+pub struct Follower<K: CacheKey, J: System, L: Ledger> {
+    flight: Flight<K, J, L>,
 }
 
-/// A flight lands, and its value is kept by its place.
-fn land<K: CacheKey, J: System, L: Ledger>(
-    home: &mut Home<K, J, L>,
-    lead: Looked<K, J, L>,
-    outcome: Result<Arc<K::Value>, Fault>,
-    place: Place,
-) -> Landing<K, J, L>
-    requires { OutcomeOf lead outcome }
-    ensures { Lands home.old.table home.new.table lead outcome place result }
-{
-    home.table.land(lead.end(outcome, place))
+/// Follower that looked in vain. It has to sleep before it may look again, so nobody spins.
+#[derive(Drop)]
+pub struct Sleeper<K: CacheKey, J: System, L: Ledger> {
+    flight: Flight<K, J, L>,
 }
 
-impl<K: CacheKey, J: System, L: Ledger, N, T> Group<K, J, L, N, T> {
-    /// A call enters, and looks again where it leads, both while the lock is held once.
-    pub(crate) fn enter<R: Wait>(
-        &self,
-        rt: &R,
-        pass: &mut Pass<L>,
-        key: &K,
-        class: Class,
-    ) -> Result<Met<K, J, L>, NoMemory>
-        ensures met { IfOk result (MeetsFor class key.now) }
-        ensures counts { CountsOnce pass.old pass.new result }
+/// Result of a follower's look.
+pub enum Look<K: CacheKey, J: System, L: Ledger> {
+    /// The flight landed.
+    Landed(Receipt<K, J, L>),
+    /// The flight is still open.
+    Open(Sleeper<K, J, L>),
+}
+
+impl<K: CacheKey, J: System, L: Ledger> Follower<K, J, L> {
+    /// Creates a follower of a flight.
+    pub(crate) fn new(flight: Flight<K, J, L>) -> Follower<K, J, L>
+        ensures { followed result ≡ flight }
     {
-        let mut home = self.home.lock(rt);
-        enter(&mut *home, pass, key, class)
+        Follower { flight }
     }
 
-    /// A flight lands. Nobody is told yet.
-    pub(crate) fn land<R: Wait>(
-        &self,
-        rt: &R,
-        lead: Looked<K, J, L>,
-        outcome: Result<Arc<K::Value>, Fault>,
-        place: Place,
-    ) -> Landing<K, J, L>
-        requires { OutcomeOf lead outcome }
-        ensures { ComesOf lead outcome result }
-    {
-        let mut home = self.home.lock(rt);
-        land(&mut *home, lead, outcome, place)
+    /// Returns the flight's number.
+    pub(crate) fn ticket(&self) -> u64 {
+        self.flight.ticket()
     }
 
-    /// Waits until a flight has landed. The receipt is of this flight: of its ticket, and of the cell by which all learn who joined it.
-    pub(crate) fn wait<R: Wait>(&self, rt: &R, flight: Flight<K, J, L>) -> Receipt<K, J, L>
-        ensures { Ends flight result }
+    /// Looks whether the flight landed. The group's lock is held.
+    pub(crate) fn look(self) -> Look<K, J, L>
+        ensures { Finds (followed self) result }
     {
-        let landed = self.landed.of(flight.ticket());
-        let mut flight = flight;
-        let mut home = self.home.lock(rt);
-        for _ in rt.forever() {
-            match flight.learn() {
-                Ok(receipt) => return receipt,
-                Err(back) => flight = back,
-            }
-            home = landed.wait(rt, home);
+        let Follower { flight } = self;
+        match flight.learn() {
+            Ok(receipt) => Look::Landed(receipt),
+            Err(flight) => Look::Open(Sleeper { flight }),
         }
-        unreachable!()
+    }
+}
+
+impl<K: CacheKey, J: System, L: Ledger> Sleeper<K, J, L> {
+    /// Sleeps until flights of its stripe have landed. It lets go of the lock as it falls asleep, and takes it again.
+    pub(crate) fn sleep<'a, R: Wait>(
+        self,
+        rt: &R,
+        sleepers: &StripedCondvar,
+        state: MutexGuard<'a, GroupState<K, J, L>>,
+    ) -> (Follower<K, J, L>, MutexGuard<'a, GroupState<K, J, L>>)
+        ensures { followed result.0 ≡ slept self }
+    {
+        let Sleeper { flight } = self;
+        let state = sleepers.of(flight.ticket()).wait(rt, state);
+        (Follower { flight }, state)
     }
 }

@@ -17,9 +17,7 @@ use iiif_delivery::{Queued, Turns};
 use iiif_keys::laws::parts_are_exact;
 use iiif_keys::{Fault, SumKey, SumVal, System, TileKey, TileVal};
 use iiif_source::Source;
-use iiif_sum_group::{
-    Begun, Gate, Groups, Link, OpenLoad, Passes, SumCalls, TileCalls, take_outcome,
-};
+use iiif_sum_group::{Begun, Gate, Groups, Link, Open, Passes, SumCalls, TileCalls, take_outcome};
 use std::sync::ledger::Ledger;
 use std::sync::{Arc, Wait};
 use std::time::Clock;
@@ -120,7 +118,7 @@ impl<
     N: Link<TileKey, J, R> + Link<SumKey, J, R>,
     T: Gate<R>,
 > Items<SumKey, SumVal, Passes<J>, R> for GroupItems<'a, R, S, J, N, T> {
-    type Open = OpenLoad<SumKey, J, SumCalls<J>>;
+    type Open = Open<SumKey, J, SumCalls<J>>;
 
     ghost fits = { λ _ k. SumIsNamed J.pictures J.edge k };
 
@@ -137,7 +135,7 @@ impl<
         rt: &R,
         pass: &mut Passes<J>,
         key: &SumKey,
-    ) -> Result<Opened<SumKey, SumVal, OpenLoad<SumKey, J, SumCalls<J>>>, Fault> {
+    ) -> Result<Opened<SumKey, SumVal, Open<SumKey, J, SumCalls<J>>>, Fault> {
         // A law of parts.
         parts_are_exact();
         if key.level < SHARED {
@@ -157,7 +155,7 @@ impl<
     fn close(
         &self,
         rt: &R,
-        load: OpenLoad<SumKey, J, SumCalls<J>>,
+        load: Open<SumKey, J, SumCalls<J>>,
         key: &SumKey,
         parts: Vec<SumKey>,
         values: Result<Vec<Arc<SumVal>>, Fault>,

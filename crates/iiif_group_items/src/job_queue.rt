@@ -4,7 +4,7 @@ ghost use Rattle.std.specs.Prelude.{◌≡◌};
 
 use crate::order::Order;
 use iiif_delivery::Queued;
-use iiif_sum_group::WaitLists;
+use iiif_sum_group::StripedCondvar;
 use std::alloc::Global;
 use std::sync::{CondvarTimeouts, Mutex, Wait};
 use std::time::{Clock, Duration, Instant};
@@ -48,7 +48,7 @@ impl Line {
 #[derive(Drop)]
 struct Queue {
     line: Mutex<Line>,
-    lists: WaitLists,
+    lists: StripedCondvar,
 }
 
 impl Queue {
@@ -58,7 +58,7 @@ impl Queue {
                 order: Order::new(alloc, most),
                 changed: None,
             }),
-            lists: WaitLists::new(),
+            lists: StripedCondvar::new(),
         }
     }
 

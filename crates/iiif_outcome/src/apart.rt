@@ -1,4 +1,4 @@
-//! Two threads that learn of one flight.
+//! A law of two threads that learn of one flight.
 
 ghost use Rattle.std.specs.Prelude.{◌≡◌, IfOk, IfSome};
 ghost use Rattle.iiif_outcome.specs.Views.{flight_cell, flight_ticket, receipt_cell, receipt_known, receipt_ticket};
@@ -8,12 +8,18 @@ use crate::receipt::Receipt;
 use iiif_keys::{CacheKey, System};
 use std::thread::{Threads, join};
 
-/// What two threads learn of one flight is one outcome of one ticket, a fault too. None where one of them learns nothing yet.
-pub fn learn_apart<K: CacheKey + Send + Sync, J: System + Send + Sync, R: Threads + Sync>(
+/// States that two threads which learn of one flight learn one outcome of one ticket, a fault too. None where one of them learns
+/// nothing yet.
+pub fn learn_apart<
+    K: CacheKey + Send + Sync,
+    J: System + Send + Sync,
+    L: Send + Sync,
+    R: Threads + Sync,
+>(
     rt: &R,
-    one: Flight<K, J>,
-    other: Flight<K, J>,
-) -> Option<(Receipt<K, J>, Receipt<K, J>)>
+    one: Flight<K, J, L>,
+    other: Flight<K, J, L>,
+) -> Option<(Receipt<K, J, L>, Receipt<K, J, L>)>
 where
     K::Value: Send + Sync,
     requires { flight_cell one ≡ flight_cell other }
@@ -22,10 +28,10 @@ where
 {
     let (a, b) = join(
         rt,
-        move || -> Result<Receipt<K, J>, Flight<K, J>>
+        move || -> Result<Receipt<K, J, L>, Flight<K, J, L>>
             ensures { IfOk result (λ r. (receipt_cell r ≡ flight_cell one) × (receipt_ticket r ≡ flight_ticket one)) }
         { one.learn() },
-        move || -> Result<Receipt<K, J>, Flight<K, J>>
+        move || -> Result<Receipt<K, J, L>, Flight<K, J, L>>
             ensures { IfOk result (λ r. receipt_cell r ≡ flight_cell other) }
         { other.learn() },
     );

@@ -5,7 +5,7 @@ ghost use Rattle.std.specs.Arc.{arc_value};
 ghost use Rattle.iiif_keys.specs.Faults.{fault_number};
 ghost use Rattle.iiif_keys.specs.Shapes.{HasPicture};
 ghost use Rattle.iiif_outcome.specs.Outcomes.{is_given};
-ghost use Rattle.iiif_singleflight.specs.Views.{receipt_known};
+ghost use Rattle.iiif_outcome.specs.Views.{receipt_known};
 ghost use Rattle.iiif_peer_wire.specs.Messages.{value_limit};
 
 use iiif_fault::Numbered;

@@ -34,16 +34,16 @@ module _ (keep : Bool) (c : Class) (k : Key) (n : ℕ) (v : Option Value) (p : P
   land_by f e own = ap (λ (f : Maybe). landed_by f (tables.has_ticket n f)) e ∙ ap (landed_by (Some f)) own
 
   abbrev made : Cache Key Value → (Class → Key → Maybe) → ℕ → Book → Table
-  made cache flights aloft book = record { cache = cache; flights = flights; aloft = aloft; book = book }
+  made cache flights in_flight book = record { cache = cache; flights = flights; in_flight = in_flight; book = book }
 
   pub land_parts : (u : Table) (b : Book) → u.cache ≡ (if keep then tables.keeping key_eq entry_size p b.peer k n v t.cache else t.cache) →
-      u.flights ≡ tables.with_flight key_eq c k None t.flights → u.aloft + 1 ≡ t.aloft → u.book ≡ b →
+      u.flights ≡ tables.with_flight key_eq c k None t.flights → u.in_flight + 1 ≡ t.in_flight → u.book ≡ b →
       u ≡ tables.landing key_eq entry_size keep c k n v p b t
-  land_parts u b cache flights aloft book =
+  land_parts u b cache flights in_flight book =
       let ca = if keep then tables.keeping key_eq entry_size p b.peer k n v t.cache else t.cache in
       let fl = tables.with_flight key_eq c k None t.flights in
-      let less : u.aloft ≡ t.aloft - 1 = omega arith in
-      ap (λ (x : Cache Key Value). made x u.flights u.aloft u.book) cache
-      ∙ ap (λ (x : Class → Key → Maybe). made ca x u.aloft u.book) flights
+      let less : u.in_flight ≡ t.in_flight - 1 = omega arith in
+      ap (λ (x : Cache Key Value). made x u.flights u.in_flight u.book) cache
+      ∙ ap (λ (x : Class → Key → Maybe). made ca x u.in_flight u.book) flights
       ∙ ap (λ (x : ℕ). made ca fl x u.book) less
-      ∙ ap (λ (x : Book). made ca fl (t.aloft - 1) x) book
+      ∙ ap (λ (x : Book). made ca fl (t.in_flight - 1) x) book

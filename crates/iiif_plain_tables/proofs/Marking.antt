@@ -127,13 +127,13 @@ again_by c k n t f x e own kept =
     ∙ ap (λ (y : Option (Kept Value)). tables.looking key_eq c k n y t) kept
 
 abbrev made : Value → Cache Key Value → (Class → Key → Maybe) → ℕ → Book → Option Value × Table
-made v cache flights aloft book = (Some v, record { cache = cache; flights = flights; aloft = aloft; book = book })
+made v cache flights in_flight book = (Some v, record { cache = cache; flights = flights; in_flight = in_flight; book = book })
 
 -- what was found, and the table after it, by its parts
-pub found_by : (v : Value) (u : Table) (cache : Cache Key Value) (flights : Class → Key → Maybe) (aloft : ℕ) (book : Book) →
-    u.cache ≡ cache → u.flights ≡ flights → u.aloft ≡ aloft → u.book ≡ book → made v cache flights aloft book ≡ (Some v, u)
-found_by v u cache flights aloft book a b c d =
-    ap (λ (x : Cache Key Value). made v x flights aloft book) (sym a)
-    ∙ ap (λ (x : Class → Key → Maybe). made v u.cache x aloft book) (sym b)
+pub found_by : (v : Value) (u : Table) (cache : Cache Key Value) (flights : Class → Key → Maybe) (in_flight : ℕ) (book : Book) →
+    u.cache ≡ cache → u.flights ≡ flights → u.in_flight ≡ in_flight → u.book ≡ book → made v cache flights in_flight book ≡ (Some v, u)
+found_by v u cache flights in_flight book a b c d =
+    ap (λ (x : Cache Key Value). made v x flights in_flight book) (sym a)
+    ∙ ap (λ (x : Class → Key → Maybe). made v u.cache x in_flight book) (sym b)
     ∙ ap (λ (x : ℕ). made v u.cache u.flights x book) (sym c)
-    ∙ ap (λ (x : Book). made v u.cache u.flights u.aloft x) (sym d)
+    ∙ ap (λ (x : Book). made v u.cache u.flights u.in_flight x) (sym d)

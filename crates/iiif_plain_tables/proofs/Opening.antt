@@ -146,7 +146,7 @@ enter_met c k t x y p q =
     ∙ ap (λ (z : Maybe). (tables.met x z (t.book.leads + 1), tables.entering key_eq c k (tables.met x z (t.book.leads + 1)) t)) q
 
 abbrev table_made : Cache Key Value → (Class → Key → Maybe) → ℕ → Book → Table
-table_made ca fl n b = record { cache = ca; flights = fl; aloft = n; book = b }
+table_made ca fl n b = record { cache = ca; flights = fl; in_flight = n; book = b }
 
 abbrev row : Class → ℕ → Key → OpenFlight
 row c n k = record { key = k; class = c; ticket = n; found = false }

@@ -12,7 +12,7 @@ use Rattle.iiif_plain_tables.specs.Rows.{cache_of, kept_of}
 use Rattle.iiif_plain_tables.specs.Open.{flight_in}
 
 abbrev pub table_of : PlainTable → Table
-table_of t = record { cache = cache_of t.cache; flights = flight_in t.flights.items; aloft = length t.flights.items; book = t.book }
+table_of t = record { cache = cache_of t.cache; flights = flight_in t.flights.items; in_flight = length t.flights.items; book = t.book }
 
 abbrev pub entered_of : Entered → tables.Entered Value
 entered_of (code_entered.Hit f) = tables.hit (kept_of f)

@@ -225,7 +225,7 @@ impl PlainTable {
         ensures flights { (f : OpenFlight) → slice_get self.old.flights.items place ≡ Some f
             → (table_of self.new).flights ≡ with_flight key_eq class key.now (Some (record { ticket = f.ticket; found = true }))
             (table_of self.old).flights }
-        ensures aloft { (table_of self.new).aloft ≡ (table_of self.old).aloft }
+        ensures in_flight { (table_of self.new).in_flight ≡ (table_of self.old).in_flight }
         ensures rest { ((table_of self.new).cache ≡ (table_of self.old).cache) × ((table_of self.new).book ≡ (table_of self.old).book) }
     {
         self.flights[place].found = true;
@@ -265,7 +265,7 @@ impl PlainTable {
     fn close(&mut self, place: usize, class: Class, key: &Key)
         requires { position (is_named class key.now) self.old.flights.items ≡ Some place }
         ensures flights { (table_of self.new).flights ≡ with_flight key_eq class key.now None (table_of self.old).flights }
-        ensures aloft { (table_of self.new).aloft + 1 ≡ (table_of self.old).aloft }
+        ensures in_flight { (table_of self.new).in_flight + 1 ≡ (table_of self.old).in_flight }
         ensures rest { ((table_of self.new).cache ≡ (table_of self.old).cache) × ((table_of self.new).book ≡ (table_of self.old).book) }
     {
         let _gone = self.flights.remove(place);

@@ -6,7 +6,7 @@ pub use iiif_delivery::Queued;
 pub use iiif_group_items::JobQueue;
 pub use iiif_images::{AddFault, Catalogue};
 pub use iiif_keys::{Fault, is_name};
-pub use iiif_sum_group::{Gate, Kept, Link, NoGate, NoLink, Passes, SumCalls, TileCalls};
+pub use iiif_sum_group::{Gate, Kept, Link, NoGate, NoLink, Note, Passes, SumCalls, TileCalls};
 pub use node::Node;
 pub use serving::Serving;
 pub use stock::Stock;

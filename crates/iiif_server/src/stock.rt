@@ -6,7 +6,7 @@ ghost use Rattle.iiif_server.specs.Stocks.{HasStock, HasStocks, IsStock};
 use iiif_keys::{CacheKey, System};
 use iiif_pixel::NoMemory;
 use iiif_ring::Ring;
-use iiif_sum_group::{Group, NoGate, NoLink, Standing};
+use iiif_sum_group::{Cluster, Group, NoGate, NoLink};
 use std::alloc::{AllocError, Global};
 use std::num::NonZeroUsize;
 use std::sync::ledger::{Blank, Ledger};
@@ -42,7 +42,7 @@ impl<N: Drop, T: Drop> Stock<N, T> {
     ) -> Result<Group<K, J, L, N, T>, NoMemory>
         requires { IsStock L.name L.parts self }
     {
-        let standing = Standing {
+        let cluster = Cluster {
             ring: self.ring,
             own: self.own,
             links: self.links,
@@ -52,7 +52,7 @@ impl<N: Drop, T: Drop> Stock<N, T> {
             self.bytes,
             self.entries,
             self.gate,
-            standing,
+            cluster,
             self.blank,
         )
     }

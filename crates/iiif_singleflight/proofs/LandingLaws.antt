@@ -12,7 +12,8 @@ use Rattle.iiif_outcome.specs.Outcomes.{value_of}
 use Rattle.iiif_singleflight.specs.Counting.{counted_as}
 
 pub same_tables : {K V : Type 0} {c d : Cache K V} {f h : Class → K → Option Flight} {m n : ℕ} {a b : Book} → c ≡ d → f ≡ h → m ≡ n → a ≡ b
-    → ◌≡◌ {A = Table K V} (record { cache = c; flights = f; aloft = m; book = a }) (record { cache = d; flights = h; aloft = n; book = b })
+    → ◌≡◌ {A = Table K V} (record { cache = c; flights = f; in_flight = m; book = a })
+    (record { cache = d; flights = h; in_flight = n; book = b })
 same_tables p q r s = cc
 
 pub counted_is : {V A E : Type 0} (found : Bool) (o : Result (Arc V A) E) (place : Place) (b : Book) →

@@ -54,7 +54,8 @@ some_of (Some x) h = (x, refl)
 
 -- tables with equal parts
 pub same_table : {K V : Type 0} {c d : Cache K V} {f h : Class → K → Option Flight} {m n : ℕ} (b : Book) → c ≡ d → f ≡ h → m ≡ n
-    → ◌≡◌ {A = Table K V} (record { cache = c; flights = f; aloft = m; book = b }) (record { cache = d; flights = h; aloft = n; book = b })
+    → ◌≡◌ {A = Table K V} (record { cache = c; flights = f; in_flight = m; book = b })
+    (record { cache = d; flights = h; in_flight = n; book = b })
 same_table b p q r = cc
 
 -- an open flight with a ticket

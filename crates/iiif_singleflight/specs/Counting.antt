@@ -1,4 +1,5 @@
--- The counts after a flight has landed, by what is at hand then.
+-- The counts after a flight has landed.
+--   counted_as   by whether it was found, whether it is a fault, and its place
 use Rattle.std.specs.Prelude.{◌+◌, Bool, true, false}
 use Rattle.iiif_tables.specs.declared.table.Book.{Book}
 use Rattle.iiif_tables.specs.declared.table.Place.{Place}

@@ -1,4 +1,6 @@
--- The list of a cache to which a value goes.
+-- The list of a cache for a value that lands.
+--   side_of    the side of a cache that a list is
+--   list_for   the list for a place
 use Rattle.std.specs.Prelude.{◌==◌, ◌%◌, ℕ, Option, Some, None, if◌then◌else◌}
 use Rattle.iiif_tables.specs.Cache.{Side, main_side, hot_side}
 use Rattle.iiif_tables.specs.declared.table.Place.{Place}

@@ -1,7 +1,7 @@
+pub mod Completions
 pub mod Counting
+pub mod Entering
 pub mod Held
 pub mod Keeping
-pub mod Meeting
 pub mod Seen
 pub mod View
-pub mod Views

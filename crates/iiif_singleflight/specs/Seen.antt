@@ -1,4 +1,7 @@
--- What tables see of an open flight.
+-- Open flights as tables see them.
+--   Seen, the_flight, the_cell   a flight with its cell, and its parts
+--   with_at, each_of             a function of classes and keys changed at one place, or at each
+--   found_of                     the flight whose leader found the value
 use Rattle.std.specs.Prelude.{ℕ, Bool, true, Option, option_map, if◌then◌else◌}
 use Rattle.std.specs.Map.{update}
 use Rattle.iiif_tables.specs.Flights.{Flight, same_class}

@@ -1,17 +1,14 @@
-//! What a call meets that enters.
+//! Answers to calls that enter a table.
 
-use crate::flight::Flight;
-use crate::lead::Lead;
-use crate::receipt::Receipt;
 use iiif_keys::{CacheKey, System};
-use std::sync::ledger::Ledger;
+use iiif_outcome::{Flight, Lead, Receipt};
 
-/// What a call that enters meets.
-pub enum Entered<K: CacheKey, J: System, L: Ledger> {
-    /// A kept value: the receipt of the flight that landed with it.
+/// Answer to a call that enters.
+pub enum Entered<K: CacheKey, J: System, L> {
+    /// A hit: the receipt of the flight that landed with the value.
     Hit(Receipt<K, J, L>),
-    /// An open flight, of which it will learn.
+    /// An open flight, which the call joined.
     Joined(Flight<K, J, L>),
-    /// Neither: it leads a new flight, and has to land it.
+    /// Neither: the call leads a new flight, and must land it.
     Lead(Lead<K, J, L>),
 }

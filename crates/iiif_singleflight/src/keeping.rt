@@ -1,6 +1,6 @@
-//! What a landing counts and keeps.
+//! Counting a flight that lands, and keeping its value.
 
-ghost use Rattle.std.specs.Prelude.{◌≡◌, ◌+◌, ◌<◌, ◌≤◌, Some, IfSome, IsFalse, IsSomeAnd, IsTrue};
+ghost use Rattle.std.specs.Prelude.{◌≡◌, ◌+◌, ◌<◌, ◌≤◌, Some, IfSome, IsFalse, IsSomeAnd, IsTrue, is_some};
 ghost use Rattle.std.specs.Option.{ForSome};
 ghost use Rattle.std.specs.Arc.{arc_value};
 ghost use Rattle.iiif_tables.specs.Flights.{storing};
@@ -10,13 +10,13 @@ ghost use Rattle.iiif_byte_cache.specs.View.{cache_of};
 ghost use Rattle.iiif_singleflight.specs.Counting.{counted_as};
 ghost use Rattle.iiif_singleflight.specs.Keeping.{list_for};
 
-use iiif_byte_cache::ByteCache;
+use iiif_byte_cache::{ByteCache, Evicted};
 use iiif_keys::{CacheKey, Fault, System};
 use iiif_outcome::{Entry, Receipt};
 use iiif_tables::{Book, Place};
 use std::sync::Arc;
 
-/// A share of the value of an outcome. None where there is none, or it refuses another share.
+/// Shares the value of an outcome. None where it has none, or where the value refuses another share.
 pub(crate) fn share_of<V: Drop>(outcome: &Result<Arc<V>, Fault>) -> Option<Arc<V>>
     ensures { IfSome result (λ v. value_of outcome.now ≡ Some (arc_value v)) }
 {
@@ -29,7 +29,7 @@ pub(crate) fn share_of<V: Drop>(outcome: &Result<Arc<V>, Fault>) -> Option<Arc<V
     }
 }
 
-/// Counts a flight that has landed.
+/// Counts a flight that lands.
 pub(crate) fn count(book: &mut Book, found: bool, fault: bool, place: Place)
     requires landed { book.old.landed ≡ book.old.again_hits + book.old.loads }
     requires faults { book.old.faults ≤ book.old.loads }
@@ -55,23 +55,23 @@ pub(crate) fn count(book: &mut Book, found: bool, fault: bool, place: Place)
     }
 }
 
-/// A value that arrives: by which place it is kept, and how many have come from a peer so far.
+/// Arrival of a value: the place by which it is kept, and how many values came from peers so far.
 #[derive(Clone, Copy)]
 pub(crate) struct Arrival {
     pub place: Place,
     pub peer: u64,
 }
 
-/// A list of a cache.
+/// List of a cache.
 #[derive(Clone, Copy)]
 pub enum List {
-    /// Of what was loaded here.
+    /// Values that this node loaded.
     Main,
-    /// Of what other nodes have.
+    /// Values of other nodes.
     Hot,
 }
 
-/// The list to which an arrival goes: main for a load, hot for each tenth that came from a peer. None for any other.
+/// Returns the list for an arrival: main for a load, hot for each tenth that came from a peer. None for any other.
 fn list_of(arrival: Arrival) -> Option<List>
     ensures { result ≡ list_for arrival.place arrival.peer }
 {
@@ -82,38 +82,30 @@ fn list_of(arrival: Arrival) -> Option<List>
     }
 }
 
-/// Puts a value that arrives into its list, with the receipt of its flight. False where nothing is put: there is no value or no list
-/// for it, memory runs out, or the value is too big.
-pub(crate) fn keep<K: CacheKey, J: System>(
-    cache: &mut ByteCache<K, J>,
+/// Puts a value that arrives into its list, with the receipt of its flight, and hands out the entries that leave. None where nothing is
+/// put: there is no value or no list for it, memory runs out, or the value is too big.
+pub(crate) fn keep<K: CacheKey, J: System, L>(
+    cache: &mut ByteCache<K, J, L>,
     arrival: Arrival,
     key: &K,
     value: Option<Arc<K::Value>>,
-    receipt: &mut Receipt<K, J>,
-) -> bool
+    receipt: &mut Receipt<K, J, L>,
+) -> Option<Evicted<K, Entry<K, J, L>>>
     requires value { IfSome value (λ v. ForSome (receipt_known receipt.old) (λ x. value_of x.outcome ≡ Some (arc_value v))) }
     requires of_key { IfSome value (λ v. ForSome (receipt_known receipt.old) (λ x. arc_value x.key ≡ key.now)) }
-    ensures kept { IsTrue result → IsSomeAnd value
+    ensures kept { IsTrue (is_some result) → IsSomeAnd value
         (λ v. cache_of cache.new ≡ storing K.eq (entry_size K.key_bytes K.val_bytes) arrival.place arrival.peer key.now
         (record { value = arc_value v; ticket = receipt_ticket receipt.old }) (cache_of cache.old)) }
-    ensures unkept { IsFalse result → cache_of cache.new ≡ cache_of cache.old }
+    ensures unkept { IsFalse (is_some result) → cache_of cache.new ≡ cache_of cache.old }
     ensures same { SameReceipt receipt.old receipt.new }
 {
-    let Some(value) = value else {
-        return false;
-    };
-    let Some(list) = list_of(arrival) else {
-        return false;
-    };
-    let Ok(key) = key.copy() else {
-        return false;
-    };
-    let Ok(receipt) = receipt.share() else {
-        return false;
-    };
+    let value = value?;
+    let list = list_of(arrival)?;
+    let key = key.copy().ok()?;
+    let receipt = receipt.share().ok()?;
     let entry = Entry::new(value, receipt);
     match list {
-        List::Main => cache.put_main(key, entry).is_ok(),
-        List::Hot => cache.put_hot(key, entry).is_ok(),
+        List::Main => cache.put_main(key, entry).ok(),
+        List::Hot => cache.put_hot(key, entry).ok(),
     }
 }

@@ -1,42 +1,27 @@
-//! Shared flights: all who ask for one key at a time share one load. The table of a group, which stands behind its lock, has what
-//! is kept, the flights that are open, and what was counted.
+//! Single flight: callers that ask for one key at a time share one load. A group's table has its cache, the open flights and the
+//! counts. It is plain data behind the group's lock, and its calls take no lock and wait for nobody.
 #![tactic(auto)]
 
-pub use ending::Ending;
+pub use agreeing::who_joins_learns_what_lands;
+pub use completion::Completion;
 pub use entered::Entered;
-pub use flight::Flight;
-pub use home::Home;
-// What a caller of a table names beside it.
+pub use full_ledger::FullLedger;
+pub use group_state::GroupState;
+// The words of a table's calls, from the crates that define them.
+pub use iiif_outcome::{Flight, Landed, Lead, Receipt};
 pub use iiif_tables::{Book, Class, Place};
-pub use landed::Landing;
-pub use lead::Lead;
-pub use looked::Looked;
 pub use pass::Pass;
-pub use receipt::Receipt;
-pub use table::{Kept, Table};
-pub use whole::Whole;
+pub use striped_condvar::{StripedCondvar, Woken};
+pub use table::{Kept, Limit, Table};
 
-mod calls;
-mod down;
-pub mod ending;
+pub mod agreeing;
+pub mod completion;
 pub mod entered;
-mod entering;
-pub mod flight;
-mod holding;
-pub mod home;
+pub mod flights_of_class;
+pub mod full_ledger;
+pub mod group_state;
 mod keeping;
-pub mod landed;
-mod landing;
-pub mod lead;
-pub mod looked;
-mod looking;
-mod making;
-mod met;
-pub mod named;
-mod naming;
-mod opening;
-pub mod opens;
+pub mod open_flights;
 pub mod pass;
-pub mod receipt;
+pub mod striped_condvar;
 pub mod table;
-pub mod whole;

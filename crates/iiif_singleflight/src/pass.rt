@@ -1,13 +1,15 @@
-//! A caller's share of what is counted.
+//! Passes: the callers' shares of what a table counts.
 
 ghost use Rattle.std.specs.Prelude.{◌≡◌, ◌+◌, ◌-◌, ◌^◌, ◌<◌};
 
 use std::sync::ledger::{Book as Tally, Ledger, Share};
 
-/// A caller's share of the calls that a table counts, of the ledger of that table and no other.
+/// Caller's share of the calls that a table counts, of the ledger of that table and no other.
 #[derive(Drop)]
 pub struct Pass<L: Ledger> {
     pub(crate) share: Share<L>,
+    /// Which pass of the group it is, counted from 1. 0 is the pass that stays home.
+    pub id: u64,
     /// How many of the ledger's parts it has.
     pub parts: u64,
     /// How many calls it entered.
@@ -18,7 +20,7 @@ pub struct Pass<L: Ledger> {
 }
 
 impl<L: Ledger> Pass<L> {
-    /// One call more.
+    /// Counts one more call.
     pub(crate) fn count(&mut self, tally: &mut Tally<L>)
         requires { tally.old.total < 2 ^ 64 - 1 }
         ensures gets { self.new.gets ≡ self.old.gets + 1 }

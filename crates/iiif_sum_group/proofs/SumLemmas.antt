@@ -242,3 +242,8 @@ load_fault shows edge name own fits_in gave (Source g) names given = (names, giv
 load_fault shows edge name own fits_in gave NoMemory names given = names
 load_fault shows edge name own fits_in gave UnknownName names given = absurd (let e = given in cc)
 load_fault shows edge name own fits_in gave BadKey names given = absurd (let e = given in cc)
+
+-- the fault that a `?` passes on
+pub fault_passed_on : {U : Type 0} (P : Fault → Type 0) (r : Result U Fault) (f : Fault) → P f →
+    (y : Fault) × (r ≡ Err y) × (y ≡ f) → IfErr r P
+fault_passed_on {U} P r f h is = subst (λ (x : Result U Fault). IfErr x P) (sym is.1) (subst P (sym is.2) h)

@@ -11,9 +11,9 @@ use Rattle.iiif_keys.specs.declared.keys.SumKey.{SumKey}
 use Rattle.iiif_keys.specs.declared.system.System as system
 use Rattle.iiif_keys.specs.declared.values.SumVal.{SumVal}
 use Rattle.iiif_outcome.specs.Outcomes.{is_given}
-use Rattle.iiif_singleflight.specs.declared.receipt.Receipt.{Receipt}
+use Rattle.iiif_outcome.specs.declared.receipt.Receipt.{Receipt}
 use Rattle.iiif_sum_group.specs.Outcomes.{KnowsSums}
-use Rattle.iiif_sum_group.specs.declared.passes.Passes.{Passes}
+use Rattle.iiif_group.specs.declared.passes.Passes.{Passes}
 use Rattle.iiif_sum_group.specs.declared.unmade.Unmade.{Unmade}
 use Rattle.iiif_sum_group.specs.declared.unmade.Unmade.TheVariants.{Part, Total}
 

@@ -7,12 +7,12 @@ use Rattle.iiif_keys.specs.declared.fault.Fault.{Fault}
 use Rattle.iiif_keys.specs.declared.keys.SumKey.{SumKey}
 use Rattle.iiif_keys.specs.declared.system.System as system
 use Rattle.iiif_keys.specs.declared.values.SumVal.{SumVal}
-use Rattle.iiif_singleflight.specs.declared.receipt.Receipt.{Receipt}
+use Rattle.iiif_outcome.specs.declared.receipt.Receipt.{Receipt}
 use Rattle.iiif_group.specs.Beginning.{BegunFor}
 use Rattle.iiif_group.specs.declared.begun.Begun.{Begun}
 use Rattle.iiif_images.specs.Faults.{IsLoadFault}
 use Rattle.iiif_sum_group.specs.Outcomes.{IsRefused, KnowsSums, NamesBlock}
-use Rattle.iiif_sum_group.specs.declared.passes.Passes.{Passes}
+use Rattle.iiif_group.specs.declared.passes.Passes.{Passes}
 
 module _ {J : Type 0} where
   -- The sums of a key were loaded, or why not. What they are made of is counted as it was asked for.

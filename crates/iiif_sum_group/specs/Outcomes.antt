@@ -13,8 +13,8 @@ use Rattle.iiif_keys.specs.declared.keys.SumKey.{SumKey}
 use Rattle.iiif_keys.specs.declared.system.System as system
 use Rattle.iiif_keys.specs.declared.values.SumVal.{SumVal}
 use Rattle.iiif_outcome.specs.Outcomes.{is_given}
-use Rattle.iiif_singleflight.specs.Views.{receipt_known}
-use Rattle.iiif_singleflight.specs.declared.receipt.Receipt.{Receipt}
+use Rattle.iiif_outcome.specs.Views.{receipt_known}
+use Rattle.iiif_outcome.specs.declared.receipt.Receipt.{Receipt}
 use Rattle.iiif_group.specs.Beginning.{OutcomeIs}
 use Rattle.iiif_group.specs.Ending.{IsExact, TellsFault}
 use Rattle.iiif_group.specs.declared.begun.Completed.{Completed}

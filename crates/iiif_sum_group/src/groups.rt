@@ -6,13 +6,12 @@ ghost use Rattle.iiif_sum_group.specs.Calls.{Gets, Loads};
 ghost use Rattle.iiif_sum_group.specs.Code.{Copies};
 ghost use Rattle.iiif_sum_group.specs.Views.{items_served};
 
-use crate::passes::{Passes, SumCalls};
 use iiif_area::Sums;
-use iiif_group::{Begun, Gate, Group, Link};
+use iiif_group::{Begun, Gate, Group, Link, Passes, SumCalls, TileCalls};
 use iiif_keys::{Fault, SumKey, SumVal, System, TileKey};
 use iiif_singleflight::Receipt;
 use iiif_source::Source;
-use iiif_tile_group::{TileCalls, Tiles};
+use iiif_tile_group::Tiles;
 use std::alloc::Global;
 use std::sync::Wait;
 use std::sync::ledger::Ledger;
@@ -112,7 +111,7 @@ impl<
         ensures { Gets key.now passes.old passes.new result }
     {
         let (_entry, shape) = self.tiles.images().image_of(key)?;
-        match self.sums.begin_local(rt, &mut passes.sum, key) {
+        match self.sums.begin_local(rt, &mut passes.sum, key, &shape) {
             Ok(Begun::Known(receipt)) => Ok(receipt),
             Ok(Begun::Load(load)) => {
                 let made = self.make(rt, passes, &shape, key);

@@ -4,13 +4,12 @@
 pub use groups::Groups;
 // What callers of the groups need of a group and of tiles.
 pub use iiif_group::{
-    Begun, Gate, Group, Kept, Link, NoGate, NoLink, OpenLoad, Standing, WaitLists, take_outcome,
+    Begun, Cluster, Gate, Group, Kept, Link, NoGate, NoLink, Note, Open, Passes, StripedCondvar,
+    SumCalls, TileCalls, take_outcome,
 };
-pub use iiif_tile_group::{TileCalls, Tiles};
-pub use passes::{Passes, SumCalls};
+pub use iiif_tile_group::Tiles;
 
 pub mod groups;
 mod making;
 pub mod parted;
-pub mod passes;
 mod unmade;

@@ -5,6 +5,7 @@ ghost use Rattle.iiif_keys.specs.Names.{named, IsSource};
 ghost use Rattle.iiif_keys.specs.Shapes.{HasPicture};
 ghost use Rattle.iiif_outcome.specs.Outcomes.{is_given};
 ghost use Rattle.iiif_group.specs.Beginning.{open_key};
+ghost use Rattle.iiif_group.specs.Ending.{IsExact, TellsFault};
 ghost use Rattle.iiif_sum_group.specs.Asking.{AskedAll, Asks, HasAsManyParts, Makes, MakesOfParts, MakesOne, Rises};
 ghost use Rattle.iiif_sum_group.specs.declared.unmade.Unmade.TheVariants.{Total};
 ghost use Rattle.iiif_sum_group.specs.Code.{Boxes, CanTotal, FitsShape, HasQuarters, HasTile, HasValues, Keeps, Totals};
@@ -12,9 +13,8 @@ ghost use Rattle.iiif_sum_group.specs.Outcomes.{EndsWith, KnowsSums};
 ghost use Rattle.iiif_sum_group.specs.Values.{AreValuesOf, MayBeAsked};
 
 use crate::groups::Groups;
-use crate::passes::{Passes, SumCalls};
 use crate::unmade::Unmade;
-use iiif_group::{Begun, Gate, Link, OpenLoad, share, take_outcome};
+use iiif_group::{Begun, Completed, Gate, Link, Open, Passes, SumCalls, share, take_outcome};
 use iiif_keys::laws::{fitting_keys_have_parts, parts_are_exact, parts_make_the_meaning};
 use iiif_keys::{CacheKey, Fault, Parts, Shape, SumKey, SumVal, System, TileKey, parts};
 use iiif_singleflight::Receipt;
@@ -114,11 +114,28 @@ impl<
         }
     }
 
-    /// Ends a load with what was made, for all that wait.
+    /// Ends a load of a key with what was made, for all that wait.
+    pub(crate) fn complete(
+        &self,
+        rt: &R,
+        load: Open<SumKey, J, SumCalls<J>>,
+        key: &SumKey,
+        made: Result<Arc<SumVal>, Fault>,
+    ) -> Completed<SumKey, J, SumCalls<J>>
+        requires key { open_key load ≡ key.now }
+        requires made { EndsWith J.System key.now made }
+        ensures known { KnowsSums key.now result.receipt }
+        ensures exact { IsExact made result }
+        ensures fault { TellsFault made result }
+    {
+        self.sums.complete(rt, load, made)
+    }
+
+    /// Ends a load of a key likewise, and returns the receipt of the flight that the call entered first.
     pub(crate) fn end(
         &self,
         rt: &R,
-        load: OpenLoad<SumKey, J, SumCalls<J>>,
+        load: Open<SumKey, J, SumCalls<J>>,
         key: &SumKey,
         made: Result<Arc<SumVal>, Fault>,
     ) -> Receipt<SumKey, J, SumCalls<J>>
@@ -126,7 +143,7 @@ impl<
         requires made { EndsWith J.System key.now made }
         ensures { KnowsSums key.now result }
     {
-        self.sums.complete(rt, load, key, made).receipt
+        self.complete(rt, load, key, made).receipt
     }
 
     /// The value of a key that fits, made of its parts: of one tile, or of sums of the level below.

@@ -9,8 +9,7 @@ ghost use Rattle.iiif_sum_group.specs.Values.{MayBeSums};
 
 use crate::groups::Groups;
 use crate::making::whole;
-use crate::passes::{Passes, SumCalls};
-use iiif_group::{Begun, Completed, Gate, Link, OpenLoad};
+use iiif_group::{Begun, Completed, Gate, Link, Open, Passes, SumCalls};
 use iiif_keys::laws::{fitting_keys_have_parts, parts_are_exact};
 use iiif_keys::{CacheKey, Fault, Parts, SumKey, SumVal, System, TileKey, parts};
 use iiif_source::Source;
@@ -76,7 +75,7 @@ impl<
     pub fn finish(
         &self,
         rt: &R,
-        load: OpenLoad<SumKey, J, SumCalls<J>>,
+        load: Open<SumKey, J, SumCalls<J>>,
         key: &SumKey,
         values: Result<Vec<Arc<SumVal>>, Fault>,
     ) -> Completed<SumKey, J, SumCalls<J>>
@@ -85,8 +84,8 @@ impl<
         ensures { TellsAll key.now values result }
     {
         match values {
-            Ok(values) => self.sums.complete(rt, load, key, self.merged(key, values)),
-            Err(fault) => self.sums.complete(rt, load, key, Err(fault)),
+            Ok(values) => self.complete(rt, load, key, self.merged(key, values)),
+            Err(fault) => self.complete(rt, load, key, Err(fault)),
         }
     }
 }

@@ -36,8 +36,8 @@ module _ {K : Type 0} (eq : K → K → Bool) where
 
 module _ {K V : Type 0} (eq : K → K → Bool) where
   module _ (class : Class) (k : K) where
-    booking : (m : Entered V) (t : Table K V) → IsBook t.aloft t.book →
-        IsBook (entering eq class k m t).aloft (entering eq class k m t).book
+    booking : (m : Entered V) (t : Table K V) → IsBook t.in_flight t.book →
+        IsBook (entering eq class k m t).in_flight (entering eq class k m t).book
     booking (hit e) t b = record { gets = omega (arith, b.gets); landed = b.landed; leads = b.leads; faults = b.faults; peer = b.peer }
     booking (joined n) t b = record { gets = omega (arith, b.gets); landed = b.landed; leads = b.leads; faults = b.faults; peer = b.peer }
     booking (led n) t b = record {
@@ -49,21 +49,21 @@ module _ {K V : Type 0} (eq : K → K → Bool) where
       peer = b.peer;
     }
 
-    pub book_entered : (t : Table K V) → IsBook t.aloft t.book → IsBook (enter eq class k t).1.aloft (enter eq class k t).1.book
+    pub book_entered : (t : Table K V) → IsBook t.in_flight t.book → IsBook (enter eq class k t).1.in_flight (enter eq class k t).1.book
     unfolding enter
     book_entered t b = booking (meets eq class k t) t b
 
     looked : (n : ℕ) (o : Option (Kept V)) (t : Table K V) → ((looking eq class k n o t).1.book ≡ t.book) ×
-        ((looking eq class k n o t).1.aloft ≡ t.aloft)
+        ((looking eq class k n o t).1.in_flight ≡ t.in_flight)
     looked n None t = (refl, refl)
     looked n (Some e) t = (refl, refl)
 
     -- looking again counts nothing
-    pub book_again : (n : ℕ) (t : Table K V) → ((again eq class k n t).1.book ≡ t.book) × ((again eq class k n t).1.aloft ≡ t.aloft)
+    pub book_again : (n : ℕ) (t : Table K V) → ((again eq class k n t).1.book ≡ t.book) × ((again eq class k n t).1.in_flight ≡ t.in_flight)
     unfolding again
     book_again n t = elim (has_ticket n (t.flights class k)) as
         (λ b. ((if b then looking eq class k n (kept_for eq k t.cache) t else (None, t)).1.book ≡ t.book)
-        × ((if b then looking eq class k n (kept_for eq k t.cache) t else (None, t)).1.aloft ≡ t.aloft)) [
+        × ((if b then looking eq class k n (kept_for eq k t.cache) t else (None, t)).1.in_flight ≡ t.in_flight)) [
           | true ↦ looked n (kept_for eq k t.cache) t
           | false ↦ (refl, refl)
         ]
@@ -91,8 +91,8 @@ module _ {K V : Type 0} (eq : K → K → Bool) where
           | false ↦ h
         ]
 
-  counted : (found : Bool) (value : Option V) (place : Place) (aloft : ℕ) (b : Book) → 0 < aloft → IsBook aloft b →
-      IsBook (aloft - 1) (counting found value place b)
+  counted : (found : Bool) (value : Option V) (place : Place) (in_flight : ℕ) (b : Book) → 0 < in_flight → IsBook in_flight b →
+      IsBook (in_flight - 1) (counting found value place b)
   counted true value place n b some h = record
       { gets = h.gets; landed = omega (arith, h.landed); leads = omega (arith, h.leads, some); faults = h.faults; peer = h.peer }
   counted false None place n b some h = record {
@@ -129,16 +129,16 @@ module _ {K V : Type 0} (eq : K → K → Bool) where
   }
 
   module _ (size : K → V → ℕ) where
-    -- Landing keeps the counts in order, where a flight that is open is one of those that are aloft.
+    -- Landing keeps the counts in order, where a flight that is open is one of those in flight.
     pub book_landed : (keep : Bool) (class : Class) (k : K) (n : ℕ) (value : Option V) (place : Place) (t : Table K V)
-        → (has_ticket n (t.flights class k) ≡ true → 0 < t.aloft) → IsBook t.aloft t.book
-        → IsBook (land eq size keep class k n value place t).aloft (land eq size keep class k n value place t).book
+        → (has_ticket n (t.flights class k) ≡ true → 0 < t.in_flight) → IsBook t.in_flight t.book
+        → IsBook (land eq size keep class k n value place t).in_flight (land eq size keep class k n value place t).book
     unfolding land
     book_landed keep class k n value place t some h =
         let new = landing eq size keep class k n value place (counting (is_found (t.flights class k)) value place t.book) t in
         (elim (has_ticket n (t.flights class k)) as
-        (λ b. has_ticket n (t.flights class k) ≡ b → IsBook (if b then new else t).aloft (if b then new else t).book) [
-          | true ↦ λ is. counted (is_found (t.flights class k)) value place t.aloft t.book (some is) h
+        (λ b. has_ticket n (t.flights class k) ≡ b → IsBook (if b then new else t).in_flight (if b then new else t).book) [
+          | true ↦ λ is. counted (is_found (t.flights class k)) value place t.in_flight t.book (some is) h
           | false ↦ λ is. h
         ]) refl
 

@@ -22,7 +22,7 @@ pub record Flight : Type 0 where
 pub record Table (K V : Type 0) : Type 0 where
   pub cache : Cache K V
   pub flights : Class → K → Option Flight
-  pub aloft : ℕ
+  pub in_flight : ℕ
   pub book : Book
 
 -- nothing was counted
@@ -31,7 +31,7 @@ empty_book = record { gets = 0; hits = 0; joins = 0; leads = 0; again_hits = 0; 
 
 -- a table with these limits in which nothing is kept, open or counted
 abbrev pub empty_table : {K V : Type 0} → ℕ → ℕ → Table K V
-empty_table limit room = record { cache = empty_cache limit room; flights = λ class k. None; aloft = 0; book = empty_book }
+empty_table limit room = record { cache = empty_cache limit room; flights = λ class k. None; in_flight = 0; book = empty_book }
 
 -- the classes are one
 abbrev pub same_class : Class → Class → Bool
@@ -90,7 +90,7 @@ module _ {K V : Type 0} (eq : K → K → Bool) where
     entering (joined n) t = record t { book = record t.book { gets = t.book.gets + 1; joins = t.book.joins + 1 } }
     entering (led n) t = record t {
       flights = with_flight eq class k (Some (record { ticket = n; found = false })) t.flights;
-      aloft = t.aloft + 1;
+      in_flight = t.in_flight + 1;
       book = record t.book { gets = t.book.gets + 1; leads = t.book.leads + 1 };
     }
 
@@ -133,7 +133,7 @@ module _ {K V : Type 0} (eq : K → K → Bool) where
     landing keep class k n value place book t = record {
       cache = if keep then keeping place book.peer k n value t.cache else t.cache;
       flights = with_flight eq class k None t.flights;
-      aloft = t.aloft - 1;
+      in_flight = t.in_flight - 1;
       book = book;
     }
 
@@ -146,9 +146,9 @@ module _ {K V : Type 0} (eq : K → K → Bool) where
         else t
 
 -- What holds of the counts where so many flights are open.
-pub record IsBook (aloft : ℕ) (b : Book) : Type 0 where
+pub record IsBook (in_flight : ℕ) (b : Book) : Type 0 where
   pub gets : b.gets ≡ b.hits + b.joins + b.leads
   pub landed : b.landed ≡ b.again_hits + b.loads
-  pub leads : b.leads ≡ b.landed + aloft
+  pub leads : b.leads ≡ b.landed + in_flight
   pub faults : b.faults ≤ b.loads
   pub peer : b.peer ≤ b.loads

@@ -80,19 +80,19 @@ EmptyIsBook = IsBook 0 empty_book
 
 module _ {K : Type 0} (V : Type 0) (eq : K → K → Bool) where
   abbrev pub EnterLeavesBook : Type 0
-  EnterLeavesBook = (class : Class) (k : K) (t : Table K V) → IsBook t.aloft t.book →
-      IsBook (enter eq class k t).1.aloft (enter eq class k t).1.book
+  EnterLeavesBook = (class : Class) (k : K) (t : Table K V) → IsBook t.in_flight t.book →
+      IsBook (enter eq class k t).1.in_flight (enter eq class k t).1.book
 
   -- looking again counts nothing
   abbrev pub AgainCountsNothing : Type 0
   AgainCountsNothing = (class : Class) (k : K) (n : ℕ) (t : Table K V) → ((again eq class k n t).1.book ≡ t.book) ×
-      ((again eq class k n t).1.aloft ≡ t.aloft)
+      ((again eq class k n t).1.in_flight ≡ t.in_flight)
 
--- so after a landing, where a flight that is open is one of those that are aloft
+-- so after a landing, where a flight that is open is one of those in flight
 abbrev pub LandLeavesBook : {K V : Type 0} → (K → K → Bool) → (K → V → ℕ) → Type 0
 LandLeavesBook {K} {V} eq size = (keep : Bool) (class : Class) (k : K) (n : ℕ) (value : Option V) (place : Place) (t : Table K V)
-    → (has_ticket n (t.flights class k) ≡ true → 0 < t.aloft) → IsBook t.aloft t.book
-    → IsBook (land eq size keep class k n value place t).aloft (land eq size keep class k n value place t).book
+    → (has_ticket n (t.flights class k) ≡ true → 0 < t.in_flight) → IsBook t.in_flight t.book
+    → IsBook (land eq size keep class k n value place t).in_flight (land eq size keep class k n value place t).book
 
 -- A flight opens, stays and closes at its own place, which is its class and key.
 

@@ -4,14 +4,14 @@ ghost use Rattle.std.specs.Prelude.{◌≡◌};
 ghost use Rattle.iiif_pixel.specs.Geometry.{channels_of};
 ghost use Rattle.iiif_keys.specs.Blocks.{TileFitsIn};
 ghost use Rattle.iiif_keys.specs.Shapes.{shape_of};
+ghost use Rattle.iiif_group.specs.Beginning.{open_key};
 ghost use Rattle.iiif_images.specs.Items.{item_of};
 ghost use Rattle.iiif_images.specs.Named.{picture_in, IsImageOf};
 ghost use Rattle.iiif_images.specs.Views.{items_in};
-ghost use Rattle.iiif_tile_group.specs.Calls.{EndsWith, Gets, GetsLocal, Loads};
+ghost use Rattle.iiif_tile_group.specs.Calls.{EndsWith, Gets, GetsLocal, KnowsTile, Loads};
 ghost use Rattle.iiif_tile_group.specs.Views.{items_tiled};
 
-use crate::calls::TileCalls;
-use iiif_group::{Begun, Gate, Group, Link, share};
+use iiif_group::{Begun, Gate, Group, Link, Open, TileCalls, share};
 use iiif_images::{ImageEntry, Images};
 use iiif_keys::{Fault, Shape, System, TileKey, TileVal};
 use iiif_singleflight::{Pass, Receipt};
@@ -87,6 +87,23 @@ impl<R, S: Source<R> + Drop, J: System, N, T> Tiles<R, S, J, N, T> {
     }
 }
 
+impl<R: Wait, S: Source<R> + Drop, J: System, N, T: Gate<R>> Tiles<R, S, J, N, T> {
+    /// Ends a load of a key with what was made, for all that wait.
+    fn end(
+        &self,
+        rt: &R,
+        load: Open<TileKey, J, TileCalls<J>>,
+        key: &TileKey,
+        outcome: Result<Arc<TileVal>, Fault>,
+    ) -> Receipt<TileKey, J, TileCalls<J>>
+        requires key { open_key load ≡ key.now }
+        requires outcome { EndsWith J.System key.now outcome }
+        ensures { KnowsTile key.now result }
+    {
+        self.group.complete(rt, load, outcome).receipt
+    }
+}
+
 impl<R: Wait, S: Source<R> + Drop, J: System, N: Link<TileKey, J, R>, T: Gate<R>> Tiles<
     R,
     S,
@@ -109,7 +126,7 @@ impl<R: Wait, S: Source<R> + Drop, J: System, N: Link<TileKey, J, R>, T: Gate<R>
             Ok(Begun::Known(receipt)) => Ok(receipt),
             Ok(Begun::Load(load)) => {
                 let outcome = self.make_outcome(rt, entry, &shape, key);
-                Ok(self.group.complete(rt, load, key, outcome).receipt)
+                Ok(self.end(rt, load, key, outcome))
             }
             Err(_) => Err(Fault::NoMemory),
         }
@@ -128,11 +145,11 @@ impl<R: Wait, S: Source<R> + Drop, J: System, N, T: Gate<R>> Tiles<R, S, J, N, T
         ensures { GetsLocal key.now pass.old pass.new result }
     {
         let (entry, shape) = self.images.image_of(key)?;
-        match self.group.begin_local(rt, pass, key) {
+        match self.group.begin_local(rt, pass, key, &shape) {
             Ok(Begun::Known(receipt)) => Ok(receipt),
             Ok(Begun::Load(load)) => {
                 let outcome = self.make_outcome(rt, entry, &shape, key);
-                Ok(self.group.complete(rt, load, key, outcome).receipt)
+                Ok(self.end(rt, load, key, outcome))
             }
             Err(_) => Err(Fault::NoMemory),
         }

@@ -6,11 +6,12 @@ use crate::samples::{Lax, Sample, kept};
 use iiif_byte_cache::{ByteCache, PutFault};
 use iiif_outcome::Entry;
 use std::alloc::Global;
+use std::marker::Brand;
 use std::num::NonZeroUsize;
 
-type Cache = ByteCache<Sample, Lax>;
+type Cache = ByteCache<Sample, Lax, Brand>;
 
-type Kept = Entry<Sample, Lax>;
+type Kept = Entry<Sample, Lax, Brand>;
 
 /// The outcome of a put: it is kept; or it is above the limit, and this number and this value came back; or else, where memory ran
 /// out, the same pair didn't come back, the cache wasn't as before, or it wasn't put then either.
@@ -77,7 +78,7 @@ fn put_pair(cache: &mut Cache, is_hot: bool, key: Sample, entry: Kept) -> Came {
         cache.put_main(key, entry)
     };
     match answer {
-        Ok(()) => Ok(()),
+        Ok(_evicted) => Ok(()),
         Err(PutFault::TooBig(key, entry)) => Err(Some((key.number(), **entry.value()))),
         Err(PutFault::NoMemory(key, entry)) => {
             let then = (cache.bytes(), cache.len(), key.number(), **entry.value());

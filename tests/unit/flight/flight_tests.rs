@@ -5,12 +5,9 @@ use crate::flight::cache_tests::sample;
 use crate::samples::{Lax, Sample};
 use iiif_keys::{Fault, PARTS};
 use iiif_outcome::learn_apart;
-use iiif_singleflight::entered::Entered;
-use iiif_singleflight::home::Home;
-use iiif_singleflight::pass::Pass;
-use iiif_singleflight::table::Table;
-use iiif_singleflight::whole::Whole;
-use iiif_singleflight::{Flight, Lead, Receipt};
+use iiif_singleflight::{
+    Entered, Flight, FullLedger, GroupState, Lead, Pass, Receipt, StripedCondvar, Table,
+};
 use iiif_source::ReadFault;
 use iiif_tables::{Book, Class, Place};
 use std::alloc::Global;
@@ -22,7 +19,7 @@ use std::thread;
 use std::thread::Threads;
 use std::time::{Clock, Duration};
 
-type Shared<L> = Home<Sample, Lax, L>;
+type Shared<L> = GroupState<Sample, Lax, L>;
 
 type Told = Result<u16, Fault>;
 
@@ -30,7 +27,7 @@ type Told = Result<u16, Fault>;
 fn made<L: Ledger>(alloc: Global, bytes: u32, blank: Blank) -> Option<Shared<L>> {
     let entries = NonZeroUsize::new(8)?;
     let (table, pass) = Table::new(alloc, u64::from(bytes), entries, PARTS, blank).ok()?;
-    Some(Home::new(table, pass, Whole::new()))
+    Some(GroupState::new(table, pass, FullLedger::new()))
 }
 
 /// The end of a flight, by its receipt.
@@ -81,11 +78,14 @@ fn look_and_land<L: Ledger>(
     lead: Lead<Sample, Lax, L>,
     tells: Told,
 ) -> Receipt<Sample, Lax, L> {
-    let ending = match home.table.again(lead) {
-        Ok(ending) => ending,
-        Err(looked) => looked.end(landing_of(alloc, tells), Place::Main),
+    let (outcome, place) = match home.table.again(&lead) {
+        Ok(Some(value)) => (Ok(value), Place::Nowhere),
+        Ok(None) => (landing_of(alloc, tells), Place::Main),
+        Err(_) => (Err(Fault::NoMemory), Place::Nowhere),
     };
-    home.table.land(ending).into_receipt().0
+    let completion = home.table.land(lead, outcome, place);
+    let woken = StripedCondvar::new().wake(completion.ticket());
+    completion.into_receipt(woken).0
 }
 
 /// Waits until one has joined, and lands.
@@ -396,7 +396,7 @@ fn leader_that_looks_again_finds_values_alone_and_two_threads_share_one_load(rt:
 }
 
 /// The ticket of a receipt, and what it tells.
-fn ticket_of(receipt: &mut iiif_outcome::Receipt<Sample, Lax>) -> (u64, Told) {
+fn ticket_of(receipt: &mut Receipt<Sample, Lax, Brand>) -> (u64, Told) {
     let ticket = receipt.ticket();
     match receipt.outcome() {
         Ok(value) => (ticket, Ok(**value)),
@@ -405,9 +405,10 @@ fn ticket_of(receipt: &mut iiif_outcome::Receipt<Sample, Lax>) -> (u64, Told) {
 }
 
 /// A flight of no table with the ticket 5, which ended with that fault. None where this wasn't taken.
-fn ended(alloc: Global) -> Option<iiif_outcome::Flight<Sample, Lax>> {
+fn ended(alloc: Global) -> Option<Flight<Sample, Lax, Brand>> {
     let key = sample(alloc, 7)?;
-    let (lead, flight) = iiif_outcome::Lead::open(alloc, &key, Class::Wide, 5).ok()?;
+    let (tally, _share) = Blank::new(0).open::<Brand>();
+    let (lead, flight) = Lead::open(alloc, &key, Class::Wide, 5, &tally).ok()?;
     if !lead.set(landing_of(alloc, READ)).taken {
         return None;
     }

@@ -1,6 +1,6 @@
 //! Bars, at which threads meet.
 
-use iiif_group::Gate;
+use iiif_group::{Gate, Note};
 use std::sync::atomic::{AtomicBool, AtomicU64, Ordering};
 use std::thread;
 use std::time::{Clock, Duration};
@@ -71,4 +71,10 @@ impl<R: Clock> Gate<R> for Bar {
         self.passings.fetch_add(1, Ordering::SeqCst);
         self.holds(rt);
     }
+
+    fn records(&self) -> bool {
+        false
+    }
+
+    fn note(&self, _rt: &R, _note: &Note<'_>) {}
 }

@@ -3,7 +3,7 @@
 use crate::group::doorways::Doorway;
 use crate::group::keys::{block_twice, tile};
 use crate::group::nodes::Node;
-use iiif_group::{Begun, OpenLoad, share};
+use iiif_group::{Begun, Open, share};
 use iiif_keys::{Fault, SumKey, SumVal, System, TileKey, TileVal};
 use iiif_pixel::Span;
 use iiif_singleflight::{Pass, Receipt};
@@ -118,11 +118,11 @@ fn ended<R: Wait + Clock, J: System>(
     rt: &R,
     alloc: Global,
     node: &Node<'_, R, J>,
-    load: OpenLoad<TileKey, J, TileCalls<J>>,
+    load: Open<TileKey, J, TileCalls<J>>,
     key: &TileKey,
 ) -> Result<Receipt<TileKey, J, TileCalls<J>>, Fault> {
     let outcome = loaded(rt, alloc, node, key);
-    let completed = node.tiles().group().complete(rt, load, key, outcome);
+    let completed = node.tiles().group().complete(rt, load, outcome);
     if completed.exact {
         Ok(completed.receipt)
     } else {
@@ -140,14 +140,14 @@ fn begun<R: Net<Stream = TcpStream> + Wait + Clock, J: System>(
     key: &TileKey,
 ) -> Result<Receipt<TileKey, J, TileCalls<J>>, Fault> {
     let tiles = node.tiles();
+    let (_entry, shape) = tiles.images().image_of(key)?;
     if is_local {
-        return match tiles.group().begin_local(rt, pass, key) {
+        return match tiles.group().begin_local(rt, pass, key, &shape) {
             Ok(Begun::Known(receipt)) => Ok(receipt),
             Ok(Begun::Load(load)) => ended(rt, alloc, node, load, key),
             Err(_) => Err(Fault::NoMemory),
         };
     }
-    let (_entry, shape) = tiles.images().image_of(key)?;
     match tiles.group().begin(rt, pass, key, &shape) {
         Ok(Begun::Known(receipt)) => Ok(receipt),
         Ok(Begun::Load(load)) => ended(rt, alloc, node, load, key),

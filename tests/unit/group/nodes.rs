@@ -6,7 +6,7 @@ use crate::group::bars::Bar;
 use crate::group::crossings::Crossing;
 use crate::group::doorways::Doorway;
 use crate::group::peers::{Peer, Way};
-use iiif_group::{Group, Standing};
+use iiif_group::{Cluster, Group};
 use iiif_images::Catalogue;
 use iiif_keys::{CacheKey, Fault, System};
 use iiif_ring::Ring;
@@ -139,8 +139,8 @@ pub(crate) fn shared<'a, K: CacheKey, J: System, L: Ledger>(
     let entries = NonZeroUsize::MIN.saturating_add(7);
     let own = if setup.stands { Some(0) } else { None };
     let bytes = setup.bytes.min(ROOMY);
-    let standing = Standing { ring, own, links };
-    Ok(Group::new(alloc, bytes, entries, setup.gate, standing, blank)?)
+    let cluster = Cluster { ring, own, links };
+    Ok(Group::new(alloc, bytes, entries, setup.gate, cluster, blank)?)
 }
 
 /// A pass of each group.

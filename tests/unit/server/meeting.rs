@@ -1,7 +1,7 @@
 //! A gate at which loads meet, and groups with that gate.
 
 use iiif_ring::Ring;
-use iiif_server::{Gate, NoLink, Stock};
+use iiif_server::{Gate, NoLink, Note, Stock};
 use std::alloc::Global;
 use std::num::NonZeroUsize;
 use std::sync::atomic::{AtomicBool, Ordering};
@@ -47,6 +47,12 @@ impl<R: Clock> Gate<R> for Meeting {
         }
         self.alone.store(true, Ordering::SeqCst);
     }
+
+    fn records(&self) -> bool {
+        false
+    }
+
+    fn note(&self, _rt: &R, _note: &Note<'_>) {}
 }
 
 /// The parts of a group that has room for so many bytes, and whose loads pass this gate.

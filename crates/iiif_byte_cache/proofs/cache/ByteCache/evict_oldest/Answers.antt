@@ -12,11 +12,11 @@ invariant_of-self g c =
     let eq = g.K.PartialEq.eq in
     let old = cache_of now in
     record {
-      within = omega (arith, c.evict.ensures.bytes, now.within);
+      within = omega (arith, c.evict_oldest.ensures.bytes, now.within);
       small = now.small;
-      single = subst (Single eq) (sym (c.evict.ensures.rest now.limit))
+      single = subst (Single eq) (sym (c.evict_oldest.ensures.rest now.limit))
           (single_evict eq (entry_size g.K.CacheKey.key_bytes g.K.CacheKey.val_bytes) old now.single);
-      room = c.evict.ensures.room.1 ∙ now.room ∙ sym c.evict.ensures.room.0;
+      room = c.evict_oldest.ensures.room.1 ∙ now.room ∙ sym c.evict_oldest.ensures.room.0;
     }
 
 pub returns : goal.returns
@@ -24,9 +24,9 @@ returns g c =
     let limit = c.args.self.now.limit in
     let old = cache_of c.args.self.now in
     record {
-      victim = c.evict.ensures.victim limit;
-      rest = c.evict.ensures.rest limit;
-      none = if_none c.evict.result (λ h. victim_none (entry_size g.K.CacheKey.key_bytes g.K.CacheKey.val_bytes)
+      victim = c.evict_oldest.ensures.victim limit;
+      rest = c.evict_oldest.ensures.rest limit;
+      none = if_none c.evict_oldest.result (λ h. victim_none (entry_size g.K.CacheKey.key_bytes g.K.CacheKey.val_bytes)
           (λ k v. omega (arith, g.met.K.CacheKey.spelled k)) old
-          (sym (c.evict.ensures.victim limit) ∙ none_of _ c.evict.result h));
+          (sym (c.evict_oldest.ensures.victim limit) ∙ none_of _ c.evict_oldest.result h));
     }

@@ -8,8 +8,8 @@ use Rattle.iiif_byte_cache.specs.View.{cache_of, lists_of}
 use Rattle.iiif_byte_cache.specs.View.{side}
 use Rattle.iiif_byte_cache.proofs.cache.ByteCache.put.Goals as goal
 
-pub returns-in-Ok : goal.returns-in-Ok
-returns-in-Ok g c =
+pub returns-after-left : goal.returns-after-left
+returns-after-left g c =
     let size = (entry_size g.K.CacheKey.key_bytes g.K.CacheKey.val_bytes) in
     let old = cache_of c.args.self.now in
     let entry = kept_of c.args.entry in

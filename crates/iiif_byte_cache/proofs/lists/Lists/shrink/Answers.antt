@@ -23,14 +23,14 @@ loop-preserved g c =
     let n = count - (c.loop.counter + 1) in
     let one : suc n ≡ count - c.loop.counter = omega (arith, c.loop-test.true) in
     record {
-      lists = ap (evict_at_most size n) (c.evict-gone.ensures.rest c.args.limit)
+      lists = ap (evict_at_most size n) (c.evict_oldest.ensures.rest c.args.limit)
           ∙ sym (evict_one size n now (omega (arith, c.if-bytes-limit.false, c.bytes.ensures, c.loop.self.main.sum, c.loop.self.hot.sum)))
           ∙ ap (λ m. evict_at_most size m now) one
           ∙ c.loop.invariant.lists;
       limit = refl;
-      main = c.evict-gone.ensures.room.0 ∙ c.loop.invariant.main;
-      hot = c.evict-gone.ensures.room.1 ∙ c.loop.invariant.hot;
-      fits = omega (arith, c.evict-gone.ensures.bytes, c.loop.invariant.fits);
+      main = c.evict_oldest.ensures.room.0 ∙ c.loop.invariant.main;
+      hot = c.evict_oldest.ensures.room.1 ∙ c.loop.invariant.hot;
+      fits = omega (arith, c.evict_oldest.ensures.bytes, c.loop.invariant.fits);
     }
 
 pub returns : goal.returns

@@ -34,7 +34,8 @@ invariant_of-self g c =
     (let a = c.in-Ok-Some.ensures.old in let b = c.in-Ok-Some.field-0-is in cc) in
     let sum = sum_handed w g.K.PartialEq.eq g.met.K.CacheKey.identical list c.args.key c.args.entry c.len-valid.ensures.valid.2
     c.len-valid.ensures.valid.1 _ at in
-    let P : g.row.K.Denot × Entry g.row.K.Denot g.row.J.Denot g.row.K-Value.Denot g.K.CacheKey g.K.PartialEq g.K.Hash g.J.System → Type 0 =
+    let P : g.row.K.Denot × Entry g.row.K.Denot g.row.J.Denot g.row.L.Denot g.row.K-Value.Denot g.K.CacheKey g.K.PartialEq g.K.Hash
+    g.J.System → Type 0 =
     λ e. is_of g.K.PartialEq.eq e.0 e.1 ≡ true in
     record {
       sum = rw c.in-Ok-Some.ensures.entries (omega (
@@ -58,7 +59,8 @@ invariant_of-self-in-Ok-None g c =
     let at : displaced g.K.PartialEq.eq list c.args.key c.args.entry ≡ None =
     (let a = c.in-Ok-None.ensures.old in let b = c.in-Ok-None.field-0-is in cc) in
     let sum = sum_kept_all w g.K.PartialEq.eq g.met.K.CacheKey.identical list c.args.key c.args.entry c.len-valid.ensures.valid.2 at in
-    let P : g.row.K.Denot × Entry g.row.K.Denot g.row.J.Denot g.row.K-Value.Denot g.K.CacheKey g.K.PartialEq g.K.Hash g.J.System → Type 0 =
+    let P : g.row.K.Denot × Entry g.row.K.Denot g.row.J.Denot g.row.L.Denot g.row.K-Value.Denot g.K.CacheKey g.K.PartialEq g.K.Hash
+    g.J.System → Type 0 =
     λ e. is_of g.K.PartialEq.eq e.0 e.1 ≡ true in
     record {
       sum = rw c.in-Ok-None.ensures.entries (omega (

@@ -9,7 +9,8 @@ use Rattle.iiif_byte_cache.proofs.recent.Recent.touch.Goals as goal
 pub invariant_of-self : goal.invariant_of-self
 invariant_of-self g c =
     let test = g.K.PartialEq.eq c.args.key.now in
-    let P : g.row.K.Denot × Entry g.row.K.Denot g.row.J.Denot g.row.K-Value.Denot g.K.CacheKey g.K.PartialEq g.K.Hash g.J.System → Type 0 =
+    let P : g.row.K.Denot × Entry g.row.K.Denot g.row.J.Denot g.row.L.Denot g.row.K-Value.Denot g.K.CacheKey g.K.PartialEq g.K.Hash
+    g.J.System → Type 0 =
     λ e. is_of g.K.PartialEq.eq e.0 e.1 ≡ true in
     record {
       sum = c.args.self.now.sum ∙ sym (rw c.promote.ensures.entries

@@ -58,4 +58,4 @@ returns-in-Some-2-clause-ok c =
     (c.mark.ensures.rest.0 ∙ c.touch.ensures)
     (c.mark.ensures.flights e row ∙ ap (λ n. tables.with_flight key_eq c.args.class k (Some (record { ticket = n; found = true }))
     (flight_in fs)) c.if-index-ticket.false)
-    c.mark.ensures.aloft c.mark.ensures.rest.1
+    c.mark.ensures.in_flight c.mark.ensures.rest.1

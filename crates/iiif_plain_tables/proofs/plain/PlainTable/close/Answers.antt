@@ -14,8 +14,8 @@ returns-clause-flights c =
     let fs = c.args.self.now.flights.items in
     ap flight_in c.remove-gone.ensures.items ∙ closed c.args.class c.args.key.now fs c.args.place c.requires c.args.self.now.once
 
-pub returns-clause-aloft : goal.returns-clause-aloft
-returns-clause-aloft c =
+pub returns-clause-in_flight : goal.returns-clause-in_flight
+returns-clause-in_flight c =
     let fs = c.args.self.now.flights.items in
     let less = there c.args.class c.args.key.now fs c.args.place c.requires in
     omega (arith, ap (length {A = OpenFlight}) c.remove-gone.ensures.items, length-remove fs c.args.place less)

@@ -50,7 +50,7 @@ returns-clause-ok c =
     c.in-Some-counted.ensures ∙ ap (λ (f : OpenFlight). tables.counting f.found c.args.value c.args.retention.place t.book) same in
     let u : Table = record (table_of c.close.new.self) { book = c.in-Some-counted.book } in
     land_parts c.args.retention.keep c.args.class k c.args.ticket c.args.value c.args.retention.place t u c.in-Some-counted.book
-    (c.close.ensures.rest.0 ∙ c.in_ok-keep.ensures.ok) c.close.ensures.flights c.close.ensures.aloft refl
+    (c.close.ensures.rest.0 ∙ c.in_ok-keep.ensures.ok) c.close.ensures.flights c.close.ensures.in_flight refl
     ∙ ap (λ (b : Book). tables.landing key_eq entry_size c.args.retention.keep c.args.class k c.args.ticket c.args.value
     c.args.retention.place b t) counts
     ∙ sym last

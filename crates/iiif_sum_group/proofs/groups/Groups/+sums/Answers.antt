@@ -1,14 +1,16 @@
 use Rattle.std.proofs.Common.{arith, ◌≡◌, ◌∙◌, ◌*◌, ◌<◌, ◌≤◌, ℕ, List, length, refl, sym, subst, get_or, IsTrue}
 use Rattle.std.proofs.lemmas.List.{take_all}
 use Rattle.std.proofs.lemmas.List.Elements.{All-get_or}
+use Rattle.std.proofs.lemmas.Result.{err_from_is_err_and}
 use Rattle.std.specs.Arc.{arc_value}
 use Rattle.iiif_pixel.specs.Geometry.{channels_of}
 use Rattle.iiif_keys.specs.Laws.{IsBelow}
 use Rattle.iiif_keys.specs.Meaning.{sums_below}
 use Rattle.iiif_keys.specs.Shapes.{HasPicture}
 use Rattle.iiif_keys.specs.declared.keys.SumKey.{SumKey}
+use Rattle.iiif_outcome.specs.Outcomes.{is_given}
 use Rattle.iiif_sum_group.specs.Values.{AreValuesOf, MayBeAsked}
-use Rattle.iiif_sum_group.proofs.SumLemmas.{one_value_more}
+use Rattle.iiif_sum_group.proofs.SumLemmas.{fault_passed_on, one_value_more}
 use Rattle.iiif_sum_group.proofs.groups.Groups.+sums.Goals as goal
 
 pub ask_parts-loop-part-preserved : goal.ask_parts-loop-part-preserved
@@ -36,6 +38,18 @@ ask_parts-loop-part-preserved g t c =
       tile_parts = asked.parts.0 ∙ before.tile_parts;
       sum_parts = asked.parts.1 ∙ before.sum_parts;
     }
+
+pub ask_parts-returns-in_err-value-clause-given : goal.ask_parts-returns-in_err-value-clause-given
+ask_parts-returns-in_err-value-clause-given g t c =
+    let keys = c.args.keys.now in
+    let i = c.loop-part.part-index in
+    let k = c.part-item.result in
+    let f = c.in_err-value.field-0.0 in
+    let below : IsBelow c.args.key.now k = subst (IsBelow c.args.key.now) (sym c.part-item.is)
+    (All-get_or (IsBelow c.args.key.now) keys i k c.loop-part-test.true c.requires.may.below) in
+    fault_passed_on (λ x. IsTrue (is_given (g.J.System.gave c.args.key.now.name) x)) c.from_residual-in_err-value.result f
+    (subst (λ (m : List ℕ). IsTrue (is_given (g.J.System.gave m) f)) below.name (c.in_err-value.ensures.given f refl))
+    (err_from_is_err_and c.from_residual-in_err-value.result c.from_residual-in_err-value.ensures.1)
 
 pub ask_parts-returns-clause-values : goal.ask_parts-returns-clause-values
 ask_parts-returns-clause-values g t c =

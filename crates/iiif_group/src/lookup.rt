@@ -1,0 +1,438 @@
+//! Lookup of a key's value: begin, wait, complete.
+//!
+//! `begin` enters a call under the group's lock. A hit is answered at once, and a call that joins a flight waits for it. A miss leads a
+//! flight: of a key of another node a wide one, whose leader asks the owner; where the owner gives no value, the leader enters again, for
+//! a local flight. The leader of a local flight loads the value and calls `complete`, which keeps it, lands the flights and wakes their
+//! followers.
+//!
+//! A key is loaded once. As two steps, a lookup and then a flight might load it twice:
+//!
+//! 1. Caller 1 looks the key up and misses.
+//! 2. Caller 2 looks the key up and misses.
+//! 3. Caller 1 opens a flight, loads, keeps the value and closes the flight.
+//! 4. Caller 2 finds no flight, opens one, and loads again.
+//!
+//! groupcache has these two steps, so its leader looks again behind step 4. Here `enter` holds one lock for both, and so does `land` while
+//! it keeps the value and closes the flight: caller 2 joins at step 2, or hits. A leader still looks again, under the lock by which it
+//! entered, and finds nothing.
+//!
+//! Nobody sleeps past a landing:
+//!
+//! 1. The joiner takes the lock and reads the flight's cell, which is empty.
+//! 2. The joiner falls asleep on the stripe of the flight's ticket, which lets go of the lock in the same step.
+//! 3. The leader takes the lock, sets the cell, and lets go.
+//! 4. The leader wakes that stripe. The joiner takes the lock and reads the cell.
+//!
+//! The leader can't set the cell between 1 and 2. If it does so before 1, the joiner doesn't sleep.
+
+ghost use Rattle.std.specs.Prelude.{◌≡◌, IfOk};
+ghost use Rattle.iiif_outcome.specs.Outcomes.{OutcomeFor};
+ghost use Rattle.iiif_group.specs.Beginning.{gate_of, open_key, AsksOwner, BegunOf, CountsOnce, CountsTwiceAtMost, HasAsked, IsAlone};
+ghost use Rattle.iiif_group.specs.Beginning.{IsPartOf, LoadsIf};
+ghost use Rattle.iiif_group.specs.Code.{ComesOf, CountsOnceAtMost, Ends, Finishes, IsAnswer, IsOf, IsToldBy, Joins, MeetsFor, OutcomeOf};
+ghost use Rattle.iiif_group.specs.Code.{Relays, Tells};
+ghost use Rattle.iiif_group.specs.Ending.{Completes};
+ghost use Rattle.iiif_group.specs.Leads.{asked_lead};
+ghost use Rattle.iiif_group.specs.Views.{checked_key, followed};
+
+use crate::asked::{Answer, Asked};
+use crate::begun::{Begun, Completed, Open};
+use crate::checked::{CheckedLead, Lookup, enter, land};
+use crate::gate::{Ending, Gate, Note, Step};
+use crate::group::Group;
+use crate::link::Link;
+use crate::outcomes::{share, share_outcome};
+use crate::waiting::{Follower, Look};
+use iiif_keys::{CacheKey, Fault, Shape, System};
+use iiif_outcome::Landed;
+use iiif_pixel::NoMemory;
+use iiif_singleflight::{Completion, Pass, Receipt};
+use iiif_tables::{Class, Place};
+use std::sync::ledger::Ledger;
+use std::sync::{Arc, Wait};
+
+/// What the leader of a flight is told once it landed.
+#[derive(Drop)]
+pub struct Told<K: CacheKey, J: System, L: Ledger> {
+    /// The receipt of the flight's cell.
+    pub(crate) receipt: Receipt<K, J, L>,
+    /// The leader's outcome, where the cell refused it.
+    pub(crate) refused: Option<Box<Landed<K, J>>>,
+}
+
+impl<K: CacheKey, J: System, L: Ledger, N, T> Group<K, J, L, N, T> {
+    /// Looks up a key that fits an image of this shape: returns the outcome of a flight, or the duty to load the value, once the key passed
+    /// the gate. The owner of another node's key is asked first. The only error is lack of memory for entering; any later one is the
+    /// outcome of the flight.
+    pub fn begin<R: Wait>(
+        &self,
+        rt: &R,
+        pass: &mut Pass<L>,
+        key: &K,
+        shape: &Shape,
+    ) -> Result<Begun<K, J, L>, NoMemory>
+    where
+        N: Link<K, J, R>,
+        T: Gate<R>,
+        requires { IsPartOf K.CacheKey.own J.System key.now shape.now }
+        ensures begun { IfOk result (BegunOf key.now) }
+        ensures counts { CountsTwiceAtMost pass.old pass.new result }
+        ensures gated { IfOk result (LoadsIf (T.passed (gate_of self.now) (K.key_bytes key.now))) }
+        // A load is owed once the owner was asked, if that is another node.
+        ensures asked { IfOk result (AsksOwner self.now (K.key_bytes key.now)) }
+    {
+        let bytes = key.bytes(self.alloc)?;
+        let Some(owner) = self.owner_link(&bytes) else {
+            return self.begin_own(rt, pass, key, &bytes);
+        };
+        match self.enter(rt, pass, key, &bytes, Class::Wide)? {
+            Lookup::Hit(receipt) => Ok(Begun::Known(receipt)),
+            Lookup::Joined(follower) => Ok(Begun::Known(self.wait(rt, follower))),
+            Lookup::Leads(wide) => match self.ask(rt, pass.id, wide, &bytes, shape, owner) {
+                Answer::Value(wide, value) => Ok(Begun::Known(self.keep_answer(rt, wide, value))),
+                Answer::Nothing(asked) => Ok(self.fall_back(rt, pass, key, &bytes, asked)),
+            },
+        }
+    }
+
+    /// Looks up a key for which no other node may be asked, whoever owns it. So are other nodes' asks served.
+    pub fn begin_local<R: Wait>(
+        &self,
+        rt: &R,
+        pass: &mut Pass<L>,
+        key: &K,
+        _shape: &Shape,
+    ) -> Result<Begun<K, J, L>, NoMemory>
+    where
+        T: Gate<R>,
+        requires { IsPartOf K.CacheKey.own J.System key.now _shape.now }
+        ensures begun { IfOk result (BegunOf key.now) }
+        ensures counts { CountsOnce pass.old pass.new result }
+        ensures gated { IfOk result (LoadsIf (T.passed (gate_of self.now) (K.key_bytes key.now))) }
+        ensures alone { IfOk result IsAlone }
+    {
+        let bytes = key.bytes(self.alloc)?;
+        self.begin_own(rt, pass, key, &bytes)
+    }
+
+    /// Looks up a key in the local class.
+    fn begin_own<R: Wait>(
+        &self,
+        rt: &R,
+        pass: &mut Pass<L>,
+        key: &K,
+        bytes: &[u8],
+    ) -> Result<Begun<K, J, L>, NoMemory>
+    where
+        T: Gate<R>,
+        ensures begun { IfOk result (BegunOf key.now) }
+        ensures counts { CountsOnce pass.old pass.new result }
+        ensures gated { IfOk result (LoadsIf (T.passed (gate_of self.now) bytes.now)) }
+        ensures alone { IfOk result IsAlone }
+    {
+        match self.enter(rt, pass, key, bytes, Class::Local)? {
+            Lookup::Hit(receipt) => Ok(Begun::Known(receipt)),
+            Lookup::Joined(follower) => Ok(Begun::Known(self.wait(rt, follower))),
+            Lookup::Leads(local) => {
+                self.gate.pass(rt, bytes);
+                Ok(Begun::Load(Open { local, wide: None }))
+            }
+        }
+    }
+
+    /// Falls back from an owner that gave no value: enters the local class, and lands the wide flight with what a local flight ended with
+    /// already. Lack of memory for entering is the outcome of the wide flight.
+    fn fall_back<R: Wait>(
+        &self,
+        rt: &R,
+        pass: &mut Pass<L>,
+        key: &K,
+        bytes: &[u8],
+        asked: Asked<K, J, L>,
+    ) -> Begun<K, J, L>
+    where
+        T: Gate<R>,
+        requires { checked_key (asked_lead asked) ≡ key.now }
+        ensures begun { BegunOf key.now result }
+        ensures told { IsToldBy (asked_lead asked) result }
+        ensures counts { CountsOnceAtMost pass.old pass.new }
+        ensures gated { LoadsIf (T.passed (gate_of self.now) bytes.now) result }
+        ensures asked { HasAsked result }
+    {
+        let receipt = match self.enter(rt, pass, key, bytes, Class::Local) {
+            Ok(Lookup::Hit(receipt)) => receipt,
+            Ok(Lookup::Joined(follower)) => self.wait(rt, follower),
+            Ok(Lookup::Leads(local)) => {
+                self.gate.pass(rt, bytes);
+                let wide = Some(asked);
+                return Begun::Load(Open { local, wide });
+            }
+            Err(_) => {
+                let told = self.finish_asked(rt, asked, Err(Fault::NoMemory));
+                return Begun::Known(told.receipt);
+            }
+        };
+        Begun::Known(self.relay(rt, asked, receipt).0.receipt)
+    }
+
+    /// Enters a call: looks the key up, joins its flight or opens one, and looks again, all under one lock.
+    fn enter<R: Wait>(
+        &self,
+        rt: &R,
+        pass: &mut Pass<L>,
+        key: &K,
+        bytes: &[u8],
+        class: Class,
+    ) -> Result<Lookup<K, J, L>, NoMemory>
+    where
+        T: Gate<R>,
+        ensures met { IfOk result (MeetsFor class key.now) }
+        ensures counts { CountsOnce pass.old pass.new result }
+    {
+        let mut state = self.state.lock(rt);
+        let entered = enter(&mut *state, pass, key, class);
+        if self.gate.records() {
+            let (step, ticket) = step_of(&entered);
+            let note = Note {
+                step,
+                class,
+                rank: key.rank(),
+                pass: pass.id,
+                ticket,
+                key: bytes,
+            };
+            self.gate.note(rt, &note);
+        }
+        entered
+    }
+
+    /// Waits until a flight has landed. The receipt is of this flight: of its ticket, and of the cell by which all learn who joined it.
+    fn wait<R: Wait>(&self, rt: &R, joined: Follower<K, J, L>) -> Receipt<K, J, L>
+        ensures { Ends (followed joined) result }
+    {
+        let mut follower = joined;
+        let mut state = self.state.lock(rt);
+        for _ in rt.forever() {
+            match follower.look() {
+                Look::Landed(receipt) => return receipt,
+                Look::Open(sleeper) => {
+                    let (woken, locked) = sleeper.sleep(rt, &self.sleepers, state);
+                    follower = woken;
+                    state = locked;
+                }
+            }
+        }
+        unreachable!()
+    }
+
+    /// Ends a load with a value that is its key's meaning, or with a fault that its source gave or lack of memory, and wakes who waits.
+    /// The local flight has that outcome. So has the wide one, if the load has one; but it has lack of memory where the value refuses it a
+    /// share. Each receipt is that of its flight's own cell, by which all who joined it learn the same. Where a cell refused its
+    /// outcome, which no run meets, the receipt has the one that stands there.
+    pub fn complete<R: Wait>(
+        &self,
+        rt: &R,
+        load: Open<K, J, L>,
+        outcome: Result<Arc<K::Value>, Fault>,
+    ) -> Completed<K, J, L>
+    where
+        T: Gate<R>,
+        requires outcome { OutcomeFor K.CacheKey.own J.System (open_key load) outcome }
+        ensures { Completes load outcome result }
+    {
+        let Open { local, wide } = load;
+        match wide {
+            None => {
+                let Told { receipt, refused } = self.finish(rt, local, outcome, Place::Main);
+                Completed {
+                    receipt,
+                    loaded: None,
+                    exact: refused.is_none(),
+                    refused,
+                }
+            }
+            Some(asked) => {
+                let (second, same) = share_outcome(&outcome);
+                let local = self.finish(rt, local, outcome, Place::Main);
+                let wide = self.finish_asked(rt, asked, second);
+                join(local, wide, same)
+            }
+        }
+    }
+
+    /// Lands a wide flight with its owner's value, each tenth of which is kept.
+    fn keep_answer<R: Wait>(
+        &self,
+        rt: &R,
+        wide: CheckedLead<K, J, L>,
+        value: K::Value,
+    ) -> Receipt<K, J, L>
+    where
+        T: Gate<R>,
+        requires { IsAnswer wide value }
+        ensures { IsOf (checked_key wide) result }
+    {
+        let outcome = share(self.alloc, value);
+        self.finish(rt, wide, outcome, Place::Peer).receipt
+    }
+
+    /// Lands a wide flight with the outcome of a local one of its key, and returns whether it has that outcome: it has lack of memory where
+    /// the value refuses it a share. A fault is told as it is.
+    fn relay<R: Wait>(
+        &self,
+        rt: &R,
+        asked: Asked<K, J, L>,
+        mut receipt: Receipt<K, J, L>,
+    ) -> (Told<K, J, L>, bool)
+    where
+        T: Gate<R>,
+        requires { IsOf (checked_key (asked_lead asked)) receipt }
+        ensures { Relays (asked_lead asked) receipt result.0 result.1 }
+    {
+        let (outcome, exact) = share_outcome(receipt.outcome());
+        (self.finish_asked(rt, asked, outcome), exact)
+    }
+
+    /// Lands a wide flight whose owner gave no value with an outcome of this node's own. The wide flight keeps nothing: the local one did.
+    fn finish_asked<R: Wait>(
+        &self,
+        rt: &R,
+        asked: Asked<K, J, L>,
+        outcome: Result<Arc<K::Value>, Fault>,
+    ) -> Told<K, J, L>
+    where
+        T: Gate<R>,
+        requires { OutcomeOf (asked_lead asked) outcome }
+        ensures { Finishes (asked_lead asked) outcome result }
+    {
+        self.finish(rt, asked.into_lead(), outcome, Place::Nowhere)
+    }
+
+    /// Lands a flight and wakes who waits.
+    fn finish<R: Wait>(
+        &self,
+        rt: &R,
+        lead: CheckedLead<K, J, L>,
+        outcome: Result<Arc<K::Value>, Fault>,
+        place: Place,
+    ) -> Told<K, J, L>
+    where
+        T: Gate<R>,
+        requires { OutcomeOf lead outcome }
+        ensures { Finishes lead outcome result }
+    {
+        let landed = if self.gate.records() {
+            self.land_noted(rt, lead, outcome, place)
+        } else {
+            self.land(rt, lead, outcome, place)
+        };
+        self.tell(rt, landed)
+    }
+
+    /// Lands a flight under the lock. Nobody is woken yet.
+    fn land<R: Wait>(
+        &self,
+        rt: &R,
+        lead: CheckedLead<K, J, L>,
+        outcome: Result<Arc<K::Value>, Fault>,
+        place: Place,
+    ) -> Completion<K, J, L>
+        requires { OutcomeOf lead outcome }
+        ensures { ComesOf lead outcome result }
+    {
+        let mut state = self.state.lock(rt);
+        land(&mut *state, lead, outcome, place)
+    }
+
+    /// Lands a flight and records it, both under one lock.
+    fn land_noted<R: Wait>(
+        &self,
+        rt: &R,
+        lead: CheckedLead<K, J, L>,
+        outcome: Result<Arc<K::Value>, Fault>,
+        place: Place,
+    ) -> Completion<K, J, L>
+    where
+        T: Gate<R>,
+        requires { OutcomeOf lead outcome }
+        ensures { ComesOf lead outcome result }
+    {
+        let bytes = lead.key().bytes(self.alloc);
+        let (class, rank, ticket) = (lead.class(), lead.key().rank(), lead.ticket());
+        let ending = ending_of(&outcome);
+        let mut state = self.state.lock(rt);
+        let landed = land(&mut *state, lead, outcome, place);
+        let note = Note {
+            step: Step::Landed(ending, place, landed.kept()),
+            class,
+            rank,
+            pass: 0,
+            ticket,
+            key: match &bytes {
+                Ok(bytes) => bytes.as_slice(),
+                Err(_) => &[],
+            },
+        };
+        self.gate.note(rt, &note);
+        landed
+    }
+
+    /// Wakes the followers of a flight that landed, and tells its leader how it ended. Where the cell refused the leader's outcome, which
+    /// no run meets, another of this flight stands in it, which those who joined learn too. A cell with none of this flight tells nobody:
+    /// the leader then waits for good, as they do. What was evicted is dropped here, behind the lock.
+    fn tell<R: Wait>(&self, rt: &R, landed: Completion<K, J, L>) -> Told<K, J, L>
+        ensures { Tells landed result }
+    {
+        let ticket = landed.ticket();
+        let is_own = landed.is_own();
+        let woken = self.sleepers.wake(ticket);
+        let (receipt, refused) = landed.into_receipt(woken);
+        if is_own {
+            return Told { receipt, refused };
+        }
+        let stripe = self.sleepers.of(ticket);
+        let mut state = self.state.lock(rt);
+        for _ in rt.forever() {
+            state = stripe.wait(rt, state);
+        }
+        unreachable!()
+    }
+}
+
+/// Joins the ends of a local and a wide flight of one load: whether the wide one was given the same outcome is known.
+fn join<K: CacheKey, J: System, L: Ledger>(
+    local: Told<K, J, L>,
+    wide: Told<K, J, L>,
+    same: bool,
+) -> Completed<K, J, L>
+    ensures { Joins local wide same result }
+{
+    let Told { receipt, refused } = wide;
+    Completed {
+        receipt,
+        loaded: Some(local.receipt),
+        exact: same && refused.is_none(),
+        refused: refused.or(local.refused),
+    }
+}
+
+/// Returns the step of a call that entered or was refused, and the number of its flight.
+fn step_of<K: CacheKey, J: System, L: Ledger>(
+    entered: &Result<Lookup<K, J, L>, NoMemory>,
+) -> (Step, u64) {
+    match entered {
+        Ok(Lookup::Hit(receipt)) => (Step::Hit, receipt.ticket()),
+        Ok(Lookup::Joined(follower)) => (Step::Joined, follower.ticket()),
+        Ok(Lookup::Leads(lead)) => (Step::Led, lead.ticket()),
+        Err(_) => (Step::Refused, 0),
+    }
+}
+
+/// Returns the ending of a flight with this outcome.
+fn ending_of<V>(outcome: &Result<V, Fault>) -> Ending {
+    match outcome {
+        Ok(_) => Ending::Value,
+        Err(Fault::NoMemory) => Ending::NoMemory,
+        Err(_) => Ending::Fault,
+    }
+}
