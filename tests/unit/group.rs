@@ -1,6 +1,6 @@
-//! Tests of groups, which call only what is public: calls that share a load, are held at a gate or asked of the key's owner
-//! (`iiif_group`); sums made of their parts (`iiif_sum_group`); what a node replies to others, crossed nodes, cut replies and peers that
-//! lie (`iiif_peer_groups`); and links over TCP and over memory (`iiif_peer_link`).
+//! Tests of groups, which call only what is public: calls that share a load, are held at a gate, noted there or asked of the key's
+//! owner (`iiif_group`); sums made of their parts (`iiif_sum_group`); what a node replies to others, crossed nodes, cut replies and
+//! peers that lie (`iiif_peer_groups`); and links over TCP and over memory (`iiif_peer_link`).
 
 mod acts;
 mod bars;
@@ -17,6 +17,7 @@ mod meeting_tests;
 mod meetings;
 mod messages;
 mod nodes;
+mod note_tests;
 mod peers;
 mod run_tests;
 mod runs;

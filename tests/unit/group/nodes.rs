@@ -113,7 +113,7 @@ pub(crate) fn catalogue<R: Clock>(
 }
 
 /// The ring of one node.
-fn ring(alloc: Global) -> Result<Ring, Fault> {
+pub(crate) fn ring(alloc: Global) -> Result<Ring, Fault> {
     let Ok(name) = String::from_str(alloc, "n") else {
         return Err(Fault::NoMemory);
     };

@@ -2,15 +2,22 @@
 
 use iiif_keys::{CacheKey, KeyFault, Name, Shape, TileKey};
 use iiif_pixel::NoMemory;
-use std::alloc::Global;
+use std::alloc::{AllocError, Global};
 
-/// A key of 15 bytes, which fits every image. Its bytes, and its values', are written and never read: reading wants memory.
+/// A key of 15 bytes where its name has one, which fits every image. Its bytes, and its values', are written and never read: reading
+/// wants memory.
 #[derive(PartialEq, Eq, Hash, Drop)]
 pub struct Sample {
     tile: TileKey,
 }
 
 impl Sample {
+    /// The rank of every key.
+    pub const RANK: u32 = 3;
+
+    /// The number of keys that can't be copied, as where memory ran out.
+    pub const UNCOPIED: u32 = 255;
+
     /// Keys of one name are equal where these numbers are.
     pub fn new(name: Name, number: u32) -> Sample {
         Sample {
@@ -37,7 +44,7 @@ impl CacheKey for Sample {
 
     ghost edge_of = { λ _. 0 };
 
-    ghost rank_of = { λ _. 0 };
+    ghost rank_of = { λ _. 3 };
 
     ghost fits_in = { λ _ _. ⊤ };
 
@@ -51,7 +58,7 @@ impl CacheKey for Sample {
 
     ghost is_key = { λ _. ⊤ };
 
-    ghost key_bytes = { λ _. replicate 15 0 };
+    ghost key_bytes = { λ k. tile_key_bytes k.tile };
 
     ghost key_refusal = { λ _. None };
 
@@ -68,7 +75,7 @@ impl CacheKey for Sample {
     }
 
     fn rank(&self) -> u32 {
-        0
+        Sample::RANK
     }
 
     fn fits(&self, edge: u32, _shape: &Shape) -> bool {
@@ -86,13 +93,16 @@ impl CacheKey for Sample {
     }
 
     fn copy(&self) -> Result<Sample, NoMemory> {
+        if self.number() == Sample::UNCOPIED {
+            return Err(AllocError);
+        }
         Ok(Sample {
             tile: self.tile.copy()?,
         })
     }
 
     fn bytes(&self, alloc: Global) -> Result<Vec<u8>, NoMemory> {
-        Ok(vec![in alloc; 0u8; 15]?)
+        self.tile.bytes(alloc)
     }
 
     fn from_bytes(_alloc: Global, _bytes: &[u8]) -> Result<Sample, KeyFault> {
