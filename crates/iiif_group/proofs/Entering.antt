@@ -1,7 +1,7 @@
 -- Entering a table, and looking again under the same lock.
 use Rattle.std.proofs.Common.{◌≡◌, ℕ, ◌+◌, Bool, true, false, Option, Some, None, IsSome, if◌then◌else◌, option_map, ap, refl}
 use Rattle.iiif_tables.specs.Cache.{Kept, kept_for}
-use Rattle.iiif_tables.specs.Flights.{Flight, Table, again, enter, has_ticket, led, looking, met}
+use Rattle.iiif_tables.specs.Flights.{Flight, Table, again, enter, has_ticket, led, met}
 use Rattle.iiif_tables.specs.declared.table.Class.{Class}
 
 met_led : {V : Type 0} (kept : Option (Kept V)) (flight : Option Flight) (next n : ℕ) → met kept flight next ≡ led n → kept ≡ None

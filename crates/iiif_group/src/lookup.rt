@@ -51,7 +51,7 @@ use iiif_tables::{Class, Place};
 use std::sync::ledger::Ledger;
 use std::sync::{Arc, Wait};
 
-/// What the leader of a flight is told once it landed.
+/// Outcome of a landing, as the leader of its flight is told it.
 #[derive(Drop)]
 pub struct Told<K: CacheKey, J: System, L: Ledger> {
     /// The receipt of the flight's cell.

@@ -1,3 +1,4 @@
+pub mod Calls
 pub mod Completions
 pub mod Counting
 pub mod Entering

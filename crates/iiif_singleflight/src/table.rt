@@ -61,19 +61,14 @@ impl<L: Ledger> Limit<L> {
 }
 
 impl<K: CacheKey, J: System, L: Ledger> Table<K, J, L> {
-    ghost use Rattle.std.specs.Prelude.{◌^◌, ◌<◌, ◌≤◌, ◌+◌, IfOk, IfSome, IsSome, IsTrue, MatchOption, None, OnErr, OnOk, is_some, length};
-    ghost use Rattle.std.specs.Prelude.{option_map, if◌then◌else◌};
+    ghost use Rattle.std.specs.Prelude.{◌^◌, ◌<◌, ◌≤◌, ◌+◌, IfOk, IfSome, IsSome, IsTrue, None, OnErr, OnOk, is_some, length, option_map};
     ghost use Rattle.std.specs.Arc.{arc_value};
     ghost use Rattle.std.specs.NonZero.{non_zero_usize_get};
     ghost use Rattle.iiif_tables.specs.Cache.{bytes_in, kept_for};
-    ghost use Rattle.iiif_tables.specs.Flights.{again as looked, empty_table, enter as entered, has_ticket, land as landed};
-    ghost use Rattle.iiif_outcome.specs.Outcomes.{value_of, OutcomeFor};
-    ghost use Rattle.iiif_outcome.specs.Views.{entry_size, lead_cell, lead_class, lead_key, lead_ticket};
-    ghost use Rattle.iiif_singleflight.specs.Completions.{completion_cell, completion_kept, completion_known, completion_own};
-    ghost use Rattle.iiif_singleflight.specs.Completions.{completion_refused, completion_taken, completion_ticket, told_ticket};
-    ghost use Rattle.iiif_singleflight.specs.Entering.{CellsMeet, HitMeans, HitOf, HitPasses, Meets};
-    ghost use Rattle.iiif_singleflight.specs.Held.{open_at};
-    ghost use Rattle.iiif_singleflight.specs.Seen.{the_flight, with_at};
+    ghost use Rattle.iiif_tables.specs.Flights.{again as looked, empty_table};
+    ghost use Rattle.iiif_outcome.specs.Outcomes.{OutcomeFor};
+    ghost use Rattle.iiif_outcome.specs.Views.{entry_size, lead_class, lead_key, lead_ticket};
+    ghost use Rattle.iiif_singleflight.specs.Calls.{Enters, Lands};
     ghost use Rattle.iiif_singleflight.specs.View.{cells_of, limit_of, table_of};
 
     /// Makes the table of a ledger that no other has, for `bytes` bytes in all and `entries` entries a list, and the pass that has all
@@ -167,15 +162,7 @@ impl<K: CacheKey, J: System, L: Ledger> Table<K, J, L> {
         key: &K,
         class: Class,
     ) -> Result<Entered<K, J, L>, NoMemory>
-        ensures table { OnOk result (table_of K.eq self.new ≡ (entered K.eq class key.now (table_of K.eq self.old)).1) }
-        ensures met { IfOk result (λ e. Meets class key.now (entered K.eq class key.now (table_of K.eq self.old)).0 e) }
-        ensures known { IfOk result (λ e. HitOf key.now e) }
-        ensures meant { IfOk result (λ e. HitMeans (J.stable (K.name_of key.now) × IsTrue J.honest) (K.meaning J.pictures key.now) e) }
-        ensures shaped { IfOk result (λ e. HitPasses (K.is_shaped J.pictures key.now) e) }
-        ensures cells { IfOk result (λ e. CellsMeet K.eq class key.now (cells_of K.eq self.old) (cells_of K.eq self.new) e) }
-        ensures pass { OnOk result ((pass.new.gets ≡ pass.old.gets + 1) × (pass.new.parts ≡ pass.old.parts)) }
-        ensures err { OnErr result ((table_of K.eq self.new ≡ table_of K.eq self.old) × (cells_of K.eq self.new ≡ cells_of K.eq self.old) ×
-            (pass.new.gets ≡ pass.old.gets) × (pass.new.parts ≡ pass.old.parts)) }
+        ensures { Enters class key.now self.old self.new pass.old pass.new result }
     {
         if self.book.gets == u64::MAX {
             return Err(AllocError);
@@ -240,21 +227,7 @@ impl<K: CacheKey, J: System, L: Ledger> Table<K, J, L> {
         place: Place,
     ) -> Completion<K, J, L>
         requires { OutcomeFor K.CacheKey.own J.System (lead_key lead) outcome }
-        ensures table { table_of K.eq self.new ≡ landed K.eq (entry_size K.key_bytes K.val_bytes) (completion_kept result) (lead_class lead)
-            (lead_key lead) (lead_ticket lead) (value_of outcome) place (table_of K.eq self.old) }
-        ensures ticket { completion_ticket result ≡ lead_ticket lead }
-        ensures taken { IsTrue (completion_taken result) → (told_ticket result ≡ lead_ticket lead) ×
-            IfSome (completion_known result) (λ x. (x.outcome ≡ outcome) × (arc_value x.key ≡ lead_key lead)) }
-        ensures taken_is_own { IsTrue (completion_taken result) → IsTrue (completion_own result) }
-        ensures own { IsTrue (completion_own result) → (told_ticket result ≡ lead_ticket lead) ×
-            IfSome (completion_known result) (λ x. arc_value x.key ≡ lead_key lead) }
-        ensures kept { IsTrue (completion_kept result) → IsTrue (completion_taken result) }
-        ensures refused { MatchOption (completion_refused result) (IsTrue (completion_taken result))
-            (λ b. (b.value.outcome ≡ outcome) × (arc_value b.value.key ≡ lead_key lead) × (b.value.ticket ≡ lead_ticket lead)) }
-        ensures cell { completion_cell result ≡ lead_cell lead }
-        ensures cells { cells_of K.eq self.new ≡
-            (if has_ticket (lead_ticket lead) (option_map the_flight (open_at K.eq self.old.opens (lead_class lead) (lead_key lead))) then
-            with_at K.eq (lead_class lead) (lead_key lead) None (cells_of K.eq self.old) else cells_of K.eq self.old) }
+        ensures { Lands lead outcome place self.old self.new result }
     {
         let class = lead.class();
         let ticket = lead.ticket();

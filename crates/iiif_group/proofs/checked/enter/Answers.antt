@@ -5,7 +5,6 @@ use Rattle.iiif_tables.specs.Flights.{enter, Table as Plain}
 use Rattle.iiif_outcome.specs.Views.{lead_class, lead_key, lead_ticket}
 use Rattle.iiif_singleflight.specs.Entering.{Meets}
 use Rattle.iiif_singleflight.specs.View.{table_of}
-use Rattle.iiif_singleflight.specs.declared.entered.Entered.{Entered}
 use Rattle.iiif_singleflight.specs.declared.entered.Entered.TheVariants.{Lead}
 use Rattle.iiif_group.proofs.Entering.{again_none, enter_led_kept, found_none, none_is_some}
 use Rattle.iiif_group.proofs.checked.enter.Goals as goal
