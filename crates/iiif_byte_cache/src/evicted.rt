@@ -10,7 +10,7 @@ pub struct Evicted<K, E> {
 
 impl<K: Drop, E: Drop> Evicted<K, E> {
     /// Makes an empty list, which takes no memory.
-    pub fn new(alloc: Global) -> Evicted<K, E> {
+    pub(crate) fn new(alloc: Global) -> Evicted<K, E> {
         Evicted {
             list: Vec::new(alloc),
         }
