@@ -128,6 +128,31 @@ def a_held_file_is_answered_after_it_was_cut_and_removed(program, room):
     return got, [(200, sample_file()), (500, b"L1 source\n")], command(program, "--edge", 2, "--hold", 190, "a=sample.tif")
 
 
+def write_over(path, data):
+    """Writes over a file in its place, until the system tells another time of its last change: its clock of files ticks."""
+    before = os.stat(path).st_mtime_ns
+    while os.stat(path).st_mtime_ns == before:
+        with open(path, "r+b") as file:
+            file.write(data)
+
+
+@shows("--hold")
+def a_file_that_is_written_over_gives_old_pixels_or_none(program, room):
+    # What is kept of it is the old picture; what isn't is only where the file is held.
+    got = []
+    for hold in (190, 189):
+        path = sample_in(room, f"written_over_{hold}")
+        with open(path, "rb") as file:
+            other = bytearray(file.read())
+        other[-16:] = bytes(255 - it for it in other[-16:])
+        with Server(program, ["a=" + path], ["--edge", 2, "--hold", hold]) as server:
+            asked(server.port, LAST_TILE)
+            write_over(path, other)
+            got += [asked(server.port, SAMPLE_TARGET), asked(server.port, LAST_TILE)]
+    whole, tile = (200, sample_file()), (200, sample_file(LAST_TILE))
+    return got, [whole, tile, (500, b"L1 source\n"), tile], command(program, "--edge", 2, "--hold", 190, "a=sample.tif")
+
+
 @shows("--cache-bytes")
 def a_cache_of_0_keeps_no_tile_for_the_second_call(program, room):
     # The sample has four tiles of edge 2: each of two calls asks for the four, and the second finds them where they are kept.
@@ -143,23 +168,37 @@ def a_cache_of_0_keeps_no_tile_for_the_second_call(program, room):
     return got, [(True, 4, 4), (True, 0, 8)], command(program, *words, "a=:sample")
 
 
-@shows("--band")
-def the_first_band_is_sent_before_the_second_is_read(program, room):
-    # Of 512 rows in tiles of 256 the lower tiles are cut off once the file is open: bands of 64 rows are sent as far as row 256, and one of
-    # 512 isn't.
-    rows = [[[(x + y) % 256] for x in range(512)] for y in range(512)]
-    whole, got = plain(rows, 1, 8, 256, 0, "<", False), []
-    answer = file_of(rows, "default", judge(whole))
-    for band in (64, 512):
-        path = f"{room}/bands_{band}.tif"
-        with open(path, "wb") as file:
-            file.write(whole)
-        words = ["--edge", 256, "--cache-bytes", 0, "--workers", 1, "--band", band]
-        with Server(program, ["a=" + path], words) as server:
-            os.truncate(path, 8 + 2 * 256 * 256)
-            status, body = asked(server.port, SAMPLE_TARGET)
-        got.append((status, body if len(body) < 100 else answer.startswith(body) and 0 < len(body) <= 174 + 256 * 512))
-    return got, [(200, True), (500, b"L1 source\n")], command(program, *words, "a=" + path)
+def calls_of(server):
+    """How often a server's process read a file or a socket."""
+    with open(f"/proc/{server.process.pid}/io", encoding="utf-8") as file:
+        return next(line for line in file if line.startswith("syscr"))
+
+
+def rest(server):
+    """Waits until a server reads nothing for a while."""
+    before = None
+    while before != calls_of(server):
+        before = calls_of(server)
+        time.sleep(0.5)
+
+
+@shows("--band", 4)
+def the_first_band_is_sent_before_the_last_is_read(program, room):
+    # An image of 16 MiB has room in no socket: of bands of 64 rows the later ones aren't read before the viewer reads, so what is cut off
+    # meanwhile isn't sent; one of 4,096 rows was read before its first byte was sent.
+    got, path = [], f"{room}/bands.tif"
+    for band in (64, 4096):
+        picture(path, 4096, 4096)
+        words = ["--cache-bytes", 0, "--workers", 1, "--band", band]
+        with Server(program, ["a=" + path], words) as server, connected(server.port) as link:
+            link.setsockopt(socket.SOL_SOCKET, socket.SO_RCVBUF, 65536)
+            link.sendall(f"GET {SAMPLE_TARGET} HTTP/1.1\r\nHost: localhost\r\nConnection: close\r\n\r\n".encode())
+            first = exactly(link, 1)
+            rest(server)
+            os.truncate(path, 1000)
+            count = len(first + to_the_end(link)[0].partition(b"\r\n\r\n")[2])
+        got.append(1 < count < 4096 * 4096 or count > 4096 * 4096 and "whole")
+    return got, [True, "whole"], command(program, *words, "a=" + path)
 
 
 def threads_of(program, room, workers, wanted=0, seconds=1.5, most_seconds=30):

@@ -15,7 +15,9 @@ use std::io;
 use std::marker::Model;
 use std::sync::{Arc, Wait};
 
-/// A file by its path, opened when it is read. It is seen as its path and the length that it had when the source was made.
+/// A file by its path, opened when it is read. It is seen as its path and the length that it had when the source was made. Behind each read
+/// its length and the time of its last change are looked at once more: a file that was written over since the source was made gives no
+/// bytes, so no picture is made of old bytes and new. That is as good as the time that the file system tells.
 #[derive(Drop)]
 pub struct PathSource<R: Opens> {
     files: Arc<OpenFiles<R>>,
@@ -86,20 +88,28 @@ impl<R: Opens + Wait> PathSource<R> {
         }
     }
 
-    /// Whether an open file is what it was.
-    fn is_unchanged(&self, rt: &R, file: &OpenFile<R>) -> bool
-        ensures { IsTrue result → Says R.tells file.now.handle (λ found. metadata_len found ≡ self.now.len) }
+    /// Looks whether an open file is still what it was when the source was made. If not, what was read of it is of no use, and a read that
+    /// began at this place has failed; rows that were read ahead of this opening are let go.
+    fn check_unchanged(&self, rt: &R, opening: &Opening<R>, at: u64) -> Result<(), ReadFault>
+        ensures length { OnOk result (Says R.tells opening.now.file.handle (λ found. metadata_len found ≡ self.now.len)) }
+        ensures place { IfErr result (λ f. f.place ≡ at) }
+        ensures cause { IfErr result (λ f. IsTrue (f.cause == failed || f.cause == ended)) }
     {
-        match file.metadata(rt) {
-            Ok(now) => self.known.change(&Known::of(&now)).is_none(),
-            Err(_) => false,
-        }
+        let cause = match opening.file.metadata(rt) {
+            Ok(now) => self.known.change(&Known::of(&now)),
+            Err(_) => Some(ReadFault::FAILED),
+        };
+        let Some(cause) = cause else {
+            return Ok(());
+        };
+        self.files.forget_rows(rt, opening.number);
+        Err(ReadFault { place: at, cause })
     }
 
-    /// Reads runs of the open file. Where they lie apart, and the file is what it was, they are taken from rows that were read ahead
-    /// of this opening, or their rows are read ahead: a read of these that fails isn't made again, its fault is the runs'. Where
-    /// nothing is to be read ahead they are read alone.
-    #[tactic(auto, using(iiif_source::proofs::Faults::by_cause))]
+    /// Reads runs of the open file. Where they lie apart they are taken from rows that were read ahead of this opening, or their rows are
+    /// read ahead: a read of these that fails isn't made again, its fault is the runs'. Where nothing is to be read ahead they are read
+    /// alone. A file that was changed by then gives nothing.
+    #[tactic(auto, using(iiif_source::proofs::Faults::by_cause, iiif_source::proofs::Faults::first_begins))]
     fn read_runs_of(
         &self,
         rt: &R,
@@ -113,28 +123,27 @@ impl<R: Opens + Wait> PathSource<R> {
         ensures length { length buffer.new ≡ length buffer.old }
         ensures runs { R.keeps self.now.path →
             OnOk result (HoldsRuns (fitted self.now.len (R.holds self.now.path)) runs runs.count buffer.new) }
+        ensures checked { OnOk result (Says R.tells opening.now.file.handle (λ found. metadata_len found ≡ self.now.len)) }
         ensures place { IfErr result (λ f. BeginsAt runs f.place) }
-        ensures fault { IfErr result (λ f. IsTrue (gave_of (R.gave self.now.path) f)) }
         ensures cause { IfErr result (λ f. IsTrue (f.cause == failed || f.cause == ended)) }
     {
-        if runs.count > 1 && (runs.len as u64) < runs.stride {
-            if !self.is_unchanged(rt, &opening.file) {
-                self.files.forget_rows(rt, opening.number);
-            } else if self
+        let lie_apart = runs.count > 1 && (runs.len as u64) < runs.stride;
+        if lie_apart
+            && self
                 .files
                 .read_ahead(rt, opening, self.known.len, runs, buffer)?
-            {
-                return Ok(());
-            }
+        {
+            return self.check_unchanged(rt, opening, runs.at);
         }
         let source = Opened {
             file: &opening.file,
             len: self.known.len,
         };
-        source.read_runs(rt, runs, buffer)
+        source.read_runs(rt, runs, buffer)?;
+        self.check_unchanged(rt, opening, runs.at)
     }
 
-    /// Reads bytes of the open file.
+    /// Reads bytes of the open file. A file that was changed by then gives nothing.
     #[tactic(auto, using(iiif_source::proofs::Faults::by_cause))]
     fn fill(
         &self,
@@ -148,15 +157,16 @@ impl<R: Opens + Wait> PathSource<R> {
         ensures bytes { R.keeps self.now.path →
             OnOk result (buffer.new ≡ take (length buffer.old) (drop at (fitted self.now.len (R.holds self.now.path)))) }
         ensures read { OnOk result (R.reads self.now.path at buffer.new) }
+        ensures checked { OnOk result (Says R.tells opening.now.file.handle (λ found. metadata_len found ≡ self.now.len)) }
         ensures place { IfErr result (λ f. f.place ≡ at) }
-        ensures fault { IfErr result (λ f. IsTrue (gave_of (R.gave self.now.path) f)) }
         ensures cause { IfErr result (λ f. IsTrue (f.cause == failed || f.cause == ended)) }
     {
         let source = Opened {
             file: &opening.file,
             len: self.known.len,
         };
-        source.read_at(rt, at, buffer)
+        source.read_at(rt, at, buffer)?;
+        self.check_unchanged(rt, opening, at)
     }
 }
 

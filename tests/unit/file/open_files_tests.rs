@@ -113,12 +113,36 @@ const KEPT: &[Step] = &[
     Step::Change("open_files_other", Change::Removed),
 ];
 
+/// A file that is cut while it is open gives none of the bytes that it still has.
 const CUT: &[Step] = &[
     Step::Open("open_files_cut", Bytes::These(&[1, 2, 3])),
     Step::Change("open_files_cut", Change::Resized(2)),
-    Step::Ask(0, Ask::Two(1, Err(2))),
-    Step::Ask(0, Ask::Two(0, Ok([1, 2]))),
+    Step::Ask(0, Ask::Two(1, Err(ReadFault::ENDED))),
+    Step::Ask(0, Ask::Two(0, Err(ReadFault::ENDED))),
     Step::Change("open_files_cut", Change::Removed),
+];
+
+/// Files that are written over in their places, one while it is open and one while it isn't, and one that isn't.
+const WRITTEN_OVER: &[Step] = &[
+    Step::Open("open_files_over_closed", Bytes::These(&[1, 2, 3])),
+    Step::Open("open_files_over_open", Bytes::These(&[4, 5, 6])),
+    Step::Ask(1, Ask::Two(0, Ok([4, 5]))),
+    Step::Change(
+        "open_files_over_closed",
+        Change::Written(Bytes::These(&[7, 8, 9])),
+    ),
+    Step::Change(
+        "open_files_over_open",
+        Change::Written(Bytes::These(&[4, 5, 6])),
+    ),
+    Step::Ask(1, Ask::Two(0, Err(ReadFault::FAILED))),
+    Step::Ask(0, Ask::Two(1, Err(ReadFault::FAILED))),
+    Step::Open("open_files_over_anew", Bytes::These(&[1, 2, 3])),
+    Step::Ask(2, Ask::Two(1, Ok([2, 3]))),
+    Step::Ask(1, Ask::Two(1, Err(ReadFault::FAILED))),
+    Step::Change("open_files_over_closed", Change::Removed),
+    Step::Change("open_files_over_open", Change::Removed),
+    Step::Change("open_files_over_anew", Change::Removed),
 ];
 
 /// Two files of one length, asked in turn where one of them alone is open.
@@ -235,7 +259,7 @@ fn threads_share_the_open_files(rt: HostRuntime) -> Result<(), Fail> {
 }
 
 /// How many files are kept open, and what is done.
-static LISTS: [(usize, &[(u32, &[Step])]); 8] = [
+static LISTS: [(usize, &[(u32, &[Step])]); 9] = [
     (1, &[(1, BY_NAME)]),
     (1, &[(1, REPLACED)]),
     (1, &[(1, EMPTY)]),
@@ -244,6 +268,7 @@ static LISTS: [(usize, &[(u32, &[Step])]); 8] = [
     (1, FAULTS),
     (1, &[(1, KEPT)]),
     (1, &[(1, CUT)]),
+    (1, &[(1, WRITTEN_OVER)]),
 ];
 
 #[test]
@@ -259,32 +284,37 @@ fn file_is_read_after_a_refused_growth(rt: HostRuntime) -> Result<(), Fail> {
     run(&rt, 1, &GROWTH)
 }
 
-/// The metadata found of a file that was known as [1, 2, 4, 3] (the device, the node, the moment when it was made, the length), and the
-/// cause of the fault that comes of it.
-static KNOWN: [([u64; 4], Option<u8>); 8] = [
-    ([1, 2, 4, 3], None),
-    ([1, 2, 4, 2], Some(2)),
-    ([1, 2, 4, 4], Some(1)),
-    ([2, 2, 4, 3], Some(1)),
-    ([1, 3, 4, 3], Some(1)),
-    ([1, 3, 4, 2], Some(1)),
-    ([1, 2, 5, 3], Some(1)),
-    ([1, 2, 5, 2], Some(1)),
+/// The metadata found of a file that was known as [1, 2, 4, 6, 3] (the device, the node, the moments when it was made and when its bytes
+/// were last changed, the length), and the cause of the fault that comes of it.
+static KNOWN: [([u64; 5], Option<u8>); 11] = [
+    ([1, 2, 4, 6, 3], None),
+    ([1, 2, 4, 6, 2], Some(2)),
+    ([1, 2, 4, 6, 4], Some(1)),
+    ([1, 2, 4, 7, 3], Some(1)),
+    ([1, 2, 4, 5, 3], Some(1)),
+    ([1, 2, 4, 7, 2], Some(2)),
+    ([2, 2, 4, 6, 3], Some(1)),
+    ([1, 3, 4, 6, 3], Some(1)),
+    ([1, 3, 4, 6, 2], Some(1)),
+    ([1, 2, 5, 6, 3], Some(1)),
+    ([1, 2, 5, 6, 2], Some(1)),
 ];
 
 #[test]
 fn change_of_a_file_has_its_cause(rt: HostRuntime) {
-    for (case, ([device, node, born, len], cause)) in KNOWN.iter().enumerate() {
+    for (case, ([device, node, born, changed, len], cause)) in KNOWN.iter().enumerate() {
         let was = Known {
             device: 1,
             node: 2,
             born: 4,
+            changed: 6,
             len: 3,
         };
         let now = Known {
             device: *device,
             node: *node,
             born: *born,
+            changed: *changed,
             len: *len,
         };
         assert!(rt; is_same(&was.change(&now), cause), "case {case}");
@@ -294,9 +324,10 @@ fn change_of_a_file_has_its_cause(rt: HostRuntime) {
 /// A moment in 2001, in nanoseconds since the beginning of 1970.
 const IN_2001: u64 = 1_000_000_000_000_000_000;
 
-/// Two files of a folder differ in their nodes, a device in its device; the moment when a file was made is known where the system says it.
+/// Two files of a folder differ in their nodes, a device in its device; the moments when a file was made and when it was last changed are
+/// known where the system says them.
 #[test]
-fn files_are_known_by_device_node_and_moment(rt: HostRuntime) -> Result<(), Fail> {
+fn files_are_known_by_device_node_and_moments(rt: HostRuntime) -> Result<(), Fail> {
     fs::write(&rt, "known_one", &[1])?;
     fs::write(&rt, "known_two", &[1])?;
     let told = fs::metadata(&rt, "known_one")?;
@@ -314,5 +345,6 @@ fn files_are_known_by_device_node_and_moment(rt: HostRuntime) -> Result<(), Fail
         is_same(&(one.born > IN_2001), &told.created().is_ok()),
         "{one:?}"
     );
+    assert!(rt; one.changed > IN_2001, "{one:?}");
     Ok(())
 }

@@ -1,11 +1,14 @@
 //! Runs of files that are read ahead: the bytes are those of the file, in whatever order they are asked for.
 
-use crate::file::steps::{Ask, Bytes, Change, Outcome, Place, Shared, Step, fit, run};
+use crate::file::steps::{
+    Ask, Bytes, Change, Outcome, Place, Shared, Step, bytes_of, fit, is_answered, open, open_files, run, write_over,
+};
 use crate::fixtures::is_same;
 use iiif_open_files::{Opening, Opens, RowShelf, WideRows, wider};
 use iiif_source::{OpenFile, ReadFault, Runs, Source};
 use std::alloc::Global;
 use std::fs;
+use std::fs::File;
 use std::sync::Arc;
 use std::test::Fail;
 
@@ -62,7 +65,7 @@ const TWO: &[Step] = &[
     Step::Change("rows_two", Change::Removed),
 ];
 
-/// A file that is cut while it is open has ended, though its rows were read ahead; as long again it holds what it holds now.
+/// A file that is cut while it is open has ended, though its rows were read ahead; as long again it isn't what it was.
 const CUT: &[Step] = &[
     Step::Open("rows_cut", Bytes::Numbered(7, 4000)),
     Step::Ask(0, Ask::Runs(7, (0, 100, 4, 8), Outcome::Right)),
@@ -73,42 +76,44 @@ const CUT: &[Step] = &[
         Ask::Runs(7, (4, 100, 4, 8), Outcome::Fault(ReadFault::ENDED)),
     ),
     Step::Change("rows_cut", Change::Resized(4000)),
-    Step::Ask(0, Ask::Runs(7, (4, 100, 4, 8), Outcome::Wrong)),
-    Step::Ask(0, Ask::Runs(7, (4, 100, 4, 20), Outcome::Wrong)),
+    Step::Ask(
+        0,
+        Ask::Runs(7, (4, 100, 4, 8), Outcome::Fault(ReadFault::FAILED)),
+    ),
+    Step::Ask(
+        0,
+        Ask::Runs(7, (4, 100, 4, 20), Outcome::Fault(ReadFault::FAILED)),
+    ),
     Step::Change("rows_cut", Change::Removed),
 ];
 
-/// A file that is written over while it isn't open is read anew, and one that is another then isn't read.
-const ANEW: &[Step] = &[
-    Step::Open("rows_anew", Bytes::Numbered(1, 4000)),
+/// A file that is written over gives no rows, whether they were read ahead or not; nor does another that takes its name.
+const WRITTEN_OVER: &[Step] = &[
+    Step::Open("rows_over", Bytes::Numbered(1, 4000)),
     Step::Ask(0, Ask::Runs(1, (0, 100, 4, 8), Outcome::Right)),
     Step::Ask(0, Ask::Runs(1, (0, 100, 4, 20), Outcome::Right)),
-    Step::Open("rows_beside", Bytes::Numbered(2, 4000)),
-    Step::Change("rows_anew", Change::Written(Bytes::Numbered(3, 4000))),
-    Step::Ask(0, Ask::Runs(3, (4, 100, 4, 8), Outcome::Right)),
-    Step::Ask(0, Ask::Runs(3, (4, 100, 4, 20), Outcome::Right)),
-    Step::Ask(1, Ask::Runs(2, (4, 100, 4, 8), Outcome::Right)),
-    Step::Change("rows_anew", Change::Replaced(&[1, 2, 3])),
+    Step::Change("rows_over", Change::Written(Bytes::Numbered(3, 4000))),
     Step::Ask(
         0,
-        Ask::Runs(3, (4, 100, 4, 8), Outcome::Fault(ReadFault::FAILED)),
+        Ask::Runs(1, (4, 100, 4, 8), Outcome::Fault(ReadFault::FAILED)),
     ),
-    Step::Change("rows_anew", Change::Removed),
+    Step::Ask(
+        0,
+        Ask::Runs(1, (1200, 100, 4, 20), Outcome::Fault(ReadFault::FAILED)),
+    ),
+    Step::Open("rows_beside", Bytes::Numbered(2, 4000)),
+    Step::Ask(1, Ask::Runs(2, (4, 100, 4, 8), Outcome::Right)),
+    Step::Ask(
+        0,
+        Ask::Runs(1, (4, 100, 4, 8), Outcome::Fault(ReadFault::FAILED)),
+    ),
+    Step::Change("rows_over", Change::Replaced(&[1, 2, 3])),
+    Step::Ask(
+        0,
+        Ask::Runs(1, (4, 100, 4, 8), Outcome::Fault(ReadFault::FAILED)),
+    ),
+    Step::Change("rows_over", Change::Removed),
     Step::Change("rows_beside", Change::Removed),
-];
-
-/// A file that is opened anew twice, and written over in between: what was read ahead of the first time isn't used for the second.
-const TWICE: &[Step] = &[
-    Step::Open("rows_twice", Bytes::Numbered(1, 4000)),
-    Step::Open("rows_between", Bytes::Numbered(2, 4000)),
-    Step::Ask(0, Ask::Runs(1, (0, 100, 4, 8), Outcome::Right)),
-    Step::Ask(0, Ask::Runs(1, (0, 100, 4, 20), Outcome::Right)),
-    Step::Ask(1, Ask::Runs(2, (0, 100, 4, 8), Outcome::Right)),
-    Step::Change("rows_twice", Change::Written(Bytes::Numbered(3, 4000))),
-    Step::Ask(0, Ask::Runs(3, (4, 100, 4, 8), Outcome::Right)),
-    Step::Ask(0, Ask::Runs(3, (4, 100, 4, 20), Outcome::Right)),
-    Step::Change("rows_twice", Change::Removed),
-    Step::Change("rows_between", Change::Removed),
 ];
 
 /// Columns of 20 groups of rows, more than are kept.
@@ -145,13 +150,12 @@ pub(crate) const SHARED: Shared = Shared {
 };
 
 /// How many files are kept open, and what is done.
-static LISTS: [(usize, &[(u32, &[Step])]); 6] = [
-    (1, &[(1, TWICE)]),
+static LISTS: [(usize, &[(u32, &[Step])]); 5] = [
     (1, &[(1, ORDERS)]),
     (1, &[(1, EDGES)]),
     (2, &[(1, TWO)]),
     (1, &[(1, CUT)]),
-    (1, &[(1, ANEW)]),
+    (1, &[(1, WRITTEN_OVER)]),
 ];
 
 #[test]
@@ -159,6 +163,28 @@ fn runs_are_those_of_the_file(rt: HostRuntime) -> Result<(), Fail> {
     for (most, lists) in LISTS.iter() {
         run(&rt, *most, *lists)?;
     }
+    Ok(())
+}
+
+/// A file that was written over, and has its bytes and the time of its last change again, gives them: rows that were read ahead of it
+/// meanwhile aren't used.
+#[test]
+fn rows_of_a_file_that_was_changed_are_forgotten(rt: HostRuntime) -> Result<(), Fail> {
+    let (path, was) = ("rows_put_back", Bytes::Numbered(1, 4000));
+    let files = open_files(rt.alloc(), 1)?;
+    fs::write(&rt, path, bytes_of(rt.alloc(), was)?.as_slice())?;
+    let changed = fs::metadata(&rt, path)?.modified()?;
+    let source = open(&rt, rt.alloc(), &files, path)??;
+    write_over(&rt, path, Bytes::Numbered(3, 4000))?;
+    let refused = Outcome::Fault(ReadFault::FAILED);
+    assert!(rt; is_answered(&rt, &source, Ask::Runs(1, (0, 100, 4, 8), refused), 0));
+    write_over(&rt, path, was)?;
+    File::options()
+        .write(true)
+        .open(&rt, path)?
+        .set_modified(changed)?;
+    assert!(rt; is_answered(&rt, &source, Ask::Runs(1, (4, 100, 4, 8), Outcome::Right), 0));
+    fs::remove_file(&rt, path)?;
     Ok(())
 }
 

@@ -47,7 +47,7 @@ pub(crate) enum Change {
     Removed,
     /// It has so many bytes from now on.
     Resized(u64),
-    /// It is written over.
+    /// It is written over in its place.
     Written(Bytes),
     /// Another file, of these bytes, takes its name.
     Replaced(&'static [u8]),
@@ -263,6 +263,21 @@ where
     Ok(fs::write(rt, path, bytes_of(rt.alloc(), bytes)?.as_slice())?)
 }
 
+/// Writes over a file in its place, until the system tells another time of its last change: the clock of its files ticks some milliseconds
+/// apart.
+pub(crate) fn write_over<R>(rt: &R, path: &str, bytes: Bytes) -> Result<(), Fail>
+where
+    R: Files<File = File> + AllocGlobal,
+{
+    let before = fs::metadata(rt, path)?.modified()?;
+    loop {
+        write(rt, path, bytes)?;
+        if fs::metadata(rt, path)?.modified()? != before {
+            return Ok(());
+        }
+    }
+}
+
 /// Writes another file, which takes the name of one that is there.
 fn replace<R>(rt: &R, path: &str, bytes: &[u8]) -> Result<(), Fail>
 where
@@ -298,7 +313,7 @@ where
     match how {
         Change::Removed => Ok(fs::remove_file(rt, path)?),
         Change::Resized(len) => Ok(resize(rt, path, len)?),
-        Change::Written(bytes) => write(rt, path, bytes),
+        Change::Written(bytes) => write_over(rt, path, bytes),
         Change::Replaced(bytes) => replace(rt, path, bytes),
         Change::MadeAgain(bytes) => Ok(make_again(rt, path, bytes)?),
     }
