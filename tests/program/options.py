@@ -182,6 +182,33 @@ def rest(server):
         time.sleep(0.5)
 
 
+@shows("--cache-entries")
+def a_cache_of_3_entries_keeps_no_tile_of_four_for_the_second_call(program, room):
+    # Each call asks for the four tiles in one order: a list of three has let go the one that is asked for next.
+    got = []
+    for entries in (4, 3):
+        statistics = free_port()
+        words = ["--edge", 2, "--workers", 1, "--cache-entries", entries, "--stats-listen", f"127.0.0.1:{statistics}"]
+        with Server(program, ["a=:sample"], words) as server:
+            bodies = {asked(server.port, SAMPLE_TARGET) for _ in range(2)}
+            text = page(statistics, "/metrics")[1]
+            found = [counter(text, f"iiif_tile_cache_{it}_total") for it in ("hits", "loads")]
+            got.append((bodies == {(200, sample_file())}, *found))
+    words = ["--edge", 2, "--workers", 1, "--cache-entries", 3, "--stats-listen", "127.0.0.1:9090"]
+    return got, [(True, 4, 4), (True, 0, 8)], command(program, *words, "a=:sample")
+
+
+@shows("--cache-entries")
+def a_cache_that_gray_tiles_cannot_fill_is_warned_of(program, room):
+    told = "warning: --cache-bytes is more than --cache-entries gray tiles of --edge have: of such images the rest isn't used"
+    got = []
+    for entries in (4096, 4097):
+        with Server(program, ["a=:sample"], ["--cache-bytes", 2 ** 28 + 1, "--cache-entries", entries]) as server:
+            asked(server.port, SAMPLE_TARGET)
+            got.append(server.line())
+    return got, [told, ""], command(program, "--cache-bytes", 2 ** 28 + 1, "a=:sample")
+
+
 @shows("--band", 4)
 def the_first_band_is_sent_before_the_last_is_read(program, room):
     # An image of 16 MiB has room in no socket: of bands of 64 rows the later ones aren't read before the viewer reads, so what is cut off

@@ -25,6 +25,11 @@ const CACHE_BYTES: u64 = 67_108_864;
 
 const MOST_CACHE_BYTES: u64 = 1 << 40;
 
+/// The entries of each list of a cache where no number is given, and the most that may be.
+const CACHE_ENTRIES: u64 = 4096;
+
+const MOST_CACHE_ENTRIES: u64 = 1 << 24;
+
 /// How many bytes a file that is held in memory has at most where none are given, and the most that may be.
 const HOLD: u64 = 0;
 
@@ -79,7 +84,7 @@ const MOST_PORT: u64 = 65_535;
 const MOST_PEERS: usize = 63;
 
 /// The options that take one text each: the name, what the text is, and the help.
-static OPTIONS: [(&str, &str, &str); 17] = [
+static OPTIONS: [(&str, &str, &str); 18] = [
     ("base", "URL", "the URL that begins each image's"),
     ("edge", "PIXELS", "the edge of a tile, 256 if left out"),
     (
@@ -91,6 +96,11 @@ static OPTIONS: [(&str, &str, &str); 17] = [
         "cache-bytes",
         "BYTES",
         "the bytes kept of tiles, and of sums, 67108864 each if left out",
+    ),
+    (
+        "cache-entries",
+        "COUNT",
+        "the most tiles, and sums, that are kept, 4096 each if left out",
     ),
     (
         "hold",
@@ -178,6 +188,8 @@ pub enum LineFault {
     Max,
     #[error("cache")]
     Cache,
+    #[error("cache-entries")]
+    CacheEntries,
     #[error("hold")]
     Hold,
     #[error("band")]
@@ -251,6 +263,8 @@ pub struct Options<'a> {
     pub upscale: bool,
     /// The bytes of each group's cache.
     pub cache_bytes: u64,
+    /// The most entries of each of its two lists.
+    pub cache_entries: NonZeroUsize,
     /// The bytes of an image's file up to which it is held in memory.
     pub hold: u64,
     /// The rows of a band.
@@ -393,9 +407,9 @@ fn bytes(text: Option<&str>, default: u64, most: u64) -> Option<u64>
     Some(value)
 }
 
-/// How many files stay open: a whole number within its limits.
-fn open_files(text: Option<&str>) -> Option<NonZeroUsize> {
-    NonZeroUsize::new(number(text, OPEN_FILES, MOST_OPEN_FILES)? as usize)
+/// How many there are at most of something: a whole number from 1 to a greatest one.
+fn most(text: Option<&str>, default: u64, greatest: u64) -> Option<NonZeroUsize> {
+    NonZeroUsize::new(number(text, default, greatest)? as usize)
 }
 
 /// The names and files of the images of the words and of the list behind them: at least one, each name of its own and within
@@ -496,7 +510,7 @@ fn shares_in(matches: &ArgMatches<'_>) -> Result<Shares, LineFault> {
     let Some(workers) = number(matches.get_str("workers"), WORKERS, MOST_WORKERS) else {
         return Err(LineFault::Workers);
     };
-    let Some(open_files) = open_files(matches.get_str("open-files")) else {
+    let Some(open_files) = most(matches.get_str("open-files"), OPEN_FILES, MOST_OPEN_FILES) else {
         return Err(LineFault::OpenFiles);
     };
     let Some(touch_bytes) = bytes(
@@ -590,6 +604,13 @@ pub fn options_in<'t, 'a: 't>(
     ) else {
         return Err(LineFault::Cache);
     };
+    let Some(cache_entries) = most(
+        matches.get_str("cache-entries"),
+        CACHE_ENTRIES,
+        MOST_CACHE_ENTRIES,
+    ) else {
+        return Err(LineFault::CacheEntries);
+    };
     let Shares {
         hold,
         band,
@@ -607,6 +628,7 @@ pub fn options_in<'t, 'a: 't>(
         max,
         upscale: matches.get_flag("upscale"),
         cache_bytes,
+        cache_entries,
         hold,
         band,
         workers,

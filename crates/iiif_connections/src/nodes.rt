@@ -14,15 +14,11 @@ use iiif_open_files::Opens;
 use iiif_peer_link::{Peer, TcpLink};
 use iiif_pixel::NoMemory;
 use iiif_ring::Ring;
-use iiif_server::{Catalogue, Config, NoGate, Node, Stock};
+use iiif_server::{Catalogue, Config, NoGate, Node, Room, Stock};
 use iiif_start::Stored;
 use std::alloc::{AllocError, Global};
-use std::num::NonZeroUsize;
 use std::sync::Wait;
 use std::sync::ledger::Blank;
-
-/// The most entries of a list of a cache.
-const ENTRIES: usize = 4096;
 
 /// Names, and a link to each.
 #[derive(Drop)]
@@ -62,21 +58,17 @@ impl<'p, J: System> NamedLinks<'p, J> {
     }
 }
 
-/// What a group of a node among others is made with, with room for so many bytes. This node stands first in the ring, and its own link is
+/// What a group of a node among others is made with, with this room. This node stands first in the ring, and its own link is
 /// never asked. The only error is lack of memory.
 fn stock<'p, J: System>(
     alloc: Global,
     watcher: &'p Watcher,
-    bytes: u64,
+    room: Room,
     blank: Blank,
 ) -> Result<Stock<TcpLink<'p, J>, NoGate>, NoMemory>
-    requires honest { J.honest ≡ false }
-    requires bytes { bytes < 2 ^ 63 }
+    requires { J.honest ≡ false }
     ensures { (name parts : ℕ) → blank.name ≡ name → blank.parts ≡ parts → parts ≡ all_parts → IfOk result (IsStock name parts) }
 {
-    let Some(entries) = NonZeroUsize::new(ENTRIES) else {
-        return Err(AllocError);
-    };
     let neighbours = &watcher.neighbours;
     let mut named = NamedLinks::new(alloc).with(alloc, &neighbours.own, watcher)?;
     for peer in &neighbours.others {
@@ -87,8 +79,7 @@ fn stock<'p, J: System>(
         return Err(AllocError);
     };
     Ok(Stock {
-        bytes,
-        entries,
+        room,
         gate: NoGate,
         ring,
         own: Some(0),
@@ -97,15 +88,15 @@ fn stock<'p, J: System>(
     })
 }
 
-/// A node that asks the watcher's others for the values of the keys that they own, whose groups have room for so many bytes each. The names
-/// of the nodes are at most 64, and each stands once. The watcher is told of the asks. The blanks are those of tiles and of sums. The only
-/// error is lack of memory.
+/// A node that asks the watcher's others for the values of the keys that they own, whose groups have this room each. The names of the nodes
+/// are at most 64, and each stands once. The watcher is told of the asks. The blanks are those of tiles and of sums. The only error is lack
+/// of memory.
 pub fn among<'p, R: Opens + Wait, J: System>(
     alloc: Global,
     config: Config,
     catalogue: Catalogue<R, Stored<R>>,
     watcher: &'p Watcher,
-    bytes: u64,
+    room: Room,
     blanks: (Blank, Blank),
 ) -> Result<Node<R, Stored<R>, J, TcpLink<'p, J>>, NoMemory>
     requires pictures { (name : List ℕ) → J.pictures name ≡ pictures_of (bytes_of R.holds) catalogue name }
@@ -115,14 +106,13 @@ pub fn among<'p, R: Opens + Wait, J: System>(
     requires kept { (name : List ℕ) (item : _) → item_named catalogue name ≡ Some item → keeps_of R.keeps item.source → J.stable name }
     requires edge { config.edge ≡ J.edge }
     requires honest { J.honest ≡ false }
-    requires bytes { bytes < 2 ^ 63 }
     requires tiles { (blanks.0.name ≡ J.tiles_name) × (blanks.0.parts ≡ J.tiles_parts) × (J.tiles_parts ≡ all_parts) }
     requires sums { (blanks.1.name ≡ J.sums_name) × (blanks.1.parts ≡ J.sums_parts) × (J.sums_parts ≡ all_parts) }
     ensures settings { IfOk result (λ n. n.settings ≡ config) }
     ensures items { IfOk result (λ n. n.items ≡ catalogue) }
 {
     let (of_tiles, of_sums) = blanks;
-    let tiles = stock(alloc, watcher, bytes, of_tiles)?;
-    let sums = stock(alloc, watcher, bytes, of_sums)?;
+    let tiles = stock(alloc, watcher, room.again(), of_tiles)?;
+    let sums = stock(alloc, watcher, room, of_sums)?;
     Node::new(alloc, config, catalogue, tiles, sums)
 }

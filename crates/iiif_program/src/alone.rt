@@ -43,7 +43,6 @@ where
     R: Opens + Threads + Wait + Clock + Sync,
     R::Handle: Send + Sync,
     O: Outlet,
-    requires bytes { alone.cache_bytes < 2 ^ 63 }
     ensures held { AllHeld alone.catalogue → (text : List ℕ) × Appends (O.contents out.old) (O.contents out.new) text
         × IsAnswerOfHeld (bytes_of R.holds) alone.config alone.catalogue target.now ((before : O) × O.fails before out.new) text result }
 {
@@ -65,7 +64,6 @@ where
     R: Opens + Threads + Wait + Clock + Sync,
     R::Handle: Send + Sync,
     O: Outlet,
-    requires bytes { alone.cache_bytes < 2 ^ 63 }
     requires pictures { (name : List ℕ) → J.pictures name ≡ pictures_of (bytes_of R.holds) alone.catalogue name }
     requires gave { (name : List ℕ) (f : ReadFault) → J.gave name f ≡ gave_of stored_gave alone.catalogue name f }
     requires stable { (name : List ℕ) (item : _) → item_named alone.catalogue name ≡ Some item → J.stable name →
@@ -83,7 +81,7 @@ where
     let Makings {
         config,
         catalogue,
-        cache_bytes,
+        room,
     } = alone;
     let workers = config.workers();
     let (tiles, sums) = blanks;
@@ -91,7 +89,7 @@ where
         alloc,
         config,
         catalogue,
-        cache_bytes,
+        room,
         tiles,
         sums,
     ) else {

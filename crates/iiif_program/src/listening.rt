@@ -17,7 +17,7 @@ use iiif_io::Outlet;
 use iiif_keys::{PARTS, SumKey, System, TileKey};
 use iiif_open_files::Opens;
 use iiif_services::Listeners;
-use iiif_start::{Stop, Stored, touch, warn};
+use iiif_start::{Stop, Stored, touch, warn, warn_of_room};
 use std::alloc::Global;
 use std::marker::Brand;
 use std::net::{Net, TcpListener, TcpStream};
@@ -77,7 +77,6 @@ where
     R: AllocGlobal,
     R::Handle: Send + Sync,
     E: Outlet + Send,
-    requires bytes { made.cache_bytes < 2 ^ 63 }
     requires pictures { (name : List ℕ) → J.pictures name ≡ pictures_of (bytes_of R.holds) made.catalogue name }
     requires gave { (name : List ℕ) (f : ReadFault) → J.gave name f ≡ gave_of stored_gave made.catalogue name f }
     requires stable { (name : List ℕ) (item : _) → item_named made.catalogue name ≡ Some item → J.stable name →
@@ -92,7 +91,7 @@ where
     let Makings {
         config,
         catalogue,
-        cache_bytes,
+        room,
     } = made;
     let (alloc, workers) = (rt.alloc(), config.workers());
     let (tiles, sums) = blanks;
@@ -100,7 +99,7 @@ where
         alloc,
         config,
         catalogue,
-        cache_bytes,
+        room,
         tiles,
         sums,
     ) else {
@@ -122,7 +121,6 @@ where
     R: AllocGlobal,
     R::Handle: Send + Sync,
     E: Outlet + Send,
-    requires bytes { made.cache_bytes < 2 ^ 63 }
     requires pictures { (name : List ℕ) → J.pictures name ≡ pictures_of (bytes_of R.holds) made.catalogue name }
     requires gave { (name : List ℕ) (f : ReadFault) → J.gave name f ≡ gave_of stored_gave made.catalogue name f }
     requires stable { (name : List ℕ) (item : _) → item_named made.catalogue name ≡ Some item → J.stable name →
@@ -137,16 +135,17 @@ where
     let Makings {
         config,
         catalogue,
-        cache_bytes,
+        room,
     } = made;
     let (alloc, workers) = (rt.alloc(), config.workers());
-    match among::<R, J>(alloc, config, catalogue, post.watcher, cache_bytes, blanks) {
+    match among::<R, J>(alloc, config, catalogue, post.watcher, room, blanks) {
         Ok(node) => serve_by(rt, &node, workers, post, err),
         Err(_) => Err(Stop::Memory),
     }
 }
 
-/// Serves by a node, with so many workers for each viewer's connection. Once it listens, it warns of what clients can't ask for.
+/// Serves by a node, with so many workers for each viewer's connection. Once it listens, it warns of what clients can't ask for,
+/// and of a cache that can't be filled.
 fn serve_by<'a, R, E, J, N, T>(
     rt: &R,
     node: &Node<R, Stored<R>, J, N, T>,
@@ -177,7 +176,9 @@ where
         return Err(Stop::Listen);
     };
     // Where the warnings can't be written, it serves all the same.
-    let _ = warn(err, post.options.base, &post.options.images);
+    let options = post.options;
+    let _ = warn(err, options.base, &options.images);
+    let _ = warn_of_room(err, options.cache_bytes, options.cache_entries, options.edge);
     match serving::serve(rt, alloc, node, manner, &listeners, err) {
         Ok(()) => Ok(()),
         Err(_) => Err(Stop::Listen),

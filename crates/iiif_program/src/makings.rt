@@ -1,23 +1,23 @@
 //! What the node of the program is made of.
 
-ghost use Rattle.std.specs.Prelude.{◌≡◌, ◌<◌, ◌^◌, None, IfOk};
+ghost use Rattle.std.specs.Prelude.{◌≡◌, None, IfOk};
 ghost use Rattle.iiif_answers.specs.Settings.{refusal_of};
 ghost use Rattle.iiif_program.specs.Lines.{settings_in};
 
 use crate::settings::config;
 use iiif_command_line::Options;
-use iiif_connections::{Catalogue, Config, Nodes, Times, Watcher};
+use iiif_connections::{Catalogue, Config, Nodes, Room, Times, Watcher};
 use iiif_open_files::Opens;
 use iiif_start::{Held, Stop, Stored, open_catalogue};
 use std::alloc::Global;
 use std::sync::Wait;
 
-/// What a node is made of: what it was told, its images, and the bytes of each group's cache.
+/// What a node is made of: what it was told, its images, and the room of each group's cache.
 #[derive(Drop)]
 pub struct Makings<R: Opens + Wait> {
     pub config: Config,
     pub catalogue: Catalogue<R, Stored<R>>,
-    pub cache_bytes: u64,
+    pub room: Room,
 }
 
 /// What the node of the options is made of: the images are opened.
@@ -28,7 +28,8 @@ pub(crate) fn open_makings<'a, R: Opens + Wait>(
 ) -> Result<Makings<R>, Stop<'a>>
     requires { refusal_of (settings_in options.now) ≡ None }
     ensures config { IfOk result (λ m. m.config ≡ settings_in options.now) }
-    ensures bytes { IfOk result (λ m. m.cache_bytes < 2 ^ 63) }
+    ensures bytes { IfOk result (λ m. m.room.bytes ≡ options.now.cache_bytes) }
+    ensures entries { IfOk result (λ m. m.room.entries ≡ options.now.cache_entries) }
 {
     let config = config(alloc, options)?;
     let (images, hold) = (&options.images, options.hold);
@@ -36,7 +37,10 @@ pub(crate) fn open_makings<'a, R: Opens + Wait>(
     Ok(Makings {
         config,
         catalogue,
-        cache_bytes: options.cache_bytes,
+        room: Room {
+            bytes: options.cache_bytes,
+            entries: options.cache_entries,
+        },
     })
 }
 

@@ -69,7 +69,6 @@ where
     R: Opens + Threads + Wait + Clock + Sync,
     R::Handle: Send + Sync,
     O: Outlet,
-    requires bytes { made.cache_bytes < 2 ^ 63 }
 {
     if !one.hex {
         return answer_alone(rt, alloc, made, one.target, out);
@@ -98,7 +97,6 @@ where
         + AllocGlobal,
     R::Handle: Send + Sync,
     O: Outlet,
-    requires bytes { made.cache_bytes < 2 ^ 63 }
     requires pictures { (name : List ℕ) → J.pictures name ≡ pictures_of (bytes_of R.holds) made.catalogue name }
     requires gave { (name : List ℕ) (f : ReadFault) → J.gave name f ≡ gave_of stored_gave made.catalogue name f }
     requires stable { (name : List ℕ) (item : _) → item_named made.catalogue name ≡ Some item → J.stable name →
@@ -113,10 +111,10 @@ where
     let Makings {
         config,
         catalogue,
-        cache_bytes,
+        room,
     } = made;
     let (alloc, workers) = (rt.alloc(), config.workers());
-    let Ok(node) = among::<R, J>(alloc, config, catalogue, watcher, cache_bytes, blanks) else {
+    let Ok(node) = among::<R, J>(alloc, config, catalogue, watcher, room, blanks) else {
         return Err(Stop::Memory);
     };
     if one.hex {

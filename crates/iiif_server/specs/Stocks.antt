@@ -1,5 +1,5 @@
 -- What the groups of a node are made with.
-use Rattle.std.specs.Prelude.{◌≡◌, ℕ, ◌<◌, ◌^◌, length, vec_len, Result, IfOk, IfSome}
+use Rattle.std.specs.Prelude.{◌≡◌, ℕ, ◌<◌, length, vec_len, Result, IfOk, IfSome}
 use Rattle.std.specs.declared.sync.ledger.Blank.{Blank}
 use Rattle.iiif_keys.specs.Ledgers.{all_parts}
 use Rattle.iiif_server.specs.declared.stock.Stock.{Stock}
@@ -8,7 +8,6 @@ use Rattle.iiif_server.specs.declared.stock.Stock.{Stock}
 pub record IsStock {N T : Type 0} (name parts : ℕ) (s : Stock N T) : Type 0 where
   pub links : vec_len s.links ≡ length s.ring
   pub own : IfSome s.own (λ place. place < length s.ring)
-  pub bytes : s.bytes < 2 ^ 63
   pub blank_name : s.blank.name ≡ name
   pub blank_parts : s.blank.parts ≡ parts
   pub all : parts ≡ all_parts

@@ -11,6 +11,7 @@ ghost use Rattle.iiif_server.specs.Code.{HasImages};
 ghost use Rattle.iiif_server.specs.Nodes.{StandsFor};
 
 use crate::asking::{Asked, Host, Planned};
+use crate::room::Room;
 use crate::stock::Stock;
 use iiif_answers::accepted::Accepted;
 use iiif_answers::calls::{is_answered, part_of};
@@ -148,23 +149,22 @@ impl<R, S: Source<R> + Drop, J: System, N, T> Node<R, S, J, N, T> {
 impl<R, S: Source<R> + Drop, J: System> Node<R, S, J, NoLink, NoGate> {
     ghost use Rattle.iiif_server.specs.Stocks.{IsBlankOf};
 
-    /// A node that asks no other, whose groups have room for so many bytes each. The only error is lack of memory.
+    /// A node that asks no other, whose groups have this room each. The only error is lack of memory.
     pub fn alone(
         alloc: Global,
         config: Config,
         catalogue: Catalogue<R, S>,
-        bytes: u64,
+        room: Room,
         tiles: Blank,
         sums: Blank,
     ) -> Result<Self, NoMemory>
         requires names { StandsFor J.System S.Source config.edge catalogue }
-        requires bytes { bytes < 2 ^ 63 }
         requires tiles { IsBlankOf J.tiles_name J.tiles_parts tiles }
         requires sums { IsBlankOf J.sums_name J.sums_parts sums }
         ensures settings { IfOk result (λ n. n.settings ≡ config) }
         ensures items { IfOk result (λ n. n.items ≡ catalogue) }
     {
-        let (tiles, sums) = Stock::both_alone(alloc, bytes, tiles, sums)?;
+        let (tiles, sums) = Stock::both_alone(alloc, room, tiles, sums)?;
         Node::new(alloc, config, catalogue, tiles, sums)
     }
 }

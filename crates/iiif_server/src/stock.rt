@@ -1,18 +1,15 @@
 //! What the groups of a node are made with.
 
-ghost use Rattle.std.specs.Prelude.{◌≡◌, ◌<◌, ◌^◌, IfOk, length};
+ghost use Rattle.std.specs.Prelude.{◌≡◌, IfOk, length};
 ghost use Rattle.iiif_server.specs.Stocks.{HasStock, HasStocks, IsStock};
 
+use crate::room::Room;
 use iiif_keys::{CacheKey, System};
 use iiif_pixel::NoMemory;
 use iiif_ring::Ring;
 use iiif_sum_group::{Cluster, Group, NoGate, NoLink};
 use std::alloc::{AllocError, Global};
-use std::num::NonZeroUsize;
 use std::sync::ledger::{Blank, Ledger};
-
-/// The most entries of a list.
-const ENTRIES: usize = 4096;
 
 /// The name of a node that has no others beside it.
 const OWN_NAME: &str = "self";
@@ -20,10 +17,8 @@ const OWN_NAME: &str = "self";
 /// What a group of a node is made with: its room, its way to other nodes, and the ledger of its calls.
 #[derive(Drop)]
 pub struct Stock<N, T> {
-    /// The most bytes that keys and values may take together.
-    pub bytes: u64,
-    /// The most entries of a list.
-    pub entries: NonZeroUsize,
+    /// The room of its cache.
+    pub room: Room,
     /// What each load passes.
     pub gate: T,
     /// The ring of the nodes, at which place of it this one stands, if at any, and a link for each place.
@@ -47,14 +42,8 @@ impl<N: Drop, T: Drop> Stock<N, T> {
             own: self.own,
             links: self.links,
         };
-        Group::new(
-            alloc,
-            self.bytes,
-            self.entries,
-            self.gate,
-            cluster,
-            self.blank,
-        )
+        let Room { bytes, entries } = self.room;
+        Group::new(alloc, bytes, entries, self.gate, cluster, self.blank)
     }
 }
 
@@ -71,20 +60,16 @@ fn own_ring(alloc: Global) -> Result<Ring, NoMemory>
 }
 
 impl Stock<NoLink, NoGate> {
-    /// That of a node which has no others beside it, with room for so many bytes. The only error is lack of memory.
-    pub fn alone(alloc: Global, bytes: u64, blank: Blank) -> Result<Self, NoMemory>
-        requires { bytes < 2 ^ 63 }
-        ensures { HasStock blank (λ stock. stock) result }
+    /// That of a node which has no others beside it, with this room. The only error is lack of memory.
+    pub fn alone(alloc: Global, room: Room, blank: Blank) -> Result<Self, NoMemory>
+        ensures stock { HasStock blank (λ stock. stock) result }
+        ensures room { IfOk result (λ stock. stock.room ≡ room) }
     {
-        let Some(entries) = NonZeroUsize::new(ENTRIES) else {
-            return Err(AllocError);
-        };
         let ring = own_ring(alloc)?;
         let mut links = Vec::new(alloc);
         links.push(NoLink)?;
         Ok(Stock {
-            bytes,
-            entries,
+            room,
             gate: NoGate,
             ring,
             own: Some(0),
@@ -93,18 +78,17 @@ impl Stock<NoLink, NoGate> {
         })
     }
 
-    /// Two such stocks, with room for so many bytes each.
+    /// Two such stocks, with this room each.
     pub(crate) fn both_alone(
         alloc: Global,
-        bytes: u64,
+        room: Room,
         tiles: Blank,
         sums: Blank,
     ) -> Result<(Self, Self), NoMemory>
-        requires { bytes < 2 ^ 63 }
         ensures { HasStocks tiles sums result }
     {
-        let tiles = Stock::alone(alloc, bytes, tiles)?;
-        let sums = Stock::alone(alloc, bytes, sums)?;
+        let tiles = Stock::alone(alloc, room.again(), tiles)?;
+        let sums = Stock::alone(alloc, room, sums)?;
         Ok((tiles, sums))
     }
 }

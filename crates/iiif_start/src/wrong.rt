@@ -22,6 +22,7 @@ fn remedy(fault: LineFault) -> &'static str
         LineFault::Edge => "--edge is 1 to 1024, and at most --max",
         LineFault::Max => "--max is 1 to 16384",
         LineFault::Cache => "--cache-bytes is a number of bytes, 0 to 1099511627776",
+        LineFault::CacheEntries => "--cache-entries is a number of entries, 1 to 16777216",
         LineFault::Hold => "--hold is a number of bytes, 0 to 1099511627776",
         LineFault::Band => "--band is a number of rows, 1 to 16384",
         LineFault::Workers => "--workers is a number of threads, 1 to 16",

@@ -5,7 +5,7 @@ use crate::fixtures::is_same;
 use iiif_canonical::Limits;
 use iiif_connections::serving::serve;
 use iiif_connections::times::USUAL;
-use iiif_connections::{Catalogue, Config, Link, Manner, Node, Nodes, Times, Watcher, among};
+use iiif_connections::{Catalogue, Config, Link, Manner, Node, Nodes, Room, Times, Watcher, among};
 use iiif_keys::{PARTS, SumKey, System, TileKey};
 use iiif_open_files::Opens;
 use iiif_services::Listeners;
@@ -72,7 +72,12 @@ pub(crate) fn watcher_of(alloc: Global, scene: &Scene<'_, '_>, held: Held) -> Op
 }
 
 /// How much a group keeps.
-const ROOM: u64 = 1 << 26;
+fn room() -> Option<Room> {
+    Some(Room {
+        bytes: 1 << 26,
+        entries: NonZeroUsize::new(4096)?,
+    })
+}
 
 /// The counts of a node: of its groups together, and of the whole answers to viewers, by their status.
 #[derive(Clone, Copy, Debug)]
@@ -179,7 +184,7 @@ where
     R::Handle: Send + Sync,
     J: System + Send + Sync,
 {
-    let node = Node::<R, Stored<R>, J>::alone(alloc, config, catalogue, ROOM, tiles, sums).ok()?;
+    let node = Node::<R, Stored<R>, J>::alone(alloc, config, catalogue, room()?, tiles, sums).ok()?;
     serve_by(rt, alloc, &node, times, stage)
 }
 
@@ -201,7 +206,7 @@ where
 {
     let watcher = stage.watcher;
     let blanks = (tiles, sums);
-    let node = among::<R, J>(alloc, config, catalogue, watcher, ROOM, blanks).ok()?;
+    let node = among::<R, J>(alloc, config, catalogue, watcher, room()?, blanks).ok()?;
     serve_by(rt, alloc, &node, times, stage)
 }
 

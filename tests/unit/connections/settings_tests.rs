@@ -3,19 +3,21 @@
 use crate::fixtures::{is_same, is_same_text};
 use iiif_command_line::{Options, matches, options_in};
 use iiif_start::dot_segments::{has_dot_segment, is_dot_segment};
-use iiif_start::{Stop, warn};
+use iiif_start::rooms::is_unfilled;
+use iiif_start::{Stop, warn, warn_of_room};
+use std::num::NonZeroUsize;
+use std::test::Fail;
 
 const BASE: &str = "http://localhost/iiif";
 
-/// Checks the settings where the words name the images and a target alone: the edge, the greatest side, the bytes of a cache, those of a
-/// file that is held, the rows of a band, the workers, the files that stay open, and the memory that is written to at the start.
+/// Checks the settings where the words name the images and a target alone: the edge, the greatest side, the bytes and the entries of a
+/// cache, the bytes of a file that is held, the rows of a band, the workers, the files that stay open, and the memory that is written to at
+/// the start.
 fn are_left_out(options: &Options<'_>) -> bool {
     let sides = is_same(&(options.edge, options.max), &(256, 4096));
     let shares = is_same(&(options.band, options.workers), &(64, 2));
-    let bounds = is_same(
-        &(options.cache_bytes, options.open_files.get()),
-        &(67_108_864, 256),
-    );
+    let room = (options.cache_bytes, options.cache_entries.get());
+    let bounds = is_same(&(room, options.open_files.get()), &((67_108_864, 4096), 256));
     let memory = is_same(&(options.hold, options.touch_bytes), &(0, 0));
     let rest = is_same(&(options.upscale, options.name), &(false, "self"));
     sides && shares && bounds && memory && rest
@@ -132,4 +134,31 @@ fn warnings_are_of_the_base_url_and_then_of_images_in_their_order(rt: HostRuntim
             "{base}"
         );
     }
+}
+
+/// The bytes and the entries of a cache, the edge of a tile, and whether gray tiles leave bytes unused: 4,096 of edge 256 have 268,435,456.
+static ROOMS: [(u64, usize, u32, bool); 8] = [
+    (67_108_864, 4096, 256, false),
+    (268_435_456, 4096, 256, false),
+    (268_435_457, 4096, 256, true),
+    (268_435_457, 4097, 256, false),
+    (67_108_864, 1, 1, false),
+    (67_108_865, 1, 1, true),
+    (1_099_511_627_776, 16_777_216, 256, false),
+    (1_099_511_627_776, 16_777_215, 256, true),
+];
+
+#[test]
+fn a_cache_that_gray_tiles_cannot_fill_is_warned_of(rt: HostRuntime) -> Result<(), Fail> {
+    for (bytes, entries, edge, want) in ROOMS.iter().copied() {
+        let entries = NonZeroUsize::new(entries).ok_or("no entries")?;
+        let mut err = Vec::new(rt.alloc());
+        warn_of_room(&mut err, bytes, entries, edge)?;
+        let is_warned = err.as_slice().starts_with(b"warning: --cache-bytes");
+        assert!(rt;
+            is_same(&is_unfilled(bytes, entries, edge), &want) && is_same(&is_warned, &want),
+            "{bytes} {entries} {edge}"
+        );
+    }
+    Ok(())
 }

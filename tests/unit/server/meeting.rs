@@ -1,7 +1,7 @@
 //! A gate at which loads meet, and groups with that gate.
 
 use iiif_ring::Ring;
-use iiif_server::{Gate, NoLink, Note, Stock};
+use iiif_server::{Gate, NoLink, Note, Room, Stock};
 use std::alloc::Global;
 use std::num::NonZeroUsize;
 use std::sync::atomic::{AtomicBool, Ordering};
@@ -69,8 +69,10 @@ pub(crate) fn stock<'a>(
     let mut links = Vec::new(alloc);
     links.push(NoLink).ok()?;
     Some(Stock {
-        bytes: bytes.min(67_108_864),
-        entries,
+        room: Room {
+            bytes: bytes.min(67_108_864),
+            entries,
+        },
         gate,
         ring,
         own: Some(0),
