@@ -8,7 +8,7 @@ use Rattle.iiif_answers.specs.Sent.{answer_of, text_of, Answer, EndsWith, IsSent
 use Rattle.iiif_io.specs.Sending.{IsStrictPrefix}
 use Rattle.iiif_answers.specs.Answers.{Reply, given, Replies, no_path, no_item, of_base, of_information, no_request, no_image, of_image}
 use Rattle.iiif_answers.specs.Calls.{RepliesToCall, is_answered, no_method, of_target}
-use Rattle.iiif_images.specs.Collection.{Item}
+use Rattle.iiif_tile_group.specs.Collection.{Item}
 use Rattle.iiif_answers.proofs.MessageLemmas.{may_be_given}
 use Rattle.iiif_answers.specs.Responses.{Response, information_response, response_of, written, want_of_memory}
 use Rattle.iiif_answers.specs.Settings.{Settings}

@@ -15,7 +15,7 @@ use Rattle.iiif_canonical.specs.Regions.{region_of}
 use Rattle.iiif_canonical.specs.Resolution.{◌>>=◌, turn_of}
 use Rattle.iiif_canonical.specs.Sizes.{size_of}
 use Rattle.iiif_canonical.specs.declared.resolved.Limits.{Limits}
-use Rattle.iiif_images.specs.Collection.{Item, item_named}
+use Rattle.iiif_tile_group.specs.Collection.{Item, item_named}
 use Rattle.iiif_keys.specs.declared.fault.Fault.TheVariants.{Source, NoMemory, UnknownName, BadKey}
 use Rattle.iiif_answers.specs.Allowed.{Allowed, EndsInBody, IsCut, MayAnswer, own, source_failed, memory_wanted}
 use Rattle.iiif_answers.specs.Answers.{Given, IsGiven, Reply, Replies, given, identifier_of, refused, redirect, described, no_path}

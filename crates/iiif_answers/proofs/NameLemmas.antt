@@ -2,11 +2,11 @@
 use Rattle.std.proofs.Common.{◌≡◌, ℕ, Bool, true, false, List, [], ◌∷◌, Option, Some, bytes_eq, refl, sym, ap, ◌∙◌}
 use Rattle.std.specs.Prelude.{if◌then◌else◌}
 use Rattle.std.proofs.lemmas.Slice.Eq.{bytes_eq-Decides}
-use Rattle.iiif_images.specs.Collection.{Item, item_named}
+use Rattle.iiif_tile_group.specs.Collection.{Item, item_named}
 use Rattle.iiif_tiff_read.specs.Layouts as layouts
 use Rattle.iiif_keys.specs.Shapes.{shape_of}
 use Rattle.iiif_keys.specs.declared.keys.Shape.{Shape}
-use Rattle.iiif_images.specs.Named.{picture_in}
+use Rattle.iiif_tile_group.specs.Named.{picture_in}
 
 chosen_name : {S : Type 0} (b : Bool) (x item : Item S) (rest : Option (Item S)) (id : List ℕ) → (b ≡ true → x.name ≡ id) →
     (rest ≡ Some item → item.name ≡ id) →

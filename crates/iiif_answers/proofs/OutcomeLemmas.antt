@@ -36,8 +36,8 @@ use Rattle.iiif_canonical.specs.declared.resolved.Resolved.{Resolved}
 use Rattle.iiif_area.specs.Places.{IsScalable}
 use Rattle.iiif_pixel.specs.Geometry.{LiesIn, sides_of}
 use Rattle.iiif_answers.specs.Answers.{IsPictureOf}
-use Rattle.iiif_images.specs.Collection.{Item}
-use Rattle.iiif_images.specs.Named.{picture_in}
+use Rattle.iiif_tile_group.specs.Collection.{Item}
+use Rattle.iiif_tile_group.specs.Named.{picture_in}
 use Rattle.iiif_assemble.specs.Jobs.{channels_in, top_in}
 use Rattle.iiif_answers.specs.Kinds.{depth_of, kind_of}
 use Rattle.iiif_canonical.specs.Canonical.{canonical, canonical_of}

@@ -14,7 +14,7 @@ use Rattle.iiif_canonical.specs.declared.resolved.Limits.{Limits}
 use Rattle.iiif_answers.specs.BaseUrl.{path_of}
 use Rattle.iiif_answers.specs.Settings.{Settings, limits_of}
 use Rattle.std.specs.Prelude.{IsTrue}
-use Rattle.iiif_images.specs.Collection.{Item, item_named}
+use Rattle.iiif_tile_group.specs.Collection.{Item, item_named}
 use Rattle.iiif_answers.specs.Kinds.{kind_of, depth_of}
 use Rattle.iiif_answers.specs.Answers as answers
 use Rattle.iiif_answers.specs.Answers.{Replies, identifier_of, of_image, of_base, of_information, redirect, refused, described, given}

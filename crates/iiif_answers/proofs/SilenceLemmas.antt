@@ -14,7 +14,7 @@ use Rattle.iiif_source.specs.declared.ReadFault.{ReadFault}
 use Rattle.iiif_answers.specs.Allowed.{Allowed, IsCut}
 use Rattle.iiif_answers.specs.Answers.{Reply}
 use Rattle.iiif_answers.specs.Calls.{RepliesToCall, is_head, part_of}
-use Rattle.iiif_images.specs.Collection.{Item}
+use Rattle.iiif_tile_group.specs.Collection.{Item}
 use Rattle.iiif_answers.specs.Laws.{NoSilence}
 use Rattle.iiif_answers.specs.Responses.{Response, want_of_memory, written}
 use Rattle.iiif_answers.specs.Sent.{text_of}

@@ -11,7 +11,7 @@ use Rattle.iiif_request.specs.declared.request.Refusal.{Refusal}
 use Rattle.iiif_delivery.specs.Delivery.{IsHeldInBands}
 use Rattle.iiif_answers.specs.Answers as answers
 use Rattle.iiif_answers.specs.Answers.{Reply, Given, given}
-use Rattle.iiif_images.specs.Collection.{Item}
+use Rattle.iiif_tile_group.specs.Collection.{Item}
 use Rattle.iiif_answers.specs.Responses.{Response, refusal_response, redirect_response, information_response, image_response, response_of}
 use Rattle.iiif_answers.specs.Responses.{source_fault, want_of_memory, written, is_loaded}
 use Rattle.iiif_answers.specs.Sent.{text_of}

@@ -14,7 +14,7 @@ use Rattle.iiif_canonical.specs.Canonical.{canonical}
 use Rattle.iiif_canonical.specs.Texts.{CanBeSpelled}
 use Rattle.iiif_canonical.specs.declared.resolved.Limits.{Limits}
 use Rattle.iiif_answers.specs.BaseUrl.{path_of}
-use Rattle.iiif_images.specs.Collection.{Item, item_named}
+use Rattle.iiif_tile_group.specs.Collection.{Item, item_named}
 use Rattle.iiif_answers.specs.Kinds.{kind_of}
 use Rattle.iiif_answers.specs.Settings.{Settings, limits_of}
 

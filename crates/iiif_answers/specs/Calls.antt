@@ -2,7 +2,7 @@
 use Rattle.std.specs.Prelude.{◌≡◌, ℕ, Bool, true, false, ◌||◌, List, codes, bytes_eq, if◌then◌else◌}
 use Rattle.iiif_request.specs.declared.request.Refusal.TheVariants.{Method}
 use Rattle.iiif_answers.specs.Answers.{Reply, refused, Replies}
-use Rattle.iiif_images.specs.Collection.{Item}
+use Rattle.iiif_tile_group.specs.Collection.{Item}
 use Rattle.iiif_answers.specs.Settings.{Settings}
 use Rattle.iiif_answers.specs.declared.part.Part.{Part}
 use Rattle.iiif_answers.specs.declared.part.Part.TheVariants.{Whole, Head}

@@ -1,7 +1,7 @@
 -- What is sent for an accepted image over devices that never fail.
 use Rattle.std.specs.Prelude.{◌≡◌, ℕ, ◌⊎◌, Bool, List, IsTrue, Result, Ok, Err}
 use Rattle.iiif_source.specs.declared.ReadFault.{ReadFault}
-use Rattle.iiif_images.specs.Collection.{Item}
+use Rattle.iiif_tile_group.specs.Collection.{Item}
 use Rattle.iiif_keys.specs.declared.fault.Fault.TheVariants.{NoMemory}
 use Rattle.iiif_answers.specs.Allowed.{Allowed, EndsInBody}
 use Rattle.iiif_answers.specs.Answers.{Given, Reply, Replies, given}

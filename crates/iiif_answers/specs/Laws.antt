@@ -7,7 +7,7 @@ use Rattle.iiif_http_front.specs.Laws.{IsPlainField, close_fields}
 use Rattle.iiif_http_front.specs.RequestHeads.{BeginsWithCall}
 use Rattle.iiif_source.specs.declared.ReadFault.{ReadFault}
 use Rattle.iiif_answers.specs.Allowed.{Allowed, IsFramed, IsFramedText}
-use Rattle.iiif_images.specs.Collection.{Item}
+use Rattle.iiif_tile_group.specs.Collection.{Item}
 use Rattle.iiif_answers.specs.Calls.{RepliesToCall}
 use Rattle.iiif_answers.specs.Responses.{Response}
 use Rattle.iiif_answers.specs.declared.answer.Cut.{Cut}

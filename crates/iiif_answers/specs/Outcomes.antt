@@ -18,8 +18,8 @@ use Rattle.iiif_canonical.specs.Canonical.{canonical}
 use Rattle.iiif_canonical.specs.Texts.{CanBeSpelled}
 use Rattle.iiif_canonical.specs.declared.resolved.Limits.{Limits}
 use Rattle.iiif_answers.specs.Answers.{Reply, Given, refused, redirect, described, given, IsPictureOf, IsSentFor}
-use Rattle.iiif_images.specs.Collection.{Item, item_named}
-use Rattle.iiif_images.specs.Items.{item_of}
+use Rattle.iiif_tile_group.specs.Collection.{Item, item_named}
+use Rattle.iiif_tile_group.specs.Items.{item_of}
 use Rattle.iiif_answers.specs.Kinds.{kind_of, depth_of}
 use Rattle.iiif_assemble.specs.Jobs.{channels_in, top_in}
 use Rattle.iiif_answers.specs.declared.accepted.Accepted.{Accepted}

@@ -8,7 +8,7 @@ use Rattle.iiif_request.specs.declared.request.Refusal.TheVariants as refusal
 use Rattle.iiif_source.specs.declared.ReadFault.{ReadFault}
 use Rattle.iiif_answers.specs.Allowed.{Allowed}
 use Rattle.iiif_answers.specs.Calls.{RepliesToCall, part_of}
-use Rattle.iiif_images.specs.Collection.{Item}
+use Rattle.iiif_tile_group.specs.Collection.{Item}
 use Rattle.iiif_answers.specs.Responses.{Response, refusal_response, want_of_memory, written}
 use Rattle.iiif_answers.specs.Sent.{text_of}
 use Rattle.iiif_io.specs.Sending.{IsStrictPrefix}

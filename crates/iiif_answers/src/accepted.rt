@@ -2,17 +2,17 @@
 
 ghost use Rattle.std.specs.Prelude.{◌≡◌, length, IfOk};
 ghost use Rattle.iiif_request.specs.Words.{texts};
-ghost use Rattle.iiif_images.specs.Items.{item_of};
+ghost use Rattle.iiif_tile_group.specs.Items.{item_of};
 ghost use Rattle.iiif_answers.specs.Outcomes.{Accepts, IsReady};
 ghost use Rattle.iiif_answers.specs.Settings.{AreLegal};
 
 use iiif_canonical::{Limits, Resolved, canonical, resolve};
-use iiif_images::ImageEntry;
 use iiif_request::{Refusal, Request, Words, parse};
 use iiif_source::Source;
 use iiif_tiff::shows_one_picture;
 use iiif_tiff_write::OutKind;
 use iiif_tiff_write::laws::lengths_fit;
+use iiif_tile_group::ImageEntry;
 
 /// An image request that is accepted: the values that it comes to, its canonical form, and the kind of the file that is
 /// answered.

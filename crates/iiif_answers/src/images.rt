@@ -10,8 +10,8 @@ ghost use Rattle.iiif_keys.specs.Shapes.{shape_of};
 ghost use Rattle.iiif_assemble.specs.Jobs.{IsJob};
 ghost use Rattle.iiif_request.specs.Requests.{HasShortDecimals};
 ghost use Rattle.iiif_tiff_write.specs.File.{file_len};
-ghost use Rattle.iiif_images.specs.Items.{item_of};
-ghost use Rattle.iiif_images.specs.Named.{picture_in};
+ghost use Rattle.iiif_tile_group.specs.Items.{item_of};
+ghost use Rattle.iiif_tile_group.specs.Named.{picture_in};
 ghost use Rattle.iiif_answers.specs.Answers.{IsPictureOf};
 ghost use Rattle.iiif_answers.specs.Sent.{answer_of};
 ghost use Rattle.iiif_answers.specs.Outcomes.{IsReady};
@@ -25,12 +25,12 @@ use crate::part::Part;
 use iiif_assemble::Job;
 use iiif_canonical::uri;
 use iiif_http_front::{Field, Status};
-use iiif_images::ImageEntry;
 use iiif_pixel::{Dim, NoMemory, Turn};
 use iiif_request::Request;
 use iiif_source::Source;
 use iiif_tiff::shows_one_picture;
 use iiif_tiff_write::total_len;
+use iiif_tile_group::ImageEntry;
 use std::alloc::Global;
 
 /// How many sums a block of a plan has at most.

@@ -4,7 +4,7 @@ ghost use Rattle.std.specs.Prelude.{◌≡◌, ℕ, Bool, List, true, false, map
 ghost use Rattle.iiif_http_front.specs.AnswerHeads.{name_and_value};
 ghost use Rattle.iiif_http_front.specs.Statuses.{code_of};
 ghost use Rattle.iiif_request.specs.Refusals.{status_of};
-ghost use Rattle.iiif_images.specs.Collection.{Item};
+ghost use Rattle.iiif_tile_group.specs.Collection.{Item};
 ghost use Rattle.iiif_answers.specs.Allowed.{MayTell};
 ghost use Rattle.iiif_answers.specs.Answers.{Replies};
 ghost use Rattle.iiif_answers.specs.Outcomes.{ComesTo};

@@ -6,15 +6,15 @@ ghost use Rattle.iiif_request.specs.Targets.{AsksFor, resource_of};
 ghost use Rattle.iiif_answers.specs.Answers.{identifier_of, IsPictureOf, Replies};
 ghost use Rattle.iiif_answers.specs.BaseUrl.{path_of};
 ghost use Rattle.iiif_answers.specs.Outcomes.{CanBeMade, ComesTo, IsFound};
-ghost use Rattle.iiif_images.specs.Items.{item_of};
+ghost use Rattle.iiif_tile_group.specs.Items.{item_of};
 
 use crate::accepted::{Accepted, accept};
 use crate::config::Config;
-use iiif_images::{Catalogue, ImageEntry};
 use iiif_pixel::Dim;
 use iiif_request::{Refusal, SplitFault, Target, split};
 use iiif_source::Source;
 use iiif_tiff::shows_one_picture;
+use iiif_tile_group::{Catalogue, ImageEntry};
 use std::alloc::Global;
 
 /// What a target comes to: a refusal; the place of an image's information; that information, with the image's sides; an

@@ -26,7 +26,7 @@ use Rattle.iiif_keys.specs.Bytes as bytes
 use Rattle.iiif_keys.specs.Reading as reading
 use Rattle.iiif_planner.specs.Items as items
 use Rattle.iiif_planner.specs.Bands.{places_from}
-use Rattle.iiif_images.specs.Collection as images
+use Rattle.iiif_tile_group.specs.Collection as images
 use Rattle.iiif_info.specs.Information as info
 use Rattle.iiif_http_front.specs.AnswerHeads as heads
 use Rattle.iiif_answers.specs.BaseUrl as urls

@@ -4,7 +4,7 @@ use Rattle.iiif_pixel.specs.declared.geometry.Quality.TheVariants.{Default}
 use Rattle.iiif_request.specs.declared.request.Form.TheVariants.{Both, Width}
 use Rattle.iiif_request.specs.declared.request.Region.TheVariants.{Full}
 use Rattle.iiif_tiff.specs.Tiff.{gray_sample, scheme}
-use Rattle.iiif_images.specs.Collection.{Item}
+use Rattle.iiif_tile_group.specs.Collection.{Item}
 use Rattle.iiif_answers.specs.Answers.{Given, Replies, Reply}
 use Rattle.iiif_examples.specs.Pictures.{gray_8, ramp}
 use Rattle.iiif_examples.specs.Requests.{request_of}

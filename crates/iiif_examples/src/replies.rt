@@ -3,8 +3,8 @@
 
 ghost use Rattle.std.specs.Prelude.{◌≡◌, ◌++◌, codes, drop, false, None, Some, [], ◌∷◌};
 ghost use Rattle.iiif_request.specs.declared.request.Refusal.TheVariants.{Empty, Identifier, Path, Quality};
-ghost use Rattle.iiif_images.specs.Collection.{refusal_of_name};
-ghost use Rattle.iiif_images.specs.declared.catalogue.AddFault.TheVariants.{Name, Twice};
+ghost use Rattle.iiif_tile_group.specs.Collection.{refusal_of_name};
+ghost use Rattle.iiif_tile_group.specs.declared.catalogue.AddFault.TheVariants.{Name, Twice};
 ghost use Rattle.iiif_answers.specs.Answers.{described, given, redirect, refused};
 ghost use Rattle.iiif_answers.specs.Responses.{response_of, written};
 ghost use Rattle.iiif_answers.specs.Sent.{text_of};

@@ -2,7 +2,7 @@
 use Rattle.std.specs.Prelude.{◌≡◌, ◌⊎◌, ℕ, List, [], Option, IsSome, IsTrue}
 use Rattle.iiif_pixel.specs.declared.geometry.Depth.{Depth}
 use Rattle.iiif_pixel.specs.declared.geometry.Depth.TheVariants.{Eight, Sixteen}
-use Rattle.iiif_images.specs.Faults.{IsLoadFault}
+use Rattle.iiif_tile_group.specs.Faults.{IsLoadFault}
 use Rattle.iiif_keys.specs.Blocks.{NamesPart}
 use Rattle.iiif_keys.specs.Faults.{fault_number}
 use Rattle.iiif_keys.specs.declared.fault.Fault.{Fault}

@@ -1,7 +1,7 @@
 //! A node's groups as other nodes have them.
 
 ghost use Rattle.std.specs.Prelude.{◌≡◌, ◌≤◌, IfErr, IfOk, length};
-ghost use Rattle.iiif_images.specs.Faults.{IsKeyFault};
+ghost use Rattle.iiif_tile_group.specs.Faults.{IsKeyFault};
 ghost use Rattle.iiif_keys.specs.Blocks.{NamesPart};
 ghost use Rattle.iiif_keys.specs.Shapes.{HasPicture};
 ghost use Rattle.iiif_peer_groups.specs.Kinds.{sum_kind, system, tile_kind};

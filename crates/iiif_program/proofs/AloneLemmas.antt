@@ -1,7 +1,7 @@
 -- What a node that holds all its images writes of an answer.
 use Rattle.std.proofs.Common.{◌≡◌, ℕ, ◌⊎◌, inr, Bool, true, List, [], Option, Result, Ok, Err, subst}
 use Rattle.std.specs.Io.KnownBytes.{Appends}
-use Rattle.iiif_images.specs.Collection.{Item}
+use Rattle.iiif_tile_group.specs.Collection.{Item}
 use Rattle.iiif_answers.specs.Allowed.{Allowed}
 use Rattle.iiif_answers.specs.Answers.{Replies}
 use Rattle.iiif_answers.specs.Settings.{Settings}

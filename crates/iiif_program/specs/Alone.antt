@@ -1,6 +1,6 @@
 -- What a node answers to one target that holds all its images in memory and asks no other. Nothing is assumed of it.
 use Rattle.std.specs.Prelude.{◌≡◌, ℕ, ◌⊎◌, List, [], Result, Ok, Err}
-use Rattle.iiif_images.specs.Collection.{Item}
+use Rattle.iiif_tile_group.specs.Collection.{Item}
 use Rattle.iiif_answers.specs.Settings.{Settings}
 use Rattle.iiif_answers.specs.declared.answer.Cut.{Cut}
 use Rattle.iiif_answers.specs.declared.answer.Sent.{Sent}

@@ -2,8 +2,8 @@
 
 ghost use Rattle.std.specs.Prelude.{◌≡◌, ◌<◌, ◌^◌, ℕ, List, Some, None, false};
 ghost use Rattle.iiif_source.specs.declared.ReadFault.{ReadFault};
-ghost use Rattle.iiif_images.specs.Collection.{item_named};
-ghost use Rattle.iiif_images.specs.Named.{gave_of, pictures_of};
+ghost use Rattle.iiif_tile_group.specs.Collection.{item_named};
+ghost use Rattle.iiif_tile_group.specs.Named.{gave_of, pictures_of};
 ghost use Rattle.iiif_start.specs.Stored.{bytes_of, keeps_of, stored_gave};
 ghost use Rattle.iiif_answers.specs.Settings.{refusal_of};
 ghost use Rattle.iiif_program.specs.Lines.{settings_in};

@@ -37,7 +37,7 @@
 //! 6. `iiif_delivery` sends an image in bands. `iiif_planner` says which tiles and sums the image needs, and cuts it into bands;
 //!    `iiif_tile_group` and `iiif_sum_group` have them in caches with shared flights (`iiif_group`, `iiif_singleflight`), and ask the node
 //!    that owns them. `iiif_group_items` lends them to `iiif_assemble`, which makes the band's rows.
-//! 7. `iiif_images` finds a name's image, `iiif_open_files` its file; `iiif_tiff_read` reads a tile's samples from it, and
+//! 7. `iiif_tile_group` finds a name's image, `iiif_open_files` its file; `iiif_tiff_read` reads a tile's samples from it, and
 //!    `iiif_tiff_write` makes the file that is answered.
 //!
 //! # What is proved of it

@@ -9,7 +9,7 @@ use Rattle.iiif_keys.specs.declared.keys.TileKey.{TileKey}
 use Rattle.iiif_keys.specs.declared.values.SumVal.{SumVal}
 use Rattle.iiif_keys.specs.declared.values.TileVal.{TileVal}
 use Rattle.iiif_outcome.specs.Outcomes.{is_given}
-use Rattle.iiif_images.specs.Collection.{Item, item_named}
+use Rattle.iiif_tile_group.specs.Collection.{Item, item_named}
 use Rattle.iiif_pixel.specs.declared.geometry.Dim.{Dim}
 use Rattle.iiif_canonical.specs.declared.resolved.Resolved.{Resolved}
 use Rattle.iiif_planner.specs.Plans.{IsPlan}
@@ -21,8 +21,8 @@ use Rattle.iiif_keys.specs.Names.{no_picture, IsSource, Pictures}
 use Rattle.iiif_keys.specs.Shapes.{shape_of}
 use Rattle.iiif_keys.specs.declared.keys.Shape.{Shape}
 use Rattle.iiif_keys.proofs.Shaped.{depth_with_top, kind_with_channels}
-use Rattle.iiif_images.specs.Named.{gave_of, picture_in, pictures_of}
-use Rattle.iiif_images.proofs.NamedLemmas.{image_there, has_picture, named_source}
+use Rattle.iiif_tile_group.specs.Named.{gave_of, picture_in, pictures_of}
+use Rattle.iiif_tile_group.proofs.NamedLemmas.{image_there, has_picture, named_source}
 use Rattle.iiif_assemble.specs.Jobs.{IsJob}
 use Rattle.iiif_assemble.specs.declared.job.Job.{Job}
 use Rattle.iiif_server.specs.Code.{IsJobFor}

@@ -4,11 +4,11 @@ use Rattle.iiif_source.specs.declared.ReadFault.{ReadFault}
 use Rattle.iiif_keys.specs.Names.{Pictures}
 use Rattle.iiif_keys.specs.declared.fault.Fault.{Fault}
 use Rattle.iiif_keys.specs.declared.fault.Fault.TheVariants.{Source, NoMemory, UnknownName, BadKey}
-use Rattle.iiif_images.specs.Collection.{Item, item_named}
+use Rattle.iiif_tile_group.specs.Collection.{Item, item_named}
 use Rattle.iiif_peer_groups.specs.Kinds.{Kind, system, sum_kind, tile_kind}
 use Rattle.iiif_peer_groups.specs.Replying.{HasFault, HasValue, IsReplyTo, MayReply}
 use Rattle.iiif_peer_wire.specs.declared.version.Version.{Version}
-use Rattle.iiif_images.specs.Named.{stable_by, stable_of}
+use Rattle.iiif_tile_group.specs.Named.{stable_by, stable_of}
 
 module _ (pictures : Pictures) (edge : ℕ) (gave : List ℕ → ReadFault → Bool) (stable fewer : List ℕ → Type 0) (honest : Bool)
     (less : (name : List ℕ) → fewer name → stable name) (version : Version)

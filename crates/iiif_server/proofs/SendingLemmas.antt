@@ -31,8 +31,8 @@ use Rattle.iiif_keys.specs.declared.keys.TileKey.{TileKey}
 use Rattle.iiif_keys.specs.declared.values.SumVal.{SumVal}
 use Rattle.iiif_keys.specs.declared.values.TileVal.{TileVal}
 use Rattle.iiif_outcome.specs.Outcomes.{is_given}
-use Rattle.iiif_images.specs.Collection.{Item}
-use Rattle.iiif_images.specs.Named.{picture_in}
+use Rattle.iiif_tile_group.specs.Collection.{Item}
+use Rattle.iiif_tile_group.specs.Named.{picture_in}
 use Rattle.iiif_assemble.specs.Jobs.{channels_in, top_in, IsShown}
 use Rattle.iiif_assemble.specs.declared.job.Job.{Job}
 use Rattle.iiif_assemble.proofs.ImageLemmas.{resolved_sides}

@@ -13,7 +13,7 @@ use Rattle.iiif_request.specs.declared.request.Refusal.TheVariants as refusal
 use Rattle.iiif_http_front.specs.RequestHeads.{BeginsWithCall}
 use Rattle.iiif_source.specs.declared.ReadFault.{ReadFault}
 use Rattle.iiif_server.specs.Code.{CloseFor, GoesOn, IsAnswered, Served}
-use Rattle.iiif_images.specs.Collection.{Item}
+use Rattle.iiif_tile_group.specs.Collection.{Item}
 use Rattle.iiif_answers.specs.Responses.{Response, refusal_response, want_of_memory, written}
 use Rattle.iiif_answers.specs.Sent.{answer_of, Answer, EndsWith, IsSent}
 use Rattle.iiif_answers.specs.Settings.{Settings}

@@ -5,9 +5,9 @@ use Rattle.iiif_pixel.specs.Picture.{Picture}
 use Rattle.iiif_tiff_write.specs.OutKind.{out_kind_of}
 use Rattle.iiif_request.specs.declared.request.Request.{Request}
 use Rattle.iiif_keys.specs.declared.system.System as system
-use Rattle.iiif_images.specs.Collection.{item_named}
-use Rattle.iiif_images.specs.Items.{item_of}
-use Rattle.iiif_images.specs.declared.entry.ImageEntry.{ImageEntry}
+use Rattle.iiif_tile_group.specs.Collection.{item_named}
+use Rattle.iiif_tile_group.specs.Items.{item_of}
+use Rattle.iiif_tile_group.specs.declared.entry.ImageEntry.{ImageEntry}
 use Rattle.iiif_assemble.specs.declared.job.Job.{Job}
 use Rattle.iiif_answers.specs.Answers.{IsPictureOf}
 use Rattle.iiif_answers.specs.Kinds.{depth_of, kind_of}

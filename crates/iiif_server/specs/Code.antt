@@ -16,8 +16,8 @@ use Rattle.iiif_request.specs.declared.request.Refusal.TheVariants as refusal
 use Rattle.iiif_keys.specs.Names.{named, IsSource, Pictures}
 use Rattle.iiif_keys.specs.Shapes.{HasPicture}
 use Rattle.iiif_keys.specs.declared.system.System as system
-use Rattle.iiif_images.specs.Collection.{Item, item_named}
-use Rattle.iiif_images.specs.Named.{gave_of, picture_in, pictures_of}
+use Rattle.iiif_tile_group.specs.Collection.{Item, item_named}
+use Rattle.iiif_tile_group.specs.Named.{gave_of, picture_in, pictures_of}
 use Rattle.iiif_assemble.specs.Jobs.{IsJob}
 use Rattle.iiif_assemble.specs.declared.job.Job.{Job}
 use Rattle.iiif_answers.specs.Allowed.{Allowed}

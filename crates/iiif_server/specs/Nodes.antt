@@ -3,8 +3,8 @@ use Rattle.std.specs.Prelude.{◌≡◌, ℕ, List, Some}
 use Rattle.iiif_source.specs.declared.ReadFault.{ReadFault}
 use Rattle.iiif_source.specs.declared.Source as source
 use Rattle.iiif_keys.specs.declared.system.System as system
-use Rattle.iiif_images.specs.Collection.{Item, item_named}
-use Rattle.iiif_images.specs.Named.{gave_of, pictures_of}
+use Rattle.iiif_tile_group.specs.Collection.{Item, item_named}
+use Rattle.iiif_tile_group.specs.Named.{gave_of, pictures_of}
 use Rattle.iiif_answers.specs.Settings.{Settings}
 
 pub record Service (S : Type 0) : Type 0 where

@@ -3,7 +3,7 @@ use Rattle.std.specs.Prelude.{ℕ, Bool, List, Option}
 use Rattle.std.specs.Io.KnownBytes.{Appends}
 use Rattle.iiif_source.specs.declared.ReadFault.{ReadFault}
 use Rattle.iiif_source.specs.declared.Source as source
-use Rattle.iiif_images.specs.Named.{gave_of, pictures_of, stable_of}
+use Rattle.iiif_tile_group.specs.Named.{gave_of, pictures_of, stable_of}
 use Rattle.iiif_peer_groups.specs.Kinds.{System, system}
 use Rattle.iiif_peer_groups.specs.Replying.{MayReply}
 use Rattle.iiif_peer_server.specs.Exchanges.{IsExchange}

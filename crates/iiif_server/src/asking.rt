@@ -3,8 +3,8 @@
 use iiif_answers::Part;
 use iiif_answers::accepted::Accepted;
 use iiif_assemble::Job;
-use iiif_images::ImageEntry;
 use iiif_source::Source;
+use iiif_tile_group::ImageEntry;
 use std::alloc::Global;
 
 /// What a node answers with.

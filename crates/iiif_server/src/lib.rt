@@ -4,9 +4,9 @@
 pub use iiif_answers::{Cause, Config, ConfigFault, Cut, Part, Sent, is_base_url};
 pub use iiif_delivery::Queued;
 pub use iiif_group_items::JobQueue;
-pub use iiif_images::{AddFault, Catalogue};
 pub use iiif_keys::{Fault, is_name};
 pub use iiif_sum_group::{Gate, Kept, Link, NoGate, NoLink, Note, Passes, SumCalls, TileCalls};
+pub use iiif_tile_group::{AddFault, Catalogue};
 pub use node::Node;
 pub use room::Room;
 pub use serving::Serving;

@@ -2,7 +2,7 @@
 use Rattle.std.proofs.Common.{◌≡◌, ℕ, ◌+◌, ◌<◌, List, [], ◌∷◌, ◌++◌, map, length, take, get_or, sym, ap, subst, ◌∙◌}
 use Rattle.std.specs.List.{AllZip}
 use Rattle.std.proofs.lemmas.List.{map-append, take_more}
-use Rattle.iiif_images.proofs.ItemLemmas.{same_more}
+use Rattle.iiif_tile_group.proofs.ItemLemmas.{same_more}
 
 -- where what was made is named as the first n items are, it is with one more so too
 pub names_more : {A B C : Type 0} (f : A → C) (g : B → C) (xs : List A) (x : A) (ys : List B) (n : ℕ) (y : B)

@@ -2,7 +2,7 @@
 use Rattle.std.specs.Prelude.{ℕ, List, length, Option, None, Some}
 use Rattle.std.specs.List.{sum_by}
 use denote.Ref.{Bor}
-use Rattle.iiif_images.specs.Collection.{Item, item_named}
+use Rattle.iiif_tile_group.specs.Collection.{Item, item_named}
 use Rattle.iiif_start.specs.declared.stored.Stored.{Stored}
 use Rattle.iiif_start.specs.declared.stored.Stored.TheVariants.{Memory, File}
 

@@ -1,7 +1,7 @@
 -- The bytes of a source, and the faults that it may give.
 use Rattle.std.specs.Prelude.{◌≡◌, ℕ, ◌<◌, ◌≤◌, Bool, true, false, ◌||◌, ◌==◌, List, length, bytes_eq, codes}
 use denote.Ref.{Bor}
-use Rattle.iiif_images.specs.Collection.{Item}
+use Rattle.iiif_tile_group.specs.Collection.{Item}
 use Rattle.iiif_source.specs.Cause.{failed, ended}
 use Rattle.iiif_source.specs.Files.{fitted}
 use Rattle.iiif_source.specs.declared.ReadFault.{ReadFault}

@@ -1,14 +1,14 @@
 //! What is held in memory of the images' files.
 
 ghost use Rattle.std.specs.Prelude.{◌≡◌, option_map};
-ghost use Rattle.iiif_images.specs.Items.{item_of};
+ghost use Rattle.iiif_tile_group.specs.Items.{item_of};
 ghost use Rattle.iiif_io.specs.Counting.{capped};
 ghost use Rattle.iiif_start.specs.Held.{all_bytes_held, bytes_in, count_in, images_held};
 
 use crate::stored::Stored;
-use iiif_images::{Catalogue, ImageEntry};
 use iiif_open_files::Opens;
 use iiif_source::Source;
+use iiif_tile_group::{Catalogue, ImageEntry};
 use std::sync::Wait;
 
 /// The images whose files are held in memory. Each number stops at the greatest that its type holds.

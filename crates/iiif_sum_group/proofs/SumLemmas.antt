@@ -19,7 +19,7 @@ use Rattle.iiif_pixel.specs.declared.geometry.Rect.{Rect}
 use Rattle.iiif_area.specs.Grid.{Grid, has_place, merged, sums_of}
 use Rattle.iiif_area.specs.Places.{places_of}
 use Rattle.iiif_area.proofs.GridLaws.{has_place-tested}
-use Rattle.iiif_images.specs.Faults.{IsLoadFault}
+use Rattle.iiif_tile_group.specs.Faults.{IsLoadFault}
 use Rattle.iiif_keys.specs.Blocks.{part_in, places_in, NamesPart, SumFitsIn}
 use Rattle.iiif_keys.specs.Laws.{IsBelow, PartsAreBelow, PartsCut, PartsFit, PartsMakeMeaning}
 use Rattle.iiif_keys.specs.Meaning.{meets_rect, no_sums, quarters, sum_is_shaped, sum_meaning, sums_below, sums_in, SumHasShape}

@@ -10,7 +10,7 @@ use Rattle.iiif_keys.specs.declared.values.SumVal.{SumVal}
 use Rattle.iiif_outcome.specs.declared.receipt.Receipt.{Receipt}
 use Rattle.iiif_group.specs.Beginning.{BegunFor}
 use Rattle.iiif_group.specs.declared.begun.Begun.{Begun}
-use Rattle.iiif_images.specs.Faults.{IsLoadFault}
+use Rattle.iiif_tile_group.specs.Faults.{IsLoadFault}
 use Rattle.iiif_sum_group.specs.Outcomes.{IsRefused, KnowsSums, NamesBlock}
 use Rattle.iiif_group.specs.declared.passes.Passes.{Passes}
 

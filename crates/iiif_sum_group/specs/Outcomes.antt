@@ -18,7 +18,7 @@ use Rattle.iiif_outcome.specs.declared.receipt.Receipt.{Receipt}
 use Rattle.iiif_group.specs.Beginning.{OutcomeIs}
 use Rattle.iiif_group.specs.Ending.{IsExact, TellsFault}
 use Rattle.iiif_group.specs.declared.begun.Completed.{Completed}
-use Rattle.iiif_images.specs.Faults.{IsGetFault}
+use Rattle.iiif_tile_group.specs.Faults.{IsGetFault}
 use Rattle.iiif_sum_group.specs.Values.{MayBeSums}
 
 module _ {J : Type 0} (node : system.Ghosts J) (key : SumKey) where

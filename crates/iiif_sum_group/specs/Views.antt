@@ -1,6 +1,6 @@
 -- What the groups of a node are to those who hold them.
 use Rattle.std.specs.Prelude.{List}
-use Rattle.iiif_images.specs.Collection.{Item}
+use Rattle.iiif_tile_group.specs.Collection.{Item}
 use Rattle.iiif_tile_group.specs.Views.{items_tiled}
 use Rattle.iiif_sum_group.specs.declared.groups.Groups.{Groups}
 

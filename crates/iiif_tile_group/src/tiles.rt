@@ -1,19 +1,13 @@
-//! Tiles, loaded from their sources or shared by a group.
+//! Tiles, loaded from their sources and shared by a group.
 
 ghost use Rattle.std.specs.Prelude.{◌≡◌};
-ghost use Rattle.iiif_pixel.specs.Geometry.{channels_of};
-ghost use Rattle.iiif_keys.specs.Blocks.{TileFitsIn};
-ghost use Rattle.iiif_keys.specs.Shapes.{shape_of};
 ghost use Rattle.iiif_group.specs.Beginning.{open_key};
-ghost use Rattle.iiif_images.specs.Items.{item_of};
-ghost use Rattle.iiif_images.specs.Named.{picture_in, IsImageOf};
-ghost use Rattle.iiif_images.specs.Views.{items_in};
-ghost use Rattle.iiif_tile_group.specs.Calls.{EndsWith, Gets, GetsLocal, KnowsTile, Loads};
-ghost use Rattle.iiif_tile_group.specs.Views.{items_tiled};
+ghost use Rattle.iiif_tile_group.specs.Calls.{EndsWith, Gets, GetsLocal, KnowsTile, Loads, NamesTile};
+ghost use Rattle.iiif_tile_group.specs.Views.{items_in, items_tiled};
 
+use crate::images::Images;
 use iiif_group::{Begun, Gate, Group, Link, Open, TileCalls, share};
-use iiif_images::{ImageEntry, Images};
-use iiif_keys::{Fault, Shape, System, TileKey, TileVal};
+use iiif_keys::{Fault, System, TileKey, TileVal};
 use iiif_singleflight::{Pass, Receipt};
 use iiif_source::Source;
 use std::alloc::Global;
@@ -21,7 +15,7 @@ use std::sync::ledger::Ledger;
 use std::sync::{Arc, Wait};
 
 /// Tiles of the images that a node has, shared by all that ask. J says what the names of the images stand for, and which ledger
-/// counts the calls; N is the way to other nodes, and T what each load passes.
+/// counts the calls; N is the link to other nodes, and T the gate of loads.
 #[derive(Drop)]
 pub struct Tiles<R, S: Source<R>, J: System, N, T>
 where
@@ -33,7 +27,7 @@ where
 }
 
 impl<R, S: Source<R> + Drop, J: System, N, T> Tiles<R, S, J, N, T> {
-    /// Tiles of these images, shared by this group.
+    /// Makes tiles of these images, shared by this group.
     pub fn new(
         alloc: Global,
         images: Images<R, S, J>,
@@ -48,39 +42,34 @@ impl<R, S: Source<R> + Drop, J: System, N, T> Tiles<R, S, J, N, T> {
         }
     }
 
-    /// The images.
+    /// Lends the images.
     pub fn images(&self) -> &Images<R, S, J>
         ensures { items_in result.now ≡ items_tiled self.now }
     {
         &self.images
     }
 
-    /// The group of the tiles.
+    /// Lends the group of the tiles.
     pub fn group(&self) -> &Group<TileKey, J, TileCalls<J>, N, T> {
         &self.group
     }
 
-    /// The tile that a key names, from its image's source. Nothing is looked up, and nothing kept.
+    /// Loads a tile: finds its image and reads it from the source. This is what a call that leads a flight runs; here it neither enters
+    /// the group nor is kept.
     pub fn load(&self, rt: &R, key: &TileKey) -> Result<TileVal, Fault>
         ensures { Loads J.System key.now result }
     {
-        self.images.load(rt, key)
+        let (entry, shape) = self.images.image_of(key)?;
+        self.images.read_tile(rt, entry, &shape, key)
     }
 
-    /// The same of the image that `image_of` gave for the key, for all that wait.
-    fn make_outcome(
-        &self,
-        rt: &R,
-        entry: &ImageEntry<R, S>,
-        shape: &Shape,
-        key: &TileKey,
-    ) -> Result<Arc<TileVal>, Fault>
-        requires image { IsImageOf J.pictures J.gave J.stable S.bytes S.gave S.keeps key.now.name (item_of entry.now) }
-        requires shape { shape_of (picture_in S.bytes (item_of entry.now)) ≡ shape.now }
-        requires fits { TileFitsIn shape.now.dim (channels_of shape.now.kind) key.now }
+    /// Loads a tile for all that wait.
+    #[tactic(auto, using(crate::proofs::FaultLemmas::given_of_load))]
+    fn load_outcome(&self, rt: &R, key: &TileKey) -> Result<Arc<TileVal>, Fault>
+        requires names { NamesTile J.System key.now }
         ensures { EndsWith J.System key.now result }
     {
-        match self.images.make_tile(rt, entry, shape, key) {
+        match self.load(rt, key) {
             Ok(value) => share(self.alloc, value),
             Err(fault) => Err(fault),
         }
@@ -88,18 +77,18 @@ impl<R, S: Source<R> + Drop, J: System, N, T> Tiles<R, S, J, N, T> {
 }
 
 impl<R: Wait, S: Source<R> + Drop, J: System, N, T: Gate<R>> Tiles<R, S, J, N, T> {
-    /// Ends a load of a key with what was made, for all that wait.
-    fn end(
+    /// Runs the load that a call leads, and completes it.
+    fn complete(
         &self,
         rt: &R,
         load: Open<TileKey, J, TileCalls<J>>,
         key: &TileKey,
-        outcome: Result<Arc<TileVal>, Fault>,
     ) -> Receipt<TileKey, J, TileCalls<J>>
         requires key { open_key load ≡ key.now }
-        requires outcome { EndsWith J.System key.now outcome }
+        requires names { NamesTile J.System key.now }
         ensures { KnowsTile key.now result }
     {
+        let outcome = self.load_outcome(rt, key);
         self.group.complete(rt, load, outcome).receipt
     }
 }
@@ -111,7 +100,7 @@ impl<R: Wait, S: Source<R> + Drop, J: System, N: Link<TileKey, J, R>, T: Gate<R>
     N,
     T,
 > {
-    /// What a flight of the key ended with: the tile that it names, or a fault of its source or lack of memory. Where another node
+    /// Gets the outcome of a flight of the key: the tile that it names, or a fault of its source, or lack of memory. Where another node
     /// owns the key, that node is asked first.
     pub fn get(
         &self,
@@ -121,21 +110,18 @@ impl<R: Wait, S: Source<R> + Drop, J: System, N: Link<TileKey, J, R>, T: Gate<R>
     ) -> Result<Receipt<TileKey, J, TileCalls<J>>, Fault>
         ensures { Gets key.now pass.old pass.new result }
     {
-        let (entry, shape) = self.images.image_of(key)?;
+        let (_entry, shape) = self.images.image_of(key)?;
         match self.group.begin(rt, pass, key, &shape) {
             Ok(Begun::Known(receipt)) => Ok(receipt),
-            Ok(Begun::Load(load)) => {
-                let outcome = self.make_outcome(rt, entry, &shape, key);
-                Ok(self.end(rt, load, key, outcome))
-            }
+            Ok(Begun::Load(load)) => Ok(self.complete(rt, load, key)),
             Err(_) => Err(Fault::NoMemory),
         }
     }
 }
 
-// Here nothing is known of the way to other nodes, so none can be asked.
+// Without a `Link`, so no other node can be asked.
 impl<R: Wait, S: Source<R> + Drop, J: System, N, T: Gate<R>> Tiles<R, S, J, N, T> {
-    /// The same by this node alone, whoever owns the key. So is served what another node asks.
+    /// Gets the outcome of a flight of this node alone, whoever owns the key. By this a node serves the asks of others.
     pub fn get_local(
         &self,
         rt: &R,
@@ -144,13 +130,10 @@ impl<R: Wait, S: Source<R> + Drop, J: System, N, T: Gate<R>> Tiles<R, S, J, N, T
     ) -> Result<Receipt<TileKey, J, TileCalls<J>>, Fault>
         ensures { GetsLocal key.now pass.old pass.new result }
     {
-        let (entry, shape) = self.images.image_of(key)?;
+        let (_entry, shape) = self.images.image_of(key)?;
         match self.group.begin_local(rt, pass, key, &shape) {
             Ok(Begun::Known(receipt)) => Ok(receipt),
-            Ok(Begun::Load(load)) => {
-                let outcome = self.make_outcome(rt, entry, &shape, key);
-                Ok(self.end(rt, load, key, outcome))
-            }
+            Ok(Begun::Load(load)) => Ok(self.complete(rt, load, key)),
             Err(_) => Err(Fault::NoMemory),
         }
     }

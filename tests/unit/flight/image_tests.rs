@@ -4,13 +4,17 @@ use crate::fixtures::files::{DEEP, SAMPLE};
 use crate::fixtures::is_same;
 use crate::fixtures::names::name;
 use iiif_fault::Numbered;
-use iiif_images::{AddFault, Catalogue, Images};
-use iiif_keys::{System, TileKey};
+use iiif_group::{Cluster, Group, NoGate, NoLink};
+use iiif_keys::{PARTS, System, TileKey};
 use iiif_pixel::Span;
+use iiif_ring::Ring;
 use iiif_source::{FuseSource, MemSource, Source};
 use iiif_tiff_read::open;
+use iiif_tile_group::{AddFault, Catalogue, Images, Tiles};
 use std::alloc::Global;
 use std::marker::Brand;
+use std::num::NonZeroUsize;
+use std::sync::ledger::Blank;
 
 /// The images of the tests: their names, their files, and which of the reads of their tiles fails first.
 static IMAGES: [(&str, &[u8], u64); 3] = [
@@ -97,7 +101,7 @@ static TILES: [Tile; 7] = [
 /// Whether a tile is loaded as it is to be.
 fn is_right<S: Source<()> + Drop, J: System>(
     alloc: Global,
-    images: &Images<(), S, J>,
+    tiles: &Tiles<(), S, J, NoLink, NoGate>,
     tile: &Tile,
 ) -> Option<bool> {
     let (text, edge, tx, ty, answer) = tile;
@@ -107,10 +111,25 @@ fn is_right<S: Source<()> + Drop, J: System>(
         tx: *tx,
         ty: *ty,
     };
-    Some(match images.load(&(), &key) {
+    Some(match tiles.load(&(), &key) {
         Ok(tile) => is_same(answer, &Ok(tile.raster.samples())),
         Err(fault) => is_same(answer, &Err(fault.number())),
     })
+}
+
+/// Tiles of 2 by 2, which a group of one node shares.
+fn tiles_of<S: Source<()> + Drop, J: System>(
+    alloc: Global,
+    catalogue: Catalogue<(), S>,
+) -> Option<Tiles<(), S, J, NoLink, NoGate>> {
+    let name = String::from_str(alloc, "n").ok()?;
+    let cluster = Cluster {
+        ring: Ring::new(alloc, Vec::from_array(alloc, [name]).ok()?).ok()?,
+        own: Some(0),
+        links: Vec::from_array(alloc, [NoLink]).ok()?,
+    };
+    let group = Group::new(alloc, 99, NonZeroUsize::MIN, NoGate, cluster, Blank::new(PARTS)).ok()?;
+    Some(Tiles::new(alloc, Images::new(catalogue, 2), group))
 }
 
 /// The place of the first tile that isn't as it is to be.
@@ -118,9 +137,11 @@ fn wrong_tile<S: Source<()> + Drop, J: System>(
     alloc: Global,
     catalogue: Catalogue<(), S>,
 ) -> Option<usize> {
-    let images: Images<(), S, J> = Images::new(catalogue, 2);
+    let Some(tiles) = tiles_of::<S, J>(alloc, catalogue) else {
+        return Some(TILES.len());
+    };
     for (place, tile) in TILES.iter().enumerate() {
-        if is_right(alloc, &images, tile) != Some(true) {
+        if is_right(alloc, &tiles, tile) != Some(true) {
             return Some(place);
         }
     }

@@ -3,7 +3,7 @@ use Rattle.std.proofs.lemmas.Result.{err_from_is_err_and}
 use Rattle.iiif_request.specs.Words.{texts}
 use Rattle.iiif_tiff.specs.Tiff.{white_of}
 use Rattle.iiif_tiff_read.specs.Layouts as layouts
-use Rattle.iiif_images.specs.Items.{item_of}
+use Rattle.iiif_tile_group.specs.Items.{item_of}
 use Rattle.iiif_answers.proofs.OutcomeLemmas.{comes, refused_comes, refused_exit, quality_is, channels_fit, file_fits, lies_in_layout}
 use Rattle.iiif_answers.proofs.OutcomeLemmas.{sizes_within, top_fits}
 use Rattle.iiif_answers.proofs.accepted.accept.Goals as goal

@@ -1,6 +1,6 @@
 use Rattle.std.proofs.Common.{subst}
 use Rattle.iiif_pixel.specs.Geometry.{LiesIn}
-use Rattle.iiif_images.specs.Items.{item_of}
+use Rattle.iiif_tile_group.specs.Items.{item_of}
 use Rattle.iiif_answers.proofs.NameLemmas.{item_dim}
 use Rattle.iiif_answers.proofs.images.job_of.Goals as goal
 

@@ -1,4 +1,4 @@
-use Rattle.iiif_images.specs.Items.{item_of}
+use Rattle.iiif_tile_group.specs.Items.{item_of}
 use Rattle.iiif_answers.proofs.OutcomeLemmas.{picture_same}
 use Rattle.iiif_answers.proofs.images.picture_is_shown.Goals as goal
 

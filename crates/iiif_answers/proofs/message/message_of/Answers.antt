@@ -1,5 +1,5 @@
 use Rattle.std.proofs.Common.{subst, refl}
-use Rattle.iiif_images.specs.Items.{item_of}
+use Rattle.iiif_tile_group.specs.Items.{item_of}
 use Rattle.iiif_answers.specs.Allowed.{own}
 use Rattle.iiif_answers.specs.Answers.{Replies, refused, redirect, described}
 use Rattle.iiif_answers.specs.Outcomes.{ComesTo}

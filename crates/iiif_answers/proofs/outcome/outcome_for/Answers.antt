@@ -1,7 +1,7 @@
 use Rattle.std.proofs.Common.{◌∙◌, sym, ap, refl}
 use Rattle.iiif_request.specs.Targets.{resource_of}
-use Rattle.iiif_images.specs.Collection.{item_named}
-use Rattle.iiif_images.specs.Items.{item_of}
+use Rattle.iiif_tile_group.specs.Collection.{item_named}
+use Rattle.iiif_tile_group.specs.Items.{item_of}
 use Rattle.iiif_answers.specs.Answers.{no_item}
 use Rattle.iiif_answers.specs.BaseUrl.{path_of}
 use Rattle.iiif_answers.proofs.NameLemmas.{found_by_name}

@@ -1,4 +1,4 @@
-use Rattle.iiif_images.specs.Items.{item_of}
+use Rattle.iiif_tile_group.specs.Items.{item_of}
 use Rattle.iiif_answers.proofs.OutcomeLemmas.{item_picture}
 use Rattle.iiif_answers.proofs.outcome.sides.Goals as goal
 

@@ -1,5 +1,5 @@
 use Rattle.std.specs.Prelude.{true, false}
-use Rattle.iiif_images.specs.Named.{gave_of, pictures_of, stable_of}
+use Rattle.iiif_tile_group.specs.Named.{gave_of, pictures_of, stable_of}
 use Rattle.iiif_start.specs.Stored.{bytes_of, keeps_of, stored_gave}
 use Rattle.iiif_program.proofs.listening.serve.Given as goal
 

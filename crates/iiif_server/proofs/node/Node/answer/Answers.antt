@@ -1,7 +1,7 @@
 use Rattle.std.proofs.Common.{ap, sym, subst, refl}
 use Rattle.std.specs.Prelude.{IsTrue}
 use Rattle.iiif_canonical.specs.Images.{resolved_image}
-use Rattle.iiif_images.specs.Items.{item_of}
+use Rattle.iiif_tile_group.specs.Items.{item_of}
 use Rattle.iiif_answers.specs.Answers.{Replies}
 use Rattle.iiif_server.specs.Code.{ReachesImageOf}
 use Rattle.iiif_answers.specs.Outcomes.{given_of}

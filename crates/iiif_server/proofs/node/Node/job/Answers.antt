@@ -1,6 +1,6 @@
 use Rattle.std.proofs.Common.{◌∙◌, List, ap}
-use Rattle.iiif_images.specs.Collection.{Item, item_named}
-use Rattle.iiif_images.specs.Items.{item_of}
+use Rattle.iiif_tile_group.specs.Collection.{Item, item_named}
+use Rattle.iiif_tile_group.specs.Items.{item_of}
 use Rattle.iiif_server.specs.Nodes.{Service}
 use Rattle.iiif_server.proofs.JobLemmas.{job_for}
 use Rattle.iiif_server.proofs.node.Node.job.Goals as goal

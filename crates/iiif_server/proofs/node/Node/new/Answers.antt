@@ -1,5 +1,5 @@
 use Rattle.std.proofs.Common.{◌∙◌, List, ap, sym}
-use Rattle.iiif_images.specs.Collection.{Item, item_named}
+use Rattle.iiif_tile_group.specs.Collection.{Item, item_named}
 use Rattle.iiif_server.proofs.node.Node.new.Goals as goal
 
 pub invariant_of-result : goal.invariant_of-result

@@ -1,7 +1,7 @@
 use Rattle.std.proofs.Common.{◌∙◌, ap, sym, ⊎_elim}
 use Rattle.std.specs.Prelude.{IsTrue}
 use Rattle.std.proofs.lemmas.Bool.{false≢true}
-use Rattle.iiif_images.specs.Items.{item_of}
+use Rattle.iiif_tile_group.specs.Items.{item_of}
 use Rattle.iiif_server.specs.Nodes.{Service}
 use Rattle.iiif_answers.specs.Responses.{is_loaded}
 use Rattle.iiif_server.proofs.SendingLemmas.{head_allowed}

@@ -4,7 +4,7 @@ use Rattle.std.specs.Io.KnownBytes.{Appends}
 use Rattle.iiif_pixel.specs.TurnPlaces.{turned_dim}
 use Rattle.iiif_tiff_write.specs.File.{file, file_len, head_of}
 use Rattle.iiif_canonical.specs.declared.resolved.Resolved.{Resolved}
-use Rattle.iiif_images.specs.Items.{item_of}
+use Rattle.iiif_tile_group.specs.Items.{item_of}
 use Rattle.iiif_delivery.specs.Delivery.{result_dim}
 use Rattle.iiif_server.specs.Nodes.{Service}
 use Rattle.iiif_server.proofs.SendingLemmas.{fails, file_head_some, fits_channels, fits_depth, held_for, load_allowed, none_allowed}

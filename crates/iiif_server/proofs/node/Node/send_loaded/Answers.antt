@@ -1,6 +1,6 @@
 use Rattle.std.proofs.Common.{◌∙◌, ap}
 use Rattle.std.specs.Prelude.{IsTrue}
-use Rattle.iiif_images.specs.Items.{item_of}
+use Rattle.iiif_tile_group.specs.Items.{item_of}
 use Rattle.iiif_server.specs.Code.{ReachesImageOf}
 use Rattle.iiif_server.specs.Nodes.{Service}
 use Rattle.iiif_answers.proofs.AllowedLemmas.{memory_allowed}

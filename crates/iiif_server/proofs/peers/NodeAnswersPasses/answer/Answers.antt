@@ -1,6 +1,6 @@
 use Rattle.std.proofs.Common.{◌∙◌, ap, List}
-use Rattle.iiif_images.specs.Collection.{Item}
-use Rattle.iiif_images.specs.Named.{gave_of, pictures_of, stable_of}
+use Rattle.iiif_tile_group.specs.Collection.{Item}
+use Rattle.iiif_tile_group.specs.Named.{gave_of, pictures_of, stable_of}
 use Rattle.iiif_server.proofs.PeerLemmas.{kept_stable, same_node}
 use Rattle.iiif_server.proofs.peers.NodeAnswersPasses.answer.Goals as goal
 

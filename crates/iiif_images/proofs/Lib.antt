@@ -1,3 +1,0 @@
-pub mod ItemLemmas
-pub mod ShownLemmas
-pub mod NamedLemmas

@@ -1,0 +1,4 @@
+pub mod ItemLemmas
+pub mod ShownLemmas
+pub mod NamedLemmas
+pub mod FaultLemmas

@@ -1,4 +1,0 @@
-use Rattle.iiif_tile_group.proofs.tiles.Tiles.end.Goals as goal
-
-pub returns : goal.returns
-returns g c = rw c.requires.key at c.complete.ensures.known
