@@ -14,11 +14,11 @@ use Rattle.iiif_outcome.specs.Outcomes.{is_given}
 use Rattle.iiif_outcome.specs.declared.receipt.Receipt.{Receipt}
 use Rattle.iiif_sum_group.specs.Outcomes.{KnowsSums}
 use Rattle.iiif_group.specs.declared.passes.Passes.{Passes}
-use Rattle.iiif_sum_group.specs.declared.unmade.Unmade.{Unmade}
-use Rattle.iiif_sum_group.specs.declared.unmade.Unmade.TheVariants.{Part, Total}
+use Rattle.iiif_sum_group.specs.declared.make_error.MakeError.{MakeError}
+use Rattle.iiif_sum_group.specs.declared.make_error.MakeError.TheVariants.{Part, Total}
 
 -- what is told where a block has no value
-abbrev pub fault_in : Unmade → Fault
+abbrev pub fault_in : MakeError → Fault
 fault_in (Part f) = f
 fault_in Total = NoMemory
 
@@ -53,7 +53,7 @@ module _ {J : Type 0} (node : system.Ghosts J) (key : SumKey) (old new : Passes 
     pub parts : (new.tile.parts ≡ old.tile.parts) × (new.sum.parts ≡ old.sum.parts)
 
   -- the same of a block above level 0, where it is known why it has no value
-  pub record MakesOfParts (result : Result (Arc SumVal Global) Unmade) : Type 0 where
+  pub record MakesOfParts (result : Result (Arc SumVal Global) MakeError) : Type 0 where
     pub meant : node.stable key.name → IsTrue node.honest → ForOk result (λ v. arc_value v ≡ sum_meaning node.pictures key)
     pub shaped : ForOk result (λ v. IsTrue (sum_is_shaped node.pictures key (arc_value v)))
     pub given : ForErr result (λ u. IsTrue (is_given (node.gave key.name) (fault_in u)))

@@ -16,8 +16,8 @@ use std::alloc::Global;
 use std::sync::Wait;
 use std::sync::ledger::Ledger;
 
-/// The same sums, for one caller. The only fault is lack of memory.
-fn copied(alloc: Global, value: &SumVal) -> Result<SumVal, Fault>
+/// Copies sums, for one caller. The only fault is lack of memory.
+fn copy_sums(alloc: Global, value: &SumVal) -> Result<SumVal, Fault>
     ensures { Copies value.now result }
 {
     let from = &value.sums;
@@ -31,7 +31,7 @@ fn copied(alloc: Global, value: &SumVal) -> Result<SumVal, Fault>
 }
 
 /// Tiles and sums of the images that a node has, shared by all that ask. J says what the names of the images stand for, and which
-/// ledgers count the calls; N is the way to other nodes, and T what each load passes.
+/// ledgers count the calls; N is the link to other nodes, and T the gate of loads. Whoever has the groups can load; a `Handle` can't.
 #[derive(Drop)]
 pub struct Groups<R, S: Source<R>, J: System, N, T>
 where
@@ -44,7 +44,7 @@ where
 }
 
 impl<R, S: Source<R> + Drop, J: System, N, T> Groups<R, S, J, N, T> {
-    /// Groups of tiles and of sums.
+    /// Makes groups of these tiles and of sums.
     pub fn new(
         alloc: Global,
         tiles: Tiles<R, S, J, N, T>,
@@ -55,14 +55,14 @@ impl<R, S: Source<R> + Drop, J: System, N, T> Groups<R, S, J, N, T> {
         Groups { tiles, sums, alloc }
     }
 
-    /// The tiles.
+    /// Lends the tiles.
     pub fn tiles(&self) -> &Tiles<R, S, J, N, T>
         ensures { items_tiled result.now ≡ items_served self.now }
     {
         &self.tiles
     }
 
-    /// The group of the sums.
+    /// Lends the group of the sums.
     pub fn sums(&self) -> &Group<SumKey, J, SumCalls<J>, N, T> {
         &self.sums
     }
@@ -75,19 +75,20 @@ impl<
     N: Link<TileKey, J, R> + Link<SumKey, J, R>,
     T: Gate<R>,
 > Groups<R, S, J, N, T> {
-    /// The sums that a key names, made of the sums and the tiles below it. They aren't kept; those below are asked of the groups.
+    /// Loads the sums that a key names: makes them of the tile or the sums below, which are got of the groups. This is what a call that
+    /// leads a flight runs; here it neither enters the group nor is kept.
     #[tactic(auto, using(crate::proofs::SumLemmas::load_fault))]
     pub fn load(&self, rt: &R, passes: &mut Passes<J>, key: &SumKey) -> Result<SumVal, Fault>
         ensures { Loads J.System key.now passes.old passes.new result }
     {
         let (_entry, shape) = self.tiles.images().image_of(key)?;
         match self.make(rt, passes, &shape, key) {
-            Ok(value) => copied(self.alloc, &*value),
+            Ok(value) => copy_sums(self.alloc, &*value),
             Err(fault) => Err(fault),
         }
     }
 
-    /// What a flight of the key ended with: the sums that it names, or a fault of its source or lack of memory. Where another node
+    /// Gets the outcome of a flight of the key: the sums that it names, or a fault of its source, or lack of memory. Where another node
     /// owns the key, that node is asked first.
     pub fn get(
         &self,
@@ -101,7 +102,8 @@ impl<
         self.ask_part(rt, passes, &shape, key)
     }
 
-    /// The same by this node alone, whoever owns the key; the owners of its parts are asked. So is served what another node asks.
+    /// Gets the outcome of a flight of this node alone, whoever owns the key; the owners of its parts are asked. By this a node serves the
+    /// asks of others.
     pub fn get_local(
         &self,
         rt: &R,

@@ -2,6 +2,7 @@
 #![tactic(auto)]
 
 pub use groups::Groups;
+pub use handle::Handle;
 // What callers of the groups need of a group and of tiles.
 pub use iiif_group::{
     Begun, Cluster, Gate, Group, Kept, Link, NoGate, NoLink, Note, Open, Passes, StripedCondvar,
@@ -10,6 +11,7 @@ pub use iiif_group::{
 pub use iiif_tile_group::Tiles;
 
 pub mod groups;
+pub mod handle;
+mod make_error;
 mod making;
 pub mod parted;
-mod unmade;

@@ -7,13 +7,13 @@ ghost use Rattle.iiif_outcome.specs.Outcomes.{is_given};
 ghost use Rattle.iiif_group.specs.Beginning.{open_key};
 ghost use Rattle.iiif_group.specs.Ending.{IsExact, TellsFault};
 ghost use Rattle.iiif_sum_group.specs.Asking.{AskedAll, Asks, HasAsManyParts, Makes, MakesOfParts, MakesOne, Rises};
-ghost use Rattle.iiif_sum_group.specs.declared.unmade.Unmade.TheVariants.{Total};
+ghost use Rattle.iiif_sum_group.specs.declared.make_error.MakeError.TheVariants.{Total};
 ghost use Rattle.iiif_sum_group.specs.Code.{Boxes, CanTotal, FitsShape, HasQuarters, HasTile, HasValues, Keeps, Totals};
 ghost use Rattle.iiif_sum_group.specs.Outcomes.{EndsWith, KnowsSums};
 ghost use Rattle.iiif_sum_group.specs.Values.{AreValuesOf, MayBeAsked};
 
 use crate::groups::Groups;
-use crate::unmade::Unmade;
+use crate::make_error::MakeError;
 use iiif_group::{Begun, Completed, Gate, Link, Open, Passes, SumCalls, share, take_outcome};
 use iiif_keys::laws::{fitting_keys_have_parts, parts_are_exact, parts_make_the_meaning};
 use iiif_keys::{CacheKey, Fault, Parts, Shape, SumKey, SumVal, System, TileKey, parts};
@@ -32,8 +32,8 @@ fn keep(values: &mut Vec<Arc<SumVal>>, value: Arc<SumVal>) -> Result<(), Fault>
     }
 }
 
-/// What was made, for all that wait.
-fn for_all(alloc: Global, made: Result<SumVal, Fault>) -> Result<Arc<SumVal>, Fault>
+/// Shares what was made among all that wait.
+fn share_result(alloc: Global, made: Result<SumVal, Fault>) -> Result<Arc<SumVal>, Fault>
     ensures { Boxes made result }
 {
     match made {
@@ -42,15 +42,15 @@ fn for_all(alloc: Global, made: Result<SumVal, Fault>) -> Result<Arc<SumVal>, Fa
     }
 }
 
-/// The only value of a list.
-fn only(mut values: Vec<Arc<SumVal>>) -> Arc<SumVal>
+/// Takes the only value of a list.
+fn into_only(mut values: Vec<Arc<SumVal>>) -> Arc<SumVal>
     requires { length values.items ≡ 1 }
     ensures { values.items ≡ result ∷ [] }
 {
     values.remove(0)
 }
 
-/// The value of a block above level 0, of the values of its parts.
+/// Merges the values of the parts of a block above level 0.
 fn total(alloc: Global, shape: &Shape, key: &SumKey, parts: &[Arc<SumVal>]) -> Result<SumVal, Fault>
     requires { CanTotal shape.now key.now parts.now }
     ensures { Totals shape.now key.now parts.now result }
@@ -61,9 +61,9 @@ fn total(alloc: Global, shape: &Shape, key: &SumKey, parts: &[Arc<SumVal>]) -> R
     }
 }
 
-/// The same for all that wait, of the values of its quarters. Where it has one alone, that one's sums are its own: they are taken
-/// as they are.
-pub(crate) fn whole<J: System>(
+/// Makes the value of a block above level 0 of those of its quarters, for all that wait. The sums of a lone quarter are its own, and
+/// aren't copied.
+pub(crate) fn combine_parts<J: System>(
     alloc: Global,
     shape: &Shape,
     key: &SumKey,
@@ -77,9 +77,9 @@ pub(crate) fn whole<J: System>(
     parts_make_the_meaning();
     SumKey::laws();
     if values.len() == 1 {
-        return Ok(only(values));
+        return Ok(into_only(values));
     }
-    for_all(alloc, total(alloc, shape, key, &values))
+    share_result(alloc, total(alloc, shape, key, &values))
 }
 
 impl<
@@ -89,7 +89,7 @@ impl<
     N: Link<TileKey, J, R> + Link<SumKey, J, R>,
     T: Gate<R>,
 > Groups<R, S, J, N, T> {
-    /// The sums of the tile that a block of level 0 is.
+    /// Makes the sums of a block of level 0: gets its tile, and sums that.
     fn make_of_tile(
         &self,
         rt: &R,
@@ -114,7 +114,7 @@ impl<
         }
     }
 
-    /// Ends a load of a key with what was made, for all that wait.
+    /// Completes a load of a key with what was made, for all that wait.
     pub(crate) fn complete(
         &self,
         rt: &R,
@@ -131,7 +131,7 @@ impl<
         self.sums.complete(rt, load, made)
     }
 
-    /// Ends a load of a key likewise, and returns the receipt of the flight that the call entered first.
+    /// Completes a load of a key, and returns the receipt of the flight that the call entered first.
     pub(crate) fn end(
         &self,
         rt: &R,
@@ -146,7 +146,8 @@ impl<
         self.complete(rt, load, key, made).receipt
     }
 
-    /// The value of a key that fits, made of its parts: of one tile, or of sums of the level below.
+    /// Makes the value of a key that fits of its parts: of one tile, or of sums of the level below. A call that leads a flight runs this,
+    /// and so does `load`, which copies the value.
     #[cycle(sums)]
     pub(crate) fn make(
         &self,
@@ -164,19 +165,19 @@ impl<
         fitting_keys_have_parts();
         match parts(self.alloc, key) {
             Ok(Parts::Tile(tile)) => {
-                for_all(self.alloc, self.make_of_tile(rt, passes, shape, key, &tile))
+                share_result(self.alloc, self.make_of_tile(rt, passes, shape, key, &tile))
             }
             Ok(Parts::Sums(quarters)) => match self.make_of_parts(
                 rt, passes, shape, key, &quarters,
             ) {
                 Ok(value) => Ok(value),
-                Err(unmade) => Err(unmade.fault()),
+                Err(error) => Err(error.fault()),
             },
             Err(_) => Err(Fault::NoMemory),
         }
     }
 
-    /// The value of a block above level 0, made of its quarters. Memory for it is taken once each of these was asked for, so a block that
+    /// Makes the value of a block above level 0 of its quarters. Memory for it is taken once each of these was asked for, so a block that
     /// waits for its parts holds no sums of its own.
     #[cycle(sums)]
     fn make_of_parts(
@@ -186,7 +187,7 @@ impl<
         shape: &Shape,
         key: &SumKey,
         quarters: &[SumKey],
-    ) -> Result<Arc<SumVal>, Unmade>
+    ) -> Result<Arc<SumVal>, MakeError>
         requires { HasQuarters J.System key.now shape.now quarters.now }
         ensures made { MakesOfParts J.System key.now passes.old passes.new result }
         ensures late { result ≡ Err Total → AskedAll quarters.now passes.old passes.new }
@@ -194,15 +195,15 @@ impl<
         // A law of parts.
         parts_are_exact();
         match self.ask_parts(rt, passes, shape, key, quarters) {
-            Ok(values) => match whole::<J>(self.alloc, shape, key, values) {
+            Ok(values) => match combine_parts::<J>(self.alloc, shape, key, values) {
                 Ok(value) => Ok(value),
-                Err(_) => Err(Unmade::Total),
+                Err(_) => Err(MakeError::Total),
             },
-            Err(fault) => Err(Unmade::Part(fault)),
+            Err(fault) => Err(MakeError::Part(fault)),
         }
     }
 
-    /// The values of a block's parts, in their order. They are asked one after another, and each is waited for.
+    /// Gets the values of a block's parts, in their order: one after another, and each is waited for.
     #[cycle(sums)]
     fn ask_parts(
         &self,
@@ -231,7 +232,7 @@ impl<
         Ok(values)
     }
 
-    /// What a flight of a key that fits ended with.
+    /// Gets the outcome of a flight of a key that fits.
     #[cycle(sums)]
     pub(crate) fn ask_part(
         &self,

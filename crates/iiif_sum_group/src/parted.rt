@@ -1,4 +1,4 @@
-//! Sums whose parts are asked for by who asks for them: a worker begins with a key, and ends with the values of its parts.
+//! Sums whose parts the caller gets: a worker begins with a key, and finishes with the values of its parts.
 
 ghost use Rattle.std.specs.Prelude.{◌≡◌, ◌<◌};
 ghost use Rattle.iiif_keys.specs.Meaning.{sums_below};
@@ -8,7 +8,7 @@ ghost use Rattle.iiif_sum_group.specs.Outcomes.{AreOfQuarters, EndsWith, Quarter
 ghost use Rattle.iiif_sum_group.specs.Values.{MayBeSums};
 
 use crate::groups::Groups;
-use crate::making::whole;
+use crate::making::combine_parts;
 use iiif_group::{Begun, Completed, Gate, Link, Open, Passes, SumCalls};
 use iiif_keys::laws::{fitting_keys_have_parts, parts_are_exact};
 use iiif_keys::{CacheKey, Fault, Parts, SumKey, SumVal, System, TileKey, parts};
@@ -22,7 +22,7 @@ impl<
     N: Link<TileKey, J, R> + Link<SumKey, J, R>,
     T: Gate<R>,
 > Groups<R, S, J, N, T> {
-    /// The keys of a block's quarters.
+    /// Returns the keys of a block's quarters.
     pub fn quarters(&self, key: &SumKey) -> Result<Vec<SumKey>, Fault>
         requires level { 0 < key.now.level }
         ensures { Quarters J.System key.now result }
@@ -38,8 +38,8 @@ impl<
         }
     }
 
-    /// What a flight of the key ended with, or the duty to make its value: then who asks has the values of its quarters, and finishes.
-    /// Where another node owns the key, that node is asked first. No tile is asked for, and no sums but those of the key.
+    /// Begins a call for sums: returns the outcome of a flight of the key, or the duty to make its value. Then the caller gets the values
+    /// of the quarters, and finishes. Where another node owns the key, that node is asked first. No tile is got, and no other sums.
     pub fn begin(
         &self,
         rt: &R,
@@ -55,7 +55,7 @@ impl<
         }
     }
 
-    /// The value of a block above level 0 of an image that the node has, made of those of its quarters.
+    /// Makes the value of a block above level 0 of those of its quarters.
     fn merged(&self, key: &SumKey, values: Vec<Arc<SumVal>>) -> Result<Arc<SumVal>, Fault>
         requires level { 0 < key.now.level }
         requires values { MayBeSums J.pictures J.stable J.honest (sums_below key.now) values.items }
@@ -67,11 +67,11 @@ impl<
         let Ok((_entry, shape)) = self.tiles.images().image_of(key) else {
             return Err(Fault::NoMemory);
         };
-        whole::<J>(self.alloc, &shape, key, values)
+        combine_parts::<J>(self.alloc, &shape, key, values)
     }
 
-    /// Ends what was begun with a key above level 0, with the values of its quarters or why there are none, and tells all that wait. Why
-    /// there are none is why the key has none.
+    /// Completes what was begun with a key above level 0, with the values of its quarters or the fault of one, and tells all that wait. The
+    /// fault of a quarter is the block's.
     pub fn finish(
         &self,
         rt: &R,

@@ -82,8 +82,8 @@ make_of_parts-ask_parts-requires g t c κs within =
     let falls : 4 * key.level < t = omega (arith, c.decreases) in
     (falls, (within.0, (within.1.0, (within.1.1.0, (within.1.1.1.0, (within.1.1.1.1, (c.requires.level, may)))))))
 
-pub make_of_parts-whole-requires : goal.make_of_parts-whole-requires
-make_of_parts-whole-requires g t c =
+pub make_of_parts-combine_parts-requires : goal.make_of_parts-combine_parts-requires
+make_of_parts-combine_parts-requires g t c =
     let key = c.args.key.now in
     record {
       known = c.requires.known;

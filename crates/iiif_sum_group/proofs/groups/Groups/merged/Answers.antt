@@ -2,8 +2,8 @@ use Rattle.std.proofs.Common.{rules}
 use Rattle.iiif_sum_group.proofs.SumLemmas.{answered_values}
 use Rattle.iiif_sum_group.proofs.groups.Groups.merged.Goals as goal
 
-pub whole-requires : goal.whole-requires
-whole-requires g c = record {
+pub combine_parts-requires : goal.combine_parts-requires
+combine_parts-requires g c = record {
   known = c.in-Ok.ensures.known;
   source = search rules;
   fits = search rules;
